@@ -1,0 +1,4 @@
+pub mod TypedShape
+pub mod OneSequence
+pub mod OneRun
+pub mod ExamplesHold

@@ -1,0 +1,11 @@
+pub mod Types
+pub mod Typing
+pub mod Validity
+pub mod Configuration
+pub mod Effects
+pub mod Steps
+pub mod Instantiation
+pub mod Linking
+pub mod Shapes
+pub mod Laws
+pub mod Examples
