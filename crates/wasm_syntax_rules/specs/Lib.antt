@@ -6,6 +6,7 @@ pub mod Effects
 pub mod Steps
 pub mod Instantiation
 pub mod Linking
+pub mod Acceptance
 pub mod Shapes
 pub mod Laws
 pub mod Examples

@@ -1,0 +1,10 @@
+pub mod Items
+pub mod Instructions
+pub mod Modules
+pub mod Limits
+pub mod ReadingItems
+pub mod ReadingInstructions
+pub mod ReadingModules
+pub mod ReadingWithin
+pub mod Examples
+pub mod Laws

@@ -1,0 +1,10 @@
+//! What is open inside an expression.
+
+/// What an `end` closes.
+#[derive(Clone, Copy, Debug, PartialEq, Eq)]
+pub enum Opener {
+    /// A block, a loop, or what follows an `else`.
+    Straight,
+    /// An `if`, in which an `else` may stand.
+    Conditional,
+}
