@@ -1,0 +1,5 @@
+mod LogSteps
+mod MemoryLemmas
+mod FrontLemmas
+pub mod Moments
+pub mod RunLemmas

@@ -1,0 +1,49 @@
+use Rattle.std.proofs.Common.{inr, ◌≡◌, ◌+◌, rules, ◌<◌, length, refl, sym, ap, ◌∙◌, subst, arith}
+use Rattle.std.proofs.lemmas.List.{length_push}
+use Rattle.std.proofs.lemmas.List.Elements.{All-push}
+use Rattle.sector_disk.specs.Image.{Image, with_sector, IsTorn}
+use Rattle.sector_disk.specs.Pending.{IsWriteWithin, Leaves}
+use Rattle.sector_disk.specs.FrontLaws.{whole-with_front}
+use Rattle.sector_disk.specs.PendingLaws.{had_more, replayed_more, left_more, image-replayed}
+use Rattle.sector_disk.proofs.MemoryLemmas.{shown_size}
+use Rattle.sector_disk.proofs.memory.MemDiskDisk.write.Goals as goal
+
+pub index_mut-requires : goal.index_mut-requires
+index_mut-requires c = omega (arith, shown_size c.args.self.now, c.args.self.now.shown.ok.0)
+
+pub invariant_of-self-2-clause-within : goal.invariant_of-self-2-clause-within
+invariant_of-self-2-clause-within c =
+    let P = IsWriteWithin (length c.args.self.now.settled.items) in
+    rw c.in-Ok.ensures.items (All-push P c.args.self.now.pending.items (record { sector = c.args.sector; bytes = c.args.from.now }) c.args.self.now.within
+    (record { within = omega arith; full = c.told-from }))
+
+pub invariant_of-self-2-clause-replayed : goal.invariant_of-self-2-clause-replayed
+invariant_of-self-2-clause-replayed c =
+    rw (c.in-Ok.ensures.items, c.args.self.now.replayed) (sym (replayed_more c.args.self.now.pending.items (record { sector = c.args.sector; bytes = c.args.from.now }) c.args.self.now.settled.items))
+
+pub returns-clause-writes : goal.returns-clause-writes
+returns-clause-writes c =
+    let lt : c.args.sector < length c.args.self.now.settled.items = omega arith in
+    let d = c.args.self.now in
+    let w : Rattle.sector_disk.specs.declared.write.Write.Write = record { sector = c.args.sector; bytes = c.args.from.now } in
+    let image = subst (λ i. Rattle.sector_disk.specs.Image.IsImage (length d.settled.items) i) (sym d.replayed) (image-replayed _ d.pending.items d.settled.items d.full d.within) in
+    let left = λ (new : Image) (left : Leaves c.push.new.self.items d.settled.items new). left_more d.pending.items w d.settled.items new (subst (λ ws. Leaves ws d.settled.items new) c.in-Ok.ensures.items left) in
+    let more : length c.push.new.self.items ≡ length d.pending.items + 1 = omega (arith, ap length c.in-Ok.ensures.items, length_push d.pending.items w) in
+    record {
+      inside = lt;
+      whole = record {
+        both = λ shown new both. let was = left new both.1 in (d.shown.items, was.0, (refl, was.1), both.0, was.2);
+        unsynced = more;
+      };
+      tears = record {
+        both = λ shown new both.
+            let was = left new both.1 in
+            (d.shown.items, was.0, (refl, was.1), record { front = 512; within = omega arith; is = both.0 ∙ sym (whole-with_front _ d.shown.items c.args.sector c.args.from.now image lt c.told-from) }, was.2);
+        unsynced = omega arith;
+      };
+      passes = search rules;
+      cause = search rules;
+    }
+
+pub returns-clause-kept : goal.returns-clause-kept
+returns-clause-kept c = λ t image le left. inr (had_more t c.args.self.now.settled c.args.self.now.pending c.args.self.now.past.items c.and-past.result.items image c.and-past.ensures le left)

@@ -1,0 +1,18 @@
+use Rattle.std.proofs.lemmas.Result.{on_ok_weaker}
+use Rattle.sector_disk.proofs.Moments.{shows_follow, follows_stays, settled_follows}
+use Rattle.sector_disk.proofs.RunLemmas.{written_holds}
+use Rattle.sector_disk.proofs.run.store_run.Goals as goal
+
+pub returns-clause-stored : goal.returns-clause-stored
+returns-clause-stored g c =
+    let old = g.D.Disk.medium c.args.disk.now in
+    let mid = g.D.Disk.medium c.write_run.new.disk in
+    let new = g.D.Disk.medium c.sync.new.self in
+    on_ok_weaker c.sync.result (λ settled. settled_follows old mid new _ settled c.sync.ensures.stays (shows_follow old mid _ _ c.in_ok-write_run.ensures.whole)) c.sync.ensures.settles
+
+pub returns-clause-holds : goal.returns-clause-holds
+returns-clause-holds g c =
+    let old = g.D.Disk.medium c.args.disk.now in
+    let mid = g.D.Disk.medium c.write_run.new.disk in
+    let new = g.D.Disk.medium c.sync.new.self in
+    on_ok_weaker c.sync.result (λ settled. written_holds _ _ _ old new (follows_stays old mid new _ c.sync.ensures.stays (shows_follow old mid _ _ c.in_ok-write_run.ensures.whole))) c.sync.ensures.settles

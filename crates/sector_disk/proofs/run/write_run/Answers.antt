@@ -1,0 +1,43 @@
+use Rattle.std.proofs.Common.{◌<◌, ◌≤◌, ◌+◌, ℕ, length, subst, arith, rules}
+use Rattle.sector_disk.specs.Image.{sector_at}
+use Rattle.sector_disk.specs.Medium.{Tears, Takes}
+use Rattle.sector_disk.proofs.RunLemmas.{both_tear, both_take, both_longer, run_passes, run_leaves_only}
+use Rattle.sector_disk.proofs.run.write_run.Goals as goal
+
+pub returns-in_err-write : goal.returns-in_err-write
+returns-in_err-write g c =
+    let i = c.loop-sector.invariant in
+    let n = c.loop-sector.sector-index in
+    let old = g.D.Disk.medium c.args.disk.now in
+    let mid = g.D.Disk.medium c.loop-sector.disk in
+    let new = g.D.Disk.medium c.write.new.self in
+    let more : n + 1 ≤ length c.args.sectors.now = omega arith in
+    let tears = subst (λ (k : ℕ). Tears k (sector_at c.args.sectors.now n) mid new) i.place c.write.ensures.tears in
+    let inside : c.args.at + n < mid.sectors = let s = i.passes.sectors in omega arith in
+    let both = both_tear c.args.at c.args.sectors.now n old mid new inside i.tears tears in
+    record {
+      whole = search rules;
+      tears = both_longer _ _ _ _ old new more both;
+      unsynced = let u = tears.unsynced in omega (arith, i.unsynced);
+      any_moment = run_leaves_only _ _ _ old new (run_passes _ _ _ _ old mid new more i.passes both c.write.ensures.passes);
+      cause = search rules;
+    }
+
+pub loop-sector-preserved : goal.loop-sector-preserved
+loop-sector-preserved g c =
+    let i = c.loop-sector.invariant in
+    let n = c.loop-sector.sector-index in
+    let old = g.D.Disk.medium c.args.disk.now in
+    let mid = g.D.Disk.medium c.loop-sector.disk in
+    let new = g.D.Disk.medium c.write.new.self in
+    let tears = subst (λ (k : ℕ). Tears k (sector_at c.args.sectors.now n) mid new) i.place c.write.ensures.tears in
+    let takes = subst (λ (k : ℕ). Takes k (sector_at c.args.sectors.now n) mid new) i.place c.in_ok-write.ensures.whole in
+    let inside : c.args.at + n < mid.sectors = let s = i.passes.sectors in omega arith in
+    let both = both_tear c.args.at c.args.sectors.now n old mid new inside i.tears tears in
+    record {
+      place = omega (arith, i.place);
+      whole = both_take c.args.at c.args.sectors.now n old mid new inside i.whole takes;
+      tears = both;
+      unsynced = let u = tears.unsynced in omega (arith, i.unsynced);
+      passes = run_passes _ _ _ _ old mid new (omega arith) i.passes both c.write.ensures.passes;
+    }

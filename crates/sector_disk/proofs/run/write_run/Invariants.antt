@@ -1,0 +1,16 @@
+use Rattle.std.proofs.Common.{◌≡◌, ◌≤◌, ◌+◌, length}
+use Rattle.sector_disk.specs.Medium.{After, BothFollow, Passes}
+use Rattle.sector_disk.specs.Run.{IsTornRun, IsWrittenRun}
+use Rattle.sector_disk.proofs.run.write_run.Given as goal
+
+abbrev pub invariant-loop-sector : goal.invariant-loop-sector
+invariant-loop-sector g l =
+    let old = g.D.Disk.medium l.fn.disk in
+    let now = g.D.Disk.medium l.disk in
+    record {
+      place : l.next ≡ l.at + l.sector-index;
+      whole : BothFollow (IsWrittenRun l.at l.sectors l.sector-index) (IsTornRun l.at l.sectors l.sector-index) old now;
+      tears : BothFollow (IsTornRun l.at l.sectors l.sector-index) (IsTornRun l.at l.sectors l.sector-index) old now;
+      unsynced : now.unsynced ≤ old.unsynced + l.sector-index;
+      passes : Passes old now (After (IsTornRun l.at l.sectors (length l.sectors)) old.may_leave);
+    }

@@ -1,0 +1,12 @@
+pub mod Image
+pub mod Medium
+pub mod Run
+pub mod Pending
+pub mod FrontLaws
+pub mod PendingLaws
+pub mod Memory
+pub mod Trouble
+pub mod FaultDisk
+pub mod Answered
+pub mod AnsweredLaws
+pub mod File

@@ -1,0 +1,188 @@
+// A disk that stops or fails at a call that it is told.
+ghost use Rattle.std.specs.Prelude.{◌≡◌, ◌+◌, ◌<◌, ◌≤◌, IsTrue, IfSome, IfNone, length, false, ℕ, Bool};
+ghost use Rattle.sector_disk.specs.Trouble.{is_met};
+
+use crate::front::write_front;
+use crate::log::Log;
+use crate::trouble::Trouble;
+use crate::{Disk, DiskFault, Place};
+
+/// Hands calls on to the disk below, and counts them. It stops at one that it is told: that call and
+/// each later one is `Cut`, and none of them reaches the disk below, but that of a stopped write the
+/// told front is left there. Or it fails one that it is told (`Io`, and of a write the told front is
+/// left), and later calls work.
+#[derive(Drop)]
+pub struct FaultDisk<D> {
+    inner: D,
+    stop: Option<Place>,
+    fail: Option<Place>,
+    reads: u64,
+    writes: u64,
+    syncs: u64,
+    has_left_front: bool,
+    /// One item for each trouble. Only clauses read it.
+    faults: Log<(), ()>,
+    ghost was_met: { 0 < length faults.items → IsTrue (is_met stop fail (record { reads = reads; writes = writes; syncs = syncs })) },
+}
+
+impl<D> FaultDisk<D> {
+    ghost use Rattle.sector_disk.specs.FaultDisk.{disk_below, stop_of, fail_of, calls_of, trouble_of, left_front_of};
+
+    /// It stops at the one call, and fails at the other. Where both are the same call, it stops.
+    pub fn new(inner: D, stop: Option<Place>, fail: Option<Place>) -> Self
+        ensures below { disk_below result ≡ inner }
+        ensures stop { stop_of result ≡ stop }
+        ensures fail { fail_of result ≡ fail }
+        ensures calls { calls_of result ≡ record { reads = 0; writes = 0; syncs = 0 } }
+        ensures left_front { left_front_of result ≡ false }
+    {
+        FaultDisk {
+            inner,
+            stop,
+            fail,
+            reads: 0,
+            writes: 0,
+            syncs: 0,
+            has_left_front: false,
+            faults: Log::new(),
+        }
+    }
+
+    /// How many reads, writes and syncs have begun. Each count stays at the greatest number of 64 bits.
+    pub fn calls(&self) -> (u64, u64, u64)
+        ensures { result ≡ ((calls_of self.now).reads, (calls_of self.now).writes, (calls_of self.now).syncs) }
+    {
+        (self.reads, self.writes, self.syncs)
+    }
+
+    /// Whether it stopped at a write that the disk below took a front of, were it of no byte. That
+    /// write is then the last below that no sync has settled.
+    pub fn has_left_front(&self) -> bool
+        ensures { result ≡ left_front_of self.now }
+    {
+        self.has_left_front
+    }
+
+    /// The disk below.
+    pub fn into_inner(self) -> D
+        ensures { result ≡ disk_below self }
+    {
+        let FaultDisk {
+            inner,
+            stop: _,
+            fail: _,
+            reads: _,
+            writes: _,
+            syncs: _,
+            has_left_front: _,
+            faults: _,
+        } = self;
+        inner
+    }
+
+    /// What the call that has just been counted meets.
+    fn trouble(&self) -> Option<Trouble>
+        ensures { result ≡ trouble_of self.now }
+    {
+        let call = self
+            .reads
+            .saturating_add(self.writes)
+            .saturating_add(self.syncs);
+        if let Some(stop) = self.stop {
+            if stop.call < call {
+                return Some(Trouble::Stopped);
+            }
+            if stop.call == call {
+                return Some(Trouble::Stops(usize::from(stop.front).min(512)));
+            }
+        }
+        match self.fail {
+            Some(fail) if fail.call == call => {
+                Some(Trouble::Fails(usize::from(fail.front).min(512)))
+            }
+            _ => None,
+        }
+    }
+}
+
+impl<D: Disk> Disk for FaultDisk<D> {
+    ghost use Rattle.sector_disk.specs.FaultDisk.{disk_below, stop_of, fail_of, calls_of, trouble_of, left_front_of};
+    ghost use Rattle.sector_disk.specs.Medium.{Reads, Writes, Syncs};
+    ghost use Rattle.sector_disk.specs.Trouble.{counted, fault_of, troubled, LeavesFront};
+
+    ghost medium = { λ f. troubled (D.medium f.inner) f.stop f.fail (length f.faults.items) };
+
+    fn sectors(&self) -> u64 {
+        self.inner.sectors()
+    }
+
+    fn read(&mut self, sector: u64, into: &mut [u8; 512]) -> Result<(), DiskFault>
+        ensures reads { Reads sector into.new result (⟦<FaultDisk<D> as Disk>⟧.medium self.old) (⟦<FaultDisk<D> as Disk>⟧.medium self.new) }
+        ensures calls { calls_of self.new ≡ record (calls_of self.old) { reads = counted (calls_of self.old).reads } }
+        ensures stop { stop_of self.new ≡ stop_of self.old }
+        ensures fail { fail_of self.new ≡ fail_of self.old }
+        ensures left_front { left_front_of self.new ≡ left_front_of self.old }
+        ensures trouble { IfSome (trouble_of self.new) (λ trouble. (result ≡ Err (fault_of trouble)) × (into.new ≡ into.old) × (disk_below self.new ≡ disk_below self.old)) }
+        ensures passed_on { IfNone (trouble_of self.new) (Reads sector into.new result (D.medium (disk_below self.old)) (D.medium (disk_below self.new))) }
+    {
+        self.reads = self.reads.saturating_add(1);
+        match self.trouble() {
+            None => self.inner.read(sector, into),
+            Some(trouble) => {
+                self.faults = self.faults.and(&(), &());
+                Err(trouble.fault())
+            }
+        }
+    }
+
+    fn write(&mut self, sector: u64, from: &[u8; 512]) -> Result<(), DiskFault>
+        ensures writes { Writes sector from.now result (⟦<FaultDisk<D> as Disk>⟧.medium self.old) (⟦<FaultDisk<D> as Disk>⟧.medium self.new) }
+        ensures calls { calls_of self.new ≡ record (calls_of self.old) { writes = counted (calls_of self.old).writes } }
+        ensures stop { stop_of self.new ≡ stop_of self.old }
+        ensures fail { fail_of self.new ≡ fail_of self.old }
+        ensures trouble { IfSome (trouble_of self.new) (λ trouble. result ≡ Err (fault_of trouble)) }
+        ensures stops { (front : ℕ) → trouble_of self.new ≡ Some (Trouble.Stops front) → LeavesFront front sector from.now (left_front_of self.new) (D.medium (disk_below self.old)) (D.medium (disk_below self.new)) }
+        ensures fails { (front : ℕ) → trouble_of self.new ≡ Some (Trouble.Fails front) → (is_taken : Bool) × LeavesFront front sector from.now is_taken (D.medium (disk_below self.old)) (D.medium (disk_below self.new)) }
+        ensures stopped { trouble_of self.new ≡ Some Trouble.Stopped → disk_below self.new ≡ disk_below self.old }
+        ensures left_front { ((front : ℕ) → trouble_of self.new ≡ Some (Trouble.Stops front) → ⊥) → left_front_of self.new ≡ left_front_of self.old }
+        ensures passed_on { IfNone (trouble_of self.new) (Writes sector from.now result (D.medium (disk_below self.old)) (D.medium (disk_below self.new))) }
+    {
+        self.writes = self.writes.saturating_add(1);
+        match self.trouble() {
+            None => self.inner.write(sector, from),
+            Some(Trouble::Stops(front)) => {
+                self.faults = self.faults.and(&(), &());
+                self.has_left_front = write_front(&mut self.inner, sector, from, front);
+                Err(DiskFault::Cut)
+            }
+            Some(Trouble::Stopped) => {
+                self.faults = self.faults.and(&(), &());
+                Err(DiskFault::Cut)
+            }
+            Some(Trouble::Fails(front)) => {
+                self.faults = self.faults.and(&(), &());
+                let _ = write_front(&mut self.inner, sector, from, front);
+                Err(DiskFault::Io)
+            }
+        }
+    }
+
+    fn sync(&mut self) -> Result<(), DiskFault>
+        ensures syncs { Syncs result (⟦<FaultDisk<D> as Disk>⟧.medium self.old) (⟦<FaultDisk<D> as Disk>⟧.medium self.new) }
+        ensures calls { calls_of self.new ≡ record (calls_of self.old) { syncs = counted (calls_of self.old).syncs } }
+        ensures stop { stop_of self.new ≡ stop_of self.old }
+        ensures fail { fail_of self.new ≡ fail_of self.old }
+        ensures left_front { left_front_of self.new ≡ left_front_of self.old }
+        ensures trouble { IfSome (trouble_of self.new) (λ trouble. (result ≡ Err (fault_of trouble)) × (disk_below self.new ≡ disk_below self.old)) }
+        ensures passed_on { IfNone (trouble_of self.new) (Syncs result (D.medium (disk_below self.old)) (D.medium (disk_below self.new))) }
+    {
+        self.syncs = self.syncs.saturating_add(1);
+        match self.trouble() {
+            None => self.inner.sync(),
+            Some(trouble) => {
+                self.faults = self.faults.and(&(), &());
+                Err(trouble.fault())
+            }
+        }
+    }
+}

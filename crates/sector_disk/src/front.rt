@@ -1,0 +1,35 @@
+// A front of a write.
+ghost use Rattle.std.specs.Prelude.{◌≡◌, ◌≤◌};
+ghost use Rattle.sector_disk.specs.Image.{front_over};
+ghost use Rattle.sector_disk.specs.Medium.{Passes};
+ghost use Rattle.sector_disk.specs.Trouble.{LeavesFront};
+
+use crate::Disk;
+
+/// Leaves a front of the bytes over what the sector holds.
+pub(crate) fn leave_front(sector: &mut [u8; 512], bytes: &[u8; 512], front: usize)
+    requires { front ≤ 512 }
+    ensures { sector.new ≡ front_over front bytes.now sector.old }
+{
+    sector[..front].copy_from_slice(&bytes[..front]);
+}
+
+/// Leaves a front of the bytes over what reads of the sector give, and tells whether the disk took
+/// it. A front of no byte is written too.
+pub(crate) fn write_front<D: Disk>(
+    disk: &mut D,
+    sector: u64,
+    from: &[u8; 512],
+    front: usize,
+) -> bool
+    requires { front ≤ 512 }
+    ensures leaves { LeavesFront front sector from.now result (D.medium disk.old) (D.medium disk.new) }
+    ensures passes { Passes (D.medium disk.old) (D.medium disk.new) (D.medium disk.new).may_leave }
+{
+    let mut bytes = [0; 512];
+    if disk.read(sector, &mut bytes).is_err() {
+        return false;
+    }
+    leave_front(&mut bytes, from, front);
+    disk.write(sector, &bytes).is_ok()
+}

@@ -1,0 +1,177 @@
+// A disk in memory. It keeps the sectors of the last good sync and the writes since, so that it can be cut.
+ghost use Rattle.std.specs.Prelude.{◌≡◌, ◌<◌, ◌≤◌, List, ℕ, [], length, drop, replicate, All, vec_capacity, IfOk, IfErr, OnOk, OnErr};
+ghost use Rattle.sector_disk.specs.Image.{Image, IsImage, sector_at};
+ghost use Rattle.sector_disk.specs.Pending.{IsWriteWithin, first_front, replayed as all_of};
+
+use crate::front::leave_front;
+use crate::log::Log;
+use crate::write::Write;
+use crate::{Disk, DiskFault};
+use std::alloc::Global;
+
+type Sector = [u8; 512];
+
+/// A disk in memory, which a cut can be tried on. It fails only where it is asked for a sector that
+/// it lacks (`Range`) or for more writes between two syncs than it has room for (`Io`). No read,
+/// write or sync takes memory.
+#[derive(Drop)]
+pub struct MemDisk {
+    /// What the last good sync left.
+    settled: Vec<Sector>,
+    /// What reads give.
+    shown: Vec<Sector>,
+    /// The writes since the last good sync, the oldest first.
+    pending: Vec<Write>,
+    /// How many writes there is room for between two syncs.
+    limit: usize,
+    /// What was settled, and the writes since, before each write and sync. Only clauses read it.
+    past: Log<Vec<Sector>, Vec<Write>>,
+    ghost full: { IsImage (length settled.items) settled.items },
+    ghost within: { All (IsWriteWithin (length settled.items)) pending.items },
+    ghost replayed: { shown.items ≡ all_of pending.items settled.items },
+    ghost fits: { length pending.items ≤ limit },
+    ghost reserved: { limit ≤ vec_capacity pending },
+}
+
+impl MemDisk {
+    ghost use Rattle.sector_disk.specs.Medium.{IsSettled};
+    ghost use Rattle.sector_disk.specs.Memory.{memory_medium, state_of, shown_by, after_cut, IsEveryCut};
+
+    /// So many sectors of zeros, with room for so many writes between two syncs. It fails only for
+    /// want of memory.
+    pub fn new(alloc: Global, sectors: u64, writes: usize) -> Result<MemDisk, DiskFault>
+        ensures made { IfOk result (λ d. state_of d ≡ record { settled = replicate sectors (replicate 512 0); pending = []; limit = writes }) }
+        ensures zeros { IfOk result (λ d. (memory_medium d).shows (replicate sectors (replicate 512 0))) }
+        ensures settled { IfOk result (λ d. IsSettled (memory_medium d)) }
+        ensures err { IfErr result (λ e. e ≡ DiskFault.Memory) }
+    {
+        let mut settled = Vec::new(alloc);
+        settled.resize(sectors as usize, [0; 512])?;
+        MemDisk::settled(alloc, settled, writes)
+    }
+
+    /// How many writes there were since the last good sync.
+    pub fn unsynced(&self) -> usize
+        ensures { result ≡ length (state_of self.now).pending }
+    {
+        self.pending.len()
+    }
+
+    /// What a cut leaves that keeps these fronts, in bytes, of the writes since the last good sync,
+    /// the oldest first. A missing number, or a larger one than 512, keeps all of its write. It
+    /// fails only for want of memory.
+    pub fn cut(&self, alloc: Global, tears: &[u16]) -> Result<MemDisk, DiskFault>
+        ensures cut { IfOk result (λ d. state_of d ≡ after_cut (state_of self.now) tears.now) }
+
+        // It is one of the images that a cut now may leave, and each of those is had so.
+        ensures left { (memory_medium self.now).may_leave (after_cut (state_of self.now) tears.now).settled }
+        ensures every { IsEveryCut self.now }
+        ensures shows { IfOk result (λ d. (memory_medium d).shows (after_cut (state_of self.now) tears.now).settled) }
+        ensures settled { IfOk result (λ d. IsSettled (memory_medium d)) }
+        ensures err { IfErr result (λ e. e ≡ DiskFault.Memory) }
+    {
+        let mut image = Vec::from_slice(alloc, &self.settled)?;
+        for (i, write) in self.pending.iter().enumerate() {
+            leave_front(
+                &mut image[write.sector],
+                &write.bytes,
+                front_named(tears, i),
+            );
+        }
+        MemDisk::settled(alloc, image, self.limit)
+    }
+
+    fn settled(alloc: Global, settled: Vec<Sector>, limit: usize) -> Result<MemDisk, DiskFault>
+        requires { IsImage (length settled.items) settled.items }
+        ensures made { IfOk result (λ d. state_of d ≡ record { settled = settled.items; pending = []; limit = limit }) }
+        ensures shows { IfOk result (λ d. (memory_medium d).shows settled.items) }
+        ensures settled { IfOk result (λ d. IsSettled (memory_medium d)) }
+        ensures err { IfErr result (λ e. e ≡ DiskFault.Memory) }
+    {
+        let shown = Vec::from_slice(alloc, &settled)?;
+        Ok(MemDisk {
+            settled,
+            shown,
+            pending: Vec::with_capacity(alloc, limit)?,
+            limit,
+            past: Log::new(),
+        })
+    }
+}
+
+/// The front that the number at `i` names.
+fn front_named(tears: &[u16], i: usize) -> usize
+    ensures front { result ≡ first_front (drop i tears.now) }
+    ensures within { result ≤ 512 }
+{
+    if i < tears.len() {
+        usize::from(tears[i]).min(512)
+    } else {
+        512
+    }
+}
+
+impl Disk for MemDisk {
+    ghost use Rattle.sector_disk.specs.Medium.{Keeps, Reads, Writes, Syncs};
+    ghost use Rattle.sector_disk.specs.Memory.{memory_medium, state_of, shown_by, read_answer, write_answer, after_write, after_sync};
+
+    ghost medium = { memory_medium };
+
+    fn sectors(&self) -> u64 {
+        self.settled.len() as u64
+    }
+
+    fn read(&mut self, sector: u64, into: &mut [u8; 512]) -> Result<(), DiskFault>
+        ensures reads { Reads sector into.new result (memory_medium self.old) (memory_medium self.new) }
+        ensures answer { result ≡ read_answer (state_of self.old) sector }
+        ensures bytes { OnOk result (into.new ≡ sector_at (shown_by (state_of self.old)) sector) }
+        ensures refused { OnErr result (into.new ≡ into.old) }
+        ensures same { self.new ≡ self.old }
+    {
+        if sector >= self.sectors() {
+            return Err(DiskFault::Range);
+        }
+        *into = self.shown[sector as usize];
+        Ok(())
+    }
+
+    fn write(&mut self, sector: u64, from: &[u8; 512]) -> Result<(), DiskFault>
+        ensures writes { Writes sector from.now result (memory_medium self.old) (memory_medium self.new) }
+        ensures answer { result ≡ write_answer (state_of self.old) sector }
+        ensures done { OnOk result (state_of self.new ≡ after_write (state_of self.old) sector from.now) }
+        ensures refused { OnErr result (self.new ≡ self.old) }
+        ensures kept { Keeps (memory_medium self.old) (memory_medium self.new) }
+    {
+        if sector >= self.sectors() {
+            return Err(DiskFault::Range);
+        }
+        if self.pending.len() >= self.limit {
+            return Err(DiskFault::Io);
+        }
+        let at = sector as usize;
+        let past = self.past.and(&self.settled, &self.pending);
+        let Ok(()) = self.pending.push(Write {
+            sector: at,
+            bytes: *from,
+        })
+        else {
+            unreachable!()
+        };
+        self.shown[at] = *from;
+        self.past = past;
+        Ok(())
+    }
+
+    fn sync(&mut self) -> Result<(), DiskFault>
+        ensures syncs { Syncs result (memory_medium self.old) (memory_medium self.new) }
+        ensures answer { result ≡ Ok tt }
+        ensures done { state_of self.new ≡ after_sync (state_of self.old) }
+        ensures kept { Keeps (memory_medium self.old) (memory_medium self.new) }
+    {
+        let past = self.past.and(&self.settled, &self.pending);
+        self.settled.copy_from_slice(&self.shown);
+        self.pending.clear();
+        self.past = past;
+        Ok(())
+    }
+}

@@ -1,0 +1,7 @@
+/// The number of a call, from 1, and the front in bytes that it leaves if it is a write. A larger
+/// front than 512 is the whole write.
+#[derive(Clone, Copy, Debug)]
+pub struct Place {
+    pub call: u64,
+    pub front: u16,
+}

@@ -1,0 +1,28 @@
+// What a call meets on a disk that is told to stop or to fail.
+ghost use Rattle.std.specs.Prelude.{◌≡◌};
+ghost use Rattle.sector_disk.specs.Trouble.{fault_of};
+
+use crate::DiskFault;
+
+/// What a call meets in place of the disk below. A write leaves a front of so many bytes.
+#[derive(Clone, Copy, Debug)]
+pub(crate) enum Trouble {
+    /// The machine stops at this call.
+    Stops(usize),
+    /// It has stopped at an earlier one.
+    Stopped,
+    /// This call fails.
+    Fails(usize),
+}
+
+impl Trouble {
+    /// What such a call answers.
+    pub(crate) fn fault(self) -> DiskFault
+        ensures { result ≡ fault_of self }
+    {
+        match self {
+            Trouble::Stops(_) | Trouble::Stopped => DiskFault::Cut,
+            Trouble::Fails(_) => DiskFault::Io,
+        }
+    }
+}
