@@ -2,3 +2,4 @@ pub mod TypedShape
 pub mod OneSequence
 pub mod OneRun
 pub mod ExamplesHold
+pub mod Heights

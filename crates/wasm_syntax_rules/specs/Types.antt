@@ -32,6 +32,11 @@ abbrev pub value_of : ValueType → ℕ → Value
 value_of I32 n = value.I32 n
 value_of I64 n = value.I64 n
 
+-- the number of a value
+abbrev pub number_in : Value → ℕ
+number_in (value.I32 n) = n
+number_in (value.I64 n) = n
+
 -- the value is one of this type
 abbrev pub IsOf : ValueType → Value → Type 0
 IsOf I32 (value.I32 n) = n < 2 ^ 32

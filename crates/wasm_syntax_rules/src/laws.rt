@@ -3,12 +3,17 @@
 
 ghost use Rattle.wasm_syntax_rules.specs.Configuration.{Store};
 ghost use Rattle.wasm_syntax_rules.specs.Shapes.{ReachedShapesAreTyped};
-ghost use Rattle.wasm_syntax_rules.specs.Laws.{OneSequence, OneRun};
+ghost use Rattle.wasm_syntax_rules.specs.Laws.{OneSequence, OneRun, HeightsAreSmall};
 ghost use Rattle.wasm_syntax_rules.specs.Examples.{TypingExamples, HelloRuns, StepExamples};
 
 /// In a typed body each position that typing reaches has a typed shape.
 pub fn reached_shapes_are_typed()
     ensures { ReachedShapesAreTyped }
+{}
+
+/// A position has no more values than there are opcodes before it.
+pub fn heights_are_small()
+    ensures { HeightsAreSmall }
 {}
 
 /// Flat opcodes and counted steps leave nothing open.

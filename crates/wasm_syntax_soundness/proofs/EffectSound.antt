@@ -24,13 +24,14 @@ use Rattle.wasm_syntax.specs.declared.instruction.Instruction.TheVariants as ins
 use Rattle.int_ops.specs.Integers.{binary_of, compare_of, convert_of, truth, unary_of}
 use Rattle.int_ops.proofs.Bounds.{truth_below, unary_below, binary_below, convert_below, sign_extended_below}
 use Rattle.guest_memory.specs.Bytes.{IsByte, number_of, bytes_of, page_size, part, with_part}
+use Rattle.guest_memory.proofs.ByteLemmas.{length-bytes_of}
 use Rattle.wasm_syntax_rules.specs.Types.{width_of, value_of, IsOf, AreOf, conversion_takes, conversion_gives, loaded_type, loaded_width, stored_type, stored_width, bytes_in, value_type_of}
 use Rattle.wasm_syntax_rules.specs.Typing.{Context, HasRule}
 use Rattle.wasm_syntax_rules.specs.Configuration.{Program, Store}
 use Rattle.wasm_syntax_rules.specs.Effects.{Effect, Gives, Fails, Wrong, with_top, with_some, with_result, loaded, load_at, store_at, pages_of, grown, selected, effect, IsEffect}
 use Rattle.wasm_syntax_soundness.specs.Typed.{IsTypedMemory, IsTypedStore}
 use Rattle.wasm_syntax_soundness.proofs.Values.{value_of_is, value_at, value_set}
-use Rattle.wasm_syntax_soundness.proofs.MemoryBytes.{number_below, bytes_are, length-bytes_of, length-part, memory_with_part, memory_grown, all_take, all_drop}
+use Rattle.wasm_syntax_soundness.proofs.MemoryBytes.{number_below, bytes_are, length-part, memory_with_part, memory_grown, all_take, all_drop}
 
 module _ (c : Context) (program : Program) (few : program.most_pages ≤ 2 ^ 16) where
   -- an effect that is a trap, or that leaves values of these types

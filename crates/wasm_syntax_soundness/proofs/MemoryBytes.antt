@@ -34,10 +34,6 @@ pub bytes_are : (n x : ℕ) → AllByRecursion IsByte (bytes_of n x)
 bytes_are zero x = tt
 bytes_are (suc n) x = ((let below : x % 256 < 256 = omega arith in below), bytes_are n (x / 256))
 
-pub length-bytes_of : (n x : ℕ) → length (bytes_of n x) ≡ n
-length-bytes_of zero x = refl
-length-bytes_of (suc n) x = ap suc (length-bytes_of n (x / 256))
-
 pub length-part : (memory : List ℕ) (from n : ℕ) → from + n ≤ length memory → length (part memory from n) ≡ n
 length-part memory from n h = simp (length-take, length-drop) (omega arith)
 

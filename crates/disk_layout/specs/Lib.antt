@@ -1,0 +1,4 @@
+pub mod Places
+pub mod Sectors
+pub mod Journal
+pub mod Examples

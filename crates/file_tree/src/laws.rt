@@ -1,0 +1,8 @@
+//! Laws of the file system model. The functions do nothing: what they ensure is the law.
+
+ghost use Rattle.file_tree.specs.Laws.{RenameMovesASubtree};
+
+/// Renaming moves a whole subtree and nothing else.
+pub fn renaming_moves_a_subtree()
+    ensures { RenameMovesASubtree }
+{}

@@ -1,0 +1,2 @@
+pub mod OneStart
+pub mod OneProcess

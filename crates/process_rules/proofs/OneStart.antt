@@ -1,0 +1,191 @@
+-- A valid module begins as one process at most.
+use Rattle.std.proofs.Common.{◌≡◌, ◌≢◌, inl, inr, ℕ, List, [], ◌∷◌, Option, Some, None, refl, sym, ap, ◌∙◌, subst, if◌then◌else◌}
+use Rattle.std.specs.Prelude.{codes}
+use Rattle.std.specs.List.{AllByRecursion}
+use Rattle.wasm_syntax.specs.declared.types.FunctionType.{FunctionType}
+use Rattle.wasm_syntax.specs.declared.value.Value.{Value}
+use Rattle.wasm_syntax.specs.declared.module.Module.{Module}
+use Rattle.wasm_syntax.specs.declared.module.Import.{Import}
+use Rattle.wasm_syntax.specs.declared.module.Function.{Function}
+use Rattle.wasm_syntax.specs.declared.module.Global.{Global}
+use Rattle.wasm_syntax.specs.declared.module.Export.{Export}
+use Rattle.wasm_syntax.specs.declared.module.ExportItem.{ExportItem}
+use Rattle.wasm_syntax.specs.declared.module.ExportItem.TheVariants as export
+use Rattle.wasm_syntax_rules.specs.Types.{imported_functions}
+use Rattle.wasm_syntax_rules.specs.Validity.{HaveDistinctNames, IsValid}
+use Rattle.wasm_syntax_rules.specs.Configuration.{Callee, Host, Own, Program, Store, Configuration}
+use Rattle.wasm_syntax_rules.specs.Instantiation.{AreCallees, IsProgram, constant_of, AreInitial, IsInitialStore, calls_of, Begins}
+use Rattle.wasm_syntax_rules.specs.Steps.{Settles}
+use Rattle.wasm_syntax_rules.specs.Linking.{Exports}
+use Rattle.wasm_syntax_rules.proofs.OneSequence.{one_sequence}
+use Rattle.wasm_syntax_rules.proofs.OneRun.{settles_once}
+use Rattle.wasi_abi.specs.declared.call.Call.{Call}
+use Rattle.wasi_abi.specs.declared.call.Call.TheVariants as call
+use Rattle.wasi_abi.specs.Configs.{Settings}
+use Rattle.wasi_abi.specs.Calls.{name_of}
+use Rattle.file_tree.specs.Files.{is_same_name}
+use Rattle.process_rules.specs.Processes.{ProcessState, Guest, AreCalls, IsStart, closed, host_of}
+
+-- ---- the program
+
+callees_once : (m : Module) (imported : List ℕ) (own : List Function) (a b : List Callee) → AreCallees m imported own a → AreCallees m imported own b → a ≡ b
+callees_once m (x ∷ imported) own [] b h k = absurd h
+callees_once m (x ∷ imported) own (Own kind declared body ∷ a) b h k = absurd h
+callees_once m (x ∷ imported) own (Host kind ∷ a) [] h k = absurd k
+callees_once m (x ∷ imported) own (Host kind ∷ a) (Own kind' declared body ∷ b) h k = absurd k
+callees_once m (x ∷ imported) own (Host kind ∷ a) (Host kind' ∷ b) h k =
+    let p = h.0 in let q = k.0 in let same : kind ≡ kind' = cc in let others = callees_once m imported own a b h.1 k.1 in cc
+callees_once m [] [] [] [] h k = refl
+callees_once m [] [] [] (Host kind ∷ b) h k = absurd k
+callees_once m [] [] [] (Own kind declared body ∷ b) h k = absurd k
+callees_once m [] [] (Host kind ∷ a) b h k = absurd h
+callees_once m [] [] (Own kind declared body ∷ a) b h k = absurd h
+callees_once m [] (f ∷ own) [] b h k = absurd h
+callees_once m [] (f ∷ own) (Host kind ∷ a) b h k = absurd h
+callees_once m [] (f ∷ own) (Own kind declared body ∷ a) [] h k = absurd k
+callees_once m [] (f ∷ own) (Own kind declared body ∷ a) (Host kind' ∷ b) h k = absurd k
+callees_once m [] (f ∷ own) (Own kind declared body ∷ a) (Own kind' declared' body' ∷ b) h k =
+    let p = h.0 in let q = k.0 in let d = h.1 in let e = k.1 in
+    let same_kind : kind ≡ kind' = cc in
+    let same_declared : declared ≡ declared' = cc in
+    let same_body : body ≡ body' = one_sequence f.code.body body body' h.2 k.2 in
+    let others = callees_once m [] own a b h.3 k.3 in
+    cc
+
+abbrev pub program_of : List FunctionType → List Callee → ℕ → Program
+program_of types functions most = record { types = types; functions = functions; most_pages = most }
+
+program_is : (p q : Program) → p.types ≡ q.types → p.functions ≡ q.functions → p.most_pages ≡ q.most_pages → p ≡ q
+program_is p q a b c = let whole : program_of p.types p.functions p.most_pages ≡ program_of q.types q.functions q.most_pages = rw (a, b, c) refl in whole
+
+program_once : (m : Module) (pages : ℕ) (p q : Program) → IsProgram m pages p → IsProgram m pages q → p ≡ q
+program_once m pages p q a b =
+    program_is p q (a.types ∙ sym b.types) (callees_once m (imported_functions m.imports) m.functions p.functions q.functions a.functions b.functions) (a.most_pages ∙ sym b.most_pages)
+
+-- ---- the calls
+
+-- each call has a name of its own
+abbrev pub all_calls : List Call
+all_calls = call.ArgsGet ∷ call.ArgsSizesGet ∷ call.EnvironGet ∷ call.EnvironSizesGet ∷ call.ClockResGet ∷ call.ClockTimeGet ∷ call.FdClose ∷ call.FdDatasync ∷ call.FdFdstatGet ∷ call.FdFdstatSetFlags ∷ call.FdFilestatGet ∷ call.FdFilestatSetSize ∷ call.FdPread ∷ call.FdPrestatGet ∷ call.FdPrestatDirName ∷ call.FdPwrite ∷ call.FdRead ∷ call.FdReaddir ∷ call.FdSeek ∷ call.FdSync ∷ call.FdTell ∷ call.FdWrite ∷ call.PathCreateDirectory ∷ call.PathFilestatGet ∷ call.PathOpen ∷ call.PathRemoveDirectory ∷ call.PathRename ∷ call.PathUnlinkFile ∷ call.ProcExit ∷ call.SchedYield ∷ call.RandomGet ∷ []
+
+abbrev pub named : List Call → List ℕ → Option Call
+named [] name = None
+named (c ∷ calls) name = if is_same_name (name_of c) name then Some c else named calls name
+
+found : (c : Call) → named all_calls (name_of c) ≡ Some c
+found call.ArgsGet = refl
+found call.ArgsSizesGet = refl
+found call.EnvironGet = refl
+found call.EnvironSizesGet = refl
+found call.ClockResGet = refl
+found call.ClockTimeGet = refl
+found call.FdClose = refl
+found call.FdDatasync = refl
+found call.FdFdstatGet = refl
+found call.FdFdstatSetFlags = refl
+found call.FdFilestatGet = refl
+found call.FdFilestatSetSize = refl
+found call.FdPread = refl
+found call.FdPrestatGet = refl
+found call.FdPrestatDirName = refl
+found call.FdPwrite = refl
+found call.FdRead = refl
+found call.FdReaddir = refl
+found call.FdSeek = refl
+found call.FdSync = refl
+found call.FdTell = refl
+found call.FdWrite = refl
+found call.PathCreateDirectory = refl
+found call.PathFilestatGet = refl
+found call.PathOpen = refl
+found call.PathRemoveDirectory = refl
+found call.PathRename = refl
+found call.PathUnlinkFile = refl
+found call.ProcExit = refl
+found call.SchedYield = refl
+found call.RandomGet = refl
+
+one_name : (c d : Call) → name_of c ≡ name_of d → c ≡ d
+one_name c d e = let p = found c in let q = found d in let r : named all_calls (name_of c) ≡ named all_calls (name_of d) = ap (named all_calls) e in cc
+
+calls_once : (imports : List Import) (a b : List Call) → AreCalls imports a → AreCalls imports b → a ≡ b
+calls_once [] [] [] h k = refl
+calls_once [] [] (d ∷ b) h k = absurd k
+calls_once [] (c ∷ a) b h k = absurd h
+calls_once (i ∷ imports) [] b h k = absurd h
+calls_once (i ∷ imports) (c ∷ a) [] h k = absurd k
+calls_once (i ∷ imports) (c ∷ a) (d ∷ b) h k =
+    let same : c ≡ d = one_name c d (sym h.1 ∙ k.1) in
+    let others = calls_once imports a b h.2 k.2 in
+    cc
+
+-- ---- the store
+
+some_once : {X : Type 0} (o : Option X) (x y : X) → o ≡ Some x → o ≡ Some y → x ≡ y
+some_once o x y e f = cc
+
+initial_once : (globals : List Global) (a b : List Value) → AreInitial globals a → AreInitial globals b → a ≡ b
+initial_once [] [] [] h k = refl
+initial_once [] [] (y ∷ b) h k = absurd k
+initial_once [] (x ∷ a) b h k = absurd h
+initial_once (g ∷ globals) [] b h k = absurd h
+initial_once (g ∷ globals) (x ∷ a) [] h k = absurd k
+initial_once (g ∷ globals) (x ∷ a) (y ∷ b) h k =
+    let same : x ≡ y = some_once (constant_of [] g.initial) x y h.0 k.0 in
+    let others = initial_once globals a b h.1 k.1 in
+    cc
+
+abbrev pub store_of : List ℕ → List Value → List (Option ℕ) → Store
+store_of memory globals table = record { memory = memory; globals = globals; table = table }
+
+store_is : (a b : Store) → a.memory ≡ b.memory → a.globals ≡ b.globals → a.table ≡ b.table → a ≡ b
+store_is a b x y z = let whole : store_of a.memory a.globals a.table ≡ store_of b.memory b.globals b.table = rw (x, y, z) refl in whole
+
+store_once : (m : Module) (a b : Store) → IsInitialStore m a → IsInitialStore m b → a ≡ b
+store_once m a b h k =
+    let globals : a.globals ≡ b.globals = initial_once m.globals a.globals b.globals h.globals k.globals in
+    store_is a b (some_once _ a.memory b.memory h.memory (rw globals k.memory)) globals (some_once _ a.table b.table h.table (rw globals k.table))
+
+-- ---- the entry
+
+-- a name that is exported is not among the other ones
+not_again : (e : Export) (exports : List Export) (name : List ℕ) (item : ExportItem) → e.name ≡ name → AllByRecursion (λ (other : Export). e.name ≢ other.name) exports → Exports exports name item → ⊥
+not_again e [] name item same h k = k
+not_again e (f ∷ exports) name item same h (inl k) = h.0 (same ∙ sym k.0)
+not_again e (f ∷ exports) name item same h (inr k) = not_again e exports name item same h.1 k
+
+entry_once : (exports : List Export) (name : List ℕ) (a b : ExportItem) → HaveDistinctNames exports → Exports exports name a → Exports exports name b → a ≡ b
+entry_once [] name a b d h k = absurd h
+entry_once (e ∷ exports) name a b d (inl h) (inl k) = sym h.1 ∙ k.1
+entry_once (e ∷ exports) name a b d (inl h) (inr k) = absurd (not_again e exports name b h.0 d.0 k)
+entry_once (e ∷ exports) name a b d (inr h) (inl k) = absurd (not_again e exports name a k.0 d.0 h)
+entry_once (e ∷ exports) name a b d (inr h) (inr k) = entry_once exports name a b d.1 h k
+
+-- ---- the beginning
+
+abbrev pub guest_of : Program → List Call → Guest
+guest_of program calls = record { program = program; calls = calls }
+
+guest_is : (a b : Guest) → a.program ≡ b.program → a.calls ≡ b.calls → a ≡ b
+guest_is a b p q = let whole : guest_of a.program a.calls ≡ guest_of b.program b.calls = rw (p, q) refl in whole
+
+abbrev pub begun : Store → List ℕ → Configuration
+begun store later = record { store = store; thread = []; later = later }
+
+first_once : (m : Module) (pages x y : ℕ) (p : Program) (c d : Configuration) → x ≡ y → Begins m pages x p c → Begins m pages y p d → c ≡ d
+first_once m pages x y p c d e a b =
+    let same : a.store ≡ b.store = store_once m a.store b.store a.is_store b.is_store in
+    let begin : begun a.store (calls_of m.start x) ≡ begun b.store (calls_of m.start y) = rw (same, e) refl in
+    settles_once p (begun a.store (calls_of m.start x)) c d a.settles (subst (λ z. Settles p z d) (sym begin) b.settles)
+
+item_number : (x y : ℕ) → export.Function x ≡ export.Function y → x ≡ y
+item_number x y e = cc
+
+pub start_once : (m : Module) (config : Settings) (g h : Guest) (p q : ProcessState) → IsValid m → IsStart m config g p → IsStart m config h q → (g ≡ h) × (p ≡ q)
+start_once m config g h p q v a b =
+    let programs : g.program ≡ h.program = program_once m config.pages g.program h.program a.begins.is_program b.begins.is_program in
+    let calls : g.calls ≡ h.calls = calls_once m.imports g.calls h.calls a.calls b.calls in
+    let entries : a.entry ≡ b.entry = item_number a.entry b.entry (entry_once m.exports (codes "_start") (export.Function a.entry) (export.Function b.entry) v.names a.exported b.exported) in
+    let begins : Begins m config.pages b.entry g.program b.first = subst (λ z. Begins m config.pages b.entry z b.first) (sym programs) b.begins in
+    let firsts : a.first ≡ b.first = first_once m config.pages a.entry b.entry g.program a.first b.first entries a.begins begins in
+    (guest_is g h programs calls, a.is ∙ ap (λ c. closed (record { configuration = c; host = host_of config; steps = 0; answers = 0; requests = 0; ended = None })) firsts ∙ sym b.is)

@@ -1,0 +1,4 @@
+pub mod Processes
+pub mod Runs
+pub mod Behind
+pub mod Laws

@@ -1,0 +1,113 @@
+-- What a process reaches on answers from outside, in so many counted steps (this project's own).
+use Rattle.std.specs.Prelude.{◌≡◌, ℕ, suc, ◌+◌, List, [], ◌∷◌, map, reverse, Option, Some, None, Ok, Err, slice_get}
+use Rattle.wasm_syntax.specs.declared.value.Value.{Value}
+use Rattle.wasm_syntax.specs.declared.value.Value.TheVariants as value
+use Rattle.wasm_syntax.specs.declared.module.Module.{Module}
+use Rattle.wasm_syntax_rules.specs.Types.{number_in}
+use Rattle.wasm_syntax_rules.specs.Configuration.{Configuration, Thread, Outcome, Goes, Traps, Asks, Stuck}
+use Rattle.wasm_syntax_rules.specs.Steps.{rule, answered, stopped, Settles}
+use Rattle.wasi_abi.specs.declared.answer.Kind.{Kind}
+use Rattle.wasi_abi.specs.declared.answer.Answer.{Answer}
+use Rattle.wasi_abi.specs.declared.answer.Answer.TheVariants as answer
+use Rattle.wasi_abi.specs.declared.call.Call.{Call}
+use Rattle.wasi_abi.specs.declared.call.Call.TheVariants as call
+use Rattle.wasi_abi.specs.Configs.{Settings}
+use Rattle.wasi_abi.specs.Numbers.{errno_number}
+use Rattle.wasi_abi.specs.Answers.{Fits}
+use Rattle.wasi_calls_rows.specs.Hosts.{Host}
+use Rattle.wasi_calls_rows.specs.Checks.{Refuses, Ends, Asks as Wishes, Row}
+use Rattle.wasi_calls_rows.specs.Rows.{row}
+use Rattle.process_rules.specs.Processes.{Ending, Exited, Trapped, ProcessState, Guest, IsStart, over, closed}
+
+-- ---- one counted step
+
+-- What a counted step leads to: a configuration that is then settled and a host, an end, or a wish for an outside answer.
+pub data Next : Type 0 where
+  On : (configuration : Configuration) (host : Host) → Next
+  Over : (why : Ending) (configuration : Configuration) (host : Host) → Next
+  Wants : (kind : Kind) → Next
+  Nowhere : Next
+
+-- what a call gives: its error number, but for the end of the process
+abbrev pub given_by : Call → ℕ → List Value
+given_by call.ProcExit number = []
+given_by _ number = value.I32 number ∷ []
+
+abbrev pub after_row : Call → Row → Configuration → Host → Thread → Next
+after_row c (Ok done) before h waits = On (answered before done.memory (given_by c 0) waits) done.host
+after_row c (Err (Refuses e)) before h waits = On (answered before before.store.memory (given_by c (errno_number e)) waits) h
+after_row c (Err (Ends code)) before h waits = Over (Exited code) (stopped before) h
+after_row c (Err (Wishes kind)) before h waits = Wants kind
+
+abbrev pub after_call : Option Call → List Value → Option Answer → Configuration → Host → Thread → Next
+after_call None arguments given before h waits = Nowhere
+after_call (Some c) arguments given before h waits =
+    after_row c (row c (reverse (map number_in arguments)) given before.store.memory h) before h waits
+
+abbrev pub after_rule : Guest → Outcome → Option Answer → Configuration → Host → Next
+after_rule guest (Goes next) given before h = On next h
+after_rule guest (Traps why) given before h = Over (Trapped why) (stopped before) h
+after_rule guest (Asks f arguments waits) given before h = after_call (slice_get guest.calls f) arguments given before h waits
+after_rule guest Stuck given before h = Nowhere
+
+abbrev pub next_of : Guest → ProcessState → Option Answer → Next
+next_of guest p given = after_rule guest (rule guest.program p.configuration) given p.configuration p.host
+
+-- ---- a step of a process
+
+abbrev pub taken : Option Answer → ℕ
+taken None = 0
+taken (Some a) = 1
+
+abbrev pub request_taken : Option Answer → ℕ
+request_taken (Some (answer.Request text)) = 1
+request_taken (Some answer.End) = 1
+request_taken _ = 0
+
+-- the process after a step that took this answer, or none
+abbrev pub stepped : Option Answer → Configuration → Host → ProcessState → ProcessState
+stepped given c h p = record {
+  configuration = c;
+  host = h;
+  steps = p.steps + 1;
+  answers = p.answers + taken given;
+  requests = p.requests + request_taken given;
+  ended = None;
+}
+
+-- where the next thing leads, the rules that aren't counted included
+abbrev pub LeadsTo : Guest → Next → Option Answer → ProcessState → ProcessState → Type 0
+LeadsTo guest (On c h) given p q = (settled : Configuration) × Settles guest.program c settled × (q ≡ closed (stepped given settled h p))
+LeadsTo guest (Over why c h) given p q = q ≡ over why (stepped given c h p)
+LeadsTo guest (Wants kind) given p q = ⊥
+LeadsTo guest Nowhere given p q = ⊥
+
+-- The answer that a step takes is one that it wants: none where it goes on without, else one that fits.
+abbrev pub IsWanted : Guest → ProcessState → Option Answer → Type 0
+IsWanted guest p None = Unit {0}
+IsWanted guest p (Some a) = (kind : Kind) × (next_of guest p None ≡ Wants kind) × Fits p.host.limit kind a
+
+-- One counted step, with the rules that settle it. A process that has ended takes none.
+pub record Moves (guest : Guest) (p : ProcessState) (given : Option Answer) (q : ProcessState) : Type 0 where
+  pub running : p.ended ≡ None
+  pub wanted : IsWanted guest p given
+  pub leads : LeadsTo guest (next_of guest p given) given p q
+
+-- ---- runs
+
+-- what is kept of the outside: its answers
+pub data Kept : Type 0 where
+  Given : Answer → Kept
+
+-- so many counted steps, which took exactly these answers, in order
+pub data Runs (guest : Guest) : ProcessState → List Kept → ℕ → ProcessState → Type 0 where
+  none : {p : ProcessState} → Runs guest p [] 0 p
+  step : {p q r : ProcessState} {kept : List Kept} {n : ℕ} → Moves guest p None q → Runs guest q kept n r → Runs guest p kept (suc n) r
+  take : {p q r : ProcessState} {a : Answer} {kept : List Kept} {n : ℕ} → Moves guest p (Some a) q → Runs guest q kept n r → Runs guest p (Given a ∷ kept) (suc n) r
+
+-- The module under a configuration reaches this process on these answers, all of them, in n counted steps.
+pub record Reaches (m : Module) (config : Settings) (kept : List Kept) (n : ℕ) (p : ProcessState) : Type 0 where
+  pub guest : Guest
+  pub start : ProcessState
+  pub begins : IsStart m config guest start
+  pub runs : Runs guest start kept n p

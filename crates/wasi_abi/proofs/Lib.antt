@@ -1,0 +1,4 @@
+pub mod CallLemmas
+mod ConfigLemmas
+mod LayoutLemmas
+pub mod RightsLemmas

@@ -1,0 +1,204 @@
+-- Numbers of WASI preview 1 (the types `errno`, `rights`, `filetype`, `whence`, `clockid`, `lookupflags`, `oflags` and `fdflags`
+-- of its witx files), and the sets of rights of this project's profile.
+use Rattle.std.specs.Prelude.{ℕ, ◌==◌, bit_and, Bool}
+use Rattle.std.specs.Int.{bit_at}
+use Rattle.wasi_abi.specs.declared.errno.Errno.{Errno}
+use Rattle.wasi_abi.specs.declared.file_type.FileType.{FileType}
+use Rattle.wasi_abi.specs.declared.file_type.FileType.TheVariants as file_type
+use Rattle.wasi_abi.specs.declared.rights.Rights.{Rights}
+use Rattle.wasi_abi.specs.declared.errno.Errno.TheVariants.{Badf, Exist, Fault, Fbig, Ilseq, Inval, Isdir, Mfile, Nametoolong, Noent, Nospc, Notdir, Notempty, Spipe, Notcapable}
+
+abbrev pub errno_number : Errno → ℕ
+errno_number Badf = 8
+errno_number Exist = 20
+errno_number Fault = 21
+errno_number Fbig = 22
+errno_number Ilseq = 25
+errno_number Inval = 28
+errno_number Isdir = 31
+errno_number Mfile = 33
+errno_number Nametoolong = 37
+errno_number Noent = 44
+errno_number Nospc = 51
+errno_number Notdir = 54
+errno_number Notempty = 55
+errno_number Spipe = 70
+errno_number Notcapable = 76
+
+-- ---- rights, by the numbers of their bits
+
+abbrev pub fd_datasync_right : ℕ
+fd_datasync_right = 0
+
+abbrev pub fd_read_right : ℕ
+fd_read_right = 1
+
+abbrev pub fd_seek_right : ℕ
+fd_seek_right = 2
+
+abbrev pub fd_fdstat_set_flags_right : ℕ
+fd_fdstat_set_flags_right = 3
+
+abbrev pub fd_sync_right : ℕ
+fd_sync_right = 4
+
+abbrev pub fd_tell_right : ℕ
+fd_tell_right = 5
+
+abbrev pub fd_write_right : ℕ
+fd_write_right = 6
+
+abbrev pub fd_advise_right : ℕ
+fd_advise_right = 7
+
+abbrev pub fd_allocate_right : ℕ
+fd_allocate_right = 8
+
+abbrev pub path_create_directory_right : ℕ
+path_create_directory_right = 9
+
+abbrev pub path_create_file_right : ℕ
+path_create_file_right = 10
+
+abbrev pub path_link_source_right : ℕ
+path_link_source_right = 11
+
+abbrev pub path_link_target_right : ℕ
+path_link_target_right = 12
+
+abbrev pub path_open_right : ℕ
+path_open_right = 13
+
+abbrev pub fd_readdir_right : ℕ
+fd_readdir_right = 14
+
+abbrev pub path_readlink_right : ℕ
+path_readlink_right = 15
+
+abbrev pub path_rename_source_right : ℕ
+path_rename_source_right = 16
+
+abbrev pub path_rename_target_right : ℕ
+path_rename_target_right = 17
+
+abbrev pub path_filestat_get_right : ℕ
+path_filestat_get_right = 18
+
+abbrev pub path_filestat_set_size_right : ℕ
+path_filestat_set_size_right = 19
+
+abbrev pub path_filestat_set_times_right : ℕ
+path_filestat_set_times_right = 20
+
+abbrev pub fd_filestat_get_right : ℕ
+fd_filestat_get_right = 21
+
+abbrev pub fd_filestat_set_size_right : ℕ
+fd_filestat_set_size_right = 22
+
+abbrev pub fd_filestat_set_times_right : ℕ
+fd_filestat_set_times_right = 23
+
+abbrev pub path_symlink_right : ℕ
+path_symlink_right = 24
+
+abbrev pub path_remove_directory_right : ℕ
+path_remove_directory_right = 25
+
+abbrev pub path_unlink_file_right : ℕ
+path_unlink_file_right = 26
+
+abbrev pub poll_fd_readwrite_right : ℕ
+poll_fd_readwrite_right = 27
+
+abbrev pub sock_shutdown_right : ℕ
+sock_shutdown_right = 28
+
+-- the number whose bits these rights are
+abbrev pub rights_number : Rights → ℕ
+rights_number r = r.0
+
+-- the right with this bit is among these
+abbrev pub has_right : ℕ → ℕ → Bool
+has_right rights bit = bit_at rights bit == 1
+
+-- these rights are all among those
+abbrev pub are_within : ℕ → ℕ → Bool
+are_within rights all = bit_and rights all == rights
+
+-- ---- the profile's sets of rights
+
+-- what a file may have, what a directory may have, and both together
+abbrev pub file_rights : ℕ
+file_rights = 0x0060007f
+
+abbrev pub directory_rights : ℕ
+directory_rights = 0x062f6611
+
+abbrev pub all_rights : ℕ
+all_rights = 0x066f667f
+
+-- what the input stream has, and what each output stream has
+abbrev pub input_rights : ℕ
+input_rights = 0x00200002
+
+abbrev pub output_rights : ℕ
+output_rights = 0x00200040
+
+-- ---- file types
+
+abbrev pub character_device : ℕ
+character_device = 2
+
+abbrev pub directory_type : ℕ
+directory_type = 3
+
+abbrev pub regular_file : ℕ
+regular_file = 4
+
+abbrev pub file_type_number : FileType → ℕ
+file_type_number file_type.CharacterDevice = character_device
+file_type_number file_type.Directory = directory_type
+file_type_number file_type.RegularFile = regular_file
+
+-- ---- places that an offset is counted from
+
+abbrev pub whence_set : ℕ
+whence_set = 0
+
+abbrev pub whence_current : ℕ
+whence_current = 1
+
+abbrev pub whence_end : ℕ
+whence_end = 2
+
+-- ---- clocks
+
+abbrev pub realtime_clock : ℕ
+realtime_clock = 0
+
+abbrev pub monotonic_clock : ℕ
+monotonic_clock = 1
+
+-- ---- flags, by the numbers of their bits
+
+abbrev pub symlink_follow_flag : ℕ
+symlink_follow_flag = 0
+
+abbrev pub create_flag : ℕ
+create_flag = 0
+
+abbrev pub directory_flag : ℕ
+directory_flag = 1
+
+abbrev pub exclusive_flag : ℕ
+exclusive_flag = 2
+
+abbrev pub truncate_flag : ℕ
+truncate_flag = 3
+
+abbrev pub append_flag : ℕ
+append_flag = 0
+
+abbrev pub has_flag : ℕ → ℕ → Bool
+has_flag flags bit = bit_at flags bit == 1

@@ -1,0 +1,8 @@
+use Rattle.wasi_calls_rows.proofs.ExamplesHold.{opening_examples, directory_examples}
+use Rattle.wasi_calls_rows.proofs.laws.worked_examples.Goals as goal
+
+pub returns-clause-opening : goal.returns-clause-opening
+returns-clause-opening c = opening_examples
+
+pub returns-clause-directories : goal.returns-clause-directories
+returns-clause-directories c = directory_examples

@@ -1,0 +1,18 @@
+//! Laws of the rules of the calls. The functions do nothing: what they ensure is the law.
+
+ghost use Rattle.wasi_calls_rows.specs.Examples.{OpeningExamples, MovingExamples, SmallExamples, DirectoryExamples};
+ghost use Rattle.wasi_calls_rows.specs.Laws.{RowsKeepMemory, RowsKeepBytes};
+
+/// The rules give on examples what the profile gives.
+pub fn worked_examples()
+    ensures opening { OpeningExamples }
+    ensures moving { MovingExamples }
+    ensures small { SmallExamples }
+    ensures directories { DirectoryExamples }
+{}
+
+/// No call that is done makes memory longer or shorter, or puts anything but bytes into it.
+pub fn calls_keep_memory()
+    ensures length { RowsKeepMemory }
+    ensures bytes { RowsKeepBytes }
+{}

@@ -1,0 +1,5 @@
+//! The rules of the calls, as definitions in `specs/`.
+#![tactic(auto)]
+
+pub mod laws;
+pub mod limits;

@@ -1,0 +1,3 @@
+pub mod Stands
+pub mod Lives
+pub mod Promises

@@ -1,0 +1,57 @@
+-- A disk image that stands for a worker (this project's own).
+use Rattle.std.specs.Prelude.{◌≡◌, ℕ, ◌+◌, ◌<◌, ◌≤◌, List, [], ◌∷◌, ◌++◌, length, map, Option, Some}
+use Rattle.wasm_syntax.specs.declared.module.Module.{Module}
+use Rattle.wasm_syntax_grammar.specs.Modules.{IsModule}
+use Rattle.wasm_syntax_rules.specs.Typing.{Context}
+use Rattle.wasi_abi.specs.declared.answer.Answer.{Answer}
+use Rattle.wasi_abi.specs.Configs.{Settings}
+use Rattle.process_rules.specs.Processes.{ProcessState, Guest, text_limit}
+use Rattle.process_rules.specs.Runs.{Kept, Given, Moves, Runs, Reaches}
+use Rattle.state_image.specs.Image.{Saved, ShowsProcess, image}
+use Rattle.sector_disk.specs.Image.{Image, sector_at}
+use Rattle.disk_layout.specs.Places.{Geometry, geometry_of, journal_place}
+use Rattle.disk_layout.specs.Sectors.{HasMarks, HasWorker, HoldsImage, shown_generation}
+use Rattle.disk_layout.specs.Journal.{Record, scan}
+
+-- From one process to another by steps of which each that takes an answer is on record, in order, with its count.
+pub data Recorded (guest : Guest) : ProcessState → List Record → ProcessState → Type 0 where
+  none : {p : ProcessState} → Recorded guest p [] p
+  more : {p q r s : ProcessState} {a : Answer} {n : ℕ} {records : List Record} → Runs guest p [] n q → Moves guest q (Some a) r → Recorded guest r records s → Recorded guest p (record { step = r.steps; answer = a } ∷ records) s
+
+abbrev pub given_in : Record → Kept
+given_in r = Given r.answer
+
+-- no head and no journal sector shows a later generation
+pub record ShowsNoneLater (geometry : Geometry) (disk : Image) (g : ℕ) : Type 0 where
+  pub first_head : shown_generation 1 (sector_at disk 1) ≤ g
+  pub second_head : shown_generation 1 (sector_at disk 2) ≤ g
+  pub journal : (k : ℕ) → k < geometry.journal_sectors → shown_generation (k + 1) (sector_at disk (journal_place geometry + k)) ≤ g
+
+-- The disk holds configuration and module. Its newest complete head names the image of a process that the module reaches on
+-- a front of the kept answers. The journal of that generation holds the rest of them, in order, each with its step. The last
+-- record's step, or that of the image where there is none, is n.
+pub record StandsFor (disk : Image) (m : Module) (config : Settings) (kept : List Kept) (n : ℕ) : Type 0 where
+  pub wasm : List ℕ
+  pub spelled : IsModule wasm m
+  pub worker : HasWorker config wasm disk
+  pub generation : ℕ
+  pub saved : Saved
+  pub holds : HoldsImage (geometry_of config (length wasm)) disk generation 1 (image saved)
+  pub front : List Kept
+  pub steps : ℕ
+  pub process : ProcessState
+  pub reached : Reaches m config front steps process
+  pub context : Context
+  pub table : List (Option ℕ)
+  pub shown : ShowsProcess context reached.guest.program table saved process
+  pub records : List Record
+  pub scanned : scan (geometry_of config (length wasm)) text_limit disk generation ≡ records
+  pub rest : kept ≡ front ++ map given_in records
+  pub last : ProcessState
+  pub recorded : Recorded reached.guest process records last
+  pub at_step : n ≡ last.steps
+  pub none_later : ShowsNoneLater (geometry_of config (length wasm)) disk generation
+
+-- there is no worker on the disk: a mark of the super is missing
+abbrev pub IsBlank : Image → Type 0
+IsBlank disk = HasMarks disk → ⊥
