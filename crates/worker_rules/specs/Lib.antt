@@ -1,3 +1,6 @@
 pub mod Stands
 pub mod Lives
+pub mod Between
 pub mod Promises
+pub mod Laws
+pub mod Examples

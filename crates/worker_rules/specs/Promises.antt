@@ -1,12 +1,13 @@
 -- What is promised over lives: the restart theorem in the subject's words (this project's own).
-use Rattle.std.specs.Prelude.{◌≡◌, ◌⊎◌, ℕ, ◌+◌, ◌-◌, ◌≤◌, max, Bool, true, false, List, [], ◌∷◌, ◌++◌, length, take}
+use Rattle.std.specs.Prelude.{◌≡◌, ◌⊎◌, ℕ, ◌+◌, ◌-◌, ◌≤◌, max, Bool, true, false, List, [], ◌∷◌, ◌++◌, length, take, Some}
 use Rattle.std.specs.List.{AllByRecursion}
 use Rattle.wasm_syntax.specs.declared.module.Module.{Module}
+use Rattle.wasi_abi.specs.declared.answer.Answer.{Answer}
 use Rattle.wasi_abi.specs.Configs.{Settings}
 use Rattle.process_rules.specs.Processes.{ProcessState}
-use Rattle.process_rules.specs.Runs.{Kept, Given, Reaches}
+use Rattle.process_rules.specs.Runs.{Kept, Given, IsWanted, Reaches}
 use Rattle.process_rules.specs.Behind.{AnswersBehindLine, AnswersBehindSync, IsLine}
-use Rattle.worker_rules.specs.Lives.{Release, Event, Told, Opened, Handed, Ended, Saved, Life, events_of, told_in}
+use Rattle.worker_rules.specs.Lives.{Release, Act, Slice, Checkpoint, Event, Told, Opened, Handed, Ended, OfDisk, OfSource, OfAnswer, OfOutlet, OfMemory, End, Cut, Failed, Life, IsLife, HasOpened, events_of, told_in}
 
 -- What has been promised so far: the answers kept, how many answers and steps a restart has at least, the lines that were
 -- told, and the last step up to which a guest sync has returned.
@@ -35,12 +36,27 @@ abbrev pub synced_by : Bool → ℕ → ℕ
 synced_by true steps = steps
 synced_by false steps = steps - 1
 
+-- how much of this count a call makes sure of for good: a checkpoint that answers Ok all of it
+abbrev pub saved_by : Act → Bool → ℕ → ℕ
+saved_by Checkpoint true count = count
+saved_by Checkpoint false count = 0
+saved_by Slice is_ok count = 0
+
+-- A life that opens stands where it opened: what an earlier one did beyond that is undone, the guest syncs there included,
+-- and their answers are among those that every later life opens with.
 abbrev pub after : Promise → Event → Promise
 after so_far (Told r) = record so_far { told = r ∷ so_far.told }
-after so_far (Opened answers steps) = record so_far { kept = take answers so_far.kept; answers = max answers so_far.answers; steps = max steps so_far.steps }
+after so_far (Opened answers steps) = record so_far { kept = take answers so_far.kept; answers = max answers so_far.answers; steps = max steps so_far.steps; synced = steps }
 after so_far (Handed a) = record so_far { kept = so_far.kept ++ Given a ∷ [] }
-after so_far (Ended is_ok steps) = record so_far { synced = max so_far.synced (synced_by is_ok steps) }
-after so_far (Saved answers steps) = record so_far { answers = max answers so_far.answers; steps = max steps so_far.steps }
+after so_far (Ended act is_ok answers steps) = record so_far {
+  answers = max (saved_by act is_ok answers) so_far.answers;
+  steps = max (saved_by act is_ok steps) so_far.steps;
+  synced = max so_far.synced (synced_by is_ok steps);
+}
+
+abbrev pub promised : Promise → List Event → Promise
+promised so_far [] = so_far
+promised so_far (e ∷ events) = promised (after so_far e) events
 
 -- what was told with this number is this line
 abbrev pub HasOneText : List Release → Release → Type 0
@@ -55,6 +71,10 @@ pub record IsTelling (m : Module) (config : Settings) (so_far : Promise) (r : Re
   pub is_line : IsLine m config so_far.kept r.number r.line
   pub one_text : HasOneText so_far.told r
 
+-- every line that this process has emitted was told
+abbrev pub AllTold : List Release → ProcessState → Type 0
+AllTold told p = (i : ℕ) → 1 ≤ i → i ≤ length p.host.lines → WasTold told i
+
 -- A life opens exactly where a front of the kept answers leads. That front holds all that was promised, and the answers
 -- behind each line told and behind each guest sync that returned. Every line up to there has been told.
 pub record IsOpening (m : Module) (config : Settings) (so_far : Promise) (answers steps : ℕ) : Type 0 where
@@ -65,14 +85,29 @@ pub record IsOpening (m : Module) (config : Settings) (so_far : Promise) (answer
   pub steps_held : so_far.steps ≤ steps
   pub lines_held : (i : ℕ) → WasTold so_far.told i → (a : ℕ) × (a ≤ answers) × AnswersBehindLine m config so_far.kept i a
   pub syncs_held : (k a : ℕ) → k ≤ so_far.synced → AnswersBehindSync m config so_far.kept k a → a ≤ answers
-  pub all_told : (i : ℕ) → 1 ≤ i → i ≤ length process.host.lines → WasTold so_far.told i
+  pub all_told : AllTold so_far.told process
+
+-- the process that all kept answers lead to asks for this one
+pub record IsHanding (m : Module) (config : Settings) (so_far : Promise) (a : Answer) : Type 0 where
+  pub steps : ℕ
+  pub process : ProcessState
+  pub reached : Reaches m config so_far.kept steps process
+  pub wanted : IsWanted reached.guest process (Some a)
+
+-- A call ends with a process that a front of the kept answers leads to. Where it answers Ok, all of them were taken, and
+-- every line was told.
+pub record IsEnding (m : Module) (config : Settings) (so_far : Promise) (is_ok : Bool) (answers steps : ℕ) : Type 0 where
+  pub within : answers ≤ length so_far.kept
+  pub process : ProcessState
+  pub reached : Reaches m config (take answers so_far.kept) steps process
+  pub all_taken : is_ok ≡ true → answers ≡ length so_far.kept
+  pub all_told : is_ok ≡ true → AllTold so_far.told process
 
 abbrev pub IsKept : Module → Settings → Promise → Event → Type 0
 IsKept m config so_far (Told r) = IsTelling m config so_far r
 IsKept m config so_far (Opened answers steps) = IsOpening m config so_far answers steps
-IsKept m config so_far (Handed a) = Unit {0}
-IsKept m config so_far (Ended is_ok steps) = Unit {0}
-IsKept m config so_far (Saved answers steps) = answers ≡ length so_far.kept
+IsKept m config so_far (Handed a) = IsHanding m config so_far a
+IsKept m config so_far (Ended act is_ok answers steps) = IsEnding m config so_far is_ok answers steps
 
 -- every event keeps what was promised before it
 abbrev pub AreKept : Module → Settings → Promise → List Event → Type 0
@@ -85,10 +120,21 @@ AreConsecutive [] = Unit {0}
 AreConsecutive (r ∷ []) = Unit {0}
 AreConsecutive (r ∷ next ∷ told) = (next.number ≡ r.number + 1) × AreConsecutive (next ∷ told)
 
-abbrev pub TellsInOrder : Life → Type 0
-TellsInOrder life = AreConsecutive (told_in life)
+-- A life that doesn't open was cut, or the disk, the outlet or memory failed it.
+abbrev pub MayStayShut : End → Type 0
+MayStayShut Cut = Unit {0}
+MayStayShut (Failed OfDisk) = Unit {0}
+MayStayShut (Failed OfOutlet) = Unit {0}
+MayStayShut (Failed OfMemory) = Unit {0}
+MayStayShut (Failed OfSource) = ⊥
+MayStayShut (Failed OfAnswer) = ⊥
+
+pub record IsWhole (life : Life) : Type 0 where
+  pub form : IsLife life.events
+  pub in_order : AreConsecutive (told_in life.events)
+  pub opens : HasOpened life.events ⊎ MayStayShut life.ends
 
 -- The restart theorem of a list of lives: restart after restart, the worker goes on as one that was never stopped.
 pub record GoesOn (m : Module) (config : Settings) (lives : List Life) : Type 0 where
   pub kept : AreKept m config nothing_yet (events_of lives)
-  pub in_order : AllByRecursion TellsInOrder lives
+  pub whole : AllByRecursion IsWhole lives
