@@ -1,0 +1,5 @@
+pub mod Functions
+pub mod Imports
+pub mod InOrder
+pub mod Modules
+pub mod Rising

@@ -1,0 +1,110 @@
+//! What each section holds, or stands for where it is absent. Sections are given by their bytes under
+//! their ids.
+
+ghost use Rattle.std.specs.Prelude.{◌≡◌, ◌<◌, [], None, length};
+ghost use Rattle.wasm_syntax_grammar.specs.ReadingItems.{vector_at, vector_up_to_at};
+ghost use Rattle.wasm_syntax_grammar.specs.ReadingModules.{field_at, start_at};
+ghost use Rattle.wasm_decode.specs.Answers.{GivesAll, TakesAll};
+ghost use Rattle.wasm_decode.specs.Contents.{imports_at, no_imports, functions_at};
+ghost use Rattle.wasm_decode.specs.Sections.{held};
+
+use crate::codes::functions;
+use crate::imported::{Imports, read_imports};
+use std::alloc::Global;
+use wasm_decode_items::{Decoder, Item, ReadError, Refusal, Span, vector, vector_up_to};
+use wasm_syntax::{Function, Row};
+use wasm_syntax_grammar::limits::FUNCTIONS;
+
+/// The bytes of the section with this id, to be read.
+fn opened<'a>(bodies: &[Option<Span<'a>>], id: usize) -> Option<Decoder<'a>>
+    requires { id < length bodies.now }
+    ensures { result ≡ held bodies.now id }
+{
+    match bodies[id] {
+        Some(body) => Some(Decoder::at_span(body)),
+        None => None,
+    }
+}
+
+/// A vector.
+pub fn row_of<T: Item>(
+    alloc: Global,
+    bodies: &[Option<Span>],
+    id: usize,
+) -> Result<Row<T>, ReadError>
+    requires { id < length bodies.now }
+    ensures { GivesAll result (field_at (vector_at T.at) [] (held bodies.now id)) }
+{
+    let Some(mut decoder) = opened(bodies, id) else {
+        return Ok(Row::new(alloc));
+    };
+    let items = vector(alloc, &mut decoder)?;
+    decoder.ended()?;
+    Ok(items)
+}
+
+/// A vector of at most so many items.
+pub fn short_row_of<T: Item>(
+    alloc: Global,
+    bodies: &[Option<Span>],
+    id: usize,
+    most: usize,
+) -> Result<Row<T>, ReadError>
+    requires { id < length bodies.now }
+    ensures { GivesAll result (field_at (vector_up_to_at T.at most) [] (held bodies.now id)) }
+{
+    let Some(mut decoder) = opened(bodies, id) else {
+        return Ok(Row::new(alloc));
+    };
+    let items = vector_up_to(alloc, &mut decoder, most)?;
+    decoder.ended()?;
+    Ok(items)
+}
+
+/// Imports, and how many functions they leave.
+pub fn imports_of(alloc: Global, bodies: &[Option<Span>], id: usize) -> Result<Imports, ReadError>
+    requires { id < length bodies.now }
+    ensures { GivesAll result (field_at imports_at no_imports (held bodies.now id)) }
+{
+    let Some(mut decoder) = opened(bodies, id) else {
+        return Ok(Imports {
+            items: Row::new(alloc),
+            functions_left: FUNCTIONS,
+        });
+    };
+    let imports = read_imports(alloc, &mut decoder)?;
+    decoder.ended()?;
+    Ok(imports)
+}
+
+/// The index of the start function.
+#[tactic(auto, unfolding(wasm_syntax_grammar::specs::ReadingModules::start_at))]
+pub fn start_of(bodies: &[Option<Span>], id: usize) -> Result<Option<u32>, Refusal>
+    requires { id < length bodies.now }
+    ensures { TakesAll result (field_at start_at None (held bodies.now id)) }
+{
+    let Some(mut decoder) = opened(bodies, id) else {
+        return Ok(None);
+    };
+    let function = decoder.u32()?;
+    decoder.ended()?;
+    Ok(Some(function))
+}
+
+/// Functions of these types with their code, or none without a code section.
+pub fn functions_of(
+    alloc: Global,
+    bodies: &[Option<Span>],
+    id: usize,
+    types: &Row<u32>,
+) -> Result<Row<Function>, ReadError>
+    requires { id < length bodies.now }
+    ensures { GivesAll result (field_at (functions_at types.now) [] (held bodies.now id)) }
+{
+    let Some(mut decoder) = opened(bodies, id) else {
+        return Ok(Row::new(alloc));
+    };
+    let functions = functions(alloc, &mut decoder, types)?;
+    decoder.ended()?;
+    Ok(functions)
+}

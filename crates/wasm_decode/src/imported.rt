@@ -1,0 +1,47 @@
+//! The import section (section 5.5.5).
+
+ghost use Rattle.std.specs.Prelude.{◌≡◌, ◌+◌, ◌≤◌};
+ghost use Rattle.wasm_decode_items.specs.Answers.{Gives};
+ghost use Rattle.wasm_decode.specs.Contents.{functions_of_item, imports_at};
+
+use std::alloc::Global;
+use wasm_decode_items::{Decoder, ReadError, import};
+use wasm_syntax::{Import, ImportItem, Row};
+use wasm_syntax_grammar::limits::FUNCTIONS;
+
+/// What a module imports.
+#[derive(Drop)]
+pub struct Imports {
+    pub items: Row<Import>,
+    /// How many functions the module may have of its own.
+    pub functions_left: usize,
+}
+
+/// How many functions these and one more import are.
+fn with_import(functions: usize, import: &Import) -> usize
+    requires { functions ≤ FUNCTIONS }
+    ensures { result ≡ functions + functions_of_item import.now.item }
+{
+    match import.item {
+        ImportItem::Function(_) => functions + 1,
+        _ => functions,
+    }
+}
+
+/// A vector of imports. One function too many is told where it stands.
+pub fn read_imports(alloc: Global, decoder: &mut Decoder) -> Result<Imports, ReadError>
+    ensures { Gives result decoder.new (imports_at decoder.old) }
+{
+    let count = decoder.u32()?;
+    let mut items = Row::new(alloc);
+    let mut functions = 0;
+    for _ in 0..count {
+        let item = import(alloc, decoder, functions)?;
+        functions = with_import(functions, &item);
+        items.push(item)?;
+    }
+    Ok(Imports {
+        items,
+        functions_left: FUNCTIONS - functions,
+    })
+}

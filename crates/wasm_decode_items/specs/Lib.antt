@@ -1,0 +1,4 @@
+pub mod Answers
+pub mod Bounded
+pub mod Entries
+pub mod Steps
