@@ -1,0 +1,4 @@
+pub mod Arrows
+pub mod Fitting
+pub mod Sound
+pub mod Complete

@@ -1,0 +1,45 @@
+//! How many tables and memories a module has (section 3.4.10).
+
+ghost use Rattle.std.specs.Prelude.{◌≡◌, min, length};
+ghost use Rattle.wasm_syntax_rules.specs.Types.{imported_tables, imported_memories};
+ghost use Rattle.wasm_syntax_rules.specs.Validity.{tables_of, memories_of};
+
+use wasm_syntax::{Import, ImportItem, Module};
+
+fn imported_table_count(imports: &[Import]) -> usize
+    ensures { result ≡ length (imported_tables imports.now) }
+{
+    let mut count = 0;
+    for import in imports {
+        if let ImportItem::Table(_) = import.item {
+            count += 1;
+        }
+    }
+    count
+}
+
+fn imported_memory_count(imports: &[Import]) -> usize
+    ensures { result ≡ length (imported_memories imports.now) }
+{
+    let mut count = 0;
+    for import in imports {
+        if let ImportItem::Memory(_) = import.item {
+            count += 1;
+        }
+    }
+    count
+}
+
+/// How many tables there are, imported ones included, up to the largest `usize`.
+pub fn table_count(module: &Module) -> usize
+    ensures { result ≡ min usize.MAX (length (tables_of module.now)) }
+{
+    imported_table_count(module.imports.as_slice()).saturating_add(module.tables.len())
+}
+
+/// How many memories there are, imported ones included, up to the largest `usize`.
+pub fn memory_count(module: &Module) -> usize
+    ensures { result ≡ min usize.MAX (length (memories_of module.now)) }
+{
+    imported_memory_count(module.imports.as_slice()).saturating_add(module.memories.len())
+}
