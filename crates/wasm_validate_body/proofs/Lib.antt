@@ -2,3 +2,4 @@ pub mod Arrows
 pub mod Fitting
 pub mod Sound
 pub mod Complete
+pub mod LevelViews

@@ -1,2 +1,5 @@
-//! Checking of function bodies (Core Specification 1.0, section 3.3).
+//! Checking of function bodies (Core Specification 1.0, section 3.3, by the algorithm of its appendix A.3).
 #![tactic(auto)]
+
+mod levels;
+mod stack;

@@ -1,0 +1,35 @@
+-- What the steps of a check answer.
+use Rattle.std.specs.Prelude.{◌≡◌, ℕ, List, Option, Some, None, Result, Ok, Err, slice_get}
+use Rattle.wasm_syntax.specs.declared.types.ValueType.{ValueType}
+use Rattle.wasm_syntax_rules.specs.Types.{results_of}
+use Rattle.wasm_validate_parts.specs.declared.fault.ValidFault.{ValidFault}
+use Rattle.wasm_validate_parts.specs.declared.fault.ValidFault.TheVariants.{Typing, Index, Limits, DuplicateExport, Memory}
+use Rattle.wasm_validate_body.specs.Checking.{Known, Level}
+
+-- A fault comes only where there is nothing. Want of memory says nothing of it.
+abbrev pub Fails : {X : Type 0} → ValidFault → Option X → Type 0
+Fails Memory o = Unit {0}
+Fails Typing o = o ≡ None
+Fails Index o = o ≡ None
+Fails Limits o = o ≡ None
+Fails DuplicateExport o = o ≡ None
+
+-- the levels are then these
+abbrev pub Follows : {X : Type 0} → Result X ValidFault → List Level → Option (List Level) → Type 0
+Follows (Ok x) new o = o ≡ Some new
+Follows (Err e) new o = Fails e o
+
+-- the same of a step that tells what it took
+abbrev pub Pops : Result Known ValidFault → List Level → Option (Known × List Level) → Type 0
+Pops (Ok k) new o = o ≡ Some (k, new)
+Pops (Err e) new o = Fails e o
+
+-- what a branch to a label takes, or there is no such label
+abbrev pub FindsLabel : Result (Option ValueType) ValidFault → List (List ValueType) → ℕ → Type 0
+FindsLabel (Ok t) labels l = slice_get labels l ≡ Some (results_of t)
+FindsLabel (Err e) labels l = (e ≡ Index) × (slice_get labels l ≡ None)
+
+-- nothing but want of memory
+abbrev pub OnlyMemory : {X : Type 0} → Result X ValidFault → Type 0
+OnlyMemory (Ok x) = Unit {0}
+OnlyMemory (Err e) = e ≡ Memory
