@@ -3,3 +3,5 @@ pub mod Fitting
 pub mod Sound
 pub mod Complete
 pub mod LevelViews
+pub mod Fails
+pub mod Steps

@@ -2,4 +2,5 @@
 #![tactic(auto)]
 
 mod levels;
+mod operands;
 mod stack;
