@@ -1,5 +1,5 @@
 -- What the steps of a check answer.
-use Rattle.std.specs.Prelude.{◌≡◌, ℕ, List, Option, Some, None, Result, Ok, Err, slice_get}
+use Rattle.std.specs.Prelude.{◌≡◌, ℕ, Bool, true, false, List, Option, Some, None, Result, Ok, Err, slice_get}
 use Rattle.wasm_syntax.specs.declared.types.ValueType.{ValueType}
 use Rattle.wasm_syntax_rules.specs.Types.{results_of}
 use Rattle.wasm_validate_parts.specs.declared.fault.ValidFault.{ValidFault}
@@ -33,3 +33,8 @@ FindsLabel (Err e) labels l = (e ≡ Index) × (slice_get labels l ≡ None)
 abbrev pub OnlyMemory : {X : Type 0} → Result X ValidFault → Type 0
 OnlyMemory (Ok x) = Unit {0}
 OnlyMemory (Err e) = e ≡ Memory
+
+-- Ok exactly where the test holds
+abbrev pub Tests : {X : Type 0} → Result X ValidFault → Bool → Type 0
+Tests (Ok x) b = b ≡ true
+Tests (Err e) b = b ≡ false

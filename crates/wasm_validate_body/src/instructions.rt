@@ -1,0 +1,242 @@
+//! What each instruction does to the open sequences and their operands.
+
+ghost use Rattle.std.specs.Prelude.{◌≡◌, ◌≢◌, []};
+ghost use Rattle.wasm_syntax.specs.declared.instruction.Instruction.TheVariants as instr;
+ghost use Rattle.wasm_syntax_rules.specs.Types.{are_same_types, results_of};
+ghost use Rattle.wasm_syntax_rules.specs.Typing.{Context as Typing};
+ghost use Rattle.wasm_validate_body.specs.Answers.{Follows, Tests};
+ghost use Rattle.wasm_validate_body.specs.Checking.{arrow_of, are_labels, labels_of, after};
+ghost use Rattle.wasm_validate_body.specs.Scopes.{IsScopeOf};
+ghost use Rattle.wasm_validate_body.specs.Tops.{top_applied};
+
+use crate::levels::Levels;
+use crate::operators::{
+    converted_types, is_aligned, loaded_bytes, loaded_type, stored_bytes, stored_type,
+};
+use crate::scope::Scope;
+use wasm_syntax::{
+    Conversion, LoadOperator, MemoryArgument, Mutability, Row, StoreOperator, Value, ValueType,
+};
+use wasm_validate_parts::ValidFault;
+
+/// Whether two labels take the same.
+fn is_same(label: Option<ValueType>, other: Option<ValueType>) -> bool
+    ensures { result ≡ are_same_types (results_of label) (results_of other) }
+{
+    match (label, other) {
+        (None, None) => true,
+        (Some(value_type), Some(other_type)) => value_type == other_type,
+        _ => false,
+    }
+}
+
+impl Levels {
+    pub fn branch(&mut self, label: u32) -> Result<(), ValidFault>
+        ensures { (c : Typing) → Follows result self.new (top_applied (arrow_of c (labels_of self.old) (instr.Br label)) self.old) }
+    {
+        let takes = self.label(label)?;
+        self.expect_results(takes)?;
+        self.leave();
+        Ok(())
+    }
+
+    pub fn branch_if(&mut self, label: u32) -> Result<(), ValidFault>
+        ensures { (c : Typing) → Follows result self.new (top_applied (arrow_of c (labels_of self.old) (instr.BrIf label)) self.old) }
+    {
+        let takes = self.label(label)?;
+        self.expect(ValueType::I32)?;
+        self.expect_results(takes)?;
+        self.push_results(takes)
+    }
+
+    /// Whether each of these labels takes what the default one of a table takes: `Index` where there is
+    /// no such label, and `Typing` where it takes something else.
+    fn expect_labels(&self, labels: &[u32], takes: Option<ValueType>) -> Result<(), ValidFault>
+        ensures { Tests result (are_labels (labels_of self.now) (results_of takes) labels.now) }
+    {
+        for label in labels {
+            if !is_same(self.label(*label)?, takes) {
+                return Err(ValidFault::Typing);
+            }
+        }
+        Ok(())
+    }
+
+    pub fn branch_table(&mut self, labels: &Row<u32>, default: u32) -> Result<(), ValidFault>
+        ensures { (c : Typing) → Follows result self.new (top_applied (arrow_of c (labels_of self.old) (instr.BrTable labels.now default)) self.old) }
+    {
+        let takes = self.label(default)?;
+        self.expect_labels(labels.as_slice(), takes)?;
+        self.expect(ValueType::I32)?;
+        self.expect_results(takes)?;
+        self.leave();
+        Ok(())
+    }
+
+    pub fn return_from(&mut self, scope: &Scope) -> Result<(), ValidFault>
+        ensures { (c : Typing) → IsScopeOf c scope.now → Follows result self.new (top_applied (arrow_of c (labels_of self.old) instr.Return) self.old) }
+    {
+        self.expect_all(scope.returns)?;
+        self.leave();
+        Ok(())
+    }
+
+    pub fn call(&mut self, scope: &Scope, function: u32) -> Result<(), ValidFault>
+        ensures { (c : Typing) → IsScopeOf c scope.now → Follows result self.new (top_applied (arrow_of c (labels_of self.old) (instr.Call function)) self.old) }
+    {
+        let Some(kind) = scope.context.function_type(function) else {
+            return Err(ValidFault::Index);
+        };
+        self.apply(kind.parameters.as_slice(), kind.results.as_slice())
+    }
+
+    pub fn call_indirect(&mut self, scope: &Scope, kind: u32) -> Result<(), ValidFault>
+        ensures { (c : Typing) → IsScopeOf c scope.now → Follows result self.new (top_applied (arrow_of c (labels_of self.old) (instr.CallIndirect kind)) self.old) }
+    {
+        let Some(kind) = scope.context.type_at(kind) else {
+            return Err(ValidFault::Index);
+        };
+        if !scope.context.has_table() {
+            return Err(ValidFault::Index);
+        }
+        self.expect(ValueType::I32)?;
+        self.apply(kind.parameters.as_slice(), kind.results.as_slice())
+    }
+
+    pub fn local_get(&mut self, scope: &Scope, local: u32) -> Result<(), ValidFault>
+        ensures { (c : Typing) → IsScopeOf c scope.now → Follows result self.new (top_applied (arrow_of c (labels_of self.old) (instr.LocalGet local)) self.old) }
+    {
+        let value_type = scope.local(local)?;
+        self.apply(&[], &[value_type])
+    }
+
+    pub fn local_set(&mut self, scope: &Scope, local: u32) -> Result<(), ValidFault>
+        ensures { (c : Typing) → IsScopeOf c scope.now → Follows result self.new (top_applied (arrow_of c (labels_of self.old) (instr.LocalSet local)) self.old) }
+    {
+        let value_type = scope.local(local)?;
+        self.apply(&[value_type], &[])
+    }
+
+    pub fn local_tee(&mut self, scope: &Scope, local: u32) -> Result<(), ValidFault>
+        ensures { (c : Typing) → IsScopeOf c scope.now → Follows result self.new (top_applied (arrow_of c (labels_of self.old) (instr.LocalTee local)) self.old) }
+    {
+        let value_type = scope.local(local)?;
+        self.apply(&[value_type], &[value_type])
+    }
+
+    pub fn global_get(&mut self, scope: &Scope, global: u32) -> Result<(), ValidFault>
+        ensures { (c : Typing) → IsScopeOf c scope.now → Follows result self.new (top_applied (arrow_of c (labels_of self.old) (instr.GlobalGet global)) self.old) }
+    {
+        let global_type = scope.global(global)?;
+        self.apply(&[], &[global_type.value_type])
+    }
+
+    pub fn global_set(&mut self, scope: &Scope, global: u32) -> Result<(), ValidFault>
+        ensures { (c : Typing) → IsScopeOf c scope.now → Follows result self.new (top_applied (arrow_of c (labels_of self.old) (instr.GlobalSet global)) self.old) }
+    {
+        let global_type = scope.global(global)?;
+        match global_type.mutability {
+            Mutability::Constant => Err(ValidFault::Typing),
+            Mutability::Variable => self.apply(&[global_type.value_type], &[]),
+        }
+    }
+
+    pub fn load(
+        &mut self,
+        scope: &Scope,
+        operator: LoadOperator,
+        argument: MemoryArgument,
+    ) -> Result<(), ValidFault>
+        ensures { (c : Typing) → IsScopeOf c scope.now → Follows result self.new (top_applied (arrow_of c (labels_of self.old) (instr.Load operator argument)) self.old) }
+    {
+        if !scope.context.has_memory() {
+            return Err(ValidFault::Index);
+        }
+        if !is_aligned(argument.align, loaded_bytes(operator)) {
+            return Err(ValidFault::Limits);
+        }
+        self.apply(&[ValueType::I32], &[loaded_type(operator)])
+    }
+
+    pub fn store(
+        &mut self,
+        scope: &Scope,
+        operator: StoreOperator,
+        argument: MemoryArgument,
+    ) -> Result<(), ValidFault>
+        ensures { (c : Typing) → IsScopeOf c scope.now → Follows result self.new (top_applied (arrow_of c (labels_of self.old) (instr.Store operator argument)) self.old) }
+    {
+        if !scope.context.has_memory() {
+            return Err(ValidFault::Index);
+        }
+        if !is_aligned(argument.align, stored_bytes(operator)) {
+            return Err(ValidFault::Limits);
+        }
+        self.apply(&[ValueType::I32, stored_type(operator)], &[])
+    }
+
+    pub fn memory_size(&mut self, scope: &Scope) -> Result<(), ValidFault>
+        ensures { (c : Typing) → IsScopeOf c scope.now → Follows result self.new (top_applied (arrow_of c (labels_of self.old) instr.MemorySize) self.old) }
+    {
+        if !scope.context.has_memory() {
+            return Err(ValidFault::Index);
+        }
+        self.apply(&[], &[ValueType::I32])
+    }
+
+    pub fn memory_grow(&mut self, scope: &Scope) -> Result<(), ValidFault>
+        ensures { (c : Typing) → IsScopeOf c scope.now → Follows result self.new (top_applied (arrow_of c (labels_of self.old) instr.MemoryGrow) self.old) }
+    {
+        if !scope.context.has_memory() {
+            return Err(ValidFault::Index);
+        }
+        self.apply(&[ValueType::I32], &[ValueType::I32])
+    }
+
+    pub fn constant(&mut self, value: Value) -> Result<(), ValidFault>
+        ensures { (c : Typing) → Follows result self.new (top_applied (arrow_of c (labels_of self.old) (instr.Const value)) self.old) }
+    {
+        let value_type = match value {
+            Value::I32(_) => ValueType::I32,
+            Value::I64(_) => ValueType::I64,
+        };
+        self.apply(&[], &[value_type])
+    }
+
+    pub fn convert(&mut self, operator: Conversion) -> Result<(), ValidFault>
+        ensures { (c : Typing) → Follows result self.new (top_applied (arrow_of c (labels_of self.old) (instr.Convert operator)) self.old) }
+    {
+        let (from, to) = converted_types(operator);
+        self.apply(&[from], &[to])
+    }
+
+    /// The `else` between the parts of an `if`.
+    pub fn part(&mut self) -> Result<(), ValidFault>
+        ensures { (c : Typing) → Follows result self.new (after c instr.Else self.old) }
+    {
+        let Some(control) = self.innermost() else {
+            return Err(ValidFault::Typing);
+        };
+        if !control.is_first {
+            return Err(ValidFault::Typing);
+        }
+        self.expect_results(control.results)?;
+        self.close()?;
+        self.open(control.label, control.results, false)
+    }
+
+    /// The end of a sequence. An `if` without `else` can give nothing.
+    pub fn end(&mut self) -> Result<(), ValidFault>
+        ensures { (c : Typing) → Follows result self.new (after c instr.End self.old) }
+    {
+        let Some(control) = self.innermost() else {
+            return Err(ValidFault::Typing);
+        };
+        if control.is_first && control.results.is_some() {
+            return Err(ValidFault::Typing);
+        }
+        self.expect_results(control.results)?;
+        self.close()?;
+        self.push_results(control.results)
+    }
+}
