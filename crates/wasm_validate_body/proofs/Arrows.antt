@@ -1,11 +1,10 @@
 -- What an instruction takes and gives is what its typing rule says.
-use Rattle.std.proofs.Common.{◌≡◌, ℕ, ◌^◌, ◌<◌, ◌≤◌, Bool, true, false, List, [], ◌∷◌, ◌++◌, Option, Some, None, refl, sym, ap, ◌∙◌, subst, arith}
-use Rattle.std.specs.Prelude.{slice_get, nat_le, nat_lt, ◌&&◌, is_some}
+use Rattle.std.proofs.Common.{◌≡◌, ℕ, ◌^◌, ◌≤◌, Bool, true, false, List, [], ◌∷◌, ◌++◌, Option, Some, None, refl, arith}
+use Rattle.std.specs.Prelude.{slice_get, nat_le, ◌&&◌, is_some}
 use Rattle.std.specs.List.{AllByRecursion}
 use Rattle.std.proofs.lemmas.Bool.Decides.{nat_tests}
 use Rattle.wasm_syntax.specs.declared.types.ValueType.{ValueType}
 use Rattle.wasm_syntax.specs.declared.types.ValueType.TheVariants.{I32, I64}
-use Rattle.wasm_syntax.specs.declared.types.FunctionType.{FunctionType}
 use Rattle.wasm_syntax.specs.declared.types.GlobalType.{GlobalType}
 use Rattle.wasm_syntax.specs.declared.types.Mutability.{Mutability}
 use Rattle.wasm_syntax.specs.declared.types.Mutability.TheVariants.{Constant, Variable}
@@ -14,7 +13,7 @@ use Rattle.wasm_syntax.specs.declared.value.Value.TheVariants as value
 use Rattle.wasm_syntax.specs.declared.instruction.Instruction.{Instruction}
 use Rattle.wasm_syntax.specs.declared.instruction.Instruction.TheVariants as instr
 use Rattle.wasm_syntax_rules.specs.Types.{IsOf, is_same_type, are_same_types, takes_of, gives_of, loaded_width, stored_width, bytes_in}
-use Rattle.wasm_syntax_rules.specs.Typing.{Context, HasRule, HasTable, HasMemory, IsLabel}
+use Rattle.wasm_syntax_rules.specs.Typing.{Context, HasRule, HasMemory, IsLabel}
 use Rattle.wasm_syntax_rules.specs.Shapes.{type_of}
 use Rattle.wasm_validate_body.specs.Checking.{Arrow, Fixed, Jump, Dropping, Selecting, Refused, with_some, only, has_table, has_memory, is_variable, is_label, are_labels, is_number, arrow_of}
 

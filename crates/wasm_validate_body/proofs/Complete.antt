@@ -1,6 +1,5 @@
 -- What is typed passes the check.
 use Rattle.std.proofs.Common.{◌≡◌, inl, inr, Bool, true, false, List, [], ◌∷◌, ◌++◌, Option, Some, None, refl, sym, ap, ◌∙◌, subst, append_assoc}
-use Rattle.std.specs.Prelude.{is_some, not}
 use Rattle.std.proofs.lemmas.List.{append-nil}
 use Rattle.wasm_syntax.specs.declared.types.ValueType.{ValueType}
 use Rattle.wasm_syntax.specs.declared.types.ValueType.TheVariants.{I32}
@@ -10,9 +9,9 @@ use Rattle.wasm_syntax.specs.Sequence.{Sequence, Stop, Plain, InBlock, InLoop, I
 use Rattle.wasm_syntax_grammar.specs.ReadingItems.{◌>>=◌, check}
 use Rattle.wasm_syntax_rules.specs.Types.{results_of}
 use Rattle.wasm_syntax_rules.specs.Typing.{Context, HasRule, HasType}
-use Rattle.wasm_validate_body.specs.Checking.{Known, Level, taken, all_taken, all_pushed, arrow_of, applied, labels_of, opened, is_empty, closed, may_end, returned, after, checked}
-use Rattle.wasm_validate_body.specs.Remaining.{Fits, IsEnding, IsParting, Closes, Ends, Remains}
-use Rattle.wasm_validate_body.proofs.Arrows.{Meets, arrow_of_rule}
+use Rattle.wasm_validate_body.specs.Checking.{Known, Level, arrow_of, applied, labels_of, opened, is_empty, closed, may_end, returned, after, checked}
+use Rattle.wasm_validate_body.specs.Remaining.{Fits, Closes, Ends, Remains}
+use Rattle.wasm_validate_body.proofs.Arrows.{arrow_of_rule}
 use Rattle.wasm_validate_body.proofs.Sound.{in_front, parted}
 use Rattle.wasm_validate_body.proofs.Fitting.{FitsLevel, Keeps, pushed_fit, taken_on, all_taken_on, applied_on}
 
@@ -54,16 +53,19 @@ module _ (c : Context) (labels : List (List ValueType)) (is_first : Bool) (gives
   closes_rest front rest new opcodes e (inl h) =
       (spelled rest ++ (instr.End ∷ h.next), h.is ∙ ap (λ z. z ++ (instr.End ∷ h.next)) e ∙ append_assoc front (spelled rest) (instr.End ∷ h.next), inl (record { next = h.next; is = refl; may = h.may; follows = h.follows }))
   closes_rest front rest new opcodes e (inr h) =
-      let tail : List Instruction = instr.Else ∷ (spelled h.second ++ (instr.End ∷ h.next)) in
-      (spelled rest ++ tail, h.is ∙ ap (λ z. z ++ tail) e ∙ append_assoc front (spelled rest) tail, inr (record {
-        second = h.second;
-        next = h.next;
-        is = refl;
-        first = h.first;
-        nested = h.nested;
-        typed = h.typed;
-        follows = h.follows;
-      }))
+      let tail : List Instruction = instr.Else ∷ (spelled h.second ++ (instr.End ∷ h.next)) in (
+        spelled rest ++ tail,
+        h.is ∙ ap (λ z. z ++ tail) e ∙ append_assoc front (spelled rest) tail,
+        inr (record {
+          second = h.second;
+          next = h.next;
+          is = refl;
+          first = h.first;
+          nested = h.nested;
+          typed = h.typed;
+          follows = h.follows;
+        }),
+      )
 
 -- ---- each form of the sequence that remains
 
@@ -95,7 +97,7 @@ module _ (c : Context) (l : Level) (levels : List Level) where
   else_passes second next first f nested typed h =
       let d = closed_on l f in
       let ends : Ends c (labels_of (l ∷ levels)) false l.gives (λ next. Remains c (results_of l.gives) levels next) [] (spelled second ++ (instr.End ∷ next)) =
-          record { rest = second; nested = nested; typed = typed; closes = inl (record { next = next; is = refl; may = refl; follows = h }) } in
+      record { rest = second; nested = nested; typed = typed; closes = inl (record { next = next; is = refl; may = refl; follows = h }) } in
       (opened l.takes l.gives false ∷ levels, ap (λ z. check z >>= λ _. closed l >>= λ _. Some (opened l.takes l.gives false ∷ levels)) first ∙ ap (λ z. z >>= λ _. Some (opened l.takes l.gives false ∷ levels)) d.1, ([], tt, ends))
 
   plain_passes : (i : Instruction) (types p q below : List ValueType) (opcodes : List Instruction) → IsPlain i → FitsLevel l types → types ≡ p ++ below → HasRule c (labels_of (l ∷ levels)) i p q
@@ -106,21 +108,37 @@ module _ (c : Context) (l : Level) (levels : List Level) where
 
   block_passes : (t : Option ValueType) (body : Sequence) (types : List ValueType) (next : List Instruction) → FitsLevel l types → IsNested body → HasType c (results_of t ∷ labels_of (l ∷ levels)) body [] (results_of t)
       → EndsOf c levels (results_of t ++ types) next l.takes l.gives l.is_first → Passes c (instr.Block t) (spelled body ++ (instr.End ∷ next)) (l ∷ levels)
-  block_passes t body types next f nested typed h = (opened t t false ∷ l ∷ levels, refl, ([], tt, record {
-    rest = body;
-    nested = nested;
-    typed = typed;
-    closes = inl (record { next = next; is = refl; may = refl; follows = (types, f, h) });
-  }))
+  block_passes t body types next f nested typed h = (
+    opened t t false ∷ l ∷ levels,
+    refl,
+    (
+      [],
+      tt,
+      record {
+        rest = body;
+        nested = nested;
+        typed = typed;
+        closes = inl (record { next = next; is = refl; may = refl; follows = (types, f, h) });
+      },
+    ),
+  )
 
   loop_passes : (t : Option ValueType) (body : Sequence) (types : List ValueType) (next : List Instruction) → FitsLevel l types → IsNested body → HasType c ([] ∷ labels_of (l ∷ levels)) body [] (results_of t)
       → EndsOf c levels (results_of t ++ types) next l.takes l.gives l.is_first → Passes c (instr.Loop t) (spelled body ++ (instr.End ∷ next)) (l ∷ levels)
-  loop_passes t body types next f nested typed h = (opened None t false ∷ l ∷ levels, refl, ([], tt, record {
-    rest = body;
-    nested = nested;
-    typed = typed;
-    closes = inl (record { next = next; is = refl; may = refl; follows = (types, f, h) });
-  }))
+  loop_passes t body types next f nested typed h = (
+    opened None t false ∷ l ∷ levels,
+    refl,
+    (
+      [],
+      tt,
+      record {
+        rest = body;
+        nested = nested;
+        typed = typed;
+        closes = inl (record { next = next; is = refl; may = refl; follows = (types, f, h) });
+      },
+    ),
+  )
 
   -- labels around the parts of an `if`, whose condition was taken
   same_labels : (l' : Level) → Keeps l l' → labels_of (l ∷ levels) ≡ labels_of (l' ∷ levels)
@@ -130,39 +148,53 @@ module _ (c : Context) (l : Level) (levels : List Level) where
       → EndsOf c levels below next l.takes l.gives l.is_first → Passes c (instr.If t) (spelled first ++ (instr.End ∷ next)) (l ∷ levels)
   if_passes t first below next f none nested typed h =
       let o = taken_on I32 l below f in
-      let typed' = subst (λ z. HasType c ([] ∷ z) first [] []) (same_labels o.0 o.3) typed in
-      (opened t t true ∷ o.0 ∷ levels, ap (λ z. z >>= λ l'. Some (opened t t true ∷ l' ∷ levels)) o.1, ([], tt, record {
-        rest = first;
-        nested = nested;
-        typed = subst (λ z. HasType c (results_of z ∷ labels_of (o.0 ∷ levels)) first [] (results_of z)) (sym none) typed';
-        closes = inl (record {
-          next = next;
-          is = refl;
-          may = subst (λ z. may_end true z ≡ true) (sym none) refl;
-          follows = (below, o.2, ends_kept c levels (results_of t ++ below) next l o.0 o.3 (subst (λ z. EndsOf c levels (results_of z ++ below) next l.takes l.gives l.is_first) (sym none) h));
-        });
-      }))
+      let typed' = subst (λ z. HasType c ([] ∷ z) first [] []) (same_labels o.0 o.3) typed in (
+        opened t t true ∷ o.0 ∷ levels,
+        ap (λ z. z >>= λ l'. Some (opened t t true ∷ l' ∷ levels)) o.1,
+        (
+          [],
+          tt,
+          record {
+            rest = first;
+            nested = nested;
+            typed = subst (λ z. HasType c (results_of z ∷ labels_of (o.0 ∷ levels)) first [] (results_of z)) (sym none) typed';
+            closes = inl (record {
+              next = next;
+              is = refl;
+              may = subst (λ z. may_end true z ≡ true) (sym none) refl;
+              follows = (below, o.2, ends_kept c levels (results_of t ++ below) next l o.0 o.3 (subst (λ z. EndsOf c levels (results_of z ++ below) next l.takes l.gives l.is_first) (sym none) h));
+            });
+          },
+        ),
+      )
 
   if_else_passes : (t : Option ValueType) (first second : Sequence) (below : List ValueType) (next : List Instruction) → FitsLevel l (I32 ∷ below) → IsNested first → IsNested second
       → HasType c (results_of t ∷ labels_of (l ∷ levels)) first [] (results_of t) → HasType c (results_of t ∷ labels_of (l ∷ levels)) second [] (results_of t)
       → EndsOf c levels (results_of t ++ below) next l.takes l.gives l.is_first → Passes c (instr.If t) (spelled first ++ (instr.Else ∷ (spelled second ++ (instr.End ∷ next)))) (l ∷ levels)
   if_else_passes t first second below next f nested_first nested_second typed_first typed_second h =
       let o = taken_on I32 l below f in
-      let same = same_labels o.0 o.3 in
-      (opened t t true ∷ o.0 ∷ levels, ap (λ z. z >>= λ l'. Some (opened t t true ∷ l' ∷ levels)) o.1, ([], tt, record {
-        rest = first;
-        nested = nested_first;
-        typed = subst (λ z. HasType c (results_of t ∷ z) first [] (results_of t)) same typed_first;
-        closes = inr (record {
-          second = second;
-          next = next;
-          is = refl;
-          first = refl;
-          nested = nested_second;
-          typed = subst (λ z. HasType c (results_of t ∷ z) second [] (results_of t)) same typed_second;
-          follows = (below, o.2, ends_kept c levels (results_of t ++ below) next l o.0 o.3 h);
-        });
-      }))
+      let same = same_labels o.0 o.3 in (
+        opened t t true ∷ o.0 ∷ levels,
+        ap (λ z. z >>= λ l'. Some (opened t t true ∷ l' ∷ levels)) o.1,
+        (
+          [],
+          tt,
+          record {
+            rest = first;
+            nested = nested_first;
+            typed = subst (λ z. HasType c (results_of t ∷ z) first [] (results_of t)) same typed_first;
+            closes = inr (record {
+              second = second;
+              next = next;
+              is = refl;
+              first = refl;
+              nested = nested_second;
+              typed = subst (λ z. HasType c (results_of t ∷ z) second [] (results_of t)) same typed_second;
+              follows = (below, o.2, ends_kept c levels (results_of t ++ below) next l o.0 o.3 h);
+            });
+          },
+        ),
+      )
 
   -- the sequence that remains says which opcode comes
   step_passes : (i : Instruction) (opcodes : List Instruction) (types : List ValueType) → FitsLevel l types → (rest : Sequence) → IsNested rest → HasType c (labels_of (l ∷ levels)) rest types (results_of l.gives)

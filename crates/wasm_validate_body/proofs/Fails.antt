@@ -1,7 +1,8 @@
 -- Faults of steps.
-use Rattle.std.proofs.Common.{◌≡◌, Option, Some, None}
+use Rattle.std.proofs.Common.{◌≡◌, Option, None}
 use Rattle.wasm_validate_parts.specs.declared.fault.ValidFault.{ValidFault}
 use Rattle.wasm_validate_parts.specs.declared.fault.ValidFault.TheVariants.{Typing, Index, Limits, DuplicateExport, Memory}
+use Rattle.wasm_validate_parts.specs.Answers.{Denies}
 use Rattle.wasm_validate_body.specs.Answers.{Fails}
 
 -- where nothing of the first means nothing of the second, a fault of the first is one of the second
@@ -11,3 +12,11 @@ fails_as Typing a b h f = h f
 fails_as Index a b h f = h f
 fails_as Limits a b h f = h f
 fails_as DuplicateExport a b h f = h f
+
+-- a fault denies what would mean that there is something
+pub denies : {X P : Type 0} (e : ValidFault) (o : Option X) → (o ≡ None → P → ⊥) → Fails e o → Denies e P
+denies Memory o h f = tt
+denies Typing o h f = h f
+denies Index o h f = h f
+denies Limits o h f = h f
+denies DuplicateExport o h f = h f

@@ -1,12 +1,11 @@
 -- What is known of operands, and the types that they may have.
-use Rattle.std.proofs.Common.{◌≡◌, Bool, true, false, List, [], ◌∷◌, ◌++◌, Option, Some, None, refl, sym, ap, ◌∙◌, subst, append_assoc}
-use Rattle.std.specs.Prelude.{map, not}
+use Rattle.std.proofs.Common.{◌≡◌, Bool, true, false, List, [], ◌∷◌, ◌++◌, Some, None, refl, sym, ap, ◌∙◌, subst, append_assoc}
+use Rattle.std.specs.Prelude.{not}
 use Rattle.std.proofs.lemmas.List.{append-nil}
 use Rattle.wasm_syntax.specs.declared.types.ValueType.{ValueType}
-use Rattle.wasm_syntax.specs.declared.types.ValueType.TheVariants.{I32, I64}
+use Rattle.wasm_syntax.specs.declared.types.ValueType.TheVariants.{I32}
 use Rattle.wasm_syntax_grammar.specs.ReadingItems.{◌>>=◌, check}
 use Rattle.wasm_syntax_grammar.proofs.Exact.{bind_some}
-use Rattle.wasm_syntax_rules.specs.Types.{is_same_type}
 use Rattle.wasm_validate_body.specs.Checking.{Known, Level, popped_of, popped, agrees, taken, all_taken, pushed, all_pushed, left, Arrow, Fixed, Jump, Dropping, Selecting, Refused, met, selected, applied}
 use Rattle.wasm_validate_body.specs.Remaining.{Matches, Fits}
 use Rattle.wasm_validate_body.proofs.Arrows.{Meets, same_type, is_same}

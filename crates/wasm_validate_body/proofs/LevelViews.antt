@@ -1,5 +1,5 @@
 -- Open sequences, seen on one stack of operands.
-use Rattle.std.proofs.Common.{◌≡◌, ℕ, suc, ◌+◌, ◌-◌, ◌<◌, ◌≤◌, Bool, true, false, List, [], ◌∷◌, length, take, drop, Option, Some, None, refl, sym, ap, ◌∙◌, subst, arith, length-drop}
+use Rattle.std.proofs.Common.{◌≡◌, ℕ, suc, ◌-◌, ◌<◌, ◌≤◌, Bool, true, false, List, [], ◌∷◌, length, take, drop, Option, Some, None, refl, sym, ap, ◌∙◌, subst, arith, length-drop}
 use Rattle.std.specs.Prelude.{not, slice_get, map}
 use Rattle.std.specs.Option.{option_map}
 use Rattle.std.proofs.lemmas.Option.{slice_get-map}
@@ -80,8 +80,7 @@ pop_above controls operands new k (Some x) at h p heights =
     let is : operands ≡ x ∷ new = p in
     let more : length operands ≡ suc (length new) = ap length is in
     let low : k.height ≤ length new = omega arith in
-    let heights' : AreHeights (k ∷ top.0) (length operands) = subst (λ z. AreHeights z (length operands)) top.1 heights in
-    (
+    let heights' : AreHeights (k ∷ top.0) (length operands) = subst (λ z. AreHeights z (length operands)) top.1 heights in (
       x,
       refl,
       subst (λ z. top_popped (levels_of z operands) ≡ Some (x, levels_of z new)) (sym top.1) (subst (λ z. top_popped (levels_of (k ∷ top.0) z) ≡ Some (x, levels_of (k ∷ top.0) new)) (sym is) (popped_view k top.0 x new low)),
@@ -143,8 +142,7 @@ closed_view (j ∷ controls) new operands k (Some i) e p h heights =
     let same : j ≡ k = cc in
     let low : j.height ≤ length operands = heights.0 in
     let high : length operands ≤ j.height = subst (λ (z : Control). length operands ≤ z.height) (sym same) h in
-    let at : length operands ≡ j.height = omega arith in
-    (
+    let at : length operands ≡ j.height = omega arith in (
       ap top_closed (bottom_view j controls operands at) ∙ ap (λ z. Some (levels_of z operands)) tail,
       subst (λ z. AreHeights z (length operands)) tail (higher controls j.height (length operands) heights.1 low),
     )
@@ -158,17 +156,16 @@ kept_view k controls operands h =
 
 pub left_view : (controls : List Control) (operands : List Known) (k : Control) → slice_get controls 0 ≡ Some k → AreHeights controls (length operands)
     → (levels_of (record k { is_reached = false } ∷ drop 1 controls) (drop (length operands - k.height) operands) ≡ top_left (levels_of controls operands))
-        × AreHeights (record k { is_reached = false } ∷ drop 1 controls) (length (drop (length operands - k.height) operands))
+    × AreHeights (record k { is_reached = false } ∷ drop 1 controls) (length (drop (length operands - k.height) operands))
 left_view [] operands k e heights = absurd (cc)
 left_view (j ∷ controls) operands k e heights =
     let same : j ≡ k = cc in
     let low : k.height ≤ length operands = subst (λ (z : Control). z.height ≤ length operands) same heights.0 in
     let behind : Control = record k { is_reached = false } in
     let count : length (drop (length operands - k.height) operands) ≡ length operands - (length operands - k.height) = length-drop (length operands - k.height) operands in
-    let high : k.height ≤ length (drop (length operands - k.height) operands) = omega arith in
-    (
+    let high : k.height ≤ length (drop (length operands - k.height) operands) = omega arith in (
       kept_view behind controls operands low
-      ∙ ap (λ (z : Control). level_of behind [] ∷ levels_of controls (drop (length operands - z.height) operands)) (sym same)
-      ∙ ap (λ (z : Control). level_of (record z { is_reached = false }) [] ∷ levels_of controls (drop (length operands - j.height) operands)) (sym same),
+          ∙ ap (λ (z : Control). level_of behind [] ∷ levels_of controls (drop (length operands - z.height) operands)) (sym same)
+          ∙ ap (λ (z : Control). level_of (record z { is_reached = false }) [] ∷ levels_of controls (drop (length operands - j.height) operands)) (sym same),
       (high, subst (λ (z : Control). AreHeights controls z.height) same heights.1),
     )

@@ -5,3 +5,4 @@ pub mod Complete
 pub mod LevelViews
 pub mod Fails
 pub mod Steps
+pub mod Bodies

@@ -1,6 +1,5 @@
 -- What passes the check is typed.
 use Rattle.std.proofs.Common.{◌≡◌, inl, inr, Bool, true, false, List, [], ◌∷◌, ◌++◌, Option, Some, None, refl, sym, ap, ◌∙◌, subst, append_assoc}
-use Rattle.std.specs.Prelude.{is_some, not}
 use Rattle.std.proofs.lemmas.List.{append-nil}
 use Rattle.wasm_syntax.specs.declared.types.ValueType.{ValueType}
 use Rattle.wasm_syntax.specs.declared.types.ValueType.TheVariants.{I32}
@@ -11,9 +10,9 @@ use Rattle.wasm_syntax_grammar.specs.ReadingItems.{◌>>=◌, check}
 use Rattle.wasm_syntax_grammar.proofs.Exact.{bind_some}
 use Rattle.wasm_syntax_rules.specs.Types.{results_of}
 use Rattle.wasm_syntax_rules.specs.Typing.{Context, HasRule, HasType}
-use Rattle.wasm_validate_body.specs.Checking.{Known, Level, taken, all_taken, all_pushed, arrow_of, applied, labels_of, opened, is_empty, closed, may_end, returned, after, checked}
-use Rattle.wasm_validate_body.specs.Remaining.{Fits, IsEnding, IsParting, Closes, Ends, Remains}
-use Rattle.wasm_validate_body.proofs.Arrows.{Meets, rule_of_arrow}
+use Rattle.wasm_validate_body.specs.Checking.{Known, Level, taken, all_taken, arrow_of, applied, labels_of, opened, is_empty, closed, may_end, returned, after, checked}
+use Rattle.wasm_validate_body.specs.Remaining.{Fits, Closes, Ends, Remains}
+use Rattle.wasm_validate_body.proofs.Arrows.{rule_of_arrow}
 use Rattle.wasm_validate_body.proofs.Fitting.{FitsLevel, Keeps, check_true, fits_pushed, taken_back, all_taken_back, applied_back}
 
 -- ---- what stands in front
@@ -137,62 +136,74 @@ module _ (c : Context) (opcodes : List Instruction) (l : Level) (levels : List L
   block_sound : (t : Option ValueType) → Remains c [] (opened t t false ∷ l ∷ levels) opcodes → Remains c [] (l ∷ levels) (instr.Block t ∷ opcodes)
   block_sound t r =
       let n = inner c opcodes l levels levels t t r in
-      let after = n.5 in
-      (after.0, after.1, record {
-        rest = InBlock t n.0 after.2.rest;
-        nested = (n.2, after.2.nested);
-        typed = (n.3, after.2.typed);
-        closes = closes_inner c (labels_of (l ∷ levels)) l.is_first l.gives (λ next. Remains c (results_of l.gives) levels next) (instr.Block t) n.0 after.2.rest (InBlock t n.0 after.2.rest) opcodes n.1 refl n.4 after.2.closes;
-      })
+      let after = n.5 in (
+        after.0,
+        after.1,
+        record {
+          rest = InBlock t n.0 after.2.rest;
+          nested = (n.2, after.2.nested);
+          typed = (n.3, after.2.typed);
+          closes = closes_inner c (labels_of (l ∷ levels)) l.is_first l.gives (λ next. Remains c (results_of l.gives) levels next) (instr.Block t) n.0 after.2.rest (InBlock t n.0 after.2.rest) opcodes n.1 refl n.4 after.2.closes;
+        },
+      )
 
   loop_sound : (t : Option ValueType) → Remains c [] (opened None t false ∷ l ∷ levels) opcodes → Remains c [] (l ∷ levels) (instr.Loop t ∷ opcodes)
   loop_sound t r =
       let n = inner c opcodes l levels levels None t r in
-      let after = n.5 in
-      (after.0, after.1, record {
-        rest = InLoop t n.0 after.2.rest;
-        nested = (n.2, after.2.nested);
-        typed = (n.3, after.2.typed);
-        closes = closes_inner c (labels_of (l ∷ levels)) l.is_first l.gives (λ next. Remains c (results_of l.gives) levels next) (instr.Loop t) n.0 after.2.rest (InLoop t n.0 after.2.rest) opcodes n.1 refl n.4 after.2.closes;
-      })
+      let after = n.5 in (
+        after.0,
+        after.1,
+        record {
+          rest = InLoop t n.0 after.2.rest;
+          nested = (n.2, after.2.nested);
+          typed = (n.3, after.2.typed);
+          closes = closes_inner c (labels_of (l ∷ levels)) l.is_first l.gives (λ next. Remains c (results_of l.gives) levels next) (instr.Loop t) n.0 after.2.rest (InLoop t n.0 after.2.rest) opcodes n.1 refl n.4 after.2.closes;
+        },
+      )
 
   end_sound : (levels' : List Level) → after c instr.End (l ∷ levels) ≡ Some levels' → Remains c [] levels' opcodes → Remains c [] (l ∷ levels) (instr.End ∷ opcodes)
   end_sound levels' h r =
       let m = bind_some (check (may_end l.is_first l.gives)) (λ _. closed l >>= λ _. Some (returned l.gives levels)) levels' h in
       let d = bind_some (closed l) (λ _. Some (returned l.gives levels)) levels' m.2 in
-      let same : returned l.gives levels ≡ levels' = let s = d.2 in cc in
-      (results_of l.gives, closed_back l d.0 d.1, record {
-        rest = Stop;
-        nested = tt;
-        typed = refl;
-        closes = inl (record {
-          next = opcodes;
-          is = refl;
-          may = check_true (may_end l.is_first l.gives) m.0 m.1;
-          follows = remains_pushed c l.gives levels opcodes (subst (λ z. Remains c [] z opcodes) (sym same) r);
-        });
-      })
+      let same : returned l.gives levels ≡ levels' = let s = d.2 in cc in (
+        results_of l.gives,
+        closed_back l d.0 d.1,
+        record {
+          rest = Stop;
+          nested = tt;
+          typed = refl;
+          closes = inl (record {
+            next = opcodes;
+            is = refl;
+            may = check_true (may_end l.is_first l.gives) m.0 m.1;
+            follows = remains_pushed c l.gives levels opcodes (subst (λ z. Remains c [] z opcodes) (sym same) r);
+          });
+        },
+      )
 
   else_parted : l.is_first ≡ true → FitsLevel l (results_of l.gives) → Remains c [] (opened l.takes l.gives false ∷ levels) opcodes → Remains c [] (l ∷ levels) (instr.Else ∷ opcodes)
   else_parted first fits (types, f, ends) = by_closes ends.closes
     where
       by_closes : Closes c (labels_of (l ∷ levels)) false l.gives (λ next. Remains c (results_of l.gives) levels next) ends.rest opcodes → Remains c [] (l ∷ levels) (instr.Else ∷ opcodes)
       by_closes (inr h) = let no = h.first in absurd (cc)
-      by_closes (inl h) =
-          (results_of l.gives, fits, record {
-            rest = Stop;
-            nested = tt;
-            typed = refl;
-            closes = inr (record {
-              second = ends.rest;
-              next = h.next;
-              is = ap (λ z. instr.Else ∷ z) h.is;
-              first = first;
-              nested = ends.nested;
-              typed = subst (λ z. HasType c (labels_of (l ∷ levels)) ends.rest z (results_of l.gives)) (opened_fits types f) ends.typed;
-              follows = h.follows;
-            });
-          })
+      by_closes (inl h) = (
+        results_of l.gives,
+        fits,
+        record {
+          rest = Stop;
+          nested = tt;
+          typed = refl;
+          closes = inr (record {
+            second = ends.rest;
+            next = h.next;
+            is = ap (λ z. instr.Else ∷ z) h.is;
+            first = first;
+            nested = ends.nested;
+            typed = subst (λ z. HasType c (labels_of (l ∷ levels)) ends.rest z (results_of l.gives)) (opened_fits types f) ends.typed;
+            follows = h.follows;
+          });
+        },
+      )
 
   else_sound : (levels' : List Level) → after c instr.Else (l ∷ levels) ≡ Some levels' → Remains c [] levels' opcodes → Remains c [] (l ∷ levels) (instr.Else ∷ opcodes)
   else_sound levels' h r =
@@ -221,19 +232,22 @@ module _ (c : Context) (opcodes : List Instruction) (l : Level) (levels : List L
           let after = e.follows in
           let back = taken_back I32 l l' h after.0 after.1 in
           let rest = ends_kept c levels (results_of t ++ after.0) e.next l l' back.1 after.2 in
-          let none = none_given t e.may in
-          (I32 ∷ after.0, back.0, record {
-            rest = InIf t ends.rest rest.rest;
-            nested = (ends.nested, rest.nested);
-            typed = (
-              after.0,
-              refl,
-              none,
-              subst (λ z. HasType c (results_of z ∷ labels) ends.rest [] (results_of z)) none (first_typed back.1),
-              subst (λ z. HasType c labels rest.rest (results_of z ++ after.0) (results_of l.gives)) none rest.typed,
-            );
-            closes = closes_inner c labels l.is_first l.gives (λ next. Remains c (results_of l.gives) levels next) (instr.If t) ends.rest rest.rest (InIf t ends.rest rest.rest) opcodes e.next refl e.is rest.closes;
-          })
+          let none = none_given t e.may in (
+            I32 ∷ after.0,
+            back.0,
+            record {
+              rest = InIf t ends.rest rest.rest;
+              nested = (ends.nested, rest.nested);
+              typed = (
+                after.0,
+                refl,
+                none,
+                subst (λ z. HasType c (results_of z ∷ labels) ends.rest [] (results_of z)) none (first_typed back.1),
+                subst (λ z. HasType c labels rest.rest (results_of z ++ after.0) (results_of l.gives)) none rest.typed,
+              );
+              closes = closes_inner c labels l.is_first l.gives (λ next. Remains c (results_of l.gives) levels next) (instr.If t) ends.rest rest.rest (InIf t ends.rest rest.rest) opcodes e.next refl e.is rest.closes;
+            },
+          )
       by_closes (inr e) =
           let after = e.follows in
           let back = taken_back I32 l l' h after.0 after.1 in
@@ -241,14 +255,17 @@ module _ (c : Context) (opcodes : List Instruction) (l : Level) (levels : List L
           let second = subst (λ z. HasType c (results_of t ∷ z) e.second [] (results_of t)) (same_labels back.1) e.typed in
           let parts : List Instruction = spelled e.second ++ (instr.End ∷ []) in
           let front : List Instruction = instr.If t ∷ (spelled ends.rest ++ (instr.Else ∷ parts)) in
-          let new : Sequence = InIfElse t ends.rest e.second rest.rest in
-          (I32 ∷ after.0, back.0, record {
-            rest = new;
-            nested = (ends.nested, e.nested, rest.nested);
-            typed = (after.0, refl, first_typed back.1, second, rest.typed);
-            closes = subst (λ z. Closes c labels l.is_first l.gives (λ next. Remains c (results_of l.gives) levels next) new z) (sym (ap (λ z. instr.If t ∷ z) e.is ∙ parted (instr.If t) (spelled ends.rest) (spelled e.second) e.next))
-                (closes_behind c labels l.is_first l.gives (λ next. Remains c (results_of l.gives) levels next) front rest.rest new e.next (parted (instr.If t) (spelled ends.rest) (spelled e.second) (spelled rest.rest)) rest.closes);
-          })
+          let new : Sequence = InIfElse t ends.rest e.second rest.rest in (
+            I32 ∷ after.0,
+            back.0,
+            record {
+              rest = new;
+              nested = (ends.nested, e.nested, rest.nested);
+              typed = (after.0, refl, first_typed back.1, second, rest.typed);
+              closes = subst (λ z. Closes c labels l.is_first l.gives (λ next. Remains c (results_of l.gives) levels next) new z) (sym (ap (λ z. instr.If t ∷ z) e.is ∙ parted (instr.If t) (spelled ends.rest) (spelled e.second) e.next))
+                  (closes_behind c labels l.is_first l.gives (λ next. Remains c (results_of l.gives) levels next) front rest.rest new e.next (parted (instr.If t) (spelled ends.rest) (spelled e.second) (spelled rest.rest)) rest.closes);
+            },
+          )
 
   if_sound : (t : Option ValueType) (levels' : List Level) → after c (instr.If t) (l ∷ levels) ≡ Some levels' → Remains c [] levels' opcodes → Remains c [] (l ∷ levels) (instr.If t ∷ opcodes)
   if_sound t levels' h r =

@@ -1,15 +1,14 @@
 -- A step of all open sequences is one of the innermost.
-use Rattle.std.proofs.Common.{◌≡◌, ◌≢◌, Bool, true, false, List, [], ◌∷◌, ◌++◌, Option, Some, None, refl, sym, ap, ◌∙◌, subst}
+use Rattle.std.proofs.Common.{◌≡◌, ◌≢◌, Bool, true, false, List, [], ◌∷◌, Option, Some, None, refl, sym, ap, ◌∙◌}
 use Rattle.wasm_syntax.specs.declared.types.ValueType.{ValueType}
 use Rattle.wasm_syntax.specs.declared.types.ValueType.TheVariants.{I32}
 use Rattle.wasm_syntax.specs.declared.instruction.Instruction.{Instruction}
 use Rattle.wasm_syntax.specs.declared.instruction.Instruction.TheVariants as instr
 use Rattle.wasm_syntax.specs.Sequence.{IsPlain}
 use Rattle.wasm_syntax_grammar.specs.ReadingItems.{◌>>=◌, check}
-use Rattle.wasm_syntax_rules.specs.Types.{results_of}
 use Rattle.wasm_syntax_rules.specs.Typing.{Context}
-use Rattle.wasm_validate_body.specs.Checking.{Known, Level, popped, agrees, taken, all_taken, pushed, all_pushed, left, Arrow, Fixed, Jump, Dropping, Selecting, Refused, met, selected, applied, arrow_of, labels_of, opened, closed, is_empty, may_end, returned, after}
-use Rattle.wasm_validate_body.specs.Tops.{top_popped, top_pushed, top_all_pushed, top_left, top_taken, top_all_taken, top_selected, top_applied, top_closed}
+use Rattle.wasm_validate_body.specs.Checking.{Known, Level, popped, agrees, taken, all_taken, pushed, all_pushed, left, Arrow, Fixed, Jump, Dropping, Selecting, Refused, met, selected, applied, arrow_of, labels_of, after}
+use Rattle.wasm_validate_body.specs.Tops.{top_popped, top_pushed, top_all_pushed, top_left, top_taken, top_all_taken, top_selected, top_applied}
 
 -- a level put on top of the others
 abbrev pub onto : List Level → Level → Option (List Level)

@@ -1,10 +1,8 @@
 -- Checking a body from the front: after each opcode, what is known of the open sequences and of their operands (Core
 -- Specification 1.0, appendix A.3). Nothing here has to be believed: that it is the same as typing is proved.
-use Rattle.std.specs.Prelude.{◌≡◌, ℕ, ◌^◌, nat_le, nat_lt, Bool, true, false, ◌&&◌, ◌||◌, not, is_some, if◌then◌else◌, List, [], ◌∷◌, ◌++◌, map, Option, Some, None, slice_get}
+use Rattle.std.specs.Prelude.{ℕ, ◌^◌, nat_le, nat_lt, Bool, true, false, ◌&&◌, ◌||◌, not, is_some, List, [], ◌∷◌, ◌++◌, map, Option, Some, None, slice_get}
 use Rattle.wasm_syntax.specs.declared.types.ValueType.{ValueType}
-use Rattle.wasm_syntax.specs.declared.types.ValueType.TheVariants.{I32, I64}
-use Rattle.wasm_syntax.specs.declared.types.FunctionType.{FunctionType}
-use Rattle.wasm_syntax.specs.declared.types.GlobalType.{GlobalType}
+use Rattle.wasm_syntax.specs.declared.types.ValueType.TheVariants.{I32}
 use Rattle.wasm_syntax.specs.declared.types.Mutability.{Mutability}
 use Rattle.wasm_syntax.specs.declared.types.Mutability.TheVariants.{Constant, Variable}
 use Rattle.wasm_syntax.specs.declared.value.Value.{Value}

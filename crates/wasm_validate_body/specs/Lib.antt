@@ -1,4 +1,5 @@
 pub mod Answers
+pub mod Bodies
 pub mod Checking
 pub mod Kinds
 pub mod Remaining

@@ -1,5 +1,5 @@
 -- What a scope of the code stands for.
-use Rattle.std.specs.Prelude.{◌≡◌, ◌++◌, List, reverse, Option, Some, None, Result, Ok, Err}
+use Rattle.std.specs.Prelude.{◌≡◌, ◌++◌, reverse, Option, Some, None, Result, Ok, Err}
 use Rattle.wasm_syntax_rules.specs.Typing.{Context as Typing}
 use Rattle.wasm_validate_parts.specs.declared.fault.ValidFault.{ValidFault}
 use Rattle.wasm_validate_parts.specs.declared.fault.ValidFault.TheVariants.{Index}

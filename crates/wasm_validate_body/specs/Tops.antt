@@ -1,10 +1,9 @@
 -- What is done to the innermost open sequence, as a step of all of them. Where none is open nothing can be taken, and what is
 -- pushed is lost.
-use Rattle.std.specs.Prelude.{Bool, true, false, List, [], ◌∷◌, ◌++◌, map, Option, Some, None}
+use Rattle.std.specs.Prelude.{List, [], ◌∷◌, Option, Some, None}
 use Rattle.wasm_syntax.specs.declared.types.ValueType.{ValueType}
 use Rattle.wasm_syntax.specs.declared.types.ValueType.TheVariants.{I32}
 use Rattle.wasm_syntax_grammar.specs.ReadingItems.{◌>>=◌, check}
-use Rattle.wasm_syntax_rules.specs.Types.{results_of}
 use Rattle.wasm_validate_body.specs.Checking.{Known, Level, popped, agrees, pushed, all_pushed, left, Arrow, Fixed, Jump, Dropping, Selecting, Refused, met, is_empty}
 
 abbrev pub top_popped : List Level → Option (Known × List Level)

@@ -3,7 +3,6 @@
 ghost use Rattle.std.specs.Prelude.{◌≡◌, ◌∷◌, [], slice_get, OnOk, OnErr, IsTrue, ◌↔◌, Some, option_map};
 ghost use Rattle.wasm_validate_parts.specs.declared.fault.ValidFault.TheVariants as fault;
 ghost use Rattle.wasm_validate_body.specs.Answers.{Pops, FindsLabel, Follows, OnlyMemory};
-
 ghost use Rattle.wasm_validate_body.specs.Tops.{top_popped, top_pushed, top_left, top_closed};
 ghost use Rattle.wasm_validate_body.specs.Checking.{opened, labels_of};
 ghost use Rattle.wasm_validate_body.specs.Views.{IsInnermost};

@@ -1,6 +1,7 @@
 //! Checking of function bodies (Core Specification 1.0, section 3.3, by the algorithm of its appendix A.3).
 #![tactic(auto)]
 
+mod body;
 mod instructions;
 mod levels;
 mod operands;
@@ -8,3 +9,5 @@ mod operators;
 mod scope;
 mod stack;
 mod step;
+
+pub use body::BodyChecker;

@@ -1,4 +1,4 @@
-use Rattle.std.proofs.Common.{◌≡◌, ◌<◌, refl, sym, ap, ◌∙◌, subst, None, length, arith}
+use Rattle.std.proofs.Common.{◌≡◌, sym, ap, ◌∙◌, subst, None, arith}
 use Rattle.wasm_validate_body.specs.Tops.{top_closed}
 use Rattle.wasm_validate_body.proofs.LevelViews.{top_none, not_closed, closed_view}
 use Rattle.wasm_validate_body.proofs.levels.Levels.close.Goals as goal

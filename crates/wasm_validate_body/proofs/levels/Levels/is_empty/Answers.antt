@@ -1,4 +1,4 @@
-use Rattle.std.proofs.Common.{◌≡◌, ℕ, List, [], ◌∷◌, length, Bool, true, IsTrue, refl, sym, ap, ◌∙◌, subst, arith}
+use Rattle.std.proofs.Common.{◌≡◌, ℕ, List, [], ◌∷◌, length, IsTrue, refl, sym, ◌∙◌, arith}
 use Rattle.std.specs.Prelude.{nat_eq}
 use Rattle.std.proofs.lemmas.Bool.Decides.{nat_tests}
 use Rattle.wasm_validate_body.specs.declared.levels.Control.{Control}
@@ -15,8 +15,7 @@ is_none n [] operands is e = let zero : n ≡ 0 = omega arith in rw zero refl
 is_none n (k ∷ controls) operands is e = absurd (cc)
 
 pub returns : goal.returns
-returns c =
-    (
-      λ e. sym c.self.view_is ∙ none_there c.len.result c.self.inside.controls c.self.inside.operands c.len.ensures e,
-      λ e. is_none c.len.result c.self.inside.controls c.self.inside.operands c.len.ensures (c.self.view_is ∙ e),
-    )
+returns c = (
+  λ e. sym c.self.view_is ∙ none_there c.len.result c.self.inside.controls c.self.inside.operands c.len.ensures e,
+  λ e. is_none c.len.result c.self.inside.controls c.self.inside.operands c.len.ensures (c.self.view_is ∙ e),
+)

@@ -1,7 +1,6 @@
-use Rattle.std.proofs.Common.{◌≡◌, refl, sym, ap, ◌∙◌, subst, Some, None}
+use Rattle.std.proofs.Common.{refl, sym, ap, ◌∙◌}
 use Rattle.std.specs.Prelude.{slice_get}
 use Rattle.std.specs.Option.{option_map}
-use Rattle.wasm_syntax_rules.specs.Types.{results_of}
 use Rattle.wasm_validate_body.specs.Checking.{labels_of}
 use Rattle.wasm_validate_body.proofs.LevelViews.{label_at, label_of_control}
 use Rattle.wasm_validate_body.proofs.levels.Levels.label.Goals as goal
@@ -13,10 +12,9 @@ returns-in-Some c =
     ∙ ap (λ z. option_map label_of_control z) (sym c.get.ensures ∙ c.in-Some.is)
 
 pub returns-in-None : goal.returns-in-None
-returns-in-None c =
-    (
-      refl,
-      ap (λ z. slice_get (labels_of z) c.args.number) (sym c.self.view_is)
+returns-in-None c = (
+  refl,
+  ap (λ z. slice_get (labels_of z) c.args.number) (sym c.self.view_is)
       ∙ label_at c.self.inside.controls c.self.inside.operands c.args.number
       ∙ ap (λ z. option_map label_of_control z) (sym c.get.ensures ∙ c.in-None.is),
-    )
+)

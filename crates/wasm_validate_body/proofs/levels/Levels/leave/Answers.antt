@@ -1,5 +1,4 @@
-use Rattle.std.proofs.Common.{◌≡◌, List, [], ◌∷◌, ◌-◌, length, drop, refl, sym, ap, ◌∙◌, subst, false}
-use Rattle.wasm_validate_body.specs.declared.levels.Control.{Control}
+use Rattle.std.proofs.Common.{◌≡◌, List, [], ◌∷◌, length, drop, refl, sym, ap, ◌∙◌, subst, false}
 use Rattle.wasm_validate_body.specs.Checking.{Level}
 use Rattle.wasm_validate_body.specs.Tops.{top_left}
 use Rattle.wasm_validate_body.specs.Views.{levels_of, AreHeights}

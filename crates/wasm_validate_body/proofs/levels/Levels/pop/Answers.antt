@@ -1,4 +1,4 @@
-use Rattle.std.proofs.Common.{◌≡◌, ◌<◌, List, Bool, true, false, Option, Some, None, Ok, refl, sym, ap, ◌∙◌, subst, length, arith}
+use Rattle.std.proofs.Common.{◌≡◌, ◌<◌, true, false, Some, None, sym, ap, ◌∙◌, subst, length, arith}
 use Rattle.std.specs.Option.{ok_or}
 use Rattle.wasm_validate_parts.specs.declared.fault.ValidFault.TheVariants as fault
 use Rattle.wasm_validate_body.specs.Answers.{Pops}

@@ -1,4 +1,4 @@
-use Rattle.std.proofs.Common.{◌≡◌, ◌≤◌, List, ◌∷◌, length, Option, refl, sym, ap, ◌∙◌, subst, arith}
+use Rattle.std.proofs.Common.{◌∷◌, length, sym, ap, ◌∙◌, subst, arith}
 use Rattle.wasm_validate_body.specs.Tops.{top_pushed}
 use Rattle.wasm_validate_body.specs.Views.{levels_of, AreHeights}
 use Rattle.wasm_validate_body.proofs.LevelViews.{pushed_view, higher}

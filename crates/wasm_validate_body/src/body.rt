@@ -1,0 +1,79 @@
+//! The body of a function.
+
+ghost use Rattle.std.specs.Prelude.{◌≡◌, ◌≤◌, length};
+ghost use Rattle.wasm_syntax_rules.specs.Types.{gives_of, results_of};
+ghost use Rattle.wasm_syntax_rules.specs.Typing.{Context as Typing};
+ghost use Rattle.wasm_validate_parts.specs.Answers.{Judges};
+ghost use Rattle.wasm_validate_parts.specs.Contexts.{IsContextOf};
+ghost use Rattle.wasm_validate_body.specs.Answers.{Follows};
+ghost use Rattle.wasm_validate_body.specs.Bodies.{HasBody};
+ghost use Rattle.wasm_validate_body.specs.Checking.{checked};
+ghost use Rattle.wasm_validate_body.specs.Scopes.{IsScopeOf};
+
+use crate::levels::Levels;
+use crate::scope::Scope;
+use std::alloc::Global;
+use wasm_syntax::{Code, FunctionType, Instruction, ValueType};
+use wasm_validate_parts::{Context, ValidFault};
+
+impl Levels {
+    /// One opcode after another.
+    fn steps(&mut self, scope: &Scope, body: &[Instruction]) -> Result<(), ValidFault>
+        ensures { (c : Typing) → IsScopeOf c scope.now → Follows result self.new (checked c body.now self.old) }
+    {
+        for instruction in body {
+            self.step(scope, instruction)?;
+        }
+        Ok(())
+    }
+}
+
+/// What a function gives, if it gives one value at most.
+fn result_of(function_type: &FunctionType) -> Option<ValueType>
+    requires { length function_type.now.results ≤ 1 }
+    ensures { results_of result ≡ gives_of function_type.now }
+{
+    function_type.results.get(0).copied()
+}
+
+/// Checks bodies one after another, over the same memory.
+#[derive(Debug, Drop)]
+pub struct BodyChecker {
+    levels: Levels,
+}
+
+impl BodyChecker {
+    pub fn new(alloc: Global) -> Self {
+        BodyChecker {
+            levels: Levels::new(alloc),
+        }
+    }
+
+    /// Checks the body of a function, in time linear in its opcodes and table labels. The fault is the
+    /// first from the front.
+    pub fn check(
+        &mut self,
+        context: &Context,
+        function_type: &FunctionType,
+        code: &Code,
+    ) -> Result<(), ValidFault>
+        requires { length function_type.now.results ≤ 1 }
+        ensures { (c : Typing) → IsContextOf c context.now → Judges result (HasBody c function_type.now code.now) }
+    {
+        let result_type = result_of(function_type);
+        self.levels.clear();
+        self.levels.open(result_type, result_type, false)?;
+        let scope = Scope {
+            context,
+            parameters: function_type.parameters.as_slice(),
+            declared: code.locals.as_slice(),
+            returns: function_type.results.as_slice(),
+        };
+        self.levels.steps(&scope, code.body.as_slice())?;
+        if self.levels.is_empty() {
+            Ok(())
+        } else {
+            Err(ValidFault::Typing)
+        }
+    }
+}
