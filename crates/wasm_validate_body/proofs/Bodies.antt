@@ -12,10 +12,10 @@ use Rattle.wasm_validate_parts.specs.Contexts.{IsContextOf}
 use Rattle.wasm_validate_body.specs.declared.scope.Scope.{Scope}
 use Rattle.wasm_validate_body.specs.Scopes.{IsScopeOf}
 use Rattle.wasm_validate_body.specs.Bodies.{HasBody}
-use Rattle.wasm_validate_body.specs.Checking.{opened, checked}
-use Rattle.wasm_validate_body.specs.Remaining.{Fits, Closes, Ends, Remains}
-use Rattle.wasm_validate_body.proofs.Sound.{sound}
-use Rattle.wasm_validate_body.proofs.Complete.{complete}
+use Rattle.wasm_validate_algorithm.specs.Checking.{opened, checked}
+use Rattle.wasm_validate_algorithm.specs.Remaining.{Fits, Closes, Ends, Remains}
+use Rattle.wasm_validate_algorithm.proofs.Sound.{sound}
+use Rattle.wasm_validate_algorithm.proofs.Complete.{complete}
 
 no_operands : (types : List ValueType) → Fits true [] types → types ≡ []
 no_operands [] f = refl

@@ -7,7 +7,7 @@ use Rattle.wasm_syntax.specs.declared.types.ValueType.{ValueType}
 use Rattle.wasm_syntax_grammar.specs.ReadingItems.{◌>>=◌, check}
 use Rattle.wasm_syntax_rules.specs.Types.{results_of}
 use Rattle.wasm_validate_body.specs.declared.levels.Control.{Control}
-use Rattle.wasm_validate_body.specs.Checking.{Known, Level, labels_of, is_empty}
+use Rattle.wasm_validate_algorithm.specs.Checking.{Known, Level, labels_of, is_empty}
 use Rattle.wasm_validate_body.specs.Stacks.{Pops as StackPops}
 use Rattle.wasm_validate_body.specs.Tops.{top_popped, top_pushed, top_left, top_closed}
 use Rattle.wasm_validate_body.specs.Views.{level_of, levels_of, AreHeights, IsInnermost}

@@ -7,7 +7,7 @@ use Rattle.wasm_syntax.specs.declared.instruction.Instruction.TheVariants as ins
 use Rattle.wasm_syntax.specs.Sequence.{IsPlain}
 use Rattle.wasm_syntax_grammar.specs.ReadingItems.{◌>>=◌, check}
 use Rattle.wasm_syntax_rules.specs.Typing.{Context}
-use Rattle.wasm_validate_body.specs.Checking.{Known, Level, popped, agrees, taken, all_taken, pushed, all_pushed, left, Arrow, Fixed, Jump, Dropping, Selecting, Refused, met, selected, applied, arrow_of, labels_of, after}
+use Rattle.wasm_validate_algorithm.specs.Checking.{Known, Level, popped, agrees, taken, all_taken, pushed, all_pushed, left, Arrow, Fixed, Jump, Dropping, Selecting, Refused, met, selected, applied, arrow_of, labels_of, after}
 use Rattle.wasm_validate_body.specs.Tops.{top_popped, top_pushed, top_all_pushed, top_left, top_taken, top_all_taken, top_selected, top_applied}
 
 -- a level put on top of the others

@@ -4,7 +4,7 @@ use Rattle.wasm_syntax.specs.declared.types.ValueType.{ValueType}
 use Rattle.wasm_syntax_rules.specs.Types.{results_of}
 use Rattle.wasm_validate_parts.specs.declared.fault.ValidFault.{ValidFault}
 use Rattle.wasm_validate_parts.specs.declared.fault.ValidFault.TheVariants.{Typing, Index, Limits, DuplicateExport, Memory}
-use Rattle.wasm_validate_body.specs.Checking.{Known, Level}
+use Rattle.wasm_validate_algorithm.specs.Checking.{Known, Level}
 
 -- A fault comes only where there is nothing. Want of memory says nothing of it.
 abbrev pub Fails : {X : Type 0} → ValidFault → Option X → Type 0

@@ -1,8 +1,6 @@
 pub mod Answers
 pub mod Bodies
-pub mod Checking
 pub mod Kinds
-pub mod Remaining
 pub mod Scopes
 pub mod Stacks
 pub mod Tops

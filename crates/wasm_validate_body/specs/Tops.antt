@@ -4,7 +4,7 @@ use Rattle.std.specs.Prelude.{List, [], ◌∷◌, Option, Some, None}
 use Rattle.wasm_syntax.specs.declared.types.ValueType.{ValueType}
 use Rattle.wasm_syntax.specs.declared.types.ValueType.TheVariants.{I32}
 use Rattle.wasm_syntax_grammar.specs.ReadingItems.{◌>>=◌, check}
-use Rattle.wasm_validate_body.specs.Checking.{Known, Level, popped, agrees, pushed, all_pushed, left, Arrow, Fixed, Jump, Dropping, Selecting, Refused, met, is_empty}
+use Rattle.wasm_validate_algorithm.specs.Checking.{Known, Level, popped, agrees, pushed, all_pushed, left, Arrow, Fixed, Jump, Dropping, Selecting, Refused, met, is_empty}
 
 abbrev pub top_popped : List Level → Option (Known × List Level)
 top_popped [] = None

@@ -1,7 +1,7 @@
 -- The open sequences as the code keeps them: all operands on one stack, with the height at which each sequence begins.
 use Rattle.std.specs.Prelude.{◌≡◌, ℕ, ◌-◌, ◌≤◌, List, [], ◌∷◌, length, take, drop, Option, Some, None}
 use Rattle.wasm_validate_body.specs.declared.levels.Control.{Control}
-use Rattle.wasm_validate_body.specs.Checking.{Known, Level}
+use Rattle.wasm_validate_algorithm.specs.Checking.{Known, Level}
 
 abbrev pub level_of : Control → List Known → Level
 level_of k operands = record { takes = k.label; gives = k.results; is_first = k.is_first; is_reached = k.is_reached; operands = operands }

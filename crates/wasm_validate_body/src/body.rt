@@ -7,7 +7,7 @@ ghost use Rattle.wasm_validate_parts.specs.Answers.{Judges};
 ghost use Rattle.wasm_validate_parts.specs.Contexts.{IsContextOf};
 ghost use Rattle.wasm_validate_body.specs.Answers.{Follows};
 ghost use Rattle.wasm_validate_body.specs.Bodies.{HasBody};
-ghost use Rattle.wasm_validate_body.specs.Checking.{checked};
+ghost use Rattle.wasm_validate_algorithm.specs.Checking.{checked};
 ghost use Rattle.wasm_validate_body.specs.Scopes.{IsScopeOf};
 
 use crate::levels::Levels;

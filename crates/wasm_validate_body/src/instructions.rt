@@ -5,7 +5,7 @@ ghost use Rattle.wasm_syntax.specs.declared.instruction.Instruction.TheVariants 
 ghost use Rattle.wasm_syntax_rules.specs.Types.{are_same_types, results_of};
 ghost use Rattle.wasm_syntax_rules.specs.Typing.{Context as Typing};
 ghost use Rattle.wasm_validate_body.specs.Answers.{Follows, Tests};
-ghost use Rattle.wasm_validate_body.specs.Checking.{arrow_of, are_labels, labels_of, after};
+ghost use Rattle.wasm_validate_algorithm.specs.Checking.{arrow_of, are_labels, labels_of, after};
 ghost use Rattle.wasm_validate_body.specs.Scopes.{IsScopeOf};
 ghost use Rattle.wasm_validate_body.specs.Tops.{top_applied};
 

@@ -4,7 +4,7 @@ ghost use Rattle.std.specs.Prelude.{◌≡◌, ◌∷◌, [], slice_get, OnOk, O
 ghost use Rattle.wasm_validate_parts.specs.declared.fault.ValidFault.TheVariants as fault;
 ghost use Rattle.wasm_validate_body.specs.Answers.{Pops, FindsLabel, Follows, OnlyMemory};
 ghost use Rattle.wasm_validate_body.specs.Tops.{top_popped, top_pushed, top_left, top_closed};
-ghost use Rattle.wasm_validate_body.specs.Checking.{opened, labels_of};
+ghost use Rattle.wasm_validate_algorithm.specs.Checking.{opened, labels_of};
 ghost use Rattle.wasm_validate_body.specs.Views.{IsInnermost};
 
 use crate::stack::Stack;
@@ -38,7 +38,7 @@ pub struct Levels {
 
 impl Model for Levels {
     ghost use Rattle.std.specs.Prelude.{List, length};
-    ghost use Rattle.wasm_validate_body.specs.Checking.{Level};
+    ghost use Rattle.wasm_validate_algorithm.specs.Checking.{Level};
     ghost use Rattle.wasm_validate_body.specs.Views.{levels_of, AreHeights};
 
     ghost Value = { List Level };

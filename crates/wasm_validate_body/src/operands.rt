@@ -4,7 +4,7 @@ ghost use Rattle.std.specs.Prelude.{◌≡◌, ◌∷◌, [], reverse, OnOk};
 ghost use Rattle.wasm_syntax.specs.declared.types.ValueType.TheVariants as value_type;
 ghost use Rattle.wasm_syntax_rules.specs.Types.{results_of};
 ghost use Rattle.wasm_validate_body.specs.Answers.{Follows, OnlyMemory};
-ghost use Rattle.wasm_validate_body.specs.Checking.{Fixed, Jump, Dropping, Selecting};
+ghost use Rattle.wasm_validate_algorithm.specs.Checking.{Fixed, Jump, Dropping, Selecting};
 ghost use Rattle.wasm_validate_body.specs.Tops.{top_taken, top_all_taken, top_all_pushed, top_applied, top_selected};
 
 use crate::levels::Levels;

@@ -3,7 +3,7 @@
 ghost use Rattle.std.specs.Prelude.{◌≡◌};
 ghost use Rattle.wasm_syntax_rules.specs.Typing.{Context as Typing};
 ghost use Rattle.wasm_validate_body.specs.Answers.{Follows};
-ghost use Rattle.wasm_validate_body.specs.Checking.{arrow_of, labels_of, after};
+ghost use Rattle.wasm_validate_algorithm.specs.Checking.{arrow_of, labels_of, after};
 ghost use Rattle.wasm_validate_body.specs.Kinds.{IsTransfer};
 ghost use Rattle.wasm_validate_body.specs.Scopes.{IsScopeOf};
 ghost use Rattle.wasm_validate_body.specs.Tops.{top_applied};

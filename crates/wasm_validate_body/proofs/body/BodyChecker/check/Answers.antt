@@ -1,7 +1,7 @@
 use Rattle.std.proofs.Common.{◌≡◌, List, [], ◌∷◌, Option, Some, None, false, sym, ap, ◌∙◌}
 use Rattle.std.proofs.lemmas.Result.{err_from_is_err_and}
 use Rattle.wasm_syntax_rules.specs.Typing.{body_context}
-use Rattle.wasm_validate_body.specs.Checking.{Level, opened, checked}
+use Rattle.wasm_validate_algorithm.specs.Checking.{Level, opened, checked}
 use Rattle.wasm_validate_body.proofs.Fails.{denies}
 use Rattle.wasm_validate_body.proofs.Bodies.{scope_of, body_sound, body_complete}
 use Rattle.wasm_validate_body.proofs.body.BodyChecker.check.Goals as goal

@@ -6,7 +6,7 @@ use Rattle.std.proofs.lemmas.Iterator.Adapters.{YieldsList-from_rev_slice}
 use Rattle.std.proofs.lemmas.Iterator.Consumers.{YieldsList-turn, YieldsList-end}
 use Rattle.wasm_syntax.specs.declared.types.ValueType.{ValueType}
 use Rattle.wasm_syntax_grammar.specs.ReadingItems.{◌>>=◌}
-use Rattle.wasm_validate_body.specs.Checking.{Level}
+use Rattle.wasm_validate_algorithm.specs.Checking.{Level}
 use Rattle.wasm_validate_body.specs.Tops.{top_taken, top_all_taken}
 use Rattle.wasm_validate_body.proofs.Fails.{fails_as}
 use Rattle.wasm_validate_body.proofs.levels.Levels.expect_all.Goals as goal

@@ -4,7 +4,7 @@ use Rattle.std.proofs.lemmas.List.{at_drop_more, at_drop_all}
 use Rattle.std.proofs.lemmas.Result.{err_from_is_err_and}
 use Rattle.wasm_syntax.specs.declared.types.ValueType.{ValueType}
 use Rattle.wasm_syntax_rules.specs.Types.{results_of, are_same_types}
-use Rattle.wasm_validate_body.specs.Checking.{labels_of, is_label, are_labels}
+use Rattle.wasm_validate_algorithm.specs.Checking.{labels_of, is_label, are_labels}
 use Rattle.wasm_validate_body.proofs.levels.Levels.expect_labels.Goals as goal
 
 module _ (labels : List (List ValueType)) (ts : List ValueType) (ls : List ℕ) (n : ℕ) (h : n < length ls) where

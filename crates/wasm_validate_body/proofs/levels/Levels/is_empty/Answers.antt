@@ -2,7 +2,7 @@ use Rattle.std.proofs.Common.{◌≡◌, ℕ, List, [], ◌∷◌, length, IsTru
 use Rattle.std.specs.Prelude.{nat_eq}
 use Rattle.std.proofs.lemmas.Bool.Decides.{nat_tests}
 use Rattle.wasm_validate_body.specs.declared.levels.Control.{Control}
-use Rattle.wasm_validate_body.specs.Checking.{Known}
+use Rattle.wasm_validate_algorithm.specs.Checking.{Known}
 use Rattle.wasm_validate_body.specs.Views.{levels_of}
 use Rattle.wasm_validate_body.proofs.levels.Levels.is_empty.Goals as goal
 

@@ -1,7 +1,7 @@
 use Rattle.std.proofs.Common.{refl, sym, ap, ◌∙◌}
 use Rattle.std.specs.Prelude.{slice_get}
 use Rattle.std.specs.Option.{option_map}
-use Rattle.wasm_validate_body.specs.Checking.{labels_of}
+use Rattle.wasm_validate_algorithm.specs.Checking.{labels_of}
 use Rattle.wasm_validate_body.proofs.LevelViews.{label_at, label_of_control}
 use Rattle.wasm_validate_body.proofs.levels.Levels.label.Goals as goal
 

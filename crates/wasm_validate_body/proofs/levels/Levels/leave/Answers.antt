@@ -1,5 +1,5 @@
 use Rattle.std.proofs.Common.{◌≡◌, List, [], ◌∷◌, length, drop, refl, sym, ap, ◌∙◌, subst, false}
-use Rattle.wasm_validate_body.specs.Checking.{Level}
+use Rattle.wasm_validate_algorithm.specs.Checking.{Level}
 use Rattle.wasm_validate_body.specs.Tops.{top_left}
 use Rattle.wasm_validate_body.specs.Views.{levels_of, AreHeights}
 use Rattle.wasm_validate_body.proofs.LevelViews.{top_none, left_view}

@@ -3,7 +3,7 @@ use Rattle.std.specs.Prelude.{reverse}
 use Rattle.std.proofs.lemmas.List.{take_more, take_all, reverse-append}
 use Rattle.wasm_syntax.specs.declared.types.ValueType.{ValueType}
 use Rattle.wasm_syntax.specs.declared.types.ValueType.TheVariants.{I32}
-use Rattle.wasm_validate_body.specs.Checking.{Level}
+use Rattle.wasm_validate_algorithm.specs.Checking.{Level}
 use Rattle.wasm_validate_body.specs.Tops.{top_pushed, top_all_pushed}
 use Rattle.wasm_validate_body.proofs.levels.Levels.push_all.Goals as goal
 

@@ -4,7 +4,7 @@ use Rattle.std.proofs.lemmas.Result.{err_from_is_err_and}
 use Rattle.wasm_syntax.specs.declared.instruction.Instruction.{Instruction}
 use Rattle.wasm_syntax_grammar.specs.ReadingItems.{◌>>=◌}
 use Rattle.wasm_syntax_rules.specs.Typing.{Context as Typing}
-use Rattle.wasm_validate_body.specs.Checking.{Level, after, checked}
+use Rattle.wasm_validate_algorithm.specs.Checking.{Level, after, checked}
 use Rattle.wasm_validate_body.proofs.Fails.{fails_as}
 use Rattle.wasm_validate_body.proofs.levels.Levels.steps.Goals as goal
 

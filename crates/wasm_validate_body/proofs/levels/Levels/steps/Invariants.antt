@@ -1,6 +1,6 @@
 use Rattle.std.proofs.Common.{◌≡◌, drop}
 use Rattle.wasm_syntax_rules.specs.Typing.{Context as Typing}
-use Rattle.wasm_validate_body.specs.Checking.{checked}
+use Rattle.wasm_validate_algorithm.specs.Checking.{checked}
 use Rattle.wasm_validate_body.specs.Scopes.{IsScopeOf}
 use Rattle.wasm_validate_body.proofs.levels.Levels.steps.Given as goal
 

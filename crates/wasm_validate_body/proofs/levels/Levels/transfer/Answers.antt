@@ -2,7 +2,7 @@ use Rattle.std.proofs.Common.{◌≡◌, refl, ap}
 use Rattle.wasm_syntax.specs.declared.instruction.Instruction.{Instruction}
 use Rattle.wasm_syntax.specs.declared.instruction.Instruction.TheVariants as instr
 use Rattle.wasm_syntax_rules.specs.Typing.{Context as Typing}
-use Rattle.wasm_validate_body.specs.Checking.{Refused, arrow_of, labels_of}
+use Rattle.wasm_validate_algorithm.specs.Checking.{Refused, arrow_of, labels_of}
 use Rattle.wasm_validate_body.specs.Kinds.{IsTransfer}
 use Rattle.wasm_validate_body.specs.Tops.{top_applied}
 use Rattle.wasm_validate_body.proofs.levels.Levels.transfer.Goals as goal

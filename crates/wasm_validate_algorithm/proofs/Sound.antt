@@ -10,10 +10,10 @@ use Rattle.wasm_syntax_grammar.specs.ReadingItems.{◌>>=◌, check}
 use Rattle.wasm_syntax_grammar.proofs.Exact.{bind_some}
 use Rattle.wasm_syntax_rules.specs.Types.{results_of}
 use Rattle.wasm_syntax_rules.specs.Typing.{Context, HasRule, HasType}
-use Rattle.wasm_validate_body.specs.Checking.{Known, Level, taken, all_taken, arrow_of, applied, labels_of, opened, is_empty, closed, may_end, returned, after, checked}
-use Rattle.wasm_validate_body.specs.Remaining.{Fits, Closes, Ends, Remains}
-use Rattle.wasm_validate_body.proofs.Arrows.{rule_of_arrow}
-use Rattle.wasm_validate_body.proofs.Fitting.{FitsLevel, Keeps, check_true, fits_pushed, taken_back, all_taken_back, applied_back}
+use Rattle.wasm_validate_algorithm.specs.Checking.{Known, Level, taken, all_taken, arrow_of, applied, labels_of, opened, is_empty, closed, may_end, returned, after, checked}
+use Rattle.wasm_validate_algorithm.specs.Remaining.{Fits, Closes, Ends, Remains}
+use Rattle.wasm_validate_algorithm.proofs.Arrows.{rule_of_arrow}
+use Rattle.wasm_validate_algorithm.proofs.Fitting.{FitsLevel, Keeps, check_true, fits_pushed, taken_back, all_taken_back, applied_back}
 
 -- ---- what stands in front
 

@@ -6,7 +6,7 @@ use Rattle.wasm_syntax.specs.declared.instruction.Instruction.TheVariants as ins
 use Rattle.wasm_syntax.specs.Sequence.{Sequence, spelled, IsNested}
 use Rattle.wasm_syntax_rules.specs.Types.{results_of}
 use Rattle.wasm_syntax_rules.specs.Typing.{Context, HasType}
-use Rattle.wasm_validate_body.specs.Checking.{Known, Level, labels_of, may_end}
+use Rattle.wasm_validate_algorithm.specs.Checking.{Known, Level, labels_of, may_end}
 
 -- the type is as known
 abbrev pub Matches : Known → ValueType → Type 0

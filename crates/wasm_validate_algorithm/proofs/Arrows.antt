@@ -15,7 +15,7 @@ use Rattle.wasm_syntax.specs.declared.instruction.Instruction.TheVariants as ins
 use Rattle.wasm_syntax_rules.specs.Types.{IsOf, is_same_type, are_same_types, takes_of, gives_of, loaded_width, stored_width, bytes_in}
 use Rattle.wasm_syntax_rules.specs.Typing.{Context, HasRule, HasMemory, IsLabel}
 use Rattle.wasm_syntax_rules.specs.Shapes.{type_of}
-use Rattle.wasm_validate_body.specs.Checking.{Arrow, Fixed, Jump, Dropping, Selecting, Refused, with_some, only, has_table, has_memory, is_variable, is_label, are_labels, is_number, arrow_of}
+use Rattle.wasm_validate_algorithm.specs.Checking.{Arrow, Fixed, Jump, Dropping, Selecting, Refused, with_some, only, has_table, has_memory, is_variable, is_label, are_labels, is_number, arrow_of}
 
 -- the operands p are taken and q left
 abbrev pub Meets : Arrow → List ValueType → List ValueType → Type 0

@@ -9,11 +9,11 @@ use Rattle.wasm_syntax.specs.Sequence.{Sequence, Stop, Plain, InBlock, InLoop, I
 use Rattle.wasm_syntax_grammar.specs.ReadingItems.{◌>>=◌, check}
 use Rattle.wasm_syntax_rules.specs.Types.{results_of}
 use Rattle.wasm_syntax_rules.specs.Typing.{Context, HasRule, HasType}
-use Rattle.wasm_validate_body.specs.Checking.{Known, Level, arrow_of, applied, labels_of, opened, is_empty, closed, may_end, returned, after, checked}
-use Rattle.wasm_validate_body.specs.Remaining.{Fits, Closes, Ends, Remains}
-use Rattle.wasm_validate_body.proofs.Arrows.{arrow_of_rule}
-use Rattle.wasm_validate_body.proofs.Sound.{in_front, parted}
-use Rattle.wasm_validate_body.proofs.Fitting.{FitsLevel, Keeps, pushed_fit, taken_on, all_taken_on, applied_on}
+use Rattle.wasm_validate_algorithm.specs.Checking.{Known, Level, arrow_of, applied, labels_of, opened, is_empty, closed, may_end, returned, after, checked}
+use Rattle.wasm_validate_algorithm.specs.Remaining.{Fits, Closes, Ends, Remains}
+use Rattle.wasm_validate_algorithm.proofs.Arrows.{arrow_of_rule}
+use Rattle.wasm_validate_algorithm.proofs.Sound.{in_front, parted}
+use Rattle.wasm_validate_algorithm.proofs.Fitting.{FitsLevel, Keeps, pushed_fit, taken_on, all_taken_on, applied_on}
 
 no_end : (front : List Instruction) (i : Instruction) (rest : List Instruction) → [] ≡ front ++ (i ∷ rest) → ⊥
 no_end [] i rest e = absurd (cc)

@@ -6,9 +6,9 @@ use Rattle.wasm_syntax.specs.declared.types.ValueType.{ValueType}
 use Rattle.wasm_syntax.specs.declared.types.ValueType.TheVariants.{I32}
 use Rattle.wasm_syntax_grammar.specs.ReadingItems.{◌>>=◌, check}
 use Rattle.wasm_syntax_grammar.proofs.Exact.{bind_some}
-use Rattle.wasm_validate_body.specs.Checking.{Known, Level, popped_of, popped, agrees, taken, all_taken, pushed, all_pushed, left, Arrow, Fixed, Jump, Dropping, Selecting, Refused, met, selected, applied}
-use Rattle.wasm_validate_body.specs.Remaining.{Matches, Fits}
-use Rattle.wasm_validate_body.proofs.Arrows.{Meets, same_type, is_same}
+use Rattle.wasm_validate_algorithm.specs.Checking.{Known, Level, popped_of, popped, agrees, taken, all_taken, pushed, all_pushed, left, Arrow, Fixed, Jump, Dropping, Selecting, Refused, met, selected, applied}
+use Rattle.wasm_validate_algorithm.specs.Remaining.{Matches, Fits}
+use Rattle.wasm_validate_algorithm.proofs.Arrows.{Meets, same_type, is_same}
 
 abbrev pub FitsLevel : Level → List ValueType → Type 0
 FitsLevel l types = Fits l.is_reached l.operands types

@@ -1,0 +1,4 @@
+pub mod Arrows
+pub mod Complete
+pub mod Fitting
+pub mod Sound
