@@ -1,1 +1,3 @@
 pub mod ByteLemmas
+pub mod LittleEndian
+pub mod Ranges

@@ -1,6 +1,6 @@
 //! The memory itself, seen as a list of bytes with a limit.
 
-ghost use Rattle.std.specs.Prelude.{◌≡◌, ◌+◌, ◌*◌, ◌≤◌, ◌<◌, ◌^◌, ◌↔◌, ◌==◌, length, IfOk, IsOk, IsSome, IfSome, OnSome, IfNone};
+ghost use Rattle.std.specs.Prelude.{◌≡◌, ◌+◌, ◌*◌, ◌≤◌, ◌<◌, ◌^◌, ◌↔◌, ◌==◌, length, IfOk, IsTrue, IsOk, IsSome, IfSome, OnSome, IfNone};
 ghost use Rattle.guest_memory.specs.Bytes.{number_of, bytes_of, page_size, part};
 ghost use Rattle.guest_memory.specs.Memories.{IsWithinLimit, grown_by, pages_in, with_bytes, zeroed};
 
@@ -39,6 +39,10 @@ impl Model for Memory {
 }
 
 impl Memory {
+    ghost use Rattle.std.specs.Borrow.{Array, Lends, sem, u8};
+    ghost use Rattle.guest_memory.specs.Memories.{with_lent};
+    ghost use Rattle.guest_memory.specs.contracts.memory.Memory.{the_row};
+
     /// So many pages of zero bytes, with room for as many as the limit. Only want of memory makes
     /// it fail.
     pub fn new(alloc: Global, pages: u32, limit: u32) -> Result<Memory, MemoryFault>
@@ -89,6 +93,132 @@ impl Memory {
         ensures { result.now ≡ self.now.bytes }
     {
         self.bytes.as_slice()
+    }
+
+    /// A range of bytes, or nothing where it reaches beyond the end.
+    pub fn part(&self, from: u32, len: u32) -> Option<&[u8]>
+        ensures there { IsSome result ↔ (from + len ≤ length self.now.bytes) }
+        ensures bytes { IfSome result (λ s. s.now ≡ part self.now.bytes from len) }
+    {
+        self.range(from as usize, len as usize)
+    }
+
+    /// Whether a range of bytes is within memory.
+    pub fn has(&self, from: u32, len: u32) -> bool
+        ensures { IsTrue result ↔ (from + len ≤ length self.now.bytes) }
+    {
+        from as usize + len as usize <= self.bytes.len()
+    }
+
+    fn range(&self, from: usize, len: usize) -> Option<&[u8]>
+        requires { from + len < 2 ^ 64 }
+        ensures there { IsSome result ↔ (from + len ≤ length self.now.bytes) }
+        ensures bytes { IfSome result (λ s. s.now ≡ part self.now.bytes from len) }
+    {
+        self.bytes.get(from..from + len)
+    }
+
+    fn lent(&mut self, from: usize, len: usize) -> &mut [u8]
+        requires { from + len ≤ length self.old.bytes }
+        ensures* writes_back { sem 𝓛 (Lends the_row (Array u8 0) self.entry result (λ bytes. with_lent from bytes self.old)) }
+        ensures bytes { result.now ≡ part self.old.bytes from len }
+    {
+        self.bytes.slice_mut(from..from + len)
+    }
+
+    /// The byte at `address + offset`, or nothing where that is beyond the end.
+    pub fn load_u8(&self, address: u32, offset: u32) -> Option<u8>
+        ensures there { IsSome result ↔ (address + offset + 1 ≤ length self.now.bytes) }
+        ensures number { IfSome result (λ n. n ≡ number_of (part self.now.bytes (address + offset) 1)) }
+    {
+        let bytes = self.range(address as usize + offset as usize, 1)?;
+        Some(bytes[0])
+    }
+
+    /// The number in the 2 bytes at `address + offset`, or nothing where they reach beyond the end.
+    pub fn load_u16(&self, address: u32, offset: u32) -> Option<u16>
+        ensures there { IsSome result ↔ (address + offset + 2 ≤ length self.now.bytes) }
+        ensures number { IfSome result (λ n. n ≡ number_of (part self.now.bytes (address + offset) 2)) }
+    {
+        let bytes = self.range(address as usize + offset as usize, 2)?;
+        Some(LittleEndian::read_u16(bytes))
+    }
+
+    /// The number in the 4 bytes at `address + offset`, or nothing where they reach beyond the end.
+    pub fn load_u32(&self, address: u32, offset: u32) -> Option<u32>
+        ensures there { IsSome result ↔ (address + offset + 4 ≤ length self.now.bytes) }
+        ensures number { IfSome result (λ n. n ≡ number_of (part self.now.bytes (address + offset) 4)) }
+    {
+        let bytes = self.range(address as usize + offset as usize, 4)?;
+        Some(LittleEndian::read_u32(bytes))
+    }
+
+    /// The number in the 8 bytes at `address + offset`, or nothing where they reach beyond the end.
+    pub fn load_u64(&self, address: u32, offset: u32) -> Option<u64>
+        ensures there { IsSome result ↔ (address + offset + 8 ≤ length self.now.bytes) }
+        ensures number { IfSome result (λ n. n ≡ number_of (part self.now.bytes (address + offset) 8)) }
+    {
+        let bytes = self.range(address as usize + offset as usize, 8)?;
+        Some(LittleEndian::read_u64(bytes))
+    }
+
+    /// Puts a byte at `address + offset`, or changes nothing where that is beyond the end.
+    pub fn store_u8(&mut self, address: u32, offset: u32, value: u8) -> Option<()>
+        ensures there { IsSome result ↔ (address + offset + 1 ≤ length self.old.bytes) }
+        ensures stored { OnSome result (self.new ≡ with_bytes (address + offset) (bytes_of 1 value) self.old) }
+        ensures refused { IfNone result (self.new ≡ self.old) }
+    {
+        let from = address as usize + offset as usize;
+        if from + 1 > self.bytes.len() {
+            return None;
+        }
+        self.lent(from, 1)[0] = value;
+        Some(())
+    }
+
+    /// Puts a number into the 2 bytes at `address + offset`, or changes nothing where they reach beyond
+    /// the end.
+    pub fn store_u16(&mut self, address: u32, offset: u32, value: u16) -> Option<()>
+        ensures there { IsSome result ↔ (address + offset + 2 ≤ length self.old.bytes) }
+        ensures stored { OnSome result (self.new ≡ with_bytes (address + offset) (bytes_of 2 value) self.old) }
+        ensures refused { IfNone result (self.new ≡ self.old) }
+    {
+        let from = address as usize + offset as usize;
+        if from + 2 > self.bytes.len() {
+            return None;
+        }
+        LittleEndian::write_u16(self.lent(from, 2), value);
+        Some(())
+    }
+
+    /// Puts a number into the 4 bytes at `address + offset`, or changes nothing where they reach beyond
+    /// the end.
+    pub fn store_u32(&mut self, address: u32, offset: u32, value: u32) -> Option<()>
+        ensures there { IsSome result ↔ (address + offset + 4 ≤ length self.old.bytes) }
+        ensures stored { OnSome result (self.new ≡ with_bytes (address + offset) (bytes_of 4 value) self.old) }
+        ensures refused { IfNone result (self.new ≡ self.old) }
+    {
+        let from = address as usize + offset as usize;
+        if from + 4 > self.bytes.len() {
+            return None;
+        }
+        LittleEndian::write_u32(self.lent(from, 4), value);
+        Some(())
+    }
+
+    /// Puts a number into the 8 bytes at `address + offset`, or changes nothing where they reach beyond
+    /// the end.
+    pub fn store_u64(&mut self, address: u32, offset: u32, value: u64) -> Option<()>
+        ensures there { IsSome result ↔ (address + offset + 8 ≤ length self.old.bytes) }
+        ensures stored { OnSome result (self.new ≡ with_bytes (address + offset) (bytes_of 8 value) self.old) }
+        ensures refused { IfNone result (self.new ≡ self.old) }
+    {
+        let from = address as usize + offset as usize;
+        if from + 8 > self.bytes.len() {
+            return None;
+        }
+        LittleEndian::write_u64(self.lent(from, 8), value);
+        Some(())
     }
 
     /// Puts so many pages of zero bytes behind the others, and gives the number of pages before,
