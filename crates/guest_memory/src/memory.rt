@@ -39,9 +39,8 @@ impl Model for Memory {
 }
 
 impl Memory {
-    ghost use Rattle.std.specs.Borrow.{Array, Lends, sem, u8};
-    ghost use Rattle.guest_memory.specs.Memories.{with_lent};
-    ghost use Rattle.guest_memory.specs.contracts.memory.Memory.{the_row};
+    ghost use Rattle.std.specs.Borrow.{sem};
+    ghost use Rattle.guest_memory.specs.Lends.{LendsRange};
 
     /// So many pages of zero bytes, with room for as many as the limit. Only want of memory makes
     /// it fail.
@@ -118,12 +117,36 @@ impl Memory {
         self.bytes.get(from..from + len)
     }
 
-    fn lent(&mut self, from: usize, len: usize) -> &mut [u8]
+    /// A range of bytes to be written. No other byte changes.
+    pub fn part_mut(&mut self, from: u32, len: u32) -> &mut [u8]
         requires { from + len ≤ length self.old.bytes }
-        ensures* writes_back { sem 𝓛 (Lends the_row (Array u8 0) self.entry result (λ bytes. with_lent from bytes self.old)) }
+        ensures* writes_back { sem 𝓛 (LendsRange self.entry from result) }
+        ensures bytes { result.now ≡ part self.old.bytes from len }
+    {
+        self.range_mut(from as usize, len as usize)
+    }
+
+    fn range_mut(&mut self, from: usize, len: usize) -> &mut [u8]
+        requires { from + len ≤ length self.old.bytes }
+        ensures* writes_back { sem 𝓛 (LendsRange self.entry from result) }
         ensures bytes { result.now ≡ part self.old.bytes from len }
     {
         self.bytes.slice_mut(from..from + len)
+    }
+
+    /// Puts bytes there, or changes nothing where they reach beyond the end.
+    pub fn write(&mut self, from: u32, bytes: &[u8]) -> Option<()>
+        ensures there { IsSome result ↔ (from + length bytes.now ≤ length self.old.bytes) }
+        ensures written { OnSome result (self.new ≡ with_bytes from bytes.now self.old) }
+        ensures refused { IfNone result (self.new ≡ self.old) }
+    {
+        let from = from as usize;
+        let room = self.bytes.len().checked_sub(from)?;
+        if bytes.len() > room {
+            return None;
+        }
+        self.range_mut(from, bytes.len()).copy_from_slice(bytes);
+        Some(())
     }
 
     /// The byte at `address + offset`, or nothing where that is beyond the end.
@@ -172,7 +195,7 @@ impl Memory {
         if from + 1 > self.bytes.len() {
             return None;
         }
-        self.lent(from, 1)[0] = value;
+        self.range_mut(from, 1)[0] = value;
         Some(())
     }
 
@@ -187,7 +210,7 @@ impl Memory {
         if from + 2 > self.bytes.len() {
             return None;
         }
-        LittleEndian::write_u16(self.lent(from, 2), value);
+        LittleEndian::write_u16(self.range_mut(from, 2), value);
         Some(())
     }
 
@@ -202,7 +225,7 @@ impl Memory {
         if from + 4 > self.bytes.len() {
             return None;
         }
-        LittleEndian::write_u32(self.lent(from, 4), value);
+        LittleEndian::write_u32(self.range_mut(from, 4), value);
         Some(())
     }
 
@@ -217,7 +240,7 @@ impl Memory {
         if from + 8 > self.bytes.len() {
             return None;
         }
-        LittleEndian::write_u64(self.lent(from, 8), value);
+        LittleEndian::write_u64(self.range_mut(from, 8), value);
         Some(())
     }
 
