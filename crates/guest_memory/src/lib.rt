@@ -2,6 +2,8 @@
 #![tactic(auto)]
 
 mod memory;
+#[cfg(test)]
+mod tests;
 
 pub use memory::{Memory, MemoryFault};
 

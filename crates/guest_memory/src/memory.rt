@@ -4,7 +4,7 @@ ghost use Rattle.std.specs.Prelude.{◌≡◌, ◌+◌, ◌*◌, ◌≤◌, ◌<
 ghost use Rattle.guest_memory.specs.Bytes.{number_of, bytes_of, page_size, part};
 ghost use Rattle.guest_memory.specs.Memories.{IsWithinLimit, grown_by, pages_in, with_bytes, zeroed};
 
-use crate::PAGE_SIZE;
+use crate::{MOST_PAGES, PAGE_SIZE};
 use byteorder::{ByteOrder, LittleEndian};
 use std::alloc::Global;
 use std::marker::Model;
@@ -46,7 +46,7 @@ impl Memory {
     /// it fail.
     pub fn new(alloc: Global, pages: u32, limit: u32) -> Result<Memory, MemoryFault>
         requires within { pages ≤ limit }
-        requires limited { limit ≤ 65536 }
+        requires limited { limit ≤ MOST_PAGES }
         ensures made { IfOk result (λ m. m ≡ zeroed pages limit) }
         ensures no_room_wanted { limit ≡ 0 → IsOk result }
     {
@@ -54,7 +54,9 @@ impl Memory {
         let Ok(mut bytes) = Vec::with_capacity(alloc, room) else {
             return Err(MemoryFault::Memory);
         };
-        bytes.resize(pages as usize * PAGE_SIZE as usize, 0).unwrap();
+        bytes
+            .resize(pages as usize * PAGE_SIZE as usize, 0)
+            .unwrap();
         Ok(Memory { bytes, limit })
     }
 
@@ -77,7 +79,7 @@ impl Memory {
     pub fn pages(&self) -> u32
         ensures { result ≡ pages_in self.now }
     {
-        (self.bytes.len() / PAGE_SIZE as usize) as u32
+        (self.len() / PAGE_SIZE as usize) as u32
     }
 
     /// How many pages there may be.
@@ -106,7 +108,7 @@ impl Memory {
     pub fn has(&self, from: u32, len: u32) -> bool
         ensures { IsTrue result ↔ (from + len ≤ length self.now.bytes) }
     {
-        from as usize + len as usize <= self.bytes.len()
+        from as usize + len as usize <= self.len()
     }
 
     fn range(&self, from: usize, len: usize) -> Option<&[u8]>
@@ -141,7 +143,7 @@ impl Memory {
         ensures refused { IfNone result (self.new ≡ self.old) }
     {
         let from = from as usize;
-        let room = self.bytes.len().checked_sub(from)?;
+        let room = self.len().checked_sub(from)?;
         if bytes.len() > room {
             return None;
         }
@@ -192,7 +194,7 @@ impl Memory {
         ensures refused { IfNone result (self.new ≡ self.old) }
     {
         let from = address as usize + offset as usize;
-        if from + 1 > self.bytes.len() {
+        if from + 1 > self.len() {
             return None;
         }
         self.range_mut(from, 1)[0] = value;
@@ -207,7 +209,7 @@ impl Memory {
         ensures refused { IfNone result (self.new ≡ self.old) }
     {
         let from = address as usize + offset as usize;
-        if from + 2 > self.bytes.len() {
+        if from + 2 > self.len() {
             return None;
         }
         LittleEndian::write_u16(self.range_mut(from, 2), value);
@@ -222,7 +224,7 @@ impl Memory {
         ensures refused { IfNone result (self.new ≡ self.old) }
     {
         let from = address as usize + offset as usize;
-        if from + 4 > self.bytes.len() {
+        if from + 4 > self.len() {
             return None;
         }
         LittleEndian::write_u32(self.range_mut(from, 4), value);
@@ -237,7 +239,7 @@ impl Memory {
         ensures refused { IfNone result (self.new ≡ self.old) }
     {
         let from = address as usize + offset as usize;
-        if from + 8 > self.bytes.len() {
+        if from + 8 > self.len() {
             return None;
         }
         LittleEndian::write_u64(self.range_mut(from, 8), value);
@@ -252,11 +254,11 @@ impl Memory {
         ensures grown { OnSome result (self.new ≡ grown_by by self.old) }
         ensures refused { IfNone result (self.new ≡ self.old) }
     {
-        let pages = (self.bytes.len() / PAGE_SIZE as usize) as u32;
+        let pages = self.pages();
         if by > self.limit - pages {
             return None;
         }
-        let len = self.bytes.len() + by as usize * PAGE_SIZE as usize;
+        let len = self.len() + by as usize * PAGE_SIZE as usize;
         self.bytes.resize(len, 0).unwrap();
         Some(pages)
     }
