@@ -100,6 +100,7 @@ impl Memory {
     pub fn part(&self, from: u32, len: u32) -> Option<&[u8]>
         ensures there { IsSome result ↔ (from + len ≤ length self.now.bytes) }
         ensures bytes { IfSome result (λ s. s.now ≡ part self.now.bytes from len) }
+        ensures len { IfSome result (λ s. length s.now ≡ len) }
     {
         self.range(from as usize, len as usize)
     }
@@ -124,6 +125,7 @@ impl Memory {
         requires { from + len ≤ length self.old.bytes }
         ensures* writes_back { sem 𝓛 (LendsRange self.entry from result) }
         ensures bytes { result.now ≡ part self.old.bytes from len }
+        ensures len { length result.now ≡ len }
     {
         self.range_mut(from as usize, len as usize)
     }

@@ -69,46 +69,56 @@ fn reads_the_edges(rt: HostRuntime) -> Result<(), Fail> {
 #[test]
 fn keeps_the_lowest_byte_first(rt: HostRuntime) -> Result<(), Fail> {
     let mut memory = one_page(rt.alloc())?;
-    assert_eq!(rt;
-        memory.store_u64(65_520, 8, 0x1122_3344_5566_7788),
-        Some(())
-    );
-    assert_eq!(rt;
-        memory.part(65_528, 8),
-        Some([0x88, 0x77, 0x66, 0x55, 0x44, 0x33, 0x22, 0x11].as_slice())
+    assert!(rt; memory.store_u64(65_520, 8, 0x1122_3344_5566_7788).is_some());
+    assert!(rt;
+        memory
+            .bytes()
+            .ends_with(&[0, 0x88, 0x77, 0x66, 0x55, 0x44, 0x33, 0x22, 0x11])
     );
     assert_eq!(rt; memory.load_u8(65_528, 1), Some(0x77));
     assert_eq!(rt; memory.load_u16(65_529, 1), Some(0x5566));
     assert_eq!(rt; memory.load_u32(65_532, 0), Some(0x1122_3344));
     assert_eq!(rt; memory.load_u64(65_528, 0), Some(0x1122_3344_5566_7788));
-    assert_eq!(rt; memory.store_u8(65_535, 0, 0xff), Some(()));
-    assert_eq!(rt; memory.store_u16(65_530, 0, 0xabcd), Some(()));
-    assert_eq!(rt; memory.store_u32(65_524, 0, 0xdead_beef), Some(()));
-    assert_eq!(rt; memory.store_u32(65_533, 0, 1), None);
-    assert_eq!(rt; memory.store_u8(4_294_967_295, 1, 1), None);
-    assert_eq!(rt;
-        memory.part(65_524, 12),
-        Some([
-            0xef, 0xbe, 0xad, 0xde, 0x88, 0x77, 0xcd, 0xab, 0x44, 0x33, 0x22, 0xff
-        ]
-        .as_slice())
-    );
+    Ok(())
+}
+
+#[test]
+fn stores_each_width(rt: HostRuntime) -> Result<(), Fail> {
+    let mut memory = one_page(rt.alloc())?;
+    for (address, there) in [(65_532, true), (65_533, false), (4_294_967_295, false)] {
+        assert_eq!(rt;
+            memory.store_u32(address, 0, 0xdead_beef).is_some(),
+            there,
+            "{address}"
+        );
+    }
+    assert!(rt; memory.store_u16(65_534, 0, 0xabcd).is_some());
+    assert!(rt; memory.store_u8(65_534, 1, 0xff).is_some());
+    assert!(rt; memory.bytes().ends_with(&[0, 0xef, 0xbe, 0xcd, 0xff]));
     Ok(())
 }
 
 #[test]
 fn lends_a_range(rt: HostRuntime) -> Result<(), Fail> {
     let mut memory = one_page(rt.alloc())?;
-    assert!(rt; memory.has(65_533, 3));
-    memory.part_mut(65_533, 3).copy_from_slice(&[1, 2, 3]);
-    assert_eq!(rt; memory.write(65_530, &[4, 5]), Some(()));
-    assert_eq!(rt; memory.write(65_536, &[]), Some(()));
-    assert_eq!(rt; memory.write(65_535, &[6, 7]), None);
-    assert_eq!(rt; memory.write(4_294_967_295, &[6]), None);
-    assert_eq!(rt;
-        memory.part(65_529, 7),
-        Some([0, 4, 5, 0, 1, 2, 3].as_slice())
-    );
+    assert!(rt; memory.has(65_533, 2));
+    memory.part_mut(65_533, 2).copy_from_slice(&[1, 2]);
+    assert!(rt; memory.bytes().ends_with(&[0, 1, 2, 0]));
+    Ok(())
+}
+
+#[test]
+fn writes_within_the_end(rt: HostRuntime) -> Result<(), Fail> {
+    let mut memory = one_page(rt.alloc())?;
+    for (from, there) in [
+        (65_534, true),
+        (65_535, false),
+        (65_537, false),
+        (4_294_967_295, false),
+    ] {
+        assert_eq!(rt; memory.write(from, &[4, 5]).is_some(), there, "{from}");
+    }
+    assert!(rt; memory.bytes().ends_with(&[0, 4, 5]));
     Ok(())
 }
 
