@@ -120,7 +120,7 @@ impl Memory {
         self.bytes.get(from..from + len)
     }
 
-    /// A range of bytes to be written. No other byte changes.
+    /// A range of bytes to be written, which `has` says is within memory. No other byte changes.
     pub fn part_mut(&mut self, from: u32, len: u32) -> &mut [u8]
         requires { from + len ≤ length self.old.bytes }
         ensures* writes_back { sem 𝓛 (LendsRange self.entry from result) }
