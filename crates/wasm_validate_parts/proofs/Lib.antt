@@ -1,1 +1,5 @@
+pub mod Denied
+pub mod Imported
 pub mod Lookups
+pub mod Loops
+pub mod Names

@@ -1,6 +1,7 @@
 -- Look-ups in lists.
-use Rattle.std.proofs.Common.{◌≡◌, ℕ, zero, suc, ◌<◌, ◌≤◌, ◌↔◌, min, false, IsTrue, nat_lt, List, [], ◌∷◌, length, get_or, Option, Some, None, refl, sym, ◌∙◌, ap, arith}
+use Rattle.std.proofs.Common.{◌≡◌, ℕ, zero, suc, ◌<◌, ◌≤◌, ◌↔◌, min, false, Bool, IsTrue, nat_lt, List, [], ◌∷◌, length, get_or, Option, Some, None, refl, sym, ◌∙◌, ap, arith, ◌++◌, take}
 use Rattle.std.specs.Prelude.{slice_get, option_and_then, All}
+use Rattle.std.proofs.Math.Seq.{take-append_seam}
 use Rattle.std.proofs.lemmas.Option.{slice_get_past, slice_get-get_or, slice_get_within}
 use Rattle.std.proofs.lemmas.List.Elements.{All-head, All-tail, All-cons, All-nil}
 use Rattle.std.proofs.lemmas.Bool.Decides.{nat_tests}
@@ -57,3 +58,24 @@ has_first (x ∷ xs) count most lt e = (λ t. (x, refl), λ h. grind (arith, nat
 
 pub is_false : IsTrue false → ⊥
 is_false h = cc
+
+-- An index of a list of one element at most is 0, where there is an element.
+pub first_within : {X : Type 0} (xs : List X) (x : ℕ) (b : Bool) → x ≡ 0 → IsTrue b ↔ ((t : X) × (slice_get xs 0 ≡ Some t)) → IsTrue b ↔ (x < length xs)
+first_within [] x b e h = (λ t. let w = (h.0 t).1 in absurd (cc), λ lt. absurd (omega arith))
+first_within (t ∷ xs) x b e h = (λ _. omega arith, λ lt. h.1 (t, refl))
+
+-- the types at these indices are one list at most
+pub one_list : (types : List FunctionType) (indices : List ℕ) (fs gs : List FunctionType) → AreTypesAt types indices fs → AreTypesAt types indices gs → fs ≡ gs
+one_list types [] [] [] h k = refl
+one_list types [] (f ∷ fs) gs h k = absurd h
+one_list types [] [] (g ∷ gs) h k = absurd k
+one_list types (i ∷ indices) [] gs h k = absurd h
+one_list types (i ∷ indices) (f ∷ fs) [] h k = absurd k
+one_list types (i ∷ indices) (f ∷ fs) (g ∷ gs) h k = let a = h.0 in let b = k.0 in let c = one_list types indices fs gs h.1 k.1 in cc
+
+-- the front part of a list, by its length
+pub take-front : {X : Type 0} (front back all : List X) (n : ℕ) → all ≡ front ++ back → n ≡ length front → take n all ≡ front
+take-front front back all n e h = rw (e, h) (take-append_seam front back)
+
+pub length-front : {X : Type 0} (front back all : List X) (n : ℕ) → all ≡ front ++ back → n ≡ length front → n ≡ length (take n all)
+length-front front back all n e h = h ∙ ap length (sym (take-front front back all n e h))

@@ -101,6 +101,20 @@ impl<'m> Context<'m> {
         self.globals.get(x as usize).copied()
     }
 
+    /// How many functions there are.
+    pub fn function_count(&self) -> usize
+        ensures { (c : Typing) → IsContextOf c self.now → result ≡ length c.functions }
+    {
+        self.function_types.len()
+    }
+
+    /// The types of all globals.
+    pub fn globals(&self) -> &[GlobalType]
+        ensures { (c : Typing) → IsContextOf c self.now → result.now ≡ c.globals }
+    {
+        self.globals.as_slice()
+    }
+
     pub fn has_table(&self) -> bool
         ensures { (c : Typing) → IsContextOf c self.now → IsTrue result ↔ HasTable c }
     {

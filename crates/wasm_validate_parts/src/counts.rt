@@ -1,7 +1,7 @@
-//! How many tables and memories a module has (section 3.4.10).
+//! How many tables and memories a module has, and how many globals it imports (section 3.4.10).
 
 ghost use Rattle.std.specs.Prelude.{◌≡◌, min, length};
-ghost use Rattle.wasm_syntax_rules.specs.Types.{imported_tables, imported_memories};
+ghost use Rattle.wasm_syntax_rules.specs.Types.{imported_tables, imported_memories, imported_globals};
 ghost use Rattle.wasm_syntax_rules.specs.Validity.{tables_of, memories_of};
 
 use wasm_syntax::{Import, ImportItem, Module};
@@ -24,6 +24,18 @@ fn imported_memory_count(imports: &[Import]) -> usize
     let mut count = 0;
     for import in imports {
         if let ImportItem::Memory(_) = import.item {
+            count += 1;
+        }
+    }
+    count
+}
+
+pub fn imported_global_count(imports: &[Import]) -> usize
+    ensures { result ≡ length (imported_globals imports.now) }
+{
+    let mut count = 0;
+    for import in imports {
+        if let ImportItem::Global(_) = import.item {
             count += 1;
         }
     }

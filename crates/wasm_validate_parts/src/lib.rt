@@ -2,10 +2,21 @@
 //! sections 3.2 and 3.4), and what typing looks up.
 #![tactic(auto)]
 
+mod constants;
 mod context;
 mod counts;
+mod exports;
 mod fault;
+mod globals;
 mod indices;
+pub mod laws;
+mod limits;
+mod parts;
+mod segments;
+mod start;
+#[cfg(test)]
+mod tests;
 
 pub use context::Context;
 pub use fault::ValidFault;
+pub use parts::{check_after_code, check_before_code, check_parts};
