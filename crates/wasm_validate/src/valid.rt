@@ -1,0 +1,58 @@
+//! Valid modules.
+
+ghost use Rattle.std.specs.Prelude.{◌≡◌, IfOk, IfErr};
+ghost use Rattle.wasm_syntax_rules.specs.Validity.{IsValid};
+ghost use Rattle.wasm_validate_parts.specs.Answers.{Denies, Judges};
+
+use crate::bodies::check_functions;
+use std::alloc::Global;
+use std::marker::Model;
+use wasm_syntax::Module;
+use wasm_validate_parts::{Context, ValidFault, check_after_code, check_before_code};
+
+/// A module that is valid, by its type. Contracts see the module.
+#[derive(Debug, Drop)]
+pub struct ValidModule {
+    module: Module,
+}
+
+impl Model for ValidModule {
+    ghost use Rattle.wasm_syntax.specs.declared.module.Module.{Module as TheModule};
+    ghost use Rattle.wasm_syntax_rules.specs.Validity.{IsValid};
+
+    ghost Value = { TheModule };
+
+    ghost view = { λ a. a.module };
+
+    ghost invariant = { λ a. IsValid a.module };
+}
+
+impl ValidModule {
+    /// The module itself.
+    pub fn module(&self) -> &Module
+        ensures same { result.now ≡ self.now }
+        ensures valid { IsValid result.now }
+    {
+        &self.module
+    }
+}
+
+/// The faults are told in the order of the sections. Time in proportion to the module, but for the names of
+/// exports, whose bytes take n log n.
+fn check(module: &Module, alloc: Global) -> Result<(), ValidFault>
+    ensures { Judges result (IsValid module.now) }
+{
+    let context = Context::of(module, alloc)?;
+    check_before_code(module, &context, alloc)?;
+    check_functions(module, &context, alloc)?;
+    check_after_code(module, &context)
+}
+
+/// Decides whether a module is valid. A refusal other than `Memory` says that it is not.
+pub fn validate(module: Module, alloc: Global) -> Result<ValidModule, ValidFault>
+    ensures valid { IfOk result (λ v. v ≡ module) }
+    ensures only { IfErr result (λ e. Denies e (IsValid module)) }
+{
+    check(&module, alloc)?;
+    Ok(ValidModule { module })
+}
