@@ -8,7 +8,7 @@ ghost use Rattle.wasm_decode.specs.Sections.{held};
 use crate::fields::{functions_of, imports_of, row_of, short_row_of, start_of};
 use std::alloc::Global;
 use wasm_decode_items::{ReadError, Refusal, Span};
-use wasm_syntax::{Module, Row};
+use wasm_syntax::Module;
 use wasm_syntax_grammar::limits::GLOBALS;
 
 /// The ids of sections.
