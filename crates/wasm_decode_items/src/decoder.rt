@@ -24,18 +24,18 @@ fn last_signed(byte: u8, bits: u8) -> Option<u64>
     ensures gives { result ≡ last_signed bits byte }
     ensures fits { IfSome result (λ n. n < 2 ^ bits) }
 {
-    let half = 1u128 << (bits - 1);
-    let number = u128::from(byte);
+    let half = 1u64 << (bits - 1);
+    let number = u64::from(byte);
     if number < 64 {
         if number < half {
-            return Some(u64::from(byte));
+            return Some(number);
         }
         return None;
     }
     if number + half < 128 {
         return None;
     }
-    Some((number + 2 * half - 128) as u64)
+    Some(number + half - 128 + half)
 }
 
 /// The bytes that are left, which is what contracts see, and the offset of the first of them in all
