@@ -10,7 +10,7 @@ ghost use Rattle.wasm_validate_parts.specs.Answers.{Judges};
 ghost use Rattle.wasm_validate_parts.specs.Contexts.{IsContextOf};
 
 use std::alloc::Global;
-use wasm_syntax::{Function, Module};
+use wasm_syntax::Function;
 use wasm_validate_body::BodyChecker;
 use wasm_validate_parts::{Context, ValidFault};
 
@@ -31,16 +31,16 @@ fn check_function(
     checker.check(context, function_type, &function.code)
 }
 
-/// Each function of the module's own, where its types are valid.
+/// Each of these functions of a module whose types are valid.
 pub fn check_functions(
-    module: &Module,
+    own: &[Function],
     context: &Context,
     alloc: Global,
 ) -> Result<(), ValidFault>
-    ensures { (functions : List Kind) → IsContextOf (module_context module.now functions) context.now → AllByRecursion IsFunctionTypeValid module.now.types → Judges result (AllByRecursion (IsFunctionValid module.now functions) module.now.functions) }
+    ensures { (m : TheModule) (functions : List Kind) → IsContextOf (module_context m functions) context.now → AllByRecursion IsFunctionTypeValid m.types → Judges result (AllByRecursion (IsFunctionValid m functions) own.now) }
 {
     let mut checker = BodyChecker::new(alloc);
-    for function in module.functions.as_slice() {
+    for function in own {
         check_function(&mut checker, context, function)?;
     }
     Ok(())

@@ -44,14 +44,14 @@ fn check(module: &Module, alloc: Global) -> Result<(), ValidFault>
 {
     let context = Context::of(module, alloc)?;
     check_before_code(module, &context, alloc)?;
-    check_functions(module, &context, alloc)?;
+    check_functions(module.functions.as_slice(), &context, alloc)?;
     check_after_code(module, &context)
 }
 
 /// Decides whether a module is valid. A refusal other than `Memory` says that it is not.
 pub fn validate(module: Module, alloc: Global) -> Result<ValidModule, ValidFault>
-    ensures valid { IfOk result (λ v. v ≡ module) }
-    ensures only { IfErr result (λ e. Denies e (IsValid module)) }
+    ensures valid { IfOk result (λ v. v ≡ «module») }
+    ensures only { IfErr result (λ e. Denies e (IsValid «module»)) }
 {
     check(&module, alloc)?;
     Ok(ValidModule { module })
