@@ -1,12 +1,11 @@
 //! What typing looks up (section 3.1.1).
 
-ghost use Rattle.std.specs.Prelude.{◌≡◌, ◌+◌, ◌^◌, ◌-◌, ◌++◌, ◌↔◌, min, length, map, IsTrue, IfOk, IfErr, OnOk, slice_get, option_copied};
-ghost use Rattle.wasm_syntax.specs.declared.types.FunctionType.{FunctionType as Kind};
-ghost use Rattle.wasm_syntax_rules.specs.Types.{imported_functions, imported_tables, imported_memories, imported_globals, global_type_of};
+ghost use Rattle.std.specs.Prelude.{◌≡◌, ◌++◌, ◌↔◌, length, map, IsTrue, IfOk, IfErr, OnOk, slice_get, option_copied};
+ghost use Rattle.wasm_syntax_rules.specs.Types.{imported_functions};
 ghost use Rattle.wasm_syntax_rules.specs.Typing.{Context as Typing, HasTable, HasMemory};
-ghost use Rattle.wasm_syntax_rules.specs.Validity.{function_type_of, tables_of, memories_of, globals_of};
-ghost use Rattle.wasm_validate_parts.specs.Answers.{Demands, IsFor};
-ghost use Rattle.wasm_validate_parts.specs.Contexts.{IsContextOf, IsContextOfModule, HasFunctionTypes, HaveTypes};
+ghost use Rattle.wasm_syntax_rules.specs.Validity.{function_type_of, globals_of};
+ghost use Rattle.wasm_validate_parts.specs.Answers.{IsFor};
+ghost use Rattle.wasm_validate_parts.specs.Contexts.{IsContextOf, IsContextOfModule, HasFunctionTypes};
 
 use crate::counts::{memory_count, table_count};
 use crate::fault::ValidFault;
@@ -28,7 +27,7 @@ pub struct Context<'m> {
 
 /// The indices of the types of all functions.
 fn function_type_indices(alloc: Global, module: &Module) -> Result<Vec<u32>, AllocError>
-    ensures { IfOk result (λ v. v.items ≡ imported_functions module.now.imports ++ map function_type_of module.now.functions) }
+    ensures { IfOk result (λ v. v.items ≡ imported_functions «module».now.imports ++ map function_type_of «module».now.functions) }
 {
     let mut indices = Vec::new(alloc);
     for import in module.imports.as_slice() {
@@ -44,7 +43,7 @@ fn function_type_indices(alloc: Global, module: &Module) -> Result<Vec<u32>, All
 
 /// The types of all globals.
 fn global_types(alloc: Global, module: &Module) -> Result<Vec<GlobalType>, AllocError>
-    ensures { IfOk result (λ v. v.items ≡ globals_of module.now) }
+    ensures { IfOk result (λ v. v.items ≡ globals_of «module».now) }
 {
     let mut types = Vec::new(alloc);
     for import in module.imports.as_slice() {
@@ -61,9 +60,9 @@ fn global_types(alloc: Global, module: &Module) -> Result<Vec<GlobalType>, Alloc
 impl<'m> Context<'m> {
     /// The context of a module. `Index` where a function's type doesn't exist.
     pub fn of(module: &'m Module, alloc: Global) -> Result<Context<'m>, ValidFault>
-        ensures found { OnOk result (HasFunctionTypes module.now) }
-        ensures context { IfOk result (IsContextOfModule module.now) }
-        ensures refused { IfErr result (IsFor ValidFault.Index (HasFunctionTypes module.now)) }
+        ensures found { OnOk result (HasFunctionTypes «module».now) }
+        ensures context { IfOk result (IsContextOfModule «module».now) }
+        ensures refused { IfErr result (IsFor ValidFault.Index (HasFunctionTypes «module».now)) }
     {
         let types = module.types.as_slice();
         let function_types = function_type_indices(alloc, module)?;

@@ -44,14 +44,14 @@ pub fn imported_global_count(imports: &[Import]) -> usize
 
 /// How many tables there are, imported ones included, up to the largest `usize`.
 pub fn table_count(module: &Module) -> usize
-    ensures { result ≡ min usize.MAX (length (tables_of module.now)) }
+    ensures { result ≡ min usize.MAX (length (tables_of «module».now)) }
 {
     imported_table_count(module.imports.as_slice()).saturating_add(module.tables.len())
 }
 
 /// How many memories there are, imported ones included, up to the largest `usize`.
 pub fn memory_count(module: &Module) -> usize
-    ensures { result ≡ min usize.MAX (length (memories_of module.now)) }
+    ensures { result ≡ min usize.MAX (length (memories_of «module».now)) }
 {
     imported_memory_count(module.imports.as_slice()).saturating_add(module.memories.len())
 }

@@ -1,8 +1,6 @@
 //! Globals (section 3.4.4).
 
-ghost use Rattle.std.specs.Prelude.{◌≡◌};
 ghost use Rattle.std.specs.List.{AllByRecursion};
-ghost use Rattle.wasm_syntax_rules.specs.Types.{imported_globals};
 ghost use Rattle.wasm_syntax_rules.specs.Validity.{IsConstant, IsGlobalValid};
 ghost use Rattle.wasm_validate_parts.specs.Answers.{Decides};
 ghost use Rattle.wasm_validate_parts.specs.Contexts.{HasFunctionTypes, IsContextOfModule};
@@ -27,9 +25,9 @@ fn check_initial_values(imported: &[GlobalType], globals: &[Global]) -> Result<(
 /// Each global begins with a constant of its type, in which imported globals may stand. `Index` where
 /// it begins with a global that isn't imported, `Typing` otherwise.
 pub fn check_globals(module: &Module, context: &Context) -> Result<(), ValidFault>
-    requires types { HasFunctionTypes module.now }
-    requires context { IsContextOfModule module.now context.now }
-    ensures { Decides result (AllByRecursion (IsGlobalValid module.now) module.now.globals) }
+    requires types { HasFunctionTypes «module».now }
+    requires context { IsContextOfModule «module».now context.now }
+    ensures { Decides result (AllByRecursion (IsGlobalValid «module».now) «module».now.globals) }
 {
     let count = imported_global_count(module.imports.as_slice());
     let imported = &context.globals()[..count];

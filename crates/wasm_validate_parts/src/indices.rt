@@ -1,6 +1,6 @@
 //! Indices (section 2.5.1).
 
-ghost use Rattle.std.specs.Prelude.{◌≡◌, ◌≤◌, ◌<◌, ◌↔◌, IsTrue, All, length};
+ghost use Rattle.std.specs.Prelude.{◌≤◌, ◌<◌, ◌↔◌, IsTrue, All, length};
 ghost use Rattle.wasm_syntax_rules.specs.Typing.{Context as Typing};
 ghost use Rattle.wasm_syntax_rules.specs.Validity.{IsIndex};
 ghost use Rattle.wasm_validate_parts.specs.Contexts.{IsContextOf};

@@ -19,4 +19,4 @@ mod tests;
 
 pub use context::Context;
 pub use fault::ValidFault;
-pub use parts::{check_after_code, check_before_code, check_parts};
+pub use parts::{check_after_code, check_before_code};

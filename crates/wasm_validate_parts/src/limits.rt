@@ -1,6 +1,6 @@
 //! Types of functions, tables and memories (section 3.2).
 
-ghost use Rattle.std.specs.Prelude.{◌≡◌, ◌≤◌, ◌↔◌, ◌^◌, IsTrue, All, length};
+ghost use Rattle.std.specs.Prelude.{◌≤◌, ◌↔◌, IsTrue, length};
 ghost use Rattle.std.specs.List.{AllByRecursion};
 ghost use Rattle.wasm_syntax_rules.specs.Validity.{AreLimits, IsFunctionTypeValid, IsTableTypeValid, IsMemoryTypeValid, tables_of, memories_of};
 ghost use Rattle.wasm_validate_parts.specs.Answers.{Demands};
@@ -96,14 +96,14 @@ fn are_own_memories_valid(memories: &[MemoryType]) -> bool
 }
 
 fn are_tables_valid(module: &Module) -> bool
-    ensures { IsTrue result ↔ AllByRecursion IsTableTypeValid (tables_of module.now) }
+    ensures { IsTrue result ↔ AllByRecursion IsTableTypeValid (tables_of «module».now) }
 {
     are_imported_tables_valid(module.imports.as_slice())
         && are_own_tables_valid(module.tables.as_slice())
 }
 
 fn are_memories_valid(module: &Module) -> bool
-    ensures { IsTrue result ↔ AllByRecursion IsMemoryTypeValid (memories_of module.now) }
+    ensures { IsTrue result ↔ AllByRecursion IsMemoryTypeValid (memories_of «module».now) }
 {
     are_imported_memories_valid(module.imports.as_slice())
         && are_own_memories_valid(module.memories.as_slice())
@@ -111,7 +111,7 @@ fn are_memories_valid(module: &Module) -> bool
 
 /// Tables have limits in order, and there is one at most, imported ones included. `Limits` otherwise.
 pub fn check_tables(module: &Module) -> Result<(), ValidFault>
-    ensures { Demands ValidFault.Limits result (AllByRecursion IsTableTypeValid (tables_of module.now) × (length (tables_of module.now) ≤ 1)) }
+    ensures { Demands ValidFault.Limits result (AllByRecursion IsTableTypeValid (tables_of «module».now) × (length (tables_of «module».now) ≤ 1)) }
 {
     if are_tables_valid(module) && table_count(module) <= 1 {
         Ok(())
@@ -123,7 +123,7 @@ pub fn check_tables(module: &Module) -> Result<(), ValidFault>
 /// Memories have limits in order and within 65,536 pages, and there is one at most, imported ones
 /// included. `Limits` otherwise.
 pub fn check_memories(module: &Module) -> Result<(), ValidFault>
-    ensures { Demands ValidFault.Limits result (AllByRecursion IsMemoryTypeValid (memories_of module.now) × (length (memories_of module.now) ≤ 1)) }
+    ensures { Demands ValidFault.Limits result (AllByRecursion IsMemoryTypeValid (memories_of «module».now) × (length (memories_of «module».now) ≤ 1)) }
 {
     if are_memories_valid(module) && memory_count(module) <= 1 {
         Ok(())

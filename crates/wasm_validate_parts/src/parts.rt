@@ -5,7 +5,7 @@ ghost use Rattle.wasm_syntax.specs.declared.types.FunctionType.{FunctionType as 
 ghost use Rattle.wasm_syntax_rules.specs.Validity.{AreFunctionTypes};
 ghost use Rattle.wasm_validate_parts.specs.Answers.{Decides, Judges};
 ghost use Rattle.wasm_validate_parts.specs.Contexts.{HasFunctionTypes, IsContextOfModule};
-ghost use Rattle.wasm_validate_parts.specs.Parts.{IsValidBeforeCode, IsValidAfterCode, IsValidButBodies, WasValidBeforeCode};
+ghost use Rattle.wasm_validate_parts.specs.Parts.{IsValidBeforeCode, IsValidAfterCode, WasValidBeforeCode};
 
 use crate::context::Context;
 use crate::exports::check_exports;
@@ -25,9 +25,9 @@ pub fn check_before_code(
     context: &Context,
     alloc: Global,
 ) -> Result<(), ValidFault>
-    requires types { HasFunctionTypes module.now }
-    requires context { IsContextOfModule module.now context.now }
-    ensures { (functions : List Kind) → AreFunctionTypes module.now functions → Judges result (IsValidBeforeCode module.now functions) }
+    requires types { HasFunctionTypes «module».now }
+    requires context { IsContextOfModule «module».now context.now }
+    ensures { (functions : List Kind) → AreFunctionTypes «module».now functions → Judges result (IsValidBeforeCode «module».now functions) }
 {
     check_function_types(module.types.as_slice())?;
     check_tables(module)?;
@@ -41,19 +41,9 @@ pub fn check_before_code(
 /// What stands behind the code section: data segments. The context is the module's own, and what stands
 /// before the code section is valid.
 pub fn check_after_code(module: &Module, context: &Context) -> Result<(), ValidFault>
-    requires before { WasValidBeforeCode module.now }
-    requires context { IsContextOfModule module.now context.now }
-    ensures { Decides result (IsValidAfterCode module.now) }
+    requires before { WasValidBeforeCode «module».now }
+    requires context { IsContextOfModule «module».now context.now }
+    ensures { Decides result (IsValidAfterCode «module».now) }
 {
     check_data_segments(context, module.data_segments.as_slice())
-}
-
-/// Everything but the bodies, where these are judged apart.
-pub fn check_parts(module: &Module, context: &Context, alloc: Global) -> Result<(), ValidFault>
-    requires types { HasFunctionTypes module.now }
-    requires context { IsContextOfModule module.now context.now }
-    ensures { (functions : List Kind) → AreFunctionTypes module.now functions → Judges result (IsValidButBodies module.now functions) }
-{
-    check_before_code(module, context, alloc)?;
-    check_after_code(module, context)
 }

@@ -1,7 +1,6 @@
 //! The start function (section 3.4.9).
 
-ghost use Rattle.std.specs.Prelude.{IfSome, List};
-ghost use Rattle.wasm_syntax.specs.declared.types.FunctionType.{FunctionType as Kind};
+ghost use Rattle.std.specs.Prelude.{IfSome};
 ghost use Rattle.wasm_syntax_rules.specs.Typing.{Context as Typing};
 ghost use Rattle.wasm_syntax_rules.specs.Validity.{IsIndex, IsStartValid};
 ghost use Rattle.wasm_validate_parts.specs.Answers.{DemandsInTurn};

@@ -1,6 +1,6 @@
 //! The fault of each kind, on small modules.
 
-use crate::{Context, ValidFault, check_parts};
+use crate::{Context, ValidFault, check_after_code, check_before_code};
 use std::alloc::{AllocError, Global};
 use std::process::Abort;
 use std::test::Fail;
@@ -198,7 +198,8 @@ fn empty(alloc: Global) -> Module {
 
 fn judge(alloc: Global, module: &Module) -> Result<(), ValidFault> {
     let context = Context::of(module, alloc)?;
-    check_parts(module, &context, alloc)
+    check_before_code(module, &context, alloc)?;
+    check_after_code(module, &context)
 }
 
 /// Each row has what a module has beside the first parts, and the fault that it answers.

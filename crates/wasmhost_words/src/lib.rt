@@ -1,0 +1,140 @@
+//! The command line: words in, an order out.
+#![tactic(auto)]
+
+ghost use Rattle.std.specs.Prelude.{◌≡◌, ◌≤◌, IfOk, IfSome, true, false, codes};
+ghost use Rattle.clap.specs.declared.builder.command.Command.TheViews.{out-Command};
+ghost use Rattle.wasmhost_words.specs.Commands.{IsLocal, IsMet, IsRead, name_of};
+
+use clap::error::ErrorKind;
+use clap::{Arg, ArgAction, ArgMatches, Command, Error};
+use std::alloc::{AllocError, Global};
+use std::convert::AsStr;
+use thiserror::Error as FaultText;
+
+#[cfg(test)]
+mod tests;
+
+/// A command with its options, borrowed from the words.
+#[derive(Debug, Drop)]
+pub enum Order<'a> {
+    /// Says whether the module in this file is accepted.
+    Check { path: &'a str },
+}
+
+/// Why the words give no order.
+#[derive(Debug, Drop, FaultText)]
+pub enum WordsFault {
+    /// The words are wrong, or ask for help: what to print.
+    #[error("{0}")]
+    Words(Error),
+    #[error("failed N4 Memory")]
+    Memory,
+}
+
+impl WordsFault {
+    /// The exit status: help is done, a mistake is 2, and want of memory 5.
+    pub fn status(&self) -> u8
+        ensures { result ≤ 5 }
+    {
+        match self {
+            WordsFault::Words(error) if error.use_stderr() => 2,
+            WordsFault::Words(_) => 0,
+            WordsFault::Memory => 5,
+        }
+    }
+}
+
+impl From<AllocError> for WordsFault {
+    fn from(_refused: AllocError) -> WordsFault {
+        WordsFault::Memory
+    }
+}
+
+impl From<Error> for WordsFault {
+    fn from(error: Error) -> WordsFault {
+        if error.kind() == ErrorKind::OutOfMemory {
+            return WordsFault::Memory;
+        }
+        WordsFault::Words(error)
+    }
+}
+
+/// A path that has to be given.
+fn path<'a>(alloc: Global, name: &'a str) -> Arg<'a>
+    ensures { result.global ≡ false }
+{
+    Arg::new(alloc, name).required(true).action(ArgAction::Set)
+}
+
+fn with<'a>(command: Command<'a>, arg: Arg<'a>) -> Result<Command<'a>, AllocError>
+    requires command_local { IsLocal command }
+    requires arg_local { arg.global ≡ false }
+    ensures { IfOk result IsLocal }
+{
+    command.arg(arg)
+}
+
+fn below<'a>(command: Command<'a>, inner: Command<'a>) -> Result<Command<'a>, AllocError>
+    requires command_local { IsLocal command }
+    requires inner_local { IsLocal inner }
+    ensures { IfOk result IsLocal }
+{
+    command.subcommand(inner)
+}
+
+fn named<'a>(alloc: Global, name: &'a str, about: &'a str) -> Command<'a>
+    ensures { IsLocal result }
+{
+    Command::new(alloc, name).about(about)
+}
+
+fn check_command<'a>(alloc: Global) -> Result<Command<'a>, AllocError>
+    ensures { IfOk result IsLocal }
+{
+    let command = named(alloc, "check", "Say whether a module is accepted");
+    with(command, path(alloc, "MODULE"))
+}
+
+fn command<'a>(alloc: Global) -> Result<Command<'a>, AllocError>
+    ensures { IfOk result (λ c. IsLocal c × ((out-Command c).subcommand_required ≡ true)) }
+{
+    let whole = named(alloc, "wasmhost", "Durable WebAssembly workers");
+    let whole = below(whole, check_command(alloc)?)?;
+    Ok(whole.subcommand_required(true))
+}
+
+fn order_of<'a>(name: &str, matches: &ArgMatches<'a>) -> Option<Order<'a>>
+    ensures { IfSome result (λ order. name_of order ≡ name.now) }
+{
+    match name {
+        "check" => matches.get_str("MODULE").map(|path| Order::Check { path }),
+        _ => None,
+    }
+}
+
+/// The matches of a command line: where it is read, a command is there.
+fn matches_of<'a, S: AsStr>(alloc: Global, words: &'a [S]) -> Result<ArgMatches<'a>, WordsFault>
+    ensures { IfOk result IsRead }
+{
+    let matches = command(alloc)?.try_get_matches_from(words)?;
+    Ok(matches)
+}
+
+/// Reads the words of a command line, of which the first is the program's name.
+pub fn read_words<'a, S: AsStr>(alloc: Global, words: &'a [S]) -> Result<Order<'a>, WordsFault>
+    ensures { IfOk result IsMet }
+{
+    let matches = matches_of(alloc, words)?;
+    let Some((name, inner)) = matches.subcommand() else {
+        unreachable!()
+    };
+    match order_of(name, inner) {
+        Some(order) => Ok(order),
+        None => Err(missing(alloc)?),
+    }
+}
+
+fn missing(alloc: Global) -> Result<WordsFault, AllocError> {
+    let error = command(alloc)?.error(ErrorKind::MissingSubcommand, "a command is missing")?;
+    Ok(WordsFault::Words(error))
+}

@@ -1,0 +1,30 @@
+//! Command lines and what is said of them.
+
+use crate::{Order, WordsFault, read_words};
+use std::test::Fail;
+
+#[test]
+fn reads_check(rt: HostRuntime) -> Result<(), Fail> {
+    match read_words(rt.alloc(), &["wasmhost", "check", "/dev/null"])? {
+        Order::Check { path } => assert_eq!(rt; path, "/dev/null"),
+    }
+    Ok(())
+}
+
+fn status_of(read: Result<Order<'_>, WordsFault>) -> u8 {
+    match read {
+        Ok(_order) => 0,
+        Err(fault) => fault.status(),
+    }
+}
+
+#[test]
+fn tells_mistakes_from_help(rt: HostRuntime) -> Result<(), Fail> {
+    let alloc = rt.alloc();
+    assert_eq!(rt; status_of(read_words(alloc, &["wasmhost"])), 2);
+    assert_eq!(rt; status_of(read_words(alloc, &["wasmhost", "rum"])), 2);
+    assert_eq!(rt; status_of(read_words(alloc, &["wasmhost", "check"])), 2);
+    assert_eq!(rt; status_of(read_words(alloc, &["wasmhost", "check", "a", "b"])), 2);
+    assert_eq!(rt; status_of(read_words(alloc, &["wasmhost", "--help"])), 0);
+    Ok(())
+}
