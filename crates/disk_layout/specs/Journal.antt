@@ -1,17 +1,13 @@
 -- Records, and the sectors of the journal (this project's own), version 1.
 use Rattle.std.specs.Prelude.{ℕ, zero, suc, ◌+◌, ◌-◌, nat_le, nat_lt, ◌==◌, ◌&&◌, if◌then◌else◌, Bool, true, false, List, [], ◌∷◌, ◌++◌, length, drop, Option, Some, None, option_map}
 use Rattle.guest_memory.specs.Bytes.{number_of, part}
+pub use Rattle.disk_layout.specs.declared.record.Record.{Record}
 use Rattle.wasi_abi.specs.declared.answer.Answer.{Answer}
 use Rattle.wasi_abi.specs.declared.answer.Answer.TheVariants as answer
 use Rattle.wasi_abi.specs.Layouts.{u16_bytes, u64_bytes, padding}
 use Rattle.sector_disk.specs.Image.{Image, sector_at}
 use Rattle.disk_layout.specs.Places.{Geometry, journal_place}
 use Rattle.disk_layout.specs.Sectors.{stamp_bytes, shown_generation}
-
--- an answer, and the count of steps after the call that it answered
-pub record Record : Type 0 where
-  pub step : ℕ
-  pub answer : Answer
 
 abbrev pub kind_number : Answer → ℕ
 kind_number (answer.Request text) = 1

@@ -1,4 +1,5 @@
 pub mod Places
 pub mod Sectors
 pub mod Journal
+pub mod Laws
 pub mod Examples

@@ -2,6 +2,7 @@
 use Rattle.std.specs.Prelude.{ℕ, ◌+◌, ◌-◌, ◌*◌, ◌/◌, ◌%◌, List, ◌++◌, length}
 use Rattle.std.specs.List.{flat_map}
 use Rattle.wasi_abi.specs.Configs.{Settings}
+pub use Rattle.disk_layout.specs.declared.geometry.Geometry.{Geometry}
 use Rattle.wasi_abi.specs.Layouts.{u16_bytes, u32_bytes}
 
 abbrev pub sector_size : ℕ
@@ -21,14 +22,6 @@ config_bytes c =
     u32_bytes c.pages ++ (u32_bytes c.files ++ (u32_bytes c.journal ++ (texts_bytes c.arguments ++ texts_bytes c.environment)))
 
 -- ---- the geometry
-
--- the lengths of configuration and module in bytes, and of their part, of an area and of the journal in sectors
-pub record Geometry : Type 0 where
-  pub config : ℕ
-  pub wasm : ℕ
-  pub module_sectors : ℕ
-  pub area_sectors : ℕ
-  pub journal_sectors : ℕ
 
 abbrev pub rounded_up : ℕ → ℕ
 rounded_up bytes = (bytes + (sector_size - 1)) / sector_size

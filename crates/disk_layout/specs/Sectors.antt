@@ -3,6 +3,8 @@ use Rattle.std.specs.Prelude.{◌≡◌, ℕ, zero, suc, ◌+◌, ◌%◌, ◌<�
 use Rattle.sha2.specs.Sha256.{sha256}
 use Rattle.guest_memory.specs.Bytes.{number_of, part}
 use Rattle.wasi_abi.specs.Configs.{Settings}
+pub use Rattle.disk_layout.specs.declared.stamp.Stamp.{Stamp}
+pub use Rattle.disk_layout.specs.declared.head.Head.{Head}
 use Rattle.wasi_abi.specs.Layouts.{u32_bytes, u64_bytes, padding}
 use Rattle.sector_disk.specs.Image.{Image, sector_at}
 use Rattle.disk_layout.specs.Places.{Geometry, geometry_of, config_bytes, head_place, module_place, area_place}
@@ -45,11 +47,7 @@ pub record HasWorker (config : Settings) (wasm : List ℕ) (image : Image) : Typ
 
 -- ---- stamps
 
--- the last 16 bytes of a head or a journal sector: generation and place
-pub record Stamp : Type 0 where
-  pub generation : ℕ
-  pub place : ℕ
-
+-- generation and place, in the last 16 bytes of a head or a journal sector
 abbrev pub stamp_bytes : Stamp → List ℕ
 stamp_bytes s = u64_bytes s.generation ++ u64_bytes s.place
 
@@ -64,12 +62,6 @@ abbrev pub shown_generation : ℕ → List ℕ → ℕ
 shown_generation place sector = shown_at place (stamp_of sector)
 
 -- ---- heads
-
-pub record Head : Type 0 where
-  pub version : ℕ
-  pub length_in_bytes : ℕ
-  pub digest : List ℕ
-  pub generation : ℕ
 
 abbrev pub head_mark : List ℕ
 head_mark = codes "DWAREA.."

@@ -1,8 +1,15 @@
 //! Laws of the layout.
 
 ghost use Rattle.disk_layout.specs.Examples.{LayoutExamples};
+ghost use Rattle.disk_layout.specs.Laws.{ShowsEarlier, NeverNewer};
 
 /// Worked examples: sizes, a record, and a torn stamp.
 pub fn worked_examples()
     ensures { LayoutExamples }
+{}
+
+/// What a sector shows where a write of a later generation over it is torn.
+pub fn torn_stamps()
+    ensures earlier { ShowsEarlier }
+    ensures never_newer { NeverNewer }
 {}

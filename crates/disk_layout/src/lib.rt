@@ -1,4 +1,16 @@
-//! Where a worker's things lie on a disk, as definitions in `specs/`.
+//! Where a worker's things lie on a disk, and the sectors that have fields.
 #![tactic(auto)]
 
+mod fault;
+mod fields;
+mod geometry;
+mod head;
 pub mod laws;
+mod record;
+mod stamp;
+
+pub use fault::LayoutFault;
+pub use geometry::Geometry;
+pub use head::Head;
+pub use record::Record;
+pub use stamp::Stamp;

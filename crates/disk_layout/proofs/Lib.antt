@@ -1,0 +1,3 @@
+mod FieldLemmas
+mod TextLemmas
+pub mod StampLemmas

@@ -1,0 +1,30 @@
+-- Laws of the sectors with stamps (this project's own).
+use Rattle.std.specs.Prelude.{◌≡◌, ◌⊎◌, ℕ, ◌+◌, ◌%◌, ◌<◌, ◌≤◌, List, length, take}
+use Rattle.std.specs.List.{AllByRecursion}
+use Rattle.guest_memory.specs.Bytes.{IsByte}
+use Rattle.sector_disk.specs.Image.{front_over}
+use Rattle.disk_layout.specs.Sectors.{stamp_of, shown_generation}
+
+-- a write of the sector `new`, of generation h at this place, over one that shows an earlier generation there, of which a front was left
+pub record IsTornStamp (place h : ℕ) (old new : List ℕ) (front : ℕ) : Type 0 where
+  pub full : length old ≡ 512
+  pub new_full : length new ≡ 512
+  pub bytes : AllByRecursion IsByte new
+  pub stamped : (stamp_of new).place ≡ place
+  pub generation : (stamp_of new).generation ≡ h
+  pub later : shown_generation place old < h
+  pub within : front ≤ 512
+
+-- The sector then shows an earlier generation, or it shows the new one, and all that isn't its stamp is the new one's.
+abbrev pub ShowsEarlier : Type 0
+ShowsEarlier = (place h : ℕ) (old new : List ℕ) (front : ℕ) → IsTornStamp place h old new front
+    → (shown_generation place (front_over front new old) < h)
+    ⊎ ((shown_generation place (front_over front new old) ≡ h) × (take 496 (front_over front new old) ≡ take 496 new))
+
+-- Over bytes it shows what it showed, or a generation of the same parity as the new one that is less by 2 at least, or it
+-- is the new sector, byte for byte.
+abbrev pub NeverNewer : Type 0
+NeverNewer = (place h : ℕ) (old new : List ℕ) (front : ℕ) → IsTornStamp place h old new front → AllByRecursion IsByte old
+    → (shown_generation place (front_over front new old) ≡ shown_generation place old)
+    ⊎ (((shown_generation place (front_over front new old) % 2 ≡ h % 2) × (shown_generation place (front_over front new old) + 2 ≤ h))
+    ⊎ (front_over front new old ≡ new))
