@@ -5,6 +5,7 @@ use Rattle.guest_memory.specs.Bytes.{number_of, part}
 use Rattle.wasi_abi.specs.Configs.{Settings}
 pub use Rattle.disk_layout.specs.declared.stamp.Stamp.{Stamp}
 pub use Rattle.disk_layout.specs.declared.head.Head.{Head}
+pub use Rattle.disk_layout.specs.declared.superblock.Super.{Super}
 use Rattle.wasi_abi.specs.Layouts.{u32_bytes, u64_bytes, padding}
 use Rattle.sector_disk.specs.Image.{Image, sector_at}
 use Rattle.disk_layout.specs.Places.{Geometry, geometry_of, config_bytes, head_place, module_place, area_place}
@@ -36,9 +37,28 @@ super_bytes g digest =
     ++ (u32_bytes g.journal_sectors ++ (digest ++ (padding 440 ++ super_end_mark))))))))
 
 -- both marks of the super are there
-pub record HasMarks (image : Image) : Type 0 where
-  pub first : take 8 (sector_at image 0) ≡ super_mark
-  pub last : drop 504 (sector_at image 0) ≡ super_end_mark
+pub record IsMarked (sector : List ℕ) : Type 0 where
+  pub first : take 8 sector ≡ super_mark
+  pub last : part sector 504 8 ≡ super_end_mark
+
+abbrev pub HasMarks : Image → Type 0
+HasMarks image = IsMarked (sector_at image 0)
+
+-- the fields that a sector holds at their places
+abbrev pub super_layout : List ℕ → ℕ
+super_layout sector = number_of (part sector 8 4)
+
+abbrev pub super_of : List ℕ → Super
+super_of sector = record {
+  geometry = record {
+    config = number_of (part sector 12 4);
+    wasm = number_of (part sector 16 4);
+    module_sectors = number_of (part sector 20 4);
+    area_sectors = number_of (part sector 24 4);
+    journal_sectors = number_of (part sector 28 4);
+  };
+  digest = part sector 32 32;
+}
 
 -- the super of this configuration and module, and the two behind the heads
 pub record HasWorker (config : Settings) (wasm : List ℕ) (image : Image) : Type 0 where

@@ -1,7 +1,7 @@
 //! Laws of the layout.
 
 ghost use Rattle.disk_layout.specs.Examples.{LayoutExamples};
-ghost use Rattle.disk_layout.specs.Laws.{ShowsEarlier, NeverNewer};
+ghost use Rattle.disk_layout.specs.Laws.{ShowsEarlier, NeverNewer, ReadsWhatIsWritten};
 
 /// Worked examples: sizes, a record, and a torn stamp.
 pub fn worked_examples()
@@ -12,4 +12,9 @@ pub fn worked_examples()
 pub fn torn_stamps()
     ensures earlier { ShowsEarlier }
     ensures never_newer { NeverNewer }
+{}
+
+/// The fields that are read of stamps, heads and supers are those that were written.
+pub fn fields_are_read_back()
+    ensures { ReadsWhatIsWritten }
 {}

@@ -8,9 +8,11 @@ mod head;
 pub mod laws;
 mod record;
 mod stamp;
+mod superblock;
 
 pub use fault::LayoutFault;
 pub use geometry::Geometry;
 pub use head::Head;
 pub use record::Record;
 pub use stamp::Stamp;
+pub use superblock::Super;
