@@ -1,3 +1,4 @@
 mod FieldLemmas
 mod TextLemmas
+pub mod ReadLemmas
 pub mod StampLemmas

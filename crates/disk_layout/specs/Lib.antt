@@ -2,4 +2,5 @@ pub mod Places
 pub mod Sectors
 pub mod Journal
 pub mod Laws
+pub mod Stored
 pub mod Examples

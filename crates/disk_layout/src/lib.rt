@@ -8,6 +8,7 @@ mod head;
 pub mod laws;
 mod record;
 mod stamp;
+mod stored;
 mod superblock;
 
 pub use fault::LayoutFault;
@@ -15,4 +16,5 @@ pub use geometry::Geometry;
 pub use head::Head;
 pub use record::Record;
 pub use stamp::Stamp;
+pub use stored::{Stored, digest_of, read_super, write_super};
 pub use superblock::Super;

@@ -1,7 +1,8 @@
 // The super, in sector 0.
 
-ghost use Rattle.std.specs.Prelude.{◌≡◌, ◌≢◌, ◌↔◌, IsTrue, IsOk, IfOk};
-ghost use Rattle.disk_layout.specs.Sectors.{super_bytes, super_of, super_layout, IsMarked};
+ghost use Rattle.std.specs.Prelude.{◌≡◌, ◌↔◌, IsTrue};
+ghost use Rattle.disk_layout.specs.Sectors.{super_bytes, super_of, IsMarked};
+ghost use Rattle.disk_layout.specs.Stored.{ReadsSuper};
 
 use crate::fault::LayoutFault;
 use crate::fields::{digest_from, put, put_u32, u32_from};
@@ -41,10 +42,7 @@ impl Super {
     /// The fields that a sector holds. It fails where a mark is missing (`NotAWorker`), and where the
     /// layout is none that is known (`Version`). Zeros are not looked at.
     pub fn read(sector: &[u8; 512]) -> Result<Super, LayoutFault>
-        ensures ok { IsOk result ↔ (IsMarked sector.now × (super_layout sector.now ≡ 1)) }
-        ensures fields { IfOk result (λ s. s ≡ super_of sector.now) }
-        ensures not_a_worker { (result ≡ Err LayoutFault.NotAWorker) ↔ (¬ IsMarked sector.now) }
-        ensures version { (result ≡ Err LayoutFault.Version) ↔ (IsMarked sector.now × (super_layout sector.now ≢ 1)) }
+        ensures { ReadsSuper sector.now result }
     {
         if !is_marked(sector) {
             return Err(LayoutFault::NotAWorker);

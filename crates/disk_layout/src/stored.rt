@@ -1,0 +1,153 @@
+// The super on a disk, and the configuration and the module that it leads to.
+
+ghost use Rattle.std.specs.Prelude.{◌≡◌, ◌⊎◌, ◌↔◌, ◌+◌, ◌*◌, ◌<◌, ◌≤◌, ◌++◌, ℕ, [], ◌∷◌, length, take, IsTrue, IfOk, IfErr, OnOk, IsErr};
+ghost use Rattle.sha2.specs.Sha256.{sha256};
+ghost use Rattle.sector_disk.specs.Image.{Image};
+ghost use Rattle.sector_disk.specs.Medium.{LeavesOnly, After, Follows, IsSettled, spare};
+ghost use Rattle.sector_disk.specs.Run.{IsTornRun, IsWrittenRun};
+ghost use Rattle.disk_layout.specs.Sectors.{bytes_from, super_bytes};
+ghost use Rattle.disk_layout.specs.Stored.{OnlyReads, IsConsistent, Checks, Splits, Finds};
+
+use crate::fault::LayoutFault;
+use crate::geometry::{Geometry, sectors_of};
+use crate::superblock::Super;
+use sector_disk::{Disk, DiskFault, store_run};
+use sha2::{Digest, Sha256};
+use std::alloc::Global;
+use wasm_syntax::Row;
+
+const MODULE_PLACE: u64 = 3;
+
+/// What the super of a disk leads to: the bytes of the configuration and of the module.
+#[derive(Debug, Drop)]
+pub struct Stored {
+    pub geometry: Geometry,
+    pub config: Row<u8>,
+    pub wasm: Row<u8>,
+}
+
+/// The SHA-256 of a configuration's bytes and a module's.
+pub fn digest_of(config: &[u8], wasm: &[u8]) -> [u8; 32]
+    ensures { result ≡ sha256 (config.now ++ wasm.now) }
+{
+    let mut hasher = Sha256::new();
+    hasher.update(config);
+    hasher.update(wasm);
+    hasher.finalize()
+}
+
+fn is_digest_of(digest: &[u8; 32], config: &[u8], wasm: &[u8]) -> bool
+    ensures { IsTrue result ↔ (digest.now ≡ sha256 (config.now ++ wasm.now)) }
+{
+    digest_of(config, wasm) == *digest
+}
+
+/// Writes the super and syncs.
+pub fn write_super<D: Disk>(disk: &mut D, contents: &Super) -> Result<(), DiskFault>
+    requires { 1 ≤ (D.medium disk.old).sectors }
+
+    // A cut at any moment leaves some front of it, and all other sectors as they were.
+    ensures any_moment { let sectors = super_bytes contents.now.geometry contents.now.digest ∷ [] in
+        LeavesOnly (D.medium disk.old) (D.medium disk.new) (After (IsTornRun 0 sectors 1) (D.medium disk.old).may_leave) }
+    ensures stored { let sectors = super_bytes contents.now.geometry contents.now.digest ∷ [] in
+        OnOk result (Follows (IsWrittenRun 0 sectors 1) (D.medium disk.old).shows (D.medium disk.new).may_leave) }
+    ensures settled { OnOk result (IsSettled (D.medium disk.new)) }
+    ensures cause { IsErr result → (spare (D.medium disk.old) < 1) ⊎ ((D.medium disk.old).faults < (D.medium disk.new).faults) }
+{
+    store_run(disk, 0, &[contents.sector()])
+}
+
+/// Reads the super, and the configuration and the module behind it. It fails where a mark of the super
+/// is missing (`NotAWorker`), where the layout is none that is known (`Version`), where the super's
+/// numbers disagree or the digest differs (`Damaged`), where the disk ends before the module does
+/// (`TooSmall`), and for want of memory.
+pub fn read_super<D: Disk>(alloc: Global, disk: &mut D) -> Result<Stored, LayoutFault>
+    ensures reads { OnlyReads (D.medium disk.old) (D.medium disk.new) }
+    ensures finds { (image : Image) → (D.medium disk.new).shows image → Finds (D.medium disk.old).sectors image result }
+    ensures cause { (fault : DiskFault) → result ≡ Err (LayoutFault.Disk fault) → (D.medium disk.old).faults < (D.medium disk.new).faults }
+{
+    let sectors = disk.sectors();
+    if sectors == 0 {
+        return Err(LayoutFault::NotAWorker);
+    }
+    let mut sector = [0; 512];
+    if let Err(fault) = disk.read(0, &mut sector) {
+        return Err(LayoutFault::Disk(fault));
+    }
+    let contents = check(&sector, sectors)?;
+    let bytes = read_sectors(alloc, disk, MODULE_PLACE, contents.geometry.module_sectors)?;
+    split(alloc, &contents, bytes.as_slice())
+}
+
+/// The super that a sector holds, if its numbers agree and the disk has room for what they name.
+fn check(sector: &[u8; 512], sectors: u64) -> Result<Super, LayoutFault>
+    ensures { Checks sectors sector.now result }
+{
+    let contents = Super::read(sector)?;
+    if !is_consistent(&contents.geometry) {
+        return Err(LayoutFault::Damaged);
+    }
+    if MODULE_PLACE + u64::from(contents.geometry.module_sectors) > sectors {
+        return Err(LayoutFault::TooSmall);
+    }
+    Ok(contents)
+}
+
+fn is_consistent(geometry: &Geometry) -> bool
+    ensures { IsTrue result ↔ IsConsistent geometry.now }
+{
+    let bytes = u64::from(geometry.config) + u64::from(geometry.wasm);
+    u64::from(geometry.module_sectors) == sectors_of(bytes)
+}
+
+/// The bytes of so many sectors.
+fn read_sectors<D: Disk>(
+    alloc: Global,
+    disk: &mut D,
+    at: u64,
+    count: u32,
+) -> Result<Vec<u8>, LayoutFault>
+    requires { at + count ≤ (D.medium disk.old).sectors }
+    ensures reads { OnlyReads (D.medium disk.old) (D.medium disk.new) }
+    ensures bytes { IfOk result (λ v. (image : Image) → (D.medium disk.new).shows image → v.items ≡ bytes_from image at count) }
+    ensures len { IfOk result (λ v. length v.items ≡ 512 * count) }
+    ensures cause { (fault : DiskFault) → result ≡ Err (LayoutFault.Disk fault) → (D.medium disk.old).faults < (D.medium disk.new).faults }
+    ensures kind { IfErr result (λ e. e ≡ LayoutFault.Memory ⊎ ((fault : DiskFault) × (e ≡ LayoutFault.Disk fault))) }
+{
+    let mut bytes = Vec::new(alloc);
+    let mut sector = [0; 512];
+    for i in 0..u64::from(count) {
+        if let Err(fault) = disk.read(at + i, &mut sector) {
+            return Err(LayoutFault::Disk(fault));
+        }
+        let Ok(()) = bytes.extend_from_slice(&sector) else {
+            return Err(LayoutFault::Memory);
+        };
+    }
+    Ok(bytes)
+}
+
+/// Configuration and module, if their digest is the super's.
+fn split(alloc: Global, contents: &Super, bytes: &[u8]) -> Result<Stored, LayoutFault>
+    requires { contents.now.geometry.config + contents.now.geometry.wasm ≤ length bytes.now }
+    ensures { Splits contents.now bytes.now result }
+{
+    let config_len = contents.geometry.config as usize;
+    let end = config_len + contents.geometry.wasm as usize;
+    let config = &bytes[..config_len];
+    let wasm = &bytes[config_len..end];
+    if !is_digest_of(&contents.digest, config, wasm) {
+        return Err(LayoutFault::Damaged);
+    }
+    let Ok(config) = Vec::from_slice(alloc, config) else {
+        return Err(LayoutFault::Memory);
+    };
+    let Ok(wasm) = Vec::from_slice(alloc, wasm) else {
+        return Err(LayoutFault::Memory);
+    };
+    Ok(Stored {
+        geometry: contents.geometry,
+        config: Row::from_vec(config),
+        wasm: Row::from_vec(wasm),
+    })
+}
