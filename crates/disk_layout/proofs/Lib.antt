@@ -1,4 +1,5 @@
-mod FieldLemmas
+pub mod FieldLemmas
 mod TextLemmas
 pub mod ReadLemmas
 pub mod StampLemmas
+pub mod JournalLemmas

@@ -38,7 +38,7 @@ all_drop zero a all = all
 all_drop (suc n) [] all = tt
 all_drop (suc n) (x ∷ a) all = all_drop n a all.1
 
-all_append : (a b : List ℕ) → AllByRecursion IsByte a → AllByRecursion IsByte b → AllByRecursion IsByte (a ++ b)
+pub all_append : (a b : List ℕ) → AllByRecursion IsByte a → AllByRecursion IsByte b → AllByRecursion IsByte (a ++ b)
 all_append [] b one two = two
 all_append (x ∷ a) b one two = (one.0, all_append a b one.1 two)
 
@@ -144,10 +144,10 @@ front_before n k p s t u le one two =
 pub length-front : (n k : ℕ) (b a : List ℕ) → k ≤ n → length b ≡ n → length a ≡ n → length (front_over k b a) ≡ n
 length-front n k b a le one two = omega (arith, length-append (take k b) (drop k a), length-take-le k b (let l : k ≤ length b = omega arith in l), length-drop k a)
 
-shows_there : (place found generation : ℕ) → found ≡ place → cond-of found place generation ≡ generation
+pub shows_there : (place found generation : ℕ) → found ≡ place → cond-of found place generation ≡ generation
 shows_there place found generation e = cond-true (eqb found place) generation 0 (eq-eqb found place e)
 
-shows_none : (place found generation : ℕ) → (found ≡ place → ⊥) → cond-of found place generation ≡ 0
+pub shows_none : (place found generation : ℕ) → (found ≡ place → ⊥) → cond-of found place generation ≡ 0
 shows_none place found generation ne = cond-false (eqb found place) generation 0 (ne_eqb found place ne)
 
 -- the three kinds of a torn sector: the stamp is the older one, its generation is mixed, or its place is

@@ -13,6 +13,13 @@ pub(crate) fn put(bytes: &mut [u8], at: usize, field: &[u8])
     bytes[at..at + field.len()].copy_from_slice(field);
 }
 
+pub(crate) fn put_u16(bytes: &mut [u8], at: usize, number: u16)
+    requires { at + 2 ≤ length bytes.old }
+    ensures { bytes.new ≡ with_part bytes.old at (u16_bytes number) }
+{
+    LittleEndian::write_u16(&mut bytes[at..], number);
+}
+
 pub(crate) fn put_u32(bytes: &mut [u8], at: usize, number: u32)
     requires { at + 4 ≤ length bytes.old }
     ensures { bytes.new ≡ with_part bytes.old at (u32_bytes number) }
