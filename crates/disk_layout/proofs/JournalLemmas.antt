@@ -1,6 +1,6 @@
 -- The sectors of the journal, whole and torn.
 use Rattle.std.proofs.Common.{◌≡◌, ◌⊎◌, ℕ, zero, suc, ◌+◌, ◌-◌, ◌/◌, ◌%◌, ◌^◌, ◌<◌, ◌≤◌, Bool, true, false, ◌&&◌, ltb, leb, eqb, IsTrue, List, [], ◌∷◌, ◌++◌, length, take, drop, replicate, refl, sym, ap, ◌∙◌, subst, inl, inr, ⊎_elim, arith, length-append, length-drop, append_assoc}
-use Rattle.std.proofs.lemmas.Bool.{cases_lt, cases_eq, ltb-true, lt-ltb, leb-true, le-leb, eq-eqb, ne_eqb}
+use Rattle.std.proofs.lemmas.Bool.{cases_lt, cases_eq, ltb-true, lt-ltb, leb-true, le-leb, eq-eqb, ne_eqb, eqb-true}
 use Rattle.std.proofs.lemmas.List.{take-append-le, drop-append-le, take_at, drop_at, take_all, drop-drop, length-take-le, take-take, drop-take, take-replicate, drop-replicate, length-replicate}
 use Rattle.std.proofs.Math.Seq.{take-append-add}
 use Rattle.std.specs.List.{AllByRecursion}
@@ -68,6 +68,16 @@ is_of_true g place sector is =
 pub is_of_other : (g place : ℕ) (sector : List ℕ) → (shown_generation place sector ≡ g → ⊥) → is_of g place sector ≡ false
 is_of_other g place sector ne = ap (λ (b : Bool). b && ltb 0 (used_length sector) && leb (used_length sector) 494) (ne_eqb (shown_generation place sector) g ne)
 
+pub is_of_means : (g place : ℕ) (sector : List ℕ) → is_of g place sector ≡ true → IsOf g place sector
+is_of_means g place sector e =
+    let outer = both_parts (eqb (shown_generation place sector) g && ltb 0 (used_length sector)) (leb (used_length sector) 494) e in
+    let inner = both_parts (eqb (shown_generation place sector) g) (ltb 0 (used_length sector)) outer.0 in
+    record { shows = eqb-true (shown_generation place sector) g inner.0; some = ltb-true 0 (used_length sector) inner.1; most = leb-true (used_length sector) 494 outer.1 }
+  where
+    both_parts : (a b : Bool) → (a && b) ≡ true → (a ≡ true) × (b ≡ true)
+    both_parts true b e = (refl, e)
+    both_parts false b e = absurd (cc)
+
 -- the used length and the payload stand before the stamp
 pub same_used : (s t : List ℕ) → take 496 s ≡ take 496 t → used_length s ≡ used_length t
 same_used s t e = ap (λ l. number_of l) (sym (take-take 2 496 s (omega arith)) ∙ ap (λ l. take 2 l) e ∙ take-take 2 496 t (omega arith))
@@ -102,7 +112,7 @@ pub record IsNewSector (g place : ℕ) (payload : List ℕ) : Type 0 where
   pub generation : g < 2 ^ 64
   pub fits : place < 2 ^ 64
 
-bytes_of-bytes : (n x : ℕ) → AllByRecursion IsByte (bytes_of n x)
+pub bytes_of-bytes : (n x : ℕ) → AllByRecursion IsByte (bytes_of n x)
 bytes_of-bytes zero x = tt
 bytes_of-bytes (suc n) x = (let small : x % 256 < 256 = omega arith in small, bytes_of-bytes n (x / 256))
 

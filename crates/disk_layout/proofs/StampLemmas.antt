@@ -28,12 +28,12 @@ number_of-lt (x ∷ a) all =
     let power : 256 ^ suc (length a) ≡ 256 ^ length a * 256 = pow-suc 256 (length a) in
     rw power (omega arith)
 
-all_take : (n : ℕ) (a : List ℕ) → AllByRecursion IsByte a → AllByRecursion IsByte (take n a)
+pub all_take : (n : ℕ) (a : List ℕ) → AllByRecursion IsByte a → AllByRecursion IsByte (take n a)
 all_take zero a all = tt
 all_take (suc n) [] all = tt
 all_take (suc n) (x ∷ a) all = (all.0, all_take n a all.1)
 
-all_drop : (n : ℕ) (a : List ℕ) → AllByRecursion IsByte a → AllByRecursion IsByte (drop n a)
+pub all_drop : (n : ℕ) (a : List ℕ) → AllByRecursion IsByte a → AllByRecursion IsByte (drop n a)
 all_drop zero a all = all
 all_drop (suc n) [] all = tt
 all_drop (suc n) (x ∷ a) all = all_drop n a all.1

@@ -1,13 +1,17 @@
 -- Records, and the sectors of the journal (this project's own), version 1.
 use Rattle.std.specs.Prelude.{ℕ, zero, suc, ◌+◌, ◌-◌, nat_le, nat_lt, ◌==◌, ◌&&◌, if◌then◌else◌, Bool, true, false, List, [], ◌∷◌, ◌++◌, length, drop, Option, Some, None, option_map}
 use Rattle.guest_memory.specs.Bytes.{number_of, part}
-pub use Rattle.disk_layout.specs.declared.record.Record.{Record}
+use Rattle.disk_layout.specs.declared.record.Record.{Record as DeclaredRecord}
 use Rattle.wasi_abi.specs.declared.answer.Answer.{Answer}
 use Rattle.wasi_abi.specs.declared.answer.Answer.TheVariants as answer
 use Rattle.wasi_abi.specs.Layouts.{u16_bytes, u64_bytes, padding}
 use Rattle.sector_disk.specs.Image.{Image, sector_at}
 use Rattle.disk_layout.specs.Places.{Geometry, journal_place}
 use Rattle.disk_layout.specs.Sectors.{stamp_bytes, shown_generation}
+
+-- a step, and the answer that it took
+abbrev pub Record : Type 0
+Record = DeclaredRecord
 
 abbrev pub kind_number : Answer → ℕ
 kind_number (answer.Request text) = 1
@@ -59,14 +63,15 @@ record_at limit (kind ∷ bytes) =
     then option_map (λ a. record { step = number_of (part bytes 0 8); answer = a }) (answer_of limit kind (part (kind ∷ bytes) record_head (payload_length (kind ∷ bytes))))
     else None
 
+-- a record, if there is one, before the others
+abbrev pub with_first : Option Record → List Record → List Record
+with_first None others = []
+with_first (Some r) others = r ∷ others
+
 -- the records at the front, until one is cut or not well formed; so many at most
 abbrev pub records_at : ℕ → ℕ → List ℕ → List Record
 records_at limit zero bytes = []
-records_at limit (suc n) bytes = more (record_at limit bytes) (records_at limit n (drop (record_head + payload_length bytes) bytes))
-  where
-    more : Option Record → List Record → List Record
-    more None others = []
-    more (Some r) others = r ∷ others
+records_at limit (suc n) bytes = with_first (record_at limit bytes) (records_at limit n (drop (record_head + payload_length bytes) bytes))
 
 -- ---- the sectors of the journal
 

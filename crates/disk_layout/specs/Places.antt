@@ -2,8 +2,12 @@
 use Rattle.std.specs.Prelude.{ℕ, ◌+◌, ◌-◌, ◌*◌, ◌/◌, ◌%◌, List, ◌++◌, length}
 use Rattle.std.specs.List.{flat_map}
 use Rattle.wasi_abi.specs.Configs.{Settings}
-pub use Rattle.disk_layout.specs.declared.geometry.Geometry.{Geometry}
+use Rattle.disk_layout.specs.declared.geometry.Geometry.{Geometry as DeclaredGeometry}
 use Rattle.wasi_abi.specs.Layouts.{u16_bytes, u32_bytes}
+
+-- where things lie: lengths in bytes, and parts in sectors
+abbrev pub Geometry : Type 0
+Geometry = DeclaredGeometry
 
 abbrev pub sector_size : ℕ
 sector_size = 512

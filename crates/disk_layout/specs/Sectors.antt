@@ -3,12 +3,24 @@ use Rattle.std.specs.Prelude.{◌≡◌, ℕ, zero, suc, ◌+◌, ◌%◌, ◌<�
 use Rattle.sha2.specs.Sha256.{sha256}
 use Rattle.guest_memory.specs.Bytes.{number_of, part}
 use Rattle.wasi_abi.specs.Configs.{Settings}
-pub use Rattle.disk_layout.specs.declared.stamp.Stamp.{Stamp}
-pub use Rattle.disk_layout.specs.declared.head.Head.{Head}
-pub use Rattle.disk_layout.specs.declared.superblock.Super.{Super}
+use Rattle.disk_layout.specs.declared.stamp.Stamp.{Stamp as DeclaredStamp}
+use Rattle.disk_layout.specs.declared.head.Head.{Head as DeclaredHead}
+use Rattle.disk_layout.specs.declared.superblock.Super.{Super as DeclaredSuper}
 use Rattle.wasi_abi.specs.Layouts.{u32_bytes, u64_bytes, padding}
 use Rattle.sector_disk.specs.Image.{Image, sector_at}
 use Rattle.disk_layout.specs.Places.{Geometry, geometry_of, config_bytes, head_place, module_place, area_place}
+
+-- a generation and a place
+abbrev pub Stamp : Type 0
+Stamp = DeclaredStamp
+
+-- the fields of a head
+abbrev pub Head : Type 0
+Head = DeclaredHead
+
+-- a geometry and a digest
+abbrev pub Super : Type 0
+Super = DeclaredSuper
 
 -- ---- bytes over sectors
 

@@ -1,0 +1,4 @@
+pub mod PackedLemmas
+pub mod RunLemmas
+pub mod RecordLemmas
+mod BarrierLemmas

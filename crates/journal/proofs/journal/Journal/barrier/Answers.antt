@@ -1,0 +1,71 @@
+use Rattle.std.proofs.Common.{◌≡◌, ◌<◌, ◌≤◌, ◌+◌, ◌^◌, ℕ, List, length, arith, rules, sym, ap, ◌∙◌, subst}
+use Rattle.std.proofs.lemmas.Bool.{eqb-false}
+use Rattle.journal.specs.Packed.{sectors_for}
+use Rattle.journal.proofs.BarrierLemmas.{nothing_written, any_moment_at, durable_at, room_for}
+use Rattle.journal.proofs.journal.Journal.barrier.Goals as goal
+
+pub returns-then-self-clause-any_moment : goal.returns-then-self-clause-any_moment
+returns-then-self-clause-any_moment g c = λ records kept on.
+    nothing_written c.args.geometry.now c.args.self.now.generation c.args.self.now.used c.args.self.now.kept records kept (g.D.Disk.medium c.args.disk.now) on c.requires
+
+pub returns-then-is_empty-clause-any_moment : goal.returns-then-is_empty-clause-any_moment
+returns-then-is_empty-clause-any_moment g c = λ records kept on.
+    nothing_written c.args.geometry.now c.args.self.now.generation c.args.self.now.used c.args.self.now.kept records kept (g.D.Disk.medium c.args.disk.now) on c.requires
+
+pub returns-then-count-unwritten-clause-any_moment : goal.returns-then-count-unwritten-clause-any_moment
+returns-then-count-unwritten-clause-any_moment g c = λ records kept on.
+    nothing_written c.args.geometry.now c.args.self.now.generation c.args.self.now.used c.args.self.now.kept records kept (g.D.Disk.medium c.args.disk.now) on c.requires
+
+pub returns-in-Err-clause-any_moment : goal.returns-in-Err-clause-any_moment
+returns-in-Err-clause-any_moment g c = λ records kept on.
+    let old = g.D.Disk.medium c.args.disk.now in
+    let new = g.D.Disk.medium c.store_packed-stored.new.disk in
+    let s = c.args.self.now in
+    let geometry = c.args.geometry.now in
+    let view = c.self.view_is in
+    let bytes : c.as_slice.result.now ≡ s.kept = c.as_slice.ensures.value ∙ ap (λ x. x.kept) view in
+    let used : c.self.inside.used ≡ s.used = ap (λ x. x.used) view in
+    let len : c.len.result ≡ length s.kept = c.len.ensures ∙ sym c.as_slice.ensures.len ∙ ap length bytes in
+    let counted : c.sectors_for-count.result ≡ sectors_for (length s.kept) = c.sectors_for-count.ensures ∙ ap sectors_for len in
+    let some : length s.kept ≡ 0 → ⊥ = λ e. eqb-false _ _ (sym c.is_empty.ensures ∙ c.if-is_empty.false) (sym c.len.ensures ∙ len ∙ e) in
+    let room : s.used + sectors_for (length s.kept) ≤ geometry.journal_sectors =
+    room_for s.used geometry.journal_sectors (length s.kept) c.sectors_for-count.result counted some (let f = c.if-count-unwritten.false in let u = c.saturating_sub-unwritten.ensures in let j = c.from.ensures in omega arith) in
+    let bound : geometry.journal_sectors < 2 ^ 32 = search rules in
+    any_moment_at geometry s.generation s.used s.kept records kept old new c.journal_place.result c.self.inside.generation c.self.inside.used c.as_slice.result.now
+    c.journal_place.ensures (ap (λ x. x.generation) view) used bytes on c.requires room bound c.store_packed-stored.ensures.any_moment
+
+pub returns-clause-any_moment : goal.returns-clause-any_moment
+returns-clause-any_moment g c = λ records kept on.
+    let old = g.D.Disk.medium c.args.disk.now in
+    let new = g.D.Disk.medium c.store_packed-stored.new.disk in
+    let s = c.args.self.now in
+    let geometry = c.args.geometry.now in
+    let view = c.self.view_is in
+    let bytes : c.as_slice.result.now ≡ s.kept = c.as_slice.ensures.value ∙ ap (λ x. x.kept) view in
+    let used : c.self.inside.used ≡ s.used = ap (λ x. x.used) view in
+    let len : c.len.result ≡ length s.kept = c.len.ensures ∙ sym c.as_slice.ensures.len ∙ ap length bytes in
+    let counted : c.sectors_for-count.result ≡ sectors_for (length s.kept) = c.sectors_for-count.ensures ∙ ap sectors_for len in
+    let some : length s.kept ≡ 0 → ⊥ = λ e. eqb-false _ _ (sym c.is_empty.ensures ∙ c.if-is_empty.false) (sym c.len.ensures ∙ len ∙ e) in
+    let room : s.used + sectors_for (length s.kept) ≤ geometry.journal_sectors =
+    room_for s.used geometry.journal_sectors (length s.kept) c.sectors_for-count.result counted some (let f = c.if-count-unwritten.false in let u = c.saturating_sub-unwritten.ensures in let j = c.from.ensures in omega arith) in
+    let bound : geometry.journal_sectors < 2 ^ 32 = search rules in
+    any_moment_at geometry s.generation s.used s.kept records kept old new c.journal_place.result c.self.inside.generation c.self.inside.used c.as_slice.result.now
+    c.journal_place.ensures (ap (λ x. x.generation) view) used bytes on c.requires room bound c.store_packed-stored.ensures.any_moment
+
+pub returns-clause-durable : goal.returns-clause-durable
+returns-clause-durable g c = λ records kept on.
+    let old = g.D.Disk.medium c.args.disk.now in
+    let new = g.D.Disk.medium c.store_packed-stored.new.disk in
+    let s = c.args.self.now in
+    let geometry = c.args.geometry.now in
+    let view = c.self.view_is in
+    let bytes : c.as_slice.result.now ≡ s.kept = c.as_slice.ensures.value ∙ ap (λ x. x.kept) view in
+    let used : c.self.inside.used ≡ s.used = ap (λ x. x.used) view in
+    let len : c.len.result ≡ length s.kept = c.len.ensures ∙ sym c.as_slice.ensures.len ∙ ap length bytes in
+    let counted : c.sectors_for-count.result ≡ sectors_for (length s.kept) = c.sectors_for-count.ensures ∙ ap sectors_for len in
+    let some : length s.kept ≡ 0 → ⊥ = λ e. eqb-false _ _ (sym c.is_empty.ensures ∙ c.if-is_empty.false) (sym c.len.ensures ∙ len ∙ e) in
+    let room : s.used + sectors_for (length s.kept) ≤ geometry.journal_sectors =
+    room_for s.used geometry.journal_sectors (length s.kept) c.sectors_for-count.result counted some (let f = c.if-count-unwritten.false in let u = c.saturating_sub-unwritten.ensures in let j = c.from.ensures in omega arith) in
+    let bound : geometry.journal_sectors < 2 ^ 32 = search rules in
+    durable_at geometry s.generation s.used s.kept records kept old new c.journal_place.result c.self.inside.generation c.self.inside.used c.sectors_for-count.result c.as_slice.result.now
+    c.journal_place.ensures (ap (λ x. x.generation) view) used bytes counted on c.requires room bound c.in_default.ensures.stored

@@ -1,0 +1,79 @@
+use Rattle.std.proofs.Common.{◌≡◌, ◌<◌, ◌≤◌, ◌+◌, ◌*◌, ℕ, List, length, sym, ap, ◌∙◌, subst, arith, rules}
+use Rattle.std.proofs.lemmas.Result.{on_ok_weaker}
+use Rattle.sector_disk.specs.Image.{sector_at}
+use Rattle.sector_disk.specs.Medium.{Tears, Takes, BothFollow}
+use Rattle.sector_disk.specs.Run.{IsTornRun, IsWrittenRun}
+use Rattle.sector_disk.proofs.Moments.{shows_follow, settled_follows, goes_on, stays_left}
+use Rattle.sector_disk.proofs.RunLemmas.{both_tear, both_take, run_passes, run_leaves_only, left_longer}
+use Rattle.disk_layout.specs.Journal.{journal_sector}
+use Rattle.journal.specs.Packed.{packed, sectors_for}
+use Rattle.journal.proofs.PackedLemmas.{packed_at, part_lent}
+use Rattle.journal.proofs.store.store_packed.Goals as goal
+
+pub returns-in_err-write-clause-any_moment : goal.returns-in_err-write-clause-any_moment
+returns-in_err-write-clause-any_moment g c =
+    let i = c.loop-i.invariant in
+    let n = c.loop-i.i in
+    let old = g.D.Disk.medium c.args.disk.now in
+    let mid = g.D.Disk.medium c.loop-i.disk in
+    let new = g.D.Disk.medium c.write.new.self in
+    let count = sectors_for (length c.args.bytes.now) in
+    let batch = packed c.args.generation c.args.place count c.args.bytes.now in
+    let below : n < count = let e = c.sectors_for-count.ensures in let t = c.loop-i-test.true in omega arith in
+    let sector : c.journal_sector-sector.result ≡ sector_at batch n =
+    c.journal_sector-sector.ensures ∙ ap (λ (l : List ℕ). journal_sector c.args.generation (c.args.place + n) l) (part_lent c.args.bytes.now (494 * n) c.min-end.result c.min-end.ensures)
+    ∙ sym (packed_at c.args.generation c.args.place count c.args.bytes.now n below) in
+    let tears = subst (λ (s : List ℕ). Tears (c.args.at + n) s mid new) sector c.write.ensures.tears in
+    let inside : c.args.at + n < mid.sectors = let s = i.passes.sectors in let r = c.requires.room in omega arith in
+    let both = both_tear c.args.at batch n old mid new inside i.tears tears in
+    run_leaves_only c.args.at batch count old new (run_passes c.args.at batch (n + 1) count old mid new (omega arith) i.passes both c.write.ensures.passes)
+
+pub loop-i-preserved : goal.loop-i-preserved
+loop-i-preserved g c =
+    let i = c.loop-i.invariant in
+    let n = c.loop-i.i in
+    let old = g.D.Disk.medium c.args.disk.now in
+    let mid = g.D.Disk.medium c.loop-i.disk in
+    let new = g.D.Disk.medium c.write.new.self in
+    let count = sectors_for (length c.args.bytes.now) in
+    let batch = packed c.args.generation c.args.place count c.args.bytes.now in
+    let below : n < count = let e = c.sectors_for-count.ensures in let t = c.loop-i-test.true in omega arith in
+    let sector : c.journal_sector-sector.result ≡ sector_at batch n =
+    c.journal_sector-sector.ensures ∙ ap (λ (l : List ℕ). journal_sector c.args.generation (c.args.place + n) l) (part_lent c.args.bytes.now (494 * n) c.min-end.result c.min-end.ensures)
+    ∙ sym (packed_at c.args.generation c.args.place count c.args.bytes.now n below) in
+    let tears = subst (λ (s : List ℕ). Tears (c.args.at + n) s mid new) sector c.write.ensures.tears in
+    let inside : c.args.at + n < mid.sectors = let s = i.passes.sectors in let r = c.requires.room in omega arith in
+    let both = both_tear c.args.at batch n old mid new inside i.tears tears in
+    let takes = subst (λ (s : List ℕ). Takes (c.args.at + n) s mid new) sector c.in_ok-write.ensures.whole in
+    record {
+      whole = both_take c.args.at batch n old mid new inside i.whole takes;
+      tears = both;
+      unsynced = let u = tears.unsynced in omega (arith, i.unsynced);
+      passes = run_passes c.args.at batch (n + 1) count old mid new (omega arith) i.passes both c.write.ensures.passes;
+    }
+
+pub returns-clause-any_moment : goal.returns-clause-any_moment
+returns-clause-any_moment g c =
+    let i = c.loop-i.invariant in
+    let n = c.loop-i.i in
+    let old = g.D.Disk.medium c.args.disk.now in
+    let mid = g.D.Disk.medium c.loop-i.disk in
+    let new = g.D.Disk.medium c.sync.new.self in
+    let count = sectors_for (length c.args.bytes.now) in
+    let batch = packed c.args.generation c.args.place count c.args.bytes.now in
+    let within : n ≤ count = let e = c.sectors_for-count.ensures in let t = c.loop-i.auto.i-end in omega arith in
+    run_leaves_only c.args.at batch count old new
+    (goes_on old mid new _ _ i.passes c.sync.ensures.passes (λ image left. left_longer c.args.at batch n count old mid within i.tears image (stays_left mid new c.sync.ensures.stays image left)))
+
+pub returns-clause-stored : goal.returns-clause-stored
+returns-clause-stored g c =
+    let i = c.loop-i.invariant in
+    let n = c.loop-i.i in
+    let old = g.D.Disk.medium c.args.disk.now in
+    let mid = g.D.Disk.medium c.loop-i.disk in
+    let new = g.D.Disk.medium c.sync.new.self in
+    let count = sectors_for (length c.args.bytes.now) in
+    let batch = packed c.args.generation c.args.place count c.args.bytes.now in
+    let all : n ≡ count = let e = c.sectors_for-count.ensures in let t = c.loop-i.auto.i-end in let f = c.loop-i-test.false in omega arith in
+    let whole = subst (λ (k : ℕ). BothFollow (IsWrittenRun c.args.at batch k) (IsTornRun c.args.at batch k) old mid) all i.whole in
+    on_ok_weaker c.sync.result (λ settled. settled_follows old mid new _ settled c.sync.ensures.stays (shows_follow old mid _ _ whole)) c.sync.ensures.settles

@@ -1,0 +1,114 @@
+// The journal of a generation.
+ghost use Rattle.std.specs.Prelude.{◌≡◌, ◌↔◌, ◌⊎◌, ◌+◌, ◌<◌, ◌≤◌, ◌++◌, [], true, false, List, length, OnOk, OnErr, IsErrOf};
+ghost use Rattle.sector_disk.specs.Image.{Image};
+ghost use Rattle.sector_disk.specs.Medium.{LeavesOnly, After, IsSettled, spare};
+ghost use Rattle.disk_layout.specs.Places.{total_sectors};
+ghost use Rattle.disk_layout.specs.Journal.{Record};
+ghost use Rattle.journal.specs.State.{state, room_of};
+ghost use Rattle.journal.specs.Packed.{sectors_for};
+ghost use Rattle.journal.specs.Steps.{AppendsFront, Stands, IsOn};
+
+use crate::fault::JournalFault;
+use crate::store::{sectors_for, store_packed};
+use disk_layout::{Geometry, PAYLOAD_SIZE};
+use sector_disk::{Disk, DiskFault};
+use std::alloc::Global;
+use std::marker::Model;
+
+/// The records of one generation. Contracts see the generation, how many sectors are written in it, the
+/// bytes that only memory holds, and whether a call has failed.
+#[derive(Drop)]
+pub struct Journal {
+    generation: u64,
+    used: u64,
+    kept: Vec<u8>,
+    has_failed: bool,
+}
+
+impl Model for Journal {
+    ghost use Rattle.journal.specs.State.{State, state};
+
+    ghost Value = { State };
+
+    ghost view = { λ j. state j.generation j.used j.kept.items j.has_failed };
+}
+
+impl Journal {
+    /// Without a record. It takes no memory.
+    pub fn fresh(alloc: Global, generation: u64) -> Self
+        ensures { result ≡ state generation 0 [] false }
+    {
+        Journal {
+            generation,
+            used: 0,
+            kept: Vec::new(alloc),
+            has_failed: false,
+        }
+    }
+
+    pub fn generation(&self) -> u64
+        ensures { result ≡ self.now.generation }
+    {
+        self.generation
+    }
+
+    /// How many more bytes of records there is room for.
+    pub fn room(&self, geometry: &Geometry) -> usize
+        ensures { result ≡ room_of geometry.now self.now }
+    {
+        let unwritten = u64::from(geometry.journal_sectors).saturating_sub(self.used);
+        (PAYLOAD_SIZE * unwritten as usize).saturating_sub(self.kept.len())
+    }
+
+    /// Puts the records that only memory holds on the disk: into the next sectors, without gaps, one after
+    /// another, and then one sync. Without such records it leaves the disk alone.
+    pub fn barrier<D: Disk>(
+        &mut self,
+        disk: &mut D,
+        geometry: &Geometry,
+    ) -> Result<(), JournalFault>
+        requires { total_sectors geometry.now ≤ (D.medium disk.old).sectors }
+        ensures ok { OnOk result (self.new ≡ state self.old.generation (self.old.used + sectors_for (length self.old.kept)) [] false) }
+        ensures err { OnErr result (self.new ≡ state self.old.generation self.old.used self.old.kept true) }
+
+        // When each error comes.
+        ensures failed { (result ≡ Err JournalFault.Failed) ↔ (self.old.has_failed ≡ true) }
+        ensures full { result ≡ Err JournalFault.Full → geometry.now.journal_sectors < self.old.used + sectors_for (length self.old.kept) }
+        ensures cause { (fault : DiskFault) → result ≡ Err (JournalFault.Disk fault) → (spare (D.medium disk.old) < sectors_for (length self.old.kept)) ⊎ ((D.medium disk.old).faults < (D.medium disk.new).faults) }
+        ensures no_memory { IsErrOf result JournalFault.Memory → ⊥ }
+        ensures not_too_long { IsErrOf result JournalFault.TooLong → ⊥ }
+        ensures quiet { length self.old.kept ≡ 0 → disk.new ≡ disk.old }
+
+        // A cut at any moment leaves a front of the records that holds all that stood before, and nothing else is changed.
+        ensures any_moment { (records kept : List Record) → IsOn geometry.now self.old.generation self.old.used self.old.kept records kept (D.medium disk.old).may_leave →
+            LeavesOnly (D.medium disk.old) (D.medium disk.new) (After (AppendsFront geometry.now self.old.generation self.old.used records kept) (D.medium disk.old).may_leave) }
+
+        // Once it has answered Ok, each cut leaves all of them.
+        ensures durable { (records kept : List Record) → IsOn geometry.now self.old.generation self.old.used self.old.kept records kept (D.medium disk.old).may_leave →
+            OnOk result ((image : Image) → (D.medium disk.new).may_leave image → Stands geometry.now self.new.generation self.new.used (records ++ kept) image) }
+        ensures settled { OnOk result ((length self.old.kept ≡ 0) ⊎ IsSettled (D.medium disk.new)) }
+        ensures unsynced { (D.medium disk.new).unsynced ≤ (D.medium disk.old).unsynced + sectors_for (length self.old.kept) }
+    {
+        if self.has_failed {
+            return Err(JournalFault::Failed);
+        }
+        if self.kept.is_empty() {
+            return Ok(());
+        }
+        let count = sectors_for(self.kept.len()) as u64;
+        let unwritten = u64::from(geometry.journal_sectors).saturating_sub(self.used);
+        if count > unwritten {
+            self.has_failed = true;
+            return Err(JournalFault::Full);
+        }
+        let at = geometry.journal_place() + self.used;
+        let stored = store_packed(disk, at, self.generation, self.used + 1, self.kept.as_slice());
+        if let Err(fault) = stored {
+            self.has_failed = true;
+            return Err(JournalFault::Disk(fault));
+        }
+        self.used += count;
+        self.kept.clear();
+        Ok(())
+    }
+}

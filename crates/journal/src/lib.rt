@@ -1,0 +1,9 @@
+//! Outside answers on sectors: records that are appended, made durable by a barrier, and read after any cut.
+#![tactic(auto)]
+
+mod fault;
+mod journal;
+mod store;
+
+pub use fault::JournalFault;
+pub use journal::Journal;

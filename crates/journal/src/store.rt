@@ -1,0 +1,42 @@
+// Bytes on sectors of a journal.
+ghost use Rattle.std.specs.Prelude.{◌≡◌, ◌⊎◌, ◌+◌, ◌<◌, ◌≤◌, ◌^◌, length, OnOk, IsErr};
+ghost use Rattle.sector_disk.specs.Medium.{LeavesOnly, After, Follows, IsSettled, spare};
+ghost use Rattle.sector_disk.specs.Run.{IsTornRun, IsWrittenRun};
+ghost use Rattle.journal.specs.Packed.{packed, sectors_for};
+
+use disk_layout::{PAYLOAD_SIZE, journal_sector};
+use sector_disk::{Disk, DiskFault};
+
+/// How many sectors so many bytes take.
+pub(crate) fn sectors_for(bytes: usize) -> usize
+    ensures { result ≡ sectors_for bytes }
+{
+    bytes.div_ceil(PAYLOAD_SIZE)
+}
+
+/// Packs these bytes into sectors, the first of them at `at`, writes one after another, and syncs once.
+pub(crate) fn store_packed<D: Disk>(
+    disk: &mut D,
+    at: u64,
+    generation: u64,
+    place: u64,
+    bytes: &[u8],
+) -> Result<(), DiskFault>
+    requires few { length bytes.now ≤ 2 ^ 63 }
+    requires room { at + sectors_for (length bytes.now) ≤ (D.medium disk.old).sectors }
+    requires places { place + sectors_for (length bytes.now) < 2 ^ 64 }
+    ensures any_moment { LeavesOnly (D.medium disk.old) (D.medium disk.new) (After (IsTornRun at (packed generation place (sectors_for (length bytes.now)) bytes.now) (sectors_for (length bytes.now))) (D.medium disk.old).may_leave) }
+    ensures stored { OnOk result (Follows (IsWrittenRun at (packed generation place (sectors_for (length bytes.now)) bytes.now) (sectors_for (length bytes.now))) (D.medium disk.old).shows (D.medium disk.new).may_leave) }
+    ensures settled { OnOk result (IsSettled (D.medium disk.new)) }
+    ensures unsynced { (D.medium disk.new).unsynced ≤ (D.medium disk.old).unsynced + sectors_for (length bytes.now) }
+    ensures cause { IsErr result → (spare (D.medium disk.old) < sectors_for (length bytes.now)) ⊎ ((D.medium disk.old).faults < (D.medium disk.new).faults) }
+{
+    let count = sectors_for(bytes.len());
+    for i in 0..count {
+        let start = PAYLOAD_SIZE * i;
+        let end = bytes.len().min(start + PAYLOAD_SIZE);
+        let sector = journal_sector(generation, place + i as u64, &bytes[start..end]);
+        disk.write(at + i as u64, &sector)?;
+    }
+    disk.sync()
+}
