@@ -108,17 +108,12 @@ payload-journal_sector g place payload le =
 pub record IsNewSector (g place : ℕ) (payload : List ℕ) : Type 0 where
   pub some : 0 < length payload
   pub most : length payload ≤ 494
-  pub bytes : AllByRecursion IsByte payload
   pub generation : g < 2 ^ 64
   pub fits : place < 2 ^ 64
 
 pub bytes_of-bytes : (n x : ℕ) → AllByRecursion IsByte (bytes_of n x)
 bytes_of-bytes zero x = tt
 bytes_of-bytes (suc n) x = (let small : x % 256 < 256 = omega arith in small, bytes_of-bytes n (x / 256))
-
-zeros-bytes : (n : ℕ) → AllByRecursion IsByte (replicate n 0)
-zeros-bytes zero = tt
-zeros-bytes (suc n) = (let small : 0 < 256 = omega arith in small, zeros-bytes n)
 
 pub new_stamp : (g place : ℕ) (payload : List ℕ) → IsNewSector g place payload → stamp_of (journal_sector g place payload) ≡ record { generation = g; place = place }
 new_stamp g place payload is =
@@ -146,9 +141,8 @@ torn_sector g place front payload old torn is full less within e =
     let stamp : IsTornStamp place g old new front = record {
       full = full;
       new_full = length-journal_sector g place payload is.most;
-      bytes = all_append (u16_bytes (length payload)) (payload ++ (padding (494 - length payload) ++ stamp_bytes (record { generation = g; place = place }))) (bytes_of-bytes 2 (length payload))
-          (all_append payload (padding (494 - length payload) ++ stamp_bytes (record { generation = g; place = place })) is.bytes
-          (all_append (padding (494 - length payload)) (stamp_bytes (record { generation = g; place = place })) (zeros-bytes (494 - length payload)) (all_append (u64_bytes g) (u64_bytes place) (bytes_of-bytes 8 g) (bytes_of-bytes 8 place))));
+      bytes = subst (λ (l : List ℕ). AllByRecursion IsByte l) (sym (ap (λ l. drop 496 l) (sector_is g place payload) ∙ drop_at (before_stamp payload) (stamp_bytes (record { generation = g; place = place })) 496 (length-before_stamp payload is.most)))
+          (all_append (u64_bytes g) (u64_bytes place) (bytes_of-bytes 8 g) (bytes_of-bytes 8 place));
       stamped = ap (λ x. x.place) s;
       generation = ap (λ x. x.generation) s;
       later = less;

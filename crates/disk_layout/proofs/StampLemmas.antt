@@ -277,13 +277,16 @@ module _ (place h f : ℕ) (m b r o a q : List ℕ) (new : IsInParts m b r) (old
         c)
         (torn_parts f m b r o a q new old within)
 
+place_bytes : (s : List ℕ) → AllByRecursion IsByte (drop 496 s) → AllByRecursion IsByte (part s 504 8)
+place_bytes s bytes = subst (λ (l : List ℕ). AllByRecursion IsByte (take 8 l)) (drop-drop 8 496 s) (all_take 8 (drop 8 (drop 496 s)) (all_drop 8 (drop 496 s) bytes))
+
 pub shows_earlier : ShowsEarlier
 shows_earlier place h old new front is =
     let e-new = in_parts new is.new_full in
     let e-old = in_parts old is.full in
     let bytes = is.bytes in
     earlier_parts place h front (take 496 new) (part new 496 8) (part new 504 8) (take 496 old) (part old 496 8) (part old 504 8) (are_parts new is.new_full) (are_parts old is.full)
-    (all_take 8 (drop 496 new) (all_drop 496 new bytes)) (all_take 8 (drop 504 new) (all_drop 504 new bytes)) is.stamped is.generation
+    (all_take 8 (drop 496 new) bytes) (place_bytes new bytes) is.stamped is.generation
     (subst (λ (l : List ℕ). shown_generation place l < h) e-old is.later) is.within
     (front_over front new old) (ap (λ l. front_over front l old) e-new ∙ ap (λ l. front_over front (take 496 new ++ (part new 496 8 ++ part new 504 8)) l) e-old)
 
@@ -294,9 +297,9 @@ never_newer place h old new front is old-bytes =
     let bytes = is.bytes in
     let t = front_over front new old in
     let three = never_parts place h front (take 496 new) (part new 496 8) (part new 504 8) (take 496 old) (part old 496 8) (part old 504 8) (are_parts new is.new_full) (are_parts old is.full)
-    (all_take 8 (drop 496 new) (all_drop 496 new bytes)) (all_take 8 (drop 504 new) (all_drop 504 new bytes)) is.stamped is.generation
+    (all_take 8 (drop 496 new) bytes) (place_bytes new bytes) is.stamped is.generation
     (subst (λ (l : List ℕ). shown_generation place l < h) e-old is.later) is.within
-    (all_take 8 (drop 496 old) (all_drop 496 old old-bytes)) (all_take 8 (drop 504 old) (all_drop 504 old old-bytes))
+    (all_take 8 (drop 496 old) old-bytes) (place_bytes old old-bytes)
     t (ap (λ l. front_over front l old) e-new ∙ ap (λ l. front_over front (take 496 new ++ (part new 496 8 ++ part new 504 8)) l) e-old) in
     ⊎_elim
     (λ same. inl (same ∙ ap (λ l. shown_generation place l) (sym e-old)))

@@ -1,5 +1,5 @@
 -- Laws of the sectors with stamps (this project's own).
-use Rattle.std.specs.Prelude.{◌≡◌, ◌⊎◌, ℕ, ◌+◌, ◌%◌, ◌^◌, ◌<◌, ◌≤◌, List, ◌++◌, length, take}
+use Rattle.std.specs.Prelude.{◌≡◌, ◌⊎◌, ℕ, ◌+◌, ◌%◌, ◌^◌, ◌<◌, ◌≤◌, List, ◌++◌, length, take, drop}
 use Rattle.std.specs.List.{AllByRecursion}
 use Rattle.guest_memory.specs.Bytes.{IsByte}
 use Rattle.sector_disk.specs.Image.{front_over}
@@ -9,7 +9,7 @@ use Rattle.disk_layout.specs.Sectors.{Stamp, stamp_of, stamp_bytes, shown_genera
 pub record IsTornStamp (place h : ℕ) (old new : List ℕ) (front : ℕ) : Type 0 where
   pub full : length old ≡ 512
   pub new_full : length new ≡ 512
-  pub bytes : AllByRecursion IsByte new
+  pub bytes : AllByRecursion IsByte (drop 496 new)
   pub stamped : (stamp_of new).place ≡ place
   pub generation : (stamp_of new).generation ≡ h
   pub later : shown_generation place old < h
@@ -21,10 +21,10 @@ ShowsEarlier = (place h : ℕ) (old new : List ℕ) (front : ℕ) → IsTornStam
     → (shown_generation place (front_over front new old) < h)
     ⊎ ((shown_generation place (front_over front new old) ≡ h) × (take 496 (front_over front new old) ≡ take 496 new))
 
--- Over bytes it shows what it showed, or a generation of the same parity as the new one that is less by 2 at least, or it
+-- Over a stamp of bytes it shows what it showed, or a generation of the same parity as the new one that is less by 2 at least, or it
 -- is the new sector, byte for byte.
 abbrev pub NeverNewer : Type 0
-NeverNewer = (place h : ℕ) (old new : List ℕ) (front : ℕ) → IsTornStamp place h old new front → AllByRecursion IsByte old
+NeverNewer = (place h : ℕ) (old new : List ℕ) (front : ℕ) → IsTornStamp place h old new front → AllByRecursion IsByte (drop 496 old)
     → (shown_generation place (front_over front new old) ≡ shown_generation place old)
     ⊎ (((shown_generation place (front_over front new old) % 2 ≡ h % 2) × (shown_generation place (front_over front new old) + 2 ≤ h))
     ⊎ (front_over front new old ≡ new))

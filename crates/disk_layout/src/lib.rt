@@ -16,7 +16,7 @@ pub use fault::LayoutFault;
 pub use geometry::Geometry;
 pub use head::Head;
 pub use journal_sectors::{PAYLOAD_SIZE, is_of, journal_sector, used_length};
-pub use record::Record;
+pub use record::{Record, clock_bytes, record_head};
 pub use stamp::Stamp;
 pub use stored::{Stored, digest_of, read_super, write_super};
 pub use superblock::Super;

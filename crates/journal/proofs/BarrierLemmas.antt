@@ -1,8 +1,7 @@
 -- A barrier, on what a cut may leave.
-use Rattle.std.proofs.Common.{◌≡◌, ◌≤◌, ◌<◌, ◌+◌, ◌^◌, ℕ, ◌-◌, List, [], ◌∷◌, ◌++◌, length, take, drop, refl, sym, ap, ◌∙◌, subst, arith}
+use Rattle.std.proofs.Common.{◌≡◌, ◌≤◌, ◌<◌, ◌+◌, ◌^◌, ℕ, zero, suc, ◌-◌, List, [], ◌∷◌, ◌++◌, length, take, drop, refl, sym, ap, ◌∙◌, subst, arith}
 use Rattle.std.proofs.lemmas.List.{append-nil, take_all, drop_all}
-use Rattle.std.specs.List.{flat_map, AllByRecursion}
-use Rattle.guest_memory.specs.Bytes.{IsByte}
+use Rattle.std.specs.List.{flat_map}
 use Rattle.std.proofs.lemmas.Grind.{flat_map-append}
 use Rattle.sector_disk.specs.Image.{Image, sector_at, front_over}
 use Rattle.sector_disk.specs.Medium.{Medium, After, Follows, LeavesOnly}
@@ -13,9 +12,10 @@ use Rattle.disk_layout.specs.Journal.{Record, record_bytes, journal_sector}
 use Rattle.disk_layout.proofs.JournalLemmas.{length-journal_sector, IsNewSector}
 use Rattle.journal.specs.Packed.{packed, sectors_for}
 use Rattle.journal.specs.Steps.{HoldsBytes, Stands, AppendsFront, IsOn, records_bytes}
+use Rattle.journal.specs.Laws.{FreshStands, ScansWhatStands, ScansNoneOfLater}
 use Rattle.journal.proofs.PackedLemmas.{packed_at}
 use Rattle.journal.proofs.RunLemmas.{IsRun, all_bytes, none_after, is_new, front_of_kept, none_later, others_same, holds_all}
-use Rattle.journal.proofs.RecordLemmas.{scan_of, records_are_bytes}
+use Rattle.journal.proofs.RecordLemmas.{scan_of}
 
 leaves_weaker : (old new : Medium) (P Q : Image → Type 0) → LeavesOnly old new P → ((image : Image) → P image → Q image) → LeavesOnly old new Q
 leaves_weaker old new P Q leaves here = record { each = λ image since. here image (leaves.each image since); passes = weaker old new P Q leaves.passes here }
@@ -59,7 +59,6 @@ module _ (geometry : Geometry) (g used : ℕ) (bytes : List ℕ) (records kept :
           count = refl;
           room = room;
           full = λ k lt. full (journal_place geometry + k) (omega arith);
-          are_bytes = subst (λ (l : List ℕ). AllByRecursion IsByte l) (sym on.spells) (records_are_bytes kept on.fit_kept);
           generation = on.generation;
           places = omega arith;
         }
@@ -146,3 +145,20 @@ durable_at geometry g used bytes records kept old new at h u n b at-is h-is u-is
 -- there is room for what was counted
 pub room_for : (used journal len counted : ℕ) → counted ≡ sectors_for len → (len ≡ 0 → ⊥) → counted ≤ journal - used → used + sectors_for len ≤ journal
 room_for used journal len counted is some le = omega arith
+
+-- ---- laws
+
+pub fresh_stands : FreshStands
+fresh_stands geometry g image earlier = record { within = omega arith; written = λ k lt. absurd (omega arith); holds = refl; clean = λ k le lt. earlier k lt }
+
+pub scans_what_stands : ScansWhatStands
+scans_what_stands geometry g used records image holds fit =
+    let front = scan_of geometry image g 0 records [] fit tt (all_bytes geometry g used (records_bytes records) image holds ∙ sym (append-nil (records_bytes records))) in
+    front.2 ∙ ap (λ l. records ++ l) (none front.0) ∙ append-nil records
+  where
+    none : (k : ℕ) → take k (let l : List Record = [] in l) ≡ []
+    none zero = refl
+    none (suc k) = refl
+
+pub scans_none_of_later : ScansNoneOfLater
+scans_none_of_later geometry g image earlier = scans_what_stands geometry g 0 [] image (fresh_stands geometry g image earlier) tt

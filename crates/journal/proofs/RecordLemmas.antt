@@ -4,7 +4,7 @@ use Rattle.std.proofs.lemmas.Bool.{cases_lt, cond-true, cond-false, le-leb, lt-l
 use Rattle.std.proofs.lemmas.List.{append-nil, take_at, drop_at, take_all, take-take, drop-take, length-take-le, take-append-le}
 use Rattle.std.proofs.Math.Seq.{take-append-add}
 use Rattle.std.specs.List.{AllByRecursion, flat_map}
-use Rattle.guest_memory.specs.Bytes.{IsByte, number_of, bytes_of, part}
+use Rattle.guest_memory.specs.Bytes.{number_of, bytes_of, part}
 use Rattle.guest_memory.proofs.ByteLemmas.{number_of-bytes_of}
 use Rattle.wasi_abi.specs.Layouts.{u16_bytes, u64_bytes}
 use Rattle.wasi_abi.specs.declared.answer.Answer.{Answer}
@@ -12,8 +12,6 @@ use Rattle.wasi_abi.specs.declared.answer.Answer.TheVariants as answer
 use Rattle.sector_disk.specs.Image.{Image}
 use Rattle.disk_layout.specs.Places.{Geometry, journal_place}
 use Rattle.disk_layout.specs.Journal.{Record, record_bytes, kind_number, payload_of, answer_if, answer_of, payload_length, record_at, records_at, with_first, payloads_from, scan}
-use Rattle.disk_layout.proofs.StampLemmas.{all_append}
-use Rattle.disk_layout.proofs.JournalLemmas.{bytes_of-bytes}
 use Rattle.journal.specs.Steps.{longest_payload, ClockFits, RecordFits, AllFit, records_bytes}
 
 abbrev make : ℕ → Answer → Record
@@ -142,21 +140,3 @@ pub scan_of : (geometry : Geometry) (image : Image) (g c : ℕ) (records kept : 
 scan_of geometry image g c records kept fit fit-kept e =
     let front = scan_front records kept c (length (records_bytes records ++ take c (records_bytes kept))) fit fit-kept (omega arith) in
     (front.0, front.1, ap (λ l. records_at longest_payload (length l) l) e ∙ front.2)
-
--- ---- their bytes
-
-record_is_bytes : (r : Record) → RecordFits r → AllByRecursion IsByte (record_bytes r)
-record_is_bytes r fits =
-    (kind_small r.answer, all_append (u64_bytes r.step) (u16_bytes (length (payload_of r.answer)) ++ payload_of r.answer) (bytes_of-bytes 8 r.step)
-    (all_append (u16_bytes (length (payload_of r.answer))) (payload_of r.answer) (bytes_of-bytes 2 (length (payload_of r.answer))) fits.bytes))
-  where
-    kind_small : (a : Answer) → kind_number a < 256
-    kind_small (answer.Request text) = omega arith
-    kind_small answer.End = omega arith
-    kind_small (answer.Realtime n) = omega arith
-    kind_small (answer.Monotonic n) = omega arith
-    kind_small (answer.Random bytes) = omega arith
-
-pub records_are_bytes : (records : List Record) → AllFit records → AllByRecursion IsByte (records_bytes records)
-records_are_bytes [] fit = tt
-records_are_bytes (r ∷ records) fit = all_append (record_bytes r) (records_bytes records) (record_is_bytes r fit.0) (records_are_bytes records fit.1)

@@ -2,14 +2,12 @@
 use Rattle.std.proofs.Common.{◌≡◌, ◌⊎◌, ℕ, zero, suc, ◌+◌, ◌-◌, ◌*◌, ◌/◌, ◌^◌, ◌<◌, ◌≤◌, true, false, List, [], ◌++◌, length, take, drop, refl, sym, ap, ◌∙◌, subst, inl, inr, ⊎_elim, arith, length-append, length-drop}
 use Rattle.std.proofs.lemmas.Bool.{cases_lt}
 use Rattle.std.proofs.lemmas.List.{append-nil, length-take-le, take_all}
-use Rattle.std.specs.List.{AllByRecursion}
-use Rattle.guest_memory.specs.Bytes.{IsByte, part}
+use Rattle.guest_memory.specs.Bytes.{part}
 use Rattle.sector_disk.specs.Image.{Image, sector_at, front_over}
 use Rattle.sector_disk.specs.Run.{IsTornRun, IsWrittenRun}
 use Rattle.disk_layout.specs.Places.{Geometry, journal_place}
 use Rattle.disk_layout.specs.Sectors.{shown_generation}
 use Rattle.disk_layout.specs.Journal.{journal_sector, is_of, payloads_from}
-use Rattle.disk_layout.proofs.StampLemmas.{all_take, all_drop}
 use Rattle.disk_layout.proofs.JournalLemmas.{IsOf, is_of_true, is_of_other, is_of_means, payload_of_sector, IsNewSector, torn_sector, new_is_of, payload-journal_sector}
 use Rattle.journal.specs.Packed.{packed, sectors_for}
 use Rattle.journal.specs.Steps.{HoldsBytes, ShowsNoneAfter, SameOthers}
@@ -42,7 +40,6 @@ pub record IsRun (geometry : Geometry) (g used n : ℕ) (bytes kept : List ℕ) 
   pub count : n ≡ sectors_for (length kept)
   pub room : used + n ≤ geometry.journal_sectors
   pub full : (k : ℕ) → k < geometry.journal_sectors → length (sector_at old (journal_place geometry + k)) ≡ 512
-  pub are_bytes : AllByRecursion IsByte kept
   pub generation : g < 2 ^ 64
   pub places : used + n + 1 < 2 ^ 64
 
@@ -56,10 +53,10 @@ module _ (geometry : Geometry) (g used n : ℕ) (bytes kept : List ℕ) (old new
       ⊎_elim
       (λ (long : 494 < length (drop (494 * i) kept)). 
       let l = length-take-le 494 (drop (494 * i) kept) (omega arith) in
-      record { some = omega (arith, l); most = omega (arith, l); bytes = all_take 494 (drop (494 * i) kept) (all_drop (494 * i) kept run.are_bytes); generation = run.generation; fits = omega (arith, places) })
+      record { some = omega (arith, l); most = omega (arith, l); generation = run.generation; fits = omega (arith, places) })
       (λ (short : length (drop (494 * i) kept) ≤ 494).
       let l = ap length (take_all 494 (drop (494 * i) kept) short) in
-      record { some = omega (arith, l, behind); most = omega (arith, l); bytes = all_take 494 (drop (494 * i) kept) (all_drop (494 * i) kept run.are_bytes); generation = run.generation; fits = omega (arith, places) })
+      record { some = omega (arith, l, behind); most = omega (arith, l); generation = run.generation; fits = omega (arith, places) })
       (cases_lt 494 (length (drop (494 * i) kept)))
 
   module _ (torn : IsTornRun (journal_place geometry + used) (packed g (used + 1) n kept) n old new) where

@@ -1,7 +1,6 @@
 -- What the sectors of a journal hold, and how a barrier changes it (this project's own).
 use Rattle.std.specs.Prelude.{◌≡◌, ◌⊎◌, ℕ, ◌+◌, ◌^◌, ◌<◌, ◌≤◌, true, List, ◌++◌, length, take}
 use Rattle.std.specs.List.{AllByRecursion, flat_map}
-use Rattle.guest_memory.specs.Bytes.{IsByte}
 use Rattle.sector_disk.specs.Image.{Image, sector_at}
 use Rattle.disk_layout.specs.Places.{Geometry, journal_place}
 use Rattle.disk_layout.specs.Sectors.{shown_generation}
@@ -25,7 +24,6 @@ ClockFits (answer.Random bytes) = Unit {0}
 pub record RecordFits (r : Record) : Type 0 where
   pub step : r.step < 2 ^ 64
   pub payload : length (payload_of r.answer) ≤ longest_payload
-  pub bytes : AllByRecursion IsByte (payload_of r.answer)
   pub clock : ClockFits r.answer
 
 abbrev pub AllFit : List Record → Type 0

@@ -3,17 +3,21 @@ ghost use Rattle.std.specs.Prelude.{◌≡◌, ◌↔◌, ◌⊎◌, ◌+◌, �
 ghost use Rattle.sector_disk.specs.Image.{Image};
 ghost use Rattle.sector_disk.specs.Medium.{LeavesOnly, After, IsSettled, spare};
 ghost use Rattle.disk_layout.specs.Places.{total_sectors};
-ghost use Rattle.disk_layout.specs.Journal.{Record};
+ghost use Rattle.disk_layout.specs.Journal.{Record, record_bytes, payload_of};
 ghost use Rattle.journal.specs.State.{state, room_of};
 ghost use Rattle.journal.specs.Packed.{sectors_for};
-ghost use Rattle.journal.specs.Steps.{AppendsFront, Stands, IsOn};
+ghost use Rattle.journal.specs.Steps.{AppendsFront, Stands, IsOn, RecordFits, longest_payload};
 
 use crate::fault::JournalFault;
+use crate::records::{RECORD_HEAD, payload_len, put_record};
 use crate::store::{sectors_for, store_packed};
-use disk_layout::{Geometry, PAYLOAD_SIZE};
+use disk_layout::{Geometry, PAYLOAD_SIZE, Record};
 use sector_disk::{Disk, DiskFault};
 use std::alloc::Global;
 use std::marker::Model;
+
+/// The most bytes of a payload, in version 1.
+const LONGEST_PAYLOAD: usize = 4096;
 
 /// The records of one generation. Contracts see the generation, how many sectors are written in it, the
 /// bytes that only memory holds, and whether a call has failed.
@@ -58,6 +62,37 @@ impl Journal {
     {
         let unwritten = u64::from(geometry.journal_sectors).saturating_sub(self.used);
         (PAYLOAD_SIZE * unwritten as usize).saturating_sub(self.kept.len())
+    }
+
+    /// Keeps a record in memory, until the next barrier. A payload over 4,096 bytes is `TooLong`; then a
+    /// record longer than the room that is left is `Full`. After an error nothing is kept any more.
+    pub fn append(&mut self, geometry: &Geometry, entry: &Record) -> Result<(), JournalFault>
+        ensures ok { OnOk result (self.new ≡ state self.old.generation self.old.used (self.old.kept ++ record_bytes entry.now) false) }
+        ensures fits { OnOk result (RecordFits entry.now) }
+        ensures err { OnErr result (self.new.has_failed ≡ true) }
+        ensures failed { (result ≡ Err JournalFault.Failed) ↔ (self.old.has_failed ≡ true) }
+        ensures too_long { (result ≡ Err JournalFault.TooLong) ↔ ((self.old.has_failed ≡ false) × (longest_payload < length (payload_of entry.now.answer))) }
+        ensures full { (result ≡ Err JournalFault.Full) ↔
+            ((self.old.has_failed ≡ false) × (length (payload_of entry.now.answer) ≤ longest_payload) × (room_of geometry.now self.old < length (record_bytes entry.now))) }
+        ensures no_disk { (fault : DiskFault) → result ≡ Err (JournalFault.Disk fault) → ⊥ }
+    {
+        if self.has_failed {
+            return Err(JournalFault::Failed);
+        }
+        let payload = payload_len(entry);
+        if payload > LONGEST_PAYLOAD {
+            self.has_failed = true;
+            return Err(JournalFault::TooLong);
+        }
+        if RECORD_HEAD + payload > self.room(geometry) {
+            self.has_failed = true;
+            return Err(JournalFault::Full);
+        }
+        let Ok(()) = put_record(&mut self.kept, entry) else {
+            self.has_failed = true;
+            return Err(JournalFault::Memory);
+        };
+        Ok(())
     }
 
     /// Puts the records that only memory holds on the disk: into the next sectors, without gaps, one after

@@ -3,6 +3,9 @@
 
 mod fault;
 mod journal;
+pub mod laws;
+mod records;
+mod scan;
 mod store;
 
 pub use fault::JournalFault;

@@ -1,0 +1,43 @@
+// Reading a journal.
+ghost use Rattle.std.specs.Prelude.{◌≡◌, ◌⊎◌, ◌+◌, ◌<◌, ◌≤◌, ℕ, true, length, IfOk, IfErr};
+ghost use Rattle.sector_disk.specs.Image.{Image};
+ghost use Rattle.disk_layout.specs.Places.{journal_place, total_sectors};
+ghost use Rattle.disk_layout.specs.Journal.{payloads_from};
+ghost use Rattle.disk_layout.specs.Stored.{OnlyReads};
+
+use crate::fault::JournalFault;
+use disk_layout::{Geometry, is_of, used_length};
+use sector_disk::{Disk, DiskFault};
+use std::alloc::Global;
+
+/// The payloads of a generation, one after another: from the first sector on, up to the first that isn't
+/// one of the generation at its place.
+fn read_payloads<D: Disk>(
+    alloc: Global,
+    disk: &mut D,
+    geometry: &Geometry,
+    generation: u64,
+) -> Result<Vec<u8>, JournalFault>
+    requires { total_sectors geometry.now ≤ (D.medium disk.old).sectors }
+    ensures reads { OnlyReads (D.medium disk.old) (D.medium disk.new) }
+    ensures payloads { IfOk result (λ v. (image : Image) → (D.medium disk.new).shows image → payloads_from image generation (journal_place geometry.now) 1 geometry.now.journal_sectors ≡ v.items) }
+    ensures cause { (fault : DiskFault) → result ≡ Err (JournalFault.Disk fault) → (D.medium disk.old).faults < (D.medium disk.new).faults }
+    ensures kind { IfErr result (λ e. e ≡ JournalFault.Memory ⊎ ((fault : DiskFault) × (e ≡ JournalFault.Disk fault))) }
+{
+    let at = geometry.journal_place();
+    let mut bytes = Vec::new(alloc);
+    let mut sector = [0; 512];
+    for k in 0..u64::from(geometry.journal_sectors) {
+        if let Err(fault) = disk.read(at + k, &mut sector) {
+            return Err(JournalFault::Disk(fault));
+        }
+        if !is_of(generation, 1 + k, &sector) {
+            return Ok(bytes);
+        }
+        let used = used_length(&sector);
+        let Ok(()) = bytes.extend_from_slice(&sector[2..2 + used]) else {
+            return Err(JournalFault::Memory);
+        };
+    }
+    Ok(bytes)
+}
