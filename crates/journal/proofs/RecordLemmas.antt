@@ -1,7 +1,7 @@
 -- Records as bytes, whole and cut.
-use Rattle.std.proofs.Common.{◌≡◌, ◌⊎◌, ℕ, zero, suc, ◌+◌, ◌-◌, ◌*◌, ◌%◌, ◌/◌, ◌^◌, ◌<◌, ◌≤◌, Bool, true, false, cond, leb, Option, Some, None, option_map, List, [], ◌∷◌, ◌++◌, length, take, drop, refl, sym, ap, ◌∙◌, subst, inl, inr, ⊎_elim, arith, length-append, length-drop, append_assoc}
+use Rattle.std.proofs.Common.{◌≡◌, ◌⊎◌, ℕ, zero, suc, ◌+◌, ◌-◌, ◌*◌, ◌%◌, ◌/◌, ◌^◌, ◌<◌, ◌≤◌, Bool, true, false, cond, leb, get_or, Option, Some, None, option_map, List, [], ◌∷◌, ◌++◌, length, take, drop, refl, sym, ap, ◌∙◌, subst, inl, inr, ⊎_elim, arith, length-append, length-drop, append_assoc}
 use Rattle.std.proofs.lemmas.Bool.{cases_lt, cond-true, cond-false, le-leb, lt-leb}
-use Rattle.std.proofs.lemmas.List.{append-nil, take_at, drop_at, take_all, take-take, drop-take, length-take-le, take-append-le}
+use Rattle.std.proofs.lemmas.List.{append-nil, take_at, drop_at, take_all, take-take, drop-take, drop-drop, length-take-le, take-append-le}
 use Rattle.std.proofs.Math.Seq.{take-append-add}
 use Rattle.std.specs.List.{AllByRecursion, flat_map}
 use Rattle.guest_memory.specs.Bytes.{number_of, bytes_of, part}
@@ -14,7 +14,7 @@ use Rattle.disk_layout.specs.Places.{Geometry, journal_place}
 use Rattle.disk_layout.specs.Journal.{Record, record_bytes, kind_number, payload_of, answer_if, answer_of, payload_length, record_at, records_at, with_first, payloads_from, scan}
 use Rattle.journal.specs.Steps.{longest_payload, ClockFits, RecordFits, AllFit, records_bytes}
 
-abbrev make : ℕ → Answer → Record
+abbrev pub make : ℕ → Answer → Record
 make step a = record { step = step; answer = a }
 
 -- ---- a whole record
@@ -140,3 +140,45 @@ pub scan_of : (geometry : Geometry) (image : Image) (g c : ℕ) (records kept : 
 scan_of geometry image g c records kept fit fit-kept e =
     let front = scan_front records kept c (length (records_bytes records ++ take c (records_bytes kept))) fit fit-kept (omega arith) in
     (front.0, front.1, ap (λ l. records_at longest_payload (length l) l) e ∙ front.2)
+
+-- ---- as they are read
+
+pub short_none : (bytes : List ℕ) → length bytes < 11 + payload_length bytes → record_at longest_payload bytes ≡ None
+short_none [] lt = refl
+short_none (kind ∷ bytes) lt =
+    let all = kind ∷ bytes in
+    cond-false (leb (11 + payload_length all) (length all)) (option_map (make (number_of (part bytes 0 8))) (answer_of longest_payload kind (part all 11 (payload_length all)))) None
+    (lt-leb (11 + payload_length all) (length all) lt)
+
+pub record_at_parts : (bytes : List ℕ) → 11 + payload_length bytes ≤ length bytes
+    → record_at longest_payload bytes ≡ option_map (make (number_of (part bytes 1 8))) (answer_of longest_payload (get_or bytes 0 0) (part bytes 11 (payload_length bytes)))
+record_at_parts [] le = absurd (omega arith)
+record_at_parts (kind ∷ bytes) le =
+    let all = kind ∷ bytes in
+    cond-true (leb (11 + payload_length all) (length all)) (option_map (make (number_of (part bytes 0 8))) (answer_of longest_payload kind (part all 11 (payload_length all)))) None
+    (le-leb (11 + payload_length all) (length all) le)
+
+-- so many records are enough as there are bytes
+pub enough : (n m : ℕ) (bytes : List ℕ) → length bytes ≤ n → length bytes ≤ m → records_at longest_payload n bytes ≡ records_at longest_payload m bytes
+enough n m [] one two = no_bytes n ∙ sym (no_bytes m)
+enough zero m (x ∷ bytes) one two = absurd (omega arith)
+enough (suc n) zero (x ∷ bytes) one two = absurd (omega arith)
+enough (suc n) (suc m) (x ∷ bytes) one two =
+    let all = x ∷ bytes in
+    let less = length-drop (11 + payload_length all) all in
+    ap (λ l. with_first (record_at longest_payload all) l) (enough n m (drop (11 + payload_length all) all) (omega arith) (omega arith))
+
+pub read_on : (bytes : List ℕ) (start : ℕ) (r : Record) → start ≤ length bytes → record_at longest_payload (drop start bytes) ≡ Some r
+    → 11 + payload_length (drop start bytes) ≤ length (drop start bytes)
+    → records_at longest_payload (length bytes - start) (drop start bytes)
+    ≡ r ∷ records_at longest_payload (length bytes - (start + (11 + payload_length (drop start bytes)))) (drop (start + (11 + payload_length (drop start bytes))) bytes)
+read_on bytes start r le is whole =
+    let rest = drop start bytes in
+    let k = 11 + payload_length rest in
+    let count = length-drop start bytes in
+    let n = length bytes - start - 1 in
+    let n-is : length bytes - start ≡ suc n = omega arith in
+    let less = length-drop (start + k) bytes in
+    ap (λ m. records_at longest_payload m rest) n-is ∙ ap (λ o. with_first o (records_at longest_payload n (drop k rest))) is
+    ∙ ap (λ l. r ∷ records_at longest_payload n l) (drop-drop k start bytes)
+    ∙ ap (λ l. r ∷ l) (enough n (length bytes - (start + k)) (drop (start + k) bytes) (omega arith) (omega arith))

@@ -1,23 +1,23 @@
 // The journal of a generation.
-ghost use Rattle.std.specs.Prelude.{◌≡◌, ◌↔◌, ◌⊎◌, ◌+◌, ◌<◌, ◌≤◌, ◌++◌, [], true, false, List, length, OnOk, OnErr, IsErrOf};
+ghost use Rattle.std.specs.Prelude.{◌≡◌, ◌↔◌, ◌⊎◌, ◌+◌, ◌<◌, ◌≤◌, ◌++◌, [], true, false, List, length, OnOk, OnErr, IfOk, IfErr, IsErrOf};
 ghost use Rattle.sector_disk.specs.Image.{Image};
 ghost use Rattle.sector_disk.specs.Medium.{LeavesOnly, After, IsSettled, spare};
 ghost use Rattle.disk_layout.specs.Places.{total_sectors};
-ghost use Rattle.disk_layout.specs.Journal.{Record, record_bytes, payload_of};
+ghost use Rattle.disk_layout.specs.Journal.{Record, record_bytes, payload_of, scan};
+ghost use Rattle.disk_layout.specs.Stored.{OnlyReads};
 ghost use Rattle.journal.specs.State.{state, room_of};
 ghost use Rattle.journal.specs.Packed.{sectors_for};
 ghost use Rattle.journal.specs.Steps.{AppendsFront, Stands, IsOn, RecordFits, longest_payload};
 
+use crate::decode::{LONGEST_PAYLOAD, records_from};
 use crate::fault::JournalFault;
 use crate::records::{RECORD_HEAD, payload_len, put_record};
+use crate::scan::read_payloads;
 use crate::store::{sectors_for, store_packed};
 use disk_layout::{Geometry, PAYLOAD_SIZE, Record};
 use sector_disk::{Disk, DiskFault};
 use std::alloc::Global;
 use std::marker::Model;
-
-/// The most bytes of a payload, in version 1.
-const LONGEST_PAYLOAD: usize = 4096;
 
 /// The records of one generation. Contracts see the generation, how many sectors are written in it, the
 /// bytes that only memory holds, and whether a call has failed.
@@ -47,6 +47,27 @@ impl Journal {
             used: 0,
             kept: Vec::new(alloc),
             has_failed: false,
+        }
+    }
+
+    /// The records of a generation: those whose bytes are whole and well formed, from place 1 on. It reads
+    /// each sector once, up to the first that isn't one of the generation.
+    pub fn scan<D: Disk>(
+        alloc: Global,
+        disk: &mut D,
+        geometry: &Geometry,
+        generation: u64,
+    ) -> Result<Vec<Record>, JournalFault>
+        requires { total_sectors geometry.now ≤ (D.medium disk.old).sectors }
+        ensures reads { OnlyReads (D.medium disk.old) (D.medium disk.new) }
+        ensures scans { IfOk result (λ v. (image : Image) → (D.medium disk.new).shows image → v.items ≡ scan geometry.now longest_payload image generation) }
+        ensures cause { (fault : DiskFault) → result ≡ Err (JournalFault.Disk fault) → (D.medium disk.old).faults < (D.medium disk.new).faults }
+        ensures kind { IfErr result (λ e. e ≡ JournalFault.Memory ⊎ ((fault : DiskFault) × (e ≡ JournalFault.Disk fault))) }
+    {
+        let bytes = read_payloads(alloc, disk, geometry, generation)?;
+        match records_from(alloc, bytes.as_slice()) {
+            Ok(records) => Ok(records),
+            Err(_) => Err(JournalFault::Memory),
         }
     }
 

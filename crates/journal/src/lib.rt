@@ -1,6 +1,7 @@
 //! Outside answers on sectors: records that are appended, made durable by a barrier, and read after any cut.
 #![tactic(auto)]
 
+mod decode;
 mod fault;
 mod journal;
 pub mod laws;

@@ -12,7 +12,7 @@ use std::alloc::Global;
 
 /// The payloads of a generation, one after another: from the first sector on, up to the first that isn't
 /// one of the generation at its place.
-fn read_payloads<D: Disk>(
+pub(crate) fn read_payloads<D: Disk>(
     alloc: Global,
     disk: &mut D,
     geometry: &Geometry,
