@@ -4,7 +4,7 @@ use Rattle.std.proofs.lemmas.List.{append-nil, take_all, drop_all}
 use Rattle.std.specs.List.{flat_map}
 use Rattle.std.proofs.lemmas.Grind.{flat_map-append}
 use Rattle.sector_disk.specs.Image.{Image, sector_at, front_over}
-use Rattle.sector_disk.specs.Medium.{Medium, After, Follows, LeavesOnly}
+use Rattle.sector_disk.specs.Medium.{Medium, After, Follows, LeavesOnly, Passes}
 use Rattle.sector_disk.specs.Run.{IsTornRun, IsWrittenRun}
 use Rattle.sector_disk.proofs.Moments.{started, weaker, leaves_only, shows_left}
 use Rattle.disk_layout.specs.Places.{Geometry, journal_place, total_sectors}
@@ -145,6 +145,13 @@ durable_at geometry g used bytes records kept old new at h u n b at-is h-is u-is
 -- there is room for what was counted
 pub room_for : (used journal len counted : ℕ) → counted ≡ sectors_for len → (len ≡ 0 → ⊥) → counted ≤ journal - used → used + sectors_for len ≤ journal
 room_for used journal len counted is some le = omega arith
+
+-- time and room go on
+pub goes : (old new : Medium) (P : Image → Type 0) → LeavesOnly old new P → Passes old new (λ _. Unit {0})
+goes old new P leaves = weaker old new P (λ _. Unit {0}) leaves.passes (λ image here. tt)
+
+pub goes_not : (m : Medium) → Passes m m (λ _. Unit {0})
+goes_not m = started m (λ _. Unit {0})
 
 -- ---- laws
 

@@ -1,7 +1,7 @@
 // The journal of a generation.
 ghost use Rattle.std.specs.Prelude.{◌≡◌, ◌↔◌, ◌⊎◌, ◌+◌, ◌<◌, ◌≤◌, ◌++◌, [], true, false, List, length, OnOk, OnErr, IfOk, IfErr, IsErrOf};
 ghost use Rattle.sector_disk.specs.Image.{Image};
-ghost use Rattle.sector_disk.specs.Medium.{LeavesOnly, After, IsSettled, spare};
+ghost use Rattle.sector_disk.specs.Medium.{LeavesOnly, After, Passes, IsSettled, spare};
 ghost use Rattle.disk_layout.specs.Places.{total_sectors};
 ghost use Rattle.disk_layout.specs.Journal.{Record, record_bytes, payload_of, scan};
 ghost use Rattle.disk_layout.specs.Stored.{OnlyReads};
@@ -142,6 +142,7 @@ impl Journal {
         // Once it has answered Ok, each cut leaves all of them.
         ensures durable { (records kept : List Record) → IsOn geometry.now self.old.generation self.old.used self.old.kept records kept (D.medium disk.old).may_leave →
             OnOk result ((image : Image) → (D.medium disk.new).may_leave image → Stands geometry.now self.new.generation self.new.used (records ++ kept) image) }
+        ensures passes { Passes (D.medium disk.old) (D.medium disk.new) (λ _. Unit {0}) }
         ensures settled { OnOk result ((length self.old.kept ≡ 0) ⊎ IsSettled (D.medium disk.new)) }
         ensures unsynced { (D.medium disk.new).unsynced ≤ (D.medium disk.old).unsynced + sectors_for (length self.old.kept) }
     {

@@ -8,6 +8,8 @@ pub mod laws;
 mod records;
 mod scan;
 mod store;
+#[cfg(test)]
+mod tests;
 
 pub use fault::JournalFault;
 pub use journal::Journal;

@@ -1,7 +1,7 @@
 use Rattle.std.proofs.Common.{◌≡◌, ◌<◌, ◌≤◌, ◌+◌, ◌^◌, ℕ, List, length, arith, rules, sym, ap, ◌∙◌, subst}
 use Rattle.std.proofs.lemmas.Bool.{eqb-false}
 use Rattle.journal.specs.Packed.{sectors_for}
-use Rattle.journal.proofs.BarrierLemmas.{nothing_written, any_moment_at, durable_at, room_for}
+use Rattle.journal.proofs.BarrierLemmas.{nothing_written, any_moment_at, durable_at, room_for, goes, goes_not}
 use Rattle.journal.proofs.journal.Journal.barrier.Goals as goal
 
 pub returns-then-self-clause-any_moment : goal.returns-then-self-clause-any_moment
@@ -69,3 +69,18 @@ returns-clause-durable g c = λ records kept on.
     let bound : geometry.journal_sectors < 2 ^ 32 = search rules in
     durable_at geometry s.generation s.used s.kept records kept old new c.journal_place.result c.self.inside.generation c.self.inside.used c.sectors_for-count.result c.as_slice.result.now
     c.journal_place.ensures (ap (λ x. x.generation) view) used bytes counted on c.requires room bound c.in_default.ensures.stored
+
+pub returns-then-self-clause-passes : goal.returns-then-self-clause-passes
+returns-then-self-clause-passes g c = goes_not (g.D.Disk.medium c.args.disk.now)
+
+pub returns-then-is_empty-clause-passes : goal.returns-then-is_empty-clause-passes
+returns-then-is_empty-clause-passes g c = goes_not (g.D.Disk.medium c.args.disk.now)
+
+pub returns-then-count-unwritten-clause-passes : goal.returns-then-count-unwritten-clause-passes
+returns-then-count-unwritten-clause-passes g c = goes_not (g.D.Disk.medium c.args.disk.now)
+
+pub returns-in-Err-clause-passes : goal.returns-in-Err-clause-passes
+returns-in-Err-clause-passes g c = goes (g.D.Disk.medium c.args.disk.now) (g.D.Disk.medium c.store_packed-stored.new.disk) _ c.store_packed-stored.ensures.any_moment
+
+pub returns-clause-passes : goal.returns-clause-passes
+returns-clause-passes g c = goes (g.D.Disk.medium c.args.disk.now) (g.D.Disk.medium c.store_packed-stored.new.disk) _ c.store_packed-stored.ensures.any_moment
