@@ -12,6 +12,8 @@ mod record_fields;
 mod stamp;
 mod stored;
 mod superblock;
+#[cfg(test)]
+mod tests;
 
 pub use fault::LayoutFault;
 pub use geometry::Geometry;
