@@ -2,6 +2,15 @@
 //! call does to them.
 #![tactic(auto)]
 
+mod integers;
+mod linear_memory;
+mod parametric;
 mod slots;
+mod variables;
+mod words;
 
+pub use integers::{binary, compare, convert, eqz, unary};
+pub use linear_memory::{load, memory_grow, memory_size, store};
+pub use parametric::{constant, drop_top, select};
 pub use slots::{SLOTS, Slots};
+pub use variables::{global_get, global_set, local_get, local_set, local_tee};
