@@ -1,1 +1,3 @@
 pub mod Falls
+pub mod Families
+pub mod Places
