@@ -2,6 +2,7 @@
 //! call does to them.
 #![tactic(auto)]
 
+mod effects;
 mod integers;
 mod linear_memory;
 mod parametric;
@@ -9,6 +10,7 @@ mod slots;
 mod variables;
 mod words;
 
+pub use effects::operate;
 pub use integers::{binary, compare, convert, eqz, unary};
 pub use linear_memory::{load, memory_grow, memory_size, store};
 pub use parametric::{constant, drop_top, select};
