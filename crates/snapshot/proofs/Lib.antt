@@ -1,0 +1,3 @@
+pub mod AreaLemmas
+pub mod ReadLemmas
+pub mod HeadLemmas

@@ -1,0 +1,15 @@
+use Rattle.std.proofs.Common.{◌≡◌, ◌*◌, length}
+use Rattle.sector_disk.specs.Image.{Image}
+use Rattle.disk_layout.specs.Sectors.{bytes_from}
+use Rattle.disk_layout.specs.Stored.{OnlyReads}
+use Rattle.snapshot.proofs.newest.read_bytes.Given as goal
+
+abbrev pub invariant-loop-i : goal.invariant-loop-i
+invariant-loop-i g l =
+    let old = g.D.Disk.medium l.fn.disk in
+    let now = g.D.Disk.medium l.disk in
+    record {
+      reads : OnlyReads old now;
+      len : length l.bytes.items ≡ 512 * l.i;
+      bytes : (image : Image) → now.shows image → l.bytes.items ≡ bytes_from image l.at l.i;
+    }

@@ -1,0 +1,4 @@
+pub mod Heads
+pub mod Newest
+pub mod Steps
+pub mod Snapshots

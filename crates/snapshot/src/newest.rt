@@ -1,0 +1,116 @@
+// The newest complete head of a disk, and the image that it names.
+ghost use Rattle.std.specs.Prelude.{◌≡◌, ◌+◌, ◌*◌, ◌<◌, ◌≤◌, ◌↔◌, ◌⊎◌, ◌^◌, ℕ, IfOk, IfErr, IsTrue, length, take};
+ghost use Rattle.sha2.specs.Sha256.{sha256};
+ghost use Rattle.sector_disk.specs.Image.{Image, sector_at};
+ghost use Rattle.disk_layout.specs.Places.{journal_place};
+ghost use Rattle.disk_layout.specs.Sectors.{bytes_from};
+ghost use Rattle.disk_layout.specs.Stored.{OnlyReads};
+ghost use Rattle.snapshot.specs.Heads.{HeadIn, FindsHead};
+ghost use Rattle.snapshot.specs.Newest.{ReadsImage};
+
+use crate::fault::SnapshotFault;
+use disk_layout::{Geometry, Head};
+use sector_disk::{Disk, DiskFault};
+use sha2::{Digest, Sha256};
+use std::alloc::Global;
+
+/// What the newest complete head names.
+#[derive(Debug, Drop)]
+pub struct Snapshot {
+    pub version: u32,
+    pub generation: u64,
+    pub image: Vec<u8>,
+}
+
+/// The newest complete head, if there is one.
+pub(crate) fn newest_head<D: Disk>(disk: &mut D) -> Result<Option<Head>, DiskFault>
+    requires { 3 ≤ (D.medium disk.old).sectors }
+    ensures reads { OnlyReads (D.medium disk.old) (D.medium disk.new) }
+    ensures finds { IfOk result (λ head. (image : Image) → (D.medium disk.new).shows image → FindsHead image head) }
+    ensures cause { (fault : DiskFault) → result ≡ Err fault → (D.medium disk.old).faults < (D.medium disk.new).faults }
+{
+    let mut first = [0; 512];
+    disk.read(1, &mut first)?;
+    let mut second = [0; 512];
+    disk.read(2, &mut second)?;
+    Ok(newer(head_in(0, &first), head_in(1, &second)))
+}
+
+/// The head of this area, 0 or 1, if its sector is a complete one.
+fn head_in(area: u64, sector: &[u8; 512]) -> Option<Head>
+    ensures { HeadIn area sector.now result }
+{
+    if Head::is_complete(area, sector) {
+        Some(Head::read(sector))
+    } else {
+        None
+    }
+}
+
+fn newer(first: Option<Head>, second: Option<Head>) -> Option<Head>
+    ensures { (image : Image) → HeadIn 0 (sector_at image 1) first → HeadIn 1 (sector_at image 2) second → FindsHead image result }
+{
+    let Some(head) = first else {
+        return second;
+    };
+    match second {
+        Some(other) if head.generation < other.generation => Some(other),
+        _ => Some(head),
+    }
+}
+
+/// The image that a head names. Where the head's length is more than an area holds, no sector is read.
+pub(crate) fn read_image<D: Disk>(
+    alloc: Global,
+    disk: &mut D,
+    geometry: &Geometry,
+    head: &Head,
+) -> Result<Vec<u8>, SnapshotFault>
+    requires { journal_place geometry.now ≤ (D.medium disk.old).sectors }
+    ensures reads { OnlyReads (D.medium disk.old) (D.medium disk.new) }
+    ensures image { (image : Image) → (D.medium disk.new).shows image → ReadsImage geometry.now image head.now result }
+    ensures own { result ≡ Err SnapshotFault.Failed → ⊥ }
+    ensures cause { (fault : DiskFault) → result ≡ Err (SnapshotFault.Disk fault) → (D.medium disk.old).faults < (D.medium disk.new).faults }
+{
+    let room = 512 * u64::from(geometry.area_sectors);
+    if head.length_in_bytes > room {
+        return Err(SnapshotFault::Damaged);
+    }
+    let at = geometry.area_place(head.generation);
+    let bytes = read_bytes(alloc, disk, at, head.length_in_bytes)?;
+    if !is_digest_of(&head.digest, bytes.as_slice()) {
+        return Err(SnapshotFault::Damaged);
+    }
+    Ok(bytes)
+}
+
+fn is_digest_of(digest: &[u8; 32], bytes: &[u8]) -> bool
+    ensures { IsTrue result ↔ (digest.now ≡ sha256 bytes.now) }
+{
+    Sha256::digest(bytes) == *digest
+}
+
+/// So many bytes from this sector on.
+fn read_bytes<D: Disk>(
+    alloc: Global,
+    disk: &mut D,
+    at: u64,
+    len: u64,
+) -> Result<Vec<u8>, SnapshotFault>
+    requires small { len ≤ 2 ^ 60 }
+    requires room { 512 * at + len ≤ 512 * (D.medium disk.old).sectors }
+    ensures reads { OnlyReads (D.medium disk.old) (D.medium disk.new) }
+    ensures bytes { IfOk result (λ v. (count : ℕ) → len ≤ 512 * count → (image : Image) → (D.medium disk.new).shows image → v.items ≡ take len (bytes_from image at count)) }
+    ensures len { IfOk result (λ v. length v.items ≡ len) }
+    ensures cause { (fault : DiskFault) → result ≡ Err (SnapshotFault.Disk fault) → (D.medium disk.old).faults < (D.medium disk.new).faults }
+    ensures kind { IfErr result (λ e. e ≡ SnapshotFault.Memory ⊎ ((fault : DiskFault) × (e ≡ SnapshotFault.Disk fault))) }
+{
+    let mut bytes = Vec::new(alloc);
+    let mut sector = [0; 512];
+    for i in 0..len.div_ceil(512) {
+        disk.read(at + i, &mut sector)?;
+        bytes.extend_from_slice(&sector)?;
+    }
+    bytes.truncate(len as usize);
+    Ok(bytes)
+}
