@@ -24,7 +24,10 @@ fn tells_mistakes_from_help(rt: HostRuntime) -> Result<(), Fail> {
     assert_eq!(rt; status_of(read_words(alloc, &["wasmhost"])), 2);
     assert_eq!(rt; status_of(read_words(alloc, &["wasmhost", "rum"])), 2);
     assert_eq!(rt; status_of(read_words(alloc, &["wasmhost", "check"])), 2);
-    assert_eq!(rt; status_of(read_words(alloc, &["wasmhost", "check", "a", "b"])), 2);
+    assert_eq!(rt;
+        status_of(read_words(alloc, &["wasmhost", "check", "a", "b"])),
+        2
+    );
     assert_eq!(rt; status_of(read_words(alloc, &["wasmhost", "--help"])), 0);
     Ok(())
 }
