@@ -32,11 +32,7 @@ fn check_function(
 }
 
 /// Each of these functions of a module whose types are valid.
-pub fn check_functions(
-    own: &[Function],
-    context: &Context,
-    alloc: Global,
-) -> Result<(), ValidFault>
+pub fn check_functions(own: &[Function], context: &Context, alloc: Global) -> Result<(), ValidFault>
     ensures { (m : TheModule) (functions : List Kind) → IsContextOf (module_context m functions) context.now → AllByRecursion IsFunctionTypeValid m.types → Judges result (AllByRecursion (IsFunctionValid m functions) own.now) }
 {
     let mut checker = BodyChecker::new(alloc);

@@ -1,6 +1,6 @@
 //! Valid modules.
 
-ghost use Rattle.std.specs.Prelude.{◌≡◌, IfOk, IfErr};
+ghost use Rattle.std.specs.Prelude.{◌≡◌, IfOk, IfErr, OnOk};
 ghost use Rattle.wasm_syntax_rules.specs.Validity.{IsValid};
 ghost use Rattle.wasm_validate_parts.specs.Answers.{Denies, Judges};
 
@@ -40,7 +40,7 @@ impl ValidModule {
 /// The faults are told in the order of the sections. Time in proportion to the module, but for the names of
 /// exports, whose bytes take n log n.
 fn check(module: &Module, alloc: Global) -> Result<(), ValidFault>
-    ensures { Judges result (IsValid module.now) }
+    ensures { Judges result (IsValid «module».now) }
 {
     let context = Context::of(module, alloc)?;
     check_before_code(module, &context, alloc)?;
@@ -50,7 +50,8 @@ fn check(module: &Module, alloc: Global) -> Result<(), ValidFault>
 
 /// Decides whether a module is valid. A refusal other than `Memory` says that it is not.
 pub fn validate(module: Module, alloc: Global) -> Result<ValidModule, ValidFault>
-    ensures valid { IfOk result (λ v. v ≡ «module») }
+    ensures same { IfOk result (λ v. v ≡ «module») }
+    ensures valid { OnOk result (IsValid «module») }
     ensures only { IfErr result (λ e. Denies e (IsValid «module»)) }
 {
     check(&module, alloc)?;
