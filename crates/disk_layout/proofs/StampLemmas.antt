@@ -59,8 +59,7 @@ mixed : (n k : ℕ) (b a : List ℕ) → IsMixed n k b a → (low power above_ne
 mixed n k b a is =
     let one : length (take k b) ≡ k = length-take-le k b (omega (arith, is.within, is.new_long)) in
     let two : length (take k a) ≡ k = length-take-le k a (omega (arith, is.within, is.old_long)) in
-    let small = number_of-lt (take k b) (all_take k b is.bytes) in
-    (
+    let small = number_of-lt (take k b) (all_take k b is.bytes) in (
       number_of (take k b),
       256 ^ k,
       number_of (drop k b),

@@ -1,6 +1,6 @@
 // Why a disk shows no worker.
-use std::alloc::AllocError;
 use sector_disk::DiskFault;
+use std::alloc::AllocError;
 use thiserror::Error;
 
 #[derive(Clone, Copy, Debug, PartialEq, Eq, Error)]

@@ -14,7 +14,15 @@ fn a_torn_stamp_is_never_newer(rt: HostRuntime) -> Result<(), Fail> {
     disk.sync()?;
     let new = journal_sector(256, 3, b"new");
     disk.write(0, &new)?;
-    for (front, shown) in [(0, 255), (496, 255), (497, 0), (498, 256), (503, 256), (511, 256), (512, 256)] {
+    for (front, shown) in [
+        (0, 255),
+        (496, 255),
+        (497, 0),
+        (498, 256),
+        (503, 256),
+        (511, 256),
+        (512, 256),
+    ] {
         let mut left = disk.cut(alloc, &[front])?;
         let mut sector = [0; 512];
         left.read(0, &mut sector)?;
@@ -28,7 +36,10 @@ fn a_torn_stamp_is_never_newer(rt: HostRuntime) -> Result<(), Fail> {
 fn a_super_leads_to_what_stands_behind_it(rt: HostRuntime) -> Result<(), Fail> {
     let alloc = rt.alloc();
     let mut disk = MemDisk::new(alloc, 5, 4)?;
-    assert_eq!(rt; read_super(alloc, &mut disk).err(), Some(LayoutFault::NotAWorker));
+    assert_eq!(rt;
+        read_super(alloc, &mut disk).err(),
+        Some(LayoutFault::NotAWorker)
+    );
     let mut sector = [b'm'; 512];
     sector[..4].copy_from_slice(b"conf");
     let contents = Super {
@@ -50,6 +61,9 @@ fn a_super_leads_to_what_stands_behind_it(rt: HostRuntime) -> Result<(), Fail> {
     assert_eq!(rt; stored.geometry, contents.geometry);
     sector[300] = b'n';
     disk.write(3, &sector)?;
-    assert_eq!(rt; read_super(alloc, &mut disk).err(), Some(LayoutFault::Damaged));
+    assert_eq!(rt;
+        read_super(alloc, &mut disk).err(),
+        Some(LayoutFault::Damaged)
+    );
     Ok(())
 }

@@ -96,9 +96,12 @@ module _ (geometry : Geometry) (g used : ℕ) (bytes : List ℕ) (records kept :
           each = λ i lt.
               let new = is_new geometry g used n (records_bytes records) bytes old_image new_image run i lt in
               let long : length (sector_at (packed g (used + 1) n bytes) i) ≡ 512 = ap length (packed_at g (used + 1) n bytes i lt) ∙ length-journal_sector g (used + 1 + i) _ new.most in
-              let old-long = full (journal_place geometry + used + i) (omega arith) in
-              (512, omega arith, written.each i lt ∙ sym (ap (λ l. l ++ drop 512 (sector_at old_image (journal_place geometry + used + i))) (take_all 512 (sector_at (packed g (used + 1) n bytes) i) (omega arith))
-              ∙ ap (λ l. sector_at (packed g (used + 1) n bytes) i ++ l) (drop_all 512 (sector_at old_image (journal_place geometry + used + i)) (omega arith)) ∙ append-nil (sector_at (packed g (used + 1) n bytes) i)));
+              let old-long = full (journal_place geometry + used + i) (omega arith) in (
+                512,
+                omega arith,
+                written.each i lt ∙ sym (ap (λ l. l ++ drop 512 (sector_at old_image (journal_place geometry + used + i))) (take_all 512 (sector_at (packed g (used + 1) n bytes) i) (omega arith))
+                    ∙ ap (λ l. sector_at (packed g (used + 1) n bytes) i ++ l) (drop_all 512 (sector_at old_image (journal_place geometry + used + i)) (omega arith)) ∙ append-nil (sector_at (packed g (used + 1) n bytes) i)),
+              );
         }
 
     pub durable : (new : Medium) → Follows (IsWrittenRun (journal_place geometry + used) (packed g (used + 1) (sectors_for (length bytes)) bytes) (sectors_for (length bytes))) old.shows new.may_leave

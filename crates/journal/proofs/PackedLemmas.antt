@@ -95,8 +95,7 @@ torn_front image g s p (suc m) bytes each =
     (λ (meant : IsOf g p (sector_at image s) × (payload_of_sector (sector_at image s) ≡ part bytes (494 * 0) 494)).
     let rest = torn_front image g (s + 1) (p + 1) m (drop 494 bytes) (λ i lt.
     let Q : ℕ → List ℕ → Type 0 = λ q t. (shown_generation q t < g) ⊎ (IsOf g q t × (payload_of_sector t ≡ part (drop 494 bytes) (494 * i) 494)) in
-    at_next Q image s p i (subst (λ (l : List ℕ). (shown_generation (p + suc i) (sector_at image (s + suc i)) < g) ⊎ (IsOf g (p + suc i) (sector_at image (s + suc i)) × (payload_of_sector (sector_at image (s + suc i)) ≡ l))) (sym (part_next bytes i)) (each (suc i) (omega arith)))) in
-    (
+    at_next Q image s p i (subst (λ (l : List ℕ). (shown_generation (p + suc i) (sector_at image (s + suc i)) < g) ⊎ (IsOf g (p + suc i) (sector_at image (s + suc i)) × (payload_of_sector (sector_at image (s + suc i)) ≡ l))) (sym (part_next bytes i)) (each (suc i) (omega arith)))) in (
       494 + rest.0,
       pay_on image g s p m (is_of_true g p (sector_at image s) meant.0) ∙ ap (λ l. l ++ payloads_from image g (s + 1) (p + 1) m) meant.1 ∙ ap (λ l. take 494 bytes ++ l) rest.1 ∙ parts_joined 494 rest.0 bytes,
     ))

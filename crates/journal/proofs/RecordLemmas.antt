@@ -106,12 +106,11 @@ cut_front (r ∷ records) m n fit le =
     let head = length-record r in
     let fewer = n - 1 in
     let n-is : n ≡ suc fewer = omega arith in
-    let rest = cut_front records more fewer fit.1 (omega arith) in
-    (
+    let rest = cut_front records more fewer fit.1 (omega arith) in (
       suc rest.0,
       let l = rest.1 in omega arith,
       ap (λ k. records_at longest_payload k (take m (record_bytes r ++ records_bytes records))) n-is
-      ∙ ap (λ l. records_at longest_payload (suc fewer) l) e ∙ one_more r (take more (records_bytes records)) fewer fit.0 ∙ ap (λ l. r ∷ l) rest.2,
+          ∙ ap (λ l. records_at longest_payload (suc fewer) l) e ∙ one_more r (take more (records_bytes records)) fewer fit.0 ∙ ap (λ l. r ∷ l) rest.2,
     ))
     (cases_lt m (length (record_bytes r)))
 
@@ -126,12 +125,11 @@ scan_front (r ∷ records) kept c n fit fit-kept le =
     let head = length-record r in
     let fewer = n - 1 in
     let n-is : n ≡ suc fewer = omega arith in
-    let rest = scan_front records kept c fewer fit.1 fit-kept (omega arith) in
-    (
+    let rest = scan_front records kept c fewer fit.1 fit-kept (omega arith) in (
       rest.0,
       rest.1,
       ap (λ k. records_at longest_payload k ((record_bytes r ++ records_bytes records) ++ take c (records_bytes kept))) n-is
-      ∙ ap (λ l. records_at longest_payload (suc fewer) l) e ∙ one_more r tail fewer fit.0 ∙ ap (λ l. r ∷ l) rest.2,
+          ∙ ap (λ l. records_at longest_payload (suc fewer) l) e ∙ one_more r tail fewer fit.0 ∙ ap (λ l. r ∷ l) rest.2,
     )
 
 pub scan_of : (geometry : Geometry) (image : Image) (g c : ℕ) (records kept : List Record) → AllFit records → AllFit kept

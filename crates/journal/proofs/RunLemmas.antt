@@ -51,7 +51,7 @@ module _ (geometry : Geometry) (g used n : ℕ) (bytes kept : List ℕ) (old new
       let behind = length-drop (494 * i) kept in
       let places = run.places in
       ⊎_elim
-      (λ (long : 494 < length (drop (494 * i) kept)). 
+      (λ (long : 494 < length (drop (494 * i) kept)).
       let l = length-take-le 494 (drop (494 * i) kept) (omega arith) in
       record { some = omega (arith, l); most = omega (arith, l); generation = run.generation; fits = omega (arith, places) })
       (λ (short : length (drop (494 * i) kept) ≤ 494).
@@ -101,11 +101,10 @@ module _ (geometry : Geometry) (g used n : ℕ) (bytes kept : List ℕ) (old new
         let holds = run.stands in
         let rest = geometry.journal_sectors - used in
         let count : geometry.journal_sectors ≡ used + rest = let w = holds.within in omega arith in
-        let front = torn_front new g (journal_place geometry + used) (1 + used) rest kept behind_at in
-        (
+        let front = torn_front new g (journal_place geometry + used) (1 + used) rest kept behind_at in (
           front.0,
           ap (λ k. payloads_from new g (journal_place geometry) 1 k) count ∙ payloads_split new g (journal_place geometry) 1 used rest still_written
-          ∙ ap (λ l. l ++ payloads_from new g (journal_place geometry + used) (1 + used) rest) still_holds ∙ ap (λ l. bytes ++ l) front.1,
+              ∙ ap (λ l. l ++ payloads_from new g (journal_place geometry + used) (1 + used) rest) still_holds ∙ ap (λ l. bytes ++ l) front.1,
         )
 
     pub none_later : ShowsNoneAfter geometry g new

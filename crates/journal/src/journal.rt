@@ -159,7 +159,13 @@ impl Journal {
             return Err(JournalFault::Full);
         }
         let at = geometry.journal_place() + self.used;
-        let stored = store_packed(disk, at, self.generation, self.used + 1, self.kept.as_slice());
+        let stored = store_packed(
+            disk,
+            at,
+            self.generation,
+            self.used + 1,
+            self.kept.as_slice(),
+        );
         if let Err(fault) = stored {
             self.has_failed = true;
             return Err(JournalFault::Disk(fault));

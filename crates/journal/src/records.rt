@@ -44,12 +44,7 @@ pub(crate) fn put_record(bytes: &mut Vec<u8>, entry: &Record) -> Result<(), Allo
     }
 }
 
-fn put_parts(
-    bytes: &mut Vec<u8>,
-    kind: u8,
-    step: u64,
-    payload: &[u8],
-) -> Result<(), AllocError>
+fn put_parts(bytes: &mut Vec<u8>, kind: u8, step: u64, payload: &[u8]) -> Result<(), AllocError>
     requires { length payload.now < 2 ^ 16 }
     ensures step { step < 2 ^ 64 }
     ensures put { OnOk result (bytes.new.items ≡ bytes.old.items ++ (kind ∷ (u64_bytes step ++ (u16_bytes (length payload.now) ++ payload.now)))) }

@@ -81,7 +81,10 @@ fn a_record_byte_by_byte(rt: HostRuntime) -> Result<(), Fail> {
         &sector[..18],
         b"\x10\0\x01\x06\0\0\0\0\0\0\0\x05\0hello".as_slice()
     );
-    assert_eq!(rt; &sector[496..], b"\x01\0\0\0\0\0\0\0\x01\0\0\0\0\0\0\0".as_slice());
+    assert_eq!(rt;
+        &sector[496..],
+        b"\x01\0\0\0\0\0\0\0\x01\0\0\0\0\0\0\0".as_slice()
+    );
     Ok(())
 }
 
@@ -102,7 +105,10 @@ fn a_torn_batch_keeps_its_first_record(rt: HostRuntime) -> Result<(), Fail> {
         assert_eq!(rt; disk.calls(), (0, 3, 1));
         let mut left = disk.into_inner().cut(alloc, &[512, 499, 512])?;
         assert_eq!(rt; scanned(alloc, &mut left, 1)?, Some(1));
-        assert_eq!(rt; journal.append(&PLACES, &request(alloc, 4, 1)?), Err(JournalFault::Failed));
+        assert_eq!(rt;
+            journal.append(&PLACES, &request(alloc, 4, 1)?),
+            Err(JournalFault::Failed)
+        );
 
         // The third sector of generation 1 is none of generation 2.
         let mut journal = Journal::fresh(alloc, 2);
@@ -119,7 +125,10 @@ fn run<D: Disk>(alloc: Global, disk: &mut D) -> Result<usize, AllocError> {
     let mut acknowledged = 0;
     for pair in 0..5u64 {
         for step in [2 * pair + 1, 2 * pair + 2] {
-            if journal.append(&PLACES, &request(alloc, step, 250)?).is_err() {
+            if journal
+                .append(&PLACES, &request(alloc, step, 250)?)
+                .is_err()
+            {
                 return Ok(acknowledged);
             }
         }
@@ -141,7 +150,10 @@ fn a_stop_anywhere_leaves_what_was_acknowledged(rt: HostRuntime) -> Result<(), F
             let acknowledged = run(alloc, &mut disk)?;
             let mut left = disk.into_inner().cut(alloc, &[])?;
             let kept = scanned(alloc, &mut left, 1)?;
-            assert!(rt; kept.is_some_and(|kept| acknowledged <= kept && kept <= 10), "{call} {front}");
+            assert!(rt;
+                kept.is_some_and(|kept| acknowledged <= kept && kept <= 10),
+                "{call} {front}"
+            );
         }
     }
     Ok(())
@@ -157,7 +169,10 @@ fn a_failed_call_keeps_what_was_acknowledged(rt: HostRuntime) -> Result<(), Fail
             let acknowledged = run(alloc, &mut disk)?;
             let mut disk = disk.into_inner();
             let kept = scanned(alloc, &mut disk, 1)?;
-            assert!(rt; kept.is_some_and(|kept| acknowledged <= kept && kept <= 10), "{call} {front}");
+            assert!(rt;
+                kept.is_some_and(|kept| acknowledged <= kept && kept <= 10),
+                "{call} {front}"
+            );
         }
     }
     Ok(())
@@ -179,11 +194,17 @@ fn writes_as_few_sectors_as_hold_the_bytes(rt: HostRuntime) -> Result<(), Fail> 
     let mut journal = Journal::fresh(alloc, 1);
     journal.append(&PLACES, &request(alloc, 1, 4096)?)?;
     assert_eq!(rt; journal.room(&PLACES), 3797);
-    assert_eq!(rt; journal.append(&PLACES, &request(alloc, 2, 3787)?), Err(JournalFault::Full));
+    assert_eq!(rt;
+        journal.append(&PLACES, &request(alloc, 2, 3787)?),
+        Err(JournalFault::Full)
+    );
     let mut journal = Journal::fresh(alloc, 1);
     journal.append(&PLACES, &request(alloc, 1, 4096)?)?;
     journal.append(&PLACES, &request(alloc, 2, 3786)?)?;
     let mut journal = Journal::fresh(alloc, 1);
-    assert_eq!(rt; journal.append(&PLACES, &request(alloc, 1, 4097)?), Err(JournalFault::TooLong));
+    assert_eq!(rt;
+        journal.append(&PLACES, &request(alloc, 1, 4097)?),
+        Err(JournalFault::TooLong)
+    );
     Ok(())
 }

@@ -19,8 +19,7 @@ returns c =
     let config : c.from_vec.result ≡ take s.config bytes = c.from_vec.ensures ∙ c.in-Ok.ensures.items in
     let wasm : c.from_vec-2.result ≡ take ((s.config + s.wasm) - s.config) (drop s.config bytes) = c.from_vec-2.ensures ∙ c.in-Ok-from_slice.ensures.items in
     let both : c.from_vec.result ++ c.from_vec-2.result ≡ take s.config bytes ++ take ((s.config + s.wasm) - s.config) (drop s.config bytes) = cc in
-    let is = c.is_digest_of.ensures in
-    (
+    let is = c.is_digest_of.ensures in (
       refl,
       ap length config ∙ length-take-le s.config bytes (omega arith),
       ap length wasm ∙ length-take-le ((s.config + s.wasm) - s.config) (drop s.config bytes) (omega (arith, length-drop s.config bytes)) ∙ omega arith,
