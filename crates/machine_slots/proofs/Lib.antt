@@ -1,3 +1,4 @@
 pub mod Falls
 pub mod Families
 pub mod Places
+pub mod TypedFrames

@@ -4,6 +4,7 @@
 
 mod effects;
 mod integers;
+mod laws;
 mod linear_memory;
 mod parametric;
 mod slots;
@@ -12,6 +13,7 @@ mod words;
 
 pub use effects::operate;
 pub use integers::{binary, compare, convert, eqz, unary};
+pub use laws::{typed_frames_are_ready, words_are_slots};
 pub use linear_memory::{load, memory_grow, memory_size, store};
 pub use parametric::{constant, drop_top, select};
 pub use slots::{SLOTS, Slots};

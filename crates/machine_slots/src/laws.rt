@@ -1,0 +1,14 @@
+//! Laws over all programs and frames. The functions do nothing: what they ensure is the law.
+
+ghost use Rattle.machine_slots.specs.Laws.{SlotsAreWords, TypedFramesAreReady, WordsAreSlots};
+
+/// Whoever shows a typed frame may operate on it.
+pub fn typed_frames_are_ready()
+    ensures { TypedFramesAreReady }
+{}
+
+/// The words of a frame and its slots from the first local on are the same, in the opposite order.
+pub fn words_are_slots()
+    ensures words { WordsAreSlots }
+    ensures slots { SlotsAreWords }
+{}
