@@ -1,3 +1,4 @@
+pub mod Branches
 pub mod Falls
 pub mod Families
 pub mod Places

@@ -1,6 +1,6 @@
 //! Laws over all programs and frames. The functions do nothing: what they ensure is the law.
 
-ghost use Rattle.machine_slots.specs.Laws.{SlotsAreWords, TypedFramesAreReady, WordsAreSlots};
+ghost use Rattle.machine_slots.specs.Laws.{BranchesFall, EntryPushesZeros, ReturnsFall, SlotsAreWords, TypedFramesAreReady, WordsAreSlots};
 
 /// Whoever shows a typed frame may operate on it.
 pub fn typed_frames_are_ready()
@@ -11,4 +11,11 @@ pub fn typed_frames_are_ready()
 pub fn words_are_slots()
     ensures words { WordsAreSlots }
     ensures slots { SlotsAreWords }
+{}
+
+/// What branches, returns and entries of functions do to the words of a frame.
+pub fn jumps_are_falls()
+    ensures branches { BranchesFall }
+    ensures returns { ReturnsFall }
+    ensures entries { EntryPushesZeros }
 {}

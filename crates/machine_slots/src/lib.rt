@@ -8,12 +8,14 @@ mod laws;
 mod linear_memory;
 mod parametric;
 mod slots;
+#[cfg(test)]
+mod tests;
 mod variables;
 mod words;
 
 pub use effects::operate;
 pub use integers::{binary, compare, convert, eqz, unary};
-pub use laws::{typed_frames_are_ready, words_are_slots};
+pub use laws::{jumps_are_falls, typed_frames_are_ready, words_are_slots};
 pub use linear_memory::{load, memory_grow, memory_size, store};
 pub use parametric::{constant, drop_top, select};
 pub use slots::{SLOTS, Slots};
