@@ -1,7 +1,7 @@
 -- A typed frame is ready for the instruction that its types allow, and its words are those of its slots.
-use Rattle.std.proofs.Common.{◌≡◌, ℕ, ◌≤◌, ◌^◌, List, [], ◌∷◌, ◌++◌, length, refl, sym, ap, ◌∙◌, append_assoc}
+use Rattle.std.proofs.Common.{◌≡◌, ℕ, ◌+◌, ◌≤◌, ◌^◌, List, [], ◌∷◌, ◌++◌, length, sym, ap, ◌∙◌, arith, append_assoc, length-append}
 use Rattle.std.specs.Prelude.{map, reverse}
-use Rattle.std.proofs.lemmas.List.{reverse-append, reverse-reverse, map-append}
+use Rattle.std.proofs.lemmas.List.{reverse-append, reverse-reverse, map-append, length-map, length-reverse}
 use Rattle.wasm_syntax.specs.declared.types.ValueType.{ValueType}
 use Rattle.wasm_syntax.specs.declared.types.ValueType.TheVariants.{I32, I64}
 use Rattle.wasm_syntax.specs.declared.value.Value.{Value}
@@ -42,6 +42,11 @@ typed_ready c program labels i p q types base words globals memory store ls vs b
       fits = typed_fit (p ++ types) vs operands;
       has = typed_not_wrong c program few (q ++ types) (effect program i store ls vs) (effect_has c program few labels i p q types store ls vs is rule typed locals operands);
     }
+
+-- how many words a frame has, with those of the frames that wait
+pub length-frame_words : (ls vs : List Value) (below callers : List ℕ) → length (frame_words ls vs below callers) ≡ length vs + (length below + (length ls + length callers))
+length-frame_words ls vs below callers =
+    omega (arith, length-append (map number_in vs) (below ++ (map number_in (reverse ls) ++ callers)), length-append below (map number_in (reverse ls) ++ callers), length-append (map number_in (reverse ls)) callers, length-map vs number_in, length-map (reverse ls) number_in, length-reverse ls)
 
 -- the slots of a frame above those of the frames that wait, from the top down
 pub slots_words : (ls : List Value) (labels : List Label) (vs : List Value) (callers : List ℕ) → reverse (callers ++ slots_of ls labels vs) ≡ frame_words ls vs (map number_in (all_below labels)) (reverse callers)

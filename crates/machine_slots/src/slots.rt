@@ -50,6 +50,13 @@ impl Slots {
         self.height == 0
     }
 
+    /// All words from the bottom up.
+    pub fn as_slice(&self) -> &[u64]
+        ensures { result.now ≡ reverse self.now }
+    {
+        &self.words[..self.height]
+    }
+
     /// Whether so many more words fit.
     #[inline(always)]
     pub fn has_room(&self, more: usize) -> bool
