@@ -91,16 +91,16 @@ branch_splits l f g ls ms labels outer vs values target callers e =
     let operands : map number_in vs ≡ map number_in r.kept ++ map number_in r.spare = ap (map number_in) r.operands ∙ map-append number_in r.kept r.spare in
     let all : map number_in (all_below labels) ≡ map number_in r.skipped ++ map number_in inner = ap (map number_in) r.all ∙ map-append number_in r.skipped inner in
     let split : frame_words ls vs (map number_in (all_below labels)) callers ≡ map number_in r.kept ++ (between ++ under) =
-        ap (λ z. z ++ (map number_in (all_below labels) ++ tail)) operands
-        ∙ ap (λ z. (map number_in r.kept ++ map number_in r.spare) ++ (z ++ tail)) all
-        ∙ append_assoc (map number_in r.kept) (map number_in r.spare) ((map number_in r.skipped ++ map number_in inner) ++ tail)
-        ∙ ap (λ z. map number_in r.kept ++ (map number_in r.spare ++ z)) (append_assoc (map number_in r.skipped) (map number_in inner) tail)
-        ∙ ap (λ z. map number_in r.kept ++ z) (sym (append_assoc (map number_in r.spare) (map number_in r.skipped) under)) in
+    ap (λ z. z ++ (map number_in (all_below labels) ++ tail)) operands
+    ∙ ap (λ z. (map number_in r.kept ++ map number_in r.spare) ++ (z ++ tail)) all
+    ∙ append_assoc (map number_in r.kept) (map number_in r.spare) ((map number_in r.skipped ++ map number_in inner) ++ tail)
+    ∙ ap (λ z. map number_in r.kept ++ (map number_in r.spare ++ z)) (append_assoc (map number_in r.skipped) (map number_in inner) tail)
+    ∙ ap (λ z. map number_in r.kept ++ z) (sym (append_assoc (map number_in r.spare) (map number_in r.skipped) under)) in
     let left : map number_in r.kept ++ under ≡ frame_words ls values (map number_in (all_below outer)) callers =
-        ap (λ z. map number_in r.kept ++ (z ++ tail)) (map-append number_in r.below (all_below outer))
-        ∙ ap (λ z. map number_in r.kept ++ z) (append_assoc (map number_in r.below) (map number_in (all_below outer)) tail)
-        ∙ sym (append_assoc (map number_in r.kept) (map number_in r.below) (map number_in (all_below outer) ++ tail))
-        ∙ ap (λ z. z ++ (map number_in (all_below outer) ++ tail)) (sym (map-append number_in r.kept r.below) ∙ ap (map number_in) (sym r.leaves)) in
+    ap (λ z. map number_in r.kept ++ (z ++ tail)) (map-append number_in r.below (all_below outer))
+    ∙ ap (λ z. map number_in r.kept ++ z) (append_assoc (map number_in r.below) (map number_in (all_below outer)) tail)
+    ∙ sym (append_assoc (map number_in r.kept) (map number_in r.below) (map number_in (all_below outer) ++ tail))
+    ∙ ap (λ z. z ++ (map number_in (all_below outer) ++ tail)) (sym (map-append number_in r.kept r.below) ∙ ap (map number_in) (sym r.leaves)) in
     record {
       kept = map number_in r.kept;
       between = between;
@@ -155,9 +155,9 @@ entry_pushes arguments declared callers =
     let zeros : List ℕ = replicate (length declared) 0 in
     let numbers : List ℕ = map number_in arguments in
     let turned : map number_in (reverse (reverse arguments ++ map zero_of declared)) ≡ zeros ++ numbers =
-        map-reverse number_in (reverse arguments ++ map zero_of declared)
-        ∙ ap reverse (map-append number_in (reverse arguments) (map zero_of declared))
-        ∙ reverse-append (map number_in (reverse arguments)) (map number_in (map zero_of declared))
-        ∙ ap (λ z. z ++ reverse (map number_in (reverse arguments))) (ap reverse (zero_words declared) ∙ reverse-replicate (length declared) 0)
-        ∙ ap (λ z. zeros ++ z) (sym (map-reverse number_in (reverse arguments)) ∙ ap (map number_in) (reverse-reverse arguments)) in
+    map-reverse number_in (reverse arguments ++ map zero_of declared)
+    ∙ ap reverse (map-append number_in (reverse arguments) (map zero_of declared))
+    ∙ reverse-append (map number_in (reverse arguments)) (map number_in (map zero_of declared))
+    ∙ ap (λ z. z ++ reverse (map number_in (reverse arguments))) (ap reverse (zero_words declared) ∙ reverse-replicate (length declared) 0)
+    ∙ ap (λ z. zeros ++ z) (sym (map-reverse number_in (reverse arguments)) ∙ ap (map number_in) (reverse-reverse arguments)) in
     ap (λ z. z ++ callers) turned ∙ append_assoc zeros numbers callers

@@ -56,10 +56,10 @@ slots_words ls labels vs callers =
     let B : List ℕ = map number_in (all_below labels) in
     let L : List ℕ = map number_in (reverse ls) in
     let turned : reverse (map number_in (ls ++ reverse operands)) ≡ (A ++ B) ++ L =
-        sym (map-reverse number_in (ls ++ reverse operands))
-        ∙ ap (map number_in) (reverse-append ls (reverse operands) ∙ ap (λ z. z ++ reverse ls) (reverse-reverse operands))
-        ∙ map-append number_in operands (reverse ls)
-        ∙ ap (λ z. z ++ L) (map-append number_in vs (all_below labels)) in
+    sym (map-reverse number_in (ls ++ reverse operands))
+    ∙ ap (map number_in) (reverse-append ls (reverse operands) ∙ ap (λ z. z ++ reverse ls) (reverse-reverse operands))
+    ∙ map-append number_in operands (reverse ls)
+    ∙ ap (λ z. z ++ L) (map-append number_in vs (all_below labels)) in
     reverse-append callers (slots_of ls labels vs)
     ∙ ap (λ z. z ++ reverse callers) turned
     ∙ append_assoc (A ++ B) L (reverse callers)
