@@ -1,6 +1,4 @@
-//! A host for durable WebAssembly workers.
-//!
-//! So far it knows one command, `check MODULE`, and of modules only that an empty file is none.
+//! A host for durable WebAssembly workers: the program's words, files and streams around its commands.
 #![tactic(auto)]
 
 ghost use Rattle.std.specs.Prelude.{◌≤◌};
@@ -8,28 +6,34 @@ ghost use Rattle.std.specs.Prelude.{◌≤◌};
 use std::alloc::Global;
 use std::env;
 use std::fs::File;
-use std::io::{self, Read, Write};
+use std::io::{self, ErrorKind, Read, Write};
 use std::process::ExitCode;
 use std::rt::{Env, Files};
-
-/// The status of a refused module.
-const REFUSED: u8 = 3;
+use wasmhost_serve::check_bytes;
+use wasmhost_words::{Order, WordsFault, read_words};
 
 /// The status of a command line that is not understood.
 const USAGE: u8 = 2;
 
-const USAGE_LINE: &str = "usage: wasmhost check MODULE";
-
 /// The status of a file that can't be read.
 const UNREADABLE: u8 = 4;
+
+/// The status of want of memory.
+const NO_MEMORY: u8 = 5;
 
 /// The status of output that can't be written.
 const UNWRITTEN: u8 = 7;
 
-fn first_byte<R: Files>(rt: &R, alloc: Global, path: &str) -> io::Result<Option<u8>> {
+/// The bytes of the longest module, and one more, by which a longer one is known.
+const LONGEST_MODULE: u64 = 2 * 1024 * 1024 + 1;
+
+/// The bytes of a file, no more of them than the longest module may have and one.
+fn read_file<R: Files>(rt: &R, alloc: Global, path: &str) -> io::Result<Vec<u8>> {
     let mut bytes = Vec::new(alloc);
-    File::open(rt, path)?.take(1).read_to_end(&mut bytes)?;
-    Ok(bytes.as_slice().first().copied())
+    File::open(rt, path)?
+        .take(LONGEST_MODULE)
+        .read_to_end(&mut bytes)?;
+    Ok(bytes)
 }
 
 /// Writes a line, and answers the status unless the line can't be written.
@@ -53,10 +57,28 @@ fn check<R: Files, W: Write, E: Write>(
 ) -> u8
     ensures { result ≤ 7 }
 {
-    match first_byte(rt, alloc, path) {
-        Ok(None) => say(out, REFUSED, "refused B1 Malformed at 0"),
-        Ok(Some(_)) => say(err, USAGE, "error: this version reads no modules yet"),
+    match read_file(rt, alloc, path) {
+        Ok(wasm) => check_bytes(alloc, wasm.as_slice(), out),
+        Err(error) if error.kind() == ErrorKind::OutOfMemory => {
+            say(err, NO_MEMORY, "failed K4 Memory")
+        }
         Err(_) => say(err, UNREADABLE, "failed K2 Io"),
+    }
+}
+
+/// Help goes to the output with status 0, all else to the error output.
+fn tell<W: Write, E: Write>(fault: &WordsFault, out: &mut W, err: &mut E) -> u8
+    ensures { result ≤ 7 }
+{
+    let status = fault.status();
+    let told = if status == 0 {
+        write!(out, "{fault}")
+    } else {
+        write!(err, "{fault}")
+    };
+    match told {
+        Ok(()) => status,
+        Err(_) => UNWRITTEN,
     }
 }
 
@@ -66,20 +88,21 @@ where
     R: AllocGlobal + Env + Files,
     ensures { result ≤ 7 }
 {
-    let Ok(mut words) = env::args(rt) else {
-        return say(err, USAGE, USAGE_LINE);
+    let alloc = rt.alloc();
+    let words: Vec<String> = match env::args(rt) {
+        Ok(words) => match words.collect(alloc) {
+            Ok(words) => words,
+            Err(_) => return say(err, NO_MEMORY, "failed N4 Memory"),
+        },
+        Err(error) if error.kind() == ErrorKind::OutOfMemory => {
+            return say(err, NO_MEMORY, "failed N4 Memory");
+        }
+        Err(_) => return say(err, USAGE, "error: an argument is no text"),
     };
-    let _program = words.next();
-    let Some(command) = words.next() else {
-        return say(err, USAGE, USAGE_LINE);
-    };
-    let Some(path) = words.next() else {
-        return say(err, USAGE, USAGE_LINE);
-    };
-    if command.as_str() != "check" || words.len() != 0 {
-        return say(err, USAGE, USAGE_LINE);
+    match read_words(alloc, words.as_slice()) {
+        Ok(Order::Check { path }) => check(rt, alloc, path, out, err),
+        Err(fault) => tell(&fault, out, err),
     }
-    check(rt, rt.alloc(), path.as_str(), out, err)
 }
 
 fn main(rt: HostRuntime) -> ExitCode {

@@ -1,0 +1,48 @@
+-- What each step refuses is no accepted module.
+use Rattle.std.proofs.Common.{◌≡◌, ◌≢◌, ℕ, List, sym, ◌∙◌, subst}
+use Rattle.wasm_syntax_grammar.proofs.Exact.{some_is}
+use Rattle.wasm_syntax_grammar.proofs.Whole.{module_complete}
+use Rattle.wasm_syntax.specs.declared.module.Module.{Module}
+use Rattle.wasm_syntax_grammar.specs.Modules.{IsModule}
+use Rattle.wasm_syntax_grammar.specs.Limits.{IsWithinLimits, HasNoModule}
+use Rattle.wasm_syntax_grammar.specs.Laws.{BytesSpellAtMostOneModule}
+use Rattle.wasm_syntax_rules.specs.Validity.{IsValid}
+use Rattle.wasm_syntax_rules.specs.Linking.{IsLinkable}
+use Rattle.wasm_decode.specs.declared.fault.DecodeFault.{DecodeFault}
+use Rattle.wasm_decode.specs.declared.fault.DecodeFault.TheVariants as decode
+use Rattle.wasm_validate_parts.specs.declared.fault.ValidFault.{ValidFault}
+use Rattle.wasm_validate_parts.specs.declared.fault.ValidFault.TheVariants as valid
+use Rattle.wasm_validate_parts.specs.Answers.{Denies as DeniesValid}
+use Rattle.machine_instance.specs.declared.fault.LinkFault.{LinkFault}
+use Rattle.machine_instance.specs.declared.fault.LinkFault.TheVariants as link
+use Rattle.machine_instance.specs.Refusals.{Denies as DeniesLink}
+use Rattle.machine_instance.specs.Offers.{offer}
+use Rattle.front_end.specs.declared.fault.FrontFault.TheVariants.{Decode, Valid, Link}
+use Rattle.front_end.specs.Acceptance.{Denies, HasNoAcceptedModule}
+
+one : BytesSpellAtMostOneModule
+one bytes m n is_m is_n = some_is m n (sym (module_complete bytes m is_m) ∙ module_complete bytes n is_n)
+
+module _ (pages : ℕ) (bytes : List ℕ) where
+  pub not_spelled : (e : DecodeFault) → (e ≢ decode.Memory → HasNoModule bytes) → Denies (Decode e) (HasNoAcceptedModule pages bytes)
+  not_spelled decode.Memory h = tt
+  not_spelled (decode.Malformed at) h = λ m a. h (λ e. absurd (cc)) m a.spelled a.limits
+  not_spelled (decode.Float at) h = λ m a. h (λ e. absurd (cc)) m a.spelled a.limits
+  not_spelled decode.Limit h = λ m a. h (λ e. absurd (cc)) m a.spelled a.limits
+
+  module _ (m : Module) (spelled : IsModule bytes m) where
+    pub not_valid : (e : ValidFault) → DeniesValid e (IsValid m) → Denies (Valid e) (HasNoAcceptedModule pages bytes)
+    not_valid valid.Memory h = tt
+    not_valid valid.Typing h = λ n a. h (subst IsValid (one bytes n m a.spelled spelled) a.valid)
+    not_valid valid.Index h = λ n a. h (subst IsValid (one bytes n m a.spelled spelled) a.valid)
+    not_valid valid.Limits h = λ n a. h (subst IsValid (one bytes n m a.spelled spelled) a.valid)
+    not_valid valid.DuplicateExport h = λ n a. h (subst IsValid (one bytes n m a.spelled spelled) a.valid)
+
+    pub not_linkable : (e : LinkFault) → DeniesLink (IsLinkable offer pages m) e → Denies (Link e) (HasNoAcceptedModule pages bytes)
+    not_linkable link.Memory h = tt
+    not_linkable link.NoStart h = λ n a. h (subst (λ z. IsLinkable offer pages z) (one bytes n m a.spelled spelled) a.linkable)
+    not_linkable link.NoMemory h = λ n a. h (subst (λ z. IsLinkable offer pages z) (one bytes n m a.spelled spelled) a.linkable)
+    not_linkable link.UnknownImport h = λ n a. h (subst (λ z. IsLinkable offer pages z) (one bytes n m a.spelled spelled) a.linkable)
+    not_linkable link.ImportType h = λ n a. h (subst (λ z. IsLinkable offer pages z) (one bytes n m a.spelled spelled) a.linkable)
+    not_linkable link.InitRange h = λ n a. h (subst (λ z. IsLinkable offer pages z) (one bytes n m a.spelled spelled) a.linkable)
+    not_linkable link.TooManyPages h = λ n a. h (subst (λ z. IsLinkable offer pages z) (one bytes n m a.spelled spelled) a.linkable)

@@ -1,0 +1,16 @@
+use Rattle.std.proofs.Common.{sym, subst}
+use Rattle.std.proofs.lemmas.Result.{err_from_is_err_and}
+use Rattle.wasm_syntax_grammar.specs.Modules.{IsModule}
+use Rattle.front_end.proofs.Refused.{not_valid, not_linkable}
+use Rattle.front_end.proofs.steps.accept.Goals as goal
+
+pub returns-in_err-valid-clause-only : goal.returns-in_err-valid-clause-only
+returns-in_err-valid-clause-only c =
+    let p = err_from_is_err_and c.from_residual-in_err-valid.result c.from_residual-in_err-valid.ensures.1 in
+    rw (p.1, p.2) (not_valid c.args.pages c.args.bytes.now c.in_ok-decoded.decoded c.in_ok-decoded.ensures.found.0 c.in_err-valid.field-0.0 c.in_err-valid.ensures.only)
+
+pub returns-in_err-link-clause-only : goal.returns-in_err-link-clause-only
+returns-in_err-link-clause-only c =
+    let p = err_from_is_err_and c.from_residual-in_err-link.result c.from_residual-in_err-link.ensures.1 in
+    let spelled = subst (λ z. IsModule c.args.bytes.now z) (sym c.in_ok-valid.ensures.same) c.in_ok-decoded.ensures.found.0 in
+    rw (p.1, p.2) (not_linkable c.args.pages c.args.bytes.now c.in_ok-valid.valid spelled c.in_err-link.field-0.0 c.in_err-link.ensures.only)

@@ -1,0 +1,63 @@
+//! Why a module is not accepted.
+
+ghost use Rattle.std.specs.Prelude.{◌≡◌};
+ghost use Rattle.front_end.specs.declared.fault.FrontFault.TheVariants as front;
+
+use machine::LinkFault;
+use thiserror::Error;
+use wasm_decode::DecodeFault;
+use wasm_validate::ValidFault;
+
+/// The fault of the first of the three steps that refuses the module. It is printed as that step's fault.
+#[derive(Clone, Copy, Debug, PartialEq, Eq, Error)]
+pub enum FrontFault {
+    #[error("{0}")]
+    Decode(DecodeFault),
+    #[error("{0}")]
+    Valid(ValidFault),
+    #[error("{0}")]
+    Link(LinkFault),
+}
+
+impl FrontFault {
+    /// Where in the bytes the item at fault stands, for those of the decoder that have a place.
+    pub fn place(&self) -> Option<usize> {
+        match self {
+            FrontFault::Decode(fault) => fault.place(),
+            FrontFault::Valid(_) | FrontFault::Link(_) => None,
+        }
+    }
+
+    /// Whether the host had no room, which says nothing of the module.
+    pub fn is_want_of_memory(&self) -> bool {
+        match self {
+            FrontFault::Decode(fault) => *fault == DecodeFault::Memory,
+            FrontFault::Valid(fault) => *fault == ValidFault::Memory,
+            FrontFault::Link(fault) => *fault == LinkFault::Memory,
+        }
+    }
+}
+
+impl From<DecodeFault> for FrontFault {
+    ghost from_gives = { λ fault e. e ≡ front.Decode fault };
+
+    fn from(fault: DecodeFault) -> FrontFault {
+        FrontFault::Decode(fault)
+    }
+}
+
+impl From<ValidFault> for FrontFault {
+    ghost from_gives = { λ fault e. e ≡ front.Valid fault };
+
+    fn from(fault: ValidFault) -> FrontFault {
+        FrontFault::Valid(fault)
+    }
+}
+
+impl From<LinkFault> for FrontFault {
+    ghost from_gives = { λ fault e. e ≡ front.Link fault };
+
+    fn from(fault: LinkFault) -> FrontFault {
+        FrontFault::Link(fault)
+    }
+}

@@ -1,0 +1,23 @@
+//! Decoding, validation and linking, one after another.
+
+ghost use Rattle.std.specs.Prelude.{◌≤◌, IfOk, IfErr};
+ghost use Rattle.front_end.specs.Acceptance.{Accepts, Denies, HasNoAcceptedModule};
+
+use crate::fault::FrontFault;
+use guest_memory::MOST_PAGES;
+use machine::{Machine, link};
+use std::alloc::Global;
+use wasm_decode::decode;
+use wasm_validate::validate;
+
+/// The machine of the module that the bytes spell, where its memory may have so many pages. A refusal other
+/// than for want of memory says that the bytes spell no module that is accepted.
+pub fn accept(alloc: Global, bytes: &[u8], pages: u32) -> Result<Machine, FrontFault>
+    requires { pages ≤ MOST_PAGES }
+    ensures accepted { IfOk result (Accepts pages bytes.now) }
+    ensures only { IfErr result (λ e. Denies e (HasNoAcceptedModule pages bytes.now)) }
+{
+    let decoded = decode(alloc, bytes)?;
+    let valid = validate(decoded, alloc)?;
+    Ok(link(valid, pages, alloc)?)
+}

@@ -1,0 +1,17 @@
+use Rattle.std.proofs.Common.{◌∙◌, ap, sym, map}
+use Rattle.std.specs.Prelude.{slice_get}
+use Rattle.std.specs.Option.{option_and_then}
+use Rattle.wasm_syntax_rules.specs.Validity.{function_type_of}
+use Rattle.wasm_validate_parts.proofs.Lookups.{slice_get-types}
+use Rattle.machine_instance.proofs.FunctionTypes.{all_types}
+use Rattle.machine_instance.proofs.exports.function_type.Goals as goal
+
+pub returns-in_err-index : goal.returns-in_err-index
+returns-in_err-index c = λ functions are.
+    let m = c.args.module.now in
+    rw c.from_residual.ensures (ap (option_and_then (slice_get m.types)) c.in_err-index.ensures ∙ sym (slice_get-types m.types (all_types m.imports m.functions) functions c.args.function are))
+
+pub returns : goal.returns
+returns c = λ functions are.
+    let m = c.args.module.now in
+    c.get.ensures ∙ (ap (option_and_then (slice_get m.types)) c.in_ok-index.ensures ∙ sym (slice_get-types m.types (all_types m.imports m.functions) functions c.args.function are))

@@ -1,0 +1,4 @@
+pub mod Offers
+pub mod Initial
+pub mod Refusals
+pub mod Instances

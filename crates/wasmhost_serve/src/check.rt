@@ -1,0 +1,55 @@
+//! `wasmhost check`.
+
+ghost use Rattle.std.specs.Prelude.{◌≡◌, ◌≤◌};
+
+use front_end::{FrontFault, accept};
+use std::alloc::Global;
+use std::io::{self, Write};
+
+/// How many pages a module's memory may need at first to be accepted by `check`.
+pub const PAGES: u32 = 256;
+
+/// The exit status of a refused module.
+const REFUSED: u8 = 3;
+
+/// The exit status where the host has no room.
+const NO_MEMORY: u8 = 5;
+
+/// The exit status where the output can't be written.
+const UNWRITTEN: u8 = 7;
+
+/// Prints a verdict: `accepted`, or `refused` with the fault's code and name, and its place if it has one.
+fn print_verdict<W: Write>(verdict: Result<(), FrontFault>, out: &mut W) -> io::Result<()> {
+    match verdict {
+        Ok(()) => writeln!(out, "accepted"),
+        Err(fault) => match fault.place() {
+            Some(at) => writeln!(out, "refused {fault} at {at}"),
+            None => writeln!(out, "refused {fault}"),
+        },
+    }
+}
+
+fn status_of(verdict: Result<(), FrontFault>) -> u8
+    ensures { result ≤ 7 }
+{
+    match verdict {
+        Ok(()) => 0,
+        Err(fault) if fault.is_want_of_memory() => NO_MEMORY,
+        Err(_) => REFUSED,
+    }
+}
+
+/// Says whether a module is accepted: prints a line, and answers the exit status, 0, 3 where it is refused, 5
+/// for want of memory, 7 where nothing can be printed.
+pub fn check_bytes<W: Write>(alloc: Global, wasm: &[u8], out: &mut W) -> u8
+    ensures { result ≤ 7 }
+{
+    let verdict = match accept(alloc, wasm, PAGES) {
+        Ok(_instance) => Ok(()),
+        Err(fault) => Err(fault),
+    };
+    match print_verdict(verdict, out) {
+        Ok(()) => status_of(verdict),
+        Err(_) => UNWRITTEN,
+    }
+}
