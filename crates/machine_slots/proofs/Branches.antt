@@ -8,7 +8,7 @@ use Rattle.wasm_syntax.specs.declared.types.ValueType.TheVariants.{I32, I64}
 use Rattle.wasm_syntax.specs.declared.value.Value.{Value}
 use Rattle.wasm_syntax.specs.Sequence.{Sequence}
 use Rattle.wasm_syntax_rules.specs.Types.{number_in}
-use Rattle.wasm_syntax_rules.specs.Configuration.{Label, LabelOf, Frame, FrameOf}
+use Rattle.wasm_syntax_rules.specs.Configuration.{Label, LabelOf, FrameOf}
 use Rattle.wasm_syntax_rules.specs.Steps.{topmost, branch, held_below, zero_of}
 use Rattle.machine_state.specs.Places.{all_below}
 use Rattle.machine_slots.specs.Frames.{frame_words}
