@@ -1,0 +1,8 @@
+//! The branch table of a function's body (Core Specification 1.0, sections 4.4.5 and 4.4.8, without labels at run time):
+//! where execution goes on after each branch, `if` and `else`, and which values it keeps.
+#![tactic(auto)]
+
+pub mod jump;
+pub mod laws;
+
+pub use jump::Jump;
