@@ -277,14 +277,21 @@ module _ (c : Context) (body : Sequence) where
     closes = inl (record { next = []; is = refl; reached = let same : suc (0 + length (spelled body)) ≡ suc (length (spelled body)) = omega arith in ap (λ z. body_shape c body z) same ∙ behind_body });
   }
 
-  -- what stands at a position is inside of the body or behind it
+  -- a position is inside of the body or behind its last end
+  pub where_position : (p : ℕ) (s : Shape) → body_shape c body p ≡ Some s → ((p ≤ length (spelled body)) × (shape_at c (ShapeOf c.returns Stop [] Stop ∷ []) body [] p ≡ Some s)) ⊎ ((p ≡ length (spelled body) + 1) × (end_shape ≡ s))
+  where_position p s e =
+      ⊎_elim
+      (λ (h : (p ≤ length (spelled body)) × (shape_at c (ShapeOf c.returns Stop [] Stop ∷ []) body [] p ≡ Some s)). inl h)
+      (λ (h : (length (spelled body) < p) × ((if p == length (spelled body) + 1 then Some end_shape else None) ≡ Some s)). inr (at_end (p == length (spelled body) + 1) refl h.1))
+      (chosen p (length (spelled body)) _ _ s e)
+    where
+      at_end : (b : Bool) → (p == length (spelled body) + 1) ≡ b → (if b then Some end_shape else None) ≡ Some s → (p ≡ length (spelled body) + 1) × (end_shape ≡ s)
+      at_end true t h = (grind (arith, nat_tests), cc)
+      at_end false t h = absurd (cc)
+
   pub where_shape : (p : ℕ) (s : Shape) → IsTypedBody c body → body_shape c body p ≡ Some s → PlaceOf c body p s ⊎ ((p ≡ length (spelled body) + 1) × (end_shape ≡ s))
   where_shape p s typed e =
       ⊎_elim
       (λ (h : (p ≤ length (spelled body)) × (shape_at c (ShapeOf c.returns Stop [] Stop ∷ []) body [] p ≡ Some s)). inl (placed_at (0 + p) p s (omega arith) (reach body 0 p _ [] s (root_place typed) h.1)))
-      (λ (h : (length (spelled body) < p) × ((if p == length (spelled body) + 1 then Some (end_shape) else None) ≡ Some s)). inr (at_end (p == length (spelled body) + 1) refl h.1))
-      (chosen p (length (spelled body)) _ _ s e)
-    where
-      at_end : (b : Bool) → (p == length (spelled body) + 1) ≡ b → (if b then Some (end_shape) else None) ≡ Some s → (p ≡ length (spelled body) + 1) × (end_shape ≡ s)
-      at_end true t h = (grind (arith, nat_tests), cc)
-      at_end false t h = absurd (cc)
+      (λ (h : (p ≡ length (spelled body) + 1) × (end_shape ≡ s)). inr h)
+      (where_position p s e)

@@ -1,3 +1,4 @@
 pub mod Jumps
 pub mod Tables
 pub mod Moves
+pub mod Making

@@ -4,5 +4,6 @@
 
 pub mod jump;
 pub mod laws;
+mod open;
 
 pub use jump::Jump;
