@@ -5,5 +5,8 @@
 pub mod jump;
 pub mod laws;
 mod open;
+mod stack;
+pub mod table;
 
 pub use jump::Jump;
+pub use table::BranchTable;
