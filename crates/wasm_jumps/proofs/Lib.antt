@@ -5,3 +5,4 @@ pub mod Closers
 pub mod Standing
 pub mod Stepping
 pub mod TableRight
+pub mod Low

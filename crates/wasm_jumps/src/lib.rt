@@ -2,11 +2,14 @@
 //! where execution goes on after each branch, `if` and `else`, and which values it keeps.
 #![tactic(auto)]
 
+mod closings;
 pub mod jump;
 pub mod laws;
 mod open;
+mod operands;
 mod stack;
 pub mod table;
+mod walk;
 
 pub use jump::Jump;
 pub use table::BranchTable;
