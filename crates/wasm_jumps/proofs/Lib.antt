@@ -6,3 +6,4 @@ pub mod Standing
 pub mod Stepping
 pub mod TableRight
 pub mod Low
+pub mod WalkStep

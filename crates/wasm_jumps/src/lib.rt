@@ -2,6 +2,7 @@
 //! where execution goes on after each branch, `if` and `else`, and which values it keeps.
 #![tactic(auto)]
 
+mod body;
 mod closings;
 pub mod jump;
 pub mod laws;
@@ -11,5 +12,6 @@ mod stack;
 pub mod table;
 mod walk;
 
+pub use body::branch_table;
 pub use jump::Jump;
 pub use table::BranchTable;
