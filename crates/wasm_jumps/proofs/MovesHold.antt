@@ -1,16 +1,16 @@
 -- The laws of how one position leads to the next.
-use Rattle.std.proofs.Common.{◌≡◌, ◌⊎◌, inl, inr, ⊎_elim, ℕ, zero, suc, ◌+◌, List, [], ◌∷◌, ◌++◌, length, drop, Option, Some, None, refl, sym, ap, ◌∙◌, subst, arith, length-append}
+use Rattle.std.proofs.Common.{◌≡◌, inl, inr, ⊎_elim, ℕ, zero, suc, ◌+◌, List, [], ◌∷◌, ◌++◌, length, drop, Option, Some, refl, sym, ap, ◌∙◌, subst, arith, length-append}
 use Rattle.std.specs.Prelude.{slice_get}
 use Rattle.wasm_syntax.specs.declared.types.ValueType.{ValueType}
 use Rattle.wasm_syntax.specs.declared.instruction.Instruction.{Instruction}
 use Rattle.wasm_syntax.specs.declared.instruction.Instruction.TheVariants as instr
 use Rattle.wasm_syntax.specs.Sequence.{Sequence, Stop, Plain, InBlock, InLoop, InIf, InIfElse, spelled, IsPlain}
 use Rattle.wasm_syntax_rules.specs.Typing.{Context, HasRule}
-use Rattle.wasm_syntax_rules.specs.Shapes.{Shape, LabelShape, ShapeOf, behind}
+use Rattle.wasm_syntax_rules.specs.Shapes.{Shape, LabelShape, ShapeOf}
 use Rattle.wasm_jumps.specs.Jumps.{HasShape}
 use Rattle.wasm_jumps.specs.Moves.{opcodes_of, HasOpcode, IsTypedBody, IsFirst, OpcodesAreFirst, NoOpcodeIsBehind, PlainLeadsOn, BlockLeadsIn, LoopLeadsIn, IfLeadsIn, IfElseLeadsIn, EndLeadsOut}
 use Rattle.wasm_jumps.proofs.Runs.{branches_of, runs_here}
-use Rattle.wasm_jumps.proofs.Places.{Place, Closes, IsEnded, where_shape, place_plain, place_block_in, place_loop_in, place_if_in, place_choice_first}
+use Rattle.wasm_jumps.proofs.Places.{Place, IsEnded, where_shape, place_plain, place_block_in, place_loop_in, place_if_in, place_choice_first}
 
 pub get_dropped : (p : ℕ) (xs ys : List Instruction) (y : Instruction) → drop p xs ≡ y ∷ ys → slice_get xs p ≡ Some y
 get_dropped zero [] ys y e = absurd (cc)

@@ -10,11 +10,11 @@ use Rattle.wasm_syntax.specs.declared.instruction.Instruction.{Instruction}
 use Rattle.wasm_syntax.specs.declared.instruction.Instruction.TheVariants as instr
 use Rattle.wasm_syntax.specs.Sequence.{Sequence, Stop, Plain, InBlock, InLoop, InIf, InIfElse, spelled}
 use Rattle.wasm_syntax_rules.specs.Types.{results_of}
-use Rattle.wasm_syntax_rules.specs.Typing.{Context, HasType}
+use Rattle.wasm_syntax_rules.specs.Typing.{Context}
 use Rattle.wasm_syntax_rules.specs.Shapes.{Shape, LabelShape, ShapeOf, behind, shape_at, body_shape}
 use Rattle.wasm_jumps.specs.Jumps.{HasShape}
 use Rattle.wasm_jumps.specs.Moves.{opcodes_of, IsTypedBody}
-use Rattle.wasm_jumps.proofs.Runs.{Runs, Agrees, branches_of, runs_here, run_plain, run_block_in, run_block_behind, run_loop_in, run_loop_behind, run_if_in, run_if_behind, run_choice_first, run_choice_second, run_choice_behind}
+use Rattle.wasm_jumps.proofs.Runs.{Runs, runs_here, run_plain, run_block_in, run_block_behind, run_loop_in, run_loop_behind, run_if_in, run_if_behind, run_choice_first, run_choice_second, run_choice_behind}
 
 -- The opcodes behind a sequence that ends at position e begin with its end, behind which its values have joined those below
 -- its label; or with the `else` that ends a first part.

@@ -1,15 +1,14 @@
 -- Where the shapes of a stretch of positions are those of a typed sequence, and how a stretch falls into parts.
-use Rattle.std.proofs.Common.{◌≡◌, ℕ, zero, suc, ◌+◌, ◌-◌, ◌<◌, ◌≤◌, List, [], ◌∷◌, ◌++◌, length, drop, Option, Some, None, refl, sym, ap, ◌∙◌, subst, arith, length-append}
+use Rattle.std.proofs.Common.{◌≡◌, ℕ, suc, ◌+◌, ◌-◌, ◌<◌, ◌≤◌, List, [], ◌∷◌, ◌++◌, length, drop, Option, Some, refl, sym, ap, ◌∙◌, subst, arith, length-append}
 use Rattle.std.specs.Prelude.{nat_le, if◌then◌else◌}
 use Rattle.std.specs.Option.{option_and_then}
 use Rattle.std.proofs.lemmas.Bool.{le-leb, lt-leb}
 use Rattle.wasm_syntax.specs.declared.types.ValueType.{ValueType}
-use Rattle.wasm_syntax.specs.declared.types.ValueType.TheVariants.{I32}
 use Rattle.wasm_syntax.specs.declared.instruction.Instruction.{Instruction}
 use Rattle.wasm_syntax.specs.declared.instruction.Instruction.TheVariants as instr
-use Rattle.wasm_syntax.specs.Sequence.{Sequence, Stop, Plain, InBlock, InLoop, InIf, InIfElse, spelled}
+use Rattle.wasm_syntax.specs.Sequence.{Sequence, Plain, InBlock, InLoop, InIf, InIfElse, spelled}
 use Rattle.wasm_syntax_rules.specs.Types.{results_of}
-use Rattle.wasm_syntax_rules.specs.Typing.{Context, HasRule, HasType}
+use Rattle.wasm_syntax_rules.specs.Typing.{Context, HasType}
 use Rattle.wasm_syntax_rules.specs.Shapes.{Shape, LabelShape, ShapeOf, behind, shape_at, body_shape}
 use Rattle.wasm_syntax_rules.proofs.TypedShape.{IsBehind, rule_behind}
 
