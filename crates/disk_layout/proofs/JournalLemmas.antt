@@ -1,18 +1,18 @@
 -- The sectors of the journal, whole and torn.
-use Rattle.std.proofs.Common.{◌≡◌, ◌⊎◌, ℕ, zero, suc, ◌+◌, ◌-◌, ◌/◌, ◌%◌, ◌^◌, ◌<◌, ◌≤◌, Bool, true, false, ◌&&◌, ltb, leb, eqb, IsTrue, List, [], ◌∷◌, ◌++◌, length, take, drop, replicate, refl, sym, ap, ◌∙◌, subst, inl, inr, ⊎_elim, arith, length-append, length-drop, append_assoc}
-use Rattle.std.proofs.lemmas.Bool.{cases_lt, cases_eq, ltb-true, lt-ltb, leb-true, le-leb, eq-eqb, ne_eqb, eqb-true}
-use Rattle.std.proofs.lemmas.List.{take-append-le, drop-append-le, take_at, drop_at, take_all, drop-drop, length-take-le, take-take, drop-take, take-replicate, drop-replicate, length-replicate}
+use Rattle.std.proofs.Common.{◌≡◌, ◌⊎◌, ℕ, zero, suc, ◌+◌, ◌-◌, ◌/◌, ◌%◌, ◌^◌, ◌<◌, ◌≤◌, Bool, true, false, ◌&&◌, ltb, leb, eqb, List, ◌++◌, length, take, drop, replicate, refl, sym, ap, ◌∙◌, subst, inl, inr, ⊎_elim, arith, length-append, append_assoc}
+use Rattle.std.proofs.lemmas.Bool.{ltb-true, lt-ltb, leb-true, le-leb, eq-eqb, ne_eqb, eqb-true}
+use Rattle.std.proofs.lemmas.List.{take_at, drop_at, drop-drop, take-take, drop-take, take-replicate, drop-replicate, length-replicate}
 use Rattle.std.proofs.Math.Seq.{take-append-add}
 use Rattle.std.specs.List.{AllByRecursion}
 use Rattle.guest_memory.specs.Bytes.{IsByte, number_of, bytes_of, part, with_part}
-use Rattle.guest_memory.proofs.ByteLemmas.{length-bytes_of, number_of-bytes_of}
+use Rattle.guest_memory.proofs.ByteLemmas.{number_of-bytes_of}
 use Rattle.wasi_abi.specs.Layouts.{u16_bytes, u64_bytes, padding}
 use Rattle.sector_disk.specs.Image.{front_over}
 use Rattle.disk_layout.specs.Sectors.{stamp_of, stamp_bytes, shown_generation}
-use Rattle.disk_layout.specs.Journal.{journal_sector, used_length, is_of, payload_size}
+use Rattle.disk_layout.specs.Journal.{journal_sector, used_length, is_of}
 use Rattle.disk_layout.specs.Laws.{IsTornStamp}
 use Rattle.disk_layout.proofs.FieldLemmas.{stamp_laid, stamp_again}
-use Rattle.disk_layout.proofs.StampLemmas.{shows_earlier, all_append, IsInParts, stamp_of_parts, shows_there}
+use Rattle.disk_layout.proofs.StampLemmas.{shows_earlier, all_append, shows_there}
 
 -- ---- whole sectors
 

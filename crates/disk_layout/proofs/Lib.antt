@@ -1,5 +1,6 @@
 pub mod FieldLemmas
 mod TextLemmas
+mod ContentsLemmas
 pub mod ReadLemmas
 pub mod StampLemmas
 pub mod JournalLemmas

@@ -2,9 +2,9 @@
 use Rattle.std.proofs.Common.{◌≡◌, ◌⊎◌, ℕ, zero, suc, ◌+◌, ◌-◌, ◌<◌, ◌≤◌, List, [], ◌∷◌, ◌++◌, length, take, drop, Result, Ok, Err, IsErr, refl, sym, ap, ◌∙◌, subst, inr, ⊎_elim, arith, append_assoc, length-append}
 use Rattle.std.proofs.lemmas.List.{append-nil}
 use Rattle.sector_disk.specs.Image.{Image, sector_at}
-use Rattle.sector_disk.specs.Medium.{Medium, Stays, LeavesOnly, Reads, HasCause}
+use Rattle.sector_disk.specs.Medium.{Medium, Reads}
 use Rattle.sector_disk.specs.declared.fault.DiskFault.{DiskFault}
-use Rattle.sector_disk.proofs.Moments.{started, goes_on, leaves_only, stays_on, stays_left, stays_shows}
+use Rattle.sector_disk.proofs.Moments.{started, goes_on, leaves_only, stays_on, stays_left}
 use Rattle.sha2.specs.Sha256.{sha256}
 use Rattle.disk_layout.specs.declared.fault.LayoutFault.{LayoutFault}
 use Rattle.disk_layout.specs.declared.fault.LayoutFault.TheVariants.{NotAWorker, Version, TooSmall, Damaged, Memory, Disk}

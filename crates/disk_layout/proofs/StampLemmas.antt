@@ -8,8 +8,8 @@ use Rattle.std.specs.List.{AllByRecursion}
 use Rattle.guest_memory.specs.Bytes.{IsByte, number_of, bytes_of, part}
 use Rattle.guest_memory.proofs.ByteLemmas.{bytes_of-number_of}
 use Rattle.sector_disk.specs.Image.{front_over}
-use Rattle.disk_layout.specs.Sectors.{stamp_of, shown_generation}
-use Rattle.disk_layout.specs.Laws.{IsTornStamp, ShowsEarlier, NeverNewer}
+use Rattle.disk_layout.specs.Sectors.{shown_generation}
+use Rattle.disk_layout.specs.Laws.{ShowsEarlier, NeverNewer}
 
 -- ---- numbers and their bytes
 

@@ -1,5 +1,5 @@
 -- The sectors with fields: the super and the heads, and what a sector shows (this project's own). Numbers are little-endian.
-use Rattle.std.specs.Prelude.{◌≡◌, ℕ, zero, suc, ◌+◌, ◌%◌, ◌<◌, ◌≤◌, ◌==◌, if◌then◌else◌, List, [], ◌++◌, length, take, drop, codes}
+use Rattle.std.specs.Prelude.{◌≡◌, ℕ, zero, suc, ◌+◌, ◌%◌, ◌<◌, ◌≤◌, ◌==◌, if◌then◌else◌, List, [], ◌++◌, length, take, codes}
 use Rattle.sha2.specs.Sha256.{sha256}
 use Rattle.guest_memory.specs.Bytes.{number_of, part}
 use Rattle.wasi_abi.specs.Configs.{Settings}

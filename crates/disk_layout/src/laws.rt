@@ -1,5 +1,6 @@
 //! Laws of the layout.
 
+ghost use Rattle.disk_layout.specs.Contents.{HoldsWhatIsWritten};
 ghost use Rattle.disk_layout.specs.Examples.{LayoutExamples};
 ghost use Rattle.disk_layout.specs.Laws.{ShowsEarlier, NeverNewer, ReadsWhatIsWritten};
 
@@ -17,4 +18,9 @@ pub fn torn_stamps()
 /// The fields that are read of stamps, heads and supers are those that were written.
 pub fn fields_are_read_back()
     ensures { ReadsWhatIsWritten }
+{}
+
+/// Once configuration and module are written in their sectors, the disk holds them.
+pub fn contents_are_held()
+    ensures { HoldsWhatIsWritten }
 {}

@@ -1,6 +1,8 @@
 //! Where a worker's things lie on a disk, and the sectors that have fields.
 #![tactic(auto)]
 
+mod configuration;
+mod contents;
 mod fault;
 mod fields;
 mod geometry;
@@ -15,6 +17,8 @@ mod superblock;
 #[cfg(test)]
 mod tests;
 
+pub use configuration::config_bytes_of;
+pub use contents::write_contents;
 pub use fault::LayoutFault;
 pub use geometry::Geometry;
 pub use head::Head;

@@ -1,0 +1,17 @@
+use Rattle.std.proofs.Common.{◌≤◌, ◌+◌, ◌++◌, length}
+use Rattle.sector_disk.specs.Medium.{After, BothFollow, Passes}
+use Rattle.sector_disk.specs.Run.{IsTornRun, IsWrittenRun}
+use Rattle.disk_layout.specs.Contents.{contents_sectors}
+use Rattle.disk_layout.proofs.contents.write_contents.Given as goal
+
+abbrev pub invariant-loop-i : goal.invariant-loop-i
+invariant-loop-i g l =
+    let old = g.D.Disk.medium l.fn.disk in
+    let now = g.D.Disk.medium l.disk in
+    let sectors = contents_sectors (l.config ++ l.wasm) in
+    record {
+      whole : BothFollow (IsWrittenRun 3 sectors l.i) (IsTornRun 3 sectors l.i) old now;
+      tears : BothFollow (IsTornRun 3 sectors l.i) (IsTornRun 3 sectors l.i) old now;
+      unsynced : now.unsynced ≤ old.unsynced + l.i;
+      passes : Passes old now (After (IsTornRun 3 sectors (length sectors)) old.may_leave);
+    }

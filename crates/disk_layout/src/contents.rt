@@ -1,0 +1,64 @@
+// Configuration and module on a disk.
+
+ghost use Rattle.std.specs.Prelude.{◌≡◌, ◌⊎◌, ◌<◌, ◌≤◌, ◌+◌, ◌*◌, ◌^◌, ◌++◌, length, OnOk, IsErr};
+ghost use Rattle.guest_memory.specs.Bytes.{part};
+ghost use Rattle.sector_disk.specs.Medium.{LeavesOnly, After, Follows, IsSettled, spare};
+ghost use Rattle.sector_disk.specs.Run.{IsTornRun, IsWrittenRun};
+ghost use Rattle.disk_layout.specs.Places.{module_place, rounded_up};
+ghost use Rattle.disk_layout.specs.Contents.{filled, contents_sectors};
+
+use crate::fields::put;
+use crate::geometry::sectors_of;
+use sector_disk::{Disk, DiskFault};
+
+const MODULE_PLACE: u64 = 3;
+
+/// Writes configuration and module behind the super and the heads, with zeros up to the end of their last
+/// sector, and syncs.
+pub fn write_contents<D: Disk>(disk: &mut D, config: &[u8], wasm: &[u8]) -> Result<(), DiskFault>
+    requires few { length config.now + length wasm.now ≤ 2 ^ 62 }
+    requires room { module_place + rounded_up (length config.now + length wasm.now) ≤ (D.medium disk.old).sectors }
+
+    // A cut at any moment leaves of each of the sectors some front, and all others as they were.
+    ensures any_moment { let sectors = contents_sectors (config.now ++ wasm.now) in
+        LeavesOnly (D.medium disk.old) (D.medium disk.new) (After (IsTornRun module_place sectors (length sectors)) (D.medium disk.old).may_leave) }
+
+    // Once it has answered Ok, each cut leaves all of them.
+    ensures stored { let sectors = contents_sectors (config.now ++ wasm.now) in
+        OnOk result (Follows (IsWrittenRun module_place sectors (length sectors)) (D.medium disk.old).shows (D.medium disk.new).may_leave) }
+    ensures settled { OnOk result (IsSettled (D.medium disk.new)) }
+    ensures cause { IsErr result → (spare (D.medium disk.old) < rounded_up (length config.now + length wasm.now)) ⊎ ((D.medium disk.old).faults < (D.medium disk.new).faults) }
+{
+    let count = sectors_of((config.len() + wasm.len()) as u64);
+    for i in 0..count {
+        let sector = sector_of(config, wasm, 512 * i as usize);
+        disk.write(MODULE_PLACE + i, &sector)?;
+    }
+    disk.sync()
+}
+
+/// The bytes from `start` on of configuration and module, one behind the other, with zeros behind them.
+fn sector_of(config: &[u8], wasm: &[u8], start: usize) -> [u8; 512]
+    requires few { length config.now + length wasm.now ≤ 2 ^ 62 }
+    requires start { start ≤ 2 ^ 62 }
+    ensures { result ≡ filled (part (config.now ++ wasm.now) start 512) }
+{
+    let first = part_of(config, start, 512);
+    let second = part_of(wasm, start.saturating_sub(config.len()), 512 - first.len());
+    let mut sector = [0; 512];
+    put(&mut sector, 0, first);
+    put(&mut sector, first.len(), second);
+    sector
+}
+
+/// At most so many bytes from `start` on.
+fn part_of(bytes: &[u8], start: usize, most: usize) -> &[u8]
+    requires start { start ≤ 2 ^ 62 }
+    requires most { most ≤ 512 }
+    ensures value { result.now ≡ part bytes.now start most }
+    ensures within { length result.now ≤ most }
+{
+    let start = start.min(bytes.len());
+    let end = bytes.len().min(start + most);
+    &bytes[start..end]
+}
