@@ -2,6 +2,8 @@
 #![tactic(auto)]
 
 mod bodies;
+#[cfg(test)]
+mod tests;
 mod valid;
 
 pub use valid::{ValidModule, validate};
