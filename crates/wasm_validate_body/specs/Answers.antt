@@ -1,10 +1,13 @@
 -- What the steps of a check answer.
 use Rattle.std.specs.Prelude.{◌≡◌, ℕ, Bool, true, false, List, Option, Some, None, Result, Ok, Err, slice_get}
 use Rattle.wasm_syntax.specs.declared.types.ValueType.{ValueType}
+use Rattle.wasm_syntax.specs.declared.instruction.Instruction.{Instruction}
 use Rattle.wasm_syntax_rules.specs.Types.{results_of}
+use Rattle.wasm_syntax_rules.specs.Typing.{Context}
 use Rattle.wasm_validate_parts.specs.declared.fault.ValidFault.{ValidFault}
 use Rattle.wasm_validate_parts.specs.declared.fault.ValidFault.TheVariants.{Typing, Index, Limits, DuplicateExport, Memory}
-use Rattle.wasm_validate_algorithm.specs.Checking.{Known, Level}
+use Rattle.wasm_validate_algorithm.specs.Checking.{Known, Level, arrow_of, labels_of}
+use Rattle.wasm_validate_body.specs.Tops.{top_applied}
 
 -- A fault comes only where there is nothing. Want of memory says nothing of it.
 abbrev pub Fails : {X : Type 0} → ValidFault → Option X → Type 0
@@ -18,6 +21,10 @@ Fails DuplicateExport o = o ≡ None
 abbrev pub Follows : {X : Type 0} → Result X ValidFault → List Level → Option (List Level) → Type 0
 Follows (Ok x) new o = o ≡ Some new
 Follows (Err e) new o = Fails e o
+
+-- the levels are then those behind an instruction that stays in its sequence
+abbrev pub Performs : {X : Type 0} → Context → Instruction → Result X ValidFault → List Level → List Level → Type 0
+Performs c i r old new = Follows r new (top_applied (arrow_of c (labels_of old) i) old)
 
 -- the same of a step that tells what it took
 abbrev pub Pops : Result Known ValidFault → List Level → Option (Known × List Level) → Type 0

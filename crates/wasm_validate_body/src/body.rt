@@ -43,14 +43,17 @@ pub struct BodyChecker {
 }
 
 impl BodyChecker {
+    /// Takes no memory yet.
     pub fn new(alloc: Global) -> Self {
         BodyChecker {
             levels: Levels::new(alloc),
         }
     }
 
-    /// Checks the body of a function, in time linear in its opcodes and table labels. The fault is the
-    /// first from the front.
+    /// Checks the body of a function. The fault is the first from the front: `Typing`, `Index`, `Limits` for
+    /// an alignment, or `Memory`. Behind all opcodes it is `Typing` where something is still open. It takes time
+    /// linear in the opcodes, the labels of tables and the parameters of calls, and memory for the operands and
+    /// blocks that stand at a time, which the next body uses again.
     pub fn check(
         &mut self,
         context: &Context,

@@ -4,10 +4,9 @@ ghost use Rattle.std.specs.Prelude.{◌≡◌, ◌≢◌, []};
 ghost use Rattle.wasm_syntax.specs.declared.instruction.Instruction.TheVariants as instr;
 ghost use Rattle.wasm_syntax_rules.specs.Types.{are_same_types, results_of};
 ghost use Rattle.wasm_syntax_rules.specs.Typing.{Context as Typing};
-ghost use Rattle.wasm_validate_body.specs.Answers.{Follows, Tests};
-ghost use Rattle.wasm_validate_algorithm.specs.Checking.{arrow_of, are_labels, labels_of, after};
+ghost use Rattle.wasm_validate_body.specs.Answers.{Follows, Performs, Tests};
+ghost use Rattle.wasm_validate_algorithm.specs.Checking.{are_labels, labels_of, after};
 ghost use Rattle.wasm_validate_body.specs.Scopes.{IsScopeOf};
-ghost use Rattle.wasm_validate_body.specs.Tops.{top_applied};
 
 use crate::levels::Levels;
 use crate::operators::{
@@ -32,7 +31,7 @@ fn is_same(label: Option<ValueType>, other: Option<ValueType>) -> bool
 
 impl Levels {
     pub fn branch(&mut self, label: u32) -> Result<(), ValidFault>
-        ensures { (c : Typing) → Follows result self.new (top_applied (arrow_of c (labels_of self.old) (instr.Br label)) self.old) }
+        ensures { (c : Typing) → Performs c (instr.Br label) result self.old self.new }
     {
         let takes = self.label(label)?;
         self.expect_results(takes)?;
@@ -41,7 +40,7 @@ impl Levels {
     }
 
     pub fn branch_if(&mut self, label: u32) -> Result<(), ValidFault>
-        ensures { (c : Typing) → Follows result self.new (top_applied (arrow_of c (labels_of self.old) (instr.BrIf label)) self.old) }
+        ensures { (c : Typing) → Performs c (instr.BrIf label) result self.old self.new }
     {
         let takes = self.label(label)?;
         self.expect(ValueType::I32)?;
@@ -63,7 +62,7 @@ impl Levels {
     }
 
     pub fn branch_table(&mut self, labels: &Row<u32>, default: u32) -> Result<(), ValidFault>
-        ensures { (c : Typing) → Follows result self.new (top_applied (arrow_of c (labels_of self.old) (instr.BrTable labels.now default)) self.old) }
+        ensures { (c : Typing) → Performs c (instr.BrTable labels.now default) result self.old self.new }
     {
         let takes = self.label(default)?;
         self.expect_labels(labels.as_slice(), takes)?;
@@ -74,7 +73,7 @@ impl Levels {
     }
 
     pub fn return_from(&mut self, scope: &Scope) -> Result<(), ValidFault>
-        ensures { (c : Typing) → IsScopeOf c scope.now → Follows result self.new (top_applied (arrow_of c (labels_of self.old) instr.Return) self.old) }
+        ensures { (c : Typing) → IsScopeOf c scope.now → Performs c instr.Return result self.old self.new }
     {
         self.expect_all(scope.returns)?;
         self.leave();
@@ -82,7 +81,7 @@ impl Levels {
     }
 
     pub fn call(&mut self, scope: &Scope, function: u32) -> Result<(), ValidFault>
-        ensures { (c : Typing) → IsScopeOf c scope.now → Follows result self.new (top_applied (arrow_of c (labels_of self.old) (instr.Call function)) self.old) }
+        ensures { (c : Typing) → IsScopeOf c scope.now → Performs c (instr.Call function) result self.old self.new }
     {
         let Some(kind) = scope.context.function_type(function) else {
             return Err(ValidFault::Index);
@@ -91,7 +90,7 @@ impl Levels {
     }
 
     pub fn call_indirect(&mut self, scope: &Scope, kind: u32) -> Result<(), ValidFault>
-        ensures { (c : Typing) → IsScopeOf c scope.now → Follows result self.new (top_applied (arrow_of c (labels_of self.old) (instr.CallIndirect kind)) self.old) }
+        ensures { (c : Typing) → IsScopeOf c scope.now → Performs c (instr.CallIndirect kind) result self.old self.new }
     {
         let Some(kind) = scope.context.type_at(kind) else {
             return Err(ValidFault::Index);
@@ -104,35 +103,35 @@ impl Levels {
     }
 
     pub fn local_get(&mut self, scope: &Scope, local: u32) -> Result<(), ValidFault>
-        ensures { (c : Typing) → IsScopeOf c scope.now → Follows result self.new (top_applied (arrow_of c (labels_of self.old) (instr.LocalGet local)) self.old) }
+        ensures { (c : Typing) → IsScopeOf c scope.now → Performs c (instr.LocalGet local) result self.old self.new }
     {
         let value_type = scope.local(local)?;
         self.apply(&[], &[value_type])
     }
 
     pub fn local_set(&mut self, scope: &Scope, local: u32) -> Result<(), ValidFault>
-        ensures { (c : Typing) → IsScopeOf c scope.now → Follows result self.new (top_applied (arrow_of c (labels_of self.old) (instr.LocalSet local)) self.old) }
+        ensures { (c : Typing) → IsScopeOf c scope.now → Performs c (instr.LocalSet local) result self.old self.new }
     {
         let value_type = scope.local(local)?;
         self.apply(&[value_type], &[])
     }
 
     pub fn local_tee(&mut self, scope: &Scope, local: u32) -> Result<(), ValidFault>
-        ensures { (c : Typing) → IsScopeOf c scope.now → Follows result self.new (top_applied (arrow_of c (labels_of self.old) (instr.LocalTee local)) self.old) }
+        ensures { (c : Typing) → IsScopeOf c scope.now → Performs c (instr.LocalTee local) result self.old self.new }
     {
         let value_type = scope.local(local)?;
         self.apply(&[value_type], &[value_type])
     }
 
     pub fn global_get(&mut self, scope: &Scope, global: u32) -> Result<(), ValidFault>
-        ensures { (c : Typing) → IsScopeOf c scope.now → Follows result self.new (top_applied (arrow_of c (labels_of self.old) (instr.GlobalGet global)) self.old) }
+        ensures { (c : Typing) → IsScopeOf c scope.now → Performs c (instr.GlobalGet global) result self.old self.new }
     {
         let global_type = scope.global(global)?;
         self.apply(&[], &[global_type.value_type])
     }
 
     pub fn global_set(&mut self, scope: &Scope, global: u32) -> Result<(), ValidFault>
-        ensures { (c : Typing) → IsScopeOf c scope.now → Follows result self.new (top_applied (arrow_of c (labels_of self.old) (instr.GlobalSet global)) self.old) }
+        ensures { (c : Typing) → IsScopeOf c scope.now → Performs c (instr.GlobalSet global) result self.old self.new }
     {
         let global_type = scope.global(global)?;
         match global_type.mutability {
@@ -147,7 +146,7 @@ impl Levels {
         operator: LoadOperator,
         argument: MemoryArgument,
     ) -> Result<(), ValidFault>
-        ensures { (c : Typing) → IsScopeOf c scope.now → Follows result self.new (top_applied (arrow_of c (labels_of self.old) (instr.Load operator argument)) self.old) }
+        ensures { (c : Typing) → IsScopeOf c scope.now → Performs c (instr.Load operator argument) result self.old self.new }
     {
         if !scope.context.has_memory() {
             return Err(ValidFault::Index);
@@ -164,7 +163,7 @@ impl Levels {
         operator: StoreOperator,
         argument: MemoryArgument,
     ) -> Result<(), ValidFault>
-        ensures { (c : Typing) → IsScopeOf c scope.now → Follows result self.new (top_applied (arrow_of c (labels_of self.old) (instr.Store operator argument)) self.old) }
+        ensures { (c : Typing) → IsScopeOf c scope.now → Performs c (instr.Store operator argument) result self.old self.new }
     {
         if !scope.context.has_memory() {
             return Err(ValidFault::Index);
@@ -176,7 +175,7 @@ impl Levels {
     }
 
     pub fn memory_size(&mut self, scope: &Scope) -> Result<(), ValidFault>
-        ensures { (c : Typing) → IsScopeOf c scope.now → Follows result self.new (top_applied (arrow_of c (labels_of self.old) instr.MemorySize) self.old) }
+        ensures { (c : Typing) → IsScopeOf c scope.now → Performs c instr.MemorySize result self.old self.new }
     {
         if !scope.context.has_memory() {
             return Err(ValidFault::Index);
@@ -185,7 +184,7 @@ impl Levels {
     }
 
     pub fn memory_grow(&mut self, scope: &Scope) -> Result<(), ValidFault>
-        ensures { (c : Typing) → IsScopeOf c scope.now → Follows result self.new (top_applied (arrow_of c (labels_of self.old) instr.MemoryGrow) self.old) }
+        ensures { (c : Typing) → IsScopeOf c scope.now → Performs c instr.MemoryGrow result self.old self.new }
     {
         if !scope.context.has_memory() {
             return Err(ValidFault::Index);
@@ -194,7 +193,7 @@ impl Levels {
     }
 
     pub fn constant(&mut self, value: Value) -> Result<(), ValidFault>
-        ensures { (c : Typing) → Follows result self.new (top_applied (arrow_of c (labels_of self.old) (instr.Const value)) self.old) }
+        ensures { (c : Typing) → Performs c (instr.Const value) result self.old self.new }
     {
         let value_type = match value {
             Value::I32(_) => ValueType::I32,
@@ -204,7 +203,7 @@ impl Levels {
     }
 
     pub fn convert(&mut self, operator: Conversion) -> Result<(), ValidFault>
-        ensures { (c : Typing) → Follows result self.new (top_applied (arrow_of c (labels_of self.old) (instr.Convert operator)) self.old) }
+        ensures { (c : Typing) → Performs c (instr.Convert operator) result self.old self.new }
     {
         let (from, to) = converted_types(operator);
         self.apply(&[from], &[to])

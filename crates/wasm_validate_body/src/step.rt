@@ -2,11 +2,10 @@
 
 ghost use Rattle.std.specs.Prelude.{◌≡◌};
 ghost use Rattle.wasm_syntax_rules.specs.Typing.{Context as Typing};
-ghost use Rattle.wasm_validate_body.specs.Answers.{Follows};
-ghost use Rattle.wasm_validate_algorithm.specs.Checking.{arrow_of, labels_of, after};
+ghost use Rattle.wasm_validate_body.specs.Answers.{Follows, Performs};
+ghost use Rattle.wasm_validate_algorithm.specs.Checking.{after};
 ghost use Rattle.wasm_validate_body.specs.Kinds.{IsTransfer};
 ghost use Rattle.wasm_validate_body.specs.Scopes.{IsScopeOf};
-ghost use Rattle.wasm_validate_body.specs.Tops.{top_applied};
 
 use crate::levels::Levels;
 use crate::scope::Scope;
@@ -18,7 +17,7 @@ const I32: ValueType = ValueType::I32;
 impl Levels {
     /// An instruction of numbers, locals, globals or memory.
     fn operate(&mut self, scope: &Scope, instruction: &Instruction) -> Result<(), ValidFault>
-        ensures { (c : Typing) → IsScopeOf c scope.now → Follows result self.new (top_applied (arrow_of c (labels_of self.old) instruction.now) self.old) }
+        ensures { (c : Typing) → IsScopeOf c scope.now → Performs c instruction.now result self.old self.new }
     {
         match instruction {
             Instruction::Drop => self.drop_operand(),
@@ -48,7 +47,7 @@ impl Levels {
 
     /// An instruction that hands control on, or none.
     fn transfer(&mut self, scope: &Scope, instruction: &Instruction) -> Result<(), ValidFault>
-        ensures { (c : Typing) → IsScopeOf c scope.now → IsTransfer instruction.now → Follows result self.new (top_applied (arrow_of c (labels_of self.old) instruction.now) self.old) }
+        ensures { (c : Typing) → IsScopeOf c scope.now → IsTransfer instruction.now → Performs c instruction.now result self.old self.new }
     {
         match instruction {
             Instruction::Unreachable => {
