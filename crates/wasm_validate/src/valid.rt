@@ -37,8 +37,8 @@ impl ValidModule {
     }
 }
 
-/// The faults are told in the order of the sections. Time in proportion to the module, but for the names of
-/// exports, whose bytes take n log n.
+/// The first fault: of the types of functions, which everything else looks up, and then in the order of the
+/// sections.
 fn check(module: &Module, alloc: Global) -> Result<(), ValidFault>
     ensures { Judges result (IsValid «module».now) }
 {
@@ -48,7 +48,11 @@ fn check(module: &Module, alloc: Global) -> Result<(), ValidFault>
     check_after_code(module, &context)
 }
 
-/// Decides whether a module is valid. A refusal other than `Memory` says that it is not.
+/// Decides whether a module is valid. A fault other than `Memory` says that it is not, and is the first one:
+/// that of a function whose type doesn't exist, and else in the order of the sections and opcodes. It takes
+/// time in proportion to the module, but for the names of exports, whose bytes take n log n, and each call in
+/// a body takes time in proportion to its parameters. Memory is taken in proportion to the functions, globals,
+/// exports and the longest body.
 pub fn validate(module: Module, alloc: Global) -> Result<ValidModule, ValidFault>
     ensures same { IfOk result (λ v. v ≡ «module») }
     ensures valid { OnOk result (IsValid «module») }
