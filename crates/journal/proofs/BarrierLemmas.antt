@@ -1,15 +1,14 @@
 -- A barrier, on what a cut may leave.
 use Rattle.std.proofs.Common.{◌≡◌, ◌≤◌, ◌<◌, ◌+◌, ◌^◌, ℕ, zero, suc, ◌-◌, List, [], ◌∷◌, ◌++◌, length, take, drop, refl, sym, ap, ◌∙◌, subst, arith}
 use Rattle.std.proofs.lemmas.List.{append-nil, take_all, drop_all}
-use Rattle.std.specs.List.{flat_map}
 use Rattle.std.proofs.lemmas.Grind.{flat_map-append}
-use Rattle.sector_disk.specs.Image.{Image, sector_at, front_over}
+use Rattle.sector_disk.specs.Image.{Image, sector_at}
 use Rattle.sector_disk.specs.Medium.{Medium, After, Follows, LeavesOnly, Passes}
 use Rattle.sector_disk.specs.Run.{IsTornRun, IsWrittenRun}
 use Rattle.sector_disk.proofs.Moments.{started, weaker, leaves_only, shows_left}
 use Rattle.disk_layout.specs.Places.{Geometry, journal_place, total_sectors}
-use Rattle.disk_layout.specs.Journal.{Record, record_bytes, journal_sector}
-use Rattle.disk_layout.proofs.JournalLemmas.{length-journal_sector, IsNewSector}
+use Rattle.disk_layout.specs.Journal.{Record, record_bytes}
+use Rattle.disk_layout.proofs.JournalLemmas.{length-journal_sector}
 use Rattle.journal.specs.Packed.{packed, sectors_for}
 use Rattle.journal.specs.Steps.{HoldsBytes, Stands, AppendsFront, IsOn, records_bytes}
 use Rattle.journal.specs.Laws.{FreshStands, ScansWhatStands, ScansNoneOfLater}

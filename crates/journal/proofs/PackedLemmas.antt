@@ -1,11 +1,11 @@
 -- Packed sectors, and the payloads that are read of sectors.
-use Rattle.std.proofs.Common.{◌≡◌, ◌⊎◌, ℕ, zero, suc, min, ◌+◌, ◌-◌, ◌*◌, ◌/◌, ◌^◌, ◌<◌, ◌≤◌, Bool, true, false, cond, List, [], ◌∷◌, ◌++◌, length, take, drop, refl, sym, ap, ◌∙◌, subst, inl, inr, ⊎_elim, arith, length-append, length-drop, append_assoc}
+use Rattle.std.proofs.Common.{◌≡◌, ◌⊎◌, ℕ, zero, suc, min, ◌+◌, ◌-◌, ◌*◌, ◌<◌, ◌≤◌, true, false, cond, List, [], ◌++◌, length, take, drop, refl, sym, ap, ◌∙◌, subst, ⊎_elim, arith, length-drop, append_assoc}
 use Rattle.std.proofs.lemmas.Bool.{cases_lt, cond-true, cond-false}
-use Rattle.std.proofs.lemmas.List.{take-append-drop, drop-drop, length-take-le, take_all, drop_all, append-nil, nil_from_length}
+use Rattle.std.proofs.lemmas.List.{take-append-drop, drop-drop, take_all, nil_from_length}
 use Rattle.guest_memory.specs.Bytes.{part}
 use Rattle.sector_disk.specs.Image.{Image, sector_at}
 use Rattle.disk_layout.specs.Sectors.{shown_generation}
-use Rattle.disk_layout.specs.Journal.{journal_sector, used_length, is_of, payloads_from}
+use Rattle.disk_layout.specs.Journal.{journal_sector, is_of, payloads_from}
 use Rattle.disk_layout.proofs.JournalLemmas.{IsOf, is_of_true, is_of_other, payload_of_sector}
 use Rattle.disk_layout.proofs.ReadLemmas.{parts_joined}
 use Rattle.journal.specs.Packed.{packed}

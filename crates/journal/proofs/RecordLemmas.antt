@@ -1,12 +1,11 @@
 -- Records as bytes, whole and cut.
-use Rattle.std.proofs.Common.{◌≡◌, ◌⊎◌, ℕ, zero, suc, ◌+◌, ◌-◌, ◌*◌, ◌%◌, ◌/◌, ◌^◌, ◌<◌, ◌≤◌, Bool, true, false, cond, leb, get_or, Option, Some, None, option_map, List, [], ◌∷◌, ◌++◌, length, take, drop, refl, sym, ap, ◌∙◌, subst, inl, inr, ⊎_elim, arith, length-append, length-drop, append_assoc}
+use Rattle.std.proofs.Common.{◌≡◌, ℕ, zero, suc, ◌+◌, ◌-◌, ◌<◌, ◌≤◌, true, leb, get_or, Some, None, option_map, List, [], ◌∷◌, ◌++◌, length, take, drop, refl, sym, ap, ◌∙◌, ⊎_elim, arith, length-append, length-drop, append_assoc}
 use Rattle.std.proofs.lemmas.Bool.{cases_lt, cond-true, cond-false, le-leb, lt-leb}
-use Rattle.std.proofs.lemmas.List.{append-nil, take_at, drop_at, take_all, take-take, drop-take, drop-drop, length-take-le, take-append-le}
+use Rattle.std.proofs.lemmas.List.{take_at, drop_at, take-take, drop-take, drop-drop, length-take-le, take-append-le}
 use Rattle.std.proofs.Math.Seq.{take-append-add}
-use Rattle.std.specs.List.{AllByRecursion, flat_map}
-use Rattle.guest_memory.specs.Bytes.{number_of, bytes_of, part}
+use Rattle.guest_memory.specs.Bytes.{number_of, part}
 use Rattle.guest_memory.proofs.ByteLemmas.{number_of-bytes_of}
-use Rattle.wasi_abi.specs.Layouts.{u16_bytes, u64_bytes}
+use Rattle.wasi_abi.specs.Layouts.{u64_bytes}
 use Rattle.wasi_abi.specs.declared.answer.Answer.{Answer}
 use Rattle.wasi_abi.specs.declared.answer.Answer.TheVariants as answer
 use Rattle.sector_disk.specs.Image.{Image}

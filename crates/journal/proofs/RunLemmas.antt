@@ -1,10 +1,10 @@
 -- What a journal's sectors hold after a run of packed sectors, torn or whole.
-use Rattle.std.proofs.Common.{◌≡◌, ◌⊎◌, ℕ, zero, suc, ◌+◌, ◌-◌, ◌*◌, ◌/◌, ◌^◌, ◌<◌, ◌≤◌, true, false, List, [], ◌++◌, length, take, drop, refl, sym, ap, ◌∙◌, subst, inl, inr, ⊎_elim, arith, length-append, length-drop}
+use Rattle.std.proofs.Common.{◌≡◌, ◌⊎◌, ℕ, ◌+◌, ◌-◌, ◌*◌, ◌^◌, ◌<◌, ◌≤◌, true, List, [], ◌++◌, length, take, drop, sym, ap, ◌∙◌, subst, inl, ⊎_elim, arith, length-drop}
 use Rattle.std.proofs.lemmas.Bool.{cases_lt}
 use Rattle.std.proofs.lemmas.List.{append-nil, length-take-le, take_all}
 use Rattle.guest_memory.specs.Bytes.{part}
 use Rattle.sector_disk.specs.Image.{Image, sector_at, front_over}
-use Rattle.sector_disk.specs.Run.{IsTornRun, IsWrittenRun}
+use Rattle.sector_disk.specs.Run.{IsTornRun}
 use Rattle.disk_layout.specs.Places.{Geometry, journal_place}
 use Rattle.disk_layout.specs.Sectors.{shown_generation}
 use Rattle.disk_layout.specs.Journal.{journal_sector, is_of, payloads_from}

@@ -1,5 +1,5 @@
 -- What a journal holds beside its disk (this project's own).
-use Rattle.std.specs.Prelude.{ℕ, ◌+◌, ◌-◌, ◌*◌, Bool, List, length}
+use Rattle.std.specs.Prelude.{ℕ, ◌-◌, ◌*◌, Bool, List, length}
 use Rattle.disk_layout.specs.Places.{Geometry}
 use Rattle.disk_layout.specs.Journal.{payload_size}
 

@@ -129,7 +129,8 @@ impl Journal {
 
         // When each error comes.
         ensures failed { (result ≡ Err JournalFault.Failed) ↔ (self.old.has_failed ≡ true) }
-        ensures full { result ≡ Err JournalFault.Full → geometry.now.journal_sectors < self.old.used + sectors_for (length self.old.kept) }
+        ensures full { (result ≡ Err JournalFault.Full) ↔
+            ((self.old.has_failed ≡ false) × (0 < length self.old.kept) × (geometry.now.journal_sectors < self.old.used + sectors_for (length self.old.kept))) }
         ensures cause { (fault : DiskFault) → result ≡ Err (JournalFault.Disk fault) → (spare (D.medium disk.old) < sectors_for (length self.old.kept)) ⊎ ((D.medium disk.old).faults < (D.medium disk.new).faults) }
         ensures no_memory { IsErrOf result JournalFault.Memory → ⊥ }
         ensures not_too_long { IsErrOf result JournalFault.TooLong → ⊥ }

@@ -1,5 +1,4 @@
-use Rattle.std.proofs.Common.{◌∷◌, ◌++◌, ap, ◌∙◌, append_assoc}
-use Rattle.wasi_abi.specs.Layouts.{u16_bytes, u64_bytes}
+use Rattle.std.proofs.Common.{◌++◌, ap, ◌∙◌, append_assoc}
 use Rattle.journal.proofs.records.put_parts.Goals as goal
 
 pub returns-clause-put : goal.returns-clause-put
