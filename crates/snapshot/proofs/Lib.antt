@@ -1,3 +1,4 @@
 pub mod AreaLemmas
 pub mod ReadLemmas
 pub mod HeadLemmas
+pub mod StoreLemmas

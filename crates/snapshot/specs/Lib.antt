@@ -1,4 +1,5 @@
 pub mod Heads
 pub mod Newest
 pub mod Steps
+pub mod Store
 pub mod Snapshots

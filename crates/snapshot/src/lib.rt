@@ -5,6 +5,7 @@
 mod fault;
 mod newest;
 mod snapshots;
+mod store;
 mod writer;
 
 pub use fault::SnapshotFault;

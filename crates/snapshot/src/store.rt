@@ -1,0 +1,38 @@
+// Sectors that are stored where they differ, and one that is written behind a sync.
+ghost use Rattle.std.specs.Prelude.{◌<◌};
+ghost use Rattle.snapshot.specs.Store.{Stores, Settles};
+
+use block_lanes::same;
+use sector_disk::{Disk, DiskFault};
+
+/// Writes a sector where reads give other bytes.
+pub(crate) fn store_sector<D: Disk>(
+    disk: &mut D,
+    at: u64,
+    sector: &[u8; 512],
+) -> Result<(), DiskFault>
+    requires { at < (D.medium disk.old).sectors }
+    ensures { Stores at sector.now result (D.medium disk.old) (D.medium disk.new) }
+{
+    let mut held = [0; 512];
+    disk.read(at, &mut held)?;
+    if same(&held, sector) {
+        Ok(())
+    } else {
+        disk.write(at, sector)
+    }
+}
+
+/// Syncs, writes a sector, and syncs.
+pub(crate) fn settle_sector<D: Disk>(
+    disk: &mut D,
+    at: u64,
+    sector: &[u8; 512],
+) -> Result<(), DiskFault>
+    requires { at < (D.medium disk.old).sectors }
+    ensures { Settles at sector.now result (D.medium disk.old) (D.medium disk.new) }
+{
+    disk.sync()?;
+    disk.write(at, sector)?;
+    disk.sync()
+}
