@@ -4,7 +4,7 @@ use Rattle.std.proofs.lemmas.Bool.{cases_lt, cases_eq}
 use Rattle.sector_disk.specs.Image.{Image, sector_at}
 use Rattle.disk_layout.specs.declared.geometry.Geometry.{Geometry}
 use Rattle.disk_layout.specs.declared.head.Head.{Head}
-use Rattle.disk_layout.specs.Places.{head_place, area_place}
+use Rattle.disk_layout.specs.Places.{head_place, area_place, journal_place}
 use Rattle.disk_layout.specs.Sectors.{bytes_from, head_of, stamp_of, shown_generation, IsComplete, IsNewest, HoldsImage}
 use Rattle.disk_layout.proofs.StampLemmas.{shows_there}
 use Rattle.snapshot.specs.Heads.{HasNone, heads_to, IsReady}
@@ -119,6 +119,15 @@ other_area geometry n g k next from below =
     let here = ap at e in
     let there = ap at o in
     inl (omega (arith, here, there)))
+    (parity g)
+
+-- an area ends where the journal begins, or before
+pub area_in : (geometry : Geometry) (g k : ℕ) → k < geometry.area_sectors → area_place geometry g + k < journal_place geometry
+area_in geometry g k below =
+    let at : ℕ → ℕ = λ p. 3 + geometry.module_sectors + p * geometry.area_sectors in
+    ⊎_elim
+    (λ (e : g % 2 ≡ 0). let here = ap at e in omega (arith, here))
+    (λ (e : g % 2 ≡ 1). let here = ap at e in omega (arith, here))
     (parity g)
 
 -- ---- what newest finds

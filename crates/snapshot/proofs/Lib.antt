@@ -2,3 +2,6 @@ pub mod AreaLemmas
 pub mod ReadLemmas
 pub mod HeadLemmas
 pub mod StoreLemmas
+pub mod WriterLemmas
+pub mod ByteLemmas
+pub mod SnapshotLemmas

@@ -2,4 +2,5 @@ pub mod Heads
 pub mod Newest
 pub mod Steps
 pub mod Store
+pub mod Writing
 pub mod Snapshots

@@ -1,14 +1,10 @@
 -- What a `Snapshots` is in the middle of (this project's own).
-use Rattle.std.specs.Prelude.{◌≡◌, ◌↔◌, ℕ, ◌+◌, ◌*◌, ◌<◌, ◌≤◌, List, [], ◌++◌, length, take, Bool, true, false, IsTrue, Result, Err, IsErr}
-use Rattle.sha2.specs.Hashers.{Holds256}
-use Rattle.sector_disk.specs.Image.{Image}
+use Rattle.std.specs.Prelude.{◌≡◌, ◌↔◌, ℕ, List, Bool, true, false, IsTrue, Result, Err, IsErr}
 use Rattle.sector_disk.specs.Medium.{Medium}
 use Rattle.disk_layout.specs.declared.geometry.Geometry.{Geometry}
-use Rattle.disk_layout.specs.Places.{area_place}
-use Rattle.disk_layout.specs.Sectors.{bytes_from}
 use Rattle.snapshot.specs.declared.fault.SnapshotFault.{SnapshotFault}
 use Rattle.snapshot.specs.declared.fault.SnapshotFault.TheVariants.{Failed}
-use Rattle.snapshot.specs.declared.writer.AreaWriter.{AreaWriter}
+use Rattle.snapshot.specs.Writing.{written_length, Starts, IsGiven}
 use Rattle.snapshot.specs.declared.snapshots.State.{State}
 use Rattle.snapshot.specs.declared.snapshots.State.TheVariants as state
 use Rattle.snapshot.specs.declared.snapshots.Snapshots.{Snapshots}
@@ -35,3 +31,68 @@ is_idle s = is_idle_state s.state
 pub record Fails {T : Type 0} (result : Result T SnapshotFault) (old new : Snapshots) : Type 0 where
   pub failed : IsTrue (is_failed new) ↔ IsErr result
   pub refused : (result ≡ Err Failed) ↔ IsTrue (is_failed old)
+
+-- ---- the image that is begun
+
+abbrev pub generation_in : State → ℕ
+generation_in (state.Begun w) = w.generation
+generation_in state.Idle = 0
+generation_in state.Failed = 0
+
+abbrev pub version_in : State → ℕ
+version_in (state.Begun w) = w.version
+version_in state.Idle = 0
+version_in state.Failed = 0
+
+abbrev pub length_in : State → ℕ
+length_in (state.Begun w) = written_length w
+length_in state.Idle = 0
+length_in state.Failed = 0
+
+abbrev pub sectors_in : State → ℕ
+sectors_in (state.Begun w) = w.sectors
+sectors_in state.Idle = 0
+sectors_in state.Failed = 0
+
+abbrev pub generation_of : Snapshots → ℕ
+generation_of s = generation_in s.state
+
+abbrev pub version_of : Snapshots → ℕ
+version_of s = version_in s.state
+
+-- how many bytes were pushed
+abbrev pub length_of : Snapshots → ℕ
+length_of s = length_in s.state
+
+-- how many sectors of the area they fill
+abbrev pub sectors_of : Snapshots → ℕ
+sectors_of s = sectors_in s.state
+
+-- the same image is in the middle of being written
+pub record IsSameImage (old new : Snapshots) : Type 0 where
+  pub begun : is_idle new ≡ false
+  pub generation : generation_of new ≡ generation_of old
+  pub version : version_of new ≡ version_of old
+
+abbrev pub begun_in : ℕ → ℕ → State → Type 0
+begun_in g version (state.Begun w) = Starts g version w
+begun_in g version state.Idle = ⊥
+begun_in g version state.Failed = ⊥
+
+-- an image of this generation and version is begun, and no byte of it was pushed
+pub record IsBegun (g v : ℕ) (s : Snapshots) : Type 0 where
+  pub begun : is_idle s ≡ false
+  pub generation : generation_of s ≡ g
+  pub version : version_of s ≡ v
+  pub length : length_of s ≡ 0
+  pub sectors : sectors_of s ≡ 0
+  pub starts : begun_in g v s.state
+
+abbrev pub given_in : Geometry → Medium → State → List ℕ → Type 0
+given_in geometry m (state.Begun w) bytes = IsGiven geometry m w bytes
+given_in geometry m state.Idle bytes = ⊥
+given_in geometry m state.Failed bytes = ⊥
+
+-- an image is begun, these bytes of it were pushed, and reads give them in its area, but for those behind the last whole sector
+abbrev pub HasPushed : Geometry → Medium → Snapshots → List ℕ → Type 0
+HasPushed geometry m s bytes = given_in geometry m s.state bytes

@@ -2,6 +2,7 @@
 //! and how the next one is written sector by sector.
 #![tactic(auto)]
 
+mod bytes;
 mod fault;
 mod newest;
 mod snapshots;

@@ -6,6 +6,10 @@ use crate::writer::AreaWriter;
 use disk_layout::{Geometry, Head};
 use sector_disk::Disk;
 use std::alloc::Global;
+use std::mem;
+
+/// Generations are below this.
+const GENERATIONS: u64 = 1 << 63;
 
 #[derive(Drop)]
 pub(crate) enum State {
@@ -25,14 +29,16 @@ pub struct Snapshots {
 }
 
 impl Snapshots {
-    ghost use Rattle.std.specs.Prelude.{◌≡◌, ◌≤◌, ◌<◌, ◌⊎◌, IsTrue, OnOk, IfOk, IsErr};
+    ghost use Rattle.std.specs.Prelude.{◌+◌, ◌*◌, ◌^◌, ◌++◌, ◌↔◌, false, ℕ, List, length, ◌≡◌, ◌≤◌, ◌<◌, ◌⊎◌, IsTrue, OnOk, IfOk, IsErr};
     ghost use Rattle.sector_disk.specs.Image.{Image};
+    ghost use Rattle.sector_disk.specs.Medium.{LeavesOnly, After, Follows, IsSettled, spare};
     ghost use Rattle.sector_disk.specs.declared.fault.DiskFault.{DiskFault};
     ghost use Rattle.disk_layout.specs.Places.{journal_place};
     ghost use Rattle.disk_layout.specs.Stored.{OnlyReads};
     ghost use Rattle.snapshot.specs.Heads.{FindsHead};
     ghost use Rattle.snapshot.specs.Newest.{ReadsImage, Finds};
-    ghost use Rattle.snapshot.specs.Snapshots.{is_idle, is_failed, Fails};
+    ghost use Rattle.snapshot.specs.Steps.{Fills, Commits, Replaces};
+    ghost use Rattle.snapshot.specs.Snapshots.{is_idle, is_failed, generation_of, version_of, length_of, sectors_of, IsSameImage, IsBegun, HasPushed, Fails};
 
     pub fn new() -> Snapshots
         ensures idle { IsTrue (is_idle result) }
@@ -116,6 +122,119 @@ impl Snapshots {
             generation: head.generation,
             image,
         }))
+    }
+
+    /// Begins the image of this generation, which is given by `push` and ends with `finish`. It makes no call of
+    /// the disk. It is `TooBig` for a generation from 2^63 on. An image that was begun before is left as it is.
+    pub fn begin(&mut self, generation: u64, version: u32) -> Result<(), SnapshotFault>
+        ensures begun { OnOk result (IsBegun generation version self.new) }
+        ensures too_big { (result ≡ Err SnapshotFault.TooBig) ↔ ((is_failed self.old ≡ false) × (2 ^ 63 ≤ generation)) }
+        ensures fails { Fails result self.old self.new }
+        ensures cause { IsErr result → IsTrue (is_failed self.old) ⊎ (result ≡ Err SnapshotFault.TooBig) }
+    {
+        if self.is_failed() {
+            return Err(SnapshotFault::Failed);
+        }
+        if generation >= GENERATIONS {
+            self.state = State::Failed;
+            return Err(SnapshotFault::TooBig);
+        }
+        self.state = State::Begun(AreaWriter::new(generation, version));
+        Ok(())
+    }
+
+    /// Gives more bytes of the image. Each sector of the area that they fill is compared with what the area holds,
+    /// and written where it differs. Where the image would be longer than its area it is `TooBig`, and the disk
+    /// is left alone.
+    pub fn push<D: Disk>(
+        &mut self,
+        disk: &mut D,
+        geometry: &Geometry,
+        bytes: &[u8],
+    ) -> Result<(), SnapshotFault>
+        requires begun { is_idle self.old ≡ false }
+        requires places { journal_place geometry.now ≤ (D.medium disk.old).sectors }
+
+        // A cut at any moment leaves the newest snapshot that there was.
+        ensures any_moment { LeavesOnly (D.medium disk.old) (D.medium disk.new) (After (Fills geometry.now (generation_of self.old)) (D.medium disk.old).may_leave) }
+        ensures pushed { OnOk result ((before : List ℕ) → HasPushed geometry.now (D.medium disk.old) self.old before → HasPushed geometry.now (D.medium disk.new) self.new (before ++ bytes.now)) }
+        ensures same { OnOk result (IsSameImage self.old self.new) }
+        ensures length { OnOk result (length_of self.new ≡ length_of self.old + length bytes.now) }
+        ensures within { OnOk result (length_of self.new ≤ 512 * geometry.now.area_sectors) }
+        ensures unsynced { OnOk result ((D.medium disk.new).unsynced + sectors_of self.old ≤ (D.medium disk.old).unsynced + sectors_of self.new) }
+
+        ensures too_big { (result ≡ Err SnapshotFault.TooBig) ↔ ((is_failed self.old ≡ false) × (512 * geometry.now.area_sectors < length_of self.old + length bytes.now)) }
+        ensures untouched { IsTrue (is_failed self.old) ⊎ (result ≡ Err SnapshotFault.TooBig) → disk.new ≡ disk.old }
+        ensures fails { Fails result self.old self.new }
+        ensures cause { IsErr result → IsTrue (is_failed self.old) ⊎ (result ≡ Err SnapshotFault.TooBig) ⊎ ((fault : DiskFault) × (result ≡ Err (SnapshotFault.Disk fault)) × ((spare (D.medium disk.old) + sectors_of self.old < geometry.now.area_sectors) ⊎ ((D.medium disk.old).faults < (D.medium disk.new).faults))) }
+    {
+        let State::Begun(mut writer) = mem::replace(&mut self.state, State::Failed) else {
+            return Err(SnapshotFault::Failed);
+        };
+        writer.push(disk, geometry, bytes)?;
+        self.state = State::Begun(writer);
+        Ok(())
+    }
+
+    /// Ends the image: stores its last sector with zeros behind it, syncs, writes its head, and syncs.
+    pub fn finish<D: Disk>(
+        &mut self,
+        disk: &mut D,
+        geometry: &Geometry,
+    ) -> Result<(), SnapshotFault>
+        requires begun { is_idle self.old ≡ false }
+        requires within { length_of self.old ≤ 512 * geometry.now.area_sectors }
+        requires places { journal_place geometry.now ≤ (D.medium disk.old).sectors }
+
+        // A cut at any moment leaves the newest snapshot that there was, or this one.
+        ensures any_moment { (bytes : List ℕ) → HasPushed geometry.now (D.medium disk.old) self.old bytes →
+            LeavesOnly (D.medium disk.old) (D.medium disk.new) (After (Commits geometry.now (generation_of self.old) (version_of self.old) bytes) (D.medium disk.old).may_leave) }
+
+        // Once it has answered Ok, each cut leaves this one.
+        ensures done { OnOk result ((bytes : List ℕ) → HasPushed geometry.now (D.medium disk.old) self.old bytes →
+            Follows (Replaces geometry.now (generation_of self.old) (version_of self.old) bytes) (D.medium disk.old).may_leave (D.medium disk.new).may_leave) }
+        ensures settled { OnOk result (IsSettled (D.medium disk.new)) }
+        ensures idle { OnOk result (IsTrue (is_idle self.new)) }
+
+        ensures untouched { IsTrue (is_failed self.old) → disk.new ≡ disk.old }
+        ensures fails { Fails result self.old self.new }
+        ensures cause { IsErr result → IsTrue (is_failed self.old) ⊎ ((fault : DiskFault) × (result ≡ Err (SnapshotFault.Disk fault)) × ((spare (D.medium disk.old) + sectors_of self.old < geometry.now.area_sectors) ⊎ ((D.medium disk.old).room ≡ 0) ⊎ ((D.medium disk.old).faults < (D.medium disk.new).faults))) }
+    {
+        let State::Begun(writer) = mem::replace(&mut self.state, State::Failed) else {
+            return Err(SnapshotFault::Failed);
+        };
+        writer.finish(disk, geometry)?;
+        self.state = State::Idle;
+        Ok(())
+    }
+
+    /// Begins an image, gives all of it, and ends it.
+    pub fn commit<D: Disk>(
+        &mut self,
+        disk: &mut D,
+        geometry: &Geometry,
+        generation: u64,
+        image: &[u8],
+        version: u32,
+    ) -> Result<(), SnapshotFault>
+        requires { journal_place geometry.now ≤ (D.medium disk.old).sectors }
+
+        // A cut at any moment leaves the newest snapshot that there was, or this one.
+        ensures any_moment { LeavesOnly (D.medium disk.old) (D.medium disk.new) (After (Commits geometry.now generation version image.now) (D.medium disk.old).may_leave) }
+
+        // Once it has answered Ok, each cut leaves this one.
+        ensures done { OnOk result (Follows (Replaces geometry.now generation version image.now) (D.medium disk.old).may_leave (D.medium disk.new).may_leave) }
+        ensures settled { OnOk result (IsSettled (D.medium disk.new)) }
+        ensures idle { OnOk result (IsTrue (is_idle self.new)) }
+
+        ensures too_big { (result ≡ Err SnapshotFault.TooBig) ↔ ((is_failed self.old ≡ false) × ((2 ^ 63 ≤ generation) ⊎ (512 * geometry.now.area_sectors < length image.now))) }
+        ensures untouched { IsTrue (is_failed self.old) ⊎ (result ≡ Err SnapshotFault.TooBig) → disk.new ≡ disk.old }
+        ensures fails { Fails result self.old self.new }
+        ensures cause { IsErr result → IsTrue (is_failed self.old) ⊎ (result ≡ Err SnapshotFault.TooBig) ⊎ ((fault : DiskFault) × (result ≡ Err (SnapshotFault.Disk fault)) × ((spare (D.medium disk.old) < geometry.now.area_sectors) ⊎ ((D.medium disk.old).room ≡ 0) ⊎ ((D.medium disk.old).faults < (D.medium disk.new).faults))) }
+    {
+        self.begin(generation, version)?;
+        self.push(disk, geometry, image)?;
+        self.finish(disk, geometry)
     }
 
     fn is_failed(&self) -> bool

@@ -1,8 +1,12 @@
 // An image that is being written into its area, sector by sector.
-
 ghost use Rattle.std.specs.Prelude.{◌≤◌, ◌<◌, ◌^◌};
 
-use sha2::Sha256;
+use crate::bytes::{padded, put};
+use crate::fault::SnapshotFault;
+use crate::store::{settle_sector, store_sector};
+use disk_layout::{Geometry, Head};
+use sector_disk::{Disk, DiskFault};
+use sha2::{Digest, Sha256};
 
 /// The image's bytes so far lie in the first sectors of its area, and behind them at the front of `sector`.
 #[derive(Drop)]
@@ -18,4 +22,167 @@ pub(crate) struct AreaWriter {
     pub(crate) hasher: Sha256,
     ghost few: { sectors ≤ 2 ^ 32 },
     ghost open: { filled < 512 },
+}
+
+impl AreaWriter {
+    ghost use Rattle.std.specs.Prelude.{◌≡◌, ◌⊎◌, ◌↔◌, ◌+◌, ◌*◌, ◌++◌, ℕ, List, length, take, drop, replicate, IfOk, OnOk, IsErr};
+    ghost use Rattle.sha2.specs.Hashers.{Holds256};
+    ghost use Rattle.sha2.specs.Sha256.{sha256};
+    ghost use Rattle.guest_memory.specs.Bytes.{with_part};
+    ghost use Rattle.sector_disk.specs.Image.{Image, front_over};
+    ghost use Rattle.sector_disk.specs.Medium.{LeavesOnly, After, Follows, IsSettled, spare};
+    ghost use Rattle.sector_disk.specs.declared.fault.DiskFault.{DiskFault};
+    ghost use Rattle.disk_layout.specs.Places.{journal_place, area_place};
+    ghost use Rattle.disk_layout.specs.Sectors.{Holds};
+    ghost use Rattle.snapshot.specs.Steps.{Fills, Commits, Replaces};
+    ghost use Rattle.snapshot.specs.Writing.{written_length, Starts, IsGiven};
+
+    pub(crate) fn new(generation: u64, version: u32) -> AreaWriter
+        ensures { Starts generation version result }
+    {
+        AreaWriter {
+            generation,
+            version,
+            sectors: 0,
+            filled: 0,
+            sector: [0; 512],
+            hasher: Sha256::new(),
+        }
+    }
+
+    /// How many bytes it was given.
+    fn length(&self) -> u64
+        ensures length { result ≡ written_length self.now }
+        ensures within { result ≤ 2 ^ 42 }
+    {
+        512 * self.sectors + self.filled as u64
+    }
+
+    /// Gives it more bytes of the image. Where they are more than the area holds, no call of the disk is made.
+    pub(crate) fn push<D: Disk>(
+        &mut self,
+        disk: &mut D,
+        geometry: &Geometry,
+        bytes: &[u8],
+    ) -> Result<(), SnapshotFault>
+        requires { journal_place geometry.now ≤ (D.medium disk.old).sectors }
+        ensures too_big { (result ≡ Err SnapshotFault.TooBig) ↔ (512 * geometry.now.area_sectors < written_length self.old + length bytes.now) }
+        ensures untouched { result ≡ Err SnapshotFault.TooBig → disk.new ≡ disk.old }
+        ensures given { OnOk result ((before : List ℕ) → IsGiven geometry.now (D.medium disk.old) self.old before → IsGiven geometry.now (D.medium disk.new) self.new (before ++ bytes.now)) }
+        ensures length { OnOk result (written_length self.new ≡ written_length self.old + length bytes.now) }
+        ensures generation { OnOk result (self.new.generation ≡ self.old.generation) }
+        ensures version { OnOk result (self.new.version ≡ self.old.version) }
+        ensures unsynced { OnOk result ((D.medium disk.new).unsynced + self.old.sectors ≤ (D.medium disk.old).unsynced + self.new.sectors) }
+        ensures any_moment { LeavesOnly (D.medium disk.old) (D.medium disk.new) (After (Fills geometry.now self.old.generation) (D.medium disk.old).may_leave) }
+        ensures cause { IsErr result → result ≡ Err SnapshotFault.TooBig ⊎ ((fault : DiskFault) × (result ≡ Err (SnapshotFault.Disk fault)) × ((spare (D.medium disk.old) + self.old.sectors < geometry.now.area_sectors) ⊎ ((D.medium disk.old).faults < (D.medium disk.new).faults))) }
+    {
+        let total = self.length().saturating_add(bytes.len() as u64);
+        if total > 512 * u64::from(geometry.area_sectors) {
+            return Err(SnapshotFault::TooBig);
+        }
+        let mut at = 0;
+        while at < bytes.len() {
+            at += self.take_in(disk, geometry, &bytes[at..])?;
+        }
+        Ok(())
+    }
+
+    /// Takes as many of the bytes as its sector has room for, and stores it once it is full. It gives their number.
+    fn take_in<D: Disk>(
+        &mut self,
+        disk: &mut D,
+        geometry: &Geometry,
+        bytes: &[u8],
+    ) -> Result<usize, DiskFault>
+        requires some { 0 < length bytes.now }
+        requires room { self.old.sectors < geometry.now.area_sectors }
+        requires small { geometry.now.area_sectors ≤ 2 ^ 32 }
+        requires places { journal_place geometry.now ≤ (D.medium disk.old).sectors }
+        ensures count { IfOk result (λ n. (0 < n) × (n ≤ length bytes.now)) }
+        ensures length { IfOk result (λ n. written_length self.new ≡ written_length self.old + n) }
+        ensures given { IfOk result (λ n. (before : List ℕ) → IsGiven geometry.now (D.medium disk.old) self.old before → IsGiven geometry.now (D.medium disk.new) self.new (before ++ take n bytes.now)) }
+        ensures generation { self.new.generation ≡ self.old.generation }
+        ensures version { self.new.version ≡ self.old.version }
+        ensures unsynced { OnOk result ((D.medium disk.new).unsynced + self.old.sectors ≤ (D.medium disk.old).unsynced + self.new.sectors) }
+        ensures any_moment { LeavesOnly (D.medium disk.old) (D.medium disk.new) (After (Fills geometry.now self.old.generation) (D.medium disk.old).may_leave) }
+        ensures cause { IsErr result → (spare (D.medium disk.old) + self.old.sectors < geometry.now.area_sectors) ⊎ ((D.medium disk.old).faults < (D.medium disk.new).faults) }
+    {
+        let filled = self.filled;
+        let room = 512 - filled;
+        let count = if bytes.len() < room {
+            bytes.len()
+        } else {
+            room
+        };
+        let taken = &bytes[..count];
+        self.hasher.update(taken);
+        put(&mut self.sector, filled, taken);
+        if count < room {
+            self.filled = filled + count;
+            return Ok(count);
+        }
+        let at = geometry.area_place(self.generation) + self.sectors;
+        store_sector(disk, at, &self.sector)?;
+        self.sectors += 1;
+        self.filled = 0;
+        Ok(count)
+    }
+
+    /// Stores the sector that isn't full, with zeros behind the image's last byte.
+    fn store_last<D: Disk>(&self, disk: &mut D, geometry: &Geometry) -> Result<(), DiskFault>
+        requires within { written_length self.now ≤ 512 * geometry.now.area_sectors }
+        requires places { journal_place geometry.now ≤ (D.medium disk.old).sectors }
+        ensures holds { OnOk result ((bytes : List ℕ) → IsGiven geometry.now (D.medium disk.old) self.now bytes → (image : Image) → (D.medium disk.new).shows image → Holds image (area_place geometry.now self.now.generation) geometry.now.area_sectors bytes) }
+        ensures any_moment { LeavesOnly (D.medium disk.old) (D.medium disk.new) (After (Fills geometry.now self.now.generation) (D.medium disk.old).may_leave) }
+        ensures cause { IsErr result → (spare (D.medium disk.old) + self.now.sectors < geometry.now.area_sectors) ⊎ ((D.medium disk.old).faults < (D.medium disk.new).faults) }
+    {
+        if self.filled == 0 {
+            return Ok(());
+        }
+        let last = padded(&self.sector, self.filled);
+        store_sector(
+            disk,
+            geometry.area_place(self.generation) + self.sectors,
+            &last,
+        )
+    }
+
+    /// The head of the image.
+    fn head(self) -> Head
+        ensures generation { result.generation ≡ self.generation }
+        ensures version { result.version ≡ self.version }
+        ensures digest { (bytes : List ℕ) → Holds256 self.hasher bytes → result.digest ≡ sha256 bytes }
+        ensures length { result.length_in_bytes ≡ written_length self }
+        ensures small { (result.version < 2 ^ 32) × (result.length_in_bytes < 2 ^ 64) × (result.generation < 2 ^ 64) }
+    {
+        let length_in_bytes = self.length();
+        let AreaWriter {
+            generation,
+            version,
+            hasher,
+            ..
+        } = self;
+        Head {
+            version,
+            length_in_bytes,
+            digest: hasher.finalize(),
+            generation,
+        }
+    }
+
+    /// Stores the last sector, syncs, writes the head, and syncs.
+    pub(crate) fn finish<D: Disk>(self, disk: &mut D, geometry: &Geometry) -> Result<(), DiskFault>
+        requires within { written_length self ≤ 512 * geometry.now.area_sectors }
+        requires places { journal_place geometry.now ≤ (D.medium disk.old).sectors }
+        ensures any_moment { (bytes : List ℕ) → IsGiven geometry.now (D.medium disk.old) self bytes →
+            LeavesOnly (D.medium disk.old) (D.medium disk.new) (After (Commits geometry.now self.generation self.version bytes) (D.medium disk.old).may_leave) }
+        ensures done { OnOk result ((bytes : List ℕ) → IsGiven geometry.now (D.medium disk.old) self bytes →
+            Follows (Replaces geometry.now self.generation self.version bytes) (D.medium disk.old).may_leave (D.medium disk.new).may_leave) }
+        ensures settled { OnOk result (IsSettled (D.medium disk.new)) }
+        ensures cause { IsErr result → (spare (D.medium disk.old) + self.sectors < geometry.now.area_sectors) ⊎ ((D.medium disk.old).room ≡ 0) ⊎ ((D.medium disk.old).faults < (D.medium disk.new).faults) }
+    {
+        self.store_last(disk, geometry)?;
+        let head = self.head();
+        settle_sector(disk, Geometry::head_place(head.generation), &head.sector())
+    }
 }

@@ -1,0 +1,66 @@
+use Rattle.std.proofs.Common.{◌≡◌, ◌⊎◌, ◌≤◌, ◌<◌, ◌+◌, ◌∙◌, ℕ, List, length, sym, ap, subst, arith}
+use Rattle.std.proofs.lemmas.Result.{on_ok_weaker}
+use Rattle.sector_disk.specs.Image.{Image, IsTorn, IsWritten}
+use Rattle.sector_disk.specs.Medium.{After, Follows, LeavesOnly}
+use Rattle.disk_layout.specs.Places.{head_place, area_place}
+use Rattle.disk_layout.specs.Sectors.{Holds}
+use Rattle.snapshot.specs.Steps.{Fills, Commits, Replaces}
+use Rattle.snapshot.proofs.AreaLemmas.{fills_commits}
+use Rattle.snapshot.proofs.StoreLemmas.{leaves_weaker}
+use Rattle.snapshot.proofs.WriterLemmas.{is_head, finished, replaced}
+use Rattle.snapshot.proofs.writer.AreaWriter.finish.Goals as goal
+
+pub returns-in_err-store_last-clause-any_moment : goal.returns-in_err-store_last-clause-any_moment
+returns-in_err-store_last-clause-any_moment g c = λ bytes given.
+    let old = g.D.Disk.medium c.args.disk.now in
+    let new = g.D.Disk.medium c.store_last.new.disk in
+    let w = c.args.self in
+    leaves_weaker old new (After (Fills c.args.geometry.now w.generation) old.may_leave) (After (Commits c.args.geometry.now w.generation w.version bytes) old.may_leave) c.store_last.ensures.any_moment
+    (λ image a. (a.0, a.1, fills_commits c.args.geometry.now w.generation w.version bytes a.0 image a.2))
+
+pub returns-clause-any_moment : goal.returns-clause-any_moment
+returns-clause-any_moment g c = λ bytes given.
+    let old = g.D.Disk.medium c.args.disk.now in
+    let mid = g.D.Disk.medium c.store_last.new.disk in
+    let new = g.D.Disk.medium c.settle_sector.new.disk in
+    let w = c.args.self in
+    let h = c.head-head.result in
+    let geometry = c.args.geometry.now in
+    let generation = c.head-head.ensures.generation in
+    let digest = c.head-head.ensures.digest bytes given.hashed in
+    let is = is_head h bytes digest c.head-head.ensures.small in
+    let len = c.head-head.ensures.length ∙ sym given.count in
+    let one = subst (λ (n : ℕ). LeavesOnly old mid (After (Fills geometry n) old.may_leave)) (sym generation) c.store_last.ensures.any_moment in
+    let holds : (image : Image) → mid.shows image → Holds image (area_place geometry h.generation) geometry.area_sectors bytes =
+    λ image shows. subst (λ (n : ℕ). Holds image (area_place geometry n) geometry.area_sectors bytes) (sym generation) (c.in_ok-store_last.ensures.holds bytes given image shows) in
+    let inside : 3 ≤ mid.sectors = let l = c.store_last.ensures.any_moment in let p = l.passes in let r = c.requires.places in omega (arith, p.sectors, r) in
+    let placed = subst (λ (k : ℕ). LeavesOnly mid new (λ image. mid.may_leave image ⊎ After (IsTorn k c.sector.result) mid.shows image)) c.head_place.ensures c.settle_sector.ensures.any_moment in
+    let two = subst (λ (l : List ℕ). LeavesOnly mid new (λ image. mid.may_leave image ⊎ After (IsTorn (head_place h.generation) l) mid.shows image)) c.sector.ensures placed in
+    let done = finished geometry h bytes is len digest old mid new inside one holds two in
+    let at = subst (λ (n : ℕ). LeavesOnly old new (After (Commits geometry n h.version bytes) old.may_leave)) generation done in
+    subst (λ (v : ℕ). LeavesOnly old new (After (Commits geometry w.generation v bytes) old.may_leave)) c.head-head.ensures.version at
+
+pub returns-clause-done : goal.returns-clause-done
+returns-clause-done g c =
+    on_ok_weaker c.settle_sector.result
+    (λ written. λ bytes given.
+    let old = g.D.Disk.medium c.args.disk.now in
+    let mid = g.D.Disk.medium c.store_last.new.disk in
+    let new = g.D.Disk.medium c.settle_sector.new.disk in
+    let w = c.args.self in
+    let h = c.head-head.result in
+    let geometry = c.args.geometry.now in
+    let generation = c.head-head.ensures.generation in
+    let digest = c.head-head.ensures.digest bytes given.hashed in
+    let is = is_head h bytes digest c.head-head.ensures.small in
+    let len = c.head-head.ensures.length ∙ sym given.count in
+    let one = subst (λ (n : ℕ). LeavesOnly old mid (After (Fills geometry n) old.may_leave)) (sym generation) c.store_last.ensures.any_moment in
+    let holds : (image : Image) → mid.shows image → Holds image (area_place geometry h.generation) geometry.area_sectors bytes =
+    λ image shows. subst (λ (n : ℕ). Holds image (area_place geometry n) geometry.area_sectors bytes) (sym generation) (c.in_ok-store_last.ensures.holds bytes given image shows) in
+    let inside : 3 ≤ mid.sectors = let l = c.store_last.ensures.any_moment in let p = l.passes in let r = c.requires.places in omega (arith, p.sectors, r) in
+    let placed = subst (λ (k : ℕ). Follows (IsWritten k c.sector.result) mid.shows new.may_leave) c.head_place.ensures written in
+    let two = subst (λ (l : List ℕ). Follows (IsWritten (head_place h.generation) l) mid.shows new.may_leave) c.sector.ensures placed in
+    let done = replaced geometry h bytes is len digest old mid new inside one holds two in
+    let at = subst (λ (n : ℕ). Follows (Replaces geometry n h.version bytes) old.may_leave new.may_leave) generation done in
+    subst (λ (v : ℕ). Follows (Replaces geometry w.generation v bytes) old.may_leave new.may_leave) c.head-head.ensures.version at)
+    c.settle_sector.ensures.written

@@ -1,0 +1,49 @@
+use Rattle.std.proofs.Common.{◌≡◌, ◌≤◌, ◌<◌, ◌+◌, ◌-◌, ◌++◌, ◌∙◌, ℕ, List, length, take, drop, sym, ap, subst, arith, append_assoc}
+use Rattle.std.proofs.lemmas.List.{take_all, length-drop}
+use Rattle.sector_disk.specs.Medium.{After, LeavesOnly}
+use Rattle.disk_layout.proofs.ReadLemmas.{parts_joined}
+use Rattle.snapshot.specs.Steps.{Fills}
+use Rattle.snapshot.specs.Writing.{IsGiven}
+use Rattle.snapshot.proofs.WriterLemmas.{more_fills}
+use Rattle.snapshot.proofs.writer.AreaWriter.push.Goals as goal
+
+pub returns-in_err-at-clause-any_moment : goal.returns-in_err-at-clause-any_moment
+returns-in_err-at-clause-any_moment g c =
+    let i = c.loop-at.invariant in
+    let old = g.D.Disk.medium c.args.disk.now in
+    let mid = g.D.Disk.medium c.loop-at.disk in
+    let new = g.D.Disk.medium c.take_in.new.disk in
+    let two = subst (λ (n : ℕ). LeavesOnly mid new (After (Fills c.args.geometry.now n) mid.may_leave)) i.generation c.take_in.ensures.any_moment in
+    more_fills c.args.geometry.now c.args.self.now.generation old mid new i.leaves two
+
+pub loop-at-preserved : goal.loop-at-preserved
+loop-at-preserved g c =
+    let i = c.loop-at.invariant in
+    let old = g.D.Disk.medium c.args.disk.now in
+    let mid = g.D.Disk.medium c.loop-at.disk in
+    let new = g.D.Disk.medium c.take_in.new.disk in
+    let two = subst (λ (n : ℕ). LeavesOnly mid new (After (Fills c.args.geometry.now n) mid.may_leave)) i.generation c.take_in.ensures.any_moment in
+    let n = c.in_ok-at.field-0 in
+    let ok = c.in_ok-at.ensures in
+    let count = ok.count in
+    let len = ok.length in
+    let sync = ok.unsynced in
+    let bytes = c.args.bytes.now in
+    let rest : take (length bytes - c.loop-at.at) (drop c.loop-at.at bytes) ≡ drop c.loop-at.at bytes = take_all (length bytes - c.loop-at.at) (drop c.loop-at.at bytes) (omega (arith, length-drop c.loop-at.at bytes)) in
+    let joined : length (take (length bytes - c.loop-at.at) (drop c.loop-at.at bytes)) ≡ length bytes - c.loop-at.at = ap (λ (l : List ℕ). length l) rest ∙ length-drop c.loop-at.at bytes in
+    let more = count.1 in
+    let test = c.loop-at-test.true in
+    record {
+      within = omega (arith, joined, more, test);
+      length = omega (arith, len, i.length);
+      generation = ok.generation ∙ i.generation;
+      version = ok.version ∙ i.version;
+      given = λ before given.
+          let next = ok.given (before ++ take c.loop-at.at bytes) (i.given before given) in
+          let is : (before ++ take c.loop-at.at bytes) ++ take n (take (length bytes - c.loop-at.at) (drop c.loop-at.at bytes)) ≡ before ++ take (c.loop-at.at + n) bytes =
+          append_assoc before (take c.loop-at.at bytes) (take n (take (length bytes - c.loop-at.at) (drop c.loop-at.at bytes)))
+          ∙ ap (λ (l : List ℕ). before ++ (take c.loop-at.at bytes ++ take n l)) rest ∙ ap (λ (l : List ℕ). before ++ l) (parts_joined c.loop-at.at n bytes) in
+          subst (λ (l : List ℕ). IsGiven c.args.geometry.now new c.take_in.new.self l) is next;
+      unsynced = omega (arith, sync, i.unsynced);
+      leaves = more_fills c.args.geometry.now c.args.self.now.generation old mid new i.leaves two;
+    }

@@ -1,0 +1,22 @@
+use Rattle.std.proofs.Common.{◌≡◌, ◌≤◌, ◌<◌, ◌+◌, ◌-◌, ◌*◌, ◌++◌, ℕ, List, length, take}
+use Rattle.sector_disk.specs.Medium.{After, LeavesOnly}
+use Rattle.snapshot.specs.Steps.{Fills}
+use Rattle.snapshot.specs.Writing.{written_length, IsGiven}
+use Rattle.snapshot.proofs.writer.AreaWriter.push.Given as goal
+
+abbrev pub invariant-loop-at : goal.invariant-loop-at
+invariant-loop-at g l =
+    let old = g.D.Disk.medium l.fn.disk in
+    let now = g.D.Disk.medium l.disk in
+    record {
+      within : l.at ≤ length l.bytes;
+      length : written_length l.self ≡ written_length l.fn.self + l.at;
+      generation : l.self.generation ≡ l.fn.self.generation;
+      version : l.self.version ≡ l.fn.self.version;
+      given : (before : List ℕ) → IsGiven l.geometry old l.fn.self before → IsGiven l.geometry now l.self (before ++ take l.at l.bytes);
+      unsynced : now.unsynced + l.fn.self.sectors ≤ old.unsynced + l.self.sectors;
+      leaves : LeavesOnly old now (After (Fills l.geometry l.fn.self.generation) old.may_leave);
+    }
+
+abbrev pub decreases-loop-at : goal.decreases-loop-at
+decreases-loop-at g l = length l.bytes - l.at
