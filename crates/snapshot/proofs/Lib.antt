@@ -5,3 +5,4 @@ pub mod StoreLemmas
 pub mod WriterLemmas
 pub mod ByteLemmas
 pub mod SnapshotLemmas
+pub mod LawLemmas

@@ -49,30 +49,40 @@ module _ (k : ℕ) (bytes : List ℕ) (old mid : Medium) (stays : Stays old mid)
       let was = shows_follow mid new _ _ tears.both image shows in
       sym (holds was.0 was.1) ∙ was-bytes was.0 (stays_shows old mid stays was.0 was.1)
 
-  -- ---- a sync, a write and a sync
+-- ---- a sector that is written on a settled disk, and then a sync
 
+module _ (k : ℕ) (bytes : List ℕ) (old new : Medium) (settled : IsSettled old) (tears : Tears k bytes old new) (passes : Passes old new new.may_leave) where
+  torn_shown : (image : Image) → new.may_leave image → old.may_leave image ⊎ After (IsTorn k bytes) old.shows image
+  torn_shown image left =
+      let was = left_follow old new _ _ tears.both image left in
+      inr (was.0, settled_only old settled was.0 was.1, was.2)
+
+  pub settled_write : LeavesOnly old new (λ image. old.may_leave image ⊎ After (IsTorn k bytes) old.shows image)
+  settled_write =
+      leaves_only old new (λ image. old.may_leave image ⊎ After (IsTorn k bytes) old.shows image)
+      (weaker old new new.may_leave (λ image. old.may_leave image ⊎ After (IsTorn k bytes) old.shows image) passes torn_shown) (λ image left. inl left)
+
+  pub settled_sync : (last : Medium) → Stays new last → Passes new last last.may_leave → LeavesOnly old last (λ image. old.may_leave image ⊎ After (IsTorn k bytes) old.shows image)
+  settled_sync last stays more =
+      leaves_only old last (λ image. old.may_leave image ⊎ After (IsTorn k bytes) old.shows image)
+      (goes_on old new last (λ image. old.may_leave image ⊎ After (IsTorn k bytes) old.shows image) last.may_leave (let s = settled_write in s.passes) more (λ image left. torn_shown image (stays_left new last stays image left)))
+      (λ image left. inl left)
+
+  pub written_left : (last : Medium) → BothFollow (IsWritten k bytes) (IsTorn k bytes) old new → Stays new last → IsSettled last → Follows (IsWritten k bytes) old.shows last.may_leave
+  written_left last whole stays done = λ image left. shows_follow old new _ _ whole image (stays_shows new last stays image (settled_only last done image left))
+
+-- ---- a sync before that
+
+module _ (k : ℕ) (bytes : List ℕ) (old mid : Medium) (stays : Stays old mid) (passes : Passes old mid mid.may_leave) where
   pub sync_leaves : LeavesOnly old mid (λ image. old.may_leave image ⊎ After (IsTorn k bytes) old.shows image)
   sync_leaves = leaves_weaker old mid old.may_leave (λ image. old.may_leave image ⊎ After (IsTorn k bytes) old.shows image) (stays_leaves_only old mid stays passes) (λ image left. inl left)
 
-  module _ (settled : IsSettled mid) (new : Medium) (tears : Tears k bytes mid new) (more : Passes mid new new.may_leave) where
-    torn_left : (image : Image) → new.may_leave image → old.may_leave image ⊎ After (IsTorn k bytes) old.shows image
-    torn_left image left =
-        let was = left_follow mid new _ _ tears.both image left in
-        inr (was.0, stays_shows old mid stays was.0 (settled_only mid settled was.0 was.1), was.2)
+  pub sync_then : (new : Medium) → LeavesOnly mid new (λ image. mid.may_leave image ⊎ After (IsTorn k bytes) mid.shows image) → LeavesOnly old new (λ image. old.may_leave image ⊎ After (IsTorn k bytes) old.shows image)
+  sync_then new one =
+      leaves_then old mid new old.may_leave (λ image. mid.may_leave image ⊎ After (IsTorn k bytes) mid.shows image) (λ image. old.may_leave image ⊎ After (IsTorn k bytes) old.shows image)
+      (stays_leaves_only old mid stays passes) one (λ image left. inl left)
+      (λ image q. ⊎_elim (λ left. inl (stays_left old mid stays image left)) (λ a. inr (a.0, stays_shows old mid stays a.0 a.1, a.2)) q)
+      (λ image left. inl left)
 
-    pub settled_write_leaves : LeavesOnly old new (λ image. old.may_leave image ⊎ After (IsTorn k bytes) old.shows image)
-    settled_write_leaves =
-        leaves_only old new (λ image. old.may_leave image ⊎ After (IsTorn k bytes) old.shows image)
-        (goes_on old mid new (λ image. old.may_leave image ⊎ After (IsTorn k bytes) old.shows image) new.may_leave (let r = sync_leaves in r.passes) more torn_left)
-        (λ image left. inl left)
-
-    pub last_sync_leaves : (last : Medium) → Stays new last → Passes new last last.may_leave → LeavesOnly old last (λ image. old.may_leave image ⊎ After (IsTorn k bytes) old.shows image)
-    last_sync_leaves last stays-last passes-last =
-        leaves_only old last (λ image. old.may_leave image ⊎ After (IsTorn k bytes) old.shows image)
-        (goes_on old new last (λ image. old.may_leave image ⊎ After (IsTorn k bytes) old.shows image) last.may_leave (let r = settled_write_leaves in r.passes) passes-last (λ image left. torn_left image (stays_left new last stays-last image left)))
-        (λ image left. inl left)
-
-    pub written_left : (last : Medium) → BothFollow (IsWritten k bytes) (IsTorn k bytes) mid new → Stays new last → IsSettled last → Follows (IsWritten k bytes) old.shows last.may_leave
-    written_left last whole stays-last settled-last = λ image left.
-        let was = shows_follow mid new _ _ whole image (stays_shows new last stays-last image (settled_only last settled-last image left)) in
-        (was.0, stays_shows old mid stays was.0 was.1, was.2)
+  pub written_since : (new : Medium) → Follows (IsWritten k bytes) mid.shows new.may_leave → Follows (IsWritten k bytes) old.shows new.may_leave
+  written_since new whole = λ image left. let a = whole image left in (a.0, stays_shows old mid stays a.0 a.1, a.2)

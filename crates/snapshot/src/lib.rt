@@ -4,6 +4,7 @@
 
 mod bytes;
 mod fault;
+pub mod laws;
 mod newest;
 mod snapshots;
 mod store;

@@ -1,5 +1,6 @@
 // Sectors that are stored where they differ, and one that is written behind a sync.
 ghost use Rattle.std.specs.Prelude.{◌<◌};
+ghost use Rattle.sector_disk.specs.Medium.{IsSettled};
 ghost use Rattle.snapshot.specs.Store.{Stores, Settles};
 
 use block_lanes::same;
@@ -33,6 +34,15 @@ pub(crate) fn settle_sector<D: Disk>(
     ensures { Settles at sector.now result (D.medium disk.old) (D.medium disk.new) }
 {
     disk.sync()?;
+    write_settled(disk, at, sector)
+}
+
+/// Writes a sector of a disk where all is settled, and syncs.
+fn write_settled<D: Disk>(disk: &mut D, at: u64, sector: &[u8; 512]) -> Result<(), DiskFault>
+    requires inside { at < (D.medium disk.old).sectors }
+    requires settled { IsSettled (D.medium disk.old) }
+    ensures { Settles at sector.now result (D.medium disk.old) (D.medium disk.new) }
+{
     disk.write(at, sector)?;
     disk.sync()
 }

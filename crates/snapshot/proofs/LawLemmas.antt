@@ -1,0 +1,45 @@
+-- An image shows one newest snapshot at most.
+use Rattle.std.proofs.Common.{◌≡◌, ℕ, List, length, take, sym, ap, ◌∙◌, arith}
+use Rattle.sha2.specs.Sha256.{sha256}
+use Rattle.sector_disk.specs.Image.{Image, sector_at}
+use Rattle.disk_layout.specs.declared.geometry.Geometry.{Geometry}
+use Rattle.disk_layout.specs.declared.head.Head.{Head}
+use Rattle.disk_layout.specs.Places.{head_place, area_place}
+use Rattle.disk_layout.specs.Sectors.{bytes_from, head_of, IsNewest, HoldsImage}
+use Rattle.snapshot.specs.Heads.{HasNone}
+use Rattle.snapshot.specs.Newest.{IsDamaged}
+use Rattle.snapshot.specs.Laws.{ShowsOne}
+use Rattle.snapshot.proofs.AreaLemmas.{none_at, one_newest}
+
+one_head : (x : Image) (a b : ℕ) (h k : Head) → IsNewest x a h → IsNewest x b k → h ≡ k
+one_head x a b h k one two = one.is ∙ ap (λ (n : ℕ). head_of (sector_at x (head_place n))) (one_newest x a b h k one two) ∙ sym two.is
+
+same_image : (geometry : Geometry) (x : Image) (g h v w : ℕ) (a b : List ℕ) → HoldsImage geometry x g v a → HoldsImage geometry x h w b → (g ≡ h) × (v ≡ w) × (a ≡ b)
+same_image geometry x g h v w a b one two =
+    let same = one_newest x g h _ _ one.newest two.newest in
+    let head = one_head x g h _ _ one.newest two.newest in
+    let len : length a ≡ length b = ap (λ (k : Head). k.length_in_bytes) head in (
+      same,
+      ap (λ (k : Head). k.version) head,
+      sym one.area
+          ∙ ap (λ (n : ℕ). take n (bytes_from x (area_place geometry g) geometry.area_sectors)) len
+          ∙ ap (λ (n : ℕ). take (length b) (bytes_from x (area_place geometry n) geometry.area_sectors)) same
+          ∙ two.area,
+    )
+
+not_damaged : (geometry : Geometry) (x : Image) (g v : ℕ) (a : List ℕ) → HoldsImage geometry x g v a → IsDamaged geometry x → ⊥
+not_damaged geometry x g v a one d =
+    let head = one_head x d.generation g d.head _ d.newest one.newest in
+    d.other a (record {
+      len = ap (λ (k : Head). k.length_in_bytes) head;
+      digest = ap (λ (k : Head). k.digest) head;
+      area = ap (λ (k : Head). take (length a) (bytes_from x (area_place geometry k.generation) geometry.area_sectors)) head ∙ one.area;
+    })
+
+pub shows_one : ShowsOne
+shows_one = record {
+  same = same_image;
+  some = λ geometry x g v a one none. let n = one.newest in none_at x none g n.complete;
+  whole = not_damaged;
+  headed = λ geometry x d none. let n = d.newest in none_at x none d.generation n.complete;
+}
