@@ -8,6 +8,8 @@ pub mod laws;
 mod newest;
 mod snapshots;
 mod store;
+#[cfg(test)]
+mod tests;
 mod writer;
 
 pub use fault::SnapshotFault;
