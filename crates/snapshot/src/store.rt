@@ -1,6 +1,6 @@
 // Sectors that are stored where they differ, and one that is written behind a sync.
 ghost use Rattle.std.specs.Prelude.{◌<◌};
-ghost use Rattle.sector_disk.specs.Medium.{IsSettled};
+ghost use Rattle.sector_disk.specs.Medium.{IsSettled, Syncs};
 ghost use Rattle.snapshot.specs.Store.{Stores, Settles};
 
 use block_lanes::same;
@@ -33,8 +33,15 @@ pub(crate) fn settle_sector<D: Disk>(
     requires { at < (D.medium disk.old).sectors }
     ensures { Settles at sector.now result (D.medium disk.old) (D.medium disk.new) }
 {
-    disk.sync()?;
+    settle(disk)?;
     write_settled(disk, at, sector)
+}
+
+/// Settles what was written.
+fn settle<D: Disk>(disk: &mut D) -> Result<(), DiskFault>
+    ensures { Syncs result (D.medium disk.old) (D.medium disk.new) }
+{
+    disk.sync()
 }
 
 /// Writes a sector of a disk where all is settled, and syncs.
@@ -44,5 +51,5 @@ fn write_settled<D: Disk>(disk: &mut D, at: u64, sector: &[u8; 512]) -> Result<(
     ensures { Settles at sector.now result (D.medium disk.old) (D.medium disk.new) }
 {
     disk.write(at, sector)?;
-    disk.sync()
+    settle(disk)
 }

@@ -3,26 +3,26 @@ use Rattle.std.proofs.lemmas.Result.{on_ok_weaker}
 use Rattle.snapshot.proofs.StoreLemmas.{sync_leaves, sync_then, written_since}
 use Rattle.snapshot.proofs.store.settle_sector.Goals as goal
 
-pub returns-in_err-sync : goal.returns-in_err-sync
-returns-in_err-sync g c =
+pub returns-in_err-settle : goal.returns-in_err-settle
+returns-in_err-settle g c =
     let old = g.D.Disk.medium c.args.disk.now in
-    let mid = g.D.Disk.medium c.sync.new.self in
+    let mid = g.D.Disk.medium c.settle.new.disk in
     record {
       written = search rules;
       settled = search rules;
-      any_moment = sync_leaves c.args.at c.args.sector.now old mid c.sync.ensures.stays c.sync.ensures.passes;
+      any_moment = sync_leaves c.args.at c.args.sector.now old mid c.settle.ensures.stays c.settle.ensures.passes;
       cause = search rules;
     }
 
 pub returns : goal.returns
 returns g c =
     let old = g.D.Disk.medium c.args.disk.now in
-    let mid = g.D.Disk.medium c.sync.new.self in
+    let mid = g.D.Disk.medium c.settle.new.disk in
     let new = g.D.Disk.medium c.write_settled.new.disk in
-    let stays = c.sync.ensures.stays in
+    let stays = c.settle.ensures.stays in
     record {
-      written = on_ok_weaker c.write_settled.result (written_since c.args.at c.args.sector.now old mid stays c.sync.ensures.passes new) c.write_settled.ensures.written;
+      written = on_ok_weaker c.write_settled.result (written_since c.args.at c.args.sector.now old mid stays c.settle.ensures.passes new) c.write_settled.ensures.written;
       settled = c.write_settled.ensures.settled;
-      any_moment = sync_then c.args.at c.args.sector.now old mid stays c.sync.ensures.passes new c.write_settled.ensures.any_moment;
+      any_moment = sync_then c.args.at c.args.sector.now old mid stays c.settle.ensures.passes new c.write_settled.ensures.any_moment;
       cause = search rules;
     }

@@ -18,11 +18,11 @@ pub returns : goal.returns
 returns g c =
     let old = g.D.Disk.medium c.args.disk.now in
     let new = g.D.Disk.medium c.write.new.self in
-    let last = g.D.Disk.medium c.sync.new.self in
+    let last = g.D.Disk.medium c.settle.new.disk in
     let takes = c.in_ok-write.ensures.whole in
     record {
-      written = on_ok_weaker c.sync.result (λ done. written_left c.args.at c.args.sector.now old new c.requires.settled c.write.ensures.tears c.write.ensures.passes last takes.both c.sync.ensures.stays done) c.sync.ensures.settles;
-      settled = c.sync.ensures.settles;
-      any_moment = settled_sync c.args.at c.args.sector.now old new c.requires.settled c.write.ensures.tears c.write.ensures.passes last c.sync.ensures.stays c.sync.ensures.passes;
+      written = on_ok_weaker c.settle.result (λ done. written_left c.args.at c.args.sector.now old new c.requires.settled c.write.ensures.tears c.write.ensures.passes last takes.both c.settle.ensures.stays done) c.settle.ensures.settles;
+      settled = c.settle.ensures.settles;
+      any_moment = settled_sync c.args.at c.args.sector.now old new c.requires.settled c.write.ensures.tears c.write.ensures.passes last c.settle.ensures.stays c.settle.ensures.passes;
       cause = search rules;
     }
