@@ -57,9 +57,10 @@ begins_filled m v h fills =
     let table = some_of _ all.0 in
     let memory = some_of _ all.1 in
     let T : List TableType → Type 0 = λ ts. filled_table globals.0 m.elements (empty_table ts) ≡ Some table.0 in
-    let M : List MemoryType → Type 0 = λ ts. filled_memory globals.0 m.data_segments (empty_memory ts) ≡ Some memory.0 in
-    (record { memory = memory.0; globals = globals.0; table = table.0 },
-    record { globals = globals.1; table = subst T (sym (own_tables m h)) table.1; memory = subst M (sym (own_memories m h)) memory.1 })
+    let M : List MemoryType → Type 0 = λ ts. filled_memory globals.0 m.data_segments (empty_memory ts) ≡ Some memory.0 in (
+      record { memory = memory.0; globals = globals.0; table = table.0 },
+      record { globals = globals.1; table = subst T (sym (own_tables m h)) table.1; memory = subst M (sym (own_memories m h)) memory.1 },
+    )
 
 pub filled_begins : (m : Module) → AreImportsOffered m → CanBegin m → (values : List Value) → AreInitial m.globals values → FillsAll m values
 filled_begins m h begins values initial =

@@ -41,6 +41,7 @@ no_entry from name kind e p r = of_call (offered_call from name) e
     with_parameters : (c : Call) → results_of c ≡ [] → parameters_of c ≡ [] → ⊥
     with_parameters call.ProcExit r p = cc
     with_parameters _ r p = cc
+
     of_call : (o : Option Call) → option_map function_type_of o ≡ Some kind → ⊥
     of_call None e = cc
     of_call (Some c) e =

@@ -18,8 +18,8 @@ pub loop-export-preserved : goal.loop-export-preserved
 loop-export-preserved c = λ item x.
     further c.args.exports.now c.loop-export.export-index c.export-item.result c.args.name.now item c.loop-export-test.true c.export-item.is
     (λ same.
-      let met : bytes_eq c.as_slice.result.now c.args.name.now ≡ true = (bytes_eq-Decides c.as_slice.result.now c.args.name.now).1 (c.as_slice.ensures ∙ same) in
-      let tested = c.eq.ensures in
-      let failed = c.if-eq.false in
-      cc)
+    let met : bytes_eq c.as_slice.result.now c.args.name.now ≡ true = (bytes_eq-Decides c.as_slice.result.now c.args.name.now).1 (c.as_slice.ensures ∙ same) in
+    let tested = c.eq.ensures in
+    let failed = c.if-eq.false in
+    cc)
     (c.loop-export.invariant item x)
