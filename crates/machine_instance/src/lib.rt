@@ -13,6 +13,8 @@ pub mod laws;
 mod memory;
 mod segments;
 mod table;
+#[cfg(test)]
+mod tests;
 
 pub use fault::LinkFault;
 pub use instance::Instance;
