@@ -1,15 +1,14 @@
 -- The two heads and the two areas of an image.
-use Rattle.std.proofs.Common.{◌≡◌, ◌≢◌, ◌⊎◌, ℕ, zero, suc, ◌+◌, ◌-◌, ◌*◌, ◌%◌, ◌<◌, ◌≤◌, List, ◌++◌, length, take, max, refl, sym, ap, ◌∙◌, subst, inl, inr, ⊎_elim, arith}
+use Rattle.std.proofs.Common.{◌≡◌, ◌⊎◌, ℕ, zero, suc, ◌+◌, ◌-◌, ◌*◌, ◌%◌, ◌<◌, ◌≤◌, List, ◌++◌, length, take, max, refl, sym, ap, ◌∙◌, subst, inl, inr, ⊎_elim, arith}
 use Rattle.std.proofs.lemmas.Bool.{cases_lt, cases_eq}
 use Rattle.sector_disk.specs.Image.{Image, sector_at}
 use Rattle.disk_layout.specs.declared.geometry.Geometry.{Geometry}
 use Rattle.disk_layout.specs.declared.head.Head.{Head}
 use Rattle.disk_layout.specs.Places.{head_place, area_place, journal_place}
-use Rattle.disk_layout.specs.Sectors.{bytes_from, head_of, stamp_of, shown_generation, IsComplete, IsNewest, HoldsImage}
+use Rattle.disk_layout.specs.Sectors.{bytes_from, head_of, stamp_of, shown_generation, IsComplete, IsNewest}
 use Rattle.disk_layout.proofs.StampLemmas.{shows_there}
 use Rattle.snapshot.specs.Heads.{HasNone, heads_to, IsReady}
-use Rattle.snapshot.specs.Newest.{Names, IsDamaged}
-use Rattle.snapshot.specs.Steps.{KeepsNewest, IsElsewhere, Fills, Commits, Replaces, HasNew}
+use Rattle.snapshot.specs.Steps.{KeepsNewest, IsElsewhere, Fills, Commits, Replaces}
 
 pub parity : (n : ℕ) → (n % 2 ≡ 0) ⊎ (n % 2 ≡ 1)
 parity n = ⊎_elim (λ (lt : n % 2 < 1). inl (omega arith)) (λ (ge : 1 ≤ n % 2). inr (omega arith)) (cases_lt (n % 2) 1)

@@ -1,13 +1,12 @@
 -- The bytes of a head.
-use Rattle.std.proofs.Common.{◌≡◌, ℕ, zero, suc, ◌+◌, ◌*◌, ◌/◌, ◌%◌, ◌^◌, ◌<◌, List, [], ◌∷◌, ◌++◌, length, refl, w32, slice_index, ◌∙◌, arith, length-append}
+use Rattle.std.proofs.Common.{◌≡◌, ℕ, zero, suc, ◌+◌, ◌/◌, List, ◌++◌, length, refl, w32, slice_index, ◌∙◌, arith, length-append}
 use Rattle.std.specs.List.{AllByRecursion}
 use Rattle.std.specs.Int.{to_be_bytes}
 use Rattle.sha2.specs.Sha256.{sha256, digest_bytes, final_hash, initial_hash_256}
 use Rattle.guest_memory.specs.Bytes.{IsByte, bytes_of}
-use Rattle.guest_memory.proofs.ByteLemmas.{length-bytes_of}
 use Rattle.wasi_abi.specs.Layouts.{u32_bytes, u64_bytes, padding}
 use Rattle.disk_layout.specs.declared.head.Head.{Head}
-use Rattle.disk_layout.specs.Sectors.{head_bytes, head_mark, stamp_bytes}
+use Rattle.disk_layout.specs.Sectors.{head_bytes, head_mark}
 use Rattle.disk_layout.proofs.StampLemmas.{all_append}
 
 all_bytes_of : (n x : ℕ) → AllByRecursion IsByte (bytes_of n x)

@@ -1,17 +1,16 @@
 -- The head of a generation over an earlier one, whole or torn.
-use Rattle.std.proofs.Common.{◌≡◌, ◌≢◌, ◌⊎◌, ℕ, ◌+◌, ◌-◌, ◌*◌, ◌%◌, ◌^◌, ◌<◌, ◌≤◌, List, ◌++◌, length, take, drop, max, refl, sym, ap, ◌∙◌, subst, inl, inr, ⊎_elim, arith}
+use Rattle.std.proofs.Common.{◌≡◌, ◌≢◌, ◌⊎◌, ℕ, ◌+◌, ◌-◌, ◌%◌, ◌<◌, ◌≤◌, List, length, take, drop, refl, sym, ap, ◌∙◌, subst, inl, inr, ⊎_elim, arith}
 use Rattle.std.proofs.lemmas.Bool.{cases_eq}
 use Rattle.std.proofs.lemmas.List.{take-take, drop-take}
-use Rattle.std.specs.List.{AllByRecursion}
 use Rattle.sha2.specs.Sha256.{sha256}
-use Rattle.guest_memory.specs.Bytes.{IsByte, part, number_of}
-use Rattle.sector_disk.specs.Image.{Image, sector_at, front_over}
+use Rattle.guest_memory.specs.Bytes.{part, number_of}
+use Rattle.sector_disk.specs.Image.{Image, sector_at}
 use Rattle.disk_layout.specs.declared.geometry.Geometry.{Geometry}
 use Rattle.disk_layout.specs.declared.head.Head.{Head}
 use Rattle.disk_layout.specs.Places.{head_place, area_place}
-use Rattle.disk_layout.specs.Sectors.{head_bytes, head_mark, head_of, stamp_of, shown_generation, IsComplete, IsNewest, Holds, HoldsImage, bytes_from}
+use Rattle.disk_layout.specs.Sectors.{head_bytes, head_of, stamp_of, shown_generation, IsComplete, IsNewest, Holds, bytes_from}
 use Rattle.disk_layout.specs.Laws.{HeadFits}
-use Rattle.disk_layout.proofs.StampLemmas.{shows_earlier, shows_there, shows_none}
+use Rattle.disk_layout.proofs.StampLemmas.{shows_there, shows_none}
 use Rattle.disk_layout.proofs.FieldLemmas.{head_again}
 use Rattle.snapshot.specs.Heads.{HasNone, heads_to, IsReady}
 use Rattle.snapshot.specs.Steps.{KeepsNewest, HasNew}

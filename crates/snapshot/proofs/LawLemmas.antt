@@ -1,12 +1,10 @@
 -- An image shows one newest snapshot at most.
-use Rattle.std.proofs.Common.{◌≡◌, ℕ, List, length, take, sym, ap, ◌∙◌, arith}
-use Rattle.sha2.specs.Sha256.{sha256}
+use Rattle.std.proofs.Common.{◌≡◌, ℕ, List, length, take, sym, ap, ◌∙◌}
 use Rattle.sector_disk.specs.Image.{Image, sector_at}
 use Rattle.disk_layout.specs.declared.geometry.Geometry.{Geometry}
 use Rattle.disk_layout.specs.declared.head.Head.{Head}
 use Rattle.disk_layout.specs.Places.{head_place, area_place}
 use Rattle.disk_layout.specs.Sectors.{bytes_from, head_of, IsNewest, HoldsImage}
-use Rattle.snapshot.specs.Heads.{HasNone}
 use Rattle.snapshot.specs.Newest.{IsDamaged}
 use Rattle.snapshot.specs.Laws.{ShowsOne}
 use Rattle.snapshot.proofs.AreaLemmas.{none_at, one_newest}

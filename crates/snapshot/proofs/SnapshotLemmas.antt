@@ -1,6 +1,5 @@
 -- The calls of a commit, one after another.
-use Rattle.std.proofs.Common.{◌≡◌, ℕ, ◌+◌, ◌*◌, List, [], ◌++◌, length, take, ap, ◌∙◌, arith}
-use Rattle.sector_disk.specs.Image.{Image}
+use Rattle.std.proofs.Common.{ℕ, List, [], ◌++◌, take, ap, ◌∙◌, arith}
 use Rattle.sector_disk.specs.Medium.{Medium, After, Follows, LeavesOnly}
 use Rattle.disk_layout.specs.declared.geometry.Geometry.{Geometry}
 use Rattle.disk_layout.specs.Places.{area_place}

@@ -1,9 +1,9 @@
 -- Calls on a disk that follow one another.
-use Rattle.std.proofs.Common.{◌≡◌, ◌⊎◌, ◌≤◌, ◌<◌, ◌+◌, ℕ, List, [], sym, ap, ◌∙◌, subst, inl, inr, ⊎_elim, arith}
+use Rattle.std.proofs.Common.{◌≡◌, ◌⊎◌, ℕ, List, [], sym, ap, ◌∙◌, inl, inr, ⊎_elim}
 use Rattle.std.proofs.lemmas.List.{set-get_or}
-use Rattle.sector_disk.specs.Image.{Image, sector_at, with_sector, IsTorn, IsWritten}
-use Rattle.sector_disk.specs.Medium.{Medium, Tears, Takes, After, Follows, BothFollow, Passes, LeavesOnly, Stays, IsSettled, Holds}
-use Rattle.sector_disk.proofs.Moments.{goes_on, weaker, leaves_only, stays_leaves_only, stays_passes, torn_none, shows_follow, stays_left, stays_shows, left_follow, settled_only, shows_left}
+use Rattle.sector_disk.specs.Image.{Image, with_sector, IsTorn, IsWritten}
+use Rattle.sector_disk.specs.Medium.{Medium, Tears, After, Follows, BothFollow, Passes, LeavesOnly, Stays, IsSettled, Holds}
+use Rattle.sector_disk.proofs.Moments.{goes_on, weaker, leaves_only, stays_leaves_only, torn_none, shows_follow, stays_left, stays_shows, left_follow, settled_only}
 
 -- one run of calls, and then another
 pub leaves_then : (old mid new : Medium) (P Q R : Image → Type 0) → LeavesOnly old mid P → LeavesOnly mid new Q → ((image : Image) → P image → R image) → ((image : Image) → Q image → R image) → ((image : Image) → old.may_leave image → R image)

@@ -1,28 +1,27 @@
 -- Bytes that are given to a writer, and its last sector and head.
-use Rattle.std.proofs.Common.{◌≡◌, ◌≢◌, ◌⊎◌, ℕ, ◌+◌, ◌-◌, ◌*◌, ◌%◌, ◌^◌, ◌<◌, ◌≤◌, List, [], ◌++◌, length, take, drop, replicate, refl, sym, ap, ◌∙◌, subst, inl, inr, ⊎_elim, arith, append_assoc, length-append}
+use Rattle.std.proofs.Common.{◌≡◌, ◌≢◌, ◌⊎◌, ℕ, ◌+◌, ◌^◌, ◌<◌, ◌≤◌, List, ◌++◌, length, take, drop, sym, ap, ◌∙◌, subst, inl, inr, ⊎_elim, arith, append_assoc, length-append}
 use Rattle.std.proofs.Math.Seq.{take-append-add, take-append_seam, drop-append-add}
-use Rattle.std.proofs.lemmas.List.{append-nil, length-set, length-take-le, length-drop, take_all, drop_all, drop-drop}
+use Rattle.std.proofs.lemmas.List.{length-set, length-take-le, length-drop}
 use Rattle.std.specs.List.{AllByRecursion}
 use Rattle.sha2.specs.Sha256.{sha256}
 use Rattle.sha2.proofs.Facts256.{length-sha256}
-use Rattle.guest_memory.specs.Bytes.{IsByte, part, number_of, with_part}
+use Rattle.guest_memory.specs.Bytes.{IsByte, number_of, with_part}
 use Rattle.wasi_abi.specs.Layouts.{padding}
 use Rattle.sector_disk.specs.Image.{Image, sector_at, front_over, IsImage, IsTorn, IsWritten}
-use Rattle.sector_disk.specs.Medium.{Medium, After, Follows, BothFollow, LeavesOnly, Stays}
+use Rattle.sector_disk.specs.Medium.{Medium, After, Follows, BothFollow, LeavesOnly}
 use Rattle.sector_disk.specs.FrontLaws.{sector-with_sector, sector-with_other}
 use Rattle.sector_disk.proofs.Moments.{started, leaves_only, shows_follow, shows_left}
 use Rattle.disk_layout.specs.declared.geometry.Geometry.{Geometry}
 use Rattle.disk_layout.specs.declared.head.Head.{Head}
 use Rattle.disk_layout.specs.Places.{head_place, area_place}
-use Rattle.disk_layout.specs.Sectors.{bytes_from, head_bytes, head_of, stamp_of, stamp_bytes, shown_generation, Holds}
+use Rattle.disk_layout.specs.Sectors.{bytes_from, head_bytes, stamp_of, stamp_bytes, shown_generation, Holds}
 use Rattle.disk_layout.specs.Laws.{HeadFits}
 use Rattle.disk_layout.proofs.ReadLemmas.{bytes_from-more}
 use Rattle.disk_layout.proofs.StampLemmas.{shows_earlier, shows_there}
 use Rattle.disk_layout.proofs.FieldLemmas.{head_again}
-use Rattle.snapshot.specs.Heads.{heads_to, IsReady}
-use Rattle.snapshot.specs.Steps.{IsElsewhere, Fills, Commits, Replaces, KeepsNewest, HasNew}
+use Rattle.snapshot.specs.Steps.{IsElsewhere, Fills, Commits, Replaces}
 use Rattle.snapshot.proofs.AreaLemmas.{bytes_same, fills, fills_none, fills_then, fills_commits, then_commits, then_replaces}
-use Rattle.snapshot.proofs.HeadLemmas.{IsHeadSector, new_head, old_head, shown_within}
+use Rattle.snapshot.proofs.HeadLemmas.{new_head, old_head, shown_within}
 use Rattle.snapshot.proofs.ReadLemmas.{front_of_more}
 use Rattle.snapshot.proofs.ByteLemmas.{all_digest, all_head, length-head}
 use Rattle.snapshot.proofs.StoreLemmas.{leaves_then, leaves_weaker, leaves_now}

@@ -1,8 +1,8 @@
-use Rattle.std.proofs.Common.{◌≡◌, ◌≤◌, ◌*◌, ◌∙◌, List, ℕ, take, ap, sym, arith}
+use Rattle.std.proofs.Common.{◌≤◌, ◌*◌, ◌∙◌, List, ℕ, take, ap, arith}
 use Rattle.sha2.specs.Sha256.{sha256}
 use Rattle.disk_layout.specs.Sectors.{bytes_from}
 use Rattle.sector_disk.proofs.Moments.{shows_left}
-use Rattle.snapshot.proofs.ReadLemmas.{names_within, names_only, is_named}
+use Rattle.snapshot.proofs.ReadLemmas.{names_within, is_named}
 use Rattle.snapshot.proofs.newest.read_image.Goals as goal
 
 pub returns-then-head-room-clause-image : goal.returns-then-head-room-clause-image

@@ -1,4 +1,4 @@
-use Rattle.std.proofs.Common.{◌≡◌, ◌∙◌, ℕ, List, [], sym, subst}
+use Rattle.std.proofs.Common.{◌∙◌, ℕ, [], subst}
 use Rattle.std.proofs.lemmas.Result.{on_ok_weaker}
 use Rattle.sector_disk.specs.Medium.{After, Follows, LeavesOnly}
 use Rattle.snapshot.specs.Steps.{Fills, Commits, Replaces}

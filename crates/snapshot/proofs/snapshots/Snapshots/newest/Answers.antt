@@ -1,9 +1,8 @@
-use Rattle.std.proofs.Common.{◌≡◌, ℕ, Option, Result, Vec, Global, Ok, Err, List, subst, sym}
-use Rattle.sector_disk.specs.Image.{Image}
+use Rattle.std.proofs.Common.{◌≡◌, Option, Result, Err, subst, sym}
 use Rattle.sector_disk.proofs.Moments.{stays_shows}
 use Rattle.disk_layout.specs.declared.head.Head.{Head}
 use Rattle.snapshot.specs.Heads.{FindsHead}
-use Rattle.snapshot.specs.Newest.{ReadsImage, Finds}
+use Rattle.snapshot.specs.Newest.{Finds}
 use Rattle.snapshot.proofs.ReadLemmas.{named_holds, fault_found, is_fault}
 use Rattle.snapshot.specs.declared.fault.SnapshotFault.{SnapshotFault}
 use Rattle.snapshot.specs.declared.newest.Snapshot.{Snapshot}

@@ -1,4 +1,4 @@
-use Rattle.std.proofs.Common.{◌≡◌, ◌≤◌, ◌<◌, ◌+◌, ◌-◌, ◌++◌, ◌∙◌, ℕ, List, length, take, drop, sym, ap, subst, arith, append_assoc}
+use Rattle.std.proofs.Common.{◌≡◌, ◌+◌, ◌-◌, ◌++◌, ◌∙◌, ℕ, List, length, take, drop, ap, subst, arith, append_assoc}
 use Rattle.std.proofs.lemmas.List.{take_all, length-drop}
 use Rattle.sector_disk.specs.Medium.{After, LeavesOnly}
 use Rattle.disk_layout.proofs.ReadLemmas.{parts_joined}

@@ -1,4 +1,4 @@
-use Rattle.std.proofs.Common.{◌≡◌, ◌≤◌, ◌<◌, ◌+◌, ◌-◌, ◌*◌, ◌++◌, ℕ, List, length, take}
+use Rattle.std.proofs.Common.{◌≡◌, ◌≤◌, ◌+◌, ◌-◌, ◌++◌, ℕ, List, length, take}
 use Rattle.sector_disk.specs.Medium.{After, LeavesOnly}
 use Rattle.snapshot.specs.Steps.{Fills}
 use Rattle.snapshot.specs.Writing.{written_length, IsGiven}
