@@ -1,12 +1,20 @@
--- What making a table looks up.
+-- What making the table of a function's body looks up, and when the table is right.
 use Rattle.std.specs.List.{AllByRecursion}
-use Rattle.wasm_syntax_rules.specs.Typing.{Context as Typing}
+use Rattle.wasm_syntax.specs.declared.types.FunctionType.{FunctionType}
+use Rattle.wasm_syntax.specs.declared.module.Code.{Code}
+use Rattle.wasm_syntax_rules.specs.Typing.{Context as Typing, body_context}
 use Rattle.wasm_syntax_rules.specs.Laws.{GivesOneAtMost}
 use Rattle.wasm_validate_parts.specs.declared.context.Context.{Context}
 use Rattle.wasm_validate_parts.specs.Contexts.{IsContextOf}
+use Rattle.wasm_validate_body.specs.Bodies.{HasBody}
+use Rattle.wasm_jumps.specs.Tables.{Table, IsTable}
 
 -- Functions of all types in the context give one value at most, as in each valid module.
 pub record GivesOnes (code : Context) : Type 0 where
   pub c : Typing
   pub is : IsContextOf c code
   pub types : AllByRecursion GivesOneAtMost c.types
+
+-- The table is right about the sequence that the body spells, if the body has its function's type.
+abbrev pub IsTableOf : Typing → FunctionType → Code → Table → Type 0
+IsTableOf c kind code table = (has : HasBody c kind code) → IsTable (body_context c kind code.locals) has.sequence table
