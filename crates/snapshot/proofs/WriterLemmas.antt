@@ -17,7 +17,7 @@ use Rattle.disk_layout.specs.Places.{head_place, area_place}
 use Rattle.disk_layout.specs.Sectors.{bytes_from, head_bytes, stamp_of, stamp_bytes, shown_generation, Holds}
 use Rattle.disk_layout.specs.Laws.{HeadFits}
 use Rattle.disk_layout.proofs.ReadLemmas.{bytes_from-more}
-use Rattle.disk_layout.proofs.StampLemmas.{shows_earlier, shows_there}
+use Rattle.disk_layout.proofs.StampLemmas.{all_drop, shows_earlier, shows_there}
 use Rattle.disk_layout.proofs.FieldLemmas.{head_again}
 use Rattle.snapshot.specs.Steps.{IsElsewhere, Fills, Commits, Replaces}
 use Rattle.snapshot.proofs.AreaLemmas.{bytes_same, fills, fills_none, fills_then, fills_commits, then_commits, then_replaces}
@@ -145,7 +145,7 @@ module _ (geometry : Geometry) (h : Head) (bytes : List ℕ) (is : IsHead h) (le
               let two = shows_earlier 1 h.generation (sector_at x (head_place h.generation)) (head_bytes h) torn.front (record {
                 full = full_head;
                 new_full = is.full;
-                bytes = is.bytes;
+                bytes = all_drop 496 (head_bytes h) is.bytes;
                 stamped = head_placed h is;
                 generation = ap (λ (k : Head). k.generation) (head_again h is.fits);
                 later = later;
