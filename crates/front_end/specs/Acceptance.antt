@@ -1,5 +1,5 @@
 -- Modules that the front end accepts.
-use Rattle.std.specs.Prelude.{ℕ, List}
+use Rattle.std.specs.Prelude.{ℕ, List, Bool, true, false}
 use Rattle.wasm_syntax.specs.declared.module.Module.{Module}
 use Rattle.wasm_decode.specs.declared.fault.DecodeFault.TheVariants as decode
 use Rattle.wasm_validate_parts.specs.declared.fault.ValidFault.TheVariants as valid
@@ -27,3 +27,10 @@ Denies (Decode decode.Memory) P = Unit {0}
 Denies (Valid valid.Memory) P = Unit {0}
 Denies (Link link.Memory) P = Unit {0}
 Denies _ P = P
+
+-- the host had no room
+abbrev pub is_want : FrontFault → Bool
+is_want (Decode decode.Memory) = true
+is_want (Valid valid.Memory) = true
+is_want (Link link.Memory) = true
+is_want _ = false

@@ -1,6 +1,7 @@
 //! Why a module is not accepted.
 
 ghost use Rattle.std.specs.Prelude.{◌≡◌};
+ghost use Rattle.front_end.specs.Acceptance.{is_want};
 ghost use Rattle.front_end.specs.declared.fault.FrontFault.TheVariants as front;
 
 use machine::LinkFault;
@@ -29,12 +30,15 @@ impl FrontFault {
     }
 
     /// Whether the host had no room, which says nothing of the module.
-    pub fn is_want_of_memory(&self) -> bool {
-        match self {
-            FrontFault::Decode(fault) => *fault == DecodeFault::Memory,
-            FrontFault::Valid(fault) => *fault == ValidFault::Memory,
-            FrontFault::Link(fault) => *fault == LinkFault::Memory,
-        }
+    pub fn is_want_of_memory(&self) -> bool
+        ensures { result ≡ is_want self.now }
+    {
+        matches!(
+            self,
+            FrontFault::Decode(DecodeFault::Memory)
+                | FrontFault::Valid(ValidFault::Memory)
+                | FrontFault::Link(LinkFault::Memory)
+        )
     }
 }
 
