@@ -34,14 +34,16 @@ pub(crate) fn put_u64(bytes: &mut [u8], at: usize, number: u64)
     LittleEndian::write_u64(&mut bytes[at..], number);
 }
 
-pub(crate) fn u16_from(bytes: &[u8], at: usize) -> u16
+/// The 16-bit number at a place.
+pub fn u16_from(bytes: &[u8], at: usize) -> u16
     requires { at + 2 ≤ length bytes.now }
     ensures { result ≡ u16_at bytes.now at }
 {
     LittleEndian::read_u16(&bytes[at..])
 }
 
-pub(crate) fn u32_from(bytes: &[u8], at: usize) -> u32
+/// The 32-bit number at a place.
+pub fn u32_from(bytes: &[u8], at: usize) -> u32
     requires { at + 4 ≤ length bytes.now }
     ensures { result ≡ u32_at bytes.now at }
 {

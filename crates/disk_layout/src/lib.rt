@@ -20,6 +20,7 @@ mod tests;
 pub use configuration::config_bytes_of;
 pub use contents::write_contents;
 pub use fault::LayoutFault;
+pub use fields::{u16_from, u32_from};
 pub use geometry::Geometry;
 pub use head::Head;
 pub use journal_sectors::{PAYLOAD_SIZE, is_of, journal_sector, used_length};

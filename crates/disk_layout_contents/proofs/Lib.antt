@@ -1,0 +1,4 @@
+pub mod SpellingLemmas
+pub mod ConfigLemmas
+pub mod HeldLemmas
+pub mod WrittenLemmas

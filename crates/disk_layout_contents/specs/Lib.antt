@@ -1,0 +1,3 @@
+pub mod Spelled
+pub mod Held
+pub mod Laws
