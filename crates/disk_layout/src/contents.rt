@@ -2,7 +2,7 @@
 
 ghost use Rattle.std.specs.Prelude.{◌≡◌, ◌⊎◌, ◌<◌, ◌≤◌, ◌+◌, ◌*◌, ◌^◌, ◌++◌, length, OnOk, IsErr};
 ghost use Rattle.guest_memory.specs.Bytes.{part};
-ghost use Rattle.sector_disk.specs.Medium.{LeavesOnly, After, Follows, IsSettled, spare};
+ghost use Rattle.sector_disk.specs.Medium.{LeavesOnly, After, Follows, IsSettled, FailsInside, spare};
 ghost use Rattle.sector_disk.specs.Run.{IsTornRun, IsWrittenRun};
 ghost use Rattle.disk_layout.specs.Places.{module_place, rounded_up};
 ghost use Rattle.disk_layout.specs.Contents.{filled, contents_sectors};
@@ -28,6 +28,7 @@ pub fn write_contents<D: Disk>(disk: &mut D, config: &[u8], wasm: &[u8]) -> Resu
         OnOk result (Follows (IsWrittenRun module_place sectors (length sectors)) (D.medium disk.old).shows (D.medium disk.new).may_leave) }
     ensures settled { OnOk result (IsSettled (D.medium disk.new)) }
     ensures cause { IsErr result → (spare (D.medium disk.old) < rounded_up (length config.now + length wasm.now)) ⊎ ((D.medium disk.old).faults < (D.medium disk.new).faults) }
+    ensures kind { FailsInside result }
 {
     let count = sectors_of((config.len() + wasm.len()) as u64);
     for i in 0..count {

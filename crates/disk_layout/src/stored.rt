@@ -3,7 +3,7 @@
 ghost use Rattle.std.specs.Prelude.{◌≡◌, ◌⊎◌, ◌↔◌, ◌+◌, ◌*◌, ◌<◌, ◌≤◌, ◌++◌, ℕ, [], ◌∷◌, length, take, IsTrue, IfOk, IfErr, OnOk, IsErr};
 ghost use Rattle.sha2.specs.Sha256.{sha256};
 ghost use Rattle.sector_disk.specs.Image.{Image};
-ghost use Rattle.sector_disk.specs.Medium.{LeavesOnly, After, Follows, IsSettled, spare};
+ghost use Rattle.sector_disk.specs.Medium.{LeavesOnly, After, Follows, IsSettled, FailsInside, spare};
 ghost use Rattle.sector_disk.specs.Run.{IsTornRun, IsWrittenRun};
 ghost use Rattle.disk_layout.specs.Sectors.{bytes_from, super_bytes};
 ghost use Rattle.disk_layout.specs.Stored.{OnlyReads, IsConsistent, Checks, Splits, Finds};
@@ -53,6 +53,7 @@ pub fn write_super<D: Disk>(disk: &mut D, contents: &Super) -> Result<(), DiskFa
         OnOk result (Follows (IsWrittenRun 0 sectors 1) (D.medium disk.old).shows (D.medium disk.new).may_leave) }
     ensures settled { OnOk result (IsSettled (D.medium disk.new)) }
     ensures cause { IsErr result → (spare (D.medium disk.old) < 1) ⊎ ((D.medium disk.old).faults < (D.medium disk.new).faults) }
+    ensures kind { FailsInside result }
 {
     store_run(disk, 0, &[contents.sector()])
 }

@@ -60,7 +60,7 @@ fn layout_fault(fault: DiskFault) -> LayoutFault {
 
 /// `scripts/refused-allocations` refuses each allocation in turn, and then this ends in want of memory.
 #[test]
-fn a_worker_is_read_back(rt: HostRuntime) -> Result<(), LayoutFault> {
+fn a_worker_is_read_back(rt: HostRuntime) -> Result<(), Fail> {
     let alloc = rt.alloc();
     let mut disk = written(alloc, SECTORS, PLACES, &SPELLED).map_err(layout_fault)?;
     let contents = read_contents(alloc, &mut disk)?;
@@ -73,6 +73,8 @@ fn a_worker_is_read_back(rt: HostRuntime) -> Result<(), LayoutFault> {
     assert_eq!(rt; arguments[0].as_slice(), b"worker".as_slice());
     assert!(rt; contents.config.environment().is_empty());
     assert_eq!(rt; contents.wasm.as_slice(), WASM.as_slice());
+    let spelled = config_bytes_of(alloc, &contents.config).map_err(|_| LayoutFault::Memory)?;
+    assert_eq!(rt; spelled.as_slice(), SPELLED.as_slice());
     Ok(())
 }
 

@@ -61,6 +61,28 @@ fn barrier<D: Disk>(journal: &mut Journal, disk: &mut D) -> Result<(), JournalFa
     journal.barrier(disk, &PLACES)
 }
 
+fn journal_fault(fault: DiskFault) -> JournalFault {
+    match fault {
+        DiskFault::Memory => JournalFault::Memory,
+        fault => JournalFault::Disk(fault),
+    }
+}
+
+/// `scripts/refused-allocations` refuses each allocation in turn, and then this ends in want of memory.
+#[test]
+fn appended_and_scanned(rt: HostRuntime) -> Result<(), Fail> {
+    let alloc = rt.alloc();
+    let mut disk = MemDisk::new(alloc, SECTORS, WRITES).map_err(journal_fault)?;
+    let mut journal = Journal::fresh(alloc, 1);
+    for step in 1..6 {
+        let entry = request(alloc, step, 400).map_err(|_| JournalFault::Memory)?;
+        journal.append(&PLACES, &entry)?;
+    }
+    barrier(&mut journal, &mut disk)?;
+    assert_eq!(rt; scanned(alloc, &mut disk, 1)?, Some(5));
+    Ok(())
+}
+
 #[test]
 fn a_record_byte_by_byte(rt: HostRuntime) -> Result<(), Fail> {
     let alloc = rt.alloc();

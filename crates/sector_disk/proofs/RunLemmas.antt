@@ -1,9 +1,10 @@
 -- Sectors that are written one after another: one write on.
-use Rattle.std.proofs.Common.{◌≡◌, ◌≢◌, ◌≤◌, ◌<◌, ◌+◌, ℕ, List, length, ap, ◌∙◌, subst, ⊎_elim, arith, refl}
+use Rattle.std.proofs.Common.{◌≡◌, ◌≢◌, ◌≤◌, ◌<◌, ◌+◌, ℕ, List, length, Err, ap, ◌∙◌, subst, ⊎_elim, arith, refl}
 use Rattle.std.proofs.lemmas.List.{length-set}
 use Rattle.std.proofs.lemmas.Bool.{cases_lt}
 use Rattle.sector_disk.specs.Image.{Image, sector_at, with_sector, front_over, IsImage, IsTorn, IsWritten}
-use Rattle.sector_disk.specs.Medium.{Medium, After, Follows, BothFollow, Passes, LeavesOnly, Tears, Takes}
+use Rattle.sector_disk.specs.Medium.{Medium, After, Follows, BothFollow, Passes, LeavesOnly, Tears, Takes, HasCause, FailsInside}
+use Rattle.sector_disk.specs.declared.fault.DiskFault.{DiskFault}
 use Rattle.sector_disk.specs.Run.{IsTornRun, IsWrittenRun, HoldsRun}
 use Rattle.sector_disk.specs.FrontLaws.{sector-with_sector, sector-with_other}
 use Rattle.sector_disk.proofs.Moments.{left_follow, shows_left, both_then, goes_on, leaves_only}
@@ -134,3 +135,7 @@ run_leaves_only at sectors m old new passes = leaves_only old new _ passes (λ i
 -- what reads give
 pub written_holds : (at : ℕ) (sectors : Image) (n : ℕ) (old new : Medium) → Follows (IsWrittenRun at sectors n) old.shows new.shows → HoldsRun new at sectors n
 written_holds at sectors n old new written image shows j lt = let was = written image shows in let run = was.2 in run.each j lt
+
+-- a call fails with a fault of the disk itself where its sector is one
+pub fails_inside : {T : Type 0} (e : DiskFault) (is_out is_full : Type 0) (old new : Medium) → HasCause {T = T} is_out is_full (Err e) old new → (is_out → ⊥) → FailsInside {T = T} (Err e)
+fails_inside e is_out is_full old new cause inside = record { no_range = λ is. inside (cause.range is); no_memory = cause.no_memory }

@@ -108,6 +108,11 @@ pub record HasCause {T : Type 0} (is_out is_full : Type 0) (result : Result T Di
   pub range : IsErrOf result Range → is_out
   pub no_memory : IsErrOf result Memory → ⊥
 
+-- within a disk's sectors a call fails with a fault of the disk itself
+pub record FailsInside {T : Type 0} (result : Result T DiskFault) : Type 0 where
+  pub no_range : IsErrOf result Range → ⊥
+  pub no_memory : IsErrOf result Memory → ⊥
+
 -- a read of sector k, which gives what it holds
 pub record Reads {T : Type 0} (k : ℕ) (into : List ℕ) (result : Result T DiskFault) (old new : Medium) : Type 0 where
   pub inside : OnOk result (k < old.sectors)

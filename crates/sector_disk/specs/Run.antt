@@ -1,7 +1,7 @@
 -- Sectors that are written one after another.
 use Rattle.std.specs.Prelude.{◌≡◌, ◌⊎◌, ◌<◌, ◌≤◌, ◌+◌, ℕ, length, Result, OnOk, IsErr}
 use Rattle.sector_disk.specs.Image.{Image, sector_at, front_over}
-use Rattle.sector_disk.specs.Medium.{Medium, After, BothFollow, LeavesOnly, spare}
+use Rattle.sector_disk.specs.Medium.{Medium, After, BothFollow, LeavesOnly, FailsInside, spare}
 use Rattle.sector_disk.specs.declared.fault.DiskFault.{DiskFault}
 
 -- new is old after writes of the first n of these sectors from sector `at` on, of each of which some front was left
@@ -30,3 +30,4 @@ pub record WritesRun {T : Type 0} (at : ℕ) (sectors : Image) (result : Result 
   -- a cut at a moment in between, too, leaves of each some front
   pub any_moment : LeavesOnly old new (After (IsTornRun at sectors (length sectors)) old.may_leave)
   pub cause : IsErr result → (spare old < length sectors) ⊎ (old.faults < new.faults)
+  pub kind : FailsInside result

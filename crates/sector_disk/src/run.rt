@@ -1,6 +1,6 @@
 // Sectors that are written one after another.
 ghost use Rattle.std.specs.Prelude.{◌≡◌, ◌⊎◌, ◌+◌, ◌<◌, ◌≤◌, length, OnOk, IsErr};
-ghost use Rattle.sector_disk.specs.Medium.{LeavesOnly, After, Follows, IsSettled, spare};
+ghost use Rattle.sector_disk.specs.Medium.{LeavesOnly, After, Follows, IsSettled, FailsInside, spare};
 ghost use Rattle.sector_disk.specs.Run.{IsTornRun, IsWrittenRun, HoldsRun, WritesRun};
 
 use crate::{Disk, DiskFault};
@@ -32,6 +32,7 @@ pub fn store_run<D: Disk>(disk: &mut D, at: u64, sectors: &[[u8; 512]]) -> Resul
 
     // It fails only where the disk does, or where there is no room for so many writes before a sync.
     ensures cause { IsErr result → (spare (D.medium disk.old) < length sectors.now) ⊎ ((D.medium disk.old).faults < (D.medium disk.new).faults) }
+    ensures kind { FailsInside result }
 {
     write_run(disk, at, sectors)?;
     disk.sync()

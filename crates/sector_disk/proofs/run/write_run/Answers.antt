@@ -1,7 +1,9 @@
-use Rattle.std.proofs.Common.{◌<◌, ◌≤◌, ◌+◌, ℕ, length, subst, arith, rules}
+use Rattle.std.proofs.Common.{◌≡◌, ◌<◌, ◌≤◌, ◌+◌, ℕ, length, Err, Result, sym, ap, ◌∙◌, subst, arith, rules}
+use Rattle.std.proofs.lemmas.Result.{err_from_is_err_and}
 use Rattle.sector_disk.specs.Image.{sector_at}
-use Rattle.sector_disk.specs.Medium.{Tears, Takes}
-use Rattle.sector_disk.proofs.RunLemmas.{both_tear, both_take, both_longer, run_passes, run_leaves_only}
+use Rattle.sector_disk.specs.Medium.{Tears, Takes, FailsInside}
+use Rattle.sector_disk.specs.declared.fault.DiskFault.{DiskFault}
+use Rattle.sector_disk.proofs.RunLemmas.{both_tear, both_take, both_longer, run_passes, run_leaves_only, fails_inside}
 use Rattle.sector_disk.proofs.run.write_run.Goals as goal
 
 pub returns-in_err-write : goal.returns-in_err-write
@@ -15,12 +17,17 @@ returns-in_err-write g c =
     let tears = subst (λ (k : ℕ). Tears k (sector_at c.args.sectors.now n) mid new) i.place c.write.ensures.tears in
     let inside : c.args.at + n < mid.sectors = let s = i.passes.sectors in omega arith in
     let both = both_tear c.args.at c.args.sectors.now n old mid new inside i.tears tears in
+    let p = err_from_is_err_and c.from_residual.result c.from_residual.ensures.1 in
+    let same : c.from_residual.result ≡ Err c.in_err-write.field-0.0 = p.1 ∙ ap (λ (e : DiskFault). (let r : Result (Unit {0}) DiskFault = Err e in r)) p.2 in
+    let kind = fails_inside {T = Unit {0}} c.in_err-write.field-0.0 _ _ mid new c.in_err-write.ensures.cause (λ out. let e = i.place in omega arith) in
+    let P : Result (Unit {0}) DiskFault → Type 0 = λ r. FailsInside r in
     record {
       whole = search rules;
       tears = both_longer _ _ _ _ old new more both;
       unsynced = let u = tears.unsynced in omega (arith, i.unsynced);
       any_moment = run_leaves_only _ _ _ old new (run_passes _ _ _ _ old mid new more i.passes both c.write.ensures.passes);
       cause = search rules;
+      kind = subst P (sym same) kind;
     }
 
 pub loop-sector-preserved : goal.loop-sector-preserved
