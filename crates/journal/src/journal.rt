@@ -1,5 +1,5 @@
 // The journal of a generation.
-ghost use Rattle.std.specs.Prelude.{◌≡◌, ◌↔◌, ◌⊎◌, ◌+◌, ◌<◌, ◌≤◌, ◌++◌, [], true, false, List, length, OnOk, OnErr, IfOk, IfErr, IsErrOf};
+ghost use Rattle.std.specs.Prelude.{◌≡◌, ◌↔◌, ◌⊎◌, ◌+◌, ◌<◌, ◌≤◌, ◌++◌, [], true, false, ℕ, List, length, OnOk, OnErr, IfOk, IfErr, IsErrOf};
 ghost use Rattle.sector_disk.specs.Image.{Image};
 ghost use Rattle.sector_disk.specs.Medium.{LeavesOnly, After, Passes, IsSettled, spare};
 ghost use Rattle.disk_layout.specs.Places.{total_sectors};
@@ -74,7 +74,8 @@ impl Journal {
     pub fn generation(&self) -> u64
         ensures { result ≡ self.now.generation }
     {
-        self.generation
+        let Journal { generation, .. } = self;
+        *generation
     }
 
     /// How many more bytes of records there is room for.
@@ -146,6 +147,9 @@ impl Journal {
         ensures passes { Passes (D.medium disk.old) (D.medium disk.new) (λ _. Unit {0}) }
         ensures settled { OnOk result ((length self.old.kept ≡ 0) ⊎ IsSettled (D.medium disk.new)) }
         ensures unsynced { (D.medium disk.new).unsynced ≤ (D.medium disk.old).unsynced + sectors_for (length self.old.kept) }
+
+        // Nor were there more writes that no sync had settled at any moment in between.
+        ensures at_once { (n : ℕ) → (D.medium disk.new).unsynced_since (D.medium disk.old).moment n → n ≤ (D.medium disk.old).unsynced + sectors_for (length self.old.kept) }
     {
         if self.has_failed {
             return Err(JournalFault::Failed);

@@ -1,6 +1,6 @@
 // Bytes on sectors of a journal.
 ghost use Rattle.std.specs.Prelude.{◌≡◌, ◌⊎◌, ◌+◌, ◌<◌, ◌≤◌, ◌^◌, length, OnOk, IsErr};
-ghost use Rattle.sector_disk.specs.Medium.{LeavesOnly, After, Follows, IsSettled, spare};
+ghost use Rattle.sector_disk.specs.Medium.{LeavesOnly, After, Follows, IsSettled, CountsUpTo, spare};
 ghost use Rattle.sector_disk.specs.Run.{IsTornRun, IsWrittenRun};
 ghost use Rattle.journal.specs.Packed.{packed, sectors_for};
 
@@ -29,6 +29,7 @@ pub(crate) fn store_packed<D: Disk>(
     ensures stored { OnOk result (Follows (IsWrittenRun at (packed generation place (sectors_for (length bytes.now)) bytes.now) (sectors_for (length bytes.now))) (D.medium disk.old).shows (D.medium disk.new).may_leave) }
     ensures settled { OnOk result (IsSettled (D.medium disk.new)) }
     ensures unsynced { (D.medium disk.new).unsynced ≤ (D.medium disk.old).unsynced + sectors_for (length bytes.now) }
+    ensures counts { CountsUpTo ((D.medium disk.old).unsynced + sectors_for (length bytes.now)) (D.medium disk.old) (D.medium disk.new) }
     ensures cause { IsErr result → (spare (D.medium disk.old) < sectors_for (length bytes.now)) ⊎ ((D.medium disk.old).faults < (D.medium disk.new).faults) }
 {
     let count = sectors_for(bytes.len());

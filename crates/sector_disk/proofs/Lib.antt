@@ -3,3 +3,4 @@ mod MemoryLemmas
 mod FrontLemmas
 pub mod Moments
 pub mod RunLemmas
+pub mod CountLemmas

@@ -4,6 +4,7 @@ use Rattle.std.proofs.Common.{arith}
 use Rattle.sector_disk.specs.Image.{Image}
 use Rattle.sector_disk.specs.Medium.{Medium}
 use Rattle.sector_disk.specs.Answered.{Answers, Explains, ExplainsSince, faults_of, unsynced_of}
+use Rattle.sector_disk.specs.Counts.{AnsweredCount, answered_now, answered_only}
 use Rattle.sector_disk.specs.AnsweredLaws.{images, stays, keeps_more_of, since_now, since_only, since_shows}
 use Rattle.sector_disk.specs.declared.file.FileDisk.{FileDisk}
 
@@ -29,6 +30,7 @@ module _ {F : Type 0} where
     faults = faults_of d.log.items;
     unsynced = unsynced_of d.log.items;
     room = 2 ^ 64;
+    unsynced_since = λ t n. AnsweredCount t d.log.items n;
     fits = count_fits d;
     of_shows = λ image both. both;
     of_left = λ image both. both;
@@ -38,6 +40,8 @@ module _ {F : Type 0} where
     counts_now = λ t image le left. (left.0, since_now d.count t d.log.items image left.0 le left.1);
     only_now = λ image since. (since.0, since_only d.count d.log.items image since.0 since.1);
     only_may = λ shown image since. since_only d.count d.log.items image shown since;
+    count_now = λ t le. answered_now t d.log.items le;
+    only_count = λ n since. answered_only d.log.items n since;
     may_stay = λ shown image both. stays d.count d.log.items shown image both;
     may_keep = λ shown image both k front le. keeps_more_of d.count d.log.items shown image both k front le;
     is_image = λ image left. let both = images d.count d.log.items left.0 image left.1 in both.1;

@@ -4,9 +4,10 @@ pub mod Run
 pub mod Pending
 pub mod FrontLaws
 pub mod PendingLaws
+pub mod Answered
+pub mod Counts
 pub mod Memory
 pub mod Trouble
 pub mod FaultDisk
-pub mod Answered
 pub mod AnsweredLaws
 pub mod File

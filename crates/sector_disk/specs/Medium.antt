@@ -26,6 +26,8 @@ pub record Medium : Type 1 where
   -- how many writes it has taken since the last good sync, and how many it surely takes between two
   pub unsynced : ℕ
   pub room : ℕ
+  -- there were so many unsynced writes at some moment since that one
+  pub unsynced_since : ℕ → ℕ → Type 0
   pub fits : sectors < 2 ^ 64
   -- the sets are those of the pairs
   pub of_shows : (image : Image) → shows image → (left : Image) × may image left
@@ -37,6 +39,8 @@ pub record Medium : Type 1 where
   pub counts_now : (t : ℕ) (image : Image) → t ≤ moment → may_leave image → left_since t image
   pub only_now : (image : Image) → left_since moment image → may_leave image
   pub only_may : (shown image : Image) → may_since moment shown image → may shown image
+  pub count_now : (t : ℕ) → t ≤ moment → unsynced_since t unsynced
+  pub only_count : (n : ℕ) → unsynced_since moment n → n ≡ unsynced
   -- a cut may leave all that reads give, and in any sector a longer front of that than it did
   pub may_stay : (shown image : Image) → may shown image → may shown shown
   pub may_keep : (shown image : Image) → may shown image → (k front : ℕ) → front ≤ 512 → may shown (with_front image k front (sector_at shown k))
@@ -76,6 +80,11 @@ pub record LeavesOnly (old new : Medium) (P : Image → Type 0) : Type 0 where
 abbrev pub BothFollow : (Image → Image → Type 0) → (Image → Image → Type 0) → Medium → Medium → Type 0
 BothFollow shown_step left_step old new =
     (shown image : Image) → new.may shown image → (was_shown : Image) × (was_left : Image) × old.may was_shown was_left × shown_step was_shown shown × left_step was_left image
+
+-- at each moment in between there were as many unsynced writes as at one before, or so many at most
+pub record CountsUpTo (most : ℕ) (old new : Medium) : Type 0 where
+  pub keeps : (t n : ℕ) → t ≤ old.moment → old.unsynced_since t n → new.unsynced_since t n
+  pub grows : (t n : ℕ) → t ≤ old.moment → new.unsynced_since t n → old.unsynced_since t n ⊎ (n ≤ most)
 
 -- no image is added to what reads give and to what a cut may leave, or may have left since, and no write
 pub record Stays (old new : Medium) : Type 0 where
@@ -119,6 +128,7 @@ pub record Reads {T : Type 0} (k : ℕ) (into : List ℕ) (result : Result T Dis
   pub bytes : OnOk result (Holds new k into)
   pub stays : Stays old new
   pub unsynced : new.unsynced ≡ old.unsynced
+  pub counts : CountsUpTo old.unsynced old new
   pub passes : Passes old new new.may_leave
   pub cause : HasCause (old.sectors ≤ k) ⊥ result old new
 
@@ -127,6 +137,7 @@ pub record Writes {T : Type 0} (k : ℕ) (bytes : List ℕ) (result : Result T D
   pub inside : OnOk result (k < old.sectors)
   pub whole : OnOk result (Takes k bytes old new)
   pub tears : Tears k bytes old new
+  pub counts : CountsUpTo (old.unsynced + 1) old new
   pub passes : Passes old new new.may_leave
   pub cause : HasCause (old.sectors ≤ k) (spare old ≡ 0) result old new
 
@@ -135,5 +146,6 @@ pub record Syncs {T : Type 0} (result : Result T DiskFault) (old new : Medium) :
   pub settles : OnOk result (IsSettled new)
   pub stays : Stays old new
   pub unsynced : OnErr result (new.unsynced ≡ old.unsynced)
+  pub counts : CountsUpTo old.unsynced old new
   pub passes : Passes old new new.may_leave
   pub cause : HasCause ⊥ ⊥ result old new

@@ -4,6 +4,7 @@ use Rattle.std.specs.declared.alloc.Global.{Global}
 use Rattle.std.proofs.Common.{inl, ⊎_elim, arith, sym, subst, ◌∙◌}
 use Rattle.sector_disk.specs.Image.{Image, sector_at, with_front}
 use Rattle.sector_disk.specs.Medium.{Medium}
+use Rattle.sector_disk.specs.Counts.{HadCount, count_only}
 use Rattle.sector_disk.specs.Pending.{Leaves, replayed, torn_by, HadLeft}
 use Rattle.sector_disk.specs.PendingLaws.{whole_left, keeps_more, image-left, none_left}
 use Rattle.sector_disk.specs.declared.fault.DiskFault.{DiskFault}
@@ -74,6 +75,7 @@ memory_medium d = record {
   faults = 0;
   unsynced = length d.pending.items;
   room = d.limit;
+  unsynced_since = λ t n. (n ≡ length d.pending.items) ⊎ HadCount t d.past.items n;
   fits = vec_fits d.settled;
   may_since = λ t shown image. (shown ≡ d.shown.items) × (Leaves d.pending.items d.settled.items image ⊎ HadLeft t d.past.items image);
   of_since = λ t image since. (d.shown.items, (refl, since));
@@ -81,6 +83,8 @@ memory_medium d = record {
   counts_now = λ t image le left. inl left;
   only_now = λ image since. memory_only d image since;
   only_may = λ shown image both. (both.0, memory_only d image both.1);
+  count_now = λ t le. inl refl;
+  only_count = λ n since. count_only d.past.items (length d.pending.items) n since;
   may_stay = λ shown image both. (both.0, subst (λ i. Leaves d.pending.items d.settled.items i) (sym both.0) (memory_stays d));
   may_keep = λ shown image both k front le. (both.0, subst (λ i. Leaves d.pending.items d.settled.items (with_front image k front (sector_at i k))) (sym (both.0 ∙ d.replayed)) (keeps_more _ d.pending.items d.settled.items image k front d.full d.within le both.1));
   is_image = λ image left. image-left _ d.pending.items d.settled.items image d.full d.within left;

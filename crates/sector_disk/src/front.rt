@@ -1,7 +1,7 @@
 // A front of a write.
-ghost use Rattle.std.specs.Prelude.{◌≡◌, ◌≤◌};
+ghost use Rattle.std.specs.Prelude.{◌≡◌, ◌≤◌, ◌+◌};
 ghost use Rattle.sector_disk.specs.Image.{front_over};
-ghost use Rattle.sector_disk.specs.Medium.{Passes};
+ghost use Rattle.sector_disk.specs.Medium.{CountsUpTo, Passes};
 ghost use Rattle.sector_disk.specs.Trouble.{LeavesFront};
 
 use crate::Disk;
@@ -24,6 +24,7 @@ pub(crate) fn write_front<D: Disk>(
 ) -> bool
     requires { front ≤ 512 }
     ensures leaves { LeavesFront front sector from.now result (D.medium disk.old) (D.medium disk.new) }
+    ensures counts { CountsUpTo ((D.medium disk.old).unsynced + 1) (D.medium disk.old) (D.medium disk.new) }
     ensures passes { Passes (D.medium disk.old) (D.medium disk.new) (D.medium disk.new).may_leave }
 {
     let mut bytes = [0; 512];

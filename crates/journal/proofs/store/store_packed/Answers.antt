@@ -5,6 +5,7 @@ use Rattle.sector_disk.specs.Medium.{Tears, Takes, BothFollow}
 use Rattle.sector_disk.specs.Run.{IsTornRun, IsWrittenRun}
 use Rattle.sector_disk.proofs.Moments.{shows_follow, settled_follows, goes_on, stays_left}
 use Rattle.sector_disk.proofs.RunLemmas.{both_tear, both_take, run_passes, run_leaves_only, left_longer}
+use Rattle.sector_disk.proofs.CountLemmas.{counts_then}
 use Rattle.disk_layout.specs.Journal.{journal_sector}
 use Rattle.journal.specs.Packed.{packed, sectors_for}
 use Rattle.journal.proofs.PackedLemmas.{packed_at, part_lent}
@@ -49,6 +50,7 @@ loop-i-preserved g c =
       whole = both_take c.args.at batch n old mid new inside i.whole takes;
       tears = both;
       unsynced = let u = tears.unsynced in omega (arith, i.unsynced);
+      counts = let u = i.unsynced in let p = i.passes in let later = p.later in counts_then (old.unsynced + n) (mid.unsynced + 1) (old.unsynced + (n + 1)) old mid new (omega arith) (omega arith) later i.counts c.write.ensures.counts;
       passes = run_passes c.args.at batch (n + 1) count old mid new (omega arith) i.passes both c.write.ensures.passes;
     }
 
@@ -77,3 +79,27 @@ returns-clause-stored g c =
     let all : n ≡ count = let e = c.sectors_for-count.ensures in let t = c.loop-i.auto.i-end in let f = c.loop-i-test.false in omega arith in
     let whole = subst (λ (k : ℕ). BothFollow (IsWrittenRun c.args.at batch k) (IsTornRun c.args.at batch k) old mid) all i.whole in
     on_ok_weaker c.sync.result (λ settled. settled_follows old mid new _ settled c.sync.ensures.stays (shows_follow old mid _ _ whole)) c.sync.ensures.settles
+
+pub returns-in_err-write-clause-counts : goal.returns-in_err-write-clause-counts
+returns-in_err-write-clause-counts g c =
+    let i = c.loop-i.invariant in
+    let n = c.loop-i.i in
+    let old = g.D.Disk.medium c.args.disk.now in
+    let mid = g.D.Disk.medium c.loop-i.disk in
+    let new = g.D.Disk.medium c.write.new.self in
+    let u = i.unsynced in
+    let p = i.passes in
+    let below : n < sectors_for (length c.args.bytes.now) = let e = c.sectors_for-count.ensures in let t = c.loop-i-test.true in omega arith in
+    counts_then (old.unsynced + n) (mid.unsynced + 1) (old.unsynced + sectors_for (length c.args.bytes.now)) old mid new (omega arith) (omega arith) p.later i.counts c.write.ensures.counts
+
+pub returns-clause-counts : goal.returns-clause-counts
+returns-clause-counts g c =
+    let i = c.loop-i.invariant in
+    let n = c.loop-i.i in
+    let old = g.D.Disk.medium c.args.disk.now in
+    let mid = g.D.Disk.medium c.loop-i.disk in
+    let new = g.D.Disk.medium c.sync.new.self in
+    let u = i.unsynced in
+    let p = i.passes in
+    let within : n ≤ sectors_for (length c.args.bytes.now) = let e = c.sectors_for-count.ensures in let t = c.loop-i.auto.i-end in omega arith in
+    counts_then (old.unsynced + n) mid.unsynced (old.unsynced + sectors_for (length c.args.bytes.now)) old mid new (omega arith) (omega arith) p.later i.counts c.sync.ensures.counts

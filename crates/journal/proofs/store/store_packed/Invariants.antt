@@ -1,5 +1,5 @@
 use Rattle.std.proofs.Common.{◌≤◌, ◌+◌, length}
-use Rattle.sector_disk.specs.Medium.{After, BothFollow, Passes}
+use Rattle.sector_disk.specs.Medium.{After, BothFollow, CountsUpTo, Passes}
 use Rattle.sector_disk.specs.Run.{IsTornRun, IsWrittenRun}
 use Rattle.journal.specs.Packed.{packed, sectors_for}
 use Rattle.journal.proofs.store.store_packed.Given as goal
@@ -14,5 +14,6 @@ invariant-loop-i g l =
       whole : BothFollow (IsWrittenRun l.at batch l.i) (IsTornRun l.at batch l.i) old now;
       tears : BothFollow (IsTornRun l.at batch l.i) (IsTornRun l.at batch l.i) old now;
       unsynced : now.unsynced ≤ old.unsynced + l.i;
+      counts : CountsUpTo (old.unsynced + l.i) old now;
       passes : Passes old now (After (IsTornRun l.at batch n) old.may_leave);
     }

@@ -1,4 +1,4 @@
-use Rattle.std.proofs.Common.{arith, rules}
+use Rattle.std.proofs.Common.{inl, arith, rules}
 use Rattle.sector_disk.proofs.Moments.{torn_none}
 use Rattle.sector_disk.proofs.fault_disk.FaultDiskDisk.write.Goals as goal
 
@@ -11,6 +11,7 @@ returns-in-Some-Stopped-clause-writes g c = record {
     both = λ shown image both. (shown, image, both, torn_none 512 c.args.sector c.args.from.now shown, torn_none 512 c.args.sector c.args.from.now image);
     unsynced = omega arith;
   };
+  counts = record { keeps = λ t n le since. since; grows = λ t n le since. inl since };
   passes = search rules;
   cause = search rules;
 }

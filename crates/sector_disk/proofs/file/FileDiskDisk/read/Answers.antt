@@ -1,6 +1,7 @@
 use Rattle.std.proofs.Common.{◌≡◌, ap, subst, arith, rules}
 use Rattle.sector_disk.specs.Answered.{Answers, Explains, unsynced_of}
 use Rattle.sector_disk.specs.AnsweredLaws.{read_since, failed_since}
+use Rattle.sector_disk.proofs.CountLemmas.{answered_keeps, answered_grows}
 use Rattle.sector_disk.proofs.file.FileDiskDisk.read.Goals as goal
 
 pub returns-in-Ok-clause-reads : goal.returns-in-Ok-clause-reads
@@ -16,6 +17,10 @@ returns-in-Ok-clause-reads g c =
         unsynced = omega arith;
       };
       unsynced = same;
+      counts = record {
+        keeps = λ t n le since. answered_keeps d.log.items c.and-self.result.items _ t n c.and-self.ensures since;
+        grows = λ t n le since. answered_grows d.log.items c.and-self.result.items _ (unsynced_of d.log.items) t n c.and-self.ensures (omega arith) since;
+      };
       passes = search rules;
       cause = search rules;
     }
@@ -33,6 +38,10 @@ returns-in-Err-clause-reads g c =
         unsynced = omega arith;
       };
       unsynced = same;
+      counts = record {
+        keeps = λ t n le since. answered_keeps d.log.items c.and-self-in-Err.result.items _ t n c.and-self-in-Err.ensures since;
+        grows = λ t n le since. answered_grows d.log.items c.and-self-in-Err.result.items _ (unsynced_of d.log.items) t n c.and-self-in-Err.ensures (omega arith) since;
+      };
       passes = search rules;
       cause = search rules;
     }

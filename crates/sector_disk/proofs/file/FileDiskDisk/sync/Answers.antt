@@ -2,6 +2,7 @@ use Rattle.std.proofs.Common.{◌≡◌, ap, sym, subst, arith, rules}
 use Rattle.sector_disk.specs.Image.{Image}
 use Rattle.sector_disk.specs.Answered.{Answers, Explains, unsynced_of}
 use Rattle.sector_disk.specs.AnsweredLaws.{stays, synced_since, failed_since}
+use Rattle.sector_disk.proofs.CountLemmas.{answered_keeps, answered_grows}
 use Rattle.sector_disk.proofs.file.FileDiskDisk.sync.Goals as goal
 
 pub returns-in-Ok-clause-syncs : goal.returns-in-Ok-clause-syncs
@@ -19,6 +20,10 @@ returns-in-Ok-clause-syncs g c =
         unsynced = omega arith;
       };
       unsynced = tt;
+      counts = record {
+        keeps = λ t n le since. answered_keeps d.log.items c.and-self.result.items _ t n c.and-self.ensures since;
+        grows = λ t n le since. answered_grows d.log.items c.and-self.result.items _ (unsynced_of d.log.items) t n c.and-self.ensures (omega arith) since;
+      };
       passes = search rules;
       cause = search rules;
     }
@@ -35,6 +40,10 @@ returns-in-Err-clause-syncs g c =
         unsynced = omega arith;
       };
       unsynced = same;
+      counts = record {
+        keeps = λ t n le since. answered_keeps d.log.items c.and-self-in-Err.result.items _ t n c.and-self-in-Err.ensures since;
+        grows = λ t n le since. answered_grows d.log.items c.and-self-in-Err.result.items _ (unsynced_of d.log.items) t n c.and-self-in-Err.ensures (omega arith) since;
+      };
       passes = search rules;
       cause = search rules;
     }

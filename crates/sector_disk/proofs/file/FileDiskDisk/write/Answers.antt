@@ -2,6 +2,7 @@ use Rattle.std.proofs.Common.{◌≡◌, ◌+◌, ap, ◌∙◌, subst, arith, r
 use Rattle.sector_disk.specs.Image.{Image}
 use Rattle.sector_disk.specs.Answered.{Answers, Explains, unsynced_of}
 use Rattle.sector_disk.specs.AnsweredLaws.{images, whole_front}
+use Rattle.sector_disk.proofs.CountLemmas.{answered_keeps, answered_grows}
 use Rattle.sector_disk.proofs.file.FileDiskDisk.write.Goals as goal
 
 pub returns-in-Ok-clause-writes : goal.returns-in-Ok-clause-writes
@@ -21,6 +22,10 @@ returns-in-Ok-clause-writes g c =
             let is = images d.count d.log.items was.0 was.1 was.3 in
             (was.0, was.1, was.3, record { front = 512; within = omega arith; is = was.6 ∙ whole_front d.count was.0 c.args.sector c.args.from.now is.0 c.told-from }, record { front = was.2; within = was.4; is = was.7 });
         unsynced = omega arith;
+      };
+      counts = record {
+        keeps = λ t n le since. answered_keeps d.log.items c.and-self.result.items _ t n c.and-self.ensures since;
+        grows = λ t n le since. answered_grows d.log.items c.and-self.result.items _ (unsynced_of d.log.items + 1) t n c.and-self.ensures (omega arith) since;
       };
       passes = search rules;
       cause = search rules;

@@ -1,6 +1,8 @@
 use Rattle.std.proofs.Common.{◌<◌, length, [], refl, sym, ap, ◌∙◌, arith, rules}
 use Rattle.std.proofs.lemmas.List.{get_or_read}
 use Rattle.sector_disk.specs.Image.{sector_at}
+use Rattle.sector_disk.specs.Memory.{memory_medium}
+use Rattle.sector_disk.proofs.CountLemmas.{counts_same}
 use Rattle.sector_disk.proofs.MemoryLemmas.{shown_size}
 use Rattle.sector_disk.proofs.memory.MemDiskDisk.read.Goals as goal
 
@@ -15,6 +17,7 @@ returns-clause-reads c =
       bytes = λ image e. rw e (sym (get_or_read c.args.self.now.shown.items c.args.sector c.index.result.now lt c.index.ensures []));
       stays = search rules;
       unsynced = refl;
+      counts = counts_same (memory_medium c.args.self.now) _;
       passes = search rules;
       cause = search rules;
     }

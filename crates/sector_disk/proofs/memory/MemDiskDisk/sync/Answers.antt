@@ -2,6 +2,7 @@ use Rattle.std.proofs.Common.{rules, inl, inr, ⊎_elim, ◌≡◌, length, sym,
 use Rattle.sector_disk.specs.Image.{Image, IsImage}
 use Rattle.sector_disk.specs.Pending.{Leaves, HadLeft, replayed}
 use Rattle.sector_disk.specs.PendingLaws.{had_more, had_less, image-replayed, whole_left}
+use Rattle.sector_disk.proofs.CountLemmas.{had_keeps, had_grows}
 use Rattle.sector_disk.proofs.MemoryLemmas.{shown_size}
 use Rattle.sector_disk.proofs.memory.MemDiskDisk.sync.Goals as goal
 
@@ -40,6 +41,10 @@ returns-clause-syncs c =
         unsynced = omega (arith, ap length c.clear.ensures.items);
       };
       unsynced = tt;
+      counts = record {
+        keeps = λ t n le since. had_keeps d.settled d.pending d.past.items c.and-past.result.items (length c.clear.new.self.items) t n c.and-past.ensures le since;
+        grows = λ t n le since. had_grows d.settled d.pending d.past.items c.and-past.result.items (length c.clear.new.self.items) (length d.pending.items) t n c.and-past.ensures (omega (arith, ap length c.clear.ensures.items)) since;
+      };
       passes = search rules;
       cause = search rules;
     }

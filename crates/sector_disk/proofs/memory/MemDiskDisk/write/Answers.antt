@@ -5,6 +5,7 @@ use Rattle.sector_disk.specs.Image.{Image, with_sector, IsTorn}
 use Rattle.sector_disk.specs.Pending.{IsWriteWithin, Leaves}
 use Rattle.sector_disk.specs.FrontLaws.{whole-with_front}
 use Rattle.sector_disk.specs.PendingLaws.{had_more, replayed_more, left_more, image-replayed}
+use Rattle.sector_disk.proofs.CountLemmas.{had_keeps, had_grows}
 use Rattle.sector_disk.proofs.MemoryLemmas.{shown_size}
 use Rattle.sector_disk.proofs.memory.MemDiskDisk.write.Goals as goal
 
@@ -40,6 +41,10 @@ returns-clause-writes c =
             let was = left new both.1 in
             (d.shown.items, was.0, (refl, was.1), record { front = 512; within = omega arith; is = both.0 ∙ sym (whole-with_front _ d.shown.items c.args.sector c.args.from.now image lt c.told-from) }, was.2);
         unsynced = omega arith;
+      };
+      counts = record {
+        keeps = λ t n le since. had_keeps d.settled d.pending d.past.items c.and-past.result.items (length c.push.new.self.items) t n c.and-past.ensures le since;
+        grows = λ t n le since. had_grows d.settled d.pending d.past.items c.and-past.result.items (length c.push.new.self.items) (length d.pending.items + 1) t n c.and-past.ensures (omega arith) since;
       };
       passes = search rules;
       cause = search rules;
