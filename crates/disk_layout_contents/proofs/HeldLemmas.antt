@@ -1,18 +1,18 @@
 -- What a disk holds, and the one answer that is right of it.
-use Rattle.std.proofs.Common.{◌≡◌, ◌≢◌, ◌⊎◌, ℕ, ◌+◌, ◌-◌, ◌*◌, ◌/◌, ◌^◌, ◌<◌, ◌≤◌, List, [], ◌++◌, length, take, drop, Result, Ok, Err, refl, sym, ap, ◌∙◌, subst, inl, inr, ⊎_elim, arith, length-append}
+use Rattle.std.proofs.Common.{◌≡◌, ℕ, ◌+◌, ◌<◌, ◌≤◌, List, ◌++◌, length, take, drop, Result, Ok, Err, refl, sym, ap, ◌∙◌, subst, inl, inr, ⊎_elim, arith, length-append}
 use Rattle.std.proofs.Math.Seq.{take-append_seam, drop-append_seam}
 use Rattle.sha2.specs.Sha256.{sha256}
 use Rattle.sector_disk.specs.Image.{Image, sector_at}
-use Rattle.wasi_abi.specs.Configs.{Settings, IsWithinLimits}
+use Rattle.wasi_abi.specs.Configs.{Settings}
 use Rattle.disk_layout.specs.declared.fault.LayoutFault.{LayoutFault}
 use Rattle.disk_layout.specs.declared.fault.LayoutFault.TheVariants.{NotAWorker, Version, TooSmall, Damaged, Memory, Disk}
 use Rattle.disk_layout.specs.declared.stored.Stored.{Stored}
-use Rattle.disk_layout.specs.Places.{Geometry, geometry_of, config_bytes, rounded_up, module_place, total_sectors}
-use Rattle.disk_layout.specs.Sectors.{Super, bytes_from, Holds, super_of, super_layout}
-use Rattle.disk_layout.specs.Stored.{IsKnown, IsConsistent, Checks, IsStored, HasOtherDigest, Finds}
+use Rattle.disk_layout.specs.Places.{Geometry, geometry_of, config_bytes, module_place, total_sectors}
+use Rattle.disk_layout.specs.Sectors.{Super, bytes_from, Holds, super_of}
+use Rattle.disk_layout.specs.Stored.{IsKnown, IsConsistent, IsStored, HasOtherDigest, Finds}
 use Rattle.disk_layout_contents.specs.declared.contents.Contents.{Contents}
 use Rattle.disk_layout_contents.specs.Held.{IsHeld, Reaches, Gives, IsOf, Agrees}
-use Rattle.disk_layout_contents.specs.Laws.{OneAnswer, IsOfTheDisk}
+use Rattle.disk_layout_contents.specs.Laws.{OneAnswer}
 use Rattle.disk_layout_contents.proofs.ConfigLemmas.{config_cut}
 
 -- the bytes of configuration and module

@@ -1,14 +1,13 @@
 -- Numbers and texts at the front of bytes.
-use Rattle.std.proofs.Common.{◌≡◌, ℕ, zero, suc, ◌+◌, ◌-◌, ◌*◌, ◌/◌, ◌%◌, ◌^◌, ◌<◌, ◌≤◌, List, [], ◌∷◌, ◌++◌, length, get_or, take, drop, refl, sym, ap, ◌∙◌, subst, arith, length-append, length-drop, append_assoc}
+use Rattle.std.proofs.Common.{◌≡◌, ℕ, zero, suc, ◌+◌, ◌-◌, ◌^◌, ◌<◌, ◌≤◌, List, [], ◌∷◌, ◌++◌, length, get_or, take, drop, refl, sym, ap, ◌∙◌, subst, arith, length-append, length-drop, append_assoc}
 use Rattle.std.proofs.Math.Seq.{take-append_seam, drop-append_seam}
 use Rattle.std.proofs.lemmas.List.{append-nil, length-take-le, take-append-drop, take_all, drop-drop}
 use Rattle.std.specs.List.{AllByRecursion, flat_map}
-use Rattle.guest_memory.specs.Bytes.{IsByte, number_of, bytes_of, part}
+use Rattle.guest_memory.specs.Bytes.{IsByte, number_of, bytes_of}
 use Rattle.guest_memory.proofs.ByteLemmas.{length-bytes_of, number_of-bytes_of, bytes_of-number_of}
-use Rattle.wasi_abi.specs.Configs.{Settings, settings, IsShort, IsWithinLimits}
 use Rattle.wasi_abi.specs.Layouts.{u16_bytes, u32_bytes, u16_at, u32_at}
-use Rattle.disk_layout.specs.Places.{config_bytes, short_text_bytes, texts_bytes}
-use Rattle.disk_layout_contents.specs.Spelled.{HasRoom, TextFirst, NoTextFirst, HaveRoom, TextsFirst, NoTextsFirst}
+use Rattle.disk_layout.specs.Places.{short_text_bytes}
+use Rattle.disk_layout_contents.specs.Spelled.{HasRoom, TextFirst, NoTextFirst, TextsFirst, NoTextsFirst}
 
 -- ---- bytes of a slice
 

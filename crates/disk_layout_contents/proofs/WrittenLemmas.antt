@@ -1,13 +1,12 @@
 -- What is written with its super is held.
-use Rattle.std.proofs.Common.{◌≡◌, ℕ, ◌+◌, ◌*◌, ◌/◌, ◌^◌, ◌<◌, ◌≤◌, List, [], ◌∷◌, ◌++◌, length, refl, sym, ap, ◌∙◌, subst, arith, length-append}
+use Rattle.std.proofs.Common.{ℕ, ◌*◌, ◌^◌, ◌<◌, ◌≤◌, List, [], ◌∷◌, ◌++◌, length, refl, sym, ap, ◌∙◌, subst, arith, length-append}
 use Rattle.std.specs.List.{AllByRecursion, flat_map}
 use Rattle.sha2.specs.Sha256.{sha256}
 use Rattle.sha2.proofs.Facts256.{length-sha256}
-use Rattle.sector_disk.specs.Image.{sector_at}
 use Rattle.wasi_abi.specs.Configs.{Settings, IsShort, IsWithinLimits}
 use Rattle.wasi_abi.specs.Layouts.{u16_bytes, u32_bytes}
 use Rattle.disk_layout.specs.Places.{geometry_of, config_bytes, short_text_bytes, texts_bytes}
-use Rattle.disk_layout.specs.Sectors.{Super, super_of, super_layout, super_bytes, IsMarked}
+use Rattle.disk_layout.specs.Sectors.{Super, super_of, super_bytes}
 use Rattle.disk_layout.specs.Stored.{IsKnown}
 use Rattle.disk_layout.specs.Laws.{SuperFits}
 use Rattle.disk_layout.proofs.FieldLemmas.{marks_again, super_again}

@@ -1,5 +1,5 @@
 -- Configuration and module that a disk holds, whole (this project's own).
-use Rattle.std.specs.Prelude.{◌≡◌, ◌≢◌, ◌⊎◌, ℕ, ◌<◌, ◌≤◌, List, ◌++◌, length, Result, Ok, Err}
+use Rattle.std.specs.Prelude.{◌≡◌, ◌≢◌, ◌⊎◌, ℕ, ◌<◌, ◌≤◌, ◌++◌, length, Result, Ok, Err}
 use Rattle.sha2.specs.Sha256.{sha256}
 use Rattle.sector_disk.specs.Image.{Image, sector_at}
 use Rattle.wasi_abi.specs.Configs.{Settings, IsWithinLimits}

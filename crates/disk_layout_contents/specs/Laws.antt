@@ -1,6 +1,5 @@
 -- Laws of configuration and module on a disk (this project's own).
-use Rattle.std.specs.Prelude.{◌≡◌, ℕ, ◌^◌, ◌<◌, ◌≤◌, List, ◌++◌, length, Result, Ok, Err}
-use Rattle.std.specs.List.{AllByRecursion}
+use Rattle.std.specs.Prelude.{◌≡◌, ℕ, ◌^◌, ◌<◌, ◌≤◌, List, length, Result, Ok, Err}
 use Rattle.sector_disk.specs.Image.{Image}
 use Rattle.wasi_abi.specs.Configs.{Settings, IsWithinLimits}
 use Rattle.disk_layout.specs.declared.fault.LayoutFault.{LayoutFault}

@@ -1,5 +1,5 @@
 -- How many unsynced writes there were, one call on and over several.
-use Rattle.std.proofs.Common.{◌≡◌, ◌⊎◌, ◌≤◌, ◌+◌, ℕ, List, [], ◌∷◌, Vec, length, inl, inr, ⊎_elim, subst, sym, refl, arith}
+use Rattle.std.proofs.Common.{◌≡◌, ◌⊎◌, ◌≤◌, ◌+◌, ℕ, List, ◌∷◌, Vec, length, inl, inr, ⊎_elim, subst, sym, arith}
 use Rattle.std.specs.declared.alloc.Global.{Global}
 use Rattle.sector_disk.specs.Medium.{Medium, CountsUpTo}
 use Rattle.sector_disk.specs.Counts.{HadCount, AnsweredCount}
@@ -15,9 +15,9 @@ counts_then a b most old mid new ale ble later one two = record {
   keeps = λ t n le since. two.keeps t n (omega arith) (one.keeps t n le since);
   grows = λ t n le since.
       ⊎_elim
-          (λ (was : mid.unsynced_since t n). ⊎_elim (λ (before : old.unsynced_since t n). (let r : old.unsynced_since t n ⊎ (n ≤ most) = inl before in r)) (λ (few : n ≤ a). inr (omega arith)) (one.grows t n le was))
-          (λ (few : n ≤ b). inr (omega arith))
-          (two.grows t n (omega arith) since);
+      (λ (was : mid.unsynced_since t n). ⊎_elim (λ (before : old.unsynced_since t n). (let r : old.unsynced_since t n ⊎ (n ≤ most) = inl before in r)) (λ (few : n ≤ a). inr (omega arith)) (one.grows t n le was))
+      (λ (few : n ≤ b). inr (omega arith))
+      (two.grows t n (omega arith) since);
 }
 
 -- since a moment there were as many as then, or so many at most

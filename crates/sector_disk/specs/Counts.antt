@@ -1,7 +1,7 @@
 -- How many writes there were that no sync had settled, at the moments since an earlier one.
 use Rattle.std.specs.Prelude.{◌≡◌, ◌⊎◌, ◌<◌, ◌≤◌, ◌+◌, ℕ, List, [], ◌∷◌, Vec, length, refl}
 use Rattle.std.specs.declared.alloc.Global.{Global}
-use Rattle.std.proofs.Common.{inl, inr, ⊎_elim, arith}
+use Rattle.std.proofs.Common.{inl, ⊎_elim, arith}
 use Rattle.sector_disk.specs.Answered.{Answers, unsynced_of}
 use Rattle.sector_disk.specs.declared.write.Write.{Write}
 

@@ -1,5 +1,5 @@
 use Rattle.std.proofs.Common.{◌≡◌, sym, ◌∙◌, subst, refl, arith}
-use Rattle.wasi_abi.specs.Configs.{Settings, settings, IsWithinLimits}
+use Rattle.wasi_abi.specs.Configs.{Settings, IsWithinLimits}
 use Rattle.wasi_abi.specs.Layouts.{u32_at}
 use Rattle.disk_layout_contents.proofs.SpellingLemmas.{all_bytes}
 use Rattle.disk_layout_contents.proofs.ConfigLemmas.{HasTexts, same_settings, no_environment, not_at_the_end, out_of_limits, within_limits}
