@@ -1,10 +1,10 @@
 -- What each step refuses is no accepted module.
-use Rattle.std.proofs.Common.{◌≡◌, ◌≢◌, ℕ, List, sym, ◌∙◌, subst}
+use Rattle.std.proofs.Common.{◌≢◌, ℕ, List, sym, ◌∙◌, subst}
 use Rattle.wasm_syntax_grammar.proofs.Exact.{some_is}
 use Rattle.wasm_syntax_grammar.proofs.Whole.{module_complete}
 use Rattle.wasm_syntax.specs.declared.module.Module.{Module}
 use Rattle.wasm_syntax_grammar.specs.Modules.{IsModule}
-use Rattle.wasm_syntax_grammar.specs.Limits.{IsWithinLimits, HasNoModule}
+use Rattle.wasm_syntax_grammar.specs.Limits.{HasNoModule}
 use Rattle.wasm_syntax_grammar.specs.Laws.{BytesSpellAtMostOneModule}
 use Rattle.wasm_syntax_rules.specs.Validity.{IsValid}
 use Rattle.wasm_syntax_rules.specs.Linking.{IsLinkable}

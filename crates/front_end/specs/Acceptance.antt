@@ -1,10 +1,16 @@
 -- Modules that the front end accepts.
-use Rattle.std.specs.Prelude.{ℕ, List, Bool, true, false}
+use Rattle.std.specs.Prelude.{◌≢◌, ℕ, List, Bool, true, false, Option, None}
 use Rattle.wasm_syntax.specs.declared.module.Module.{Module}
 use Rattle.wasm_decode.specs.declared.fault.DecodeFault.TheVariants as decode
+use Rattle.wasm_decode.specs.Faults.{place_of}
 use Rattle.wasm_validate_parts.specs.declared.fault.ValidFault.TheVariants as valid
 use Rattle.machine_instance.specs.declared.fault.LinkFault.TheVariants as link
+use Rattle.wasm_syntax_grammar.specs.Modules.{IsModule}
+use Rattle.wasm_syntax_grammar.specs.Limits.{IsWithinLimits, HasNoModule}
+use Rattle.wasm_syntax_rules.specs.Validity.{IsValid}
 use Rattle.wasm_syntax_rules.specs.Acceptance.{IsAccepted}
+use Rattle.wasm_validate_parts.specs.Answers.{Denies as DeniesValid}
+use Rattle.machine_instance.specs.Refusals.{IsRefused}
 use Rattle.machine_instance.specs.Offers.{offer}
 use Rattle.machine_instance.specs.Instances.{IsLinked}
 use Rattle.machine.specs.declared.Machine.{Machine}
@@ -17,6 +23,10 @@ pub record Accepts (pages : ℕ) (bytes : List ℕ) (machine : Machine) : Type 0
   pub accepted : IsAccepted offer pages bytes spelled
   pub linked : IsLinked pages spelled machine.instance
 
+-- these bytes spell an accepted module
+abbrev pub HasAcceptedModule : ℕ → List ℕ → Type 0
+HasAcceptedModule pages bytes = (m : Module) × IsAccepted offer pages bytes m
+
 -- no module that is spelled by these bytes is accepted
 abbrev pub HasNoAcceptedModule : ℕ → List ℕ → Type 0
 HasNoAcceptedModule pages bytes = (m : Module) → IsAccepted offer pages bytes m → ⊥
@@ -28,9 +38,22 @@ Denies (Valid valid.Memory) P = Unit {0}
 Denies (Link link.Memory) P = Unit {0}
 Denies _ P = P
 
+-- Which step refuses, and what it says: no module is spelled; or one is, which isn't valid; or it is valid, and this is the
+-- first thing that it wants for linking. Want of memory says only what the steps before found.
+abbrev pub IsTold : ℕ → List ℕ → FrontFault → Type 0
+IsTold pages bytes (Decode fault) = fault ≢ decode.Memory → HasNoModule bytes
+IsTold pages bytes (Valid fault) = (m : Module) × IsModule bytes m × IsWithinLimits bytes m × DeniesValid fault (IsValid m)
+IsTold pages bytes (Link fault) = (m : Module) × IsModule bytes m × IsWithinLimits bytes m × IsValid m × IsRefused pages m fault
+
 -- the host had no room
 abbrev pub is_want : FrontFault → Bool
 is_want (Decode decode.Memory) = true
 is_want (Valid valid.Memory) = true
 is_want (Link link.Memory) = true
 is_want _ = false
+
+-- where in the bytes the fault is, for those of the decoder that say it
+abbrev pub place_in : FrontFault → Option ℕ
+place_in (Decode fault) = place_of fault
+place_in (Valid fault) = None
+place_in (Link fault) = None

@@ -1,7 +1,7 @@
 //! Why a module is not accepted.
 
 ghost use Rattle.std.specs.Prelude.{◌≡◌};
-ghost use Rattle.front_end.specs.Acceptance.{is_want};
+ghost use Rattle.front_end.specs.Acceptance.{is_want, place_in};
 ghost use Rattle.front_end.specs.declared.fault.FrontFault.TheVariants as front;
 
 use machine::LinkFault;
@@ -22,7 +22,9 @@ pub enum FrontFault {
 
 impl FrontFault {
     /// Where in the bytes the item at fault stands, for those of the decoder that have a place.
-    pub fn place(&self) -> Option<usize> {
+    pub fn place(&self) -> Option<usize>
+        ensures { result ≡ place_in self.now }
+    {
         match self {
             FrontFault::Decode(fault) => fault.place(),
             FrontFault::Valid(_) | FrontFault::Link(_) => None,

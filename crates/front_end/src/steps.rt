@@ -1,7 +1,7 @@
 //! Decoding, validation and linking, one after another.
 
 ghost use Rattle.std.specs.Prelude.{◌≤◌, IfOk, IfErr};
-ghost use Rattle.front_end.specs.Acceptance.{Accepts, Denies, HasNoAcceptedModule};
+ghost use Rattle.front_end.specs.Acceptance.{Accepts, Denies, HasNoAcceptedModule, IsTold};
 
 use crate::fault::FrontFault;
 use guest_memory::MOST_PAGES;
@@ -10,11 +10,13 @@ use std::alloc::Global;
 use wasm_decode::decode;
 use wasm_validate::validate;
 
-/// The machine of the module that the bytes spell, where its memory may have so many pages. A refusal other
-/// than for want of memory says that the bytes spell no module that is accepted.
+/// The machine of the module that the bytes spell, where its memory may have so many pages. A refusal is that
+/// of the first step that refuses. Other than for want of memory it says that the bytes spell no module that is
+/// accepted.
 pub fn accept(alloc: Global, bytes: &[u8], pages: u32) -> Result<Machine, FrontFault>
     requires { pages ≤ MOST_PAGES }
     ensures accepted { IfOk result (Accepts pages bytes.now) }
+    ensures told { IfErr result (IsTold pages bytes.now) }
     ensures only { IfErr result (λ e. Denies e (HasNoAcceptedModule pages bytes.now)) }
 {
     let decoded = decode(alloc, bytes)?;

@@ -1,17 +1,16 @@
 -- When a module has a store to begin with, and what a linked instance is.
 use Rattle.std.proofs.Common.{◌≡◌, ◌≢◌, ◌⊎◌, inl, inr, ◌↔◌, ℕ, Bool, true, false, IsTrue, List, [], ◌∷◌, ◌++◌, Option, Some, refl, sym, ap, ◌∙◌, subst}
 use Rattle.std.specs.Prelude.{IsSome, is_some}
-use Rattle.std.specs.List.{AllByRecursion}
 use Rattle.wasm_syntax.specs.declared.types.TableType.{TableType}
 use Rattle.wasm_syntax.specs.declared.types.MemoryType.{MemoryType}
 use Rattle.wasm_syntax.specs.declared.value.Value.{Value}
 use Rattle.wasm_syntax.specs.declared.types.FunctionType.{FunctionType}
 use Rattle.wasm_syntax.specs.declared.module.Import.{Import}
 use Rattle.wasm_syntax.specs.declared.module.Module.{Module}
-use Rattle.wasm_syntax_rules.specs.Validity.{IsValid, IsMemoryTypeValid, tables_of, memories_of}
+use Rattle.wasm_syntax_rules.specs.Validity.{IsValid, tables_of, memories_of}
 use Rattle.wasm_syntax_rules.specs.Configuration.{Store}
 use Rattle.wasm_syntax_rules.specs.Instantiation.{AreInitial, filled_table, filled_memory, empty_table, empty_memory, most_pages_of, IsInitialStore}
-use Rattle.wasm_syntax_rules.specs.Linking.{HasExportedMemory, FitsPages, IsLinkable}
+use Rattle.wasm_syntax_rules.specs.Linking.{HasExportedMemory, IsLinkable}
 use Rattle.wasm_validate_parts.proofs.Lookups.{is_false}
 use Rattle.machine_instance.specs.declared.fault.LinkFault.{LinkFault}
 use Rattle.machine_instance.specs.declared.fault.LinkFault.TheVariants.{NoStart, NoMemory, UnknownImport, ImportType, InitRange, TooManyPages, Memory}
@@ -119,6 +118,18 @@ denied pages m ImportType r = λ l. not_all_offered m.types m.imports ImportType
 denied pages m InitRange r = λ l. r.3 (l.store, l.segments)
 denied pages m TooManyPages r = λ l. r.4 l.fits
 denied pages m Memory r = tt
+
+-- where all is there that memory isn't needed for, the module can be linked
+pub could_be_linked : (pages : ℕ) (m : Module) (entry : ℕ) → IsPrepared pages m entry → IsLinkable offer pages m
+could_be_linked pages m entry p = record {
+  entry = entry;
+  store = p.begins.0;
+  has_entry = p.has_entry;
+  has_memory = p.has_memory;
+  imports = p.offered;
+  segments = p.begins.1;
+  fits = p.fits;
+}
 
 -- ---- instances
 

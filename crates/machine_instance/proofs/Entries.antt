@@ -1,5 +1,5 @@
 -- Entries of a table, written one by one.
-use Rattle.std.proofs.Common.{◌≡◌, ℕ, suc, ◌+◌, ◌≤◌, ◌<◌, List, [], ◌∷◌, ◌++◌, length, get_or, set, take, drop, map, Option, Some, refl, sym, ap, ◌∙◌, arith, append_assoc, add-zero}
+use Rattle.std.proofs.Common.{◌≡◌, ℕ, ◌+◌, ◌<◌, List, [], ◌∷◌, length, get_or, set, drop, Option, Some, refl, sym, ap, ◌∙◌, arith, append_assoc, add-zero}
 use Rattle.std.proofs.lemmas.List.{take_more_set, drop-set-lt, take-append-drop}
 use Rattle.wasm_validate_parts.proofs.Loops.{next}
 use Rattle.machine_instance.proofs.Filled.{entries_put}

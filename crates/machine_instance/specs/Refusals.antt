@@ -1,5 +1,5 @@
 -- What a fault says.
-use Rattle.std.specs.Prelude.{◌≡◌, ◌⊎◌, ℕ, List, [], ◌∷◌, Option, Some, None}
+use Rattle.std.specs.Prelude.{◌≡◌, ◌⊎◌, ℕ, List, [], ◌∷◌, Some, None}
 use Rattle.wasm_syntax.specs.declared.types.FunctionType.{FunctionType}
 use Rattle.wasm_syntax.specs.declared.module.Module.{Module}
 use Rattle.wasm_syntax.specs.declared.module.Import.{Import}
@@ -21,7 +21,7 @@ abbrev pub AreImportsRefused : List FunctionType → List Import → LinkFault �
 AreImportsRefused types [] fault = ⊥
 AreImportsRefused types (i ∷ imports) fault = IsImportRefused types i fault ⊎ (IsOffered offer types i × AreImportsRefused types imports fault)
 
--- A fault names the first thing that isn't there. Want of memory says nothing.
+-- A fault names the first thing that isn't there. Where memory is wanted, all else is there.
 abbrev pub IsRefused : ℕ → Module → LinkFault → Type 0
 IsRefused pages m NoStart = CanStart m → ⊥
 IsRefused pages m NoMemory = CanStart m × (HasExportedMemory m → ⊥)
@@ -29,7 +29,7 @@ IsRefused pages m UnknownImport = CanStart m × HasExportedMemory m × AreImport
 IsRefused pages m ImportType = CanStart m × HasExportedMemory m × AreImportsRefused m.types m.imports ImportType
 IsRefused pages m InitRange = CanStart m × HasExportedMemory m × AreImportsOffered m × (CanBegin m → ⊥)
 IsRefused pages m TooManyPages = CanStart m × HasExportedMemory m × AreImportsOffered m × CanBegin m × (FitsPages (memories_of m) pages → ⊥)
-IsRefused pages m Memory = Unit {0}
+IsRefused pages m Memory = IsLinkable offer pages m
 
 -- any fault but want of memory says that P doesn't hold
 abbrev pub Denies : Type 0 → LinkFault → Type 0

@@ -61,7 +61,7 @@ impl Instance {
     ghost use Rattle.machine_instance.specs.Instances.{IsLinked};
 
     /// Links a module to the host, under so many pages of memory at most. The fault is the first in the
-    /// order of `LinkFault`; memory is taken only where there is none. Time in proportion to the module
+    /// order of `LinkFault`; memory is taken, and wanted, only where there is none. Time in proportion to the module
     /// and to its memory and table.
     pub fn link(module: ValidModule, pages: u32, alloc: Global) -> Result<Instance, LinkFault>
         requires { pages ≤ MOST_PAGES }

@@ -8,7 +8,7 @@ use crate::bodies::check_functions;
 use std::alloc::Global;
 use std::marker::Model;
 use wasm_syntax::Module;
-use wasm_validate_parts::{Context, ValidFault, check_after_code, check_before_code};
+use wasm_validate_parts::{Context, ValidFault, check_before_data, check_data, check_types};
 
 /// A module that is valid, by its type. Contracts see the module.
 #[derive(Debug, Drop)]
@@ -37,22 +37,24 @@ impl ValidModule {
     }
 }
 
-/// The first fault: of the types of functions, which everything else looks up, and then in the order of the
-/// sections.
+/// The first fault, in this order: types, imports, functions' types, tables, memories, globals, exports, the
+/// start function, element segments, data segments, bodies.
 fn check(module: &Module, alloc: Global) -> Result<(), ValidFault>
     ensures { Judges result (IsValid «module».now) }
 {
+    check_types(module)?;
     let context = Context::of(module, alloc)?;
-    check_before_code(module, &context, alloc)?;
-    check_functions(module.functions.as_slice(), &context, alloc)?;
-    check_after_code(module, &context)
+    check_before_data(module, &context, alloc)?;
+    check_data(module, &context)?;
+    check_functions(module.functions.as_slice(), &context, alloc)
 }
 
 /// Decides whether a module is valid. A fault other than `Memory` says that it is not, and is the first one:
-/// that of a function whose type doesn't exist, and else in the order of the sections and opcodes. It takes
-/// time in proportion to the module, but for the names of exports, whose bytes take n log n, and each call in
-/// a body takes time in proportion to its parameters. Memory is taken in proportion to the functions, globals,
-/// exports and the longest body.
+/// types, imports, functions' types, tables, memories, globals, exports, the start function, element segments
+/// and data segments come before bodies, and each is checked from the front. It takes time in proportion to
+/// the module, but for the names of exports, whose bytes take n log n, and each call in a body takes time in
+/// proportion to its parameters. Memory is taken in proportion to the functions, globals, exports and the
+/// longest body.
 pub fn validate(module: Module, alloc: Global) -> Result<ValidModule, ValidFault>
     ensures same { IfOk result (λ v. v ≡ «module») }
     ensures valid { OnOk result (IsValid «module») }

@@ -1,5 +1,6 @@
 pub mod Denied
 pub mod Imported
+pub mod ImportFaults
 pub mod Lookups
 pub mod Loops
 pub mod Names

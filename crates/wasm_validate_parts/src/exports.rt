@@ -1,4 +1,4 @@
-//! Exports (section 3.4.10).
+//! Exports (sections 3.4.8 and 3.4.10).
 
 ghost use Rattle.std.specs.Prelude.{◌↔◌, IsTrue, List};
 ghost use Rattle.std.specs.List.{AllByRecursion};

@@ -6,7 +6,8 @@ ghost use Rattle.wasm_validate_parts.specs.declared.fault.ValidFault.TheVariants
 use std::alloc::{AllocError, AllocFailed};
 use thiserror::Error;
 
-/// The first fault in the order of the sections, or want of memory.
+/// The first fault, or want of memory. Types are checked first, then imports, functions, tables, memories,
+/// globals, exports, the start function, element segments and data segments, and bodies last.
 #[derive(Clone, Copy, Debug, PartialEq, Eq, Error)]
 pub enum ValidFault {
     /// Operands, results or a constant expression have another type.

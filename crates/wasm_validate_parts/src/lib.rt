@@ -8,6 +8,7 @@ mod counts;
 mod exports;
 mod fault;
 mod globals;
+mod imports;
 mod indices;
 pub mod laws;
 mod limits;
@@ -19,4 +20,4 @@ mod tests;
 
 pub use context::Context;
 pub use fault::ValidFault;
-pub use parts::{check_after_code, check_before_code};
+pub use parts::{check_before_data, check_data, check_types};

@@ -41,13 +41,13 @@ fn are_limits(limits: Limits, range: u64) -> bool
     }
 }
 
-fn is_table_valid(table: &TableType) -> bool
+pub fn is_table_valid(table: &TableType) -> bool
     ensures { IsTrue result ↔ IsTableTypeValid table.now }
 {
     are_limits(table.limits, TABLE_RANGE)
 }
 
-fn is_memory_valid(memory: &MemoryType) -> bool
+pub fn is_memory_valid(memory: &MemoryType) -> bool
     ensures { IsTrue result ↔ IsMemoryTypeValid memory.now }
 {
     are_limits(memory.limits, MEMORY_RANGE)

@@ -1,35 +1,50 @@
-//! The checks of a whole module, in the order of its sections (section 3.4.10).
+//! The checks of a whole module but the bodies (section 3.4.10), in this order: types, imports, functions,
+//! tables, memories, globals, exports, the start function, element segments, data segments.
 
-ghost use Rattle.std.specs.Prelude.{List};
+ghost use Rattle.std.specs.Prelude.{List, IfErr, OnOk};
+ghost use Rattle.std.specs.List.{AllByRecursion};
 ghost use Rattle.wasm_syntax.specs.declared.types.FunctionType.{FunctionType as Kind};
-ghost use Rattle.wasm_syntax_rules.specs.Validity.{AreFunctionTypes};
-ghost use Rattle.wasm_validate_parts.specs.Answers.{Decides, Judges};
+ghost use Rattle.wasm_syntax_rules.specs.Validity.{AreFunctionTypes, IsFunctionTypeValid, IsValid};
+ghost use Rattle.wasm_validate_parts.specs.Answers.{Decides, Denies, Judges};
 ghost use Rattle.wasm_validate_parts.specs.Contexts.{HasFunctionTypes, IsContextOfModule};
-ghost use Rattle.wasm_validate_parts.specs.Parts.{IsValidBeforeCode, IsValidAfterCode, WasValidBeforeCode};
+ghost use Rattle.wasm_validate_parts.specs.Parts.{AreTypesValid, IsFirstTypeFault, IsValidBeforeData, AreDataValid, WasValidBeforeData};
 
 use crate::context::Context;
 use crate::exports::check_exports;
 use crate::fault::ValidFault;
 use crate::globals::check_globals;
+use crate::imports::check_imports;
 use crate::limits::{check_function_types, check_memories, check_tables};
 use crate::segments::{check_data_segments, check_elements};
 use crate::start::check_start;
 use std::alloc::Global;
 use wasm_syntax::Module;
 
-/// What stands before the code section: types, tables, memories, globals, exports, the start function
-/// and element segments. The context is the module's own. It takes time in proportion to the module, but
-/// for the names of exports, whose bytes take n log n, and memory for as many slices as there are exports.
-pub fn check_before_code(
+/// Types, and then imports, each from the front. `Limits` for a type with two results, and else the fault of
+/// the first import that isn't valid.
+pub fn check_types(module: &Module) -> Result<(), ValidFault>
+    ensures valid { OnOk result (AreTypesValid «module».now) }
+    ensures refused { IfErr result (IsFirstTypeFault «module».now) }
+    ensures only { IfErr result (λ e. Denies e (IsValid «module».now)) }
+{
+    let types = module.types.as_slice();
+    check_function_types(types)?;
+    check_imports(types, module.imports.as_slice())
+}
+
+/// What is checked before data segments: tables, memories, globals, exports, the start function and element
+/// segments. The context is the module's own. It takes time in proportion to the module, but for the names
+/// of exports, whose bytes take n log n, and memory for as many slices as there are exports.
+pub fn check_before_data(
     module: &Module,
     context: &Context,
     alloc: Global,
 ) -> Result<(), ValidFault>
+    requires sound { AllByRecursion IsFunctionTypeValid «module».now.types }
     requires types { HasFunctionTypes «module».now }
     requires context { IsContextOfModule «module».now context.now }
-    ensures { (functions : List Kind) → AreFunctionTypes «module».now functions → Judges result (IsValidBeforeCode «module».now functions) }
+    ensures { (functions : List Kind) → AreFunctionTypes «module».now functions → Judges result (IsValidBeforeData «module».now functions) }
 {
-    check_function_types(module.types.as_slice())?;
     check_tables(module)?;
     check_memories(module)?;
     check_globals(module, context)?;
@@ -38,12 +53,11 @@ pub fn check_before_code(
     check_elements(context, module.elements.as_slice())
 }
 
-/// What stands behind the code section: data segments. The context is the module's own, and what stands
-/// before the code section is valid.
-pub fn check_after_code(module: &Module, context: &Context) -> Result<(), ValidFault>
-    requires before { WasValidBeforeCode «module».now }
+/// Data segments. The context is the module's own, and what is checked before them is valid.
+pub fn check_data(module: &Module, context: &Context) -> Result<(), ValidFault>
+    requires before { WasValidBeforeData «module».now }
     requires context { IsContextOfModule «module».now context.now }
-    ensures { Decides result (IsValidAfterCode «module».now) }
+    ensures { Decides result (AreDataValid «module».now) }
 {
     check_data_segments(context, module.data_segments.as_slice())
 }

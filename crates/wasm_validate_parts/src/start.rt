@@ -1,4 +1,4 @@
-//! The start function (section 3.4.9).
+//! The start function (section 3.4.7).
 
 ghost use Rattle.std.specs.Prelude.{IfSome};
 ghost use Rattle.wasm_syntax_rules.specs.Typing.{Context as Typing};

@@ -1,6 +1,6 @@
 //! The fault of each kind, on small modules.
 
-use crate::{Context, ValidFault, check_after_code, check_before_code};
+use crate::{Context, ValidFault, check_before_data, check_data, check_types};
 use std::alloc::{AllocError, Global};
 use std::process::Abort;
 use std::test::Fail;
@@ -197,9 +197,10 @@ fn empty(alloc: Global) -> Module {
 }
 
 fn judge(alloc: Global, module: &Module) -> Result<(), ValidFault> {
+    check_types(module)?;
     let context = Context::of(module, alloc)?;
-    check_before_code(module, &context, alloc)?;
-    check_after_code(module, &context)
+    check_before_data(module, &context, alloc)?;
+    check_data(module, &context)
 }
 
 /// Each row has what a module has beside the first parts, and the fault that it answers.
@@ -239,6 +240,28 @@ fn types(rt: HostRuntime) -> Result<(), Fail> {
                 &[Part::Type(0, 0), Part::ImportedFunction(1)],
                 Some(ValidFault::Index),
             ),
+        ],
+    )
+}
+
+/// Types are told before imports, and those before functions, each from the front.
+#[test]
+fn order(rt: HostRuntime) -> Result<(), Fail> {
+    let index = Some(ValidFault::Index);
+    let wrong = Some(ValidFault::Limits);
+    let two_results = Part::Type(0, 2);
+    let untyped = Part::ImportedFunction(9);
+    let huge = Part::ImportedMemory(0x1_0001, None);
+    check(
+        &rt,
+        rt.alloc(),
+        &[],
+        &[
+            (&[Part::Function(9), untyped, two_results], wrong),
+            (&[untyped, huge], index),
+            (&[huge, untyped], wrong),
+            (&[Part::Function(9), huge], wrong),
+            (&[Part::Function(9), Part::Table(2, Some(1))], index),
         ],
     )
 }

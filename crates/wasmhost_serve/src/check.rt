@@ -1,6 +1,9 @@
 //! `wasmhost check`.
 
-ghost use Rattle.std.specs.Prelude.{◌≡◌, ◌≤◌};
+ghost use Rattle.std.specs.Prelude.{◌≡◌, ◌⊎◌, OnOk, IsOk, codes};
+ghost use Rattle.std.specs.Io.KnownBytes.{Appends};
+ghost use Rattle.front_end.specs.Acceptance.{HasAcceptedModule, HasNoAcceptedModule};
+ghost use Rattle.wasmhost_serve.specs.Statuses.{IsRight, status_by};
 
 use front_end::{FrontFault, accept};
 use std::alloc::Global;
@@ -18,8 +21,20 @@ const NO_MEMORY: u8 = 5;
 /// The exit status where the output can't be written.
 const UNWRITTEN: u8 = 7;
 
+/// Whether the bytes spell an accepted module, and why not.
+fn verdict_on(alloc: Global, wasm: &[u8]) -> Result<(), FrontFault>
+    ensures { IsRight PAGES wasm.now result }
+{
+    match accept(alloc, wasm, PAGES) {
+        Ok(_machine) => Ok(()),
+        Err(fault) => Err(fault),
+    }
+}
+
 /// Prints a verdict: `accepted`, or `refused` with the fault's code and name, and its place if it has one.
-fn print_verdict<W: Write>(verdict: Result<(), FrontFault>, out: &mut W) -> io::Result<()> {
+fn print_verdict<W: Write>(verdict: Result<(), FrontFault>, out: &mut W) -> io::Result<()>
+    ensures { IsOk verdict → OnOk result (Appends (W.contents out.old) (W.contents out.new) (codes "accepted\n")) }
+{
     match verdict {
         Ok(()) => writeln!(out, "accepted"),
         Err(fault) => match fault.place() {
@@ -29,8 +44,9 @@ fn print_verdict<W: Write>(verdict: Result<(), FrontFault>, out: &mut W) -> io::
     }
 }
 
+/// The exit status of a verdict that is printed.
 fn status_of(verdict: Result<(), FrontFault>) -> u8
-    ensures { result ≤ 7 }
+    ensures { result ≡ status_by verdict }
 {
     match verdict {
         Ok(()) => 0,
@@ -42,12 +58,12 @@ fn status_of(verdict: Result<(), FrontFault>) -> u8
 /// Says whether a module is accepted: prints a line, and answers the exit status, 0, 3 where it is refused, 5
 /// for want of memory, 7 where nothing can be printed.
 pub fn check_bytes<W: Write>(alloc: Global, wasm: &[u8], out: &mut W) -> u8
-    ensures { result ≤ 7 }
+    ensures accepted { result ≡ 0 → HasAcceptedModule PAGES wasm.now }
+    ensures printed { result ≡ 0 → Appends (W.contents out.old) (W.contents out.new) (codes "accepted\n") }
+    ensures refused { result ≡ 3 → HasNoAcceptedModule PAGES wasm.now }
+    ensures known { (result ≡ 0) ⊎ (result ≡ 3) ⊎ (result ≡ 5) ⊎ (result ≡ 7) }
 {
-    let verdict = match accept(alloc, wasm, PAGES) {
-        Ok(_instance) => Ok(()),
-        Err(fault) => Err(fault),
-    };
+    let verdict = verdict_on(alloc, wasm);
     match print_verdict(verdict, out) {
         Ok(()) => status_of(verdict),
         Err(_) => UNWRITTEN,

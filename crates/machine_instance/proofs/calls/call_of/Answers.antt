@@ -1,6 +1,5 @@
-use Rattle.std.proofs.Common.{◌≡◌, ◌∙◌, ap, sym, subst, false, true, List, ℕ, None, Some, get_or}
+use Rattle.std.proofs.Common.{◌≡◌, ◌∙◌, ap, sym, false, true}
 use Rattle.std.specs.Str.{bytes_eq}
-use Rattle.wasi_abi.specs.declared.call.Call.TheVariants as call
 use Rattle.wasi_abi.specs.Calls.{module_name}
 use Rattle.wasm_validate_parts.proofs.Names.{not_false, not_true}
 use Rattle.machine_instance.specs.Offers.{built_calls}

@@ -1,7 +1,6 @@
 use Rattle.std.proofs.Common.{◌≡◌, ◌∙◌, ap, sym, Some, None}
 use Rattle.std.specs.Prelude.{slice_get, option_copied}
 use Rattle.wasi_abi.specs.Calls.{function_type_of}
-use Rattle.wasm_validate_parts.proofs.Lookups.{is_false}
 use Rattle.machine_instance.proofs.Offered.{offered_as, offered_nothing, type_there, offered_at, no_function}
 use Rattle.machine_instance.proofs.calls.check_import.Goals as goal
 

@@ -1,4 +1,4 @@
-use Rattle.std.proofs.Common.{[], sym, ap, ◌∙◌}
+use Rattle.std.proofs.Common.{[], ap, ◌∙◌}
 use Rattle.std.specs.Option.{option_and_then}
 use Rattle.wasm_syntax.specs.declared.module.Global.{Global}
 use Rattle.wasm_syntax_rules.specs.Instantiation.{constant_of}

@@ -1,7 +1,6 @@
-use Rattle.std.proofs.Common.{◌∙◌, ap, sym, map}
+use Rattle.std.proofs.Common.{◌∙◌, ap, sym}
 use Rattle.std.specs.Prelude.{slice_get}
 use Rattle.std.specs.Option.{option_and_then}
-use Rattle.wasm_syntax_rules.specs.Validity.{function_type_of}
 use Rattle.wasm_validate_parts.proofs.Lookups.{slice_get-types}
 use Rattle.machine_instance.proofs.FunctionTypes.{all_types}
 use Rattle.machine_instance.proofs.exports.function_type.Goals as goal

@@ -1,4 +1,4 @@
-use Rattle.std.proofs.Common.{◌≡◌, ◌≤◌, ◌∙◌, ap, sym, length}
+use Rattle.std.proofs.Common.{◌≤◌, ◌∙◌, ap, sym, length}
 use Rattle.std.specs.Option.{option_map}
 use Rattle.wasm_syntax_rules.specs.Validity.{function_type_of}
 use Rattle.machine_instance.proofs.FunctionTypes.{own_type}

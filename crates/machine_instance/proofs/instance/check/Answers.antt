@@ -1,10 +1,9 @@
-use Rattle.std.proofs.Common.{◌≡◌, ◌↔◌, IsTrue, List, sym, ap, ◌∙◌, subst}
+use Rattle.std.proofs.Common.{List, sym, subst}
 use Rattle.std.specs.List.{AllByRecursion}
 use Rattle.std.proofs.lemmas.Result.{err_from_is_err_and}
 use Rattle.wasm_syntax.specs.declared.types.FunctionType.{FunctionType}
 use Rattle.wasm_syntax.specs.declared.types.MemoryType.{MemoryType}
 use Rattle.wasm_syntax.specs.declared.module.Import.{Import}
-use Rattle.wasm_syntax_rules.specs.Validity.{memories_of}
 use Rattle.wasm_syntax_rules.specs.Linking.{IsOffered, FitsPages}
 use Rattle.machine_instance.specs.Offers.{offer}
 use Rattle.machine_instance.specs.Initial.{AreImportsOffered}

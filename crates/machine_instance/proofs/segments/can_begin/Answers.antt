@@ -1,4 +1,4 @@
-use Rattle.std.proofs.Common.{◌≡◌, ◌*◌, ◌↔◌, IsTrue, List, length, sym, ap, ◌∙◌, subst}
+use Rattle.std.proofs.Common.{◌*◌, ◌↔◌, IsTrue, List, length, sym, ap, ◌∙◌, subst}
 use Rattle.std.specs.Prelude.{IsSome}
 use Rattle.std.proofs.lemmas.List.{length-replicate}
 use Rattle.wasm_syntax.specs.declared.value.Value.{Value}

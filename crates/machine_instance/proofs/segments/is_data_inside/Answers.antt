@@ -1,8 +1,8 @@
-use Rattle.std.proofs.Common.{◌≡◌, ℕ, refl, sym, ap, ◌∙◌, subst, List, length}
+use Rattle.std.proofs.Common.{ℕ, refl, sym, subst, List, length}
 use Rattle.wasm_syntax.specs.declared.instruction.Instruction.{Instruction}
 use Rattle.machine_instance.specs.Initial.{IsInside}
 use Rattle.wasm_validate_parts.proofs.Lookups.{is_false}
-use Rattle.wasm_validate_parts.proofs.Loops.{passed, passes, of_all}
+use Rattle.wasm_validate_parts.proofs.Loops.{passed, of_all}
 use Rattle.machine_instance.proofs.Filled.{IsDataInside, memory_from_inside, inside_from_memory, some_of}
 use Rattle.machine_instance.proofs.segments.is_data_inside.Goals as goal
 

@@ -1,4 +1,4 @@
-use Rattle.std.proofs.Common.{◌≡◌, ℕ, ◌+◌, ◌≤◌, ◌∙◌, ap, sym, subst, Option, Some, List, drop, length}
+use Rattle.std.proofs.Common.{◌≡◌, ℕ, ◌+◌, ◌∙◌, ap, sym, subst, Option, Some, List, drop}
 use Rattle.wasm_syntax_rules.specs.Instantiation.{offset_of, filled_table, with_entries}
 use Rattle.machine_instance.proofs.Filled.{element_next, entries_put, with_entries_inside}
 use Rattle.machine_instance.proofs.table.fill_table.Goals as goal

@@ -1,14 +1,15 @@
-use Rattle.std.proofs.Common.{◌≡◌, List, refl, sym, ap, ◌∙◌, subst}
+use Rattle.std.proofs.Common.{List, sym, ◌∙◌, subst}
 use Rattle.std.specs.List.{AllByRecursion}
 use Rattle.std.proofs.lemmas.Result.{err_from_is_err_and}
 use Rattle.wasm_syntax.specs.declared.types.MemoryType.{MemoryType}
 use Rattle.wasm_syntax.specs.declared.module.Module.{Module}
 use Rattle.wasm_syntax_rules.specs.Validity.{IsMemoryTypeValid}
-use Rattle.wasm_syntax_rules.specs.Linking.{FitsPages}
+use Rattle.wasm_syntax_rules.specs.Linking.{FitsPages, IsLinkable}
+use Rattle.machine_instance.specs.Offers.{offer}
 use Rattle.machine_instance.specs.declared.instance.Instance.{Instance}
 use Rattle.machine_instance.specs.Refusals.{IsRefused}
 use Rattle.machine_instance.specs.Instances.{IsLinked}
-use Rattle.machine_instance.proofs.Begun.{own_memories, can_fill_table, can_fill_memory, denied, linked_by}
+use Rattle.machine_instance.proofs.Begun.{own_memories, can_fill_table, can_fill_memory, denied, linked_by, could_be_linked}
 use Rattle.machine_instance.proofs.instance.Instance.link.Goals as goal
 
 pub returns-in_err-entry-clause-refused : goal.returns-in_err-entry-clause-refused
@@ -63,3 +64,27 @@ returns-clause-linked c =
     (rw (c.as_slice-globals.ensures, c.as_slice-segments.ensures, c.as_slice-memories.ensures) at c.in_ok-memory.ensures.bytes)
     (rw c.as_slice-memories.ensures at c.in_ok-memory.ensures.limit)
     (rw c.as_slice.ensures at c.in_ok-calls.ensures))
+
+pub returns-in_err-calls-clause-refused : goal.returns-in_err-calls-clause-refused
+returns-in_err-calls-clause-refused c =
+    let p = err_from_is_err_and c.from_residual-in_err-calls.result c.from_residual-in_err-calls.ensures.1 in
+    let L : Module → Type 0 = IsLinkable offer c.args.pages in
+    rw (p.1, p.2) (subst L c.module-code.ensures.same (could_be_linked c.args.pages c.module-code.result.now c.in_ok-entry.entry c.in_ok-entry.ensures.prepared))
+
+pub returns-in_err-values-clause-refused : goal.returns-in_err-values-clause-refused
+returns-in_err-values-clause-refused c =
+    let p = err_from_is_err_and c.from_residual-in_err-values.result c.from_residual-in_err-values.ensures.1 in
+    let L : Module → Type 0 = IsLinkable offer c.args.pages in
+    rw (p.1, p.2) (subst L c.module-code.ensures.same (could_be_linked c.args.pages c.module-code.result.now c.in_ok-entry.entry c.in_ok-entry.ensures.prepared))
+
+pub returns-in_err-table-clause-refused : goal.returns-in_err-table-clause-refused
+returns-in_err-table-clause-refused c =
+    let p = err_from_is_err_and c.from_residual-in_err-table.result c.from_residual-in_err-table.ensures.1 in
+    let L : Module → Type 0 = IsLinkable offer c.args.pages in
+    rw (p.1, p.2) (subst L c.module-code.ensures.same (could_be_linked c.args.pages c.module-code.result.now c.in_ok-entry.entry c.in_ok-entry.ensures.prepared))
+
+pub returns-in_err-memory-clause-refused : goal.returns-in_err-memory-clause-refused
+returns-in_err-memory-clause-refused c =
+    let p = err_from_is_err_and c.from_residual-in_err-memory.result c.from_residual-in_err-memory.ensures.1 in
+    let L : Module → Type 0 = IsLinkable offer c.args.pages in
+    rw (p.1, p.2) (subst L c.module-code.ensures.same (could_be_linked c.args.pages c.module-code.result.now c.in_ok-entry.entry c.in_ok-entry.ensures.prepared))

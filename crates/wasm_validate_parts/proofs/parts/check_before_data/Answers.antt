@@ -8,7 +8,7 @@ use Rattle.wasm_syntax_rules.specs.Validity.{module_context, IsFunctionTypeValid
 use Rattle.wasm_validate_parts.specs.Answers.{Decides}
 use Rattle.wasm_validate_parts.specs.Parts.{StandsFor}
 use Rattle.wasm_validate_parts.proofs.Denied.{turn_as, denies_as, judges_as}
-use Rattle.wasm_validate_parts.proofs.parts.check_before_code.Goals as goal
+use Rattle.wasm_validate_parts.proofs.parts.check_before_data.Goals as goal
 
 pub returns-in_err-check_start : goal.returns-in_err-check_start
 returns-in_err-check_start c = λ functions are.
@@ -26,10 +26,10 @@ returns c = λ functions are.
     let T : List FunctionType → Type 0 = AllByRecursion IsFunctionTypeValid in
     let E : List Export → Type 0 = λ es. AllByRecursion (λ (e : Export). IsExportItemValid m functions e.item) es × HaveDistinctNames es in
     let L : List Element → Type 0 = λ es. Decides c.check_elements.result (AllByRecursion (IsElementValid m functions) es) in
-    let exports = subst E c.as_slice-2.ensures (c.in_ok-check_exports.ensures m functions s) in
+    let exports = subst E c.as_slice.ensures (c.in_ok-check_exports.ensures m functions s) in
     judges_as c.check_elements.result
     (λ elements. record {
-      types = subst T c.as_slice.ensures c.in_ok-check_function_types.ensures;
+      types = c.requires.sound;
       tables = tables.0;
       memories = memories.0;
       one_table = tables.1;
@@ -41,4 +41,4 @@ returns c = λ functions are.
       elements = elements;
     })
     (λ v. v.elements)
-    (subst L c.as_slice-3.ensures (c.check_elements.ensures m functions s))
+    (subst L c.as_slice-2.ensures (c.check_elements.ensures m functions s))
