@@ -5,9 +5,9 @@ use std::alloc::Global;
 use std::process::Abort;
 use std::test::Fail;
 use wasm_syntax::{
-    BinaryOperator, Code, Function, FunctionType, Global as ModuleGlobal, GlobalType, Instruction,
-    Limits, LoadOperator, MemoryArgument, MemoryType, Module, Mutability, Row, TableType, Value,
-    ValueType,
+    BinaryOperator, Code, Data, Function, FunctionType, Global as ModuleGlobal, GlobalType,
+    Instruction, Limits, LoadOperator, MemoryArgument, MemoryType, Module, Mutability, Row,
+    TableType, Value, ValueType,
 };
 
 const TYPING: Option<ValidFault> = Some(ValidFault::Typing);
@@ -297,6 +297,24 @@ fn memory_and_table(rt: HostRuntime) {
         check(&rt, rt.alloc(), true, &[(text, furnished)]);
         check(&rt, rt.alloc(), false, &[(text, bare)]);
     }
+}
+
+/// A data segment without a memory is told before the first body.
+#[test]
+fn bodies_come_last(rt: HostRuntime) -> Result<(), Fail> {
+    let alloc = rt.alloc();
+    for (text, wanted) in [("4100 0b", TYPING), ("0b", None)] {
+        assert_eq!(rt; judge(alloc, false, text).err(), wanted);
+        let mut module = empty(alloc);
+        fill(alloc, &mut module, false, text)?;
+        module.data_segments.push(Data {
+            memory: 0,
+            offset: expression(alloc, "4100 0b")?,
+            bytes: Row::new(alloc),
+        })?;
+        assert_eq!(rt; validate(module, alloc).err(), INDEX);
+    }
+    Ok(())
 }
 
 /// A module with everything that the others have. `scripts/refused-allocations` refuses each allocation
