@@ -23,12 +23,12 @@ use Rattle.wasm_syntax.specs.declared.module.Data.{Data}
 use Rattle.wasm_syntax.specs.Sequence.{Sequence}
 use Rattle.guest_memory.specs.Bytes.{IsByte, page_size, with_part}
 use Rattle.wasm_syntax_rules.specs.Types.{IsOf, AreOf, imported_functions, imported_globals, global_type_of, value_type_of}
-use Rattle.wasm_syntax_rules.specs.Validity.{IsMemoryTypeValid, IsConstant, AreTypesAt, function_type_of, tables_of, memories_of, module_context, IsFunctionValid, IsGlobalValid, IsIndex, IsElementValid, IsDataValid, IsStartValid, IsValid}
+use Rattle.wasm_syntax_rules.specs.Validity.{IsMemoryTypeValid, IsConstant, AreTypesAt, AreFunctionTypes, function_type_of, tables_of, memories_of, module_context, IsFunctionValid, IsGlobalValid, IsIndex, IsElementValid, IsDataValid, IsStartValid, IsValid}
 use Rattle.wasm_syntax_rules.specs.Configuration.{Callee, Host, Own, Program, Store}
-use Rattle.wasm_syntax_rules.specs.Steps.{kind_of}
+use Rattle.wasm_syntax_rules.specs.Steps.{kind_of, IsSettled}
 use Rattle.wasm_syntax_rules.specs.Instantiation.{AreCallees, most_pages_of, IsProgram, constant_of, AreInitial, offset_of, with_entries, with_bytes, filled_table, filled_memory, empty_table, empty_memory, IsInitialStore, calls_of}
 use Rattle.wasm_syntax_rules.specs.Linking.{Offer, IsItemOffered, IsOffered, FitsPages, IsLinkable}
-use Rattle.wasm_syntax_soundness.specs.Typed.{IsTypedCallee, IsTypedProgram, IsTypedMemory, IsTypedEntry, IsTypedStore, IsEntry, IsTyped, OffersNoEntry, BeginsTyped}
+use Rattle.wasm_syntax_soundness.specs.Typed.{IsTypedCallee, IsTypedProgram, IsTypedMemory, IsTypedEntry, IsTypedStore, IsEntry, IsTyped, OffersNoEntry, ProgramsTyped, BeginsTyped}
 use Rattle.wasm_syntax_soundness.proofs.MemoryBytes.{all_both, all_take, all_drop, all_replicate, memory_with_part}
 use Rattle.wasm_syntax_soundness.proofs.RuleSound.{callee_at}
 use Rattle.wasm_syntax_soundness.proofs.LeaveSound.{settles_typed}
@@ -258,8 +258,16 @@ store_typed offer pages m program v link b store s =
       table = table_filled m program v.functions store.globals m.elements (empty_table (tables_of m)) store.table count v.elements (empties_typed program (tables_of m)) s.table;
     }
 
+-- the functions' types are those by which the module is valid
+same_types : (m : Module) (v : IsValid m) (functions : List FunctionType) → AreFunctionTypes m functions → v.functions ≡ functions
+same_types m v functions h = types_once m.types (imported_functions m.imports ++ map function_type_of m.functions) v.functions functions v.function_types h
+
+pub programs_typed : ProgramsTyped
+programs_typed pages m functions program few v h b =
+    subst (λ fs. IsTypedProgram (module_context m fs) program) (same_types m v functions h) (program_typed m pages program v b few)
+
 pub begins_typed : BeginsTyped
-begins_typed offer pages m program d none few v link b =
+begins_typed offer pages m functions program d none few v h link b =
     let typed = program_typed m pages program v b.is_program few in
     let kinds = callee_kinds m (imported_functions m.imports) m.functions program.functions v.functions b.is_program.functions v.function_types in
     let same = types_once m.types (imported_functions m.imports ++ map function_type_of m.functions) link.has_entry.functions v.functions link.has_entry.function_types v.function_types in
@@ -271,4 +279,5 @@ begins_typed offer pages m program d none few v link b =
       later = calls_typed offer m program v.functions m.start link.entry none link.imports b.is_program.functions kinds v.start last;
     } in
     let settled = settles_typed (module_context m v.functions) program (record { store = b.store; thread = []; later = calls_of m.start link.entry }) d typed begun b.settles in
-    (module_context m v.functions, typed, settled.0, settled.1)
+    let P : List FunctionType → Type 0 = λ fs. IsTypedProgram (module_context m fs) program × IsTyped (module_context m fs) program d × IsSettled program d in
+    subst P (same_types m v functions h) (typed, settled.0, settled.1)

@@ -8,8 +8,8 @@ use Rattle.wasm_syntax.specs.Sequence.{Sequence}
 use Rattle.guest_memory.specs.Bytes.{IsByte, page_size}
 use Rattle.wasm_syntax_rules.specs.Types.{AreOf, takes_of, gives_of, value_type_of}
 use Rattle.wasm_syntax_rules.specs.Typing.{Context, HasType, body_context}
-use Rattle.wasm_syntax_rules.specs.Validity.{IsIndex, IsValid}
-use Rattle.wasm_syntax_rules.specs.Instantiation.{Begins}
+use Rattle.wasm_syntax_rules.specs.Validity.{IsIndex, AreFunctionTypes, module_context, IsValid}
+use Rattle.wasm_syntax_rules.specs.Instantiation.{IsProgram, Begins}
 use Rattle.wasm_syntax_rules.specs.Linking.{Offer, IsLinkable}
 use Rattle.wasm_syntax.specs.declared.module.Module.{Module}
 use Rattle.wasm_syntax_rules.specs.Configuration.{Callee, Host, Own, Program, Store, Label, LabelOf, FrameOf, Thread, Configuration, Outcome, Goes, Traps, Asks, Stuck}
@@ -129,9 +129,15 @@ StepsTyped =
 abbrev pub OffersNoEntry : Offer → Type 0
 OffersNoEntry offer = (from name : List ℕ) (kind : FunctionType) → offer from name ≡ Some kind → kind.parameters ≡ [] → kind.results ≡ [] → ⊥
 
--- A valid module that is linked under at most 65,536 pages begins settled and typed.
+-- The program of a valid module under at most 65,536 pages is typed in the module's context.
+abbrev pub ProgramsTyped : Type 0
+ProgramsTyped =
+    (pages : ℕ) (m : Module) (functions : List FunctionType) (program : Program) → pages ≤ 2 ^ 16 → IsValid m → AreFunctionTypes m functions → IsProgram m pages program
+    → IsTypedProgram (module_context m functions) program
+
+-- A valid module that is linked under at most 65,536 pages begins settled and typed, in the module's context.
 abbrev pub BeginsTyped : Type 0
 BeginsTyped =
-    (offer : Offer) (pages : ℕ) (m : Module) (program : Program) (d : Configuration) → OffersNoEntry offer → pages ≤ 2 ^ 16
-    → IsValid m → (link : IsLinkable offer pages m) → Begins m pages link.entry program d
-    → (c : Context) × IsTypedProgram c program × IsTyped c program d × IsSettled program d
+    (offer : Offer) (pages : ℕ) (m : Module) (functions : List FunctionType) (program : Program) (d : Configuration) → OffersNoEntry offer → pages ≤ 2 ^ 16
+    → IsValid m → AreFunctionTypes m functions → (link : IsLinkable offer pages m) → Begins m pages link.entry program d
+    → IsTypedProgram (module_context m functions) program × IsTyped (module_context m functions) program d × IsSettled program d

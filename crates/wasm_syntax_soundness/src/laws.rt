@@ -1,6 +1,6 @@
 //! Laws over all programs and configurations. The functions do nothing: what they ensure is the law.
 
-ghost use Rattle.wasm_syntax_soundness.specs.Typed.{NeverStuck, LeavesTyped, AnswersTyped, StepsTyped, BeginsTyped};
+ghost use Rattle.wasm_syntax_soundness.specs.Typed.{NeverStuck, LeavesTyped, AnswersTyped, StepsTyped, ProgramsTyped, BeginsTyped};
 
 /// Type soundness: a typed configuration is never stuck, and what follows from it is typed again.
 pub fn typed_configurations_go_on()
@@ -10,7 +10,8 @@ pub fn typed_configurations_go_on()
     ensures steps_typed { StepsTyped }
 {}
 
-/// A valid module that is linked to a host begins settled and typed.
+/// The program of a valid module is typed, and linked to a host it begins settled and typed.
 pub fn valid_modules_begin_typed()
-    ensures { BeginsTyped }
+    ensures programs { ProgramsTyped }
+    ensures begins { BeginsTyped }
 {}
