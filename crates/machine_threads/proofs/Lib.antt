@@ -1,0 +1,9 @@
+pub mod Words
+pub mod Rules
+pub mod Running
+pub mod Waiting
+pub mod Returning
+pub mod Entering
+pub mod Calling
+pub mod Hosting
+pub mod Showing
