@@ -1,0 +1,3 @@
+pub mod Numbers
+pub mod Made
+pub mod Ready

@@ -1,0 +1,3 @@
+pub mod Routines
+pub mod Making
+pub mod Laws

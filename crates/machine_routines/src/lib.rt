@@ -1,0 +1,12 @@
+//! What each of a module's own functions needs to be executed: its branch table, and how many parameters, locals and results
+//! it has (Core Specification 1.0, section 4.2.6). Made once, by linking.
+#![tactic(auto)]
+
+pub mod laws;
+mod making;
+mod routine;
+#[cfg(test)]
+mod tests;
+
+pub use making::routines;
+pub use routine::Routine;

@@ -1,0 +1,58 @@
+-- Where a machine comes to on fuel.
+use Rattle.std.specs.Prelude.{◌≡◌, ◌≢◌, ℕ, suc, ◌+◌, ◌<◌, List, [], map, reverse, Some, slice_get}
+use Rattle.wasm_syntax.specs.declared.types.FunctionType.{FunctionType}
+use Rattle.wasm_syntax.specs.declared.value.Value.{Value}
+use Rattle.wasm_syntax.specs.declared.value.Trap.{Trap}
+use Rattle.wasi_abi.specs.declared.call.Call.{Call}
+use Rattle.wasm_syntax_rules.specs.Types.{number_in}
+use Rattle.wasm_syntax_rules.specs.Configuration.{Program, Thread, Configuration, Asks, Traps}
+use Rattle.wasm_syntax_rules.specs.Steps.{rule, stopped, IsSettled, IsEnded}
+use Rattle.machine_standing.specs.Walks.{Walks}
+use Rattle.machine_running.specs.declared.code.Code.{Code}
+use Rattle.machine_running.specs.declared.state.State.{State}
+use Rattle.machine_running.specs.declared.pause.Pause.{Pause}
+use Rattle.machine_running.specs.declared.pause.Pause.TheVariants as pause
+use Rattle.machine_running.specs.declared.pause.Paused.{Paused}
+use Rattle.machine_running.specs.Codes.{Stands}
+
+-- so many counted rules of the fuel lead to a configuration that the state stands for
+pub record Comes (code : Code) (new : State) (functions : List FunctionType) (program : Program) (d : Configuration) (fuel left : ℕ) : Type 0 where
+  pub configuration : Configuration
+  pub steps : ℕ
+  pub used : steps + left ≡ fuel
+  pub walks : Walks program steps d configuration
+  pub stands : Stands code new functions program configuration
+
+-- a rule that asks the host for this call, with these arguments, the first one first
+pub record AsksFor (code : Code) (program : Program) (d : Configuration) (call : Call) (arguments : List ℕ) : Type 0 where
+  pub function : ℕ
+  pub operands : List Value
+  pub waits : Thread
+  pub asks : rule program d ≡ Asks function operands waits
+  pub is_call : slice_get code.calls.items function ≡ Some call
+  pub are : arguments ≡ reverse (map number_in operands)
+
+-- The machine traps there. Then it stands for the configuration without a thread.
+pub record TrapsFor (code : Code) (new : State) (functions : List FunctionType) (program : Program) (d : Configuration) (fuel left : ℕ) (why : Trap) : Type 0 where
+  pub configuration : Configuration
+  pub steps : ℕ
+  pub used : suc steps + left ≡ fuel
+  pub walks : Walks program steps d configuration
+  pub traps : rule program configuration ≡ Traps why
+  pub stands : Stands code new functions program (stopped configuration)
+
+-- Where a machine pauses: settled without fuel; with some fuel left before a call of the host; ended; or trapped.
+abbrev pub PausesFor : Code → State → List FunctionType → Program → Configuration → ℕ → ℕ → Pause → Type 0
+PausesFor code new functions program d fuel left pause.Spent =
+    (come : Comes code new functions program d fuel left) × IsSettled program come.configuration × (come.configuration.thread ≢ []) × (left ≡ 0)
+PausesFor code new functions program d fuel left (pause.Host call arguments) =
+    (come : Comes code new functions program d fuel left) × AsksFor code program come.configuration call arguments × (0 < left)
+PausesFor code new functions program d fuel left pause.Returned =
+    (come : Comes code new functions program d fuel left) × IsEnded come.configuration
+PausesFor code new functions program d fuel left (pause.Trapped why) = TrapsFor code new functions program d fuel left why
+
+-- whichever configuration the state stood for
+abbrev pub Pauses : Code → State → ℕ → Paused → State → Type 0
+Pauses code old fuel paused new =
+    (functions : List FunctionType) (program : Program) (d : Configuration) → Stands code old functions program d
+    → PausesFor code new functions program d fuel paused.left paused.why

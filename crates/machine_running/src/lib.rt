@@ -1,0 +1,15 @@
+//! Running a thread: its frames, calls, returns and ends, and the calls of the host (Core Specification 1.0, sections 4.4.7,
+//! 4.4.8 and 4.5.5).
+#![tactic(auto)]
+
+mod calls;
+pub mod code;
+mod functions;
+pub mod pause;
+mod running;
+pub mod state;
+pub mod turn;
+
+pub use code::Code;
+pub use pause::{Arguments, Pause, Paused};
+pub use state::State;
