@@ -1,0 +1,45 @@
+//! A source of answers that are known beforehand.
+
+ghost use Rattle.std.specs.Prelude.{◌≡◌};
+
+use crate::{Source, SourceFault};
+use std::collections::VecDeque;
+use std::marker::Model;
+use wasi_abi::{Answer, Kind};
+
+/// Answers that are handed out in their order, whatever is asked for. Contracts see the list of those
+/// that are left. It never fails, and handing one out takes no memory.
+#[derive(Debug, Drop)]
+pub struct AnswerList {
+    left: VecDeque<Answer>,
+}
+
+impl Model for AnswerList {
+    ghost use Rattle.std.specs.Prelude.{List};
+    ghost use Rattle.wasi_abi.specs.declared.answer.Answer.{Answer};
+
+    ghost Value = { List Answer };
+
+    ghost view = { λ a. a.left.items };
+}
+
+impl AnswerList {
+    /// Takes the vector as it is.
+    pub fn new(answers: Vec<Answer>) -> Self
+        ensures { result ≡ answers.items }
+    {
+        AnswerList {
+            left: VecDeque::from(answers),
+        }
+    }
+}
+
+impl Source for AnswerList {
+    ghost use Rattle.record_replay.specs.Lists.{HandsOut};
+
+    ghost gives = { λ old _ said new. HandsOut old said new };
+
+    fn answer(&mut self, _kind: Kind) -> Result<Option<Answer>, SourceFault> {
+        Ok(self.left.pop_front())
+    }
+}

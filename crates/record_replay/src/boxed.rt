@@ -1,0 +1,36 @@
+//! Any source and any outlet, in boxes that `main` or a test makes.
+
+use crate::{Outlet, OutletFault, Source, SourceFault};
+use wasi_abi::{Answer, Kind};
+
+/// A source that is known only when the program runs. It means what the source in the box means.
+#[derive(Drop)]
+pub struct AnySource(pub Box<dyn Source + Drop>);
+
+impl Source for AnySource {
+    ghost use Rattle.std.specs.Prelude.{◌≡◌};
+
+    // The source in the box answered, and the box holds what it became.
+    ghost gives = { λ s kind said after. (x : _) × (Source-box s.0).gives s.0.value kind said x
+        × (after ≡ record s { 0 = record s.0 { value = x } }) };
+
+    fn answer(&mut self, kind: Kind) -> Result<Option<Answer>, SourceFault> {
+        (*self.0).answer(kind)
+    }
+}
+
+/// An outlet that is known only when the program runs. It means what the outlet in the box means.
+#[derive(Drop)]
+pub struct AnyOutlet(pub Box<dyn Outlet + Drop>);
+
+impl Outlet for AnyOutlet {
+    ghost use Rattle.std.specs.Prelude.{◌≡◌};
+
+    // The outlet in the box took the line, and the box holds what it became.
+    ghost takes = { λ o number line said after. (x : _) × (Outlet-box o.0).takes o.0.value number line said x
+        × (after ≡ record o { 0 = record o.0 { value = x } }) };
+
+    fn release(&mut self, number: u64, stream: u8, text: &[u8]) -> Result<(), OutletFault> {
+        (*self.0).release(number, stream, text)
+    }
+}
