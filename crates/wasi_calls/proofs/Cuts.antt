@@ -1,0 +1,129 @@
+-- Bytes of a stream, cut one after another: what goes on, what stands in front, and what stays true of the unfinished line.
+use Rattle.std.proofs.Common.{◌≡◌, ◌≢◌, inl, inr, ℕ, suc, ◌+◌, ◌<◌, ◌≤◌, List, [], ◌∷◌, ◌++◌, length, drop, get_or, refl, sym, ap, ◌∙◌, arith, append_assoc, drop-cons, add-one, length-append}
+use Rattle.std.specs.Prelude.{Bool, true, false, if◌then◌else◌, ◌==◌, nat_lt}
+use Rattle.std.specs.List.{AllByRecursion}
+use Rattle.std.proofs.lemmas.Bool.{ltb-true, eqb-false}
+use Rattle.std.proofs.lemmas.Bool.Decides.{eqb_tells}
+use Rattle.std.proofs.lemmas.List.{append-nil}
+use Rattle.wasi_abi.specs.Answers.{newline, IsNoNewline}
+use Rattle.wasi_calls_rows.specs.Hosts.{Line, IsUnfinished}
+use Rattle.wasi_calls_rows.specs.Lines.{Cut, cut_byte, cut_all, rest_of}
+use Rattle.wasi_calls.specs.Outputs.{Output, output_written, left_lines, ended_by}
+use Rattle.wasi_calls_rows.specs.declared.limits.TheConstants.{LINE_BYTES}
+
+-- ---- one more byte of a list
+
+pub cut_more : (stream : ℕ) (c d total : Cut) (bytes : List ℕ) (i x : ℕ) → i < length bytes → x ≡ get_or bytes i 0 → d ≡ cut_byte stream c x
+    → cut_all stream c (drop i bytes) ≡ total → cut_all stream d (drop (i + 1) bytes) ≡ total
+cut_more stream c d total bytes i x lt at is so_far =
+    let split : drop i bytes ≡ x ∷ drop (i + 1) bytes = rw (add-one, drop-cons bytes i 0) (ap (λ (y : ℕ). y ∷ drop (suc i) bytes) (sym at)) in
+    ap (λ (e : Cut). cut_all stream e (drop (i + 1) bytes)) is ∙ sym (ap (cut_all stream c) split) ∙ so_far
+
+-- ---- lines in front
+
+-- the cut with other lines in front of its own
+abbrev pub behind_cut : List Line → Cut → Cut
+behind_cut before c = record { lines = before ++ c.lines; unfinished = c.unfinished }
+
+-- a byte that ends the line, or begins the next one
+abbrev put_by : ℕ → Cut → ℕ → Bool → Bool → Cut
+put_by stream c b is_end is_short =
+    if is_end then record { lines = c.lines ++ record { stream = stream; text = c.unfinished } ∷ []; unfinished = [] }
+    else if is_short then record { lines = c.lines; unfinished = c.unfinished ++ b ∷ [] }
+    else record { lines = c.lines ++ record { stream = stream; text = c.unfinished } ∷ []; unfinished = b ∷ [] }
+
+put_behind : (before : List Line) (stream : ℕ) (c : Cut) (b : ℕ) (p q : Bool) → put_by stream (behind_cut before c) b p q ≡ behind_cut before (put_by stream c b p q)
+put_behind before stream c b true q = rw append_assoc refl
+put_behind before stream c b false true = refl
+put_behind before stream c b false false = rw append_assoc refl
+
+byte_behind : (before : List Line) (stream : ℕ) (c : Cut) (b : ℕ) → cut_byte stream (behind_cut before c) b ≡ behind_cut before (cut_byte stream c b)
+byte_behind before stream c b = put_behind before stream c b (b == newline) (nat_lt (length c.unfinished) LINE_BYTES)
+
+pub all_behind : (before : List Line) (stream : ℕ) (c : Cut) (bytes : List ℕ) → cut_all stream (behind_cut before c) bytes ≡ behind_cut before (cut_all stream c bytes)
+all_behind before stream c [] = refl
+all_behind before stream c (b ∷ bytes) = rw (byte_behind before stream c b) (all_behind before stream (cut_byte stream c b) bytes)
+
+-- ---- the unfinished line
+
+all_push : (xs : List ℕ) (b : ℕ) → AllByRecursion IsNoNewline xs → IsNoNewline b → AllByRecursion IsNoNewline (xs ++ b ∷ [])
+all_push [] b h k = (k, tt)
+all_push (x ∷ xs) b h k = (h.0, all_push xs b h.1 k)
+
+put_unfinished : (stream : ℕ) (c : Cut) (b : ℕ) (p q : Bool) → (b == newline) ≡ p → nat_lt (length c.unfinished) LINE_BYTES ≡ q
+    → IsUnfinished c.unfinished → IsUnfinished (put_by stream c b p q).unfinished
+put_unfinished stream c b true q is at h = (omega arith, tt)
+put_unfinished stream c b false true is at h =
+    let short : length c.unfinished < LINE_BYTES = ltb-true _ _ at in
+    (omega (arith, length-append c.unfinished (b ∷ [])), all_push c.unfinished b h.1 (eqb-false _ _ is))
+put_unfinished stream c b false false is at h = (omega arith, (eqb-false _ _ is, tt))
+
+byte_unfinished : (stream : ℕ) (c : Cut) (b : ℕ) → IsUnfinished c.unfinished → IsUnfinished (cut_byte stream c b).unfinished
+byte_unfinished stream c b h = put_unfinished stream c b (b == newline) (nat_lt (length c.unfinished) LINE_BYTES) refl refl h
+
+pub all_unfinished : (stream : ℕ) (c : Cut) (bytes : List ℕ) → IsUnfinished c.unfinished → IsUnfinished (cut_all stream c bytes).unfinished
+all_unfinished stream c [] h = h
+all_unfinished stream c (b ∷ bytes) h = all_unfinished stream (cut_byte stream c b) bytes (byte_unfinished stream c b h)
+
+-- ---- what one write makes of lines that wait
+
+-- the lines that were emitted before don't matter
+pub from_nothing : (stream : ℕ) (before : List Line) (text bytes : List ℕ)
+    → cut_all stream (record { lines = before; unfinished = text }) bytes ≡ behind_cut before (cut_all stream (record { lines = []; unfinished = text }) bytes)
+from_nothing stream before text bytes =
+    let start : record { lines = before; unfinished = text } ≡ behind_cut before (record { lines = []; unfinished = text }) = ap (λ (ls : List Line). record { lines = ls; unfinished = text }) (sym (append-nil before)) in
+    ap (λ (c : Cut). cut_all stream c bytes) start ∙ all_behind before stream (record { lines = []; unfinished = text }) bytes
+
+module _ (stream : ℕ) (before lines after : List Line) (text rest bytes : List ℕ) (c : Cut)
+    (is : c ≡ cut_all stream (record { lines = []; unfinished = text }) bytes) (cut : lines ≡ c.lines) (left : rest ≡ c.unfinished) (put : after ≡ before ++ lines) where
+  pub written_lines : after ≡ (cut_all stream (record { lines = before; unfinished = text }) bytes).lines
+  written_lines =
+      put ∙ ap (λ (ls : List Line). before ++ ls) (cut ∙ ap (λ (d : Cut). d.lines) is) ∙ sym (ap (λ (d : Cut). d.lines) (from_nothing stream before text bytes))
+
+  pub written_rest : rest ≡ (cut_all stream (record { lines = before; unfinished = text }) bytes).unfinished
+  written_rest = left ∙ ap (λ (d : Cut). d.unfinished) is ∙ sym (ap (λ (d : Cut). d.unfinished) (from_nothing stream before text bytes))
+
+-- ---- two lines are left at most
+
+one_rest : (stream : ℕ) (text : List ℕ) → length (rest_of stream text) ≤ 1
+one_rest stream [] = omega arith
+one_rest stream (b ∷ text) = omega arith
+
+pub two_left : (o : Output) → length (left_lines o) ≤ 2
+two_left o =
+    let one : length (rest_of 1 o.first) ≤ 1 = one_rest 1 o.first in
+    let two : length (rest_of 2 o.second) ≤ 1 = one_rest 2 o.second in
+    omega (arith, length-append (rest_of 1 o.first) (rest_of 2 o.second))
+
+-- ---- equal outputs
+
+abbrev pub output_of : List ℕ → List ℕ → List Line → ℕ → Output
+output_of first second waiting released = record { first = first; second = second; waiting = waiting; released = released }
+
+pub same_output : (a b c d : List ℕ) (v w : List Line) (n : ℕ) → a ≡ b → c ≡ d → v ≡ w → output_of a c v n ≡ output_of b d w n
+same_output a b c d v w n e f g = rw (e, f, g) refl
+
+-- ---- how many lines there are
+
+put_counted : (stream : ℕ) (c : Cut) (b : ℕ) (bytes : List ℕ) (p q : Bool)
+    → length (put_by stream c b p q).lines + ended_by (length (put_by stream c b p q).unfinished) bytes
+    ≡ length c.lines + (if p then ended_by 0 bytes + 1 else if q then ended_by (length c.unfinished + 1) bytes else ended_by 1 bytes + 1)
+put_counted stream c b bytes true q = omega (arith, length-append c.lines (record { stream = stream; text = c.unfinished } ∷ []))
+put_counted stream c b bytes false true =
+    let longer : length (c.unfinished ++ b ∷ []) ≡ length c.unfinished + 1 = length-append c.unfinished (b ∷ []) in
+    ap (λ (n : ℕ). length c.lines + ended_by n bytes) longer
+put_counted stream c b bytes false false = omega (arith, length-append c.lines (record { stream = stream; text = c.unfinished } ∷ []))
+
+pub lines_counted : (stream : ℕ) (c : Cut) (bytes : List ℕ) → length (cut_all stream c bytes).lines ≡ length c.lines + ended_by (length c.unfinished) bytes
+lines_counted stream c [] = omega arith
+lines_counted stream c (b ∷ bytes) = lines_counted stream (cut_byte stream c b) bytes ∙ put_counted stream c b bytes (b == newline) (nat_lt (length c.unfinished) LINE_BYTES)
+
+module _ (s n : ℕ) (bytes : List ℕ) (o : Output) where
+  pub first_counted : s ≡ 1 → n ≡ ended_by (length o.first) bytes → length (output_written s bytes o).waiting ≡ length o.waiting + n
+  first_counted e is = rw (e, is) (lines_counted 1 (record { lines = o.waiting; unfinished = o.first }) bytes)
+
+  pub second_counted : s ≢ 1 → n ≡ ended_by (length o.second) bytes → length (output_written s bytes o).waiting ≡ length o.waiting + n
+  second_counted e is = elim (eqb_tells s 1) [
+    | inl h ↦ absurd (e h.1)
+    | inr h ↦ rw (h.0, is) (lines_counted 2 (record { lines = o.waiting; unfinished = o.second }) bytes)
+  ]

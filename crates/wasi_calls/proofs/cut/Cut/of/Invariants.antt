@@ -1,0 +1,7 @@
+use Rattle.std.proofs.Common.{◌≡◌, [], drop}
+use Rattle.wasi_calls_rows.specs.Lines.{cut_all}
+use Rattle.wasi_calls.proofs.cut.Cut.of.Given as goal
+
+abbrev pub invariant-loop-byte : goal.invariant-loop-byte
+invariant-loop-byte l =
+    cut_all l.stream l.cut (drop l.byte-index l.bytes) ≡ cut_all l.stream (record { lines = []; unfinished = l.fn.unfinished }) l.bytes

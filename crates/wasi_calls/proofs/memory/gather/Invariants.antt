@@ -1,0 +1,9 @@
+use Rattle.std.proofs.Common.{◌≡◌, ◌≤◌, ◌+◌, ◌-◌, ◌*◌, [], length}
+use Rattle.wasi_calls_rows.specs.declared.limits.TheConstants.{MOVED_BYTES}
+use Rattle.wasi_calls.proofs.Gathers.{collected}
+use Rattle.wasi_calls.proofs.memory.gather.Given as goal
+
+abbrev pub invariant-loop-place : goal.invariant-loop-place
+invariant-loop-place l =
+    (l.iovecs + 8 * l.count ≤ length l.memory.bytes) × (length l.bytes.items ≤ MOVED_BYTES)
+    × (collected l.memory.bytes (l.iovecs + 8 * l.place) (l.count - l.place) l.bytes.items ≡ collected l.memory.bytes l.iovecs l.count [])

@@ -1,0 +1,54 @@
+-- What is told of a call, and of which calls (this project's own).
+use Rattle.std.specs.Prelude.{◌≡◌, ℕ, ◌<◌, ◌^◌, List, [], ◌∷◌, length, Some, None, Result, Ok, Err}
+use Rattle.wasm_syntax.specs.declared.types.ValueType.{ValueType}
+use Rattle.wasm_syntax.specs.declared.types.ValueType.TheVariants.{I32, I64}
+use Rattle.guest_memory.specs.Memories.{LinearMemory}
+use Rattle.wasi_abi.specs.declared.call.Call.{Call}
+use Rattle.wasi_abi.specs.declared.call.Call.TheVariants as call
+use Rattle.wasi_calls_rows.specs.Checks.{Bytes, Done, Row, Refuses, Asks, Ends}
+use Rattle.wasi_calls_rows.specs.Rows.{Told, IsDone, IsAsk, IsExit, NoMemory}
+use Rattle.wasi_calls.specs.declared.outcome.Outcome.{Outcome}
+use Rattle.wasi_calls.specs.declared.outcome.Outcome.TheVariants as outcome
+use Rattle.wasi_calls.specs.declared.stop.Stop.{Stop}
+use Rattle.wasi_calls.specs.declared.stop.Stop.TheVariants as stop
+use Rattle.wasi_calls.specs.Held.{Held, ShowsHost}
+
+-- the calls that are built
+abbrev pub IsBuilt : Call → Type 0
+IsBuilt call.FdWrite = Unit {0}
+IsBuilt call.ProcExit = Unit {0}
+IsBuilt _ = ⊥
+
+-- one number a parameter, each of its type
+abbrev pub AreArguments : List ValueType → List ℕ → Type 0
+AreArguments [] [] = Unit {0}
+AreArguments (I32 ∷ types) (n ∷ numbers) = (n < 2 ^ 32) × AreArguments types numbers
+AreArguments (I64 ∷ types) (n ∷ numbers) = (n < 2 ^ 64) × AreArguments types numbers
+AreArguments [] (n ∷ numbers) = ⊥
+AreArguments (t ∷ types) [] = ⊥
+
+abbrev pub told_of : Outcome → Told
+told_of (outcome.Done e) = IsDone e
+told_of (outcome.Ask kind) = IsAsk kind
+told_of (outcome.Exit code) = IsExit code
+told_of outcome.Memory = NoMemory
+
+-- how a call ends that is done, or stopped
+abbrev pub outcome_of : Result (Unit {0}) Stop → Outcome
+outcome_of (Ok done) = outcome.Done None
+outcome_of (Err (stop.Refused e)) = outcome.Done (Some e)
+outcome_of (Err stop.Memory) = outcome.Memory
+
+-- What a caller is told is what the row says of a host that was shown before. After a call that is done the host of the row
+-- is shown. All other outcomes leave memory and host as they were.
+abbrev pub ShowsRow : Told → Bytes → Held → Bytes → Held → Row → Type 0
+ShowsRow (IsDone None) m held old_m old row = (done : Done) × (row ≡ Ok done) × (m ≡ done.memory) × ShowsHost held done.host
+ShowsRow (IsDone (Some e)) m held old_m old row = (row ≡ Err (Refuses e)) × (m ≡ old_m) × (held ≡ old)
+ShowsRow (IsAsk kind) m held old_m old row = (row ≡ Err (Asks kind)) × (m ≡ old_m) × (held ≡ old)
+ShowsRow (IsExit code) m held old_m old row = (row ≡ Err (Ends code)) × (m ≡ old_m) × (held ≡ old)
+ShowsRow NoMemory m held old_m old row = (m ≡ old_m) × (held ≡ old)
+
+-- as long as it was, with the same limit
+pub record IsAsLarge (old new : LinearMemory) : Type 0 where
+  pub size : length new.bytes ≡ length old.bytes
+  pub limit : new.limit ≡ old.limit

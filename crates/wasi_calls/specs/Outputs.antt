@@ -1,0 +1,39 @@
+-- The two output streams as the code keeps them (this project's own).
+use Rattle.std.specs.Prelude.{ℕ, ◌+◌, ◌==◌, ◌≤◌, nat_lt, if◌then◌else◌, List, [], ◌∷◌, ◌++◌, length}
+use Rattle.wasi_abi.specs.Answers.{newline}
+use Rattle.wasi_calls_rows.specs.Hosts.{Line}
+use Rattle.wasi_calls_rows.specs.Lines.{cut_all, rest_of}
+use Rattle.wasi_calls_rows.specs.declared.limits.TheConstants.{LINE_BYTES}
+
+-- the unfinished lines of streams 1 and 2, the emitted lines that wait, and how many went before them
+pub record Output : Type 0 where
+  pub first : List ℕ
+  pub second : List ℕ
+  pub waiting : List Line
+  pub released : ℕ
+
+abbrev pub no_output : Output
+no_output = record { first = []; second = []; waiting = []; released = 0 }
+
+-- bytes written to stream 1 or 2
+abbrev pub output_written : ℕ → List ℕ → Output → Output
+output_written stream bytes o =
+    if stream == 1
+    then (let c = cut_all 1 (record { lines = o.waiting; unfinished = o.first }) bytes in record o { waiting = c.lines; first = c.unfinished })
+    else (let c = cut_all 2 (record { lines = o.waiting; unfinished = o.second }) bytes in record o { waiting = c.lines; second = c.unfinished })
+
+-- the lines that an end emits
+abbrev pub left_lines : Output → List Line
+left_lines o = rest_of 1 o.first ++ rest_of 2 o.second
+
+abbrev pub output_ended : Output → Output
+output_ended o = record o { waiting = o.waiting ++ left_lines o; first = []; second = [] }
+
+-- there is room for as many lines as wait and an end would emit
+abbrev pub HasRoom : ℕ → Output → Type 0
+HasRoom places o = length o.waiting + length (left_lines o) ≤ places
+
+-- how many lines bytes end, where so many bytes are unfinished before them
+abbrev pub ended_by : ℕ → List ℕ → ℕ
+ended_by len [] = 0
+ended_by len (b ∷ bytes) = if b == newline then ended_by 0 bytes + 1 else if nat_lt len LINE_BYTES then ended_by (len + 1) bytes else ended_by 1 bytes + 1

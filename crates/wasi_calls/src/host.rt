@@ -1,0 +1,195 @@
+//! The host's side of a process.
+
+ghost use Rattle.std.specs.Prelude.{true, false, ◌≡◌, ◌+◌, ◌*◌, ◌<◌, ◌≤◌, ◌^◌, ◌++◌, length, IfOk, OnOk, OnErr};
+ghost use Rattle.file_tree.specs.declared.limits.TheConstants.{UNIT_BYTES};
+ghost use Rattle.wasi_calls_rows.specs.Hosts.{Host as TheHost, IsThere, IsHost, first_descriptors, first_host};
+ghost use Rattle.wasi_calls_rows.specs.Checks.{opened, is_stream, names_directory};
+ghost use Rattle.wasi_calls_rows.specs.Lines.{stream_written, rest_of, lines_ended};
+ghost use Rattle.wasi_calls.specs.Steps.{Gives};
+ghost use Rattle.wasi_calls.specs.Writes.{writable};
+
+use crate::descriptor::{Descriptor, Names};
+use crate::files::Files;
+use crate::line::Line;
+use crate::streams::Streams;
+use std::alloc::{AllocError, Global};
+use std::marker::Model;
+use wasi_abi::{Config, Errno, Rights};
+use wasi_calls_rows::limits::DESCRIPTORS;
+
+/// The number of the root.
+const ROOT: u64 = 1;
+
+/// Descriptors that a process begins with: three streams and the root.
+const OPENED: usize = 4;
+
+/// Files, descriptors and streams of a process, and what it was configured with. Contracts see the
+/// host of the rules, whose lines are those that wait, and how many were released before.
+#[derive(Drop)]
+pub struct Host {
+    config: Config,
+    limit: usize,
+    files: Files,
+    descriptors: Vec<Option<Descriptor>>,
+    unread: Vec<u8>,
+    input_ended: bool,
+    last_monotonic: u64,
+    streams: Streams,
+}
+
+impl Model for Host {
+    ghost use Rattle.wasi_calls_rows.specs.Hosts.{IsHost};
+    ghost use Rattle.wasi_calls.specs.Held.{Held, held_of};
+
+    ghost Value = { Held };
+
+    ghost view = { λ h. held_of h.config h.limit h.files h.descriptors.items h.unread.items h.input_ended h.last_monotonic h.streams };
+
+    ghost invariant = { λ h. IsHost (held_of h.config h.limit h.files h.descriptors.items h.unread.items h.input_ended h.last_monotonic h.streams).host };
+}
+
+impl Host {
+    ghost use Rattle.wasi_calls.specs.Held.{Held, ShowsHost, held_ended, held_released};
+    ghost use Rattle.wasi_calls.specs.Views.{target_of};
+
+    /// The host of a process that begins. `limit` is that of a request's text and of random bytes. It
+    /// fails for want of memory alone.
+    pub fn new(alloc: Global, config: Config, limit: usize) -> Result<Host, AllocError>
+        ensures { IfOk result (λ h. h ≡ record { released = 0; host = first_host (config.files * UNIT_BYTES) limit config.arguments config.environment }) }
+    {
+        Ok(Host {
+            config,
+            limit,
+            files: Files::new(),
+            descriptors: begin(alloc)?,
+            unread: Vec::new(alloc),
+            input_ended: false,
+            last_monotonic: 0,
+            streams: Streams::new(alloc),
+        })
+    }
+
+    /// What a descriptor names, where it can be written to.
+    pub(crate) fn writable(&self, fd: u32) -> Result<Names, Errno>
+        ensures gives { Gives target_of result (writable self.now.host fd) }
+        ensures stream { IfOk result (λ names. is_stream (target_of names) ≡ true) }
+    {
+        let descriptor = self.opened(fd)?;
+        let names = descriptor.names();
+        if self.is_directory(names) {
+            return Err(Errno::Isdir);
+        }
+        if !descriptor.base().has(Rights::FD_WRITE) {
+            return Err(Errno::Notcapable);
+        }
+        Ok(names)
+    }
+
+    fn opened(&self, fd: u32) -> Result<&Descriptor, Errno>
+        ensures gives { Gives (λ d. d.now) result (opened self.now.host fd) }
+        ensures shape { IsHost self.now.host }
+    {
+        match self.descriptors.get(fd as usize) {
+            Some(Some(descriptor)) => Ok(descriptor),
+            _ => Err(Errno::Badf),
+        }
+    }
+
+    fn is_directory(&self, names: Names) -> bool
+        ensures value { result ≡ names_directory self.now.host (target_of names) }
+        ensures no_files { is_stream (target_of names) ≡ false → IsThere self.now.host.files (target_of names) → result ≡ true }
+    {
+        match names {
+            Names::Stream(_) => false,
+            Names::Node(node) => self.files.is_directory(node),
+        }
+    }
+
+    /// Writes bytes to stream 1, or else to 2. It fails for want of memory alone, and changes nothing then.
+    pub(crate) fn write(
+        &mut self,
+        alloc: Global,
+        stream: u8,
+        bytes: &[u8],
+    ) -> Result<(), AllocError>
+        ensures written { OnOk result (self.new ≡ record self.old { host = stream_written stream bytes.now self.old.host }) }
+        ensures unchanged { OnErr result (self.new ≡ self.old) }
+    {
+        self.streams.write(alloc, stream, bytes)?;
+        Ok(())
+    }
+
+    /// How many lines a write of these bytes would emit. It takes no memory.
+    pub(crate) fn lines_of(&self, stream: u8, bytes: &[u8]) -> usize
+        ensures value { length (stream_written stream bytes.now self.now.host).lines ≡ length self.now.host.lines + result }
+        ensures few { result ≤ length bytes.now }
+    {
+        self.streams.lines_of(stream, bytes)
+    }
+
+    /// How many lines the end of the process would emit.
+    pub fn lines_left(&self) -> usize
+        ensures value { result ≡ length (rest_of 1 self.now.host.first ++ rest_of 2 self.now.host.second) }
+        ensures few { result ≤ 2 }
+    {
+        self.streams.lines_left()
+    }
+
+    /// The lines that wait to be released, in the order in which they were emitted.
+    pub fn waiting(&self) -> &[Line]
+        ensures lines { result.now ≡ self.now.host.lines }
+        ensures shape { IsHost self.now.host }
+    {
+        self.streams.waiting()
+    }
+
+    /// How many lines were released: the first one that waits has the next number, and numbers begin at 1.
+    pub fn released(&self) -> u64
+        ensures { result ≡ self.now.released }
+    {
+        self.streams.released()
+    }
+
+    /// The first so many lines that wait are released.
+    pub fn release(&mut self, count: usize)
+        requires there { count ≤ length self.old.host.lines }
+        requires counted { self.old.released + count < 2 ^ 64 }
+        ensures changed { self.new ≡ held_released count self.old }
+        ensures shown { (h : TheHost) → ShowsHost self.old h → ShowsHost self.new h }
+    {
+        self.streams.release(count);
+    }
+
+    /// What the process was configured with.
+    pub fn config(&self) -> &Config
+        ensures arguments { result.now.arguments ≡ self.now.host.arguments }
+        ensures environment { result.now.environment ≡ self.now.host.environment }
+        ensures room { result.now.files * UNIT_BYTES ≡ self.now.host.room }
+    {
+        &self.config
+    }
+
+    /// Emits what is not finished, as the end of a process does. It takes no memory.
+    pub fn end(&mut self, alloc: Global)
+        ensures changed { self.new ≡ held_ended self.old }
+        ensures shown { (h : TheHost) → ShowsHost self.old h → ShowsHost self.new (lines_ended h) }
+    {
+        self.streams.end(alloc);
+    }
+}
+
+/// The descriptors that a process begins with.
+fn begin(alloc: Global) -> Result<Vec<Option<Descriptor>>, AllocError>
+    ensures { IfOk result (λ v. v.items ≡ first_descriptors) }
+{
+    let mut descriptors = Vec::with_capacity(alloc, DESCRIPTORS)?;
+    descriptors.push(Some(Descriptor::stream(0, Rights::INPUT)))?;
+    descriptors.push(Some(Descriptor::stream(1, Rights::OUTPUT)))?;
+    descriptors.push(Some(Descriptor::stream(2, Rights::OUTPUT)))?;
+    let root = Descriptor::directory(ROOT, Rights::DIRECTORY, Rights::ALL);
+    descriptors.push(Some(root))?;
+    for _ in OPENED..DESCRIPTORS {
+        descriptors.push(None)?;
+    }
+    Ok(descriptors)
+}
