@@ -1,0 +1,4 @@
+pub mod Values
+pub mod Runs
+pub mod Insides
+pub mod Lends

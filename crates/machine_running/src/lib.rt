@@ -12,4 +12,5 @@ pub mod turn;
 
 pub use code::Code;
 pub use pause::{Arguments, Pause, Paused};
+pub use running::go_on;
 pub use state::State;

@@ -266,18 +266,24 @@ pub programs_typed : ProgramsTyped
 programs_typed pages m functions program few v h b =
     subst (λ fs. IsTypedProgram (module_context m fs) program) (same_types m v functions h) (program_typed m pages program v b few)
 
-pub begins_typed : BeginsTyped
-begins_typed offer pages m functions program d none few v h link b =
-    let typed = program_typed m pages program v b.is_program few in
-    let kinds = callee_kinds m (imported_functions m.imports) m.functions program.functions v.functions b.is_program.functions v.function_types in
+-- before the host's first call, too, it is typed
+pub first_typed : (offer : Offer) (pages : ℕ) (m : Module) (functions : List FunctionType) (program : Program) (store : Store) → OffersNoEntry offer → IsValid m → AreFunctionTypes m functions → (link : IsLinkable offer pages m) → IsProgram m pages program → IsInitialStore m store → IsTyped (module_context m functions) program (record { store = store; thread = []; later = calls_of m.start link.entry })
+first_typed offer pages m functions program store none v h link b is_store =
+    let kinds = callee_kinds m (imported_functions m.imports) m.functions program.functions v.functions b.functions v.function_types in
     let same = types_once m.types (imported_functions m.imports ++ map function_type_of m.functions) link.has_entry.functions v.functions link.has_entry.function_types v.function_types in
     let at : slice_get (map kind_of program.functions) link.entry ≡ Some link.has_entry.kind = (rw (same, kinds) at link.has_entry.is) in
-    let last = entry_of offer m program link.entry link.has_entry.kind none link.imports b.is_program.functions at link.has_entry.no_parameters link.has_entry.no_results in
-    let begun : IsTyped (module_context m v.functions) program (record { store = b.store; thread = []; later = calls_of m.start link.entry }) = record {
-      store = store_typed offer pages m program v link b.is_program b.store b.is_store;
+    let last = entry_of offer m program link.entry link.has_entry.kind none link.imports b.functions at link.has_entry.no_parameters link.has_entry.no_results in
+    let begun : IsTyped (module_context m v.functions) program (record { store = store; thread = []; later = calls_of m.start link.entry }) = record {
+      store = store_typed offer pages m program v link b store is_store;
       thread = tt;
-      later = calls_typed offer m program v.functions m.start link.entry none link.imports b.is_program.functions kinds v.start last;
+      later = calls_typed offer m program v.functions m.start link.entry none link.imports b.functions kinds v.start last;
     } in
-    let settled = settles_typed (module_context m v.functions) program (record { store = b.store; thread = []; later = calls_of m.start link.entry }) d typed begun b.settles in
-    let P : List FunctionType → Type 0 = λ fs. IsTypedProgram (module_context m fs) program × IsTyped (module_context m fs) program d × IsSettled program d in
-    subst P (same_types m v functions h) (typed, settled.0, settled.1)
+    let P : List FunctionType → Type 0 = λ fs. IsTyped (module_context m fs) program (record { store = store; thread = []; later = calls_of m.start link.entry }) in
+    subst P (same_types m v functions h) begun
+
+pub begins_typed : BeginsTyped
+begins_typed offer pages m functions program d none few v h link b =
+    let typed = programs_typed pages m functions program few v h b.is_program in
+    let begun = first_typed offer pages m functions program b.store none v h link b.is_program b.is_store in
+    let settled = settles_typed (module_context m functions) program (record { store = b.store; thread = []; later = calls_of m.start link.entry }) d typed begun b.settles in
+    (typed, settled.0, settled.1)

@@ -1,0 +1,86 @@
+-- What linking makes.
+use Rattle.std.proofs.Common.{◌≡◌, ℕ, ◌≤◌, ◌^◌, List, [], Some, refl, sym, ap, ◌∙◌, subst, arith}
+use Rattle.std.specs.Prelude.{Option}
+use Rattle.wasm_syntax.specs.declared.types.FunctionType.{FunctionType}
+use Rattle.wasm_syntax.specs.declared.value.Value.{Value}
+use Rattle.wasm_syntax.specs.declared.module.Module.{Module}
+use Rattle.wasm_syntax_rules.specs.Validity.{AreFunctionTypes, memories_of}
+use Rattle.wasm_syntax_rules.specs.Configuration.{Program, Store, Configuration}
+use Rattle.wasm_syntax_rules.specs.Instantiation.{IsProgram, IsInitialStore, most_pages_of, calls_of, Begins}
+use Rattle.wasm_syntax_rules.specs.Steps.{Settles}
+use Rattle.wasm_syntax_rules.proofs.OneRun.{settles_once}
+use Rattle.machine_instance.proofs.Constant.{initial_once}
+use Rattle.machine_running.specs.declared.code.Code.{Code}
+use Rattle.machine_running.specs.declared.state.State.{State}
+use Rattle.machine_running.specs.declared.pause.Paused.{Paused}
+use Rattle.machine_running.specs.Codes.{Stands, IsStanding}
+use Rattle.machine_running.specs.Pauses.{Pauses}
+use Rattle.machine_hosting.specs.declared.starting.Beginning.{Beginning}
+use Rattle.machine_hosting.specs.Beginnings.{first, HasBegun as HasStarted}
+use Rattle.machine.specs.Values.{IsProgramIn, ShowsIn}
+use Rattle.machine.specs.Runs.{HasBegun}
+use Rattle.machine.specs.Insides.{seen, IsMemoryFor, IsMachine}
+use Rattle.machine.proofs.Inside.{settled_with, shown}
+use Rattle.machine.proofs.AtOnce.{SettlesIn, at_once}
+
+some_once : {X : Type 0} (o : Option X) (x y : X) → o ≡ Some x → o ≡ Some y → x ≡ y
+some_once o x y e f = cc
+
+abbrev pub store_of : List ℕ → List Value → List (Option ℕ) → Store
+store_of memory globals table = record { memory = memory; globals = globals; table = table }
+
+store_is : (a b : Store) → a.memory ≡ b.memory → a.globals ≡ b.globals → a.table ≡ b.table → a ≡ b
+store_is a b x y z = let whole : store_of a.memory a.globals a.table ≡ store_of b.memory b.globals b.table = rw (x, y, z) refl in whole
+
+store_once : (m : Module) (a b : Store) → IsInitialStore m a → IsInitialStore m b → a ≡ b
+store_once m a b h k =
+    let globals : a.globals ≡ b.globals = initial_once m.globals a.globals b.globals h.globals k.globals in
+    store_is a b (some_once _ a.memory b.memory h.memory (rw globals k.memory)) globals (some_once _ a.table b.table h.table (rw globals k.table))
+
+module _ (pages : ℕ) (m : Module) (b : Beginning) (few : pages ≤ 2 ^ 16) (h : HasStarted pages m b) where
+  pub begin_stands : IsStanding b.code b.state
+  begin_stands = record {
+    functions = h.functions;
+    program = h.program;
+    configuration = first h.linkable.store (calls_of m.start h.linkable.entry);
+    stands = h.stands h.functions h.program h.types h.is_program;
+  }
+
+  module _ (state : State) (paused : Paused) (pauses : Pauses b.code b.state 0 paused state) where
+    settles : (functions : List FunctionType) (program : Program) → AreFunctionTypes m functions → IsProgram m pages program → SettlesIn b.code state functions program (first h.linkable.store (calls_of m.start h.linkable.entry))
+    settles functions program types is =
+        let start = first h.linkable.store (calls_of m.start h.linkable.entry) in
+        at_once b.code state functions program start paused.left paused.why (pauses functions program start (h.stands functions program types is))
+
+    program_in : (functions : List FunctionType) (program : Program) → AreFunctionTypes m functions → IsProgram m pages program → IsProgramIn b.code.«module» b.state.memory.limit functions program
+    program_in functions program types is = record { pages = pages; few = few; is_program = rw h.guest is; most = is.most_pages ∙ sym h.limit; types = rw h.guest types }
+
+    -- one of the limit of memory is one under so many pages
+    under_pages : (functions : List FunctionType) (program : Program) → IsProgramIn b.code.«module» b.state.memory.limit functions program → IsProgram m pages program × AreFunctionTypes m functions
+    under_pages functions program is =
+        let p : IsProgram m is.pages program = subst (λ z. IsProgram z is.pages program) h.guest is.is_program in
+        (record { types = p.types; functions = p.functions; most_pages = is.most ∙ h.limit }, subst (λ z. AreFunctionTypes z functions) h.guest is.types)
+
+    pub linked_machine : IsMachine b.code state b.state.memory.limit
+    linked_machine = record {
+      functions = h.functions;
+      program = h.program;
+      is = program_in h.functions h.program h.types h.is_program;
+      settled = λ memory functions program is_memory is.
+          let under = under_pages functions program is in
+          let after = settles functions program under.1 under.0 in
+          settled_with b.code state functions program after.configuration after.stands memory after.settled (subst (λ z. IsMemoryFor z memory) (sym is.most) is_memory);
+    }
+
+    -- where the module begins is where the beginning settles
+    shows_begun : (program : Program) (d : Configuration) → Begins m pages h.linkable.entry program d → ShowsIn (seen b.code state b.state.memory.limit) program d
+    shows_begun program d begins =
+        let after = settles h.functions program h.types begins.is_program in
+        let stores : begins.store ≡ h.linkable.store = store_once m begins.store h.linkable.store begins.is_store h.linkable.segments in
+        let P : Store → Type 0 = λ z. Settles program (first z (calls_of m.start h.linkable.entry)) d in
+        let same : after.configuration ≡ d = settles_once program (first h.linkable.store (calls_of m.start h.linkable.entry)) after.configuration d after.settles (subst P stores begins.settles) in
+        let Q : Configuration → Type 0 = λ z. ShowsIn (seen b.code state b.state.memory.limit) program z in
+        subst Q same (shown b.code state h.functions program after.configuration after.stands b.state.memory.limit (program_in h.functions program h.types begins.is_program) after.settled)
+
+    pub linked_begun : HasBegun pages m (seen b.code state b.state.memory.limit)
+    linked_begun = record { guest = h.guest; linkable = h.linkable; shows = shows_begun }

@@ -1,0 +1,99 @@
+-- What running makes of a machine.
+use Rattle.std.proofs.Common.{◌≡◌, ℕ, suc, ◌+◌, ◌<◌, List, [], refl, sym, ap, ◌∙◌, subst, arith}
+use Rattle.std.specs.List.{AllByRecursion}
+use Rattle.wasm_syntax.specs.declared.types.FunctionType.{FunctionType}
+use Rattle.guest_memory.specs.Bytes.{IsByte}
+use Rattle.guest_memory.specs.Memories.{LinearMemory, IsWithinLimit}
+use Rattle.wasi_abi.specs.declared.call.Call.{Call}
+use Rattle.wasm_syntax_rules.specs.Configuration.{Program, Configuration}
+use Rattle.wasm_syntax_rules.specs.Steps.{stopped, IsSettled, Steps}
+use Rattle.machine_standing.specs.Walks.{Walks}
+use Rattle.machine_standing.proofs.Walking.{walks_are_steps}
+use Rattle.machine_running.specs.declared.code.Code.{Code}
+use Rattle.machine_running.specs.declared.state.State.{State}
+use Rattle.machine_running.specs.declared.pause.Pause.{Pause}
+use Rattle.machine_running.specs.declared.pause.Pause.TheVariants as pause
+use Rattle.machine_running.specs.declared.pause.Paused.{Paused}
+use Rattle.machine_running.specs.Codes.{Stands, IsStanding}
+use Rattle.machine_running.specs.Pauses.{Comes, AsksFor as CodeAsksFor, PausesFor, Pauses}
+use Rattle.machine.specs.Values.{IsProgramIn, ShowsIn}
+use Rattle.machine.specs.Runs.{Arrives, AsksFor, RunsFor, Runs}
+use Rattle.machine.specs.Insides.{seen, IsMemoryFor, IsSettledIn, IsMachine, with_memory_of}
+use Rattle.machine.proofs.Settled.{ended_settled, asking_settled, trapping_settled}
+use Rattle.machine.proofs.Inside.{settled_with, shown, stood_for}
+
+module _ (code : Code) (new : State) (most : ℕ) (functions : List FunctionType) (program : Program) (d : Configuration) where
+  -- a pause leaves something settled
+  pub pause_settles : (fuel left : ℕ) (why : Pause) → PausesFor code new functions program d fuel left why → IsSettledIn code new functions program
+  pause_settles fuel left pause.Spent h = record { configuration = h.0.configuration; stands = h.0.stands; settled = h.1 }
+  pause_settles fuel left (pause.Host call arguments) h = record { configuration = h.0.configuration; stands = h.0.stands; settled = asking_settled program h.0.configuration h.1.function h.1.operands h.1.waits h.1.asks }
+  pause_settles fuel left pause.Returned h = record { configuration = h.0.configuration; stands = h.0.stands; settled = ended_settled program h.0.configuration h.1 }
+  pause_settles fuel left (pause.Trapped why) h = record { configuration = stopped h.configuration; stands = h.stands; settled = refl }
+
+  module _ (is : IsProgramIn code.«module» most functions program) (before : IsSettled program d) where
+    arrives : (fuel left : ℕ) (come : Comes code new functions program d fuel left) → IsSettled program come.configuration → Arrives (seen code new most) program d fuel left
+    arrives fuel left come e = record {
+      configuration = come.configuration;
+      steps = come.steps;
+      used = come.used;
+      ran = walks_are_steps program come.steps d come.configuration come.walks before e;
+      shows = shown code new functions program come.configuration come.stands most is e;
+    }
+
+    asks_for : (e : Configuration) (call : Call) (arguments : List ℕ) → Stands code new functions program e → CodeAsksFor code program e call arguments → AsksFor code.«module» program e call arguments
+    asks_for e call arguments stands h = record {
+      function = h.function;
+      operands = h.operands;
+      waits = h.waits;
+      asks = h.asks;
+      calls = code.calls.items;
+      are_calls = stands.is_code.calls;
+      is_call = h.is_call;
+      are = h.are;
+    }
+
+    pub runs_for : (fuel left : ℕ) (why : Pause) → PausesFor code new functions program d fuel left why → RunsFor (seen code new most) program d fuel left why
+    unfolding arrives
+    runs_for fuel left pause.Spent h = (arrives fuel left h.0 h.1, h.2, h.3)
+    runs_for fuel left (pause.Host call arguments) h =
+        let e = h.0.configuration in
+        (arrives fuel left h.0 (asking_settled program e h.1.function h.1.operands h.1.waits h.1.asks), asks_for e call arguments h.0.stands h.1, h.2)
+    runs_for fuel left pause.Returned h = (arrives fuel left h.0 (ended_settled program h.0.configuration h.1), h.1)
+    runs_for fuel left (pause.Trapped why) h = record {
+      configuration = h.configuration;
+      steps = h.steps;
+      used = h.used;
+      ran = walks_are_steps program h.steps d h.configuration h.walks before (trapping_settled program h.configuration why h.traps);
+      traps = h.traps;
+      shows = shown code new functions program (stopped h.configuration) h.stands most is refl;
+    }
+
+-- ---- the whole
+
+module _ (code : Code) (old new : State) (most : ℕ) (machine : IsMachine code old most) (holds : old.memory.limit ≡ most) (shape : IsWithinLimit old.memory) (bytes : AllByRecursion IsByte old.memory.bytes) where
+  old_memory : IsMemoryFor most old.memory
+  old_memory = record { limit = holds; shape = shape; bytes = bytes }
+
+  settled_old : (functions : List FunctionType) (program : Program) → IsProgramIn code.«module» most functions program → IsSettledIn code old functions program
+  settled_old functions program is = machine.settled old.memory functions program old_memory is
+
+  pub is_standing : IsStanding code old
+  is_standing =
+      let some = settled_old machine.functions machine.program machine.is in
+      record { functions = machine.functions; program = machine.program; configuration = some.configuration; stands = some.stands }
+
+  pub machine_again : (fuel : ℕ) (paused : Paused) → Pauses code old fuel paused new → IsMachine code new most
+  machine_again fuel paused pauses = record {
+    functions = machine.functions;
+    program = machine.program;
+    is = machine.is;
+    settled = λ memory functions program h is.
+        let some = settled_old functions program is in
+        let after = pause_settles code new most functions program some.configuration fuel paused.left paused.why (pauses functions program some.configuration some.stands) in
+        settled_with code new functions program after.configuration after.stands memory after.settled (subst (λ z. IsMemoryFor z memory) (sym is.most) h);
+  }
+
+  pub runs : (fuel : ℕ) (paused : Paused) → Pauses code old fuel paused new → Runs (seen code old most) fuel paused (seen code new most)
+  runs fuel paused pauses program d shows =
+      let stands = stood_for code old most machine shape bytes program d shows in
+      runs_for code new most shows.functions program d shows.is shows.shows.settled fuel paused.left paused.why (pauses shows.functions program d stands)

@@ -1,0 +1,41 @@
+-- What a machine's code and state stand for, whatever its memory is.
+use Rattle.std.specs.Prelude.{◌≡◌, ℕ, List}
+use Rattle.std.specs.List.{AllByRecursion}
+use Rattle.wasm_syntax.specs.declared.types.FunctionType.{FunctionType}
+use Rattle.guest_memory.specs.Bytes.{IsByte}
+use Rattle.guest_memory.specs.Memories.{LinearMemory, IsWithinLimit}
+use Rattle.wasm_syntax_rules.specs.Configuration.{Program, Configuration}
+use Rattle.wasm_syntax_rules.specs.Steps.{IsSettled}
+use Rattle.machine_threads.specs.Threads.{state_of}
+use Rattle.machine_running.specs.declared.code.Code.{Code}
+use Rattle.machine_running.specs.declared.state.State.{State}
+use Rattle.machine_running.specs.Codes.{held_of, Stands}
+use Rattle.machine.specs.Values.{MachineValue, IsProgramIn}
+
+-- what is seen of them
+abbrev pub seen : Code → State → ℕ → MachineValue
+seen code s most_pages = record { guest = code.«module»; most_pages = most_pages; table = code.table.items; state = state_of (held_of s); limit = s.memory.limit }
+
+-- whole pages of bytes, with this limit
+pub record IsMemoryFor (most_pages : ℕ) (memory : LinearMemory) : Type 0 where
+  pub limit : memory.limit ≡ most_pages
+  pub shape : IsWithinLimit memory
+  pub bytes : AllByRecursion IsByte memory.bytes
+
+-- it stands for some settled configuration of the program
+pub record IsSettledIn (code : Code) (s : State) (functions : List FunctionType) (program : Program) : Type 0 where
+  pub configuration : Configuration
+  pub stands : Stands code s functions program configuration
+  pub settled : IsSettled program configuration
+
+abbrev pub with_memory_of : State → LinearMemory → State
+with_memory_of s memory = record s { memory = memory }
+
+-- The code has a program. With each memory that may be in the place of the state's own, the state stands for some settled
+-- configuration of each program.
+pub record IsMachine (code : Code) (s : State) (most_pages : ℕ) : Type 0 where
+  pub functions : List FunctionType
+  pub program : Program
+  pub is : IsProgramIn code.«module» most_pages functions program
+  pub settled : (memory : LinearMemory) (functions : List FunctionType) (program : Program) → IsMemoryFor most_pages memory → IsProgramIn code.«module» most_pages functions program
+      → IsSettledIn code (with_memory_of s memory) functions program

@@ -1,0 +1,37 @@
+//! From a module to a machine.
+
+ghost use Rattle.std.specs.Prelude.{◌≤◌, IfOk, IfErr};
+ghost use Rattle.std.specs.List.{AllByRecursion};
+ghost use Rattle.wasm_syntax_grammar.specs.Limits.{HasFewParameters, IsSmallFunction};
+ghost use Rattle.wasm_syntax_rules.specs.Linking.{IsLinkable};
+ghost use Rattle.machine_instance.specs.Offers.{offer};
+ghost use Rattle.machine_instance.specs.Refusals.{IsRefused, Denies};
+ghost use Rattle.machine.specs.Runs.{HasBegun};
+
+use crate::running::Machine;
+use guest_memory::MOST_PAGES;
+use machine_hosting::{Beginning, begin};
+use machine_instance::LinkFault;
+use machine_running::go_on;
+use std::alloc::Global;
+use wasm_validate::ValidModule;
+
+/// Links a module to the host, where its memory may have so many pages, takes all memory that running needs, and begins. The fault
+/// is the first in the order of `LinkFault`.
+pub fn link(module: ValidModule, pages: u32, alloc: Global) -> Result<Machine, LinkFault>
+    requires pages { pages ≤ MOST_PAGES }
+    requires types { AllByRecursion HasFewParameters «module».types }
+    requires functions { AllByRecursion IsSmallFunction «module».functions }
+    ensures begun { IfOk result (HasBegun pages «module») }
+    ensures refused { IfErr result (IsRefused pages «module») }
+    ensures only { IfErr result (Denies (IsLinkable offer pages «module»)) }
+{
+    let Beginning { code, mut state } = begin(module, pages, alloc)?;
+    let most_pages = state.memory.limit();
+    let _ = go_on(&code, &mut state, 0);
+    Ok(Machine {
+        code,
+        state,
+        most_pages,
+    })
+}

@@ -1,0 +1,89 @@
+//! A machine and what it does.
+
+ghost use Rattle.std.specs.Prelude.{◌≡◌};
+ghost use Rattle.std.specs.List.{AllByRecursion};
+ghost use Rattle.guest_memory.specs.Bytes.{IsByte};
+ghost use Rattle.guest_memory.specs.Memories.{IsWithinLimit};
+
+use guest_memory::Memory;
+use machine_running::{Code, Paused, State, go_on};
+use std::marker::Model;
+use wasm_validate::ValidModule;
+
+/// A linked module that runs. Contracts see its module and what it shows of a configuration.
+#[derive(Debug, Drop)]
+pub struct Machine {
+    pub(crate) code: Code,
+    pub(crate) state: State,
+    /// How many pages memory may have.
+    pub(crate) most_pages: u32,
+}
+
+impl Model for Machine {
+    ghost use Rattle.machine.specs.Values.{MachineValue};
+    ghost use Rattle.machine.specs.Insides.{seen, IsMachine};
+
+    ghost Value = { MachineValue };
+
+    ghost view = { λ m. seen m.code m.state m.most_pages };
+
+    ghost invariant = { λ m. IsMachine m.code m.state m.most_pages };
+}
+
+/// The bytes are numbers below 256 by their type.
+fn are_bytes(bytes: &[u8])
+    ensures { AllByRecursion IsByte bytes.now }
+{
+    let _ = bytes;
+}
+
+/// What holds of a memory by its type.
+fn is_memory(memory: &Memory)
+    ensures shape { IsWithinLimit memory.now }
+    ensures bytes { AllByRecursion IsByte memory.now.bytes }
+{
+    let _ = memory.len();
+    are_bytes(memory.bytes());
+}
+
+impl Machine {
+    ghost use Rattle.machine.specs.Values.{HoldsMemory, IsSameMachine, memory_of};
+    ghost use Rattle.std.specs.Borrow.{sem};
+    ghost use Rattle.machine.specs.Runs.{Runs};
+    ghost use Rattle.machine.specs.Lends.{LendsMemory};
+
+    /// Applies rules until the program has ended or trapped, a call of the host waits, or so much fuel is spent: one unit for each
+    /// counted rule.
+    pub fn run(&mut self, fuel: u64) -> Paused
+        requires { HoldsMemory self.old }
+        ensures same { IsSameMachine self.old self.new }
+        ensures runs { Runs self.old fuel result self.new }
+    {
+        is_memory(&self.state.memory);
+        go_on(&self.code, &mut self.state, fuel)
+    }
+
+    /// The guest's memory.
+    pub fn memory(&self) -> &Memory
+        ensures { result.now ≡ memory_of self.now }
+    {
+        &self.state.memory
+    }
+
+    /// The guest's memory, to be written. Nothing else changes. With another limit of pages the machine doesn't run.
+    pub fn memory_mut(&mut self) -> &mut Memory
+        ensures* writes_back { sem 𝓛 (LendsMemory self.entry result) }
+        ensures memory { result.now ≡ memory_of self.old }
+    {
+        let state = &mut self.state;
+        &mut state.memory
+    }
+
+    /// Gives the module back. No memory is taken.
+    pub fn unlink(self) -> ValidModule
+        ensures { result ≡ self.guest }
+    {
+        let Machine { code, .. } = self;
+        code.module
+    }
+}

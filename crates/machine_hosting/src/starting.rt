@@ -1,0 +1,70 @@
+//! The beginning of a machine.
+
+ghost use Rattle.std.specs.Prelude.{◌≡◌, ◌≤◌, IfOk, IfErr};
+ghost use Rattle.std.specs.List.{AllByRecursion};
+ghost use Rattle.wasm_syntax_grammar.specs.Limits.{HasFewParameters, IsSmallFunction};
+ghost use Rattle.wasm_syntax_rules.specs.Linking.{IsLinkable};
+ghost use Rattle.machine_instance.specs.Offers.{offer};
+ghost use Rattle.machine_instance.specs.Refusals.{IsRefused, Denies};
+ghost use Rattle.machine_hosting.specs.Beginnings.{IsOfInstance, HasBegun};
+
+use crate::parts::{first_calls, function_kinds, words_of};
+use guest_memory::MOST_PAGES;
+use machine_frames::Frames;
+use machine_instance::{Instance, LinkFault};
+use machine_routines::routines;
+use machine_running::{Code, State};
+use machine_slots::Slots;
+use std::alloc::{AllocError, Global};
+use wasm_validate::ValidModule;
+
+/// What a machine begins with, before the host's first call.
+#[derive(Debug, Drop)]
+pub struct Beginning {
+    pub code: Code,
+    pub state: State,
+}
+
+/// Takes all memory that running needs. Fails only where memory is refused.
+fn prepare(instance: Instance, alloc: Global) -> Result<Beginning, AllocError>
+    requires types { AllByRecursion HasFewParameters instance.«module».types }
+    requires functions { AllByRecursion IsSmallFunction instance.«module».functions }
+    ensures { IfOk result (IsOfInstance instance) }
+{
+    let module = instance.module.module();
+    let kinds = function_kinds(alloc, module)?;
+    let routines = routines(module, alloc)?;
+    let later = first_calls(alloc, module.start, instance.entry)?;
+    let globals = words_of(alloc, instance.globals.as_slice())?;
+    let frames = Frames::new(alloc)?;
+    let slots = Slots::new(alloc)?;
+    let code = Code {
+        module: instance.module,
+        calls: instance.calls,
+        kinds,
+        routines,
+        table: instance.table,
+    };
+    let state = State {
+        frames,
+        slots,
+        globals,
+        memory: instance.memory,
+        later,
+    };
+    Ok(Beginning { code, state })
+}
+
+/// Links a module to the host, under so many pages of memory at most, and takes all memory that running needs. The fault is the
+/// first in the order of `LinkFault`. Time in proportion to the module and to its memory and table.
+pub fn begin(module: ValidModule, pages: u32, alloc: Global) -> Result<Beginning, LinkFault>
+    requires pages { pages ≤ MOST_PAGES }
+    requires types { AllByRecursion HasFewParameters «module».types }
+    requires functions { AllByRecursion IsSmallFunction «module».functions }
+    ensures begun { IfOk result (HasBegun pages «module») }
+    ensures refused { IfErr result (IsRefused pages «module») }
+    ensures only { IfErr result (Denies (IsLinkable offer pages «module»)) }
+{
+    let instance = Instance::link(module, pages, alloc)?;
+    Ok(prepare(instance, alloc)?)
+}
