@@ -12,16 +12,16 @@ use Rattle.wasm_syntax_rules.specs.Acceptance.{IsAccepted}
 use Rattle.wasm_validate_parts.specs.Answers.{Denies as DeniesValid}
 use Rattle.machine_instance.specs.Refusals.{IsRefused}
 use Rattle.machine_instance.specs.Offers.{offer}
-use Rattle.machine_instance.specs.Instances.{IsLinked}
-use Rattle.machine.specs.declared.Machine.{Machine}
+use Rattle.machine.specs.Values.{MachineValue}
+use Rattle.machine.specs.Runs.{HasBegun}
 use Rattle.front_end.specs.declared.fault.FrontFault.{FrontFault}
 use Rattle.front_end.specs.declared.fault.FrontFault.TheVariants.{Decode, Valid, Link}
 
--- the machine is of the accepted module that these bytes spell
-pub record Accepts (pages : ℕ) (bytes : List ℕ) (machine : Machine) : Type 0 where
+-- the machine is of the accepted module that these bytes spell, and has begun
+pub record Accepts (pages : ℕ) (bytes : List ℕ) (machine : MachineValue) : Type 0 where
   pub spelled : Module
   pub accepted : IsAccepted offer pages bytes spelled
-  pub linked : IsLinked pages spelled machine.instance
+  pub begun : HasBegun pages spelled machine
 
 -- these bytes spell an accepted module
 abbrev pub HasAcceptedModule : ℕ → List ℕ → Type 0

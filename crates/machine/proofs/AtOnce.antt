@@ -1,5 +1,5 @@
 -- What going on without fuel does: it settles.
-use Rattle.std.proofs.Common.{◌≡◌, ℕ, zero, suc, ◌+◌, ◌<◌, List, refl, sym, ap, ◌∙◌, subst, arith}
+use Rattle.std.proofs.Common.{◌≡◌, ℕ, List, subst, arith}
 use Rattle.wasm_syntax.specs.declared.types.FunctionType.{FunctionType}
 use Rattle.wasm_syntax_rules.specs.Configuration.{Program, Configuration}
 use Rattle.wasm_syntax_rules.specs.Steps.{IsSettled, Settles}

@@ -1,22 +1,20 @@
 -- What a machine's code and state stand for, and what is seen of it.
-use Rattle.std.proofs.Common.{◌≡◌, ℕ, ◌+◌, ◌*◌, ◌/◌, ◌%◌, ◌≤◌, List, [], length, refl, sym, ap, ◌∙◌, subst, arith}
+use Rattle.std.proofs.Common.{ℕ, ◌*◌, ◌/◌, ◌≤◌, List, length, refl, sym, ◌∙◌, subst, arith}
 use Rattle.std.specs.List.{AllByRecursion}
 use Rattle.wasm_syntax.specs.declared.types.FunctionType.{FunctionType}
 use Rattle.guest_memory.specs.Bytes.{IsByte, page_size}
 use Rattle.guest_memory.specs.Memories.{LinearMemory, IsWithinLimit}
-use Rattle.wasm_syntax_rules.specs.Typing.{Context}
 use Rattle.wasm_syntax_rules.specs.Validity.{module_context}
 use Rattle.wasm_syntax_rules.specs.Configuration.{Program, Configuration}
 use Rattle.wasm_syntax_rules.specs.Steps.{IsSettled}
 use Rattle.wasm_syntax_soundness.specs.Typed.{IsTypedMemory}
-use Rattle.machine_threads.specs.Threads.{IsReadyProgram, state_of}
 use Rattle.machine_threads.proofs.Showing.{settled_is_shown, shown_stands}
 use Rattle.machine_routines.specs.Routines.{opcodes_in, tables_in}
 use Rattle.machine_running.specs.declared.code.Code.{Code}
 use Rattle.machine_running.specs.declared.state.State.{State}
 use Rattle.machine_running.specs.Codes.{held_of, Stands}
 use Rattle.machine_running.proofs.Advancing.{ready}
-use Rattle.machine.specs.Values.{MachineValue, IsProgramIn, ShowsIn, HoldsMemory}
+use Rattle.machine.specs.Values.{IsProgramIn, ShowsIn}
 use Rattle.machine.specs.Insides.{seen, IsMemoryFor, IsSettledIn, IsMachine, with_memory_of}
 use Rattle.machine.proofs.Settled.{another_store}
 

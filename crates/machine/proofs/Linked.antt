@@ -1,19 +1,18 @@
 -- What linking makes.
-use Rattle.std.proofs.Common.{◌≡◌, ℕ, ◌≤◌, ◌^◌, List, [], Some, refl, sym, ap, ◌∙◌, subst, arith}
+use Rattle.std.proofs.Common.{◌≡◌, ℕ, ◌≤◌, ◌^◌, List, Some, refl, sym, ◌∙◌, subst}
 use Rattle.std.specs.Prelude.{Option}
 use Rattle.wasm_syntax.specs.declared.types.FunctionType.{FunctionType}
 use Rattle.wasm_syntax.specs.declared.value.Value.{Value}
 use Rattle.wasm_syntax.specs.declared.module.Module.{Module}
-use Rattle.wasm_syntax_rules.specs.Validity.{AreFunctionTypes, memories_of}
+use Rattle.wasm_syntax_rules.specs.Validity.{AreFunctionTypes}
 use Rattle.wasm_syntax_rules.specs.Configuration.{Program, Store, Configuration}
-use Rattle.wasm_syntax_rules.specs.Instantiation.{IsProgram, IsInitialStore, most_pages_of, calls_of, Begins}
+use Rattle.wasm_syntax_rules.specs.Instantiation.{IsProgram, IsInitialStore, calls_of, Begins}
 use Rattle.wasm_syntax_rules.specs.Steps.{Settles}
 use Rattle.wasm_syntax_rules.proofs.OneRun.{settles_once}
 use Rattle.machine_instance.proofs.Constant.{initial_once}
-use Rattle.machine_running.specs.declared.code.Code.{Code}
 use Rattle.machine_running.specs.declared.state.State.{State}
 use Rattle.machine_running.specs.declared.pause.Paused.{Paused}
-use Rattle.machine_running.specs.Codes.{Stands, IsStanding}
+use Rattle.machine_running.specs.Codes.{IsStanding}
 use Rattle.machine_running.specs.Pauses.{Pauses}
 use Rattle.machine_hosting.specs.declared.starting.Beginning.{Beginning}
 use Rattle.machine_hosting.specs.Beginnings.{first, HasBegun as HasStarted}

@@ -1,13 +1,12 @@
 -- What running makes of a machine.
-use Rattle.std.proofs.Common.{◌≡◌, ℕ, suc, ◌+◌, ◌<◌, List, [], refl, sym, ap, ◌∙◌, subst, arith}
+use Rattle.std.proofs.Common.{◌≡◌, ℕ, List, refl, sym, subst}
 use Rattle.std.specs.List.{AllByRecursion}
 use Rattle.wasm_syntax.specs.declared.types.FunctionType.{FunctionType}
 use Rattle.guest_memory.specs.Bytes.{IsByte}
-use Rattle.guest_memory.specs.Memories.{LinearMemory, IsWithinLimit}
+use Rattle.guest_memory.specs.Memories.{IsWithinLimit}
 use Rattle.wasi_abi.specs.declared.call.Call.{Call}
 use Rattle.wasm_syntax_rules.specs.Configuration.{Program, Configuration}
-use Rattle.wasm_syntax_rules.specs.Steps.{stopped, IsSettled, Steps}
-use Rattle.machine_standing.specs.Walks.{Walks}
+use Rattle.wasm_syntax_rules.specs.Steps.{stopped, IsSettled}
 use Rattle.machine_standing.proofs.Walking.{walks_are_steps}
 use Rattle.machine_running.specs.declared.code.Code.{Code}
 use Rattle.machine_running.specs.declared.state.State.{State}
@@ -16,9 +15,9 @@ use Rattle.machine_running.specs.declared.pause.Pause.TheVariants as pause
 use Rattle.machine_running.specs.declared.pause.Paused.{Paused}
 use Rattle.machine_running.specs.Codes.{Stands, IsStanding}
 use Rattle.machine_running.specs.Pauses.{Comes, AsksFor as CodeAsksFor, PausesFor, Pauses}
-use Rattle.machine.specs.Values.{IsProgramIn, ShowsIn}
+use Rattle.machine.specs.Values.{IsProgramIn}
 use Rattle.machine.specs.Runs.{Arrives, AsksFor, RunsFor, Runs}
-use Rattle.machine.specs.Insides.{seen, IsMemoryFor, IsSettledIn, IsMachine, with_memory_of}
+use Rattle.machine.specs.Insides.{seen, IsMemoryFor, IsSettledIn, IsMachine}
 use Rattle.machine.proofs.Settled.{ended_settled, asking_settled, trapping_settled}
 use Rattle.machine.proofs.Inside.{settled_with, shown, stood_for}
 

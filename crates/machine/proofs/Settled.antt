@@ -1,11 +1,11 @@
 -- Which configurations are settled.
-use Rattle.std.proofs.Common.{◌≡◌, ℕ, List, [], ◌∷◌, Option, Some, None, refl, sym, ◌∙◌}
+use Rattle.std.proofs.Common.{◌≡◌, ℕ, List, [], ◌∷◌, Option, Some, None, refl, sym}
 use Rattle.wasm_syntax.specs.declared.value.Value.{Value}
 use Rattle.wasm_syntax.specs.declared.value.Trap.{Trap}
 use Rattle.wasm_syntax.specs.Sequence.{Sequence, Stop, Plain, InBlock, InLoop, InIf, InIfElse}
 use Rattle.std.specs.Prelude.{slice_get}
 use Rattle.std.specs.Option.{option_map}
-use Rattle.wasm_syntax_rules.specs.Configuration.{Program, Store, Label, LabelOf, FrameOf, Thread, Configuration, Outcome, Asks, Traps, Stuck}
+use Rattle.wasm_syntax_rules.specs.Configuration.{Program, Store, Label, FrameOf, Thread, Configuration, Outcome, Asks, Traps, Stuck}
 use Rattle.wasm_syntax_rules.specs.Steps.{rule, rule_of, left, left_by, begun, IsSettled, IsEnded}
 
 -- nothing comes of nothing

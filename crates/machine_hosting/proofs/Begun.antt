@@ -1,5 +1,5 @@
 -- What a machine begins with stands for the configuration before the host's first call.
-use Rattle.std.proofs.Common.{◌≡◌, ℕ, ◌+◌, ◌≤◌, ◌^◌, List, [], ◌∷◌, ◌++◌, length, refl, sym, ap, ◌∙◌, subst, arith}
+use Rattle.std.proofs.Common.{◌≡◌, ℕ, ◌≤◌, ◌^◌, List, [], sym, ap, ◌∙◌, subst, arith}
 use Rattle.std.specs.Prelude.{map, reverse}
 use Rattle.std.proofs.lemmas.List.{reverse-reverse}
 use Rattle.wasm_syntax.specs.declared.types.FunctionType.{FunctionType}

@@ -1,7 +1,6 @@
 -- What a machine begins with.
 use Rattle.std.specs.Prelude.{◌≡◌, ℕ, List, [], ◌++◌, map, reverse}
 use Rattle.wasm_syntax.specs.declared.types.FunctionType.{FunctionType}
-use Rattle.wasm_syntax.specs.declared.value.Value.{Value}
 use Rattle.wasm_syntax.specs.declared.module.Module.{Module}
 use Rattle.wasm_syntax_rules.specs.Types.{number_in, imported_functions}
 use Rattle.wasm_syntax_rules.specs.Validity.{IsValid, AreFunctionTypes, function_type_of, memories_of}
@@ -11,8 +10,6 @@ use Rattle.wasm_syntax_rules.specs.Linking.{IsLinkable}
 use Rattle.machine_instance.specs.Offers.{offer}
 use Rattle.machine_instance.specs.declared.instance.Instance.{Instance}
 use Rattle.machine_routines.specs.Routines.{AreRoutines}
-use Rattle.machine_running.specs.declared.code.Code.{Code}
-use Rattle.machine_running.specs.declared.state.State.{State}
 use Rattle.machine_running.specs.Codes.{Stands}
 use Rattle.machine_hosting.specs.declared.starting.Beginning.{Beginning}
 

@@ -2,8 +2,9 @@ use Rattle.std.proofs.Common.{sym, subst}
 use Rattle.std.proofs.lemmas.Result.{err_from_is_err_and}
 use Rattle.wasm_syntax.specs.declared.module.Module.{Module}
 use Rattle.wasm_syntax_grammar.specs.Modules.{IsModule}
-use Rattle.wasm_syntax_grammar.specs.Limits.{IsWithinLimits}
 use Rattle.wasm_syntax_rules.specs.Validity.{IsValid}
+use Rattle.std.specs.List.{AllByRecursion}
+use Rattle.wasm_syntax_grammar.specs.Limits.{IsWithinLimits, HasFewParameters, IsSmallFunction}
 use Rattle.front_end.proofs.Refused.{not_valid, not_linkable}
 use Rattle.front_end.proofs.steps.accept.Goals as goal
 
@@ -33,3 +34,13 @@ returns-in_err-link-clause-told c =
     let V : Module → Type 0 = IsValid in
     let same = c.in_ok-valid.ensures.same in
     rw (p.1, p.2) (c.in_ok-valid.valid, subst M (sym same) found.0, subst L (sym same) found.1, subst V (sym same) c.in_ok-valid.ensures.valid, c.in_err-link.ensures.refused)
+
+pub link-requires-clause-types : goal.link-requires-clause-types
+link-requires-clause-types c =
+    let P : Module → Type 0 = λ m. AllByRecursion HasFewParameters m.types in
+    subst P (sym c.in_ok-valid.ensures.same) c.in_ok-decoded.ensures.found.1.types
+
+pub link-requires-clause-functions : goal.link-requires-clause-functions
+link-requires-clause-functions c =
+    let P : Module → Type 0 = λ m. AllByRecursion IsSmallFunction m.functions in
+    subst P (sym c.in_ok-valid.ensures.same) c.in_ok-decoded.ensures.found.1.bodies
