@@ -71,6 +71,11 @@ module _ (pages : ℕ) (m : Module) (b : Beginning) (few : pages ≤ 2 ^ 16) (h 
           settled_with b.code state functions program after.configuration after.stands memory after.settled (subst (λ z. IsMemoryFor z memory) (sym is.most) is_memory);
     }
 
+    same_limit : state.memory.limit ≡ b.state.memory.limit
+    same_limit =
+        let after = settles h.functions h.program h.types h.is_program in
+        after.stands.stands.shown.limit_is ∙ h.is_program.most_pages ∙ sym h.limit
+
     -- where the module begins is where the beginning settles
     shows_begun : (program : Program) (d : Configuration) → Begins m pages h.linkable.entry program d → ShowsIn (seen b.code state b.state.memory.limit) program d
     shows_begun program d begins =
@@ -82,4 +87,4 @@ module _ (pages : ℕ) (m : Module) (b : Beginning) (few : pages ≤ 2 ^ 16) (h 
         subst Q same (shown b.code state h.functions program after.configuration after.stands b.state.memory.limit (program_in h.functions program h.types begins.is_program) after.settled)
 
     pub linked_begun : HasBegun pages m (seen b.code state b.state.memory.limit)
-    linked_begun = record { guest = h.guest; linkable = h.linkable; shows = shows_begun }
+    linked_begun = record { guest = h.guest; linkable = h.linkable; holds = same_limit; shows = shows_begun }

@@ -1,5 +1,5 @@
 -- What running makes of a machine.
-use Rattle.std.proofs.Common.{◌≡◌, ℕ, List, refl, sym, subst}
+use Rattle.std.proofs.Common.{◌∙◌, ◌≡◌, ℕ, List, refl, sym, subst}
 use Rattle.std.specs.List.{AllByRecursion}
 use Rattle.wasm_syntax.specs.declared.types.FunctionType.{FunctionType}
 use Rattle.guest_memory.specs.Bytes.{IsByte}
@@ -91,6 +91,12 @@ module _ (code : Code) (old new : State) (most : ℕ) (machine : IsMachine code 
         let after = pause_settles code new most functions program some.configuration fuel paused.left paused.why (pauses functions program some.configuration some.stands) in
         settled_with code new functions program after.configuration after.stands memory after.settled (subst (λ z. IsMemoryFor z memory) (sym is.most) h);
   }
+
+  pub holds_again : (fuel : ℕ) (paused : Paused) → Pauses code old fuel paused new → new.memory.limit ≡ most
+  holds_again fuel paused pauses =
+      let some = settled_old machine.functions machine.program machine.is in
+      let after = pause_settles code new most machine.functions machine.program some.configuration fuel paused.left paused.why (pauses machine.functions machine.program some.configuration some.stands) in
+      after.stands.stands.shown.limit_is ∙ machine.is.most
 
   pub runs : (fuel : ℕ) (paused : Paused) → Pauses code old fuel paused new → Runs (seen code old most) fuel paused (seen code new most)
   runs fuel paused pauses program d shows =

@@ -15,7 +15,7 @@ use Rattle.machine_instance.specs.Offers.{offer, AreCalls}
 use Rattle.machine_running.specs.declared.pause.Pause.{Pause}
 use Rattle.machine_running.specs.declared.pause.Pause.TheVariants as pause
 use Rattle.machine_running.specs.declared.pause.Paused.{Paused}
-use Rattle.machine.specs.Values.{MachineValue, ShowsIn}
+use Rattle.machine.specs.Values.{MachineValue, HoldsMemory, ShowsIn}
 
 -- ---- the beginning
 
@@ -23,6 +23,7 @@ use Rattle.machine.specs.Values.{MachineValue, ShowsIn}
 pub record HasBegun (pages : ℕ) (m : Module) (v : MachineValue) : Type 0 where
   pub guest : v.guest ≡ m
   pub linkable : IsLinkable offer pages m
+  pub holds : HoldsMemory v
   pub shows : (program : Program) (d : Configuration) → Begins m pages linkable.entry program d → ShowsIn v program d
 
 -- ---- fuel

@@ -57,6 +57,7 @@ impl Machine {
     pub fn run(&mut self, fuel: u64) -> Paused
         requires { HoldsMemory self.old }
         ensures same { IsSameMachine self.old self.new }
+        ensures holds { HoldsMemory self.new }
         ensures runs { Runs self.old fuel result self.new }
     {
         is_memory(&self.state.memory);
