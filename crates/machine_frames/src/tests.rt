@@ -14,7 +14,7 @@ fn holds_frames_in_one_piece_of_memory(rt: HostRuntime) -> Result<(), Fail> {
         frames.push(Frame {
             function,
             position: 7,
-            base: function,
+            base: function as usize,
         });
     }
     assert!(rt; frames.is_full());

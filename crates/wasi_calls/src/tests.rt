@@ -93,13 +93,7 @@ fn had_memory(outcome: Outcome) -> Result<(), Stop> {
 /// How many lines a write of one iovec to stream 2 would emit.
 fn emitted(alloc: Global, guest: &Guest) -> Result<usize, Stop> {
     let arguments = [2, 0, 1, u64::from(COUNT)];
-    let count = lines_emitted(
-        alloc,
-        &guest.host,
-        &guest.memory,
-        Call::FdWrite,
-        &arguments,
-    )?;
+    let count = lines_emitted(alloc, &guest.host, &guest.memory, Call::FdWrite, &arguments)?;
     Ok(count)
 }
 
