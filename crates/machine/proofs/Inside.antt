@@ -16,6 +16,7 @@ use Rattle.machine_running.specs.Codes.{held_of, Stands}
 use Rattle.machine_running.proofs.Advancing.{ready}
 use Rattle.machine.specs.Values.{IsProgramIn, ShowsIn}
 use Rattle.machine.specs.Insides.{seen, IsMemoryFor, IsSettledIn, IsMachine, with_memory_of}
+use Rattle.machine.specs.Laws.{with_bytes}
 use Rattle.machine.proofs.Settled.{another_store}
 
 -- a memory of this limit is one of such a program
@@ -29,10 +30,6 @@ typed_memory program memory h =
       within = omega (arith, within);
       bytes = h.bytes;
     }
-
--- the same with other bytes in memory
-abbrev pub with_bytes : Configuration → List ℕ → Configuration
-with_bytes d bytes = record d { store = record d.store { memory = bytes } }
 
 module _ (code : Code) (s : State) (functions : List FunctionType) (program : Program) (d : Configuration) (stands : Stands code s functions program d) where
   pub with_another : (memory : LinearMemory) → IsMemoryFor program.most_pages memory → Stands code (with_memory_of s memory) functions program (with_bytes d memory.bytes)

@@ -4,3 +4,6 @@ pub mod Ran
 pub mod OneProgram
 pub mod AtOnce
 pub mod Linked
+pub mod AskingAgain
+pub mod Written
+pub mod Finished

@@ -48,6 +48,8 @@ module _ (code : Code) (new : State) (most : ℕ) (functions : List FunctionType
       calls = code.calls.items;
       are_calls = stands.is_code.calls;
       is_call = h.is_call;
+      is_host = h.is_host;
+      typed = h.typed;
       are = h.are;
     }
 

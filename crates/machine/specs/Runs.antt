@@ -1,12 +1,12 @@
 -- Where a machine comes to on fuel, and after an answer of the host.
-use Rattle.std.specs.Prelude.{◌≡◌, ◌≢◌, ℕ, suc, ◌+◌, ◌<◌, List, [], ◌∷◌, map, reverse, Option, Some, None, slice_get}
+use Rattle.std.specs.Prelude.{◌≡◌, ◌≢◌, ℕ, suc, ◌+◌, ◌<◌, List, [], map, reverse, Some, slice_get}
 use Rattle.wasm_syntax.specs.declared.types.FunctionType.{FunctionType}
 use Rattle.wasm_syntax.specs.declared.value.Value.{Value}
-use Rattle.wasm_syntax.specs.declared.value.Value.TheVariants as value
 use Rattle.wasm_syntax.specs.declared.value.Trap.{Trap}
 use Rattle.wasm_syntax.specs.declared.module.Module.{Module}
 use Rattle.wasi_abi.specs.declared.call.Call.{Call}
-use Rattle.wasm_syntax_rules.specs.Types.{AreOf, number_in, gives_of}
+use Rattle.wasi_abi.specs.Calls.{function_type_of}
+use Rattle.wasm_syntax_rules.specs.Types.{AreOf, number_in, takes_of, gives_of}
 use Rattle.wasm_syntax_rules.specs.Configuration.{Host, Program, Thread, Configuration, Asks, Traps}
 use Rattle.wasm_syntax_rules.specs.Steps.{rule, stopped, answered, IsEnded, Settles, Steps}
 use Rattle.wasm_syntax_rules.specs.Instantiation.{Begins}
@@ -36,7 +36,7 @@ pub record Arrives (new : MachineValue) (program : Program) (d : Configuration) 
   pub ran : Steps program steps d configuration
   pub shows : ShowsIn new program configuration
 
--- The rule asks the host for the function that is this call of the module's imports, with these arguments, the first one first.
+-- The rule asks the host for the function that is this call of the module's imports, with arguments of its types, the first one first.
 pub record AsksFor (m : Module) (program : Program) (d : Configuration) (call : Call) (arguments : List ℕ) : Type 0 where
   pub function : ℕ
   pub operands : List Value
@@ -45,6 +45,8 @@ pub record AsksFor (m : Module) (program : Program) (d : Configuration) (call : 
   pub calls : List Call
   pub are_calls : AreCalls m.imports calls
   pub is_call : slice_get calls function ≡ Some call
+  pub is_host : slice_get program.functions function ≡ Some (Host (function_type_of call))
+  pub typed : AreOf (takes_of (function_type_of call)) operands
   pub are : arguments ≡ reverse (map number_in operands)
 
 -- The rule after so many traps, which is one more of the fuel. The machine then shows that configuration without a thread.
@@ -70,11 +72,6 @@ Runs old fuel paused new = (program : Program) (d : Configuration) → ShowsIn o
 
 -- ---- answers
 
--- what a call of the host gives: nothing, or one i32
-abbrev pub results_of : Option ℕ → List Value
-results_of None = []
-results_of (Some n) = value.I32 n ∷ []
-
 -- the machine waits at a call of the host, of a type that gives such results
 pub record WaitsFor (results : List Value) (v : MachineValue) : Type 0 where
   pub program : Program
@@ -94,8 +91,9 @@ pub record Finishes (new : MachineValue) (program : Program) (answer : Configura
   pub settles : Settles program answer configuration
   pub shows : ShowsIn new program configuration
 
--- whichever configuration it showed, with the bytes that memory had then
+-- whichever call of the host it waited at that gives such results, with the bytes that memory had then
 abbrev pub Answers : List Value → MachineValue → MachineValue → Type 0
 Answers results old new =
-    (program : Program) (d : Configuration) (f : ℕ) (arguments : List Value) (waits : Thread) → ShowsIn old program d → rule program d ≡ Asks f arguments waits
+    (program : Program) (d : Configuration) (f : ℕ) (arguments : List Value) (waits : Thread) (kind : FunctionType)
+    → ShowsIn old program d → rule program d ≡ Asks f arguments waits → slice_get program.functions f ≡ Some (Host kind) → AreOf (gives_of kind) results
     → Finishes new program (answered d old.state.memory results waits)

@@ -49,7 +49,8 @@ fn is_memory(memory: &Memory)
 impl Machine {
     ghost use Rattle.machine.specs.Values.{HoldsMemory, IsSameMachine, memory_of};
     ghost use Rattle.std.specs.Borrow.{sem};
-    ghost use Rattle.machine.specs.Runs.{Runs};
+    ghost use Rattle.machine_hosting.specs.Answers.{results_of};
+    ghost use Rattle.machine.specs.Runs.{Runs, WaitsFor, Answers};
     ghost use Rattle.machine.specs.Lends.{LendsMemory};
 
     /// Applies rules until the program has ended or trapped, a call of the host waits, or so much fuel is spent: one unit for each
@@ -62,6 +63,19 @@ impl Machine {
     {
         is_memory(&self.state.memory);
         go_on(&self.code, &mut self.state, fuel)
+    }
+
+    /// Answers the call of the host that waits: puts its result, if the call gives one, in the place of what the call took, and applies
+    /// the rules that aren't counted. Takes no memory.
+    pub fn finish(&mut self, answer: Option<u32>)
+        requires waits { WaitsFor (results_of answer) self.old }
+        ensures same { IsSameMachine self.old self.new }
+        ensures holds { HoldsMemory self.new }
+        ensures answers { Answers (results_of answer) self.old self.new }
+    {
+        is_memory(&self.state.memory);
+        machine_hosting::answer(&self.code, &mut self.state, answer);
+        let _ = go_on(&self.code, &mut self.state, 0);
     }
 
     /// The guest's memory.

@@ -29,9 +29,9 @@ pub record IsWaiting (results : List Value) (code : Code) (s : State) : Type 0 w
   pub is_host : slice_get program.functions function ≡ Some (Host kind)
   pub gives : AreOf (gives_of kind) results
 
--- Whichever configuration of its program it stood for, it stands for what the answer makes of that, with the memory that it has.
+-- Whichever call of the host it waited at that gives such results, it stands for what the answer makes of that, with the memory that it has.
 abbrev pub IsAnswered : List Value → Code → State → State → Type 0
 IsAnswered results code old new =
-    (functions : List FunctionType) (program : Program) (d : Configuration) (f : ℕ) (arguments : List Value) (waits : Thread)
-    → Stands code old functions program d → rule program d ≡ Asks f arguments waits
+    (functions : List FunctionType) (program : Program) (d : Configuration) (f : ℕ) (arguments : List Value) (waits : Thread) (kind : FunctionType)
+    → Stands code old functions program d → rule program d ≡ Asks f arguments waits → slice_get program.functions f ≡ Some (Host kind) → AreOf (gives_of kind) results
     → Stands code new functions program (answered d old.memory.bytes results waits)

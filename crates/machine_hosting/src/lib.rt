@@ -2,7 +2,9 @@
 //! 4.4.7).
 #![tactic(auto)]
 
+mod answering;
 mod parts;
 pub mod starting;
 
+pub use answering::answer;
 pub use starting::{Beginning, begin};

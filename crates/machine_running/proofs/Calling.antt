@@ -15,7 +15,7 @@ use Rattle.wasm_syntax.specs.declared.module.ImportItem.TheVariants as import
 use Rattle.wasm_syntax.specs.Sequence.{Sequence}
 use Rattle.wasi_abi.specs.declared.call.Call.{Call}
 use Rattle.wasi_abi.specs.Calls.{function_type_of, parameters_of}
-use Rattle.wasm_syntax_rules.specs.Types.{number_in, takes_of, imported_functions, with_function}
+use Rattle.wasm_syntax_rules.specs.Types.{AreOf, number_in, takes_of, imported_functions, with_function}
 use Rattle.wasm_syntax_rules.specs.Validity.{module_context}
 use Rattle.wasm_syntax_rules.specs.Linking.{IsItemOffered, IsOffered}
 use Rattle.wasm_syntax_rules.specs.Configuration.{Callee, Host, Own, Program, Thread, Configuration, Asks, Traps}
@@ -93,6 +93,8 @@ module _ (code : Code) (functions : List FunctionType) (program : Program) (is :
       pub waits : Thread
       pub under : List ℕ
       pub asks : rule program d ≡ Asks f arguments waits
+      pub is_host : slice_get program.functions f ≡ Some (Host (function_type_of call))
+      pub typed : AreOf (takes_of (function_type_of call)) arguments
       pub count : length (parameters_of call) ≡ length (map number_in arguments)
       pub words_are : words ≡ map number_in arguments ++ under
 
@@ -108,6 +110,8 @@ module _ (code : Code) (functions : List FunctionType) (program : Program) (is :
           waits = leads.1;
           under = leads.2;
           asks = leads.3;
+          is_host = e ∙ ap (λ k. Some (Host k)) kinds;
+          typed = subst (λ k. AreOf (takes_of k) leads.0) kinds leads.4;
           count = omega (arith, counts, length-reverse kind.parameters, ap (λ (k : FunctionType). length k.parameters) kinds, length-map leads.0 number_in);
           words_are = leads.5;
         }

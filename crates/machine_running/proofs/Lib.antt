@@ -6,3 +6,5 @@ pub mod Ending
 pub mod Whole
 pub mod FunctionKinds
 pub mod Indirect
+pub mod Asking
+pub mod AtCalls

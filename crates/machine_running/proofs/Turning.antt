@@ -79,7 +79,7 @@ module _ (code : Code) (s : State) (functions : List FunctionType) (program : Pr
     unfolding stays
     asked call above fuel over turned some there h slots count asks =
         rw (asks over (map number_in h.arguments) h.under (slots ∙ ap (λ z. over ++ z) h.words_are) count h.count)
-        (stays fuel, record { function = f; operands = h.arguments; waits = h.waits; asks = h.asks; is_call = there; are = refl }, some)
+        (stays fuel, record { function = f; operands = h.arguments; waits = h.waits; asks = h.asks; is_call = there; is_host = h.is_host; typed = h.typed; are = refl }, some)
 
     -- a function of the module's own
     module _ (o : Own_enters code functions program stands.is_code code.table.items (held_of s) d words f) (routine : Routine) (there : slice_get code.routines.items (f - length code.calls.items) ≡ Some routine) where

@@ -1,3 +1,4 @@
 pub mod Codes
 pub mod Pauses
 pub mod Turns
+pub mod Waiting

@@ -4,8 +4,9 @@ use Rattle.wasm_syntax.specs.declared.types.FunctionType.{FunctionType}
 use Rattle.wasm_syntax.specs.declared.value.Value.{Value}
 use Rattle.wasm_syntax.specs.declared.value.Trap.{Trap}
 use Rattle.wasi_abi.specs.declared.call.Call.{Call}
-use Rattle.wasm_syntax_rules.specs.Types.{number_in}
-use Rattle.wasm_syntax_rules.specs.Configuration.{Program, Thread, Configuration, Asks, Traps}
+use Rattle.wasi_abi.specs.Calls.{function_type_of}
+use Rattle.wasm_syntax_rules.specs.Types.{AreOf, number_in, takes_of}
+use Rattle.wasm_syntax_rules.specs.Configuration.{Host, Program, Thread, Configuration, Asks, Traps}
 use Rattle.wasm_syntax_rules.specs.Steps.{rule, stopped, IsSettled, IsEnded}
 use Rattle.machine_standing.specs.Walks.{Walks}
 use Rattle.machine_running.specs.declared.code.Code.{Code}
@@ -23,13 +24,15 @@ pub record Comes (code : Code) (new : State) (functions : List FunctionType) (pr
   pub walks : Walks program steps d configuration
   pub stands : Stands code new functions program configuration
 
--- a rule that asks the host for this call, with these arguments, the first one first
+-- a rule that asks the host for this call, with arguments of its types, the first one first
 pub record AsksFor (code : Code) (program : Program) (d : Configuration) (call : Call) (arguments : List ℕ) : Type 0 where
   pub function : ℕ
   pub operands : List Value
   pub waits : Thread
   pub asks : rule program d ≡ Asks function operands waits
   pub is_call : slice_get code.calls.items function ≡ Some call
+  pub is_host : slice_get program.functions function ≡ Some (Host (function_type_of call))
+  pub typed : AreOf (takes_of (function_type_of call)) operands
   pub are : arguments ≡ reverse (map number_in operands)
 
 -- The machine traps there. Then it stands for the configuration without a thread.

@@ -9,8 +9,10 @@ pub mod pause;
 mod running;
 pub mod state;
 pub mod turn;
+mod waiting;
 
 pub use code::Code;
 pub use pause::{Arguments, Pause, Paused};
 pub use running::go_on;
 pub use state::State;
+pub use waiting::words_taken;

@@ -1,0 +1,39 @@
+-- A machine shows the bytes that are written.
+use Rattle.std.proofs.Common.{◌≡◌, ℕ, List, length, refl, ap, ◌∙◌}
+use Rattle.std.specs.List.{AllByRecursion}
+use Rattle.guest_memory.specs.Bytes.{IsByte}
+use Rattle.wasm_syntax_rules.specs.Configuration.{Program}
+use Rattle.wasm_syntax_soundness.specs.Typed.{IsTypedMemory}
+use Rattle.machine.specs.Laws.{ShowsWhatIsWritten}
+use Rattle.machine.proofs.Settled.{another_store}
+
+as_many_bytes : (program : Program) (old new : List ℕ) → length new ≡ length old → AllByRecursion IsByte new → IsTypedMemory program old → IsTypedMemory program new
+as_many_bytes program old new e bytes h = record { pages = h.pages; whole = e ∙ h.whole; within = h.within; bytes = bytes }
+
+pub shows_what_is_written : ShowsWhatIsWritten
+shows_what_is_written v memory program d count bytes limit h =
+    let s = h.shows in
+    record {
+      functions = h.functions;
+      is = h.is;
+      holds = limit ∙ h.holds;
+      shows = record {
+        typed = record {
+          store = record {
+            memory = as_many_bytes program d.store.memory memory.bytes (count ∙ ap length s.memory) bytes s.typed.store.memory;
+            globals = s.typed.store.globals;
+            table = s.typed.store.table;
+          };
+          thread = s.typed.thread;
+          later = s.typed.later;
+        };
+        settled = another_store program d.thread d.later d.store (record d.store { memory = memory.bytes }) s.settled;
+        memory = refl;
+        globals = s.globals;
+        same_table = s.same_table;
+        later = s.later;
+        frames = s.frames;
+        few_frames = s.few_frames;
+        few_values = s.few_values;
+      };
+    }

@@ -1,0 +1,27 @@
+-- What becomes of a machine when the bytes of its memory are written.
+use Rattle.std.specs.Prelude.{◌≡◌, ℕ, List, length}
+use Rattle.std.specs.List.{AllByRecursion}
+use Rattle.wasm_syntax.specs.declared.value.Value.{Value}
+use Rattle.guest_memory.specs.Bytes.{IsByte}
+use Rattle.guest_memory.specs.Memories.{LinearMemory}
+use Rattle.wasm_syntax_rules.specs.Configuration.{Program, Thread, Configuration, Asks}
+use Rattle.wasm_syntax_rules.specs.Steps.{rule}
+use Rattle.machine.specs.Values.{MachineValue, ShowsIn, with_memory}
+
+-- the same with these bytes in memory
+abbrev pub with_bytes : Configuration → List ℕ → Configuration
+with_bytes d bytes = record d { store = record d.store { memory = bytes } }
+
+-- With another memory of as many bytes and the same limit in the place of its own, a machine shows the configuration that it showed, with
+-- the other bytes.
+abbrev pub ShowsWhatIsWritten : Type 0
+ShowsWhatIsWritten =
+    (v : MachineValue) (memory : LinearMemory) (program : Program) (d : Configuration)
+    → length memory.bytes ≡ length v.state.memory → AllByRecursion IsByte memory.bytes → memory.limit ≡ v.limit
+    → ShowsIn v program d → ShowsIn (with_memory v memory) program (with_bytes d memory.bytes)
+
+-- Where a function of the host is asked for, the same is asked for whatever bytes are in memory.
+abbrev pub AsksTheSame : Type 0
+AsksTheSame =
+    (program : Program) (d : Configuration) (bytes : List ℕ) (f : ℕ) (arguments : List Value) (waits : Thread)
+    → rule program d ≡ Asks f arguments waits → rule program (with_bytes d bytes) ≡ Asks f arguments waits
