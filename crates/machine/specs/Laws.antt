@@ -2,11 +2,15 @@
 use Rattle.std.specs.Prelude.{◌≡◌, ℕ, List, length}
 use Rattle.std.specs.List.{AllByRecursion}
 use Rattle.wasm_syntax.specs.declared.value.Value.{Value}
+use Rattle.wasi_abi.specs.declared.call.Call.{Call}
+use Rattle.wasi_abi.specs.Calls.{function_type_of}
 use Rattle.guest_memory.specs.Bytes.{IsByte}
 use Rattle.guest_memory.specs.Memories.{LinearMemory}
+use Rattle.wasm_syntax_rules.specs.Types.{AreOf, gives_of}
 use Rattle.wasm_syntax_rules.specs.Configuration.{Program, Thread, Configuration, Asks}
 use Rattle.wasm_syntax_rules.specs.Steps.{rule}
 use Rattle.machine.specs.Values.{MachineValue, ShowsIn, with_memory}
+use Rattle.machine.specs.Runs.{AsksFor, WaitsFor}
 
 -- the same with these bytes in memory
 abbrev pub with_bytes : Configuration → List ℕ → Configuration
@@ -25,3 +29,11 @@ abbrev pub AsksTheSame : Type 0
 AsksTheSame =
     (program : Program) (d : Configuration) (bytes : List ℕ) (f : ℕ) (arguments : List Value) (waits : Thread)
     → rule program d ≡ Asks f arguments waits → rule program (with_bytes d bytes) ≡ Asks f arguments waits
+
+-- So a machine that has asked for a call waits for what the call gives, also with such a memory.
+abbrev pub WaitsForTheCall : Type 0
+WaitsForTheCall =
+    (v : MachineValue) (memory : LinearMemory) (program : Program) (d : Configuration) (call : Call) (numbers : List ℕ) (results : List Value)
+    → length memory.bytes ≡ length v.state.memory → AllByRecursion IsByte memory.bytes → memory.limit ≡ v.limit
+    → ShowsIn v program d → AsksFor v.guest program d call numbers → AreOf (gives_of (function_type_of call)) results
+    → WaitsFor results (with_memory v memory)
