@@ -1,2 +1,3 @@
 pub mod OneStart
 pub mod OneProcess
+pub mod Quiet

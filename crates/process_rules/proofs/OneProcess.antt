@@ -1,10 +1,10 @@
 -- The same answers lead to the same process in the same number of steps.
-use Rattle.std.proofs.Common.{◌≡◌, ℕ, List, Option, Some, None, refl, sym, ap, ◌∙◌, subst}
+use Rattle.std.proofs.Common.{◌≡◌, Option, Some, None, refl, sym, ap, ◌∙◌, subst}
 use Rattle.wasm_syntax_rules.proofs.OneRun.{settles_once}
 use Rattle.wasi_abi.specs.declared.answer.Answer.{Answer}
 use Rattle.process_rules.specs.Processes.{ProcessState, Guest, closed}
-use Rattle.process_rules.specs.Runs.{Next, On, Over, Wants, Nowhere, next_of, stepped, LeadsTo, Moves, Kept, Runs, none, step, take}
-use Rattle.process_rules.specs.Laws.{OneProcess}
+use Rattle.process_rules.specs.Runs.{Next, On, Over, Wants, Nowhere, next_of, stepped, LeadsTo, Moves, Runs, none, step, take}
+use Rattle.process_rules.specs.Laws.{OneProcess, OneRun}
 use Rattle.process_rules.proofs.OneStart.{start_once}
 
 leads_once : (guest : Guest) (next : Next) (given : Option Answer) (p q r : ProcessState) → LeadsTo guest next given p q → LeadsTo guest next given p r → q ≡ r
@@ -24,7 +24,7 @@ one_or_other guest p q r a x y =
     let stopped : LeadsTo guest (next_of guest p None) None p q = x.leads in
     (rw y.wanted.1 at stopped)
 
-runs_once : (guest : Guest) (p q r : ProcessState) (kept : List Kept) (n : ℕ) → Runs guest p kept n q → Runs guest p kept n r → q ≡ r
+pub runs_once : OneRun
 runs_once guest p q r kept n none none = refl
 runs_once guest p q r kept n (step {p = p'} {q = q'} {kept = kept'} {n = n'} m rest) (step {q = r'} m' rest') =
     let same : r' ≡ q' = moves_once guest p' r' q' None m' m in

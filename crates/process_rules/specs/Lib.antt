@@ -1,4 +1,5 @@
 pub mod Processes
 pub mod Runs
 pub mod Behind
+pub mod Owing
 pub mod Laws

@@ -1,8 +1,39 @@
 //! Laws of what a process reaches. The functions do nothing: what they ensure is the law.
 
-ghost use Rattle.process_rules.specs.Laws.{OneProcess};
+ghost use Rattle.process_rules.specs.Laws.{OneProcess, OneRun, RunsJoin, QuietRunsJoin, QuietRunsAreRuns, RulesAreQuiet, LastRuleEnds, TrapEnds};
 
 /// The same answers lead to the same process.
 pub fn one_process_is_reached()
     ensures { OneProcess }
+{}
+
+/// So many steps on the same answers lead from a process to one process.
+pub fn one_run_is_taken()
+    ensures { OneRun }
+{}
+
+/// A run and what it leads on to are one run.
+pub fn runs_join()
+    ensures { RunsJoin }
+{}
+
+/// So are steps after which nothing is owed, which are a run without answers that emits no line.
+pub fn quiet_runs_join()
+    ensures joined { QuietRunsJoin }
+    ensures runs { QuietRunsAreRuns }
+{}
+
+/// After rules that ask the host for nothing, and don't end the process, nothing is owed.
+pub fn rules_are_quiet()
+    ensures { RulesAreQuiet }
+{}
+
+/// The rule that leads to the program's end is the last step.
+pub fn last_rule_ends()
+    ensures { LastRuleEnds }
+{}
+
+/// So is the rule that traps.
+pub fn trap_ends()
+    ensures { TrapEnds }
 {}
