@@ -1,3 +1,4 @@
 pub mod OneStart
 pub mod OneProcess
 pub mod Quiet
+pub mod Growing

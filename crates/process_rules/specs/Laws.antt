@@ -6,6 +6,7 @@ use Rattle.wasm_syntax_rules.specs.Validity.{IsValid}
 use Rattle.wasm_syntax_rules.specs.Configuration.{Configuration, Traps}
 use Rattle.wasm_syntax_rules.specs.Steps.{rule, stopped, IsEnded, Steps}
 use Rattle.wasi_abi.specs.Configs.{Settings}
+use Rattle.wasi_calls_rows.specs.Laws.{Emits}
 use Rattle.process_rules.specs.Processes.{ProcessState, Guest, Exited, Trapped, over}
 use Rattle.process_rules.specs.Runs.{Kept, Moves, Runs, Reaches}
 use Rattle.process_rules.specs.Behind.{Syncs}
@@ -33,6 +34,13 @@ QuietRunsJoin = (guest : Guest) (p q r : ProcessState) (n k : ℕ) → RunsQuiet
 -- steps after which nothing is owed take no answer, and emit no line
 abbrev pub QuietRunsAreRuns : Type 0
 QuietRunsAreRuns = (guest : Guest) (p q : ProcessState) (n : ℕ) → RunsQuietly guest p n q → Runs guest p [] n q × (q.host.lines ≡ p.host.lines)
+
+-- a run of so many steps is counted, and emits lines behind those that were there
+abbrev pub RunsCount : Type 0
+RunsCount = (guest : Guest) (p q : ProcessState) (kept : List Kept) (n : ℕ) → Runs guest p kept n q → q.steps ≡ p.steps + n
+
+abbrev pub RunsEmit : Type 0
+RunsEmit = (guest : Guest) (p q : ProcessState) (kept : List Kept) (n : ℕ) → Runs guest p kept n q → Emits p.host q.host
 
 -- ---- rules that ask the host for nothing
 

@@ -1,6 +1,6 @@
 //! Laws of what a process reaches. The functions do nothing: what they ensure is the law.
 
-ghost use Rattle.process_rules.specs.Laws.{OneProcess, OneRun, RunsJoin, QuietRunsJoin, QuietRunsAreRuns, RulesAreQuiet, LastRuleEnds, TrapEnds};
+ghost use Rattle.process_rules.specs.Laws.{OneProcess, OneRun, RunsJoin, RunsCount, RunsEmit, QuietRunsJoin, QuietRunsAreRuns, RulesAreQuiet, LastRuleEnds, TrapEnds};
 
 /// The same answers lead to the same process.
 pub fn one_process_is_reached()
@@ -15,6 +15,12 @@ pub fn one_run_is_taken()
 /// A run and what it leads on to are one run.
 pub fn runs_join()
     ensures { RunsJoin }
+{}
+
+/// A run counts its steps, and takes back no line.
+pub fn runs_count_and_emit()
+    ensures count { RunsCount }
+    ensures emit { RunsEmit }
 {}
 
 /// So are steps after which nothing is owed, which are a run without answers that emits no line.

@@ -6,3 +6,4 @@ pub mod SmallRows
 pub mod MovingRows
 pub mod EntryRows
 pub mod KeepsMemory
+pub mod EmitsLines

@@ -1,18 +1,29 @@
 -- Laws of the rows: what a call that is done keeps.
-use Rattle.std.specs.Prelude.{◌≡◌, ℕ, List, length, Option, Some, None, Ok}
+use Rattle.std.specs.Prelude.{◌≡◌, ℕ, List, ◌++◌, length, Option, Some, None, Ok}
 use Rattle.std.specs.List.{AllByRecursion}
 use Rattle.wasi_abi.specs.declared.answer.Answer.{Answer}
 use Rattle.wasi_abi.specs.declared.answer.Answer.TheVariants as answer
 use Rattle.wasi_abi.specs.declared.call.Call.{Call}
 use Rattle.guest_memory.specs.Bytes.{IsByte}
 use Rattle.file_tree.specs.Files.{Path, Content, Directory, File, FileNode}
-use Rattle.wasi_calls_rows.specs.Hosts.{Host}
+use Rattle.wasi_calls_rows.specs.Hosts.{Line, Host}
 use Rattle.wasi_calls_rows.specs.Checks.{Bytes, Done}
 use Rattle.wasi_calls_rows.specs.Rows.{row}
 
 -- the memory of a call that is done is as long as it was
 abbrev pub RowsKeepMemory : Type 0
 RowsKeepMemory = (c : Call) (arguments : List ℕ) (given : Option Answer) (m : Bytes) (h : Host) (done : Done) → row c arguments given m h ≡ Ok done → length done.memory ≡ length m
+
+-- ---- lines
+
+-- the lines of the first host, and then others, are those of the second
+pub record Emits (before after : Host) : Type 0 where
+  pub lines : List Line
+  pub are : after.lines ≡ before.lines ++ lines
+
+-- a call that is done emits lines behind those that were there
+abbrev pub RowsEmit : Type 0
+RowsEmit = (c : Call) (arguments : List ℕ) (given : Option Answer) (m : Bytes) (h : Host) (done : Done) → row c arguments given m h ≡ Ok done → Emits h done.host
 
 -- ---- bytes
 

@@ -1,7 +1,7 @@
 //! Laws of the rules of the calls. The functions do nothing: what they ensure is the law.
 
 ghost use Rattle.wasi_calls_rows.specs.Examples.{OpeningExamples, MovingExamples, SmallExamples, DirectoryExamples};
-ghost use Rattle.wasi_calls_rows.specs.Laws.{RowsKeepMemory, RowsKeepBytes};
+ghost use Rattle.wasi_calls_rows.specs.Laws.{RowsKeepMemory, RowsKeepBytes, RowsEmit};
 
 /// The rules give on examples what the profile gives.
 pub fn worked_examples()
@@ -15,4 +15,9 @@ pub fn worked_examples()
 pub fn calls_keep_memory()
     ensures length { RowsKeepMemory }
     ensures bytes { RowsKeepBytes }
+{}
+
+/// No call that is done takes back a line.
+pub fn calls_emit_lines()
+    ensures { RowsEmit }
 {}
