@@ -18,26 +18,56 @@ use Rattle.machine_instance.specs.declared.fault.LinkFault.TheVariants as link
 use Rattle.machine_instance.specs.Refusals.{Denies as DeniesLink}
 use Rattle.machine_instance.specs.Offers.{offer}
 use Rattle.front_end.specs.declared.fault.FrontFault.TheVariants.{Decode, Valid, Link}
-use Rattle.front_end.specs.Acceptance.{Denies, HasNoAcceptedModule}
+use Rattle.front_end.specs.declared.fault.FrontFault.{FrontFault}
+use Rattle.front_end.specs.Acceptance.{Denies, HasNoAcceptedModule, HasNoValidModule, IsTold, IsToldOfReading}
 
 one : BytesSpellAtMostOneModule
 one bytes m n is_m is_n = some_is m n (sym (module_complete bytes m is_m) ∙ module_complete bytes n is_n)
 
-module _ (pages : ℕ) (bytes : List ℕ) where
-  pub not_spelled : (e : DecodeFault) → (e ≢ decode.Memory → HasNoModule bytes) → Denies (Decode e) (HasNoAcceptedModule pages bytes)
+module _ (bytes : List ℕ) where
+  pub not_spelled : (e : DecodeFault) → (e ≢ decode.Memory → HasNoModule bytes) → Denies (Decode e) (HasNoValidModule bytes)
   not_spelled decode.Memory h = tt
   not_spelled (decode.Malformed at) h = λ m a. h (λ e. absurd (cc)) m a.spelled a.limits
   not_spelled (decode.Float at) h = λ m a. h (λ e. absurd (cc)) m a.spelled a.limits
   not_spelled decode.Limit h = λ m a. h (λ e. absurd (cc)) m a.spelled a.limits
 
-  module _ (m : Module) (spelled : IsModule bytes m) where
-    pub not_valid : (e : ValidFault) → DeniesValid e (IsValid m) → Denies (Valid e) (HasNoAcceptedModule pages bytes)
-    not_valid valid.Memory h = tt
-    not_valid valid.Typing h = λ n a. h (subst IsValid (one bytes n m a.spelled spelled) a.valid)
-    not_valid valid.Index h = λ n a. h (subst IsValid (one bytes n m a.spelled spelled) a.valid)
-    not_valid valid.Limits h = λ n a. h (subst IsValid (one bytes n m a.spelled spelled) a.valid)
-    not_valid valid.DuplicateExport h = λ n a. h (subst IsValid (one bytes n m a.spelled spelled) a.valid)
+  pub not_valid : (m : Module) → IsModule bytes m → (e : ValidFault) → DeniesValid e (IsValid m) → Denies (Valid e) (HasNoValidModule bytes)
+  not_valid m spelled valid.Memory h = tt
+  not_valid m spelled valid.Typing h = λ n a. h (subst IsValid (one bytes n m a.spelled spelled) a.valid)
+  not_valid m spelled valid.Index h = λ n a. h (subst IsValid (one bytes n m a.spelled spelled) a.valid)
+  not_valid m spelled valid.Limits h = λ n a. h (subst IsValid (one bytes n m a.spelled spelled) a.valid)
+  not_valid m spelled valid.DuplicateExport h = λ n a. h (subst IsValid (one bytes n m a.spelled spelled) a.valid)
 
+module _ (pages : ℕ) (bytes : List ℕ) where
+  -- an accepted module is valid
+  none_accepted : HasNoValidModule bytes → HasNoAcceptedModule pages bytes
+  none_accepted none m a = none m (record { spelled = a.spelled; limits = a.limits; valid = a.valid })
+
+  pub denied : (e : FrontFault) → Denies e (HasNoValidModule bytes) → Denies e (HasNoAcceptedModule pages bytes)
+  denied (Decode decode.Memory) h = tt
+  denied (Decode (decode.Malformed at)) h = none_accepted h
+  denied (Decode (decode.Float at)) h = none_accepted h
+  denied (Decode decode.Limit) h = none_accepted h
+  denied (Valid valid.Memory) h = tt
+  denied (Valid valid.Typing) h = none_accepted h
+  denied (Valid valid.Index) h = none_accepted h
+  denied (Valid valid.Limits) h = none_accepted h
+  denied (Valid valid.DuplicateExport) h = none_accepted h
+  denied (Link link.Memory) h = tt
+  denied (Link link.NoStart) h = none_accepted h
+  denied (Link link.NoMemory) h = none_accepted h
+  denied (Link link.UnknownImport) h = none_accepted h
+  denied (Link link.ImportType) h = none_accepted h
+  denied (Link link.InitRange) h = none_accepted h
+  denied (Link link.TooManyPages) h = none_accepted h
+
+  -- what refuses to read the module refuses it
+  pub told : (e : FrontFault) → IsToldOfReading bytes e → IsTold pages bytes e
+  told (Decode fault) h = h
+  told (Valid fault) h = h
+  told (Link fault) h = absurd h
+
+  module _ (m : Module) (spelled : IsModule bytes m) where
     pub not_linkable : (e : LinkFault) → DeniesLink (IsLinkable offer pages m) e → Denies (Link e) (HasNoAcceptedModule pages bytes)
     not_linkable link.Memory h = tt
     not_linkable link.NoStart h = λ n a. h (subst (λ z. IsLinkable offer pages z) (one bytes n m a.spelled spelled) a.linkable)

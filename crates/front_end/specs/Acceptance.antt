@@ -23,6 +23,16 @@ pub record Accepts (pages : ℕ) (bytes : List ℕ) (machine : MachineValue) : T
   pub accepted : IsAccepted offer pages bytes spelled
   pub begun : HasBegun pages spelled machine
 
+-- the bytes spell this module, within the limits, and it is valid
+pub record IsRead (bytes : List ℕ) (m : Module) : Type 0 where
+  pub spelled : IsModule bytes m
+  pub limits : IsWithinLimits bytes m
+  pub valid : IsValid m
+
+-- no module that is spelled by these bytes, within the limits, is valid
+abbrev pub HasNoValidModule : List ℕ → Type 0
+HasNoValidModule bytes = (m : Module) → IsRead bytes m → ⊥
+
 -- these bytes spell an accepted module
 abbrev pub HasAcceptedModule : ℕ → List ℕ → Type 0
 HasAcceptedModule pages bytes = (m : Module) × IsAccepted offer pages bytes m
@@ -37,6 +47,12 @@ Denies (Decode decode.Memory) P = Unit {0}
 Denies (Valid valid.Memory) P = Unit {0}
 Denies (Link link.Memory) P = Unit {0}
 Denies _ P = P
+
+-- Which of the first two steps refuses, and what it says: no module is spelled; or one is, which isn't valid.
+abbrev pub IsToldOfReading : List ℕ → FrontFault → Type 0
+IsToldOfReading bytes (Decode fault) = fault ≢ decode.Memory → HasNoModule bytes
+IsToldOfReading bytes (Valid fault) = (m : Module) × IsModule bytes m × IsWithinLimits bytes m × DeniesValid fault (IsValid m)
+IsToldOfReading bytes (Link fault) = ⊥
 
 -- Which step refuses, and what it says: no module is spelled; or one is, which isn't valid; or it is valid, and this is the
 -- first thing that it wants for linking. Want of memory says only what the steps before found.

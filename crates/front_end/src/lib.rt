@@ -5,4 +5,4 @@ mod fault;
 mod steps;
 
 pub use fault::FrontFault;
-pub use steps::accept;
+pub use steps::{accept, read};
