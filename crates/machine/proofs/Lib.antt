@@ -7,3 +7,4 @@ pub mod Linked
 pub mod AskingAgain
 pub mod Written
 pub mod Finished
+pub mod Stopped

@@ -86,5 +86,10 @@ module _ (pages : ℕ) (m : Module) (b : Beginning) (few : pages ≤ 2 ^ 16) (h 
         let Q : Configuration → Type 0 = λ z. ShowsIn (seen b.code state b.state.memory.limit) program z in
         subst Q same (shown b.code state h.functions program after.configuration after.stands b.state.memory.limit (program_in h.functions program h.types begins.is_program) after.settled)
 
+    some_begins : (program : Program) × (d : Configuration) × Begins m pages h.linkable.entry program d
+    some_begins =
+        let after = settles h.functions h.program h.types h.is_program in
+        (h.program, after.configuration, record { is_program = h.is_program; store = h.linkable.store; is_store = h.linkable.segments; settles = after.settles })
+
     pub linked_begun : HasBegun pages m (seen b.code state b.state.memory.limit)
-    linked_begun = record { guest = h.guest; linkable = h.linkable; holds = same_limit; shows = shows_begun }
+    linked_begun = record { guest = h.guest; linkable = h.linkable; holds = same_limit; shows = shows_begun; begins = some_begins }

@@ -19,12 +19,14 @@ use Rattle.machine.specs.Values.{MachineValue, HoldsMemory, ShowsIn}
 
 -- ---- the beginning
 
--- The machine is of this module, and has begun: for each program of the module under so many pages, it shows where that begins.
+-- The machine is of this module, and has begun: for each program of the module under so many pages, of which there is one, it shows
+-- where that begins.
 pub record HasBegun (pages : ℕ) (m : Module) (v : MachineValue) : Type 0 where
   pub guest : v.guest ≡ m
   pub linkable : IsLinkable offer pages m
   pub holds : HoldsMemory v
   pub shows : (program : Program) (d : Configuration) → Begins m pages linkable.entry program d → ShowsIn v program d
+  pub begins : (program : Program) × (d : Configuration) × Begins m pages linkable.entry program d
 
 -- ---- fuel
 
@@ -97,3 +99,9 @@ Answers results old new =
     (program : Program) (d : Configuration) (f : ℕ) (arguments : List Value) (waits : Thread) (kind : FunctionType)
     → ShowsIn old program d → rule program d ≡ Asks f arguments waits → slice_get program.functions f ≡ Some (Host kind) → AreOf (gives_of kind) results
     → Finishes new program (answered d old.state.memory results waits)
+
+-- ---- the end by the host
+
+-- whichever configuration it showed, without its thread
+abbrev pub Stops : MachineValue → MachineValue → Type 0
+Stops old new = (program : Program) (d : Configuration) → ShowsIn old program d → ShowsIn new program (stopped d)

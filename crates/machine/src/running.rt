@@ -6,7 +6,7 @@ ghost use Rattle.guest_memory.specs.Bytes.{IsByte};
 ghost use Rattle.guest_memory.specs.Memories.{IsWithinLimit};
 
 use guest_memory::Memory;
-use machine_running::{Code, Paused, State, go_on};
+use machine_running::{Code, Paused, State, clear, go_on};
 use std::marker::Model;
 use wasm_validate::ValidModule;
 
@@ -50,7 +50,7 @@ impl Machine {
     ghost use Rattle.machine.specs.Values.{HoldsMemory, IsSameMachine, memory_of};
     ghost use Rattle.std.specs.Borrow.{sem};
     ghost use Rattle.machine_hosting.specs.Answers.{results_of};
-    ghost use Rattle.machine.specs.Runs.{Runs, WaitsFor, Answers};
+    ghost use Rattle.machine.specs.Runs.{Runs, Stops, WaitsFor, Answers};
     ghost use Rattle.machine.specs.Lends.{LendsMemory};
 
     /// Applies rules until the program has ended or trapped, a call of the host waits, or so much fuel is spent: one unit for each
@@ -63,6 +63,15 @@ impl Machine {
     {
         is_memory(&self.state.memory);
         go_on(&self.code, &mut self.state, fuel)
+    }
+
+    /// Drops the thread: frames, operands, and the calls to come. Memory, globals and table stay.
+    pub fn stop(&mut self)
+        ensures same { IsSameMachine self.old self.new }
+        ensures holds { HoldsMemory self.old → HoldsMemory self.new }
+        ensures stops { Stops self.old self.new }
+    {
+        clear(&mut self.state);
     }
 
     /// Answers the call of the host that waits: puts its result, if the call gives one, in the place of what the call took, and applies

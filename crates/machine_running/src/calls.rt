@@ -27,7 +27,7 @@ fn enter(state: &mut State, function: u32, parameters: usize, declared: usize)
 }
 
 /// Leaves no frames, words and calls to come: the thread is over.
-fn clear(state: &mut State)
+pub fn clear(state: &mut State)
     ensures { IsCleared state.old state.new }
 {
     state.frames.clear();

@@ -11,6 +11,7 @@ pub mod state;
 pub mod turn;
 mod waiting;
 
+pub use calls::clear;
 pub use code::Code;
 pub use pause::{Arguments, Pause, Paused};
 pub use running::go_on;

@@ -1,0 +1,55 @@
+-- What a machine is without its thread.
+use Rattle.std.proofs.Common.{◌≡◌, ℕ, List, [], refl, sym, ap, ◌∙◌, subst, arith}
+use Rattle.std.specs.Prelude.{reverse}
+use Rattle.wasm_syntax.specs.declared.types.FunctionType.{FunctionType}
+use Rattle.guest_memory.specs.Memories.{LinearMemory}
+use Rattle.wasm_syntax_rules.specs.Validity.{module_context}
+use Rattle.wasm_syntax_rules.specs.Configuration.{Program, Configuration}
+use Rattle.wasm_syntax_rules.specs.Steps.{stopped}
+use Rattle.machine_state.specs.Places.{Place, ShowsThread}
+use Rattle.machine_threads.specs.Threads.{places_of}
+use Rattle.machine_running.specs.declared.code.Code.{Code}
+use Rattle.machine_running.specs.declared.state.State.{State}
+use Rattle.machine_running.specs.Turns.{IsCleared}
+use Rattle.machine_running.proofs.Advancing.{cleared_stands}
+use Rattle.machine.specs.Values.{IsProgramIn}
+use Rattle.machine.specs.Runs.{Stops}
+use Rattle.machine.specs.Insides.{seen, IsMemoryFor, IsSettledIn, IsMachine, with_memory_of}
+
+module _ (code : Code) (old new : State) (most : ℕ) (cleared : IsCleared old new) where
+  settled_with : IsMachine code old most → (memory : LinearMemory) (functions : List FunctionType) (program : Program) → IsMemoryFor most memory → IsProgramIn code.«module» most functions program → IsSettledIn code (with_memory_of new memory) functions program
+  settled_with machine memory functions program h is =
+      let some = machine.settled memory functions program h is in
+      let there : IsCleared (with_memory_of old memory) (with_memory_of new memory) = record { frames = cleared.frames; slots = cleared.slots; later = cleared.later; globals = cleared.globals; memory = refl } in
+      let k = some.stands.stands in
+      record {
+        configuration = stopped some.configuration;
+        stands = cleared_stands code functions program (with_memory_of old memory) (with_memory_of new memory) some.configuration some.stands.is_code k.typed k.shown k.same_table there;
+        settled = refl;
+      }
+
+  pub machine_stopped : IsMachine code old most → IsMachine code new most
+  machine_stopped machine = record { functions = machine.functions; program = machine.program; is = machine.is; settled = settled_with machine }
+
+  no_places : places_of new.frames new.slots ≡ []
+  no_places = rw cleared.frames refl
+
+  pub machine_stops : Stops (seen code old most) (seen code new most)
+  machine_stops program d h =
+      let s = h.shows in
+      record {
+        functions = h.functions;
+        is = h.is;
+        holds = ap (λ (m : LinearMemory). m.limit) cleared.memory ∙ h.holds;
+        shows = record {
+          typed = record { store = s.typed.store; thread = tt; later = tt };
+          settled = refl;
+          memory = ap (λ (m : LinearMemory). m.bytes) cleared.memory ∙ s.memory;
+          globals = ap (λ v. v.items) cleared.globals ∙ s.globals;
+          same_table = s.same_table;
+          later = ap reverse cleared.later;
+          frames = let P : List Place → Type 0 = λ places. ShowsThread (module_context code.«module» h.functions) program places [] in subst P (sym no_places) tt;
+          few_frames = rw no_places (omega arith);
+          few_values = omega arith;
+        };
+      }
