@@ -105,10 +105,10 @@ found call.ProcExit = refl
 found call.SchedYield = refl
 found call.RandomGet = refl
 
-one_name : (c d : Call) → name_of c ≡ name_of d → c ≡ d
+pub one_name : (c d : Call) → name_of c ≡ name_of d → c ≡ d
 one_name c d e = let p = found c in let q = found d in let r : named all_calls (name_of c) ≡ named all_calls (name_of d) = ap (named all_calls) e in cc
 
-calls_once : (imports : List Import) (a b : List Call) → AreCalls imports a → AreCalls imports b → a ≡ b
+pub calls_once : (imports : List Import) (a b : List Call) → AreCalls imports a → AreCalls imports b → a ≡ b
 calls_once [] [] [] h k = refl
 calls_once [] [] (d ∷ b) h k = absurd k
 calls_once [] (c ∷ a) b h k = absurd h
@@ -154,7 +154,7 @@ not_again e [] name item same h k = k
 not_again e (f ∷ exports) name item same h (inl k) = h.0 (same ∙ sym k.0)
 not_again e (f ∷ exports) name item same h (inr k) = not_again e exports name item same h.1 k
 
-entry_once : (exports : List Export) (name : List ℕ) (a b : ExportItem) → HaveDistinctNames exports → Exports exports name a → Exports exports name b → a ≡ b
+pub entry_once : (exports : List Export) (name : List ℕ) (a b : ExportItem) → HaveDistinctNames exports → Exports exports name a → Exports exports name b → a ≡ b
 entry_once [] name a b d h k = absurd h
 entry_once (e ∷ exports) name a b d (inl h) (inl k) = sym h.1 ∙ k.1
 entry_once (e ∷ exports) name a b d (inl h) (inr k) = absurd (not_again e exports name b h.0 d.0 k)
@@ -178,7 +178,7 @@ first_once m pages x y p c d e a b =
     let begin : begun a.store (calls_of m.start x) ≡ begun b.store (calls_of m.start y) = rw (same, e) refl in
     settles_once p (begun a.store (calls_of m.start x)) c d a.settles (subst (λ z. Settles p z d) (sym begin) b.settles)
 
-item_number : (x y : ℕ) → export.Function x ≡ export.Function y → x ≡ y
+pub item_number : (x y : ℕ) → export.Function x ≡ export.Function y → x ≡ y
 item_number x y e = cc
 
 pub start_once : (m : Module) (config : Settings) (g h : Guest) (p q : ProcessState) → IsValid m → IsStart m config g p → IsStart m config h q → (g ≡ h) × (p ≡ q)
