@@ -1,11 +1,11 @@
 //! A call of the guest.
 
-ghost use Rattle.std.specs.Prelude.{◌≡◌, ◌+◌, ◌≤◌, ◌∷◌, [], length, option_copied, IfOk, Option, Ok};
+ghost use Rattle.std.specs.Prelude.{◌≡◌, ◌+◌, ◌≤◌, ◌∷◌, [], length, option_copied, IfOk, Option, Ok, Err};
 ghost use Rattle.wasm_syntax.specs.declared.types.ValueType.TheVariants.{I32};
 ghost use Rattle.wasi_abi.specs.declared.answer.Answer.{Answer};
 ghost use Rattle.wasi_abi.specs.Calls.{parameters_of};
 ghost use Rattle.wasi_calls_rows.specs.Hosts.{Host as TheHost};
-ghost use Rattle.wasi_calls_rows.specs.Checks.{Done};
+ghost use Rattle.wasi_calls_rows.specs.Checks.{Done, Halt};
 ghost use Rattle.wasi_calls_rows.specs.Rows.{row, Shows};
 ghost use Rattle.wasi_calls_rows.specs.declared.limits.TheConstants.{MOVED_BYTES};
 ghost use Rattle.wasi_calls.specs.Held.{ShowsHost};
@@ -47,7 +47,7 @@ pub fn call(
     }
 }
 
-/// How many lines such a call would emit, if it is done. It changes nothing, and fails for want of
+/// How many lines such a call would emit: none, if it is not done. It changes nothing, and fails for want of
 /// memory alone.
 pub fn lines_emitted(
     alloc: Global,
@@ -60,6 +60,8 @@ pub fn lines_emitted(
     requires typed { AreArguments (parameters_of call) arguments.now }
     ensures count { IfOk result (λ n. (given : Option Answer) (h : TheHost) (done : Done) → ShowsHost host.now h
         → row call arguments.now given memory.now.bytes h ≡ Ok done → length done.host.lines ≡ length h.lines + n) }
+    ensures none { IfOk result (λ n. (given : Option Answer) (h : TheHost) (halt : Halt) → ShowsHost host.now h
+        → row call arguments.now given memory.now.bytes h ≡ Err halt → n ≡ 0) }
     ensures few { IfOk result (λ n. n ≤ MOVED_BYTES) }
 {
     match call {

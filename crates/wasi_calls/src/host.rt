@@ -160,6 +160,13 @@ impl Host {
         self.streams.release(count);
     }
 
+    /// The most bytes of a request's text, and random bytes of one call.
+    pub fn limit(&self) -> usize
+        ensures { result ≡ self.now.host.limit }
+    {
+        self.limit
+    }
+
     /// What the process was configured with.
     pub fn config(&self) -> &Config
         ensures arguments { result.now.arguments ≡ self.now.host.arguments }
