@@ -5,7 +5,7 @@ use Rattle.clap.specs.declared.parser.matches.ArgMatches.{ArgMatches}
 use Rattle.clap.specs.declared.builder.command.Command.TheViews.{out-Command}
 use Rattle.clap.specs.declared.builder.command.Command.{Command}
 use Rattle.wasmhost_words.specs.declared.Order.{Order}
-use Rattle.wasmhost_words.specs.declared.Order.TheVariants.{Check}
+use Rattle.wasmhost_words.specs.declared.Order.TheVariants.{Check, Run}
 
 -- no argument of the command, or of those below it, is global
 abbrev pub IsLocal : Command → Type 0
@@ -13,7 +13,8 @@ IsLocal c = (out-Command c).has_globals ≡ false
 
 -- the name by which an order is given
 abbrev pub name_of : Order → List ℕ
-name_of (Check _) = codes "check"
+name_of (Check path) = codes "check"
+name_of (Run path fuel) = codes "run"
 
 -- the matches are those of a parse by a command that requires a command below it and has no global argument
 pub record IsRead (m : ArgMatches) : Type 0 where

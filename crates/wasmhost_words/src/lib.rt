@@ -6,7 +6,7 @@ ghost use Rattle.clap.specs.declared.builder.command.Command.TheViews.{out-Comma
 ghost use Rattle.wasmhost_words.specs.Commands.{IsLocal, IsMet, IsRead, name_of};
 
 use clap::error::ErrorKind;
-use clap::{Arg, ArgAction, ArgMatches, Command, Error};
+use clap::{Arg, ArgAction, ArgMatches, Command, Error, value_parser};
 use std::alloc::{AllocError, Global};
 use std::convert::AsStr;
 use thiserror::Error as FaultText;
@@ -14,11 +14,16 @@ use thiserror::Error as FaultText;
 #[cfg(test)]
 mod tests;
 
+/// The steps of a slice, where no number is given.
+const FUEL: u64 = 100_000;
+
 /// A command with its options, borrowed from the words.
 #[derive(Debug, Drop)]
 pub enum Order<'a> {
     /// Says whether the module in this file is accepted.
     Check { path: &'a str },
+    /// Runs a fresh worker of the module in this file, so many steps at a time.
+    Run { path: &'a str, fuel: u64 },
 }
 
 /// Why the words give no order.
@@ -66,6 +71,17 @@ fn path<'a>(alloc: Global, name: &'a str) -> Arg<'a>
     Arg::new(alloc, name).required(true).action(ArgAction::Set)
 }
 
+/// An option with a number from 1 on.
+fn count<'a>(alloc: Global, name: &'a str, help: &'a str) -> Arg<'a>
+    ensures { result.global ≡ false }
+{
+    Arg::new(alloc, name)
+        .long(name)
+        .help(help)
+        .value_name("N")
+        .value_parser(value_parser!(u64).range(1..))
+}
+
 fn with<'a>(command: Command<'a>, arg: Arg<'a>) -> Result<Command<'a>, AllocError>
     requires command_local { IsLocal command }
     requires arg_local { arg.global ≡ false }
@@ -95,11 +111,20 @@ fn check_command<'a>(alloc: Global) -> Result<Command<'a>, AllocError>
     with(command, path(alloc, "MODULE"))
 }
 
+fn run_command<'a>(alloc: Global) -> Result<Command<'a>, AllocError>
+    ensures { IfOk result IsLocal }
+{
+    let about = "Run a fresh worker: request lines in, its lines out";
+    let command = with(named(alloc, "run", about), path(alloc, "MODULE"))?;
+    with(command, count(alloc, "fuel", "Steps of a slice"))
+}
+
 fn command<'a>(alloc: Global) -> Result<Command<'a>, AllocError>
     ensures { IfOk result (λ c. IsLocal c × ((out-Command c).subcommand_required ≡ true)) }
 {
     let whole = named(alloc, "wasmhost", "Durable WebAssembly workers");
     let whole = below(whole, check_command(alloc)?)?;
+    let whole = below(whole, run_command(alloc)?)?;
     Ok(whole.subcommand_required(true))
 }
 
@@ -108,8 +133,17 @@ fn order_of<'a>(name: &str, matches: &ArgMatches<'a>) -> Option<Order<'a>>
 {
     match name {
         "check" => matches.get_str("MODULE").map(|path| Order::Check { path }),
+        "run" => run_of(matches),
         _ => None,
     }
+}
+
+fn run_of<'a>(matches: &ArgMatches<'a>) -> Option<Order<'a>>
+    ensures { IfSome result (λ order. name_of order ≡ codes "run") }
+{
+    let path = matches.get_str("MODULE")?;
+    let fuel = matches.get_one("fuel").unwrap_or(FUEL);
+    Some(Order::Run { path, fuel })
 }
 
 /// The matches of a command line: where it is read, a command is there.

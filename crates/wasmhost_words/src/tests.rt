@@ -7,6 +7,20 @@ use std::test::Fail;
 fn reads_check(rt: HostRuntime) -> Result<(), Fail> {
     match read_words(rt.alloc(), &["wasmhost", "check", "/dev/null"])? {
         Order::Check { path } => assert_eq!(rt; path, "/dev/null"),
+        Order::Run { .. } => assert!(rt; false),
+    }
+    Ok(())
+}
+
+#[test]
+fn reads_run(rt: HostRuntime) -> Result<(), Fail> {
+    match read_words(rt.alloc(), &["wasmhost", "run", "a.wasm"])? {
+        Order::Run { path, fuel } => assert_eq!(rt; (path, fuel), ("a.wasm", 100_000)),
+        Order::Check { .. } => assert!(rt; false),
+    }
+    match read_words(rt.alloc(), &["wasmhost", "run", "a.wasm", "--fuel", "1"])? {
+        Order::Run { path, fuel } => assert_eq!(rt; (path, fuel), ("a.wasm", 1)),
+        Order::Check { .. } => assert!(rt; false),
     }
     Ok(())
 }
@@ -28,6 +42,9 @@ fn tells_mistakes_from_help(rt: HostRuntime) -> Result<(), Fail> {
         status_of(read_words(alloc, &["wasmhost", "check", "a", "b"])),
         2
     );
+    let no_steps = ["wasmhost", "run", "a", "--fuel", "0"];
+    assert_eq!(rt; status_of(read_words(alloc, &no_steps)), 2);
     assert_eq!(rt; status_of(read_words(alloc, &["wasmhost", "--help"])), 0);
+    assert_eq!(rt; status_of(read_words(alloc, &["wasmhost", "run", "-h"])), 0);
     Ok(())
 }
