@@ -1,0 +1,33 @@
+-- The lines that a worker's reader and writer see (this project's own).
+use Rattle.std.specs.Prelude.{ℕ, ◌==◌, if◌then◌else◌, List, [], ◌∷◌, ◌++◌, codes}
+use Rattle.std.specs.Fmt.{decimal}
+use Rattle.wasm_syntax.specs.declared.value.Trap.{Trap}
+use Rattle.wasm_syntax.specs.declared.value.Trap.TheVariants as trap
+use Rattle.wasi_abi.specs.Answers.{newline}
+use Rattle.wasi_calls_rows.specs.Hosts.{Line}
+use Rattle.wasmhost_lines.specs.declared.request.Request.{Request}
+use Rattle.wasmhost_lines.specs.declared.request.Request.TheVariants as request
+
+-- stream 1 is the output, and stream 2 the error output
+abbrev pub letter_of : ℕ → List ℕ
+letter_of stream = if stream == 2 then codes " e " else codes " o "
+
+-- a line as it is printed: its number, the letter of its stream, its text and a newline
+abbrev pub printed : ℕ → Line → List ℕ
+printed number line = decimal number ++ letter_of line.stream ++ line.text ++ newline ∷ []
+
+-- a request line as it is read, without its newline: its number, and `r` with a text or `e` for the end
+abbrev pub request_line : Request → List ℕ
+request_line (request.Text number text) = decimal number ++ codes " r " ++ text.now
+request_line (request.End number) = decimal number ++ codes " e"
+
+-- the name of a trap, as it is printed
+abbrev pub name_of : Trap → List ℕ
+name_of trap.Unreachable = codes "unreachable"
+name_of trap.DivideByZero = codes "integer divide by zero"
+name_of trap.IntegerOverflow = codes "integer overflow"
+name_of trap.MemoryOutOfBounds = codes "out of bounds memory access"
+name_of trap.UndefinedElement = codes "undefined element"
+name_of trap.UninitializedElement = codes "uninitialized element"
+name_of trap.IndirectCallTypeMismatch = codes "indirect call type mismatch"
+name_of trap.StackExhausted = codes "stack exhausted"

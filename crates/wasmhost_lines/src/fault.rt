@@ -1,0 +1,21 @@
+//! Why there is no answer from request lines.
+
+use thiserror::Error;
+
+#[derive(Clone, Copy, Debug, PartialEq, Eq, Error)]
+pub enum LineFault {
+    /// A request beyond the next one.
+    #[error("refused request {given}, wanted {wanted}")]
+    Number { given: u64, wanted: u64 },
+    /// A line of another form, or with a text that is too long.
+    #[error("refused request line")]
+    Form,
+    /// The reader failed.
+    #[error("failed N2 Source")]
+    Read,
+    #[error("failed N4 Memory")]
+    Memory,
+    /// Request lines answer nothing but requests.
+    #[error("failed N2 Source")]
+    Kind,
+}
