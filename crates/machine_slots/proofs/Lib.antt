@@ -1,5 +1,6 @@
 pub mod Branches
 pub mod Falls
 pub mod Families
+pub mod Outcomes
 pub mod Places
 pub mod TypedFrames

@@ -6,6 +6,7 @@ mod effects;
 mod integers;
 mod laws;
 mod linear_memory;
+pub mod outcome;
 mod parametric;
 mod slots;
 #[cfg(test)]
@@ -17,6 +18,7 @@ pub use effects::operate;
 pub use integers::{binary, compare, convert, eqz, unary};
 pub use laws::{jumps_are_falls, typed_frames_are_ready, words_are_slots};
 pub use linear_memory::{load, memory_grow, memory_size, store};
+pub use outcome::Outcome;
 pub use parametric::{constant, drop_top, select};
 pub use slots::{SLOTS, Slots};
 pub use variables::{global_get, global_set, local_get, local_set, local_tee};

@@ -1,0 +1,28 @@
+//! What comes of an instruction.
+
+ghost use Rattle.std.specs.Prelude.{◌≡◌};
+ghost use Rattle.machine_slots.specs.Outcomes.{outcome_of};
+
+use wasm_syntax::Trap;
+
+/// What comes of an instruction.
+#[derive(Clone, Copy, Debug, PartialEq, Eq)]
+pub enum Outcome {
+    /// Its effect is done, and the next instruction follows.
+    Done,
+    /// It traps.
+    Trapped(Trap),
+    /// Nothing yet: it leads elsewhere than to the next instruction, or nowhere.
+    Elsewhere,
+}
+
+/// What comes of an instruction that may trap.
+#[inline(always)]
+pub(crate) fn outcome_of(answer: Result<(), Trap>) -> Outcome
+    ensures { result ≡ outcome_of answer }
+{
+    match answer {
+        Ok(()) => Outcome::Done,
+        Err(trap) => Outcome::Trapped(trap),
+    }
+}
