@@ -1,0 +1,11 @@
+pub mod Built
+pub mod Lines
+pub mod Making
+pub mod Made
+pub mod Beyond
+pub mod Stretching
+pub mod Counting
+pub mod Pausing
+pub mod Looping
+pub mod Starting
+pub mod Asking

@@ -1,0 +1,72 @@
+-- How many lines there are.
+use Rattle.std.proofs.Common.{◌≡◌, ◌≢◌, ℕ, ◌+◌, ◌<◌, ◌≤◌, ◌^◌, List, [], ◌∷◌, ◌++◌, length, refl, ap, ◌∙◌, arith, length-append, append-nil}
+use Rattle.std.specs.Prelude.{ltb, ◌==◌, true, false}
+use Rattle.std.proofs.lemmas.Bool.{ltb-true, eqb-true}
+use Rattle.std.proofs.lemmas.Bool.Decides.{nat_tests}
+use Rattle.wasi_calls_rows.specs.Hosts.{Line, Host}
+use Rattle.wasi_calls_rows.specs.Lines.{rest_of}
+use Rattle.wasi_calls_rows.specs.Laws.{Emits}
+use Rattle.wasi_calls.specs.Held.{Held, ShowsHost, held_ended}
+use Rattle.process.specs.Parts.{HasFewLines}
+
+pub few_left : (first second : List ℕ) → length (rest_of 1 first ++ rest_of 2 second) ≤ 2
+few_left [] [] = omega arith
+few_left [] (b ∷ second) = omega arith
+few_left (a ∷ first) [] = omega arith
+few_left (a ∷ first) (b ∷ second) = omega arith
+
+pub lines_shown : (held : Held) (h : Host) → ShowsHost held h → length h.lines ≡ held.released + length held.host.lines
+lines_shown held h s =
+    let lines : length h.lines ≡ length (s.before ++ held.host.lines) = ap (λ (g : Host). length g.lines) s.is in
+    let count : length s.before ≡ held.released = s.count in
+    omega (arith, lines, count, length-append s.before held.host.lines)
+
+-- with room for two more
+pub few_shown : (held : Held) (h : Host) → ShowsHost held h → length h.lines + 2 < 2 ^ 63 → HasFewLines held
+few_shown held h s few =
+    let lines = lines_shown held h s in
+    let left = few_left held.host.first held.host.second in
+    omega (arith, lines, left, few)
+
+-- the lines that an end emits are counted before it
+pub few_ended : (held : Held) → HasFewLines held → HasFewLines (held_ended held)
+few_ended held few =
+    let joined = length-append held.host.lines (rest_of 1 held.host.first ++ rest_of 2 held.host.second) in
+    omega (arith, joined, few)
+
+-- where as many lines were released, and none waits before or after, the lines are the same
+no_more : (a b : List Line) → length (a ++ b) ≡ length a → b ≡ []
+no_more a [] e = refl
+no_more a (x ∷ b) e = absurd (omega (arith, e, length-append a (x ∷ b)))
+
+pub same_lines : (old new : Held) (g h : Host) → ShowsHost old g → ShowsHost new h → new.released ≡ old.released → old.host.lines ≡ [] → new.host.lines ≡ [] → Emits g h → h.lines ≡ g.lines
+same_lines old new g h s t released before after emits =
+    let x = lines_shown old g s in
+    let y = lines_shown new h t in
+    let none_before : length old.host.lines ≡ 0 = ap (λ (ls : List Line). length ls) before in
+    let none_after : length new.host.lines ≡ 0 = ap (λ (ls : List Line). length ls) after in
+    let grown : length h.lines ≡ length (g.lines ++ emits.lines) = ap (λ (ls : List Line). length ls) emits.are in
+    let more : emits.lines ≡ [] = no_more g.lines emits.lines (omega arith) in
+    emits.are ∙ (rw more (append-nil g.lines))
+
+-- where one waits after, they are not
+pub other_lines : (old new : Held) (g h : Host) (line : Line) (rest : List Line) → ShowsHost old g → ShowsHost new h → new.released ≡ old.released → old.host.lines ≡ [] → new.host.lines ≡ line ∷ rest → h.lines ≢ g.lines
+other_lines old new g h line rest s t released before after same =
+    let x = lines_shown old g s in
+    let y = lines_shown new h t in
+    let none_before : length old.host.lines ≡ 0 = ap (λ (ls : List Line). length ls) before in
+    let some_after : length new.host.lines ≡ length (line ∷ rest) = ap (λ (ls : List Line). length ls) after in
+    let counts : length h.lines ≡ length g.lines = ap (λ (ls : List Line). length ls) same in
+    omega arith
+
+-- ---- tests
+
+pub less_when : (a b : ℕ) → ltb a b ≡ true → a < b
+less_when a b e = ltb-true a b e
+
+pub more_when : (a b : ℕ) → ltb a b ≡ false → b ≤ a
+more_when a b e = grind (arith, nat_tests)
+
+pub empty_when : (lines : List Line) → (length lines == 0) ≡ true → lines ≡ []
+empty_when [] e = refl
+empty_when (line ∷ lines) e = let none : length (line ∷ lines) ≡ 0 = eqb-true (length (line ∷ lines)) 0 e in absurd (omega (arith, none))

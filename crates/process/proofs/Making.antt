@@ -1,0 +1,200 @@
+-- What a call of the guest comes to.
+use Rattle.std.proofs.Common.{◌≡◌, ℕ, ◌<◌, ◌^◌, List, [], ◌∷◌, Option, Some, None, refl, sym, ap, ◌∙◌, subst, arith}
+use Rattle.std.specs.Prelude.{Ok, Err, slice_get, map, reverse}
+use Rattle.std.specs.Option.{option_map}
+use Rattle.wasm_syntax.specs.declared.value.Value.{Value}
+use Rattle.wasm_syntax.specs.declared.value.Value.TheVariants as value
+use Rattle.wasm_syntax_rules.specs.Types.{AreOf, gives_of, number_in}
+use Rattle.wasm_syntax_rules.specs.Configuration.{Program, Configuration, Outcome as Result}
+use Rattle.wasm_syntax_rules.specs.Steps.{answered, stopped, IsEnded, Settles}
+use Rattle.wasi_abi.specs.declared.answer.Answer.{Answer}
+use Rattle.wasi_abi.specs.declared.call.Call.{Call}
+use Rattle.wasi_abi.specs.declared.call.Call.TheVariants as call
+use Rattle.wasi_abi.specs.declared.errno.Errno.{Errno}
+use Rattle.wasi_abi.specs.declared.errno.Errno.TheVariants as errno
+use Rattle.wasi_abi.specs.Calls.{parameters_of, function_type_of}
+use Rattle.wasi_abi.specs.Numbers.{errno_number}
+use Rattle.wasi_calls_rows.specs.Hosts.{Host}
+use Rattle.wasi_calls_rows.specs.Checks.{Bytes, Done, Row, Refuses, Ends, Asks as Wishes}
+use Rattle.wasi_calls_rows.specs.Lines.{lines_ended}
+use Rattle.wasi_calls_rows.specs.Rows.{row, IsSync, IsDone}
+use Rattle.wasi_calls.specs.declared.outcome.Outcome.{Outcome}
+use Rattle.wasi_calls.specs.Held.{Held, ShowsHost}
+use Rattle.wasi_calls.specs.Calls.{IsBuilt, AreArguments, ShowsRow}
+use Rattle.machine_hosting.specs.Answers.{results_of}
+use Rattle.machine.specs.Values.{MachineValue, ShowsIn, memory_of, with_memory}
+use Rattle.machine.specs.Laws.{with_bytes}
+use Rattle.machine.proofs.Written.{shows_what_is_written}
+use Rattle.process_rules.specs.Processes.{Exited, ProcessState, Guest, AreCalls, over, closed}
+use Rattle.process_rules.specs.Runs.{Next, On, Over, given_by, after_row, after_call, after_rule, next_of, stepped, LeadsTo}
+use Rattle.process_rules.specs.Behind.{Syncs}
+use Rattle.process_rules.proofs.Quiet.{open_still}
+use Rattle.process.specs.declared.stop.End.{End}
+use Rattle.process.specs.Values.{ending_of}
+use Rattle.process.specs.Parts.{IsAt}
+use Rattle.process.specs.Callings.{Leads, EndsAt, HasCalled, number_of}
+
+-- ---- what is given
+
+errno_small : (e : Errno) → errno_number e < 2 ^ 32
+errno_small errno.Badf = omega arith
+errno_small _ = omega arith
+
+pub number_small : (error : Option Errno) → number_of error < 2 ^ 32
+number_small None = omega arith
+number_small (Some e) = errno_small e
+
+-- the call gives its number, and that is all
+pub record GivesNumber (c : Call) : Type 0 where
+  pub gives : (n : ℕ) → given_by c n ≡ value.I32 n ∷ []
+  pub typed : (n : ℕ) → n < 2 ^ 32 → AreOf (gives_of (function_type_of c)) (value.I32 n ∷ [])
+
+-- the call is over, and the process goes on
+abbrev pub IsOver : Row → Type 0
+IsOver (Ok done) = Unit {0}
+IsOver (Err (Refuses e)) = Unit {0}
+IsOver (Err (Ends code)) = ⊥
+IsOver (Err (Wishes kind)) = ⊥
+
+exit_over : (code : ℕ) (r : Row) → Err (Ends code) ≡ r → IsOver r → ⊥
+exit_over code (Ok done) e over = cc
+exit_over code (Err (Refuses f)) e over = cc
+exit_over code (Err (Ends c)) e over = over
+exit_over code (Err (Wishes kind)) e over = over
+
+pub gives_number : (c : Call) → IsBuilt c → (arguments : List ℕ) → AreArguments (parameters_of c) arguments → (given : Option Answer) (m : Bytes) (h : Host) (r : Row) → row c arguments given m h ≡ r → IsOver r → GivesNumber c
+gives_number call.FdWrite built arguments typed given m h r e over = record { gives = λ n. refl; typed = λ n small. (small, tt) }
+gives_number call.ProcExit built [] typed given m h r e over = absurd typed
+gives_number call.ProcExit built (code ∷ []) typed given m h r e over = absurd (exit_over code r e over)
+gives_number call.ProcExit built (code ∷ n ∷ rest) typed given m h r e over = absurd typed.1
+gives_number _ built arguments typed given m h r e over = absurd built
+
+-- ---- at a call
+
+pub closed_over : (q : ProcessState) → IsEnded q.configuration → closed q ≡ over (Exited 0) q
+closed_over q ends = rw (ends.returned, ends.nothing_later) refl
+
+module _ (guest : Guest) (p : ProcessState) (c : Call) (arguments : List ℕ) (at : IsAt guest p.configuration c arguments) (given : Option Answer) where
+  pub next_is : (r : Row) → row c arguments given p.configuration.store.memory p.host ≡ r → next_of guest p given ≡ after_row c r p.configuration p.host at.waits
+  next_is r e =
+      ap (λ (o : Result). after_rule guest o given p.configuration p.host) at.asks
+      ∙ ap (λ (o : Option Call). after_call o at.operands given p.configuration p.host at.waits) at.is_call
+      ∙ ap (λ (ns : List ℕ). after_row c (row c ns given p.configuration.store.memory p.host) p.configuration p.host at.waits) (sym at.are)
+      ∙ ap (λ (r : Row). after_row c r p.configuration p.host at.waits) e
+
+  -- the process goes on with what the call gives
+  pub record GoesOn (m : Bytes) (held : Held) (n : ℕ) : Type 0 where
+    pub host : Host
+    pub next : next_of guest p given ≡ On (answered p.configuration m (results_of (Some n)) at.waits) host
+    pub shows : ShowsHost held host
+    pub gives : GivesNumber c
+
+  module _ (built : IsBuilt c) (typed : AreArguments (parameters_of c) arguments) where
+    pub goes_on : (error : Option Errno) (m : Bytes) (held old : Held) → ShowsHost old p.host → ShowsRow (IsDone error) m held p.configuration.store.memory old (row c arguments given p.configuration.store.memory p.host) → GoesOn m held (number_of error)
+    goes_on None m held old shows told =
+        let number = gives_number c built arguments typed given p.configuration.store.memory p.host (Ok told.0) told.1 tt in
+        record {
+          host = told.0.host;
+          next = next_is (Ok told.0) told.1
+              ∙ ap (λ (z : Bytes). On (answered p.configuration z (given_by c 0) at.waits) told.0.host) (sym told.2)
+              ∙ ap (λ (z : List Value). On (answered p.configuration m z at.waits) told.0.host) (number.gives 0);
+          shows = told.3;
+          gives = number;
+        }
+    goes_on (Some e) m held old shows told =
+        let number = gives_number c built arguments typed given p.configuration.store.memory p.host (Err (Refuses e)) told.0 tt in
+        record {
+          host = p.host;
+          next = next_is (Err (Refuses e)) told.0
+              ∙ ap (λ (z : Bytes). On (answered p.configuration z (given_by c (errno_number e)) at.waits) p.host) (sym told.1)
+              ∙ ap (λ (z : List Value). On (answered p.configuration m z at.waits) p.host) (number.gives (errno_number e));
+          shows = (let P : Held → Type 0 = λ z. ShowsHost z p.host in subst P (sym told.2) shows);
+          gives = number;
+        }
+
+  -- ---- where it leads
+
+  pub leads_on : (new : MachineValue) (held : Held) (c' : Configuration) (h : Host) (e : Configuration) (ended : Option End) → AreCalls new.guest.imports guest.calls → next_of guest p given ≡ On c' h → Settles guest.program c' e → ShowsIn new guest.program e → EndsAt e held h ended → Leads new held guest p given (option_map ending_of ended)
+  leads_on new held c' h e None calls next settles shows ends =
+      let q : ProcessState = stepped given e h p in
+      let P : Next → Type 0 = λ z. LeadsTo guest z given p q in
+      record {
+        process = q;
+        leads = subst P (sym next) (e, settles, sym (open_still e.thread e.later q (λ a b. ends.0 (record { returned = a; nothing_later = b }))));
+        shows = record { calls = calls; configuration = shows; host = ends.1; closed = λ _. ends.0 };
+        ended = refl;
+      }
+  leads_on new held c' h e (Some how) calls next settles shows ends =
+      let q : ProcessState = over (Exited 0) (stepped given e h p) in
+      let P : Next → Type 0 = λ z. LeadsTo guest z given p q in
+      record {
+        process = q;
+        leads = subst P (sym next) (e, settles, sym (closed_over (stepped given e h p) ends.0));
+        shows = record { calls = calls; configuration = shows; host = ends.2; closed = λ k. absurd (cc) };
+        ended = (let same = ends.1 in cc);
+      }
+
+  pub leads_out : (new : MachineValue) (held : Held) (code : ℕ) → AreCalls new.guest.imports guest.calls → next_of guest p given ≡ Over (Exited code) (stopped p.configuration) p.host → ShowsIn new guest.program (stopped p.configuration) → ShowsHost held (lines_ended p.host) → Leads new held guest p given (Some (Exited code))
+  leads_out new held code calls next shows host =
+      let q : ProcessState = over (Exited code) (stepped given (stopped p.configuration) p.host p) in
+      let P : Next → Type 0 = λ z. LeadsTo guest z given p q in
+      record {
+        process = q;
+        leads = subst P (sym next) refl;
+        shows = record { calls = calls; configuration = shows; host = host; closed = λ k. absurd (cc) };
+        ended = refl;
+      }
+
+  -- ---- syncs
+
+  pub syncs_when : IsSync c → p.ended ≡ None → (done : Done) → row c arguments None p.configuration.store.memory p.host ≡ Ok done → Syncs guest p
+  syncs_when sync running done e = record {
+    function = at.function;
+    arguments = at.operands;
+    waits = at.waits;
+    call = c;
+    done = done;
+    running = running;
+    asks = at.asks;
+    is_call = at.is_call;
+    is_sync = sync;
+    answers_zero = ap (λ (ns : List ℕ). row c ns None p.configuration.store.memory p.host) (sym at.are) ∙ e;
+  }
+
+  -- a sync of the guest is of this call, and done
+  pub record IsSynced : Type 0 where
+    pub is_sync : IsSync c
+    pub done : Done
+    pub is_done : row c arguments None p.configuration.store.memory p.host ≡ Ok done
+
+  pub is_synced : Syncs guest p → IsSynced
+  is_synced s =
+      let asks = at.asks in
+      let asked = s.asks in
+      let is = at.is_call in
+      let was = s.is_call in
+      let functions : s.function ≡ at.function = cc in
+      let operands : s.arguments ≡ at.operands = cc in
+      let found : slice_get guest.calls at.function ≡ Some s.call = ap (slice_get guest.calls) (sym functions) ∙ was in
+      let same : s.call ≡ c = cc in
+      record {
+        is_sync = subst IsSync same s.is_sync;
+        done = s.done;
+        is_done = ap (λ (ns : List ℕ). row c ns None p.configuration.store.memory p.host) (at.are ∙ ap (λ (vs : List Value). reverse (map number_in vs)) (sym operands))
+            ∙ ap (λ (d : Call). row d (reverse (map number_in s.arguments)) None p.configuration.store.memory p.host) (sym same)
+            ∙ s.answers_zero;
+      }
+
+-- ---- the host has made it
+
+module _ (old mid : MachineValue) (old_held mid_held : Held) (c : Call) (arguments : List ℕ) (given : Option Answer) where
+  pub written : (o : Outcome) → HasCalled old old_held c arguments given o mid mid_held → (program : Program) (d : Configuration) → ShowsIn old program d → ShowsIn mid program (with_bytes d mid.state.memory)
+  written o called program d shows =
+      let P : MachineValue → Type 0 = λ v. ShowsIn v program (with_bytes d mid.state.memory) in
+      subst P (sym called.is) (shows_what_is_written old (memory_of mid) program d called.large.size called.bytes called.large.limit shows)
+
+  pub unchanged : (o : Outcome) → HasCalled old old_held c arguments given o mid mid_held → mid.state.memory ≡ old.state.memory → mid ≡ old
+  unchanged o called e = called.is ∙ ap (λ (m : List ℕ). with_memory old (record { bytes = m; limit = mid.limit })) e ∙ ap (λ (n : ℕ). with_memory old (record { bytes = old.state.memory; limit = n })) called.large.limit
+
+  pub same_guest : (o : Outcome) → HasCalled old old_held c arguments given o mid mid_held → mid.guest ≡ old.guest
+  same_guest o called = ap (λ (v : MachineValue). v.guest) called.is

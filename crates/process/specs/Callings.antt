@@ -1,0 +1,113 @@
+-- What a call of the guest comes to.
+use Rattle.std.specs.Prelude.{◌≡◌, ℕ, ◌+◌, ◌<◌, ◌≤◌, ◌^◌, ◌↔◌, IsTrue, Bool, List, length, Option, Some, None, Result, Ok, Err, slice_get}
+use Rattle.std.specs.Option.{option_map}
+use Rattle.std.specs.List.{AllByRecursion}
+use Rattle.wasm_syntax.specs.declared.types.FunctionType.{FunctionType}
+use Rattle.wasm_syntax.specs.declared.value.Value.{Value}
+use Rattle.guest_memory.specs.Bytes.{IsByte}
+use Rattle.wasm_syntax_rules.specs.Types.{AreOf, gives_of}
+use Rattle.wasm_syntax_rules.specs.Configuration.{Host as IsHost, Program, Thread, Configuration, Asks}
+use Rattle.wasm_syntax_rules.specs.Steps.{rule, answered, IsEnded, Settles}
+use Rattle.wasi_abi.specs.declared.answer.Answer.{Answer}
+use Rattle.wasi_abi.specs.declared.call.Call.{Call}
+use Rattle.wasi_abi.specs.declared.errno.Errno.{Errno}
+use Rattle.wasi_abi.specs.Numbers.{errno_number}
+use Rattle.wasi_calls_rows.specs.Hosts.{Host}
+use Rattle.wasi_calls_rows.specs.Checks.{Done, Halt}
+use Rattle.wasi_calls_rows.specs.Lines.{lines_ended}
+use Rattle.wasi_calls_rows.specs.Rows.{row, IsSync}
+use Rattle.wasi_calls.specs.declared.outcome.Outcome.{Outcome}
+use Rattle.wasi_calls.specs.Held.{Held, ShowsHost, held_ended}
+use Rattle.wasi_calls.specs.Calls.{told_of, ShowsRow, IsAsLarge}
+use Rattle.machine_hosting.specs.Answers.{results_of}
+use Rattle.machine.specs.Values.{MachineValue, ShowsIn, memory_of, with_memory}
+use Rattle.process_rules.specs.Processes.{Ending, ProcessState, Guest}
+use Rattle.process_rules.specs.Runs.{Wants, next_of, LeadsTo}
+use Rattle.process_rules.specs.Behind.{Syncs}
+use Rattle.process.specs.declared.calling.Called.{Called}
+use Rattle.process.specs.declared.calling.Called.TheVariants as called
+use Rattle.process.specs.declared.fault.ProcessFault.{ProcessFault}
+use Rattle.process.specs.declared.fault.ProcessFault.TheVariants as fault
+use Rattle.process.specs.declared.stop.End.{End}
+use Rattle.process.specs.declared.stop.End.TheVariants as end
+use Rattle.process.specs.Values.{ending_of}
+use Rattle.process.specs.Parts.{ShowsParts, IsAt}
+
+-- it leads to a process that is then shown, and has ended so
+pub record Leads (machine : MachineValue) (held : Held) (guest : Guest) (p : ProcessState) (given : Option Answer) (how : Option Ending) : Type 0 where
+  pub process : ProcessState
+  pub leads : LeadsTo guest (next_of guest p given) given p process
+  pub shows : ShowsParts machine held guest process
+  pub ended : process.ended ≡ how
+
+-- without an answer from outside, it says whether the step is a sync of the guest
+abbrev pub Tells : Bool → Guest → ProcessState → Option Answer → Type 0
+Tells synced guest p given = given ≡ None → (IsTrue synced ↔ Syncs guest p)
+
+-- It is made; or it wants an answer, there is no memory for it, or its lines can't be numbered, and nothing changes.
+abbrev pub CallsFor : MachineValue → Held → MachineValue → Held → Guest → ProcessState → Option Answer → Result Called ProcessFault → Type 0
+CallsFor old old_held new held guest p given (Ok (called.Made synced ended)) = Leads new held guest p given (option_map ending_of ended) × Tells synced guest p given
+CallsFor old old_held new held guest p given (Ok (called.Asks kind)) = (new ≡ old) × (held ≡ old_held) × (next_of guest p given ≡ Wants kind)
+CallsFor old old_held new held guest p given (Err fault.Memory) = (new ≡ old) × (held ≡ old_held)
+CallsFor old old_held new held guest p given (Err fault.StepsSpent) =
+    (new ≡ old) × (held ≡ old_held) × ((q : ProcessState) → LeadsTo guest (next_of guest p given) given p q → 2 ^ 63 ≤ length q.host.lines + 2)
+CallsFor old old_held new held guest p given (Err fault.WrongAnswer) = ⊥
+
+-- whichever process was shown that is at this call
+abbrev pub Calls : MachineValue → Held → Call → List ℕ → Option Answer → Result Called ProcessFault → MachineValue → Held → Type 0
+Calls old old_held call arguments given result new held =
+    (guest : Guest) (p : ProcessState) → ShowsParts old old_held guest p → p.ended ≡ None → IsAt guest p.configuration call arguments
+    → CallsFor old old_held new held guest p given result
+
+-- ---- the steps of a call
+
+-- If the call is done, the lines emitted by then and two more can be numbered.
+abbrev pub HasNumbers : MachineValue → Held → Call → List ℕ → Type 0
+HasNumbers machine held call arguments =
+    (given : Option Answer) (h : Host) (done : Done) → ShowsHost held h → row call arguments given machine.state.memory h ≡ Ok done → length done.host.lines + 2 < 2 ^ 63
+
+-- they can't, however the call comes out
+pub record HasNoNumbers (machine : MachineValue) (held : Held) (call : Call) (arguments : List ℕ) : Type 0 where
+  pub done : (given : Option Answer) (h : Host) (done : Done) → ShowsHost held h → row call arguments given machine.state.memory h ≡ Ok done → 2 ^ 63 ≤ length done.host.lines + 2
+  pub stopped : (given : Option Answer) (h : Host) (halt : Halt) → ShowsHost held h → row call arguments given machine.state.memory h ≡ Err halt → 2 ^ 63 ≤ length h.lines + 2
+
+-- The host has made the call, on the memory that the machine holds. All else of the machine is as it was.
+pub record HasCalled (old : MachineValue) (old_held : Held) (call : Call) (arguments : List ℕ) (given : Option Answer) (outcome : Outcome) (new : MachineValue) (held : Held) : Type 0 where
+  pub is : new ≡ with_memory old (memory_of new)
+  pub large : IsAsLarge (memory_of old) (memory_of new)
+  pub bytes : AllByRecursion IsByte new.state.memory
+  pub released : held.released ≡ old_held.released
+  pub shown : (h : Host) → ShowsHost old_held h → ShowsRow (told_of outcome) new.state.memory held old.state.memory old_held (row call arguments given old.state.memory h)
+
+-- the error's number, or 0
+abbrev pub number_of : Option Errno → ℕ
+number_of None = 0
+number_of (Some e) = errno_number e
+
+-- the call is a sync, and has no error
+abbrev pub HasSynced : Bool → Call → Option Errno → Type 0
+HasSynced synced call error = IsTrue synced ↔ (IsSync call × (error ≡ None))
+
+-- the program has come to its end, and the host has emitted what it had not finished; or neither
+abbrev pub EndsAt : Configuration → Held → Host → Option End → Type 0
+EndsAt e held h None = (IsEnded e → ⊥) × ShowsHost held h
+EndsAt e held h (Some how) = IsEnded e × (how ≡ end.Exited 0) × ShowsHost held (lines_ended h)
+
+-- the host where it has ended the process so, or not
+abbrev pub IsEndedBy : Option End → Held → Held → Type 0
+IsEndedBy None old new = new ≡ old
+IsEndedBy (Some how) old new = new ≡ held_ended old
+
+-- what the call gives has settled to a configuration that is then shown
+pub record FinishesAt (new : MachineValue) (held : Held) (program : Program) (given : Configuration) (h : Host) (ended : Option End) : Type 0 where
+  pub configuration : Configuration
+  pub settles : Settles program given configuration
+  pub shows : ShowsIn new program configuration
+  pub ends : EndsAt configuration held h ended
+
+-- whichever configuration was shown that waits at such a call of the host
+abbrev pub HasFinished : MachineValue → Held → ℕ → Option End → MachineValue → Held → Type 0
+HasFinished old old_held number ended new held =
+    (program : Program) (d : Configuration) (f : ℕ) (operands : List Value) (waits : Thread) (kind : FunctionType) (h : Host)
+    → ShowsIn old program d → rule program d ≡ Asks f operands waits → slice_get program.functions f ≡ Some (IsHost kind) → AreOf (gives_of kind) (results_of (Some number)) → ShowsHost old_held h
+    → FinishesAt new held program (answered d old.state.memory (results_of (Some number)) waits) h ended

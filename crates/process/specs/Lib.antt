@@ -1,0 +1,5 @@
+pub mod Values
+pub mod Parts
+pub mod Callings
+pub mod Stops
+pub mod Stretches

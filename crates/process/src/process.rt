@@ -1,0 +1,131 @@
+//! A process, and what is known of it.
+
+ghost use Rattle.std.specs.Prelude.{◌≡◌, ◌≤◌, IfOk, IfErr, length};
+ghost use Rattle.std.specs.List.{AllByRecursion};
+ghost use Rattle.wasm_syntax_grammar.specs.Limits.{HasFewParameters, IsSmallFunction};
+ghost use Rattle.wasm_syntax_rules.specs.Validity.{IsValid};
+ghost use Rattle.wasm_syntax_rules.specs.Linking.{IsLinkable};
+ghost use Rattle.machine_instance.specs.Offers.{offer};
+ghost use Rattle.machine_instance.specs.Refusals.{IsRefused, Denies};
+
+use crate::calling::end_with_program;
+use crate::stop::End;
+use guest_memory::Memory;
+use machine::{LinkFault, Machine, link};
+use std::alloc::Global;
+use std::marker::Model;
+use wasi_abi::Config;
+use wasi_calls::{Host, Line};
+use wasm_validate::ValidModule;
+
+/// The most bytes of a request's text, and random bytes of one call.
+const TEXT_LIMIT: usize = 4_096;
+
+/// What holds of a module by its type.
+fn is_valid(module: &ValidModule)
+    ensures { IsValid «module».now }
+{
+    let _ = module.module();
+}
+
+/// A module that runs under a configuration. Contracts see its machine, its host, how far it has come and how it ended.
+#[derive(Drop)]
+pub struct Process {
+    pub(crate) alloc: Global,
+    pub(crate) machine: Machine,
+    pub(crate) host: Host,
+    pub(crate) steps: u64,
+    pub(crate) answers: u64,
+    pub(crate) requests: u64,
+    pub(crate) ended: Option<End>,
+}
+
+impl Model for Process {
+    ghost use Rattle.process.specs.Values.{ProcessValue, IsProcess, process_of};
+
+    ghost Value = { ProcessValue };
+
+    ghost view = { λ p. process_of p.machine p.host p.steps p.answers p.requests p.ended };
+
+    ghost invariant = { λ p. IsProcess (process_of p.machine p.host p.steps p.answers p.requests p.ended) };
+}
+
+impl Process {
+    ghost use Rattle.machine.specs.Values.{memory_of};
+    ghost use Rattle.process.specs.Values.{IsProcess, HasStarted, HasReleased, lines_in, waiting_in};
+
+    /// The process of a module that begins. All memory that its machine needs is taken here. The fault is the first in the order of
+    /// `LinkFault`.
+    pub fn start(alloc: Global, module: ValidModule, config: Config) -> Result<Process, LinkFault>
+        requires types { AllByRecursion HasFewParameters «module».types }
+        requires functions { AllByRecursion IsSmallFunction «module».functions }
+        ensures started { IfOk result (HasStarted «module» config) }
+        ensures refused { IfErr result (IsRefused config.pages «module») }
+        ensures only { IfErr result (Denies (IsLinkable offer config.pages «module»)) }
+    {
+        is_valid(&module);
+        let mut machine = link(module, config.pages(), alloc)?;
+        let mut host = Host::new(alloc, config, TEXT_LIMIT)?;
+        let ended = end_with_program(alloc, &mut machine, &mut host);
+        Ok(Process {
+            alloc,
+            machine,
+            host,
+            steps: 0,
+            answers: 0,
+            requests: 0,
+            ended,
+        })
+    }
+
+    /// How many counted steps were taken: fewer than 2^63.
+    pub fn steps(&self) -> u64
+        ensures value { result ≡ self.now.steps }
+        ensures shows { IsProcess self.now }
+    {
+        self.steps
+    }
+
+    /// How many answers from outside were taken.
+    pub fn answers(&self) -> u64
+        ensures value { result ≡ self.now.answers }
+    {
+        self.answers
+    }
+
+    /// How many of those were a request, or the end of requests.
+    pub fn requests(&self) -> u64
+        ensures value { result ≡ self.now.requests }
+    {
+        self.requests
+    }
+
+    /// How many lines were emitted: fewer than 2^63.
+    pub fn lines(&self) -> u64
+        ensures { result ≡ lines_in self.now }
+    {
+        self.host.released() + self.host.waiting().len() as u64
+    }
+
+    /// The lines that were emitted and not released yet, in their order. The first one has the number behind those that were released.
+    pub fn waiting(&self) -> &[Line]
+        ensures { result.now ≡ waiting_in self.now }
+    {
+        self.host.waiting()
+    }
+
+    /// The guest's memory.
+    pub fn memory(&self) -> &Memory
+        ensures { result.now ≡ memory_of self.now.machine }
+    {
+        self.machine.memory()
+    }
+
+    /// The first `count` lines that wait were released, and wait no more.
+    pub fn released(&mut self, count: usize)
+        requires { count ≤ length (waiting_in self.old) }
+        ensures { HasReleased count self.old self.new }
+    {
+        self.host.release(count);
+    }
+}

@@ -1,0 +1,168 @@
+//! Turns of a process: the machine runs, and then the host is called, or the process ends.
+
+ghost use Rattle.std.specs.Prelude.{◌≡◌, [], false};
+ghost use Rattle.wasi_calls.specs.Calls.{IsBuilt, AreArguments};
+ghost use Rattle.wasi_abi.specs.Calls.{parameters_of};
+ghost use Rattle.wasi_calls_rows.specs.Hosts.{Host as TheHost};
+ghost use Rattle.wasi_calls_rows.specs.Lines.{lines_ended};
+ghost use Rattle.wasi_calls.specs.Held.{ShowsHost, held_ended};
+ghost use Rattle.machine.specs.Values.{HoldsMemory};
+ghost use Rattle.process.specs.Parts.{IsRunning, HasFewLines, WaitsAt};
+ghost use Rattle.process.specs.Stretches.{Stretches, StepsAt, stop_after, stretch_of};
+
+use crate::calling::{Called, make};
+use crate::fault::ProcessFault;
+use crate::stop::{End, Stop};
+use machine::Machine;
+use machine_running::{Pause, Paused};
+use std::alloc::Global;
+use wasi_abi::Call;
+use wasi_calls::Host;
+
+/// So many steps, how the process has ended by them, and why they stop, unless they can go on.
+#[derive(Clone, Copy, Debug)]
+pub struct Stretch {
+    pub steps: u64,
+    pub ended: Option<End>,
+    pub stop: Option<Result<Stop, ProcessFault>>,
+}
+
+/// The stretch up to where the process stops.
+#[derive(Clone, Copy, Debug)]
+pub struct Run {
+    pub steps: u64,
+    pub ended: Option<End>,
+    pub stop: Result<Stop, ProcessFault>,
+}
+
+/// Why a process stops after a step, where no line waited before it.
+fn stop_after(host: &Host, synced: bool, ended: Option<End>) -> Option<Result<Stop, ProcessFault>>
+    ensures { result ≡ stop_after synced host.now.host.lines ended }
+{
+    if synced || !host.waiting().is_empty() {
+        return Some(Ok(Stop::Owes));
+    }
+    match ended {
+        Some(end) => Some(Ok(Stop::Ended(end))),
+        None => None,
+    }
+}
+
+/// The last of so many steps has ended the process.
+fn end(alloc: Global, host: &mut Host, steps: u64, end: End) -> Stretch
+    requires { HasFewLines host.old }
+    ensures few { HasFewLines host.new }
+    ensures ended { host.new ≡ held_ended host.old }
+    ensures shown { (h : TheHost) → ShowsHost host.old h → ShowsHost host.new (lines_ended h) }
+    ensures is { result ≡ record { steps = steps; ended = Some end; stop = stop_after false host.new.host.lines (Some end) } }
+{
+    host.end(alloc);
+    Stretch {
+        steps,
+        ended: Some(end),
+        stop: stop_after(host, false, Some(end)),
+    }
+}
+
+/// The stretch of a call's step.
+fn stretch_of(host: &Host, made: Result<Called, ProcessFault>) -> Stretch
+    ensures { result ≡ stretch_of made host.now.host.lines }
+{
+    match made {
+        Ok(Called::Made { synced, ended }) => Stretch {
+            steps: 1,
+            ended,
+            stop: stop_after(host, synced, ended),
+        },
+        Ok(Called::Asks(kind)) => Stretch {
+            steps: 0,
+            ended: None,
+            stop: Some(Ok(Stop::Asks(kind))),
+        },
+        Err(fault) => Stretch {
+            steps: 0,
+            ended: None,
+            stop: Some(Err(fault)),
+        },
+    }
+}
+
+/// The step of a call that waits.
+fn step(
+    alloc: Global,
+    machine: &mut Machine,
+    host: &mut Host,
+    call: Call,
+    arguments: &[u64],
+) -> Stretch
+    requires built { IsBuilt call }
+    requires typed { AreArguments (parameters_of call) arguments.now }
+    requires holds { HoldsMemory machine.old }
+    requires waits { WaitsAt machine.old host.old call arguments.now }
+    requires none_waits { host.old.host.lines ≡ [] }
+    requires few { HasFewLines host.old }
+    ensures holds { HoldsMemory machine.new }
+    ensures few { HasFewLines host.new }
+    ensures released { host.new.released ≡ host.old.released }
+    ensures steps { StepsAt machine.old host.old call arguments.now result machine.new host.new }
+{
+    let made = make(alloc, machine, host, call, arguments, None);
+    stretch_of(host, made)
+}
+
+/// The machine runs to its next pause, and what that asks for is done.
+fn turn(alloc: Global, machine: &mut Machine, host: &mut Host, fuel: u64) -> Stretch
+    requires holds { HoldsMemory machine.old }
+    requires runs { IsRunning machine.old host.old }
+    requires none_waits { host.old.host.lines ≡ [] }
+    requires few { HasFewLines host.old }
+    ensures holds { HoldsMemory machine.new }
+    ensures few { HasFewLines host.new }
+    ensures released { host.new.released ≡ host.old.released }
+    ensures stretches { Stretches machine.old host.old fuel result machine.new host.new }
+{
+    let Paused { why, left } = machine.run(fuel);
+    let ran = fuel - left;
+    match why {
+        Pause::Spent => Stretch {
+            steps: ran,
+            ended: None,
+            stop: Some(Ok(Stop::Spent)),
+        },
+        Pause::Host(call, arguments) => {
+            let next = step(alloc, machine, host, call, arguments.as_slice());
+            Stretch {
+                steps: ran + next.steps,
+                ended: next.ended,
+                stop: next.stop,
+            }
+        }
+        Pause::Returned => end(alloc, host, ran, End::Exited(0)),
+        Pause::Trapped(why) => end(alloc, host, ran, End::Trapped(why)),
+    }
+}
+
+/// Takes steps up to where the process stops.
+pub fn take_steps(alloc: Global, machine: &mut Machine, host: &mut Host, fuel: u64) -> Run
+    requires holds { HoldsMemory machine.old }
+    requires runs { IsRunning machine.old host.old }
+    requires none_waits { host.old.host.lines ≡ [] }
+    requires few { HasFewLines host.old }
+    ensures holds { HoldsMemory machine.new }
+    ensures few { HasFewLines host.new }
+    ensures released { host.new.released ≡ host.old.released }
+    ensures stretches { Stretches machine.old host.old fuel (record { steps = result.steps; ended = result.ended; stop = Some result.stop }) machine.new host.new }
+{
+    let mut steps = 0;
+    loop {
+        let next = turn(alloc, machine, host, fuel - steps);
+        steps += next.steps;
+        if let Some(stop) = next.stop {
+            return Run {
+                steps,
+                ended: next.ended,
+                stop,
+            };
+        }
+    }
+}
