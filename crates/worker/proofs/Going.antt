@@ -1,0 +1,246 @@
+-- What a slice has done so far, and what one more turn adds.
+use Rattle.std.proofs.Common.{◌≡◌, ℕ, suc, ◌+◌, ◌-◌, ◌<◌, ◌≤◌, List, [], ◌∷◌, ◌++◌, length, Option, Some, None, Ok, Err, refl, sym, ◌∙◌, ap, subst, arith, append_assoc, length-append, drop}
+use Rattle.std.specs.Prelude.{Result}
+use Rattle.std.proofs.lemmas.List.{append-nil, drop_all}
+use Rattle.wasi_abi.specs.declared.answer.Kind.{Kind}
+use Rattle.wasi_abi.specs.declared.answer.Answer.{Answer}
+use Rattle.wasi_calls_rows.specs.Hosts.{Line, Host}
+use Rattle.wasi_calls_rows.specs.Laws.{Emits}
+use Rattle.wasi_calls.specs.Held.{Held, ShowsHost}
+use Rattle.process_rules.specs.Processes.{ProcessState, Guest}
+use Rattle.process_rules.specs.Runs.{Wants, next_of, Moves, Kept, Given, Runs, none, step, take}
+use Rattle.process_rules.specs.Owing.{RunsQuietly}
+use Rattle.process_rules.proofs.Quiet.{runs_join, quiet_runs_are_runs}
+use Rattle.process_rules.proofs.Growing.{runs_count, runs_emit}
+use Rattle.record_replay.specs.declared.fault.SourceFault.{SourceFault}
+use Rattle.record_replay.specs.Calls.{Giving, Taking, Ask, Begun, Exchange, Asks, Tells, Exchanges, Releases, Answers, asks_of, releases_of, all_taken}
+use Rattle.record_replay.proofs.Following.{exchanges_join, releases_of-append, lines_in_order}
+use Rattle.process.specs.Values.{ProcessValue, ShowsProcess, HasReleased, IsProcess, waiting_in}
+use Rattle.process.specs.Stops.{ComesQuietly, ComesOwing, Takes}
+use Rattle.worker.specs.Slices.{handed, LeadsTo, LeadsToWish, AreWanted}
+use Rattle.worker.specs.Turns.{first_waiting, ReleasesAll}
+use Rattle.worker.proofs.Joining.{handed_of_both, tells, tells_ask_nothing, releases_of_tells, none_wanted, wanted_ask, wanted_tells}
+
+-- ---- lists
+
+-- two lists of lines are one, cut at the same place
+same_cut : (a b c d : List Line) → a ++ b ≡ c ++ d → length a ≡ length c → b ≡ d
+same_cut [] b [] d e n = e
+same_cut [] b (y ∷ c) d e n = absurd (omega (arith, n))
+same_cut (x ∷ a) b [] d e n = absurd (omega (arith, n))
+same_cut (x ∷ a) b (y ∷ c) d e n =
+    let tails : a ++ b ≡ c ++ d = cc in
+    let sizes : length a ≡ length c = omega (arith, n) in
+    same_cut a b c d tails sizes
+
+-- where no line waited, those that wait are those that were emitted
+pub lines_on : (old new : Held) (g h : Host) → ShowsHost old g → ShowsHost new h → Emits g h → old.host.lines ≡ [] → new.released ≡ old.released → h.lines ≡ g.lines ++ new.host.lines
+lines_on old new g h s t emits empty same =
+    let lines_g : g.lines ≡ s.before ++ old.host.lines = ap (λ (z : Host). z.lines) s.is in
+    let before_g : g.lines ≡ s.before = lines_g ∙ ap (λ z. s.before ++ z) empty ∙ append-nil s.before in
+    let lines_h : h.lines ≡ t.before ++ new.host.lines = ap (λ (z : Host). z.lines) t.is in
+    let both : g.lines ++ emits.lines ≡ t.before ++ new.host.lines = sym emits.are ∙ lines_h in
+    let sizes : length g.lines ≡ length t.before = ap length before_g ∙ s.count ∙ sym same ∙ sym t.count in
+    emits.are ∙ ap (λ z. g.lines ++ z) (same_cut g.lines emits.lines t.before new.host.lines both sizes)
+
+-- how many lines were released, where so many were and others wait
+released_count : (v : Held) (h : Host) (front told : List Line) → ShowsHost v h → h.lines ≡ front ++ (told ++ v.host.lines) → v.released ≡ length front + length told
+released_count v h front told s e =
+    let lines : h.lines ≡ s.before ++ v.host.lines = ap (λ (z : Host). z.lines) s.is in
+    let one : length h.lines ≡ length s.before + length v.host.lines = ap length lines ∙ length-append s.before v.host.lines in
+    let two : length h.lines ≡ length front + length (told ++ v.host.lines) = ap length e ∙ length-append front (told ++ v.host.lines) in
+    let three : length (told ++ v.host.lines) ≡ length told + length v.host.lines = length-append told v.host.lines in
+    let count = s.count in
+    omega arith
+
+-- after lines were released none waits
+pub released_none : {O : Type 0} (takes : Taking O) (now new : ProcessValue) (q r : O) → ReleasesAll takes now new q r → waiting_in new ≡ []
+released_none takes now new q r all = ap waiting_in all.released.is ∙ drop_all (length (waiting_in now)) (waiting_in now) (omega arith)
+
+pub released_steps : {O : Type 0} (takes : Taking O) (now new : ProcessValue) (q r : O) → ReleasesAll takes now new q r → new.steps ≡ now.steps
+released_steps takes now new q r all = ap (λ (z : ProcessValue). z.steps) all.released.is
+
+-- ---- so far
+
+module _ {S O : Type 0} (gives : Giving S) (takes : Taking O) where
+  -- From what was shown first the calls so far lead to what is shown now, in so many of the steps that may be taken. All lines that
+  -- don't wait were released.
+  pub record Goes (old now : ProcessValue) (fuel : ℕ) (guest : Guest) (p : ProcessState) (source source' : S) (outlet outlet' : O) : Type 0 where
+    pub exchanges : List Exchange
+    pub exchanged : Exchanges gives takes source outlet exchanges source' outlet'
+    pub wanted : AreWanted guest p exchanges
+    pub steps : ℕ
+    pub process : ProcessState
+    pub runs : Runs guest p (handed (asks_of exchanges)) steps process
+    pub lines : List Line
+    pub emitted : process.host.lines ≡ p.host.lines ++ (lines ++ waiting_in now)
+    pub released : releases_of exchanges ≡ all_taken (suc (length p.host.lines)) lines
+    pub shows : ShowsProcess now guest process
+    pub counted : now.steps ≡ old.steps + steps
+    pub within : steps ≤ fuel
+
+  pub goes_none : (v : ProcessValue) (fuel : ℕ) (guest : Guest) (p : ProcessState) (s : S) (o : O) → waiting_in v ≡ [] → ShowsProcess v guest p → Goes v v fuel guest p s s o o
+  goes_none v fuel guest p s o empty shows = record {
+    exchanges = [];
+    exchanged = record { asked = refl; released = refl };
+    wanted = none_wanted guest p;
+    steps = 0;
+    process = p;
+    runs = none;
+    lines = [];
+    emitted = sym (ap (λ z. p.host.lines ++ z) empty ∙ append-nil p.host.lines);
+    released = refl;
+    shows = shows;
+    counted = omega arith;
+    within = omega arith;
+  }
+
+  module _ (old now new : ProcessValue) (fuel : ℕ) (guest : Guest) (p : ProcessState) (s t : S) (o q : O) (g : Goes old now fuel guest p s t o q) where
+    -- where no line waits, all that was emitted is released
+    pub leads : waiting_in now ≡ [] → LeadsTo guest p g.exchanges g.steps g.process
+    leads empty = record {
+      runs = g.runs;
+      lines = g.lines;
+      emitted = g.emitted ∙ ap (λ z. p.host.lines ++ (g.lines ++ z)) empty ∙ ap (λ z. p.host.lines ++ z) (append-nil g.lines);
+      released = g.released;
+    }
+
+    -- so many steps more, which take these answers
+    module _ (r : ProcessState) (kept : List Kept) (k : ℕ) (runs : Runs guest g.process kept k r) (shows : ShowsProcess new guest r) (empty : waiting_in now ≡ [])
+        (same : new.host.released ≡ now.host.released) where
+      pub more_emitted : r.host.lines ≡ p.host.lines ++ (g.lines ++ waiting_in new)
+      unfolding leads
+      more_emitted =
+          let emits = runs_emit guest g.process r kept k runs in
+          let on = lines_on now.host new.host g.process.host r.host g.shows.host shows.host emits empty same in
+          let all = (leads empty).emitted in
+          on ∙ ap (λ z. z ++ waiting_in new) all ∙ append_assoc p.host.lines g.lines (waiting_in new)
+
+      pub more_counted : new.steps ≡ old.steps + (g.steps + k)
+      more_counted =
+          let a = runs_count guest g.process r kept k runs in
+          let b = shows.steps in
+          let d = g.shows.steps in
+          let e = g.counted in
+          omega arith
+
+    -- steps without answers
+    unfoldable pub advance_on : (r : ProcessState) (k : ℕ) → Runs guest g.process [] k r → ShowsProcess new guest r → waiting_in now ≡ [] → new.host.released ≡ now.host.released
+        → g.steps + k ≤ fuel → Goes old new fuel guest p s t o q
+    advance_on r k runs shows empty same few = record {
+      exchanges = g.exchanges;
+      exchanged = g.exchanged;
+      wanted = g.wanted;
+      steps = g.steps + k;
+      process = r;
+      runs = subst (λ z. Runs guest p z (g.steps + k) r) (append-nil (handed (asks_of g.exchanges))) (runs_join guest p g.process r (handed (asks_of g.exchanges)) [] g.steps k g.runs runs);
+      lines = g.lines;
+      emitted = more_emitted r [] k runs shows empty same;
+      released = g.released;
+      shows = shows;
+      counted = more_counted r [] k runs shows empty same;
+      within = few;
+    }
+
+    -- what was asked for is the process's wish
+    pub wish : (kind : Kind) → waiting_in now ≡ [] → g.process.ended ≡ None → next_of guest g.process None ≡ Wants kind → LeadsToWish guest p g.exchanges kind
+    wish kind empty running wants = record { steps = g.steps; process = g.process; leads = leads empty; running = running; wants = wants }
+
+    -- one more question
+    module _ (u : S) (ask : Ask) (asked : gives t ask.kind ask.said u) where
+      asked_alone : Exchanges gives takes t q (Asks ask ∷ []) u q
+      asked_alone = record { asked = (u, asked, refl); released = refl }
+
+      pub asked_more : Exchanges gives takes s o (g.exchanges ++ (Asks ask ∷ [])) u q
+      asked_more = exchanges_join gives takes s u t o q q g.exchanges (Asks ask ∷ []) g.exchanged asked_alone
+
+      pub released_same : releases_of (g.exchanges ++ (Asks ask ∷ [])) ≡ all_taken (suc (length p.host.lines)) g.lines
+      released_same = releases_of-append g.exchanges (Asks ask ∷ []) ∙ append-nil (releases_of g.exchanges) ∙ g.released
+
+    -- an answer that the process has taken
+    unfoldable pub answer_on : (u : S) (kind : Kind) (a : Answer) (r : ProcessState) → gives t kind (Ok (Some a)) u → waiting_in now ≡ [] → LeadsToWish guest p g.exchanges kind
+        → Moves guest g.process (Some a) r → ShowsProcess new guest r → new.host.released ≡ now.host.released → g.steps + 1 ≤ fuel → Goes old new fuel guest p s u o q
+    answer_on u kind a r asked empty wish moves shows same few =
+        let ask : Ask = record { kind = kind; said = Ok (Some a) } in
+        let one : Runs guest g.process (Given a ∷ []) 1 r = take moves none in
+        let joined = runs_join guest p g.process r (handed (asks_of g.exchanges)) (Given a ∷ []) g.steps 1 g.runs one in
+        record {
+          exchanges = g.exchanges ++ (Asks ask ∷ []);
+          exchanged = asked_more u ask asked;
+          wanted = wanted_ask guest p g.exchanges ask g.wanted wish;
+          steps = g.steps + 1;
+          process = r;
+          runs = subst (λ z. Runs guest p z (g.steps + 1) r) (sym (handed_of_both g.exchanges (Asks ask ∷ []))) joined;
+          lines = g.lines;
+          emitted = more_emitted r (Given a ∷ []) 1 one shows empty same;
+          released = released_same u ask asked;
+          shows = shows;
+          counted = more_counted r (Given a ∷ []) 1 one shows empty same;
+          within = few;
+        }
+
+    -- how many lines were released until now
+    pub told_count : now.host.released ≡ length p.host.lines + length g.lines
+    told_count = released_count now.host g.process.host p.host.lines g.lines g.shows.host g.emitted
+
+    -- releases of some lines
+    module _ (begun : List Begun) where
+      pub told_releases : releases_of (g.exchanges ++ tells begun) ≡ all_taken (suc (length p.host.lines)) g.lines ++ begun
+      told_releases =
+          releases_of-append g.exchanges (tells begun) ∙ ap (λ z. z ++ releases_of (tells begun)) g.released
+          ∙ ap (λ z. all_taken (suc (length p.host.lines)) g.lines ++ z) (releases_of_tells begun)
+
+      pub told_wanted : AreWanted guest p (g.exchanges ++ tells begun)
+      told_wanted = wanted_tells guest p g.exchanges begun g.wanted
+
+      pub told_runs : Runs guest p (handed (asks_of (g.exchanges ++ tells begun))) g.steps g.process
+      told_runs =
+          let nothing : handed (asks_of (tells begun)) ≡ [] = ap handed (tells_ask_nothing begun) in
+          let same : handed (asks_of (g.exchanges ++ tells begun)) ≡ handed (asks_of g.exchanges) =
+          handed_of_both g.exchanges (tells begun) ∙ ap (λ z. handed (asks_of g.exchanges) ++ z) nothing ∙ append-nil (handed (asks_of g.exchanges)) in
+          subst (λ z. Runs guest p z g.steps g.process) (sym same) g.runs
+
+      pub told_more : (outlet : O) → Releases takes q begun outlet → Exchanges gives takes s o (g.exchanges ++ tells begun) t outlet
+      told_more outlet told =
+          let alone : Exchanges gives takes t q (tells begun) t outlet = record {
+            asked = subst (λ z. Answers gives t z t) (sym (tells_ask_nothing begun)) refl;
+            released = subst (λ z. Releases takes q z outlet) (sym (releases_of_tells begun)) told;
+          } in
+          exchanges_join gives takes s t t o outlet q g.exchanges (tells begun) g.exchanged alone
+
+    -- the lines that waited were released
+    pub release_on : (outlet : O) → ReleasesAll takes now new q outlet → Goes old new fuel guest p s t o outlet
+    release_on outlet all =
+        let waited : List Line = waiting_in now in
+        let begun : List Begun = all_taken (first_waiting now) waited in
+        let number : first_waiting now ≡ suc (length p.host.lines) + length g.lines = (let count = told_count in omega arith) in
+        let none_left : waiting_in new ≡ [] = released_none takes now new q outlet all in
+        let same_steps : new.steps ≡ now.steps = ap (λ (z : ProcessValue). z.steps) all.released.is in
+        let count = g.counted in
+        record {
+          exchanges = g.exchanges ++ tells begun;
+          exchanged = told_more begun outlet all.told;
+          wanted = told_wanted begun;
+          steps = g.steps;
+          process = g.process;
+          runs = told_runs begun;
+          lines = g.lines ++ waited;
+          emitted =
+              g.emitted ∙ ap (λ z. p.host.lines ++ z) (sym (append-nil (g.lines ++ waited)))
+              ∙ ap (λ z. p.host.lines ++ ((g.lines ++ waited) ++ z)) (sym none_left);
+          released =
+              told_releases begun ∙ ap (λ z. all_taken (suc (length p.host.lines)) g.lines ++ all_taken z waited) number
+              ∙ sym (lines_in_order (suc (length p.host.lines)) g.lines waited);
+          shows = all.released.shows guest g.process g.shows;
+          counted = omega arith;
+          within = g.within;
+        }
+
+-- ---- where the steps without answers lead
+
+pub quiet_runs : (new : ProcessValue) (guest : Guest) (p : ProcessState) (come : ComesQuietly new guest p) → Runs guest p [] come.steps come.process
+quiet_runs new guest p come = (quiet_runs_are_runs guest p come.process come.steps come.runs).0
+
+pub owing_runs : (new : ProcessValue) (guest : Guest) (p : ProcessState) (come : ComesOwing new guest p) → Runs guest p [] (come.steps + 1) come.process
+owing_runs new guest p come =
+    runs_join guest p come.before come.process [] [] come.steps 1 (quiet_runs_are_runs guest p come.before come.steps come.runs).0 (step come.moves none)

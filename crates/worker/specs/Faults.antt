@@ -1,0 +1,94 @@
+-- Why a worker fails, and what it has done until then.
+use Rattle.std.specs.Prelude.{◌≡◌, ◌≢◌, ◌⊎◌, ℕ, suc, ◌+◌, ◌<◌, ◌≤◌, Bool, true, false, List, [], ◌∷◌, ◌++◌, length, Option, Some, None, Result, Ok, Err}
+use Rattle.wasi_abi.specs.declared.answer.Kind.{Kind}
+use Rattle.wasi_abi.specs.declared.answer.Answer.{Answer}
+use Rattle.wasi_abi.specs.Answers.{Fits}
+use Rattle.wasi_calls_rows.specs.Hosts.{Line}
+use Rattle.process_rules.specs.Processes.{ProcessState, Guest}
+use Rattle.process_rules.specs.Runs.{Wants, next_of, Kept, Given, Runs, IsWanted}
+use Rattle.record_replay.specs.declared.fault.SourceFault.{SourceFault}
+use Rattle.record_replay.specs.Calls.{Giving, Taking, Ask, Begun, Exchange, Asks, Tells, Exchanges, asks_of, releases_of, all_taken}
+use Rattle.front_end.specs.declared.fault.FrontFault.{FrontFault}
+use Rattle.front_end.specs.Acceptance.{IsTold, Denies, HasNoAcceptedModule, is_want}
+use Rattle.process.specs.Values.{ProcessValue, ShowsProcess}
+use Rattle.process.specs.Stops.{IsBeyond}
+use Rattle.worker.specs.declared.fault.WorkFault.{WorkFault}
+use Rattle.worker.specs.declared.fault.WorkFault.TheVariants as fault
+use Rattle.worker.specs.declared.fault.Refusal.{Refusal}
+use Rattle.worker.specs.declared.fault.Refusal.TheVariants as refusal
+use Rattle.worker.specs.Values.{WorkerValue}
+use Rattle.worker.specs.Slices.{handed, LeadsTo, AreWanted}
+
+-- ---- a creation
+
+-- a refusal of the module says why it isn't accepted
+abbrev pub IsRefused : ℕ → List ℕ → WorkFault → Type 0
+IsRefused pages bytes (fault.Refused (refusal.Front why)) = (is_want why ≡ false) × IsTold pages bytes why × HasNoAcceptedModule pages bytes
+IsRefused pages bytes (fault.Refused refusal.StepsSpent) = ⊥
+IsRefused pages bytes fault.Memory = Unit {0}
+IsRefused pages bytes _ = ⊥
+
+-- ---- a slice
+
+-- The source failed at the last question, or handed over what doesn't fit.
+abbrev pub IsBadAnswer : ℕ → Kind → Result (Option Answer) SourceFault → Type 0
+IsBadAnswer limit kind (Err e) = Unit {0}
+IsBadAnswer limit kind (Ok (Some a)) = Fits limit kind a → ⊥
+IsBadAnswer limit kind (Ok None) = ⊥
+
+-- the last call is a release that was refused, of the first line that was emitted and not released yet
+pub record StopsAtLine (p q : ProcessState) (exchanges : List Exchange) : Type 0 where
+  pub front : List Exchange
+  pub told : List Line
+  pub line : Line
+  pub others : List Line
+  pub is : exchanges ≡ front ++ (Tells (record { number = suc (length p.host.lines + length told); line = line; said = Err (record {}) }) ∷ [])
+  pub emitted : q.host.lines ≡ p.host.lines ++ (told ++ (line ∷ others))
+  pub released : releases_of front ≡ all_taken (suc (length p.host.lines)) told
+
+-- the last question, and this answer to it
+abbrev pub last_answer : Kind → Option Answer → List Exchange
+last_answer kind None = []
+last_answer kind (Some a) = Asks (record { kind = kind; said = Ok (Some a) }) ∷ []
+
+-- The calls have led to q. One more answer may have been handed over, which q has not taken.
+pub record LeadsUpTo (guest : Guest) (p : ProcessState) (exchanges : List Exchange) (n : ℕ) (q : ProcessState) (given : Option Answer) : Type 0 where
+  pub front : List Exchange
+  pub kind : Kind
+  pub is : exchanges ≡ front ++ last_answer kind given
+  pub leads : LeadsTo guest p front n q
+
+-- the source failed at the last question, to which the calls before it led, or handed over what doesn't fit
+pub record StopsAtAnswer (guest : Guest) (p : ProcessState) (exchanges : List Exchange) (n : ℕ) (q : ProcessState) : Type 0 where
+  pub front : List Exchange
+  pub ask : Ask
+  pub is : exchanges ≡ front ++ (Asks ask ∷ [])
+  pub leads : LeadsTo guest p front n q
+  pub bad : IsBadAnswer q.host.limit ask.kind ask.said
+
+module _ {S O : Type 0} (gives : Giving S) (takes : Taking O) where
+  -- The process that the worker showed has gone on to one that it then shows, up to what failed.
+  pub record Fails (old new : WorkerValue) (guest : Guest) (p : ProcessState) (source source' : S) (outlet outlet' : O) : Type 0 where
+    pub exchanges : List Exchange
+    pub exchanged : Exchanges gives takes source outlet exchanges source' outlet'
+    pub wanted : AreWanted guest p exchanges
+    pub steps : ℕ
+    pub process : ProcessState
+    pub shows : ShowsProcess new.process guest process
+
+-- What failed: the source; the outlet; an allocation; or the next step would be beyond those that can be counted.
+abbrev pub IsCause : Guest → ProcessState → List Exchange → ℕ → ProcessState → WorkFault → Type 0
+IsCause guest p exchanges steps q fault.Source = StopsAtAnswer guest p exchanges steps q
+IsCause guest p exchanges steps q fault.Outlet = Runs guest p (handed (asks_of exchanges)) steps q × StopsAtLine p q exchanges
+IsCause guest p exchanges steps q fault.Memory = (given : Option Answer) × LeadsUpTo guest p exchanges steps q given
+IsCause guest p exchanges steps q (fault.Refused refusal.StepsSpent) = (given : Option Answer) × LeadsUpTo guest p exchanges steps q given × IsBeyond guest q given
+IsCause guest p exchanges steps q (fault.Refused (refusal.Front why)) = ⊥
+IsCause guest p exchanges steps q fault.Failed = ⊥
+
+-- A worker that had failed does nothing. One that fails has failed from then on; whichever process it showed.
+abbrev pub SlicesInVain : {S O : Type 0} → Giving S → Taking O → WorkerValue → ℕ → WorkFault → WorkerValue → S → S → O → O → Type 0
+SlicesInVain gives takes old fuel fault.Failed new source source' outlet outlet' = (old.failed ≡ true) × (new ≡ old) × (source' ≡ source) × (outlet' ≡ outlet)
+SlicesInVain gives takes old fuel why new source source' outlet outlet' =
+    (old.failed ≡ false) × (new.failed ≡ true)
+    × ((guest : Guest) (p : ProcessState) → ShowsProcess old.process guest p
+    → (fails : Fails gives takes old new guest p source source' outlet outlet') × IsCause guest p fails.exchanges fails.steps fails.process why × (fails.steps ≤ fuel))

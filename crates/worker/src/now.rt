@@ -1,0 +1,12 @@
+//! Why a slice is over.
+
+use process::End;
+
+#[derive(Clone, Copy, Debug, PartialEq, Eq)]
+pub enum Now {
+    /// All steps of the slice were taken.
+    Spent,
+    /// The next step wants an answer that isn't there yet.
+    Waiting,
+    Ended(End),
+}

@@ -1,0 +1,77 @@
+//! The turns of a slice: steps up to where something is owed or asked, and what that wants of the outside.
+
+ghost use Rattle.std.specs.Prelude.{◌≡◌, [], IfOk, IfErr, OnOk, OnErr};
+ghost use Rattle.wasi_abi.specs.declared.answer.Kind.{Kind};
+ghost use Rattle.process.specs.Values.{waiting_in};
+ghost use Rattle.worker.specs.Slices.{Slices};
+ghost use Rattle.worker.specs.Faults.{SlicesInVain};
+ghost use Rattle.worker.specs.Turns.{working, failing, ReleasesAll, ReleasesSome, AsksOnce};
+ghost use Rattle.worker.specs.declared.fault.WorkFault.TheVariants.{Outlet as OutletFails};
+
+use crate::fault::WorkFault;
+use crate::now::Now;
+use process::{Process, Stop};
+use record_replay::{Outlet, Source};
+use wasi_abi::Kind;
+
+/// Takes at most `fuel` steps. Each line is released, and each answer asked for, before the next step.
+pub(crate) fn work<S: Source, O: Outlet>(
+    process: &mut Process,
+    fuel: u64,
+    source: &mut S,
+    outlet: &mut O,
+) -> Result<Now, WorkFault>
+    requires none_waits { waiting_in process.old ≡ [] }
+    ensures done { IfOk result (λ now. Slices S.gives O.takes (working process.old) fuel now (working process.new) source.old source.new outlet.old outlet.new) }
+    ensures none_waits { OnOk result (waiting_in process.new ≡ []) }
+    ensures failed { IfErr result (λ fault. SlicesInVain S.gives O.takes (working process.old) fuel fault (failing process.new) source.old source.new outlet.old outlet.new) }
+{
+    let first = process.steps();
+    loop {
+        let left = fuel - (process.steps() - first);
+        match process.advance(left)? {
+            Stop::Owes => release_all(process, outlet)?,
+            Stop::Ended(how) => return Ok(Now::Ended(how)),
+            Stop::Spent => return Ok(Now::Spent),
+            Stop::Asks(kind) => {
+                if !ask(process, kind, source)? {
+                    return Ok(Now::Waiting);
+                }
+            }
+        }
+    }
+}
+
+/// Releases the lines that wait, in their order, each once, with their numbers.
+fn release_all<O: Outlet>(process: &mut Process, outlet: &mut O) -> Result<(), WorkFault>
+    ensures all { OnOk result (ReleasesAll O.takes process.old process.new outlet.old outlet.new) }
+    ensures some { OnErr result (ReleasesSome O.takes process.old process.new outlet.old outlet.new) }
+    ensures fault { IfErr result (λ fault. fault ≡ OutletFails) }
+{
+    let waiting = process.waiting();
+    let count = waiting.len();
+    let released = process.lines() - count as u64;
+    for (i, line) in waiting.iter().enumerate() {
+        let said = outlet.release(released + i as u64 + 1, line.stream(), line.text());
+        if said.is_err() {
+            return Err(WorkFault::Outlet);
+        }
+    }
+    process.released(count);
+    Ok(())
+}
+
+/// Asks the source once, and gives the process the answer, where there is one. Whether there was.
+fn ask<S: Source>(process: &mut Process, kind: Kind, source: &mut S) -> Result<bool, WorkFault>
+    ensures once { AsksOnce S.gives kind process.old result process.new source.old source.new }
+    ensures released { process.new.host.released ≡ process.old.host.released }
+{
+    match source.answer(kind) {
+        Err(_) => Err(WorkFault::Source),
+        Ok(None) => Ok(false),
+        Ok(Some(answer)) => match process.give(answer) {
+            Ok(()) => Ok(true),
+            Err(fault) => Err(WorkFault::from(fault)),
+        },
+    }
+}
