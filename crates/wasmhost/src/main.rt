@@ -6,10 +6,10 @@ ghost use Rattle.std.specs.Prelude.{◌≤◌};
 use std::alloc::Global;
 use std::env;
 use std::fs::File;
-use std::io::{self, ErrorKind, Read, Write};
+use std::io::{self, BufReader, ErrorKind, Input, Read, Write};
 use std::process::ExitCode;
 use std::rt::{Env, Files};
-use wasmhost_serve::check_bytes;
+use wasmhost_serve::{LineOutlet, Options, check_bytes, serve};
 use wasmhost_words::{Order, WordsFault, read_words};
 
 /// The status of a command line that is not understood.
@@ -48,6 +48,17 @@ fn say<W: Write>(out: &mut W, status: u8, line: &str) -> u8
     }
 }
 
+/// Why a file wasn't read, on the error output.
+fn unread<E: Write>(err: &mut E, error: &io::Error) -> u8
+    ensures { result ≤ 7 }
+{
+    if error.kind() == ErrorKind::OutOfMemory {
+        say(err, NO_MEMORY, "failed N4 Memory")
+    } else {
+        say(err, UNREADABLE, "failed K2 Io")
+    }
+}
+
 fn check<R: Files, W: Write, E: Write>(
     rt: &R,
     alloc: Global,
@@ -59,11 +70,38 @@ fn check<R: Files, W: Write, E: Write>(
 {
     match read_file(rt, alloc, path) {
         Ok(wasm) => check_bytes(alloc, wasm.as_slice(), out),
-        Err(error) if error.kind() == ErrorKind::OutOfMemory => {
-            say(err, NO_MEMORY, "failed K4 Memory")
-        }
-        Err(_) => say(err, UNREADABLE, "failed K2 Io"),
+        Err(error) => unread(err, &error),
     }
+}
+
+/// Runs a worker of a file's module on the lines of the standard input.
+fn run<R: Files + Input, W: Write, E: Write>(
+    rt: &R,
+    alloc: Global,
+    path: &str,
+    fuel: u64,
+    out: &mut W,
+    err: &mut E,
+) -> u8
+    ensures { result ≤ 7 }
+{
+    let wasm = match read_file(rt, alloc, path) {
+        Ok(wasm) => wasm,
+        Err(error) => return unread(err, &error),
+    };
+    let mut reader = match BufReader::new(alloc, rt.reader()) {
+        Ok(reader) => reader,
+        Err(error) => return unread(err, &error),
+    };
+    let mut outlet = LineOutlet { out };
+    serve(
+        alloc,
+        wasm.as_slice(),
+        Options { fuel },
+        &mut reader,
+        &mut outlet,
+        err,
+    )
 }
 
 /// Help goes to the output with status 0, all else to the error output.
@@ -85,7 +123,7 @@ fn tell<W: Write, E: Write>(fault: &WordsFault, out: &mut W, err: &mut E) -> u8
 /// Runs the command line, and answers the exit status.
 fn status_of<R, W: Write, E: Write>(rt: &R, out: &mut W, err: &mut E) -> u8
 where
-    R: AllocGlobal + Env + Files,
+    R: AllocGlobal + Env + Files + Input,
     ensures { result ≤ 7 }
 {
     let alloc = rt.alloc();
@@ -101,6 +139,7 @@ where
     };
     match read_words(alloc, words.as_slice()) {
         Ok(Order::Check { path }) => check(rt, alloc, path, out, err),
+        Ok(Order::Run { path, fuel }) => run(rt, alloc, path, fuel, out, err),
         Err(fault) => tell(&fault, out, err),
     }
 }

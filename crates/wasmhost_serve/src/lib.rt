@@ -3,7 +3,12 @@
 #![tactic(auto)]
 
 mod check;
+mod run;
+#[cfg(test)]
+mod run_tests;
 #[cfg(test)]
 mod tests;
 
 pub use check::check_bytes;
+pub use run::{Options, serve};
+pub use wasmhost_lines::LineOutlet;

@@ -16,10 +16,10 @@ const MEMORIES: &str = "0503010001";
 
 const EXPORTS: &str = "071302065f737461727400 00066d656d6f72790200";
 
-const EMPTY_BODY: &str = "0a040102000b";
+pub(crate) const EMPTY_BODY: &str = "0a040102000b";
 
 /// All but the code section, 44 bytes, and all before the exports, 23 bytes.
-const BEFORE_CODE: &str =
+pub(crate) const BEFORE_CODE: &str =
     "0061736d01000000 010401600000 03020100 0503010001 071302065f737461727400 00066d656d6f72790200";
 
 const BEFORE_EXPORTS: &str = "0061736d01000000 010401600000 03020100 0503010001";
@@ -40,7 +40,7 @@ const BEHIND_IMPORTS: &str =
     "03020100 0503010001 071302065f737461727400 01066d656d6f72790200 0a040102000b";
 
 /// Writes a line and exits with 7.
-const HELLO: [&str; 8] = [
+pub(crate) const HELLO: [&str; 8] = [
     HEADER,
     "01100360000060047f7f7f7f017f60017f00",
     "02460216776173695f736e617073686f745f70726576696577310866645f77726974650001",
@@ -67,7 +67,7 @@ enum Refused {
 }
 
 /// The bytes of these texts together, without their spaces.
-fn bytes_of(alloc: Global, texts: &[&str]) -> Result<Vec<u8>, Fail> {
+pub(crate) fn bytes_of(alloc: Global, texts: &[&str]) -> Result<Vec<u8>, Fail> {
     let mut bytes = Vec::new(alloc);
     for text in texts {
         for digits in text.split(' ') {
