@@ -4,10 +4,11 @@
 test:
 	rt ci
 
-# Runs the program, without proofs, on two modules of this repository: one that is accepted, and an empty file,
+# Runs the program, without proofs, on two modules of this repository: it runs a worker of one, checks it, and checks an empty file,
 # which is refused with status 3.
 demo:
 	@cd crates/wasmhost; \
-	rt try --data hello.wasm=../../modules/hello.wasm -- check hello.wasm; \
+	rt try --data hello.wasm=../../modules/hello.wasm -- run hello.wasm && \
+	rt try --data hello.wasm=../../modules/hello.wasm -- check hello.wasm || exit 1; \
 	rt try --data none.wasm=../../modules/none.wasm -- check none.wasm; status=$$?; \
 	[ $$status -eq 3 ]
