@@ -92,8 +92,8 @@ fn workers_print(rt: HostRuntime) -> Result<(), Fail> {
     Ok(())
 }
 
-/// How many steps a worker takes until it has ended.
-fn steps_of(alloc: Global, texts: &[&str], fuel: u64) -> Result<u64, Fail> {
+/// A worker that has ended, by slices of so many steps.
+fn ended(alloc: Global, texts: &[&str], fuel: u64) -> Result<Worker, Fail> {
     let wasm = bytes_of(alloc, texts)?;
     let mut worker = Worker::create(alloc, wasm.as_slice(), usual_config(alloc)?)?;
     let mut source = AnswerList::new(Vec::new(alloc));
@@ -103,7 +103,15 @@ fn steps_of(alloc: Global, texts: &[&str], fuel: u64) -> Result<u64, Fail> {
             break;
         }
     }
-    Ok(worker.process().steps())
+    Ok(worker)
+}
+
+/// The count of bytes that `hello` has `fd_write` put at 16.
+#[test]
+fn hello_has_its_count(rt: HostRuntime) -> Result<(), Fail> {
+    let worker = ended(rt.alloc(), &HELLO, 100)?;
+    assert_eq!(rt; worker.process().memory().load_u32(16, 0), Some(3));
+    Ok(())
 }
 
 #[test]
@@ -120,7 +128,7 @@ fn workers_take_steps(rt: HostRuntime) -> Result<(), Fail> {
     for (texts, steps) in rows {
         for fuel in [1, 3, 1_000] {
             assert_eq!(rt;
-                steps_of(rt.alloc(), texts, fuel)?,
+                ended(rt.alloc(), texts, fuel)?.process().steps(),
                 steps,
                 "{texts:?} by {fuel}"
             );
