@@ -8,7 +8,7 @@ test:
 # which is refused with status 3.
 demo:
 	@cd crates/wasmhost; \
-	rt try --data hello.wasm=../../modules/hello.wasm -- run hello.wasm && \
-	rt try --data hello.wasm=../../modules/hello.wasm -- check hello.wasm || exit 1; \
-	rt try --data none.wasm=../../modules/none.wasm -- check none.wasm; status=$$?; \
+	rt try --data hello.wasm=data/hello.wasm -- run hello.wasm && \
+	rt try --data hello.wasm=data/hello.wasm -- check hello.wasm || exit 1; \
+	rt try --data none.wasm=data/none.wasm -- check none.wasm; status=$$?; \
 	[ $$status -eq 3 ]

@@ -112,7 +112,7 @@ head_of sector = record {
   generation = number_of (part sector 496 8);
 }
 
--- A head is complete where its mark is there, its place is 1, and its generation, from 1 on, has its area's parity.
+-- A complete head: it begins with the mark, its stamp names place 1, and its generation, never 0, is odd or even as its area is.
 pub record IsComplete (area : ℕ) (sector : List ℕ) : Type 0 where
   pub mark : take 8 sector ≡ head_mark
   pub place : (stamp_of sector).place ≡ 1

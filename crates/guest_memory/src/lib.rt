@@ -1,6 +1,7 @@
 //! The linear memory of a guest.
 #![tactic(auto)]
 
+pub mod laws;
 mod memory;
 #[cfg(test)]
 mod tests;

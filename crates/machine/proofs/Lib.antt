@@ -2,6 +2,7 @@ pub mod Settled
 pub mod Inside
 pub mod Ran
 pub mod OneProgram
+pub mod OneShown
 pub mod AtOnce
 pub mod Linked
 pub mod AskingAgain

@@ -1,61 +1,17 @@
 -- A module has one program under a limit of pages, and one list of function types.
-use Rattle.std.proofs.Common.{◌≡◌, ℕ, List, [], ◌∷◌, ◌++◌, refl, sym, ◌∙◌}
+use Rattle.std.proofs.Common.{◌≡◌, ℕ, List, ◌++◌, sym, ◌∙◌}
 use Rattle.std.specs.Prelude.{map}
 use Rattle.wasm_syntax.specs.declared.types.FunctionType.{FunctionType}
 use Rattle.wasm_syntax.specs.declared.module.Module.{Module}
-use Rattle.wasm_syntax.specs.declared.module.Function.{Function}
 use Rattle.wasm_syntax_rules.specs.Types.{imported_functions}
-use Rattle.wasm_syntax_rules.specs.Validity.{AreTypesAt, function_type_of}
-use Rattle.wasm_syntax_rules.specs.Configuration.{Callee, Host, Own, Program}
-use Rattle.wasm_syntax_rules.specs.Instantiation.{AreCallees}
-use Rattle.wasm_syntax_rules.proofs.OneSequence.{one_sequence}
+use Rattle.wasm_syntax_rules.specs.Validity.{function_type_of}
+use Rattle.wasm_syntax_rules.specs.Configuration.{Program}
+use Rattle.wasm_syntax_rules.proofs.OneProgram as program
 use Rattle.machine.specs.Values.{IsProgramIn}
-
-types_once : (types : List FunctionType) (indices : List ℕ) (fs gs : List FunctionType) → AreTypesAt types indices fs → AreTypesAt types indices gs → fs ≡ gs
-types_once types [] [] [] h k = refl
-types_once types [] (f ∷ fs) gs h k = absurd h
-types_once types [] [] (g ∷ gs) h k = absurd k
-types_once types (x ∷ indices) [] gs h k = absurd h
-types_once types (x ∷ indices) (f ∷ fs) [] h k = absurd k
-types_once types (x ∷ indices) (f ∷ fs) (g ∷ gs) h k =
-    let p = h.0 in let q = k.0 in let same : f ≡ g = cc in let others = types_once types indices fs gs h.1 k.1 in cc
-
-callees_once : (m : Module) (imported : List ℕ) (own : List Function) (a b : List Callee) → AreCallees m imported own a → AreCallees m imported own b → a ≡ b
-callees_once m (x ∷ imported) own [] b h k = absurd h
-callees_once m (x ∷ imported) own (Own kind declared body ∷ a) b h k = absurd h
-callees_once m (x ∷ imported) own (Host kind ∷ a) [] h k = absurd k
-callees_once m (x ∷ imported) own (Host kind ∷ a) (Own kind' declared body ∷ b) h k = absurd k
-callees_once m (x ∷ imported) own (Host kind ∷ a) (Host kind' ∷ b) h k =
-    let p = h.0 in let q = k.0 in let same : kind ≡ kind' = cc in let others = callees_once m imported own a b h.1 k.1 in cc
-callees_once m [] [] [] [] h k = refl
-callees_once m [] [] [] (Host kind ∷ b) h k = absurd k
-callees_once m [] [] [] (Own kind declared body ∷ b) h k = absurd k
-callees_once m [] [] (Host kind ∷ a) b h k = absurd h
-callees_once m [] [] (Own kind declared body ∷ a) b h k = absurd h
-callees_once m [] (f ∷ own) [] b h k = absurd h
-callees_once m [] (f ∷ own) (Host kind ∷ a) b h k = absurd h
-callees_once m [] (f ∷ own) (Own kind declared body ∷ a) [] h k = absurd k
-callees_once m [] (f ∷ own) (Own kind declared body ∷ a) (Host kind' ∷ b) h k = absurd k
-callees_once m [] (f ∷ own) (Own kind declared body ∷ a) (Own kind' declared' body' ∷ b) h k =
-    let p = h.0 in let q = k.0 in let d = h.1 in let e = k.1 in
-    let same_kind : kind ≡ kind' = cc in
-    let same_declared : declared ≡ declared' = cc in
-    let same_body : body ≡ body' = one_sequence f.code.body body body' h.2 k.2 in
-    let others = callees_once m [] own a b h.3 k.3 in
-    cc
-
-abbrev pub program_of : List FunctionType → List Callee → ℕ → Program
-program_of types functions most = record { types = types; functions = functions; most_pages = most }
-
-program_is : (p q : Program) → p.types ≡ q.types → p.functions ≡ q.functions → p.most_pages ≡ q.most_pages → p ≡ q
-program_is p q a b c = let whole : program_of p.types p.functions p.most_pages ≡ program_of q.types q.functions q.most_pages = rw (a, b, c) refl in whole
 
 module _ (m : Module) (most : ℕ) (fs gs : List FunctionType) (p q : Program) (a : IsProgramIn m most fs p) (b : IsProgramIn m most gs q) where
   pub one_program : p ≡ q
-  one_program =
-      let x = a.is_program in
-      let y = b.is_program in
-      program_is p q (x.types ∙ sym y.types) (callees_once m (imported_functions m.imports) m.functions p.functions q.functions x.functions y.functions) (a.most ∙ sym b.most)
+  one_program = program.one_program m a.pages b.pages p q a.is_program b.is_program (a.most ∙ sym b.most)
 
   pub one_list : fs ≡ gs
-  one_list = types_once m.types (imported_functions m.imports ++ map function_type_of m.functions) fs gs a.types b.types
+  one_list = program.one_list m.types (imported_functions m.imports ++ map function_type_of m.functions) fs gs a.types b.types

@@ -4,7 +4,7 @@ use Rattle.std.specs.Prelude.{reverse}
 use Rattle.wasm_syntax.specs.declared.types.FunctionType.{FunctionType}
 use Rattle.guest_memory.specs.Memories.{LinearMemory}
 use Rattle.wasm_syntax_rules.specs.Validity.{module_context}
-use Rattle.wasm_syntax_rules.specs.Configuration.{Program, Configuration}
+use Rattle.wasm_syntax_rules.specs.Configuration.{Program}
 use Rattle.wasm_syntax_rules.specs.Steps.{stopped}
 use Rattle.machine_state.specs.Places.{Place, ShowsThread}
 use Rattle.machine_threads.specs.Threads.{places_of}

@@ -1,4 +1,4 @@
--- What becomes of a machine when the bytes of its memory are written.
+-- What becomes of a machine when the bytes of its memory are written, and that it shows one configuration.
 use Rattle.std.specs.Prelude.{◌≡◌, ℕ, List, length}
 use Rattle.std.specs.List.{AllByRecursion}
 use Rattle.wasm_syntax.specs.declared.value.Value.{Value}
@@ -37,3 +37,7 @@ WaitsForTheCall =
     → length memory.bytes ≡ length v.state.memory → AllByRecursion IsByte memory.bytes → memory.limit ≡ v.limit
     → ShowsIn v program d → AsksFor v.guest program d call numbers → AreOf (gives_of (function_type_of call)) results
     → WaitsFor results (with_memory v memory)
+
+-- A machine shows one configuration at most, of one program.
+abbrev pub ShowsOne : Type 0
+ShowsOne = (v : MachineValue) (p q : Program) (d e : Configuration) → ShowsIn v p d → ShowsIn v q e → (p ≡ q) × (d ≡ e)

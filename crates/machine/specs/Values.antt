@@ -1,5 +1,5 @@
 -- What contracts see of a machine: the module that it runs, and what it shows of a configuration. Nothing of how it holds that.
-use Rattle.std.specs.Prelude.{◌≡◌, ℕ, ◌≤◌, ◌^◌, List, Option}
+use Rattle.std.specs.Prelude.{◌≡◌, ℕ, ◌≤◌, ◌^◌, List, [], Option}
 use Rattle.wasm_syntax.specs.declared.types.FunctionType.{FunctionType}
 use Rattle.wasm_syntax.specs.declared.module.Module.{Module}
 use Rattle.guest_memory.specs.Memories.{LinearMemory}
@@ -23,6 +23,10 @@ memory_of v = record { bytes = v.state.memory; limit = v.limit }
 -- the same with this memory in the place of its own
 abbrev pub with_memory : MachineValue → LinearMemory → MachineValue
 with_memory v memory = record v { state = record v.state { memory = memory.bytes }; limit = memory.limit }
+
+-- the same without frames, and without calls to come
+abbrev pub without_thread : MachineValue → MachineValue
+without_thread v = record v { state = record v.state { frames = []; later = [] } }
 
 -- its memory may have as many pages as its program's
 abbrev pub HoldsMemory : MachineValue → Type 0

@@ -6,6 +6,7 @@ ghost use Rattle.guest_memory.specs.Bytes.{IsByte};
 ghost use Rattle.guest_memory.specs.Memories.{IsWithinLimit};
 
 use guest_memory::Memory;
+use guest_memory::laws::are_bytes;
 use machine_running::{Code, Paused, State, clear, go_on};
 use std::marker::Model;
 use wasm_validate::ValidModule;
@@ -30,13 +31,6 @@ impl Model for Machine {
     ghost invariant = { λ m. IsMachine m.code m.state m.most_pages };
 }
 
-/// The bytes are numbers below 256 by their type.
-fn are_bytes(bytes: &[u8])
-    ensures { AllByRecursion IsByte bytes.now }
-{
-    let _ = bytes;
-}
-
 /// What holds of a memory by its type.
 fn is_memory(memory: &Memory)
     ensures shape { IsWithinLimit memory.now }
@@ -47,7 +41,7 @@ fn is_memory(memory: &Memory)
 }
 
 impl Machine {
-    ghost use Rattle.machine.specs.Values.{HoldsMemory, IsSameMachine, memory_of};
+    ghost use Rattle.machine.specs.Values.{HoldsMemory, IsSameMachine, memory_of, without_thread};
     ghost use Rattle.std.specs.Borrow.{sem};
     ghost use Rattle.machine_hosting.specs.Answers.{results_of};
     ghost use Rattle.machine.specs.Runs.{Runs, Stops, WaitsFor, Answers};
@@ -69,6 +63,7 @@ impl Machine {
     pub fn stop(&mut self)
         ensures same { IsSameMachine self.old self.new }
         ensures holds { HoldsMemory self.old → HoldsMemory self.new }
+        ensures drops { self.new ≡ without_thread self.old }
         ensures stops { Stops self.old self.new }
     {
         clear(&mut self.state);
@@ -94,7 +89,8 @@ impl Machine {
         &self.state.memory
     }
 
-    /// The guest's memory, to be written. Nothing else changes. With another limit of pages the machine doesn't run.
+    /// The guest's memory, to be written. Nothing else changes. A memory with another limit of pages may be put there, but `run` and
+    /// `finish` ask that the limit is the machine's.
     pub fn memory_mut(&mut self) -> &mut Memory
         ensures* writes_back { sem 𝓛 (LendsMemory self.entry result) }
         ensures memory { result.now ≡ memory_of self.old }

@@ -3,26 +3,9 @@
 ghost use Rattle.std.specs.Prelude.{◌≡◌, IfOk, map, reverse};
 ghost use Rattle.wasm_syntax_rules.specs.Types.{number_in};
 ghost use Rattle.wasm_syntax_rules.specs.Instantiation.{calls_of};
-ghost use Rattle.machine_hosting.specs.Beginnings.{kinds_of};
 
 use std::alloc::{AllocError, Global};
-use wasm_syntax::{ImportItem, Module, Value};
-
-/// The index of the type of each function.
-pub fn function_kinds(alloc: Global, module: &Module) -> Result<Vec<u32>, AllocError>
-    ensures { IfOk result (λ v. v.items ≡ kinds_of «module».now) }
-{
-    let mut kinds = Vec::new(alloc);
-    for import in module.imports.as_slice() {
-        if let ImportItem::Function(index) = import.item {
-            kinds.push(index)?;
-        }
-    }
-    for function in module.functions.as_slice() {
-        kinds.push(function.function_type)?;
-    }
-    Ok(kinds)
-}
+use wasm_syntax::Value;
 
 /// The number of a value.
 fn word_of(value: Value) -> u64

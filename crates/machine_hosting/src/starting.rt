@@ -8,7 +8,7 @@ ghost use Rattle.machine_instance.specs.Offers.{offer};
 ghost use Rattle.machine_instance.specs.Refusals.{IsRefused, Denies};
 ghost use Rattle.machine_hosting.specs.Beginnings.{IsOfInstance, HasBegun};
 
-use crate::parts::{first_calls, function_kinds, words_of};
+use crate::parts::{first_calls, words_of};
 use guest_memory::MOST_PAGES;
 use machine_frames::Frames;
 use machine_instance::{Instance, LinkFault};
@@ -17,6 +17,7 @@ use machine_running::{Code, State};
 use machine_slots::Slots;
 use std::alloc::{AllocError, Global};
 use wasm_validate::ValidModule;
+use wasm_validate_parts::function_type_indices;
 
 /// What a machine begins with, before the host's first call.
 #[derive(Debug, Drop)]
@@ -32,7 +33,7 @@ fn prepare(instance: Instance, alloc: Global) -> Result<Beginning, AllocError>
     ensures { IfOk result (IsOfInstance instance) }
 {
     let module = instance.module.module();
-    let kinds = function_kinds(alloc, module)?;
+    let kinds = function_type_indices(alloc, module)?;
     let routines = routines(module, alloc)?;
     let later = first_calls(alloc, module.start, instance.entry)?;
     let globals = words_of(alloc, instance.globals.as_slice())?;

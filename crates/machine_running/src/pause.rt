@@ -54,7 +54,7 @@ pub enum Pause {
     Spent,
     /// A call of the host waits for its answer.
     Host(Call, Arguments),
-    /// The last function that the host called has returned.
+    /// Nothing is left to run: the last function that the host called has returned, or the machine trapped or was stopped before.
     Returned,
     Trapped(Trap),
 }

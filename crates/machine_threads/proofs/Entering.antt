@@ -1,25 +1,25 @@
 -- What calls lead to.
 use Rattle.std.proofs.Common.{◌≡◌, ◌⊎◌, inl, inr, ⊎_elim, ℕ, ◌+◌, ◌-◌, ◌≤◌, ◌<◌, Bool, true, false, if◌then◌else◌, ◌||◌, nat_lt, List, [], ◌∷◌, ◌++◌, length, drop, Option, Some, refl, sym, ap, ◌∙◌, arith, length-append}
-use Rattle.std.specs.Prelude.{map, reverse, replicate, slice_get, nat_le}
+use Rattle.std.specs.Prelude.{map, reverse, replicate, slice_get}
 use Rattle.std.proofs.lemmas.List.{length-map, length-reverse, reverse-reverse}
 use Rattle.std.proofs.lemmas.Bool.Decides.{nat_tests}
 use Rattle.wasm_syntax.specs.declared.types.ValueType.{ValueType}
 use Rattle.wasm_syntax.specs.declared.types.FunctionType.{FunctionType}
 use Rattle.wasm_syntax.specs.declared.value.Value.{Value}
 use Rattle.wasm_syntax.specs.declared.value.Trap.TheVariants as trap
-use Rattle.wasm_syntax.specs.Sequence.{Sequence, Stop, spelled}
+use Rattle.wasm_syntax.specs.Sequence.{Sequence}
 use Rattle.wasm_syntax_rules.specs.Types.{AreOf, number_in, takes_of}
 use Rattle.wasm_syntax_rules.specs.Typing.{Context}
-use Rattle.wasm_syntax_rules.specs.Configuration.{Callee, Host, Own, Program, Label, LabelOf, Frame, FrameOf, Thread, Configuration, Outcome, Goes, Traps, Asks}
+use Rattle.wasm_syntax_rules.specs.Configuration.{Callee, Host, Own, Program, Label, Frame, FrameOf, Thread, Configuration, Outcome, Goes, Traps, Asks}
 use Rattle.wasm_syntax_rules.specs.Steps.{topmost, entered, called, held_by, is_exhausted, kind_of, zero_of, rule, IsSettled, IsCounted}
-use Rattle.wasm_syntax_rules.specs.Shapes.{Shape, LabelShape, ShapeOf}
+use Rattle.wasm_syntax_rules.specs.Shapes.{LabelShape}
 use Rattle.wasm_syntax_soundness.specs.Typed.{IsTypedProgram}
 use Rattle.wasm_syntax_soundness.proofs.Values.{topmost_are, zeros_are, are_both, reverse_are}
 use Rattle.machine_state.specs.Places.{HaveShape, all_below, IsCallOf}
 use Rattle.machine_slots.specs.Frames.{frame_words}
 use Rattle.machine_slots.proofs.Branches.{topmost_is, entry_pushes}
 use Rattle.wasm_jumps.specs.Jumps.{HasShape}
-use Rattle.machine_standing.specs.Standing.{StandsAt}
+use Rattle.machine_standing.proofs.Positions.{entry_stands}
 use Rattle.machine_threads.specs.declared.frame.Frame as threads
 use Rattle.machine_threads.specs.Threads.{IsOwn, context_of, AreWaiting, Held, StandsFor}
 use Rattle.machine_threads.specs.Laws.{CallLeads}
@@ -137,21 +137,6 @@ module _ (c : Context) (program : Program) (frame : threads.Frame) (frames : Lis
       }
 
 -- ---- what follows
-
-entry_shape : (b : Bool) (x y : Option Shape) (n : ℕ) → nat_le 0 n ≡ b → (if b then x else y) ≡ x
-entry_shape true x y n e = refl
-entry_shape false x y n e = absurd (let no : n + 1 ≤ 0 = grind (arith, nat_tests) in omega arith)
-
--- A function is entered at its first opcode.
-pub entry_stands : (c : Context) (body : Sequence) (ls : List Value) → AreOf c.locals ls → StandsAt c body 0 ls (LabelOf (length c.returns) Stop [] Stop ∷ []) [] body
-entry_stands c body ls locals = record {
-  shapes = ShapeOf c.returns Stop [] Stop ∷ [];
-  types = [];
-  reached = entry_shape (nat_le 0 (length (spelled body))) _ _ (length (spelled body)) refl;
-  labels_are = (refl, refl, tt, refl, tt);
-  operands = tt;
-  locals = locals;
-}
 
 -- the locals of a function that is entered
 pub entered_locals : (kind : FunctionType) (declared : List ValueType) (arguments : List Value) → AreOf (takes_of kind) arguments → AreOf (kind.parameters ++ declared) (reverse arguments ++ map zero_of declared)

@@ -21,13 +21,14 @@ use Rattle.guest_memory.specs.Memories.{LinearMemory}
 use Rattle.machine_slots.specs.Frames.{frame_words}
 use Rattle.machine_slots.proofs.Branches.{entry_pushes}
 use Rattle.wasm_jumps.specs.Tables.{Table}
+use Rattle.machine_standing.proofs.Positions.{entry_stands}
 use Rattle.machine_threads.specs.declared.frame.Frame as threads
 use Rattle.machine_threads.specs.Threads.{IsOwn, context_of, AreWaiting, AreFrames, IsReadyProgram, Held, StandsFor}
 use Rattle.machine_threads.specs.Laws.{Top, HasTaken, HostCalls, AnswersLead}
 use Rattle.machine_threads.proofs.Words.{same_parts}
 use Rattle.machine_threads.proofs.Running.{frames_run}
 use Rattle.machine_threads.proofs.Waiting.{gives_back}
-use Rattle.machine_threads.proofs.Entering.{IsCalling, under, waits, taken, entry_stands, entered_locals, entered_count, called_own, called_host}
+use Rattle.machine_threads.proofs.Entering.{IsCalling, under, waits, taken, entered_locals, entered_count, called_own, called_host}
 use Rattle.machine_threads.proofs.Calling.{direct, same_kind, indirect}
 
 -- ---- the host's next call

@@ -1,5 +1,5 @@
 -- What a return and the end of a body lead to.
-use Rattle.std.proofs.Common.{◌≡◌, ℕ, ◌+◌, ◌≤◌, List, [], ◌∷◌, ◌++◌, length, Some, refl, sym, ap, ◌∙◌, subst, arith, append_assoc, length-append, Option}
+use Rattle.std.proofs.Common.{◌≡◌, ◌≢◌, ⊎_elim, ℕ, ◌+◌, ◌≤◌, List, [], ◌∷◌, ◌++◌, length, Some, refl, sym, ap, ◌∙◌, subst, arith, append_assoc, length-append, Option}
 use Rattle.std.specs.Prelude.{map}
 use Rattle.std.proofs.lemmas.List.{length-reverse}
 use Rattle.wasm_syntax.specs.declared.value.Value.{Value}
@@ -10,16 +10,14 @@ use Rattle.wasm_syntax_rules.specs.Types.{AreOf, number_in, gives_of}
 use Rattle.wasm_syntax_rules.specs.Typing.{Context}
 use Rattle.wasm_syntax_rules.specs.Configuration.{Own, Program, Label, Configuration}
 use Rattle.wasm_syntax_rules.specs.Steps.{topmost, returned, held_by}
-use Rattle.wasm_syntax_rules.specs.Shapes.{LabelShape}
 use Rattle.wasm_syntax_soundness.specs.Typed.{IsTyped}
 use Rattle.wasm_syntax_soundness.proofs.Values.{topmost_are}
 use Rattle.wasm_syntax_soundness.proofs.LeaveSound.{leaves_typed}
-use Rattle.machine_state.specs.Places.{HaveShape, all_below, held_beside}
-use Rattle.wasm_jumps.specs.Jumps.{HasShape}
+use Rattle.machine_state.specs.Places.{all_below, held_beside}
 use Rattle.wasm_jumps.specs.Moves.{opcodes_of, HasOpcode, IsTypedBody}
 use Rattle.wasm_jumps.specs.Tables.{Table}
-use Rattle.wasm_jumps.proofs.MovesHold.{opcodes_first, no_opcode_behind}
 use Rattle.machine_standing.specs.Standing.{StandsAt}
+use Rattle.machine_standing.proofs.Positions.{stands_somewhere}
 use Rattle.machine_threads.specs.declared.frame.Frame.{Frame}
 use Rattle.machine_threads.specs.Threads.{context_of, IsReadyProgram, Held, StandsFor}
 use Rattle.machine_threads.specs.Laws.{Top, WordsReturned, frames_behind, ReturnsLead, BodiesEnd}
@@ -31,12 +29,11 @@ use Rattle.machine_threads.proofs.Rules.{settled_before, counted_typed, with_res
 -- ---- what remains at the end
 
 at_end : (c : Context) (body : Sequence) (p : ℕ) (ls vs : List Value) (labels : List Label) (rest : Sequence) → IsTypedBody c body → StandsAt c body p ls labels vs rest → p ≡ length (opcodes_of body) → (labels ≡ []) × (rest ≡ Stop) × AreOf c.returns vs
-at_end c body p ls vs labels rest typed s at = by_shapes s.shapes labels s.reached s.labels_are
-  where
-    by_shapes : (shapes : List LabelShape) (labels : List Label) → HasShape c body p shapes s.types rest → HaveShape shapes labels → (labels ≡ []) × (rest ≡ Stop) × AreOf c.returns vs
-    by_shapes [] [] e k = let h = no_opcode_behind c body p s.types rest typed e in (refl, h.1, subst (λ z. AreOf z vs) h.2 s.operands)
-    by_shapes [] (label ∷ labels) e k = absurd k
-    by_shapes (shape ∷ shapes) labels e k = let h = opcodes_first c body p shape shapes s.types rest typed e in absurd (none_behind (opcodes_of body) p h.0 at h.1)
+at_end c body p ls vs labels rest typed s at =
+    ⊎_elim
+    (λ (h : (i : Instruction) × HasOpcode body p i × (labels ≢ [])). absurd (none_behind (opcodes_of body) p h.0 at h.1))
+    (λ (h : (p ≡ length (opcodes_of body)) × (labels ≡ []) × (rest ≡ Stop) × AreOf c.returns vs). (h.1, h.2, h.3))
+    (stands_somewhere c body p ls vs labels rest typed s)
 
 topmost_all : (vs : List Value) → topmost (length vs) vs ≡ Some vs
 topmost_all [] = refl

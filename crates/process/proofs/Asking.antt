@@ -23,7 +23,7 @@ use Rattle.wasi_calls_rows.specs.Moving.{size_after, file_written, write_offset,
 use Rattle.wasi_calls_rows.specs.Rows.{row}
 use Rattle.wasi_calls.specs.Calls.{IsBuilt}
 use Rattle.process_rules.specs.Processes.{ProcessState, Guest}
-use Rattle.process_rules.specs.Runs.{Next, On, Over, Wants, Nowhere, after_row, after_call, after_rule, next_of}
+use Rattle.process_rules.specs.Runs.{Wants, after_row, after_call, after_rule, next_of}
 use Rattle.machine_routines.proofs.Made.{all_at}
 
 -- what a rule gives is no wish

@@ -145,6 +145,6 @@ module _ (old : ProcessValue) (machine : MachineValue) (held : Held) (guest : Gu
         (none_waits, quiet h.0, omega (arith, less, spent), h.1, inl (omega (arith, counts, steps, spent, last)))
     ends_for false cut whole (Ok stop.Spent) e h = (none_waits, quiet h.0, h.2 ∙ whole refl, h.1)
     ends_for is_cut cut whole (Ok (stop.Asks kind)) e h = (none_waits, quiet h.0, (let w = h.2 in omega (arith, w, within)), h.1, h.3)
-    ends_for is_cut cut whole (Err fault.Memory) e h = (none_waits, quiet h.0, (let w = h.2 in omega (arith, w, within)), h.1)
+    ends_for is_cut cut whole (Err fault.Memory) e h = (none_waits, quiet h.0, (let w = h.2 in omega (arith, w, within)), h.1, h.3)
     ends_for is_cut cut whole (Err fault.StepsSpent) e h = (none_waits, quiet h.0, (let w = h.2 in omega (arith, w, within)), h.1, h.3)
     ends_for is_cut cut whole (Err fault.WrongAnswer) e h = absurd h

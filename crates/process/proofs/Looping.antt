@@ -57,7 +57,7 @@ module _ (old new : MachineValue) (old_held held : Held) (c : Call) (arguments :
         process = p;
         shows = as_before k.0 k.1 guest p shows;
         ended = running;
-        comes = (record { runs = no_run; none_waits = still_none k.1 }, running, some);
+        comes = (record { runs = no_run; none_waits = still_none k.1 }, running, some, record { function = at.function; operands = at.operands; waits = at.waits; asks = at.asks; ends_not = k.2 });
       }
   steps_of (Err fault.StepsSpent) calls guest p fuel shows running at some =
       let k = calls guest p shows running at in
@@ -65,7 +65,7 @@ module _ (old new : MachineValue) (old_held held : Held) (c : Call) (arguments :
         process = p;
         shows = as_before k.0 k.1 guest p shows;
         ended = running;
-        comes = (record { runs = no_run; none_waits = still_none k.1 }, running, some, inr (λ q moves. k.2 q moves.leads));
+        comes = (record { runs = no_run; none_waits = still_none k.1 }, running, some, inr k.2);
       }
   steps_of (Err fault.WrongAnswer) calls guest p fuel shows running at some = absurd (calls guest p shows running at)
 

@@ -1,11 +1,11 @@
 -- What a call of the guest comes to.
-use Rattle.std.proofs.Common.{◌≡◌, ℕ, ◌<◌, ◌^◌, List, [], ◌∷◌, Option, Some, None, refl, sym, ap, ◌∙◌, subst, arith}
+use Rattle.std.proofs.Common.{◌≡◌, ◌≢◌, ℕ, ◌<◌, ◌^◌, List, [], ◌∷◌, Option, Some, None, refl, sym, ap, ◌∙◌, subst, arith}
 use Rattle.std.specs.Prelude.{Ok, Err, slice_get, map, reverse}
 use Rattle.std.specs.Option.{option_map}
 use Rattle.wasm_syntax.specs.declared.value.Value.{Value}
 use Rattle.wasm_syntax.specs.declared.value.Value.TheVariants as value
 use Rattle.wasm_syntax_rules.specs.Types.{AreOf, gives_of, number_in}
-use Rattle.wasm_syntax_rules.specs.Configuration.{Program, Configuration, Outcome as Result}
+use Rattle.wasm_syntax_rules.specs.Configuration.{Program, Thread, Configuration, Outcome as Result}
 use Rattle.wasm_syntax_rules.specs.Steps.{answered, stopped, IsEnded, Settles}
 use Rattle.wasi_abi.specs.declared.answer.Answer.{Answer}
 use Rattle.wasi_abi.specs.declared.call.Call.{Call}
@@ -20,18 +20,19 @@ use Rattle.wasi_calls_rows.specs.Lines.{lines_ended}
 use Rattle.wasi_calls_rows.specs.Rows.{row, IsSync, IsDone}
 use Rattle.wasi_calls.specs.declared.outcome.Outcome.{Outcome}
 use Rattle.wasi_calls.specs.Held.{Held, ShowsHost}
-use Rattle.wasi_calls.specs.Calls.{IsBuilt, AreArguments, ShowsRow}
+use Rattle.wasi_calls.specs.Calls.{IsBuilt, AreArguments, ShowsRow, EndsNothing}
 use Rattle.machine_hosting.specs.Answers.{results_of}
 use Rattle.machine.specs.Values.{MachineValue, ShowsIn, memory_of, with_memory}
 use Rattle.machine.specs.Laws.{with_bytes}
 use Rattle.machine.proofs.Written.{shows_what_is_written}
-use Rattle.process_rules.specs.Processes.{Exited, ProcessState, Guest, AreCalls, over, closed}
+use Rattle.process_rules.specs.Processes.{Ending, Exited, ProcessState, Guest, AreCalls, over, closed}
 use Rattle.process_rules.specs.Runs.{Next, On, Over, given_by, after_row, after_call, after_rule, next_of, stepped, LeadsTo}
 use Rattle.process_rules.specs.Behind.{Syncs}
 use Rattle.process_rules.proofs.Quiet.{open_still}
 use Rattle.process.specs.declared.stop.End.{End}
 use Rattle.process.specs.Values.{ending_of}
 use Rattle.process.specs.Parts.{IsAt}
+use Rattle.process.specs.Stops.{EndsNot}
 use Rattle.process.specs.Callings.{Leads, EndsAt, HasCalled, number_of}
 
 -- ---- what is given
@@ -184,6 +185,19 @@ module _ (guest : Guest) (p : ProcessState) (c : Call) (arguments : List ℕ) (a
             ∙ ap (λ (d : Call). row d (reverse (map number_in s.arguments)) None p.configuration.store.memory p.host) (sym same)
             ∙ s.answers_zero;
       }
+
+-- ---- a call that doesn't end the process
+
+ends_not_after : (c : Call) (r : Row) (before : Configuration) (g : Host) (waits : Thread) (why : Ending) (d : Configuration) (h : Host) → ((code : ℕ) → r ≢ Err (Ends code)) → after_row c r before g waits ≢ Over why d h
+ends_not_after c (Ok done) before g waits why d h nothing e = absurd (cc)
+ends_not_after c (Err (Refuses f)) before g waits why d h nothing e = absurd (cc)
+ends_not_after c (Err (Wishes kind)) before g waits why d h nothing e = absurd (cc)
+ends_not_after c (Err (Ends code)) before g waits why d h nothing e = nothing code refl
+
+pub ends_not : (guest : Guest) (p : ProcessState) (c : Call) (arguments : List ℕ) → IsAt guest p.configuration c arguments → EndsNothing c arguments → EndsNot guest p
+ends_not guest p c arguments at nothing given why d h e =
+    let r : Row = row c arguments given p.configuration.store.memory p.host in
+    ends_not_after c r p.configuration p.host at.waits why d h (nothing given p.configuration.store.memory p.host) (sym (next_is guest p c arguments at given r refl) ∙ e)
 
 -- ---- the host has made it
 

@@ -56,7 +56,7 @@ module _ (guest : Guest) (p m q : ProcessState) (k : ℕ) (runs : RunsQuietly gu
   joined (Some (Ok (stop.Ended how))) h = let within = h.2 in (on h.0, h.1, omega (arith, within))
   joined (Some (Ok stop.Spent)) h = (on h.0, h.1, ap (λ z. k + z) h.2)
   joined (Some (Ok (stop.Asks kind))) h = let within = h.2 in (on h.0, h.1, omega (arith, within), h.3)
-  joined (Some (Err fault.Memory)) h = let within = h.2 in (on h.0, h.1, omega (arith, within))
+  joined (Some (Err fault.Memory)) h = let within = h.2 in (on h.0, h.1, omega (arith, within), h.3)
   joined (Some (Err fault.StepsSpent)) h = let within = h.2 in (on h.0, h.1, omega (arith, within), h.3)
   joined (Some (Err fault.WrongAnswer)) h = h
 

@@ -17,8 +17,9 @@ use Rattle.wasi_calls_rows.specs.Checks.{Done, Halt}
 use Rattle.wasi_calls_rows.specs.Lines.{lines_ended}
 use Rattle.wasi_calls_rows.specs.Rows.{row, IsSync}
 use Rattle.wasi_calls.specs.declared.outcome.Outcome.{Outcome}
+use Rattle.wasi_calls.specs.declared.outcome.Outcome.TheVariants as outcome
 use Rattle.wasi_calls.specs.Held.{Held, ShowsHost, held_ended}
-use Rattle.wasi_calls.specs.Calls.{told_of, ShowsRow, IsAsLarge}
+use Rattle.wasi_calls.specs.Calls.{told_of, ShowsRow, EndsNothing, IsAsLarge}
 use Rattle.machine_hosting.specs.Answers.{results_of}
 use Rattle.machine.specs.Values.{MachineValue, ShowsIn, memory_of, with_memory}
 use Rattle.process_rules.specs.Processes.{Ending, ProcessState, Guest}
@@ -32,6 +33,7 @@ use Rattle.process.specs.declared.stop.End.{End}
 use Rattle.process.specs.declared.stop.End.TheVariants as end
 use Rattle.process.specs.Values.{ending_of}
 use Rattle.process.specs.Parts.{ShowsParts, IsAt}
+use Rattle.process.specs.Stops.{EndsNot, lines_by}
 
 -- it leads to a process that is then shown, and has ended so
 pub record Leads (machine : MachineValue) (held : Held) (guest : Guest) (p : ProcessState) (given : Option Answer) (how : Option Ending) : Type 0 where
@@ -48,9 +50,9 @@ Tells synced guest p given = given ≡ None → (IsTrue synced ↔ Syncs guest p
 abbrev pub CallsFor : MachineValue → Held → MachineValue → Held → Guest → ProcessState → Option Answer → Result Called ProcessFault → Type 0
 CallsFor old old_held new held guest p given (Ok (called.Made synced ended)) = Leads new held guest p given (option_map ending_of ended) × Tells synced guest p given
 CallsFor old old_held new held guest p given (Ok (called.Asks kind)) = (new ≡ old) × (held ≡ old_held) × (next_of guest p given ≡ Wants kind)
-CallsFor old old_held new held guest p given (Err fault.Memory) = (new ≡ old) × (held ≡ old_held)
+CallsFor old old_held new held guest p given (Err fault.Memory) = (new ≡ old) × (held ≡ old_held) × EndsNot guest p
 CallsFor old old_held new held guest p given (Err fault.StepsSpent) =
-    (new ≡ old) × (held ≡ old_held) × ((q : ProcessState) → LeadsTo guest (next_of guest p given) given p q → 2 ^ 63 ≤ length q.host.lines + 2)
+    (new ≡ old) × (held ≡ old_held) × (2 ^ 63 ≤ length (lines_by (next_of guest p given) p) + 2)
 CallsFor old old_held new held guest p given (Err fault.WrongAnswer) = ⊥
 
 -- whichever process was shown that is at this call
@@ -72,12 +74,13 @@ pub record HasNoNumbers (machine : MachineValue) (held : Held) (call : Call) (ar
   pub stopped : (given : Option Answer) (h : Host) (halt : Halt) → ShowsHost held h → row call arguments given machine.state.memory h ≡ Err halt → 2 ^ 63 ≤ length h.lines + 2
 
 -- The host has made the call, on the memory that the machine holds. All else of the machine is as it was.
-pub record HasCalled (old : MachineValue) (old_held : Held) (call : Call) (arguments : List ℕ) (given : Option Answer) (outcome : Outcome) (new : MachineValue) (held : Held) : Type 0 where
+pub record HasCalled (old : MachineValue) (old_held : Held) (call : Call) (arguments : List ℕ) (given : Option Answer) (o : Outcome) (new : MachineValue) (held : Held) : Type 0 where
   pub is : new ≡ with_memory old (memory_of new)
   pub large : IsAsLarge (memory_of old) (memory_of new)
   pub bytes : AllByRecursion IsByte new.state.memory
   pub released : held.released ≡ old_held.released
-  pub shown : (h : Host) → ShowsHost old_held h → ShowsRow (told_of outcome) new.state.memory held old.state.memory old_held (row call arguments given old.state.memory h)
+  pub shown : (h : Host) → ShowsHost old_held h → ShowsRow (told_of o) new.state.memory held old.state.memory old_held (row call arguments given old.state.memory h)
+  pub wants : o ≡ outcome.Memory → EndsNothing call arguments
 
 -- the error's number, or 0
 abbrev pub number_of : Option Errno → ℕ

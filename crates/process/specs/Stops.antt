@@ -1,8 +1,12 @@
 -- Where a process comes to, and why it stops there.
-use Rattle.std.specs.Prelude.{◌≡◌, ◌≢◌, ◌⊎◌, ℕ, suc, ◌+◌, ◌<◌, ◌≤◌, ◌^◌, [], length, Bool, true, false, ◌&&◌, if◌then◌else◌, Option, Some, None, Result, Ok, Err}
+use Rattle.std.specs.Prelude.{◌≡◌, ◌≢◌, ◌⊎◌, ℕ, suc, ◌+◌, ◌<◌, ◌≤◌, ◌^◌, [], length, Bool, true, false, ◌&&◌, if◌then◌else◌, List, Option, Some, None, Result, Ok, Err}
+use Rattle.wasm_syntax.specs.declared.value.Value.{Value}
+use Rattle.wasm_syntax_rules.specs.Configuration.{Configuration, Thread, Asks}
+use Rattle.wasm_syntax_rules.specs.Steps.{rule}
 use Rattle.wasi_abi.specs.declared.answer.Answer.{Answer}
-use Rattle.process_rules.specs.Processes.{ProcessState, Guest}
-use Rattle.process_rules.specs.Runs.{Wants, next_of, Moves, IsWanted}
+use Rattle.wasi_calls_rows.specs.Hosts.{Line, Host}
+use Rattle.process_rules.specs.Processes.{Ending, ProcessState, Guest}
+use Rattle.process_rules.specs.Runs.{Next, On, Over, Wants, next_of, Moves, IsWanted}
 use Rattle.process_rules.specs.Owing.{IsOwing, RunsQuietly}
 use Rattle.process.specs.declared.stop.Stop.{Stop}
 use Rattle.process.specs.declared.stop.Stop.TheVariants as stop
@@ -43,14 +47,31 @@ StopsFor old new guest p fuel (stop.Asks kind) =
     (waiting_in old ≡ []) × (come : ComesQuietly new guest p) × (come.steps < fuel) × (come.process.ended ≡ None)
     × (next_of guest come.process None ≡ Wants kind)
 
--- the next step would be one too many to be counted, or would emit such a line; two lines are kept for the end
-abbrev pub IsBeyond : Guest → ProcessState → Option Answer → Type 0
-IsBeyond guest p given = (suc p.steps ≡ 2 ^ 63) ⊎ ((q : ProcessState) → Moves guest p given q → 2 ^ 63 ≤ length q.host.lines + 2)
+-- the next step doesn't end the process, whatever answer it is given
+abbrev pub EndsNot : Guest → ProcessState → Type 0
+EndsNot guest p = (given : Option Answer) (why : Ending) (d : Configuration) (h : Host) → next_of guest p given ≢ Over why d h
 
--- Why it can't go on: there is no memory for the next step, or that can't be counted. It is as it was before that step.
+-- the next step is a call of the host, and not one that ends the process
+pub record CallsHost (guest : Guest) (p : ProcessState) : Type 0 where
+  pub function : ℕ
+  pub operands : List Value
+  pub waits : Thread
+  pub asks : rule guest.program p.configuration ≡ Asks function operands waits
+  pub ends_not : EndsNot guest p
+
+-- the lines that are emitted by the next step, but for those of an end
+abbrev pub lines_by : Next → ProcessState → List Line
+lines_by (On configuration host) p = host.lines
+lines_by _ p = p.host.lines
+
+-- the next step would be one too many to be counted, or the lines that are emitted by then too many; two more are kept for the end
+abbrev pub IsBeyond : Guest → ProcessState → Option Answer → Type 0
+IsBeyond guest p given = (suc p.steps ≡ 2 ^ 63) ⊎ (2 ^ 63 ≤ length (lines_by (next_of guest p given) p) + 2)
+
+-- Why it can't go on: there is no memory for the call that is the next step, or that step can't be counted. It is as it was before it.
 abbrev pub FailsFor : ProcessValue → ProcessValue → Guest → ProcessState → ℕ → ProcessFault → Type 0
 FailsFor old new guest p fuel fault.Memory =
-    (waiting_in old ≡ []) × (come : ComesQuietly new guest p) × (come.steps < fuel) × (come.process.ended ≡ None)
+    (waiting_in old ≡ []) × (come : ComesQuietly new guest p) × (come.steps < fuel) × (come.process.ended ≡ None) × CallsHost guest come.process
 FailsFor old new guest p fuel fault.StepsSpent =
     (waiting_in old ≡ []) × (come : ComesQuietly new guest p) × (come.steps < fuel) × (come.process.ended ≡ None) × IsBeyond guest come.process None
 FailsFor old new guest p fuel fault.WrongAnswer = ⊥
@@ -81,13 +102,14 @@ pub record Takes (new : ProcessValue) (guest : Guest) (p : ProcessState) (answer
   pub moves : Moves guest p (Some answer) process
   pub shows : ShowsProcess new guest process
 
--- The answer is taken; or it isn't what is wanted, there is no memory for the step, or that can't be counted, and nothing changes.
+-- The answer is taken, where no line waits; or it isn't what is wanted, there is no memory for the step, or that can't be counted, and
+-- nothing changes. While a line waits, and once the process has ended, none is wanted.
 abbrev pub GivesFor : ProcessValue → ProcessValue → Guest → ProcessState → Answer → Result (Unit {0}) ProcessFault → Type 0
-GivesFor old new guest p answer (Ok done) = Takes new guest p answer
-GivesFor old new guest p answer (Err fault.WrongAnswer) = (new ≡ old) × (IsWanted guest p (Some answer) → ⊥)
-GivesFor old new guest p answer (Err fault.Memory) = new ≡ old
-GivesFor old new guest p answer (Err fault.StepsSpent) = (new ≡ old) × IsBeyond guest p (Some answer)
+GivesFor old new guest p answer (Ok done) = (waiting_in old ≡ []) × Takes new guest p answer
+GivesFor old new guest p answer (Err fault.WrongAnswer) = (new ≡ old) × (waiting_in old ≡ [] → p.ended ≡ None → IsWanted guest p (Some answer) → ⊥)
+GivesFor old new guest p answer (Err fault.Memory) = (new ≡ old) × (waiting_in old ≡ []) × (p.ended ≡ None) × CallsHost guest p
+GivesFor old new guest p answer (Err fault.StepsSpent) = (new ≡ old) × (waiting_in old ≡ []) × (p.ended ≡ None) × IsBeyond guest p (Some answer)
 
--- whichever process it showed that has not ended
+-- whichever process it showed
 abbrev pub Gives : ProcessValue → Answer → Result (Unit {0}) ProcessFault → ProcessValue → Type 0
-Gives old answer result new = (guest : Guest) (p : ProcessState) → ShowsProcess old guest p → p.ended ≡ None → GivesFor old new guest p answer result
+Gives old answer result new = (guest : Guest) (p : ProcessState) → ShowsProcess old guest p → GivesFor old new guest p answer result

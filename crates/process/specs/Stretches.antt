@@ -17,7 +17,7 @@ use Rattle.process.specs.declared.calling.Called.{Called}
 use Rattle.process.specs.declared.calling.Called.TheVariants as called
 use Rattle.process.specs.declared.turn.Stretch.{Stretch}
 use Rattle.process.specs.Values.{ending_of}
-use Rattle.process.specs.Stops.{IsBeyond}
+use Rattle.process.specs.Stops.{CallsHost, IsBeyond}
 use Rattle.process.specs.Parts.{ShowsParts, IsAt}
 
 -- after steps after which nothing is owed, one after which something is
@@ -42,7 +42,7 @@ ComesBy guest p q fuel steps waiting (Some (Ok stop.Owes)) = Owes guest p q fuel
 ComesBy guest p q fuel steps waiting (Some (Ok (stop.Ended how))) = ComesOn guest p q steps waiting × (q.ended ≡ Some (ending_of how)) × (steps ≤ fuel)
 ComesBy guest p q fuel steps waiting (Some (Ok stop.Spent)) = ComesOn guest p q steps waiting × (q.ended ≡ None) × (steps ≡ fuel)
 ComesBy guest p q fuel steps waiting (Some (Ok (stop.Asks kind))) = ComesOn guest p q steps waiting × (q.ended ≡ None) × (steps < fuel) × (next_of guest q None ≡ Wants kind)
-ComesBy guest p q fuel steps waiting (Some (Err fault.Memory)) = ComesOn guest p q steps waiting × (q.ended ≡ None) × (steps < fuel)
+ComesBy guest p q fuel steps waiting (Some (Err fault.Memory)) = ComesOn guest p q steps waiting × (q.ended ≡ None) × (steps < fuel) × CallsHost guest q
 ComesBy guest p q fuel steps waiting (Some (Err fault.StepsSpent)) = ComesOn guest p q steps waiting × (q.ended ≡ None) × (steps < fuel) × IsBeyond guest q None
 ComesBy guest p q fuel steps waiting (Some (Err fault.WrongAnswer)) = ⊥
 

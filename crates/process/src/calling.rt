@@ -1,15 +1,13 @@
 //! A call of the guest.
 
-ghost use Rattle.std.specs.Prelude.{true, false, ◌≡◌, ◌↔◌, option_copied, IsTrue, IfOk};
-ghost use Rattle.std.specs.List.{AllByRecursion};
-ghost use Rattle.guest_memory.specs.Bytes.{IsByte};
+ghost use Rattle.std.specs.Prelude.{true, false, ◌≡◌, ◌↔◌, option_copied, IsTrue, IfOk, IfErr};
 ghost use Rattle.wasm_syntax_rules.specs.Configuration.{Program, Configuration};
 ghost use Rattle.wasm_syntax_rules.specs.Steps.{IsEnded};
 ghost use Rattle.wasi_abi.specs.Calls.{parameters_of};
 ghost use Rattle.wasi_calls_rows.specs.Rows.{IsSync};
 ghost use Rattle.wasi_calls_rows.specs.Hosts.{Host as TheHost};
 ghost use Rattle.wasi_calls.specs.Held.{ShowsHost};
-ghost use Rattle.wasi_calls.specs.Calls.{IsBuilt, AreArguments};
+ghost use Rattle.wasi_calls.specs.Calls.{IsBuilt, AreArguments, EndsNothing};
 ghost use Rattle.machine_hosting.specs.Answers.{results_of};
 ghost use Rattle.machine.specs.Values.{HoldsMemory, IsSameMachine, ShowsIn};
 ghost use Rattle.machine.specs.Runs.{WaitsFor};
@@ -18,6 +16,7 @@ ghost use Rattle.process.specs.Callings.{Calls, HasNumbers, HasNoNumbers, HasCal
 
 use crate::fault::ProcessFault;
 use crate::stop::End;
+use guest_memory::laws::are_bytes;
 use machine::Machine;
 use machine_running::Pause;
 use std::alloc::{AllocError, Global};
@@ -35,7 +34,7 @@ pub enum Called {
 }
 
 /// Numbers of steps and lines are below this one.
-pub const MOST_NUMBER: u64 = 1 << 63;
+pub const NUMBERS_END: u64 = 1 << 63;
 
 /// The lines that an end of the process emits, at most.
 const LINES_LEFT: u64 = 2;
@@ -97,20 +96,14 @@ fn has_numbers(
     requires few { HasFewLines host.now }
     ensures few { IfOk result (λ b. b ≡ true → HasNumbers machine.now host.now call arguments.now) }
     ensures many { IfOk result (λ b. b ≡ false → HasNoNumbers machine.now host.now call arguments.now) }
+    ensures wants { IfErr result (λ _. EndsNothing call arguments.now) }
 {
     let lines = host.released() + host.waiting().len() as u64;
-    if lines < MOST_NUMBER - MOVED_BYTES as u64 - LINES_LEFT {
+    if lines < NUMBERS_END - MOVED_BYTES as u64 - LINES_LEFT {
         return Ok(true);
     }
     let more = lines_emitted(alloc, host, machine.memory(), call, arguments)?;
-    Ok(lines + (more as u64) < MOST_NUMBER - LINES_LEFT)
-}
-
-/// What holds of a memory by its type.
-fn are_bytes(bytes: &[u8])
-    ensures { AllByRecursion IsByte bytes.now }
-{
-    let _ = bytes;
+    Ok(lines + (more as u64) < NUMBERS_END - LINES_LEFT)
 }
 
 /// Has the host make the call, on the memory of the machine.

@@ -9,13 +9,13 @@ use thiserror::Error;
 /// The process is as it was after its last whole step.
 #[derive(Clone, Copy, Debug, PartialEq, Eq, Error)]
 pub enum ProcessFault {
-    /// The answer doesn't fit what is asked for.
+    /// The answer doesn't fit what is asked for, or nothing is asked for: a line waits, or the process has ended.
     #[error("P1 WrongAnswer")]
     WrongAnswer,
     /// There is no memory for the next step.
     #[error("P2 Memory")]
     Memory,
-    /// Steps and lines are numbered below 2^63, and the next step would go beyond.
+    /// Steps and lines are numbered below 2^63, two lines' numbers being kept for the end, and the next step would go beyond.
     #[error("P3 StepsSpent")]
     StepsSpent,
 }

@@ -6,6 +6,8 @@ mod fault;
 mod process;
 mod running;
 mod stop;
+#[cfg(test)]
+mod tests;
 mod turn;
 
 pub use fault::ProcessFault;

@@ -1,6 +1,6 @@
 //! A process, and what is known of it.
 
-ghost use Rattle.std.specs.Prelude.{◌≡◌, ◌≤◌, IfOk, IfErr, length};
+ghost use Rattle.std.specs.Prelude.{◌≡◌, ◌<◌, ◌≤◌, ◌^◌, IfOk, IfErr, length};
 ghost use Rattle.std.specs.List.{AllByRecursion};
 ghost use Rattle.wasm_syntax_grammar.specs.Limits.{HasFewParameters, IsSmallFunction};
 ghost use Rattle.wasm_syntax_rules.specs.Validity.{IsValid};
@@ -16,10 +16,8 @@ use std::alloc::Global;
 use std::marker::Model;
 use wasi_abi::Config;
 use wasi_calls::{Host, Line};
+use wasi_calls_rows::limits::TEXT_BYTES;
 use wasm_validate::ValidModule;
-
-/// The most bytes of a request's text, and random bytes of one call.
-const TEXT_LIMIT: usize = 4_096;
 
 /// What holds of a module by its type.
 fn is_valid(module: &ValidModule)
@@ -65,7 +63,7 @@ impl Process {
     {
         is_valid(&module);
         let mut machine = link(module, config.pages(), alloc)?;
-        let mut host = Host::new(alloc, config, TEXT_LIMIT)?;
+        let mut host = Host::new(alloc, config, TEXT_BYTES)?;
         let ended = end_with_program(alloc, &mut machine, &mut host);
         Ok(Process {
             alloc,
@@ -102,7 +100,8 @@ impl Process {
 
     /// How many lines were emitted: fewer than 2^63.
     pub fn lines(&self) -> u64
-        ensures { result ≡ lines_in self.now }
+        ensures value { result ≡ lines_in self.now }
+        ensures few { result < 2 ^ 63 }
     {
         self.host.released() + self.host.waiting().len() as u64
     }

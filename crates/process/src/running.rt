@@ -4,7 +4,7 @@ ghost use Rattle.std.specs.Prelude.{◌≡◌, ◌+◌, ◌<◌, ◌≤◌, ◌^
 ghost use Rattle.process.specs.Stops.{is_spent, told};
 ghost use Rattle.process.specs.Values.{IsProcess};
 
-use crate::calling::MOST_NUMBER;
+use crate::calling::NUMBERS_END;
 use crate::fault::ProcessFault;
 use crate::process::Process;
 use crate::stop::Stop;
@@ -18,7 +18,7 @@ fn countable(fuel: u64, steps: u64) -> u64
     ensures counted { steps + result < 2 ^ 63 }
     ensures cut { result < fuel → steps + result + 1 ≡ 2 ^ 63 }
 {
-    fuel.min(MOST_NUMBER - 1 - steps)
+    fuel.min(NUMBERS_END - 1 - steps)
 }
 
 /// Whether the fuel is why.
@@ -70,8 +70,8 @@ impl Process {
         told(stretch.stop, most < fuel)
     }
 
-    /// Takes the step that wants an answer, with this one. After an error nothing has changed. No call that is built wants an answer, so
-    /// that every one is a wrong one yet.
+    /// Takes the step that wants an answer, with this one. While a line waits to be released, every answer is a wrong one. After an error
+    /// nothing has changed. No call that is built wants an answer, so that every one is a wrong one yet.
     pub fn give(&mut self, answer: Answer) -> Result<(), ProcessFault>
         ensures gives { Gives self.old answer result self.new }
         ensures released { self.new.host.released ≡ self.old.host.released }

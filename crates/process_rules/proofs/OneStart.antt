@@ -2,22 +2,19 @@
 use Rattle.std.proofs.Common.{◌≡◌, ◌≢◌, inl, inr, ℕ, List, [], ◌∷◌, Option, Some, None, refl, sym, ap, ◌∙◌, subst, if◌then◌else◌}
 use Rattle.std.specs.Prelude.{codes}
 use Rattle.std.specs.List.{AllByRecursion}
-use Rattle.wasm_syntax.specs.declared.types.FunctionType.{FunctionType}
 use Rattle.wasm_syntax.specs.declared.value.Value.{Value}
 use Rattle.wasm_syntax.specs.declared.module.Module.{Module}
 use Rattle.wasm_syntax.specs.declared.module.Import.{Import}
-use Rattle.wasm_syntax.specs.declared.module.Function.{Function}
 use Rattle.wasm_syntax.specs.declared.module.Global.{Global}
 use Rattle.wasm_syntax.specs.declared.module.Export.{Export}
 use Rattle.wasm_syntax.specs.declared.module.ExportItem.{ExportItem}
 use Rattle.wasm_syntax.specs.declared.module.ExportItem.TheVariants as export
-use Rattle.wasm_syntax_rules.specs.Types.{imported_functions}
 use Rattle.wasm_syntax_rules.specs.Validity.{HaveDistinctNames, IsValid}
-use Rattle.wasm_syntax_rules.specs.Configuration.{Callee, Host, Own, Program, Store, Configuration}
-use Rattle.wasm_syntax_rules.specs.Instantiation.{AreCallees, IsProgram, constant_of, AreInitial, IsInitialStore, calls_of, Begins}
+use Rattle.wasm_syntax_rules.specs.Configuration.{Program, Store, Configuration}
+use Rattle.wasm_syntax_rules.specs.Instantiation.{IsProgram, constant_of, AreInitial, IsInitialStore, calls_of, Begins}
 use Rattle.wasm_syntax_rules.specs.Steps.{Settles}
 use Rattle.wasm_syntax_rules.specs.Linking.{Exports}
-use Rattle.wasm_syntax_rules.proofs.OneSequence.{one_sequence}
+use Rattle.wasm_syntax_rules.proofs.OneProgram.{one_program}
 use Rattle.wasm_syntax_rules.proofs.OneRun.{settles_once}
 use Rattle.wasi_abi.specs.declared.call.Call.{Call}
 use Rattle.wasi_abi.specs.declared.call.Call.TheVariants as call
@@ -28,39 +25,8 @@ use Rattle.process_rules.specs.Processes.{ProcessState, Guest, AreCalls, IsStart
 
 -- ---- the program
 
-callees_once : (m : Module) (imported : List ℕ) (own : List Function) (a b : List Callee) → AreCallees m imported own a → AreCallees m imported own b → a ≡ b
-callees_once m (x ∷ imported) own [] b h k = absurd h
-callees_once m (x ∷ imported) own (Own kind declared body ∷ a) b h k = absurd h
-callees_once m (x ∷ imported) own (Host kind ∷ a) [] h k = absurd k
-callees_once m (x ∷ imported) own (Host kind ∷ a) (Own kind' declared body ∷ b) h k = absurd k
-callees_once m (x ∷ imported) own (Host kind ∷ a) (Host kind' ∷ b) h k =
-    let p = h.0 in let q = k.0 in let same : kind ≡ kind' = cc in let others = callees_once m imported own a b h.1 k.1 in cc
-callees_once m [] [] [] [] h k = refl
-callees_once m [] [] [] (Host kind ∷ b) h k = absurd k
-callees_once m [] [] [] (Own kind declared body ∷ b) h k = absurd k
-callees_once m [] [] (Host kind ∷ a) b h k = absurd h
-callees_once m [] [] (Own kind declared body ∷ a) b h k = absurd h
-callees_once m [] (f ∷ own) [] b h k = absurd h
-callees_once m [] (f ∷ own) (Host kind ∷ a) b h k = absurd h
-callees_once m [] (f ∷ own) (Own kind declared body ∷ a) [] h k = absurd k
-callees_once m [] (f ∷ own) (Own kind declared body ∷ a) (Host kind' ∷ b) h k = absurd k
-callees_once m [] (f ∷ own) (Own kind declared body ∷ a) (Own kind' declared' body' ∷ b) h k =
-    let p = h.0 in let q = k.0 in let d = h.1 in let e = k.1 in
-    let same_kind : kind ≡ kind' = cc in
-    let same_declared : declared ≡ declared' = cc in
-    let same_body : body ≡ body' = one_sequence f.code.body body body' h.2 k.2 in
-    let others = callees_once m [] own a b h.3 k.3 in
-    cc
-
-abbrev pub program_of : List FunctionType → List Callee → ℕ → Program
-program_of types functions most = record { types = types; functions = functions; most_pages = most }
-
-program_is : (p q : Program) → p.types ≡ q.types → p.functions ≡ q.functions → p.most_pages ≡ q.most_pages → p ≡ q
-program_is p q a b c = let whole : program_of p.types p.functions p.most_pages ≡ program_of q.types q.functions q.most_pages = rw (a, b, c) refl in whole
-
 program_once : (m : Module) (pages : ℕ) (p q : Program) → IsProgram m pages p → IsProgram m pages q → p ≡ q
-program_once m pages p q a b =
-    program_is p q (a.types ∙ sym b.types) (callees_once m (imported_functions m.imports) m.functions p.functions q.functions a.functions b.functions) (a.most_pages ∙ sym b.most_pages)
+program_once m pages p q a b = one_program m pages pages p q a b (a.most_pages ∙ sym b.most_pages)
 
 -- ---- the calls
 

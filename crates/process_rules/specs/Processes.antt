@@ -13,6 +13,7 @@ use Rattle.wasi_abi.specs.Calls.{module_name, name_of}
 use Rattle.file_tree.specs.declared.limits.TheConstants.{UNIT_BYTES}
 use Rattle.wasi_calls_rows.specs.Hosts.{Host, first_host}
 use Rattle.wasi_calls_rows.specs.Lines.{lines_ended}
+use Rattle.wasi_calls_rows.specs.declared.limits.TheConstants.{TEXT_BYTES}
 use Rattle.std.specs.Prelude.{codes}
 
 -- how a process ended
@@ -44,12 +45,8 @@ AreCalls (i ∷ imports) [] = ⊥
 
 -- ---- the beginning
 
--- the most bytes of a request text, and of random bytes in one call
-abbrev pub text_limit : ℕ
-text_limit = 4096
-
 abbrev pub host_of : Settings → Host
-host_of config = first_host (config.files * UNIT_BYTES) text_limit config.arguments config.environment
+host_of config = first_host (config.files * UNIT_BYTES) TEXT_BYTES config.arguments config.environment
 
 -- a process that has ended emits what it has not finished
 abbrev pub over : Ending → ProcessState → ProcessState

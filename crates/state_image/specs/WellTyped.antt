@@ -3,7 +3,8 @@ use Rattle.std.specs.Prelude.{◌≡◌, ◌≢◌, ℕ, ◌+◌, ◌<◌, ◌�
 use Rattle.wasm_syntax_rules.specs.Typing.{Context}
 use Rattle.wasm_syntax_rules.specs.Configuration.{Program}
 use Rattle.wasi_calls_rows.specs.Hosts.{IsHost}
-use Rattle.process_rules.specs.Processes.{Ending, ProcessState, text_limit}
+use Rattle.wasi_calls_rows.specs.declared.limits.TheConstants.{TEXT_BYTES}
+use Rattle.process_rules.specs.Processes.{Ending, ProcessState}
 use Rattle.machine_state.specs.Places.{Place}
 use Rattle.state_image.specs.Image.{Saved, ShowsProcess}
 
@@ -40,6 +41,6 @@ pub record IsWellTyped (c : Context) (program : Program) (table : List (Option �
   pub answers : s.answers ≤ s.steps
   pub requests : s.requests ≤ s.answers
   -- a request's text and its newline
-  pub unread : length s.unread ≤ text_limit + 1
+  pub unread : length s.unread ≤ TEXT_BYTES + 1
   -- each step makes one node at most, beside the root and the number that comes next
   pub next : s.files.next ≤ s.steps + 2

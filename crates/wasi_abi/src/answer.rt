@@ -13,7 +13,7 @@ pub enum Kind {
     Request,
     /// Nanoseconds since the epoch.
     Realtime,
-    /// Nanoseconds that never fall.
+    /// Nanoseconds of a clock that the guest never sees fall: it is given the greatest so far.
     Monotonic,
     /// So many random bytes.
     Random { length: u32 },

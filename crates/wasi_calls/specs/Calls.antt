@@ -1,12 +1,14 @@
 -- What is told of a call, and of which calls (this project's own).
-use Rattle.std.specs.Prelude.{◌≡◌, ℕ, ◌<◌, ◌^◌, List, [], ◌∷◌, length, Some, None, Result, Ok, Err}
+use Rattle.std.specs.Prelude.{◌≡◌, ◌≢◌, ℕ, ◌<◌, ◌^◌, List, [], ◌∷◌, length, Option, Some, None, Result, Ok, Err}
 use Rattle.wasm_syntax.specs.declared.types.ValueType.{ValueType}
 use Rattle.wasm_syntax.specs.declared.types.ValueType.TheVariants.{I32, I64}
 use Rattle.guest_memory.specs.Memories.{LinearMemory}
+use Rattle.wasi_abi.specs.declared.answer.Answer.{Answer}
 use Rattle.wasi_abi.specs.declared.call.Call.{Call}
 use Rattle.wasi_abi.specs.declared.call.Call.TheVariants as call
+use Rattle.wasi_calls_rows.specs.Hosts.{Host}
 use Rattle.wasi_calls_rows.specs.Checks.{Bytes, Done, Row, Refuses, Asks, Ends}
-use Rattle.wasi_calls_rows.specs.Rows.{Told, IsDone, IsAsk, IsExit, NoMemory}
+use Rattle.wasi_calls_rows.specs.Rows.{row, Told, IsDone, IsAsk, IsExit, NoMemory}
 use Rattle.wasi_calls.specs.declared.outcome.Outcome.{Outcome}
 use Rattle.wasi_calls.specs.declared.outcome.Outcome.TheVariants as outcome
 use Rattle.wasi_calls.specs.declared.stop.Stop.{Stop}
@@ -47,6 +49,10 @@ ShowsRow (IsDone (Some e)) m held old_m old row = (row ≡ Err (Refuses e)) × (
 ShowsRow (IsAsk kind) m held old_m old row = (row ≡ Err (Asks kind)) × (m ≡ old_m) × (held ≡ old)
 ShowsRow (IsExit code) m held old_m old row = (row ≡ Err (Ends code)) × (m ≡ old_m) × (held ≡ old)
 ShowsRow NoMemory m held old_m old row = (m ≡ old_m) × (held ≡ old)
+
+-- the call with these arguments doesn't end the process, whatever host, memory and answer it has
+abbrev pub EndsNothing : Call → List ℕ → Type 0
+EndsNothing call arguments = (given : Option Answer) (m : Bytes) (h : Host) (code : ℕ) → row call arguments given m h ≢ Err (Ends code)
 
 -- as long as it was, with the same limit
 pub record IsAsLarge (old new : LinearMemory) : Type 0 where

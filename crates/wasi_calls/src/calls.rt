@@ -1,6 +1,6 @@
 //! A call of the guest.
 
-ghost use Rattle.std.specs.Prelude.{◌≡◌, ◌+◌, ◌≤◌, ◌∷◌, [], length, option_copied, IfOk, Option, Ok, Err};
+ghost use Rattle.std.specs.Prelude.{◌≡◌, ◌+◌, ◌≤◌, ◌∷◌, [], length, option_copied, IfOk, IfErr, Option, Ok, Err};
 ghost use Rattle.wasm_syntax.specs.declared.types.ValueType.TheVariants.{I32};
 ghost use Rattle.wasi_abi.specs.declared.answer.Answer.{Answer};
 ghost use Rattle.wasi_abi.specs.Calls.{parameters_of};
@@ -9,7 +9,8 @@ ghost use Rattle.wasi_calls_rows.specs.Checks.{Done, Halt};
 ghost use Rattle.wasi_calls_rows.specs.Rows.{row, Shows};
 ghost use Rattle.wasi_calls_rows.specs.declared.limits.TheConstants.{MOVED_BYTES};
 ghost use Rattle.wasi_calls.specs.Held.{ShowsHost};
-ghost use Rattle.wasi_calls.specs.Calls.{IsBuilt, AreArguments, outcome_of, told_of, ShowsRow, IsAsLarge};
+ghost use Rattle.wasi_calls.specs.Calls.{IsBuilt, AreArguments, outcome_of, told_of, ShowsRow, EndsNothing, IsAsLarge};
+ghost use Rattle.wasi_calls.specs.declared.outcome.Outcome.TheVariants.{Memory as WantOfMemory};
 
 use crate::host::Host;
 use crate::outcome::Outcome;
@@ -21,7 +22,8 @@ use wasi_abi::{Answer, Call};
 
 /// Makes a call that is built, with its arguments in order and, where it asked for one, an answer
 /// from outside. What it tells is what the rules say; all but a call that is done leave memory and
-/// host as they were. It may say that there is no memory for it where an allocation was refused.
+/// host as they were. It may say that there is no memory for it where an allocation was refused; a
+/// call that ends the process takes none.
 pub fn call(
     alloc: Global,
     host: &mut Host,
@@ -37,6 +39,7 @@ pub fn call(
     ensures released { host.new.released ≡ host.old.released }
     ensures shown { (h : TheHost) → ShowsHost host.old h
         → ShowsRow (told_of result) memory.new.bytes host.new memory.old.bytes host.old (row call arguments.now (option_copied answer.entry) memory.old.bytes h) }
+    ensures wants { result ≡ WantOfMemory → EndsNothing call arguments.now }
     ensures large { IsAsLarge memory.old memory.new }
 {
     let _ = answer;
@@ -48,7 +51,7 @@ pub fn call(
 }
 
 /// How many lines such a call would emit: none, if it is not done. It changes nothing, and fails for want of
-/// memory alone.
+/// memory alone, which a call that ends the process takes none of.
 pub fn lines_emitted(
     alloc: Global,
     host: &Host,
@@ -63,6 +66,7 @@ pub fn lines_emitted(
     ensures none { IfOk result (λ n. (given : Option Answer) (h : TheHost) (halt : Halt) → ShowsHost host.now h
         → row call arguments.now given memory.now.bytes h ≡ Err halt → n ≡ 0) }
     ensures few { IfOk result (λ n. n ≤ MOVED_BYTES) }
+    ensures wants { IfErr result (λ _. EndsNothing call arguments.now) }
 {
     match call {
         Call::FdWrite => match write::check(alloc, host, memory, write_arguments(arguments)) {

@@ -127,14 +127,6 @@ impl Host {
         self.streams.lines_of(stream, bytes)
     }
 
-    /// How many lines the end of the process would emit.
-    pub fn lines_left(&self) -> usize
-        ensures value { result ≡ length (rest_of 1 self.now.host.first ++ rest_of 2 self.now.host.second) }
-        ensures few { result ≤ 2 }
-    {
-        self.streams.lines_left()
-    }
-
     /// The lines that wait to be released, in the order in which they were emitted.
     pub fn waiting(&self) -> &[Line]
         ensures lines { result.now ≡ self.now.host.lines }
@@ -158,22 +150,6 @@ impl Host {
         ensures shown { (h : TheHost) → ShowsHost self.old h → ShowsHost self.new h }
     {
         self.streams.release(count);
-    }
-
-    /// The most bytes of a request's text, and random bytes of one call.
-    pub fn limit(&self) -> usize
-        ensures { result ≡ self.now.host.limit }
-    {
-        self.limit
-    }
-
-    /// What the process was configured with.
-    pub fn config(&self) -> &Config
-        ensures arguments { result.now.arguments ≡ self.now.host.arguments }
-        ensures environment { result.now.environment ≡ self.now.host.environment }
-        ensures room { result.now.files * UNIT_BYTES ≡ self.now.host.room }
-    {
-        &self.config
     }
 
     /// Emits what is not finished, as the end of a process does. It takes no memory.

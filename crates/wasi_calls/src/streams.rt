@@ -89,14 +89,6 @@ impl Streams {
         }
     }
 
-    /// How many lines an end would emit.
-    pub fn lines_left(&self) -> usize
-        ensures value { result ≡ length (left_lines self.now) }
-        ensures few { result ≤ 2 }
-    {
-        usize::from(!self.first.is_empty()) + usize::from(!self.second.is_empty())
-    }
-
     /// The lines that wait, in the order in which they were emitted.
     pub fn waiting(&self) -> &[Line]
         ensures { result.now ≡ self.now.waiting }

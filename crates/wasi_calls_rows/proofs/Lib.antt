@@ -7,3 +7,4 @@ pub mod MovingRows
 pub mod EntryRows
 pub mod KeepsMemory
 pub mod EmitsLines
+pub mod Fitting

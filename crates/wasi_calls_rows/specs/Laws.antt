@@ -1,13 +1,15 @@
--- Laws of the rows: what a call that is done keeps.
-use Rattle.std.specs.Prelude.{◌≡◌, ℕ, List, ◌++◌, length, Option, Some, None, Ok}
+-- Laws of the rows: what a call that is done keeps, and which answers the rows take.
+use Rattle.std.specs.Prelude.{◌≡◌, ◌↔◌, ℕ, List, ◌++◌, length, IsTrue, Option, Some, None, Ok}
 use Rattle.std.specs.List.{AllByRecursion}
+use Rattle.wasi_abi.specs.declared.answer.Kind.{Kind}
 use Rattle.wasi_abi.specs.declared.answer.Answer.{Answer}
 use Rattle.wasi_abi.specs.declared.answer.Answer.TheVariants as answer
 use Rattle.wasi_abi.specs.declared.call.Call.{Call}
+use Rattle.wasi_abi.specs.Answers.{Fits}
 use Rattle.guest_memory.specs.Bytes.{IsByte}
 use Rattle.file_tree.specs.Files.{Path, Content, Directory, File, FileNode}
 use Rattle.wasi_calls_rows.specs.Hosts.{Line, Host}
-use Rattle.wasi_calls_rows.specs.Checks.{Bytes, Done}
+use Rattle.wasi_calls_rows.specs.Checks.{Bytes, Done, does_fit}
 use Rattle.wasi_calls_rows.specs.Rows.{row}
 
 -- the memory of a call that is done is as long as it was
@@ -59,3 +61,9 @@ IsAnswerOfBytes _ = Unit {0}
 abbrev pub RowsKeepBytes : Type 0
 RowsKeepBytes = (c : Call) (arguments : List ℕ) (given : Option Answer) (m : Bytes) (h : Host) (done : Done)
     → AreBytes m → IsOfBytes h → IsAnswerOfBytes given → row c arguments given m h ≡ Ok done → AreBytes done.memory
+
+-- ---- answers
+
+-- the test that the rows make of an answer passes exactly where it fits
+abbrev pub TestsTellWhatFits : Type 0
+TestsTellWhatFits = (limit : ℕ) (k : Kind) (a : Answer) → IsTrue (does_fit limit k a) ↔ Fits limit k a

@@ -1,7 +1,7 @@
 //! Laws of the rules of the calls. The functions do nothing: what they ensure is the law.
 
 ghost use Rattle.wasi_calls_rows.specs.Examples.{OpeningExamples, MovingExamples, SmallExamples, DirectoryExamples};
-ghost use Rattle.wasi_calls_rows.specs.Laws.{RowsKeepMemory, RowsKeepBytes, RowsEmit};
+ghost use Rattle.wasi_calls_rows.specs.Laws.{RowsKeepMemory, RowsKeepBytes, RowsEmit, TestsTellWhatFits};
 
 /// The rules give on examples what the profile gives.
 pub fn worked_examples()
@@ -20,4 +20,9 @@ pub fn calls_keep_memory()
 /// No call that is done takes back a line.
 pub fn calls_emit_lines()
     ensures { RowsEmit }
+{}
+
+/// The rules take an answer exactly where it fits what is asked for.
+pub fn answers_are_taken_that_fit()
+    ensures { TestsTellWhatFits }
 {}

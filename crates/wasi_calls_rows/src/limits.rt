@@ -11,3 +11,6 @@ pub const MOVED_BYTES: usize = 65_536;
 
 /// Bytes of a line.
 pub const LINE_BYTES: usize = 4_096;
+
+/// Bytes of a request's text, and random bytes of one call.
+pub const TEXT_BYTES: usize = 4_096;

@@ -6,9 +6,8 @@ ghost use Rattle.wasm_decode.specs.Faults.{fault_of, place_of};
 use thiserror::Error;
 use wasm_decode_items::{ReadError, Refusal};
 
-/// The first fault from the front of a module's bytes, or want of memory. An offset is in bytes, and
-/// names the first byte of the first item that can't stand there: a fixed byte, an integer, or a name
-/// or byte vector with its length.
+/// Why bytes are no module, or want of memory. Bytes are counted from 0, and read from the front: the number is that of the byte at
+/// which something begins that can't be there, be it a fixed byte, a number, or a name or vector together with its length.
 #[derive(Clone, Copy, Debug, PartialEq, Eq, Error)]
 pub enum DecodeFault {
     #[error("B1 Malformed")]

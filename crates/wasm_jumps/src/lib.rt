@@ -8,8 +8,9 @@ pub mod jump;
 pub mod laws;
 mod open;
 mod operands;
-mod stack;
 pub mod table;
+#[cfg(test)]
+mod tests;
 mod walk;
 
 pub use body::branch_table;

@@ -1,5 +1,6 @@
 pub mod TypedShape
 pub mod OneSequence
+pub mod OneProgram
 pub mod OneRun
 pub mod ExamplesHold
 pub mod Heights

@@ -25,7 +25,7 @@ use Rattle.guest_memory.specs.Bytes.{IsByte, page_size, with_part}
 use Rattle.wasm_syntax_rules.specs.Types.{IsOf, AreOf, imported_functions, imported_globals, global_type_of, value_type_of}
 use Rattle.wasm_syntax_rules.specs.Validity.{IsMemoryTypeValid, IsConstant, AreTypesAt, AreFunctionTypes, function_type_of, tables_of, memories_of, module_context, IsFunctionValid, IsGlobalValid, IsIndex, IsElementValid, IsDataValid, IsStartValid, IsValid}
 use Rattle.wasm_syntax_rules.specs.Configuration.{Callee, Host, Own, Program, Store}
-use Rattle.wasm_syntax_rules.specs.Steps.{kind_of, IsSettled}
+use Rattle.wasm_syntax_rules.specs.Steps.{kind_of}
 use Rattle.wasm_syntax_rules.specs.Instantiation.{AreCallees, most_pages_of, IsProgram, constant_of, AreInitial, offset_of, with_entries, with_bytes, filled_table, filled_memory, empty_table, empty_memory, IsInitialStore, calls_of}
 use Rattle.wasm_syntax_rules.specs.Linking.{Offer, IsItemOffered, IsOffered, FitsPages, IsLinkable}
 use Rattle.wasm_syntax_soundness.specs.Typed.{IsTypedCallee, IsTypedProgram, IsTypedMemory, IsTypedEntry, IsTypedStore, IsEntry, IsTyped, OffersNoEntry, ProgramsTyped, BeginsTyped}
@@ -33,6 +33,7 @@ use Rattle.wasm_syntax_soundness.proofs.MemoryBytes.{all_both, all_take, all_dro
 use Rattle.wasm_syntax_soundness.proofs.RuleSound.{callee_at}
 use Rattle.wasm_syntax_soundness.proofs.LeaveSound.{settles_typed}
 use Rattle.wasm_syntax_rules.proofs.OneSequence.{one_sequence}
+use Rattle.wasm_syntax_rules.proofs.OneProgram.{one_list}
 
 -- ---- functions
 
@@ -220,16 +221,6 @@ length_map : (callees : List Callee) → length (map kind_of callees) ≡ length
 length_map [] = refl
 length_map (x ∷ callees) = ap suc (length_map callees)
 
--- two lists of the types at the same indices are one
-types_once : (types : List FunctionType) (indices : List ℕ) (fs gs : List FunctionType) → AreTypesAt types indices fs → AreTypesAt types indices gs → fs ≡ gs
-types_once types [] [] [] h k = refl
-types_once types [] (f ∷ fs) gs h k = absurd h
-types_once types [] [] (g ∷ gs) h k = absurd k
-types_once types (x ∷ indices) [] gs h k = absurd h
-types_once types (x ∷ indices) (f ∷ fs) [] h k = absurd k
-types_once types (x ∷ indices) (f ∷ fs) (g ∷ gs) h k =
-    let p = h.0 in let q = k.0 in let same : f ≡ g = cc in let others = types_once types indices fs gs h.1 k.1 in cc
-
 -- a function without parameters and results is one of the module's own
 entry_of : (offer : Offer) (m : Module) (program : Program) (x : ℕ) (kind : FunctionType) → OffersNoEntry offer → AllByRecursion (IsOffered offer m.types) m.imports → AreCallees m (imported_functions m.imports) m.functions program.functions → slice_get (map kind_of program.functions) x ≡ Some kind → kind.parameters ≡ [] → kind.results ≡ [] → IsEntry program x
 entry_of offer m program x kind none h a e p r =
@@ -260,7 +251,7 @@ store_typed offer pages m program v link b store s =
 
 -- the functions' types are those by which the module is valid
 same_types : (m : Module) (v : IsValid m) (functions : List FunctionType) → AreFunctionTypes m functions → v.functions ≡ functions
-same_types m v functions h = types_once m.types (imported_functions m.imports ++ map function_type_of m.functions) v.functions functions v.function_types h
+same_types m v functions h = one_list m.types (imported_functions m.imports ++ map function_type_of m.functions) v.functions functions v.function_types h
 
 pub programs_typed : ProgramsTyped
 programs_typed pages m functions program few v h b =
@@ -270,7 +261,7 @@ programs_typed pages m functions program few v h b =
 pub first_typed : (offer : Offer) (pages : ℕ) (m : Module) (functions : List FunctionType) (program : Program) (store : Store) → OffersNoEntry offer → IsValid m → AreFunctionTypes m functions → (link : IsLinkable offer pages m) → IsProgram m pages program → IsInitialStore m store → IsTyped (module_context m functions) program (record { store = store; thread = []; later = calls_of m.start link.entry })
 first_typed offer pages m functions program store none v h link b is_store =
     let kinds = callee_kinds m (imported_functions m.imports) m.functions program.functions v.functions b.functions v.function_types in
-    let same = types_once m.types (imported_functions m.imports ++ map function_type_of m.functions) link.has_entry.functions v.functions link.has_entry.function_types v.function_types in
+    let same = one_list m.types (imported_functions m.imports ++ map function_type_of m.functions) link.has_entry.functions v.functions link.has_entry.function_types v.function_types in
     let at : slice_get (map kind_of program.functions) link.entry ≡ Some link.has_entry.kind = (rw (same, kinds) at link.has_entry.is) in
     let last = entry_of offer m program link.entry link.has_entry.kind none link.imports b.functions at link.has_entry.no_parameters link.has_entry.no_results in
     let begun : IsTyped (module_context m v.functions) program (record { store = store; thread = []; later = calls_of m.start link.entry }) = record {

@@ -8,7 +8,6 @@ use Rattle.wasm_syntax_grammar.specs.ReadingItems.{◌>>=◌, check}
 use Rattle.wasm_syntax_rules.specs.Types.{results_of}
 use Rattle.wasm_validate_body.specs.declared.levels.Control.{Control}
 use Rattle.wasm_validate_algorithm.specs.Checking.{Known, Level, labels_of, is_empty}
-use Rattle.wasm_validate_body.specs.Stacks.{Pops as StackPops}
 use Rattle.wasm_validate_body.specs.Tops.{top_popped, top_pushed, top_left, top_closed}
 use Rattle.wasm_validate_body.specs.Views.{level_of, levels_of, AreHeights, IsInnermost}
 
@@ -72,19 +71,19 @@ none_popped [] operands e = refl
 none_popped (k ∷ controls) operands e = absurd (cc)
 
 -- an operand above the height of the innermost sequence is its topmost one
-pub pop_above : (controls : List Control) (operands new : List Known) (k : Control) (o : Option Known) → slice_get controls 0 ≡ Some k → k.height < length operands → StackPops o operands new → AreHeights controls (length operands)
+pub pop_above : (controls : List Control) (operands new : List Known) (k : Control) (o : Option Known) → slice_get controls 0 ≡ Some k → k.height < length operands → o ≡ slice_get operands 0 → new ≡ drop 1 operands
+    → AreHeights controls (length operands)
     → (x : Known) × (o ≡ Some x) × (top_popped (levels_of controls operands) ≡ Some (x, levels_of controls new)) × AreHeights controls (length new)
-pop_above controls operands new k None at h p heights = let none : operands ≡ [] = p.0 in let zero : length operands ≡ 0 = ap length none in absurd (omega arith)
-pop_above controls operands new k (Some x) at h p heights =
-    let top = at_top controls k at in
-    let is : operands ≡ x ∷ new = p in
-    let more : length operands ≡ suc (length new) = ap length is in
-    let low : k.height ≤ length new = omega arith in
-    let heights' : AreHeights (k ∷ top.0) (length operands) = subst (λ z. AreHeights z (length operands)) top.1 heights in (
+pop_above controls [] new k o at h top rest heights = absurd (omega arith)
+pop_above controls (x ∷ operands) new k o at h top rest heights =
+    let first = at_top controls k at in
+    let low : k.height ≤ length operands = omega arith in
+    let heights' : AreHeights (k ∷ first.0) (length (x ∷ operands)) = subst (λ z. AreHeights z (length (x ∷ operands))) first.1 heights in (
       x,
-      refl,
-      subst (λ z. top_popped (levels_of z operands) ≡ Some (x, levels_of z new)) (sym top.1) (subst (λ z. top_popped (levels_of (k ∷ top.0) z) ≡ Some (x, levels_of (k ∷ top.0) new)) (sym is) (popped_view k top.0 x new low)),
-      subst (λ z. AreHeights z (length new)) (sym top.1) (low, heights'.1),
+      top,
+      subst (λ z. top_popped (levels_of controls (x ∷ operands)) ≡ Some (x, levels_of controls z)) (sym rest)
+          (subst (λ z. top_popped (levels_of z (x ∷ operands)) ≡ Some (x, levels_of z operands)) (sym first.1) (popped_view k first.0 x operands low)),
+      subst (λ z. AreHeights controls (length z)) (sym rest) (subst (λ z. AreHeights z (length operands)) (sym first.1) (low, heights'.1)),
     )
 
 -- at its height it has none
@@ -133,18 +132,16 @@ not_closed (j ∷ controls) (x ∷ operands) k e h =
     let more = take_more (length (x ∷ operands) - k.height) (length operands - k.height) x operands (above k x operands low) in
     subst (λ z. top_closed (levels_of (z ∷ controls) (x ∷ operands)) ≡ None) (sym same) (ap (λ z. check (is_empty z) >>= λ _. Some (levels_of controls (drop (length (x ∷ operands) - k.height) (x ∷ operands)))) more)
 
-pub closed_view : (controls new : List Control) (operands : List Known) (k : Control) (o : Option Control) → slice_get controls 0 ≡ Some k → StackPops o controls new → length operands ≤ k.height → AreHeights controls (length operands)
+pub closed_view : (controls new : List Control) (operands : List Known) (k : Control) → slice_get controls 0 ≡ Some k → new ≡ drop 1 controls → length operands ≤ k.height → AreHeights controls (length operands)
     → (top_closed (levels_of controls operands) ≡ Some (levels_of new operands)) × AreHeights new (length operands)
-closed_view [] new operands k o e p h heights = absurd (cc)
-closed_view (j ∷ controls) new operands k None e p h heights = absurd (let none = p.0 in cc)
-closed_view (j ∷ controls) new operands k (Some i) e p h heights =
-    let tail : controls ≡ new = cc in
+closed_view [] new operands k e rest h heights = absurd (cc)
+closed_view (j ∷ controls) new operands k e rest h heights =
     let same : j ≡ k = cc in
     let low : j.height ≤ length operands = heights.0 in
     let high : length operands ≤ j.height = subst (λ (z : Control). length operands ≤ z.height) (sym same) h in
     let at : length operands ≡ j.height = omega arith in (
-      ap top_closed (bottom_view j controls operands at) ∙ ap (λ z. Some (levels_of z operands)) tail,
-      subst (λ z. AreHeights z (length operands)) tail (higher controls j.height (length operands) heights.1 low),
+      ap top_closed (bottom_view j controls operands at) ∙ ap (λ z. Some (levels_of z operands)) (sym rest),
+      subst (λ z. AreHeights z (length operands)) (sym rest) (higher controls j.height (length operands) heights.1 low),
     )
 
 -- ---- behind a jump

@@ -2,6 +2,5 @@ pub mod Answers
 pub mod Bodies
 pub mod Kinds
 pub mod Scopes
-pub mod Stacks
 pub mod Tops
 pub mod Views

@@ -1,4 +1,5 @@
-//! Checking of function bodies (Core Specification 1.0, section 3.3, by the algorithm of its appendix A.3).
+//! Checking of function bodies (Core Specification 1.0, section 3.3, by the algorithm of its appendix A.3), and the stack that
+//! walks over bodies keep what is open on.
 #![tactic(auto)]
 
 mod body;
@@ -7,7 +8,7 @@ mod levels;
 mod operands;
 mod operators;
 mod scope;
-mod stack;
+pub mod stack;
 mod step;
 
 pub use body::BodyChecker;

@@ -1,7 +1,6 @@
 //! A stack.
 
 ghost use Rattle.std.specs.Prelude.{◌≡◌, ◌≢◌, ◌-◌, ◌∷◌, [], length, drop, slice_get, OnOk, OnErr};
-ghost use Rattle.wasm_validate_body.specs.Stacks.{Pops};
 
 use std::alloc::{AllocFailed, Global};
 use std::marker::Model;
@@ -50,7 +49,8 @@ impl<T: Copy> Stack<T> {
     }
 
     pub fn pop(&mut self) -> Option<T>
-        ensures { Pops result self.old self.new }
+        ensures top { result ≡ slice_get self.old 0 }
+        ensures others { self.new ≡ drop 1 self.old }
     {
         self.items.pop()
     }
@@ -66,7 +66,7 @@ impl<T: Copy> Stack<T> {
     pub fn get(&self, number: usize) -> Option<T>
         ensures { result ≡ slice_get self.now number }
     {
-        let last = self.items.len().checked_sub(1)?;
+        let last = self.len().checked_sub(1)?;
         let index = last.checked_sub(number)?;
         self.items.get(index).copied()
     }
@@ -76,7 +76,7 @@ impl<T: Copy> Stack<T> {
         requires { self.old ≢ [] }
         ensures { self.new ≡ item ∷ drop 1 self.old }
     {
-        let last = self.items.len() - 1;
+        let last = self.len() - 1;
         self.items[last] = item;
     }
 }

@@ -64,15 +64,6 @@ pub first_within : {X : Type 0} (xs : List X) (x : ℕ) (b : Bool) → x ≡ 0 �
 first_within [] x b e h = (λ t. let w = (h.0 t).1 in absurd (cc), λ lt. absurd (omega arith))
 first_within (t ∷ xs) x b e h = (λ _. omega arith, λ lt. h.1 (t, refl))
 
--- the types at these indices are one list at most
-pub one_list : (types : List FunctionType) (indices : List ℕ) (fs gs : List FunctionType) → AreTypesAt types indices fs → AreTypesAt types indices gs → fs ≡ gs
-one_list types [] [] [] h k = refl
-one_list types [] (f ∷ fs) gs h k = absurd h
-one_list types [] [] (g ∷ gs) h k = absurd k
-one_list types (i ∷ indices) [] gs h k = absurd h
-one_list types (i ∷ indices) (f ∷ fs) [] h k = absurd k
-one_list types (i ∷ indices) (f ∷ fs) (g ∷ gs) h k = let a = h.0 in let b = k.0 in let c = one_list types indices fs gs h.1 k.1 in cc
-
 -- the front part of a list, by its length
 pub take-front : {X : Type 0} (front back all : List X) (n : ℕ) → all ≡ front ++ back → n ≡ length front → take n all ≡ front
 take-front front back all n e h = rw (e, h) (take-append_seam front back)

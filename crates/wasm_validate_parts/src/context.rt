@@ -25,8 +25,8 @@ pub struct Context<'m> {
     has_memory: bool,
 }
 
-/// The indices of the types of all functions.
-fn function_type_indices(alloc: Global, module: &Module) -> Result<Vec<u32>, AllocError>
+/// The index of the type of each function, imported ones first.
+pub fn function_type_indices(alloc: Global, module: &Module) -> Result<Vec<u32>, AllocError>
     ensures { IfOk result (λ v. v.items ≡ imported_functions «module».now.imports ++ map function_type_of «module».now.functions) }
 {
     let mut indices = Vec::new(alloc);

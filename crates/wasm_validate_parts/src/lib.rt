@@ -18,6 +18,6 @@ mod start;
 #[cfg(test)]
 mod tests;
 
-pub use context::Context;
+pub use context::{Context, function_type_indices};
 pub use fault::ValidFault;
 pub use parts::{check_before_data, check_data, check_types};

@@ -4,7 +4,6 @@ ghost use Rattle.std.specs.Prelude.{List};
 ghost use Rattle.std.specs.List.{AllByRecursion};
 ghost use Rattle.wasm_syntax.specs.declared.module.Module.{Module as TheModule};
 ghost use Rattle.wasm_syntax.specs.declared.types.FunctionType.{FunctionType as Kind};
-ghost use Rattle.guest_memory.specs.Bytes.{IsByte};
 ghost use Rattle.wasm_syntax_rules.specs.Validity.{IsElementValid, IsDataValid};
 ghost use Rattle.wasm_validate_parts.specs.Answers.{Decides};
 ghost use Rattle.wasm_validate_parts.specs.Parts.{StandsFor};
@@ -13,6 +12,7 @@ use crate::constants::check_constant;
 use crate::context::Context;
 use crate::fault::ValidFault;
 use crate::indices::{are_below, is_memory, is_table};
+use guest_memory::laws::are_bytes;
 use wasm_syntax::{Data, Element, ValueType};
 
 /// `Index` where there is no such table, then `check_constant`'s faults of the offset, then `Index` where
@@ -29,13 +29,6 @@ fn check_element(context: &Context, element: &Element) -> Result<(), ValidFault>
     } else {
         Err(ValidFault::Index)
     }
-}
-
-/// A `u8` is a byte: what validity asks of a segment's bytes holds by their type.
-fn are_bytes(bytes: &[u8])
-    ensures { AllByRecursion IsByte bytes.now }
-{
-    let _ = bytes;
 }
 
 /// `Index` where there is no such memory, then `check_constant`'s faults of the offset.

@@ -7,31 +7,22 @@ use std::alloc::Global;
 use std::env;
 use std::fs::File;
 use std::io::{self, BufReader, ErrorKind, Input, Read, Write};
+use std::num::NonZeroU64;
 use std::process::ExitCode;
 use std::rt::{Env, Files};
+use wasm_syntax_grammar::limits::MODULE_BYTES;
+use wasmhost_serve::status::{NO_MEMORY, UNREAD, UNWRITTEN, USAGE};
 use wasmhost_serve::{LineOutlet, Options, check_bytes, serve};
 use wasmhost_words::{Order, WordsFault, read_words};
 
-/// The status of a command line that is not understood.
-const USAGE: u8 = 2;
+/// How many bytes of a file are read: as many as the longest module has, and one more, by which a longer one is known.
+const READ_BYTES: u64 = MODULE_BYTES as u64 + 1;
 
-/// The status of a file that can't be read.
-const UNREADABLE: u8 = 4;
-
-/// The status of want of memory.
-const NO_MEMORY: u8 = 5;
-
-/// The status of output that can't be written.
-const UNWRITTEN: u8 = 7;
-
-/// The bytes of the longest module, and one more, by which a longer one is known.
-const LONGEST_MODULE: u64 = 2 * 1024 * 1024 + 1;
-
-/// The bytes of a file, no more of them than the longest module may have and one.
+/// The first bytes of a file.
 fn read_file<R: Files>(rt: &R, alloc: Global, path: &str) -> io::Result<Vec<u8>> {
     let mut bytes = Vec::new(alloc);
     File::open(rt, path)?
-        .take(LONGEST_MODULE)
+        .take(READ_BYTES)
         .read_to_end(&mut bytes)?;
     Ok(bytes)
 }
@@ -55,7 +46,7 @@ fn unread<E: Write>(err: &mut E, error: &io::Error) -> u8
     if error.kind() == ErrorKind::OutOfMemory {
         say(err, NO_MEMORY, "failed N4 Memory")
     } else {
-        say(err, UNREADABLE, "failed K2 Io")
+        say(err, UNREAD, "failed K2 Io")
     }
 }
 
@@ -79,7 +70,7 @@ fn run<R: Files + Input, W: Write, E: Write>(
     rt: &R,
     alloc: Global,
     path: &str,
-    fuel: u64,
+    fuel: NonZeroU64,
     out: &mut W,
     err: &mut E,
 ) -> u8
@@ -93,7 +84,9 @@ fn run<R: Files + Input, W: Write, E: Write>(
         Ok(reader) => reader,
         Err(error) => return unread(err, &error),
     };
-    let mut outlet = LineOutlet { out };
+    let Ok(mut outlet) = LineOutlet::new(alloc, out) else {
+        return say(err, NO_MEMORY, "failed N4 Memory");
+    };
     serve(
         alloc,
         wasm.as_slice(),
@@ -108,11 +101,14 @@ fn run<R: Files + Input, W: Write, E: Write>(
 fn tell<W: Write, E: Write>(fault: &WordsFault, out: &mut W, err: &mut E) -> u8
     ensures { result ≤ 7 }
 {
+    let WordsFault::Words(text) = fault else {
+        return say(err, NO_MEMORY, "failed N4 Memory");
+    };
     let status = fault.status();
     let told = if status == 0 {
-        write!(out, "{fault}")
+        write!(out, "{text}")
     } else {
-        write!(err, "{fault}")
+        write!(err, "{text}")
     };
     match told {
         Ok(()) => status,

@@ -1,1 +1,4 @@
 pub mod Printed
+pub mod Requests
+pub mod Fitting
+pub mod Passing

@@ -1,12 +1,14 @@
 -- The lines that a worker's reader and writer see (this project's own).
-use Rattle.std.specs.Prelude.{ℕ, ◌==◌, if◌then◌else◌, List, [], ◌∷◌, ◌++◌, codes}
+use Rattle.std.specs.Prelude.{ℕ, ◌≡◌, ◌≤◌, ◌==◌, if◌then◌else◌, List, [], ◌∷◌, ◌++◌, length, codes}
 use Rattle.std.specs.Fmt.{decimal}
 use Rattle.wasm_syntax.specs.declared.value.Trap.{Trap}
 use Rattle.wasm_syntax.specs.declared.value.Trap.TheVariants as trap
 use Rattle.wasi_abi.specs.Answers.{newline}
 use Rattle.wasi_calls_rows.specs.Hosts.{Line}
+use Rattle.wasi_calls_rows.specs.declared.limits.TheConstants.{TEXT_BYTES}
 use Rattle.wasmhost_lines.specs.declared.request.Request.{Request}
 use Rattle.wasmhost_lines.specs.declared.request.Request.TheVariants as request
+use Rattle.wasmhost_lines.specs.Numbers.{IsNumbered}
 
 -- stream 1 is the output, and stream 2 the error output
 abbrev pub letter_of : ℕ → List ℕ
@@ -20,6 +22,15 @@ printed number line = decimal number ++ letter_of line.stream ++ line.text ++ ne
 abbrev pub request_line : Request → List ℕ
 request_line (request.Text number text) = decimal number ++ codes " r " ++ text.now
 request_line (request.End number) = decimal number ++ codes " e"
+
+-- the text of a request isn't too long
+abbrev pub IsShort : Request → Type 0
+IsShort (request.Text number text) = length text.now ≤ TEXT_BYTES
+IsShort (request.End number) = Unit {0}
+
+-- the line of some request, with a text that isn't too long
+abbrev pub IsRequestLine : List ℕ → Type 0
+IsRequestLine line = (r : Request) × IsNumbered r × IsShort r × (line ≡ request_line r)
 
 -- the name of a trap, as it is printed
 abbrev pub name_of : Trap → List ℕ

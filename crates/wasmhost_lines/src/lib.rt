@@ -3,6 +3,7 @@
 
 mod fault;
 pub mod laws;
+mod line;
 mod outlet;
 mod printing;
 pub mod request;

@@ -1,11 +1,12 @@
 //! Request lines.
 
-ghost use Rattle.std.specs.Prelude.{◌≡◌, ◌<◌, ◌≤◌, ◌^◌, ℕ, Some, IfSome};
+ghost use Rattle.std.specs.Prelude.{◌≡◌, ◌≢◌, ◌<◌, ◌≤◌, ◌^◌, ℕ, List, ◌∷◌, ◌++◌, Some, IfSome, IsSome, IsSomeAnd, codes, length, slice_index};
 ghost use Rattle.std.specs.Fmt.{decimal};
-ghost use Rattle.wasmhost_lines.specs.Texts.{request_line};
+ghost use Rattle.wasmhost_lines.specs.Texts.{IsShort, IsRequestLine, request_line};
 ghost use Rattle.wasmhost_lines.specs.Numbers.{IsNumbered, number_in};
 
 use itoa::Buffer;
+use wasi_calls_rows::limits::TEXT_BYTES;
 
 /// Numbers of requests are below this.
 const NUMBERS: u64 = 1 << 63;
@@ -52,16 +53,49 @@ fn read_number(digits: &[u8]) -> Option<u64>
     Some(number)
 }
 
-/// What a line without its newline says: `N r text` or `N e`.
+/// Where the first space is.
+fn first_space(line: &[u8]) -> Option<usize>
+    ensures there { IfSome result (λ i. (i < length line.now) × (slice_index line.now i ≡ 32)) }
+    ensures first { IfSome result (λ i. (k : ℕ) → k < i → slice_index line.now k ≢ 32) }
+    ensures none { (k : ℕ) → k < length line.now → slice_index line.now k ≡ 32 → IsSome result }
+{
+    line.iter().position(|byte| *byte == b' ')
+}
+
+/// What stands before the first space, and what behind it.
+fn split_at_space(line: &[u8]) -> Option<(&[u8], &[u8])>
+    ensures parts { IfSome result (λ r. line.now ≡ r.0.now ++ 32 ∷ r.1.now) }
+    ensures found { (front back : List ℕ) → line.now ≡ front ++ 32 ∷ back → ((k : ℕ) → k < length front → slice_index front k ≢ 32) → IsSomeAnd result (λ r. (r.0.now ≡ front) × (r.1.now ≡ back)) }
+{
+    let space = first_space(line)?;
+    Some((&line[..space], &line[space + 1..]))
+}
+
+/// What is said behind the number and its space: `r text`, with a text that isn't too long, or `e`.
+fn read_said<'a>(number: u64, said: &'a [u8]) -> Option<Request<'a>>
+    ensures spelled { IfSome result (λ read. decimal number ++ 32 ∷ said.entry.now ≡ request_line read) }
+    ensures same { IfSome result (λ read. number_in read ≡ number) }
+    ensures short { IfSome result IsShort }
+    ensures text { (bytes : List ℕ) → said.entry.now ≡ codes "r " ++ bytes → length bytes ≤ TEXT_BYTES → IsSome result }
+    ensures end { said.entry.now ≡ codes "e" → IsSome result }
+{
+    match said {
+        [b'e'] => Some(Request::End { number }),
+        [b'r', b' ', text @ ..] if text.len() <= TEXT_BYTES => {
+            Some(Request::Text { number, text })
+        }
+        _ => None,
+    }
+}
+
+/// What a line without its newline says: `N r text` or `N e`. A line with a text that is too long says nothing.
 pub fn read_request<'a>(line: &'a [u8]) -> Option<Request<'a>>
     ensures spelled { IfSome result (λ read. line.entry.now ≡ request_line read) }
     ensures numbered { IfSome result IsNumbered }
+    ensures short { IfSome result IsShort }
+    ensures found { IsRequestLine line.entry.now → IsSome result }
 {
-    let space = line.iter().position(|byte| *byte == b' ')?;
-    let number = read_number(&line[..space])?;
-    match &line[space + 1..] {
-        [b'e'] => Some(Request::End { number }),
-        [b'r', b' ', text @ ..] => Some(Request::Text { number, text }),
-        _ => None,
-    }
+    let (digits, said) = split_at_space(line)?;
+    let number = read_number(digits)?;
+    read_said(number, said)
 }

@@ -1,25 +1,25 @@
 //! A source of answers over request lines.
 
-ghost use Rattle.std.specs.Prelude.{IfOk, IfSome};
+ghost use Rattle.std.specs.Prelude.{◌≡◌, None, IfOk, OnErr};
+ghost use Rattle.std.specs.List.{AllByRecursion};
 ghost use Rattle.wasi_abi.specs.declared.answer.Kind.TheVariants as kinds;
-ghost use Rattle.wasi_abi.specs.Answers.{Fits};
+ghost use Rattle.wasi_abi.specs.Answers.{Fits, IsNoNewline};
+ghost use Rattle.wasi_calls_rows.specs.declared.limits.TheConstants.{TEXT_BYTES};
+ghost use Rattle.wasmhost_lines.specs.Answers.{FindsNext, answer_in};
+ghost use Rattle.wasmhost_lines.specs.Texts.{IsShort, request_line};
 
 use crate::fault::LineFault;
+use crate::line::read_line;
 use crate::request::{Request, read_request};
 use record_replay::{Source, SourceFault};
 use std::alloc::Global;
-use std::io::{BufRead, ErrorKind, Read};
-use wasi_abi::{Answer, Kind, fits};
+use std::io::BufRead;
+use wasi_abi::{Answer, Kind};
 use wasm_syntax::Row;
 
-/// The bytes of the longest text of a request.
-const LONGEST_TEXT: usize = 4096;
-
-/// The bytes of the longest line: a number, a letter, two spaces and a newline beside the text. One more makes it too long.
-const LONGEST_LINE: u64 = 4096 + 24;
-
 /// Answers requests with the lines of a reader: the next number's text or end. A line with a number that was taken is passed over, and
-/// a later one is refused. No answer is there where the lines have come to their end.
+/// a later one is refused. No answer is there where the lines have come to their end. After a fault all is refused, since the reader
+/// may stand within a line.
 #[derive(Drop)]
 pub struct RequestSource<R: BufRead + Drop> {
     alloc: Global,
@@ -32,7 +32,11 @@ pub struct RequestSource<R: BufRead + Drop> {
 
 impl<R: BufRead + Drop> RequestSource<R> {
     /// Behind so many requests.
-    pub fn new(alloc: Global, reader: R, taken: u64) -> Self {
+    pub fn new(alloc: Global, reader: R, taken: u64) -> Self
+        ensures reader { result.reader ≡ reader }
+        ensures taken { result.taken ≡ taken }
+        ensures unfailed { result.fault ≡ None }
+    {
         RequestSource {
             alloc,
             reader,
@@ -42,30 +46,17 @@ impl<R: BufRead + Drop> RequestSource<R> {
         }
     }
 
-    /// Why the last answer was refused.
-    pub fn fault(&self) -> Option<LineFault> {
+    /// Why answers are refused.
+    pub fn fault(&self) -> Option<LineFault>
+        ensures { result ≡ self.now.fault }
+    {
         self.fault
     }
 
-    /// Reads the next line, without its newline. There is none at the end.
-    fn next_line(&mut self) -> Result<bool, LineFault> {
-        self.line.clear();
-        let mut piece = self.reader.by_ref().take(LONGEST_LINE);
-        match piece.read_until(b'\n', &mut self.line) {
-            Ok(0) => return Ok(false),
-            Ok(_) => {}
-            Err(error) if error.kind() == ErrorKind::OutOfMemory => return Err(LineFault::Memory),
-            Err(_) => return Err(LineFault::Read),
-        }
-        if self.line.last() == Some(&b'\n') {
-            self.line.pop();
-        }
-        Ok(true)
-    }
-
-    /// The answer of a request that is the next one.
+    /// The answer of a request.
     fn answer_of(&self, request: Request<'_>) -> Result<Answer, LineFault>
-        ensures { IfOk result (Fits LONGEST_TEXT kinds.Request) }
+        ensures is { IfOk result (λ answer. answer ≡ answer_in request.entry) }
+        ensures fits { IsShort request.entry → AllByRecursion IsNoNewline (request_line request.entry) → IfOk result (Fits TEXT_BYTES kinds.Request) }
     {
         let Request::Text { text, .. } = request else {
             return Ok(Answer::End);
@@ -73,22 +64,18 @@ impl<R: BufRead + Drop> RequestSource<R> {
         let Ok(text) = text.to_vec(self.alloc) else {
             return Err(LineFault::Memory);
         };
-        let answer = Answer::Request {
-            text: Row::from_vec(text),
-        };
-        if fits(LONGEST_TEXT, Kind::Request, &answer) {
-            Ok(answer)
-        } else {
-            Err(LineFault::Form)
-        }
+        let text = Row::from_vec(text);
+        Ok(Answer::Request { text })
     }
 
     fn next_request(&mut self) -> Result<Option<Answer>, LineFault>
-        ensures { IfOk result (λ found. IfSome found (Fits LONGEST_TEXT kinds.Request)) }
+        ensures found { IfOk result (λ found. FindsNext self.old.taken (R.remaining self.old.reader) found self.new.taken (R.remaining self.new.reader)) }
+        ensures kept { OnErr result (self.new.taken ≡ self.old.taken) }
+        ensures fault { self.new.fault ≡ self.old.fault }
     {
         let wanted = self.taken.saturating_add(1);
         for _ in 0..u64::MAX {
-            if !self.next_line()? {
+            if !read_line(&mut self.reader, &mut self.line)? {
                 return Ok(None);
             }
             let Some(request) = read_request(self.line.as_slice()) else {
@@ -104,17 +91,19 @@ impl<R: BufRead + Drop> RequestSource<R> {
                 return Ok(Some(answer));
             }
         }
-        Ok(None)
+        Err(LineFault::Read)
     }
 }
 
 impl<R: BufRead + Drop> Source for RequestSource<R> {
-    ghost use Rattle.wasmhost_lines.specs.Answers.{HandsFitting};
+    ghost use Rattle.wasmhost_lines.specs.Answers.{HandsNext};
 
-    // Which lines a reader gives is not known. What is handed over fits.
-    ghost gives = { λ _ kind said _. HandsFitting kind said };
+    ghost gives = { λ old kind said new. HandsNext kind old.taken (R.remaining old.reader) old.fault said new.taken (R.remaining new.reader) new.fault };
 
     fn answer(&mut self, kind: Kind) -> Result<Option<Answer>, SourceFault> {
+        if self.fault.is_some() {
+            return Err(SourceFault);
+        }
         let found = match kind {
             Kind::Request => self.next_request(),
             _ => Err(LineFault::Kind),

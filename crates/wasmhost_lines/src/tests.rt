@@ -2,7 +2,8 @@
 
 use crate::{LineFault, LineOutlet, Request, RequestSource, read_request};
 use record_replay::{Outlet, OutletFault, Source, SourceFault};
-use std::alloc::AllocError;
+use std::alloc::{AllocError, Global};
+use std::io::{self, BufRead, ErrorKind, Read, Write};
 use std::test::Fail;
 use wasi_abi::{Answer, Kind};
 
@@ -40,13 +41,59 @@ fn refuses_other_forms(rt: HostRuntime) -> Result<(), Fail> {
     Ok(())
 }
 
+/// A writer that hands on what is flushed, and nothing else.
+#[derive(Drop)]
+struct Flushed {
+    waiting: Vec<u8>,
+    out: Vec<u8>,
+    writes: u64,
+}
+
+impl Write for Flushed {
+    fn write(&mut self, buf: &[u8]) -> io::Result<usize> {
+        self.waiting.extend_from_slice(buf)?;
+        self.writes = self.writes.saturating_add(1);
+        Ok(buf.len())
+    }
+
+    fn flush(&mut self) -> io::Result<()> {
+        self.out.extend_from_slice(self.waiting.as_slice())?;
+        self.waiting.clear();
+        Ok(())
+    }
+}
+
+/// Each line is out behind its release, by one write.
 #[test]
 fn prints_and_flushes(rt: HostRuntime) -> Result<(), Fail> {
-    let mut printed = Vec::new(rt.alloc());
-    let mut outlet = LineOutlet { out: &mut printed };
-    outlet.release(1, 1, b"hi")?;
-    outlet.release(12, 2, b"")?;
-    assert_eq!(rt; printed.as_slice(), b"1 o hi\n12 e \n".as_slice());
+    let out = Flushed {
+        waiting: Vec::new(rt.alloc()),
+        out: Vec::new(rt.alloc()),
+        writes: 0,
+    };
+    let mut outlet = LineOutlet::new(rt.alloc(), out)?;
+    let rows: [(u64, u8, &[u8], &[u8]); 3] = [
+        (1, 1, b"hi", b"1 o hi\n"),
+        (2, 2, b"", b"1 o hi\n2 e \n"),
+        (3, 1, b"\xff", b"1 o hi\n2 e \n3 o \xff\n"),
+    ];
+    for (number, stream, text, wanted) in rows {
+        outlet.release(number, stream, text)?;
+        assert_eq!(rt; outlet.out.out.as_slice(), wanted);
+        assert_eq!(rt; outlet.out.writes, number);
+    }
+    Ok(())
+}
+
+/// `scripts/refused-allocations` refuses each allocation in turn: the outlet takes memory once, and its longest line takes none.
+#[test]
+fn prints_with_memory(rt: HostRuntime) -> Result<(), LineFault> {
+    let mut room = [0; 4120];
+    let mut rest = room.as_mut_slice();
+    let Ok(mut outlet) = LineOutlet::new(rt.alloc(), &mut rest) else {
+        return Err(LineFault::Memory);
+    };
+    assert_eq!(rt; outlet.release(u64::MAX, 2, &[b'x'; 4096]), Ok(()));
     Ok(())
 }
 
@@ -54,7 +101,7 @@ fn prints_and_flushes(rt: HostRuntime) -> Result<(), Fail> {
 fn a_full_writer_is_a_fault(rt: HostRuntime) -> Result<(), Fail> {
     let mut room = [0; 4];
     let mut rest = room.as_mut_slice();
-    let mut outlet = LineOutlet { out: &mut rest };
+    let mut outlet = LineOutlet::new(rt.alloc(), &mut rest)?;
     assert_eq!(rt; outlet.release(1, 1, b"hi"), Err(OutletFault));
     Ok(())
 }
@@ -75,8 +122,8 @@ fn letters(said: &Result<Option<Answer>, SourceFault>) -> (u8, Option<u8>) {
 }
 
 /// What a source says of request after request.
-fn said(
-    source: &mut RequestSource<&[u8]>,
+fn said<R: BufRead + Drop>(
+    source: &mut RequestSource<R>,
     times: usize,
     out: &mut Vec<u8>,
 ) -> Result<(), AllocError> {
@@ -114,6 +161,69 @@ fn answers_the_next_request(rt: HostRuntime) -> Result<(), Fail> {
     Ok(())
 }
 
+/// A reader that can't be read.
+#[derive(Drop)]
+struct Broken;
+
+impl Read for Broken {
+    fn read(&mut self, _buf: &mut [u8]) -> io::Result<usize> {
+        Err(io::Error::from(ErrorKind::BrokenPipe))
+    }
+}
+
+impl BufRead for Broken {
+    fn fill_buf(&mut self) -> io::Result<&[u8]> {
+        Err(io::Error::from(ErrorKind::BrokenPipe))
+    }
+
+    fn consume(&mut self, _amount: usize) {}
+}
+
+/// A reader that fails within the second line.
+#[test]
+fn a_failed_read_is_a_fault(rt: HostRuntime) -> Result<(), Fail> {
+    let reader = b"1 r a\n2 r b".as_slice().chain(Broken);
+    let mut source = RequestSource::new(rt.alloc(), reader, 0);
+    let mut out = Vec::new(rt.alloc());
+    said(&mut source, 2, &mut out)?;
+    assert_eq!(rt; out.as_slice(), b"ta!".as_slice());
+    assert_eq!(rt; source.fault(), Some(LineFault::Read));
+    Ok(())
+}
+
+/// The fault of the first request of `1 r hi`, if there is one.
+fn fault_of_hi(alloc: Global) -> Option<LineFault> {
+    let mut source = RequestSource::new(alloc, b"1 r hi\n".as_slice(), 0);
+    match source.answer(Kind::Request) {
+        Ok(_answer) => None,
+        Err(_) => source.fault(),
+    }
+}
+
+/// `scripts/refused-allocations` refuses each allocation in turn, and then the fault is want of memory.
+#[test]
+fn answers_with_memory(rt: HostRuntime) -> Result<(), LineFault> {
+    match fault_of_hi(rt.alloc()) {
+        None => Ok(()),
+        Some(fault) => Err(fault),
+    }
+}
+
+/// A front, so many times `x`, and a back.
+fn long_input(
+    alloc: Global,
+    front: &[u8],
+    length: usize,
+    back: &[u8],
+) -> Result<Vec<u8>, AllocError> {
+    let mut input = Vec::from_slice(alloc, front)?;
+    for _ in 0..length {
+        input.push(b'x')?;
+    }
+    input.extend_from_slice(back)?;
+    Ok(input)
+}
+
 #[test]
 fn refuses_a_longer_text(rt: HostRuntime) -> Result<(), Fail> {
     for (length, fault) in [
@@ -121,13 +231,35 @@ fn refuses_a_longer_text(rt: HostRuntime) -> Result<(), Fail> {
         (4097, Some(LineFault::Form)),
         (5000, Some(LineFault::Form)),
     ] {
-        let mut line = Vec::from_slice(rt.alloc(), b"1 r ")?;
-        for _ in 0..length {
-            line.push(b'a')?;
-        }
+        let line = long_input(rt.alloc(), b"1 r ", length, b"")?;
         let mut source = RequestSource::new(rt.alloc(), line.as_slice(), 0);
         let answer = source.answer(Kind::Request);
         assert_eq!(rt; answer.is_ok(), fault.is_none());
+        assert_eq!(rt; source.fault(), fault);
+    }
+    Ok(())
+}
+
+/// Lines of each number, long enough that a request of their own seems to stand where the reader stops.
+#[test]
+fn no_part_of_a_line_is_read(rt: HostRuntime) -> Result<(), Fail> {
+    let form = Some(LineFault::Form);
+    let last = 9_223_372_036_854_775_806;
+    let rows: [(u64, &[u8], usize, &[u8], &[u8], Option<LineFault>); 7] = [
+        (0, b"1 r a\n1 r ", 4096, b"\n2 r b\n", b"tatb-", None),
+        (0, b"1 r a\n1 r ", 4097, b"\n2 r b\n", b"ta!!", form),
+        (0, b"1 r a\n1 r ", 4116, b"2 r evil\n", b"ta!!", form),
+        (0, b"1 r a\n2 r ", 4116, b"2 r evil\n", b"ta!!", form),
+        (0, b"1 r a\n3 r ", 4116, b"2 r evil\n", b"ta!!", form),
+        (last, b"9223372036854775807 r ", 4096, b"\n", b"tx--", None),
+        (last, b"9223372036854775807 r ", 4097, b"\n", b"!!!", form),
+    ];
+    for (taken, front, length, back, wanted, fault) in rows {
+        let input = long_input(rt.alloc(), front, length, back)?;
+        let mut source = RequestSource::new(rt.alloc(), input.as_slice(), taken);
+        let mut out = Vec::new(rt.alloc());
+        said(&mut source, 3, &mut out)?;
+        assert_eq!(rt; out.as_slice(), wanted);
         assert_eq!(rt; source.fault(), fault);
     }
     Ok(())

@@ -5,21 +5,13 @@ ghost use Rattle.std.specs.Io.KnownBytes.{Appends};
 ghost use Rattle.front_end.specs.Acceptance.{HasAcceptedModule, HasNoAcceptedModule};
 ghost use Rattle.wasmhost_serve.specs.Statuses.{IsRight, status_by};
 
+use crate::status::{NO_MEMORY, REFUSED, UNWRITTEN};
 use front_end::{FrontFault, accept};
 use std::alloc::Global;
 use std::io::{self, Write};
 
 /// How many pages a module's memory may need at first to be accepted by `check`.
 pub const PAGES: u32 = 256;
-
-/// The exit status of a refused module.
-const REFUSED: u8 = 3;
-
-/// The exit status where the host has no room.
-const NO_MEMORY: u8 = 5;
-
-/// The exit status where the output can't be written.
-const UNWRITTEN: u8 = 7;
 
 /// Whether the bytes spell an accepted module, and why not.
 fn verdict_on(alloc: Global, wasm: &[u8]) -> Result<(), FrontFault>

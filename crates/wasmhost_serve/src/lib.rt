@@ -6,6 +6,7 @@ mod check;
 mod run;
 #[cfg(test)]
 mod run_tests;
+pub mod status;
 #[cfg(test)]
 mod tests;
 

@@ -1,25 +1,32 @@
 //! `wasmhost run`.
 
-ghost use Rattle.std.specs.Prelude.{◌≡◌, ◌≢◌, ◌≤◌, IfOk, IfErr};
+ghost use Rattle.std.specs.Prelude.{◌≡◌, ◌≢◌, ◌⊎◌, ◌≤◌, IfOk, IfErr, OnOk};
+ghost use Rattle.std.specs.Io.KnownBytes.{Appends};
+ghost use Rattle.process.specs.Values.{IsProcess};
 ghost use Rattle.worker.specs.Values.{IsCreated};
-ghost use Rattle.wasmhost_serve.specs.Served.{IsRun, IsServed, SlicesSome, usual};
+ghost use Rattle.worker.specs.Faults.{IsRefused};
 ghost use Rattle.worker.specs.declared.now.Now.TheVariants.{Spent};
+ghost use Rattle.wasmhost_serve.specs.Served.{Serves, usual, last_words};
+ghost use Rattle.wasmhost_serve.specs.Runs.{SlicesSome, SlicesSomeInVain, IsRun, IsRunInVain, IsToldAs, ended_by};
+ghost use Rattle.wasmhost_serve.specs.Statuses.{status_of};
 
+use crate::status::{BAD_LINE, NO_MEMORY, REFUSED, UNREAD, UNWRITTEN};
 use process::End;
 use record_replay::{Outlet, Source};
 use std::alloc::{AllocError, Global};
-use std::io::{BufRead, Write};
+use std::io::{self, BufRead, Write};
+use std::num::NonZeroU64;
 use thiserror::Error;
 use wasi_abi::Config;
 use wasm_syntax::Row;
 use wasmhost_lines::{LineFault, LineOutlet, RequestSource, trap_name};
-use worker::{Now, Refusal, WorkFault, Worker};
+use worker::{Now, WorkFault, Worker};
 
 /// How a worker is driven.
 #[derive(Clone, Copy, Debug, PartialEq, Eq)]
 pub struct Options {
-    /// Steps of a slice, at least 1.
-    pub fuel: u64,
+    /// Steps of a slice.
+    pub fuel: NonZeroU64,
 }
 
 /// Pages of 65,536 bytes that the guest's memory may have.
@@ -42,18 +49,17 @@ enum RunFault {
 }
 
 impl RunFault {
-    /// The exit status: 3 for a refused module and where steps or lines can't be counted further, 4 where the reader fails, 5 for want of
-    /// memory, 6 for a refused request line, 7 where a line can't be printed.
+    /// The exit status.
     fn status(self) -> u8
-        ensures { (3 ≤ result) × (result ≤ 7) }
+        ensures { result ≡ status_of self }
     {
         match self {
-            RunFault::Work(WorkFault::Refused(_)) => 3,
-            RunFault::Work(WorkFault::Source | WorkFault::Failed) => 4,
-            RunFault::Line(LineFault::Read | LineFault::Kind) => 4,
-            RunFault::Work(WorkFault::Memory) | RunFault::Line(LineFault::Memory) => 5,
-            RunFault::Line(LineFault::Number { .. } | LineFault::Form) => 6,
-            RunFault::Work(WorkFault::Outlet) => 7,
+            RunFault::Work(WorkFault::Refused(_)) => REFUSED,
+            RunFault::Work(WorkFault::Source | WorkFault::Failed) => UNREAD,
+            RunFault::Line(LineFault::Read | LineFault::Kind) => UNREAD,
+            RunFault::Work(WorkFault::Memory) | RunFault::Line(LineFault::Memory) => NO_MEMORY,
+            RunFault::Line(LineFault::Number { .. } | LineFault::Form) => BAD_LINE,
+            RunFault::Work(WorkFault::Outlet) => UNWRITTEN,
         }
     }
 }
@@ -72,7 +78,8 @@ pub(crate) fn usual_config(alloc: Global) -> Result<Config, AllocError>
 }
 
 fn create(alloc: Global, wasm: &[u8]) -> Result<Worker, WorkFault>
-    ensures { IfOk result (IsCreated wasm.now usual) }
+    ensures created { IfOk result (IsCreated wasm.now usual) }
+    ensures refused { IfErr result (IsRefused usual.pages wasm.now) }
 {
     let Ok(config) = usual_config(alloc) else {
         return Err(WorkFault::Memory);
@@ -80,71 +87,94 @@ fn create(alloc: Global, wasm: &[u8]) -> Result<Worker, WorkFault>
     Worker::create(alloc, wasm, config)
 }
 
-/// Slice after slice, until the worker has ended or waits. Its steps are numbered, so that it comes to one of these, or fails.
+/// What holds of a worker's process by its type.
+fn is_process(worker: &Worker)
+    ensures { IsProcess worker.now.process }
+{
+    let _ = worker.process().steps();
+}
+
+/// Slice after slice, until the worker is over. It comes to that, or fails, since its steps are numbered.
 fn work<S: Source, O: Outlet>(
     worker: &mut Worker,
-    fuel: u64,
+    fuel: NonZeroU64,
     source: &mut S,
     outlet: &mut O,
 ) -> Result<Now, WorkFault>
     ensures slices { IfOk result (λ now. SlicesSome S.gives O.takes worker.old now worker.new source.old source.new outlet.old outlet.new) }
     ensures over { IfOk result (λ now. now ≢ Spent) }
+    ensures failed { IfErr result (λ fault. SlicesSomeInVain S.gives O.takes worker.old fault worker.new source.old source.new outlet.old outlet.new) }
 {
-    let mut now = worker.slice(fuel, source, outlet)?;
-    for _ in 0..u64::MAX {
-        match now {
-            Now::Spent => now = worker.slice(fuel, source, outlet)?,
-            Now::Waiting | Now::Ended(_) => return Ok(now),
+    loop {
+        is_process(worker);
+        match worker.slice(fuel.get(), source, outlet)? {
+            Now::Spent => {}
+            Now::Waiting => return Ok(Now::Waiting),
+            Now::Ended(how) => return Ok(Now::Ended(how)),
         }
     }
-    Err(WorkFault::Refused(Refusal::StepsSpent))
+}
+
+/// A fault of the source is that of a request line, where there is one.
+fn told_as(fault: WorkFault, line: Option<LineFault>) -> RunFault
+    ensures { IsToldAs fault line result }
+{
+    match line {
+        Some(line) if fault == WorkFault::Source => RunFault::Line(line),
+        _ => RunFault::Work(fault),
+    }
 }
 
 /// Runs a worker on the lines of a reader, and prints its own.
 fn run<R: BufRead, W: Write + Drop>(
     alloc: Global,
     worker: &mut Worker,
-    fuel: u64,
+    fuel: NonZeroU64,
     reader: &mut R,
     outlet: &mut LineOutlet<W>,
 ) -> Result<Now, RunFault>
-    ensures { IfOk result (λ now. IsRun worker.old (W.contents outlet.old.out) (W.contents outlet.new.out)) }
+    ensures done { IfOk result (λ now. IsRun worker.old now (W.contents outlet.old.out) (W.contents outlet.new.out)) }
+    ensures failed { IfErr result (λ fault. IsRunInVain worker.old fault (W.contents outlet.old.out) (W.contents outlet.new.out)) }
 {
     let mut source = RequestSource::new(alloc, reader, 0);
     match work(worker, fuel, &mut source, outlet) {
         Ok(now) => Ok(now),
-        Err(fault) => match source.fault() {
-            Some(line) if fault == WorkFault::Source => Err(RunFault::Line(line)),
-            _ => Err(RunFault::Work(fault)),
-        },
+        Err(fault) => Err(told_as(fault, source.fault())),
     }
 }
 
-/// Writes the last words of a worker that is over, and answers the exit status: 0, or 7 where they can't be written.
-fn say<E: Write>(err: &mut E, now: Now) -> u8
-    ensures { result ≤ 7 }
+/// Writes the last words of a worker that is over.
+fn print_last_words<E: Write>(err: &mut E, now: Now) -> io::Result<()>
+    ensures { OnOk result (Appends (E.contents err.old) (E.contents err.new) (last_words (ended_by now))) }
 {
-    let said = match now {
-        Now::Ended(End::Exited(code)) => writeln!(err, "exited {code}"),
-        Now::Ended(End::Trapped(why)) => writeln!(err, "trapped {}", trap_name(why)),
-        Now::Waiting | Now::Spent => writeln!(err, "parked"),
-    };
-    if said.is_ok() && err.flush().is_ok() {
-        0
-    } else {
-        7
+    match now {
+        Now::Ended(End::Exited(code)) => writeln!(err, "exited {code}")?,
+        Now::Ended(End::Trapped(why)) => writeln!(err, "trapped {}", trap_name(why))?,
+        Now::Waiting | Now::Spent => writeln!(err, "parked")?,
+    }
+    err.flush()
+}
+
+/// Says how a worker is over, and answers the exit status.
+fn say<E: Write>(err: &mut E, now: Now) -> u8
+    ensures known { (result ≡ 0) ⊎ (result ≡ 7) }
+    ensures told { result ≡ 0 → Appends (E.contents err.old) (E.contents err.new) (last_words (ended_by now)) }
+{
+    match print_last_words(err, now) {
+        Ok(()) => 0,
+        Err(_) => UNWRITTEN,
     }
 }
 
 /// Writes why a worker doesn't run to its end, and answers the exit status.
 fn say_fault<E: Write>(err: &mut E, fault: RunFault) -> u8
-    ensures { (3 ≤ result) × (result ≤ 7) }
+    ensures { (result ≡ status_of fault) ⊎ (result ≡ 7) }
 {
     let said = writeln!(err, "{fault}");
     if said.is_ok() && err.flush().is_ok() {
         fault.status()
     } else {
-        7
+        UNWRITTEN
     }
 }
 
@@ -159,7 +189,7 @@ pub fn serve<R: BufRead, W: Write + Drop, E: Write>(
     outlet: &mut LineOutlet<W>,
     err: &mut E,
 ) -> u8
-    ensures served { result ≡ 0 → IsServed wasm.now (W.contents outlet.old.out) (W.contents outlet.new.out) }
+    ensures serves { Serves wasm.now (W.contents outlet.old.out) (W.contents outlet.new.out) (E.contents err.old) (E.contents err.new) result }
     ensures known { result ≤ 7 }
 {
     let mut worker = match create(alloc, wasm) {

@@ -4,6 +4,7 @@ use crate::run::{Options, serve, usual_config};
 use crate::tests::{BEFORE_CODE, EMPTY_BODY, HELLO, bytes_of};
 use record_replay::{AnswerList, LineList};
 use std::alloc::Global;
+use std::num::NonZeroU64;
 use std::test::Fail;
 use wasmhost_lines::LineOutlet;
 use worker::{Now, Worker};
@@ -72,10 +73,9 @@ fn workers_print(rt: HostRuntime) -> Result<(), Fail> {
     for (texts, fuel, lines, words, status) in rows {
         let wasm = bytes_of(alloc, texts)?;
         let mut reader: &[u8] = b"";
-        let mut outlet = LineOutlet {
-            out: Vec::new(alloc),
-        };
+        let mut outlet = LineOutlet::new(alloc, Vec::new(alloc))?;
         let mut err = Vec::new(alloc);
+        let fuel = NonZeroU64::try_from(fuel)?;
         let options = Options { fuel };
         let answered = serve(
             alloc,
@@ -142,11 +142,14 @@ fn run_hello(alloc: Global) -> Result<(), Refused> {
     let mut reader: &[u8] = b"";
     let mut lines = [0u8; 32];
     let mut words = [0u8; 32];
-    let mut outlet = LineOutlet {
-        out: lines.as_mut_slice(),
+    let Ok(mut outlet) = LineOutlet::new(alloc, lines.as_mut_slice()) else {
+        return Err(Refused::Memory);
     };
     let mut err: &mut [u8] = &mut words;
-    let options = Options { fuel: 100_000 };
+    let Some(fuel) = NonZeroU64::new(100_000) else {
+        return Err(Refused::Otherwise);
+    };
+    let options = Options { fuel };
     let status = serve(
         alloc,
         &HELLO_BYTES,
@@ -155,6 +158,7 @@ fn run_hello(alloc: Global) -> Result<(), Refused> {
         &mut outlet,
         &mut err,
     );
+    drop(outlet);
     if status == 0 && lines.starts_with(b"1 o hi\n\0") && words.starts_with(b"exited 7\n\0") {
         return Ok(());
     }
@@ -173,14 +177,13 @@ fn whole_run(rt: HostRuntime) -> Result<(), Refused> {
 /// Lines that can't be printed, and last words that can't.
 #[test]
 fn output_without_room(rt: HostRuntime) -> Result<(), Fail> {
-    let options = Options { fuel: 100 };
+    let fuel = NonZeroU64::try_from(100)?;
+    let options = Options { fuel };
     let mut reader: &[u8] = b"";
     for (room, left, status) in [(4, 32, 7), (32, 4, 7), (32, 32, 0)] {
         let mut lines = [0u8; 32];
         let mut words = [0u8; 32];
-        let mut outlet = LineOutlet {
-            out: &mut lines[..room],
-        };
+        let mut outlet = LineOutlet::new(rt.alloc(), &mut lines[..room])?;
         let mut err: &mut [u8] = &mut words[..left];
         let answered = serve(
             rt.alloc(),

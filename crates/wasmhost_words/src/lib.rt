@@ -3,12 +3,15 @@
 
 ghost use Rattle.std.specs.Prelude.{◌≡◌, ◌≤◌, IfOk, IfSome, true, false, codes};
 ghost use Rattle.clap.specs.declared.builder.command.Command.TheViews.{out-Command};
-ghost use Rattle.wasmhost_words.specs.Commands.{IsLocal, IsMet, IsRead, name_of};
+ghost use Rattle.wasmhost_words.specs.Commands.{IsFuel, IsLocal, IsMet, IsOrderOf, IsRead, IsStatusOf, name_of};
+ghost use Rattle.std.specs.Int.NonZero.{non_zero_u64_get};
+ghost use Rattle.clap.specs.Words.{found_of, one_text};
 
 use clap::error::ErrorKind;
 use clap::{Arg, ArgAction, ArgMatches, Command, Error, value_parser};
 use std::alloc::{AllocError, Global};
 use std::convert::AsStr;
+use std::num::NonZeroU64;
 use thiserror::Error as FaultText;
 
 #[cfg(test)]
@@ -23,7 +26,7 @@ pub enum Order<'a> {
     /// Says whether the module in this file is accepted.
     Check { path: &'a str },
     /// Runs a fresh worker of the module in this file, so many steps at a time.
-    Run { path: &'a str, fuel: u64 },
+    Run { path: &'a str, fuel: NonZeroU64 },
 }
 
 /// Why the words give no order.
@@ -39,7 +42,7 @@ pub enum WordsFault {
 impl WordsFault {
     /// The exit status: help is done, a mistake is 2, and want of memory 5.
     pub fn status(&self) -> u8
-        ensures { result ≤ 5 }
+        ensures { IsStatusOf self.now result }
     {
         match self {
             WordsFault::Words(error) if error.use_stderr() => 2,
@@ -116,7 +119,8 @@ fn run_command<'a>(alloc: Global) -> Result<Command<'a>, AllocError>
 {
     let about = "Run a fresh worker: request lines in, its lines out";
     let command = with(named(alloc, "run", about), path(alloc, "MODULE"))?;
-    with(command, count(alloc, "fuel", "Steps of a slice"))
+    let steps = "Steps of a slice, 100000 where none are given";
+    with(command, count(alloc, "fuel", steps))
 }
 
 fn command<'a>(alloc: Global) -> Result<Command<'a>, AllocError>
@@ -129,7 +133,8 @@ fn command<'a>(alloc: Global) -> Result<Command<'a>, AllocError>
 }
 
 fn order_of<'a>(name: &str, matches: &ArgMatches<'a>) -> Option<Order<'a>>
-    ensures { IfSome result (λ order. name_of order ≡ name.now) }
+    ensures name { IfSome result (λ order. name_of order ≡ name.now) }
+    ensures found { IfSome result (IsOrderOf matches.now) }
 {
     match name {
         "check" => matches.get_str("MODULE").map(|path| Order::Check { path }),
@@ -139,11 +144,19 @@ fn order_of<'a>(name: &str, matches: &ArgMatches<'a>) -> Option<Order<'a>>
 }
 
 fn run_of<'a>(matches: &ArgMatches<'a>) -> Option<Order<'a>>
-    ensures { IfSome result (λ order. name_of order ≡ codes "run") }
+    ensures name { IfSome result (λ order. name_of order ≡ codes "run") }
+    ensures found { IfSome result (IsOrderOf matches.now) }
 {
     let path = matches.get_str("MODULE")?;
-    let fuel = matches.get_one("fuel").unwrap_or(FUEL);
+    let fuel = fuel_of(matches)?;
     Some(Order::Run { path, fuel })
+}
+
+fn fuel_of(matches: &ArgMatches<'_>) -> Option<NonZeroU64>
+    ensures { IfSome result (λ fuel. IsFuel (one_text (found_of matches.now) (codes "fuel")) (non_zero_u64_get fuel)) }
+{
+    let given: Option<u64> = matches.try_get_one("fuel").ok()?;
+    NonZeroU64::new(given.unwrap_or(FUEL))
 }
 
 /// The matches of a command line: where it is read, a command is there.

@@ -15,11 +15,11 @@ fn reads_check(rt: HostRuntime) -> Result<(), Fail> {
 #[test]
 fn reads_run(rt: HostRuntime) -> Result<(), Fail> {
     match read_words(rt.alloc(), &["wasmhost", "run", "a.wasm"])? {
-        Order::Run { path, fuel } => assert_eq!(rt; (path, fuel), ("a.wasm", 100_000)),
+        Order::Run { path, fuel } => assert_eq!(rt; (path, fuel.get()), ("a.wasm", 100_000)),
         Order::Check { .. } => assert!(rt; false),
     }
     match read_words(rt.alloc(), &["wasmhost", "run", "a.wasm", "--fuel", "1"])? {
-        Order::Run { path, fuel } => assert_eq!(rt; (path, fuel), ("a.wasm", 1)),
+        Order::Run { path, fuel } => assert_eq!(rt; (path, fuel.get()), ("a.wasm", 1)),
         Order::Check { .. } => assert!(rt; false),
     }
     Ok(())

@@ -1,5 +1,5 @@
 -- How a slice ends, in order or by a fault, and that it does.
-use Rattle.std.proofs.Common.{◌≡◌, ℕ, suc, ◌+◌, ◌-◌, ◌*◌, ◌<◌, ◌≤◌, List, [], ◌∷◌, ◌++◌, length, Option, Some, None, Ok, Err, refl, sym, ◌∙◌, ap, subst, inl, inr, arith, append_assoc, length-append}
+use Rattle.std.proofs.Common.{◌≡◌, ℕ, suc, ◌+◌, ◌-◌, ◌*◌, ◌<◌, ◌≤◌, List, [], ◌∷◌, ◌++◌, length, Option, Some, None, Ok, Err, refl, sym, ◌∙◌, ap, subst, inl, inr, arith}
 use Rattle.std.specs.Prelude.{Bool, true, false, Result, ◌≢◌}
 use Rattle.std.proofs.lemmas.List.{append-nil}
 use Rattle.wasi_abi.specs.declared.answer.Kind.{Kind}
@@ -10,24 +10,23 @@ use Rattle.process_rules.specs.Processes.{ProcessState, Guest}
 use Rattle.process_rules.specs.Runs.{Wants, next_of}
 use Rattle.process_rules.proofs.Growing.{move_counts}
 use Rattle.record_replay.specs.declared.fault.SourceFault.{SourceFault}
-use Rattle.record_replay.specs.Calls.{Giving, Taking, Ask, Begun, Exchange, Asks, Tells, Exchanges, asks_of, releases_of, all_taken}
-use Rattle.record_replay.proofs.Following.{lines_in_order}
+use Rattle.record_replay.specs.Calls.{Giving, Taking, Ask, Begun, Exchange, Asks, Exchanges}
 use Rattle.process.specs.declared.fault.ProcessFault.{ProcessFault}
 use Rattle.process.specs.declared.fault.ProcessFault.TheVariants as stop
 use Rattle.process.specs.declared.stop.End.{End}
 use Rattle.process.specs.declared.stop.Stop.TheVariants as stops
-use Rattle.process.specs.Values.{ProcessValue, ShowsProcess, IsProcess, waiting_in, ending_of}
-use Rattle.process.specs.Stops.{ComesQuietly, Takes, Advances, Gives, IsBeyond, StopsFor}
+use Rattle.process.specs.Values.{ProcessValue, ShowsProcess, IsProcess, waiting_in}
+use Rattle.process.specs.Stops.{ComesQuietly, Takes, Advances, Gives}
 use Rattle.worker.specs.declared.now.Now.TheVariants as ends
 use Rattle.worker.specs.declared.fault.WorkFault.{WorkFault}
 use Rattle.worker.specs.declared.fault.WorkFault.TheVariants as fault
 use Rattle.worker.specs.declared.fault.Refusal.TheVariants as refusal
-use Rattle.worker.specs.Slices.{handed, handed_by, LeadsTo, LeadsToWish, AreWanted, Slices}
-use Rattle.worker.specs.Faults.{IsBadAnswer, StopsAtLine, LeadsUpTo, StopsAtAnswer, Fails, IsCause, SlicesInVain}
+use Rattle.worker.specs.Slices.{handed_by, LeadsTo, LeadsToWish, AreWanted, Slices}
+use Rattle.worker.specs.Faults.{IsBadAnswer, LeadsUpTo, last_refused, Fails, IsCause, SlicesInVain}
 use Rattle.worker.specs.Refusals.{fault_of}
 use Rattle.worker.specs.Turns.{working, failing, first_waiting, taken_by, ReleasesAll, ReleasesSome, AnswersBy, AsksOnce}
-use Rattle.worker.proofs.Joining.{tells, tells_join, handed_of_both, wanted_ask, asked_leads}
-use Rattle.worker.proofs.Going.{Goes, goes_none, leads, advance_on, wish, asked_more, released_same, answer_on, told_count, told_releases, told_wanted, told_runs, told_more, release_on, released_none, quiet_runs, owing_runs}
+use Rattle.worker.proofs.Joining.{tells, wanted_ask, asked_leads}
+use Rattle.worker.proofs.Going.{released_count, Goes, goes_none, leads, advance_on, owing_last, wish, asked_more, answer_on, told_wanted, told_more, release_on, quiet_runs, owing_runs}
 
 -- whether a line waits
 abbrev pub waits : List Line → ℕ
@@ -94,50 +93,9 @@ module _ {S O : Type 0} (gives : Giving S) (takes : Taking O) where
         → Goes gives takes old new fuel guest p s t o q
     quietly guest p shows come empty few =
         let whole = room guest p shows in
-        advance_on gives takes old now new fuel guest p s t o q (at guest p shows) come.process come.steps (quiet_runs new guest (at guest p shows).process come) come.shows empty same (omega arith)
+        advance_on gives takes old now new fuel guest p s t o q (at guest p shows) come.process come.steps (quiet_runs new guest (at guest p shows).process come) come.shows empty same (λ some. absurd (some come.none_waits)) (omega arith)
 
     -- ---- the ends
-
-    pub spent : Advances now left (Ok stops.Spent) new → Slices gives takes (working old) fuel ends.Spent (working new) s t o q
-    unfolding advance_on
-    spent advances = λ guest p shows.
-        let stop = advances guest (at guest p shows).process (at guest p shows).shows in
-        let come = stop.1 in
-        let whole = room guest p shows in
-        let all = stop.2 in
-        let few : come.steps ≤ left = omega arith in
-        let g = quietly guest p shows come stop.0 few in (
-          record {
-            exchanges = g.exchanges;
-            exchanged = g.exchanged;
-            wanted = g.wanted;
-            steps = g.steps;
-            process = g.process;
-            leads = leads gives takes old new new fuel guest p s t o q g come.none_waits;
-            shows = g.shows;
-            unfailed = (refl, refl);
-          },
-          (omega arith, stop.3),
-        )
-
-    pub over : (how : End) → Advances now left (Ok (stops.Ended how)) new → Slices gives takes (working old) fuel (ends.Ended how) (working new) s t o q
-    unfolding advance_on
-    over how advances = λ guest p shows.
-        let stop = advances guest (at guest p shows).process (at guest p shows).shows in
-        let come = stop.1 in
-        let g = quietly guest p shows come stop.0 stop.2 in (
-          record {
-            exchanges = g.exchanges;
-            exchanged = g.exchanged;
-            wanted = g.wanted;
-            steps = g.steps;
-            process = g.process;
-            leads = leads gives takes old new new fuel guest p s t o q g come.none_waits;
-            shows = g.shows;
-            unfailed = (refl, refl);
-          },
-          (g.within, stop.3),
-        )
 
     abbrev one_guest : Guest
     one_guest = turning.some.guest
@@ -148,11 +106,54 @@ module _ {S O : Type 0} (gives : Giving S) (takes : Taking O) where
     abbrev one_stop : Goes gives takes old now fuel one_guest one_process s t o q
     one_stop = at one_guest one_process turning.some.shows
 
-    pub spent_empty : Advances now left (Ok stops.Spent) new → waiting_in new ≡ []
-    spent_empty advances = (advances one_guest one_stop.process one_stop.shows).1.none_waits
+    pub spent : Advances now left (Ok stops.Spent) new → Slices gives takes (working old) fuel ends.Spent (working new) s t o q
+    unfolding advance_on
+    spent advances = record {
+      had_not_failed = refl;
+      has_not_failed = refl;
+      none_waits = (advances one_guest one_stop.process one_stop.shows).1.none_waits;
+      shown = λ guest p shows.
+          let stop = advances guest (at guest p shows).process (at guest p shows).shows in
+          let come = stop.1 in
+          let whole = room guest p shows in
+          let all = stop.2 in
+          let few : come.steps ≤ left = omega arith in
+          let g = quietly guest p shows come stop.0 few in (
+            record {
+              exchanges = g.exchanges;
+              exchanged = g.exchanged;
+              wanted = g.wanted;
+              steps = g.steps;
+              process = g.process;
+              leads = leads gives takes old new new fuel guest p s t o q g come.none_waits;
+              shows = g.shows;
+            },
+            (omega arith, stop.3, g.answered),
+          );
+    }
 
-    pub over_empty : (how : End) → Advances now left (Ok (stops.Ended how)) new → waiting_in new ≡ []
-    over_empty how advances = (advances one_guest one_stop.process one_stop.shows).1.none_waits
+    pub over : (how : End) → Advances now left (Ok (stops.Ended how)) new → Slices gives takes (working old) fuel (ends.Ended how) (working new) s t o q
+    unfolding advance_on
+    over how advances = record {
+      had_not_failed = refl;
+      has_not_failed = refl;
+      none_waits = (advances one_guest one_stop.process one_stop.shows).1.none_waits;
+      shown = λ guest p shows.
+          let stop = advances guest (at guest p shows).process (at guest p shows).shows in
+          let come = stop.1 in
+          let g = quietly guest p shows come stop.0 stop.2 in (
+            record {
+              exchanges = g.exchanges;
+              exchanged = g.exchanged;
+              wanted = g.wanted;
+              steps = g.steps;
+              process = g.process;
+              leads = leads gives takes old new new fuel guest p s t o q g come.none_waits;
+              shows = g.shows;
+            },
+            (g.within, stop.3, g.answered),
+          );
+    }
 
     -- ---- what is owed
 
@@ -166,7 +167,7 @@ module _ {S O : Type 0} (gives : Giving S) (takes : Taking O) where
             | inr k ↦
                 let less = k.2 in
                 let few : g.steps + (k.1.steps + 1) ≤ fuel = omega arith in
-                advance_on gives takes old now new fuel guest p s t o q g k.1.process (k.1.steps + 1) (owing_runs new guest g.process k.1) k.1.shows k.0 same few
+                advance_on gives takes old now new fuel guest p s t o q g k.1.process (k.1.steps + 1) (owing_runs new guest g.process k.1) k.1.shows k.0 same (λ some. owing_last gives takes old now new fuel guest p s t o q g k.1 k.0 same) few
           ];
       some = turning.some;
       first_is = turning.first_is;
@@ -191,7 +192,7 @@ module _ {S O : Type 0} (gives : Giving S) (takes : Taking O) where
           | inr k ↦
               let less = k.2 in
               let few : g.steps + (k.1.steps + 1) ≤ fuel = omega arith in
-              let on = advance_on gives takes old now new fuel one_guest one_process s t o q g k.1.process (k.1.steps + 1) (owing_runs new one_guest g.process k.1) k.1.shows k.0 same few in
+              let on = advance_on gives takes old now new fuel one_guest one_process s t o q g k.1.process (k.1.steps + 1) (owing_runs new one_guest g.process k.1) k.1.shows k.0 same (λ some. owing_last gives takes old now new fuel one_guest one_process s t o q g k.1 k.0 same) few in
               let more : new.steps ≡ old.steps + (g.steps + (k.1.steps + 1)) = on.counted in
               omega arith
         ]
@@ -245,12 +246,18 @@ module _ {S O : Type 0} (gives : Giving S) (takes : Taking O) where
       λ guest p shows.
           let stop = advances guest (at guest p shows).process (at guest p shows).shows in
           let come = stop.1 in
+          let whole = room guest p shows in
           let less = stop.2 in
           let few : come.steps ≤ left = omega arith in
           let g = quietly guest p shows come stop.0 few in (
             record { exchanges = g.exchanges; exchanged = g.exchanged; wanted = g.wanted; steps = g.steps; process = g.process; shows = g.shows },
-            (None, record { front = g.exchanges; kind = kind.Realtime; is = sym (append-nil g.exchanges); leads = leads gives takes old new new fuel guest p s t o q g come.none_waits }),
-            g.within,
+            (
+              omega arith,
+              stop.3,
+              stop.4,
+              None,
+              record { front = g.exchanges; kind = kind.Realtime; is = sym (append-nil g.exchanges); leads = leads gives takes old new new fuel guest p s t o q g come.none_waits; answered = g.answered },
+            ),
           ),
     )
     cannot_advance stop.StepsSpent advances = (
@@ -259,16 +266,26 @@ module _ {S O : Type 0} (gives : Giving S) (takes : Taking O) where
       λ guest p shows.
           let stop = advances guest (at guest p shows).process (at guest p shows).shows in
           let come = stop.1 in
+          let whole = room guest p shows in
           let less = stop.2 in
           let few : come.steps ≤ left = omega arith in
           let g = quietly guest p shows come stop.0 few in (
             record { exchanges = g.exchanges; exchanged = g.exchanged; wanted = g.wanted; steps = g.steps; process = g.process; shows = g.shows },
-            (None, record { front = g.exchanges; kind = kind.Realtime; is = sym (append-nil g.exchanges); leads = leads gives takes old new new fuel guest p s t o q g come.none_waits }, stop.4),
-            g.within,
+            (
+              omega arith,
+              stop.3,
+              None,
+              record { front = g.exchanges; kind = kind.Realtime; is = sym (append-nil g.exchanges); leads = leads gives takes old new new fuel guest p s t o q g come.none_waits; answered = g.answered },
+              stop.4,
+            ),
           ),
     )
 
   -- ---- lines that wait
+
+  not_empty : (told : List Line) (line : Line) (others : List Line) → told ++ (line ∷ others) ≡ [] → ⊥
+  not_empty [] line others e = absurd (cc)
+  not_empty (first ∷ told) line others e = absurd (cc)
 
   pub released_all : (old now new : ProcessValue) (fuel first : ℕ) (s t : S) (o q r : O) → Turning old now fuel first s t o q → ReleasesAll takes now new q r → Turning old new fuel first s t o r
   released_all old now new fuel first s t o q r turning all = record {
@@ -284,14 +301,10 @@ module _ {S O : Type 0} (gives : Giving S) (takes : Taking O) where
     refl,
     λ guest p shows.
         let g = turning.goes guest p shows in
-        let refused : Begun = record { number = first_waiting now + length some.told; line = some.line; said = Err (record {}) } in
-        let taken : List Begun = all_taken (first_waiting now) some.told in
-        let begun : List Begun = taken ++ (refused ∷ []) in
-        let count = told_count gives takes old now new fuel guest p s t o q g in
-        let sizes = length-append g.lines some.told in
-        let number : first_waiting now + length some.told ≡ suc (length p.host.lines + length (g.lines ++ some.told)) = omega arith in
-        let first_number : first_waiting now ≡ suc (length p.host.lines) + length g.lines = omega arith in
-        let front : List Exchange = g.exchanges ++ tells taken in (
+        let last = g.last (λ none. not_empty some.told some.line some.others (sym some.waiting ∙ none)) in
+        let count = released_count now.host g.process.host last.before.host.lines [] g.shows.host last.emitted in
+        let number : first_waiting now ≡ suc (length last.before.host.lines) = omega arith in
+        let begun : List Begun = last_refused (first_waiting now) some.told some.line in (
           record {
             exchanges = g.exchanges ++ tells begun;
             exchanged = told_more gives takes old now new fuel guest p s t o q g begun r some.refused;
@@ -301,21 +314,24 @@ module _ {S O : Type 0} (gives : Giving S) (takes : Taking O) where
             shows = subst (λ z. ShowsProcess z guest g.process) (sym some.same) g.shows;
           },
           (
-            told_runs gives takes old now new fuel guest p s t o q g begun,
+            g.within,
             record {
-              front = front;
-              told = g.lines ++ some.told;
+              front = g.exchanges;
+              told = some.told;
               line = some.line;
               others = some.others;
-              is = ap (λ z. g.exchanges ++ z) (tells_join taken (refused ∷ [])) ∙ sym (append_assoc g.exchanges (tells taken) (Tells refused ∷ []))
-                  ∙ ap (λ z. front ++ (Tells (record { number = z; line = some.line; said = Err (record {}) }) ∷ [])) number;
-              emitted = g.emitted ∙ ap (λ z. p.host.lines ++ (g.lines ++ z)) some.waiting ∙ ap (λ z. p.host.lines ++ z) (sym (append_assoc g.lines some.told (some.line ∷ some.others)));
-              released = told_releases gives takes old now new fuel guest p s t o q g taken
-                  ∙ ap (λ z. all_taken (suc (length p.host.lines)) g.lines ++ all_taken z some.told) first_number
-                  ∙ sym (lines_in_order (suc (length p.host.lines)) g.lines some.told);
+              last = record {
+                before = last.before;
+                given = last.given;
+                steps = last.steps;
+                counted = last.counted;
+                leads = last.leads;
+                moves = last.moves;
+                emitted = last.emitted ∙ ap (λ z. last.before.host.lines ++ z) some.waiting;
+              };
+              is = ap (λ z. g.exchanges ++ tells (last_refused z some.told some.line)) number;
             },
           ),
-          g.within,
         ),
   )
 
@@ -353,9 +369,9 @@ module _ {S O : Type 0} (gives : Giving S) (takes : Taking O) where
 
       -- the process stands where it stood, and the call has failed for this
       stops_here : (why : WorkFault) → new ≡ mid
-          → ((guest : Guest) (p : ProcessState) (shows : ShowsProcess old guest p) → IsCause guest p (asked_calls guest p shows) (so_far guest p shows).steps (so_far guest p shows).process why)
+          → ((guest : Guest) (p : ProcessState) (shows : ShowsProcess old guest p) → IsCause guest p fuel (asked_calls guest p shows) (so_far guest p shows).steps (so_far guest p shows).process why)
           → (guest : Guest) (p : ProcessState) → ShowsProcess old guest p
-          → (fails : Fails gives takes (working old) (failing new) guest p s u o q) × IsCause guest p fails.exchanges fails.steps fails.process why × (fails.steps ≤ fuel)
+          → (fails : Fails gives takes (working old) (failing new) guest p s u o q) × IsCause guest p fuel fails.exchanges fails.steps fails.process why
       stops_here why same cause guest p shows = (
         record {
           exchanges = asked_calls guest p shows;
@@ -366,7 +382,6 @@ module _ {S O : Type 0} (gives : Giving S) (takes : Taking O) where
           shows = shown_still same guest p shows;
         },
         cause guest p shows,
-        (so_far guest p shows).within,
       )
 
       -- up to an answer that the process has not taken
@@ -377,32 +392,38 @@ module _ {S O : Type 0} (gives : Giving S) (takes : Taking O) where
         kind = kind;
         is = ap (λ (z : Result (Option Answer) SourceFault). (so_far guest p shows).exchanges ++ (Asks (record { kind = kind; said = z }) ∷ [])) is;
         leads = leads_now guest p shows;
+        answered = (so_far guest p shows).answered;
       }
 
       bad_answer : (guest : Guest) (p : ProcessState) (shows : ShowsProcess old guest p) → IsBadAnswer (so_far guest p shows).process.host.limit kind said
-          → StopsAtAnswer guest p (asked_calls guest p shows) (so_far guest p shows).steps (so_far guest p shows).process
-      bad_answer guest p shows bad = record { front = (so_far guest p shows).exchanges; ask = question; is = refl; leads = leads_now guest p shows; bad = bad }
+          → IsCause guest p fuel (asked_calls guest p shows) (so_far guest p shows).steps (so_far guest p shows).process fault.Source
+      bad_answer guest p shows bad =
+          (wishing.less guest p shows, record { front = (so_far guest p shows).exchanges; ask = question; is = refl; leads = leads_now guest p shows; bad = bad })
 
       waits_for : new ≡ mid → said ≡ Ok None → Slices gives takes (working old) fuel ends.Waiting (working new) s u o q
-      waits_for same is = λ guest p shows. (
-        record {
-          exchanges = asked_calls guest p shows;
-          exchanged = asked_exchanged guest p shows;
-          wanted = asked_wanted guest p shows;
-          steps = (so_far guest p shows).steps;
-          process = (so_far guest p shows).process;
-          leads = asked_leads guest p (so_far guest p shows).process (so_far guest p shows).exchanges (so_far guest p shows).steps question (ap handed_by is) (leads_now guest p shows);
-          shows = shown_still same guest p shows;
-          unfailed = (refl, refl);
-        },
-        (
-          wishing.less guest p shows,
-          wishing.running guest p shows,
-          kind,
-          wishing.wants guest p shows,
-          ((so_far guest p shows).exchanges, ap (λ (z : Result (Option Answer) SourceFault). (so_far guest p shows).exchanges ++ (Asks (record { kind = kind; said = z }) ∷ [])) is),
-        ),
-      )
+      waits_for same is = record {
+        had_not_failed = refl;
+        has_not_failed = refl;
+        none_waits = ap waiting_in same ∙ wishing.empty;
+        shown = λ guest p shows. (
+          record {
+            exchanges = asked_calls guest p shows;
+            exchanged = asked_exchanged guest p shows;
+            wanted = asked_wanted guest p shows;
+            steps = (so_far guest p shows).steps;
+            process = (so_far guest p shows).process;
+            leads = asked_leads guest p (so_far guest p shows).process (so_far guest p shows).exchanges (so_far guest p shows).steps question (ap handed_by is) (leads_now guest p shows);
+            shows = shown_still same guest p shows;
+          },
+          (
+            wishing.less guest p shows,
+            wishing.running guest p shows,
+            kind,
+            wishing.wants guest p shows,
+            ((so_far guest p shows).exchanges, ap (λ (z : Result (Option Answer) SourceFault). (so_far guest p shows).exchanges ++ (Asks (record { kind = kind; said = z }) ∷ [])) is),
+          ),
+        );
+      }
 
     not_taken : (given : Result (Unit {0}) ProcessFault) → ◌≡◌ {A = Result Bool WorkFault} (Ok false) (taken_by given) → ⊥
     not_taken (Ok done) e = absurd (cc)
@@ -416,18 +437,15 @@ module _ {S O : Type 0} (gives : Giving S) (takes : Taking O) where
     pub waiting : AsksOnce gives kind mid (Ok false) new t u → Slices gives takes (working old) fuel ends.Waiting (working new) s u o q
     waiting once = let by = waiting_by once.said once.answers in waits_for once.said once.asked by.0 by.1
 
-    pub waiting_empty : AsksOnce gives kind mid (Ok false) new t u → waiting_in new ≡ []
-    waiting_empty once = ap waiting_in (waiting_by once.said once.answers).0 ∙ wishing.empty
-
     -- ---- an answer that is taken
 
     record IsGiven (said : Result (Option Answer) SourceFault) : Type 0 where
       pub answer : Answer
       pub is : said ≡ Ok (Some answer)
-      pub takes_it : (guest : Guest) (p : ProcessState) → ShowsProcess mid guest p → p.ended ≡ None → Takes new guest p answer
+      pub takes_it : (guest : Guest) (p : ProcessState) → ShowsProcess mid guest p → Takes new guest p answer
 
     given_so : (a : Answer) (given : Result (Unit {0}) ProcessFault) → Gives mid a given new → ◌≡◌ {A = Result Bool WorkFault} (Ok true) (taken_by given) → IsGiven (Ok (Some a))
-    given_so a (Ok done) h e = record { answer = a; is = refl; takes_it = h }
+    given_so a (Ok done) h e = record { answer = a; is = refl; takes_it = λ guest p shows. (h guest p shows).1 }
     given_so a (Err why) h e = absurd (cc)
 
     given_by : (said : Result (Option Answer) SourceFault) → AnswersBy mid said (Ok true) new → IsGiven said
@@ -442,7 +460,7 @@ module _ {S O : Type 0} (gives : Giving S) (takes : Taking O) where
         record {
           goes = λ guest p shows.
               let g = so_far guest p shows in
-              let to = by.takes_it guest g.process g.shows (wishing.running guest p shows) in
+              let to = by.takes_it guest g.process g.shows in
               let less = wishing.less guest p shows in
               answer_on gives takes old mid new fuel guest p s t o q g u kind by.answer to.process asked wishing.empty (wanted_now guest p shows) to.moves to.shows same (omega arith);
           some = wishing.turning.some;
@@ -456,7 +474,7 @@ module _ {S O : Type 0} (gives : Giving S) (takes : Taking O) where
         let guest = wishing.turning.some.guest in
         let p = wishing.turning.some.process in
         let g = so_far guest p shows in
-        let to = by.takes_it guest g.process g.shows (wishing.running guest p shows) in
+        let to = by.takes_it guest g.process g.shows in
         let one = move_counts guest g.process to.process (Some by.answer) to.moves in
         let less = wishing.less guest p shows in
         let counted = g.counted in
@@ -471,27 +489,29 @@ module _ {S O : Type 0} (gives : Giving S) (takes : Taking O) where
     abbrev one_shown : ShowsProcess mid wishing.turning.some.guest (so_far wishing.turning.some.guest wishing.turning.some.process wishing.turning.some.shows).process
     one_shown = (so_far wishing.turning.some.guest wishing.turning.some.process wishing.turning.some.shows).shows
 
-    abbrev one_running : (so_far wishing.turning.some.guest wishing.turning.some.process wishing.turning.some.shows).process.ended ≡ None
-    one_running = wishing.running wishing.turning.some.guest wishing.turning.some.process wishing.turning.some.shows
-
     refused_by : (a : Answer) (why : ProcessFault) → gives t kind (Ok (Some a)) u → Gives mid a (Err why) new → SlicesInVain gives takes (working old) fuel (fault_of why) (failing new) s u o q
     refused_by a stop.WrongAnswer asked h = (
       refl,
       refl,
-      stops_here (Ok (Some a)) asked fault.Source (h _ _ one_shown one_running).0
+      stops_here (Ok (Some a)) asked fault.Source (h _ _ one_shown).0
           (λ guest p shows. bad_answer (Ok (Some a)) asked guest p shows
-          (λ fits. (h guest (so_far guest p shows).process (so_far guest p shows).shows (wishing.running guest p shows)).1 (kind, wishing.wants guest p shows, fits))),
+          (λ fits. (h guest (so_far guest p shows).process (so_far guest p shows).shows).1 wishing.empty (wishing.running guest p shows) (kind, wishing.wants guest p shows, fits))),
     )
     refused_by a stop.Memory asked h = (
       refl,
       refl,
-      stops_here (Ok (Some a)) asked fault.Memory (h _ _ one_shown one_running) (λ guest p shows. (Some a, up_to (Ok (Some a)) asked a refl guest p shows)),
+      stops_here (Ok (Some a)) asked fault.Memory (h _ _ one_shown).0
+          (λ guest p shows.
+          let no_room = h guest (so_far guest p shows).process (so_far guest p shows).shows in
+          (wishing.less guest p shows, no_room.2, no_room.3, Some a, up_to (Ok (Some a)) asked a refl guest p shows)),
     )
     refused_by a stop.StepsSpent asked h = (
       refl,
       refl,
-      stops_here (Ok (Some a)) asked (fault.Refused refusal.StepsSpent) (h _ _ one_shown one_running).0
-          (λ guest p shows. (Some a, up_to (Ok (Some a)) asked a refl guest p shows, (h guest (so_far guest p shows).process (so_far guest p shows).shows (wishing.running guest p shows)).1)),
+      stops_here (Ok (Some a)) asked (fault.Refused refusal.StepsSpent) (h _ _ one_shown).0
+          (λ guest p shows.
+          let beyond = h guest (so_far guest p shows).process (so_far guest p shows).shows in
+          (wishing.less guest p shows, beyond.2, Some a, up_to (Ok (Some a)) asked a refl guest p shows, beyond.3)),
     )
 
     given_vainly : (a : Answer) (why : WorkFault) (given : Result (Unit {0}) ProcessFault) → gives t kind (Ok (Some a)) u → Gives mid a given new

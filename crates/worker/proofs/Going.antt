@@ -1,25 +1,25 @@
 -- What a slice has done so far, and what one more turn adds.
-use Rattle.std.proofs.Common.{◌≡◌, ℕ, suc, ◌+◌, ◌-◌, ◌<◌, ◌≤◌, List, [], ◌∷◌, ◌++◌, length, Option, Some, None, Ok, Err, refl, sym, ◌∙◌, ap, subst, arith, append_assoc, length-append, drop}
-use Rattle.std.specs.Prelude.{Result}
+use Rattle.std.proofs.Common.{◌≡◌, ℕ, suc, ◌+◌, ◌≤◌, List, [], ◌∷◌, ◌++◌, length, Some, None, Ok, refl, sym, ◌∙◌, ap, subst, arith, append_assoc, length-append}
+use Rattle.std.specs.Prelude.{◌≢◌}
 use Rattle.std.proofs.lemmas.List.{append-nil, drop_all}
 use Rattle.wasi_abi.specs.declared.answer.Kind.{Kind}
+use Rattle.wasi_abi.specs.declared.answer.Kind.TheVariants as kind
 use Rattle.wasi_abi.specs.declared.answer.Answer.{Answer}
 use Rattle.wasi_calls_rows.specs.Hosts.{Line, Host}
 use Rattle.wasi_calls_rows.specs.Laws.{Emits}
 use Rattle.wasi_calls.specs.Held.{Held, ShowsHost}
 use Rattle.process_rules.specs.Processes.{ProcessState, Guest}
 use Rattle.process_rules.specs.Runs.{Wants, next_of, Moves, Kept, Given, Runs, none, step, take}
-use Rattle.process_rules.specs.Owing.{RunsQuietly}
 use Rattle.process_rules.proofs.Quiet.{runs_join, quiet_runs_are_runs}
 use Rattle.process_rules.proofs.Growing.{runs_count, runs_emit}
-use Rattle.record_replay.specs.declared.fault.SourceFault.{SourceFault}
-use Rattle.record_replay.specs.Calls.{Giving, Taking, Ask, Begun, Exchange, Asks, Tells, Exchanges, Releases, Answers, asks_of, releases_of, all_taken}
+use Rattle.record_replay.specs.Calls.{Giving, Taking, Ask, Begun, Exchange, Asks, Exchanges, Releases, Answers, asks_of, releases_of, all_taken}
 use Rattle.record_replay.proofs.Following.{exchanges_join, releases_of-append, lines_in_order}
-use Rattle.process.specs.Values.{ProcessValue, ShowsProcess, HasReleased, IsProcess, waiting_in}
-use Rattle.process.specs.Stops.{ComesQuietly, ComesOwing, Takes}
-use Rattle.worker.specs.Slices.{handed, LeadsTo, LeadsToWish, AreWanted}
+use Rattle.process.specs.Values.{ProcessValue, ShowsProcess, waiting_in}
+use Rattle.process.specs.Stops.{ComesQuietly, ComesOwing}
+use Rattle.worker.specs.Slices.{handed, LeadsTo, AreAnswered, LeadsToWish, AreWanted}
+use Rattle.worker.specs.Faults.{EmitsLast}
 use Rattle.worker.specs.Turns.{first_waiting, ReleasesAll}
-use Rattle.worker.proofs.Joining.{handed_of_both, tells, tells_ask_nothing, releases_of_tells, none_wanted, wanted_ask, wanted_tells}
+use Rattle.worker.proofs.Joining.{handed_of_both, none_answered, answered_join, answered_tells, tells, tells_ask_nothing, releases_of_tells, none_wanted, wanted_ask, wanted_tells}
 
 -- ---- lists
 
@@ -44,7 +44,7 @@ lines_on old new g h s t emits empty same =
     emits.are ∙ ap (λ z. g.lines ++ z) (same_cut g.lines emits.lines t.before new.host.lines both sizes)
 
 -- how many lines were released, where so many were and others wait
-released_count : (v : Held) (h : Host) (front told : List Line) → ShowsHost v h → h.lines ≡ front ++ (told ++ v.host.lines) → v.released ≡ length front + length told
+pub released_count : (v : Held) (h : Host) (front told : List Line) → ShowsHost v h → h.lines ≡ front ++ (told ++ v.host.lines) → v.released ≡ length front + length told
 released_count v h front told s e =
     let lines : h.lines ≡ s.before ++ v.host.lines = ap (λ (z : Host). z.lines) s.is in
     let one : length h.lines ≡ length s.before + length v.host.lines = ap length lines ∙ length-append s.before v.host.lines in
@@ -60,6 +60,15 @@ released_none takes now new q r all = ap waiting_in all.released.is ∙ drop_all
 pub released_steps : {O : Type 0} (takes : Taking O) (now new : ProcessValue) (q r : O) → ReleasesAll takes now new q r → new.steps ≡ now.steps
 released_steps takes now new q r all = ap (λ (z : ProcessValue). z.steps) all.released.is
 
+-- ---- where the steps without answers lead
+
+pub quiet_runs : (new : ProcessValue) (guest : Guest) (p : ProcessState) (come : ComesQuietly new guest p) → Runs guest p [] come.steps come.process
+quiet_runs new guest p come = (quiet_runs_are_runs guest p come.process come.steps come.runs).0
+
+pub owing_runs : (new : ProcessValue) (guest : Guest) (p : ProcessState) (come : ComesOwing new guest p) → Runs guest p [] (come.steps + 1) come.process
+owing_runs new guest p come =
+    runs_join guest p come.before come.process [] [] come.steps 1 (quiet_runs_are_runs guest p come.before come.steps come.runs).0 (step come.moves none)
+
 -- ---- so far
 
 module _ {S O : Type 0} (gives : Giving S) (takes : Taking O) where
@@ -69,12 +78,14 @@ module _ {S O : Type 0} (gives : Giving S) (takes : Taking O) where
     pub exchanges : List Exchange
     pub exchanged : Exchanges gives takes source outlet exchanges source' outlet'
     pub wanted : AreWanted guest p exchanges
+    pub answered : AreAnswered exchanges
     pub steps : ℕ
     pub process : ProcessState
     pub runs : Runs guest p (handed (asks_of exchanges)) steps process
     pub lines : List Line
     pub emitted : process.host.lines ≡ p.host.lines ++ (lines ++ waiting_in now)
     pub released : releases_of exchanges ≡ all_taken (suc (length p.host.lines)) lines
+    pub last : waiting_in now ≢ [] → EmitsLast guest p exchanges steps process (waiting_in now)
     pub shows : ShowsProcess now guest process
     pub counted : now.steps ≡ old.steps + steps
     pub within : steps ≤ fuel
@@ -84,12 +95,14 @@ module _ {S O : Type 0} (gives : Giving S) (takes : Taking O) where
     exchanges = [];
     exchanged = record { asked = refl; released = refl };
     wanted = none_wanted guest p;
+    answered = none_answered;
     steps = 0;
     process = p;
     runs = none;
     lines = [];
     emitted = sym (ap (λ z. p.host.lines ++ z) empty ∙ append-nil p.host.lines);
     released = refl;
+    last = λ some. absurd (some empty);
     shows = shows;
     counted = omega arith;
     within = omega arith;
@@ -108,13 +121,14 @@ module _ {S O : Type 0} (gives : Giving S) (takes : Taking O) where
     -- so many steps more, which take these answers
     module _ (r : ProcessState) (kept : List Kept) (k : ℕ) (runs : Runs guest g.process kept k r) (shows : ShowsProcess new guest r) (empty : waiting_in now ≡ [])
         (same : new.host.released ≡ now.host.released) where
+      pub emitted_now : r.host.lines ≡ g.process.host.lines ++ waiting_in new
+      emitted_now = lines_on now.host new.host g.process.host r.host g.shows.host shows.host (runs_emit guest g.process r kept k runs) empty same
+
       pub more_emitted : r.host.lines ≡ p.host.lines ++ (g.lines ++ waiting_in new)
       unfolding leads
       more_emitted =
-          let emits = runs_emit guest g.process r kept k runs in
-          let on = lines_on now.host new.host g.process.host r.host g.shows.host shows.host emits empty same in
           let all = (leads empty).emitted in
-          on ∙ ap (λ z. z ++ waiting_in new) all ∙ append_assoc p.host.lines g.lines (waiting_in new)
+          emitted_now ∙ ap (λ z. z ++ waiting_in new) all ∙ append_assoc p.host.lines g.lines (waiting_in new)
 
       pub more_counted : new.steps ≡ old.steps + (g.steps + k)
       more_counted =
@@ -126,25 +140,58 @@ module _ {S O : Type 0} (gives : Giving S) (takes : Taking O) where
 
     -- steps without answers
     unfoldable pub advance_on : (r : ProcessState) (k : ℕ) → Runs guest g.process [] k r → ShowsProcess new guest r → waiting_in now ≡ [] → new.host.released ≡ now.host.released
-        → g.steps + k ≤ fuel → Goes old new fuel guest p s t o q
-    advance_on r k runs shows empty same few = record {
+        → (waiting_in new ≢ [] → EmitsLast guest p g.exchanges (g.steps + k) r (waiting_in new)) → g.steps + k ≤ fuel → Goes old new fuel guest p s t o q
+    advance_on r k runs shows empty same last few = record {
       exchanges = g.exchanges;
       exchanged = g.exchanged;
       wanted = g.wanted;
+      answered = g.answered;
       steps = g.steps + k;
       process = r;
       runs = subst (λ z. Runs guest p z (g.steps + k) r) (append-nil (handed (asks_of g.exchanges))) (runs_join guest p g.process r (handed (asks_of g.exchanges)) [] g.steps k g.runs runs);
       lines = g.lines;
       emitted = more_emitted r [] k runs shows empty same;
       released = g.released;
+      last = last;
       shows = shows;
       counted = more_counted r [] k runs shows empty same;
       within = few;
     }
 
+    -- the step after which something is owed has emitted what waits
+    pub owing_last : (come : ComesOwing new guest g.process) → waiting_in now ≡ [] → new.host.released ≡ now.host.released
+        → EmitsLast guest p g.exchanges (g.steps + (come.steps + 1)) come.process (waiting_in new)
+    owing_last come empty same =
+        let quiet = quiet_runs_are_runs guest g.process come.before come.steps come.runs in
+        let up_to = leads empty in
+        record {
+          before = come.before;
+          given = None;
+          steps = g.steps + come.steps;
+          counted = omega arith;
+          leads = record {
+            front = g.exchanges;
+            kind = kind.Realtime;
+            is = sym (append-nil g.exchanges);
+            leads = record {
+              runs =
+                  subst (λ z. Runs guest p z (g.steps + come.steps) come.before) (append-nil (handed (asks_of g.exchanges)))
+                  (runs_join guest p g.process come.before (handed (asks_of g.exchanges)) [] g.steps come.steps g.runs quiet.0);
+              lines = up_to.lines;
+              emitted = quiet.1 ∙ up_to.emitted;
+              released = up_to.released;
+            };
+            answered = g.answered;
+          };
+          moves = come.moves;
+          emitted =
+              emitted_now come.process [] (come.steps + 1) (owing_runs new guest g.process come) come.shows empty same
+              ∙ ap (λ z. z ++ waiting_in new) (sym quiet.1);
+        }
+
     -- what was asked for is the process's wish
     pub wish : (kind : Kind) → waiting_in now ≡ [] → g.process.ended ≡ None → next_of guest g.process None ≡ Wants kind → LeadsToWish guest p g.exchanges kind
-    wish kind empty running wants = record { steps = g.steps; process = g.process; leads = leads empty; running = running; wants = wants }
+    wish kind empty running wants = record { steps = g.steps; process = g.process; leads = leads empty; running = running; wants = wants; answered = g.answered }
 
     -- one more question
     module _ (u : S) (ask : Ask) (asked : gives t ask.kind ask.said u) where
@@ -168,12 +215,22 @@ module _ {S O : Type 0} (gives : Giving S) (takes : Taking O) where
           exchanges = g.exchanges ++ (Asks ask ∷ []);
           exchanged = asked_more u ask asked;
           wanted = wanted_ask guest p g.exchanges ask g.wanted wish;
+          answered = answered_join g.exchanges (Asks ask ∷ []) g.answered (record { all = ((a, refl), tt) });
           steps = g.steps + 1;
           process = r;
           runs = subst (λ z. Runs guest p z (g.steps + 1) r) (sym (handed_of_both g.exchanges (Asks ask ∷ []))) joined;
           lines = g.lines;
           emitted = more_emitted r (Given a ∷ []) 1 one shows empty same;
           released = released_same u ask asked;
+          last = λ some. record {
+            before = g.process;
+            given = Some a;
+            steps = g.steps;
+            counted = omega arith;
+            leads = record { front = g.exchanges; kind = kind; is = refl; leads = leads empty; answered = g.answered };
+            moves = moves;
+            emitted = emitted_now r (Given a ∷ []) 1 one shows empty same;
+          };
           shows = shows;
           counted = more_counted r (Given a ∷ []) 1 one shows empty same;
           within = few;
@@ -192,6 +249,9 @@ module _ {S O : Type 0} (gives : Giving S) (takes : Taking O) where
 
       pub told_wanted : AreWanted guest p (g.exchanges ++ tells begun)
       told_wanted = wanted_tells guest p g.exchanges begun g.wanted
+
+      pub told_answered : AreAnswered (g.exchanges ++ tells begun)
+      told_answered = answered_join g.exchanges (tells begun) g.answered (answered_tells begun)
 
       pub told_runs : Runs guest p (handed (asks_of (g.exchanges ++ tells begun))) g.steps g.process
       told_runs =
@@ -221,6 +281,7 @@ module _ {S O : Type 0} (gives : Giving S) (takes : Taking O) where
           exchanges = g.exchanges ++ tells begun;
           exchanged = told_more begun outlet all.told;
           wanted = told_wanted begun;
+          answered = told_answered begun;
           steps = g.steps;
           process = g.process;
           runs = told_runs begun;
@@ -231,16 +292,8 @@ module _ {S O : Type 0} (gives : Giving S) (takes : Taking O) where
           released =
               told_releases begun ∙ ap (λ z. all_taken (suc (length p.host.lines)) g.lines ++ all_taken z waited) number
               ∙ sym (lines_in_order (suc (length p.host.lines)) g.lines waited);
+          last = λ some. absurd (some none_left);
           shows = all.released.shows guest g.process g.shows;
           counted = omega arith;
           within = g.within;
         }
-
--- ---- where the steps without answers lead
-
-pub quiet_runs : (new : ProcessValue) (guest : Guest) (p : ProcessState) (come : ComesQuietly new guest p) → Runs guest p [] come.steps come.process
-quiet_runs new guest p come = (quiet_runs_are_runs guest p come.process come.steps come.runs).0
-
-pub owing_runs : (new : ProcessValue) (guest : Guest) (p : ProcessState) (come : ComesOwing new guest p) → Runs guest p [] (come.steps + 1) come.process
-owing_runs new guest p come =
-    runs_join guest p come.before come.process [] [] come.steps 1 (quiet_runs_are_runs guest p come.before come.steps come.runs).0 (step come.moves none)

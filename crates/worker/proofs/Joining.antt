@@ -1,14 +1,14 @@
 -- What calls have led to, one list of them after another.
-use Rattle.std.proofs.Common.{◌≡◌, ℕ, suc, ◌+◌, List, [], ◌∷◌, ◌++◌, length, refl, sym, ◌∙◌, ap, subst, inl, inr, ◌⊎◌, arith, append_assoc, length-append}
+use Rattle.std.proofs.Common.{◌≡◌, ℕ, suc, ◌+◌, List, [], ◌∷◌, ◌++◌, length, map, refl, sym, ◌∙◌, ap, subst, inl, inr, ◌⊎◌, arith, append_assoc, length-append}
 use Rattle.std.proofs.lemmas.List.{append-nil}
+use Rattle.std.specs.List.{AllByRecursion}
 use Rattle.wasi_abi.specs.declared.answer.Kind.{Kind}
-use Rattle.wasi_calls_rows.specs.Hosts.{Line}
 use Rattle.process_rules.specs.Processes.{ProcessState, Guest}
 use Rattle.process_rules.specs.Runs.{Runs}
 use Rattle.process_rules.proofs.Quiet.{runs_join}
 use Rattle.record_replay.specs.Calls.{Ask, Begun, Exchange, Asks, Tells, asks_of, releases_of, all_taken}
 use Rattle.record_replay.proofs.Following.{asks_of-append, releases_of-append, lines_in_order}
-use Rattle.worker.specs.Slices.{handed, handed_by, LeadsTo, LeadsToWish, AreWanted}
+use Rattle.worker.specs.Slices.{handed, handed_by, LeadsTo, IsAnswered, AreAnswered, LeadsToWish, AreWanted}
 
 -- ---- answers
 
@@ -18,6 +18,18 @@ handed_join (ask ∷ a) b = ap (λ z. handed_by ask.said ++ z) (handed_join a b)
 
 pub handed_of_both : (xs ys : List Exchange) → handed (asks_of (xs ++ ys)) ≡ handed (asks_of xs) ++ handed (asks_of ys)
 handed_of_both xs ys = ap handed (asks_of-append xs ys) ∙ handed_join (asks_of xs) (asks_of ys)
+
+-- ---- questions that were answered
+
+pub none_answered : AreAnswered []
+none_answered = record { all = tt }
+
+all_answered : (a b : List Ask) → AllByRecursion IsAnswered a → AllByRecursion IsAnswered b → AllByRecursion IsAnswered (a ++ b)
+all_answered [] b h k = k
+all_answered (ask ∷ a) b h k = (h.0, all_answered a b h.1 k)
+
+pub answered_join : (xs ys : List Exchange) → AreAnswered xs → AreAnswered ys → AreAnswered (xs ++ ys)
+answered_join xs ys h k = record { all = subst (λ z. AllByRecursion IsAnswered z) (sym (asks_of-append xs ys)) (all_answered (asks_of xs) (asks_of ys) h.all k.all) }
 
 -- ---- where in two lists a call stands
 
@@ -48,8 +60,7 @@ one_alone (m ∷ more) rest x y e = let tails : [] ≡ more ++ (y ∷ rest) = cc
 -- ---- releases alone
 
 abbrev pub tells : List Begun → List Exchange
-tells [] = []
-tells (begun ∷ others) = Tells begun ∷ tells others
+tells begun = map Tells begun
 
 pub tells_ask_nothing : (begun : List Begun) → asks_of (tells begun) ≡ []
 tells_ask_nothing [] = refl
@@ -59,9 +70,8 @@ pub releases_of_tells : (begun : List Begun) → releases_of (tells begun) ≡ b
 releases_of_tells [] = refl
 releases_of_tells (b ∷ begun) = ap (λ z. b ∷ z) (releases_of_tells begun)
 
-pub tells_join : (a b : List Begun) → tells (a ++ b) ≡ tells a ++ tells b
-tells_join [] b = refl
-tells_join (x ∷ a) b = ap (λ z. Tells x ∷ z) (tells_join a b)
+pub answered_tells : (begun : List Begun) → AreAnswered (tells begun)
+answered_tells begun = record { all = subst (λ z. AllByRecursion IsAnswered z) (sym (tells_ask_nothing begun)) tt }
 
 no_ask_in : (begun : List Begun) (more rest : List Exchange) (ask : Ask) → tells begun ≡ more ++ (Asks ask ∷ rest) → ⊥
 no_ask_in [] more rest ask e = nil_not more rest (Asks ask) e
@@ -97,13 +107,14 @@ asked_leads guest p q xs n ask nothing a =
       released = releases_of-append xs (Asks ask ∷ []) ∙ append-nil (releases_of xs) ∙ a.released;
     }
 
-wish_join : (guest : Guest) (p q : ProcessState) (xs front : List Exchange) (n : ℕ) (kind : Kind) → LeadsTo guest p xs n q → LeadsToWish guest q front kind → LeadsToWish guest p (xs ++ front) kind
-wish_join guest p q xs front n kind a b = record {
+wish_join : (guest : Guest) (p q : ProcessState) (xs front : List Exchange) (n : ℕ) (kind : Kind) → LeadsTo guest p xs n q → AreAnswered xs → LeadsToWish guest q front kind → LeadsToWish guest p (xs ++ front) kind
+wish_join guest p q xs front n kind a answered b = record {
   steps = n + b.steps;
   process = b.process;
   leads = leads_join guest p q b.process xs front n b.steps a b.leads;
   running = b.running;
   wants = b.wants;
+  answered = answered_join xs front answered b.answered;
 }
 
 -- ---- each question is wanted
@@ -111,11 +122,11 @@ wish_join guest p q xs front n kind a b = record {
 pub none_wanted : (guest : Guest) (p : ProcessState) → AreWanted guest p []
 none_wanted guest p = λ front rest ask e. absurd (nil_not front rest (Asks ask) e)
 
-pub wanted_join : (guest : Guest) (p q : ProcessState) (xs ys : List Exchange) (n : ℕ) → AreWanted guest p xs → LeadsTo guest p xs n q → AreWanted guest q ys → AreWanted guest p (xs ++ ys)
-wanted_join guest p q xs ys n before leads after = λ front rest ask e.
+pub wanted_join : (guest : Guest) (p q : ProcessState) (xs ys : List Exchange) (n : ℕ) → AreWanted guest p xs → LeadsTo guest p xs n q → AreAnswered xs → AreWanted guest q ys → AreWanted guest p (xs ++ ys)
+wanted_join guest p q xs ys n before leads answered after = λ front rest ask e.
     elim (split_at xs ys front rest (Asks ask) e) [
       | inl k ↦ before front k.0 ask k.1
-      | inr k ↦ subst (λ z. LeadsToWish guest p z ask.kind) (sym k.1) (wish_join guest p q xs k.0 n ask.kind leads (after k.0 rest ask k.2))
+      | inr k ↦ subst (λ z. LeadsToWish guest p z ask.kind) (sym k.1) (wish_join guest p q xs k.0 n ask.kind leads answered (after k.0 rest ask k.2))
     ]
 
 pub wanted_ask : (guest : Guest) (p : ProcessState) (xs : List Exchange) (ask : Ask) → AreWanted guest p xs → LeadsToWish guest p xs ask.kind → AreWanted guest p (xs ++ (Asks ask ∷ []))

@@ -1,5 +1,5 @@
 -- What the calls of one turn do: lines that wait are released, and an answer is asked for and given.
-use Rattle.std.specs.Prelude.{◌≡◌, ℕ, suc, ◌+◌, Bool, true, false, List, [], ◌∷◌, ◌++◌, length, Option, Some, None, Result, Ok, Err}
+use Rattle.std.specs.Prelude.{◌≡◌, ℕ, suc, Bool, true, false, List, ◌∷◌, ◌++◌, length, Option, Some, None, Result, Ok, Err}
 use Rattle.wasi_abi.specs.declared.answer.Kind.{Kind}
 use Rattle.wasi_abi.specs.declared.answer.Answer.{Answer}
 use Rattle.wasi_calls_rows.specs.Hosts.{Line}
@@ -10,6 +10,7 @@ use Rattle.process.specs.Values.{ProcessValue, HasReleased, waiting_in}
 use Rattle.process.specs.Stops.{Gives}
 use Rattle.worker.specs.declared.fault.WorkFault.{WorkFault}
 use Rattle.worker.specs.declared.fault.WorkFault.TheVariants as fault
+use Rattle.worker.specs.Faults.{last_refused}
 use Rattle.worker.specs.Refusals.{fault_of}
 use Rattle.worker.specs.Values.{WorkerValue}
 
@@ -37,7 +38,7 @@ pub record ReleasesSome {O : Type 0} (takes : Taking O) (old new : ProcessValue)
   pub line : Line
   pub others : List Line
   pub waiting : waiting_in old ≡ told ++ (line ∷ others)
-  pub refused : Releases takes outlet (all_taken (first_waiting old) told ++ (record { number = first_waiting old + length told; line = line; said = Err (record {}) } ∷ [])) outlet'
+  pub refused : Releases takes outlet (last_refused (first_waiting old) told line) outlet'
   pub same : new ≡ old
 
 -- ---- answers

@@ -1,5 +1,5 @@
 -- What contracts see of a worker: its process, and whether a call of it has failed.
-use Rattle.std.specs.Prelude.{◌≡◌, ℕ, Bool, true, false, List, []}
+use Rattle.std.specs.Prelude.{◌≡◌, ℕ, Bool, false, List, []}
 use Rattle.wasm_syntax.specs.declared.module.Module.{Module}
 use Rattle.wasm_syntax_rules.specs.Acceptance.{IsAccepted}
 use Rattle.wasi_abi.specs.Configs.{Settings}

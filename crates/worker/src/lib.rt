@@ -8,6 +8,6 @@ mod turns;
 mod worker;
 
 pub use fault::{Refusal, WorkFault};
-pub use laws::slices_add;
+pub use laws::{one_slice, slices_add, slices_add_in_vain};
 pub use now::Now;
 pub use worker::Worker;

@@ -23,7 +23,6 @@ pub(crate) fn work<S: Source, O: Outlet>(
 ) -> Result<Now, WorkFault>
     requires none_waits { waiting_in process.old ≡ [] }
     ensures done { IfOk result (λ now. Slices S.gives O.takes (working process.old) fuel now (working process.new) source.old source.new outlet.old outlet.new) }
-    ensures none_waits { OnOk result (waiting_in process.new ≡ []) }
     ensures failed { IfErr result (λ fault. SlicesInVain S.gives O.takes (working process.old) fuel fault (failing process.new) source.old source.new outlet.old outlet.new) }
 {
     let first = process.steps();

@@ -1,8 +1,8 @@
 -- What events promise, read off their list.
-use Rattle.std.proofs.Common.{◌≡◌, ◌⊎◌, inl, inr, List, [], ◌∷◌, refl, sym, ap, ◌∙◌}
+use Rattle.std.proofs.Common.{◌≡◌, ◌⊎◌, inl, inr, List, [], ◌∷◌, refl, sym, ap, ◌∙◌, subst}
 use Rattle.wasm_syntax.specs.declared.module.Module.{Module}
 use Rattle.wasi_abi.specs.Configs.{Settings}
-use Rattle.worker_rules.specs.Lives.{Release, Event, Told, Opened, Handed, Ended, events_of, kept_after, told_in}
+use Rattle.worker_rules.specs.Lives.{Release, Event, Told, Opened, Handed, Ended, Beginning, Recovers, Creates, events_of, kept_after, told_in}
 use Rattle.worker_rules.specs.Promises.{Promise, nothing_yet, after, promised, HasOneText, AreKept}
 use Rattle.worker_rules.specs.Laws.{HaveOneText, PromisesAreOfKept, NoNumberHasTwoTexts}
 use Rattle.worker_rules.specs.Examples.{LivesExamples}
@@ -50,12 +50,21 @@ no_two_texts m config lives goes = one_text m config nothing_yet (events_of live
 
 -- ---- the examples
 
+abbrev IsRecovery : Beginning → Type 0
+IsRecovery Recovers = Unit {0}
+IsRecovery Creates = ⊥
+
+recovery_creates_nothing : Recovers ≡ Creates → ⊥
+recovery_creates_nothing same = subst IsRecovery same tt
+
 pub lives_examples : LivesExamples
 lives_examples = record {
   kept = refl;
   told = refl;
   lost = refl;
   is_whole = (record { form = tt; in_order = tt; opens = inl tt }, record { form = tt; in_order = tt; opens = inl tt });
+  begun = ((λ creates. ((λ opened. opened), (refl, refl))), ((λ creates. absurd (recovery_creates_nothing creates)), tt));
+  created_once = λ begun. (begun.1.0 refl).0 tt;
   after_a_slice = refl;
   held_by_a_slice = refl;
   held_by_a_checkpoint = refl;

@@ -4,7 +4,7 @@ use Rattle.std.specs.Prelude.{◌≡◌, true, List, [], ◌∷◌, codes}
 use Rattle.wasi_abi.specs.declared.answer.Answer.TheVariants as answer
 use Rattle.process_rules.specs.Runs.{Given}
 use Rattle.worker_rules.specs.Lives.{Release, Slice, Checkpoint, Event, Told, Opened, Handed, Ended, Recovers, Creates, Cut, Life, kept_answers, told_lines}
-use Rattle.worker_rules.specs.Promises.{Promise, nothing_yet, promised, IsWhole}
+use Rattle.worker_rules.specs.Promises.{Promise, nothing_yet, promised, IsWhole, AreBegun}
 
 abbrev pub hello_line : Release
 hello_line = record { number = 1; line = record { stream = 1; text = codes "hello" } }
@@ -33,6 +33,9 @@ pub record LivesExamples : Type 0 where
   pub told : told_lines both_lives ≡ hello_line ∷ hello_line ∷ []
   pub lost : kept_answers (first_life ∷ lost_life ∷ []) ≡ []
   pub is_whole : IsWhole first_life × IsWhole second_life
+  pub begun : AreBegun [] both_lives
+  -- what has opened isn't created again
+  pub created_once : AreBegun [] (first_life ∷ first_life ∷ []) → ⊥
   -- a call that answers Ok has brought back the guest syncs of all its steps, a checkpoint also holds them
   pub after_a_slice : (promised_to first_life.events).synced ≡ 20
   pub held_by_a_slice : (promised_to first_life.events).steps ≡ 0

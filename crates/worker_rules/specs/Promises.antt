@@ -7,19 +7,20 @@ use Rattle.wasi_abi.specs.Configs.{Settings}
 use Rattle.process_rules.specs.Processes.{ProcessState}
 use Rattle.process_rules.specs.Runs.{Kept, Given, IsWanted, Reaches}
 use Rattle.process_rules.specs.Behind.{AnswersBehindLine, AnswersBehindSync, IsLine}
-use Rattle.worker_rules.specs.Lives.{Release, Act, Slice, Checkpoint, Event, Told, Opened, Handed, Ended, OfDisk, OfSource, OfAnswer, OfOutlet, OfMemory, End, Cut, Failed, Life, IsLife, HasOpened, events_of, told_in}
+use Rattle.worker_rules.specs.Lives.{Release, Act, Slice, Checkpoint, Event, Told, Opened, Handed, Ended, OfDisk, OfSource, OfAnswer, OfOutlet, OfMemory, End, Cut, Failed, Creates, Life, IsLife, HasOpened, events_of, told_in}
 
 -- What has been promised so far: the answers kept, how many answers and steps a restart has at least, the lines that were
--- told, and the last step up to which a guest sync has returned.
+-- told, the last step up to which a guest sync has returned, and the step that this life has come to.
 pub record Promise : Type 0 where
   pub kept : List Kept
   pub answers : ℕ
   pub steps : ℕ
   pub told : List Release
   pub synced : ℕ
+  pub step : ℕ
 
 abbrev pub nothing_yet : Promise
-nothing_yet = record { kept = []; answers = 0; steps = 0; told = []; synced = 0 }
+nothing_yet = record { kept = []; answers = 0; steps = 0; told = []; synced = 0; step = 0 }
 
 -- the greatest number told
 abbrev pub last_told : List Release → ℕ
@@ -31,7 +32,7 @@ abbrev pub WasTold : List Release → ℕ → Type 0
 WasTold [] i = ⊥
 WasTold (r ∷ told) i = (r.number ≡ i) ⊎ WasTold told i
 
--- A guest sync in step k has returned when a later step was taken, or a call has answered Ok at step k or later.
+-- up to which step the guest's syncs have returned: all steps where a call has said so, else all but the last
 abbrev pub synced_by : Bool → ℕ → ℕ
 synced_by true steps = steps
 synced_by false steps = steps - 1
@@ -46,12 +47,13 @@ saved_by Slice is_ok count = 0
 -- and their answers are among those that every later life opens with.
 abbrev pub after : Promise → Event → Promise
 after so_far (Told r) = record so_far { told = r ∷ so_far.told }
-after so_far (Opened answers steps) = record so_far { kept = take answers so_far.kept; answers = max answers so_far.answers; steps = max steps so_far.steps; synced = steps }
+after so_far (Opened answers steps) = record so_far { kept = take answers so_far.kept; answers = max answers so_far.answers; steps = max steps so_far.steps; synced = steps; step = steps }
 after so_far (Handed a) = record so_far { kept = so_far.kept ++ Given a ∷ [] }
 after so_far (Ended act is_ok answers steps) = record so_far {
   answers = max (saved_by act is_ok answers) so_far.answers;
   steps = max (saved_by act is_ok steps) so_far.steps;
   synced = max so_far.synced (synced_by is_ok steps);
+  step = steps;
 }
 
 abbrev pub promised : Promise → List Event → Promise
@@ -94,12 +96,13 @@ pub record IsHanding (m : Module) (config : Settings) (so_far : Promise) (a : An
   pub reached : Reaches m config so_far.kept steps process
   pub wanted : IsWanted reached.guest process (Some a)
 
--- A call ends with a process that a front of the kept answers leads to. Where it answers Ok, all of them were taken, and
--- every line was told.
+-- A call ends with a process that a front of the kept answers leads to, and takes no step back. Where it answers Ok, all answers
+-- were taken, and every line was told.
 pub record IsEnding (m : Module) (config : Settings) (so_far : Promise) (is_ok : Bool) (answers steps : ℕ) : Type 0 where
   pub within : answers ≤ length so_far.kept
   pub process : ProcessState
   pub reached : Reaches m config (take answers so_far.kept) steps process
+  pub onward : so_far.step ≤ steps
   pub all_taken : is_ok ≡ true → answers ≡ length so_far.kept
   pub all_told : is_ok ≡ true → AllTold so_far.told process
 
@@ -134,7 +137,22 @@ pub record IsWhole (life : Life) : Type 0 where
   pub in_order : AreConsecutive (told_in life.events)
   pub opens : HasOpened life.events ⊎ MayStayShut life.ends
 
+-- what opens has taken nothing yet
+abbrev pub OpensAnew : List Event → Type 0
+OpensAnew [] = Unit {0}
+OpensAnew (Opened answers steps ∷ events) = (answers ≡ 0) × (steps ≡ 0)
+OpensAnew (e ∷ events) = OpensAnew events
+
+-- A life that begins with a creation comes before any that has opened, and opens with a new worker.
+abbrev pub MayBegin : List Event → Life → Type 0
+MayBegin earlier life = life.begins ≡ Creates → (HasOpened earlier → ⊥) × OpensAnew life.events
+
+abbrev pub AreBegun : List Event → List Life → Type 0
+AreBegun earlier [] = Unit {0}
+AreBegun earlier (life ∷ lives) = MayBegin earlier life × AreBegun (earlier ++ life.events) lives
+
 -- The restart theorem of a list of lives: restart after restart, the worker goes on as one that was never stopped.
 pub record GoesOn (m : Module) (config : Settings) (lives : List Life) : Type 0 where
   pub kept : AreKept m config nothing_yet (events_of lives)
   pub whole : AllByRecursion IsWhole lives
+  pub begun : AreBegun [] lives

@@ -5,7 +5,8 @@ use Rattle.wasm_syntax_grammar.specs.Modules.{IsModule}
 use Rattle.wasm_syntax_rules.specs.Typing.{Context}
 use Rattle.wasi_abi.specs.declared.answer.Answer.{Answer}
 use Rattle.wasi_abi.specs.Configs.{Settings}
-use Rattle.process_rules.specs.Processes.{ProcessState, Guest, text_limit}
+use Rattle.wasi_calls_rows.specs.declared.limits.TheConstants.{TEXT_BYTES}
+use Rattle.process_rules.specs.Processes.{ProcessState, Guest}
 use Rattle.process_rules.specs.Runs.{Kept, Given, Moves, Runs, Reaches}
 use Rattle.state_image.specs.Image.{Saved, ShowsProcess, image}
 use Rattle.sector_disk.specs.Image.{Image, sector_at}
@@ -27,9 +28,9 @@ pub record ShowsNoneLater (geometry : Geometry) (disk : Image) (g : ℕ) : Type 
   pub second_head : shown_generation 1 (sector_at disk 2) ≤ g
   pub journal : (k : ℕ) → k < geometry.journal_sectors → shown_generation (k + 1) (sector_at disk (journal_place geometry + k)) ≤ g
 
--- The disk holds configuration and module. Its newest complete head names the image of a process that the module reaches on
--- a front of the kept answers. The journal of that generation holds the rest of them, in order, each with its step. The last
--- record's step, or that of the image where there is none, is n.
+-- On the disk stand the configuration, the module, and an image that the newest complete head names, of a process to which the module
+-- comes on the first of the kept answers. All others are the records of the journal of that generation, one by one, each at its step. Step n
+-- is that of the last record, or, if there are no records, of the image.
 pub record StandsFor (disk : Image) (m : Module) (config : Settings) (kept : List Kept) (n : ℕ) : Type 0 where
   pub wasm : List ℕ
   pub spelled : IsModule wasm m
@@ -45,7 +46,7 @@ pub record StandsFor (disk : Image) (m : Module) (config : Settings) (kept : Lis
   pub table : List (Option ℕ)
   pub shown : ShowsProcess context reached.guest.program table saved process
   pub records : List Record
-  pub scanned : scan (geometry_of config (length wasm)) text_limit disk generation ≡ records
+  pub scanned : scan (geometry_of config (length wasm)) TEXT_BYTES disk generation ≡ records
   pub rest : kept ≡ front ++ map given_in records
   pub last : ProcessState
   pub recorded : Recorded reached.guest process records last

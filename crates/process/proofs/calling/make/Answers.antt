@@ -1,8 +1,22 @@
-use Rattle.std.proofs.Common.{option_copied, refl, sym, subst}
+use Rattle.std.proofs.Common.{◌≡◌, option_copied, refl, sym, ap, ◌∙◌, subst}
+use Rattle.std.specs.Prelude.{Result, Err}
+use Rattle.std.proofs.lemmas.Result.{err_from_is_err_and}
+use Rattle.process.specs.declared.calling.Called.{Called}
+use Rattle.process.specs.declared.fault.ProcessFault.{ProcessFault}
+use Rattle.process.specs.declared.fault.ProcessFault.TheVariants as fault
 use Rattle.process.specs.Parts.{HasFewLines}
+use Rattle.process.specs.Callings.{CallsFor}
 use Rattle.process.proofs.Made.{waits_for, done_leads, few_done, tells_done, exit_leads, exit_tells, memory_kept, asks_kept, asks_wants}
+use Rattle.process.proofs.Making.{ends_not}
 use Rattle.process.proofs.Beyond.{beyond}
 use Rattle.process.proofs.calling.make.Goals as goal
+
+pub returns-in_err-has_numbers-clause-calls : goal.returns-in_err-has_numbers-clause-calls
+returns-in_err-has_numbers-clause-calls c = λ guest p shows running at.
+    let failed = err_from_is_err_and c.from_residual.result c.from_residual.ensures.1 in
+    let is : c.from_residual.result ≡ Err fault.Memory = failed.1 ∙ ap (λ (e : ProcessFault). (let r : Result Called ProcessFault = Err e in r)) failed.2 in
+    let P : Result Called ProcessFault → Type 0 = λ r. CallsFor c.args.machine.now c.args.host.now c.args.machine.now c.args.host.now guest p (option_copied c.args.answer) r in
+    subst P (sym is) (refl, refl, ends_not guest p c.args.call c.args.arguments.now at c.in_err-has_numbers.ensures.wants)
 
 pub returns-then-not-branch-clause-calls : goal.returns-then-not-branch-clause-calls
 returns-then-not-branch-clause-calls c = λ guest p shows running at.
@@ -46,4 +60,5 @@ returns-in-Memory-clause-few c =
 
 pub returns-in-Memory-clause-calls : goal.returns-in-Memory-clause-calls
 returns-in-Memory-clause-calls c = λ guest p shows running at.
-    memory_kept c.args.machine.now c.call_host.new.machine c.args.host.now c.call_host.new.host c.args.call c.args.arguments.now (option_copied c.args.answer) c.in-Memory.ensures.made c.requires.waits
+    let kept = memory_kept c.args.machine.now c.call_host.new.machine c.args.host.now c.call_host.new.host c.args.call c.args.arguments.now (option_copied c.args.answer) c.in-Memory.ensures.made c.requires.waits in
+    (kept.0, kept.1, ends_not guest p c.args.call c.args.arguments.now at (c.in-Memory.ensures.made.wants refl))

@@ -4,7 +4,7 @@ use Rattle.wasm_syntax.specs.declared.types.FunctionType.{FunctionType}
 use Rattle.wasm_syntax_rules.specs.Types.{imported_functions}
 use Rattle.wasm_syntax_rules.specs.Validity.{function_type_of, IsFunctionValid}
 use Rattle.wasm_validate_parts.specs.Parts.{IsValidButBodies}
-use Rattle.wasm_validate_parts.proofs.Lookups.{one_list}
+use Rattle.wasm_syntax_rules.proofs.OneProgram.{one_list}
 use Rattle.wasm_validate_parts.proofs.laws.parts_are_validity.Goals as goal
 
 pub returns-clause-needed : goal.returns-clause-needed

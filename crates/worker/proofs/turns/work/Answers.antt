@@ -1,6 +1,6 @@
 use Rattle.std.proofs.Common.{◌-◌, ap, arith}
 use Rattle.std.proofs.lemmas.Result.{err_from_is_err_and}
-use Rattle.worker.proofs.Ending.{turning_none, turning_counts, spent, spent_empty, over, over_empty, owes, owes_less, asks, asks_counts, cannot_advance, released_all, released_some, waiting, waiting_empty, given, given_less, vainly}
+use Rattle.worker.proofs.Ending.{turning_none, turning_counts, spent, over, owes, owes_less, asks, asks_counts, cannot_advance, released_all, released_some, waiting, given, given_less, vainly}
 use Rattle.worker.proofs.Going.{released_none, released_steps}
 use Rattle.worker.proofs.turns.work.Goals as goal
 
@@ -32,19 +32,9 @@ returns-in-Spent-clause-done g c =
     spent _ _ _ _ c.advance.new.self _ _ _ _ _ _ _ c.loop-process.invariant (ap (λ z. c.args.fuel - (z - c.steps-first.result)) c.steps.ensures.value)
     c.in_ok-advance.ensures.released (rw c.in-Spent.is at c.in_ok-advance.ensures.advances)
 
-pub returns-in-Spent-clause-none_waits : goal.returns-in-Spent-clause-none_waits
-returns-in-Spent-clause-none_waits g c =
-    spent_empty _ _ _ _ c.advance.new.self _ _ _ _ _ _ _ c.loop-process.invariant (ap (λ z. c.args.fuel - (z - c.steps-first.result)) c.steps.ensures.value)
-    c.in_ok-advance.ensures.released (rw c.in-Spent.is at c.in_ok-advance.ensures.advances)
-
 pub returns-in-Ended-clause-done : goal.returns-in-Ended-clause-done
 returns-in-Ended-clause-done g c =
     over _ _ _ _ c.advance.new.self _ _ _ _ _ _ _ c.loop-process.invariant (ap (λ z. c.args.fuel - (z - c.steps-first.result)) c.steps.ensures.value)
-    c.in_ok-advance.ensures.released c.in-Ended.how (rw c.in-Ended.is at c.in_ok-advance.ensures.advances)
-
-pub returns-in-Ended-clause-none_waits : goal.returns-in-Ended-clause-none_waits
-returns-in-Ended-clause-none_waits g c =
-    over_empty _ _ _ _ c.advance.new.self _ _ _ _ _ _ _ c.loop-process.invariant (ap (λ z. c.args.fuel - (z - c.steps-first.result)) c.steps.ensures.value)
     c.in_ok-advance.ensures.released c.in-Ended.how (rw c.in-Ended.is at c.in_ok-advance.ensures.advances)
 
 pub loop-process-preserved-in_ok-release_all-in-Owes :
@@ -82,12 +72,6 @@ returns-then-not-branch-clause-done g c =
     let wishing = asks _ _ _ _ c.advance.new.self _ _ _ _ _ _ _ c.loop-process.invariant (ap (λ z. c.args.fuel - (z - c.steps-first.result)) c.steps.ensures.value)
     c.in_ok-advance.ensures.released c.in-Asks.kind (rw c.in-Asks.is at c.in_ok-advance.ensures.advances) in
     waiting _ _ _ _ c.ask.new.process _ _ _ _ c.ask.new.source _ _ _ wishing (rw c.if-not-branch.true at c.in_ok-ask-in-Asks.ensures.once)
-
-pub returns-then-not-branch-clause-none_waits : goal.returns-then-not-branch-clause-none_waits
-returns-then-not-branch-clause-none_waits g c =
-    let wishing = asks _ _ _ _ c.advance.new.self _ _ _ _ _ _ _ c.loop-process.invariant (ap (λ z. c.args.fuel - (z - c.steps-first.result)) c.steps.ensures.value)
-    c.in_ok-advance.ensures.released c.in-Asks.kind (rw c.in-Asks.is at c.in_ok-advance.ensures.advances) in
-    waiting_empty _ _ _ _ c.ask.new.process _ _ _ _ c.ask.new.source _ _ _ wishing (rw c.if-not-branch.true at c.in_ok-ask-in-Asks.ensures.once)
 
 pub loop-process-smaller : goal.loop-process-smaller
 loop-process-smaller g c =

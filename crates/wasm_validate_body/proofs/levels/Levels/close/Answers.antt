@@ -13,9 +13,9 @@ returns-then-len-control c =
 
 pub invariant_of-self : goal.invariant_of-self
 invariant_of-self c =
-    (closed_view c.self.inside.controls c.pop.new.self c.self.inside.operands c.in-Some.control c.pop.result (sym c.get.ensures ∙ c.in-Some.is) c.pop.ensures (omega arith) c.self.invariant).1
+    (closed_view c.self.inside.controls c.pop.new.self c.self.inside.operands c.in-Some.control (sym c.get.ensures ∙ c.in-Some.is) c.pop.ensures.others (omega arith) c.self.invariant).1
 
 pub returns : goal.returns
 returns c =
     ap top_closed (sym c.self.view_is)
-    ∙ (closed_view c.self.inside.controls c.pop.new.self c.self.inside.operands c.in-Some.control c.pop.result (sym c.get.ensures ∙ c.in-Some.is) c.pop.ensures (omega arith) c.self.invariant).0
+    ∙ (closed_view c.self.inside.controls c.pop.new.self c.self.inside.operands c.in-Some.control (sym c.get.ensures ∙ c.in-Some.is) c.pop.ensures.others (omega arith) c.self.invariant).0

@@ -1,5 +1,4 @@
 use Rattle.std.proofs.Common.{ap, sym, ◌∙◌}
-use Rattle.worker.specs.Values.{WorkerValue}
 use Rattle.worker.specs.Turns.{working}
 use Rattle.worker.proofs.Worked.{slices_of}
 use Rattle.worker.proofs.worker.Worker.slice.Goals as goal

@@ -1,0 +1,69 @@
+-- The parts of a run: slices of a worker, and why it is over or fails.
+use Rattle.std.specs.Prelude.{◌≡◌, ◌⊎◌, ℕ, false, List, [], Option, Some, None}
+use Rattle.std.specs.Io.KnownBytes.{Appends}
+use Rattle.process_rules.specs.Processes.{Ending, ProcessState, Guest}
+use Rattle.process_rules.specs.Runs.{Kept, Runs}
+use Rattle.record_replay.specs.Calls.{Giving, Taking}
+use Rattle.process.specs.Values.{ShowsProcess, ending_of}
+use Rattle.worker.specs.declared.fault.WorkFault.{WorkFault}
+use Rattle.worker.specs.declared.fault.WorkFault.TheVariants as fault
+use Rattle.worker.specs.declared.fault.Refusal.TheVariants as refusal
+use Rattle.worker.specs.declared.now.Now.{Now}
+use Rattle.worker.specs.declared.now.Now.TheVariants as now
+use Rattle.worker.specs.Values.{WorkerValue}
+use Rattle.worker.specs.Slices.{Slices}
+use Rattle.worker.specs.Faults.{SlicesInVain}
+use Rattle.wasmhost_lines.specs.declared.fault.LineFault.{LineFault}
+use Rattle.wasmhost_lines.specs.Laws.{all_printed}
+use Rattle.wasmhost_serve.specs.declared.run.RunFault.{RunFault}
+use Rattle.wasmhost_serve.specs.declared.run.RunFault.TheVariants as run
+use Rattle.wasmhost_serve.specs.Served.{IsAsking, IsOver, IsSpent}
+
+-- some slice, of so much fuel
+pub record SlicesSome {S O : Type 0} (gives : Giving S) (takes : Taking O) (old : WorkerValue) (why : Now) (new : WorkerValue) (source source' : S) (outlet outlet' : O) : Type 0 where
+  pub fuel : ℕ
+  pub slices : Slices gives takes old fuel why new source source' outlet outlet'
+
+-- some slice that fails
+pub record SlicesSomeInVain {S O : Type 0} (gives : Giving S) (takes : Taking O) (old : WorkerValue) (why : WorkFault) (new : WorkerValue) (source source' : S) (outlet outlet' : O) : Type 0 where
+  pub fuel : ℕ
+  pub slices : SlicesInVain gives takes old fuel why new source source' outlet outlet'
+
+-- how a worker that is over has ended, if it has
+abbrev pub ended_by : Now → Option Ending
+ended_by now.Spent = None
+ended_by now.Waiting = None
+ended_by (now.Ended how) = Some (ending_of how)
+
+-- On some answers a process that had emitted no line comes to another one, and all lines of that were printed.
+pub record Prints (guest : Guest) (p : ProcessState) (old new : Option (List ℕ)) : Type 0 where
+  pub kept : List Kept
+  pub steps : ℕ
+  pub process : ProcessState
+  pub runs : Runs guest p kept steps process
+  pub printed : Appends old new (all_printed 1 process.host.lines)
+
+-- whichever process the worker showed
+abbrev pub IsRun : WorkerValue → Now → Option (List ℕ) → Option (List ℕ) → Type 0
+IsRun w why old new =
+    (guest : Guest) (p : ProcessState) → ShowsProcess w.process guest p → p.host.lines ≡ []
+    → (prints : Prints guest p old new) × IsOver guest prints.process × (prints.process.ended ≡ ended_by why)
+
+-- Where a fault of the source or of a request line comes, an answer is wanted. After a fault of the outlet nothing is known of what was printed.
+abbrev pub FailsAs : Guest → ProcessState → RunFault → Option (List ℕ) → Option (List ℕ) → Type 0
+FailsAs guest p (run.Line why) old new = (prints : Prints guest p old new) × IsAsking guest prints.process
+FailsAs guest p (run.Work fault.Source) old new = (prints : Prints guest p old new) × IsAsking guest prints.process
+FailsAs guest p (run.Work fault.Outlet) old new = Unit {0}
+FailsAs guest p (run.Work fault.Memory) old new = Prints guest p old new
+FailsAs guest p (run.Work fault.Failed) old new = ⊥
+FailsAs guest p (run.Work (fault.Refused (refusal.Front why))) old new = ⊥
+FailsAs guest p (run.Work (fault.Refused refusal.StepsSpent)) old new = (prints : Prints guest p old new) × IsSpent guest prints.process
+
+-- whichever process the worker showed, none of whose calls had failed
+abbrev pub IsRunInVain : WorkerValue → RunFault → Option (List ℕ) → Option (List ℕ) → Type 0
+IsRunInVain w why old new =
+    w.failed ≡ false → (guest : Guest) (p : ProcessState) → ShowsProcess w.process guest p → p.host.lines ≡ [] → FailsAs guest p why old new
+
+-- A fault of a worker is told as it is; or, where it is the source's, as that of a line, where there is one.
+abbrev pub IsToldAs : WorkFault → Option LineFault → RunFault → Type 0
+IsToldAs why found told = ((told ≡ run.Work why) × (why ≡ fault.Source → found ≡ None)) ⊎ ((line : LineFault) × (why ≡ fault.Source) × (found ≡ Some line) × (told ≡ run.Line line))
