@@ -57,14 +57,6 @@ impl Frames {
         self.height == 0
     }
 
-    /// Whether there is no room for one more.
-    #[inline(always)]
-    pub fn is_full(&self) -> bool
-        ensures { IsTrue result ↔ (FRAMES ≤ length self.now) }
-    {
-        self.height == FRAMES
-    }
-
     /// All frames from the outermost in.
     #[inline(always)]
     pub fn as_slice(&self) -> &[Frame]

@@ -10,14 +10,14 @@ fn holds_frames_in_one_piece_of_memory(rt: HostRuntime) -> Result<(), Fail> {
     let mut frames = Frames::new(rt.alloc())?;
     assert!(rt; frames.is_empty());
     for function in 0..FRAMES as u32 {
-        assert!(rt; !frames.is_full());
+        assert!(rt; frames.len() < FRAMES);
         frames.push(Frame {
             function,
             position: 7,
             base: function as usize,
         });
     }
-    assert!(rt; frames.is_full());
+    assert_eq!(rt; frames.len(), FRAMES);
     frames.set_position(9);
     assert_eq!(rt;
         frames.top(),

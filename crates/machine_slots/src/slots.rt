@@ -57,14 +57,6 @@ impl Slots {
         &self.words[..self.height]
     }
 
-    /// Whether so many more words fit.
-    #[inline(always)]
-    pub fn has_room(&self, more: usize) -> bool
-        ensures { IsTrue result ↔ (length self.now + more ≤ SLOTS) }
-    {
-        more <= SLOTS - self.height
-    }
-
     #[inline(always)]
     pub fn push(&mut self, word: u64)
         requires { length self.old < SLOTS }

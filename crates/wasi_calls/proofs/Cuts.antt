@@ -1,5 +1,5 @@
 -- Bytes of a stream, cut one after another: what goes on, what stands in front, and what stays true of the unfinished line.
-use Rattle.std.proofs.Common.{◌≡◌, ◌≢◌, inl, inr, ℕ, suc, ◌+◌, ◌<◌, ◌≤◌, List, [], ◌∷◌, ◌++◌, length, drop, get_or, refl, sym, ap, ◌∙◌, arith, append_assoc, drop-cons, add-one, length-append}
+use Rattle.std.proofs.Common.{◌≡◌, ◌≢◌, inl, inr, ℕ, suc, ◌+◌, ◌<◌, List, [], ◌∷◌, ◌++◌, length, drop, get_or, refl, sym, ap, ◌∙◌, arith, append_assoc, drop-cons, add-one, length-append}
 use Rattle.std.specs.Prelude.{Bool, true, false, if◌then◌else◌, ◌==◌, nat_lt}
 use Rattle.std.specs.List.{AllByRecursion}
 use Rattle.std.proofs.lemmas.Bool.{ltb-true, eqb-false}
@@ -7,8 +7,8 @@ use Rattle.std.proofs.lemmas.Bool.Decides.{eqb_tells}
 use Rattle.std.proofs.lemmas.List.{append-nil}
 use Rattle.wasi_abi.specs.Answers.{newline, IsNoNewline}
 use Rattle.wasi_calls_rows.specs.Hosts.{Line, IsUnfinished}
-use Rattle.wasi_calls_rows.specs.Lines.{Cut, cut_byte, cut_all, rest_of}
-use Rattle.wasi_calls.specs.Outputs.{Output, output_written, left_lines, ended_by}
+use Rattle.wasi_calls_rows.specs.Lines.{Cut, cut_byte, cut_all}
+use Rattle.wasi_calls.specs.Outputs.{Output, output_written, ended_by}
 use Rattle.wasi_calls_rows.specs.declared.limits.TheConstants.{LINE_BYTES}
 
 -- ---- one more byte of a list
@@ -74,34 +74,31 @@ from_nothing stream before text bytes =
     let start : record { lines = before; unfinished = text } ≡ behind_cut before (record { lines = []; unfinished = text }) = ap (λ (ls : List Line). record { lines = ls; unfinished = text }) (sym (append-nil before)) in
     ap (λ (c : Cut). cut_all stream c bytes) start ∙ all_behind before stream (record { lines = []; unfinished = text }) bytes
 
-module _ (stream : ℕ) (before lines after : List Line) (text rest bytes : List ℕ) (c : Cut)
-    (is : c ≡ cut_all stream (record { lines = []; unfinished = text }) bytes) (cut : lines ≡ c.lines) (left : rest ≡ c.unfinished) (put : after ≡ before ++ lines) where
-  pub written_lines : after ≡ (cut_all stream (record { lines = before; unfinished = text }) bytes).lines
-  written_lines =
-      put ∙ ap (λ (ls : List Line). before ++ ls) (cut ∙ ap (λ (d : Cut). d.lines) is) ∙ sym (ap (λ (d : Cut). d.lines) (from_nothing stream before text bytes))
+pub written_cut : (stream : ℕ) (before lines after : List Line) (text rest bytes : List ℕ) (c : Cut)
+    → c ≡ cut_all stream (record { lines = []; unfinished = text }) bytes → lines ≡ c.lines → rest ≡ c.unfinished → after ≡ before ++ lines
+    → cut_all stream (record { lines = before; unfinished = text }) bytes ≡ record { lines = after; unfinished = rest }
+written_cut stream before lines after text rest bytes c is cut left put = from_nothing stream before text bytes ∙ rw (put, cut, left, is) refl
 
-  pub written_rest : rest ≡ (cut_all stream (record { lines = before; unfinished = text }) bytes).unfinished
-  written_rest = left ∙ ap (λ (d : Cut). d.unfinished) is ∙ sym (ap (λ (d : Cut). d.unfinished) (from_nothing stream before text bytes))
+-- ---- bytes that end no line
 
--- ---- two lines are left at most
+put_onto : (stream : ℕ) (c : Cut) (b : ℕ) (bytes : List ℕ) (p q : Bool)
+    → (if p then ended_by 0 bytes + 1 else if q then ended_by (length c.unfinished + 1) bytes else ended_by 1 bytes + 1) ≡ 0
+    → (put_by stream c b p q ≡ record { lines = c.lines; unfinished = c.unfinished ++ b ∷ [] }) × (ended_by (length (c.unfinished ++ b ∷ [])) bytes ≡ 0)
+put_onto stream c b bytes true q none = absurd (omega (arith, none))
+put_onto stream c b bytes false true none = (refl, ap (λ (n : ℕ). ended_by n bytes) (length-append c.unfinished (b ∷ [])) ∙ none)
+put_onto stream c b bytes false false none = absurd (omega (arith, none))
 
-one_rest : (stream : ℕ) (text : List ℕ) → length (rest_of stream text) ≤ 1
-one_rest stream [] = omega arith
-one_rest stream (b ∷ text) = omega arith
-
-pub two_left : (o : Output) → length (left_lines o) ≤ 2
-two_left o =
-    let one : length (rest_of 1 o.first) ≤ 1 = one_rest 1 o.first in
-    let two : length (rest_of 2 o.second) ≤ 1 = one_rest 2 o.second in
-    omega (arith, length-append (rest_of 1 o.first) (rest_of 2 o.second))
-
--- ---- equal outputs
+pub cut_onto : (stream : ℕ) (c : Cut) (bytes : List ℕ) → ended_by (length c.unfinished) bytes ≡ 0
+    → cut_all stream c bytes ≡ record { lines = c.lines; unfinished = c.unfinished ++ bytes }
+cut_onto stream c [] none = rw append-nil refl
+cut_onto stream c (b ∷ bytes) none =
+    let onto = put_onto stream c b bytes (b == newline) (nat_lt (length c.unfinished) LINE_BYTES) none in
+    let next : Cut = record { lines = c.lines; unfinished = c.unfinished ++ b ∷ [] } in
+    let is : cut_all stream (cut_byte stream c b) bytes ≡ cut_all stream next bytes = ap (λ (d : Cut). cut_all stream d bytes) onto.0 in
+    is ∙ cut_onto stream next bytes onto.1 ∙ ap (λ (xs : List ℕ). record { lines = c.lines; unfinished = xs }) (append_assoc c.unfinished (b ∷ []) bytes)
 
 abbrev pub output_of : List ℕ → List ℕ → List Line → ℕ → Output
 output_of first second waiting released = record { first = first; second = second; waiting = waiting; released = released }
-
-pub same_output : (a b c d : List ℕ) (v w : List Line) (n : ℕ) → a ≡ b → c ≡ d → v ≡ w → output_of a c v n ≡ output_of b d w n
-same_output a b c d v w n e f g = rw (e, f, g) refl
 
 -- ---- how many lines there are
 

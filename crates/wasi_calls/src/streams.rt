@@ -1,7 +1,7 @@
 //! The output streams, and the lines that wait to be released.
 
 ghost use Rattle.std.specs.Prelude.{◌≡◌, ◌+◌, ◌<◌, ◌≤◌, ◌^◌, ◌++◌, length, drop, OnOk, OnErr, vec_len, vec_capacity};
-ghost use Rattle.wasi_calls_rows.specs.Lines.{rest_of};
+ghost use Rattle.wasi_calls_rows.specs.Lines.{cut_all, rest_of};
 
 use crate::cut::{Cut, count_lines};
 use crate::line::Line;
@@ -61,20 +61,14 @@ impl Streams {
         ensures written { OnOk result (self.new ≡ output_written 1 bytes.now self.old) }
         ensures unchanged { OnErr result (self.new ≡ self.old) }
     {
-        let (lines, rest) = Cut::of(alloc, 1, &self.first, bytes)?.into_parts();
-        emit(&mut self.waiting, lines)?;
-        self.first = rest;
-        Ok(())
+        put(alloc, 1, &mut self.first, &mut self.waiting, bytes)
     }
 
     fn write_second(&mut self, alloc: Global, bytes: &[u8]) -> Result<(), AllocError>
         ensures written { OnOk result (self.new ≡ output_written 2 bytes.now self.old) }
         ensures unchanged { OnErr result (self.new ≡ self.old) }
     {
-        let (lines, rest) = Cut::of(alloc, 2, &self.second, bytes)?.into_parts();
-        emit(&mut self.waiting, lines)?;
-        self.second = rest;
-        Ok(())
+        put(alloc, 2, &mut self.second, &mut self.waiting, bytes)
     }
 
     /// How many lines a write of these bytes would emit. It takes no memory.
@@ -122,6 +116,33 @@ impl Streams {
         emit_rest(&mut self.waiting, 1, first);
         emit_rest(&mut self.waiting, 2, second);
     }
+}
+
+/// Puts bytes behind a stream's unfinished line, and the lines that they end behind those that wait. Bytes that end none are
+/// put in place: a line that is written byte by byte isn't copied.
+fn put(
+    alloc: Global,
+    stream: u8,
+    unfinished: &mut Vec<u8>,
+    waiting: &mut Vec<Line>,
+    bytes: &[u8],
+) -> Result<(), AllocError>
+    ensures written { OnOk result (cut_all stream (record { lines = waiting.old.items; unfinished = unfinished.old.items }) bytes.now
+        ≡ record { lines = waiting.new.items; unfinished = unfinished.new.items }) }
+    ensures room { OnOk result (vec_len waiting.new + 2 ≤ vec_capacity waiting.new) }
+    ensures capacity { vec_capacity waiting.old ≤ vec_capacity waiting.new }
+    ensures same_lines { OnErr result (waiting.new.items ≡ waiting.old.items) }
+    ensures same_rest { OnErr result (unfinished.new.items ≡ unfinished.old.items) }
+{
+    if count_lines(unfinished.len(), bytes) == 0 {
+        waiting.reserve(2)?;
+        unfinished.extend_from_slice(bytes)?;
+        return Ok(());
+    }
+    let (lines, rest) = Cut::of(alloc, stream, unfinished, bytes)?.into_parts();
+    emit(waiting, lines)?;
+    *unfinished = rest;
+    Ok(())
 }
 
 /// Puts lines behind the others, with room for two more. After a failure the lines are as they were.
