@@ -15,7 +15,7 @@ leads_once guest (Over why c h) given p q r a b = a ∙ sym b
 leads_once guest (Wants kind) given p q r a b = absurd a
 leads_once guest Nowhere given p q r a b = absurd a
 
-moves_once : (guest : Guest) (p q r : ProcessState) (given : Option Answer) → Moves guest p given q → Moves guest p given r → q ≡ r
+pub moves_once : (guest : Guest) (p q r : ProcessState) (given : Option Answer) → Moves guest p given q → Moves guest p given r → q ≡ r
 moves_once guest p q r given a b = leads_once guest (next_of guest p given) given p q r a.leads b.leads
 
 -- where an answer is wanted, no step goes on without
