@@ -1,5 +1,5 @@
 -- The worked examples hold.
-use Rattle.std.proofs.Common.{◌≡◌, inl, ℕ, ◌+◌, List, [], ◌∷◌, replicate, Some, None, Ok, refl}
+use Rattle.std.proofs.Common.{◌≡◌, inl, subst, codes, ℕ, ◌+◌, List, [], ◌∷◌, replicate, Some, None, Ok, refl}
 use Rattle.wasm_syntax.specs.declared.value.Value.{Value}
 use Rattle.wasm_syntax.specs.declared.value.Trap.TheVariants as trap
 use Rattle.wasm_syntax.specs.declared.instruction.Instruction.{Instruction}
@@ -11,7 +11,6 @@ use Rattle.wasm_syntax_rules.specs.Examples.{hello as hello_program, hello_body,
 use Rattle.wasm_syntax_rules.specs.Instantiation.{filled_memory, empty_memory}
 use Rattle.wasm_syntax_rules.specs.Steps.{Settles, here, on}
 use Rattle.wasm_syntax_rules.specs.Validity.{IsValid, memories_of}
-use Rattle.guest_memory.specs.Bytes.{number_of, part}
 use Rattle.wasi_abi.specs.declared.call.Call.TheVariants as call
 use Rattle.wasi_abi.specs.Configs.{Settings}
 use Rattle.wasi_calls_rows.specs.Hosts.{Line}
@@ -19,12 +18,14 @@ use Rattle.wasi_calls_rows.specs.Checks.{Bytes}
 use Rattle.wasi_calls_rows.specs.Rows.{row}
 use Rattle.process_rules.specs.Processes.{ProcessState, Guest, Exited, Trapped, IsStart, host_of, closed}
 use Rattle.process_rules.specs.Runs.{Moves, Runs, Reaches, none, step}
-use Rattle.process_rules.specs.Examples.{HelloEnds, hello_memory, hi, IdleEnds, trapping, TrappingEnds}
-use Rattle.process_rules.proofs.OneProcess.{one_process}
-use Rattle.process_rules.proofs.Ended.{no_more}
+use Rattle.process_rules.specs.Examples.{ComesTo, at_rest, HelloEnds, hello_memory, hello_end, page_of_zeros, idle_end, IdleEnds, trapping, trapping_end, TrappingEnds}
+use Rattle.process_rules.proofs.Ended.{comes}
 use Rattle.process_rules.proofs.ExamplesValid.{hello_spells, hello_is_valid, alone_is_valid}
 
 -- ---- hello
+
+abbrev hi_line : Line
+hi_line = record { stream = 1; text = codes "hi" }
 
 -- the memory of `hello` at its start: its one segment, and zeros
 first_memory : Bytes
@@ -38,7 +39,7 @@ unfolding first_memory
 filled = refl
 
 -- the call that writes the line
-written : (config : Settings) → row call.FdWrite (1 ∷ 0 ∷ 1 ∷ 16 ∷ []) None first_memory (host_of config) ≡ Ok (record { memory = last_memory; host = record (host_of config) { lines = hi ∷ [] } })
+written : (config : Settings) → row call.FdWrite (1 ∷ 0 ∷ 1 ∷ 16 ∷ []) None first_memory (host_of config) ≡ Ok (record { memory = last_memory; host = record (host_of config) { lines = hi_line ∷ [] } })
 unfolding first_memory last_memory
 written config = refl
 
@@ -59,15 +60,8 @@ after config n memory lines values rest = record {
 abbrev first : Settings → ProcessState
 first config = after config 0 first_memory [] [] hello_body
 
-abbrev last : Settings → ProcessState
-last config = record {
-  configuration = record { store = record { memory = last_memory; globals = []; table = [] }; thread = []; later = [] };
-  host = record (host_of config) { lines = hi ∷ [] };
-  steps = 8;
-  answers = 0;
-  requests = 0;
-  ended = Some (Exited 7);
-}
+abbrev last : Settings → Bytes → ProcessState
+last config memory = record (hello_end config) { configuration = at_rest memory }
 
 begins : (config : Settings) → IsStart hello config (guest_of config) (first config)
 begins config = record {
@@ -90,56 +84,43 @@ constant : (config : Settings) (n : ℕ) (memory : Bytes) (lines : List Line) (v
 constant config n memory lines values x i rest = record { running = refl; wanted = tt; leads = (_, here refl, refl) }
 
 writes : (config : Settings)
-    → Moves (guest_of config) (after config 4 first_memory [] (v 16 ∷ v 1 ∷ v 0 ∷ v 1 ∷ []) (Plain (instr.Call 0) after_call)) None (after config 5 last_memory (hi ∷ []) (v 0 ∷ []) after_call)
+    → Moves (guest_of config) (after config 4 first_memory [] (v 16 ∷ v 1 ∷ v 0 ∷ v 1 ∷ []) (Plain (instr.Call 0) after_call)) None (after config 5 last_memory (hi_line ∷ []) (v 0 ∷ []) after_call)
 writes config = record { running = refl; wanted = tt; leads = rw (written config) (_, here refl, refl) }
 
 drops : (config : Settings)
-    → Moves (guest_of config) (after config 5 last_memory (hi ∷ []) (v 0 ∷ []) after_call) None (after config 6 last_memory (hi ∷ []) [] (Plain (const_32 7) (Plain (instr.Call 1) Stop)))
+    → Moves (guest_of config) (after config 5 last_memory (hi_line ∷ []) (v 0 ∷ []) after_call) None (after config 6 last_memory (hi_line ∷ []) [] (Plain (const_32 7) (Plain (instr.Call 1) Stop)))
 drops config = record { running = refl; wanted = tt; leads = (_, here refl, refl) }
 
-exits : (config : Settings) → Moves (guest_of config) (after config 7 last_memory (hi ∷ []) (v 7 ∷ []) (Plain (instr.Call 1) Stop)) None (last config)
+exits : (config : Settings) → Moves (guest_of config) (after config 7 last_memory (hi_line ∷ []) (v 7 ∷ []) (Plain (instr.Call 1) Stop)) None (last config last_memory)
 exits config = record { running = refl; wanted = tt; leads = refl }
 
-eight : (config : Settings) → Runs (guest_of config) (first config) [] 8 (last config)
+eight : (config : Settings) → Runs (guest_of config) (first config) [] 8 (last config last_memory)
 eight config =
     step (constant config 0 first_memory [] _ 1 _ _) (step (constant config 1 first_memory [] _ 0 _ _)
     (step (constant config 2 first_memory [] _ 1 _ _) (step (constant config 3 first_memory [] _ 16 _ _)
-    (step (writes config) (step (drops config) (step (constant config 6 last_memory (hi ∷ []) _ 7 _ _) (step (exits config) none)))))))
-
-cell : number_of (part last_memory 16 4) ≡ 3
-unfolding last_memory
-cell = refl
+    (step (writes config) (step (drops config) (step (constant config 6 last_memory (hi_line ∷ []) _ 7 _ _) (step (exits config) none)))))))
 
 all_memory : last_memory ≡ hello_memory
 unfolding last_memory
 all_memory = refl
 
-hello_reaches : (config : Settings) → Reaches hello config [] 8 (last config)
+hello_reaches : (config : Settings) → Reaches hello config [] 8 (last config last_memory)
 hello_reaches config = record { guest = guest_of config; start = first config; begins = begins config; runs = eight config }
 
 pub hello_ends : (config : Settings) → HelloEnds config
 hello_ends config = record {
-  comes = record {
-    process = last config;
-    reached = hello_reaches config;
-    no_other = λ other reaches. one_process hello config [] 8 other (last config) hello_is_valid reaches (hello_reaches config);
-    no_more = λ k other reaches. no_more hello config 8 k (Exited 7) (last config) other hello_is_valid refl (hello_reaches config) reaches;
-    ended = refl;
-    steps = refl;
-    answers = refl;
-    requests = refl;
-    lines = refl;
-    host = refl;
-  };
-  written = cell;
-  memory = all_memory;
+  comes = subst (λ memory. ComesTo hello config [] (last config memory)) all_memory (comes hello config [] (Exited 7) (last config last_memory) hello_is_valid refl (hello_reaches config));
+  written = refl;
 }
 
 -- ---- the two smallest
 
--- the memory of a page of zeros
 page : Bytes
-page = replicate 65536 0
+page = page_of_zeros
+
+zeros : page ≡ page_of_zeros
+unfolding page
+zeros = refl
 
 nothing_filled : filled_memory [] [] (empty_memory (memories_of idle)) ≡ Some page
 unfolding page
@@ -188,21 +169,9 @@ idle_reaches config = record {
 }
 
 pub idle_ends : (config : Settings) → IdleEnds config
-idle_ends config = record {
-  process = over_at_once config;
-  reached = idle_reaches config;
-  no_other = λ other reaches. one_process idle config [] 0 other (over_at_once config) idle_is_valid reaches (idle_reaches config);
-  no_more = λ k other reaches. no_more idle config 0 k (Exited 0) (over_at_once config) other idle_is_valid refl (idle_reaches config) reaches;
-  ended = refl;
-  steps = refl;
-  answers = refl;
-  requests = refl;
-  lines = refl;
-  host = refl;
-}
-  where
-    idle_is_valid : IsValid idle
-    idle_is_valid = alone_is_valid (instr.End ∷ []) Stop idle_spells refl
+idle_ends config =
+    let valid : IsValid idle = alone_is_valid (instr.End ∷ []) Stop idle_spells refl in
+    subst (λ memory. ComesTo idle config [] (record (idle_end config) { configuration = at_rest memory })) zeros (comes idle config [] (Exited 0) (over_at_once config) valid refl (idle_reaches config))
 
 abbrev trapping_body : Sequence
 trapping_body = Plain instr.Unreachable Stop
@@ -225,18 +194,6 @@ trapping_reaches config = record {
 }
 
 pub trapping_ends : (config : Settings) → TrappingEnds config
-trapping_ends config = record {
-  process = trapped config;
-  reached = trapping_reaches config;
-  no_other = λ other reaches. one_process trapping config [] 1 other (trapped config) trapping_is_valid reaches (trapping_reaches config);
-  no_more = λ k other reaches. no_more trapping config 1 k (Trapped trap.Unreachable) (trapped config) other trapping_is_valid refl (trapping_reaches config) reaches;
-  ended = refl;
-  steps = refl;
-  answers = refl;
-  requests = refl;
-  lines = refl;
-  host = refl;
-}
-  where
-    trapping_is_valid : IsValid trapping
-    trapping_is_valid = alone_is_valid (instr.Unreachable ∷ instr.End ∷ []) trapping_body trapping_spells ([], [], [], refl, tt, refl)
+trapping_ends config =
+    let valid : IsValid trapping = alone_is_valid (instr.Unreachable ∷ instr.End ∷ []) trapping_body trapping_spells ([], [], [], refl, tt, refl) in
+    subst (λ memory. ComesTo trapping config [] (record (trapping_end config) { configuration = at_rest memory })) zeros (comes trapping config [] (Trapped trap.Unreachable) (trapped config) valid refl (trapping_reaches config))

@@ -19,7 +19,7 @@ pub moves_once : (guest : Guest) (p q r : ProcessState) (given : Option Answer) 
 moves_once guest p q r given a b = leads_once guest (next_of guest p given) given p q r a.leads b.leads
 
 -- where an answer is wanted, no step goes on without
-one_or_other : (guest : Guest) (p q r : ProcessState) (a : Answer) → Moves guest p None q → Moves guest p (Some a) r → ⊥
+pub one_or_other : (guest : Guest) (p q r : ProcessState) (a : Answer) → Moves guest p None q → Moves guest p (Some a) r → ⊥
 one_or_other guest p q r a x y =
     let stopped : LeadsTo guest (next_of guest p None) None p q = x.leads in
     (rw y.wanted.1 at stopped)
