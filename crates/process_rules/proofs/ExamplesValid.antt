@@ -12,10 +12,10 @@ use Rattle.wasm_syntax_rules.specs.Examples.{hello_body, after_call}
 use Rattle.wasm_syntax_rules.specs.Typing.{Context, HasType, body_context}
 use Rattle.wasm_syntax_rules.specs.Validity.{IsValid, IsMemoryTypeValid, HaveDistinctNames, module_context}
 
-page_is_valid : AllByRecursion IsMemoryTypeValid (one_page ∷ [])
+pub page_is_valid : AllByRecursion IsMemoryTypeValid (one_page ∷ [])
 page_is_valid = ((lit≤ tt, tt), tt)
 
-names_differ : (function : ℕ) → HaveDistinctNames (exports_from function)
+pub names_differ : (function : ℕ) → HaveDistinctNames (exports_from function)
 names_differ function = (((λ e. absurd (begin_alike e)), tt), (tt, tt))
   where
     begin_alike : codes "_start" ≡ codes "memory" → ⊥

@@ -5,3 +5,5 @@ pub mod Growing
 pub mod Ended
 pub mod ExamplesValid
 pub mod ExamplesHold
+pub mod EchoValid
+pub mod EchoHolds

@@ -1,14 +1,15 @@
 -- Worked examples: what whole modules come to, under any configuration.
-use Rattle.std.specs.Prelude.{◌≡◌, ℕ, ◌≤◌, List, [], ◌∷◌, ◌++◌, replicate, Some, codes}
+use Rattle.std.specs.Prelude.{◌≡◌, ℕ, ◌≤◌, List, [], ◌∷◌, ◌++◌, replicate, true, Some, codes}
 use Rattle.wasm_syntax.specs.declared.value.Trap.TheVariants as trap
 use Rattle.wasm_syntax.specs.declared.instruction.Instruction.TheVariants as instr
 use Rattle.wasm_syntax.specs.declared.module.Module.{Module}
-use Rattle.wasm_syntax_grammar.specs.Examples.{hello, idle, idle_with_code}
+use Rattle.wasm_syntax_grammar.specs.Examples.{hello, echo, idle, idle_with_code}
 use Rattle.wasm_syntax_rules.specs.Configuration.{Configuration}
 use Rattle.guest_memory.specs.Bytes.{number_of, part, page_size}
+use Rattle.wasi_abi.specs.declared.answer.Answer.TheVariants as answer
 use Rattle.wasi_abi.specs.Configs.{Settings}
 use Rattle.process_rules.specs.Processes.{ProcessState, Exited, Trapped, host_of}
-use Rattle.process_rules.specs.Runs.{Kept, Reaches}
+use Rattle.process_rules.specs.Runs.{Kept, Given, Reaches}
 
 -- On these answers, all of them, the module reaches this process in the counted steps that it counts. In as many it reaches no
 -- other, and in more it reaches none.
@@ -45,6 +46,34 @@ hello_end config = record {
 pub record HelloEnds (config : Settings) : Type 0 where
   pub comes : ComesTo hello config [] (hello_end config)
   pub written : number_of (part hello_memory 16 4) ≡ 3
+
+-- ---- a loop that writes what it reads
+
+-- a request with the text `abc`, and then the end of input
+abbrev pub abc_and_end : List Kept
+abc_and_end = Given (answer.Request (codes "abc")) ∷ Given answer.End ∷ []
+
+-- The memory of `echo` at its end: the buffer that it reads into, 4,096 bytes from 64 on, and the one that it writes from, of which four
+-- were there; the count of the last read, 0, and of the last write, 4; then from 64 on the text and its newline.
+abbrev pub echo_memory : List ℕ
+echo_memory =
+    (64 ∷ 0 ∷ 0 ∷ 0 ∷ 0 ∷ 16 ∷ 0 ∷ 0 ∷ []) ++ (64 ∷ 0 ∷ 0 ∷ 0 ∷ 4 ∷ 0 ∷ 0 ∷ 0 ∷ []) ++ (0 ∷ 0 ∷ 0 ∷ 0 ∷ []) ++ (4 ∷ 0 ∷ 0 ∷ 0 ∷ [])
+    ++ replicate 40 0 ++ (codes "abc" ++ 10 ∷ []) ++ replicate 65468 0
+
+-- A round of the loop is 22 steps, and the one that reads nothing leaves it in its eleventh. Two answers were taken, the end of input
+-- among the requests, and `abc` has been emitted.
+abbrev pub echo_end : Settings → ProcessState
+echo_end config = record {
+  configuration = at_rest echo_memory;
+  host = record (host_of config) { lines = record { stream = 1; text = codes "abc" } ∷ []; input_ended = true };
+  steps = 33;
+  answers = 2;
+  requests = 2;
+  ended = Some (Exited 0);
+}
+
+abbrev pub EchoEnds : Settings → Type 0
+EchoEnds config = ComesTo echo config abc_and_end (echo_end config)
 
 -- ---- the two smallest
 

@@ -1,4 +1,5 @@
 use Rattle.process_rules.proofs.ExamplesHold.{hello_ends, idle_ends, trapping_ends}
+use Rattle.process_rules.proofs.EchoHolds.{echo_ends}
 use Rattle.process_rules.proofs.laws.worked_examples.Goals as goal
 
 pub returns-clause-hello : goal.returns-clause-hello
@@ -9,3 +10,6 @@ returns-clause-idle c = idle_ends
 
 pub returns-clause-trapping : goal.returns-clause-trapping
 returns-clause-trapping c = trapping_ends
+
+pub returns-clause-echo : goal.returns-clause-echo
+returns-clause-echo c = echo_ends
