@@ -15,11 +15,11 @@ leads_once guest (Over why c h) given p q r a b = a ∙ sym b
 leads_once guest (Wants kind) given p q r a b = absurd a
 leads_once guest Nowhere given p q r a b = absurd a
 
-moves_once : (guest : Guest) (p q r : ProcessState) (given : Option Answer) → Moves guest p given q → Moves guest p given r → q ≡ r
+pub moves_once : (guest : Guest) (p q r : ProcessState) (given : Option Answer) → Moves guest p given q → Moves guest p given r → q ≡ r
 moves_once guest p q r given a b = leads_once guest (next_of guest p given) given p q r a.leads b.leads
 
 -- where an answer is wanted, no step goes on without
-one_or_other : (guest : Guest) (p q r : ProcessState) (a : Answer) → Moves guest p None q → Moves guest p (Some a) r → ⊥
+pub one_or_other : (guest : Guest) (p q r : ProcessState) (a : Answer) → Moves guest p None q → Moves guest p (Some a) r → ⊥
 one_or_other guest p q r a x y =
     let stopped : LeadsTo guest (next_of guest p None) None p q = x.leads in
     (rw y.wanted.1 at stopped)

@@ -3,3 +3,4 @@ pub mod Runs
 pub mod Behind
 pub mod Owing
 pub mod Laws
+pub mod Examples

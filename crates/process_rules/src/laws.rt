@@ -1,6 +1,8 @@
 //! Laws of what a process reaches. The functions do nothing: what they ensure is the law.
 
 ghost use Rattle.process_rules.specs.Laws.{OneProcess, OneRun, RunsJoin, RunsCount, RunsEmit, QuietRunsJoin, QuietRunsAreRuns, RulesAreQuiet, LastRuleEnds, TrapEnds};
+ghost use Rattle.wasi_abi.specs.Configs.{Settings};
+ghost use Rattle.process_rules.specs.Examples.{HelloEnds, EchoEnds, IdleEnds, TrappingEnds};
 
 /// The same answers lead to the same process.
 pub fn one_process_is_reached()
@@ -42,4 +44,13 @@ pub fn last_rule_ends()
 /// So is the rule that traps.
 pub fn trap_ends()
     ensures { TrapEnds }
+{}
+
+/// Whole modules come to their ends, under any configuration: one that writes a line and exits with a code, one that writes
+/// what it reads, one that does nothing, and one that traps.
+pub fn worked_examples()
+    ensures hello { (config : Settings) → HelloEnds config }
+    ensures echo { (config : Settings) → EchoEnds config }
+    ensures idle { (config : Settings) → IdleEnds config }
+    ensures trapping { (config : Settings) → TrappingEnds config }
 {}

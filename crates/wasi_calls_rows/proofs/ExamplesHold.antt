@@ -1,8 +1,11 @@
--- The examples that test whether a path is UTF-8.
-use Rattle.std.proofs.Common.{refl}
+-- The examples that test whether a path is UTF-8, and those of writes.
+use Rattle.std.proofs.Common.{◌≡◌, Some, None, refl}
 use Rattle.std.specs.Str.{is_utf8, chars}
 use lib.Utf8.{encode}
-use Rattle.wasi_calls_rows.specs.Examples.{OpeningExamples, DirectoryExamples}
+use Rattle.wasi_calls_rows.specs.Checks.{Bytes}
+use Rattle.wasi_calls_rows.specs.Hosts.{Host}
+use Rattle.wasi_calls_rows.specs.Rows.{Told, IsDone, IsAsk, IsExit, NoMemory, Shows}
+use Rattle.wasi_calls_rows.specs.Examples.{OpeningExamples, WritingExamples, DirectoryExamples, bare, writes, one_beyond}
 
 pub opening_examples : OpeningExamples
 unfolding is_utf8 chars encode
@@ -25,3 +28,14 @@ directory_examples = record {
   not_empty = refl;
   below_itself = refl;
 }
+
+-- a call that is refused is told as such, or memory was wanting
+writing_unchanged : (told : Told) (m : Bytes) (h : Host) → Shows told m h one_beyond bare (writes 16 one_beyond) → (m ≡ one_beyond) × (h ≡ bare)
+writing_unchanged (IsDone None) m h shown = absurd (cc)
+writing_unchanged (IsDone (Some e)) m h shown = (shown.1, shown.2)
+writing_unchanged (IsAsk k) m h shown = (shown.1, shown.2)
+writing_unchanged (IsExit code) m h shown = (shown.1, shown.2)
+writing_unchanged NoMemory m h shown = shown
+
+pub writing_examples : WritingExamples
+writing_examples = record { is_done = refl; is_refused = refl; number = refl; nothing_changes = writing_unchanged }

@@ -3,7 +3,8 @@ use Rattle.std.specs.Prelude.{◌≡◌, ℕ, ◌-◌, ◌^◌, List, [], ◌∷
 use Rattle.wasi_abi.specs.declared.errno.Errno.TheVariants.{Exist, Fault, Fbig, Inval, Noent, Nospc, Notcapable, Notdir, Notempty}
 use Rattle.wasi_abi.specs.declared.answer.Kind.TheVariants as kind
 use Rattle.wasi_abi.specs.declared.answer.Answer.TheVariants as answer
-use Rattle.wasi_abi.specs.Numbers.{file_rights}
+use Rattle.wasi_abi.specs.declared.call.Call.TheVariants as call
+use Rattle.wasi_abi.specs.Numbers.{file_rights, errno_number}
 use Rattle.wasi_abi.specs.Layouts.{u32_bytes, u64_bytes, iovec_bytes, padding}
 use Rattle.guest_memory.specs.Bytes.{part}
 use Rattle.file_tree.specs.Files.{Path, Files, Directory, File, fresh, created}
@@ -12,6 +13,7 @@ use Rattle.wasi_calls_rows.specs.Checks.{Bytes, Refuses, Asks, Row}
 use Rattle.wasi_calls_rows.specs.Lines.{cut_all}
 use Rattle.wasi_calls_rows.specs.Small.{with_descriptor, clock_time_get, fd_seek, random_get, fd_close}
 use Rattle.wasi_calls_rows.specs.Moving.{fd_read, fd_write, fd_pwrite}
+use Rattle.wasi_calls_rows.specs.Rows.{row, Told, Shows}
 use Rattle.wasi_calls_rows.specs.Entries.{Wish, path_open, path_rename, path_remove_directory, fd_readdir}
 
 abbrev pub path_to : List ℕ → Path
@@ -80,6 +82,26 @@ pub record MovingExamples : Type 0 where
   pub file_too_large : fd_pwrite 4 0 1 1048576 8 (iovec_bytes 0 1 ++ padding 4) with_open_a ≡ Err (Refuses Fbig)
   pub no_room : fd_pwrite 4 0 1 65536 8 (iovec_bytes 0 1 ++ padding 4) with_open_a ≡ Err (Refuses Nospc)
   pub empty_line : cut_all 1 (record { lines = []; unfinished = [] }) (10 ∷ []) ≡ record { lines = record { stream = 1; text = [] } ∷ []; unfinished = [] }
+
+-- two buffers for one write, the first of them behind the second, and then a cell for the count
+abbrev pub two_texts : ℕ → Bytes
+two_texts count = iovec_bytes 19 3 ++ (iovec_bytes 16 3 ++ (codes "you" ++ ((codes "hi" ++ 10 ∷ []) ++ u32_bytes count)))
+
+-- a write to descriptor 1 of the buffers that two iovecs at 0 name
+abbrev pub writes : ℕ → Bytes → Row
+writes ret m = row call.FdWrite (1 ∷ 0 ∷ 2 ∷ ret ∷ []) None m bare
+
+-- the first buffer is the newline that ends 21 bytes of memory; the second begins there too, and is one byte longer
+abbrev pub one_beyond : Bytes
+one_beyond = iovec_bytes 20 1 ++ (iovec_bytes 20 2 ++ (padding 4 ++ 10 ∷ []))
+
+pub record WritingExamples : Type 0 where
+  -- The cell counts six bytes, the newline has ended the line `hi`, and `you` is unfinished. Nothing else has changed.
+  pub is_done : writes 22 (two_texts 0) ≡ Ok (record { memory = two_texts 6; host = record bare { lines = record { stream = 1; text = codes "hi" } ∷ []; first = codes "you" } })
+  -- The error is 21. Whatever a caller is told, memory is as it was, and no line is emitted or begun.
+  pub is_refused : writes 16 one_beyond ≡ Err (Refuses Fault)
+  pub number : errno_number Fault ≡ 21
+  pub nothing_changes : (told : Told) (m : Bytes) (h : Host) → Shows told m h one_beyond bare (writes 16 one_beyond) → (m ≡ one_beyond) × (h ≡ bare)
 
 pub record SmallExamples : Type 0 where
   pub before_the_start : fd_seek 4 (2 ^ 64 - 1) 0 0 (padding 8) with_open_a ≡ Err (Refuses Inval)

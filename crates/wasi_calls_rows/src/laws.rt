@@ -1,12 +1,13 @@
 //! Laws of the rules of the calls. The functions do nothing: what they ensure is the law.
 
-ghost use Rattle.wasi_calls_rows.specs.Examples.{OpeningExamples, MovingExamples, SmallExamples, DirectoryExamples};
+ghost use Rattle.wasi_calls_rows.specs.Examples.{OpeningExamples, MovingExamples, WritingExamples, SmallExamples, DirectoryExamples};
 ghost use Rattle.wasi_calls_rows.specs.Laws.{RowsKeepMemory, RowsKeepBytes, RowsEmit, TestsTellWhatFits};
 
 /// The rules give on examples what the profile gives.
 pub fn worked_examples()
     ensures opening { OpeningExamples }
     ensures moving { MovingExamples }
+    ensures writing { WritingExamples }
     ensures small { SmallExamples }
     ensures directories { DirectoryExamples }
 {}

@@ -1,4 +1,4 @@
-use Rattle.wasi_calls_rows.proofs.ExamplesHold.{opening_examples, directory_examples}
+use Rattle.wasi_calls_rows.proofs.ExamplesHold.{opening_examples, writing_examples, directory_examples}
 use Rattle.wasi_calls_rows.proofs.laws.worked_examples.Goals as goal
 
 pub returns-clause-opening : goal.returns-clause-opening
@@ -6,3 +6,6 @@ returns-clause-opening c = opening_examples
 
 pub returns-clause-directories : goal.returns-clause-directories
 returns-clause-directories c = directory_examples
+
+pub returns-clause-writing : goal.returns-clause-writing
+returns-clause-writing c = writing_examples

@@ -1,0 +1,164 @@
+-- The body of `echo`, and that `echo` is valid.
+use Rattle.std.proofs.Common.{inl, List, [], ◌∷◌, None, refl, lit<, lit≤}
+use Rattle.wasm_syntax.specs.declared.types.ValueType.{ValueType}
+use Rattle.wasm_syntax.specs.declared.types.ValueType.TheVariants.{I32}
+use Rattle.wasm_syntax.specs.declared.types.FunctionType.{FunctionType}
+use Rattle.wasm_syntax.specs.declared.value.Value.TheVariants as value
+use Rattle.wasm_syntax.specs.declared.operator.LoadOperator.TheVariants as load
+use Rattle.wasm_syntax.specs.declared.operator.StoreOperator.TheVariants as store
+use Rattle.wasm_syntax.specs.declared.instruction.Instruction.{Instruction}
+use Rattle.wasm_syntax.specs.declared.instruction.Instruction.TheVariants as instr
+use Rattle.wasm_syntax.specs.Sequence.{Sequence, Stop, Plain, InLoop, Spells}
+use Rattle.wasm_syntax_grammar.specs.Examples.{echo, echo_body, no_type, transfer_type, one_page}
+use Rattle.wasm_syntax_rules.specs.Examples.{const_32}
+use Rattle.wasm_syntax_rules.specs.Typing.{Context, HasType, HasMemory, body_context}
+use Rattle.wasm_syntax_rules.specs.Validity.{IsValid, module_context}
+use Rattle.process_rules.proofs.ExamplesValid.{page_is_valid, names_differ}
+
+-- ---- the body
+
+abbrev pub load_there : Instruction
+load_there = instr.Load load.I32 (record { align = 2; offset = 0 })
+
+abbrev pub store_there : Instruction
+store_there = instr.Store store.I32 (record { align = 2; offset = 0 })
+
+-- a round from its end to its beginning: the count of the write is dropped, and the loop begins anew
+abbrev pub again : Sequence
+again = Plain instr.Drop (Plain (instr.Br 0) Stop)
+
+abbrev pub writing : Sequence
+writing = Plain (const_32 1) (Plain (const_32 8) (Plain (const_32 1) (Plain (const_32 20) (Plain (instr.Call 1) again))))
+
+abbrev pub copying : Sequence
+copying = Plain (const_32 12) (Plain (const_32 16) (Plain load_there (Plain store_there writing)))
+
+abbrev pub testing : Sequence
+testing = Plain instr.Drop (Plain (const_32 16) (Plain load_there (Plain (instr.Eqz I32) (Plain (instr.BrIf 1) copying))))
+
+abbrev pub round : Sequence
+round = Plain (const_32 0) (Plain (const_32 0) (Plain (const_32 1) (Plain (const_32 16) (Plain (instr.Call 0) testing))))
+
+abbrev pub looping : Sequence
+looping = InLoop None round Stop
+
+pub echo_spells : Spells echo_body looping
+echo_spells = record { is = refl; nested = ((tt, (tt, (tt, (tt, (tt, (tt, (tt, (tt, (tt, (tt, (tt, (tt, (tt, (tt, (tt, (tt, (tt, (tt, (tt, (tt, (tt, tt))))))))))))))))))))), tt) }
+
+-- ---- its type
+
+abbrev functions : List FunctionType
+functions = transfer_type ∷ transfer_type ∷ no_type ∷ []
+
+abbrev in_body : Context
+in_body = body_context (module_context echo functions) no_type []
+
+-- inside of the loop, with these operands, to none
+abbrev IsTyped : Sequence → List ValueType → Type 0
+IsTyped rest operands = HasType in_body ([] ∷ [] ∷ []) rest operands []
+
+has_memory : HasMemory in_body
+has_memory = (one_page, refl)
+
+again_typed : IsTyped again (I32 ∷ [])
+again_typed = (I32 ∷ [], [], [], refl, (I32, refl, refl), ([], [], [], refl, ([], [], refl, refl), refl))
+
+write_typed : IsTyped (Plain (instr.Call 1) again) (I32 ∷ I32 ∷ I32 ∷ I32 ∷ [])
+write_typed = (I32 ∷ I32 ∷ I32 ∷ I32 ∷ [], I32 ∷ [], [], refl, (transfer_type, refl, refl, refl), again_typed)
+
+writing_typed : IsTyped writing []
+writing_typed = (
+  [],
+  I32 ∷ [],
+  [],
+  refl,
+  (I32, lit< tt, refl, refl),
+  (
+    [],
+    I32 ∷ [],
+    I32 ∷ [],
+    refl,
+    (I32, lit< tt, refl, refl),
+    ([], I32 ∷ [], I32 ∷ I32 ∷ [], refl, (I32, lit< tt, refl, refl), ([], I32 ∷ [], I32 ∷ I32 ∷ I32 ∷ [], refl, (I32, lit< tt, refl, refl), write_typed)),
+  ),
+)
+
+store_typed : IsTyped (Plain store_there writing) (I32 ∷ I32 ∷ [])
+store_typed = (I32 ∷ I32 ∷ [], [], [], refl, (has_memory, lit≤ tt, refl, refl), writing_typed)
+
+copying_typed : IsTyped copying []
+copying_typed = (
+  [],
+  I32 ∷ [],
+  [],
+  refl,
+  (I32, lit< tt, refl, refl),
+  (
+    [],
+    I32 ∷ [],
+    I32 ∷ [],
+    refl,
+    (I32, lit< tt, refl, refl),
+    (I32 ∷ [], I32 ∷ [], I32 ∷ [], refl, (has_memory, lit≤ tt, refl, refl), store_typed),
+  ),
+)
+
+test_typed : IsTyped (Plain (instr.Eqz I32) (Plain (instr.BrIf 1) copying)) (I32 ∷ [])
+test_typed = (I32 ∷ [], I32 ∷ [], [], refl, (refl, refl), (I32 ∷ [], [], [], refl, ([], refl, refl, refl), copying_typed))
+
+testing_typed : IsTyped testing (I32 ∷ [])
+testing_typed = (
+  I32 ∷ [],
+  [],
+  [],
+  refl,
+  (I32, refl, refl),
+  (
+    [],
+    I32 ∷ [],
+    [],
+    refl,
+    (I32, lit< tt, refl, refl),
+    (I32 ∷ [], I32 ∷ [], [], refl, (has_memory, lit≤ tt, refl, refl), test_typed),
+  ),
+)
+
+read_typed : IsTyped (Plain (instr.Call 0) testing) (I32 ∷ I32 ∷ I32 ∷ I32 ∷ [])
+read_typed = (I32 ∷ I32 ∷ I32 ∷ I32 ∷ [], I32 ∷ [], [], refl, (transfer_type, refl, refl, refl), testing_typed)
+
+round_typed : IsTyped round []
+round_typed = (
+  [],
+  I32 ∷ [],
+  [],
+  refl,
+  (I32, lit< tt, refl, refl),
+  (
+    [],
+    I32 ∷ [],
+    I32 ∷ [],
+    refl,
+    (I32, lit< tt, refl, refl),
+    ([], I32 ∷ [], I32 ∷ I32 ∷ [], refl, (I32, lit< tt, refl, refl), ([], I32 ∷ [], I32 ∷ I32 ∷ I32 ∷ [], refl, (I32, lit< tt, refl, refl), read_typed)),
+  ),
+)
+
+-- ---- the module
+
+pub echo_is_valid : IsValid echo
+echo_is_valid = record {
+  functions = functions;
+  types = (lit≤ tt, (lit≤ tt, tt));
+  function_types = (refl, (refl, (refl, tt)));
+  bodies = ((no_type, looping, refl, echo_spells, (round_typed, refl)), tt);
+  tables = tt;
+  memories = page_is_valid;
+  globals = tt;
+  exports = (lit< tt, (lit< tt, tt));
+  names = names_differ 2;
+  start = tt;
+  elements = tt;
+  data_segments = ((lit< tt, inl (value.I32 0, lit< tt, refl), (lit< tt, (lit< tt, (lit< tt, (lit< tt, (lit< tt, (lit< tt, (lit< tt, (lit< tt, (lit< tt, (lit< tt, (lit< tt, (lit< tt, tt))))))))))))), tt);
+  one_table = lit≤ tt;
+  one_memory = lit≤ tt;
+}
