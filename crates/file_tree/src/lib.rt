@@ -1,5 +1,9 @@
-//! The file system of a worker, as definitions in `specs/`.
+//! The file system of a worker: its definitions in `specs/`, and a tree of files in memory.
 #![tactic(auto)]
 
 pub mod laws;
 pub mod limits;
+mod lookup;
+mod tree;
+
+pub use tree::Tree;

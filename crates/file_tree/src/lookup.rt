@@ -1,0 +1,70 @@
+//! Nodes by their numbers, and what they hold.
+
+ghost use Rattle.std.specs.Prelude.{◌≡◌, ◌<◌, length, IfSome, IfNone, option_copied};
+ghost use Rattle.file_tree.specs.Links.{IsPlace, IsNowhere, node_in, hook_held, content_held, holds_directory_node, bytes_held_in, is_hung};
+
+use file_tree_store::{Content, Hook, Node, Nodes};
+
+/// The place of the node with this number.
+pub fn place_of(nodes: &Nodes, number: u64) -> Option<usize>
+    ensures there { IfSome result (λ place. IsPlace nodes.now number place) }
+    ensures within { IfSome result (λ place. place < length nodes.now) }
+    ensures nowhere { IfNone result (IsNowhere nodes.now number) }
+{
+    for place in 0..nodes.len() {
+        if nodes.get(place).number == number {
+            return Some(place);
+        }
+    }
+    None
+}
+
+/// The node with this number.
+pub fn node_of(nodes: &Nodes, number: u64) -> Option<&Node>
+    ensures { option_copied result ≡ node_in nodes.now number }
+{
+    match place_of(nodes, number) {
+        Some(place) => Some(nodes.get(place)),
+        None => None,
+    }
+}
+
+/// Whether a directory is there.
+pub fn holds_directory(node: Option<&Node>) -> bool
+    ensures { result ≡ holds_directory_node (content_held (option_copied node.entry)) }
+{
+    match node {
+        Some(node) => match &node.content {
+            Content::Directory => true,
+            Content::File(_) => false,
+        },
+        None => false,
+    }
+}
+
+/// The bytes of a file that is there, else none.
+pub fn bytes_held(node: Option<&Node>) -> &[u8]
+    ensures { result.now ≡ bytes_held_in (option_copied node.entry) }
+{
+    match node {
+        Some(node) => match &node.content {
+            Content::Directory => b"",
+            Content::File(file) => file.as_slice(),
+        },
+        None => b"",
+    }
+}
+
+/// Whether a node is there that wasn't removed.
+pub fn holds_path(node: Option<&Node>) -> bool
+    ensures { result ≡ is_hung (hook_held (option_copied node.entry)) }
+{
+    match node {
+        Some(node) => match &node.hook {
+            Hook::Root => true,
+            Hook::In(_, _) => true,
+            Hook::Removed => false,
+        },
+        None => false,
+    }
+}

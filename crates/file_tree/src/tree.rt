@@ -1,0 +1,77 @@
+//! A tree of files.
+
+ghost use Rattle.std.specs.Prelude.{◌≡◌, ◌<◌, ◌^◌, ◌++◌, ◌∷◌, [], length, IfOk, OnErr, is_some};
+ghost use Rattle.file_tree.specs.Files.{fresh, is_directory, bytes_of_node, used, path_of};
+
+use crate::lookup::{bytes_held, holds_directory, holds_path, node_of};
+use file_tree_store::{Content, Hook, Node, Nodes};
+use std::alloc::{AllocError, Global};
+use std::marker::Model;
+
+/// Files and directories, which contracts see by their numbers and whole paths.
+#[derive(Drop)]
+pub struct Tree {
+    nodes: Nodes,
+    next: u64,
+    used: u64,
+}
+
+impl Model for Tree {
+    ghost use Rattle.std.specs.Prelude.{◌≡◌};
+    ghost use Rattle.file_tree.specs.Files.{Files};
+
+    ghost Value = { Files };
+
+    ghost use Rattle.file_tree.specs.Links.{files, AreNodes, used_in};
+
+    ghost view = { λ t. files t.nodes t.next };
+
+    ghost invariant = { λ t. AreNodes t.nodes t.next × (t.used ≡ used_in t.nodes) };
+}
+
+impl Tree {
+    /// A fresh tree: the root alone, which is node 1. Only want of memory makes it fail.
+    pub fn new(alloc: Global) -> Result<Self, AllocError>
+        ensures { IfOk result (λ tree. tree ≡ fresh) }
+    {
+        let mut nodes = Nodes::new(alloc);
+        nodes.push(Node {
+            number: 1,
+            hook: Hook::Root,
+            content: Content::Directory,
+        })?;
+        Ok(Tree {
+            nodes,
+            next: 2,
+            used: 0,
+        })
+    }
+
+    /// Whether a directory has this number.
+    pub fn is_directory(&self, number: u64) -> bool
+        ensures { result ≡ is_directory self.now number }
+    {
+        holds_directory(node_of(&self.nodes, number))
+    }
+
+    /// How many bytes the file with this number has; a directory has none.
+    pub fn size(&self, number: u64) -> u64
+        ensures { result ≡ length (bytes_of_node self.now number) }
+    {
+        bytes_held(node_of(&self.nodes, number)).len() as u64
+    }
+
+    /// How many bytes all files have, removed ones that are still there included.
+    pub fn used(&self) -> u64
+        ensures { result ≡ used self.now }
+    {
+        self.used
+    }
+
+    /// Whether the node with this number has a path: it is there, and wasn't removed.
+    pub fn has_path(&self, number: u64) -> bool
+        ensures { result ≡ is_some (path_of self.now number) }
+    {
+        holds_path(node_of(&self.nodes, number))
+    }
+}
