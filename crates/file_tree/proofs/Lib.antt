@@ -3,3 +3,5 @@ pub mod Names
 pub mod Climbs
 pub mod Lookups
 pub mod Fresh
+pub mod Lists
+pub mod Grows

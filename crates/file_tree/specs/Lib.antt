@@ -1,3 +1,4 @@
+pub mod Changes
 pub mod Files
 pub mod Laws
 pub mod Links

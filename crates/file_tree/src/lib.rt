@@ -1,9 +1,11 @@
 //! The file system of a worker: its definitions in `specs/`, and a tree of files in memory.
 #![tactic(auto)]
 
+mod kind;
 pub mod laws;
 pub mod limits;
 mod lookup;
 mod tree;
 
+pub use kind::Kind;
 pub use tree::Tree;

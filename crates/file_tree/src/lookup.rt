@@ -1,9 +1,12 @@
 //! Nodes by their numbers, and what they hold.
 
 ghost use Rattle.std.specs.Prelude.{◌≡◌, ◌<◌, length, IfSome, IfNone, option_copied};
-ghost use Rattle.file_tree.specs.Links.{IsPlace, IsNowhere, node_in, hook_held, content_held, holds_directory_node, bytes_held_in, is_hung};
+ghost use Rattle.file_tree.specs.Links.{IsPlace, IsNowhere, node_in, hook_held, content_held, holds_directory_node, bytes_held_in, is_hung, content_shown};
+ghost use Rattle.file_tree.specs.Changes.{empty};
 
-use file_tree_store::{Content, Hook, Node, Nodes};
+use crate::kind::Kind;
+use file_tree_store::{Bytes, Content, Hook, Node, Nodes};
+use std::alloc::Global;
 
 /// The place of the node with this number.
 pub fn place_of(nodes: &Nodes, number: u64) -> Option<usize>
@@ -66,5 +69,15 @@ pub fn holds_path(node: Option<&Node>) -> bool
             Hook::Removed => false,
         },
         None => false,
+    }
+}
+
+/// The contents of a new node. It takes no memory.
+pub fn new_content(alloc: Global, kind: Kind) -> Content
+    ensures { content_shown result ≡ empty kind }
+{
+    match kind {
+        Kind::Directory => Content::Directory,
+        Kind::File => Content::File(Bytes::new(alloc)),
     }
 }

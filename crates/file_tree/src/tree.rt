@@ -1,10 +1,13 @@
 //! A tree of files.
 
-ghost use Rattle.std.specs.Prelude.{◌≡◌, ◌<◌, ◌^◌, ◌++◌, ◌∷◌, [], length, IfOk, OnErr, is_some};
-ghost use Rattle.file_tree.specs.Files.{fresh, is_directory, bytes_of_node, used, path_of};
+ghost use Rattle.std.specs.Prelude.{◌≡◌, ◌<◌, ◌^◌, ◌++◌, ◌∷◌, [], length, ◌+◌, IfOk, OnOk, OnErr, is_some};
+ghost use Rattle.file_tree.specs.Files.{fresh, is_directory, bytes_of_node, used, path_of, created};
+ghost use Rattle.file_tree.specs.Changes.{IsFree, empty, path_at};
+ghost use Rattle.file_tree.specs.declared.limits.TheConstants.{NODES};
 
-use crate::lookup::{bytes_held, holds_directory, holds_path, node_of};
-use file_tree_store::{Content, Hook, Node, Nodes};
+use crate::kind::Kind;
+use crate::lookup::{bytes_held, holds_directory, holds_path, new_content, node_of};
+use file_tree_store::{Bytes, Content, Hook, Node, Nodes};
 use std::alloc::{AllocError, Global};
 use std::marker::Model;
 
@@ -73,5 +76,47 @@ impl Tree {
         ensures { result ≡ is_some (path_of self.now number) }
     {
         holds_path(node_of(&self.nodes, number))
+    }
+
+    /// The number of the next new node.
+    pub fn next(&self) -> u64
+        ensures { result ≡ self.now.next }
+    {
+        self.next
+    }
+
+    /// How many nodes there are, removed ones that are still there included.
+    pub fn len(&self) -> usize
+        ensures { result ≡ length self.now.nodes }
+    {
+        self.nodes.len()
+    }
+
+    /// Makes a node under a name in a directory, and gives its number. The caller has tested that the directory is one
+    /// and has a path (`is_directory`, `has_path`), that nothing is there (`child`), and that there is room (`len`,
+    /// `next`). Only want of memory makes it fail, and then nothing is changed.
+    pub fn create(
+        &mut self,
+        alloc: Global,
+        directory: u64,
+        name: &[u8],
+        kind: Kind,
+    ) -> Result<u64, AllocError>
+        requires free { IsFree self.old directory name.now }
+        requires room { length self.old.nodes < NODES }
+        requires number { self.old.next + 1 < 2 ^ 64 }
+        ensures number { IfOk result (λ number. number ≡ self.old.next) }
+        ensures created { OnOk result (self.new ≡ created (path_at self.old directory ++ name.now ∷ []) (empty kind) self.old) }
+        ensures unchanged { OnErr result (self.new ≡ self.old) }
+    {
+        let number = self.next;
+        let name = Bytes::copied(alloc, name)?;
+        self.nodes.push(Node {
+            number,
+            hook: Hook::In(directory, name),
+            content: new_content(alloc, kind),
+        })?;
+        self.next = number + 1;
+        Ok(number)
     }
 }

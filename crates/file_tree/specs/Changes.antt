@@ -1,0 +1,22 @@
+-- What a caller has tested before a tree is changed.
+use Rattle.std.specs.Prelude.{◌≡◌, ◌≢◌, ℕ, ◌+◌, ◌<◌, ◌^◌, ◌++◌, ◌∷◌, [], Bool, true, false, length, Option, Some, None, is_some, unwrap_or}
+use Rattle.file_tree.specs.Files.{Name, Path, Files, Content, Directory, File, IsName, path_of, child, is_directory}
+use Rattle.file_tree.specs.declared.kind.Kind.{Kind}
+use Rattle.file_tree.specs.declared.kind.Kind.TheVariants as kind
+use Rattle.file_tree.specs.declared.limits.TheConstants.{NODES}
+
+-- what a new node holds
+abbrev pub empty : Kind → Content
+empty kind.Directory = Directory
+empty kind.File = File []
+
+-- the whole path of a node, where it has one
+abbrev pub path_at : Files → ℕ → Path
+path_at fs k = unwrap_or (path_of fs k) []
+
+-- a name in a directory that has a path, under which there is nothing
+pub record IsFree (fs : Files) (d : ℕ) (name : Name) : Type 0 where
+  pub is_directory : is_directory fs d ≡ true
+  pub path : is_some (path_of fs d) ≡ true
+  pub free : child fs d name ≡ None
+  pub named : IsName name
