@@ -5,3 +5,5 @@ pub mod Lookups
 pub mod Fresh
 pub mod Lists
 pub mod Grows
+pub mod Bytes
+pub mod Contents

@@ -108,25 +108,37 @@ used_small (m ∷ ns) h = omega (arith, sum_by-cons (λ (x : Node). length (byte
 -- ---- what is shown of nodes of which one is changed
 
 -- each node shows what G makes of what it showed, the changed one too
-pub shown_changed : (S after : Node → FileNode) (G : FileNode → FileNode) (f : Node → Node) (least : ℕ) (ns : List Node) (next k i : ℕ) → IsPlace ns k i → AreRisingNodes least ns next
-    → ((m : Node) → m.number ≢ k → after m ≡ G (S m)) → ((m : Node) → m.number ≡ k → after (f m) ≡ G (S m)) → map after (changed f i ns) ≡ map G (map S ns)
-shown_changed S after G f least [] next k i h rising others one = absurd h
-shown_changed S after G f least (m ∷ ns) next k zero h rising others one =
-    ap (λ (x : FileNode). x ∷ map after ns) (one m h) ∙ ap (λ (xs : List FileNode). G (S m) ∷ xs) (rest ns (nowhere_above k (m.number + 1) ns (omega (arith, h)) (numbers_from (m.number + 1) ns next rising.1))) where
+pub shown_changed : (S after : Node → FileNode) (G : FileNode → FileNode) (f : Node → Node) (least : ℕ) (ns : List Node) (next k i : ℕ) (n : Node) → IsPlace ns k i → node_in ns k ≡ Some n → AreRisingNodes least ns next
+    → ((m : Node) → m.number ≢ k → after m ≡ G (S m)) → after (f n) ≡ G (S n) → map after (changed f i ns) ≡ map G (map S ns)
+shown_changed S after G f least [] next k i n h e rising others one = absurd h
+shown_changed S after G f least (m ∷ ns) next k zero n h e rising others one =
+    let some_is : m ≡ n = (let s : Some m ≡ Some n = sym (ap (λ (b : Bool). cond b (Some m) (node_in ns k)) (eq-eqb m.number k h)) ∙ e in cc) in
+    let mine : after (f m) ≡ G (S m) = subst (λ (x : Node). after (f x) ≡ G (S x)) (sym some_is) one in
+    ap (λ (x : FileNode). x ∷ map after ns) mine ∙ ap (λ (xs : List FileNode). G (S m) ∷ xs) (rest ns (nowhere_above k (m.number + 1) ns (omega (arith, h)) (numbers_from (m.number + 1) ns next rising.1))) where
       rest : (ms : List Node) → IsNowhere ms k → map after ms ≡ map G (map S ms)
       rest [] h = refl
       rest (x ∷ ms) h = ap (λ (y : FileNode). y ∷ map after ms) (others x h.0) ∙ ap (λ (ys : List FileNode). G (S x) ∷ ys) (rest ms h.1)
-shown_changed S after G f least (m ∷ ns) next k (suc i) h rising others one =
-    ap (λ (x : FileNode). x ∷ map after (changed f i ns)) (others m h.0) ∙ ap (λ (xs : List FileNode). G (S m) ∷ xs) (shown_changed S after G f (m.number + 1) ns next k i h.1 rising.1 others one)
+shown_changed S after G f least (m ∷ ns) next k (suc i) n h e rising others one =
+    let later : node_in ns k ≡ Some n = sym (ap (λ (b : Bool). cond b (Some m) (node_in ns k)) (ne_eqb m.number k h.0)) ∙ e in
+    ap (λ (x : FileNode). x ∷ map after (changed f i ns)) (others m h.0) ∙ ap (λ (xs : List FileNode). G (S m) ∷ xs) (shown_changed S after G f (m.number + 1) ns next k i n h.1 later rising.1 others one)
+
+pub number_in : (ns : List Node) (k : ℕ) (n : Node) → node_in ns k ≡ Some n → n.number ≡ k
+number_in [] k n e = absurd cc
+number_in (m ∷ ns) k n e = by_test (eqb m.number k) refl (number_in ns k n) e where
+  some_is : (x y : Node) → Some x ≡ Some y → x ≡ y
+  some_is x y e = cc
+
+  by_test : (b : Bool) → eqb m.number k ≡ b → (node_in ns k ≡ Some n → n.number ≡ k) → cond b (Some m) (node_in ns k) ≡ Some n → n.number ≡ k
+  by_test true is later e = ap (λ (x : Node). x.number) (sym (some_is m n e)) ∙ eqb-true m.number k is
+  by_test false is later e = later e
 
 -- the same, where only the changed one shows another thing
-pub shown_changed_one : (S after : Node → FileNode) (g : FileNode → FileNode) (f : Node → Node) (least : ℕ) (ns : List Node) (next k i : ℕ) → IsPlace ns k i → AreRisingNodes least ns next
-    → ((m : Node) → (S m).number ≡ m.number) → ((m : Node) → m.number ≢ k → after m ≡ S m) → ((m : Node) → m.number ≡ k → after (f m) ≡ g (S m))
-    → map after (changed f i ns) ≡ map (changed_at k g) (map S ns)
-shown_changed_one S after g f least ns next k i h rising numbers others one =
-    shown_changed S after (changed_at k g) f least ns next k i h rising
+pub shown_changed_one : (S after : Node → FileNode) (g : FileNode → FileNode) (f : Node → Node) (least : ℕ) (ns : List Node) (next k i : ℕ) (n : Node) → IsPlace ns k i → node_in ns k ≡ Some n → AreRisingNodes least ns next
+    → ((m : Node) → (S m).number ≡ m.number) → ((m : Node) → m.number ≢ k → after m ≡ S m) → after (f n) ≡ g (S n) → map after (changed f i ns) ≡ map (changed_at k g) (map S ns)
+shown_changed_one S after g f least ns next k i n h e rising numbers others one =
+    shown_changed S after (changed_at k g) f least ns next k i n h e rising
     (λ m ne. others m ne ∙ sym (ap (λ (b : Bool). cond b (g (S m)) (S m)) (ne_eqb (S m).number k (λ e. ne (sym (numbers m) ∙ e)))))
-    (λ m e. one m e ∙ sym (ap (λ (b : Bool). cond b (g (S m)) (S m)) (eq-eqb (S m).number k (numbers m ∙ e))))
+    (one ∙ sym (ap (λ (b : Bool). cond b (g (S n)) (S n)) (eq-eqb (S n).number k (numbers n ∙ number_in ns k n e))))
 
 -- no node is changed
 pub none_changed : (S : Node → FileNode) (g : FileNode → FileNode) (ns : List Node) (k : ℕ) → ((m : Node) → (S m).number ≡ m.number) → IsNowhere ns k → map (changed_at k g) (map S ns) ≡ map S ns

@@ -12,6 +12,7 @@ use Rattle.file_tree_store.specs.declared.node.Node.{Node}
 use Rattle.file_tree.specs.Files.{Name, Path, FileNode, Files, node_of, path_of, is_directory, holds_directory, bytes_of_node, bytes_held, bytes_in, used}
 use Rattle.file_tree.specs.Links.{climb, Up, IsTree, node_in, hook_held, hook_of, content_held, is_directory_in, holds_directory_node, bytes_of, bytes_held_in, used_in, is_hung, AreNodes, shown, files, IsPlace, IsNowhere}
 use Rattle.file_tree.proofs.Climbs.{path_is, no_path}
+use Rattle.file_tree.proofs.Lists.{number_in}
 
 -- ---- places
 
@@ -49,16 +50,6 @@ node_shown next hook (n ∷ ns) k = by_test (eqb n.number k) (node_shown next ho
       → cond b (Some (shown next hook n)) (find (λ (n : FileNode). eqb n.number k) (map (shown next hook) ns)) ≡ option_map (shown next hook) (cond b (Some n) (node_in ns k))
   by_test true later = refl
   by_test false later = later
-
-number_in : (ns : List Node) (k : ℕ) (n : Node) → node_in ns k ≡ Some n → n.number ≡ k
-number_in [] k n e = absurd cc
-number_in (m ∷ ns) k n e = by_test (eqb m.number k) refl (number_in ns k n) e where
-  some_is : (x y : Node) → Some x ≡ Some y → x ≡ y
-  some_is x y e = cc
-
-  by_test : (b : Bool) → eqb m.number k ≡ b → (node_in ns k ≡ Some n → n.number ≡ k) → cond b (Some m) (node_in ns k) ≡ Some n → n.number ≡ k
-  by_test true is later e = ap (λ (x : Node). x.number) (sym (some_is m n e)) ∙ eqb-true m.number k is
-  by_test false is later e = later e
 
 pub directory_shown : (ns : List Node) (next k : ℕ) → is_directory (files ns next) k ≡ is_directory_in ns k
 directory_shown ns next k = ap holds_directory (node_shown next (hook_of ns) ns k) ∙ of_node (node_in ns k) where

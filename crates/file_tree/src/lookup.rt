@@ -1,6 +1,6 @@
 //! Nodes by their numbers, and what they hold.
 
-ghost use Rattle.std.specs.Prelude.{◌≡◌, ◌<◌, length, IfSome, IfNone, option_copied};
+ghost use Rattle.std.specs.Prelude.{◌≡◌, ◌<◌, length, max, IfSome, IfNone, option_copied};
 ghost use Rattle.file_tree.specs.Links.{IsPlace, IsNowhere, node_in, hook_held, content_held, holds_directory_node, bytes_held_in, is_hung, content_shown};
 ghost use Rattle.file_tree.specs.Changes.{empty};
 
@@ -79,5 +79,16 @@ pub fn new_content(alloc: Global, kind: Kind) -> Content
     match kind {
         Kind::Directory => Content::Directory,
         Kind::File => Content::File(Bytes::new(alloc)),
+    }
+}
+
+/// The larger one of two numbers.
+pub fn larger(a: u64, b: u64) -> u64
+    ensures { result ≡ max a b }
+{
+    if a < b {
+        b
+    } else {
+        a
     }
 }

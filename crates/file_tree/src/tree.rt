@@ -1,12 +1,14 @@
 //! A tree of files.
 
-ghost use Rattle.std.specs.Prelude.{◌≡◌, ◌<◌, ◌^◌, ◌++◌, ◌∷◌, [], length, ◌+◌, IfOk, OnOk, OnErr, is_some};
-ghost use Rattle.file_tree.specs.Files.{fresh, is_directory, bytes_of_node, used, path_of, created};
+ghost use Rattle.std.specs.Prelude.{◌≡◌, ◌<◌, ◌^◌, ◌++◌, ◌∷◌, [], length, ◌+◌, ◌≤◌, false, IfOk, OnOk, OnErr, is_some};
+ghost use Rattle.file_tree.specs.Files.{fresh, is_directory, bytes_of_node, used, path_of, created, with_bytes, written, resized};
 ghost use Rattle.file_tree.specs.Changes.{IsFree, empty, path_at};
-ghost use Rattle.file_tree.specs.declared.limits.TheConstants.{NODES};
+ghost use Rattle.file_tree.specs.declared.limits.TheConstants.{NODES, FILE_BYTES};
 
 use crate::kind::Kind;
-use crate::lookup::{bytes_held, holds_directory, holds_path, new_content, node_of};
+use crate::lookup::{
+    bytes_held, holds_directory, holds_path, larger, new_content, node_of, place_of,
+};
 use file_tree_store::{Bytes, Content, Hook, Node, Nodes};
 use std::alloc::{AllocError, Global};
 use std::marker::Model;
@@ -118,5 +120,42 @@ impl Tree {
         })?;
         self.next = number + 1;
         Ok(number)
+    }
+
+    /// Puts bytes into a file from one of its bytes on, and zeros into a gap before them. The caller has tested that it is no
+    /// directory (`is_directory`), and that the file stays within its limit. Only want of memory makes it fail, and then
+    /// nothing is changed. Where no node has the number nothing is changed either.
+    pub fn write(&mut self, number: u64, from: u64, bytes: &[u8]) -> Result<(), AllocError>
+        requires file { is_directory self.old number ≡ false }
+        requires end { from + length bytes.now ≤ FILE_BYTES }
+        ensures written { OnOk result (self.new ≡ with_bytes number (written (bytes_of_node self.old number) from bytes.now) self.old) }
+        ensures unchanged { OnErr result (self.new ≡ self.old) }
+    {
+        let Some(place) = place_of(&self.nodes, number) else {
+            return Ok(());
+        };
+        let before = bytes_held(Some(self.nodes.get(place))).len() as u64;
+        self.nodes.write(place, from as usize, bytes)?;
+        let after = larger(before, from + bytes.len() as u64);
+        self.used = self.used - before + after;
+        Ok(())
+    }
+
+    /// Cuts a file to so many bytes, or puts zeros behind them. The caller has tested that it is no directory
+    /// (`is_directory`), and that the size is within its limit. Only want of memory makes it fail, and then nothing is
+    /// changed. Where no node has the number nothing is changed either.
+    pub fn resize(&mut self, number: u64, size: u64) -> Result<(), AllocError>
+        requires file { is_directory self.old number ≡ false }
+        requires size { size ≤ FILE_BYTES }
+        ensures resized { OnOk result (self.new ≡ with_bytes number (resized (bytes_of_node self.old number) size) self.old) }
+        ensures unchanged { OnErr result (self.new ≡ self.old) }
+    {
+        let Some(place) = place_of(&self.nodes, number) else {
+            return Ok(());
+        };
+        let before = bytes_held(Some(self.nodes.get(place))).len() as u64;
+        self.nodes.resize(place, size as usize)?;
+        self.used = self.used - before + size;
+        Ok(())
     }
 }
