@@ -21,7 +21,7 @@ use Rattle.file_tree.proofs.Climbs.{path_is, no_path, climb_sound, there}
 use Rattle.file_tree.proofs.Lookups.{path_shown, directory_shown, node_nowhere}
 use Rattle.file_tree.proofs.Lists.{numbers_below, nowhere_below, in_pushed_there, in_pushed_other, in_pushed_same, all_pushed, rising_pushed}
 
-removed_or_not : (h : Hook) → (h ≡ Removed) ⊎ (h ≢ Removed)
+pub removed_or_not : (h : Hook) → (h ≡ Removed) ⊎ (h ≢ Removed)
 removed_or_not Root = inr (λ e. absurd cc)
 removed_or_not Removed = inl refl
 removed_or_not (In d n) = inr (λ e. absurd cc)

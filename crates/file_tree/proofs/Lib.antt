@@ -7,3 +7,7 @@ pub mod Lists
 pub mod Grows
 pub mod Bytes
 pub mod Contents
+pub mod Seen
+pub mod Hangs
+pub mod Removes
+pub mod Forgets

@@ -1,6 +1,6 @@
 -- What a caller has tested before a tree is changed.
-use Rattle.std.specs.Prelude.{◌≡◌, ◌≢◌, ℕ, ◌+◌, ◌<◌, ◌^◌, ◌++◌, ◌∷◌, [], Bool, true, false, length, Option, Some, None, is_some, unwrap_or}
-use Rattle.file_tree.specs.Files.{Name, Path, Files, Content, Directory, File, IsName, path_of, child, is_directory}
+use Rattle.std.specs.Prelude.{◌≡◌, ◌≢◌, ℕ, ◌+◌, ◌<◌, ◌^◌, ◌==◌, ◌++◌, ◌∷◌, [], Bool, true, false, length, take, drop, List, Option, Some, None, is_some, unwrap_or}
+use Rattle.file_tree.specs.Files.{Name, Path, Files, Content, Directory, File, IsName, path_of, child, is_directory, bytes_of_node, entries_of}
 use Rattle.file_tree.specs.declared.kind.Kind.{Kind}
 use Rattle.file_tree.specs.declared.kind.Kind.TheVariants as kind
 use Rattle.file_tree.specs.declared.limits.TheConstants.{NODES}
@@ -20,3 +20,12 @@ pub record IsFree (fs : Files) (d : ℕ) (name : Name) : Type 0 where
   pub path : is_some (path_of fs d) ≡ true
   pub free : child fs d name ≡ None
   pub named : IsName name
+
+-- at most so many bytes of a file from one of them on
+abbrev pub read_from : Files → ℕ → ℕ → ℕ → List ℕ
+read_from fs k from most = take most (drop from (bytes_of_node fs k))
+
+-- a node that can lose its path: it isn't the root, and nothing hangs in it
+pub record CanLose (fs : Files) (k : ℕ) : Type 0 where
+  pub not_root : k ≢ 1
+  pub empty : is_directory fs k ≡ true → (length (entries_of fs k) == 0) ≡ true

@@ -1,12 +1,12 @@
 -- How a tree keeps nodes: each names its directory, and paths follow from that.
-use Rattle.std.specs.Prelude.{◌≡◌, ◌≢◌, ℕ, zero, suc, ◌+◌, ◌<◌, ◌≤◌, ◌==◌, Bool, true, false, List, [], ◌∷◌, length, reverse, map, find, sum_by, Option, Some, None, option_map}
+use Rattle.std.specs.Prelude.{◌≡◌, ◌≢◌, ℕ, zero, suc, ◌+◌, ◌<◌, ◌≤◌, ◌==◌, ◌&&◌, if◌then◌else◌, Bool, true, false, List, [], ◌∷◌, length, reverse, map, find, sum_by, Option, Some, None, option_map}
 use Rattle.std.specs.List.{AllByRecursion}
 use Rattle.file_tree_store.specs.declared.node.Hook.{Hook}
 use Rattle.file_tree_store.specs.declared.node.Hook.TheVariants.{Root, Removed, In}
 use Rattle.file_tree_store.specs.declared.node.Content as store
 use Rattle.file_tree_store.specs.declared.node.Content.TheVariants as content
 use Rattle.file_tree_store.specs.declared.node.Node.{Node}
-use Rattle.file_tree.specs.Files.{Name, Path, FileNode, Files, Content, Directory, File, IsName, IsSmallContent, bytes_in, is_directory_content}
+use Rattle.file_tree.specs.Files.{Name, Path, FileNode, Files, Content, Directory, File, IsName, IsSmallContent, bytes_in, is_directory_content, is_same_name, Entry}
 use Rattle.file_tree.specs.declared.limits.TheConstants.{NODES}
 
 -- ---- hooks
@@ -114,3 +114,45 @@ IsPlace (n ∷ ns) k (suc place) = (n.number ≢ k) × IsPlace ns k place
 -- no node has this number
 abbrev pub IsNowhere : List Node → ℕ → Type 0
 IsNowhere ns k = AllByRecursion (λ (n : Node). n.number ≢ k) ns
+
+-- ---- what hangs in a directory
+
+-- hung in this directory under this name
+abbrev pub is_hooked : ℕ → Name → Hook → Bool
+is_hooked d name Root = false
+is_hooked d name Removed = false
+is_hooked d name (In e other) = (e == d) && is_same_name other name
+
+-- the number of the first node that hangs so
+abbrev pub child_in : List Node → ℕ → Name → Option ℕ
+child_in [] d name = None
+child_in (n ∷ ns) d name = if is_hooked d name n.hook then Some n.number else child_in ns d name
+
+-- hung in this directory
+abbrev pub is_in : ℕ → Hook → Bool
+is_in d Root = false
+is_in d Removed = false
+is_in d (In e other) = e == d
+
+-- whether any node hangs in this directory
+abbrev pub has_child : List Node → ℕ → Bool
+has_child [] d = false
+has_child (n ∷ ns) d = if is_in d n.hook then true else has_child ns d
+
+-- the name under which a node with this hook hangs in this directory
+abbrev pub hooked_name : ℕ → Hook → Option Name
+hooked_name d Root = None
+hooked_name d Removed = None
+hooked_name d (In e other) = if e == d then Some other else None
+
+abbrev pub hooked_entry : ℕ → Node → Option Entry
+hooked_entry d n = option_map (λ (name : Name). record { name = name; number = n.number }) (hooked_name d n.hook)
+
+abbrev pub with_entry : Option Entry → List Entry → List Entry
+with_entry None others = others
+with_entry (Some e) others = e ∷ others
+
+-- the entries of what hangs in this directory
+abbrev pub hooked_entries : ℕ → List Node → List Entry
+hooked_entries d [] = []
+hooked_entries d (n ∷ ns) = with_entry (hooked_entry d n) (hooked_entries d ns)

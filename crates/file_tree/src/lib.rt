@@ -1,6 +1,7 @@
 //! The file system of a worker: its definitions in `specs/`, and a tree of files in memory.
 #![tactic(auto)]
 
+mod children;
 mod kind;
 pub mod laws;
 pub mod limits;

@@ -1,6 +1,7 @@
 //! Nodes by their numbers, and what they hold.
 
-ghost use Rattle.std.specs.Prelude.{◌≡◌, ◌<◌, length, max, IfSome, IfNone, option_copied};
+ghost use Rattle.std.specs.Prelude.{◌≡◌, ◌<◌, ◌++◌, take, drop, length, max, IfSome, IfNone, option_copied};
+ghost use Rattle.std.specs.List.{remove};
 ghost use Rattle.file_tree.specs.Links.{IsPlace, IsNowhere, node_in, hook_held, content_held, holds_directory_node, bytes_held_in, is_hung, content_shown};
 ghost use Rattle.file_tree.specs.Changes.{empty};
 
@@ -91,4 +92,30 @@ pub fn larger(a: u64, b: u64) -> u64
     } else {
         a
     }
+}
+
+/// Puts bytes from a place on into `into`, as many as there are and fit, and gives how many.
+pub fn copy_front(bytes: &[u8], from: u64, into: &mut [u8]) -> usize
+    ensures count { result ≡ length (take (length into.old) (drop from bytes.now)) }
+    ensures copied { into.new ≡ take (length into.old) (drop from bytes.now) ++ drop result into.old }
+{
+    if from >= bytes.len() as u64 {
+        return 0;
+    }
+    let rest = &bytes[from as usize..];
+    if rest.len() >= into.len() {
+        into.copy_from_slice(&rest[..into.len()]);
+        into.len()
+    } else {
+        into[..rest.len()].copy_from_slice(rest);
+        rest.len()
+    }
+}
+
+/// Drops the node at a place.
+pub fn drop_node(nodes: &mut Nodes, place: usize)
+    requires { place < length nodes.old }
+    ensures { nodes.new ≡ remove nodes.old place }
+{
+    let _node = nodes.remove(place);
 }

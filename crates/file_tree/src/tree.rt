@@ -1,13 +1,14 @@
 //! A tree of files.
 
-ghost use Rattle.std.specs.Prelude.{◌≡◌, ◌<◌, ◌^◌, ◌++◌, ◌∷◌, [], length, ◌+◌, ◌≤◌, false, IfOk, OnOk, OnErr, is_some};
-ghost use Rattle.file_tree.specs.Files.{fresh, is_directory, bytes_of_node, used, path_of, created, with_bytes, written, resized};
-ghost use Rattle.file_tree.specs.Changes.{IsFree, empty, path_at};
+ghost use Rattle.std.specs.Prelude.{◌≡◌, ◌<◌, ◌^◌, ◌++◌, ◌∷◌, [], length, ◌+◌, ◌≤◌, ◌==◌, drop, false, IfOk, OnOk, OnErr, is_some};
+ghost use Rattle.file_tree.specs.Files.{fresh, is_directory, bytes_of_node, used, path_of, child, entries_of, created, with_bytes, removed, forgotten, written, resized};
+ghost use Rattle.file_tree.specs.Changes.{IsFree, CanLose, empty, path_at, read_from};
 ghost use Rattle.file_tree.specs.declared.limits.TheConstants.{NODES, FILE_BYTES};
 
+use crate::children::{child_of, has_children};
 use crate::kind::Kind;
 use crate::lookup::{
-    bytes_held, holds_directory, holds_path, larger, new_content, node_of, place_of,
+    bytes_held, copy_front, drop_node, holds_directory, holds_path, larger, new_content, node_of, place_of,
 };
 use file_tree_store::{Bytes, Content, Hook, Node, Nodes};
 use std::alloc::{AllocError, Global};
@@ -94,6 +95,29 @@ impl Tree {
         self.nodes.len()
     }
 
+    /// The number of the node under a name in a directory. A removed directory has none.
+    pub fn child(&self, directory: u64, name: &[u8]) -> Option<u64>
+        ensures { result ≡ child self.now directory name.now }
+    {
+        child_of(&self.nodes, directory, name)
+    }
+
+    /// Whether a directory has no entries. A removed one has none, nor has a file.
+    pub fn is_empty(&self, directory: u64) -> bool
+        ensures { result ≡ (length (entries_of self.now directory) == 0) }
+    {
+        !has_children(&self.nodes, directory)
+    }
+
+    /// Puts a file's bytes from one of them on into `into`, as many as there are and fit, and gives how many. What is
+    /// behind them in `into` stays.
+    pub fn read(&self, number: u64, from: u64, into: &mut [u8]) -> usize
+        ensures count { result ≡ length (read_from self.now number from (length into.old)) }
+        ensures bytes { into.new ≡ read_from self.now number from (length into.old) ++ drop result into.old }
+    {
+        copy_front(bytes_held(node_of(&self.nodes, number)), from, into)
+    }
+
     /// Makes a node under a name in a directory, and gives its number. The caller has tested that the directory is one
     /// and has a path (`is_directory`, `has_path`), that nothing is there (`child`), and that there is room (`len`,
     /// `next`). Only want of memory makes it fail, and then nothing is changed.
@@ -157,5 +181,29 @@ impl Tree {
         self.nodes.resize(place, size as usize)?;
         self.used = self.used - before + size;
         Ok(())
+    }
+
+    /// Takes a node's path away; the node stays until it is forgotten. The caller has tested that it isn't the root, and that a
+    /// directory has no entries (`is_directory`, `is_empty`). Where no node has the number nothing is changed.
+    pub fn remove(&mut self, number: u64)
+        requires { CanLose self.old number }
+        ensures { self.new ≡ removed number self.old }
+    {
+        if let Some(place) = place_of(&self.nodes, number) {
+            self.nodes.hang(place, Hook::Removed);
+        }
+    }
+
+    /// Drops a node that was removed, with its bytes. The caller has tested that it has no path (`has_path`). Where no node has
+    /// the number nothing is changed. Its number isn't used again.
+    pub fn forget(&mut self, number: u64)
+        requires { is_some (path_of self.old number) ≡ false }
+        ensures { self.new ≡ forgotten number self.old }
+    {
+        if let Some(place) = place_of(&self.nodes, number) {
+            let size = bytes_held(Some(self.nodes.get(place))).len() as u64;
+            drop_node(&mut self.nodes, place);
+            self.used -= size;
+        }
     }
 }
