@@ -11,7 +11,7 @@ use Rattle.file_tree_store.specs.Changes.{node_written, node_resized}
 use Rattle.file_tree.specs.Links.{IsTree, node_in, hook_held, hook_of, content_held, content_shown, holds_directory_node, is_directory_in, bytes_of, bytes_held_in, used_in, AreNodes, shown, files, IsPlace, IsNowhere}
 use Rattle.file_tree.proofs.Lookups.{directory_shown, bytes_shown, node_at_place}
 use Rattle.file_tree.proofs.Lists.{in_changed_same, in_changed_other, rising_changed, length-changed, all_changed, all_in, shown_changed_one, none_changed, used_changed, used_holds, used_small}
-use Rattle.file_tree.proofs.Bytes.{AreBytes, file_is, shown_written, shown_resized, small_written, small_resized}
+use Rattle.file_tree.proofs.Sizes.{AreBytes, file_is, shown_written, shown_resized, small_written, small_resized}
 
 -- the file at a place gets other bytes
 pub record Rewrites (ns : List Node) (next k i : ℕ) (n : Node) (f : Node → Node) (bytes : List ℕ) : Type 0 where

@@ -61,7 +61,7 @@ shown_without S least (m ∷ ns) next k (suc i) numbers rising h =
     ap (λ (xs : List FileNode). S m ∷ xs) (shown_without S (m.number + 1) ns next k i numbers rising.1 h.1)
     ∙ sym (ap (λ (b : Bool). cond (not b) (S m ∷ filter (λ (n : FileNode). not (eqb n.number k)) (map S ns)) (filter (λ (n : FileNode). not (eqb n.number k)) (map S ns))) (ne_eqb (S m).number k (λ e. h.0 (sym (numbers m) ∙ e))))
 
-not_hung : (h : Hook) → is_hung h ≡ false → h ≡ Removed
+pub not_hung : (h : Hook) → is_hung h ≡ false → h ≡ Removed
 not_hung Root e = absurd cc
 not_hung Removed e = refl
 not_hung (In d name) e = absurd cc

@@ -88,7 +88,7 @@ map_same {X} f g P (y ∷ ys) same h = ap (λ (x : X). x ∷ map f ys) (same y h
 
 -- ---- the same of a list of nodes
 
-some_path : (o : Option Path) → is_some o ≡ true → o ≡ Some (unwrap_or o [])
+pub some_path : (o : Option Path) → is_some o ≡ true → o ≡ Some (unwrap_or o [])
 some_path (Some p) h = refl
 some_path None h = absurd cc
 

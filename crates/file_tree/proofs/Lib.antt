@@ -5,9 +5,14 @@ pub mod Lookups
 pub mod Fresh
 pub mod Lists
 pub mod Grows
-pub mod Bytes
+pub mod Sizes
 pub mod Contents
 pub mod Seen
 pub mod Hangs
 pub mod Removes
 pub mod Forgets
+pub mod Ends
+pub mod Moves
+pub mod Within
+pub mod WayUp
+pub mod IsFiles

@@ -1,6 +1,6 @@
 -- What a caller has tested before a tree is changed.
 use Rattle.std.specs.Prelude.{◌≡◌, ◌≢◌, ℕ, ◌+◌, ◌<◌, ◌^◌, ◌==◌, ◌++◌, ◌∷◌, [], Bool, true, false, length, take, drop, List, Option, Some, None, is_some, unwrap_or}
-use Rattle.file_tree.specs.Files.{Name, Path, Files, Content, Directory, File, IsName, path_of, child, is_directory, bytes_of_node, entries_of}
+use Rattle.file_tree.specs.Files.{Name, Path, Files, Content, Directory, File, IsName, path_of, behind, child, is_directory, bytes_of_node, entries_of}
 use Rattle.file_tree.specs.declared.kind.Kind.{Kind}
 use Rattle.file_tree.specs.declared.kind.Kind.TheVariants as kind
 use Rattle.file_tree.specs.declared.limits.TheConstants.{NODES}
@@ -29,3 +29,19 @@ read_from fs k from most = take most (drop from (bytes_of_node fs k))
 pub record CanLose (fs : Files) (k : ℕ) : Type 0 where
   pub not_root : k ≢ 1
   pub empty : is_directory fs k ≡ true → (length (entries_of fs k) == 0) ≡ true
+
+abbrev pub within_path : Option Path → Option Path → Bool
+within_path None d = false
+within_path (Some above) None = false
+within_path (Some above) (Some p) = is_some (behind above p)
+
+-- a directory that has a path is this node, or lies below it
+abbrev pub is_within : Files → ℕ → ℕ → Bool
+is_within fs k d = within_path (path_of fs k) (path_of fs d)
+
+-- a node that can be moved to a name in a directory: it isn't the root, has a path, and the directory is no part of it
+pub record CanMove (fs : Files) (k d : ℕ) (name : Name) : Type 0 where
+  pub not_root : k ≢ 1
+  pub there : is_some (path_of fs k) ≡ true
+  pub free : IsFree fs d name
+  pub outside : is_within fs k d ≡ false

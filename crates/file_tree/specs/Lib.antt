@@ -2,3 +2,4 @@ pub mod Changes
 pub mod Files
 pub mod Laws
 pub mod Links
+pub mod Steps

@@ -156,3 +156,13 @@ with_entry (Some e) others = e ∷ others
 abbrev pub hooked_entries : ℕ → List Node → List Entry
 hooked_entries d [] = []
 hooked_entries d (n ∷ ns) = with_entry (hooked_entry d n) (hooked_entries d ns)
+
+-- whether the way up from node d, of at most so many steps, comes to node k
+abbrev pub comes_by : Bool → (ℕ → Bool) → Hook → Bool
+comes_by here above Root = here
+comes_by here above Removed = false
+comes_by here above (In e name) = if here then true else above e
+
+abbrev pub comes_to : ℕ → (ℕ → Hook) → ℕ → ℕ → Bool
+comes_to zero hook k d = false
+comes_to (suc n) hook k d = comes_by (d == k) (comes_to n hook k) (hook d)

@@ -8,5 +8,6 @@ pub mod limits;
 mod lookup;
 mod tree;
 
+pub use file_tree_store::Bytes;
 pub use kind::Kind;
 pub use tree::Tree;

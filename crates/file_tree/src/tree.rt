@@ -1,11 +1,11 @@
 //! A tree of files.
 
 ghost use Rattle.std.specs.Prelude.{◌≡◌, ◌<◌, ◌^◌, ◌++◌, ◌∷◌, [], length, ◌+◌, ◌≤◌, ◌==◌, drop, false, IfOk, OnOk, OnErr, is_some};
-ghost use Rattle.file_tree.specs.Files.{fresh, is_directory, bytes_of_node, used, path_of, child, entries_of, created, with_bytes, removed, forgotten, written, resized};
-ghost use Rattle.file_tree.specs.Changes.{IsFree, CanLose, empty, path_at, read_from};
+ghost use Rattle.file_tree.specs.Files.{IsFiles, fresh, is_directory, bytes_of_node, used, path_of, child, entries_of, created, with_bytes, removed, forgotten, renamed, written, resized};
+ghost use Rattle.file_tree.specs.Changes.{IsFree, CanLose, CanMove, is_within, empty, path_at, read_from};
 ghost use Rattle.file_tree.specs.declared.limits.TheConstants.{NODES, FILE_BYTES};
 
-use crate::children::{child_of, has_children};
+use crate::children::{child_of, has_children, leads_to};
 use crate::kind::Kind;
 use crate::lookup::{
     bytes_held, copy_front, drop_node, holds_directory, holds_path, larger, new_content, node_of, place_of,
@@ -90,7 +90,8 @@ impl Tree {
 
     /// How many nodes there are, removed ones that are still there included.
     pub fn len(&self) -> usize
-        ensures { result ≡ length self.now.nodes }
+        ensures count { result ≡ length self.now.nodes }
+        ensures shape { IsFiles self.now }
     {
         self.nodes.len()
     }
@@ -116,6 +117,13 @@ impl Tree {
         ensures bytes { into.new ≡ read_from self.now number from (length into.old) ++ drop result into.old }
     {
         copy_front(bytes_held(node_of(&self.nodes, number)), from, into)
+    }
+
+    /// Whether a directory that has a path is the node with this number, or lies below it.
+    pub fn is_within(&self, number: u64, directory: u64) -> bool
+        ensures { result ≡ is_within self.now number directory }
+    {
+        leads_to(&self.nodes, self.next, number, directory)
     }
 
     /// Makes a node under a name in a directory, and gives its number. The caller has tested that the directory is one
@@ -204,6 +212,17 @@ impl Tree {
             let size = bytes_held(Some(self.nodes.get(place))).len() as u64;
             drop_node(&mut self.nodes, place);
             self.used -= size;
+        }
+    }
+
+    /// Moves a node, with all that lies below it, to a name in a directory. The caller has tested that it isn't the root and has
+    /// a path (`has_path`), that the name is free as for a new node, and that the directory isn't below the node (`is_within`).
+    pub fn rename(&mut self, number: u64, directory: u64, name: Bytes)
+        requires { CanMove self.old number directory name }
+        ensures { self.new ≡ renamed (path_at self.old number) (path_at self.old directory ++ name ∷ []) self.old }
+    {
+        if let Some(place) = place_of(&self.nodes, number) {
+            self.nodes.hang(place, Hook::In(directory, name));
         }
     }
 }
