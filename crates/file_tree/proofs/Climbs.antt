@@ -1,15 +1,13 @@
 -- Paths in a tree of hooks, and how a new or a moved node changes them.
 use Rattle.std.proofs.Common.{◌≡◌, ◌≢◌, ℕ, zero, suc, ◌<◌, ◌≤◌, ◌⊎◌, inl, inr, Bool, true, false, ◌||◌, eqb, List, [], ◌∷◌, length, Option, Some, None, refl, sym, ap, subst, ◌∙◌, arith}
 use Rattle.std.specs.Prelude.{option_map}
-use Rattle.std.specs.Prelude.{if◌then◌else◌}
 use Rattle.std.specs.List.{IsDistinct, list_any, AllByRecursion}
 use Rattle.std.proofs.lemmas.Bool.{eqb-true, eq-eqb, ne_eqb}
 use Rattle.std.proofs.lemmas.Map.Steps.{length-le_from_distinct_below}
-use Rattle.file_tree.specs.Files.{Name, Path, is_same_path}
+use Rattle.file_tree.specs.Files.{Name, Path}
 use Rattle.file_tree_store.specs.declared.node.Hook.{Hook}
 use Rattle.file_tree_store.specs.declared.node.Hook.TheVariants.{Root, Removed, In}
 use Rattle.file_tree.specs.Links.{Up, climb, climb_from, IsTree}
-use Rattle.file_tree.proofs.Names.{same_or_not}
 
 -- the directory and the name in a hook, where there are any
 directory_of : Hook → ℕ

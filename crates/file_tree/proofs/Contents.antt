@@ -1,11 +1,10 @@
 -- A file whose bytes are changed.
-use Rattle.std.proofs.Common.{◌≡◌, ◌≢◌, ℕ, ◌+◌, ◌-◌, ◌*◌, ◌^◌, get_or, ◌<◌, ◌≤◌, ◌⊎◌, inl, inr, Bool, true, false, List, length, map, Option, Some, None, refl, sym, ap, subst, ◌∙◌, arith}
+use Rattle.std.proofs.Common.{◌≡◌, ℕ, ◌+◌, ◌-◌, ◌*◌, ◌^◌, get_or, ◌<◌, ◌≤◌, inl, inr, false, List, length, Option, Some, refl, sym, ap, subst, ◌∙◌, arith}
 use Rattle.std.proofs.lemmas.Bool.{cases_eq}
 use Rattle.file_tree_store.specs.declared.node.Hook.{Hook}
-use Rattle.file_tree_store.specs.declared.node.Hook.TheVariants.{Root, Removed, In}
 use Rattle.file_tree_store.specs.declared.node.Node.{Node}
 use Rattle.file_tree_store.specs.Stored.{changed}
-use Rattle.file_tree.specs.Files.{Name, Path, FileNode, Files, Content, Directory, File, bytes_in, is_directory, is_directory_content, IsSmallContent, bytes_of_node, with_bytes, changed_at, written, resized}
+use Rattle.file_tree.specs.Files.{FileNode, Files, Content, File, bytes_in, is_directory, is_directory_content, IsSmallContent, bytes_of_node, with_bytes, written, resized}
 use Rattle.file_tree.specs.declared.limits.TheConstants.{NODES, FILE_BYTES}
 use Rattle.file_tree_store.specs.Changes.{node_written, node_resized}
 use Rattle.file_tree.specs.Links.{IsTree, node_in, hook_held, hook_of, content_held, content_shown, holds_directory_node, is_directory_in, bytes_of, bytes_held_in, used_in, AreNodes, shown, files, IsPlace, IsNowhere}

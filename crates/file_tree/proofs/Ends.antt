@@ -1,11 +1,11 @@
 -- Fronts of paths, which are ends from the node up.
-use Rattle.std.proofs.Common.{◌≡◌, ◌≢◌, ℕ, ◌<◌, ◌⊎◌, inl, inr, Bool, true, false, cond, eqb, List, [], ◌∷◌, ◌++◌, length, reverse, Option, Some, None, refl, sym, ap, ◌∙◌, arith, length-append}
+use Rattle.std.proofs.Common.{◌≡◌, ◌≢◌, ℕ, ◌⊎◌, inl, inr, true, false, cond, [], ◌∷◌, ◌++◌, length, reverse, Option, Some, None, refl, sym, ap, ◌∙◌, arith, length-append}
 use Rattle.std.specs.Prelude.{if◌then◌else◌}
 use mathlib.Core.List.{reverse-append, reverse-reverse}
 use Rattle.file_tree_store.specs.declared.node.Hook.{Hook}
 use Rattle.file_tree.specs.Files.{Name, Path, is_same_name, is_same_path, behind, with_front, moved}
 use Rattle.file_tree.specs.Links.{Up, IsTree}
-use Rattle.file_tree.proofs.Names.{name_or_not, same_or_not}
+use Rattle.file_tree.proofs.SameNames.{name_or_not, same_or_not}
 use Rattle.file_tree.proofs.Renames.{behind_front}
 use Rattle.file_tree.proofs.Climbs.{one_path, one_node}
 

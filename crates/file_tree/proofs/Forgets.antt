@@ -1,8 +1,8 @@
 -- A node that is dropped.
-use Rattle.std.proofs.Common.{◌≡◌, ◌≢◌, ℕ, zero, suc, ◌+◌, ◌<◌, ◌≤◌, ◌⊎◌, inl, inr, Bool, true, false, not, cond, eqb, List, [], ◌∷◌, ◌++◌, take, drop, length, map, get_or, Option, Some, None, refl, sym, ap, subst, ◌∙◌, arith}
-use Rattle.std.specs.Prelude.{filter, is_some, sum_by}
+use Rattle.std.proofs.Common.{◌≡◌, ◌≢◌, ℕ, zero, suc, ◌+◌, ◌<◌, ◌≤◌, inl, inr, Bool, false, not, cond, eqb, List, [], ◌∷◌, length, map, get_or, Option, Some, None, refl, sym, ap, subst, ◌∙◌, arith}
+use Rattle.std.specs.Prelude.{filter, is_some}
 use Rattle.std.specs.List.{AllByRecursion, remove}
-use Rattle.std.proofs.lemmas.Bool.{cases_eq, eqb-true, eq-eqb, ne_eqb}
+use Rattle.std.proofs.lemmas.Bool.{cases_eq, eq-eqb, ne_eqb}
 use Rattle.std.proofs.lemmas.List.Edits.{length-remove}
 use Rattle.std.proofs.lemmas.List.Sums.{sum_by-remove}
 use Rattle.file_tree_store.specs.declared.node.Hook.{Hook}
@@ -100,9 +100,9 @@ is_forgotten ns next k i n fs e are place at gone =
         few = omega (arith, length-remove ns i lt, are.few);
       };
       files_are =
-      ap (λ (h : ℕ → Hook). record { nodes = map (shown next h) (remove ns i); next = next }) hooks
-      ∙ ap (λ (xs : List FileNode). record { nodes = xs; next = next }) (shown_without (shown next (hook_of ns)) 1 ns next k i (λ m. refl) are.rising place)
-      ∙ ap (forgotten k) e;
+          ap (λ (h : ℕ → Hook). record { nodes = map (shown next h) (remove ns i); next = next }) hooks
+          ∙ ap (λ (xs : List FileNode). record { nodes = xs; next = next }) (shown_without (shown next (hook_of ns)) 1 ns next k i (λ m. refl) are.rising place)
+          ∙ ap (forgotten k) e;
       used = (let sum = sum_by-remove (λ (x : Node). length (bytes_of x)) ns i n lt in omega (arith, sum, ap (λ (x : Node). length (bytes_of x)) at));
     }
 

@@ -1,12 +1,11 @@
 -- The root alone.
-use Rattle.std.proofs.Common.{◌≡◌, ◌≢◌, ℕ, ◌<◌, inl, inr, cond, eqb, List, [], ◌∷◌, refl, sym, ap, ◌∙◌, arith}
-use Rattle.std.proofs.lemmas.Bool.{cases_eq, eq-eqb, ne_eqb}
-use Rattle.file_tree_store.specs.declared.node.Hook.{Hook}
+use Rattle.std.proofs.Common.{◌≡◌, ◌≢◌, ℕ, inl, inr, List, [], ◌∷◌, refl, sym, ap, ◌∙◌, arith}
+use Rattle.std.proofs.lemmas.Bool.{cases_eq, ne_eqb}
 use Rattle.file_tree_store.specs.declared.node.Hook.TheVariants.{Root, Removed, In}
 use Rattle.file_tree_store.specs.declared.node.Content.TheVariants as content
 use Rattle.file_tree_store.specs.declared.node.Node.{Node}
 use Rattle.file_tree.specs.Files.{Name, fresh}
-use Rattle.file_tree.specs.Links.{hook_of, used_in, IsTree, AreNodes, files}
+use Rattle.file_tree.specs.Links.{hook_of, used_in, AreNodes, files}
 
 abbrev pub alone : List Node
 alone = record { number = 1; hook = Root; content = content.Directory } ∷ []

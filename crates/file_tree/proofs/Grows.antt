@@ -1,23 +1,23 @@
 -- A new node in a tree.
-use Rattle.std.proofs.Common.{◌≡◌, ◌≢◌, ℕ, ◌+◌, ◌<◌, ◌≤◌, ◌⊎◌, inl, inr, Bool, true, false, cond, eqb, List, [], ◌∷◌, ◌++◌, length, map, reverse, Option, Some, None, refl, sym, ap, subst, ◌∙◌, arith}
+use Rattle.std.proofs.Common.{◌≡◌, ◌≢◌, ℕ, ◌+◌, ◌<◌, ◌⊎◌, inl, inr, Bool, true, false, cond, eqb, List, [], ◌∷◌, ◌++◌, length, map, reverse, Option, Some, None, refl, sym, ap, subst, ◌∙◌, arith}
 use Rattle.std.specs.Prelude.{option_map, find, unwrap_or, is_some}
 use Rattle.std.specs.Option.{option_and_then}
 use Rattle.std.specs.List.{AllByRecursion}
 use Rattle.std.proofs.lemmas.List.{map_push, length_push, length-map}
 use Rattle.std.proofs.lemmas.List.Sums.{sum_by_push}
-use Rattle.std.proofs.lemmas.Bool.{cases_eq, eqb-true, eq-eqb, ne_eqb}
+use Rattle.std.proofs.lemmas.Bool.{cases_eq, eqb-true}
 use mathlib.Core.List.{reverse-cons}
 use Rattle.file_tree_store.specs.declared.node.Hook.{Hook}
 use Rattle.file_tree_store.specs.declared.node.Hook.TheVariants.{Root, Removed, In}
 use Rattle.file_tree_store.specs.declared.node.Node.{Node}
-use Rattle.file_tree.specs.Files.{Name, Path, FileNode, Files, Content, Directory, File, IsName, IsSmallContent, bytes_in, created, path_of, at, is_at, child, is_directory}
+use Rattle.file_tree.specs.Files.{Name, Path, FileNode, Files, Content, IsName, IsSmallContent, bytes_in, created, path_of, at, is_at}
 use Rattle.file_tree.specs.declared.kind.Kind.{Kind}
 use Rattle.file_tree.specs.declared.kind.Kind.TheVariants as kind
-use Rattle.file_tree.specs.declared.limits.TheConstants.{NODES, FILE_BYTES}
+use Rattle.file_tree.specs.declared.limits.TheConstants.{NODES}
 use Rattle.file_tree.specs.Changes.{IsFree, path_at, empty}
 use Rattle.file_tree.specs.Links.{Up, climb, IsTree, node_in, hook_held, hook_of, content_held, content_shown, holds_directory_node, is_directory_in, bytes_of, used_in, AreNodes, IsNowhere, shown, files}
-use Rattle.file_tree.proofs.Names.{same_or_not}
-use Rattle.file_tree.proofs.Climbs.{path_is, no_path, climb_sound, there}
+use Rattle.file_tree.proofs.SameNames.{same_or_not}
+use Rattle.file_tree.proofs.Climbs.{path_is, no_path, climb_sound}
 use Rattle.file_tree.proofs.Lookups.{path_shown, directory_shown, node_nowhere}
 use Rattle.file_tree.proofs.Lists.{numbers_below, nowhere_below, in_pushed_there, in_pushed_other, in_pushed_same, all_pushed, rising_pushed}
 
@@ -139,14 +139,16 @@ free_in ns next d name are f =
     let p = path_at fs d in
     let path : path_of fs d ≡ Some p = some_path (path_of fs d) f.path in
     let way = way_up ns next d p path in
-    let nothing : at fs (p ++ name ∷ []) ≡ None = no_number (at fs (p ++ name ∷ [])) (sym (ap (option_and_then (λ (q : Path). option_map (λ (n : FileNode). n.number) (at fs (q ++ name ∷ [])))) path) ∙ f.free) in
-    (way.0, record {
-      path = path;
-      up_is = way.1;
-      under = way.2;
-      free = λ k e. no_clash way.0 p way.1 way.2 nothing k e;
-      directory = sym (directory_shown ns next d) ∙ f.is_directory;
-    }) where
+    let nothing : at fs (p ++ name ∷ []) ≡ None = no_number (at fs (p ++ name ∷ [])) (sym (ap (option_and_then (λ (q : Path). option_map (λ (n : FileNode). n.number) (at fs (q ++ name ∷ [])))) path) ∙ f.free) in (
+      way.0,
+      record {
+        path = path;
+        up_is = way.1;
+        under = way.2;
+        free = λ k e. no_clash way.0 p way.1 way.2 nothing k e;
+        directory = sym (directory_shown ns next d) ∙ f.is_directory;
+      },
+    ) where
       no_clash : (up p : Path) → reverse up ≡ p → Up (hook_of ns) d up → at (files ns next) (p ++ name ∷ []) ≡ None → (k : ℕ) → hook_of ns k ≡ In d name → ⊥
       no_clash up p p_is under nothing k e =
           let here : hook_of ns k ≢ Removed = λ gone. absurd (let t : In d name ≡ Removed = sym e ∙ gone in cc) in

@@ -1,15 +1,13 @@
 -- A node that is hung elsewhere: what stays.
-use Rattle.std.proofs.Common.{◌≡◌, ◌≢◌, ℕ, ◌+◌, ◌⊎◌, inl, inr, Bool, true, false, List, length, Option, Some, None, refl, sym, ap, subst, ◌∙◌, arith}
-use Rattle.std.specs.List.{AllByRecursion}
+use Rattle.std.proofs.Common.{◌≡◌, ◌≢◌, ℕ, inl, inr, true, List, Option, Some, refl, sym, ap, subst, ◌∙◌, arith}
 use Rattle.std.proofs.lemmas.Bool.{cases_eq}
 use Rattle.file_tree_store.specs.declared.node.Hook.{Hook}
-use Rattle.file_tree_store.specs.declared.node.Hook.TheVariants.{Root, Removed, In}
+use Rattle.file_tree_store.specs.declared.node.Hook.TheVariants.{In}
 use Rattle.file_tree_store.specs.declared.node.Node.{Node}
 use Rattle.file_tree_store.specs.Stored.{changed}
 use Rattle.file_tree_store.specs.Changes.{with_hook}
 use Rattle.file_tree.specs.Files.{Name, IsName, IsSmallContent}
-use Rattle.file_tree.specs.declared.limits.TheConstants.{NODES}
-use Rattle.file_tree.specs.Links.{IsTree, node_in, hook_held, hook_of, content_held, content_shown, holds_directory_node, is_directory_in, bytes_of, used_in, AreNodes, AreRisingNodes, IsPlace}
+use Rattle.file_tree.specs.Links.{IsTree, node_in, hook_held, hook_of, content_held, content_shown, holds_directory_node, is_directory_in, used_in, AreNodes, IsPlace}
 use Rattle.file_tree.proofs.Lists.{in_changed_same, in_changed_other, rising_changed, length-changed, all_changed, all_in, used_changed}
 
 pub record Hangs (ns : List Node) (next k i : ℕ) (n : Node) : Type 0 where

@@ -1,14 +1,14 @@
 -- What nodes show is a file system.
-use Rattle.std.proofs.Common.{◌≡◌, ◌≢◌, ℕ, ◌+◌, ◌<◌, ◌≤◌, ◌⊎◌, inl, inr, Bool, true, false, List, [], ◌∷◌, ◌++◌, length, map, reverse, Option, Some, None, refl, sym, ap, subst, ◌∙◌, arith}
+use Rattle.std.proofs.Common.{◌≡◌, ◌≢◌, ℕ, ◌+◌, ◌≤◌, ◌⊎◌, inl, inr, List, [], ◌∷◌, map, reverse, Option, Some, None, refl, sym, ap, subst, ◌∙◌, arith}
 use Rattle.std.specs.Prelude.{option_map, IfSome}
 use Rattle.std.specs.List.{AllByRecursion}
 use Rattle.std.proofs.lemmas.List.{length-map}
 use mathlib.Core.List.{reverse-cons, reverse-reverse}
 use Rattle.file_tree_store.specs.declared.node.Hook.{Hook}
-use Rattle.file_tree_store.specs.declared.node.Hook.TheVariants.{Root, Removed, In}
+use Rattle.file_tree_store.specs.declared.node.Hook.TheVariants.{Removed}
 use Rattle.file_tree_store.specs.declared.node.Node.{Node}
-use Rattle.file_tree.specs.Files.{Name, IsName, Path, FileNode, Files, path_of, is_directory, AreRising, IsPlaced, HasPath, HaveDistinctPaths, IsSmallContent, IsFiles}
-use Rattle.file_tree.specs.Links.{Up, climb, IsTree, hook_of, content_shown, is_directory_in, AreNodes, AreRisingNodes, shown, files}
+use Rattle.file_tree.specs.Files.{Path, FileNode, AreRising, IsPlaced, HasPath, HaveDistinctPaths, IsSmallContent, IsFiles}
+use Rattle.file_tree.specs.Links.{Up, climb, IsTree, hook_of, content_shown, AreNodes, AreRisingNodes, shown, files}
 use Rattle.file_tree.proofs.Climbs.{path_is, no_path, climb_sound, one_node}
 use Rattle.file_tree.proofs.Lookups.{path_shown, directory_shown}
 use Rattle.file_tree.proofs.Lists.{numbers_from}
@@ -17,9 +17,9 @@ use Rattle.file_tree.proofs.Grows.{removed_or_not, mapped}
 rising_shown : (S : Node → FileNode) → ((m : Node) → (S m).number ≡ m.number) → (least : ℕ) (ns : List Node) (next : ℕ) → AreRisingNodes least ns next → AreRising least (map S ns) next
 rising_shown S numbers least [] next h = h
 rising_shown S numbers least (m ∷ ns) next h = (
-    omega (arith, h.0, numbers m),
-    subst (λ (k : ℕ). AreRising (k + 1) (map S ns) next) (sym (numbers m)) (rising_shown S numbers (m.number + 1) ns next h.1),
-  )
+  omega (arith, h.0, numbers m),
+  subst (λ (k : ℕ). AreRising (k + 1) (map S ns) next) (sym (numbers m)) (rising_shown S numbers (m.number + 1) ns next h.1),
+)
 
 -- a path that is shown is the root's, or a name in a directory
 placed_path : (ns : List Node) (next k : ℕ) → AreNodes ns next → IfSome (option_map reverse (climb next (hook_of ns) k)) (IsPlaced (files ns next))
@@ -27,14 +27,14 @@ placed_path ns next k are = by_hook (removed_or_not (hook_of ns k)) where
   by_way : (a : Path) → Up (hook_of ns) k a → IsPlaced (files ns next) (reverse a)
   by_way [] h = inl refl
   by_way (name ∷ a) h = inr (
-      h.0,
-      reverse a,
-      name,
-      reverse-cons name a,
-      are.named k h.0 name h.1,
-      path_shown ns next h.0 ∙ ap (option_map reverse) (path_is (hook_of ns) next are.tree h.0 a h.2),
-      directory_shown ns next h.0 ∙ are.placed k h.0 name h.1,
-    )
+    h.0,
+    reverse a,
+    name,
+    reverse-cons name a,
+    are.named k h.0 name h.1,
+    path_shown ns next h.0 ∙ ap (option_map reverse) (path_is (hook_of ns) next are.tree h.0 a h.2),
+    directory_shown ns next h.0 ∙ are.placed k h.0 name h.1,
+  )
 
   by_hook : (hook_of ns k ≡ Removed) ⊎ (hook_of ns k ≢ Removed) → IfSome (option_map reverse (climb next (hook_of ns) k)) (IsPlaced (files ns next))
   by_hook (inl gone) = subst (λ (o : Option Path). IfSome (option_map reverse o) (IsPlaced (files ns next))) (sym (no_path next (hook_of ns) k gone)) tt

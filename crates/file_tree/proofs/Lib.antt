@@ -1,5 +1,5 @@
 pub mod Renames
-pub mod Names
+pub mod SameNames
 pub mod Climbs
 pub mod Lookups
 pub mod Fresh

@@ -1,16 +1,15 @@
 -- The node with a number, in a list and in the files that it shows.
-use Rattle.std.proofs.Common.{◌≡◌, ◌≢◌, ℕ, zero, suc, ◌+◌, ◌<◌, ◌≤◌, ◌⊎◌, inl, inr, Bool, true, false, cond, eqb, List, [], ◌∷◌, length, map, reverse, get_or, take, drop, Option, Some, None, refl, sym, ap, subst, ◌∙◌, arith}
-use Rattle.std.specs.Prelude.{option_map, find, is_some, sum_by}
+use Rattle.std.proofs.Common.{◌≡◌, ◌≢◌, ℕ, zero, suc, ◌+◌, ◌<◌, ◌≤◌, Bool, true, false, cond, eqb, List, [], ◌∷◌, length, map, reverse, get_or, take, Option, Some, None, refl, sym, ap, subst, ◌∙◌, arith}
+use Rattle.std.specs.Prelude.{option_map, find, is_some}
 use Rattle.std.specs.Option.{option_and_then}
-use Rattle.std.specs.List.{AllByRecursion}
-use Rattle.std.proofs.lemmas.Bool.{cases_eq, eqb-true, eq-eqb, ne_eqb}
+use Rattle.std.proofs.lemmas.Bool.{eq-eqb, ne_eqb}
 use Rattle.std.proofs.lemmas.List.{take_all}
 use Rattle.std.proofs.lemmas.List.Sums.{sum_by-cons}
 use Rattle.file_tree_store.specs.declared.node.Hook.{Hook}
 use Rattle.file_tree_store.specs.declared.node.Hook.TheVariants.{Root, Removed, In}
 use Rattle.file_tree_store.specs.declared.node.Node.{Node}
-use Rattle.file_tree.specs.Files.{Name, Path, FileNode, Files, node_of, path_of, is_directory, holds_directory, bytes_of_node, bytes_held, bytes_in, used}
-use Rattle.file_tree.specs.Links.{climb, Up, IsTree, node_in, hook_held, hook_of, content_held, is_directory_in, holds_directory_node, bytes_of, bytes_held_in, used_in, is_hung, AreNodes, shown, files, IsPlace, IsNowhere}
+use Rattle.file_tree.specs.Files.{Path, FileNode, path_of, is_directory, holds_directory, bytes_of_node, bytes_held, bytes_in, used}
+use Rattle.file_tree.specs.Links.{climb, node_in, hook_held, hook_of, content_held, is_directory_in, holds_directory_node, bytes_of, bytes_held_in, used_in, is_hung, AreNodes, shown, files, IsPlace, IsNowhere}
 use Rattle.file_tree.proofs.Climbs.{path_is, no_path}
 use Rattle.file_tree.proofs.Lists.{number_in}
 

@@ -1,22 +1,22 @@
 -- A node that is moved, with all below it.
-use Rattle.std.proofs.Common.{◌≡◌, ◌≢◌, ℕ, ◌+◌, ◌⊎◌, inl, inr, Bool, true, false, cond, eqb, List, [], ◌∷◌, ◌++◌, length, map, reverse, get_or, Option, Some, None, refl, sym, ap, subst, ◌∙◌, arith}
-use Rattle.std.specs.Prelude.{option_map, is_some, unwrap_or}
-use Rattle.std.proofs.lemmas.Bool.{cases_eq, eqb-true, ne_eqb}
-use mathlib.Core.List.{reverse-cons, reverse-append, reverse-reverse}
+use Rattle.std.proofs.Common.{◌≡◌, ◌≢◌, ℕ, inl, inr, true, false, List, [], ◌∷◌, ◌++◌, reverse, get_or, Option, Some, None, sym, ap, subst, ◌∙◌}
+use Rattle.std.specs.Prelude.{option_map, is_some}
+use Rattle.std.proofs.lemmas.Bool.{cases_eq}
+use mathlib.Core.List.{reverse-cons, reverse-append}
 use Rattle.file_tree_store.specs.declared.node.Hook.{Hook}
 use Rattle.file_tree_store.specs.declared.node.Hook.TheVariants.{Root, Removed, In}
 use Rattle.file_tree_store.specs.declared.node.Content.TheVariants as content
 use Rattle.file_tree_store.specs.declared.node.Node.{Node}
 use Rattle.file_tree_store.specs.Stored.{changed}
 use Rattle.file_tree_store.specs.Changes.{with_hook}
-use Rattle.file_tree.specs.Files.{Name, IsName, Path, FileNode, Files, Content, path_of, behind, with_front, moved, renamed}
-use Rattle.file_tree.specs.Changes.{path_at, IsFree, CanMove, is_within, within_path}
+use Rattle.file_tree.specs.Files.{Name, IsName, Path, FileNode, Files, path_of, behind, moved, renamed}
+use Rattle.file_tree.specs.Changes.{path_at, CanMove, within_path}
 use Rattle.file_tree.specs.Links.{Up, climb, IsTree, node_in, hook_held, hook_of, content_shown, is_directory_in, used_in, AreNodes, shown, files, IsPlace, IsNowhere}
 use Rattle.file_tree.proofs.Climbs.{one_path, path_is, no_path, there}
 use Rattle.file_tree.proofs.Renames.{behind_front}
 use Rattle.file_tree.proofs.Ends.{moved_up, renamed_path, reverse-moved_up}
 use Rattle.file_tree.proofs.Lookups.{node_at_place, node_nowhere, path_shown}
-use Rattle.file_tree.proofs.Lists.{shown_changed, number_in}
+use Rattle.file_tree.proofs.Lists.{shown_changed}
 use Rattle.file_tree.proofs.Grows.{removed_or_not, way_up, some_path, IsFreeIn, free_in}
 use Rattle.file_tree.proofs.Hangs.{Hangs, hung_here, hung_others, hung_used, hung_nodes}
 
@@ -165,9 +165,9 @@ module _ (ns : List Node) (next k i d : ℕ) (name : Name) (are : AreNodes ns ne
       record {
         nodes = hung_nodes ns next k i n (In d name) hangs (moved_tree hook after next k d name old up moves) placed;
         files_are =
-        ap (λ (xs : List FileNode). record { nodes = xs; next = next }) (shown_changed (shown next hook) (shown next after) G (with_hook (In d name)) 1 ns next k i n place is_there are.rising (λ m ne. each m) (each n))
-        ∙ ap (λ (p : Path). renamed p (reverse (name ∷ up)) (files ns next)) from.1
-        ∙ ap (λ (p : Path). renamed (path_at (files ns next) k) p (files ns next)) whole;
+            ap (λ (xs : List FileNode). record { nodes = xs; next = next }) (shown_changed (shown next hook) (shown next after) G (with_hook (In d name)) 1 ns next k i n place is_there are.rising (λ m ne. each m) (each n))
+            ∙ ap (λ (p : Path). renamed p (reverse (name ∷ up)) (files ns next)) from.1
+            ∙ ap (λ (p : Path). renamed (path_at (files ns next) k) p (files ns next)) whole;
         used = hung_used ns next k i n (In d name) hangs;
       }
 

@@ -1,7 +1,6 @@
 -- A node that loses its path.
-use Rattle.std.proofs.Common.{◌≡◌, ◌≢◌, ℕ, ◌+◌, ◌<◌, ◌⊎◌, inl, inr, Bool, true, false, not, eqb, List, [], ◌∷◌, length, map, reverse, get_or, Option, Some, None, refl, sym, ap, subst, ◌∙◌, arith}
+use Rattle.std.proofs.Common.{◌≡◌, ◌≢◌, ℕ, inl, inr, Bool, true, false, not, eqb, List, [], ◌∷◌, length, reverse, get_or, Option, Some, None, refl, sym, ap, subst, ◌∙◌}
 use Rattle.std.specs.Prelude.{option_map}
-use Rattle.std.proofs.lemmas.Bool.{cases_eq, eqb-true}
 use Rattle.file_tree_store.specs.declared.node.Hook.{Hook}
 use Rattle.file_tree_store.specs.declared.node.Hook.TheVariants.{Root, Removed, In}
 use Rattle.file_tree_store.specs.declared.node.Content.TheVariants as content
@@ -42,9 +41,9 @@ module _ (hook after : ℕ → Hook) (next k : ℕ) (l : Loses hook after next k
     below = λ j h. (let ne = here_still j h in l.tree.below j (λ g. h (l.others j ne ∙ g)));
     reached = λ j h. (let ne = here_still j h in let r = l.tree.reached j (λ g. h (l.others j ne ∙ g)) in (r.0, kept_up j r.0 ne r.1));
     one_each = λ i j d name hi hj.
-    (let ni = here_still i (λ g. absurd (let t : In d name ≡ Removed = sym hi ∙ g in cc)) in
-    let nj = here_still j (λ g. absurd (let t : In d name ≡ Removed = sym hj ∙ g in cc)) in
-    l.tree.one_each i j d name (sym (l.others i ni) ∙ hi) (sym (l.others j nj) ∙ hj));
+        (let ni = here_still i (λ g. absurd (let t : In d name ≡ Removed = sym hi ∙ g in cc)) in
+        let nj = here_still j (λ g. absurd (let t : In d name ≡ Removed = sym hj ∙ g in cc)) in
+        l.tree.one_each i j d name (sym (l.others i ni) ∙ hi) (sym (l.others j nj) ∙ hj));
   }
 
   pub lost_climb : (j : ℕ) → j ≢ k → climb next after j ≡ climb next hook j

@@ -1,20 +1,20 @@
 -- What hangs in a directory, and the paths below the directory's.
-use Rattle.std.proofs.Common.{◌≡◌, ◌≢◌, ℕ, zero, suc, ◌+◌, ◌<◌, ◌≤◌, ◌⊎◌, inl, inr, Bool, true, false, cond, eqb, not, List, [], ◌∷◌, ◌++◌, length, map, reverse, Option, Some, None, refl, sym, ap, subst, ◌∙◌, arith}
+use Rattle.std.proofs.Common.{◌≡◌, ◌≢◌, ℕ, suc, ◌+◌, ◌≤◌, ◌⊎◌, inl, inr, Bool, true, false, cond, eqb, not, List, [], ◌∷◌, ◌++◌, length, map, reverse, Option, Some, None, refl, sym, ap, subst, ◌∙◌, arith}
 use Rattle.std.specs.Prelude.{option_map, find, ◌&&◌}
 use Rattle.std.specs.Option.{option_and_then}
 use Rattle.std.specs.List.{AllByRecursion}
-use Rattle.std.proofs.lemmas.Bool.{cases_eq, eqb-true, eq-eqb, ne_eqb}
+use Rattle.std.proofs.lemmas.Bool.{cases_eq, eq-eqb, ne_eqb}
 use Rattle.std.proofs.lemmas.List.{same_from_push}
 use mathlib.Core.List.{reverse-cons, reverse-reverse}
 use Rattle.file_tree_store.specs.declared.node.Hook.{Hook}
 use Rattle.file_tree_store.specs.declared.node.Hook.TheVariants.{Root, Removed, In}
 use Rattle.file_tree_store.specs.declared.node.Node.{Node}
-use Rattle.file_tree.specs.Files.{Name, Path, FileNode, Files, Entry, is_same_name, is_at, at, path_of, child, name_behind, entry_of, entries_in, entries_under, entries_of, inserted, sorted, is_before}
+use Rattle.file_tree.specs.Files.{Name, Path, FileNode, Entry, is_same_name, is_at, at, path_of, child, name_behind, entry_of, entries_in, entries_under, entries_of, inserted, sorted, is_before}
 use Rattle.file_tree.specs.Links.{Up, climb, IsTree, node_in, hook_held, hook_of, AreNodes, AreRisingNodes, shown, files, is_hooked, child_in, is_in, has_child, hooked_name, hooked_entry, hooked_entries, with_entry}
-use Rattle.file_tree.proofs.Names.{name_or_not, same_or_not}
-use Rattle.file_tree.proofs.Climbs.{path_is, no_path, one_path, one_node, there}
+use Rattle.file_tree.proofs.SameNames.{name_or_not, same_or_not}
+use Rattle.file_tree.proofs.Climbs.{path_is, no_path, one_path, one_node}
 use Rattle.file_tree.proofs.Lookups.{path_shown}
-use Rattle.file_tree.proofs.Lists.{numbers_from, nowhere_above}
+use Rattle.file_tree.proofs.Lists.{numbers_from}
 use Rattle.file_tree.proofs.Grows.{way_up}
 
 -- ---- each node in the list is the one of its number
@@ -22,15 +22,15 @@ use Rattle.file_tree.proofs.Grows.{way_up}
 pub own_hooks : (least : ℕ) (ns : List Node) (next : ℕ) → AreRisingNodes least ns next → AllByRecursion (λ (n : Node). hook_of ns n.number ≡ n.hook) ns
 own_hooks least [] next h = tt
 own_hooks least (m ∷ ns) next h = (
-    ap (λ (b : Bool). hook_held (cond b (Some m) (node_in ns m.number))) (eq-eqb m.number m.number refl),
-    later ns (own_hooks (m.number + 1) ns next h.1) (numbers_from (m.number + 1) ns next h.1),
-  ) where
-    later : (xs : List Node) → AllByRecursion (λ (n : Node). hook_of ns n.number ≡ n.hook) xs → AllByRecursion (λ (n : Node). m.number + 1 ≤ n.number) xs → AllByRecursion (λ (n : Node). hook_of (m ∷ ns) n.number ≡ n.hook) xs
-    later [] g above = tt
-    later (x ∷ xs) g above = (
-        (let ne : m.number ≢ x.number = λ e. absurd (omega (arith, above.0, e)) in ap (λ (b : Bool). hook_held (cond b (Some m) (node_in ns x.number))) (ne_eqb m.number x.number ne) ∙ g.0),
-        later xs g.1 above.1,
-      )
+  ap (λ (b : Bool). hook_held (cond b (Some m) (node_in ns m.number))) (eq-eqb m.number m.number refl),
+  later ns (own_hooks (m.number + 1) ns next h.1) (numbers_from (m.number + 1) ns next h.1),
+) where
+  later : (xs : List Node) → AllByRecursion (λ (n : Node). hook_of ns n.number ≡ n.hook) xs → AllByRecursion (λ (n : Node). m.number + 1 ≤ n.number) xs → AllByRecursion (λ (n : Node). hook_of (m ∷ ns) n.number ≡ n.hook) xs
+  later [] g above = tt
+  later (x ∷ xs) g above = (
+    (let ne : m.number ≢ x.number = λ e. absurd (omega (arith, above.0, e)) in ap (λ (b : Bool). hook_held (cond b (Some m) (node_in ns x.number))) (ne_eqb m.number x.number ne) ∙ g.0),
+    later xs g.1 above.1,
+  )
 
 -- ---- a node either hangs in the directory, under the last name of its path, or its path isn't so
 
@@ -62,9 +62,9 @@ sees hook next d up tree under k = by_hook (hook k) refl where
             let ways : a ≡ up = one_path hook e a up above (subst (λ (x : ℕ). Up hook x up) (sym same) under) in
             inl (other, is ∙ ap (λ (x : ℕ). In x other) same, whole ∙ ap (λ (x : Path). Some (reverse x ++ other ∷ [])) ways)
         | inr ne ↦ inr (
-            (λ name h. ne (in_is e d other name (sym is ∙ h)).0),
-            (λ name h. ne (one_node hook next tree e d up (subst (Up hook e) (sym (reverse-reverse a) ∙ ap reverse (same_from_push (reverse a) (reverse up) other name (some_path (reverse a ++ other ∷ []) (reverse up ++ name ∷ []) (sym whole ∙ h))).0 ∙ reverse-reverse up) above) under)),
-          )
+          (λ name h. ne (in_is e d other name (sym is ∙ h)).0),
+          (λ name h. ne (one_node hook next tree e d up (subst (Up hook e) (sym (reverse-reverse a) ∙ ap reverse (same_from_push (reverse a) (reverse up) other name (some_path (reverse a ++ other ∷ []) (reverse up ++ name ∷ []) (sym whole ∙ h))).0 ∙ reverse-reverse up) above) under)),
+        )
       ]
 
   by_up : (e : ℕ) (other : Name) → hook k ≡ In e other → (a : Path) → Up hook k a → Sees hook next d (reverse up) k
@@ -73,13 +73,13 @@ sees hook next d up tree under k = by_hook (hook k) refl where
 
   by_hook : (h : Hook) → hook k ≡ h → Sees hook next d (reverse up) k
   by_hook Root e = inr (
-      (λ name h. absurd (let t : Root ≡ In d name = sym e ∙ h in cc)),
-      (λ name h. not_nil (reverse up) name (some_path [] (reverse up ++ name ∷ []) (sym (path [] e) ∙ h))),
-    )
+    (λ name h. absurd (let t : Root ≡ In d name = sym e ∙ h in cc)),
+    (λ name h. not_nil (reverse up) name (some_path [] (reverse up ++ name ∷ []) (sym (path [] e) ∙ h))),
+  )
   by_hook Removed e = inr (
-      (λ name h. absurd (let t : Removed ≡ In d name = sym e ∙ h in cc)),
-      (λ name h. absurd (let t : None ≡ Some (reverse up ++ name ∷ []) = sym (ap (option_map reverse) (no_path next hook k e)) ∙ h in cc)),
-    )
+    (λ name h. absurd (let t : Removed ≡ In d name = sym e ∙ h in cc)),
+    (λ name h. absurd (let t : None ≡ Some (reverse up ++ name ∷ []) = sym (ap (option_map reverse) (no_path next hook k e)) ∙ h in cc)),
+  )
   by_hook (In e other) is = (let r = tree.reached k (λ gone. absurd (let t : In e other ≡ Removed = sym is ∙ gone in cc)) in by_up e other is r.0 r.1)
 
 -- ---- a name in a directory

@@ -1,5 +1,5 @@
 -- Bytes of a file that is written or cut.
-use Rattle.std.proofs.Common.{◌≡◌, ℕ, zero, suc, ◌+◌, ◌<◌, ◌≤◌, max, min, Bool, true, false, List, [], ◌∷◌, ◌++◌, length, take, drop, get_or, refl, sym, ap, ◌∙◌, arith, length-append, length-take, length-drop}
+use Rattle.std.proofs.Common.{◌≡◌, ℕ, zero, suc, ◌+◌, ◌<◌, ◌≤◌, max, false, List, [], ◌∷◌, ◌++◌, length, take, drop, get_or, refl, arith, length-append, length-take, length-drop}
 use Rattle.std.specs.Prelude.{replicate}
 use Rattle.std.specs.List.{AllByRecursion}
 use Rattle.std.proofs.lemmas.List.{length-replicate}
@@ -49,15 +49,15 @@ length-resized old size = omega (arith, length-take size (old ++ replicate size 
 
 pub small_written : (old : List ℕ) (from : ℕ) (bytes : List ℕ) → IsSmallContent (File old) → AreBytes bytes → from + length bytes ≤ FILE_BYTES → IsSmallContent (File (written old from bytes))
 small_written old from bytes small b fits = (
-    omega (arith, length-written old from bytes, small.0, fits),
-    all_append (take from (old ++ replicate from 0)) (bytes ++ drop (from + length bytes) old) (all_take from (old ++ replicate from 0) (all_append old (replicate from 0) small.1 (all_zeros from))) (all_append bytes (drop (from + length bytes) old) b (all_drop (from + length bytes) old small.1)),
-  )
+  omega (arith, length-written old from bytes, small.0, fits),
+  all_append (take from (old ++ replicate from 0)) (bytes ++ drop (from + length bytes) old) (all_take from (old ++ replicate from 0) (all_append old (replicate from 0) small.1 (all_zeros from))) (all_append bytes (drop (from + length bytes) old) b (all_drop (from + length bytes) old small.1)),
+)
 
 pub small_resized : (old : List ℕ) (size : ℕ) → IsSmallContent (File old) → size ≤ FILE_BYTES → IsSmallContent (File (resized old size))
 small_resized old size small fits = (
-    omega (arith, length-resized old size, fits),
-    all_take size (old ++ replicate size 0) (all_append old (replicate size 0) small.1 (all_zeros size)),
-  )
+  omega (arith, length-resized old size, fits),
+  all_take size (old ++ replicate size 0) (all_append old (replicate size 0) small.1 (all_zeros size)),
+)
 
 -- what a file shows after a change
 pub file_is : (c : Content) → is_directory_content c ≡ false → c ≡ File (bytes_in c)

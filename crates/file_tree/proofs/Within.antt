@@ -1,20 +1,20 @@
 -- Whether the way up comes to a node.
-use Rattle.std.proofs.Common.{◌≡◌, ◌≢◌, ℕ, zero, suc, ◌+◌, ◌-◌, ◌<◌, ◌≤◌, ◌⊎◌, inl, inr, Bool, true, false, cond, eqb, List, [], ◌∷◌, ◌++◌, length, reverse, Option, Some, None, refl, sym, ap, subst, ◌∙◌, arith}
-use Rattle.std.specs.Prelude.{option_map, is_some}
-use Rattle.std.proofs.lemmas.Bool.{cases_eq, eqb-true, eq-eqb, ne_eqb}
+use Rattle.std.proofs.Common.{◌≡◌, ◌≢◌, ℕ, zero, suc, ◌<◌, inl, inr, Bool, true, false, cond, eqb, List, [], ◌∷◌, ◌++◌, length, reverse, Option, Some, None, refl, sym, ap, subst, ◌∙◌, arith}
+use Rattle.std.specs.Prelude.{is_some}
+use Rattle.std.proofs.lemmas.Bool.{eq-eqb, ne_eqb}
 use mathlib.Core.List.{reverse-append, reverse-reverse}
 use Rattle.file_tree_store.specs.declared.node.Hook.{Hook}
 use Rattle.file_tree_store.specs.declared.node.Hook.TheVariants.{Root, Removed, In}
 use Rattle.file_tree_store.specs.declared.node.Node.{Node}
-use Rattle.file_tree.specs.Files.{Name, Path, Files, path_of, behind}
+use Rattle.file_tree.specs.Files.{Path, path_of, behind}
 use Rattle.file_tree.specs.Changes.{is_within, within_path}
-use Rattle.file_tree.specs.Links.{Up, climb, IsTree, hook_of, AreNodes, files, comes_by, comes_to}
+use Rattle.file_tree.specs.Links.{Up, IsTree, hook_of, AreNodes, files, comes_by, comes_to}
 use Rattle.file_tree.proofs.Renames.{behind_front}
-use Rattle.file_tree.proofs.Climbs.{one_path, one_node, no_path, path_is, short_path}
+use Rattle.file_tree.proofs.Climbs.{one_path, one_node, short_path}
 use Rattle.file_tree.proofs.Ends.{ends_or_not, is_front}
-use Rattle.file_tree.proofs.Lookups.{path_shown, hung_has_path}
+use Rattle.file_tree.proofs.Lookups.{hung_has_path}
 use Rattle.file_tree.proofs.Forgets.{not_hung}
-use Rattle.file_tree.proofs.Grows.{removed_or_not, way_up}
+use Rattle.file_tree.proofs.Grows.{way_up}
 
 -- the way up comes to what a path ends with
 comes : (n : ℕ) (hook : ℕ → Hook) (k d : ℕ) (old xs : Path) (next : ℕ) → IsTree hook next → Up hook k old → Up hook d (xs ++ old) → length (xs ++ old) < n → comes_to n hook k d ≡ true

@@ -1,9 +1,8 @@
 -- What a caller has tested before a tree is changed.
-use Rattle.std.specs.Prelude.{◌≡◌, ◌≢◌, ℕ, ◌+◌, ◌<◌, ◌^◌, ◌==◌, ◌++◌, ◌∷◌, [], Bool, true, false, length, take, drop, List, Option, Some, None, is_some, unwrap_or}
+use Rattle.std.specs.Prelude.{◌≡◌, ◌≢◌, ℕ, ◌==◌, [], Bool, true, false, length, take, drop, List, Option, Some, None, is_some, unwrap_or}
 use Rattle.file_tree.specs.Files.{Name, Path, Files, Content, Directory, File, IsName, path_of, behind, child, is_directory, bytes_of_node, entries_of}
 use Rattle.file_tree.specs.declared.kind.Kind.{Kind}
 use Rattle.file_tree.specs.declared.kind.Kind.TheVariants as kind
-use Rattle.file_tree.specs.declared.limits.TheConstants.{NODES}
 
 -- what a new node holds
 abbrev pub empty : Kind → Content

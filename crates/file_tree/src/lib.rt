@@ -6,8 +6,12 @@ mod kind;
 pub mod laws;
 pub mod limits;
 mod lookup;
+mod names;
+#[cfg(test)]
+mod tests;
 mod tree;
 
 pub use file_tree_store::Bytes;
 pub use kind::Kind;
+pub use names::is_name;
 pub use tree::Tree;

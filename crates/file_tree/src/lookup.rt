@@ -87,11 +87,7 @@ pub fn new_content(alloc: Global, kind: Kind) -> Content
 pub fn larger(a: u64, b: u64) -> u64
     ensures { result ≡ max a b }
 {
-    if a < b {
-        b
-    } else {
-        a
-    }
+    if a < b { b } else { a }
 }
 
 /// Puts bytes from a place on into `into`, as many as there are and fit, and gives how many.

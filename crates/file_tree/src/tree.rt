@@ -8,7 +8,8 @@ ghost use Rattle.file_tree.specs.declared.limits.TheConstants.{NODES, FILE_BYTES
 use crate::children::{child_of, has_children, leads_to};
 use crate::kind::Kind;
 use crate::lookup::{
-    bytes_held, copy_front, drop_node, holds_directory, holds_path, larger, new_content, node_of, place_of,
+    bytes_held, copy_front, drop_node, holds_directory, holds_path, larger, new_content, node_of,
+    place_of,
 };
 use file_tree_store::{Bytes, Content, Hook, Node, Nodes};
 use std::alloc::{AllocError, Global};

@@ -1,7 +1,7 @@
 use Rattle.std.proofs.Common.{sym, ap, ◌∙◌, refl}
 use Rattle.file_tree_store.specs.declared.node.Node.{Node}
 use Rattle.file_tree_store.specs.declared.node.Hook.TheVariants.{In}
-use Rattle.file_tree.proofs.Grows.{IsMade, is_made}
+use Rattle.file_tree.proofs.Grows.{is_made}
 use Rattle.file_tree.proofs.tree.Tree.create.Goals as goal
 
 pub invariant_of-self-2 : goal.invariant_of-self-2

@@ -1,4 +1,4 @@
-use Rattle.std.proofs.Common.{sym, ◌∙◌, ap, length, arith}
+use Rattle.std.proofs.Common.{ap, length, arith}
 use Rattle.file_tree.proofs.Forgets.{is_forgotten, none_forgotten}
 use Rattle.file_tree.proofs.tree.Tree.forget.Goals as goal
 

@@ -1,7 +1,7 @@
-use Rattle.std.proofs.Common.{sym, ap, ◌∙◌, arith, length}
+use Rattle.std.proofs.Common.{ap, arith, length}
 use Rattle.file_tree.specs.Files.{bytes_of_node, resized}
-use Rattle.file_tree.proofs.Sizes.{all_bytes, length-resized}
-use Rattle.file_tree.proofs.Contents.{is_resized, bytes_at_place, no_bytes_changed}
+use Rattle.file_tree.proofs.Sizes.{length-resized}
+use Rattle.file_tree.proofs.Contents.{is_resized, no_bytes_changed}
 use Rattle.file_tree.proofs.tree.Tree.resize.Goals as goal
 
 pub returns-in_default-clause-resized : goal.returns-in_default-clause-resized

@@ -1,4 +1,4 @@
-use Rattle.std.proofs.Common.{sym, ap, ◌∙◌, arith, length}
+use Rattle.std.proofs.Common.{ap, arith, length}
 use Rattle.file_tree.specs.Files.{bytes_of_node, written}
 use Rattle.file_tree.proofs.Sizes.{all_bytes, length-written}
 use Rattle.file_tree.proofs.Contents.{is_written, bytes_at_place, no_bytes_changed}
