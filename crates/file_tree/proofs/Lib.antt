@@ -16,3 +16,4 @@ pub mod Moves
 pub mod Within
 pub mod WayUp
 pub mod IsFiles
+pub mod Parents

@@ -1,5 +1,5 @@
 -- What a caller has tested before a tree is changed.
-use Rattle.std.specs.Prelude.{◌≡◌, ◌≢◌, ℕ, ◌==◌, [], Bool, true, false, length, take, drop, List, Option, Some, None, is_some, unwrap_or}
+use Rattle.std.specs.Prelude.{◌≡◌, ◌≢◌, ℕ, ◌==◌, [], Bool, true, false, length, take, drop, List, Option, Some, None, is_some, unwrap_or, ◌++◌, ◌∷◌}
 use Rattle.file_tree.specs.Files.{Name, Path, Files, Content, Directory, File, IsName, path_of, behind, child, is_directory, bytes_of_node, entries_of}
 use Rattle.file_tree.specs.declared.kind.Kind.{Kind}
 use Rattle.file_tree.specs.declared.kind.Kind.TheVariants as kind
@@ -44,3 +44,10 @@ pub record CanMove (fs : Files) (k d : ℕ) (name : Name) : Type 0 where
   pub there : is_some (path_of fs k) ≡ true
   pub free : IsFree fs d name
   pub outside : is_within fs k d ≡ false
+
+-- the directory above a node: its path is the node's without the last name
+pub record IsParent (fs : Files) (k d : ℕ) : Type 0 where
+  pub path : Path
+  pub name : Name
+  pub own : path_of fs k ≡ Some (path ++ name ∷ [])
+  pub above : path_of fs d ≡ Some path

@@ -3,7 +3,7 @@
 ghost use Rattle.std.specs.Prelude.{◌≡◌, option_copied};
 ghost use Rattle.file_tree.specs.Files.{is_same_name};
 ghost use Rattle.file_tree.specs.Links.{is_hooked, child_in, is_in, has_child, hook_held, hook_of, comes_to};
-ghost use Rattle.file_tree.specs.Steps.{step_of};
+ghost use Rattle.file_tree.specs.Steps.{step_of, parent_in};
 
 use crate::lookup::node_of;
 use file_tree_store::{Hook, Node, Nodes};
@@ -110,4 +110,15 @@ pub fn leads_to(nodes: &Nodes, most: u64, number: u64, directory: u64) -> bool
         }
     }
     false
+}
+
+/// The number of the directory in which a node hangs.
+pub fn parent_of(nodes: &Nodes, number: u64) -> Option<u64>
+    ensures { result ≡ parent_in nodes.now number }
+{
+    match step_up(nodes, number) {
+        Step::Top => None,
+        Step::Up(parent) => Some(parent),
+        Step::Nowhere => None,
+    }
 }

@@ -1,11 +1,11 @@
 //! A tree of files.
 
-ghost use Rattle.std.specs.Prelude.{◌≡◌, ◌<◌, ◌^◌, ◌++◌, ◌∷◌, [], length, ◌+◌, ◌≤◌, ◌==◌, drop, false, IfOk, OnOk, OnErr, is_some};
-ghost use Rattle.file_tree.specs.Files.{IsFiles, fresh, is_directory, bytes_of_node, used, path_of, child, entries_of, created, with_bytes, removed, forgotten, renamed, written, resized};
-ghost use Rattle.file_tree.specs.Changes.{IsFree, CanLose, CanMove, is_within, empty, path_at, read_from};
+ghost use Rattle.std.specs.Prelude.{◌≡◌, ◌<◌, ◌^◌, ◌++◌, ◌∷◌, [], length, ℕ, ◌+◌, ◌≢◌, Some, IfSome, IfNone, ◌≤◌, ◌==◌, drop, false, IfOk, OnOk, OnErr, is_some};
+ghost use Rattle.file_tree.specs.Files.{Name, Path, IsFiles, fresh, is_directory, bytes_of_node, used, path_of, child, entries_of, created, with_bytes, removed, forgotten, renamed, written, resized};
+ghost use Rattle.file_tree.specs.Changes.{IsFree, CanLose, CanMove, IsParent, is_within, empty, path_at, read_from};
 ghost use Rattle.file_tree.specs.declared.limits.TheConstants.{NODES, FILE_BYTES};
 
-use crate::children::{child_of, has_children, leads_to};
+use crate::children::{child_of, has_children, leads_to, parent_of};
 use crate::kind::Kind;
 use crate::lookup::{
     bytes_held, copy_front, drop_node, holds_directory, holds_path, larger, new_content, node_of,
@@ -118,6 +118,15 @@ impl Tree {
         ensures bytes { into.new ≡ read_from self.now number from (length into.old) ++ drop result into.old }
     {
         copy_front(bytes_held(node_of(&self.nodes, number)), from, into)
+    }
+
+    /// The directory above a node: none above the root, a removed node, or one that isn't there.
+    pub fn parent(&self, number: u64) -> Option<u64>
+        ensures above { IfSome result (IsParent self.now number) }
+        ensures none { IfNone result ((path : Path) (name : Name) → path_of self.now number ≢ Some (path ++ name ∷ [])) }
+        ensures of_child { (d : ℕ) (name : Name) → child self.now d name ≡ Some number → result ≡ Some d }
+    {
+        parent_of(&self.nodes, number)
     }
 
     /// Whether a directory that has a path is the node with this number, or lies below it.
