@@ -17,3 +17,5 @@ pub mod Within
 pub mod WayUp
 pub mod IsFiles
 pub mod Parents
+pub mod Order
+pub mod Ranked

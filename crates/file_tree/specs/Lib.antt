@@ -3,3 +3,4 @@ pub mod Files
 pub mod Laws
 pub mod Links
 pub mod Steps
+pub mod Ranks

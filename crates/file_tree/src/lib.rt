@@ -7,6 +7,7 @@ pub mod laws;
 pub mod limits;
 mod lookup;
 mod names;
+mod ranks;
 #[cfg(test)]
 mod tests;
 mod tree;

@@ -1,7 +1,7 @@
 //! A tree of files.
 
-ghost use Rattle.std.specs.Prelude.{◌≡◌, ◌<◌, ◌^◌, ◌++◌, ◌∷◌, [], length, ℕ, ◌+◌, ◌≢◌, Some, IfSome, IfNone, ◌≤◌, ◌==◌, drop, false, IfOk, OnOk, OnErr, is_some};
-ghost use Rattle.file_tree.specs.Files.{Name, Path, IsFiles, fresh, is_directory, bytes_of_node, used, path_of, child, entries_of, created, with_bytes, removed, forgotten, renamed, written, resized};
+ghost use Rattle.std.specs.Prelude.{◌≡◌, ◌<◌, ◌^◌, ◌++◌, ◌∷◌, [], length, ℕ, ◌+◌, ◌≢◌, Some, slice_get, option_map, IfSome, IfNone, ◌≤◌, ◌==◌, drop, false, IfOk, OnOk, OnErr, is_some};
+ghost use Rattle.file_tree.specs.Files.{Name, Path, Entry, IsFiles, fresh, is_directory, bytes_of_node, used, path_of, child, entries_of, created, with_bytes, removed, forgotten, renamed, written, resized};
 ghost use Rattle.file_tree.specs.Changes.{IsFree, CanLose, CanMove, IsParent, is_within, empty, path_at, read_from};
 ghost use Rattle.file_tree.specs.declared.limits.TheConstants.{NODES, FILE_BYTES};
 
@@ -11,6 +11,7 @@ use crate::lookup::{
     bytes_held, copy_front, drop_node, holds_directory, holds_path, larger, new_content, node_of,
     place_of,
 };
+use crate::ranks::entry_at;
 use file_tree_store::{Bytes, Content, Hook, Node, Nodes};
 use std::alloc::{AllocError, Global};
 use std::marker::Model;
@@ -109,6 +110,14 @@ impl Tree {
         ensures { result ≡ (length (entries_of self.now directory) == 0) }
     {
         !has_children(&self.nodes, directory)
+    }
+
+    /// The number of the node at a place, from 0 on, among a directory's entries in the order of their names. It takes no memory,
+    /// and time as the square of the number of nodes.
+    pub fn entry(&self, directory: u64, place: usize) -> Option<u64>
+        ensures { result ≡ option_map (λ (e : Entry). e.number) (slice_get (entries_of self.now directory) place) }
+    {
+        entry_at(&self.nodes, directory, place)
     }
 
     /// Puts a file's bytes from one of them on into `into`, as many as there are and fit, and gives how many. What is
