@@ -25,17 +25,17 @@ before_or_not (a ∷ name) (b ∷ other) = by (cases_lt a b) (cases_lt b a) (bef
       → ((cond (ltb a b) true (cond (ltb b a) false (is_before name other)) ≡ true) × ((a < b) ⊎ ((a ≡ b) × Before name other))) ⊎ ((cond (ltb a b) true (cond (ltb b a) false (is_before name other)) ≡ false) × ((a < b) ⊎ ((a ≡ b) × Before name other) → ⊥))
   by (inl lt) other_way rest = inl (ap (λ (t : Bool). cond t true (cond (ltb b a) false (is_before name other))) (lt-ltb a b lt), inl lt)
   by (inr le) (inl gt) rest = inr (
-      ap (λ (t : Bool). cond t true (cond (ltb b a) false (is_before name other))) (le-ltb a b le) ∙ ap (λ (t : Bool). cond t false (is_before name other)) (lt-ltb b a gt),
-      not_so le (λ e h. absurd (omega (arith, e, gt))),
-    )
+    ap (λ (t : Bool). cond t true (cond (ltb b a) false (is_before name other))) (le-ltb a b le) ∙ ap (λ (t : Bool). cond t false (is_before name other)) (lt-ltb b a gt),
+    not_so le (λ e h. absurd (omega (arith, e, gt))),
+  )
   by (inr le) (inr ge) (inl h) = inl (
-      ap (λ (t : Bool). cond t true (cond (ltb b a) false (is_before name other))) (le-ltb a b le) ∙ ap (λ (t : Bool). cond t false (is_before name other)) (le-ltb b a ge) ∙ h.0,
-      inr (omega (arith, le, ge), h.1),
-    )
+    ap (λ (t : Bool). cond t true (cond (ltb b a) false (is_before name other))) (le-ltb a b le) ∙ ap (λ (t : Bool). cond t false (is_before name other)) (le-ltb b a ge) ∙ h.0,
+    inr (omega (arith, le, ge), h.1),
+  )
   by (inr le) (inr ge) (inr h) = inr (
-      ap (λ (t : Bool). cond t true (cond (ltb b a) false (is_before name other))) (le-ltb a b le) ∙ ap (λ (t : Bool). cond t false (is_before name other)) (le-ltb b a ge) ∙ h.0,
-      not_so le (λ e b. h.1 b),
-    )
+    ap (λ (t : Bool). cond t true (cond (ltb b a) false (is_before name other))) (le-ltb a b le) ∙ ap (λ (t : Bool). cond t false (is_before name other)) (le-ltb b a ge) ∙ h.0,
+    not_so le (λ e b. h.1 b),
+  )
 
 not_itself : (x : Name) → Before x x → ⊥
 not_itself [] h = h

@@ -1,19 +1,21 @@
 -- The directory above a node.
-use Rattle.std.proofs.Common.{◌≡◌, ◌≢◌, ℕ, ◌⊎◌, inl, inr, Bool, true, false, cond, eqb, List, [], ◌∷◌, ◌++◌, reverse, Option, Some, None, refl, sym, ap, subst, ◌∙◌}
+use Rattle.std.proofs.Common.{◌≡◌, ◌≢◌, ℕ, ◌⊎◌, inl, inr, Bool, true, false, cond, eqb, List, [], ◌∷◌, ◌++◌, reverse, Some, None, refl, sym, ap, subst, ◌∙◌}
 use Rattle.std.specs.Prelude.{option_map, ◌&&◌, IfSome, IfNone}
 use Rattle.std.specs.List.{AllByRecursion}
 use Rattle.std.proofs.lemmas.Bool.{cases_eq, ne_eqb, eq-eqb}
 use mathlib.Core.List.{reverse-cons}
+use Rattle.std.proofs.lemmas.List.{same_from_push}
 use Rattle.file_tree_store.specs.declared.node.Hook.{Hook}
 use Rattle.file_tree_store.specs.declared.node.Hook.TheVariants.{Root, Removed, In}
 use Rattle.file_tree_store.specs.declared.node.Node.{Node}
-use Rattle.file_tree.specs.Files.{Name, Path, Files, is_same_name, path_of, child}
+use Rattle.file_tree.specs.Files.{Name, Path, is_same_name, path_of, child}
 use Rattle.file_tree.specs.Changes.{IsParent}
-use Rattle.file_tree.specs.Links.{Up, climb, hook_of, AreNodes, files, is_hooked, child_in}
+use Rattle.file_tree.specs.Links.{Up, hook_of, AreNodes, files, is_hooked, child_in, name_of_hook}
 use Rattle.file_tree.specs.Steps.{step_of, parent_after, parent_in}
 use Rattle.file_tree.proofs.SameNames.{name_or_not}
 use Rattle.file_tree.proofs.Climbs.{path_is, no_path}
 use Rattle.file_tree.proofs.Lookups.{path_shown}
+use Rattle.file_tree.proofs.Grows.{removed_or_not, way_up}
 use Rattle.file_tree.proofs.Seen.{own_hooks, child_shown}
 
 some_path : (p q : Path) → Some p ≡ Some q → p ≡ q
@@ -77,3 +79,24 @@ child_hook hook (n ∷ ns) d name k own e = by (is_hooked d name n.hook) refl (c
 pub parent_of_child : (ns : List Node) (next k d : ℕ) (name : Name) → AreNodes ns next → child (files ns next) d name ≡ Some k → parent_in ns k ≡ Some d
 parent_of_child ns next k d name are e =
     ap (λ (h : Hook). parent_after (step_of h)) (child_hook (hook_of ns) ns d name k (own_hooks 1 ns next are.rising) (sym (child_shown ns next d name are) ∙ e))
+
+-- ---- the last name of a path
+
+name_by_way : (ns : List Node) (next k : ℕ) → AreNodes ns next → (a : Path) → Up (hook_of ns) k a → (p : Path) (name : Name) → path_of (files ns next) k ≡ Some (p ++ name ∷ []) → name_of_hook (hook_of ns k) ≡ name
+name_by_way ns next k are [] h p name e = absurd (not_nil p name (some_path [] (p ++ name ∷ []) (sym (path_at_way ns next k [] are h) ∙ e)))
+name_by_way ns next k are (other ∷ a) h p name e =
+    ap name_of_hook h.1
+    ∙ (same_from_push (reverse a) p other name (sym (reverse-cons other a) ∙ some_path (reverse (other ∷ a)) (p ++ name ∷ []) (sym (path_at_way ns next k (other ∷ a) are h) ∙ e))).1
+
+pub last_name : (ns : List Node) (next k : ℕ) → AreNodes ns next → (p : Path) (name : Name) → path_of (files ns next) k ≡ Some (p ++ name ∷ []) → name_of_hook (hook_of ns k) ≡ name
+last_name ns next k are p name e = (let way = way_up ns next k (p ++ name ∷ []) e in name_by_way ns next k are way.0 way.2 p name e)
+
+no_name_by_way : (ns : List Node) (next k : ℕ) → AreNodes ns next → (a : Path) → Up (hook_of ns) k a → ((path : Path) (name : Name) → path_of (files ns next) k ≢ Some (path ++ name ∷ [])) → name_of_hook (hook_of ns k) ≡ []
+no_name_by_way ns next k are [] h never = ap name_of_hook h
+no_name_by_way ns next k are (other ∷ a) h never = absurd (never (reverse a) other (path_at_way ns next k (other ∷ a) are h ∙ ap (λ (p : Path). Some p) (reverse-cons other a)))
+
+pub no_name : (ns : List Node) (next k : ℕ) → AreNodes ns next → ((path : Path) (name : Name) → path_of (files ns next) k ≢ Some (path ++ name ∷ [])) → name_of_hook (hook_of ns k) ≡ []
+no_name ns next k are never = elim (removed_or_not (hook_of ns k)) [
+  | inl gone ↦ ap name_of_hook gone
+  | inr here ↦ (let r = are.tree.reached k here in no_name_by_way ns next k are r.0 r.1 never)
+]

@@ -1,14 +1,14 @@
 -- The entry at a place, by the ranks of what hangs in a directory.
-use Rattle.std.proofs.Common.{◌≡◌, ◌≢◌, ℕ, ◌+◌, ◌≤◌, ◌⊎◌, inl, inr, Bool, true, false, cond, eqb, List, [], ◌∷◌, Option, Some, None, refl, sym, ap, subst, ◌∙◌, arith}
+use Rattle.std.proofs.Common.{◌≡◌, ◌≢◌, ℕ, ◌+◌, ◌≤◌, ◌⊎◌, inl, inr, Bool, true, false, cond, eqb, List, [], ◌∷◌, Option, Some, None, refl, sym, ap, ◌∙◌, arith}
 use Rattle.std.specs.Prelude.{slice_get, option_map, ◌&&◌}
 use Rattle.std.specs.List.{AllByRecursion}
 use Rattle.std.proofs.lemmas.Bool.{cases_eq, eq-eqb, ne_eqb}
 use Rattle.file_tree_store.specs.declared.node.Hook.{Hook}
 use Rattle.file_tree_store.specs.declared.node.Hook.TheVariants.{Root, Removed, In}
 use Rattle.file_tree_store.specs.declared.node.Node.{Node}
-use Rattle.file_tree.specs.Files.{Name, Files, Entry, is_before, sorted, entries_of}
-use Rattle.file_tree.specs.Links.{hook_of, AreNodes, IsTree, files, hooked_name, hooked_entry, hooked_entries, with_entry, AreRisingNodes}
-use Rattle.file_tree.specs.Ranks.{comes_before, rank_in, is_ranked, entry_in}
+use Rattle.file_tree.specs.Files.{Name, Entry, is_before, entries_of}
+use Rattle.file_tree.specs.Links.{hook_of, AreNodes, IsTree, files, hooked_entries, with_entry, AreRisingNodes}
+use Rattle.file_tree.specs.Ranks.{rank_in, entry_in}
 use Rattle.file_tree.proofs.Lists.{numbers_from}
 use Rattle.file_tree.proofs.Order.{HaveDistinctNames, rank, ranked_so, ranked_is}
 use Rattle.file_tree.proofs.Seen.{own_hooks, entries_shown}

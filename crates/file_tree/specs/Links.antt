@@ -54,6 +54,12 @@ is_hung Root = true
 is_hung Removed = false
 is_hung (In d name) = true
 
+-- the name in a hook
+abbrev pub name_of_hook : Hook → Name
+name_of_hook Root = []
+name_of_hook Removed = []
+name_of_hook (In d name) = name
+
 abbrev pub content_shown : store.Content → Content
 content_shown content.Directory = Directory
 content_shown (content.File bytes) = File bytes

@@ -2,7 +2,7 @@
 
 ghost use Rattle.std.specs.Prelude.{◌≡◌, ◌<◌, ◌++◌, take, drop, length, max, IfSome, IfNone, option_copied};
 ghost use Rattle.std.specs.List.{remove};
-ghost use Rattle.file_tree.specs.Links.{IsPlace, IsNowhere, node_in, hook_held, content_held, holds_directory_node, bytes_held_in, is_hung, content_shown};
+ghost use Rattle.file_tree.specs.Links.{IsPlace, IsNowhere, node_in, hook_held, content_held, holds_directory_node, bytes_held_in, is_hung, name_of_hook, content_shown};
 ghost use Rattle.file_tree.specs.Changes.{empty};
 
 use crate::kind::Kind;
@@ -54,6 +54,20 @@ pub fn bytes_held(node: Option<&Node>) -> &[u8]
         Some(node) => match &node.content {
             Content::Directory => b"",
             Content::File(file) => file.as_slice(),
+        },
+        None => b"",
+    }
+}
+
+/// The name under which a node hangs; none of the root or of a removed node.
+pub fn name_held(node: Option<&Node>) -> &[u8]
+    ensures { result.now ≡ name_of_hook (hook_held (option_copied node.entry)) }
+{
+    match node {
+        Some(node) => match &node.hook {
+            Hook::Root => b"",
+            Hook::In(_, name) => name.as_slice(),
+            Hook::Removed => b"",
         },
         None => b"",
     }

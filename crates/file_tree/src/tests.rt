@@ -68,6 +68,10 @@ fn changes_with_memory(rt: HostRuntime) -> Result<(), AllocError> {
     assert_eq!(rt; tree.child(1, b"a"), None);
     assert_eq!(rt; tree.child(directory, b"a"), Some(file));
     assert!(rt; !tree.is_empty(directory));
+    assert_eq!(rt; tree.entry(1, 0), Some(directory));
+    assert_eq!(rt; tree.entry(1, 1), None);
+    assert_eq!(rt; tree.name(file), b"a".as_slice());
+    assert_eq!(rt; tree.parent(file), Some(directory));
     written(&mut tree, file)?;
     assert_eq!(rt; tree.used(), 4);
     let mut bytes = [7; 3];

@@ -8,8 +8,8 @@ ghost use Rattle.file_tree.specs.declared.limits.TheConstants.{NODES, FILE_BYTES
 use crate::children::{child_of, has_children, leads_to, parent_of};
 use crate::kind::Kind;
 use crate::lookup::{
-    bytes_held, copy_front, drop_node, holds_directory, holds_path, larger, new_content, node_of,
-    place_of,
+    bytes_held, copy_front, drop_node, holds_directory, holds_path, larger, name_held, new_content,
+    node_of, place_of,
 };
 use crate::ranks::entry_at;
 use file_tree_store::{Bytes, Content, Hook, Node, Nodes};
@@ -136,6 +136,14 @@ impl Tree {
         ensures of_child { (d : ℕ) (name : Name) → child self.now d name ≡ Some number → result ≡ Some d }
     {
         parent_of(&self.nodes, number)
+    }
+
+    /// The last name of a node's path: no bytes for the root, a removed node, or one that isn't there.
+    pub fn name(&self, number: u64) -> &[u8]
+        ensures last { (path : Path) (name : Name) → path_of self.now number ≡ Some (path ++ name ∷ []) → result.now ≡ name }
+        ensures none { ((path : Path) (name : Name) → path_of self.now number ≢ Some (path ++ name ∷ [])) → result.now ≡ [] }
+    {
+        name_held(node_of(&self.nodes, number))
     }
 
     /// Whether a directory that has a path is the node with this number, or lies below it.

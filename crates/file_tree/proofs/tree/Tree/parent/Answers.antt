@@ -1,4 +1,4 @@
-use Rattle.std.proofs.Common.{◌≡◌, ◌≢◌, ℕ, Option, Some, ◌++◌, ◌∷◌, [], sym, ap, subst, ◌∙◌}
+use Rattle.std.proofs.Common.{◌≢◌, ℕ, Option, Some, ◌++◌, ◌∷◌, [], sym, ap, subst, ◌∙◌}
 use Rattle.std.specs.Prelude.{IfSome, IfNone}
 use Rattle.file_tree.specs.Files.{Name, Path, Files, path_of, child}
 use Rattle.file_tree.specs.Changes.{IsParent}
