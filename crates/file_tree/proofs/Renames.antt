@@ -12,7 +12,7 @@ same_name : (name : Name) → is_same_name name name ≡ true
 same_name [] = refl
 same_name (b ∷ name) = rw (same_number b, same_name name) refl
 
-behind_front : (old rest : Path) → behind old (old ++ rest) ≡ Some rest
+pub behind_front : (old rest : Path) → behind old (old ++ rest) ≡ Some rest
 behind_front [] rest = refl
 behind_front (name ∷ old) rest = rw (same_name name) (behind_front old rest)
 

@@ -1,0 +1,17 @@
+use Rattle.std.proofs.Common.{sym, ap, ◌∙◌, refl}
+use Rattle.file_tree_store.specs.declared.node.Node.{Node}
+use Rattle.file_tree_store.specs.declared.node.Hook.TheVariants.{In}
+use Rattle.file_tree.proofs.Grows.{is_made}
+use Rattle.file_tree.proofs.tree.Tree.create.Goals as goal
+
+pub invariant_of-self-2 : goal.invariant_of-self-2
+invariant_of-self-2 c =
+    let n : Node = record { number = c.self.inside.next; hook = In c.args.directory c.in_ok-name.name; content = c.new_content.result } in
+    let made = is_made c.self.inside.nodes c.self.inside.next c.args.directory c.args.name.now c.args.kind n c.args.self.now c.self.view_is c.self.invariant.0 c.requires.free c.requires.room refl (ap (λ x. In c.args.directory x) c.in_ok-name.ensures) c.new_content.ensures in
+    rw c.in_ok-push.ensures.pushed (made.nodes, c.self.invariant.1 ∙ sym made.used)
+
+pub returns-clause-created : goal.returns-clause-created
+returns-clause-created c =
+    let n : Node = record { number = c.self.inside.next; hook = In c.args.directory c.in_ok-name.name; content = c.new_content.result } in
+    let made = is_made c.self.inside.nodes c.self.inside.next c.args.directory c.args.name.now c.args.kind n c.args.self.now c.self.view_is c.self.invariant.0 c.requires.free c.requires.room refl (ap (λ x. In c.args.directory x) c.in_ok-name.ensures) c.new_content.ensures in
+    rw c.in_ok-push.ensures.pushed made.files_are

@@ -1,0 +1,13 @@
+use Rattle.std.proofs.Common.{sym, ap, ◌∙◌, length}
+use Rattle.file_tree.specs.Files.{Files, bytes_of_node}
+use Rattle.file_tree.specs.Links.{bytes_held_in}
+use Rattle.file_tree.proofs.Lookups.{bytes_shown}
+use Rattle.file_tree.proofs.tree.Tree.size.Goals as goal
+
+pub returns : goal.returns
+returns c =
+    ap length
+    (c.bytes_held.ensures
+    ∙ ap bytes_held_in c.node_of.ensures
+    ∙ sym (bytes_shown c.self.inside.nodes c.self.inside.next c.args.number)
+    ∙ ap (λ (fs : Files). bytes_of_node fs c.args.number) c.self.view_is)

@@ -1,0 +1,124 @@
+//! What hangs in a directory.
+
+ghost use Rattle.std.specs.Prelude.{◌≡◌, option_copied};
+ghost use Rattle.file_tree.specs.Files.{is_same_name};
+ghost use Rattle.file_tree.specs.Links.{is_hooked, child_in, is_in, has_child, hook_held, hook_of, comes_to};
+ghost use Rattle.file_tree.specs.Steps.{step_of, parent_in};
+
+use crate::lookup::node_of;
+use file_tree_store::{Hook, Node, Nodes};
+
+// Whether two names are the same.
+fn is_same(name: &[u8], other: &[u8]) -> bool
+    ensures { result ≡ is_same_name name.now other.now }
+{
+    name == other
+}
+
+// Whether a node with this hook hangs in a directory under a name.
+fn hangs_under(hook: &Hook, directory: u64, name: &[u8]) -> bool
+    ensures { result ≡ is_hooked directory name.now hook.now }
+{
+    match hook {
+        Hook::Root => false,
+        Hook::Removed => false,
+        Hook::In(parent, other) => *parent == directory && is_same(other.as_slice(), name),
+    }
+}
+
+// Whether a node with this hook hangs in a directory.
+fn hangs_in(hook: &Hook, directory: u64) -> bool
+    ensures { result ≡ is_in directory hook.now }
+{
+    match hook {
+        Hook::Root => false,
+        Hook::Removed => false,
+        Hook::In(parent, _) => *parent == directory,
+    }
+}
+
+/// The number of the node under a name in a directory.
+pub fn child_of(nodes: &Nodes, directory: u64, name: &[u8]) -> Option<u64>
+    ensures { result ≡ child_in nodes.now directory name.now }
+{
+    for place in 0..nodes.len() {
+        let node = nodes.get(place);
+        if hangs_under(&node.hook, directory, name) {
+            return Some(node.number);
+        }
+    }
+    None
+}
+
+/// Whether any node hangs in a directory.
+pub fn has_children(nodes: &Nodes, directory: u64) -> bool
+    ensures { result ≡ has_child nodes.now directory }
+{
+    for place in 0..nodes.len() {
+        if hangs_in(&nodes.get(place).hook, directory) {
+            return true;
+        }
+    }
+    false
+}
+
+/// What the way up from a node goes on with.
+pub enum Step {
+    /// The node is the root.
+    Top,
+    /// The node hangs in the directory with this number.
+    Up(u64),
+    /// The node was removed, or isn't there.
+    Nowhere,
+}
+
+/// Where the way up from a node leads.
+pub fn step_up(nodes: &Nodes, number: u64) -> Step
+    ensures { result ≡ step_of (hook_of nodes.now number) }
+{
+    step_from(node_of(nodes, number))
+}
+
+fn step_from(node: Option<&Node>) -> Step
+    ensures { result ≡ step_of (hook_held (option_copied node.entry)) }
+{
+    match node {
+        Some(node) => match &node.hook {
+            Hook::Root => Step::Top,
+            Hook::Removed => Step::Nowhere,
+            Hook::In(parent, _) => Step::Up(*parent),
+        },
+        None => Step::Nowhere,
+    }
+}
+
+/// Whether the way up from a directory, of at most so many steps, comes to a node.
+pub fn leads_to(nodes: &Nodes, most: u64, number: u64, directory: u64) -> bool
+    ensures { result ≡ comes_to most (hook_of nodes.now) number directory }
+{
+    let mut at = directory;
+    for _ in 0..most {
+        match step_up(nodes, at) {
+            Step::Nowhere => return false,
+            Step::Top => return at == number,
+            Step::Up(parent) => {
+                if at == number {
+                    return true;
+                }
+                at = parent;
+            }
+        }
+    }
+    false
+}
+
+/// The number of the directory in which a node hangs.
+pub fn parent_of(nodes: &Nodes, number: u64) -> Option<u64>
+    ensures { result ≡ parent_in nodes.now number }
+{
+    match step_up(nodes, number) {
+        Step::Top => None,
+        Step::Up(parent) => Some(parent),
+        Step::Nowhere => None,
+    }
+}

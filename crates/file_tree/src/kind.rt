@@ -1,0 +1,10 @@
+//! Kinds of nodes.
+
+/// What a new node is.
+#[derive(Clone, Copy, Debug, PartialEq, Eq)]
+pub enum Kind {
+    /// A directory without entries.
+    Directory,
+    /// A file without bytes.
+    File,
+}

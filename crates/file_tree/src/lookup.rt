@@ -1,0 +1,131 @@
+//! Nodes by their numbers, and what they hold.
+
+ghost use Rattle.std.specs.Prelude.{◌≡◌, ◌<◌, ◌++◌, take, drop, length, max, IfSome, IfNone, option_copied};
+ghost use Rattle.std.specs.List.{remove};
+ghost use Rattle.file_tree.specs.Links.{IsPlace, IsNowhere, node_in, hook_held, content_held, holds_directory_node, bytes_held_in, is_hung, name_of_hook, content_shown};
+ghost use Rattle.file_tree.specs.Changes.{empty};
+
+use crate::kind::Kind;
+use file_tree_store::{Bytes, Content, Hook, Node, Nodes};
+use std::alloc::Global;
+
+/// The place of the node with this number.
+pub fn place_of(nodes: &Nodes, number: u64) -> Option<usize>
+    ensures there { IfSome result (λ place. IsPlace nodes.now number place) }
+    ensures within { IfSome result (λ place. place < length nodes.now) }
+    ensures nowhere { IfNone result (IsNowhere nodes.now number) }
+{
+    for place in 0..nodes.len() {
+        if nodes.get(place).number == number {
+            return Some(place);
+        }
+    }
+    None
+}
+
+/// The node with this number.
+pub fn node_of(nodes: &Nodes, number: u64) -> Option<&Node>
+    ensures { option_copied result ≡ node_in nodes.now number }
+{
+    match place_of(nodes, number) {
+        Some(place) => Some(nodes.get(place)),
+        None => None,
+    }
+}
+
+/// Whether a directory is there.
+pub fn holds_directory(node: Option<&Node>) -> bool
+    ensures { result ≡ holds_directory_node (content_held (option_copied node.entry)) }
+{
+    match node {
+        Some(node) => match &node.content {
+            Content::Directory => true,
+            Content::File(_) => false,
+        },
+        None => false,
+    }
+}
+
+/// The bytes of a file that is there, else none.
+pub fn bytes_held(node: Option<&Node>) -> &[u8]
+    ensures { result.now ≡ bytes_held_in (option_copied node.entry) }
+{
+    match node {
+        Some(node) => match &node.content {
+            Content::Directory => b"",
+            Content::File(file) => file.as_slice(),
+        },
+        None => b"",
+    }
+}
+
+/// The name under which a node hangs; none of the root or of a removed node.
+pub fn name_held(node: Option<&Node>) -> &[u8]
+    ensures { result.now ≡ name_of_hook (hook_held (option_copied node.entry)) }
+{
+    match node {
+        Some(node) => match &node.hook {
+            Hook::Root => b"",
+            Hook::In(_, name) => name.as_slice(),
+            Hook::Removed => b"",
+        },
+        None => b"",
+    }
+}
+
+/// Whether a node is there that wasn't removed.
+pub fn holds_path(node: Option<&Node>) -> bool
+    ensures { result ≡ is_hung (hook_held (option_copied node.entry)) }
+{
+    match node {
+        Some(node) => match &node.hook {
+            Hook::Root => true,
+            Hook::In(_, _) => true,
+            Hook::Removed => false,
+        },
+        None => false,
+    }
+}
+
+/// The contents of a new node. It takes no memory.
+pub fn new_content(alloc: Global, kind: Kind) -> Content
+    ensures { content_shown result ≡ empty kind }
+{
+    match kind {
+        Kind::Directory => Content::Directory,
+        Kind::File => Content::File(Bytes::new(alloc)),
+    }
+}
+
+/// The larger one of two numbers.
+pub fn larger(a: u64, b: u64) -> u64
+    ensures { result ≡ max a b }
+{
+    if a < b { b } else { a }
+}
+
+/// Puts bytes from a place on into `into`, as many as there are and fit, and gives how many.
+pub fn copy_front(bytes: &[u8], from: u64, into: &mut [u8]) -> usize
+    ensures count { result ≡ length (take (length into.old) (drop from bytes.now)) }
+    ensures copied { into.new ≡ take (length into.old) (drop from bytes.now) ++ drop result into.old }
+{
+    if from >= bytes.len() as u64 {
+        return 0;
+    }
+    let rest = &bytes[from as usize..];
+    if rest.len() >= into.len() {
+        into.copy_from_slice(&rest[..into.len()]);
+        into.len()
+    } else {
+        into[..rest.len()].copy_from_slice(rest);
+        rest.len()
+    }
+}
+
+/// Drops the node at a place.
+pub fn drop_node(nodes: &mut Nodes, place: usize)
+    requires { place < length nodes.old }
+    ensures { nodes.new ≡ remove nodes.old place }
+{
+    let _node = nodes.remove(place);
+}

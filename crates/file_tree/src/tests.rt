@@ -1,0 +1,91 @@
+//! That a tree is made and changed where there is memory, and that a caller can test what is asked of it.
+
+use super::limits::NODES;
+use super::{Bytes, Kind, Tree, is_name};
+use std::alloc::{AllocError, Global};
+
+fn made(
+    alloc: Global,
+    tree: &mut Tree,
+    directory: u64,
+    name: &[u8],
+    kind: Kind,
+) -> Result<u64, AllocError> {
+    if !tree.is_directory(directory) || !tree.has_path(directory) || !is_name(name) {
+        return Ok(0);
+    }
+    if tree.child(directory, name).is_some() || tree.len() >= NODES || tree.next() >= 1_000 {
+        return Ok(0);
+    }
+    tree.create(alloc, directory, name, kind)
+}
+
+fn moved(alloc: Global, tree: &mut Tree, number: u64, directory: u64) -> Result<(), AllocError> {
+    let name = Bytes::copied(alloc, b"a")?;
+    if number == 1 || !tree.has_path(number) || tree.is_within(number, directory) {
+        return Ok(());
+    }
+    if !tree.is_directory(directory) || !tree.has_path(directory) {
+        return Ok(());
+    }
+    if tree.child(directory, b"a").is_some() || !is_name(b"a") {
+        return Ok(());
+    }
+    tree.rename(number, directory, name);
+    Ok(())
+}
+
+fn written(tree: &mut Tree, number: u64) -> Result<(), AllocError> {
+    if !tree.is_directory(number) {
+        tree.write(number, 2, b"abc")?;
+    }
+    if !tree.is_directory(number) {
+        tree.resize(number, 4)?;
+    }
+    Ok(())
+}
+
+fn removed(tree: &mut Tree, number: u64) {
+    if number != 1 && tree.is_empty(number) {
+        tree.remove(number);
+    }
+}
+
+fn forgotten(tree: &mut Tree, number: u64) {
+    if !tree.has_path(number) {
+        tree.forget(number);
+    }
+}
+
+#[test]
+fn changes_with_memory(rt: HostRuntime) -> Result<(), AllocError> {
+    let mut tree = Tree::new(rt.alloc())?;
+    let file = made(rt.alloc(), &mut tree, 1, b"a", Kind::File)?;
+    let directory = made(rt.alloc(), &mut tree, 1, b"d", Kind::Directory)?;
+    assert_eq!(rt; file, 2);
+    assert_eq!(rt; directory, 3);
+    moved(rt.alloc(), &mut tree, file, directory)?;
+    assert_eq!(rt; tree.child(1, b"a"), None);
+    assert_eq!(rt; tree.child(directory, b"a"), Some(file));
+    assert!(rt; !tree.is_empty(directory));
+    assert_eq!(rt; tree.entry(1, 0), Some(directory));
+    assert_eq!(rt; tree.entry(1, 1), None);
+    assert_eq!(rt; tree.name(file), b"a".as_slice());
+    assert_eq!(rt; tree.parent(file), Some(directory));
+    written(&mut tree, file)?;
+    assert_eq!(rt; tree.used(), 4);
+    let mut bytes = [7; 3];
+    assert_eq!(rt; tree.read(file, 1, &mut bytes), 3);
+    assert_eq!(rt; bytes, [0, b'a', b'b']);
+    removed(&mut tree, directory);
+    assert!(rt; tree.has_path(directory));
+    removed(&mut tree, file);
+    removed(&mut tree, directory);
+    assert!(rt; !tree.has_path(directory));
+    assert_eq!(rt; tree.used(), 4);
+    forgotten(&mut tree, file);
+    assert_eq!(rt; tree.used(), 0);
+    let again = made(rt.alloc(), &mut tree, 1, b"a", Kind::File)?;
+    assert_eq!(rt; again, 4);
+    Ok(())
+}

@@ -1,0 +1,255 @@
+//! A tree of files.
+
+ghost use Rattle.std.specs.Prelude.{◌≡◌, ◌<◌, ◌^◌, ◌++◌, ◌∷◌, [], length, ℕ, ◌+◌, ◌≢◌, Some, slice_get, option_map, IfSome, IfNone, ◌≤◌, ◌==◌, drop, false, IfOk, OnOk, OnErr, is_some};
+ghost use Rattle.file_tree.specs.Files.{Name, Path, Entry, IsFiles, fresh, is_directory, bytes_of_node, used, path_of, child, entries_of, created, with_bytes, removed, forgotten, renamed, written, resized};
+ghost use Rattle.file_tree.specs.Changes.{IsFree, CanLose, CanMove, IsParent, is_within, empty, path_at, read_from};
+ghost use Rattle.file_tree.specs.declared.limits.TheConstants.{NODES, FILE_BYTES};
+
+use crate::children::{child_of, has_children, leads_to, parent_of};
+use crate::kind::Kind;
+use crate::lookup::{
+    bytes_held, copy_front, drop_node, holds_directory, holds_path, larger, name_held, new_content,
+    node_of, place_of,
+};
+use crate::ranks::entry_at;
+use file_tree_store::{Bytes, Content, Hook, Node, Nodes};
+use std::alloc::{AllocError, Global};
+use std::marker::Model;
+
+/// Files and directories, which contracts see by their numbers and whole paths.
+#[derive(Drop)]
+pub struct Tree {
+    nodes: Nodes,
+    next: u64,
+    used: u64,
+}
+
+impl Model for Tree {
+    ghost use Rattle.std.specs.Prelude.{◌≡◌};
+    ghost use Rattle.file_tree.specs.Files.{Files};
+
+    ghost Value = { Files };
+
+    ghost use Rattle.file_tree.specs.Links.{files, AreNodes, used_in};
+
+    ghost view = { λ t. files t.nodes t.next };
+
+    ghost invariant = { λ t. AreNodes t.nodes t.next × (t.used ≡ used_in t.nodes) };
+}
+
+impl Tree {
+    /// A fresh tree: the root alone, which is node 1. Only want of memory makes it fail.
+    pub fn new(alloc: Global) -> Result<Self, AllocError>
+        ensures { IfOk result (λ tree. tree ≡ fresh) }
+    {
+        let mut nodes = Nodes::new(alloc);
+        nodes.push(Node {
+            number: 1,
+            hook: Hook::Root,
+            content: Content::Directory,
+        })?;
+        Ok(Tree {
+            nodes,
+            next: 2,
+            used: 0,
+        })
+    }
+
+    /// Whether a directory has this number.
+    pub fn is_directory(&self, number: u64) -> bool
+        ensures { result ≡ is_directory self.now number }
+    {
+        holds_directory(node_of(&self.nodes, number))
+    }
+
+    /// How many bytes the file with this number has; a directory has none.
+    pub fn size(&self, number: u64) -> u64
+        ensures { result ≡ length (bytes_of_node self.now number) }
+    {
+        bytes_held(node_of(&self.nodes, number)).len() as u64
+    }
+
+    /// How many bytes all files have, removed ones that are still there included.
+    pub fn used(&self) -> u64
+        ensures { result ≡ used self.now }
+    {
+        self.used
+    }
+
+    /// Whether the node with this number has a path: it is there, and wasn't removed.
+    pub fn has_path(&self, number: u64) -> bool
+        ensures { result ≡ is_some (path_of self.now number) }
+    {
+        holds_path(node_of(&self.nodes, number))
+    }
+
+    /// The number of the next new node.
+    pub fn next(&self) -> u64
+        ensures { result ≡ self.now.next }
+    {
+        self.next
+    }
+
+    /// How many nodes there are, removed ones that are still there included.
+    pub fn len(&self) -> usize
+        ensures count { result ≡ length self.now.nodes }
+        ensures shape { IsFiles self.now }
+    {
+        self.nodes.len()
+    }
+
+    /// The number of the node under a name in a directory. A removed directory has none.
+    pub fn child(&self, directory: u64, name: &[u8]) -> Option<u64>
+        ensures { result ≡ child self.now directory name.now }
+    {
+        child_of(&self.nodes, directory, name)
+    }
+
+    /// Whether a directory has no entries. A removed one has none, nor has a file.
+    pub fn is_empty(&self, directory: u64) -> bool
+        ensures { result ≡ (length (entries_of self.now directory) == 0) }
+    {
+        !has_children(&self.nodes, directory)
+    }
+
+    /// The number of the node at a place, from 0 on, among a directory's entries in the order of their names. It takes no memory,
+    /// and time as the square of the number of nodes.
+    pub fn entry(&self, directory: u64, place: usize) -> Option<u64>
+        ensures { result ≡ option_map (λ (e : Entry). e.number) (slice_get (entries_of self.now directory) place) }
+    {
+        entry_at(&self.nodes, directory, place)
+    }
+
+    /// Puts a file's bytes from one of them on into `into`, as many as there are and fit, and gives how many. What is
+    /// behind them in `into` stays.
+    pub fn read(&self, number: u64, from: u64, into: &mut [u8]) -> usize
+        ensures count { result ≡ length (read_from self.now number from (length into.old)) }
+        ensures bytes { into.new ≡ read_from self.now number from (length into.old) ++ drop result into.old }
+    {
+        copy_front(bytes_held(node_of(&self.nodes, number)), from, into)
+    }
+
+    /// The directory above a node: none above the root, a removed node, or one that isn't there.
+    pub fn parent(&self, number: u64) -> Option<u64>
+        ensures above { IfSome result (IsParent self.now number) }
+        ensures none { IfNone result ((path : Path) (name : Name) → path_of self.now number ≢ Some (path ++ name ∷ [])) }
+        ensures of_child { (d : ℕ) (name : Name) → child self.now d name ≡ Some number → result ≡ Some d }
+    {
+        parent_of(&self.nodes, number)
+    }
+
+    /// The last name of a node's path: no bytes for the root, a removed node, or one that isn't there.
+    pub fn name(&self, number: u64) -> &[u8]
+        ensures last { (path : Path) (name : Name) → path_of self.now number ≡ Some (path ++ name ∷ []) → result.now ≡ name }
+        ensures none { ((path : Path) (name : Name) → path_of self.now number ≢ Some (path ++ name ∷ [])) → result.now ≡ [] }
+    {
+        name_held(node_of(&self.nodes, number))
+    }
+
+    /// Whether a directory that has a path is the node with this number, or lies below it.
+    pub fn is_within(&self, number: u64, directory: u64) -> bool
+        ensures { result ≡ is_within self.now number directory }
+    {
+        leads_to(&self.nodes, self.next, number, directory)
+    }
+
+    /// Makes a node under a name in a directory, and gives its number. The caller has tested that the directory is one
+    /// and has a path (`is_directory`, `has_path`), that nothing is there (`child`), and that there is room (`len`,
+    /// `next`). Only want of memory makes it fail, and then nothing is changed.
+    pub fn create(
+        &mut self,
+        alloc: Global,
+        directory: u64,
+        name: &[u8],
+        kind: Kind,
+    ) -> Result<u64, AllocError>
+        requires free { IsFree self.old directory name.now }
+        requires room { length self.old.nodes < NODES }
+        requires number { self.old.next + 1 < 2 ^ 64 }
+        ensures number { IfOk result (λ number. number ≡ self.old.next) }
+        ensures created { OnOk result (self.new ≡ created (path_at self.old directory ++ name.now ∷ []) (empty kind) self.old) }
+        ensures unchanged { OnErr result (self.new ≡ self.old) }
+    {
+        let number = self.next;
+        let name = Bytes::copied(alloc, name)?;
+        self.nodes.push(Node {
+            number,
+            hook: Hook::In(directory, name),
+            content: new_content(alloc, kind),
+        })?;
+        self.next = number + 1;
+        Ok(number)
+    }
+
+    /// Puts bytes into a file from one of its bytes on, and zeros into a gap before them. The caller has tested that it is no
+    /// directory (`is_directory`), and that the file stays within its limit. Only want of memory makes it fail, and then
+    /// nothing is changed. Where no node has the number nothing is changed either.
+    pub fn write(&mut self, number: u64, from: u64, bytes: &[u8]) -> Result<(), AllocError>
+        requires file { is_directory self.old number ≡ false }
+        requires end { from + length bytes.now ≤ FILE_BYTES }
+        ensures written { OnOk result (self.new ≡ with_bytes number (written (bytes_of_node self.old number) from bytes.now) self.old) }
+        ensures unchanged { OnErr result (self.new ≡ self.old) }
+    {
+        let Some(place) = place_of(&self.nodes, number) else {
+            return Ok(());
+        };
+        let before = bytes_held(Some(self.nodes.get(place))).len() as u64;
+        self.nodes.write(place, from as usize, bytes)?;
+        let after = larger(before, from + bytes.len() as u64);
+        self.used = self.used - before + after;
+        Ok(())
+    }
+
+    /// Cuts a file to so many bytes, or puts zeros behind them. The caller has tested that it is no directory
+    /// (`is_directory`), and that the size is within its limit. Only want of memory makes it fail, and then nothing is
+    /// changed. Where no node has the number nothing is changed either.
+    pub fn resize(&mut self, number: u64, size: u64) -> Result<(), AllocError>
+        requires file { is_directory self.old number ≡ false }
+        requires size { size ≤ FILE_BYTES }
+        ensures resized { OnOk result (self.new ≡ with_bytes number (resized (bytes_of_node self.old number) size) self.old) }
+        ensures unchanged { OnErr result (self.new ≡ self.old) }
+    {
+        let Some(place) = place_of(&self.nodes, number) else {
+            return Ok(());
+        };
+        let before = bytes_held(Some(self.nodes.get(place))).len() as u64;
+        self.nodes.resize(place, size as usize)?;
+        self.used = self.used - before + size;
+        Ok(())
+    }
+
+    /// Takes a node's path away; the node stays until it is forgotten. The caller has tested that it isn't the root, and that a
+    /// directory has no entries (`is_directory`, `is_empty`). Where no node has the number nothing is changed.
+    pub fn remove(&mut self, number: u64)
+        requires { CanLose self.old number }
+        ensures { self.new ≡ removed number self.old }
+    {
+        if let Some(place) = place_of(&self.nodes, number) {
+            self.nodes.hang(place, Hook::Removed);
+        }
+    }
+
+    /// Drops a node that was removed, with its bytes. The caller has tested that it has no path (`has_path`). Where no node has
+    /// the number nothing is changed. Its number isn't used again.
+    pub fn forget(&mut self, number: u64)
+        requires { is_some (path_of self.old number) ≡ false }
+        ensures { self.new ≡ forgotten number self.old }
+    {
+        if let Some(place) = place_of(&self.nodes, number) {
+            let size = bytes_held(Some(self.nodes.get(place))).len() as u64;
+            drop_node(&mut self.nodes, place);
+            self.used -= size;
+        }
+    }
+
+    /// Moves a node, with all that lies below it, to a name in a directory. The caller has tested that it isn't the root and has
+    /// a path (`has_path`), that the name is free as for a new node, and that the directory isn't below the node (`is_within`).
+    pub fn rename(&mut self, number: u64, directory: u64, name: Bytes)
+        requires { CanMove self.old number directory name }
+        ensures { self.new ≡ renamed (path_at self.old number) (path_at self.old directory ++ name ∷ []) self.old }
+    {
+        if let Some(place) = place_of(&self.nodes, number) {
+            self.nodes.hang(place, Hook::In(directory, name));
+        }
+    }
+}
