@@ -154,8 +154,8 @@ impl Tree {
     }
 
     /// Makes a node under a name in a directory, and gives its number. The caller has tested that the directory is one
-    /// and has a path (`is_directory`, `has_path`), that nothing is there (`child`), and that there is room (`len`,
-    /// `next`). Only want of memory makes it fail, and then nothing is changed.
+    /// and has a path (`is_directory`, `has_path`), that the name is one (`is_name`) under which nothing is (`child`), and
+    /// that there is room (`len`, `next`). Only want of memory makes it fail, and then nothing is changed.
     pub fn create(
         &mut self,
         alloc: Global,
