@@ -1,4 +1,4 @@
--- Words that fail to no kind name one of the two commands, with what it needs.
+-- Words for which no fault is listed name one of the two commands, with what it needs.
 use Rattle.std.proofs.Common.{◌≡◌, ◌^◌, ◌-◌, ℕ, Bool, ◌||◌, not, cond, true, false, arith, refl, ap, sym, ◌∙◌, subst, List, [], ◌∷◌, ◌++◌, Option, Some, None, length, codes, eqb-true, true≢false, inl, inr, ◌⊎◌}
 use Rattle.std.specs.List.{AllByRecursion as Each, find, fold}
 use Rattle.std.specs.Option.{is_some, IsSomeAnd, option_map, option_map_or}
@@ -126,7 +126,7 @@ fuel_is_taken rows good = go (find (λ r. bytes_eq r.id (codes "fuel")) rows) (f
     go None h = tt
     go (Some r) h = h.0.1 h.1
 
--- a subcommand whose own words fail to no kind
+-- a subcommand for whose own words no fault is listed
 below_taken : (s : Shape) (words : List Text) → (s.name ≡ codes "check") ⊎ (s.name ≡ codes "run") → Each (Keeps IsGood s.args_override_self) s.rules
     → Each (λ a. a.defaults ≡ []) s.rules → ((rows : List Row) → check_fault s rows false ≡ [] → is_given (codes "MODULE") rows ≡ true)
     → level_fault s [] nothing_held words false [] ≡ [] → IsTaken (rows_at s words)

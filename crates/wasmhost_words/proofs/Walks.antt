@@ -41,7 +41,7 @@ no_second (k ∷ ks) b e = absurd (some_kind k ks e)
 
 -- ---- one word
 
--- a use of the argument that fails to no kind leaves good rows good
+-- a use of the argument for which no fault is listed leaves good rows good
 abbrev pub Keeps : (Row → Type 0) → Bool → Rule → Type 0
 Keeps Good again a = (values : List Text) (rows : List Row) → use_fault again a values rows ≡ [] → Each Good rows → Each Good (used a values rows)
 

@@ -81,12 +81,12 @@ meaning_below met =
 abbrev pub meaning_in : List Text → Option Meaning
 meaning_in words = option_and_then meaning_below (subcommand_of wasmhost words)
 
--- a fault of the words: a mistake, of a kind to which reading them fails, or want of memory
+-- a fault of the words: a mistake, or a call for help, of a kind that is listed for them; or want of memory
 abbrev pub IsFaultOf : List Text → WordsFault → Type 0
 IsFaultOf words (fault.Words told) = IsAmong (kind_of told) (fault_of wasmhost words) × (takes wasmhost words ≡ true → ⊥)
 IsFaultOf words fault.Memory = ⊤
 
--- what may be answered to the words: the order that they mean, where reading them fails to no kind, or a fault of theirs
+-- what may be answered to the words: the order that they mean, where no kind of fault is listed for them, or a fault of theirs
 abbrev pub IsReading : List Text → Result Order WordsFault → Type 0
 IsReading words result = MatchResult result (λ order. (fault_of wasmhost words ≡ []) × (meaning_in words ≡ Some (meaning_of order))) (IsFaultOf words)
 

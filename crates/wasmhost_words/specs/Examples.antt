@@ -15,7 +15,7 @@ run_line options = line (codes "run" ∷ codes "a.wasm" ∷ options)
 abbrev pub with_fuel : Text → List Text
 with_fuel fuel = run_line (codes "--fuel" ∷ fuel ∷ [])
 
--- the words are no mistake, and mean this
+-- no fault is listed for the words, and they mean this
 abbrev pub Means : List Text → Meaning → Type 0
 Means words meaning = (fault_of wasmhost words ≡ []) × (takes wasmhost words ≡ true) × (meaning_in words ≡ Some meaning)
 
@@ -27,7 +27,7 @@ pub record OrderExamples : Type 0 where
   pub option_first : Means (line (codes "run" ∷ codes "--fuel=7" ∷ codes "a.wasm" ∷ [])) (run (codes "a.wasm") 7)
   pub path_like_an_option : Means (line (codes "check" ∷ codes "--" ∷ codes "--fuel" ∷ [])) (check (codes "--fuel"))
 
--- reading the words fails to these kinds
+-- the kinds of fault that are listed for the words
 abbrev pub Fails : List Text → Kinds → Type 0
 Fails words kinds = fault_of wasmhost words ≡ kinds
 
