@@ -1,11 +1,12 @@
 //! The command line: words in, an order out.
 #![tactic(auto)]
 
-ghost use Rattle.std.specs.Prelude.{◌≡◌, ◌≤◌, IfOk, IfSome, true, false, codes};
-ghost use Rattle.clap.specs.declared.builder.command.Command.TheViews.{out-Command};
-ghost use Rattle.wasmhost_words.specs.Commands.{IsFuel, IsLocal, IsMet, IsOrderOf, IsRead, IsStatusOf, name_of};
+ghost use Rattle.std.specs.Prelude.{◌≡◌, IfOk, Some, map};
 ghost use Rattle.std.specs.Int.NonZero.{non_zero_u64_get};
-ghost use Rattle.clap.specs.Words.{found_of, one_text};
+ghost use Rattle.clap.specs.Words.{found_of, rows_of};
+ghost use Rattle.wasmhost_words.specs.Commands.{IsArgument, IsCommand, IsParse, IsReading, IsStatusOf, IsTaken, IsToldAs, TakesFuel};
+ghost use Rattle.wasmhost_words.specs.Commands.{check_app, fuel_in, fuel_rule, meaning_below, meaning_of, module_rule, run_app, wasmhost};
+ghost use Rattle.wasmhost_words.specs.declared.WordsFault.TheVariants as fault;
 
 use clap::error::ErrorKind;
 use clap::{Arg, ArgAction, ArgMatches, Command, Error, value_parser};
@@ -14,6 +15,7 @@ use std::convert::AsStr;
 use std::num::NonZeroU64;
 use thiserror::Error as FaultText;
 
+pub mod laws;
 #[cfg(test)]
 mod tests;
 
@@ -53,12 +55,16 @@ impl WordsFault {
 }
 
 impl From<AllocError> for WordsFault {
+    ghost from_gives = { λ _ e. e ≡ fault.Memory };
+
     fn from(_refused: AllocError) -> WordsFault {
         WordsFault::Memory
     }
 }
 
 impl From<Error> for WordsFault {
+    ghost from_gives = { λ told e. IsToldAs told e };
+
     fn from(error: Error) -> WordsFault {
         if error.kind() == ErrorKind::OutOfMemory {
             return WordsFault::Memory;
@@ -67,121 +73,98 @@ impl From<Error> for WordsFault {
     }
 }
 
-/// A path that has to be given.
-fn path<'a>(alloc: Global, name: &'a str) -> Arg<'a>
-    ensures { result.global ≡ false }
+/// The path of a module, which has to be given.
+fn module_argument<'a>(alloc: Global) -> Arg<'a>
+    ensures { IsArgument module_rule result }
 {
-    Arg::new(alloc, name).required(true).action(ArgAction::Set)
+    Arg::new(alloc, "MODULE")
+        .required(true)
+        .action(ArgAction::Set)
 }
 
-/// An option with a number from 1 on.
-fn count<'a>(alloc: Global, name: &'a str, help: &'a str) -> Arg<'a>
-    ensures { result.global ≡ false }
+/// The option `--fuel`, with a number from 1 on.
+fn fuel_option<'a>(alloc: Global) -> Arg<'a>
+    ensures { IsArgument fuel_rule result }
 {
-    Arg::new(alloc, name)
-        .long(name)
-        .help(help)
+    Arg::new(alloc, "fuel")
+        .long("fuel")
+        .help("Steps of a slice, 100000 where none are given")
         .value_name("N")
         .value_parser(value_parser!(u64).range(1..))
 }
 
-fn with<'a>(command: Command<'a>, arg: Arg<'a>) -> Result<Command<'a>, AllocError>
-    requires command_local { IsLocal command }
-    requires arg_local { arg.global ≡ false }
-    ensures { IfOk result IsLocal }
-{
-    command.arg(arg)
-}
-
-fn below<'a>(command: Command<'a>, inner: Command<'a>) -> Result<Command<'a>, AllocError>
-    requires command_local { IsLocal command }
-    requires inner_local { IsLocal inner }
-    ensures { IfOk result IsLocal }
-{
-    command.subcommand(inner)
-}
-
-fn named<'a>(alloc: Global, name: &'a str, about: &'a str) -> Command<'a>
-    ensures { IsLocal result }
-{
-    Command::new(alloc, name).about(about)
-}
-
 fn check_command<'a>(alloc: Global) -> Result<Command<'a>, AllocError>
-    ensures { IfOk result IsLocal }
+    ensures { IfOk result (IsCommand check_app) }
 {
-    let command = named(alloc, "check", "Say whether a module is accepted");
-    with(command, path(alloc, "MODULE"))
+    Command::new(alloc, "check")
+        .about("Say whether a module is accepted")
+        .arg(module_argument(alloc))
 }
 
 fn run_command<'a>(alloc: Global) -> Result<Command<'a>, AllocError>
-    ensures { IfOk result IsLocal }
+    ensures { IfOk result (IsCommand run_app) }
 {
-    let about = "Run a fresh worker: request lines in, its lines out";
-    let command = with(named(alloc, "run", about), path(alloc, "MODULE"))?;
-    let steps = "Steps of a slice, 100000 where none are given";
-    with(command, count(alloc, "fuel", steps))
+    Command::new(alloc, "run")
+        .about("Run a fresh worker: request lines in, its lines out")
+        .arg(module_argument(alloc))?
+        .arg(fuel_option(alloc))
 }
 
 fn command<'a>(alloc: Global) -> Result<Command<'a>, AllocError>
-    ensures { IfOk result (λ c. IsLocal c × ((out-Command c).subcommand_required ≡ true)) }
+    ensures { IfOk result (IsCommand wasmhost) }
 {
-    let whole = named(alloc, "wasmhost", "Durable WebAssembly workers");
-    let whole = below(whole, check_command(alloc)?)?;
-    let whole = below(whole, run_command(alloc)?)?;
-    Ok(whole.subcommand_required(true))
+    Command::new(alloc, "wasmhost")
+        .about("Durable WebAssembly workers")
+        .subcommand_required(true)
+        .subcommand(check_command(alloc)?)?
+        .subcommand(run_command(alloc)?)
 }
 
-fn order_of<'a>(name: &str, matches: &ArgMatches<'a>) -> Option<Order<'a>>
-    ensures name { IfSome result (λ order. name_of order ≡ name.now) }
-    ensures found { IfSome result (IsOrderOf matches.now) }
-{
-    match name {
-        "check" => matches.get_str("MODULE").map(|path| Order::Check { path }),
-        "run" => run_of(matches),
-        _ => None,
-    }
-}
-
-fn run_of<'a>(matches: &ArgMatches<'a>) -> Option<Order<'a>>
-    ensures name { IfSome result (λ order. name_of order ≡ codes "run") }
-    ensures found { IfSome result (IsOrderOf matches.now) }
-{
-    let path = matches.get_str("MODULE")?;
-    let fuel = fuel_of(matches)?;
-    Some(Order::Run { path, fuel })
-}
-
-fn fuel_of(matches: &ArgMatches<'_>) -> Option<NonZeroU64>
-    ensures { IfSome result (λ fuel. IsFuel (one_text (found_of matches.now) (codes "fuel")) (non_zero_u64_get fuel)) }
-{
-    let given: Option<u64> = matches.try_get_one("fuel").ok()?;
-    NonZeroU64::new(given.unwrap_or(FUEL))
-}
-
-/// The matches of a command line: where it is read, a command is there.
+/// The matches of a command line.
 fn matches_of<'a, S: AsStr>(alloc: Global, words: &'a [S]) -> Result<ArgMatches<'a>, WordsFault>
-    ensures { IfOk result IsRead }
+    ensures { IsParse (map S.text words.entry.now) result }
 {
     let matches = command(alloc)?.try_get_matches_from(words)?;
     Ok(matches)
 }
 
-/// Reads the words of a command line, of which the first is the program's name.
+/// The steps of a slice that `--fuel` gives, or 100,000.
+fn fuel_of(matches: &ArgMatches<'_>) -> NonZeroU64
+    requires { TakesFuel (rows_of (found_of matches.now)) }
+    ensures { non_zero_u64_get result ≡ fuel_in (rows_of (found_of matches.now)) }
+{
+    let given = matches.get_one::<u64>("fuel").unwrap_or(FUEL);
+    let Some(fuel) = NonZeroU64::new(given) else {
+        unreachable!()
+    };
+    fuel
+}
+
+/// The order of the command `check` or `run`, from what was read behind it.
+fn order_of<'a>(name: &str, matches: &ArgMatches<'a>) -> Order<'a>
+    requires { IsTaken (name.now, rows_of (found_of matches.now)) }
+    ensures { meaning_below (name.now, rows_of (found_of matches.now)) ≡ Some (meaning_of result) }
+{
+    let Some(path) = matches.get_str("MODULE") else {
+        unreachable!()
+    };
+    match name {
+        "check" => Order::Check { path },
+        _ => Order::Run {
+            path,
+            fuel: fuel_of(matches),
+        },
+    }
+}
+
+/// Reads the words of a command line, of which the first is the program's name. Fails with `Words` where they are a mistake or ask for
+/// help, and with `Memory` where memory runs out.
 pub fn read_words<'a, S: AsStr>(alloc: Global, words: &'a [S]) -> Result<Order<'a>, WordsFault>
-    ensures { IfOk result IsMet }
+    ensures { IsReading (map S.text words.entry.now) result }
 {
     let matches = matches_of(alloc, words)?;
     let Some((name, inner)) = matches.subcommand() else {
         unreachable!()
     };
-    match order_of(name, inner) {
-        Some(order) => Ok(order),
-        None => Err(missing(alloc)?),
-    }
-}
-
-fn missing(alloc: Global) -> Result<WordsFault, AllocError> {
-    let error = command(alloc)?.error(ErrorKind::MissingSubcommand, "a command is missing")?;
-    Ok(WordsFault::Words(error))
+    Ok(order_of(name, inner))
 }
