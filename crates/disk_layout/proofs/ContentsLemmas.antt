@@ -3,12 +3,12 @@ use Rattle.std.proofs.Common.{◌≡◌, ℕ, zero, suc, min, ◌+◌, ◌-◌, 
 use Rattle.std.proofs.Math.Seq.{take-append-add, drop-append-add, take-append_seam}
 use Rattle.std.proofs.lemmas.Bool.{cases_lt}
 use Rattle.std.proofs.lemmas.List.{drop-drop, take_all, drop_all, append-nil, length-take-le, drop-replicate, nil_from_length, take-append-drop}
-use Rattle.guest_memory.specs.Bytes.{part, with_part}
-use Rattle.sector_disk.specs.Image.{Image, sector_at}
-use Rattle.wasi_abi.specs.Layouts.{padding}
-use Rattle.disk_layout.specs.Places.{rounded_up}
-use Rattle.disk_layout.specs.Sectors.{bytes_from}
-use Rattle.disk_layout.specs.Contents.{filled, filled_sectors, contents_sectors, HoldsWhatIsWritten}
+use Rattle.guest_memory.specs.rules.Bytes.{part, with_part}
+use Rattle.sector_disk.specs.rules.Image.{Image, sector_at}
+use Rattle.wasi_abi.specs.rules.Layouts.{padding}
+use Rattle.disk_layout.specs.rules.Places.{rounded_up}
+use Rattle.disk_layout.specs.rules.Sectors.{bytes_from}
+use Rattle.disk_layout.specs.rules.Contents.{filled, filled_sectors, contents_sectors, HoldsWhatIsWritten}
 
 pub length-filled_sectors : (n : ℕ) (bytes : List ℕ) → length (filled_sectors n bytes) ≡ n
 length-filled_sectors zero bytes = refl

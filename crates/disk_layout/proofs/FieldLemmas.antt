@@ -5,40 +5,15 @@ use Rattle.std.proofs.Math.Seq.{take-append-add, drop-append-add}
 use Rattle.std.proofs.lemmas.List.{append-nil, drop_all, take_all, drop-drop, length-take-le, take_at, drop_at}
 use Rattle.std.specs.Int.{byte_at, bytes_low_first}
 use borrow.Rule.Slice.PartMut.{put_mid}
-use Rattle.guest_memory.specs.Bytes.{bytes_of, with_part, part, number_of}
+use Rattle.guest_memory.specs.rules.Bytes.{bytes_of, with_part, part, number_of}
 use Rattle.guest_memory.proofs.ByteLemmas.{length-bytes_of, number_of-bytes_of}
-use Rattle.wasi_abi.specs.Layouts.{u32_bytes, u64_bytes, padding}
-use Rattle.disk_layout.specs.Places.{Geometry}
-use Rattle.disk_layout.specs.Sectors.{Stamp, stamp_of, stamp_bytes, Head, head_of, head_mark, head_bytes, Super, super_of, super_mark, super_end_mark, super_bytes, IsMarked}
-use Rattle.disk_layout.specs.Laws.{HeadFits, SuperFits}
+use Rattle.wasi_abi.specs.rules.Layouts.{u32_bytes, u64_bytes, padding}
+use Rattle.disk_layout.specs.rules.Places.{Geometry}
+use Rattle.disk_layout.specs.rules.Sectors.{Stamp, stamp_of, stamp_bytes, Head, head_of, head_mark, head_bytes, Super, super_of, super_mark, super_end_mark, super_bytes, IsMarked}
+use Rattle.disk_layout.specs.laws.Laws.{HeadFits, SuperFits}
+use Rattle.wasi_abi.proofs.LayoutLemmas.{byte_at-pow, bytes_low_first-bytes_of}
 
-byte_at-pow : (i x : ℕ) → byte_at i x ≡ x / 256 ^ i % 256
-byte_at-pow zero x = ap (λ y. y % 256) (sym (div-one x))
-byte_at-pow (suc i) x = refl
-
--- both spellings of a number's bytes are one
-bytes_low_first-bytes_of : (i n x : ℕ) → bytes_low_first i n x ≡ bytes_of n (x / 256 ^ i)
-bytes_low_first-bytes_of i zero x = refl
-bytes_low_first-bytes_of i (suc n) x =
-    let here = byte_at-pow i x in
-    let shifted : x / 256 ^ suc i ≡ x / 256 ^ i / 256 = ap (λ y. x / y) (pow-suc 256 i) ∙ sym (div-div-eq-div-mul x (256 ^ i) 256) in
-    let rest = bytes_low_first-bytes_of (suc i) n x ∙ ap (λ y. bytes_of n y) shifted in
-    cc
-
-pub put_mid-with_part : (at n x : ℕ) (old new : List ℕ) → at + n ≤ length old
-    → new ≡ bytes_low_first 0 n x ++ drop n (take (length old - at) (drop at old))
-    → put_mid at (length old - at) old new ≡ with_part old at (bytes_of n x)
-put_mid-with_part at n x old new room is =
-    let rest : take (length old - at) (drop at old) ≡ drop at old = take_all (length old - at) (drop at old) (omega (arith, length-drop at old)) in
-    let none : drop (length old - at) (drop at old) ≡ [] = drop_all (length old - at) (drop at old) (omega (arith, length-drop at old)) in
-    let bytes : bytes_low_first 0 n x ≡ bytes_of n x = bytes_low_first-bytes_of 0 n x ∙ ap (λ y. bytes_of n y) (div-one x) in
-    let behind : drop n (take (length old - at) (drop at old)) ≡ drop (at + n) old = ap (λ y. drop n y) rest ∙ drop-drop n at old in
-    let front : new ++ drop (length old - at) (drop at old) ≡ new = ap (λ y. new ++ y) none ∙ append-nil new in
-    let whole : new ≡ bytes_of n x ++ drop (at + n) old = is ∙ (ap (λ y. y ++ drop n (take (length old - at) (drop at old))) bytes ∙ ap (λ y. bytes_of n x ++ y) behind) in
-    let count : bytes_of n x ++ drop (at + length (bytes_of n x)) old ≡ bytes_of n x ++ drop (at + n) old = ap (λ y. bytes_of n x ++ drop (at + y) old) (length-bytes_of n x) in
-    ap (λ y. take at old ++ y) (front ∙ (whole ∙ sym count))
-
-drop_over : (d rest : List ℕ) (n k : ℕ) → length d ≡ n → drop (n + k) (d ++ rest) ≡ drop k rest
+pub drop_over : (d rest : List ℕ) (n k : ℕ) → length d ≡ n → drop (n + k) (d ++ rest) ≡ drop k rest
 drop_over d rest n k e = ap (λ m. drop (m + k) (d ++ rest)) (sym e) ∙ drop-append-add d rest k
 
 -- the stamp behind the first 496 bytes

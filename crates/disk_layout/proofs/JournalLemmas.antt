@@ -4,15 +4,16 @@ use Rattle.std.proofs.lemmas.Bool.{ltb-true, lt-ltb, leb-true, le-leb, eq-eqb, n
 use Rattle.std.proofs.lemmas.List.{take_at, drop_at, drop-drop, take-take, drop-take, take-replicate, drop-replicate, length-replicate}
 use Rattle.std.proofs.Math.Seq.{take-append-add}
 use Rattle.std.specs.List.{AllByRecursion}
-use Rattle.guest_memory.specs.Bytes.{IsByte, number_of, bytes_of, part, with_part}
+use Rattle.guest_memory.specs.rules.Bytes.{IsByte, number_of, bytes_of, part, with_part}
 use Rattle.guest_memory.proofs.ByteLemmas.{number_of-bytes_of}
-use Rattle.wasi_abi.specs.Layouts.{u16_bytes, u64_bytes, padding}
-use Rattle.sector_disk.specs.Image.{front_over}
-use Rattle.disk_layout.specs.Sectors.{stamp_of, stamp_bytes, shown_generation}
-use Rattle.disk_layout.specs.Journal.{journal_sector, used_length, is_of}
-use Rattle.disk_layout.specs.Laws.{IsTornStamp}
+use Rattle.wasi_abi.specs.rules.Layouts.{u16_bytes, u64_bytes, padding}
+use Rattle.sector_disk.specs.rules.Image.{front_over}
+use Rattle.disk_layout.specs.rules.Sectors.{stamp_of, stamp_bytes, shown_generation}
+use Rattle.disk_layout.specs.rules.Journal.{journal_sector, used_length, is_of}
+use Rattle.disk_layout.specs.laws.Laws.{IsTornStamp}
 use Rattle.disk_layout.proofs.FieldLemmas.{stamp_laid, stamp_again}
 use Rattle.disk_layout.proofs.StampLemmas.{shows_earlier, all_append, shows_there}
+use Rattle.guest_memory.proofs.Lists.{bytes_are as bytes_of-bytes}
 
 -- ---- whole sectors
 
@@ -53,12 +54,12 @@ sector_laid g place payload a b c d le a-is b-is c-is d-is =
 
 -- ---- what a sector shows
 
-pub record IsOf (g place : ℕ) (sector : List ℕ) : Type 0 where
+pub record IsUsedSector (g place : ℕ) (sector : List ℕ) : Type 0 where
   pub shows : shown_generation place sector ≡ g
   pub some : 0 < used_length sector
   pub most : used_length sector ≤ 494
 
-pub is_of_true : (g place : ℕ) (sector : List ℕ) → IsOf g place sector → is_of g place sector ≡ true
+pub is_of_true : (g place : ℕ) (sector : List ℕ) → IsUsedSector g place sector → is_of g place sector ≡ true
 is_of_true g place sector is =
     let one = eq-eqb (shown_generation place sector) g is.shows in
     let two = lt-ltb 0 (used_length sector) is.some in
@@ -68,7 +69,7 @@ is_of_true g place sector is =
 pub is_of_other : (g place : ℕ) (sector : List ℕ) → (shown_generation place sector ≡ g → ⊥) → is_of g place sector ≡ false
 is_of_other g place sector ne = ap (λ (b : Bool). b && ltb 0 (used_length sector) && leb (used_length sector) 494) (ne_eqb (shown_generation place sector) g ne)
 
-pub is_of_means : (g place : ℕ) (sector : List ℕ) → is_of g place sector ≡ true → IsOf g place sector
+pub is_of_means : (g place : ℕ) (sector : List ℕ) → is_of g place sector ≡ true → IsUsedSector g place sector
 is_of_means g place sector e =
     let outer = both_parts (eqb (shown_generation place sector) g && ltb 0 (used_length sector)) (leb (used_length sector) 494) e in
     let inner = both_parts (eqb (shown_generation place sector) g) (ltb 0 (used_length sector)) outer.0 in
@@ -111,10 +112,6 @@ pub record IsNewSector (g place : ℕ) (payload : List ℕ) : Type 0 where
   pub generation : g < 2 ^ 64
   pub fits : place < 2 ^ 64
 
-pub bytes_of-bytes : (n x : ℕ) → AllByRecursion IsByte (bytes_of n x)
-bytes_of-bytes zero x = tt
-bytes_of-bytes (suc n) x = (let small : x % 256 < 256 = omega arith in small, bytes_of-bytes n (x / 256))
-
 pub new_stamp : (g place : ℕ) (payload : List ℕ) → IsNewSector g place payload → stamp_of (journal_sector g place payload) ≡ record { generation = g; place = place }
 new_stamp g place payload is =
     ap (λ l. stamp_of l) (sector_is g place payload) ∙ stamp_again (record { generation = g; place = place }) (before_stamp payload) (length-before_stamp payload is.most) is.generation is.fits
@@ -125,7 +122,7 @@ new_shows g place payload is =
     let found = ap (λ x. x.place) s in
     shows_there place (stamp_of (journal_sector g place payload)).place (stamp_of (journal_sector g place payload)).generation found ∙ ap (λ x. x.generation) s
 
-pub new_is_of : (g place : ℕ) (payload : List ℕ) → IsNewSector g place payload → IsOf g place (journal_sector g place payload)
+pub new_is_of : (g place : ℕ) (payload : List ℕ) → IsNewSector g place payload → IsUsedSector g place (journal_sector g place payload)
 new_is_of g place payload is =
     let used = used-journal_sector g place payload is.most in
     let some = is.some in
@@ -134,7 +131,7 @@ new_is_of g place payload is =
 
 -- torn over one that shows an earlier generation: it shows an earlier one, or it is of the new one with the same payload
 pub torn_sector : (g place front : ℕ) (payload old torn : List ℕ) → IsNewSector g place payload → length old ≡ 512 → shown_generation place old < g → front ≤ 512 → torn ≡ front_over front (journal_sector g place payload) old
-    → (shown_generation place torn < g) ⊎ (IsOf g place torn × (payload_of_sector torn ≡ payload))
+    → (shown_generation place torn < g) ⊎ (IsUsedSector g place torn × (payload_of_sector torn ≡ payload))
 torn_sector g place front payload old torn is full less within e =
     let s = new_stamp g place payload is in
     let new = journal_sector g place payload in
@@ -148,7 +145,7 @@ torn_sector g place front payload old torn is full less within e =
       later = less;
       within = within;
     } in
-    subst (λ (t : List ℕ). (shown_generation place t < g) ⊎ (IsOf g place t × (payload_of_sector t ≡ payload))) (sym e)
+    subst (λ (t : List ℕ). (shown_generation place t < g) ⊎ (IsUsedSector g place t × (payload_of_sector t ≡ payload))) (sym e)
     (⊎_elim
     (λ earlier. inl earlier)
     (λ whole.

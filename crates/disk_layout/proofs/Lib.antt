@@ -4,3 +4,4 @@ mod ContentsLemmas
 pub mod ReadLemmas
 pub mod StampLemmas
 pub mod JournalLemmas
+pub mod ReadingLemmas

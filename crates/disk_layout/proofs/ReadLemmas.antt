@@ -1,17 +1,17 @@
 -- Reads one after another, and what they give.
 use Rattle.std.proofs.Common.{◌≡◌, ◌⊎◌, ℕ, zero, suc, ◌+◌, ◌-◌, ◌<◌, ◌≤◌, List, [], ◌∷◌, ◌++◌, length, take, drop, Result, Ok, Err, IsErr, refl, sym, ap, ◌∙◌, subst, inr, ⊎_elim, arith, append_assoc, length-append}
 use Rattle.std.proofs.lemmas.List.{append-nil}
-use Rattle.sector_disk.specs.Image.{Image, sector_at}
-use Rattle.sector_disk.specs.Medium.{Medium, Reads}
+use Rattle.sector_disk.specs.rules.Image.{Image, sector_at}
+use Rattle.sector_disk.specs.rules.Medium.{Medium, Reads}
 use Rattle.sector_disk.specs.declared.fault.DiskFault.{DiskFault}
 use Rattle.sector_disk.proofs.Moments.{started, goes_on, leaves_only, stays_on, stays_left}
 use Rattle.sha2.specs.Sha256.{sha256}
 use Rattle.disk_layout.specs.declared.fault.LayoutFault.{LayoutFault}
 use Rattle.disk_layout.specs.declared.fault.LayoutFault.TheVariants.{NotAWorker, Version, TooSmall, Damaged, Memory, Disk}
 use Rattle.disk_layout.specs.declared.stored.Stored.{Stored}
-use Rattle.disk_layout.specs.Places.{Geometry, module_place}
-use Rattle.disk_layout.specs.Sectors.{Super, bytes_from}
-use Rattle.disk_layout.specs.Stored.{OnlyReads, IsConsistent, Checks, Splits, Finds, HasOtherDigest}
+use Rattle.disk_layout.specs.rules.Places.{Geometry, module_place}
+use Rattle.disk_layout.specs.rules.Sectors.{Super, bytes_from}
+use Rattle.disk_layout.specs.rules.Stored.{OnlyReads, IsConsistent, Checks, SplitsContents, FindsStored, HasOtherDigest}
 
 pub no_reads : (m : Medium) → OnlyReads m m
 no_reads m = record {
@@ -77,8 +77,8 @@ pub parts_lent : (a b : ℕ) (bytes : List ℕ) → take a bytes ++ take ((a + b
 parts_lent a b bytes = ap (λ n. take a bytes ++ take n (drop a bytes)) (let e : (a + b) - a ≡ b = omega arith in e) ∙ parts_joined a b bytes
 
 -- what is split off is what is found
-pub finds_split : (sectors : ℕ) (image : Image) (c : Super) (bytes : List ℕ) (result : Result Stored LayoutFault) → Checks sectors (sector_at image 0) (Ok c) → bytes ≡ bytes_from image module_place c.geometry.module_sectors → Splits c bytes result
-    → Finds sectors image result
+pub finds_split : (sectors : ℕ) (image : Image) (c : Super) (bytes : List ℕ) (result : Result Stored LayoutFault) → Checks sectors (sector_at image 0) (Ok c) → bytes ≡ bytes_from image module_place c.geometry.module_sectors → SplitsContents c bytes result
+    → FindsStored sectors image result
 finds_split sectors image c bytes (Ok s) check is splits =
     let same : s.geometry ≡ c.geometry = splits.0 in
     let count : length (s.config ++ s.wasm) ≡ c.geometry.config + c.geometry.wasm = length-append s.config s.wasm ∙ (let a = splits.1 in let b = splits.2 in omega arith) in

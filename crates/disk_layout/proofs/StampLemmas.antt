@@ -5,11 +5,12 @@ use Rattle.std.proofs.Math.Seq.{take-append-add, drop-append-add}
 use Rattle.std.proofs.lemmas.Bool.{cases_lt, cases_eq, cond-true, cond-false, eq-eqb, ne_eqb}
 use Rattle.std.proofs.lemmas.List.{take-append-drop, take-append-le, drop-append-le, take_at, drop_at, take_all, drop-drop, length-take-le}
 use Rattle.std.specs.List.{AllByRecursion}
-use Rattle.guest_memory.specs.Bytes.{IsByte, number_of, bytes_of, part}
+use Rattle.guest_memory.specs.rules.Bytes.{IsByte, number_of, bytes_of, part}
 use Rattle.guest_memory.proofs.ByteLemmas.{bytes_of-number_of}
-use Rattle.sector_disk.specs.Image.{front_over}
-use Rattle.disk_layout.specs.Sectors.{shown_generation}
-use Rattle.disk_layout.specs.Laws.{ShowsEarlier, NeverNewer}
+use Rattle.sector_disk.specs.rules.Image.{front_over}
+use Rattle.disk_layout.specs.rules.Sectors.{shown_generation}
+use Rattle.disk_layout.specs.laws.Laws.{ShowsEarlier, NeverNewer}
+use Rattle.guest_memory.proofs.Lists.{number_below as number_of-lt}
 
 -- ---- numbers and their bytes
 
@@ -19,14 +20,6 @@ number_of-append (x ∷ a) b =
     let rest : number_of (a ++ b) ≡ number_of a + 256 ^ length a * number_of b = number_of-append a b in
     let power : 256 ^ suc (length a) ≡ 256 ^ length a * 256 = pow-suc 256 (length a) in
     rw power (rw rest (omega arith))
-
-number_of-lt : (a : List ℕ) → AllByRecursion IsByte a → number_of a < 256 ^ length a
-number_of-lt [] all = omega arith
-number_of-lt (x ∷ a) all =
-    let small : x < 256 = all.0 in
-    let rest : number_of a < 256 ^ length a = number_of-lt a all.1 in
-    let power : 256 ^ suc (length a) ≡ 256 ^ length a * 256 = pow-suc 256 (length a) in
-    rw power (omega arith)
 
 pub all_take : (n : ℕ) (a : List ℕ) → AllByRecursion IsByte a → AllByRecursion IsByte (take n a)
 all_take zero a all = tt

@@ -3,11 +3,11 @@ use Rattle.std.proofs.Common.{◌≡◌, ℕ, zero, suc, ◌+◌, ◌≤◌, ◌
 use Rattle.std.proofs.lemmas.List.{take_more, append-nil}
 use Rattle.std.proofs.lemmas.Grind.{flat_map-append}
 use Rattle.std.specs.List.{AllByRecursion, flat_map}
-use Rattle.wasi_abi.specs.Configs.{IsShort}
-use Rattle.wasi_abi.specs.Layouts.{u16_bytes}
-use Rattle.disk_layout.specs.Places.{short_text_bytes}
+use Rattle.wasi_abi.specs.rules.Configs.{IsShortText}
+use Rattle.wasi_abi.specs.rules.Layouts.{u16_bytes}
+use Rattle.disk_layout.specs.rules.Places.{short_text_bytes}
 
-pub short_at : (texts : List (List ℕ)) (i : ℕ) (d : List ℕ) → AllByRecursion IsShort texts → i < length texts → length (get_or texts i d) ≤ 1024
+pub short_at : (texts : List (List ℕ)) (i : ℕ) (d : List ℕ) → AllByRecursion IsShortText texts → i < length texts → length (get_or texts i d) ≤ 1024
 short_at [] i d all lt = absurd (omega arith)
 short_at (t ∷ texts) zero d all lt = all.0
 short_at (t ∷ texts) (suc i) d all lt = short_at texts i d all.1 (omega arith)

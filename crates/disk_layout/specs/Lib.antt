@@ -1,7 +1,2 @@
-pub mod Places
-pub mod Sectors
-pub mod Journal
-pub mod Laws
-pub mod Stored
-pub mod Contents
-pub mod Examples
+pub mod laws
+pub mod rules

@@ -2,9 +2,9 @@
 
 ghost use Rattle.std.specs.Prelude.{◌≡◌, ◌≤◌, ◌++◌, length, IfOk, OnOk};
 ghost use Rattle.std.specs.List.{AllByRecursion};
-ghost use Rattle.wasi_abi.specs.Configs.{IsShort};
-ghost use Rattle.wasi_abi.specs.Layouts.{u16_bytes, u32_bytes};
-ghost use Rattle.disk_layout.specs.Places.{config_bytes, texts_bytes};
+ghost use Rattle.wasi_abi.specs.rules.Configs.{IsShortText};
+ghost use Rattle.wasi_abi.specs.rules.Layouts.{u16_bytes, u32_bytes};
+ghost use Rattle.disk_layout.specs.rules.Places.{config_bytes, texts_bytes};
 
 use crate::fields::{put_u16, put_u32};
 use std::alloc::{AllocError, Global};
@@ -27,7 +27,7 @@ pub fn config_bytes_of(alloc: Global, config: &Config) -> Result<Vec<u8>, AllocE
 /// Texts behind their number, each behind its length.
 fn push_texts(bytes: &mut Vec<u8>, texts: &[Row<u8>]) -> Result<(), AllocError>
     requires few { length texts.now ≤ 64 }
-    requires short { AllByRecursion IsShort texts.now }
+    requires short { AllByRecursion IsShortText texts.now }
     ensures { OnOk result (bytes.new.items ≡ bytes.old.items ++ texts_bytes texts.now) }
 {
     push_u32(bytes, texts.len() as u32)?;

@@ -1,11 +1,11 @@
 // Configuration and module on a disk.
 
 ghost use Rattle.std.specs.Prelude.{◌≡◌, ◌⊎◌, ◌<◌, ◌≤◌, ◌+◌, ◌*◌, ◌^◌, ◌++◌, length, OnOk, IsErr};
-ghost use Rattle.guest_memory.specs.Bytes.{part};
-ghost use Rattle.sector_disk.specs.Medium.{LeavesOnly, After, Follows, IsSettled, FailsInside, spare};
-ghost use Rattle.sector_disk.specs.Run.{IsTornRun, IsWrittenRun};
-ghost use Rattle.disk_layout.specs.Places.{module_place, rounded_up};
-ghost use Rattle.disk_layout.specs.Contents.{filled, contents_sectors};
+ghost use Rattle.guest_memory.specs.rules.Bytes.{part};
+ghost use Rattle.sector_disk.specs.rules.Medium.{LeavesOnly, After, Follows, IsAllSynced, FailsInside, spare};
+ghost use Rattle.sector_disk.specs.rules.Run.{IsTornRun, IsWrittenRun};
+ghost use Rattle.disk_layout.specs.rules.Places.{module_place, rounded_up};
+ghost use Rattle.disk_layout.specs.rules.Contents.{filled, contents_sectors};
 
 use crate::fields::put;
 use crate::geometry::sectors_of;
@@ -26,7 +26,7 @@ pub fn write_contents<D: Disk>(disk: &mut D, config: &[u8], wasm: &[u8]) -> Resu
     // Once it has answered Ok, each cut leaves all of them.
     ensures stored { let sectors = contents_sectors (config.now ++ wasm.now) in
         OnOk result (Follows (IsWrittenRun module_place sectors (length sectors)) (D.medium disk.old).shows (D.medium disk.new).may_leave) }
-    ensures settled { OnOk result (IsSettled (D.medium disk.new)) }
+    ensures settled { OnOk result (IsAllSynced (D.medium disk.new)) }
     ensures cause { IsErr result → (spare (D.medium disk.old) < rounded_up (length config.now + length wasm.now)) ⊎ ((D.medium disk.old).faults < (D.medium disk.new).faults) }
     ensures kind { FailsInside result }
 {

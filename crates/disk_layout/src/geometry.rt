@@ -2,8 +2,8 @@
 
 ghost use Rattle.std.specs.Prelude.{◌≡◌, ◌≤◌, ◌+◌, ◌*◌, ◌^◌, length};
 ghost use Rattle.std.specs.List.{AllByRecursion};
-ghost use Rattle.wasi_abi.specs.Configs.{IsShort};
-ghost use Rattle.disk_layout.specs.Places.{geometry_of, texts_bytes, rounded_up, head_place, area_place, journal_place, total_sectors};
+ghost use Rattle.wasi_abi.specs.rules.Configs.{IsShortText};
+ghost use Rattle.disk_layout.specs.rules.Places.{geometry_of, texts_bytes, rounded_up, head_place, area_place, journal_place, total_sectors};
 
 use wasi_abi::Config;
 use wasm_syntax::Row;
@@ -76,7 +76,7 @@ pub(crate) fn sectors_of(bytes: u64) -> u64
 /// How many bytes these texts take with their lengths and their number.
 fn texts_len(texts: &[Row<u8>]) -> u64
     requires few { length texts.now ≤ 64 }
-    requires short { AllByRecursion IsShort texts.now }
+    requires short { AllByRecursion IsShortText texts.now }
     ensures length { result ≡ length (texts_bytes texts.now) }
     ensures within { result ≤ 4 + 64 * 1026 }
 {

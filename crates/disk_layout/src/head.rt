@@ -1,7 +1,7 @@
 // The heads of the two areas.
 
 ghost use Rattle.std.specs.Prelude.{◌≡◌, ◌↔◌, ◌+◌, ◌<◌, ◌^◌, IsTrue};
-ghost use Rattle.disk_layout.specs.Sectors.{head_bytes, head_of, IsComplete};
+ghost use Rattle.disk_layout.specs.rules.Sectors.{head_bytes, head_of, IsComplete};
 
 use crate::fields::{digest_from, put, put_u32, put_u64, u32_from, u64_from};
 use crate::stamp::Stamp;

@@ -1,7 +1,7 @@
 // The sectors of the journal.
 
 ghost use Rattle.std.specs.Prelude.{◌≡◌, ◌≤◌, length};
-ghost use Rattle.disk_layout.specs.Journal.{journal_sector, used_length, is_of};
+ghost use Rattle.disk_layout.specs.rules.Journal.{journal_sector, used_length, is_of};
 
 use crate::fields::{put, put_u16, put_u64, u16_from};
 use crate::stamp::Stamp;

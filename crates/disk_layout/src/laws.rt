@@ -1,8 +1,9 @@
 //! Laws of the layout.
 
-ghost use Rattle.disk_layout.specs.Contents.{HoldsWhatIsWritten};
-ghost use Rattle.disk_layout.specs.Examples.{LayoutExamples};
-ghost use Rattle.disk_layout.specs.Laws.{ShowsEarlier, NeverNewer, ReadsWhatIsWritten};
+ghost use Rattle.disk_layout.specs.rules.Contents.{HoldsWhatIsWritten};
+ghost use Rattle.disk_layout.specs.laws.Examples.{LayoutExamples};
+ghost use Rattle.disk_layout.specs.laws.Laws.{ShowsEarlier, NeverNewer, ReadsFieldsBack};
+ghost use Rattle.disk_layout.specs.laws.Reading.{OneSpelling, OneAnswer, ReadsWhatIsWritten};
 
 /// Worked examples: sizes, a record, and a torn stamp.
 pub fn worked_examples()
@@ -17,10 +18,27 @@ pub fn torn_stamps()
 
 /// The fields that are read of stamps, heads and supers are those that were written.
 pub fn fields_are_read_back()
-    ensures { ReadsWhatIsWritten }
+    ensures { ReadsFieldsBack }
 {}
 
 /// Once configuration and module are written in their sectors, the disk holds them.
 pub fn contents_are_held()
     ensures { HoldsWhatIsWritten }
+{}
+
+// Laws of configuration and module on a disk.
+
+/// The bytes of a configuration are those of no other.
+pub fn one_spelling()
+    ensures { OneSpelling }
+{}
+
+/// Of a disk at most one answer is right, but for want of memory and a fault of the disk.
+pub fn one_answer()
+    ensures { OneAnswer }
+{}
+
+/// Where configuration and module were written with their super, the answer is these.
+pub fn what_is_written_is_read()
+    ensures { ReadsWhatIsWritten }
 {}

@@ -1,4 +1,35 @@
-//! Where a worker's things lie on a disk, and the sectors that have fields.
+//! Where a worker's things lie on its disk, and the bytes of each sector that has fields. The
+//! layout is this project's own. Numbers are little-endian.
+//!
+//! # Promises
+//!
+//! - `Geometry` gives the places and sizes of the definitions: heads, areas, journal, and the
+//!   whole.
+//! - `Super`, `Head`, `Stamp`, `journal_sector` and `record_head` are laid out byte by byte as
+//!   defined. Their readers give the fields that the definitions read.
+//! - `write_super`, `write_contents`: a cut at any moment leaves of each sector some front, and
+//!   all others as they were (`any_moment`). After Ok each cut leaves them whole (`stored`). An
+//!   error says that the disk failed, or had no room for the writes (`cause`).
+//! - `read_super` only reads (`reads`). Its answer is true of what the disk shows: the bytes under
+//!   their digest, or what is wrong with them (`finds`).
+//! - `config_bytes_of` gives a configuration's bytes. `config_from` finds the configuration that
+//!   any bytes spell, or that there is none.
+//! - `read_contents` reads configuration and module back, or says why it can't (`gives`).
+//! - `laws`: torn stamps, fields that are read back, one right answer of a disk, worked examples.
+//!
+//! # Definitions to read
+//!
+//! In `specs/rules/`: `geometry_of`, `config_bytes` (`Places.antt`); `super_bytes`, `head_bytes`,
+//! `HasWorker`, `IsNewest`, `HoldsImage` (`Sectors.antt`); `record_bytes`, `scan`
+//! (`Journal.antt`); `contents_sectors` (`Contents.antt`); `FindsStored` (`Stored.antt`);
+//! `GivesContents` (`Held.antt`); `SpellsConfig` (`Spelled.antt`).
+//!
+//! # Who may touch what
+//!
+//! The marks, and the places of fields in supers, heads and stamps, are known here alone.
+//! `journal`, `snapshot` and the definitions of `worker_rules` use it. It stands on `sector_disk`
+//! and `wasi_abi`. Reading back and `config_bytes_of` take memory. Whatever fails, a read leaves
+//! the disk unwritten.
 #![tactic(auto)]
 
 mod configuration;
@@ -9,13 +40,12 @@ mod geometry;
 mod head;
 mod journal_sectors;
 pub mod laws;
+mod reading;
 mod record;
 mod record_fields;
 mod stamp;
 mod stored;
 mod superblock;
-#[cfg(test)]
-mod tests;
 
 pub use configuration::config_bytes_of;
 pub use contents::write_contents;
@@ -24,6 +54,7 @@ pub use fields::{u16_from, u32_from};
 pub use geometry::Geometry;
 pub use head::Head;
 pub use journal_sectors::{PAYLOAD_SIZE, is_of, journal_sector, used_length};
+pub use reading::{Contents, config_from, read_contents};
 pub use record::Record;
 pub use record_fields::{clock_bytes, clock_from, payload_length, record_head, record_step};
 pub use stamp::Stamp;

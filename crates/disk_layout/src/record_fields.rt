@@ -1,9 +1,9 @@
 // The fields of a record, byte by byte.
 
 ghost use Rattle.std.specs.Prelude.{◌≡◌, ◌∷◌, ◌++◌, ◌<◌, ◌≤◌, ◌^◌, length};
-ghost use Rattle.guest_memory.specs.Bytes.{number_of};
-ghost use Rattle.wasi_abi.specs.Layouts.{u16_bytes, u64_bytes, u64_at};
-ghost use Rattle.disk_layout.specs.Journal.{payload_length};
+ghost use Rattle.guest_memory.specs.rules.Bytes.{number_of};
+ghost use Rattle.wasi_abi.specs.rules.Layouts.{u16_bytes, u64_bytes, u64_at};
+ghost use Rattle.disk_layout.specs.rules.Journal.{payload_length};
 
 use crate::fields::{put_u16, put_u64, u16_from, u64_from};
 

@@ -1,7 +1,7 @@
 // What the last bytes of a head or of a journal sector say.
 
 ghost use Rattle.std.specs.Prelude.{◌≡◌, ◌++◌, take};
-ghost use Rattle.disk_layout.specs.Sectors.{stamp_bytes, stamp_of, shown_at};
+ghost use Rattle.disk_layout.specs.rules.Sectors.{stamp_bytes, stamp_of, shown_at};
 
 use crate::fields::{put_u64, u64_from};
 

@@ -2,11 +2,11 @@
 
 ghost use Rattle.std.specs.Prelude.{◌≡◌, ◌⊎◌, ◌↔◌, ◌+◌, ◌*◌, ◌<◌, ◌≤◌, ◌++◌, ℕ, [], ◌∷◌, length, take, IsTrue, IfOk, IfErr, OnOk, IsErr};
 ghost use Rattle.sha2.specs.Sha256.{sha256};
-ghost use Rattle.sector_disk.specs.Image.{Image};
-ghost use Rattle.sector_disk.specs.Medium.{LeavesOnly, After, Follows, IsSettled, FailsInside, spare};
-ghost use Rattle.sector_disk.specs.Run.{IsTornRun, IsWrittenRun};
-ghost use Rattle.disk_layout.specs.Sectors.{bytes_from, super_bytes};
-ghost use Rattle.disk_layout.specs.Stored.{OnlyReads, IsConsistent, Checks, Splits, Finds};
+ghost use Rattle.sector_disk.specs.rules.Image.{Image};
+ghost use Rattle.sector_disk.specs.rules.Medium.{LeavesOnly, After, Follows, IsAllSynced, FailsInside, spare};
+ghost use Rattle.sector_disk.specs.rules.Run.{IsTornRun, IsWrittenRun};
+ghost use Rattle.disk_layout.specs.rules.Sectors.{bytes_from, super_bytes};
+ghost use Rattle.disk_layout.specs.rules.Stored.{OnlyReads, IsConsistent, Checks, SplitsContents, FindsStored};
 
 use crate::fault::LayoutFault;
 use crate::geometry::{Geometry, sectors_of};
@@ -51,7 +51,7 @@ pub fn write_super<D: Disk>(disk: &mut D, contents: &Super) -> Result<(), DiskFa
         LeavesOnly (D.medium disk.old) (D.medium disk.new) (After (IsTornRun 0 sectors 1) (D.medium disk.old).may_leave) }
     ensures stored { let sectors = super_bytes contents.now.geometry contents.now.digest ∷ [] in
         OnOk result (Follows (IsWrittenRun 0 sectors 1) (D.medium disk.old).shows (D.medium disk.new).may_leave) }
-    ensures settled { OnOk result (IsSettled (D.medium disk.new)) }
+    ensures settled { OnOk result (IsAllSynced (D.medium disk.new)) }
     ensures cause { IsErr result → (spare (D.medium disk.old) < 1) ⊎ ((D.medium disk.old).faults < (D.medium disk.new).faults) }
     ensures kind { FailsInside result }
 {
@@ -64,7 +64,7 @@ pub fn write_super<D: Disk>(disk: &mut D, contents: &Super) -> Result<(), DiskFa
 /// (`TooSmall`), and for want of memory.
 pub fn read_super<D: Disk>(alloc: Global, disk: &mut D) -> Result<Stored, LayoutFault>
     ensures reads { OnlyReads (D.medium disk.old) (D.medium disk.new) }
-    ensures finds { (image : Image) → (D.medium disk.new).shows image → Finds (D.medium disk.old).sectors image result }
+    ensures finds { (image : Image) → (D.medium disk.new).shows image → FindsStored (D.medium disk.old).sectors image result }
     ensures cause { (fault : DiskFault) → result ≡ Err (LayoutFault.Disk fault) → (D.medium disk.old).faults < (D.medium disk.new).faults }
 {
     let sectors = disk.sectors();
@@ -131,7 +131,7 @@ fn read_sectors<D: Disk>(
 /// Configuration and module, if their digest is the super's.
 fn split(alloc: Global, contents: &Super, bytes: &[u8]) -> Result<Stored, LayoutFault>
     requires { contents.now.geometry.config + contents.now.geometry.wasm ≤ length bytes.now }
-    ensures { Splits contents.now bytes.now result }
+    ensures { SplitsContents contents.now bytes.now result }
 {
     let config_len = contents.geometry.config as usize;
     let end = config_len + contents.geometry.wasm as usize;

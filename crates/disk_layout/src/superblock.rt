@@ -1,8 +1,8 @@
 // The super, in sector 0.
 
 ghost use Rattle.std.specs.Prelude.{◌≡◌, ◌↔◌, IsTrue};
-ghost use Rattle.disk_layout.specs.Sectors.{super_bytes, super_of, IsMarked};
-ghost use Rattle.disk_layout.specs.Stored.{ReadsSuper};
+ghost use Rattle.disk_layout.specs.rules.Sectors.{super_bytes, super_of, IsMarked};
+ghost use Rattle.disk_layout.specs.rules.Stored.{ReadsSuper};
 
 use crate::fault::LayoutFault;
 use crate::fields::{digest_from, put, put_u32, u32_from};

@@ -4,9 +4,9 @@ use Rattle.std.specs.Prelude.{option_map}
 use Rattle.std.specs.List.{IsDistinct, list_any, AllByRecursion}
 use Rattle.std.proofs.lemmas.Bool.{eqb-true, eq-eqb, ne_eqb}
 use Rattle.std.proofs.lemmas.Map.Steps.{length-le_from_distinct_below}
-use Rattle.file_tree.specs.Files.{Name, Path}
-use Rattle.file_tree_store.specs.declared.node.Hook.{Hook}
-use Rattle.file_tree_store.specs.declared.node.Hook.TheVariants.{Root, Removed, In}
+use Rattle.file_tree.specs.rules.Files.{Name, Path}
+use Rattle.file_tree.specs.declared.store.node.Hook.{Hook}
+use Rattle.file_tree.specs.declared.store.node.Hook.TheVariants.{Root, Removed, In}
 use Rattle.file_tree.specs.Links.{Up, climb, climb_from, IsTree}
 
 -- the directory and the name in a hook, where there are any
@@ -18,7 +18,7 @@ directory_of (In d name) = d
 root_is : {A : Type 0} (d : ℕ) (name : Name) → Root ≡ In d name → A
 root_is d name e = absurd cc
 
-in_is : (d e : ℕ) (m n : Name) → In d m ≡ In e n → (d ≡ e) × (m ≡ n)
+pub in_is : (d e : ℕ) (m n : Name) → In d m ≡ In e n → (d ≡ e) × (m ≡ n)
 in_is d e m n p = (cc, cc)
 
 all_apart : {k : ℕ} (xs : List ℕ) → ((q : ℕ) → list_any (eqb q) xs ≡ true → k ≢ q) → AllByRecursion (λ y. eqb k y ≡ false) xs
@@ -75,7 +75,7 @@ climb_complete (suc n) hook k (m ∷ a) h lt = rw (h.1, climb_complete n hook h.
 abbrev just : Path → Option Path
 just a = Some a
 
-some_is : (a b : Path) → just a ≡ just b → a ≡ b
+pub some_is : (a b : Path) → just a ≡ just b → a ≡ b
 some_is a b e = cc
 
 any_cases : (q k : ℕ) (xs : List ℕ) → list_any (eqb q) (k ∷ xs) ≡ true → (q ≡ k) ⊎ (list_any (eqb q) xs ≡ true)

@@ -1,13 +1,14 @@
 -- A file whose bytes are changed.
 use Rattle.std.proofs.Common.{◌≡◌, ℕ, ◌+◌, ◌-◌, ◌*◌, ◌^◌, get_or, ◌<◌, ◌≤◌, inl, inr, false, List, length, Option, Some, refl, sym, ap, subst, ◌∙◌, arith}
 use Rattle.std.proofs.lemmas.Bool.{cases_eq}
-use Rattle.file_tree_store.specs.declared.node.Hook.{Hook}
-use Rattle.file_tree_store.specs.declared.node.Node.{Node}
-use Rattle.file_tree_store.specs.Stored.{changed}
-use Rattle.file_tree.specs.Files.{FileNode, Files, Content, File, bytes_in, is_directory, is_directory_content, IsSmallContent, bytes_of_node, with_bytes, written, resized}
+use Rattle.file_tree.specs.declared.store.node.Hook.{Hook}
+use Rattle.file_tree.specs.declared.store.node.Node.{Node}
+use Rattle.file_tree.specs.Store.Stored.{changed}
+use Rattle.file_tree.specs.Store.Bytes.{written, resized}
+use Rattle.file_tree.specs.rules.Files.{FileNode, Files, Content, File, bytes_of_content, is_directory, is_directory_content, IsSmallContent, bytes_of_node, with_file_bytes}
 use Rattle.file_tree.specs.declared.limits.TheConstants.{NODES, FILE_BYTES}
-use Rattle.file_tree_store.specs.Changes.{node_written, node_resized}
-use Rattle.file_tree.specs.Links.{IsTree, node_in, hook_held, hook_of, content_held, content_shown, holds_directory_node, is_directory_in, bytes_of, bytes_held_in, used_in, AreNodes, shown, files, IsPlace, IsNowhere}
+use Rattle.file_tree.specs.Store.Changes.{node_written, node_resized}
+use Rattle.file_tree.specs.Links.{IsTree, node_in, hook_held, hook_of, content_held, content_shown, holds_directory_node, is_directory_in, file_bytes_of, bytes_held_in, used_in, AreNodes, shown_node, files, IsPlace, IsNowhere}
 use Rattle.file_tree.proofs.Lookups.{directory_shown, bytes_shown, node_at_place}
 use Rattle.file_tree.proofs.Lists.{in_changed_same, in_changed_other, rising_changed, length-changed, all_changed, all_in, shown_changed_one, none_changed, used_changed, used_holds, used_small}
 use Rattle.file_tree.proofs.Sizes.{AreBytes, file_is, shown_written, shown_resized, small_written, small_resized}
@@ -51,13 +52,13 @@ module _ (ns : List Node) (next k i : ℕ) (n : Node) (f : Node → Node) (bytes
     few = omega (arith, length-changed f ns i, r.are.few);
   }
 
-  pub rewritten_files : files (changed f i ns) next ≡ with_bytes k bytes (files ns next)
+  pub rewritten_files : files (changed f i ns) next ≡ with_file_bytes k bytes (files ns next)
   rewritten_files =
-      let S = shown next (hook_of ns) in
-      let after = shown next (hook_of (changed f i ns)) in
-      let same : (m : Node) → after m ≡ S m = λ m. ap (λ (h : ℕ → Hook). shown next h m) same_hooks in
+      let S = shown_node next (hook_of ns) in
+      let after = shown_node next (hook_of (changed f i ns)) in
+      let same : (m : Node) → after m ≡ S m = λ m. ap (λ (h : ℕ → Hook). shown_node next h m) same_hooks in
       let g : FileNode → FileNode = λ x. record { number = x.number; path = x.path; content = File bytes } in
-      let one : after (f n) ≡ g (S n) = same (f n) ∙ ap (λ (j : ℕ). record (S n) { number = j; path = (shown next (hook_of ns) (record (f n) { number = j })).path; content = content_shown (f n).content }) (r.numbers n) ∙ ap (λ (c : Content). record { number = n.number; path = (S n).path; content = c }) r.content in
+      let one : after (f n) ≡ g (S n) = same (f n) ∙ ap (λ (j : ℕ). record (S n) { number = j; path = (shown_node next (hook_of ns) (record (f n) { number = j })).path; content = content_shown (f n).content }) (r.numbers n) ∙ ap (λ (c : Content). record { number = n.number; path = (S n).path; content = c }) r.content in
       ap (λ (xs : List FileNode). record { nodes = xs; next = next }) (shown_changed_one S after g f 1 ns next k i n r.place r.there r.are.rising (λ m. refl) (λ m ne. same m) one)
 
 -- the file that a caller knows of
@@ -65,27 +66,27 @@ pub file_at : (ns : List Node) (next k : ℕ) (n : Node) (fs : Files) → files 
 file_at ns next k n fs e there file =
     sym (ap (λ (o : Option Node). holds_directory_node (content_held o)) there) ∙ sym (directory_shown ns next k) ∙ ap (λ (x : Files). is_directory x k) e ∙ file
 
-pub bytes_at : (ns : List Node) (next k : ℕ) (n : Node) (fs : Files) → files ns next ≡ fs → node_in ns k ≡ Some n → bytes_of n ≡ bytes_of_node fs k
+pub bytes_at : (ns : List Node) (next k : ℕ) (n : Node) (fs : Files) → files ns next ≡ fs → node_in ns k ≡ Some n → file_bytes_of n ≡ bytes_of_node fs k
 bytes_at ns next k n fs e there = sym (ap bytes_held_in there) ∙ sym (bytes_shown ns next k) ∙ ap (λ (x : Files). bytes_of_node x k) e
 
 -- where no node has the number nothing is changed
-pub no_bytes_changed : (ns : List Node) (next k : ℕ) (bytes : List ℕ) (fs : Files) → files ns next ≡ fs → IsNowhere ns k → fs ≡ with_bytes k bytes fs
+pub no_bytes_changed : (ns : List Node) (next k : ℕ) (bytes : List ℕ) (fs : Files) → files ns next ≡ fs → IsNowhere ns k → fs ≡ with_file_bytes k bytes fs
 no_bytes_changed ns next k bytes fs e h =
-    subst (λ (x : Files). x ≡ with_bytes k bytes x) e
-    (ap (λ (xs : List FileNode). record { nodes = xs; next = next }) (sym (none_changed (shown next (hook_of ns)) (λ (x : FileNode). record x { content = File bytes }) ns k (λ m. refl) h)))
+    subst (λ (x : Files). x ≡ with_file_bytes k bytes x) e
+    (ap (λ (xs : List FileNode). record { nodes = xs; next = next }) (sym (none_changed (shown_node next (hook_of ns)) (λ (x : FileNode). record x { content = File bytes }) ns k (λ m. refl) h)))
 
 -- all of it, where files are what the nodes show
 pub record IsRewritten (ns : List Node) (next k i : ℕ) (n : Node) (f : Node → Node) (bytes : List ℕ) (fs : Files) : Type 0 where
   pub nodes : AreNodes (changed f i ns) next
-  pub files_are : files (changed f i ns) next ≡ with_bytes k bytes fs
-  pub used : used_in (changed f i ns) ≡ used_in ns - length (bytes_of n) + length bytes
-  pub fits : used_in ns - length (bytes_of n) + length bytes < 2 ^ 64
+  pub files_are : files (changed f i ns) next ≡ with_file_bytes k bytes fs
+  pub used : used_in (changed f i ns) ≡ used_in ns - length (file_bytes_of n) + length bytes
+  pub fits : used_in ns - length (file_bytes_of n) + length bytes < 2 ^ 64
 
 is_rewritten : (ns : List Node) (next k i : ℕ) (n : Node) (f : Node → Node) (bytes : List ℕ) (fs : Files) → files ns next ≡ fs → Rewrites ns next k i n f bytes → IsRewritten ns next k i n f bytes fs
 is_rewritten ns next k i n f bytes fs e r = record {
   nodes = rewritten_nodes ns next k i n f bytes r;
-  files_are = rewritten_files ns next k i n f bytes r ∙ ap (with_bytes k bytes) e;
-  used = omega (arith, used_changed f ns k i n r.place r.there, used_holds ns k n r.there, ap (λ (c : Content). length (bytes_in c)) r.content);
+  files_are = rewritten_files ns next k i n f bytes r ∙ ap (with_file_bytes k bytes) e;
+  used = omega (arith, used_changed f ns k i n r.place r.there, used_holds ns k n r.there, ap (λ (c : Content). length (bytes_of_content c)) r.content);
   fits = (let most : length ns * FILE_BYTES ≤ NODES * FILE_BYTES = omega (arith, r.are.few) in omega (arith, used_small ns r.are.contents, most, r.small.0));
 }
 
@@ -94,9 +95,9 @@ pub is_written : (ns : List Node) (next k i : ℕ) (n : Node) (from : ℕ) (byte
 is_written ns next k i n from bytes fs e are place at file b fits =
     let there : node_in ns k ≡ Some n = node_at_place ns k i n place ∙ ap (λ (x : Node). Some x) (sym at) in
     let is_file = file_at ns next k n fs e there file in
-    let small : IsSmallContent (File (bytes_of n)) = subst IsSmallContent (file_is (content_shown n.content) is_file) (all_in (λ (x : Node). IsSmallContent (content_shown x.content)) ns k n there are.contents) in
+    let small : IsSmallContent (File (file_bytes_of n)) = subst IsSmallContent (file_is (content_shown n.content) is_file) (all_in (λ (x : Node). IsSmallContent (content_shown x.content)) ns k n there are.contents) in
     subst (λ (old : List ℕ). IsRewritten ns next k i n (node_written from bytes) (written old from bytes) fs) (bytes_at ns next k n fs e there)
-    (is_rewritten ns next k i n (node_written from bytes) (written (bytes_of n) from bytes) fs e (record {
+    (is_rewritten ns next k i n (node_written from bytes) (written (file_bytes_of n) from bytes) fs e (record {
       are = are;
       place = place;
       there = there;
@@ -104,7 +105,7 @@ is_written ns next k i n from bytes fs e are place at file b fits =
       numbers = λ m. refl;
       hooks = λ m. refl;
       content = shown_written from bytes n.content is_file;
-      small = small_written (bytes_of n) from bytes small b fits;
+      small = small_written (file_bytes_of n) from bytes small b fits;
     }))
 
 pub is_resized : (ns : List Node) (next k i : ℕ) (n : Node) (size : ℕ) (fs : Files) → files ns next ≡ fs → AreNodes ns next → IsPlace ns k i → n ≡ get_or ns i n → is_directory fs k ≡ false → size ≤ FILE_BYTES
@@ -112,9 +113,9 @@ pub is_resized : (ns : List Node) (next k i : ℕ) (n : Node) (size : ℕ) (fs :
 is_resized ns next k i n size fs e are place at file fits =
     let there : node_in ns k ≡ Some n = node_at_place ns k i n place ∙ ap (λ (x : Node). Some x) (sym at) in
     let is_file = file_at ns next k n fs e there file in
-    let small : IsSmallContent (File (bytes_of n)) = subst IsSmallContent (file_is (content_shown n.content) is_file) (all_in (λ (x : Node). IsSmallContent (content_shown x.content)) ns k n there are.contents) in
+    let small : IsSmallContent (File (file_bytes_of n)) = subst IsSmallContent (file_is (content_shown n.content) is_file) (all_in (λ (x : Node). IsSmallContent (content_shown x.content)) ns k n there are.contents) in
     subst (λ (old : List ℕ). IsRewritten ns next k i n (node_resized size) (resized old size) fs) (bytes_at ns next k n fs e there)
-    (is_rewritten ns next k i n (node_resized size) (resized (bytes_of n) size) fs e (record {
+    (is_rewritten ns next k i n (node_resized size) (resized (file_bytes_of n) size) fs e (record {
       are = are;
       place = place;
       there = there;
@@ -122,8 +123,8 @@ is_resized ns next k i n size fs e are place at file fits =
       numbers = λ m. refl;
       hooks = λ m. refl;
       content = shown_resized size n.content is_file;
-      small = small_resized (bytes_of n) size small fits;
+      small = small_resized (file_bytes_of n) size small fits;
     }))
 
-pub bytes_at_place : (ns : List Node) (next k i : ℕ) (n : Node) (fs : Files) → files ns next ≡ fs → IsPlace ns k i → n ≡ get_or ns i n → bytes_of n ≡ bytes_of_node fs k
+pub bytes_at_place : (ns : List Node) (next k i : ℕ) (n : Node) (fs : Files) → files ns next ≡ fs → IsPlace ns k i → n ≡ get_or ns i n → file_bytes_of n ≡ bytes_of_node fs k
 bytes_at_place ns next k i n fs e place at = bytes_at ns next k n fs e (node_at_place ns k i n place ∙ ap (λ (x : Node). Some x) (sym at))

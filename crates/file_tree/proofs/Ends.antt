@@ -2,12 +2,12 @@
 use Rattle.std.proofs.Common.{◌≡◌, ◌≢◌, ℕ, ◌⊎◌, inl, inr, true, false, cond, [], ◌∷◌, ◌++◌, length, reverse, Option, Some, None, refl, sym, ap, ◌∙◌, arith, length-append}
 use Rattle.std.specs.Prelude.{if◌then◌else◌}
 use mathlib.Core.List.{reverse-append, reverse-reverse}
-use Rattle.file_tree_store.specs.declared.node.Hook.{Hook}
-use Rattle.file_tree.specs.Files.{Name, Path, is_same_name, is_same_path, behind, with_front, moved}
+use Rattle.file_tree.specs.declared.store.node.Hook.{Hook}
+use Rattle.file_tree.specs.rules.Files.{Name, Path, is_same_name, is_same_path, path_behind, with_new_front, path_moved}
 use Rattle.file_tree.specs.Links.{Up, IsTree}
 use Rattle.file_tree.proofs.SameNames.{name_or_not, same_or_not}
 use Rattle.file_tree.proofs.Renames.{behind_front}
-use Rattle.file_tree.proofs.Climbs.{one_path, one_node}
+use Rattle.file_tree.proofs.Climbs.{one_path, one_node, some_is as just_is}
 
 -- the path with the new end in the place of the old one (from the node up)
 abbrev pub moved_up : Path → Path → Path → Path
@@ -37,14 +37,11 @@ renamed_path hook after next tree m old new at some others moved k (n ∷ a) h =
 abbrev just : Path → Option Path
 just p = Some p
 
-just_is : (p q : Path) → just p ≡ just q → p ≡ q
-just_is p q e = cc
-
-pub is_front : (front p rest : Path) → behind front p ≡ Some rest → p ≡ front ++ rest
+pub is_front : (front p rest : Path) → path_behind front p ≡ Some rest → p ≡ front ++ rest
 is_front [] p rest e = just_is p rest e
 is_front (n ∷ front) [] rest e = absurd cc
 is_front (n ∷ front) (m ∷ p) rest e = by_name (name_or_not n m) (is_front front p rest) e where
-  by_name : ((is_same_name n m ≡ true) × (n ≡ m)) ⊎ ((is_same_name n m ≡ false) × (n ≢ m)) → (behind front p ≡ Some rest → p ≡ front ++ rest) → cond (is_same_name n m) (behind front p) None ≡ Some rest → m ∷ p ≡ n ∷ (front ++ rest)
+  by_name : ((is_same_name n m ≡ true) × (n ≡ m)) ⊎ ((is_same_name n m ≡ false) × (n ≢ m)) → (path_behind front p ≡ Some rest → p ≡ front ++ rest) → cond (is_same_name n m) (path_behind front p) None ≡ Some rest → m ∷ p ≡ n ∷ (front ++ rest)
   by_name (inl h) later e = ap (λ (x : Name). x ∷ p) (sym h.1) ∙ ap (λ (x : Path). n ∷ x) (later (sym (rw h.0 refl) ∙ e))
   by_name (inr h) later e = absurd (let t : None ≡ just rest = sym (rw h.0 refl) ∙ e in cc)
 
@@ -84,18 +81,18 @@ not_moved old new (n ∷ a) never =
     ]
 
 -- a new end from the node up is a new front from the root down
-pub reverse-moved_up : (old new a : Path) → reverse (moved_up old new a) ≡ moved (reverse old) (reverse new) (reverse a)
+pub reverse-moved_up : (old new a : Path) → reverse (moved_up old new a) ≡ path_moved (reverse old) (reverse new) (reverse a)
 reverse-moved_up old new a =
     elim (ends_or_not old a) [
       | inl h ↦
           let left : reverse (moved_up old new a) ≡ reverse new ++ reverse h.0 = ap reverse (ap (moved_up old new) h.1 ∙ moved_end old new h.0) ∙ reverse-append h.0 new in
           let whole : reverse a ≡ reverse old ++ reverse h.0 = ap reverse h.1 ∙ reverse-append h.0 old in
-          let right : moved (reverse old) (reverse new) (reverse a) ≡ reverse new ++ reverse h.0 = ap (moved (reverse old) (reverse new)) whole ∙ ap (with_front (reverse new) (reverse old ++ reverse h.0)) (behind_front (reverse old) (reverse h.0)) in
+          let right : path_moved (reverse old) (reverse new) (reverse a) ≡ reverse new ++ reverse h.0 = ap (path_moved (reverse old) (reverse new)) whole ∙ ap (with_new_front (reverse new) (reverse old ++ reverse h.0)) (behind_front (reverse old) (reverse h.0)) in
           left ∙ sym right
-      | inr never ↦ ap reverse (not_moved old new a never) ∙ sym (kept (behind (reverse old) (reverse a)) refl never)
+      | inr never ↦ ap reverse (not_moved old new a never) ∙ sym (kept (path_behind (reverse old) (reverse a)) refl never)
     ] where
-      kept : (o : Option Path) → behind (reverse old) (reverse a) ≡ o → ((xs : Path) → a ≡ xs ++ old → ⊥) → with_front (reverse new) (reverse a) (behind (reverse old) (reverse a)) ≡ reverse a
-      kept None e never = ap (with_front (reverse new) (reverse a)) e
+      kept : (o : Option Path) → path_behind (reverse old) (reverse a) ≡ o → ((xs : Path) → a ≡ xs ++ old → ⊥) → with_new_front (reverse new) (reverse a) (path_behind (reverse old) (reverse a)) ≡ reverse a
+      kept None e never = ap (with_new_front (reverse new) (reverse a)) e
       kept (Some rest) e never =
           let front : reverse a ≡ reverse old ++ rest = is_front (reverse old) (reverse a) rest e in
           let back : a ≡ reverse rest ++ old = sym (reverse-reverse a) ∙ ap reverse front ∙ reverse-append (reverse old) rest ∙ ap (λ (p : Path). reverse rest ++ p) (reverse-reverse old) in

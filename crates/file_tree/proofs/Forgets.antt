@@ -5,11 +5,11 @@ use Rattle.std.specs.List.{AllByRecursion, remove}
 use Rattle.std.proofs.lemmas.Bool.{cases_eq, eq-eqb, ne_eqb}
 use Rattle.std.proofs.lemmas.List.Edits.{length-remove}
 use Rattle.std.proofs.lemmas.List.Sums.{sum_by-remove}
-use Rattle.file_tree_store.specs.declared.node.Hook.{Hook}
-use Rattle.file_tree_store.specs.declared.node.Hook.TheVariants.{Root, Removed, In}
-use Rattle.file_tree_store.specs.declared.node.Node.{Node}
-use Rattle.file_tree.specs.Files.{Name, Path, FileNode, Files, IsSmallContent, forgotten, path_of}
-use Rattle.file_tree.specs.Links.{IsTree, node_in, hook_held, hook_of, content_held, content_shown, holds_directory_node, is_directory_in, is_hung, bytes_of, used_in, AreNodes, AreRisingNodes, shown, files, IsPlace, IsNowhere}
+use Rattle.file_tree.specs.declared.store.node.Hook.{Hook}
+use Rattle.file_tree.specs.declared.store.node.Hook.TheVariants.{Root, Removed, In}
+use Rattle.file_tree.specs.declared.store.node.Node.{Node}
+use Rattle.file_tree.specs.rules.Files.{Name, Path, FileNode, Files, IsSmallContent, forgotten, path_of}
+use Rattle.file_tree.specs.Links.{IsTree, node_in, hook_held, hook_of, content_held, content_shown, holds_directory_node, is_directory_in, is_hung, file_bytes_of, used_in, AreNodes, AreRisingNodes, shown_node, files, IsPlace, IsNowhere}
 use Rattle.file_tree.proofs.Lookups.{node_nowhere, hung_has_path}
 use Rattle.file_tree.proofs.Lists.{numbers_from, nowhere_above}
 use Rattle.file_tree.proofs.Seen.{nothing_in}
@@ -70,7 +70,7 @@ not_hung (In d name) e = absurd cc
 pub record IsForgotten (ns : List Node) (next k i : ℕ) (n : Node) (fs : Files) : Type 0 where
   pub nodes : AreNodes (remove ns i) next
   pub files_are : files (remove ns i) next ≡ forgotten k fs
-  pub used : used_in (remove ns i) + length (bytes_of n) ≡ used_in ns
+  pub used : used_in (remove ns i) + length (file_bytes_of n) ≡ used_in ns
 
 no_path_is : (o : Option Path) → is_some o ≡ false → o ≡ None
 no_path_is None e = refl
@@ -100,14 +100,14 @@ is_forgotten ns next k i n fs e are place at gone =
         few = omega (arith, length-remove ns i lt, are.few);
       };
       files_are =
-          ap (λ (h : ℕ → Hook). record { nodes = map (shown next h) (remove ns i); next = next }) hooks
-          ∙ ap (λ (xs : List FileNode). record { nodes = xs; next = next }) (shown_without (shown next (hook_of ns)) 1 ns next k i (λ m. refl) are.rising place)
+          ap (λ (h : ℕ → Hook). record { nodes = map (shown_node next h) (remove ns i); next = next }) hooks
+          ∙ ap (λ (xs : List FileNode). record { nodes = xs; next = next }) (shown_without (shown_node next (hook_of ns)) 1 ns next k i (λ m. refl) are.rising place)
           ∙ ap (forgotten k) e;
-      used = (let sum = sum_by-remove (λ (x : Node). length (bytes_of x)) ns i n lt in omega (arith, sum, ap (λ (x : Node). length (bytes_of x)) at));
+      used = (let sum = sum_by-remove (λ (x : Node). length (file_bytes_of x)) ns i n lt in omega (arith, sum, ap (λ (x : Node). length (file_bytes_of x)) at));
     }
 
 -- where no node has the number nothing is changed
 pub none_forgotten : (ns : List Node) (next k : ℕ) (fs : Files) → files ns next ≡ fs → IsNowhere ns k → fs ≡ forgotten k fs
 none_forgotten ns next k fs e h =
     subst (λ (x : Files). x ≡ forgotten k x) e
-    (ap (λ (xs : List FileNode). record { nodes = xs; next = next }) (all_kept (shown next (hook_of ns)) ns k (λ m. refl) h))
+    (ap (λ (xs : List FileNode). record { nodes = xs; next = next }) (all_kept (shown_node next (hook_of ns)) ns k (λ m. refl) h))

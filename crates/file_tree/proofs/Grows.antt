@@ -7,15 +7,15 @@ use Rattle.std.proofs.lemmas.List.{map_push, length_push, length-map}
 use Rattle.std.proofs.lemmas.List.Sums.{sum_by_push}
 use Rattle.std.proofs.lemmas.Bool.{cases_eq, eqb-true}
 use mathlib.Core.List.{reverse-cons}
-use Rattle.file_tree_store.specs.declared.node.Hook.{Hook}
-use Rattle.file_tree_store.specs.declared.node.Hook.TheVariants.{Root, Removed, In}
-use Rattle.file_tree_store.specs.declared.node.Node.{Node}
-use Rattle.file_tree.specs.Files.{Name, Path, FileNode, Files, Content, IsName, IsSmallContent, bytes_in, created, path_of, at, is_at}
-use Rattle.file_tree.specs.declared.kind.Kind.{Kind}
-use Rattle.file_tree.specs.declared.kind.Kind.TheVariants as kind
+use Rattle.file_tree.specs.declared.store.node.Hook.{Hook}
+use Rattle.file_tree.specs.declared.store.node.Hook.TheVariants.{Root, Removed, In}
+use Rattle.file_tree.specs.declared.store.node.Node.{Node}
+use Rattle.file_tree.specs.rules.Files.{Name, Path, FileNode, Files, Content, IsNodeName, IsSmallContent, bytes_of_content, created, path_of, at, is_at}
+use Rattle.file_tree.specs.declared.kind.NodeKind.{NodeKind}
+use Rattle.file_tree.specs.declared.kind.NodeKind.TheVariants as kind
 use Rattle.file_tree.specs.declared.limits.TheConstants.{NODES}
-use Rattle.file_tree.specs.Changes.{IsFree, path_at, empty}
-use Rattle.file_tree.specs.Links.{Up, climb, IsTree, node_in, hook_held, hook_of, content_held, content_shown, holds_directory_node, is_directory_in, bytes_of, used_in, AreNodes, IsNowhere, shown, files}
+use Rattle.file_tree.specs.rules.Changes.{IsFree, path_at, empty}
+use Rattle.file_tree.specs.Links.{Up, climb, IsTree, node_in, hook_held, hook_of, content_held, content_shown, holds_directory_node, is_directory_in, file_bytes_of, used_in, AreNodes, IsNowhere, shown_node, files}
 use Rattle.file_tree.proofs.SameNames.{same_or_not}
 use Rattle.file_tree.proofs.Climbs.{path_is, no_path, climb_sound}
 use Rattle.file_tree.proofs.Lookups.{path_shown, directory_shown, node_nowhere}
@@ -109,13 +109,13 @@ is_at_itself q e = elim (same_or_not q q) [
 ]
 
 -- where nothing is found at a path, no node that hangs anywhere shows it
-none_at : (next : ℕ) (hook : ℕ → Hook) (q : Path) (ns : List Node) (k : ℕ) → hook_of ns k ≢ Removed → find (λ (n : FileNode). is_at q n.path) (map (shown next hook) ns) ≡ None
+none_at : (next : ℕ) (hook : ℕ → Hook) (q : Path) (ns : List Node) (k : ℕ) → hook_of ns k ≢ Removed → find (λ (n : FileNode). is_at q n.path) (map (shown_node next hook) ns) ≡ None
     → is_at q (option_map reverse (climb next hook k)) ≡ false
 none_at next hook q [] k some e = absurd (some refl)
 none_at next hook q (n ∷ ns) k some e = by_tests (eqb n.number k) (is_at q (option_map reverse (climb next hook n.number))) refl refl (none_at next hook q ns k) some e where
   by_tests : (b t : Bool) → eqb n.number k ≡ b → is_at q (option_map reverse (climb next hook n.number)) ≡ t
-      → (hook_of ns k ≢ Removed → find (λ (n : FileNode). is_at q n.path) (map (shown next hook) ns) ≡ None → is_at q (option_map reverse (climb next hook k)) ≡ false)
-      → hook_held (cond b (Some n) (node_in ns k)) ≢ Removed → cond t (Some (shown next hook n)) (find (λ (n : FileNode). is_at q n.path) (map (shown next hook) ns)) ≡ None
+      → (hook_of ns k ≢ Removed → find (λ (n : FileNode). is_at q n.path) (map (shown_node next hook) ns) ≡ None → is_at q (option_map reverse (climb next hook k)) ≡ false)
+      → hook_held (cond b (Some n) (node_in ns k)) ≢ Removed → cond t (Some (shown_node next hook n)) (find (λ (n : FileNode). is_at q n.path) (map (shown_node next hook) ns)) ≡ None
       → is_at q (option_map reverse (climb next hook k)) ≡ false
   by_tests b true is found later some e = absurd cc
   by_tests true false is found later some e = ap (λ (j : ℕ). is_at q (option_map reverse (climb next hook j))) (sym (eqb-true n.number k is)) ∙ found
@@ -162,7 +162,7 @@ free_in ns next d name are f =
 pub record Makes (ns : List Node) (next d : ℕ) (name : Name) (p up : Path) (c : Content) (n : Node) : Type 0 where
   pub nodes : AreNodes ns next
   pub free : IsFreeIn ns next d name p up
-  pub named : IsName name
+  pub named : IsNodeName name
   pub number : n.number ≡ next
   pub hook : n.hook ≡ In d name
   pub content : content_shown n.content ≡ c
@@ -203,7 +203,7 @@ module _ (ns : List Node) (next d : ℕ) (name : Name) (p up : Path) (c : Conten
   made_nodes room small = record {
     tree = grown_tree (hook_of ns) (hook_of (ns ++ n ∷ [])) next d name up grows;
     rising = rising_pushed 1 ns n next m.number m.nodes.rising;
-    named = λ k e other h. elim (old_hook k e other h) [ inl same ↦ subst IsName (sym same.1) m.named | inr before ↦ m.nodes.named k e other before ];
+    named = λ k e other h. elim (old_hook k e other h) [ inl same ↦ subst IsNodeName (sym same.1) m.named | inr before ↦ m.nodes.named k e other before ];
     placed = λ k e other h. elim (old_hook k e other h) [ inl same ↦ directory_stays e (subst (λ (x : ℕ). is_directory_in ns x ≡ true) (sym same.0) m.free.directory) | inr before ↦ directory_stays e (m.nodes.placed k e other before) ];
     root = directory_stays 1 m.nodes.root;
     contents = all_pushed (λ (x : Node). IsSmallContent (content_shown x.content)) ns n m.nodes.contents (subst IsSmallContent (sym m.content) small);
@@ -214,35 +214,35 @@ module _ (ns : List Node) (next d : ℕ) (name : Name) (p up : Path) (c : Conten
   made_files =
       let hook = hook_of ns in
       let after = hook_of (ns ++ n ∷ []) in
-      let old : map (shown (next + 1) after) ns ≡ map (shown next hook) ns = map_same (shown (next + 1) after) (shown next hook) (λ (k : Node). k.number < next) ns (λ k lt. ap (λ (o : Option Path). record { number = k.number; path = option_map reverse o; content = content_shown k.content }) (same_climb hook after next d name up grows k.number (λ e. absurd (omega (arith, lt, e))))) (numbers_below 1 ns next m.nodes.rising).1 in
+      let old : map (shown_node (next + 1) after) ns ≡ map (shown_node next hook) ns = map_same (shown_node (next + 1) after) (shown_node next hook) (λ (k : Node). k.number < next) ns (λ k lt. ap (λ (o : Option Path). record { number = k.number; path = option_map reverse o; content = content_shown k.content }) (same_climb hook after next d name up grows k.number (λ e. absurd (omega (arith, lt, e))))) (numbers_below 1 ns next m.nodes.rising).1 in
       let whole : reverse (name ∷ up) ≡ p ++ name ∷ [] = reverse-cons name up ∙ ap (λ (q : Path). q ++ name ∷ []) m.free.up_is in
       let new_path : option_map reverse (climb (next + 1) after n.number) ≡ Some (p ++ name ∷ []) = ap (λ (j : ℕ). option_map reverse (climb (next + 1) after j)) m.number ∙ ap (option_map reverse) (new_climb hook after next d name up grows) ∙ ap (λ (q : Path). Some q) whole in
       let last : FileNode = record { number = next; path = Some (p ++ name ∷ []); content = c } in
-      let new : shown (next + 1) after n ≡ last = ap (λ (o : Option Path). record { number = n.number; path = o; content = content_shown n.content }) new_path ∙ ap (λ (j : ℕ). record { number = j; path = Some (p ++ name ∷ []); content = content_shown n.content }) m.number ∙ ap (λ (x : Content). record { number = next; path = Some (p ++ name ∷ []); content = x }) m.content in
-      let nodes : map (shown (next + 1) after) (ns ++ n ∷ []) ≡ map (shown next hook) ns ++ last ∷ [] = map_push (shown (next + 1) after) ns n ∙ ap (λ (xs : List FileNode). xs ++ shown (next + 1) after n ∷ []) old ∙ ap (λ (x : FileNode). map (shown next hook) ns ++ x ∷ []) new in
+      let new : shown_node (next + 1) after n ≡ last = ap (λ (o : Option Path). record { number = n.number; path = o; content = content_shown n.content }) new_path ∙ ap (λ (j : ℕ). record { number = j; path = Some (p ++ name ∷ []); content = content_shown n.content }) m.number ∙ ap (λ (x : Content). record { number = next; path = Some (p ++ name ∷ []); content = x }) m.content in
+      let nodes : map (shown_node (next + 1) after) (ns ++ n ∷ []) ≡ map (shown_node next hook) ns ++ last ∷ [] = map_push (shown_node (next + 1) after) ns n ∙ ap (λ (xs : List FileNode). xs ++ shown_node (next + 1) after n ∷ []) old ∙ ap (λ (x : FileNode). map (shown_node next hook) ns ++ x ∷ []) new in
       ap (λ (xs : List FileNode). record { nodes = xs; next = next + 1 }) nodes
 
-  pub made_used : length (bytes_in c) ≡ 0 → used_in (ns ++ n ∷ []) ≡ used_in ns
-  made_used e = omega (arith, sum_by_push (λ (x : Node). length (bytes_of x)) ns n, ap (λ (x : Content). length (bytes_in x)) m.content, e)
+  pub made_used : length (bytes_of_content c) ≡ 0 → used_in (ns ++ n ∷ []) ≡ used_in ns
+  made_used e = omega (arith, sum_by_push (λ (x : Node). length (file_bytes_of x)) ns n, ap (λ (x : Content). length (bytes_of_content x)) m.content, e)
 
-pub empty_is_small : (k : Kind) → IsSmallContent (empty k) × (length (bytes_in (empty k)) ≡ 0)
+pub empty_is_small : (k : NodeKind) → IsSmallContent (empty k) × (length (bytes_of_content (empty k)) ≡ 0)
 empty_is_small kind.Directory = (tt, refl)
 empty_is_small kind.File = ((omega arith, tt), refl)
 
 -- all of it, where files are what the nodes show
-pub record IsMade (ns : List Node) (next d : ℕ) (name : Name) (k : Kind) (n : Node) (fs : Files) : Type 0 where
+pub record IsMade (ns : List Node) (next d : ℕ) (name : Name) (k : NodeKind) (n : Node) (fs : Files) : Type 0 where
   pub nodes : AreNodes (ns ++ n ∷ []) (next + 1)
   pub files_are : files (ns ++ n ∷ []) (next + 1) ≡ created (path_at fs d ++ name ∷ []) (empty k) fs
   pub used : used_in (ns ++ n ∷ []) ≡ used_in ns
 
-pub is_made : (ns : List Node) (next d : ℕ) (name : Name) (k : Kind) (n : Node) (fs : Files) → files ns next ≡ fs → AreNodes ns next → IsFree fs d name → length fs.nodes < NODES
+pub is_made : (ns : List Node) (next d : ℕ) (name : Name) (k : NodeKind) (n : Node) (fs : Files) → files ns next ≡ fs → AreNodes ns next → IsFree fs d name → length fs.nodes < NODES
     → n.number ≡ next → n.hook ≡ In d name → content_shown n.content ≡ empty k → IsMade ns next d name k n fs
 is_made ns next d name k n fs e are f room number hook content =
     let free = subst (λ (x : Files). IsFree x d name) (sym e) f in
     let found = free_in ns next d name are free in
     let p = path_at (files ns next) d in
     let m : Makes ns next d name p found.0 (empty k) n = record { nodes = are; free = found.1; named = f.named; number = number; hook = hook; content = content } in
-    let few : length ns < NODES = omega (arith, room, ap (λ (x : Files). length x.nodes) e, length-map ns (shown next (hook_of ns))) in
+    let few : length ns < NODES = omega (arith, room, ap (λ (x : Files). length x.nodes) e, length-map ns (shown_node next (hook_of ns))) in
     record {
       nodes = made_nodes ns next d name p found.0 (empty k) n m few (empty_is_small k).0;
       files_are = made_files ns next d name p found.0 (empty k) n m ∙ ap (λ (x : Files). created (path_at x d ++ name ∷ []) (empty k) x) e;

@@ -1,12 +1,12 @@
 -- A node that is hung elsewhere: what stays.
 use Rattle.std.proofs.Common.{◌≡◌, ◌≢◌, ℕ, inl, inr, true, List, Option, Some, refl, sym, ap, subst, ◌∙◌, arith}
 use Rattle.std.proofs.lemmas.Bool.{cases_eq}
-use Rattle.file_tree_store.specs.declared.node.Hook.{Hook}
-use Rattle.file_tree_store.specs.declared.node.Hook.TheVariants.{In}
-use Rattle.file_tree_store.specs.declared.node.Node.{Node}
-use Rattle.file_tree_store.specs.Stored.{changed}
-use Rattle.file_tree_store.specs.Changes.{with_hook}
-use Rattle.file_tree.specs.Files.{Name, IsName, IsSmallContent}
+use Rattle.file_tree.specs.declared.store.node.Hook.{Hook}
+use Rattle.file_tree.specs.declared.store.node.Hook.TheVariants.{In}
+use Rattle.file_tree.specs.declared.store.node.Node.{Node}
+use Rattle.file_tree.specs.Store.Stored.{changed}
+use Rattle.file_tree.specs.Store.Changes.{with_hook}
+use Rattle.file_tree.specs.rules.Files.{Name, IsNodeName, IsSmallContent}
 use Rattle.file_tree.specs.Links.{IsTree, node_in, hook_held, hook_of, content_held, content_shown, holds_directory_node, is_directory_in, used_in, AreNodes, IsPlace}
 use Rattle.file_tree.proofs.Lists.{in_changed_same, in_changed_other, rising_changed, length-changed, all_changed, all_in, used_changed}
 
@@ -34,7 +34,7 @@ module _ (ns : List Node) (next k i : ℕ) (n : Node) (h : Hook) (r : Hangs ns n
 
   -- what of it isn't a question of hooks
   pub hung_nodes : IsTree (hook_of (changed (with_hook h) i ns)) next
-      → ((j d : ℕ) (name : Name) → hook_of (changed (with_hook h) i ns) j ≡ In d name → IsName name × (is_directory_in ns d ≡ true))
+      → ((j d : ℕ) (name : Name) → hook_of (changed (with_hook h) i ns) j ≡ In d name → IsNodeName name × (is_directory_in ns d ≡ true))
       → AreNodes (changed (with_hook h) i ns) next
   hung_nodes tree placed = record {
     tree = tree;

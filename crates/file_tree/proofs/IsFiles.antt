@@ -4,11 +4,11 @@ use Rattle.std.specs.Prelude.{option_map, IfSome}
 use Rattle.std.specs.List.{AllByRecursion}
 use Rattle.std.proofs.lemmas.List.{length-map}
 use mathlib.Core.List.{reverse-cons, reverse-reverse}
-use Rattle.file_tree_store.specs.declared.node.Hook.{Hook}
-use Rattle.file_tree_store.specs.declared.node.Hook.TheVariants.{Removed}
-use Rattle.file_tree_store.specs.declared.node.Node.{Node}
-use Rattle.file_tree.specs.Files.{Path, FileNode, AreRising, IsPlaced, HasPath, HaveDistinctPaths, IsSmallContent, IsFiles}
-use Rattle.file_tree.specs.Links.{Up, climb, IsTree, hook_of, content_shown, AreNodes, AreRisingNodes, shown, files}
+use Rattle.file_tree.specs.declared.store.node.Hook.{Hook}
+use Rattle.file_tree.specs.declared.store.node.Hook.TheVariants.{Removed}
+use Rattle.file_tree.specs.declared.store.node.Node.{Node}
+use Rattle.file_tree.specs.rules.Files.{Path, FileNode, AreRising, IsPlaced, HasPath, HaveDistinctPaths, IsSmallContent, IsFiles}
+use Rattle.file_tree.specs.Links.{Up, climb, IsTree, hook_of, content_shown, AreNodes, AreRisingNodes, shown_node, files}
 use Rattle.file_tree.proofs.Climbs.{path_is, no_path, climb_sound, one_node}
 use Rattle.file_tree.proofs.Lookups.{path_shown, directory_shown}
 use Rattle.file_tree.proofs.Lists.{numbers_from}
@@ -40,7 +40,7 @@ placed_path ns next k are = by_hook (removed_or_not (hook_of ns k)) where
   by_hook (inl gone) = subst (λ (o : Option Path). IfSome (option_map reverse o) (IsPlaced (files ns next))) (sym (no_path next (hook_of ns) k gone)) tt
   by_hook (inr here) = (let r = are.tree.reached k here in subst (λ (o : Option Path). IfSome (option_map reverse o) (IsPlaced (files ns next))) (sym (path_is (hook_of ns) next are.tree k r.0 r.1)) (by_way r.0 r.1))
 
-all_placed : (ns : List Node) (next : ℕ) → AreNodes ns next → (ms : List Node) → AllByRecursion (λ (n : FileNode). IfSome n.path (IsPlaced (files ns next))) (map (shown next (hook_of ns)) ms)
+all_placed : (ns : List Node) (next : ℕ) → AreNodes ns next → (ms : List Node) → AllByRecursion (λ (n : FileNode). IfSome n.path (IsPlaced (files ns next))) (map (shown_node next (hook_of ns)) ms)
 all_placed ns next are [] = tt
 all_placed ns next are (m ∷ ms) = (placed_path ns next m.number are, all_placed ns next are ms)
 
@@ -56,24 +56,24 @@ apart hook next tree j k ne p hj hk =
     let same : a.0 ≡ b.0 = sym (reverse-reverse a.0) ∙ ap reverse (a.2 ∙ sym b.2) ∙ reverse-reverse b.0 in
     ne (one_node hook next tree j k a.0 (climb_sound next hook j a.0 a.1) (subst (Up hook k) (sym same) (climb_sound next hook k b.0 b.1)))
 
-distinct_paths : (hook : ℕ → Hook) (next : ℕ) → IsTree hook next → (least : ℕ) (ns : List Node) (most : ℕ) → AreRisingNodes least ns most → HaveDistinctPaths (map (shown next hook) ns)
+distinct_paths : (hook : ℕ → Hook) (next : ℕ) → IsTree hook next → (least : ℕ) (ns : List Node) (most : ℕ) → AreRisingNodes least ns most → HaveDistinctPaths (map (shown_node next hook) ns)
 distinct_paths hook next tree least [] most h = tt
 distinct_paths hook next tree least (m ∷ ns) most h = (others ns (numbers_from (m.number + 1) ns most h.1), distinct_paths hook next tree (m.number + 1) ns most h.1) where
-  others : (xs : List Node) → AllByRecursion (λ (n : Node). m.number + 1 ≤ n.number) xs → AllByRecursion (λ (other : FileNode). (p : Path) → HasPath (shown next hook m).path p → HasPath other.path p → ⊥) (map (shown next hook) xs)
+  others : (xs : List Node) → AllByRecursion (λ (n : Node). m.number + 1 ≤ n.number) xs → AllByRecursion (λ (other : FileNode). (p : Path) → HasPath (shown_node next hook m).path p → HasPath other.path p → ⊥) (map (shown_node next hook) xs)
   others [] g = tt
   others (x ∷ xs) g = ((λ p hm hx. apart hook next tree m.number x.number (λ e. absurd (omega (arith, g.0, e))) p hm hx), others xs g.1)
 
-all_small : (next : ℕ) (hook : ℕ → Hook) (ns : List Node) → AllByRecursion (λ (n : Node). IsSmallContent (content_shown n.content)) ns → AllByRecursion (λ (n : FileNode). IsSmallContent n.content) (map (shown next hook) ns)
+all_small : (next : ℕ) (hook : ℕ → Hook) (ns : List Node) → AllByRecursion (λ (n : Node). IsSmallContent (content_shown n.content)) ns → AllByRecursion (λ (n : FileNode). IsSmallContent n.content) (map (shown_node next hook) ns)
 all_small next hook [] h = tt
 all_small next hook (m ∷ ns) h = (h.0, all_small next hook ns h.1)
 
 pub are_files : (ns : List Node) (next : ℕ) → AreNodes ns next → IsFiles (files ns next)
 are_files ns next are = record {
-  rising = rising_shown (shown next (hook_of ns)) (λ m. refl) 1 ns next are.rising;
+  rising = rising_shown (shown_node next (hook_of ns)) (λ m. refl) 1 ns next are.rising;
   root = path_shown ns next 1 ∙ ap (option_map reverse) (path_is (hook_of ns) next are.tree 1 [] are.tree.root);
   root_is_directory = directory_shown ns next 1 ∙ are.root;
   placed = all_placed ns next are ns;
   distinct = distinct_paths (hook_of ns) next are.tree 1 ns next are.rising;
   contents = all_small next (hook_of ns) ns are.contents;
-  few = omega (arith, length-map ns (shown next (hook_of ns)), are.few);
+  few = omega (arith, length-map ns (shown_node next (hook_of ns)), are.few);
 }

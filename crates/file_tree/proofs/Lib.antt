@@ -19,3 +19,4 @@ pub mod IsFiles
 pub mod Parents
 pub mod Order
 pub mod Ranked
+pub mod StoreLemmas

@@ -3,11 +3,11 @@ use Rattle.std.proofs.Common.{◌≡◌, ◌≢◌, ℕ, zero, suc, ◌+◌, ◌
 use Rattle.std.specs.List.{AllByRecursion}
 use Rattle.std.proofs.lemmas.Bool.{eqb-true, eq-eqb, ne_eqb}
 use Rattle.std.proofs.lemmas.List.Sums.{sum_by-cons}
-use Rattle.file_tree_store.specs.declared.node.Node.{Node}
-use Rattle.file_tree_store.specs.Stored.{changed}
-use Rattle.file_tree.specs.Files.{FileNode, Content, Directory, File, bytes_in, changed_at, IsSmallContent}
+use Rattle.file_tree.specs.declared.store.node.Node.{Node}
+use Rattle.file_tree.specs.Store.Stored.{changed}
+use Rattle.file_tree.specs.rules.Files.{FileNode, Content, Directory, File, bytes_of_content, changed_at, IsSmallContent}
 use Rattle.file_tree.specs.declared.limits.TheConstants.{FILE_BYTES}
-use Rattle.file_tree.specs.Links.{node_in, bytes_of, used_in, content_shown, AreRisingNodes, IsPlace, IsNowhere}
+use Rattle.file_tree.specs.Links.{node_in, file_bytes_of, used_in, content_shown, AreRisingNodes, IsPlace, IsNowhere}
 
 -- ---- rising numbers
 
@@ -77,32 +77,32 @@ all_in P (m ∷ ns) k n e h = by_test (eqb m.number k) (λ later. all_in P ns k 
   by_test false later e = later e
 
 -- how many bytes there are after a change
-pub used_changed : (f : Node → Node) (ns : List Node) (k i : ℕ) (n : Node) → IsPlace ns k i → node_in ns k ≡ Some n → used_in (changed f i ns) + length (bytes_of n) ≡ used_in ns + length (bytes_of (f n))
+pub used_changed : (f : Node → Node) (ns : List Node) (k i : ℕ) (n : Node) → IsPlace ns k i → node_in ns k ≡ Some n → used_in (changed f i ns) + length (file_bytes_of n) ≡ used_in ns + length (file_bytes_of (f n))
 used_changed f [] k i n h e = absurd h
 used_changed f (m ∷ ns) k zero n h e =
     let some_is : m ≡ n = (let s : Some m ≡ Some n = sym (ap (λ (b : Bool). cond b (Some m) (node_in ns k)) (eq-eqb m.number k h)) ∙ e in cc) in
-    let size : Node → ℕ = λ x. length (bytes_of x) in
-    omega (arith, sum_by-cons (λ (x : Node). length (bytes_of x)) (f m) ns, sum_by-cons (λ (x : Node). length (bytes_of x)) m ns, ap (λ (x : Node). length (bytes_of x)) some_is, ap (λ (x : Node). length (bytes_of (f x))) some_is)
+    let size : Node → ℕ = λ x. length (file_bytes_of x) in
+    omega (arith, sum_by-cons (λ (x : Node). length (file_bytes_of x)) (f m) ns, sum_by-cons (λ (x : Node). length (file_bytes_of x)) m ns, ap (λ (x : Node). length (file_bytes_of x)) some_is, ap (λ (x : Node). length (file_bytes_of (f x))) some_is)
 used_changed f (m ∷ ns) k (suc i) n h e =
     let later : node_in ns k ≡ Some n = sym (ap (λ (b : Bool). cond b (Some m) (node_in ns k)) (ne_eqb m.number k h.0)) ∙ e in
-    omega (arith, sum_by-cons (λ (x : Node). length (bytes_of x)) m (changed f i ns), sum_by-cons (λ (x : Node). length (bytes_of x)) m ns, used_changed f ns k i n h.1 later)
+    omega (arith, sum_by-cons (λ (x : Node). length (file_bytes_of x)) m (changed f i ns), sum_by-cons (λ (x : Node). length (file_bytes_of x)) m ns, used_changed f ns k i n h.1 later)
 
-pub used_holds : (ns : List Node) (k : ℕ) (n : Node) → node_in ns k ≡ Some n → length (bytes_of n) ≤ used_in ns
+pub used_holds : (ns : List Node) (k : ℕ) (n : Node) → node_in ns k ≡ Some n → length (file_bytes_of n) ≤ used_in ns
 used_holds [] k n e = absurd cc
 used_holds (m ∷ ns) k n e = by_test (eqb m.number k) (λ later. used_holds ns k n later) e where
-  by_test : (b : Bool) → (node_in ns k ≡ Some n → length (bytes_of n) ≤ used_in ns) → cond b (Some m) (node_in ns k) ≡ Some n → length (bytes_of n) ≤ used_in (m ∷ ns)
-  by_test true later e = (let some_is : m ≡ n = cc in omega (arith, sum_by-cons (λ (x : Node). length (bytes_of x)) m ns, ap (λ (x : Node). length (bytes_of x)) some_is))
-  by_test false later e = omega (arith, sum_by-cons (λ (x : Node). length (bytes_of x)) m ns, later e)
+  by_test : (b : Bool) → (node_in ns k ≡ Some n → length (file_bytes_of n) ≤ used_in ns) → cond b (Some m) (node_in ns k) ≡ Some n → length (file_bytes_of n) ≤ used_in (m ∷ ns)
+  by_test true later e = (let some_is : m ≡ n = cc in omega (arith, sum_by-cons (λ (x : Node). length (file_bytes_of x)) m ns, ap (λ (x : Node). length (file_bytes_of x)) some_is))
+  by_test false later e = omega (arith, sum_by-cons (λ (x : Node). length (file_bytes_of x)) m ns, later e)
 
-pub small_bytes : (n : Node) → IsSmallContent (content_shown n.content) → length (bytes_of n) ≤ FILE_BYTES
+pub small_bytes : (n : Node) → IsSmallContent (content_shown n.content) → length (file_bytes_of n) ≤ FILE_BYTES
 small_bytes n h = of_content (content_shown n.content) h where
-  of_content : (c : Content) → IsSmallContent c → length (bytes_in c) ≤ FILE_BYTES
+  of_content : (c : Content) → IsSmallContent c → length (bytes_of_content c) ≤ FILE_BYTES
   of_content Directory h = omega arith
   of_content (File bytes) h = h.0
 
 pub used_small : (ns : List Node) → AllByRecursion (λ (n : Node). IsSmallContent (content_shown n.content)) ns → used_in ns ≤ length ns * FILE_BYTES
 used_small [] h = omega arith
-used_small (m ∷ ns) h = omega (arith, sum_by-cons (λ (x : Node). length (bytes_of x)) m ns, small_bytes m h.0, used_small ns h.1)
+used_small (m ∷ ns) h = omega (arith, sum_by-cons (λ (x : Node). length (file_bytes_of x)) m ns, small_bytes m h.0, used_small ns h.1)
 
 -- ---- what is shown of nodes of which one is changed
 

@@ -5,11 +5,11 @@ use Rattle.std.specs.Option.{option_and_then}
 use Rattle.std.proofs.lemmas.Bool.{eq-eqb, ne_eqb}
 use Rattle.std.proofs.lemmas.List.{take_all}
 use Rattle.std.proofs.lemmas.List.Sums.{sum_by-cons}
-use Rattle.file_tree_store.specs.declared.node.Hook.{Hook}
-use Rattle.file_tree_store.specs.declared.node.Hook.TheVariants.{Root, Removed, In}
-use Rattle.file_tree_store.specs.declared.node.Node.{Node}
-use Rattle.file_tree.specs.Files.{Path, FileNode, path_of, is_directory, holds_directory, bytes_of_node, bytes_held, bytes_in, used}
-use Rattle.file_tree.specs.Links.{climb, node_in, hook_held, hook_of, content_held, is_directory_in, holds_directory_node, bytes_of, bytes_held_in, used_in, is_hung, AreNodes, shown, files, IsPlace, IsNowhere}
+use Rattle.file_tree.specs.declared.store.node.Hook.{Hook}
+use Rattle.file_tree.specs.declared.store.node.Hook.TheVariants.{Root, Removed, In}
+use Rattle.file_tree.specs.declared.store.node.Node.{Node}
+use Rattle.file_tree.specs.rules.Files.{Path, FileNode, path_of, is_directory, holds_directory, bytes_of_node, bytes_held, bytes_of_content, used}
+use Rattle.file_tree.specs.Links.{climb, node_in, hook_held, hook_of, content_held, is_directory_in, holds_directory_node, file_bytes_of, bytes_held_in, used_in, is_hung, AreNodes, shown_node, files, IsPlace, IsNowhere}
 use Rattle.file_tree.proofs.Climbs.{path_is, no_path}
 use Rattle.file_tree.proofs.Lists.{number_in}
 
@@ -42,41 +42,41 @@ node_nowhere (n ∷ ns) k h = rw (ne_eqb n.number k h.0) (node_nowhere ns k h.1)
 
 -- ---- what is shown of a node
 
-pub node_shown : (next : ℕ) (hook : ℕ → Hook) (ns : List Node) (k : ℕ) → find (λ (n : FileNode). eqb n.number k) (map (shown next hook) ns) ≡ option_map (shown next hook) (node_in ns k)
+pub node_shown : (next : ℕ) (hook : ℕ → Hook) (ns : List Node) (k : ℕ) → find (λ (n : FileNode). eqb n.number k) (map (shown_node next hook) ns) ≡ option_map (shown_node next hook) (node_in ns k)
 node_shown next hook [] k = refl
 node_shown next hook (n ∷ ns) k = by_test (eqb n.number k) (node_shown next hook ns k) where
-  by_test : (b : Bool) → find (λ (n : FileNode). eqb n.number k) (map (shown next hook) ns) ≡ option_map (shown next hook) (node_in ns k)
-      → cond b (Some (shown next hook n)) (find (λ (n : FileNode). eqb n.number k) (map (shown next hook) ns)) ≡ option_map (shown next hook) (cond b (Some n) (node_in ns k))
+  by_test : (b : Bool) → find (λ (n : FileNode). eqb n.number k) (map (shown_node next hook) ns) ≡ option_map (shown_node next hook) (node_in ns k)
+      → cond b (Some (shown_node next hook n)) (find (λ (n : FileNode). eqb n.number k) (map (shown_node next hook) ns)) ≡ option_map (shown_node next hook) (cond b (Some n) (node_in ns k))
   by_test true later = refl
   by_test false later = later
 
 pub directory_shown : (ns : List Node) (next k : ℕ) → is_directory (files ns next) k ≡ is_directory_in ns k
 directory_shown ns next k = ap holds_directory (node_shown next (hook_of ns) ns k) ∙ of_node (node_in ns k) where
-  of_node : (o : Option Node) → holds_directory (option_map (shown next (hook_of ns)) o) ≡ holds_directory_node (content_held o)
+  of_node : (o : Option Node) → holds_directory (option_map (shown_node next (hook_of ns)) o) ≡ holds_directory_node (content_held o)
   of_node None = refl
   of_node (Some n) = refl
 
 pub bytes_shown : (ns : List Node) (next k : ℕ) → bytes_of_node (files ns next) k ≡ bytes_held_in (node_in ns k)
 bytes_shown ns next k = ap bytes_held (node_shown next (hook_of ns) ns k) ∙ of_node (node_in ns k) where
-  of_node : (o : Option Node) → bytes_held (option_map (shown next (hook_of ns)) o) ≡ bytes_held_in o
+  of_node : (o : Option Node) → bytes_held (option_map (shown_node next (hook_of ns)) o) ≡ bytes_held_in o
   of_node None = refl
   of_node (Some n) = refl
 
 -- the path that is shown is the one that climbing finds
 pub path_shown : (ns : List Node) (next k : ℕ) → path_of (files ns next) k ≡ option_map reverse (climb next (hook_of ns) k)
 path_shown ns next k = ap (option_and_then (λ (n : FileNode). n.path)) (node_shown next (hook_of ns) ns k) ∙ of_node (node_in ns k) refl where
-  of_node : (o : Option Node) → node_in ns k ≡ o → option_and_then (λ (n : FileNode). n.path) (option_map (shown next (hook_of ns)) o) ≡ option_map reverse (climb next (hook_of ns) k)
+  of_node : (o : Option Node) → node_in ns k ≡ o → option_and_then (λ (n : FileNode). n.path) (option_map (shown_node next (hook_of ns)) o) ≡ option_map reverse (climb next (hook_of ns) k)
   of_node None e = sym (ap (option_map reverse) (no_path next (hook_of ns) k (ap hook_held e)))
   of_node (Some n) e = ap (λ (j : ℕ). option_map reverse (climb next (hook_of ns) j)) (number_in ns k n e)
 
 pub used_shown : (ns : List Node) (next : ℕ) → used (files ns next) ≡ used_in ns
 used_shown ns next = go ns where
-  go : (ms : List Node) → used (record { nodes = map (shown next (hook_of ns)) ms; next = next }) ≡ used_in ms
+  go : (ms : List Node) → used (record { nodes = map (shown_node next (hook_of ns)) ms; next = next }) ≡ used_in ms
   go [] = refl
   go (m ∷ ms) =
-      sum_by-cons (λ (n : FileNode). length (bytes_in n.content)) (shown next (hook_of ns) m) (map (shown next (hook_of ns)) ms)
-      ∙ ap (λ (n : ℕ). length (bytes_of m) + n) (go ms)
-      ∙ sym (sum_by-cons (λ (n : Node). length (bytes_of n)) m ms)
+      sum_by-cons (λ (n : FileNode). length (bytes_of_content n.content)) (shown_node next (hook_of ns) m) (map (shown_node next (hook_of ns)) ms)
+      ∙ ap (λ (n : ℕ). length (file_bytes_of m) + n) (go ms)
+      ∙ sym (sum_by-cons (λ (n : Node). length (file_bytes_of n)) m ms)
 
 -- ---- whether a node has a path
 

@@ -3,16 +3,16 @@ use Rattle.std.proofs.Common.{◌≡◌, ◌≢◌, ℕ, inl, inr, true, false, 
 use Rattle.std.specs.Prelude.{option_map, is_some}
 use Rattle.std.proofs.lemmas.Bool.{cases_eq}
 use mathlib.Core.List.{reverse-cons, reverse-append}
-use Rattle.file_tree_store.specs.declared.node.Hook.{Hook}
-use Rattle.file_tree_store.specs.declared.node.Hook.TheVariants.{Root, Removed, In}
-use Rattle.file_tree_store.specs.declared.node.Content.TheVariants as content
-use Rattle.file_tree_store.specs.declared.node.Node.{Node}
-use Rattle.file_tree_store.specs.Stored.{changed}
-use Rattle.file_tree_store.specs.Changes.{with_hook}
-use Rattle.file_tree.specs.Files.{Name, IsName, Path, FileNode, Files, path_of, behind, moved, renamed}
-use Rattle.file_tree.specs.Changes.{path_at, CanMove, within_path}
-use Rattle.file_tree.specs.Links.{Up, climb, IsTree, node_in, hook_held, hook_of, content_shown, is_directory_in, used_in, AreNodes, shown, files, IsPlace, IsNowhere}
-use Rattle.file_tree.proofs.Climbs.{one_path, path_is, no_path, there}
+use Rattle.file_tree.specs.declared.store.node.Hook.{Hook}
+use Rattle.file_tree.specs.declared.store.node.Hook.TheVariants.{Root, Removed, In}
+use Rattle.file_tree.specs.declared.store.node.NodeContent.TheVariants as content
+use Rattle.file_tree.specs.declared.store.node.Node.{Node}
+use Rattle.file_tree.specs.Store.Stored.{changed}
+use Rattle.file_tree.specs.Store.Changes.{with_hook}
+use Rattle.file_tree.specs.rules.Files.{Name, IsNodeName, Path, FileNode, Files, path_of, path_behind, path_moved, renamed}
+use Rattle.file_tree.specs.rules.Changes.{path_at, CanMove, within_path}
+use Rattle.file_tree.specs.Links.{Up, climb, IsTree, node_in, hook_held, hook_of, content_shown, is_directory_in, used_in, AreNodes, shown_node, files, IsPlace, IsNowhere}
+use Rattle.file_tree.proofs.Climbs.{one_path, path_is, no_path, there, in_is}
 use Rattle.file_tree.proofs.Renames.{behind_front}
 use Rattle.file_tree.proofs.Ends.{moved_up, renamed_path, reverse-moved_up}
 use Rattle.file_tree.proofs.Lookups.{node_at_place, node_nowhere, path_shown}
@@ -23,7 +23,7 @@ use Rattle.file_tree.proofs.Hangs.{Hangs, hung_here, hung_others, hung_used, hun
 -- ---- a node that hangs in another place
 
 -- a tree before and after node m, whose path from the node up is old, hangs in directory d under a name
-pub record Moves (hook after : ℕ → Hook) (next m d : ℕ) (name : Name) (old up : Path) : Type 0 where
+pub record MovesNode (hook after : ℕ → Hook) (next m d : ℕ) (name : Name) (old up : Path) : Type 0 where
   pub tree : IsTree hook next
   pub at : Up hook m old
   pub not_root : old ≢ []
@@ -33,7 +33,7 @@ pub record Moves (hook after : ℕ → Hook) (next m d : ℕ) (name : Name) (old
   pub not_below : (xs : Path) → up ≡ xs ++ old → ⊥
   pub free : (k : ℕ) → hook k ≡ In d name → ⊥
 
-module _ (hook after : ℕ → Hook) (next m d : ℕ) (name : Name) (old up : Path) (v : Moves hook after next m d name old up) where
+module _ (hook after : ℕ → Hook) (next m d : ℕ) (name : Name) (old up : Path) (v : MovesNode hook after next m d name old up) where
   not_below_kept : (k : ℕ) (a : Path) → ((xs : Path) → a ≡ xs ++ old → ⊥) → Up hook k a → Up after k a
   not_below_kept k [] never h = v.others k (λ e. never [] (one_path hook k [] old h (rw e v.at))) ∙ h
   not_below_kept k (n ∷ a) never h =
@@ -76,17 +76,17 @@ module _ (hook after : ℕ → Hook) (next m d : ℕ) (name : Name) (old up : Pa
   }
 
   -- the path that climbing finds for each node changes its front
-  pub moved_climb : (k : ℕ) → option_map reverse (climb next after k) ≡ option_map (moved (reverse old) (reverse (name ∷ up))) (option_map reverse (climb next hook k))
+  pub moved_climb : (k : ℕ) → option_map reverse (climb next after k) ≡ option_map (path_moved (reverse old) (reverse (name ∷ up))) (option_map reverse (climb next hook k))
   moved_climb k =
       elim (removed_or_not (hook k)) [
         | inl gone ↦
             let other : k ≢ m = λ e. here (ap hook (sym e) ∙ gone) in
-            ap (option_map reverse) (no_path next after k (v.others k other ∙ gone)) ∙ sym (ap (λ (o : Option Path). option_map (moved (reverse old) (reverse (name ∷ up))) (option_map reverse o)) (no_path next hook k gone))
+            ap (option_map reverse) (no_path next after k (v.others k other ∙ gone)) ∙ sym (ap (λ (o : Option Path). option_map (path_moved (reverse old) (reverse (name ∷ up))) (option_map reverse o)) (no_path next hook k gone))
         | inr some ↦
             let r = v.tree.reached k some in
             ap (option_map reverse) (path_is after next moved_tree k (moved_up old (name ∷ up) r.0) (moved_path k r.0 r.1))
             ∙ ap (λ (p : Path). Some p) (reverse-moved_up old (name ∷ up) r.0)
-            ∙ sym (ap (λ (o : Option Path). option_map (moved (reverse old) (reverse (name ∷ up))) (option_map reverse o)) (path_is hook next v.tree k r.0 r.1))
+            ∙ sym (ap (λ (o : Option Path). option_map (path_moved (reverse old) (reverse (name ∷ up))) (option_map reverse o)) (path_is hook next v.tree k r.0 r.1))
       ]
 
 -- ---- the same of a list of nodes
@@ -97,13 +97,10 @@ pub record IsMoved (ns : List Node) (next k i d : ℕ) (name : Name) (fs : Files
   pub files_are : files (changed (with_hook (In d name)) i ns) next ≡ renamed (path_at fs k) (path_at fs d ++ name ∷ []) fs
   pub used : used_in (changed (with_hook (In d name)) i ns) ≡ used_in ns
 
-in_is : (d e : ℕ) (m n : Name) → In d m ≡ In e n → (d ≡ e) × (m ≡ n)
-in_is d e m n p = (cc, cc)
-
 -- a front of the path would be an end of the way up
-not_end : (old up : Path) → is_some (behind (reverse old) (reverse up)) ≡ false → (xs : Path) → up ≡ xs ++ old → ⊥
+not_end : (old up : Path) → is_some (path_behind (reverse old) (reverse up)) ≡ false → (xs : Path) → up ≡ xs ++ old → ⊥
 not_end old up none xs e =
-    let found : behind (reverse old) (reverse up) ≡ Some (reverse xs) = ap (behind (reverse old)) (ap reverse e ∙ reverse-append xs old) ∙ behind_front (reverse old) (reverse xs) in
+    let found : path_behind (reverse old) (reverse up) ≡ Some (reverse xs) = ap (path_behind (reverse old)) (ap reverse e ∙ reverse-append xs old) ∙ behind_front (reverse old) (reverse xs) in
     absurd (let t : true ≡ false = sym (ap is_some found) ∙ none in cc)
 
 module _ (ns : List Node) (next k i d : ℕ) (name : Name) (are : AreNodes ns next) (place : IsPlace ns k i) (can : CanMove (files ns next) k d name) where
@@ -125,17 +122,17 @@ module _ (ns : List Node) (next k i d : ℕ) (name : Name) (are : AreNodes ns ne
   from : (up : Path) × (reverse up ≡ path_at (files ns next) k) × Up (hook_of ns) k up
   from = way_up ns next k (path_at (files ns next) k) (some_path (path_of (files ns next) k) can.there)
 
-  outside : is_some (behind (reverse from.0) (reverse free.0)) ≡ false
+  outside : is_some (path_behind (reverse from.0) (reverse free.0)) ≡ false
   outside =
-      ap (λ (p : Path). is_some (behind p (reverse free.0))) from.1
-      ∙ ap (λ (p : Path). is_some (behind (path_at (files ns next) k) p)) free.1.up_is
+      ap (λ (p : Path). is_some (path_behind p (reverse free.0))) from.1
+      ∙ ap (λ (p : Path). is_some (path_behind (path_at (files ns next) k) p)) free.1.up_is
       ∙ sym (ap (λ (o : Option Path). within_path o (path_of (files ns next) d)) (some_path (path_of (files ns next) k) can.there) ∙ ap (within_path (Some (path_at (files ns next) k))) free.1.path)
       ∙ can.outside
 
   not_empty : from.0 ≢ []
   not_empty e = can.not_root (are.tree.one_root k (subst (Up (hook_of ns) k) e from.2))
 
-  moves : Moves (hook_of ns) (hook_of (changed (with_hook (In d name)) i ns)) next k d name from.0 free.0
+  moves : MovesNode (hook_of ns) (hook_of (changed (with_hook (In d name)) i ns)) next k d name from.0 free.0
   moves = record {
     tree = are.tree;
     at = from.2;
@@ -147,9 +144,9 @@ module _ (ns : List Node) (next k i d : ℕ) (name : Name) (are : AreNodes ns ne
     free = free.1.free;
   }
 
-  placed : (j e : ℕ) (other : Name) → hook_of (changed (with_hook (In d name)) i ns) j ≡ In e other → IsName other × (is_directory_in ns e ≡ true)
+  placed : (j e : ℕ) (other : Name) → hook_of (changed (with_hook (In d name)) i ns) j ≡ In e other → IsNodeName other × (is_directory_in ns e ≡ true)
   placed j e other h = elim (cases_eq j k) [
-    | inl same ↦ (let t = in_is d e name other (sym moves.put ∙ ap (hook_of (changed (with_hook (In d name)) i ns)) (sym same) ∙ h) in (subst IsName t.1 can.free.named, subst (λ (x : ℕ). is_directory_in ns x ≡ true) t.0 free.1.directory))
+    | inl same ↦ (let t = in_is d e name other (sym moves.put ∙ ap (hook_of (changed (with_hook (In d name)) i ns)) (sym same) ∙ h) in (subst IsNodeName t.1 can.free.named, subst (λ (x : ℕ). is_directory_in ns x ≡ true) t.0 free.1.directory))
     | inr ne ↦ (let before = sym (moves.others j ne) ∙ h in (are.named j e other before, are.placed j e other before))
   ]
 
@@ -159,13 +156,13 @@ module _ (ns : List Node) (next k i d : ℕ) (name : Name) (are : AreNodes ns ne
       let after = hook_of (changed (with_hook (In d name)) i ns) in
       let old = from.0 in
       let up = free.0 in
-      let G : FileNode → FileNode = λ x. record { number = x.number; path = option_map (moved (reverse old) (reverse (name ∷ up))) x.path; content = x.content } in
-      let each : (m : Node) → shown next after m ≡ G (shown next hook m) = λ m. ap (λ (o : Option Path). record { number = m.number; path = o; content = content_shown m.content }) (moved_climb hook after next k d name old up moves m.number) in
+      let G : FileNode → FileNode = λ x. record { number = x.number; path = option_map (path_moved (reverse old) (reverse (name ∷ up))) x.path; content = x.content } in
+      let each : (m : Node) → shown_node next after m ≡ G (shown_node next hook m) = λ m. ap (λ (o : Option Path). record { number = m.number; path = o; content = content_shown m.content }) (moved_climb hook after next k d name old up moves m.number) in
       let whole : reverse (name ∷ up) ≡ path_at (files ns next) d ++ name ∷ [] = reverse-cons name up ∙ ap (λ (q : Path). q ++ name ∷ []) free.1.up_is in
       record {
         nodes = hung_nodes ns next k i n (In d name) hangs (moved_tree hook after next k d name old up moves) placed;
         files_are =
-            ap (λ (xs : List FileNode). record { nodes = xs; next = next }) (shown_changed (shown next hook) (shown next after) G (with_hook (In d name)) 1 ns next k i n place is_there are.rising (λ m ne. each m) (each n))
+            ap (λ (xs : List FileNode). record { nodes = xs; next = next }) (shown_changed (shown_node next hook) (shown_node next after) G (with_hook (In d name)) 1 ns next k i n place is_there are.rising (λ m ne. each m) (each n))
             ∙ ap (λ (p : Path). renamed p (reverse (name ∷ up)) (files ns next)) from.1
             ∙ ap (λ (p : Path). renamed (path_at (files ns next) k) p (files ns next)) whole;
         used = hung_used ns next k i n (In d name) hangs;

@@ -4,7 +4,7 @@ use Rattle.std.specs.Prelude.{slice_get, option_map}
 use Rattle.std.specs.List.{AllByRecursion}
 use Rattle.std.proofs.lemmas.Bool.{cases_lt, cases_eq, lt-ltb, le-ltb, eq-eqb, ne_eqb}
 use Rattle.std.proofs.lemmas.List.{drop_all}
-use Rattle.file_tree.specs.Files.{Name, Entry, is_before, inserted, sorted}
+use Rattle.file_tree.specs.rules.Files.{Name, Entry, is_before, inserted, sorted}
 
 abbrev pub Before : Name → Name → Type 0
 Before [] [] = ⊥

@@ -5,31 +5,21 @@ use Rattle.std.specs.List.{AllByRecursion}
 use Rattle.std.proofs.lemmas.Bool.{cases_eq, ne_eqb, eq-eqb}
 use mathlib.Core.List.{reverse-cons}
 use Rattle.std.proofs.lemmas.List.{same_from_push}
-use Rattle.file_tree_store.specs.declared.node.Hook.{Hook}
-use Rattle.file_tree_store.specs.declared.node.Hook.TheVariants.{Root, Removed, In}
-use Rattle.file_tree_store.specs.declared.node.Node.{Node}
-use Rattle.file_tree.specs.Files.{Name, Path, is_same_name, path_of, child}
-use Rattle.file_tree.specs.Changes.{IsParent}
+use Rattle.file_tree.specs.declared.store.node.Hook.{Hook}
+use Rattle.file_tree.specs.declared.store.node.Hook.TheVariants.{Root, Removed, In}
+use Rattle.file_tree.specs.declared.store.node.Node.{Node}
+use Rattle.file_tree.specs.rules.Files.{Name, Path, is_same_name, path_of, child}
+use Rattle.file_tree.specs.rules.Changes.{IsParent}
 use Rattle.file_tree.specs.Links.{Up, hook_of, AreNodes, files, is_hooked, child_in, name_of_hook}
 use Rattle.file_tree.specs.Steps.{step_of, parent_after, parent_in}
 use Rattle.file_tree.proofs.SameNames.{name_or_not}
-use Rattle.file_tree.proofs.Climbs.{path_is, no_path}
+use Rattle.file_tree.proofs.Climbs.{path_is, no_path, in_is}
 use Rattle.file_tree.proofs.Lookups.{path_shown}
 use Rattle.file_tree.proofs.Grows.{removed_or_not, way_up}
-use Rattle.file_tree.proofs.Seen.{own_hooks, child_shown}
-
-some_path : (p q : Path) → Some p ≡ Some q → p ≡ q
-some_path p q e = cc
+use Rattle.file_tree.proofs.Seen.{own_hooks, child_shown, some_path, not_nil}
 
 some_number : (j k : ℕ) → Some j ≡ Some k → j ≡ k
 some_number j k e = cc
-
-not_nil : (p : Path) (name : Name) → [] ≢ p ++ name ∷ []
-not_nil [] name e = absurd cc
-not_nil (x ∷ p) name e = absurd cc
-
-in_is : (d e : ℕ) (m n : Name) → In d m ≡ In e n → (d ≡ e) × (m ≡ n)
-in_is d e m n p = (cc, cc)
 
 path_at_way : (ns : List Node) (next k : ℕ) (a : Path) → AreNodes ns next → Up (hook_of ns) k a → path_of (files ns next) k ≡ Some (reverse a)
 path_at_way ns next k a are h = path_shown ns next k ∙ ap (option_map reverse) (path_is (hook_of ns) next are.tree k a h)

@@ -1,15 +1,15 @@
 -- A node that loses its path.
 use Rattle.std.proofs.Common.{◌≡◌, ◌≢◌, ℕ, inl, inr, Bool, true, false, not, eqb, List, [], ◌∷◌, length, reverse, get_or, Option, Some, None, refl, sym, ap, subst, ◌∙◌}
 use Rattle.std.specs.Prelude.{option_map}
-use Rattle.file_tree_store.specs.declared.node.Hook.{Hook}
-use Rattle.file_tree_store.specs.declared.node.Hook.TheVariants.{Root, Removed, In}
-use Rattle.file_tree_store.specs.declared.node.Content.TheVariants as content
-use Rattle.file_tree_store.specs.declared.node.Node.{Node}
-use Rattle.file_tree_store.specs.Stored.{changed}
-use Rattle.file_tree_store.specs.Changes.{with_hook}
-use Rattle.file_tree.specs.Files.{Name, IsName, Path, FileNode, Files, removed, entries_of, is_directory}
-use Rattle.file_tree.specs.Changes.{CanLose}
-use Rattle.file_tree.specs.Links.{Up, climb, IsTree, node_in, hook_of, content_shown, is_directory_in, has_child, used_in, AreNodes, shown, files, IsPlace, IsNowhere}
+use Rattle.file_tree.specs.declared.store.node.Hook.{Hook}
+use Rattle.file_tree.specs.declared.store.node.Hook.TheVariants.{Root, Removed, In}
+use Rattle.file_tree.specs.declared.store.node.NodeContent.TheVariants as content
+use Rattle.file_tree.specs.declared.store.node.Node.{Node}
+use Rattle.file_tree.specs.Store.Stored.{changed}
+use Rattle.file_tree.specs.Store.Changes.{with_hook}
+use Rattle.file_tree.specs.rules.Files.{Name, IsNodeName, Path, FileNode, Files, removed, entries_of, is_directory}
+use Rattle.file_tree.specs.rules.Changes.{CanLose}
+use Rattle.file_tree.specs.Links.{Up, climb, IsTree, node_in, hook_of, content_shown, is_directory_in, has_child, used_in, AreNodes, shown_node, files, IsPlace, IsNowhere}
 use Rattle.file_tree.proofs.Climbs.{path_is, no_path}
 use Rattle.file_tree.proofs.Lookups.{directory_shown, node_at_place}
 use Rattle.file_tree.proofs.Lists.{shown_changed_one, none_changed, number_in}
@@ -82,9 +82,9 @@ is_lost ns next k i fs e are place can =
       others = hung_others ns next k i n Removed h;
       empty = nothing_hangs ns next k fs e are can;
     } in
-    let placed : (j d : ℕ) (name : Name) → after j ≡ In d name → IsName name × (is_directory_in ns d ≡ true) = λ j d name g. (let ne = here_still hook after next k l j (λ gone. absurd (let t : In d name ≡ Removed = sym g ∙ gone in cc)) in let before = sym (l.others j ne) ∙ g in (are.named j d name before, are.placed j d name before)) in
-    let S = shown next hook in
-    let T = shown next after in
+    let placed : (j d : ℕ) (name : Name) → after j ≡ In d name → IsNodeName name × (is_directory_in ns d ≡ true) = λ j d name g. (let ne = here_still hook after next k l j (λ gone. absurd (let t : In d name ≡ Removed = sym g ∙ gone in cc)) in let before = sym (l.others j ne) ∙ g in (are.named j d name before, are.placed j d name before)) in
+    let S = shown_node next hook in
+    let T = shown_node next after in
     let g : FileNode → FileNode = λ x. record { number = x.number; path = None; content = x.content } in
     let others : (m : Node) → m.number ≢ k → T m ≡ S m = λ m ne. ap (λ (o : Option Path). record { number = m.number; path = option_map reverse o; content = content_shown m.content }) (lost_climb hook after next k l m.number ne) in
     let one : T (with_hook Removed n) ≡ g (S n) = ap (λ (o : Option Path). record { number = n.number; path = option_map reverse o; content = content_shown n.content }) (no_path next after n.number (ap after (number_in ns k n there) ∙ l.gone)) in
@@ -98,4 +98,4 @@ is_lost ns next k i fs e are place can =
 pub none_lost : (ns : List Node) (next k : ℕ) (fs : Files) → files ns next ≡ fs → IsNowhere ns k → fs ≡ removed k fs
 none_lost ns next k fs e h =
     subst (λ (x : Files). x ≡ removed k x) e
-    (ap (λ (xs : List FileNode). record { nodes = xs; next = next }) (sym (none_changed (shown next (hook_of ns)) (λ (x : FileNode). record x { path = None }) ns k (λ m. refl) h)))
+    (ap (λ (xs : List FileNode). record { nodes = xs; next = next }) (sym (none_changed (shown_node next (hook_of ns)) (λ (x : FileNode). record x { path = None }) ns k (λ m. refl) h)))

@@ -6,13 +6,13 @@ use Rattle.std.specs.List.{AllByRecursion}
 use Rattle.std.proofs.lemmas.Bool.{cases_eq, eq-eqb, ne_eqb}
 use Rattle.std.proofs.lemmas.List.{same_from_push}
 use mathlib.Core.List.{reverse-cons, reverse-reverse}
-use Rattle.file_tree_store.specs.declared.node.Hook.{Hook}
-use Rattle.file_tree_store.specs.declared.node.Hook.TheVariants.{Root, Removed, In}
-use Rattle.file_tree_store.specs.declared.node.Node.{Node}
-use Rattle.file_tree.specs.Files.{Name, Path, FileNode, Entry, is_same_name, is_at, at, path_of, child, name_behind, entry_of, entries_in, entries_under, entries_of, inserted, sorted, is_before}
-use Rattle.file_tree.specs.Links.{Up, climb, IsTree, node_in, hook_held, hook_of, AreNodes, AreRisingNodes, shown, files, is_hooked, child_in, is_in, has_child, hooked_name, hooked_entry, hooked_entries, with_entry}
+use Rattle.file_tree.specs.declared.store.node.Hook.{Hook}
+use Rattle.file_tree.specs.declared.store.node.Hook.TheVariants.{Root, Removed, In}
+use Rattle.file_tree.specs.declared.store.node.Node.{Node}
+use Rattle.file_tree.specs.rules.Files.{Name, Path, FileNode, Entry, is_same_name, is_at, at, path_of, child, name_behind, entry_of, entries_in, entries_under, entries_of, inserted, sorted, is_before}
+use Rattle.file_tree.specs.Links.{Up, climb, IsTree, node_in, hook_held, hook_of, AreNodes, AreRisingNodes, shown_node, files, is_hooked, child_in, is_in, has_child, hooked_name, hooked_entry, hooked_entries, with_entry}
 use Rattle.file_tree.proofs.SameNames.{name_or_not, same_or_not}
-use Rattle.file_tree.proofs.Climbs.{path_is, no_path, one_path, one_node}
+use Rattle.file_tree.proofs.Climbs.{path_is, no_path, one_path, one_node, in_is}
 use Rattle.file_tree.proofs.Lookups.{path_shown}
 use Rattle.file_tree.proofs.Lists.{numbers_from}
 use Rattle.file_tree.proofs.Grows.{way_up}
@@ -39,13 +39,10 @@ Sees hook next d p k =
     ((name : Name) × (hook k ≡ In d name) × (option_map reverse (climb next hook k) ≡ Some (p ++ name ∷ [])))
     ⊎ (((name : Name) → hook k ≢ In d name) × ((name : Name) → option_map reverse (climb next hook k) ≢ Some (p ++ name ∷ [])))
 
-some_path : (p q : Path) → Some p ≡ Some q → p ≡ q
+pub some_path : (p q : Path) → Some p ≡ Some q → p ≡ q
 some_path p q e = cc
 
-in_is : (d e : ℕ) (m n : Name) → In d m ≡ In e n → (d ≡ e) × (m ≡ n)
-in_is d e m n p = (cc, cc)
-
-not_nil : (p : Path) (name : Name) → [] ≢ p ++ name ∷ []
+pub not_nil : (p : Path) (name : Name) → [] ≢ p ++ name ∷ []
 not_nil [] name e = absurd cc
 not_nil (x ∷ p) name e = absurd cc
 
@@ -117,12 +114,12 @@ at_hooked hook next d p name k (inl on) = elim (name_or_not on.0 name) [
 ]
 
 find_hooked : (hook : ℕ → Hook) (next d : ℕ) (p : Path) (name : Name) (ns : List Node) → ((k : ℕ) → Sees hook next d p k) → AllByRecursion (λ (n : Node). hook n.number ≡ n.hook) ns
-    → option_map (λ (n : FileNode). n.number) (find (λ (n : FileNode). is_at (p ++ name ∷ []) n.path) (map (shown next hook) ns)) ≡ child_in ns d name
+    → option_map (λ (n : FileNode). n.number) (find (λ (n : FileNode). is_at (p ++ name ∷ []) n.path) (map (shown_node next hook) ns)) ≡ child_in ns d name
 find_hooked hook next d p name [] see own = refl
 find_hooked hook next d p name (n ∷ ns) see own =
     by_test (is_at (p ++ name ∷ []) (option_map reverse (climb next hook n.number))) (at_hooked hook next d p name n.number (see n.number) ∙ ap (is_hooked d name) own.0) (find_hooked hook next d p name ns see own.1) where
-      by_test : (b : Bool) → b ≡ is_hooked d name n.hook → option_map (λ (n : FileNode). n.number) (find (λ (n : FileNode). is_at (p ++ name ∷ []) n.path) (map (shown next hook) ns)) ≡ child_in ns d name
-          → option_map (λ (n : FileNode). n.number) (cond b (Some (shown next hook n)) (find (λ (n : FileNode). is_at (p ++ name ∷ []) n.path) (map (shown next hook) ns))) ≡ cond (is_hooked d name n.hook) (Some n.number) (child_in ns d name)
+      by_test : (b : Bool) → b ≡ is_hooked d name n.hook → option_map (λ (n : FileNode). n.number) (find (λ (n : FileNode). is_at (p ++ name ∷ []) n.path) (map (shown_node next hook) ns)) ≡ child_in ns d name
+          → option_map (λ (n : FileNode). n.number) (cond b (Some (shown_node next hook n)) (find (λ (n : FileNode). is_at (p ++ name ∷ []) n.path) (map (shown_node next hook) ns))) ≡ cond (is_hooked d name n.hook) (Some n.number) (child_in ns d name)
       by_test true e later = ap (λ (b : Bool). cond b (Some n.number) (child_in ns d name)) e
       by_test false e later = later ∙ ap (λ (b : Bool). cond b (Some n.number) (child_in ns d name)) e
 
@@ -193,13 +190,13 @@ name_hooked hook next d p k (inl on) =
     ap (option_and_then (name_behind p)) on.2 ∙ front_name p on.0 ∙ sym (ap (hooked_name d) on.1 ∙ ap (λ (b : Bool). cond b (Some on.0) None) (eq-eqb d d refl))
 name_hooked hook next d p k (inr off) = not_behind p (option_map reverse (climb next hook k)) off.1 ∙ sym (out_of d (hook k) off.0)
 
-entry_hooked : (hook : ℕ → Hook) (next d : ℕ) (p : Path) (n : Node) → Sees hook next d p n.number → hook n.number ≡ n.hook → entry_of p (shown next hook n) ≡ hooked_entry d n
+entry_hooked : (hook : ℕ → Hook) (next d : ℕ) (p : Path) (n : Node) → Sees hook next d p n.number → hook n.number ≡ n.hook → entry_of p (shown_node next hook n) ≡ hooked_entry d n
 entry_hooked hook next d p n see own = ap (option_map (λ (name : Name). record { name = name; number = n.number })) (name_hooked hook next d p n.number see ∙ ap (hooked_name d) own)
 
-pub entries_hooked : (hook : ℕ → Hook) (next d : ℕ) (p : Path) (ns : List Node) → ((k : ℕ) → Sees hook next d p k) → AllByRecursion (λ (n : Node). hook n.number ≡ n.hook) ns → entries_in p (map (shown next hook) ns) ≡ hooked_entries d ns
+pub entries_hooked : (hook : ℕ → Hook) (next d : ℕ) (p : Path) (ns : List Node) → ((k : ℕ) → Sees hook next d p k) → AllByRecursion (λ (n : Node). hook n.number ≡ n.hook) ns → entries_in p (map (shown_node next hook) ns) ≡ hooked_entries d ns
 entries_hooked hook next d p [] see own = refl
 entries_hooked hook next d p (n ∷ ns) see own = by (hooked_entry d n) refl (entry_hooked hook next d p n (see n.number) own.0) (entries_hooked hook next d p ns see own.1) where
-  by : (o : Option Entry) → hooked_entry d n ≡ o → entry_of p (shown next hook n) ≡ hooked_entry d n → entries_in p (map (shown next hook) ns) ≡ hooked_entries d ns → entries_in p (map (shown next hook) (n ∷ ns)) ≡ hooked_entries d (n ∷ ns)
+  by : (o : Option Entry) → hooked_entry d n ≡ o → entry_of p (shown_node next hook n) ≡ hooked_entry d n → entries_in p (map (shown_node next hook) ns) ≡ hooked_entries d ns → entries_in p (map (shown_node next hook) (n ∷ ns)) ≡ hooked_entries d (n ∷ ns)
   by None h e later = rw (e, h) later
   by (Some x) h e later = rw (e, h) (ap (λ (xs : List Entry). x ∷ xs) later)
 

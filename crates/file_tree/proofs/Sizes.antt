@@ -3,10 +3,11 @@ use Rattle.std.proofs.Common.{◌≡◌, ℕ, zero, suc, ◌+◌, ◌<◌, ◌�
 use Rattle.std.specs.Prelude.{replicate}
 use Rattle.std.specs.List.{AllByRecursion}
 use Rattle.std.proofs.lemmas.List.{length-replicate}
-use Rattle.file_tree_store.specs.declared.node.Content as store
-use Rattle.file_tree_store.specs.declared.node.Content.TheVariants as content
-use Rattle.file_tree_store.specs.Changes.{content_written, content_resized}
-use Rattle.file_tree.specs.Files.{Content, Directory, File, bytes_in, is_directory_content, IsSmallContent, written, resized}
+use Rattle.file_tree.specs.declared.store.node.NodeContent as store
+use Rattle.file_tree.specs.declared.store.node.NodeContent.TheVariants as content
+use Rattle.file_tree.specs.Store.Changes.{content_written, content_resized}
+use Rattle.file_tree.specs.Store.Bytes.{written, resized}
+use Rattle.file_tree.specs.rules.Files.{Content, Directory, File, bytes_of_content, is_directory_content, IsSmallContent}
 use Rattle.file_tree.specs.declared.limits.TheConstants.{FILE_BYTES}
 use Rattle.file_tree.specs.Links.{content_shown}
 
@@ -60,14 +61,14 @@ small_resized old size small fits = (
 )
 
 -- what a file shows after a change
-pub file_is : (c : Content) → is_directory_content c ≡ false → c ≡ File (bytes_in c)
+pub file_is : (c : Content) → is_directory_content c ≡ false → c ≡ File (bytes_of_content c)
 file_is Directory e = absurd cc
 file_is (File bytes) e = refl
 
-pub shown_written : (from : ℕ) (bytes : List ℕ) (c : store.Content) → is_directory_content (content_shown c) ≡ false → content_shown (content_written from bytes c) ≡ File (written (bytes_in (content_shown c)) from bytes)
+pub shown_written : (from : ℕ) (bytes : List ℕ) (c : store.NodeContent) → is_directory_content (content_shown c) ≡ false → content_shown (content_written from bytes c) ≡ File (written (bytes_of_content (content_shown c)) from bytes)
 shown_written from bytes content.Directory e = absurd cc
 shown_written from bytes (content.File old) e = refl
 
-pub shown_resized : (size : ℕ) (c : store.Content) → is_directory_content (content_shown c) ≡ false → content_shown (content_resized size c) ≡ File (resized (bytes_in (content_shown c)) size)
+pub shown_resized : (size : ℕ) (c : store.NodeContent) → is_directory_content (content_shown c) ≡ false → content_shown (content_resized size c) ≡ File (resized (bytes_of_content (content_shown c)) size)
 shown_resized size content.Directory e = absurd cc
 shown_resized size (content.File old) e = refl

@@ -1,8 +1,8 @@
 -- The way up, step by step.
 use Rattle.std.proofs.Common.{◌≡◌, ℕ, suc, ◌+◌, ◌-◌, ◌<◌, Bool, true, false, cond, eqb, refl, sym, ap, ◌∙◌, arith}
-use Rattle.file_tree_store.specs.declared.node.Hook.{Hook}
-use Rattle.file_tree_store.specs.declared.node.Hook.TheVariants.{Root, Removed, In}
-use Rattle.file_tree.specs.declared.children.Step.TheVariants.{Top, Up, Nowhere}
+use Rattle.file_tree.specs.declared.store.node.Hook.{Hook}
+use Rattle.file_tree.specs.declared.store.node.Hook.TheVariants.{Root, Removed, In}
+use Rattle.file_tree.specs.declared.children.UpStep.TheVariants.{Top, Up, Nowhere}
 use Rattle.file_tree.specs.Steps.{step_of}
 use Rattle.file_tree.specs.Links.{comes_by, comes_to}
 

@@ -3,11 +3,11 @@ use Rattle.std.proofs.Common.{◌≡◌, ◌≢◌, ℕ, zero, suc, ◌<◌, inl
 use Rattle.std.specs.Prelude.{is_some}
 use Rattle.std.proofs.lemmas.Bool.{eq-eqb, ne_eqb}
 use mathlib.Core.List.{reverse-append, reverse-reverse}
-use Rattle.file_tree_store.specs.declared.node.Hook.{Hook}
-use Rattle.file_tree_store.specs.declared.node.Hook.TheVariants.{Root, Removed, In}
-use Rattle.file_tree_store.specs.declared.node.Node.{Node}
-use Rattle.file_tree.specs.Files.{Path, path_of, behind}
-use Rattle.file_tree.specs.Changes.{is_within, within_path}
+use Rattle.file_tree.specs.declared.store.node.Hook.{Hook}
+use Rattle.file_tree.specs.declared.store.node.Hook.TheVariants.{Root, Removed, In}
+use Rattle.file_tree.specs.declared.store.node.Node.{Node}
+use Rattle.file_tree.specs.rules.Files.{Path, path_of, path_behind}
+use Rattle.file_tree.specs.rules.Changes.{is_within, within_path}
 use Rattle.file_tree.specs.Links.{Up, IsTree, hook_of, AreNodes, files, comes_by, comes_to}
 use Rattle.file_tree.proofs.Renames.{behind_front}
 use Rattle.file_tree.proofs.Climbs.{one_path, one_node, short_path}
@@ -51,9 +51,9 @@ to_nowhere (suc n) hook k d (x ∷ a) gone under =
     let ne : d ≢ k = λ e. absurd (let t : In under.0 x ≡ Removed = sym under.1 ∙ ap hook e ∙ gone in cc) in
     ap (λ (b : Bool). comes_by b (comes_to n hook k) (hook d)) (ne_eqb d k ne) ∙ ap (comes_by false (comes_to n hook k)) under.1 ∙ to_nowhere n hook k under.0 a gone under.2
 
-not_behind_end : (old up : Path) → ((xs : Path) → up ≡ xs ++ old → ⊥) → behind (reverse old) (reverse up) ≡ None
-not_behind_end old up never = by (behind (reverse old) (reverse up)) refl where
-  by : (o : Option Path) → behind (reverse old) (reverse up) ≡ o → behind (reverse old) (reverse up) ≡ None
+not_behind_end : (old up : Path) → ((xs : Path) → up ≡ xs ++ old → ⊥) → path_behind (reverse old) (reverse up) ≡ None
+not_behind_end old up never = by (path_behind (reverse old) (reverse up)) refl where
+  by : (o : Option Path) → path_behind (reverse old) (reverse up) ≡ o → path_behind (reverse old) (reverse up) ≡ None
   by None e = e
   by (Some rest) e =
       let front : reverse up ≡ reverse old ++ rest = is_front (reverse old) (reverse up) rest e in
@@ -75,10 +75,10 @@ within_shown ns next k d are = by_paths (path_of (files ns next) k) (path_of (fi
   by_paths (Some p) (Some q) e f =
       let from = way_up ns next k p e in
       let way = way_up ns next d q f in
-      both (Some p) (Some q) e f ∙ ap (λ (x : Path). is_some (behind x q)) (sym from.1) ∙ ap (λ (x : Path). is_some (behind (reverse from.0) x)) (sym way.1)
+      both (Some p) (Some q) e f ∙ ap (λ (x : Path). is_some (path_behind x q)) (sym from.1) ∙ ap (λ (x : Path). is_some (path_behind (reverse from.0) x)) (sym way.1)
       ∙ elim (ends_or_not from.0 way.0) [
         | inl h ↦
-            ap (λ (x : Path). is_some (behind (reverse from.0) x)) (ap reverse h.1 ∙ reverse-append h.0 from.0) ∙ ap is_some (behind_front (reverse from.0) (reverse h.0))
+            ap (λ (x : Path). is_some (path_behind (reverse from.0) x)) (ap reverse h.1 ∙ reverse-append h.0 from.0) ∙ ap is_some (behind_front (reverse from.0) (reverse h.0))
             ∙ sym (comes next (hook_of ns) k d from.0 h.0 next are.tree from.2 (subst (Up (hook_of ns) d) h.1 way.2) (subst (λ (a : Path). length a < next) h.1 (short_path (hook_of ns) next are.tree d way.0 way.2)))
         | inr never ↦ ap is_some (not_behind_end from.0 way.0 never) ∙ sym (never_comes next (hook_of ns) k d from.0 way.0 from.2 way.2 never)
       ]

@@ -1,6 +1,6 @@
-pub mod Changes
-pub mod Files
-pub mod Laws
 pub mod Links
 pub mod Steps
 pub mod Ranks
+pub mod Store
+pub mod laws
+pub mod rules

@@ -1,12 +1,12 @@
 -- How a tree keeps nodes: each names its directory, and paths follow from that.
 use Rattle.std.specs.Prelude.{◌≡◌, ◌≢◌, ℕ, zero, suc, ◌+◌, ◌<◌, ◌≤◌, ◌==◌, ◌&&◌, if◌then◌else◌, Bool, true, false, List, [], ◌∷◌, length, reverse, map, find, sum_by, Option, Some, None, option_map}
 use Rattle.std.specs.List.{AllByRecursion}
-use Rattle.file_tree_store.specs.declared.node.Hook.{Hook}
-use Rattle.file_tree_store.specs.declared.node.Hook.TheVariants.{Root, Removed, In}
-use Rattle.file_tree_store.specs.declared.node.Content as store
-use Rattle.file_tree_store.specs.declared.node.Content.TheVariants as content
-use Rattle.file_tree_store.specs.declared.node.Node.{Node}
-use Rattle.file_tree.specs.Files.{Name, Path, FileNode, Files, Content, Directory, File, IsName, IsSmallContent, bytes_in, is_directory_content, is_same_name, Entry}
+use Rattle.file_tree.specs.declared.store.node.Hook.{Hook}
+use Rattle.file_tree.specs.declared.store.node.Hook.TheVariants.{Root, Removed, In}
+use Rattle.file_tree.specs.declared.store.node.NodeContent as store
+use Rattle.file_tree.specs.declared.store.node.NodeContent.TheVariants as content
+use Rattle.file_tree.specs.declared.store.node.Node.{Node}
+use Rattle.file_tree.specs.rules.Files.{Name, Path, FileNode, Files, Content, Directory, File, IsNodeName, IsSmallContent, bytes_of_content, is_directory_content, is_same_name, Entry}
 use Rattle.file_tree.specs.declared.limits.TheConstants.{NODES}
 
 -- ---- hooks
@@ -60,7 +60,7 @@ name_of_hook Root = []
 name_of_hook Removed = []
 name_of_hook (In d name) = name
 
-abbrev pub content_shown : store.Content → Content
+abbrev pub content_shown : store.NodeContent → Content
 content_shown content.Directory = Directory
 content_shown (content.File bytes) = File bytes
 
@@ -77,16 +77,16 @@ abbrev pub is_directory_in : List Node → ℕ → Bool
 is_directory_in ns k = holds_directory_node (content_held (node_in ns k))
 
 -- the bytes of a node's file
-abbrev pub bytes_of : Node → List ℕ
-bytes_of n = bytes_in (content_shown n.content)
+abbrev pub file_bytes_of : Node → List ℕ
+file_bytes_of n = bytes_of_content (content_shown n.content)
 
 abbrev pub bytes_held_in : Option Node → List ℕ
 bytes_held_in None = []
-bytes_held_in (Some n) = bytes_of n
+bytes_held_in (Some n) = file_bytes_of n
 
 -- how many bytes all files have
 abbrev pub used_in : List Node → ℕ
-used_in ns = sum_by (λ (n : Node). length (bytes_of n)) ns
+used_in ns = sum_by (λ (n : Node). length (file_bytes_of n)) ns
 
 abbrev pub AreRisingNodes : ℕ → List Node → ℕ → Type 0
 AreRisingNodes least [] next = least ≤ next
@@ -95,7 +95,7 @@ AreRisingNodes least (n ∷ ns) next = (least ≤ n.number) × AreRisingNodes (n
 pub record AreNodes (ns : List Node) (next : ℕ) : Type 0 where
   pub tree : IsTree (hook_of ns) next
   pub rising : AreRisingNodes 1 ns next
-  pub named : (k d : ℕ) (name : Name) → hook_of ns k ≡ In d name → IsName name
+  pub named : (k d : ℕ) (name : Name) → hook_of ns k ≡ In d name → IsNodeName name
   pub placed : (k d : ℕ) (name : Name) → hook_of ns k ≡ In d name → is_directory_in ns d ≡ true
   pub root : is_directory_in ns 1 ≡ true
   pub contents : AllByRecursion (λ (n : Node). IsSmallContent (content_shown n.content)) ns
@@ -103,11 +103,11 @@ pub record AreNodes (ns : List Node) (next : ℕ) : Type 0 where
 
 -- ---- what nodes show
 
-abbrev pub shown : ℕ → (ℕ → Hook) → Node → FileNode
-shown next hook n = record { number = n.number; path = option_map reverse (climb next hook n.number); content = content_shown n.content }
+abbrev pub shown_node : ℕ → (ℕ → Hook) → Node → FileNode
+shown_node next hook n = record { number = n.number; path = option_map reverse (climb next hook n.number); content = content_shown n.content }
 
 abbrev pub files : List Node → ℕ → Files
-files ns next = record { nodes = map (shown next (hook_of ns)) ns; next = next }
+files ns next = record { nodes = map (shown_node next (hook_of ns)) ns; next = next }
 
 -- ---- places
 

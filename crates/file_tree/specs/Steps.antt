@@ -1,18 +1,18 @@
 -- Steps of the way up.
 use Rattle.std.specs.Prelude.{ℕ, List, Option, Some, None}
-use Rattle.file_tree_store.specs.declared.node.Hook.{Hook}
-use Rattle.file_tree_store.specs.declared.node.Hook.TheVariants.{Root, Removed, In}
-use Rattle.file_tree.specs.declared.children.Step.{Step}
-use Rattle.file_tree.specs.declared.children.Step.TheVariants.{Top, Up, Nowhere}
-use Rattle.file_tree_store.specs.declared.node.Node.{Node}
+use Rattle.file_tree.specs.declared.store.node.Hook.{Hook}
+use Rattle.file_tree.specs.declared.store.node.Hook.TheVariants.{Root, Removed, In}
+use Rattle.file_tree.specs.declared.children.UpStep.{UpStep}
+use Rattle.file_tree.specs.declared.children.UpStep.TheVariants.{Top, Up, Nowhere}
+use Rattle.file_tree.specs.declared.store.node.Node.{Node}
 use Rattle.file_tree.specs.Links.{hook_of}
 
-abbrev pub step_of : Hook → Step
+abbrev pub step_of : Hook → UpStep
 step_of Root = Top
 step_of Removed = Nowhere
 step_of (In d name) = Up d
 
-abbrev pub parent_after : Step → Option ℕ
+abbrev pub parent_after : UpStep → Option ℕ
 parent_after Top = None
 parent_after (Up d) = Some d
 parent_after Nowhere = None

@@ -1,12 +1,12 @@
 //! What hangs in a directory.
 
 ghost use Rattle.std.specs.Prelude.{◌≡◌, option_copied};
-ghost use Rattle.file_tree.specs.Files.{is_same_name};
+ghost use Rattle.file_tree.specs.rules.Files.{is_same_name};
 ghost use Rattle.file_tree.specs.Links.{is_hooked, child_in, is_in, has_child, hook_held, hook_of, comes_to};
 ghost use Rattle.file_tree.specs.Steps.{step_of, parent_in};
 
 use crate::lookup::node_of;
-use file_tree_store::{Hook, Node, Nodes};
+use crate::store::{Hook, Node, Nodes};
 
 // Whether two names are the same.
 fn is_same(name: &[u8], other: &[u8]) -> bool
@@ -63,7 +63,7 @@ pub fn has_children(nodes: &Nodes, directory: u64) -> bool
 }
 
 /// What the way up from a node goes on with.
-pub enum Step {
+pub enum UpStep {
     /// The node is the root.
     Top,
     /// The node hangs in the directory with this number.
@@ -73,22 +73,22 @@ pub enum Step {
 }
 
 /// Where the way up from a node leads.
-pub fn step_up(nodes: &Nodes, number: u64) -> Step
+pub fn step_up(nodes: &Nodes, number: u64) -> UpStep
     ensures { result ≡ step_of (hook_of nodes.now number) }
 {
     step_from(node_of(nodes, number))
 }
 
-fn step_from(node: Option<&Node>) -> Step
+fn step_from(node: Option<&Node>) -> UpStep
     ensures { result ≡ step_of (hook_held (option_copied node.entry)) }
 {
     match node {
         Some(node) => match &node.hook {
-            Hook::Root => Step::Top,
-            Hook::Removed => Step::Nowhere,
-            Hook::In(parent, _) => Step::Up(*parent),
+            Hook::Root => UpStep::Top,
+            Hook::Removed => UpStep::Nowhere,
+            Hook::In(parent, _) => UpStep::Up(*parent),
         },
-        None => Step::Nowhere,
+        None => UpStep::Nowhere,
     }
 }
 
@@ -99,9 +99,9 @@ pub fn leads_to(nodes: &Nodes, most: u64, number: u64, directory: u64) -> bool
     let mut at = directory;
     for _ in 0..most {
         match step_up(nodes, at) {
-            Step::Nowhere => return false,
-            Step::Top => return at == number,
-            Step::Up(parent) => {
+            UpStep::Nowhere => return false,
+            UpStep::Top => return at == number,
+            UpStep::Up(parent) => {
                 if at == number {
                     return true;
                 }
@@ -117,8 +117,8 @@ pub fn parent_of(nodes: &Nodes, number: u64) -> Option<u64>
     ensures { result ≡ parent_in nodes.now number }
 {
     match step_up(nodes, number) {
-        Step::Top => None,
-        Step::Up(parent) => Some(parent),
-        Step::Nowhere => None,
+        UpStep::Top => None,
+        UpStep::Up(parent) => Some(parent),
+        UpStep::Nowhere => None,
     }
 }

@@ -2,7 +2,7 @@
 
 /// What a new node is.
 #[derive(Clone, Copy, Debug, PartialEq, Eq)]
-pub enum Kind {
+pub enum NodeKind {
     /// A directory without entries.
     Directory,
     /// A file without bytes.

@@ -1,6 +1,6 @@
 //! Laws of the file system model. The functions do nothing: what they ensure is the law.
 
-ghost use Rattle.file_tree.specs.Laws.{RenameMovesASubtree};
+ghost use Rattle.file_tree.specs.laws.Laws.{RenameMovesASubtree};
 
 /// Renaming moves a whole subtree and nothing else.
 pub fn renaming_moves_a_subtree()

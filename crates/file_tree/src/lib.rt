@@ -1,4 +1,35 @@
-//! The file system of a worker: its definitions in `specs/`, and a tree of files in memory.
+//! The file system of a worker: a tree of files and directories in memory (this project's own).
+//!
+//! # Promises
+//!
+//! - `is_name` is true exactly of the names that a node may have (`IsNodeName`).
+//! - `Tree::new` is the fresh tree, an empty root. `Tree` is a file system at any time (`len`:
+//!   `shape`).
+//! - `is_directory`, `size`, `used_bytes`, `has_path`, `child`, `entry`, `is_empty`, `is_within`,
+//!   `next` and `len` answer what the definitions do. `entry` goes by the order of names.
+//! - `parent` gives the directory above a node (`above`), or says that there is none (`none`).
+//!   `name` gives the last name of its path (`last`). `read` copies as many bytes as there are and
+//!   fit (`bytes`).
+//! - `create`, `write`, `resize` make the change of the definitions where they answer Ok
+//!   (`created`, `written`, `resized`). After an error nothing has changed (`unchanged`).
+//! - `remove`, `forget`, `rename` make the change of the definitions. They can't fail.
+//! - Whoever changes a tree has tested first what the `requires` clauses ask, as `free` and
+//!   `room`.
+//! - `laws::renaming_moves_a_subtree`: a rename moves what lies below a path, and no other path.
+//!
+//! # Definitions to read
+//!
+//! In `specs/rules/`: `Files`, `IsFiles`, `child`, `entries_of`, `created`, `removed`,
+//! `forgotten`, `renamed`, `written`, `resized` (`Files.antt`); `IsFree`, `CanLose`, `CanMove`,
+//! `IsParent`, `read_from` (`Changes.antt`). All other files of `specs/` say how the code keeps
+//! nodes.
+//!
+//! # Who may touch what
+//!
+//! Only this crate knows that nodes lie in a slab, and that each names its directory by number.
+//! `wasi_calls_rules`, `wasi_calls`, `process_rules` and `state_image` use its definitions. No
+//! crate of this repository calls the code yet, and it stands on none. `new`, `create`, `write`,
+//! `resize` and `Bytes::copy_of` take memory, and want of it is the only error.
 #![tactic(auto)]
 
 mod children;
@@ -8,11 +39,10 @@ pub mod limits;
 mod lookup;
 mod names;
 mod ranks;
-#[cfg(test)]
-mod tests;
+mod store;
 mod tree;
 
-pub use file_tree_store::Bytes;
-pub use kind::Kind;
+pub use crate::store::ByteList;
+pub use kind::NodeKind;
 pub use names::is_name;
 pub use tree::Tree;

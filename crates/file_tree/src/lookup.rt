@@ -3,10 +3,10 @@
 ghost use Rattle.std.specs.Prelude.{◌≡◌, ◌<◌, ◌++◌, take, drop, length, max, IfSome, IfNone, option_copied};
 ghost use Rattle.std.specs.List.{remove};
 ghost use Rattle.file_tree.specs.Links.{IsPlace, IsNowhere, node_in, hook_held, content_held, holds_directory_node, bytes_held_in, is_hung, name_of_hook, content_shown};
-ghost use Rattle.file_tree.specs.Changes.{empty};
+ghost use Rattle.file_tree.specs.rules.Changes.{empty};
 
-use crate::kind::Kind;
-use file_tree_store::{Bytes, Content, Hook, Node, Nodes};
+use crate::kind::NodeKind;
+use crate::store::{ByteList, Hook, Node, NodeContent, Nodes};
 use std::alloc::Global;
 
 /// The place of the node with this number.
@@ -39,8 +39,8 @@ pub fn holds_directory(node: Option<&Node>) -> bool
 {
     match node {
         Some(node) => match &node.content {
-            Content::Directory => true,
-            Content::File(_) => false,
+            NodeContent::Directory => true,
+            NodeContent::File(_) => false,
         },
         None => false,
     }
@@ -52,8 +52,8 @@ pub fn bytes_held(node: Option<&Node>) -> &[u8]
 {
     match node {
         Some(node) => match &node.content {
-            Content::Directory => b"",
-            Content::File(file) => file.as_slice(),
+            NodeContent::Directory => b"",
+            NodeContent::File(file) => file.as_slice(),
         },
         None => b"",
     }
@@ -88,17 +88,17 @@ pub fn holds_path(node: Option<&Node>) -> bool
 }
 
 /// The contents of a new node. It takes no memory.
-pub fn new_content(alloc: Global, kind: Kind) -> Content
+pub fn new_content(alloc: Global, kind: NodeKind) -> NodeContent
     ensures { content_shown result ≡ empty kind }
 {
     match kind {
-        Kind::Directory => Content::Directory,
-        Kind::File => Content::File(Bytes::new(alloc)),
+        NodeKind::Directory => NodeContent::Directory,
+        NodeKind::File => NodeContent::File(ByteList::new(alloc)),
     }
 }
 
 /// The larger one of two numbers.
-pub fn larger(a: u64, b: u64) -> u64
+pub fn max_of(a: u64, b: u64) -> u64
     ensures { result ≡ max a b }
 {
     if a < b { b } else { a }

@@ -3,13 +3,13 @@
 ghost use Rattle.std.specs.Prelude.{◌≡◌, ◌↔◌, ◌⊎◌, ◌∷◌, [], IsTrue};
 ghost use Rattle.std.specs.List.{AllByRecursion};
 ghost use Rattle.std.specs.Str.{IsUtf8};
-ghost use Rattle.file_tree.specs.Files.{IsName, IsNameByte, dot};
+ghost use Rattle.file_tree.specs.rules.Files.{IsNodeName, IsNameByte, dot};
 
 use crate::limits::NAME_BYTES;
 
 /// Whether a node may have this name: 1 to 255 bytes of UTF-8, no zero byte and no slash, and neither `.` nor `..`.
 pub fn is_name(name: &[u8]) -> bool
-    ensures { IsTrue result ↔ IsName name.now }
+    ensures { IsTrue result ↔ IsNodeName name.now }
 {
     if name.is_empty() || name.len() > NAME_BYTES {
         return false;

@@ -1,10 +1,10 @@
 //! The entries of a directory in the order of their names.
 
 ghost use Rattle.std.specs.Prelude.{◌≡◌, ◌≤◌, length};
-ghost use Rattle.file_tree.specs.Files.{is_before as is_name_before};
+ghost use Rattle.file_tree.specs.rules.Files.{is_before as is_name_before};
 ghost use Rattle.file_tree.specs.Ranks.{comes_before, rank_in, is_ranked, entry_in};
 
-use file_tree_store::{Hook, Nodes};
+use crate::store::{Hook, Nodes};
 
 // Whether a name is before another one, by the order of their bytes.
 fn is_before(name: &[u8], other: &[u8]) -> bool

@@ -1,18 +1,19 @@
 //! A tree of files.
 
 ghost use Rattle.std.specs.Prelude.{◌≡◌, ◌<◌, ◌^◌, ◌++◌, ◌∷◌, [], length, ℕ, ◌+◌, ◌≢◌, Some, slice_get, option_map, IfSome, IfNone, ◌≤◌, ◌==◌, drop, false, IfOk, OnOk, OnErr, is_some};
-ghost use Rattle.file_tree.specs.Files.{Name, Path, Entry, IsFiles, fresh, is_directory, bytes_of_node, used, path_of, child, entries_of, created, with_bytes, removed, forgotten, renamed, written, resized};
-ghost use Rattle.file_tree.specs.Changes.{IsFree, CanLose, CanMove, IsParent, is_within, empty, path_at, read_from};
+ghost use Rattle.file_tree.specs.Store.Bytes.{written, resized};
+ghost use Rattle.file_tree.specs.rules.Files.{Name, Path, Entry, IsFiles, fresh, is_directory, bytes_of_node, used, path_of, child, entries_of, created, with_file_bytes, removed, forgotten, renamed};
+ghost use Rattle.file_tree.specs.rules.Changes.{IsFree, CanLose, CanMove, IsParent, is_within, empty, path_at, read_from};
 ghost use Rattle.file_tree.specs.declared.limits.TheConstants.{NODES, FILE_BYTES};
 
 use crate::children::{child_of, has_children, leads_to, parent_of};
-use crate::kind::Kind;
+use crate::kind::NodeKind;
 use crate::lookup::{
-    bytes_held, copy_front, drop_node, holds_directory, holds_path, larger, name_held, new_content,
+    bytes_held, copy_front, drop_node, holds_directory, holds_path, max_of, name_held, new_content,
     node_of, place_of,
 };
 use crate::ranks::entry_at;
-use file_tree_store::{Bytes, Content, Hook, Node, Nodes};
+use crate::store::{ByteList, Hook, Node, NodeContent, Nodes};
 use std::alloc::{AllocError, Global};
 use std::marker::Model;
 
@@ -26,7 +27,7 @@ pub struct Tree {
 
 impl Model for Tree {
     ghost use Rattle.std.specs.Prelude.{◌≡◌};
-    ghost use Rattle.file_tree.specs.Files.{Files};
+    ghost use Rattle.file_tree.specs.rules.Files.{Files};
 
     ghost Value = { Files };
 
@@ -46,7 +47,7 @@ impl Tree {
         nodes.push(Node {
             number: 1,
             hook: Hook::Root,
-            content: Content::Directory,
+            content: NodeContent::Directory,
         })?;
         Ok(Tree {
             nodes,
@@ -70,7 +71,7 @@ impl Tree {
     }
 
     /// How many bytes all files have, removed ones that are still there included.
-    pub fn used(&self) -> u64
+    pub fn used_bytes(&self) -> u64
         ensures { result ≡ used self.now }
     {
         self.used
@@ -161,7 +162,7 @@ impl Tree {
         alloc: Global,
         directory: u64,
         name: &[u8],
-        kind: Kind,
+        kind: NodeKind,
     ) -> Result<u64, AllocError>
         requires free { IsFree self.old directory name.now }
         requires room { length self.old.nodes < NODES }
@@ -171,7 +172,7 @@ impl Tree {
         ensures unchanged { OnErr result (self.new ≡ self.old) }
     {
         let number = self.next;
-        let name = Bytes::copied(alloc, name)?;
+        let name = ByteList::copy_of(alloc, name)?;
         self.nodes.push(Node {
             number,
             hook: Hook::In(directory, name),
@@ -187,7 +188,7 @@ impl Tree {
     pub fn write(&mut self, number: u64, from: u64, bytes: &[u8]) -> Result<(), AllocError>
         requires file { is_directory self.old number ≡ false }
         requires end { from + length bytes.now ≤ FILE_BYTES }
-        ensures written { OnOk result (self.new ≡ with_bytes number (written (bytes_of_node self.old number) from bytes.now) self.old) }
+        ensures written { OnOk result (self.new ≡ with_file_bytes number (written (bytes_of_node self.old number) from bytes.now) self.old) }
         ensures unchanged { OnErr result (self.new ≡ self.old) }
     {
         let Some(place) = place_of(&self.nodes, number) else {
@@ -195,7 +196,7 @@ impl Tree {
         };
         let before = bytes_held(Some(self.nodes.get(place))).len() as u64;
         self.nodes.write(place, from as usize, bytes)?;
-        let after = larger(before, from + bytes.len() as u64);
+        let after = max_of(before, from + bytes.len() as u64);
         self.used = self.used - before + after;
         Ok(())
     }
@@ -206,7 +207,7 @@ impl Tree {
     pub fn resize(&mut self, number: u64, size: u64) -> Result<(), AllocError>
         requires file { is_directory self.old number ≡ false }
         requires size { size ≤ FILE_BYTES }
-        ensures resized { OnOk result (self.new ≡ with_bytes number (resized (bytes_of_node self.old number) size) self.old) }
+        ensures resized { OnOk result (self.new ≡ with_file_bytes number (resized (bytes_of_node self.old number) size) self.old) }
         ensures unchanged { OnErr result (self.new ≡ self.old) }
     {
         let Some(place) = place_of(&self.nodes, number) else {
@@ -244,7 +245,7 @@ impl Tree {
 
     /// Moves a node, with all that lies below it, to a name in a directory. The caller has tested that it isn't the root and has
     /// a path (`has_path`), that the name is free as for a new node, and that the directory isn't below the node (`is_within`).
-    pub fn rename(&mut self, number: u64, directory: u64, name: Bytes)
+    pub fn rename(&mut self, number: u64, directory: u64, name: ByteList)
         requires { CanMove self.old number directory name }
         ensures { self.new ≡ renamed (path_at self.old number) (path_at self.old directory ++ name ∷ []) self.old }
     {

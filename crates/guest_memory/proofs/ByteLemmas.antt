@@ -2,7 +2,7 @@
 use Rattle.std.proofs.Common.{◌≡◌, ℕ, zero, suc, ◌+◌, ◌*◌, ◌/◌, ◌%◌, ◌^◌, ◌<◌, List, [], ◌∷◌, length, refl, ap, ◌∙◌, arith}
 use Rattle.std.proofs.Math.Nat.{pow-suc, div-lt_iff_lt-mul}
 use Rattle.std.specs.List.{AllByRecursion}
-use Rattle.guest_memory.specs.Bytes.{IsByte, number_of, bytes_of}
+use Rattle.guest_memory.specs.rules.Bytes.{IsByte, number_of, bytes_of}
 
 -- there are n bytes
 pub length-bytes_of : (n x : ℕ) → length (bytes_of n x) ≡ n

@@ -1,8 +1,8 @@
 -- Ranges of a memory that are written.
 use Rattle.std.proofs.Common.{◌≡◌, ℕ, ◌+◌, ◌≤◌, List, ◌++◌, length, take, drop, arith, length-append, length-take, length-drop}
 use Rattle.std.proofs.lemmas.List.{take_all}
-use Rattle.guest_memory.specs.Bytes.{part, with_part}
-use Rattle.guest_memory.specs.Memories.{LinearMemory, with_bytes, with_lent}
+use Rattle.guest_memory.specs.rules.Bytes.{part, with_part}
+use Rattle.guest_memory.specs.rules.Memories.{LinearMemory, with_bytes, with_lent}
 
 -- there are as many bytes in a range as it is long
 pub length-part : (memory : List ℕ) (from len : ℕ) → from + len ≤ length memory → length (part memory from len) ≡ len

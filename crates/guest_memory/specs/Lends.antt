@@ -1,7 +1,7 @@
 -- What a memory ends as, once a range that it lent has come back.
 use Rattle.std.specs.Prelude.{ℕ, List}
 use Rattle.std.specs.Borrow.{Fml, MutBor, Array, Lends, u8}
-use Rattle.guest_memory.specs.Memories.{LinearMemory, with_lent}
+use Rattle.guest_memory.specs.rules.Memories.{LinearMemory, with_lent}
 use Rattle.guest_memory.specs.contracts.memory.Memory.{the_row}
 
 -- the range from a place on has the last bytes written through r

@@ -1,7 +1,7 @@
 //! What holds of values by their types. The functions do nothing: what they ensure is the law.
 
 ghost use Rattle.std.specs.List.{AllByRecursion};
-ghost use Rattle.guest_memory.specs.Bytes.{IsByte};
+ghost use Rattle.guest_memory.specs.rules.Bytes.{IsByte};
 
 /// A `u8` is a number below 256.
 pub fn are_bytes(bytes: &[u8])

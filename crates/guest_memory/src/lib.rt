@@ -1,10 +1,40 @@
-//! The linear memory of a guest.
+//! The linear memory of a guest: bytes in whole pages, and a limit on pages (Core Specification
+//! 1.0, sections 4.2.8 and 4.3.1.2).
+//!
+//! # Promises
+//!
+//! - `Memory::new` is so many pages of zeros (`made`). Where the limit is 0 it can't fail
+//!   (`no_room_wanted`).
+//! - `len`, `is_empty`, `pages`, `limit` and `bytes` are those of the memory, whose bytes are
+//!   whole pages within its limit (`shape`).
+//! - `part` and `has` say exactly where a range is within memory (`there`). `part` gives its bytes
+//!   (`bytes`).
+//! - `part_mut` lends a range. When it comes back, no other byte has changed (`writes_back`).
+//! - `write` puts bytes where they are within memory (`there`, `written`), and else changes
+//!   nothing (`refused`).
+//! - `load_u8` to `load_u64` give the number at address and offset, which add without wrapping
+//!   (`there`, `number`). `store_u8` to `store_u64` put it there (`stored`), or change nothing
+//!   (`refused`).
+//! - `grow` puts pages of zeros behind the others (`grown`), exactly where the limit allows it
+//!   (`there`).
+//! - `laws::are_bytes`: each `u8` is a number below 256.
+//!
+//! # Definitions to read
+//!
+//! In `specs/rules/`: `number_of`, `bytes_of`, `part`, `with_part`, `page_size` (`Bytes.antt`);
+//! `LinearMemory`, `IsWithinLimit`, `zeroed`, `grown_by`, `with_bytes` (`Memories.antt`). What a
+//! lent range ends as is `LendsRange` (`specs/Lends.antt`).
+//!
+//! # Who may touch what
+//!
+//! Only this crate knows that the bytes lie in one vector with room for all pages of the limit.
+//! `machine_slots`, `machine`, `process` and `wasi_calls` use it, and most crates its definitions.
+//! It stands on no other crate of this repository. `new` alone takes memory, and `M1 Memory` is
+//! its only error. Growth takes none.
 #![tactic(auto)]
 
 pub mod laws;
 mod memory;
-#[cfg(test)]
-mod tests;
 
 pub use memory::{Memory, MemoryFault};
 

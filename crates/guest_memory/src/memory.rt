@@ -1,8 +1,8 @@
 //! The memory itself, seen as a list of bytes with a limit.
 
 ghost use Rattle.std.specs.Prelude.{◌≡◌, ◌+◌, ◌*◌, ◌≤◌, ◌<◌, ◌^◌, ◌↔◌, ◌==◌, length, IfOk, IsTrue, IsOk, IsSome, IfSome, OnSome, IfNone};
-ghost use Rattle.guest_memory.specs.Bytes.{number_of, bytes_of, page_size, part};
-ghost use Rattle.guest_memory.specs.Memories.{IsWithinLimit, grown_by, pages_in, with_bytes, zeroed};
+ghost use Rattle.guest_memory.specs.rules.Bytes.{number_of, bytes_of, page_size, part};
+ghost use Rattle.guest_memory.specs.rules.Memories.{IsWithinLimit, grown_by, pages_in, with_bytes, zeroed};
 
 use crate::{MOST_PAGES, PAGE_SIZE};
 use byteorder::{ByteOrder, LittleEndian};
@@ -28,8 +28,8 @@ pub struct Memory {
 
 impl Model for Memory {
     ghost use Rattle.std.specs.Prelude.{◌*◌, ◌≤◌, vec_capacity};
-    ghost use Rattle.guest_memory.specs.Bytes.{page_size};
-    ghost use Rattle.guest_memory.specs.Memories.{LinearMemory, IsWithinLimit};
+    ghost use Rattle.guest_memory.specs.rules.Bytes.{page_size};
+    ghost use Rattle.guest_memory.specs.rules.Memories.{LinearMemory, IsWithinLimit};
 
     ghost Value = { LinearMemory };
 

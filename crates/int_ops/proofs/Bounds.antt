@@ -17,7 +17,7 @@ use Rattle.wasm_syntax.specs.declared.operator.BinaryOperator.{BinaryOperator}
 use Rattle.wasm_syntax.specs.declared.operator.BinaryOperator.TheVariants.{Add, Sub, Mul, DivS, DivU, RemS, RemU, And, Or, Xor, Shl, ShrS, ShrU, Rotl, Rotr}
 use Rattle.wasm_syntax.specs.declared.operator.Conversion.{Conversion}
 use Rattle.wasm_syntax.specs.declared.operator.Conversion.TheVariants.{I32WrapI64, I64ExtendI32S, I64ExtendI32U}
-use Rattle.int_ops.specs.Integers.{unary_of, binary_of, signed_quotient, truth, sign_extended, convert_of, converted_from, converted_to, rotated_left, rotated_right}
+use Rattle.int_ops.specs.rules.Integers.{unary_of, binary_of, signed_quotient, truth, sign_extended, convert_of, converted_from, converted_to, rotated_left, rotated_right}
 use Rattle.int_ops.proofs.Rotations.{rotate_left_is, rotate_right_is}
 
 pub truth_below : (b : Bool) → truth b < 2 ^ 32

@@ -5,7 +5,7 @@ use Rattle.std.specs.Int.Bits.{or_self}
 use Rattle.std.proofs.Math.Nat.{mod-eq_of_lt, mod_self, mul-mod_left, mod-lt, div-one, mul-one, div-eq_of_lt, add_comm, sub-zero, add-zero}
 use Rattle.std.proofs.lemmas.Nat.{or_comm, or_shifted, mod-pow-add, shr_below, shl-shr}
 use mir.Val.{bits}
-use Rattle.int_ops.specs.Integers.{rotated_left, rotated_right}
+use Rattle.int_ops.specs.rules.Integers.{rotated_left, rotated_right}
 
 -- a shift upward drops the high bits
 shl-mod : (a j k : ℕ) → (a * 2 ^ k) % 2 ^ (j + k) ≡ (a % 2 ^ j) * 2 ^ k

@@ -1,2 +1,2 @@
-pub mod Integers
-pub mod Laws
+pub mod laws
+pub mod rules

@@ -3,7 +3,7 @@
 ghost use Rattle.std.specs.Prelude.{◌≡◌, ℕ, Result, Ok, Err};
 ghost use Rattle.std.specs.Int.{Width};
 ghost use Rattle.wasm_syntax.specs.declared.value.Trap.{Trap};
-ghost use Rattle.int_ops.specs.Integers.{unary_of, binary_of, compare_of};
+ghost use Rattle.int_ops.specs.rules.Integers.{unary_of, binary_of, compare_of};
 
 use wasm_syntax::{BinaryOperator, Comparison, Trap, UnaryOperator};
 

@@ -1,6 +1,6 @@
 //! Laws of the definitions that the contracts of the operators cite.
 
-ghost use Rattle.int_ops.specs.Laws.{UnaryFits, BinaryFits, TruthFits, ConversionFits, ExtensionFits, WorkedExamples};
+ghost use Rattle.int_ops.specs.laws.Laws.{UnaryFits, BinaryFits, TruthFits, ConversionFits, ExtensionFits, IntegerExamples};
 
 /// Every operator and every conversion gives an integer of its width.
 pub fn results_fit()
@@ -13,5 +13,5 @@ pub fn results_fit()
 
 /// The definitions give the values that section 4.3.2 of the standard gives.
 pub fn worked_examples()
-    ensures { WorkedExamples }
+    ensures { IntegerExamples }
 {}

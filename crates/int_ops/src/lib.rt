@@ -1,16 +1,41 @@
-//! Integer arithmetic of WebAssembly (Core Specification 1.0, section 4.3.2).
+//! Integer arithmetic of WebAssembly (Core Specification 1.0, section 4.3.2), over `u32` and
+//! `u64`.
+//!
+//! # Promises
+//!
+//! - `unary` equals `unary_of`: how many bits are 0 at either end, or 1.
+//! - `binary` equals `binary_of`: the result, or the trap, exactly where the definition has it.
+//!   Only division and remainder trap.
+//! - `compare` equals `compare_of`.
+//! - `convert` equals `convert_of`, where an i32 is a number below 2^32 on either side.
+//! - `Integer` is the trait of both types, with a width and the number of a value. Each number is
+//!   that of one value (`same_from_number`).
+//! - `results_fit`: what an operator, a test, a conversion or a sign extension gives is an integer
+//!   of its width (`unary`, `binary`, `truth`, `conversion`, `extension`).
+//! - `worked_examples`: the definitions give the standard's values on sixteen examples.
+//!
+//! # Definitions to read
+//!
+//! In `specs/rules/Integers.antt`: `unary_of`, `binary_of`, `compare_of`, `convert_of` and
+//! `sign_extended`, each once for every width. An integer of width w is a number below 2^N, with N
+//! bits. The laws and examples are in `specs/laws/Laws.antt`; nobody has to believe them.
+//!
+//! # Who may touch what
+//!
+//! There is no representation to hide: integers are Rust's own. `machine_slots` calls the
+//! operators, and `wasm_syntax_rules` cites the definitions. It stands on `wasm_syntax`, which
+//! names operators and traps. It takes no memory. Its only errors are `Trap::DivideByZero` and
+//! `Trap::IntegerOverflow`.
 #![tactic(auto)]
 
 ghost use Rattle.std.specs.Prelude.{◌≡◌, ◌<◌, ◌^◌};
 ghost use mir.Val.{bits};
-ghost use Rattle.int_ops.specs.Integers.{convert_of, converted_from};
+ghost use Rattle.int_ops.specs.rules.Integers.{convert_of, converted_from};
 
 mod integer;
 mod integer_32;
 mod integer_64;
 mod laws;
-#[cfg(test)]
-mod tests;
 
 pub use integer::{Integer, binary, compare, unary};
 pub use laws::{results_fit, worked_examples};

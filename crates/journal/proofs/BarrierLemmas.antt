@@ -2,22 +2,19 @@
 use Rattle.std.proofs.Common.{◌≡◌, ◌≤◌, ◌<◌, ◌+◌, ◌^◌, ℕ, zero, suc, ◌-◌, List, [], ◌∷◌, ◌++◌, length, take, drop, refl, sym, ap, ◌∙◌, subst, arith}
 use Rattle.std.proofs.lemmas.List.{append-nil, take_all, drop_all}
 use Rattle.std.proofs.lemmas.Grind.{flat_map-append}
-use Rattle.sector_disk.specs.Image.{Image, sector_at}
-use Rattle.sector_disk.specs.Medium.{Medium, After, Follows, LeavesOnly, Passes}
-use Rattle.sector_disk.specs.Run.{IsTornRun, IsWrittenRun}
-use Rattle.sector_disk.proofs.Moments.{started, weaker, leaves_only, shows_left}
-use Rattle.disk_layout.specs.Places.{Geometry, journal_place, total_sectors}
-use Rattle.disk_layout.specs.Journal.{Record, record_bytes}
+use Rattle.sector_disk.specs.rules.Image.{Image, sector_at}
+use Rattle.sector_disk.specs.rules.Medium.{Medium, After, Follows, LeavesOnly, Passes}
+use Rattle.sector_disk.specs.rules.Run.{IsTornRun, IsWrittenRun}
+use Rattle.sector_disk.proofs.Moments.{started, weaker, leaves_only, shows_left, leaves_weaker}
+use Rattle.disk_layout.specs.rules.Places.{Geometry, journal_place, total_sectors}
+use Rattle.disk_layout.specs.rules.Journal.{Record, record_bytes}
 use Rattle.disk_layout.proofs.JournalLemmas.{length-journal_sector}
-use Rattle.journal.specs.Packed.{packed, sectors_for}
-use Rattle.journal.specs.Steps.{HoldsBytes, Stands, AppendsFront, IsOn, records_bytes}
-use Rattle.journal.specs.Laws.{FreshStands, ScansWhatStands, ScansNoneOfLater}
+use Rattle.journal.specs.rules.Packed.{packed, sectors_for}
+use Rattle.journal.specs.rules.Steps.{HoldsBytes, RecordsStand, AppendsFront, IsOn, records_bytes}
+use Rattle.journal.specs.laws.Laws.{FreshStands, ScansWhatStands, ScansNoneOfLater}
 use Rattle.journal.proofs.PackedLemmas.{packed_at}
 use Rattle.journal.proofs.RunLemmas.{IsRun, all_bytes, none_after, is_new, front_of_kept, none_later, others_same, holds_all}
 use Rattle.journal.proofs.RecordLemmas.{scan_of}
-
-leaves_weaker : (old new : Medium) (P Q : Image → Type 0) → LeavesOnly old new P → ((image : Image) → P image → Q image) → LeavesOnly old new Q
-leaves_weaker old new P Q leaves here = record { each = λ image since. here image (leaves.each image since); passes = weaker old new P Q leaves.passes here }
 
 module _ (geometry : Geometry) (g used : ℕ) (bytes : List ℕ) (records kept : List Record) (old : Medium) (on : IsOn geometry g used bytes records kept old.may_leave) (size : total_sectors geometry ≤ old.sectors) where
   -- where nothing is written
@@ -37,7 +34,7 @@ module _ (geometry : Geometry) (g used : ℕ) (bytes : List ℕ) (records kept :
   pub nothing_written : LeavesOnly old old (After (AppendsFront geometry g used records kept) old.may_leave)
   nothing_written = leaves_only old old _ (started old _) (λ image left. (image, left, stays_so image left))
 
-  pub still_stands : length bytes ≡ 0 → (image : Image) → old.may_leave image → Stands geometry g used (records ++ kept) image
+  pub still_stands : length bytes ≡ 0 → (image : Image) → old.may_leave image → RecordsStand geometry g used (records ++ kept) image
   still_stands none image left =
       let holds = on.stands image left in
       let empty : records_bytes (records ++ kept) ≡ records_bytes records =
@@ -104,7 +101,7 @@ module _ (geometry : Geometry) (g used : ℕ) (bytes : List ℕ) (records kept :
         }
 
     pub durable : (new : Medium) → Follows (IsWrittenRun (journal_place geometry + used) (packed g (used + 1) (sectors_for (length bytes)) bytes) (sectors_for (length bytes))) old.shows new.may_leave
-        → (image : Image) → new.may_leave image → Stands geometry g (used + sectors_for (length bytes)) (records ++ kept) image
+        → (image : Image) → new.may_leave image → RecordsStand geometry g (used + sectors_for (length bytes)) (records ++ kept) image
     durable new stored image left =
         let n = sectors_for (length bytes) in
         let was = stored image left in
@@ -132,7 +129,7 @@ any_moment_at geometry g used bytes records kept old new at h u b at-is h-is u-i
 pub durable_at : (geometry : Geometry) (g used : ℕ) (bytes : List ℕ) (records kept : List Record) (old new : Medium) (at h u n : ℕ) (b : List ℕ) → at ≡ journal_place geometry → h ≡ g → u ≡ used → b ≡ bytes → n ≡ sectors_for (length bytes)
     → IsOn geometry g used bytes records kept old.may_leave → total_sectors geometry ≤ old.sectors → used + sectors_for (length bytes) ≤ geometry.journal_sectors → geometry.journal_sectors < 2 ^ 32
     → Follows (IsWrittenRun (at + u) (packed h (u + 1) (sectors_for (length b)) b) (sectors_for (length b))) old.shows new.may_leave
-    → (image : Image) → new.may_leave image → Stands geometry h (u + n) (records ++ kept) image
+    → (image : Image) → new.may_leave image → RecordsStand geometry h (u + n) (records ++ kept) image
 durable_at geometry g used bytes records kept old new at h u n b at-is h-is u-is b-is n-is on size room bound stored image left =
     let P : ℕ → ℕ → ℕ → List ℕ → Type 0 = λ at h u b. Follows (IsWrittenRun (at + u) (packed h (u + 1) (sectors_for (length b)) b) (sectors_for (length b))) old.shows new.may_leave in
     let one = subst (λ (x : ℕ). P x h u b) at-is stored in
@@ -140,9 +137,9 @@ durable_at geometry g used bytes records kept old new at h u n b at-is h-is u-is
     let three = subst (λ (x : ℕ). P (journal_place geometry) g x b) u-is two in
     let four = subst (λ (x : List ℕ). P (journal_place geometry) g used x) b-is three in
     let five = durable geometry g used bytes records kept old on size room bound new four image left in
-    let six = subst (λ (x : ℕ). Stands geometry x (used + sectors_for (length bytes)) (records ++ kept) image) (sym h-is) five in
-    let seven = subst (λ (x : ℕ). Stands geometry h (x + sectors_for (length bytes)) (records ++ kept) image) (sym u-is) six in
-    subst (λ (x : ℕ). Stands geometry h (u + x) (records ++ kept) image) (sym n-is) seven
+    let six = subst (λ (x : ℕ). RecordsStand geometry x (used + sectors_for (length bytes)) (records ++ kept) image) (sym h-is) five in
+    let seven = subst (λ (x : ℕ). RecordsStand geometry h (x + sectors_for (length bytes)) (records ++ kept) image) (sym u-is) six in
+    subst (λ (x : ℕ). RecordsStand geometry h (u + x) (records ++ kept) image) (sym n-is) seven
 
 -- there is room for what was counted
 pub room_for : (used journal len counted : ℕ) → counted ≡ sectors_for len → (len ≡ 0 → ⊥) → counted ≤ journal - used → used + sectors_for len ≤ journal

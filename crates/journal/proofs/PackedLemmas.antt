@@ -2,13 +2,13 @@
 use Rattle.std.proofs.Common.{◌≡◌, ◌⊎◌, ℕ, zero, suc, min, ◌+◌, ◌-◌, ◌*◌, ◌<◌, ◌≤◌, true, false, cond, List, [], ◌++◌, length, take, drop, refl, sym, ap, ◌∙◌, subst, ⊎_elim, arith, length-drop, append_assoc}
 use Rattle.std.proofs.lemmas.Bool.{cases_lt, cond-true, cond-false}
 use Rattle.std.proofs.lemmas.List.{take-append-drop, drop-drop, take_all, nil_from_length}
-use Rattle.guest_memory.specs.Bytes.{part}
-use Rattle.sector_disk.specs.Image.{Image, sector_at}
-use Rattle.disk_layout.specs.Sectors.{shown_generation}
-use Rattle.disk_layout.specs.Journal.{journal_sector, is_of, payloads_from}
-use Rattle.disk_layout.proofs.JournalLemmas.{IsOf, is_of_true, is_of_other, payload_of_sector}
+use Rattle.guest_memory.specs.rules.Bytes.{part}
+use Rattle.sector_disk.specs.rules.Image.{Image, sector_at}
+use Rattle.disk_layout.specs.rules.Sectors.{shown_generation}
+use Rattle.disk_layout.specs.rules.Journal.{journal_sector, is_of, payloads_from}
+use Rattle.disk_layout.proofs.JournalLemmas.{IsUsedSector, is_of_true, is_of_other, payload_of_sector}
 use Rattle.disk_layout.proofs.ReadLemmas.{parts_joined}
-use Rattle.journal.specs.Packed.{packed}
+use Rattle.journal.specs.rules.Packed.{packed}
 
 -- ---- packed sectors
 
@@ -86,30 +86,30 @@ payloads_same a b g s p (suc n) same =
 -- ---- what torn sectors give
 
 pub torn_front : (image : Image) (g s p m : ℕ) (bytes : List ℕ)
-    → ((i : ℕ) → i < m → (shown_generation (p + i) (sector_at image (s + i)) < g) ⊎ (IsOf g (p + i) (sector_at image (s + i)) × (payload_of_sector (sector_at image (s + i)) ≡ part bytes (494 * i) 494)))
+    → ((i : ℕ) → i < m → (shown_generation (p + i) (sector_at image (s + i)) < g) ⊎ (IsUsedSector g (p + i) (sector_at image (s + i)) × (payload_of_sector (sector_at image (s + i)) ≡ part bytes (494 * i) 494)))
     → (c : ℕ) × (payloads_from image g s p m ≡ take c bytes)
 torn_front image g s p zero bytes each = (0, refl)
 torn_front image g s p (suc m) bytes each =
     ⊎_elim
     (λ (earlier : shown_generation p (sector_at image s) < g). (0, pay_off image g s p (suc m) (is_of_other g p (sector_at image s) (λ e. absurd (omega arith)))))
-    (λ (meant : IsOf g p (sector_at image s) × (payload_of_sector (sector_at image s) ≡ part bytes (494 * 0) 494)).
+    (λ (meant : IsUsedSector g p (sector_at image s) × (payload_of_sector (sector_at image s) ≡ part bytes (494 * 0) 494)).
     let rest = torn_front image g (s + 1) (p + 1) m (drop 494 bytes) (λ i lt.
-    let Q : ℕ → List ℕ → Type 0 = λ q t. (shown_generation q t < g) ⊎ (IsOf g q t × (payload_of_sector t ≡ part (drop 494 bytes) (494 * i) 494)) in
-    at_next Q image s p i (subst (λ (l : List ℕ). (shown_generation (p + suc i) (sector_at image (s + suc i)) < g) ⊎ (IsOf g (p + suc i) (sector_at image (s + suc i)) × (payload_of_sector (sector_at image (s + suc i)) ≡ l))) (sym (part_next bytes i)) (each (suc i) (omega arith)))) in (
+    let Q : ℕ → List ℕ → Type 0 = λ q t. (shown_generation q t < g) ⊎ (IsUsedSector g q t × (payload_of_sector t ≡ part (drop 494 bytes) (494 * i) 494)) in
+    at_next Q image s p i (subst (λ (l : List ℕ). (shown_generation (p + suc i) (sector_at image (s + suc i)) < g) ⊎ (IsUsedSector g (p + suc i) (sector_at image (s + suc i)) × (payload_of_sector (sector_at image (s + suc i)) ≡ l))) (sym (part_next bytes i)) (each (suc i) (omega arith)))) in (
       494 + rest.0,
       pay_on image g s p m (is_of_true g p (sector_at image s) meant.0) ∙ ap (λ l. l ++ payloads_from image g (s + 1) (p + 1) m) meant.1 ∙ ap (λ l. take 494 bytes ++ l) rest.1 ∙ parts_joined 494 rest.0 bytes,
     ))
-    (at_first (λ q t. (shown_generation q t < g) ⊎ (IsOf g q t × (payload_of_sector t ≡ part bytes (494 * 0) 494))) image s p (each 0 (omega arith)))
+    (at_first (λ q t. (shown_generation q t < g) ⊎ (IsUsedSector g q t × (payload_of_sector t ≡ part bytes (494 * 0) 494))) image s p (each 0 (omega arith)))
 
 pub whole_run : (image : Image) (g s p n : ℕ) (bytes : List ℕ) → length bytes ≤ 494 * n
-    → ((i : ℕ) → i < n → IsOf g (p + i) (sector_at image (s + i)) × (payload_of_sector (sector_at image (s + i)) ≡ part bytes (494 * i) 494))
+    → ((i : ℕ) → i < n → IsUsedSector g (p + i) (sector_at image (s + i)) × (payload_of_sector (sector_at image (s + i)) ≡ part bytes (494 * i) 494))
     → payloads_from image g s p n ≡ bytes
 whole_run image g s p zero bytes le each = sym (nil_from_length bytes (omega arith))
 whole_run image g s p (suc n) bytes le each =
-    let meant = at_first (λ q t. IsOf g q t × (payload_of_sector t ≡ part bytes (494 * 0) 494)) image s p (each 0 (omega arith)) in
+    let meant = at_first (λ q t. IsUsedSector g q t × (payload_of_sector t ≡ part bytes (494 * 0) 494)) image s p (each 0 (omega arith)) in
     let rest = whole_run image g (s + 1) (p + 1) n (drop 494 bytes) (omega (arith, length-drop 494 bytes)) (λ i lt.
-    let Q : ℕ → List ℕ → Type 0 = λ q t. IsOf g q t × (payload_of_sector t ≡ part (drop 494 bytes) (494 * i) 494) in
-    at_next Q image s p i (subst (λ (l : List ℕ). IsOf g (p + suc i) (sector_at image (s + suc i)) × (payload_of_sector (sector_at image (s + suc i)) ≡ l)) (sym (part_next bytes i)) (each (suc i) (omega arith)))) in
+    let Q : ℕ → List ℕ → Type 0 = λ q t. IsUsedSector g q t × (payload_of_sector t ≡ part (drop 494 bytes) (494 * i) 494) in
+    at_next Q image s p i (subst (λ (l : List ℕ). IsUsedSector g (p + suc i) (sector_at image (s + suc i)) × (payload_of_sector (sector_at image (s + suc i)) ≡ l)) (sym (part_next bytes i)) (each (suc i) (omega arith)))) in
     pay_on image g s p n (is_of_true g p (sector_at image s) meant.0) ∙ ap (λ l. l ++ payloads_from image g (s + 1) (p + 1) n) meant.1 ∙ ap (λ l. take 494 bytes ++ l) rest ∙ take-append-drop 494 bytes
 
 -- a part as it is lent, which ends with the bytes at the latest

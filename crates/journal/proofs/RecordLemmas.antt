@@ -3,15 +3,15 @@ use Rattle.std.proofs.Common.{◌≡◌, ℕ, zero, suc, ◌+◌, ◌-◌, ◌<�
 use Rattle.std.proofs.lemmas.Bool.{cases_lt, cond-true, cond-false, le-leb, lt-leb}
 use Rattle.std.proofs.lemmas.List.{take_at, drop_at, take-take, drop-take, drop-drop, length-take-le, take-append-le}
 use Rattle.std.proofs.Math.Seq.{take-append-add}
-use Rattle.guest_memory.specs.Bytes.{number_of, part}
+use Rattle.guest_memory.specs.rules.Bytes.{number_of, part}
 use Rattle.guest_memory.proofs.ByteLemmas.{number_of-bytes_of}
-use Rattle.wasi_abi.specs.Layouts.{u64_bytes}
+use Rattle.wasi_abi.specs.rules.Layouts.{u64_bytes}
 use Rattle.wasi_abi.specs.declared.answer.Answer.{Answer}
 use Rattle.wasi_abi.specs.declared.answer.Answer.TheVariants as answer
-use Rattle.sector_disk.specs.Image.{Image}
-use Rattle.disk_layout.specs.Places.{Geometry, journal_place}
-use Rattle.disk_layout.specs.Journal.{Record, record_bytes, kind_number, payload_of, answer_if, answer_of, payload_length, record_at, records_at, with_first, payloads_from, scan}
-use Rattle.journal.specs.Steps.{longest_payload, ClockFits, RecordFits, AllFit, records_bytes}
+use Rattle.sector_disk.specs.rules.Image.{Image}
+use Rattle.disk_layout.specs.rules.Places.{Geometry, journal_place}
+use Rattle.disk_layout.specs.rules.Journal.{Record, record_bytes, kind_number, payload_of, answer_if, answer_of, payload_length, record_at, records_at, with_first, payloads_from, scan}
+use Rattle.journal.specs.rules.Steps.{longest_payload, ClockFits, RecordFits, AllRecordsFit, records_bytes}
 
 abbrev pub make : ℕ → Answer → Record
 make step a = record { step = step; answer = a }
@@ -85,7 +85,7 @@ one_more r rest n fits =
     ∙ ap (λ l. r ∷ records_at longest_payload n l) (rest_read r rest fits)
 
 -- a front of the bytes of records holds a front of them
-pub cut_front : (records : List Record) (m n : ℕ) → AllFit records → length (take m (records_bytes records)) ≤ n
+pub cut_front : (records : List Record) (m n : ℕ) → AllRecordsFit records → length (take m (records_bytes records)) ≤ n
     → (k : ℕ) × (k ≤ length records) × (records_at longest_payload n (take m (records_bytes records)) ≡ take k records)
 cut_front [] m n fit le = (0, omega arith, ap (λ l. records_at longest_payload n l) (nothing m) ∙ no_bytes n)
   where
@@ -114,7 +114,7 @@ cut_front (r ∷ records) m n fit le =
     (cases_lt m (length (record_bytes r)))
 
 -- records, and a front of the bytes of further ones
-pub scan_front : (records kept : List Record) (c n : ℕ) → AllFit records → AllFit kept → length (records_bytes records ++ take c (records_bytes kept)) ≤ n
+pub scan_front : (records kept : List Record) (c n : ℕ) → AllRecordsFit records → AllRecordsFit kept → length (records_bytes records ++ take c (records_bytes kept)) ≤ n
     → (k : ℕ) × (k ≤ length kept) × (records_at longest_payload n (records_bytes records ++ take c (records_bytes kept)) ≡ records ++ take k kept)
 scan_front [] kept c n fit fit-kept le = cut_front kept c n fit-kept le
 scan_front (r ∷ records) kept c n fit fit-kept le =
@@ -131,7 +131,7 @@ scan_front (r ∷ records) kept c n fit fit-kept le =
           ∙ ap (λ l. records_at longest_payload (suc fewer) l) e ∙ one_more r tail fewer fit.0 ∙ ap (λ l. r ∷ l) rest.2,
     )
 
-pub scan_of : (geometry : Geometry) (image : Image) (g c : ℕ) (records kept : List Record) → AllFit records → AllFit kept
+pub scan_of : (geometry : Geometry) (image : Image) (g c : ℕ) (records kept : List Record) → AllRecordsFit records → AllRecordsFit kept
     → payloads_from image g (journal_place geometry) 1 geometry.journal_sectors ≡ records_bytes records ++ take c (records_bytes kept)
     → (k : ℕ) × (k ≤ length kept) × (scan geometry longest_payload image g ≡ records ++ take k kept)
 scan_of geometry image g c records kept fit fit-kept e =

@@ -2,15 +2,15 @@
 use Rattle.std.proofs.Common.{◌≡◌, ◌⊎◌, ℕ, ◌+◌, ◌-◌, ◌*◌, ◌^◌, ◌<◌, ◌≤◌, true, List, [], ◌++◌, length, take, drop, sym, ap, ◌∙◌, subst, inl, ⊎_elim, arith, length-drop}
 use Rattle.std.proofs.lemmas.Bool.{cases_lt}
 use Rattle.std.proofs.lemmas.List.{append-nil, length-take-le, take_all}
-use Rattle.guest_memory.specs.Bytes.{part}
-use Rattle.sector_disk.specs.Image.{Image, sector_at, front_over}
-use Rattle.sector_disk.specs.Run.{IsTornRun}
-use Rattle.disk_layout.specs.Places.{Geometry, journal_place}
-use Rattle.disk_layout.specs.Sectors.{shown_generation}
-use Rattle.disk_layout.specs.Journal.{journal_sector, is_of, payloads_from}
-use Rattle.disk_layout.proofs.JournalLemmas.{IsOf, is_of_true, is_of_other, is_of_means, payload_of_sector, IsNewSector, torn_sector, new_is_of, payload-journal_sector}
-use Rattle.journal.specs.Packed.{packed, sectors_for}
-use Rattle.journal.specs.Steps.{HoldsBytes, ShowsNoneAfter, SameOthers}
+use Rattle.guest_memory.specs.rules.Bytes.{part}
+use Rattle.sector_disk.specs.rules.Image.{Image, sector_at, front_over}
+use Rattle.sector_disk.specs.rules.Run.{IsTornRun}
+use Rattle.disk_layout.specs.rules.Places.{Geometry, journal_place}
+use Rattle.disk_layout.specs.rules.Sectors.{shown_generation}
+use Rattle.disk_layout.specs.rules.Journal.{journal_sector, is_of, payloads_from}
+use Rattle.disk_layout.proofs.JournalLemmas.{IsUsedSector, is_of_true, is_of_other, is_of_means, payload_of_sector, IsNewSector, torn_sector, new_is_of, payload-journal_sector}
+use Rattle.journal.specs.rules.Packed.{packed, sectors_for}
+use Rattle.journal.specs.rules.Steps.{HoldsBytes, ShowsNoneAfter, SameOthers}
 use Rattle.journal.proofs.PackedLemmas.{packed_at, pay_off, payloads_split, payloads_same, torn_front, whole_run}
 
 -- all that the journal holds is in the sectors that are written
@@ -63,7 +63,7 @@ module _ (geometry : Geometry) (g used n : ℕ) (bytes kept : List ℕ) (old new
     -- each sector behind those that are written
     pub behind_at : (i : ℕ) → i < geometry.journal_sectors - used
         → (shown_generation (1 + used + i) (sector_at new (journal_place geometry + used + i)) < g)
-        ⊎ (IsOf g (1 + used + i) (sector_at new (journal_place geometry + used + i)) × (payload_of_sector (sector_at new (journal_place geometry + used + i)) ≡ part kept (494 * i) 494))
+        ⊎ (IsUsedSector g (1 + used + i) (sector_at new (journal_place geometry + used + i)) × (payload_of_sector (sector_at new (journal_place geometry + used + i)) ≡ part kept (494 * i) 494))
     behind_at i lt =
         let holds = run.stands in
         let at : journal_place geometry + used + i ≡ journal_place geometry + (used + i) = omega arith in
@@ -130,12 +130,12 @@ module _ (geometry : Geometry) (g used n : ℕ) (bytes kept : List ℕ) (old new
     -- where each is whole
     module _ (whole : (i : ℕ) → i < n → sector_at new (journal_place geometry + used + i) ≡ sector_at (packed g (used + 1) n kept) i) where
       pub whole_at : (i : ℕ) → i < n
-          → IsOf g (1 + used + i) (sector_at new (journal_place geometry + used + i)) × (payload_of_sector (sector_at new (journal_place geometry + used + i)) ≡ part kept (494 * i) 494)
+          → IsUsedSector g (1 + used + i) (sector_at new (journal_place geometry + used + i)) × (payload_of_sector (sector_at new (journal_place geometry + used + i)) ≡ part kept (494 * i) 494)
       whole_at i lt =
           let q : used + 1 + i ≡ 1 + used + i = omega arith in
           let is = subst (λ (k : ℕ). IsNewSector g k (part kept (494 * i) 494)) q (is_new i lt) in
           let e = whole i lt ∙ packed_at g (used + 1) n kept i lt ∙ ap (λ k. journal_sector g k (part kept (494 * i) 494)) q in
-          subst (λ (s : List ℕ). IsOf g (1 + used + i) s × (payload_of_sector s ≡ part kept (494 * i) 494)) (sym e)
+          subst (λ (s : List ℕ). IsUsedSector g (1 + used + i) s × (payload_of_sector s ≡ part kept (494 * i) 494)) (sym e)
           (new_is_of g (1 + used + i) (part kept (494 * i) 494) is, payload-journal_sector g (1 + used + i) (part kept (494 * i) 494) is.most)
 
       pub holds_all : HoldsBytes geometry g (used + n) (bytes ++ kept) new

@@ -1,4 +1,2 @@
-pub mod State
-pub mod Packed
-pub mod Steps
-pub mod Laws
+pub mod laws
+pub mod rules

@@ -1,7 +1,7 @@
 // Records from bytes.
 ghost use Rattle.std.specs.Prelude.{◌≡◌, ◌+◌, ◌≤◌, length, IfOk, IsSome};
-ghost use Rattle.disk_layout.specs.Journal.{answer_of, payload_length, record_at, records_at};
-ghost use Rattle.journal.specs.Steps.{longest_payload};
+ghost use Rattle.disk_layout.specs.rules.Journal.{answer_of, payload_length, record_at, records_at};
+ghost use Rattle.journal.specs.rules.Steps.{longest_payload};
 
 use crate::records::RECORD_HEAD;
 use disk_layout::{Record, clock_from, payload_length, record_step};

@@ -1,13 +1,13 @@
 // The journal of a generation.
 ghost use Rattle.std.specs.Prelude.{◌≡◌, ◌↔◌, ◌⊎◌, ◌+◌, ◌<◌, ◌≤◌, ◌++◌, [], true, false, ℕ, List, length, OnOk, OnErr, IfOk, IfErr, IsErrOf};
-ghost use Rattle.sector_disk.specs.Image.{Image};
-ghost use Rattle.sector_disk.specs.Medium.{LeavesOnly, After, Passes, IsSettled, spare};
-ghost use Rattle.disk_layout.specs.Places.{total_sectors};
-ghost use Rattle.disk_layout.specs.Journal.{Record, record_bytes, payload_of, scan};
-ghost use Rattle.disk_layout.specs.Stored.{OnlyReads};
-ghost use Rattle.journal.specs.State.{state, room_of};
-ghost use Rattle.journal.specs.Packed.{sectors_for};
-ghost use Rattle.journal.specs.Steps.{AppendsFront, Stands, IsOn, RecordFits, longest_payload};
+ghost use Rattle.sector_disk.specs.rules.Image.{Image};
+ghost use Rattle.sector_disk.specs.rules.Medium.{LeavesOnly, After, Passes, IsAllSynced, spare};
+ghost use Rattle.disk_layout.specs.rules.Places.{total_sectors};
+ghost use Rattle.disk_layout.specs.rules.Journal.{Record, record_bytes, payload_of, scan};
+ghost use Rattle.disk_layout.specs.rules.Stored.{OnlyReads};
+ghost use Rattle.journal.specs.rules.State.{state, room_of};
+ghost use Rattle.journal.specs.rules.Packed.{sectors_for};
+ghost use Rattle.journal.specs.rules.Steps.{AppendsFront, RecordsStand, IsOn, RecordFits, longest_payload};
 
 use crate::decode::{LONGEST_PAYLOAD, records_from};
 use crate::fault::JournalFault;
@@ -30,9 +30,9 @@ pub struct Journal {
 }
 
 impl Model for Journal {
-    ghost use Rattle.journal.specs.State.{State, state};
+    ghost use Rattle.journal.specs.rules.State.{JournalState, state};
 
-    ghost Value = { State };
+    ghost Value = { JournalState };
 
     ghost view = { λ j. state j.generation j.used j.kept.items j.has_failed };
 }
@@ -143,9 +143,9 @@ impl Journal {
 
         // Once it has answered Ok, each cut leaves all of them.
         ensures durable { (records kept : List Record) → IsOn geometry.now self.old.generation self.old.used self.old.kept records kept (D.medium disk.old).may_leave →
-            OnOk result ((image : Image) → (D.medium disk.new).may_leave image → Stands geometry.now self.new.generation self.new.used (records ++ kept) image) }
+            OnOk result ((image : Image) → (D.medium disk.new).may_leave image → RecordsStand geometry.now self.new.generation self.new.used (records ++ kept) image) }
         ensures passes { Passes (D.medium disk.old) (D.medium disk.new) (λ _. Unit {0}) }
-        ensures settled { OnOk result ((length self.old.kept ≡ 0) ⊎ IsSettled (D.medium disk.new)) }
+        ensures settled { OnOk result ((length self.old.kept ≡ 0) ⊎ IsAllSynced (D.medium disk.new)) }
         ensures unsynced { (D.medium disk.new).unsynced ≤ (D.medium disk.old).unsynced + sectors_for (length self.old.kept) }
 
         // Nor were there more writes that no sync had settled at any moment in between.

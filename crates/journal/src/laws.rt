@@ -1,6 +1,6 @@
 //! Laws of the journal.
 
-ghost use Rattle.journal.specs.Laws.{FreshStands, ScansWhatStands, ScansNoneOfLater};
+ghost use Rattle.journal.specs.laws.Laws.{FreshStands, ScansWhatStands, ScansNoneOfLater};
 
 /// Where a journal begins, what a scan gives of what stands, and that it gives nothing of a generation
 /// that no sector shows.

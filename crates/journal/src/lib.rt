@@ -1,4 +1,37 @@
-//! Outside answers on sectors: records that are appended, made durable by a barrier, and read after any cut.
+//! The journal of a worker (this project's own): records of outside answers. They are appended,
+//! made durable by a barrier, and scanned after any cut.
+//!
+//! # Promises
+//!
+//! - `Journal::fresh` is the journal of a generation without records. `generation` and `room` say
+//!   what it is and has.
+//! - `append` keeps a record in memory (`ok`). `TooLong` and `Full` come exactly where the
+//!   payload, or the record, is too long (`too_long`, `full`).
+//! - `barrier` puts the kept records on the disk. A cut at any moment leaves all records that
+//!   stood, and a front of those kept, and no other sector is changed (`any_moment`). After Ok all
+//!   stand (`durable`).
+//! - `barrier` fails for a cause: an earlier error, too little journal, no room for its writes, or
+//!   the disk (`failed`, `full`, `cause`). It never has more unsynced writes than its own sectors
+//!   beyond those before (`at_once`).
+//! - `Journal::scan` gives the records that the definitions read of what the disk shows (`scans`).
+//!   It only reads (`reads`).
+//! - After an error of `append` or `barrier`, each call of these answers `Failed` (`err`,
+//!   `failed`).
+//! - `laws::what_stands_is_scanned`: a scan gives what stands, and nothing of a generation that no
+//!   sector shows.
+//!
+//! # Definitions to read
+//!
+//! In `specs/rules/`: `JournalState`, `room_of` (`State.antt`); `RecordsStand`, `IsOn`,
+//! `AppendsFront`, `RecordFits` (`Steps.antt`); `sectors_for` (`Packed.antt`). Of `disk_layout`:
+//! `record_bytes` and `scan` (`specs/rules/Journal.antt`).
+//!
+//! # Who may touch what
+//!
+//! Only this crate knows which bytes wait for a barrier. It is handed the disk at each call, and
+//! keeps none. It stands on `disk_layout` and `sector_disk`; no crate uses it yet. `append` and
+//! `scan` take memory, `fresh` and `barrier` take none (`no_memory`). A failed barrier leaves its
+//! records in memory (`err`), and of the disk what `any_moment` says.
 #![tactic(auto)]
 
 mod decode;
@@ -8,8 +41,6 @@ pub mod laws;
 mod records;
 mod scan;
 mod store;
-#[cfg(test)]
-mod tests;
 
 pub use fault::JournalFault;
 pub use journal::Journal;

@@ -1,8 +1,8 @@
 // Records as bytes.
 ghost use Rattle.std.specs.Prelude.{◌≡◌, ◌+◌, ◌≤◌, ◌<◌, ◌^◌, ◌++◌, ◌∷◌, length, OnOk};
-ghost use Rattle.wasi_abi.specs.Layouts.{u16_bytes, u64_bytes};
-ghost use Rattle.disk_layout.specs.Journal.{record_bytes, payload_of};
-ghost use Rattle.journal.specs.Steps.{ClockFits};
+ghost use Rattle.wasi_abi.specs.rules.Layouts.{u16_bytes, u64_bytes};
+ghost use Rattle.disk_layout.specs.rules.Journal.{record_bytes, payload_of};
+ghost use Rattle.journal.specs.rules.Steps.{ClockFits};
 
 use disk_layout::{Record, clock_bytes, record_head};
 use std::alloc::AllocError;

@@ -1,9 +1,9 @@
 // Reading a journal.
 ghost use Rattle.std.specs.Prelude.{◌≡◌, ◌⊎◌, ◌+◌, ◌<◌, ◌≤◌, ℕ, true, length, IfOk, IfErr};
-ghost use Rattle.sector_disk.specs.Image.{Image};
-ghost use Rattle.disk_layout.specs.Places.{journal_place, total_sectors};
-ghost use Rattle.disk_layout.specs.Journal.{payloads_from};
-ghost use Rattle.disk_layout.specs.Stored.{OnlyReads};
+ghost use Rattle.sector_disk.specs.rules.Image.{Image};
+ghost use Rattle.disk_layout.specs.rules.Places.{journal_place, total_sectors};
+ghost use Rattle.disk_layout.specs.rules.Journal.{payloads_from};
+ghost use Rattle.disk_layout.specs.rules.Stored.{OnlyReads};
 
 use crate::fault::JournalFault;
 use disk_layout::{Geometry, is_of, used_length};

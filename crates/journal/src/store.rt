@@ -1,8 +1,8 @@
 // Bytes on sectors of a journal.
 ghost use Rattle.std.specs.Prelude.{◌≡◌, ◌⊎◌, ◌+◌, ◌<◌, ◌≤◌, ◌^◌, length, OnOk, IsErr};
-ghost use Rattle.sector_disk.specs.Medium.{LeavesOnly, After, Follows, IsSettled, CountsUpTo, spare};
-ghost use Rattle.sector_disk.specs.Run.{IsTornRun, IsWrittenRun};
-ghost use Rattle.journal.specs.Packed.{packed, sectors_for};
+ghost use Rattle.sector_disk.specs.rules.Medium.{LeavesOnly, After, Follows, IsAllSynced, CountsUpTo, spare};
+ghost use Rattle.sector_disk.specs.rules.Run.{IsTornRun, IsWrittenRun};
+ghost use Rattle.journal.specs.rules.Packed.{packed, sectors_for};
 
 use disk_layout::{PAYLOAD_SIZE, journal_sector};
 use sector_disk::{Disk, DiskFault};
@@ -27,7 +27,7 @@ pub(crate) fn store_packed<D: Disk>(
     requires places { place + sectors_for (length bytes.now) < 2 ^ 64 }
     ensures any_moment { LeavesOnly (D.medium disk.old) (D.medium disk.new) (After (IsTornRun at (packed generation place (sectors_for (length bytes.now)) bytes.now) (sectors_for (length bytes.now))) (D.medium disk.old).may_leave) }
     ensures stored { OnOk result (Follows (IsWrittenRun at (packed generation place (sectors_for (length bytes.now)) bytes.now) (sectors_for (length bytes.now))) (D.medium disk.old).shows (D.medium disk.new).may_leave) }
-    ensures settled { OnOk result (IsSettled (D.medium disk.new)) }
+    ensures settled { OnOk result (IsAllSynced (D.medium disk.new)) }
     ensures unsynced { (D.medium disk.new).unsynced ≤ (D.medium disk.old).unsynced + sectors_for (length bytes.now) }
     ensures counts { CountsUpTo ((D.medium disk.old).unsynced + sectors_for (length bytes.now)) (D.medium disk.old) (D.medium disk.new) }
     ensures cause { IsErr result → (spare (D.medium disk.old) < sectors_for (length bytes.now)) ⊎ ((D.medium disk.old).faults < (D.medium disk.new).faults) }

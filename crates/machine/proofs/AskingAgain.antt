@@ -7,12 +7,12 @@ use Rattle.wasm_syntax.specs.declared.value.Value.TheVariants as value
 use Rattle.wasm_syntax.specs.declared.value.Trap.TheVariants as trap
 use Rattle.wasm_syntax.specs.declared.instruction.Instruction.{Instruction}
 use Rattle.wasm_syntax.specs.declared.instruction.Instruction.TheVariants as instr
-use Rattle.wasm_syntax.specs.Sequence.{Sequence, Plain}
+use Rattle.wasm_syntax.specs.rules.Sequence.{Sequence, Plain}
 use Rattle.wasm_syntax_rules.specs.Types.{takes_of, is_same_function_type}
 use Rattle.wasm_syntax_rules.specs.Configuration.{Callee, Host, Own, Program, Label, Frame, FrameOf, Thread, Configuration, Outcome, Traps, Asks}
 use Rattle.wasm_syntax_rules.specs.Steps.{where_some, topmost, called, calls_entry, kind_of, entered, execute, rule_of, rule}
-use Rattle.machine_running.proofs.Asking.{IsCall, no_entering, only_calls}
-use Rattle.machine.specs.Laws.{with_bytes}
+use Rattle.machine.proofs.TurnLemmas.Asking.{IsCall, no_entering, only_calls}
+use Rattle.machine.specs.laws.Laws.{with_memory_bytes}
 
 module _ (f : ℕ) (arguments : List Value) (waits : Thread) where
   abbrev Asking : Outcome → Type 0
@@ -46,23 +46,23 @@ module _ (f : ℕ) (arguments : List Value) (waits : Thread) where
     indirect_again program (Some kind) entry h = entry_again program kind entry h
 
   module _ (program : Program) (d : Configuration) (bytes : List ℕ) where
-    plain_again : (g : ℕ) (ls : List Value) (labels : List Label) (i : Instruction) (vs : List Value) (rest : Sequence) (frames : Thread) → IsCall i → Asking (execute program d g ls labels i vs rest frames) → Asking (execute program (with_bytes d bytes) g ls labels i vs rest frames)
-    plain_again g ls labels (instr.Call x) vs rest frames is h = calls_again d (with_bytes d bytes) (λ below. FrameOf g ls labels below rest) vs frames x (slice_get program.functions x) h
+    plain_again : (g : ℕ) (ls : List Value) (labels : List Label) (i : Instruction) (vs : List Value) (rest : Sequence) (frames : Thread) → IsCall i → Asking (execute program d g ls labels i vs rest frames) → Asking (execute program (with_memory_bytes d bytes) g ls labels i vs rest frames)
+    plain_again g ls labels (instr.Call x) vs rest frames is h = calls_again d (with_memory_bytes d bytes) (λ below. FrameOf g ls labels below rest) vs frames x (slice_get program.functions x) h
     plain_again g ls labels (instr.CallIndirect t) [] rest frames is h = h
     plain_again g ls labels (instr.CallIndirect t) (value.I64 n ∷ vs) rest frames is h = h
     plain_again g ls labels (instr.CallIndirect t) (value.I32 n ∷ vs) rest frames is h =
-        indirect_again d (with_bytes d bytes) (λ below. FrameOf g ls labels below rest) vs frames program (slice_get program.types t) (slice_get d.store.table n) h
+        indirect_again d (with_memory_bytes d bytes) (λ below. FrameOf g ls labels below rest) vs frames program (slice_get program.types t) (slice_get d.store.table n) h
     plain_again g ls labels i vs rest frames (inl is) h = absurd (cc (is.1))
     plain_again g ls labels i vs rest frames (inr is) h = absurd (cc (is.1))
 
-    again_of : (g : ℕ) (ls : List Value) (labels : List Label) (vs : List Value) (rest : Sequence) (frames : Thread) → (i : Instruction) × (after : Sequence) × (rest ≡ Plain i after) × IsCall i → Asking (rule_of program d (FrameOf g ls labels vs rest ∷ frames)) → Asking (rule_of program (with_bytes d bytes) (FrameOf g ls labels vs rest ∷ frames))
+    again_of : (g : ℕ) (ls : List Value) (labels : List Label) (vs : List Value) (rest : Sequence) (frames : Thread) → (i : Instruction) × (after : Sequence) × (rest ≡ Plain i after) × IsCall i → Asking (rule_of program d (FrameOf g ls labels vs rest ∷ frames)) → Asking (rule_of program (with_memory_bytes d bytes) (FrameOf g ls labels vs rest ∷ frames))
     again_of g ls labels vs rest frames call h =
         let here : Asking (execute program d g ls labels call.0 vs call.1 frames) = (rw call.2 at h) in
         rw call.2 (plain_again g ls labels call.0 vs call.1 frames call.3 here)
 
-    thread_again : (thread : Thread) → Asking (rule_of program d thread) → Asking (rule_of program (with_bytes d bytes) thread)
+    thread_again : (thread : Thread) → Asking (rule_of program d thread) → Asking (rule_of program (with_memory_bytes d bytes) thread)
     thread_again [] h = absurd (cc)
     thread_again (FrameOf g ls labels vs rest ∷ frames) h = again_of g ls labels vs rest frames (only_calls f arguments waits program d g ls labels vs rest frames h) h
 
-    pub asks_again : Asking (rule program d) → Asking (rule program (with_bytes d bytes))
+    pub asks_again : Asking (rule program d) → Asking (rule program (with_memory_bytes d bytes))
     asks_again h = thread_again d.thread h

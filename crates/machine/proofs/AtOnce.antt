@@ -3,25 +3,25 @@ use Rattle.std.proofs.Common.{◌≡◌, ℕ, List, subst, arith}
 use Rattle.wasm_syntax.specs.declared.types.FunctionType.{FunctionType}
 use Rattle.wasm_syntax_rules.specs.Configuration.{Program, Configuration}
 use Rattle.wasm_syntax_rules.specs.Steps.{IsSettled, Settles}
-use Rattle.machine_standing.specs.Walks.{Walks}
-use Rattle.machine_standing.proofs.Walking.{walks_settle}
-use Rattle.machine_running.specs.declared.code.Code.{Code}
-use Rattle.machine_running.specs.declared.state.State.{State}
-use Rattle.machine_running.specs.declared.pause.Pause.{Pause}
-use Rattle.machine_running.specs.declared.pause.Pause.TheVariants as pause
-use Rattle.machine_running.specs.Codes.{Stands}
-use Rattle.machine_running.specs.Pauses.{Comes, PausesFor}
+use Rattle.machine_rules.specs.Walks.{Walks}
+use Rattle.machine_rules.proofs.Standing.Walking.{walks_settle}
+use Rattle.machine.specs.declared.turns.code.Executable.{Executable}
+use Rattle.machine.specs.declared.turns.state.State.{State}
+use Rattle.machine.specs.declared.turns.pause.Pause.{Pause}
+use Rattle.machine.specs.declared.turns.pause.Pause.TheVariants as pause
+use Rattle.machine.specs.Turns.Codes.{Stands}
+use Rattle.machine.specs.Turns.Pauses.{ComesToState, PausesFor}
 use Rattle.machine.proofs.Settled.{ended_settled}
 
 -- the state stands for what the configuration settles to
-pub record SettlesIn (code : Code) (new : State) (functions : List FunctionType) (program : Program) (d : Configuration) : Type 0 where
+pub record SettlesIn (code : Executable) (new : State) (functions : List FunctionType) (program : Program) (d : Configuration) : Type 0 where
   pub configuration : Configuration
   pub stands : Stands code new functions program configuration
   pub settled : IsSettled program configuration
   pub settles : Settles program d configuration
 
-module _ (code : Code) (new : State) (functions : List FunctionType) (program : Program) (d : Configuration) where
-  come_settles : (left : ℕ) (come : Comes code new functions program d 0 left) → IsSettled program come.configuration → SettlesIn code new functions program d
+module _ (code : Executable) (new : State) (functions : List FunctionType) (program : Program) (d : Configuration) where
+  come_settles : (left : ℕ) (come : ComesToState code new functions program d 0 left) → IsSettled program come.configuration → SettlesIn code new functions program d
   come_settles left come e =
       let used = come.used in
       let none : come.steps ≡ 0 = omega (arith, used) in

@@ -3,23 +3,23 @@ use Rattle.std.proofs.Common.{◌≡◌, ℕ, List, sym, ◌∙◌, subst}
 use Rattle.std.specs.List.{AllByRecursion}
 use Rattle.wasm_syntax.specs.declared.types.FunctionType.{FunctionType}
 use Rattle.wasm_syntax.specs.declared.value.Value.{Value}
-use Rattle.guest_memory.specs.Bytes.{IsByte}
-use Rattle.guest_memory.specs.Memories.{IsWithinLimit}
+use Rattle.guest_memory.specs.rules.Bytes.{IsByte}
+use Rattle.guest_memory.specs.rules.Memories.{IsWithinLimit}
 use Rattle.wasm_syntax_rules.specs.Configuration.{Program, Configuration}
 use Rattle.wasm_syntax_rules.specs.Steps.{answered}
-use Rattle.machine_running.specs.declared.code.Code.{Code}
-use Rattle.machine_running.specs.declared.state.State.{State}
-use Rattle.machine_running.specs.declared.pause.Paused.{Paused}
-use Rattle.machine_running.specs.Codes.{Stands, IsStanding}
-use Rattle.machine_running.specs.Pauses.{Pauses}
-use Rattle.machine_hosting.specs.Answers.{IsWaiting, IsAnswered}
-use Rattle.machine.specs.Runs.{WaitsFor, Answers}
+use Rattle.machine.specs.declared.turns.code.Executable.{Executable}
+use Rattle.machine.specs.declared.turns.state.State.{State}
+use Rattle.machine.specs.declared.turns.pause.Paused.{Paused}
+use Rattle.machine.specs.Turns.Codes.{Stands, IsStanding}
+use Rattle.machine.specs.Turns.Pauses.{Pauses}
+use Rattle.machine.specs.Hosting.Answers.{IsWaiting, IsAnswered}
+use Rattle.machine.specs.rules.Runs.{WaitsFor, Answers}
 use Rattle.machine.specs.Insides.{seen, IsMemoryFor, IsSettledIn, IsMachine, with_memory_of}
 use Rattle.machine.proofs.Inside.{settled_with, shown, stood_for}
 use Rattle.machine.proofs.OneProgram.{one_program, one_list}
 use Rattle.machine.proofs.AtOnce.{SettlesIn, at_once}
 
-module _ (code : Code) (old : State) (most : ℕ) (results : List Value) (machine : IsMachine code old most) (shape : IsWithinLimit old.memory) (bytes : AllByRecursion IsByte old.memory.bytes) (waits : WaitsFor results (seen code old most)) where
+module _ (code : Executable) (old : State) (most : ℕ) (results : List Value) (machine : IsMachine code old most) (shape : IsWithinLimit old.memory) (bytes : AllByRecursion IsByte old.memory.bytes) (waits : WaitsFor results (seen code old most)) where
   stands_old : Stands code old waits.shows.functions waits.program waits.configuration
   stands_old = stood_for code old most machine shape bytes waits.program waits.configuration waits.shows
 

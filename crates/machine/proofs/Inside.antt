@@ -2,21 +2,21 @@
 use Rattle.std.proofs.Common.{ℕ, ◌*◌, ◌/◌, ◌≤◌, List, length, refl, sym, ◌∙◌, subst, arith}
 use Rattle.std.specs.List.{AllByRecursion}
 use Rattle.wasm_syntax.specs.declared.types.FunctionType.{FunctionType}
-use Rattle.guest_memory.specs.Bytes.{IsByte, page_size}
-use Rattle.guest_memory.specs.Memories.{LinearMemory, IsWithinLimit}
+use Rattle.guest_memory.specs.rules.Bytes.{IsByte, page_size}
+use Rattle.guest_memory.specs.rules.Memories.{LinearMemory, IsWithinLimit}
 use Rattle.wasm_syntax_rules.specs.Validity.{module_context}
 use Rattle.wasm_syntax_rules.specs.Configuration.{Program, Configuration}
 use Rattle.wasm_syntax_rules.specs.Steps.{IsSettled}
-use Rattle.wasm_syntax_soundness.specs.Typed.{IsTypedMemory}
-use Rattle.machine_threads.proofs.Showing.{settled_is_shown, shown_stands}
-use Rattle.machine_routines.specs.Routines.{opcodes_in, tables_in}
-use Rattle.machine_running.specs.declared.code.Code.{Code}
-use Rattle.machine_running.specs.declared.state.State.{State}
-use Rattle.machine_running.specs.Codes.{held_of, Stands}
-use Rattle.machine_running.proofs.Advancing.{ready}
-use Rattle.machine.specs.Values.{IsProgramIn, ShowsIn}
+use Rattle.wasm_syntax_rules.specs.Typed.{IsTypedMemory}
+use Rattle.machine_rules.proofs.Threads.Showing.{settled_is_shown, shown_stands}
+use Rattle.machine.specs.Routines.Routines.{opcodes_in, tables_in}
+use Rattle.machine.specs.declared.turns.code.Executable.{Executable}
+use Rattle.machine.specs.declared.turns.state.State.{State}
+use Rattle.machine.specs.Turns.Codes.{parts_of_state, Stands}
+use Rattle.machine.proofs.TurnLemmas.Advancing.{ready}
+use Rattle.machine.specs.rules.Values.{IsProgramIn, ShowsIn}
 use Rattle.machine.specs.Insides.{seen, IsMemoryFor, IsSettledIn, IsMachine, with_memory_of}
-use Rattle.machine.specs.Laws.{with_bytes}
+use Rattle.machine.specs.laws.Laws.{with_memory_bytes}
 use Rattle.machine.proofs.Settled.{another_store}
 
 -- a memory of this limit is one of such a program
@@ -31,8 +31,8 @@ typed_memory program memory h =
       bytes = h.bytes;
     }
 
-module _ (code : Code) (s : State) (functions : List FunctionType) (program : Program) (d : Configuration) (stands : Stands code s functions program d) where
-  pub with_another : (memory : LinearMemory) → IsMemoryFor program.most_pages memory → Stands code (with_memory_of s memory) functions program (with_bytes d memory.bytes)
+module _ (code : Executable) (s : State) (functions : List FunctionType) (program : Program) (d : Configuration) (stands : Stands code s functions program d) where
+  pub with_another : (memory : LinearMemory) → IsMemoryFor program.most_pages memory → Stands code (with_memory_of s memory) functions program (with_memory_bytes d memory.bytes)
   with_another memory h =
       let k = stands.stands in
       record {
@@ -54,7 +54,7 @@ module _ (code : Code) (s : State) (functions : List FunctionType) (program : Pr
 
   pub settled_with : (memory : LinearMemory) → IsSettled program d → IsMemoryFor program.most_pages memory → IsSettledIn code (with_memory_of s memory) functions program
   settled_with memory e h = record {
-    configuration = with_bytes d memory.bytes;
+    configuration = with_memory_bytes d memory.bytes;
     stands = with_another memory h;
     settled = another_store program d.thread d.later d.store (record d.store { memory = memory.bytes }) e;
   }
@@ -66,18 +66,18 @@ module _ (code : Code) (s : State) (functions : List FunctionType) (program : Pr
       functions = functions;
       is = is;
       holds = stands.stands.shown.limit_is ∙ is.most;
-      shows = settled_is_shown (module_context code.«module» functions) program (opcodes_in code.«module») (tables_in code.«module» code.routines.items) code.table.items (held_of s) d (ready code s functions program d stands) stands.stands e;
+      shows = settled_is_shown (module_context code.«module» functions) program (opcodes_in code.«module») (tables_in code.«module» code.routines.items) code.table.items (parts_of_state s) d (ready code s functions program d stands) stands.stands e;
     }
 
 -- and what is shown, it stands for
-pub shown_is_stood_for : (code : Code) (s : State) (most : ℕ) (program : Program) (d e : Configuration) → (shows : ShowsIn (seen code s most) program d) → Stands code s shows.functions program e → Stands code s shows.functions program d
+pub shown_is_stood_for : (code : Executable) (s : State) (most : ℕ) (program : Program) (d e : Configuration) → (shows : ShowsIn (seen code s most) program d) → Stands code s shows.functions program e → Stands code s shows.functions program d
 shown_is_stood_for code s most program d e shows stands = record {
   is_code = stands.is_code;
-  stands = shown_stands (module_context code.«module» shows.functions) program code.table.items (held_of s) e d (shows.holds ∙ sym shows.is.most) stands.stands shows.shows;
+  stands = shown_stands (module_context code.«module» shows.functions) program code.table.items (parts_of_state s) e d (shows.holds ∙ sym shows.is.most) stands.stands shows.shows;
 }
 
 -- the memory that it holds is one of those that may be in its place
-pub stood_for : (code : Code) (s : State) (most : ℕ) → IsMachine code s most → IsWithinLimit s.memory → AllByRecursion IsByte s.memory.bytes → (program : Program) (d : Configuration) → (shows : ShowsIn (seen code s most) program d) → Stands code s shows.functions program d
+pub stood_for : (code : Executable) (s : State) (most : ℕ) → IsMachine code s most → IsWithinLimit s.memory → AllByRecursion IsByte s.memory.bytes → (program : Program) (d : Configuration) → (shows : ShowsIn (seen code s most) program d) → Stands code s shows.functions program d
 stood_for code s most machine shape bytes program d shows =
     let memory : IsMemoryFor most s.memory = record { limit = shows.holds; shape = shape; bytes = bytes } in
     let some = machine.settled s.memory shows.functions program memory shows.is in

@@ -9,3 +9,8 @@ pub mod AskingAgain
 pub mod Written
 pub mod Finished
 pub mod Stopped
+pub mod FrameLemmas
+pub mod RoutineLemmas
+pub mod TurnLemmas
+pub mod InstanceLemmas
+pub mod HostingLemmas

@@ -9,34 +9,20 @@ use Rattle.wasm_syntax_rules.specs.Configuration.{Program, Store, Configuration}
 use Rattle.wasm_syntax_rules.specs.Instantiation.{IsProgram, IsInitialStore, calls_of, Begins}
 use Rattle.wasm_syntax_rules.specs.Steps.{Settles}
 use Rattle.wasm_syntax_rules.proofs.OneRun.{settles_once}
-use Rattle.machine_instance.proofs.Constant.{initial_once}
-use Rattle.machine_running.specs.declared.state.State.{State}
-use Rattle.machine_running.specs.declared.pause.Paused.{Paused}
-use Rattle.machine_running.specs.Codes.{IsStanding}
-use Rattle.machine_running.specs.Pauses.{Pauses}
-use Rattle.machine_hosting.specs.declared.starting.Beginning.{Beginning}
-use Rattle.machine_hosting.specs.Beginnings.{first, HasBegun as HasStarted}
-use Rattle.machine.specs.Values.{IsProgramIn, ShowsIn}
-use Rattle.machine.specs.Runs.{HasBegun}
+use Rattle.wasm_syntax_rules.proofs.OneStore.{store_once}
+use Rattle.machine.specs.declared.turns.state.State.{State}
+use Rattle.machine.specs.declared.turns.pause.Paused.{Paused}
+use Rattle.machine.specs.Turns.Codes.{IsStanding}
+use Rattle.machine.specs.Turns.Pauses.{Pauses}
+use Rattle.machine.specs.declared.hosting.starting.MachineStart.{MachineStart}
+use Rattle.machine.specs.Hosting.Beginnings.{first, StartStands as HasStarted}
+use Rattle.machine.specs.rules.Values.{IsProgramIn, ShowsIn}
+use Rattle.machine.specs.rules.Runs.{HasBegun}
 use Rattle.machine.specs.Insides.{seen, IsMemoryFor, IsMachine}
 use Rattle.machine.proofs.Inside.{settled_with, shown}
 use Rattle.machine.proofs.AtOnce.{SettlesIn, at_once}
 
-some_once : {X : Type 0} (o : Option X) (x y : X) → o ≡ Some x → o ≡ Some y → x ≡ y
-some_once o x y e f = cc
-
-abbrev pub store_of : List ℕ → List Value → List (Option ℕ) → Store
-store_of memory globals table = record { memory = memory; globals = globals; table = table }
-
-store_is : (a b : Store) → a.memory ≡ b.memory → a.globals ≡ b.globals → a.table ≡ b.table → a ≡ b
-store_is a b x y z = let whole : store_of a.memory a.globals a.table ≡ store_of b.memory b.globals b.table = rw (x, y, z) refl in whole
-
-store_once : (m : Module) (a b : Store) → IsInitialStore m a → IsInitialStore m b → a ≡ b
-store_once m a b h k =
-    let globals : a.globals ≡ b.globals = initial_once m.globals a.globals b.globals h.globals k.globals in
-    store_is a b (some_once _ a.memory b.memory h.memory (rw globals k.memory)) globals (some_once _ a.table b.table h.table (rw globals k.table))
-
-module _ (pages : ℕ) (m : Module) (b : Beginning) (few : pages ≤ 2 ^ 16) (h : HasStarted pages m b) where
+module _ (pages : ℕ) (m : Module) (b : MachineStart) (few : pages ≤ 2 ^ 16) (h : HasStarted pages m b) where
   pub begin_stands : IsStanding b.code b.state
   begin_stands = record {
     functions = h.functions;

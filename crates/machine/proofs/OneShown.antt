@@ -8,16 +8,16 @@ use Rattle.wasm_syntax.specs.declared.types.FunctionType.{FunctionType}
 use Rattle.wasm_syntax.specs.declared.value.Value.{Value}
 use Rattle.wasm_syntax.specs.declared.value.Value.TheVariants as value
 use Rattle.wasm_syntax.specs.declared.instruction.Instruction.TheVariants as instr
-use Rattle.wasm_syntax.specs.Sequence.{Sequence, Plain}
+use Rattle.wasm_syntax.specs.rules.Sequence.{Sequence, Plain}
 use Rattle.wasm_syntax_rules.specs.Types.{AreOf, number_in, value_type_of}
 use Rattle.wasm_syntax_rules.specs.Typing.{Context, body_context}
 use Rattle.wasm_syntax_rules.specs.Validity.{module_context}
 use Rattle.wasm_syntax_rules.specs.Shapes.{Shape, LabelShape, ShapeOf, body_shape}
 use Rattle.wasm_syntax_rules.specs.Configuration.{Own, Program, Label, LabelOf, FrameOf, Thread, Configuration}
-use Rattle.wasm_syntax_soundness.proofs.Values.{are_both, reverse_are}
-use Rattle.machine_state.specs.Places.{Place, MachineState, HaveShape, all_below, slots_of, IsCallOf, ShowsRunning, ShowsWaiting, IsFrameOf, ShowsCallers, ShowsThread, Shows}
-use Rattle.machine_threads.proofs.Words.{same_parts, values_count}
-use Rattle.machine.specs.Laws.{ShowsOne}
+use Rattle.wasm_syntax_rules.proofs.Soundness.Values.{are_both, reverse_are}
+use Rattle.machine_slots.specs.rules.Places.{ShownFrame, MachineState, HaveShape, all_below, slots_of, IsCallOf, ShowsRunning, ShowsWaiting, IsFrameOf, ShowsCallers, ShowsThread, Shows}
+use Rattle.machine_rules.proofs.Threads.Words.{same_parts, values_count}
+use Rattle.machine.specs.laws.Laws.{MachineShowsOne}
 use Rattle.machine.proofs.OneProgram.{one_program, one_list}
 
 -- ---- values
@@ -100,7 +100,7 @@ same_call c (Plain (instr.Call x) after) kind takes takes' rest rest' h k = (h.1
 same_call c (Plain (instr.CallIndirect x) after) kind takes takes' rest rest' h k = (h.1 ∙ sym k.1, h.2 ∙ sym k.2)
 same_call c _ kind takes takes' rest rest' h k = absurd h
 
-module _ (c : Context) (body : Sequence) (place : Place) (f f' : ℕ) (ls ms : List Value) (labels others : List Label) (vs ws : List Value) (rest rest' : Sequence) where
+module _ (c : Context) (body : Sequence) (place : ShownFrame) (f f' : ℕ) (ls ms : List Value) (labels others : List Label) (vs ws : List Value) (rest rest' : Sequence) where
   one_running : f ≡ f' → ShowsRunning c body place ls labels vs rest → ShowsRunning c body place ms others ws rest' → FrameOf f ls labels vs rest ≡ FrameOf f' ms others ws rest'
   one_running same h k =
       let shape : k.shape ≡ h.shape = same_shape c body place.position k.shape h.shape k.reached h.reached in
@@ -128,7 +128,7 @@ module _ (c : Context) (body : Sequence) (place : Place) (f f' : ℕ) (ls ms : L
 -- ---- threads
 
 -- equal functions are shown by the same frames
-module _ (c : Context) (place : Place) (ls : List Value) (labels : List Label) (vs : List Value) (rest : Sequence) (kind kind' : FunctionType) (declared declared' : List ValueType) (body body' : Sequence) (a : kind ≡ kind') (b : declared ≡ declared') (d : body ≡ body') where
+module _ (c : Context) (place : ShownFrame) (ls : List Value) (labels : List Label) (vs : List Value) (rest : Sequence) (kind kind' : FunctionType) (declared declared' : List ValueType) (body body' : Sequence) (a : kind ≡ kind') (b : declared ≡ declared') (d : body ≡ body') where
   running_of : ShowsRunning (body_context c kind declared) body place ls labels vs rest → ShowsRunning (body_context c kind' declared') body' place ls labels vs rest
   running_of h = rw (← a, ← b, ← d) h
 
@@ -136,7 +136,7 @@ module _ (c : Context) (place : Place) (ls : List Value) (labels : List Label) (
   waiting_of above h = rw (← a, ← b, ← d) h
 
 -- a place has one function, with one type, one list of declared locals and one body
-module _ (c : Context) (program : Program) (place : Place) (f f' : ℕ) (h : IsFrameOf c program place f) (k : IsFrameOf c program place f') where
+module _ (c : Context) (program : Program) (place : ShownFrame) (f f' : ℕ) (h : IsFrameOf c program place f) (k : IsFrameOf c program place f') where
   same_function : f ≡ f'
   same_function = sym h.same ∙ k.same
 
@@ -152,7 +152,7 @@ module _ (c : Context) (program : Program) (place : Place) (f f' : ℕ) (h : IsF
   same_body : k.body ≡ h.body
   same_body = let e = same_own in cc
 
-  same_callers : (places : List Place) (thread : Thread) → ShowsCallers c program k.kind places thread → ShowsCallers c program h.kind places thread
+  same_callers : (places : List ShownFrame) (thread : Thread) → ShowsCallers c program k.kind places thread → ShowsCallers c program h.kind places thread
   same_callers places thread = subst (λ (z : FunctionType). ShowsCallers c program z places thread) same_kind
 
   module _ (ls ms : List Value) (labels others : List Label) (vs ws : List Value) (rest rest' : Sequence) where
@@ -166,7 +166,7 @@ module _ (c : Context) (program : Program) (place : Place) (f f' : ℕ) (h : IsF
         one_waiting (body_context c h.kind h.declared) h.body place f f' ls ms labels others vs ws rest rest' above same_function a
         (waiting_of c place ms others ws rest' k.kind h.kind k.declared h.declared k.body h.body same_kind same_declared same_body above b)
 
-one_caller : (c : Context) (program : Program) (above : FunctionType) (places : List Place) (thread other : Thread) → ShowsCallers c program above places thread → ShowsCallers c program above places other → thread ≡ other
+one_caller : (c : Context) (program : Program) (above : FunctionType) (places : List ShownFrame) (thread other : Thread) → ShowsCallers c program above places thread → ShowsCallers c program above places other → thread ≡ other
 one_caller c program above [] [] [] h k = refl
 one_caller c program above [] [] (g ∷ others) h k = absurd k
 one_caller c program above [] (g ∷ frames) other h k = absurd h
@@ -177,7 +177,7 @@ one_caller c program above (place ∷ places) (FrameOf f ls labels vs rest ∷ f
     let behind = one_caller c program h.0.kind places frames others h.2 (same_callers c program place f f' h.0 k.0 places others k.2) in
     cc
 
-one_thread : (c : Context) (program : Program) (places : List Place) (thread other : Thread) → ShowsThread c program places thread → ShowsThread c program places other → thread ≡ other
+one_thread : (c : Context) (program : Program) (places : List ShownFrame) (thread other : Thread) → ShowsThread c program places thread → ShowsThread c program places other → thread ≡ other
 one_thread c program [] [] [] h k = refl
 one_thread c program [] [] (g ∷ others) h k = absurd k
 one_thread c program [] (g ∷ frames) other h k = absurd h
@@ -205,7 +205,7 @@ one_configuration c program table state d e h k =
     rw (memory, globals, tables, thread, later) refl in
     whole
 
-pub shows_one : ShowsOne
+pub shows_one : MachineShowsOne
 shows_one v p q d e h k =
     let programs : q ≡ p = one_program v.guest v.most_pages k.functions h.functions q p k.is h.is in
     let functions : k.functions ≡ h.functions = one_list v.guest v.most_pages k.functions h.functions q p k.is h.is in

@@ -2,26 +2,26 @@
 use Rattle.std.proofs.Common.{◌∙◌, ◌≡◌, ℕ, List, refl, sym, subst}
 use Rattle.std.specs.List.{AllByRecursion}
 use Rattle.wasm_syntax.specs.declared.types.FunctionType.{FunctionType}
-use Rattle.guest_memory.specs.Bytes.{IsByte}
-use Rattle.guest_memory.specs.Memories.{IsWithinLimit}
+use Rattle.guest_memory.specs.rules.Bytes.{IsByte}
+use Rattle.guest_memory.specs.rules.Memories.{IsWithinLimit}
 use Rattle.wasi_abi.specs.declared.call.Call.{Call}
 use Rattle.wasm_syntax_rules.specs.Configuration.{Program, Configuration}
 use Rattle.wasm_syntax_rules.specs.Steps.{stopped, IsSettled}
-use Rattle.machine_standing.proofs.Walking.{walks_are_steps}
-use Rattle.machine_running.specs.declared.code.Code.{Code}
-use Rattle.machine_running.specs.declared.state.State.{State}
-use Rattle.machine_running.specs.declared.pause.Pause.{Pause}
-use Rattle.machine_running.specs.declared.pause.Pause.TheVariants as pause
-use Rattle.machine_running.specs.declared.pause.Paused.{Paused}
-use Rattle.machine_running.specs.Codes.{Stands, IsStanding}
-use Rattle.machine_running.specs.Pauses.{Comes, AsksFor as CodeAsksFor, PausesFor, Pauses}
-use Rattle.machine.specs.Values.{IsProgramIn}
-use Rattle.machine.specs.Runs.{Arrives, AsksFor, RunsFor, Runs}
+use Rattle.machine_rules.proofs.Standing.Walking.{walks_are_steps}
+use Rattle.machine.specs.declared.turns.code.Executable.{Executable}
+use Rattle.machine.specs.declared.turns.state.State.{State}
+use Rattle.machine.specs.declared.turns.pause.Pause.{Pause}
+use Rattle.machine.specs.declared.turns.pause.Pause.TheVariants as pause
+use Rattle.machine.specs.declared.turns.pause.Paused.{Paused}
+use Rattle.machine.specs.Turns.Codes.{Stands, IsStanding}
+use Rattle.machine.specs.Turns.Pauses.{ComesToState, RuleAsksFor as CodeAsksFor, PausesFor, Pauses}
+use Rattle.machine.specs.rules.Values.{IsProgramIn}
+use Rattle.machine.specs.rules.Runs.{Arrives, AsksFor, RunsFor, RunsOnFuel}
 use Rattle.machine.specs.Insides.{seen, IsMemoryFor, IsSettledIn, IsMachine}
 use Rattle.machine.proofs.Settled.{ended_settled, asking_settled, trapping_settled}
 use Rattle.machine.proofs.Inside.{settled_with, shown, stood_for}
 
-module _ (code : Code) (new : State) (most : ℕ) (functions : List FunctionType) (program : Program) (d : Configuration) where
+module _ (code : Executable) (new : State) (most : ℕ) (functions : List FunctionType) (program : Program) (d : Configuration) where
   -- a pause leaves something settled
   pub pause_settles : (fuel left : ℕ) (why : Pause) → PausesFor code new functions program d fuel left why → IsSettledIn code new functions program
   pause_settles fuel left pause.Spent h = record { configuration = h.0.configuration; stands = h.0.stands; settled = h.1 }
@@ -30,7 +30,7 @@ module _ (code : Code) (new : State) (most : ℕ) (functions : List FunctionType
   pause_settles fuel left (pause.Trapped why) h = record { configuration = stopped h.configuration; stands = h.stands; settled = refl }
 
   module _ (is : IsProgramIn code.«module» most functions program) (before : IsSettled program d) where
-    arrives : (fuel left : ℕ) (come : Comes code new functions program d fuel left) → IsSettled program come.configuration → Arrives (seen code new most) program d fuel left
+    arrives : (fuel left : ℕ) (come : ComesToState code new functions program d fuel left) → IsSettled program come.configuration → Arrives (seen code new most) program d fuel left
     arrives fuel left come e = record {
       configuration = come.configuration;
       steps = come.steps;
@@ -71,7 +71,7 @@ module _ (code : Code) (new : State) (most : ℕ) (functions : List FunctionType
 
 -- ---- the whole
 
-module _ (code : Code) (old new : State) (most : ℕ) (machine : IsMachine code old most) (holds : old.memory.limit ≡ most) (shape : IsWithinLimit old.memory) (bytes : AllByRecursion IsByte old.memory.bytes) where
+module _ (code : Executable) (old new : State) (most : ℕ) (machine : IsMachine code old most) (holds : old.memory.limit ≡ most) (shape : IsWithinLimit old.memory) (bytes : AllByRecursion IsByte old.memory.bytes) where
   old_memory : IsMemoryFor most old.memory
   old_memory = record { limit = holds; shape = shape; bytes = bytes }
 
@@ -100,7 +100,7 @@ module _ (code : Code) (old new : State) (most : ℕ) (machine : IsMachine code 
       let after = pause_settles code new most machine.functions machine.program some.configuration fuel paused.left paused.why (pauses machine.functions machine.program some.configuration some.stands) in
       after.stands.stands.shown.limit_is ∙ machine.is.most
 
-  pub runs : (fuel : ℕ) (paused : Paused) → Pauses code old fuel paused new → Runs (seen code old most) fuel paused (seen code new most)
+  pub runs : (fuel : ℕ) (paused : Paused) → Pauses code old fuel paused new → RunsOnFuel (seen code old most) fuel paused (seen code new most)
   runs fuel paused pauses program d shows =
       let stands = stood_for code old most machine shape bytes program d shows in
       runs_for code new most shows.functions program d shows.is shows.shows.settled fuel paused.left paused.why (pauses shows.functions program d stands)

@@ -2,21 +2,21 @@
 use Rattle.std.proofs.Common.{◌≡◌, ℕ, List, [], refl, sym, ap, ◌∙◌, subst, arith}
 use Rattle.std.specs.Prelude.{reverse}
 use Rattle.wasm_syntax.specs.declared.types.FunctionType.{FunctionType}
-use Rattle.guest_memory.specs.Memories.{LinearMemory}
+use Rattle.guest_memory.specs.rules.Memories.{LinearMemory}
 use Rattle.wasm_syntax_rules.specs.Validity.{module_context}
 use Rattle.wasm_syntax_rules.specs.Configuration.{Program}
 use Rattle.wasm_syntax_rules.specs.Steps.{stopped}
-use Rattle.machine_state.specs.Places.{Place, ShowsThread}
-use Rattle.machine_threads.specs.Threads.{places_of}
-use Rattle.machine_running.specs.declared.code.Code.{Code}
-use Rattle.machine_running.specs.declared.state.State.{State}
-use Rattle.machine_running.specs.Turns.{IsCleared}
-use Rattle.machine_running.proofs.Advancing.{cleared_stands}
-use Rattle.machine.specs.Values.{IsProgramIn}
-use Rattle.machine.specs.Runs.{Stops}
+use Rattle.machine_slots.specs.rules.Places.{ShownFrame, ShowsThread}
+use Rattle.machine_rules.specs.Threads.{places_of}
+use Rattle.machine.specs.declared.turns.code.Executable.{Executable}
+use Rattle.machine.specs.declared.turns.state.State.{State}
+use Rattle.machine.specs.Turns.Turns.{IsCleared}
+use Rattle.machine.proofs.TurnLemmas.Advancing.{cleared_stands}
+use Rattle.machine.specs.rules.Values.{IsProgramIn}
+use Rattle.machine.specs.rules.Runs.{Stops}
 use Rattle.machine.specs.Insides.{seen, IsMemoryFor, IsSettledIn, IsMachine, with_memory_of}
 
-module _ (code : Code) (old new : State) (most : ℕ) (cleared : IsCleared old new) where
+module _ (code : Executable) (old new : State) (most : ℕ) (cleared : IsCleared old new) where
   settled_with : IsMachine code old most → (memory : LinearMemory) (functions : List FunctionType) (program : Program) → IsMemoryFor most memory → IsProgramIn code.«module» most functions program → IsSettledIn code (with_memory_of new memory) functions program
   settled_with machine memory functions program h is =
       let some = machine.settled memory functions program h is in
@@ -48,7 +48,7 @@ module _ (code : Code) (old new : State) (most : ℕ) (cleared : IsCleared old n
           globals = ap (λ v. v.items) cleared.globals ∙ s.globals;
           same_table = s.same_table;
           later = ap reverse cleared.later;
-          frames = let P : List Place → Type 0 = λ places. ShowsThread (module_context code.«module» h.functions) program places [] in subst P (sym no_places) tt;
+          frames = let P : List ShownFrame → Type 0 = λ places. ShowsThread (module_context code.«module» h.functions) program places [] in subst P (sym no_places) tt;
           few_frames = rw no_places (omega arith);
           few_values = omega arith;
         };

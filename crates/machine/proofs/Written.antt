@@ -1,11 +1,11 @@
 -- A machine shows the bytes that are written, and waits as before.
 use Rattle.std.proofs.Common.{◌≡◌, ℕ, List, length, refl, ap, ◌∙◌}
 use Rattle.std.specs.List.{AllByRecursion}
-use Rattle.guest_memory.specs.Bytes.{IsByte}
-use Rattle.wasi_abi.specs.Calls.{function_type_of}
+use Rattle.guest_memory.specs.rules.Bytes.{IsByte}
+use Rattle.wasi_abi.specs.rules.Calls.{call_type_of}
 use Rattle.wasm_syntax_rules.specs.Configuration.{Program}
-use Rattle.wasm_syntax_soundness.specs.Typed.{IsTypedMemory}
-use Rattle.machine.specs.Laws.{with_bytes, ShowsWhatIsWritten, WaitsForTheCall}
+use Rattle.wasm_syntax_rules.specs.Typed.{IsTypedMemory}
+use Rattle.machine.specs.laws.Laws.{with_memory_bytes, ShowsWhatIsWritten, WaitsForTheCall}
 use Rattle.machine.proofs.AskingAgain.{asks_again}
 use Rattle.machine.proofs.Settled.{another_store}
 
@@ -43,12 +43,12 @@ shows_what_is_written v memory program d count bytes limit h =
 pub waits_for_the_call : WaitsForTheCall
 waits_for_the_call v memory program d call numbers results count bytes limit shows asks gives = record {
   program = program;
-  configuration = with_bytes d memory.bytes;
+  configuration = with_memory_bytes d memory.bytes;
   shows = shows_what_is_written v memory program d count bytes limit shows;
   function = asks.function;
   arguments = asks.operands;
   waits = asks.waits;
-  kind = function_type_of call;
+  kind = call_type_of call;
   asks = asks_again asks.function asks.operands asks.waits program d memory.bytes asks.asks;
   is_host = asks.is_host;
   gives = gives;

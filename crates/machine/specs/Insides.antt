@@ -2,19 +2,19 @@
 use Rattle.std.specs.Prelude.{◌≡◌, ℕ, List}
 use Rattle.std.specs.List.{AllByRecursion}
 use Rattle.wasm_syntax.specs.declared.types.FunctionType.{FunctionType}
-use Rattle.guest_memory.specs.Bytes.{IsByte}
-use Rattle.guest_memory.specs.Memories.{LinearMemory, IsWithinLimit}
+use Rattle.guest_memory.specs.rules.Bytes.{IsByte}
+use Rattle.guest_memory.specs.rules.Memories.{LinearMemory, IsWithinLimit}
 use Rattle.wasm_syntax_rules.specs.Configuration.{Program, Configuration}
 use Rattle.wasm_syntax_rules.specs.Steps.{IsSettled}
-use Rattle.machine_threads.specs.Threads.{state_of}
-use Rattle.machine_running.specs.declared.code.Code.{Code}
-use Rattle.machine_running.specs.declared.state.State.{State}
-use Rattle.machine_running.specs.Codes.{held_of, Stands}
-use Rattle.machine.specs.Values.{MachineValue, IsProgramIn}
+use Rattle.machine_rules.specs.Threads.{machine_state_of}
+use Rattle.machine.specs.declared.turns.code.Executable.{Executable}
+use Rattle.machine.specs.declared.turns.state.State.{State}
+use Rattle.machine.specs.Turns.Codes.{parts_of_state, Stands}
+use Rattle.machine.specs.rules.Values.{MachineValue, IsProgramIn}
 
 -- what is seen of them
-abbrev pub seen : Code → State → ℕ → MachineValue
-seen code s most_pages = record { guest = code.«module»; most_pages = most_pages; table = code.table.items; state = state_of (held_of s); limit = s.memory.limit }
+abbrev pub seen : Executable → State → ℕ → MachineValue
+seen code s most_pages = record { guest = code.«module»; most_pages = most_pages; table = code.table.items; state = machine_state_of (parts_of_state s); limit = s.memory.limit }
 
 -- whole pages of bytes, with this limit
 pub record IsMemoryFor (most_pages : ℕ) (memory : LinearMemory) : Type 0 where
@@ -23,7 +23,7 @@ pub record IsMemoryFor (most_pages : ℕ) (memory : LinearMemory) : Type 0 where
   pub bytes : AllByRecursion IsByte memory.bytes
 
 -- it stands for some settled configuration of the program
-pub record IsSettledIn (code : Code) (s : State) (functions : List FunctionType) (program : Program) : Type 0 where
+pub record IsSettledIn (code : Executable) (s : State) (functions : List FunctionType) (program : Program) : Type 0 where
   pub configuration : Configuration
   pub stands : Stands code s functions program configuration
   pub settled : IsSettled program configuration
@@ -33,7 +33,7 @@ with_memory_of s memory = record s { memory = memory }
 
 -- The code has a program. With each memory that may be in the place of the state's own, the state stands for some settled
 -- configuration of each program.
-pub record IsMachine (code : Code) (s : State) (most_pages : ℕ) : Type 0 where
+pub record IsMachine (code : Executable) (s : State) (most_pages : ℕ) : Type 0 where
   pub functions : List FunctionType
   pub program : Program
   pub is : IsProgramIn code.«module» most_pages functions program

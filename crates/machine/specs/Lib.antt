@@ -1,5 +1,9 @@
-pub mod Values
-pub mod Runs
 pub mod Insides
 pub mod Lends
-pub mod Laws
+pub mod Frame
+pub mod Routines
+pub mod Turns
+pub mod Instance
+pub mod Hosting
+pub mod laws
+pub mod rules

@@ -1,10 +1,48 @@
-//! The machine: a module that is linked to the host, and runs (Core Specification 1.0, chapter 4).
+//! The machine: a valid module that is linked to the host, and runs (Core Specification 1.0,
+//! chapter 4; linking is section 4.5.4).
+//!
+//! # Promises
+//!
+//! - `link`: the machine shows where the module begins (`begun`). A fault names the first thing
+//!   that isn't there (`refused`), and but for want of memory the module can't be linked (`only`).
+//!   Parameters and bodies have to be within the limits (`types`, `functions`).
+//! - `Machine::run`: on so much fuel it comes to where that many counted rules lead. It pauses
+//!   spent, at a call of the host, ended or trapped, as the rules say (`runs`).
+//! - `finish`: what the host's answer makes of the configuration that waits is then shown
+//!   (`answers`). It asks that such a call waits (`waits`).
+//! - `stop` drops the thread. What was shown is shown without it (`stops`).
+//! - `memory` is the guest's memory. `memory_mut` lends it, and nothing else changes
+//!   (`writes_back`). `unlink` gives the module back.
+//! - `laws`: a machine shows one configuration at most (`shows_one`). While a call waits memory
+//!   may be written (`memory_may_be_written`). No call of the host is an entry
+//!   (`no_call_is_an_entry`).
+//!
+//! # Definitions to read
+//!
+//! In `specs/rules/`: `MachineValue`, `ShowsIn` (`Values.antt`); `HasBegun`, `RunsOnFuel`,
+//! `WaitsFor`, `Answers`, `Stops` (`Runs.antt`); `IsRefused`, `LinkDenies` (`Refusals.antt`);
+//! `offer` (`Offers.antt`). Beside these: `CanStart`, `CanBegin` (`specs/Instance/Initial.antt`),
+//! `call_results` (`specs/Hosting/Answers.antt`), and `Shows` of `machine_slots`.
+//!
+//! # Who may touch what
+//!
+//! No code but this crate's and that of `machine_slots`, `machine_jumps` and `machine_rules` looks
+//! at frames, slots or positions. Callers have `Machine`, and `Pause` with its `Arguments`.
+//! `machine_loader`, `process` and `worker` use it. `link` takes all memory that running needs;
+//! where it fails the module is gone. The other calls take none and have no errors.
 #![tactic(auto)]
 
+mod frame;
+mod frames;
+mod hosting;
+mod instance;
 pub mod laws;
 mod linking;
+mod routines;
 mod running;
+mod turns;
 
+pub use instance::LinkFault;
 pub use linking::link;
-pub use machine_instance::LinkFault;
 pub use running::Machine;
+pub use turns::{Arguments, Pause, Paused};

@@ -2,17 +2,17 @@
 
 ghost use Rattle.std.specs.Prelude.{◌≤◌, IfOk, IfErr};
 ghost use Rattle.std.specs.List.{AllByRecursion};
-ghost use Rattle.wasm_syntax_grammar.specs.Limits.{HasFewParameters, IsSmallFunction};
+ghost use Rattle.wasm_syntax.specs.rules.Limits.{HasFewParameters, IsSmallFunction};
 ghost use Rattle.wasm_syntax_rules.specs.Linking.{IsLinkable};
-ghost use Rattle.machine_instance.specs.Offers.{offer};
-ghost use Rattle.machine_instance.specs.Refusals.{IsRefused, Denies};
-ghost use Rattle.machine.specs.Runs.{HasBegun};
+ghost use Rattle.machine.specs.rules.Offers.{offer};
+ghost use Rattle.machine.specs.rules.Refusals.{IsRefused, LinkDenies};
+ghost use Rattle.machine.specs.rules.Runs.{HasBegun};
 
+use crate::hosting::{MachineStart, begin};
+use crate::instance::LinkFault;
 use crate::running::Machine;
+use crate::turns::go_on;
 use guest_memory::MOST_PAGES;
-use machine_hosting::{Beginning, begin};
-use machine_instance::LinkFault;
-use machine_running::go_on;
 use std::alloc::Global;
 use wasm_validate::ValidModule;
 
@@ -24,9 +24,9 @@ pub fn link(module: ValidModule, pages: u32, alloc: Global) -> Result<Machine, L
     requires functions { AllByRecursion IsSmallFunction «module».functions }
     ensures begun { IfOk result (HasBegun pages «module») }
     ensures refused { IfErr result (IsRefused pages «module») }
-    ensures only { IfErr result (Denies (IsLinkable offer pages «module»)) }
+    ensures only { IfErr result (LinkDenies (IsLinkable offer pages «module»)) }
 {
-    let Beginning { code, mut state } = begin(module, pages, alloc)?;
+    let MachineStart { code, mut state } = begin(module, pages, alloc)?;
     let most_pages = state.memory.limit();
     let _ = go_on(&code, &mut state, 0);
     Ok(Machine {

@@ -2,26 +2,26 @@
 
 ghost use Rattle.std.specs.Prelude.{◌≡◌};
 ghost use Rattle.std.specs.List.{AllByRecursion};
-ghost use Rattle.guest_memory.specs.Bytes.{IsByte};
-ghost use Rattle.guest_memory.specs.Memories.{IsWithinLimit};
+ghost use Rattle.guest_memory.specs.rules.Bytes.{IsByte};
+ghost use Rattle.guest_memory.specs.rules.Memories.{IsWithinLimit};
 
+use crate::turns::{Executable, Paused, State, clear, go_on};
 use guest_memory::Memory;
 use guest_memory::laws::are_bytes;
-use machine_running::{Code, Paused, State, clear, go_on};
 use std::marker::Model;
 use wasm_validate::ValidModule;
 
 /// A linked module that runs. Contracts see its module and what it shows of a configuration.
 #[derive(Debug, Drop)]
 pub struct Machine {
-    pub(crate) code: Code,
+    pub(crate) code: Executable,
     pub(crate) state: State,
     /// How many pages memory may have.
     pub(crate) most_pages: u32,
 }
 
 impl Model for Machine {
-    ghost use Rattle.machine.specs.Values.{MachineValue};
+    ghost use Rattle.machine.specs.rules.Values.{MachineValue};
     ghost use Rattle.machine.specs.Insides.{seen, IsMachine};
 
     ghost Value = { MachineValue };
@@ -41,10 +41,10 @@ fn is_memory(memory: &Memory)
 }
 
 impl Machine {
-    ghost use Rattle.machine.specs.Values.{HoldsMemory, IsSameMachine, memory_of, without_thread};
+    ghost use Rattle.machine.specs.rules.Values.{HoldsMemory, IsSameMachine, memory_of, without_thread};
     ghost use Rattle.std.specs.Borrow.{sem};
-    ghost use Rattle.machine_hosting.specs.Answers.{results_of};
-    ghost use Rattle.machine.specs.Runs.{Runs, Stops, WaitsFor, Answers};
+    ghost use Rattle.machine.specs.Hosting.Answers.{call_results};
+    ghost use Rattle.machine.specs.rules.Runs.{RunsOnFuel, Stops, WaitsFor, Answers};
     ghost use Rattle.machine.specs.Lends.{LendsMemory};
 
     /// Applies rules until the program has ended or trapped, a call of the host waits, or so much fuel is spent: one unit for each
@@ -53,7 +53,7 @@ impl Machine {
         requires { HoldsMemory self.old }
         ensures same { IsSameMachine self.old self.new }
         ensures holds { HoldsMemory self.new }
-        ensures runs { Runs self.old fuel result self.new }
+        ensures runs { RunsOnFuel self.old fuel result self.new }
     {
         is_memory(&self.state.memory);
         go_on(&self.code, &mut self.state, fuel)
@@ -72,13 +72,13 @@ impl Machine {
     /// Answers the call of the host that waits: puts its result, if the call gives one, in the place of what the call took, and applies
     /// the rules that aren't counted. Takes no memory.
     pub fn finish(&mut self, answer: Option<u32>)
-        requires waits { WaitsFor (results_of answer) self.old }
+        requires waits { WaitsFor (call_results answer) self.old }
         ensures same { IsSameMachine self.old self.new }
         ensures holds { HoldsMemory self.new }
-        ensures answers { Answers (results_of answer) self.old self.new }
+        ensures answers { Answers (call_results answer) self.old self.new }
     {
         is_memory(&self.state.memory);
-        machine_hosting::answer(&self.code, &mut self.state, answer);
+        crate::hosting::answer(&self.code, &mut self.state, answer);
         let _ = go_on(&self.code, &mut self.state, 0);
     }
 

@@ -7,19 +7,19 @@ use Rattle.wasm_syntax.specs.declared.types.ValueType.TheVariants.{I32, I64}
 use Rattle.wasm_syntax.specs.declared.value.Value.{Value}
 use Rattle.wasm_syntax.specs.declared.value.Value.TheVariants as value
 use Rattle.wasm_syntax.specs.declared.instruction.Instruction.{Instruction}
-use Rattle.guest_memory.specs.Memories.{LinearMemory}
+use Rattle.guest_memory.specs.rules.Memories.{LinearMemory}
 use Rattle.wasm_syntax_rules.specs.Types.{AreOf, number_in}
 use Rattle.wasm_syntax_rules.specs.Typing.{Context, HasRule}
 use Rattle.wasm_syntax_rules.specs.Configuration.{Program, Store, Label}
 use Rattle.wasm_syntax_rules.specs.Effects.{Effect, Gives, Fails, Wrong, effect, IsEffect}
-use Rattle.wasm_syntax_soundness.specs.Typed.{IsTypedStore}
-use Rattle.wasm_syntax_soundness.proofs.EffectSound.{EffectHas, effect_has}
-use Rattle.machine_state.specs.Places.{slots_of, all_below}
-use Rattle.machine_slots.specs.Frames.{frame_words, AllFit, ShowsStore, IsNotWrong, IsReady}
+use Rattle.wasm_syntax_rules.specs.Typed.{IsTypedStore}
+use Rattle.wasm_syntax_rules.proofs.Soundness.EffectSound.{EffectHas, effect_has}
+use Rattle.machine_slots.specs.rules.Places.{slots_of, all_below}
+use Rattle.machine_slots.specs.Frames.{frame_words, AllNumbersFit, ShowsStore, IsNotWrong, IsReady}
 use Rattle.machine_slots.proofs.Families.{map-reverse}
 
 -- values of any types are in range
-pub typed_fit : (types : List ValueType) (vs : List Value) → AreOf types vs → AllFit vs
+pub typed_fit : (types : List ValueType) (vs : List Value) → AreOf types vs → AllNumbersFit vs
 typed_fit [] [] h = tt
 typed_fit [] (v ∷ vs) h = absurd h
 typed_fit (t ∷ types) [] h = absurd h

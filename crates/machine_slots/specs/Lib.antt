@@ -1,4 +1,5 @@
 pub mod Frames
-pub mod Laws
 pub mod Outcomes
 pub mod Words
+pub mod laws
+pub mod rules

@@ -1,11 +1,11 @@
 //! Any instruction that is no jump and no call.
 
 ghost use Rattle.std.specs.Prelude.{◌<◌, length};
-ghost use Rattle.machine_slots.specs.Outcomes.{Comes, IsReadyFor};
+ghost use Rattle.machine_slots.specs.Outcomes.{HasEffect, IsReadyFor};
 
-use crate::integers::{binary, compare, convert, eqz, unary};
+use crate::integers::{apply_binary, apply_comparison, apply_conversion, apply_unary, eqz};
 use crate::linear_memory::{load, memory_grow, memory_size, store};
-use crate::outcome::{Outcome, outcome_of};
+use crate::outcome::{EffectOutcome, outcome_of};
 use crate::parametric::{constant, drop_top, select};
 use crate::slots::{SLOTS, Slots};
 use crate::variables::{global_get, global_set, local_get, local_set, local_tee};
@@ -22,13 +22,13 @@ pub fn operate(
     slots: &mut Slots,
     globals: &mut [u64],
     memory: &mut Memory,
-) -> Outcome
+) -> EffectOutcome
     requires room { length slots.old < SLOTS }
     requires ready { IsReadyFor instruction.now base slots.old globals.old memory.old }
-    ensures { Comes instruction.now base slots.old globals.old memory.old result slots.new globals.new memory.new }
+    ensures { HasEffect instruction.now base slots.old globals.old memory.old result slots.new globals.new memory.new }
 {
     match instruction {
-        Instruction::Nop => Outcome::Done,
+        Instruction::Nop => EffectOutcome::Done,
         Instruction::Load { operator, argument } => {
             outcome_of(load(slots, memory, *operator, argument.offset))
         }
@@ -38,69 +38,69 @@ pub fn operate(
         Instruction::Binary {
             value_type,
             operator,
-        } => outcome_of(binary(slots, *value_type, *operator)),
+        } => outcome_of(apply_binary(slots, *value_type, *operator)),
         Instruction::Drop => {
             drop_top(slots);
-            Outcome::Done
+            EffectOutcome::Done
         }
         Instruction::Select => {
             select(slots);
-            Outcome::Done
+            EffectOutcome::Done
         }
         Instruction::LocalGet { local } => {
             local_get(slots, base + *local as usize);
-            Outcome::Done
+            EffectOutcome::Done
         }
         Instruction::LocalSet { local } => {
             local_set(slots, base + *local as usize);
-            Outcome::Done
+            EffectOutcome::Done
         }
         Instruction::LocalTee { local } => {
             local_tee(slots, base + *local as usize);
-            Outcome::Done
+            EffectOutcome::Done
         }
         Instruction::GlobalGet { global } => {
             global_get(slots, globals, *global);
-            Outcome::Done
+            EffectOutcome::Done
         }
         Instruction::GlobalSet { global } => {
             global_set(slots, globals, *global);
-            Outcome::Done
+            EffectOutcome::Done
         }
         Instruction::MemorySize => {
             memory_size(slots, memory);
-            Outcome::Done
+            EffectOutcome::Done
         }
         Instruction::MemoryGrow => {
             memory_grow(slots, memory);
-            Outcome::Done
+            EffectOutcome::Done
         }
         Instruction::Const { value } => {
             constant(slots, *value);
-            Outcome::Done
+            EffectOutcome::Done
         }
         Instruction::Eqz { .. } => {
             eqz(slots);
-            Outcome::Done
+            EffectOutcome::Done
         }
         Instruction::Compare {
             value_type,
             operator,
         } => {
-            compare(slots, *value_type, *operator);
-            Outcome::Done
+            apply_comparison(slots, *value_type, *operator);
+            EffectOutcome::Done
         }
         Instruction::Unary {
             value_type,
             operator,
         } => {
-            unary(slots, *value_type, *operator);
-            Outcome::Done
+            apply_unary(slots, *value_type, *operator);
+            EffectOutcome::Done
         }
         Instruction::Convert { operator } => {
-            convert(slots, *operator);
-            Outcome::Done
+            apply_conversion(slots, *operator);
+            EffectOutcome::Done
         }
-        _ => Outcome::Elsewhere,
+        _ => EffectOutcome::Elsewhere,
     }
 }

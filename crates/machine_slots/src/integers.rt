@@ -1,9 +1,9 @@
 //! Operators on the words on top (section 4.4.1).
 
 ghost use Rattle.std.specs.Prelude.{◌≡◌, ◌<◌, ℕ, List, ◌∷◌, ◌==◌, length};
-ghost use Rattle.int_ops.specs.Integers.{unary_of, binary_of, compare_of, convert_of, truth};
+ghost use Rattle.int_ops.specs.rules.Integers.{unary_of, binary_of, compare_of, convert_of, truth};
 ghost use Rattle.wasm_syntax_rules.specs.Types.{width_of, conversion_takes};
-ghost use Rattle.machine_slots.specs.Words.{HasOne, HasTwo, Leaves};
+ghost use Rattle.machine_slots.specs.Words.{HasOne, HasTwo, LeavesWord};
 
 use crate::slots::Slots;
 use crate::words::{binary_word, compare_word, convert_word, unary_word};
@@ -21,7 +21,7 @@ pub fn eqz(slots: &mut Slots)
 
 /// Whether the relation holds of the word below the topmost to that on top, as 1 or 0.
 #[inline(always)]
-pub fn compare(slots: &mut Slots, value_type: ValueType, operator: Comparison)
+pub fn apply_comparison(slots: &mut Slots, value_type: ValueType, operator: Comparison)
     requires { HasTwo value_type value_type slots.old }
     ensures { (b a : ℕ) (under : List ℕ) → slots.old ≡ b ∷ a ∷ under → slots.new ≡ truth (compare_of (width_of value_type) operator a b) ∷ under }
 {
@@ -32,7 +32,7 @@ pub fn compare(slots: &mut Slots, value_type: ValueType, operator: Comparison)
 
 /// An operator on the word on top.
 #[inline(always)]
-pub fn unary(slots: &mut Slots, value_type: ValueType, operator: UnaryOperator)
+pub fn apply_unary(slots: &mut Slots, value_type: ValueType, operator: UnaryOperator)
     requires { HasOne value_type slots.old }
     ensures { (a : ℕ) (under : List ℕ) → slots.old ≡ a ∷ under → slots.new ≡ unary_of (width_of value_type) operator a ∷ under }
 {
@@ -42,13 +42,13 @@ pub fn unary(slots: &mut Slots, value_type: ValueType, operator: UnaryOperator)
 
 /// An operator on the word below the topmost, its first operand, and that on top.
 #[inline(always)]
-pub fn binary(
+pub fn apply_binary(
     slots: &mut Slots,
     value_type: ValueType,
     operator: BinaryOperator,
 ) -> Result<(), Trap>
     requires { HasTwo value_type value_type slots.old }
-    ensures { (b a : ℕ) (under : List ℕ) → slots.old ≡ b ∷ a ∷ under → Leaves (binary_of (width_of value_type) operator a b) result slots.new under }
+    ensures { (b a : ℕ) (under : List ℕ) → slots.old ≡ b ∷ a ∷ under → LeavesWord (binary_of (width_of value_type) operator a b) result slots.new under }
 {
     let b = slots.pop();
     let a = slots.pop();
@@ -63,7 +63,7 @@ pub fn binary(
 
 /// The word on top, at the other type.
 #[inline(always)]
-pub fn convert(slots: &mut Slots, operator: Conversion)
+pub fn apply_conversion(slots: &mut Slots, operator: Conversion)
     requires { HasOne (conversion_takes operator) slots.old }
     ensures { (a : ℕ) (under : List ℕ) → slots.old ≡ a ∷ under → slots.new ≡ convert_of operator a ∷ under }
 {

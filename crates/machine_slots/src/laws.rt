@@ -1,6 +1,6 @@
 //! Laws over all programs and frames. The functions do nothing: what they ensure is the law.
 
-ghost use Rattle.machine_slots.specs.Laws.{BranchesFall, EntryPushesZeros, ReturnsFall, SlotsAreWords, TypedFramesAreReady, WordsAreSlots};
+ghost use Rattle.machine_slots.specs.laws.Laws.{BranchesFall, EntryPushesZeros, ReturnsFall, SlotsAreWords, TypedFramesAreReady, WordsAreSlots};
 
 /// Whoever shows a typed frame may operate on it.
 pub fn typed_frames_are_ready()

@@ -1,24 +1,51 @@
-//! The slots of a machine, which hold locals and operands as bare numbers, and what each instruction that is no jump and no
-//! call does to them.
+//! The slots of a machine, which hold locals and operands as bare words. Each instruction that is
+//! no jump and no call does to them what the Core Specification 1.0 says (sections 4.4.1 to
+//! 4.4.4).
+//!
+//! # Promises
+//!
+//! - `operate`: whichever frame was shown, what the instruction's effect gives is shown then, or
+//!   its trap is answered. An instruction that leads elsewhere changes nothing (`HasEffect`). It
+//!   asks for room for one word more, and for a frame that has its operands (`room`, `ready`).
+//! - `Slots` is a list of words, the top first. `push`, `pop`, `top`, `get`, `set`, `truncate`,
+//!   `fall` and `push_zeros` do to that list what their clauses say.
+//! - Each kind of instruction has its own call, as `load` or `apply_binary`. That does to the
+//!   words on top what the definitions say, or names the trap.
+//! - `typed_frames_are_ready`: a typed frame that is shown has the operands of its instruction.
+//! - `words_are_slots`, `jumps_are_falls`: words and slots are the same list in either order, and
+//!   branches, returns and entries are moves of words.
+//!
+//! # Definitions to read
+//!
+//! `specs/rules/Places.antt`: `ShownFrame`, `MachineState`, `slots_of`, and `Shows`, which says
+//! which configuration positions and slots show. Contracts also cite `HasEffect`
+//! (`specs/Outcomes.antt`), `IsReady`, `Operates` (`specs/Frames.antt`) and `HasOne`, `HasTwo`,
+//! `LeavesWord` (`specs/Words.antt`).
+//!
+//! # Who may touch what
+//!
+//! Only this crate knows that the words lie in one vector of fixed size. `machine` uses it;
+//! `machine_rules` and `state_image` cite its definitions. It stands on `int_ops` and
+//! `guest_memory`. `Slots::new` takes all memory. Want of it is the only error beside traps, which
+//! leave globals and memory as they were.
 #![tactic(auto)]
 
 mod effects;
 mod integers;
 mod laws;
+pub mod limits;
 mod linear_memory;
 pub mod outcome;
 mod parametric;
 mod slots;
-#[cfg(test)]
-mod tests;
 mod variables;
 mod words;
 
 pub use effects::operate;
-pub use integers::{binary, compare, convert, eqz, unary};
+pub use integers::{apply_binary, apply_comparison, apply_conversion, apply_unary, eqz};
 pub use laws::{jumps_are_falls, typed_frames_are_ready, words_are_slots};
 pub use linear_memory::{load, memory_grow, memory_size, store};
-pub use outcome::Outcome;
+pub use outcome::EffectOutcome;
 pub use parametric::{constant, drop_top, select};
 pub use slots::{SLOTS, Slots};
 pub use variables::{global_get, global_set, local_get, local_set, local_tee};

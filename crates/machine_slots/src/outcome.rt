@@ -7,7 +7,7 @@ use wasm_syntax::Trap;
 
 /// What comes of an instruction.
 #[derive(Clone, Copy, Debug, PartialEq, Eq)]
-pub enum Outcome {
+pub enum EffectOutcome {
     /// Its effect is done, and the next instruction follows.
     Done,
     /// It traps.
@@ -18,11 +18,11 @@ pub enum Outcome {
 
 /// What comes of an instruction that may trap.
 #[inline(always)]
-pub(crate) fn outcome_of(answer: Result<(), Trap>) -> Outcome
+pub(crate) fn outcome_of(answer: Result<(), Trap>) -> EffectOutcome
     ensures { result ≡ outcome_of answer }
 {
     match answer {
-        Ok(()) => Outcome::Done,
-        Err(trap) => Outcome::Trapped(trap),
+        Ok(()) => EffectOutcome::Done,
+        Err(trap) => EffectOutcome::Trapped(trap),
     }
 }

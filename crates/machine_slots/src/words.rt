@@ -1,7 +1,7 @@
 //! What operators make of words.
 
 ghost use Rattle.std.specs.Prelude.{◌≡◌};
-ghost use Rattle.int_ops.specs.Integers.{unary_of, binary_of, compare_of, convert_of};
+ghost use Rattle.int_ops.specs.rules.Integers.{unary_of, binary_of, compare_of, convert_of};
 ghost use Rattle.wasm_syntax_rules.specs.Types.{width_of, conversion_takes};
 ghost use Rattle.machine_slots.specs.Words.{IsWordOf};
 

@@ -12,25 +12,25 @@ use Rattle.wasi_abi.specs.declared.call.Call.{Call}
 use Rattle.wasi_abi.specs.declared.call.Call.TheVariants as call
 use Rattle.wasi_abi.specs.declared.errno.Errno.{Errno}
 use Rattle.wasi_abi.specs.declared.errno.Errno.TheVariants.{Badf, Fault, Fbig, Inval, Isdir, Nospc, Notcapable}
-use Rattle.wasi_abi.specs.Numbers.{fd_write_right, has_right}
-use Rattle.file_tree.specs.Files.{bytes_of_node, used}
-use Rattle.wasi_calls_rows.specs.declared.limits.TheConstants.{IOVECS}
+use Rattle.wasi_abi.specs.rules.Numbers.{fd_write_right, has_right}
+use Rattle.file_tree.specs.rules.Files.{bytes_of_node, used}
+use Rattle.wasi_calls_rules.specs.declared.limits.TheConstants.{IOVECS}
 use Rattle.file_tree.specs.declared.limits.TheConstants.{FILE_BYTES}
-use Rattle.wasi_calls_rows.specs.Hosts.{Host, Target, Stream, Node, Descriptor}
-use Rattle.wasi_calls_rows.specs.Checks.{Bytes, Halt, Refuses, Ends, Asks as Wishes, Row, ◌>>=◌, check, some_or, flat, names_directory, opened, no_directory, with_right, in_memory, buffers, buffers_at, is_inside, few_buffers, movable, gathered}
-use Rattle.wasi_calls_rows.specs.Small.{roomy}
-use Rattle.wasi_calls_rows.specs.Moving.{size_after, file_written, write_offset, target_written, fd_write}
-use Rattle.wasi_calls_rows.specs.Rows.{row}
-use Rattle.wasi_calls.specs.Calls.{IsBuilt}
+use Rattle.wasi_calls_rules.specs.Hosts.{Host, Target, Stream, Node, Descriptor}
+use Rattle.wasi_calls_rules.specs.Checks.{Bytes, Halt, Refuses, Ends, Asks as Wishes, Ruling, ◌>>=◌, check_or, some_or, flat, names_directory, open_descriptor, no_directory, with_right, in_memory, buffers, buffers_at, is_inside, few_buffers, movable, gathered}
+use Rattle.wasi_calls_rules.specs.Small.{roomy}
+use Rattle.wasi_calls_rules.specs.Moving.{size_after, file_written, write_offset, target_written, fd_write}
+use Rattle.wasi_calls_rules.specs.Rows.{row}
+use Rattle.wasi_calls.specs.rules.Calls.{IsBuilt}
 use Rattle.process_rules.specs.Processes.{ProcessState, Guest}
 use Rattle.process_rules.specs.Runs.{Wants, after_row, after_call, after_rule, next_of}
-use Rattle.machine_routines.proofs.Made.{all_at}
+use Rattle.machine.proofs.RoutineLemmas.Made.{all_at}
 
 -- what a rule gives is no wish
 abbrev HasNoWish : {A : Type 0} → Result A Halt → Type 0
 HasNoWish r = (kind : Kind) → r ≡ Err (Wishes kind) → ⊥
 
-no_wish_in_check : (b : Bool) (e : Errno) → HasNoWish (check b e)
+no_wish_in_check : (b : Bool) (e : Errno) → HasNoWish (check_or b e)
 no_wish_in_check true e kind k = absurd (cc)
 no_wish_in_check false e kind k = absurd (cc)
 
@@ -46,7 +46,7 @@ no_wish_behind (Err halt) go here there kind k = let same : halt ≡ Wishes kind
 
 no_wish_in_roomy : (h : Host) (k size : ℕ) → HasNoWish (roomy h k size)
 no_wish_in_roomy h k size =
-    no_wish_behind (check (nat_le size FILE_BYTES) Fbig) _ (no_wish_in_check (nat_le size FILE_BYTES) Fbig)
+    no_wish_behind (check_or (nat_le size FILE_BYTES) Fbig) _ (no_wish_in_check (nat_le size FILE_BYTES) Fbig)
     (λ u. no_wish_in_check (nat_le (used h.files + size) (h.room + length (bytes_of_node h.files k))) Nospc)
 
 no_wish_in_file : (k offset : ℕ) (bytes : Bytes) (h : Host) → HasNoWish (file_written k offset bytes h)
@@ -64,11 +64,11 @@ no_wish_in_range m from len = no_wish_in_check (nat_le (from + len) (length m)) 
 no_wish_in_buffers : (m : Bytes) (iovs count : ℕ) → HasNoWish (buffers m iovs count)
 no_wish_in_buffers m iovs count =
     no_wish_behind (in_memory m iovs (8 * count)) _ (no_wish_in_range m iovs (8 * count))
-    (λ u. no_wish_behind (check (list_all (is_inside m) (buffers_at m iovs count)) Fault) _ (no_wish_in_check (list_all (is_inside m) (buffers_at m iovs count)) Fault) (λ v kind e. absurd (cc)))
+    (λ u. no_wish_behind (check_or (list_all (is_inside m) (buffers_at m iovs count)) Fault) _ (no_wish_in_check (list_all (is_inside m) (buffers_at m iovs count)) Fault) (λ v kind e. absurd (cc)))
 
 no_wish_in_write : (fd iovs count ret : ℕ) (m : Bytes) (h : Host) → HasNoWish (fd_write fd iovs count ret m h)
 no_wish_in_write fd iovs count ret m h =
-    no_wish_behind (opened h fd) _ (no_wish_in_some Badf (flat (slice_get h.descriptors fd))) (λ d.
+    no_wish_behind (open_descriptor h fd) _ (no_wish_in_some Badf (flat (slice_get h.descriptors fd))) (λ d.
     no_wish_behind (no_directory h d) _ (no_wish_in_check (not (names_directory h d.target)) Isdir) (λ u.
     no_wish_behind (with_right fd_write_right d) _ (no_wish_in_check (has_right d.base fd_write_right) Notcapable) (λ v.
     no_wish_behind (few_buffers count) _ (no_wish_in_check (nat_le count IOVECS) Inval) (λ w.
@@ -90,7 +90,7 @@ no_wish_in_row _ b arguments given m h = λ kind e. absurd b
 
 -- ---- a process
 
-no_wish_after : (c : Call) (r : Row) (d : Configuration) (h : Host) (waits : Thread) (kind : Kind) → HasNoWish r → after_row c r d h waits ≡ Wants kind → ⊥
+no_wish_after : (c : Call) (r : Ruling) (d : Configuration) (h : Host) (waits : Thread) (kind : Kind) → HasNoWish r → after_row c r d h waits ≡ Wants kind → ⊥
 no_wish_after c (Ok done) d h waits kind none e = absurd (cc)
 no_wish_after c (Err (Refuses why)) d h waits kind none e = absurd (cc)
 no_wish_after c (Err (Ends code)) d h waits kind none e = absurd (cc)

@@ -13,14 +13,14 @@ use Rattle.wasm_syntax.specs.declared.value.Value.TheVariants as value
 use Rattle.wasm_syntax.specs.declared.module.Import.{Import}
 use Rattle.wasm_syntax_rules.specs.Types.{AreOf, number_in, takes_of}
 use Rattle.wasm_syntax_rules.specs.Linking.{IsOffered}
-use Rattle.wasm_syntax_soundness.proofs.Values.{reverse_are}
+use Rattle.wasm_syntax_rules.proofs.Soundness.Values.{reverse_are}
 use Rattle.machine_slots.proofs.Families.{map-reverse}
-use Rattle.machine_routines.proofs.Made.{all_at}
+use Rattle.machine.proofs.RoutineLemmas.Made.{all_at}
 use Rattle.wasi_abi.specs.declared.call.Call.{Call}
-use Rattle.wasi_abi.specs.Calls.{module_name, name_of, parameters_of, function_type_of}
-use Rattle.wasi_calls.specs.Calls.{IsBuilt, AreArguments}
-use Rattle.machine_instance.specs.Offers.{built_calls, offered_call, offer, imported_call, AreCalls as AreOffered}
-use Rattle.machine_instance.proofs.Offered.{has_call}
+use Rattle.wasi_abi.specs.rules.Calls.{module_name, name_of, parameters_of, call_type_of}
+use Rattle.wasi_calls.specs.rules.Calls.{IsBuilt, AreArguments}
+use Rattle.machine.specs.rules.Offers.{built_calls, offered_call, offer, imported_call, AreImportedCalls as AreOffered}
+use Rattle.machine.proofs.InstanceLemmas.Offered.{has_call}
 use Rattle.process_rules.specs.Processes.{AreCalls}
 use Rattle.process_rules.proofs.OneStart.{calls_once}
 
@@ -105,9 +105,9 @@ are_arguments (I32 ∷ types) (value.I64 n ∷ values) h = absurd h.0
 are_arguments (I64 ∷ types) (value.I32 n ∷ values) h = absurd h.0
 are_arguments (I64 ∷ types) (value.I64 n ∷ values) h = (h.0, are_arguments types values h.1)
 
-pub arguments_typed : (c : Call) (operands : List Value) → AreOf (takes_of (function_type_of c)) operands → AreArguments (parameters_of c) (reverse (map number_in operands))
+pub arguments_typed : (c : Call) (operands : List Value) → AreOf (takes_of (call_type_of c)) operands → AreArguments (parameters_of c) (reverse (map number_in operands))
 arguments_typed c operands h =
-    let there : AreOf (reverse (reverse (parameters_of c))) (reverse operands) = reverse_are (takes_of (function_type_of c)) operands h in
+    let there : AreOf (reverse (reverse (parameters_of c))) (reverse operands) = reverse_are (takes_of (call_type_of c)) operands h in
     let P : List ValueType → Type 0 = λ types. AreOf types (reverse operands) in
     let forwards = are_arguments (parameters_of c) (reverse operands) (subst P (reverse-reverse (parameters_of c)) there) in
     let Q : List ℕ → Type 0 = λ numbers. AreArguments (parameters_of c) numbers in

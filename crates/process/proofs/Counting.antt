@@ -2,22 +2,22 @@
 use Rattle.std.proofs.Common.{◌≡◌, inl, inr, ℕ, suc, ◌+◌, ◌<◌, ◌≤◌, ◌^◌, Bool, true, false, List, [], ◌∷◌, Option, Some, None, refl, sym, ap, ◌∙◌, subst, arith}
 use Rattle.std.specs.Prelude.{Result, Ok, Err}
 use Rattle.wasm_syntax_rules.specs.Configuration.{Thread}
-use Rattle.wasi_calls_rows.specs.Hosts.{Line}
-use Rattle.wasi_calls.specs.Held.{Held}
-use Rattle.machine.specs.Values.{MachineValue}
+use Rattle.wasi_calls_rules.specs.Hosts.{Line}
+use Rattle.wasi_calls.specs.Held.{HeldHost}
+use Rattle.machine.specs.rules.Values.{MachineValue}
 use Rattle.process_rules.specs.Processes.{ProcessState, Guest, closed_at}
 use Rattle.process_rules.specs.Runs.{Next, On, Over, Wants, Nowhere, next_of, stepped, LeadsTo, Moves}
 use Rattle.process_rules.specs.Owing.{RunsQuietly, none, more}
 use Rattle.process_rules.proofs.Growing.{move_counts}
-use Rattle.process.specs.declared.stop.End.{End}
+use Rattle.process.specs.declared.stop.ProcessEnd.{ProcessEnd}
 use Rattle.process.specs.declared.stop.Stop.{Stop}
 use Rattle.process.specs.declared.stop.Stop.TheVariants as stop
 use Rattle.process.specs.declared.fault.ProcessFault.{ProcessFault}
 use Rattle.process.specs.declared.fault.ProcessFault.TheVariants as fault
-use Rattle.process.specs.Values.{ProcessValue, ShowsProcess, process_of, waiting_in}
+use Rattle.process.specs.rules.Values.{ProcessValue, ShowsProcess, process_of, waiting_in}
 use Rattle.process.specs.Parts.{ShowsParts}
-use Rattle.process.specs.Stops.{ComesQuietly, EndsFor, told}
-use Rattle.process.specs.Stretches.{Owes, ComesOn, ComesBy, Comes}
+use Rattle.process.specs.rules.Stops.{ComesQuietly, EndsFor, told}
+use Rattle.process.specs.Stretches.{Owes, ComesOn, ComesBy, ComesToShown}
 
 -- ---- what steps count
 
@@ -107,8 +107,8 @@ module _ (guest : Guest) (p q : ProcessState) (fuel n : ℕ) (waiting : List Lin
 pub parts_of : (v : ProcessValue) (guest : Guest) (p : ProcessState) → ShowsProcess v guest p → ShowsParts v.machine v.host guest p
 parts_of v guest p s = record { calls = s.calls; configuration = s.configuration; host = s.host; closed = s.closed }
 
-module _ (old : ProcessValue) (machine : MachineValue) (held : Held) (guest : Guest) (p : ProcessState) (shows : ShowsProcess old guest p) (fuel n : ℕ) (ended : Option End) (s : Result Stop ProcessFault)
-    (come : Comes machine held guest p fuel (record { steps = n; ended = ended; stop = Some s })) where
+module _ (old : ProcessValue) (machine : MachineValue) (held : HeldHost) (guest : Guest) (p : ProcessState) (shows : ShowsProcess old guest p) (fuel n : ℕ) (ended : Option ProcessEnd) (s : Result Stop ProcessFault)
+    (come : ComesToShown machine held guest p fuel (record { steps = n; ended = ended; stop = Some s })) where
   abbrev pub after : ProcessValue
   after = process_of machine held (old.steps + n) old.answers old.requests ended
 

@@ -3,10 +3,10 @@ use Rattle.std.proofs.Common.{◌≡◌, ◌≢◌, ℕ, ◌+◌, ◌<◌, ◌�
 use Rattle.std.specs.Prelude.{ltb, ◌==◌, true, false}
 use Rattle.std.proofs.lemmas.Bool.{ltb-true, eqb-true}
 use Rattle.std.proofs.lemmas.Bool.Decides.{nat_tests}
-use Rattle.wasi_calls_rows.specs.Hosts.{Line, Host}
-use Rattle.wasi_calls_rows.specs.Lines.{rest_of}
-use Rattle.wasi_calls_rows.specs.Laws.{Emits}
-use Rattle.wasi_calls.specs.Held.{Held, ShowsHost, held_ended}
+use Rattle.wasi_calls_rules.specs.Hosts.{Line, Host}
+use Rattle.wasi_calls_rules.specs.Lines.{rest_of}
+use Rattle.wasi_calls_rules.specs.laws.Laws.{Emits}
+use Rattle.wasi_calls.specs.Held.{HeldHost, ShowsHost, held_ended}
 use Rattle.process.specs.Parts.{HasFewLines}
 
 pub few_left : (first second : List ℕ) → length (rest_of 1 first ++ rest_of 2 second) ≤ 2
@@ -15,21 +15,21 @@ few_left [] (b ∷ second) = omega arith
 few_left (a ∷ first) [] = omega arith
 few_left (a ∷ first) (b ∷ second) = omega arith
 
-pub lines_shown : (held : Held) (h : Host) → ShowsHost held h → length h.lines ≡ held.released + length held.host.lines
+pub lines_shown : (held : HeldHost) (h : Host) → ShowsHost held h → length h.lines ≡ held.released + length held.host.lines
 lines_shown held h s =
     let lines : length h.lines ≡ length (s.before ++ held.host.lines) = ap (λ (g : Host). length g.lines) s.is in
     let count : length s.before ≡ held.released = s.count in
     omega (arith, lines, count, length-append s.before held.host.lines)
 
 -- with room for two more
-pub few_shown : (held : Held) (h : Host) → ShowsHost held h → length h.lines + 2 < 2 ^ 63 → HasFewLines held
+pub few_shown : (held : HeldHost) (h : Host) → ShowsHost held h → length h.lines + 2 < 2 ^ 63 → HasFewLines held
 few_shown held h s few =
     let lines = lines_shown held h s in
     let left = few_left held.host.first held.host.second in
     omega (arith, lines, left, few)
 
 -- the lines that an end emits are counted before it
-pub few_ended : (held : Held) → HasFewLines held → HasFewLines (held_ended held)
+pub few_ended : (held : HeldHost) → HasFewLines held → HasFewLines (held_ended held)
 few_ended held few =
     let joined = length-append held.host.lines (rest_of 1 held.host.first ++ rest_of 2 held.host.second) in
     omega (arith, joined, few)
@@ -39,7 +39,7 @@ no_more : (a b : List Line) → length (a ++ b) ≡ length a → b ≡ []
 no_more a [] e = refl
 no_more a (x ∷ b) e = absurd (omega (arith, e, length-append a (x ∷ b)))
 
-pub same_lines : (old new : Held) (g h : Host) → ShowsHost old g → ShowsHost new h → new.released ≡ old.released → old.host.lines ≡ [] → new.host.lines ≡ [] → Emits g h → h.lines ≡ g.lines
+pub same_lines : (old new : HeldHost) (g h : Host) → ShowsHost old g → ShowsHost new h → new.released ≡ old.released → old.host.lines ≡ [] → new.host.lines ≡ [] → Emits g h → h.lines ≡ g.lines
 same_lines old new g h s t released before after emits =
     let x = lines_shown old g s in
     let y = lines_shown new h t in
@@ -50,7 +50,7 @@ same_lines old new g h s t released before after emits =
     emits.are ∙ (rw more (append-nil g.lines))
 
 -- where one waits after, they are not
-pub other_lines : (old new : Held) (g h : Host) (line : Line) (rest : List Line) → ShowsHost old g → ShowsHost new h → new.released ≡ old.released → old.host.lines ≡ [] → new.host.lines ≡ line ∷ rest → h.lines ≢ g.lines
+pub other_lines : (old new : HeldHost) (g h : Host) (line : Line) (rest : List Line) → ShowsHost old g → ShowsHost new h → new.released ≡ old.released → old.host.lines ≡ [] → new.host.lines ≡ line ∷ rest → h.lines ≢ g.lines
 other_lines old new g h line rest s t released before after same =
     let x = lines_shown old g s in
     let y = lines_shown new h t in

@@ -2,8 +2,8 @@
 use Rattle.std.proofs.Common.{◌≡◌, inr, ℕ, ◌+◌, ◌-◌, ◌<◌, ◌≤◌, List, [], Option, Some, None, refl, sym, ap, ◌∙◌, subst, arith}
 use Rattle.std.specs.Prelude.{Result, Ok, Err}
 use Rattle.wasi_abi.specs.declared.call.Call.{Call}
-use Rattle.wasi_calls.specs.Held.{Held}
-use Rattle.machine.specs.Values.{MachineValue, HoldsMemory}
+use Rattle.wasi_calls.specs.Held.{HeldHost}
+use Rattle.machine.specs.rules.Values.{MachineValue, HoldsMemory}
 use Rattle.process_rules.specs.Processes.{ProcessState, Guest}
 use Rattle.process_rules.specs.Runs.{Moves}
 use Rattle.process_rules.specs.Owing.{RunsQuietly, none as no_run}
@@ -15,24 +15,24 @@ use Rattle.process.specs.declared.fault.ProcessFault.{ProcessFault}
 use Rattle.process.specs.declared.fault.ProcessFault.TheVariants as fault
 use Rattle.process.specs.declared.turn.Stretch.{Stretch}
 use Rattle.process.specs.Parts.{ShowsParts, IsRunning, HasFewLines}
-use Rattle.process.specs.Callings.{Calls}
-use Rattle.process.specs.Stretches.{ComesBy, Comes, Stretches, StepsAt, stretch_of}
+use Rattle.process.specs.Callings.{MakesCall}
+use Rattle.process.specs.Stretches.{ComesBy, ComesToShown, Stretches, StepsAt, stretch_of}
 use Rattle.process.proofs.Stretching.{joined, after_step}
 use Rattle.process.proofs.Counting.{comes_within}
 
 -- ---- the step of a call
 
-module _ (old new : MachineValue) (old_held held : Held) (c : Call) (arguments : List ℕ) (released : held.released ≡ old_held.released) (none_waits : old_held.host.lines ≡ []) where
+module _ (old new : MachineValue) (old_held held : HeldHost) (c : Call) (arguments : List ℕ) (released : held.released ≡ old_held.released) (none_waits : old_held.host.lines ≡ []) where
   as_before : new ≡ old → held ≡ old_held → (guest : Guest) (p : ProcessState) → ShowsParts old old_held guest p → ShowsParts new held guest p
   as_before e f guest p shows =
       let P : MachineValue → Type 0 = λ m. ShowsParts m old_held guest p in
-      let Q : Held → Type 0 = λ h. ShowsParts new h guest p in
+      let Q : HeldHost → Type 0 = λ h. ShowsParts new h guest p in
       subst Q (sym f) (subst P (sym e) shows)
 
   still_none : held ≡ old_held → held.host.lines ≡ []
-  still_none f = ap (λ (h : Held). h.host.lines) f ∙ none_waits
+  still_none f = ap (λ (h : HeldHost). h.host.lines) f ∙ none_waits
 
-  pub steps_of : (r : Result Called ProcessFault) → Calls old old_held c arguments None r new held → StepsAt old old_held c arguments (stretch_of r held.host.lines) new held
+  pub steps_of : (r : Result Called ProcessFault) → MakesCall old old_held c arguments None r new held → StepsAt old old_held c arguments (stretch_of r held.host.lines) new held
   steps_of (Ok (called.Made synced ended)) calls guest p fuel shows running at some =
       let k = calls guest p shows running at in
       let l = k.0 in
@@ -72,13 +72,13 @@ module _ (old new : MachineValue) (old_held held : Held) (c : Call) (arguments :
 -- ---- the loop
 
 -- so many steps after which nothing is owed have led to a process that is shown and runs on
-pub record Reached (machine : MachineValue) (held : Held) (guest : Guest) (p : ProcessState) (steps : ℕ) : Type 0 where
+pub record Reached (machine : MachineValue) (held : HeldHost) (guest : Guest) (p : ProcessState) (steps : ℕ) : Type 0 where
   pub process : ProcessState
   pub runs : RunsQuietly guest p steps process
   pub shows : ShowsParts machine held guest process
   pub running : process.ended ≡ None
 
-pub record IsOn (first : MachineValue) (first_held : Held) (fuel : ℕ) (machine : MachineValue) (held : Held) (steps : ℕ) : Type 0 where
+pub record IsOn (first : MachineValue) (first_held : HeldHost) (fuel : ℕ) (machine : MachineValue) (held : HeldHost) (steps : ℕ) : Type 0 where
   pub holds : HoldsMemory machine
   pub few : HasFewLines held
   pub released : held.released ≡ first_held.released
@@ -87,7 +87,7 @@ pub record IsOn (first : MachineValue) (first_held : Held) (fuel : ℕ) (machine
   pub within : steps ≤ fuel
   pub on : (guest : Guest) (p : ProcessState) → ShowsParts first first_held guest p → p.ended ≡ None → Reached machine held guest p steps
 
-pub begins : (machine : MachineValue) (held : Held) (fuel : ℕ) → HoldsMemory machine → HasFewLines held → held.host.lines ≡ [] → IsRunning machine held → IsOn machine held fuel machine held 0
+pub begins : (machine : MachineValue) (held : HeldHost) (fuel : ℕ) → HoldsMemory machine → HasFewLines held → held.host.lines ≡ [] → IsRunning machine held → IsOn machine held fuel machine held 0
 begins machine held fuel holds few none_waits runs = record {
   holds = holds;
   few = few;
@@ -98,10 +98,10 @@ begins machine held fuel holds few none_waits runs = record {
   on = λ guest p shows running. record { process = p; runs = no_run; shows = shows; running = running };
 }
 
-module _ (first : MachineValue) (first_held : Held) (fuel : ℕ) (mid : MachineValue) (mid_held : Held) (steps : ℕ) (is_on : IsOn first first_held fuel mid mid_held steps)
-    (new : MachineValue) (held : Held) (next : Stretch) (stretches : Stretches mid mid_held (fuel - steps) next new held) where
+module _ (first : MachineValue) (first_held : HeldHost) (fuel : ℕ) (mid : MachineValue) (mid_held : HeldHost) (steps : ℕ) (is_on : IsOn first first_held fuel mid mid_held steps)
+    (new : MachineValue) (held : HeldHost) (next : Stretch) (stretches : Stretches mid mid_held (fuel - steps) next new held) where
   -- the next stretch, from where the loop has come to
-  onwards : (guest : Guest) (p : ProcessState) → ShowsParts first first_held guest p → p.ended ≡ None → Comes new held guest p fuel (record { steps = steps + next.steps; ended = next.ended; stop = next.stop })
+  onwards : (guest : Guest) (p : ProcessState) → ShowsParts first first_held guest p → p.ended ≡ None → ComesToShown new held guest p fuel (record { steps = steps + next.steps; ended = next.ended; stop = next.stop })
   onwards guest p shows running =
       let here = is_on.on guest p shows running in
       let come = stretches guest here.process here.shows here.running in
@@ -121,7 +121,7 @@ module _ (first : MachineValue) (first_held : Held) (fuel : ℕ) (mid : MachineV
 
   pub stops_now : (s : Result Stop ProcessFault) → next.stop ≡ Some s → Stretches first first_held fuel (record { steps = steps + next.steps; ended = next.ended; stop = Some s }) new held
   stops_now s e guest p shows running =
-      let P : Option (Result Stop ProcessFault) → Type 0 = λ o. Comes new held guest p fuel (record { steps = steps + next.steps; ended = next.ended; stop = o }) in
+      let P : Option (Result Stop ProcessFault) → Type 0 = λ o. ComesToShown new held guest p fuel (record { steps = steps + next.steps; ended = next.ended; stop = o }) in
       subst P e (onwards guest p shows running)
 
   module _ (goes_on : next.stop ≡ None) where

@@ -12,28 +12,28 @@ use Rattle.wasi_abi.specs.declared.call.Call.{Call}
 use Rattle.wasi_abi.specs.declared.call.Call.TheVariants as call
 use Rattle.wasi_abi.specs.declared.errno.Errno.{Errno}
 use Rattle.wasi_abi.specs.declared.errno.Errno.TheVariants as errno
-use Rattle.wasi_abi.specs.Calls.{parameters_of, function_type_of}
-use Rattle.wasi_abi.specs.Numbers.{errno_number}
-use Rattle.wasi_calls_rows.specs.Hosts.{Host}
-use Rattle.wasi_calls_rows.specs.Checks.{Bytes, Done, Row, Refuses, Ends, Asks as Wishes}
-use Rattle.wasi_calls_rows.specs.Lines.{lines_ended}
-use Rattle.wasi_calls_rows.specs.Rows.{row, IsSync, IsDone}
-use Rattle.wasi_calls.specs.declared.outcome.Outcome.{Outcome}
-use Rattle.wasi_calls.specs.Held.{Held, ShowsHost}
-use Rattle.wasi_calls.specs.Calls.{IsBuilt, AreArguments, ShowsRow, EndsNothing}
-use Rattle.machine_hosting.specs.Answers.{results_of}
-use Rattle.machine.specs.Values.{MachineValue, ShowsIn, memory_of, with_memory}
-use Rattle.machine.specs.Laws.{with_bytes}
+use Rattle.wasi_abi.specs.rules.Calls.{parameters_of, call_type_of}
+use Rattle.wasi_abi.specs.rules.Numbers.{errno_number}
+use Rattle.wasi_calls_rules.specs.Hosts.{Host}
+use Rattle.wasi_calls_rules.specs.Checks.{Bytes, Done, Ruling, Refuses, Ends, Asks as Wishes}
+use Rattle.wasi_calls_rules.specs.Lines.{lines_ended}
+use Rattle.wasi_calls_rules.specs.Rows.{row, IsSync, IsDone}
+use Rattle.wasi_calls.specs.declared.outcome.CallOutcome.{CallOutcome}
+use Rattle.wasi_calls.specs.Held.{HeldHost, ShowsHost}
+use Rattle.wasi_calls.specs.rules.Calls.{IsBuilt, AreArguments, ShowsRow, EndsNothing}
+use Rattle.machine.specs.Hosting.Answers.{call_results}
+use Rattle.machine.specs.rules.Values.{MachineValue, ShowsIn, memory_of, with_memory}
+use Rattle.machine.specs.laws.Laws.{with_memory_bytes}
 use Rattle.machine.proofs.Written.{shows_what_is_written}
 use Rattle.process_rules.specs.Processes.{Ending, Exited, ProcessState, Guest, AreCalls, over, closed}
 use Rattle.process_rules.specs.Runs.{Next, On, Over, given_by, after_row, after_call, after_rule, next_of, stepped, LeadsTo}
 use Rattle.process_rules.specs.Behind.{Syncs}
 use Rattle.process_rules.proofs.Quiet.{open_still}
-use Rattle.process.specs.declared.stop.End.{End}
-use Rattle.process.specs.Values.{ending_of}
-use Rattle.process.specs.Parts.{IsAt}
-use Rattle.process.specs.Stops.{EndsNot}
-use Rattle.process.specs.Callings.{Leads, EndsAt, HasCalled, number_of}
+use Rattle.process.specs.declared.stop.ProcessEnd.{ProcessEnd}
+use Rattle.process.specs.rules.Values.{ending_of}
+use Rattle.process.specs.Parts.{IsAtCall}
+use Rattle.process.specs.rules.Stops.{EndsNot}
+use Rattle.process.specs.Callings.{LeadsToProcess, EndsAt, HasCalled, error_number}
 
 -- ---- what is given
 
@@ -41,29 +41,29 @@ errno_small : (e : Errno) → errno_number e < 2 ^ 32
 errno_small errno.Badf = omega arith
 errno_small _ = omega arith
 
-pub number_small : (error : Option Errno) → number_of error < 2 ^ 32
+pub number_small : (error : Option Errno) → error_number error < 2 ^ 32
 number_small None = omega arith
 number_small (Some e) = errno_small e
 
 -- the call gives its number, and that is all
 pub record GivesNumber (c : Call) : Type 0 where
   pub gives : (n : ℕ) → given_by c n ≡ value.I32 n ∷ []
-  pub typed : (n : ℕ) → n < 2 ^ 32 → AreOf (gives_of (function_type_of c)) (value.I32 n ∷ [])
+  pub typed : (n : ℕ) → n < 2 ^ 32 → AreOf (gives_of (call_type_of c)) (value.I32 n ∷ [])
 
 -- the call is over, and the process goes on
-abbrev pub IsOver : Row → Type 0
+abbrev pub IsOver : Ruling → Type 0
 IsOver (Ok done) = Unit {0}
 IsOver (Err (Refuses e)) = Unit {0}
 IsOver (Err (Ends code)) = ⊥
 IsOver (Err (Wishes kind)) = ⊥
 
-exit_over : (code : ℕ) (r : Row) → Err (Ends code) ≡ r → IsOver r → ⊥
+exit_over : (code : ℕ) (r : Ruling) → Err (Ends code) ≡ r → IsOver r → ⊥
 exit_over code (Ok done) e over = cc
 exit_over code (Err (Refuses f)) e over = cc
 exit_over code (Err (Ends c)) e over = over
 exit_over code (Err (Wishes kind)) e over = over
 
-pub gives_number : (c : Call) → IsBuilt c → (arguments : List ℕ) → AreArguments (parameters_of c) arguments → (given : Option Answer) (m : Bytes) (h : Host) (r : Row) → row c arguments given m h ≡ r → IsOver r → GivesNumber c
+pub gives_number : (c : Call) → IsBuilt c → (arguments : List ℕ) → AreArguments (parameters_of c) arguments → (given : Option Answer) (m : Bytes) (h : Host) (r : Ruling) → row c arguments given m h ≡ r → IsOver r → GivesNumber c
 gives_number call.FdWrite built arguments typed given m h r e over = record { gives = λ n. refl; typed = λ n small. (small, tt) }
 gives_number call.ProcExit built [] typed given m h r e over = absurd typed
 gives_number call.ProcExit built (code ∷ []) typed given m h r e over = absurd (exit_over code r e over)
@@ -75,23 +75,23 @@ gives_number _ built arguments typed given m h r e over = absurd built
 pub closed_over : (q : ProcessState) → IsEnded q.configuration → closed q ≡ over (Exited 0) q
 closed_over q ends = rw (ends.returned, ends.nothing_later) refl
 
-module _ (guest : Guest) (p : ProcessState) (c : Call) (arguments : List ℕ) (at : IsAt guest p.configuration c arguments) (given : Option Answer) where
-  pub next_is : (r : Row) → row c arguments given p.configuration.store.memory p.host ≡ r → next_of guest p given ≡ after_row c r p.configuration p.host at.waits
+module _ (guest : Guest) (p : ProcessState) (c : Call) (arguments : List ℕ) (at : IsAtCall guest p.configuration c arguments) (given : Option Answer) where
+  pub next_is : (r : Ruling) → row c arguments given p.configuration.store.memory p.host ≡ r → next_of guest p given ≡ after_row c r p.configuration p.host at.waits
   next_is r e =
       ap (λ (o : Result). after_rule guest o given p.configuration p.host) at.asks
       ∙ ap (λ (o : Option Call). after_call o at.operands given p.configuration p.host at.waits) at.is_call
       ∙ ap (λ (ns : List ℕ). after_row c (row c ns given p.configuration.store.memory p.host) p.configuration p.host at.waits) (sym at.are)
-      ∙ ap (λ (r : Row). after_row c r p.configuration p.host at.waits) e
+      ∙ ap (λ (r : Ruling). after_row c r p.configuration p.host at.waits) e
 
   -- the process goes on with what the call gives
-  pub record GoesOn (m : Bytes) (held : Held) (n : ℕ) : Type 0 where
+  pub record GoesOnGiven (m : Bytes) (held : HeldHost) (n : ℕ) : Type 0 where
     pub host : Host
-    pub next : next_of guest p given ≡ On (answered p.configuration m (results_of (Some n)) at.waits) host
+    pub next : next_of guest p given ≡ On (answered p.configuration m (call_results (Some n)) at.waits) host
     pub shows : ShowsHost held host
     pub gives : GivesNumber c
 
   module _ (built : IsBuilt c) (typed : AreArguments (parameters_of c) arguments) where
-    pub goes_on : (error : Option Errno) (m : Bytes) (held old : Held) → ShowsHost old p.host → ShowsRow (IsDone error) m held p.configuration.store.memory old (row c arguments given p.configuration.store.memory p.host) → GoesOn m held (number_of error)
+    pub goes_on : (error : Option Errno) (m : Bytes) (held old : HeldHost) → ShowsHost old p.host → ShowsRow (IsDone error) m held p.configuration.store.memory old (row c arguments given p.configuration.store.memory p.host) → GoesOnGiven m held (error_number error)
     goes_on None m held old shows told =
         let number = gives_number c built arguments typed given p.configuration.store.memory p.host (Ok told.0) told.1 tt in
         record {
@@ -109,13 +109,13 @@ module _ (guest : Guest) (p : ProcessState) (c : Call) (arguments : List ℕ) (a
           next = next_is (Err (Refuses e)) told.0
               ∙ ap (λ (z : Bytes). On (answered p.configuration z (given_by c (errno_number e)) at.waits) p.host) (sym told.1)
               ∙ ap (λ (z : List Value). On (answered p.configuration m z at.waits) p.host) (number.gives (errno_number e));
-          shows = (let P : Held → Type 0 = λ z. ShowsHost z p.host in subst P (sym told.2) shows);
+          shows = (let P : HeldHost → Type 0 = λ z. ShowsHost z p.host in subst P (sym told.2) shows);
           gives = number;
         }
 
   -- ---- where it leads
 
-  pub leads_on : (new : MachineValue) (held : Held) (c' : Configuration) (h : Host) (e : Configuration) (ended : Option End) → AreCalls new.guest.imports guest.calls → next_of guest p given ≡ On c' h → Settles guest.program c' e → ShowsIn new guest.program e → EndsAt e held h ended → Leads new held guest p given (option_map ending_of ended)
+  pub leads_on : (new : MachineValue) (held : HeldHost) (c' : Configuration) (h : Host) (e : Configuration) (ended : Option ProcessEnd) → AreCalls new.guest.imports guest.calls → next_of guest p given ≡ On c' h → Settles guest.program c' e → ShowsIn new guest.program e → EndsAt e held h ended → LeadsToProcess new held guest p given (option_map ending_of ended)
   leads_on new held c' h e None calls next settles shows ends =
       let q : ProcessState = stepped given e h p in
       let P : Next → Type 0 = λ z. LeadsTo guest z given p q in
@@ -135,7 +135,7 @@ module _ (guest : Guest) (p : ProcessState) (c : Call) (arguments : List ℕ) (a
         ended = (let same = ends.1 in cc);
       }
 
-  pub leads_out : (new : MachineValue) (held : Held) (code : ℕ) → AreCalls new.guest.imports guest.calls → next_of guest p given ≡ Over (Exited code) (stopped p.configuration) p.host → ShowsIn new guest.program (stopped p.configuration) → ShowsHost held (lines_ended p.host) → Leads new held guest p given (Some (Exited code))
+  pub leads_out : (new : MachineValue) (held : HeldHost) (code : ℕ) → AreCalls new.guest.imports guest.calls → next_of guest p given ≡ Over (Exited code) (stopped p.configuration) p.host → ShowsIn new guest.program (stopped p.configuration) → ShowsHost held (lines_ended p.host) → LeadsToProcess new held guest p given (Some (Exited code))
   leads_out new held code calls next shows host =
       let q : ProcessState = over (Exited code) (stepped given (stopped p.configuration) p.host p) in
       let P : Next → Type 0 = λ z. LeadsTo guest z given p q in
@@ -188,27 +188,27 @@ module _ (guest : Guest) (p : ProcessState) (c : Call) (arguments : List ℕ) (a
 
 -- ---- a call that doesn't end the process
 
-ends_not_after : (c : Call) (r : Row) (before : Configuration) (g : Host) (waits : Thread) (why : Ending) (d : Configuration) (h : Host) → ((code : ℕ) → r ≢ Err (Ends code)) → after_row c r before g waits ≢ Over why d h
+ends_not_after : (c : Call) (r : Ruling) (before : Configuration) (g : Host) (waits : Thread) (why : Ending) (d : Configuration) (h : Host) → ((code : ℕ) → r ≢ Err (Ends code)) → after_row c r before g waits ≢ Over why d h
 ends_not_after c (Ok done) before g waits why d h nothing e = absurd (cc)
 ends_not_after c (Err (Refuses f)) before g waits why d h nothing e = absurd (cc)
 ends_not_after c (Err (Wishes kind)) before g waits why d h nothing e = absurd (cc)
 ends_not_after c (Err (Ends code)) before g waits why d h nothing e = nothing code refl
 
-pub ends_not : (guest : Guest) (p : ProcessState) (c : Call) (arguments : List ℕ) → IsAt guest p.configuration c arguments → EndsNothing c arguments → EndsNot guest p
+pub ends_not : (guest : Guest) (p : ProcessState) (c : Call) (arguments : List ℕ) → IsAtCall guest p.configuration c arguments → EndsNothing c arguments → EndsNot guest p
 ends_not guest p c arguments at nothing given why d h e =
-    let r : Row = row c arguments given p.configuration.store.memory p.host in
+    let r : Ruling = row c arguments given p.configuration.store.memory p.host in
     ends_not_after c r p.configuration p.host at.waits why d h (nothing given p.configuration.store.memory p.host) (sym (next_is guest p c arguments at given r refl) ∙ e)
 
 -- ---- the host has made it
 
-module _ (old mid : MachineValue) (old_held mid_held : Held) (c : Call) (arguments : List ℕ) (given : Option Answer) where
-  pub written : (o : Outcome) → HasCalled old old_held c arguments given o mid mid_held → (program : Program) (d : Configuration) → ShowsIn old program d → ShowsIn mid program (with_bytes d mid.state.memory)
+module _ (old mid : MachineValue) (old_held mid_held : HeldHost) (c : Call) (arguments : List ℕ) (given : Option Answer) where
+  pub written : (o : CallOutcome) → HasCalled old old_held c arguments given o mid mid_held → (program : Program) (d : Configuration) → ShowsIn old program d → ShowsIn mid program (with_memory_bytes d mid.state.memory)
   written o called program d shows =
-      let P : MachineValue → Type 0 = λ v. ShowsIn v program (with_bytes d mid.state.memory) in
+      let P : MachineValue → Type 0 = λ v. ShowsIn v program (with_memory_bytes d mid.state.memory) in
       subst P (sym called.is) (shows_what_is_written old (memory_of mid) program d called.large.size called.bytes called.large.limit shows)
 
-  pub unchanged : (o : Outcome) → HasCalled old old_held c arguments given o mid mid_held → mid.state.memory ≡ old.state.memory → mid ≡ old
+  pub unchanged : (o : CallOutcome) → HasCalled old old_held c arguments given o mid mid_held → mid.state.memory ≡ old.state.memory → mid ≡ old
   unchanged o called e = called.is ∙ ap (λ (m : List ℕ). with_memory old (record { bytes = m; limit = mid.limit })) e ∙ ap (λ (n : ℕ). with_memory old (record { bytes = old.state.memory; limit = n })) called.large.limit
 
-  pub same_guest : (o : Outcome) → HasCalled old old_held c arguments given o mid mid_held → mid.guest ≡ old.guest
+  pub same_guest : (o : CallOutcome) → HasCalled old old_held c arguments given o mid mid_held → mid.guest ≡ old.guest
   same_guest o called = ap (λ (v : MachineValue). v.guest) called.is

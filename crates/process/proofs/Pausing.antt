@@ -2,10 +2,10 @@
 use Rattle.std.proofs.Common.{◌≡◌, ℕ, refl, sym, subst, arith}
 use Rattle.wasm_syntax_rules.specs.Configuration.{Program, Configuration}
 use Rattle.wasm_syntax_rules.specs.Steps.{IsEnded, Steps, none, more}
-use Rattle.machine_running.specs.declared.pause.Pause.{Pause}
-use Rattle.machine_running.specs.declared.pause.Pause.TheVariants as pause
-use Rattle.machine.specs.Values.{MachineValue, ShowsIn}
-use Rattle.machine.specs.Runs.{Arrives, RunsFor}
+use Rattle.machine.specs.declared.turns.pause.Pause.{Pause}
+use Rattle.machine.specs.declared.turns.pause.Pause.TheVariants as pause
+use Rattle.machine.specs.rules.Values.{MachineValue, ShowsIn}
+use Rattle.machine.specs.rules.Runs.{Arrives, RunsFor}
 
 no_step : (program : Program) (n : ℕ) (d e : Configuration) → Steps program n d e → n ≡ 0 → d ≡ e
 no_step program n d e (none {c = c}) zeroed = refl

@@ -8,17 +8,17 @@ use Rattle.wasm_syntax_rules.specs.Validity.{IsValid}
 use Rattle.wasm_syntax_rules.specs.Configuration.{Program, Configuration}
 use Rattle.wasm_syntax_rules.specs.Instantiation.{Begins}
 use Rattle.wasi_abi.specs.declared.call.Call.{Call}
-use Rattle.wasi_abi.specs.Configs.{Settings}
-use Rattle.wasi_calls.specs.Calls.{IsBuilt}
-use Rattle.wasi_calls_rows.specs.Hosts.{Host}
-use Rattle.wasi_calls.specs.Held.{Held, ShowsHost, held_ended}
-use Rattle.machine.specs.Values.{MachineValue, ShowsIn, IsSameMachine}
-use Rattle.machine.specs.Runs.{HasBegun}
+use Rattle.wasi_abi.specs.rules.Configs.{Settings}
+use Rattle.wasi_calls.specs.rules.Calls.{IsBuilt}
+use Rattle.wasi_calls_rules.specs.Hosts.{Host}
+use Rattle.wasi_calls.specs.Held.{HeldHost, ShowsHost, held_ended}
+use Rattle.machine.specs.rules.Values.{MachineValue, ShowsIn, IsSameMachine}
+use Rattle.machine.specs.rules.Runs.{HasBegun}
 use Rattle.process_rules.specs.Processes.{Exited, ProcessState, Guest, AreCalls, IsStart, host_of, over, closed}
 use Rattle.process_rules.proofs.OneStart.{item_number, entry_once}
 use Rattle.process_rules.proofs.Quiet.{open_still}
-use Rattle.process.specs.declared.stop.End.{End}
-use Rattle.process.specs.Values.{ShowsProcess, IsProcess, HasStarted, ending_of, process_of}
+use Rattle.process.specs.declared.stop.ProcessEnd.{ProcessEnd}
+use Rattle.process.specs.rules.Values.{ShowsProcess, IsProcess, HasStarted, ending_of, process_of}
 use Rattle.process.specs.Parts.{HasFewLines}
 use Rattle.process.specs.Callings.{EndsAt, IsEndedBy}
 use Rattle.process.proofs.Built.{some_calls}
@@ -28,14 +28,14 @@ use Rattle.process.proofs.Making.{closed_over}
 abbrev pub first_process : Settings → Configuration → ProcessState
 first_process config d = record { configuration = d; host = host_of config; steps = 0; answers = 0; requests = 0; ended = None }
 
-abbrev pub first_held : Settings → Held
+abbrev pub first_held : Settings → HeldHost
 first_held config = record { released = 0; host = host_of config }
 
 module _ (m : Module) (config : Settings) (valid : IsValid m) (machine : MachineValue) (begun : HasBegun config.pages m machine)
     (new : MachineValue) (same : IsSameMachine machine new) (shows_on : (program : Program) (d : Configuration) → ShowsIn machine program d → ShowsIn new program d)
-    (held last : Held) (held_is : held ≡ first_held config) where
+    (held last : HeldHost) (held_is : held ≡ first_held config) where
   first_shown : ShowsHost held (host_of config)
-  first_shown = let P : Held → Type 0 = λ z. ShowsHost z (host_of config) in subst P (sym held_is) (record { before = []; count = refl; is = refl })
+  first_shown = let P : HeldHost → Type 0 = λ z. ShowsHost z (host_of config) in subst P (sym held_is) (record { before = []; count = refl; is = refl })
 
   calls_of : (guest : Guest) → AreCalls m.imports guest.calls → AreCalls new.guest.imports guest.calls
   calls_of guest calls = let P : Module → Type 0 = λ z. AreCalls z.imports guest.calls in subst P (sym (same.guest ∙ begun.guest)) calls
@@ -47,7 +47,7 @@ module _ (m : Module) (config : Settings) (valid : IsValid m) (machine : Machine
       let P : ℕ → Type 0 = λ n. Begins m config.pages n guest.program s.first in
       begun.shows guest.program s.first (subst P entries s.begins)
 
-  at_start : (guest : Guest) (p : ProcessState) (s : IsStart m config guest p) (ended : Option End) → EndsAt s.first last (host_of config) ended → ShowsProcess (process_of new last 0 0 0 ended) guest p
+  at_start : (guest : Guest) (p : ProcessState) (s : IsStart m config guest p) (ended : Option ProcessEnd) → EndsAt s.first last (host_of config) ended → ShowsProcess (process_of new last 0 0 0 ended) guest p
   at_start guest p s None ends =
       let q : ProcessState = first_process config s.first in
       let is : p ≡ q = s.is ∙ open_still s.first.thread s.first.later q (λ a b. ends.0 (record { returned = a; nothing_later = b })) in
@@ -73,15 +73,15 @@ module _ (m : Module) (config : Settings) (valid : IsValid m) (machine : Machine
         steps = refl;
         answers = refl;
         requests = refl;
-        ended = ap (λ (e : End). Some (ending_of e)) ends.1;
+        ended = ap (λ (e : ProcessEnd). Some (ending_of e)) ends.1;
         closed = λ k. absurd (cc);
       })
 
-  none_at_first : (ended : Option End) → IsEndedBy ended held last → last.host.lines ≡ []
-  none_at_first None e = ap (λ (z : Held). z.host.lines) e ∙ ap (λ (z : Held). z.host.lines) held_is
-  none_at_first (Some how) e = ap (λ (z : Held). z.host.lines) e ∙ ap (λ (z : Held). (held_ended z).host.lines) held_is
+  none_at_first : (ended : Option ProcessEnd) → IsEndedBy ended held last → last.host.lines ≡ []
+  none_at_first None e = ap (λ (z : HeldHost). z.host.lines) e ∙ ap (λ (z : HeldHost). z.host.lines) held_is
+  none_at_first (Some how) e = ap (λ (z : HeldHost). z.host.lines) e ∙ ap (λ (z : HeldHost). (held_ended z).host.lines) held_is
 
-  module _ (ended : Option End) (ends : (program : Program) (d : Configuration) (h : Host) → ShowsIn machine program d → ShowsHost held h → EndsAt d last h ended) where
+  module _ (ended : Option ProcessEnd) (ends : (program : Program) (d : Configuration) (h : Host) → ShowsIn machine program d → ShowsHost held h → EndsAt d last h ended) where
     shows_start : (guest : Guest) (p : ProcessState) → IsStart m config guest p → ShowsProcess (process_of new last 0 0 0 ended) guest p
     shows_start guest p s = at_start guest p s ended (ends guest.program s.first (host_of config) (begun_at guest p s) first_shown)
 

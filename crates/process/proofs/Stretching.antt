@@ -7,32 +7,32 @@ use Rattle.wasm_syntax.specs.declared.value.Trap.{Trap}
 use Rattle.wasm_syntax_rules.specs.Configuration.{Program, Configuration}
 use Rattle.wasm_syntax_rules.specs.Steps.{stopped, IsEnded, Steps, none, more}
 use Rattle.wasi_abi.specs.declared.call.Call.{Call}
-use Rattle.wasi_abi.specs.Calls.{parameters_of}
-use Rattle.wasi_calls_rows.specs.Hosts.{Host, Line}
-use Rattle.wasi_calls_rows.specs.Lines.{lines_ended}
-use Rattle.wasi_calls.specs.Held.{Held, ShowsHost, held_ended}
-use Rattle.wasi_calls.specs.Calls.{IsBuilt, AreArguments}
-use Rattle.machine_running.specs.declared.pause.Pause.{Pause}
-use Rattle.machine_running.specs.declared.pause.Pause.TheVariants as pause
-use Rattle.machine.specs.Values.{MachineValue, ShowsIn, IsSameMachine}
-use Rattle.machine.specs.Runs.{Arrives, RunsFor}
+use Rattle.wasi_abi.specs.rules.Calls.{parameters_of}
+use Rattle.wasi_calls_rules.specs.Hosts.{Host, Line}
+use Rattle.wasi_calls_rules.specs.Lines.{lines_ended}
+use Rattle.wasi_calls.specs.Held.{HeldHost, ShowsHost, held_ended}
+use Rattle.wasi_calls.specs.rules.Calls.{IsBuilt, AreArguments}
+use Rattle.machine.specs.declared.turns.pause.Pause.{Pause}
+use Rattle.machine.specs.declared.turns.pause.Pause.TheVariants as pause
+use Rattle.machine.specs.rules.Values.{MachineValue, ShowsIn, IsSameMachine}
+use Rattle.machine.specs.rules.Runs.{Arrives, RunsFor}
 use Rattle.process_rules.specs.Processes.{Exited, Trapped, ProcessState, Guest, AreCalls, over}
 use Rattle.process_rules.specs.Runs.{Moves}
 use Rattle.process_rules.specs.Behind.{Syncs}
 use Rattle.process_rules.specs.Owing.{RunsQuietly, MovesQuietly, none as no_run, more as more_runs}
-use Rattle.process_rules.specs.Laws.{EndsAfter}
+use Rattle.process_rules.specs.laws.Laws.{EndsAfter}
 use Rattle.process_rules.proofs.Quiet.{quiet_runs_join, rules_are_quiet, last_rule_ends, trap_ends, no_rule}
 use Rattle.process_rules.proofs.Growing.{move_emits}
-use Rattle.process.specs.declared.stop.End.{End}
-use Rattle.process.specs.declared.stop.End.TheVariants as end
+use Rattle.process.specs.declared.stop.ProcessEnd.{ProcessEnd}
+use Rattle.process.specs.declared.stop.ProcessEnd.TheVariants as end
 use Rattle.process.specs.declared.stop.Stop.{Stop}
 use Rattle.process.specs.declared.stop.Stop.TheVariants as stop
 use Rattle.process.specs.declared.fault.ProcessFault.{ProcessFault}
 use Rattle.process.specs.declared.fault.ProcessFault.TheVariants as fault
 use Rattle.process.specs.declared.turn.Stretch.{Stretch}
-use Rattle.process.specs.Values.{ending_of}
-use Rattle.process.specs.Parts.{ShowsParts, IsAt, WaitsAt}
-use Rattle.process.specs.Stretches.{ComesOn, ComesBy, Comes, StepsAt, stop_after}
+use Rattle.process.specs.rules.Values.{ending_of}
+use Rattle.process.specs.Parts.{ShowsParts, IsAtCall, WaitsAtCall}
+use Rattle.process.specs.Stretches.{ComesOn, ComesBy, ComesToShown, StepsAt, stop_after}
 use Rattle.process.proofs.Built.{same_calls, call_built, arguments_typed}
 use Rattle.process.proofs.Lines.{same_lines, other_lines}
 
@@ -63,7 +63,7 @@ module _ (guest : Guest) (p m q : ProcessState) (k : ℕ) (runs : RunsQuietly gu
 -- ---- after one step
 
 module _ (guest : Guest) (p before q : ProcessState) (k fuel : ℕ) (runs : RunsQuietly guest p k before) (moves : Moves guest before None q) (within : k < fuel)
-    (old held : Held) (first : ShowsHost old before.host) (last : ShowsHost held q.host) (released : held.released ≡ old.released) (none_waits : old.host.lines ≡ []) where
+    (old held : HeldHost) (first : ShowsHost old before.host) (last : ShowsHost held q.host) (released : held.released ≡ old.released) (none_waits : old.host.lines ≡ []) where
   quietly : (synced : Bool) → synced ≡ false → (IsTrue synced ↔ Syncs guest before) → [] ≡ held.host.lines → ComesOn guest p q (suc k) []
   quietly synced off syncs waits =
       let move : MovesQuietly guest before q = record {
@@ -76,7 +76,7 @@ module _ (guest : Guest) (p before q : ProcessState) (k fuel : ℕ) (runs : Runs
       let counts : k + 1 ≡ suc k = omega arith in
       record { runs = subst P counts all; none_waits = refl }
 
-  pub after_step : (synced : Bool) → (IsTrue synced ↔ Syncs guest before) → (ended : Option End) → q.ended ≡ option_map ending_of ended → (waiting : List Line) → waiting ≡ held.host.lines
+  pub after_step : (synced : Bool) → (IsTrue synced ↔ Syncs guest before) → (ended : Option ProcessEnd) → q.ended ≡ option_map ending_of ended → (waiting : List Line) → waiting ≡ held.host.lines
       → ComesBy guest p q fuel (suc k) waiting (stop_after synced waiting ended)
   after_step true syncs ended e waiting waits = record { quiet = k; before = before; runs = runs; moves = moves; owing = inr (syncs.0 refl); are = refl; within = within }
   after_step false syncs ended e (line ∷ waiting) waits = record {
@@ -104,7 +104,7 @@ some_step : (program : Program) (n : ℕ) (d e : Configuration) → Steps progra
 some_step program n d e (none {c = c}) runs ends = absurd (runs ends)
 some_step program n d e (more {n = k} {c = c} {d = f} {e = g} first rest) runs ends = (k, refl)
 
-module _ (old new : MachineValue) (held : Held) (same : IsSameMachine old new) (guest : Guest) (p : ProcessState) (shows : ShowsParts old held guest p) (running : p.ended ≡ None) where
+module _ (old new : MachineValue) (held : HeldHost) (same : IsSameMachine old new) (guest : Guest) (p : ProcessState) (shows : ShowsParts old held guest p) (running : p.ended ≡ None) where
   calls_still : AreCalls new.guest.imports guest.calls
   calls_still = let P : Module → Type 0 = λ m. AreCalls m.imports guest.calls in subst P (sym same.guest) shows.calls
 
@@ -124,7 +124,7 @@ module _ (old new : MachineValue) (held : Held) (same : IsSameMachine old new) (
 
     -- ---- the fuel is spent
     pub spent : held.host.lines ≡ [] → RunsFor new guest.program p.configuration fuel left pause.Spent
-        → Comes new held guest p fuel (record { steps = fuel - left; ended = None; stop = Some (Ok stop.Spent) })
+        → ComesToShown new held guest p fuel (record { steps = fuel - left; ended = None; stop = Some (Ok stop.Spent) })
     spent none_waits h =
         let a = h.0 in
         let open_yet : IsEnded a.configuration → ⊥ = λ e. h.1 e.returned in
@@ -145,7 +145,7 @@ module _ (old new : MachineValue) (held : Held) (same : IsSameMachine old new) (
       asks_open : IsEnded a.configuration → ⊥
       asks_open e = let stuck = no_rule guest.program a.configuration e in let asks = h.1.asks in cc
 
-      pub is_at : IsAt guest a.configuration c arguments
+      pub is_at : IsAtCall guest a.configuration c arguments
       is_at =
           let asks = h.1 in
           let same_list : asks.calls ≡ guest.calls = same_calls new.guest.imports asks.calls guest.calls asks.are_calls calls_still in
@@ -165,15 +165,15 @@ module _ (old new : MachineValue) (held : Held) (same : IsSameMachine old new) (
       pub are_typed : AreArguments (parameters_of c) arguments
       are_typed = let P : List ℕ → Type 0 = λ ns. AreArguments (parameters_of c) ns in subst P (sym h.1.are) (arguments_typed c h.1.operands h.1.typed)
 
-      pub waits_at : WaitsAt new held c arguments
+      pub waits_at : WaitsAtCall new held c arguments
       waits_at = record { guest = guest; process = ran a.configuration a.steps; shows = ran_shows a asks_open; running = running; at = is_at }
 
-      pub stepped_on : (last : MachineValue) (last_held : Held) (s : Stretch) → StepsAt new held c arguments s last last_held
-          → Comes last last_held guest p fuel (record { steps = (fuel - left) + s.steps; ended = s.ended; stop = s.stop })
+      pub stepped_on : (last : MachineValue) (last_held : HeldHost) (s : Stretch) → StepsAt new held c arguments s last last_held
+          → ComesToShown last last_held guest p fuel (record { steps = (fuel - left) + s.steps; ended = s.ended; stop = s.stop })
       stepped_on last last_held s steps =
           let m : ProcessState = ran a.configuration a.steps in
           let some = h.2 in
-          let next : Comes last last_held guest m left s = steps guest m left (ran_shows a asks_open) running is_at some in
+          let next : ComesToShown last last_held guest m left s = steps guest m left (ran_shows a asks_open) running is_at some in
           let whole : ComesBy guest p next.process (a.steps + left) (a.steps + s.steps) last_held.host.lines s.stop =
           joined guest p m next.process a.steps (ran_quietly a asks_open) left s.steps last_held.host.lines s.stop next.comes in
           let P : ℕ → Type 0 = λ n. ComesBy guest p next.process n (a.steps + s.steps) last_held.host.lines s.stop in
@@ -181,14 +181,14 @@ module _ (old new : MachineValue) (held : Held) (same : IsSameMachine old new) (
           record { process = next.process; shows = next.shows; ended = next.ended; comes = subst Q (used_up a) (subst P a.used whole) }
 
     -- ---- the process ends
-    ended_so : (last : Held) → last ≡ held_ended held → held.host.lines ≡ [] → (last_shows : ShowsHost last (lines_ended p.host)) → (k : ℕ) (q : ProcessState) (how : End) → k < fuel
+    ended_so : (last : HeldHost) → last ≡ held_ended held → held.host.lines ≡ [] → (last_shows : ShowsHost last (lines_ended p.host)) → (k : ℕ) (q : ProcessState) (how : ProcessEnd) → k < fuel
         → EndsAfter guest p k q → q.host ≡ lines_ended p.host → q.ended ≡ Some (ending_of how) → ShowsIn new guest.program q.configuration → (steps : ℕ) → suc k ≡ steps
-        → Comes new last guest p fuel (record { steps = steps; ended = Some how; stop = stop_after false last.host.lines (Some how) })
+        → ComesToShown new last guest p fuel (record { steps = steps; ended = Some how; stop = stop_after false last.host.lines (Some how) })
     ended_so last is none_waits last_shows k q how within ends host over_so configuration steps counts =
         let P : Host → Type 0 = λ g. ShowsHost held g in
         let Q : Host → Type 0 = λ g. ShowsHost last g in
         let shows_last = subst Q (sym host) last_shows in
-        let released : last.released ≡ held.released = ap (λ (v : Held). v.released) is in
+        let released : last.released ≡ held.released = ap (λ (v : HeldHost). v.released) is in
         let no_sync = ends.no_sync in
         let comes : ComesBy guest p q fuel (suc k) last.host.lines (stop_after false last.host.lines (Some how)) =
         after_step guest p ends.before q k fuel ends.runs ends.moves within held last (subst P (sym ends.same_host) shows.host) shows_last released none_waits
@@ -201,8 +201,8 @@ module _ (old new : MachineValue) (held : Held) (same : IsSameMachine old new) (
           comes = subst R counts comes;
         }
 
-    pub returned : (last : Held) → last ≡ held_ended held → held.host.lines ≡ [] → ShowsHost last (lines_ended p.host) → RunsFor new guest.program p.configuration fuel left pause.Returned
-        → Comes new last guest p fuel (record { steps = fuel - left; ended = Some (end.Exited 0); stop = stop_after false last.host.lines (Some (end.Exited 0)) })
+    pub returned : (last : HeldHost) → last ≡ held_ended held → held.host.lines ≡ [] → ShowsHost last (lines_ended p.host) → RunsFor new guest.program p.configuration fuel left pause.Returned
+        → ComesToShown new last guest p fuel (record { steps = fuel - left; ended = Some (end.Exited 0); stop = stop_after false last.host.lines (Some (end.Exited 0)) })
     returned last is none_waits last_shows h =
         let a = h.0 in
         let some = some_step guest.program a.steps p.configuration a.configuration a.ran (shows.closed running) h.1 in
@@ -213,8 +213,8 @@ module _ (old new : MachineValue) (held : Held) (same : IsSameMachine old new) (
         ended_so last is none_waits last_shows k (over (Exited 0) (ran a.configuration (suc k))) (end.Exited 0) (omega (arith, used, is_some))
         (last_rule_ends guest p k a.configuration running (subst P is_some a.ran) h.1) refl refl a.shows (fuel - left) (omega (arith, used, is_some))
 
-    pub trapped : (last : Held) → last ≡ held_ended held → held.host.lines ≡ [] → ShowsHost last (lines_ended p.host) → (why : Trap) → RunsFor new guest.program p.configuration fuel left (pause.Trapped why)
-        → Comes new last guest p fuel (record { steps = fuel - left; ended = Some (end.Trapped why); stop = stop_after false last.host.lines (Some (end.Trapped why)) })
+    pub trapped : (last : HeldHost) → last ≡ held_ended held → held.host.lines ≡ [] → ShowsHost last (lines_ended p.host) → (why : Trap) → RunsFor new guest.program p.configuration fuel left (pause.Trapped why)
+        → ComesToShown new last guest p fuel (record { steps = fuel - left; ended = Some (end.Trapped why); stop = stop_after false last.host.lines (Some (end.Trapped why)) })
     trapped last is none_waits last_shows why h =
         let used = h.used in
         ended_so last is none_waits last_shows h.steps (over (Trapped why) (ran (stopped h.configuration) (suc h.steps))) (end.Trapped why) (omega (arith, used))

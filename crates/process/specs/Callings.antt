@@ -4,24 +4,24 @@ use Rattle.std.specs.Option.{option_map}
 use Rattle.std.specs.List.{AllByRecursion}
 use Rattle.wasm_syntax.specs.declared.types.FunctionType.{FunctionType}
 use Rattle.wasm_syntax.specs.declared.value.Value.{Value}
-use Rattle.guest_memory.specs.Bytes.{IsByte}
+use Rattle.guest_memory.specs.rules.Bytes.{IsByte}
 use Rattle.wasm_syntax_rules.specs.Types.{AreOf, gives_of}
 use Rattle.wasm_syntax_rules.specs.Configuration.{Host as IsHost, Program, Thread, Configuration, Asks}
 use Rattle.wasm_syntax_rules.specs.Steps.{rule, answered, IsEnded, Settles}
 use Rattle.wasi_abi.specs.declared.answer.Answer.{Answer}
 use Rattle.wasi_abi.specs.declared.call.Call.{Call}
 use Rattle.wasi_abi.specs.declared.errno.Errno.{Errno}
-use Rattle.wasi_abi.specs.Numbers.{errno_number}
-use Rattle.wasi_calls_rows.specs.Hosts.{Host}
-use Rattle.wasi_calls_rows.specs.Checks.{Done, Halt}
-use Rattle.wasi_calls_rows.specs.Lines.{lines_ended}
-use Rattle.wasi_calls_rows.specs.Rows.{row, IsSync}
-use Rattle.wasi_calls.specs.declared.outcome.Outcome.{Outcome}
-use Rattle.wasi_calls.specs.declared.outcome.Outcome.TheVariants as outcome
-use Rattle.wasi_calls.specs.Held.{Held, ShowsHost, held_ended}
-use Rattle.wasi_calls.specs.Calls.{told_of, ShowsRow, EndsNothing, IsAsLarge}
-use Rattle.machine_hosting.specs.Answers.{results_of}
-use Rattle.machine.specs.Values.{MachineValue, ShowsIn, memory_of, with_memory}
+use Rattle.wasi_abi.specs.rules.Numbers.{errno_number}
+use Rattle.wasi_calls_rules.specs.Hosts.{Host}
+use Rattle.wasi_calls_rules.specs.Checks.{Done, Halt}
+use Rattle.wasi_calls_rules.specs.Lines.{lines_ended}
+use Rattle.wasi_calls_rules.specs.Rows.{row, IsSync}
+use Rattle.wasi_calls.specs.declared.outcome.CallOutcome.{CallOutcome}
+use Rattle.wasi_calls.specs.declared.outcome.CallOutcome.TheVariants as outcome
+use Rattle.wasi_calls.specs.Held.{HeldHost, ShowsHost, held_ended}
+use Rattle.wasi_calls.specs.rules.Calls.{told_of, ShowsRow, EndsNothing, IsAsLarge}
+use Rattle.machine.specs.Hosting.Answers.{call_results}
+use Rattle.machine.specs.rules.Values.{MachineValue, ShowsIn, memory_of, with_memory}
 use Rattle.process_rules.specs.Processes.{Ending, ProcessState, Guest}
 use Rattle.process_rules.specs.Runs.{Wants, next_of, LeadsTo}
 use Rattle.process_rules.specs.Behind.{Syncs}
@@ -29,14 +29,14 @@ use Rattle.process.specs.declared.calling.Called.{Called}
 use Rattle.process.specs.declared.calling.Called.TheVariants as called
 use Rattle.process.specs.declared.fault.ProcessFault.{ProcessFault}
 use Rattle.process.specs.declared.fault.ProcessFault.TheVariants as fault
-use Rattle.process.specs.declared.stop.End.{End}
-use Rattle.process.specs.declared.stop.End.TheVariants as end
-use Rattle.process.specs.Values.{ending_of}
-use Rattle.process.specs.Parts.{ShowsParts, IsAt}
-use Rattle.process.specs.Stops.{EndsNot, lines_by}
+use Rattle.process.specs.declared.stop.ProcessEnd.{ProcessEnd}
+use Rattle.process.specs.declared.stop.ProcessEnd.TheVariants as end
+use Rattle.process.specs.rules.Values.{ending_of}
+use Rattle.process.specs.Parts.{ShowsParts, IsAtCall}
+use Rattle.process.specs.rules.Stops.{EndsNot, lines_by}
 
 -- it leads to a process that is then shown, and has ended so
-pub record Leads (machine : MachineValue) (held : Held) (guest : Guest) (p : ProcessState) (given : Option Answer) (how : Option Ending) : Type 0 where
+pub record LeadsToProcess (machine : MachineValue) (held : HeldHost) (guest : Guest) (p : ProcessState) (given : Option Answer) (how : Option Ending) : Type 0 where
   pub process : ProcessState
   pub leads : LeadsTo guest (next_of guest p given) given p process
   pub shows : ShowsParts machine held guest process
@@ -47,8 +47,8 @@ abbrev pub Tells : Bool → Guest → ProcessState → Option Answer → Type 0
 Tells synced guest p given = given ≡ None → (IsTrue synced ↔ Syncs guest p)
 
 -- It is made; or it wants an answer, there is no memory for it, or its lines can't be numbered, and nothing changes.
-abbrev pub CallsFor : MachineValue → Held → MachineValue → Held → Guest → ProcessState → Option Answer → Result Called ProcessFault → Type 0
-CallsFor old old_held new held guest p given (Ok (called.Made synced ended)) = Leads new held guest p given (option_map ending_of ended) × Tells synced guest p given
+abbrev pub CallsFor : MachineValue → HeldHost → MachineValue → HeldHost → Guest → ProcessState → Option Answer → Result Called ProcessFault → Type 0
+CallsFor old old_held new held guest p given (Ok (called.Made synced ended)) = LeadsToProcess new held guest p given (option_map ending_of ended) × Tells synced guest p given
 CallsFor old old_held new held guest p given (Ok (called.Asks kind)) = (new ≡ old) × (held ≡ old_held) × (next_of guest p given ≡ Wants kind)
 CallsFor old old_held new held guest p given (Err fault.Memory) = (new ≡ old) × (held ≡ old_held) × EndsNot guest p
 CallsFor old old_held new held guest p given (Err fault.StepsSpent) =
@@ -56,25 +56,25 @@ CallsFor old old_held new held guest p given (Err fault.StepsSpent) =
 CallsFor old old_held new held guest p given (Err fault.WrongAnswer) = ⊥
 
 -- whichever process was shown that is at this call
-abbrev pub Calls : MachineValue → Held → Call → List ℕ → Option Answer → Result Called ProcessFault → MachineValue → Held → Type 0
-Calls old old_held call arguments given result new held =
-    (guest : Guest) (p : ProcessState) → ShowsParts old old_held guest p → p.ended ≡ None → IsAt guest p.configuration call arguments
+abbrev pub MakesCall : MachineValue → HeldHost → Call → List ℕ → Option Answer → Result Called ProcessFault → MachineValue → HeldHost → Type 0
+MakesCall old old_held call arguments given result new held =
+    (guest : Guest) (p : ProcessState) → ShowsParts old old_held guest p → p.ended ≡ None → IsAtCall guest p.configuration call arguments
     → CallsFor old old_held new held guest p given result
 
 -- ---- the steps of a call
 
 -- If the call is done, the lines emitted by then and two more can be numbered.
-abbrev pub HasNumbers : MachineValue → Held → Call → List ℕ → Type 0
+abbrev pub HasNumbers : MachineValue → HeldHost → Call → List ℕ → Type 0
 HasNumbers machine held call arguments =
     (given : Option Answer) (h : Host) (done : Done) → ShowsHost held h → row call arguments given machine.state.memory h ≡ Ok done → length done.host.lines + 2 < 2 ^ 63
 
 -- they can't, however the call comes out
-pub record HasNoNumbers (machine : MachineValue) (held : Held) (call : Call) (arguments : List ℕ) : Type 0 where
+pub record HasNoNumbers (machine : MachineValue) (held : HeldHost) (call : Call) (arguments : List ℕ) : Type 0 where
   pub done : (given : Option Answer) (h : Host) (done : Done) → ShowsHost held h → row call arguments given machine.state.memory h ≡ Ok done → 2 ^ 63 ≤ length done.host.lines + 2
   pub stopped : (given : Option Answer) (h : Host) (halt : Halt) → ShowsHost held h → row call arguments given machine.state.memory h ≡ Err halt → 2 ^ 63 ≤ length h.lines + 2
 
 -- The host has made the call, on the memory that the machine holds. All else of the machine is as it was.
-pub record HasCalled (old : MachineValue) (old_held : Held) (call : Call) (arguments : List ℕ) (given : Option Answer) (o : Outcome) (new : MachineValue) (held : Held) : Type 0 where
+pub record HasCalled (old : MachineValue) (old_held : HeldHost) (call : Call) (arguments : List ℕ) (given : Option Answer) (o : CallOutcome) (new : MachineValue) (held : HeldHost) : Type 0 where
   pub is : new ≡ with_memory old (memory_of new)
   pub large : IsAsLarge (memory_of old) (memory_of new)
   pub bytes : AllByRecursion IsByte new.state.memory
@@ -83,34 +83,34 @@ pub record HasCalled (old : MachineValue) (old_held : Held) (call : Call) (argum
   pub wants : o ≡ outcome.Memory → EndsNothing call arguments
 
 -- the error's number, or 0
-abbrev pub number_of : Option Errno → ℕ
-number_of None = 0
-number_of (Some e) = errno_number e
+abbrev pub error_number : Option Errno → ℕ
+error_number None = 0
+error_number (Some e) = errno_number e
 
 -- the call is a sync, and has no error
 abbrev pub HasSynced : Bool → Call → Option Errno → Type 0
 HasSynced synced call error = IsTrue synced ↔ (IsSync call × (error ≡ None))
 
 -- the program has come to its end, and the host has emitted what it had not finished; or neither
-abbrev pub EndsAt : Configuration → Held → Host → Option End → Type 0
+abbrev pub EndsAt : Configuration → HeldHost → Host → Option ProcessEnd → Type 0
 EndsAt e held h None = (IsEnded e → ⊥) × ShowsHost held h
 EndsAt e held h (Some how) = IsEnded e × (how ≡ end.Exited 0) × ShowsHost held (lines_ended h)
 
 -- the host where it has ended the process so, or not
-abbrev pub IsEndedBy : Option End → Held → Held → Type 0
+abbrev pub IsEndedBy : Option ProcessEnd → HeldHost → HeldHost → Type 0
 IsEndedBy None old new = new ≡ old
 IsEndedBy (Some how) old new = new ≡ held_ended old
 
 -- what the call gives has settled to a configuration that is then shown
-pub record FinishesAt (new : MachineValue) (held : Held) (program : Program) (given : Configuration) (h : Host) (ended : Option End) : Type 0 where
+pub record FinishesAt (new : MachineValue) (held : HeldHost) (program : Program) (given : Configuration) (h : Host) (ended : Option ProcessEnd) : Type 0 where
   pub configuration : Configuration
   pub settles : Settles program given configuration
   pub shows : ShowsIn new program configuration
   pub ends : EndsAt configuration held h ended
 
 -- whichever configuration was shown that waits at such a call of the host
-abbrev pub HasFinished : MachineValue → Held → ℕ → Option End → MachineValue → Held → Type 0
+abbrev pub HasFinished : MachineValue → HeldHost → ℕ → Option ProcessEnd → MachineValue → HeldHost → Type 0
 HasFinished old old_held number ended new held =
     (program : Program) (d : Configuration) (f : ℕ) (operands : List Value) (waits : Thread) (kind : FunctionType) (h : Host)
-    → ShowsIn old program d → rule program d ≡ Asks f operands waits → slice_get program.functions f ≡ Some (IsHost kind) → AreOf (gives_of kind) (results_of (Some number)) → ShowsHost old_held h
-    → FinishesAt new held program (answered d old.state.memory (results_of (Some number)) waits) h ended
+    → ShowsIn old program d → rule program d ≡ Asks f operands waits → slice_get program.functions f ≡ Some (IsHost kind) → AreOf (gives_of kind) (call_results (Some number)) → ShowsHost old_held h
+    → FinishesAt new held program (answered d old.state.memory (call_results (Some number)) waits) h ended

@@ -1,5 +1,4 @@
-pub mod Values
 pub mod Parts
 pub mod Callings
-pub mod Stops
 pub mod Stretches
+pub mod rules

@@ -5,44 +5,44 @@ use Rattle.wasm_syntax_rules.specs.Types.{number_in}
 use Rattle.wasm_syntax_rules.specs.Configuration.{Host, Thread, Configuration, Asks}
 use Rattle.wasm_syntax_rules.specs.Steps.{rule, IsEnded}
 use Rattle.wasi_abi.specs.declared.call.Call.{Call}
-use Rattle.wasi_abi.specs.Calls.{function_type_of}
-use Rattle.wasi_calls_rows.specs.Lines.{rest_of}
-use Rattle.wasi_calls.specs.Held.{Held, ShowsHost}
-use Rattle.machine.specs.Values.{MachineValue, ShowsIn}
+use Rattle.wasi_abi.specs.rules.Calls.{call_type_of}
+use Rattle.wasi_calls_rules.specs.Lines.{rest_of}
+use Rattle.wasi_calls.specs.Held.{HeldHost, ShowsHost}
+use Rattle.machine.specs.rules.Values.{MachineValue, ShowsIn}
 use Rattle.process_rules.specs.Processes.{ProcessState, Guest, AreCalls}
 
 -- They show the configuration and the host of this process.
-pub record ShowsParts (machine : MachineValue) (held : Held) (guest : Guest) (p : ProcessState) : Type 0 where
+pub record ShowsParts (machine : MachineValue) (held : HeldHost) (guest : Guest) (p : ProcessState) : Type 0 where
   pub calls : AreCalls machine.guest.imports guest.calls
   pub configuration : ShowsIn machine guest.program p.configuration
   pub host : ShowsHost held p.host
   pub closed : p.ended ≡ None → IsEnded p.configuration → ⊥
 
 -- they show some process that has not ended
-pub record IsRunning (machine : MachineValue) (held : Held) : Type 0 where
+pub record IsRunning (machine : MachineValue) (held : HeldHost) : Type 0 where
   pub guest : Guest
   pub process : ProcessState
   pub shows : ShowsParts machine held guest process
   pub running : process.ended ≡ None
 
 -- the lines that were emitted can be numbered, and those that an end would emit now
-abbrev pub HasFewLines : Held → Type 0
+abbrev pub HasFewLines : HeldHost → Type 0
 HasFewLines held = held.released + length held.host.lines + length (rest_of 1 held.host.first ++ rest_of 2 held.host.second) < 2 ^ 63
 
 -- the rule asks the host for this call, with these arguments, the first one first
-pub record IsAt (guest : Guest) (d : Configuration) (call : Call) (arguments : List ℕ) : Type 0 where
+pub record IsAtCall (guest : Guest) (d : Configuration) (call : Call) (arguments : List ℕ) : Type 0 where
   pub function : ℕ
   pub operands : List Value
   pub waits : Thread
   pub asks : rule guest.program d ≡ Asks function operands waits
   pub is_call : slice_get guest.calls function ≡ Some call
-  pub is_host : slice_get guest.program.functions function ≡ Some (Host (function_type_of call))
+  pub is_host : slice_get guest.program.functions function ≡ Some (Host (call_type_of call))
   pub are : arguments ≡ reverse (map number_in operands)
 
 -- they show some process that has not ended, and is at this call
-pub record WaitsAt (machine : MachineValue) (held : Held) (call : Call) (arguments : List ℕ) : Type 0 where
+pub record WaitsAtCall (machine : MachineValue) (held : HeldHost) (call : Call) (arguments : List ℕ) : Type 0 where
   pub guest : Guest
   pub process : ProcessState
   pub shows : ShowsParts machine held guest process
   pub running : process.ended ≡ None
-  pub at : IsAt guest process.configuration call arguments
+  pub at : IsAtCall guest process.configuration call arguments

@@ -2,13 +2,13 @@
 use Rattle.std.specs.Prelude.{◌≡◌, ℕ, suc, ◌<◌, ◌≤◌, Bool, true, false, List, [], ◌∷◌, Option, Some, None, Result, Ok, Err}
 use Rattle.std.specs.Option.{option_map}
 use Rattle.wasi_abi.specs.declared.call.Call.{Call}
-use Rattle.wasi_calls_rows.specs.Hosts.{Line}
-use Rattle.wasi_calls.specs.Held.{Held}
-use Rattle.machine.specs.Values.{MachineValue}
+use Rattle.wasi_calls_rules.specs.Hosts.{Line}
+use Rattle.wasi_calls.specs.Held.{HeldHost}
+use Rattle.machine.specs.rules.Values.{MachineValue}
 use Rattle.process_rules.specs.Processes.{ProcessState, Guest}
 use Rattle.process_rules.specs.Runs.{Wants, next_of, Moves}
 use Rattle.process_rules.specs.Owing.{IsOwing, RunsQuietly}
-use Rattle.process.specs.declared.stop.End.{End}
+use Rattle.process.specs.declared.stop.ProcessEnd.{ProcessEnd}
 use Rattle.process.specs.declared.stop.Stop.{Stop}
 use Rattle.process.specs.declared.stop.Stop.TheVariants as stop
 use Rattle.process.specs.declared.fault.ProcessFault.{ProcessFault}
@@ -16,9 +16,9 @@ use Rattle.process.specs.declared.fault.ProcessFault.TheVariants as fault
 use Rattle.process.specs.declared.calling.Called.{Called}
 use Rattle.process.specs.declared.calling.Called.TheVariants as called
 use Rattle.process.specs.declared.turn.Stretch.{Stretch}
-use Rattle.process.specs.Values.{ending_of}
-use Rattle.process.specs.Stops.{CallsHost, IsBeyond}
-use Rattle.process.specs.Parts.{ShowsParts, IsAt}
+use Rattle.process.specs.rules.Values.{ending_of}
+use Rattle.process.specs.rules.Stops.{CallsHost, IsBeyond}
+use Rattle.process.specs.Parts.{ShowsParts, IsAtCall}
 
 -- after steps after which nothing is owed, one after which something is
 pub record Owes (guest : Guest) (p q : ProcessState) (fuel steps : ℕ) : Type 0 where
@@ -47,29 +47,29 @@ ComesBy guest p q fuel steps waiting (Some (Err fault.StepsSpent)) = ComesOn gue
 ComesBy guest p q fuel steps waiting (Some (Err fault.WrongAnswer)) = ⊥
 
 -- it leads to a process that is then shown
-pub record Comes (machine : MachineValue) (held : Held) (guest : Guest) (p : ProcessState) (fuel : ℕ) (s : Stretch) : Type 0 where
+pub record ComesToShown (machine : MachineValue) (held : HeldHost) (guest : Guest) (p : ProcessState) (fuel : ℕ) (s : Stretch) : Type 0 where
   pub process : ProcessState
   pub shows : ShowsParts machine held guest process
   pub ended : process.ended ≡ option_map ending_of s.ended
   pub comes : ComesBy guest p process fuel s.steps held.host.lines s.stop
 
 -- whichever process was shown that has not ended
-abbrev pub Stretches : MachineValue → Held → ℕ → Stretch → MachineValue → Held → Type 0
+abbrev pub Stretches : MachineValue → HeldHost → ℕ → Stretch → MachineValue → HeldHost → Type 0
 Stretches old old_held fuel s new held =
-    (guest : Guest) (p : ProcessState) → ShowsParts old old_held guest p → p.ended ≡ None → Comes new held guest p fuel s
+    (guest : Guest) (p : ProcessState) → ShowsParts old old_held guest p → p.ended ≡ None → ComesToShown new held guest p fuel s
 
 -- why a process stops after a step: something is owed, or it has ended
-abbrev pub stop_after : Bool → List Line → Option End → Option (Result Stop ProcessFault)
+abbrev pub stop_after : Bool → List Line → Option ProcessEnd → Option (Result Stop ProcessFault)
 stop_after true waiting ended = Some (Ok stop.Owes)
 stop_after false (line ∷ waiting) ended = Some (Ok stop.Owes)
 stop_after false [] (Some how) = Some (Ok (stop.Ended how))
 stop_after false [] None = None
 
 -- whichever process was shown that is at this call, where any fuel is left
-abbrev pub StepsAt : MachineValue → Held → Call → List ℕ → Stretch → MachineValue → Held → Type 0
+abbrev pub StepsAt : MachineValue → HeldHost → Call → List ℕ → Stretch → MachineValue → HeldHost → Type 0
 StepsAt old old_held call arguments s new held =
-    (guest : Guest) (p : ProcessState) (fuel : ℕ) → ShowsParts old old_held guest p → p.ended ≡ None → IsAt guest p.configuration call arguments → 0 < fuel
-    → Comes new held guest p fuel s
+    (guest : Guest) (p : ProcessState) (fuel : ℕ) → ShowsParts old old_held guest p → p.ended ≡ None → IsAtCall guest p.configuration call arguments → 0 < fuel
+    → ComesToShown new held guest p fuel s
 
 -- the stretch of a call's step
 abbrev pub stretch_of : Result Called ProcessFault → List Line → Stretch

@@ -3,32 +3,34 @@
 ghost use Rattle.std.specs.Prelude.{true, false, ◌≡◌, ◌↔◌, option_copied, IsTrue, IfOk, IfErr};
 ghost use Rattle.wasm_syntax_rules.specs.Configuration.{Program, Configuration};
 ghost use Rattle.wasm_syntax_rules.specs.Steps.{IsEnded};
-ghost use Rattle.wasi_abi.specs.Calls.{parameters_of};
-ghost use Rattle.wasi_calls_rows.specs.Rows.{IsSync};
-ghost use Rattle.wasi_calls_rows.specs.Hosts.{Host as TheHost};
+ghost use Rattle.wasi_abi.specs.rules.Calls.{parameters_of};
+ghost use Rattle.wasi_calls_rules.specs.Rows.{IsSync};
+ghost use Rattle.wasi_calls_rules.specs.Hosts.{Host as TheHost};
 ghost use Rattle.wasi_calls.specs.Held.{ShowsHost};
-ghost use Rattle.wasi_calls.specs.Calls.{IsBuilt, AreArguments, EndsNothing};
-ghost use Rattle.machine_hosting.specs.Answers.{results_of};
-ghost use Rattle.machine.specs.Values.{HoldsMemory, IsSameMachine, ShowsIn};
-ghost use Rattle.machine.specs.Runs.{WaitsFor};
-ghost use Rattle.process.specs.Parts.{HasFewLines, WaitsAt};
-ghost use Rattle.process.specs.Callings.{Calls, HasNumbers, HasNoNumbers, HasCalled, number_of, EndsAt, IsEndedBy, HasFinished, HasSynced};
+ghost use Rattle.wasi_calls.specs.rules.Calls.{IsBuilt, AreArguments, EndsNothing};
+ghost use Rattle.machine.specs.Hosting.Answers.{call_results};
+ghost use Rattle.machine.specs.rules.Values.{HoldsMemory, IsSameMachine, ShowsIn};
+ghost use Rattle.machine.specs.rules.Runs.{WaitsFor};
+ghost use Rattle.process.specs.Parts.{HasFewLines, WaitsAtCall};
+ghost use Rattle.process.specs.Callings.{MakesCall, HasNumbers, HasNoNumbers, HasCalled, error_number, EndsAt, IsEndedBy, HasFinished, HasSynced};
 
 use crate::fault::ProcessFault;
-use crate::stop::End;
+use crate::stop::ProcessEnd;
 use guest_memory::laws::are_bytes;
-use machine::Machine;
-use machine_running::Pause;
+use machine::{Machine, Pause};
 use std::alloc::{AllocError, Global};
 use wasi_abi::{Answer, Call, Errno, Kind};
-use wasi_calls::{Host, Outcome, lines_emitted};
-use wasi_calls_rows::limits::MOVED_BYTES;
+use wasi_calls::{CallOutcome, Host, lines_emitted};
+use wasi_calls_rules::limits::MOVED_BYTES;
 
 /// What a call of the guest comes to.
 #[derive(Clone, Copy, Debug, PartialEq, Eq)]
 pub enum Called {
     /// It is made. `synced` says that it was a sync that answered 0.
-    Made { synced: bool, ended: Option<End> },
+    Made {
+        synced: bool,
+        ended: Option<ProcessEnd>,
+    },
     /// It wants this answer.
     Asks(Kind),
 }
@@ -51,7 +53,7 @@ pub fn has_ended(machine: &mut Machine) -> bool
 }
 
 /// Ends the process where the program has come to its end.
-pub fn end_with_program(alloc: Global, machine: &mut Machine, host: &mut Host) -> Option<End>
+pub fn end_with_program(alloc: Global, machine: &mut Machine, host: &mut Host) -> Option<ProcessEnd>
     requires holds { HoldsMemory machine.old }
     requires few { HasFewLines host.old }
     ensures same { IsSameMachine machine.old machine.new }
@@ -66,7 +68,7 @@ pub fn end_with_program(alloc: Global, machine: &mut Machine, host: &mut Host) -
         return None;
     }
     host.end(alloc);
-    Some(End::Exited(0))
+    Some(ProcessEnd::Exited(0))
 }
 
 /// Whether the call is a sync.
@@ -98,7 +100,7 @@ fn has_numbers(
     ensures many { IfOk result (λ b. b ≡ false → HasNoNumbers machine.now host.now call arguments.now) }
     ensures wants { IfErr result (λ _. EndsNothing call arguments.now) }
 {
-    let lines = host.released() + host.waiting().len() as u64;
+    let lines = host.released_count() + host.waiting_lines().len() as u64;
     if lines < NUMBERS_END - MOVED_BYTES as u64 - LINES_LEFT {
         return Ok(true);
     }
@@ -114,7 +116,7 @@ fn call_host(
     call: Call,
     arguments: &[u64],
     answer: Option<&Answer>,
-) -> Outcome
+) -> CallOutcome
     requires built { IsBuilt call }
     requires typed { AreArguments (parameters_of call) arguments.now }
     ensures made { HasCalled machine.old host.old call arguments.now (option_copied answer.entry) result machine.new host.new }
@@ -130,14 +132,14 @@ fn finish(
     machine: &mut Machine,
     host: &mut Host,
     error: Option<Errno>,
-) -> Option<End>
-    requires waits { WaitsFor (results_of (Some (number_of error))) machine.old }
+) -> Option<ProcessEnd>
+    requires waits { WaitsFor (call_results (Some (error_number error))) machine.old }
     requires few { HasFewLines host.old }
     ensures same { IsSameMachine machine.old machine.new }
     ensures holds { HoldsMemory machine.new }
     ensures few { HasFewLines host.new }
     ensures released { host.new.released ≡ host.old.released }
-    ensures finishes { HasFinished machine.old host.old (number_of error) result machine.new host.new }
+    ensures finishes { HasFinished machine.old host.old (error_number error) result machine.new host.new }
 {
     machine.finish(Some(number(error)));
     end_with_program(alloc, machine, host)
@@ -145,7 +147,7 @@ fn finish(
 
 /// The call's error number, or 0.
 fn number(error: Option<Errno>) -> u32
-    ensures { result ≡ number_of error }
+    ensures { result ≡ error_number error }
 {
     error.map_or(0, Errno::number)
 }
@@ -162,32 +164,32 @@ pub fn make(
     requires built { IsBuilt call }
     requires typed { AreArguments (parameters_of call) arguments.now }
     requires holds { HoldsMemory machine.old }
-    requires waits { WaitsAt machine.old host.old call arguments.now }
+    requires waits { WaitsAtCall machine.old host.old call arguments.now }
     requires few { HasFewLines host.old }
     ensures holds { HoldsMemory machine.new }
     ensures few { HasFewLines host.new }
     ensures released { host.new.released ≡ host.old.released }
-    ensures calls { Calls machine.old host.old call arguments.now (option_copied answer.entry) result machine.new host.new }
+    ensures calls { MakesCall machine.old host.old call arguments.now (option_copied answer.entry) result machine.new host.new }
 {
     if !has_numbers(alloc, machine, host, call, arguments)? {
         return Err(ProcessFault::StepsSpent);
     }
     match call_host(alloc, machine, host, call, arguments, answer) {
-        Outcome::Done(error) => {
+        CallOutcome::Done(error) => {
             let synced = has_synced(call, error);
             let ended = finish(alloc, machine, host, error);
             Ok(Called::Made { synced, ended })
         }
-        Outcome::Ask(kind) => Ok(Called::Asks(kind)),
-        Outcome::Exit(code) => {
+        CallOutcome::Ask(kind) => Ok(Called::Asks(kind)),
+        CallOutcome::Exit(code) => {
             machine.stop();
             host.end(alloc);
-            let ended = Some(End::Exited(code));
+            let ended = Some(ProcessEnd::Exited(code));
             Ok(Called::Made {
                 synced: false,
                 ended,
             })
         }
-        Outcome::Memory => Err(ProcessFault::Memory),
+        CallOutcome::Memory => Err(ProcessFault::Memory),
     }
 }

@@ -1,4 +1,34 @@
-//! A process: a machine and its host, step after step, up to where something is owed to the outside or asked of it.
+//! A process (this project's own): a machine and its host, step after step. It goes up to where
+//! something is owed to the outside or asked of it.
+//!
+//! # Promises
+//!
+//! - `Process::start`: the process shows each start of the module under its configuration
+//!   (`started`). A fault names the first thing that isn't there (`refused`), and but for want of
+//!   memory the module can't be linked (`only`).
+//! - `advance`: whichever process it showed, it takes steps after which nothing is owed, and then
+//!   at most one after which something is. Each stop and each error is true of the process that it
+//!   then shows (`advances`).
+//! - `give` takes an answer only where that is wanted and no line waits (`gives`). No call that is
+//!   built wants one, so today it refuses every answer.
+//! - `released` takes the first lines off that wait, and changes nothing else.
+//! - `steps`, `answers`, `requests`, `lines`, `waiting` and `memory` say what it holds. Steps and
+//!   lines are below 2^63.
+//!
+//! # Definitions to read
+//!
+//! In `specs/rules/`: `ProcessValue`, `ShowsProcess`, `IsProcess`, `HasStarted`, `HasReleased`
+//! (`Values.antt`); `AdvancesProcess`, `StopsFor`, `FailsFor`, `GivesAnswer`, `IsBeyond`
+//! (`Stops.antt`). A process of the rules is `ProcessState` of `process_rules`. All other files of
+//! `specs/` are about the parts of one step.
+//!
+//! # Who may touch what
+//!
+//! Only this crate puts the machine and its host together, and lends the guest's memory to a call.
+//! `worker` uses it, and `wasmhost_serve` reads what it holds. It stands on `machine`,
+//! `wasi_calls` and `process_rules`. `start` takes all memory that the machine needs. Later only a
+//! step of the host's calls takes any. After an error the process is as it was after its last
+//! whole step.
 #![tactic(auto)]
 
 mod calling;
@@ -6,10 +36,8 @@ mod fault;
 mod process;
 mod running;
 mod stop;
-#[cfg(test)]
-mod tests;
 mod turn;
 
 pub use fault::ProcessFault;
 pub use process::Process;
-pub use stop::{End, Stop};
+pub use stop::{ProcessEnd, Stop};

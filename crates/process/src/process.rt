@@ -2,21 +2,21 @@
 
 ghost use Rattle.std.specs.Prelude.{◌≡◌, ◌<◌, ◌≤◌, ◌^◌, IfOk, IfErr, length};
 ghost use Rattle.std.specs.List.{AllByRecursion};
-ghost use Rattle.wasm_syntax_grammar.specs.Limits.{HasFewParameters, IsSmallFunction};
+ghost use Rattle.wasm_syntax.specs.rules.Limits.{HasFewParameters, IsSmallFunction};
 ghost use Rattle.wasm_syntax_rules.specs.Validity.{IsValid};
 ghost use Rattle.wasm_syntax_rules.specs.Linking.{IsLinkable};
-ghost use Rattle.machine_instance.specs.Offers.{offer};
-ghost use Rattle.machine_instance.specs.Refusals.{IsRefused, Denies};
+ghost use Rattle.machine.specs.rules.Offers.{offer};
+ghost use Rattle.machine.specs.rules.Refusals.{IsRefused, LinkDenies};
 
 use crate::calling::end_with_program;
-use crate::stop::End;
+use crate::stop::ProcessEnd;
 use guest_memory::Memory;
 use machine::{LinkFault, Machine, link};
 use std::alloc::Global;
 use std::marker::Model;
 use wasi_abi::Config;
 use wasi_calls::{Host, Line};
-use wasi_calls_rows::limits::TEXT_BYTES;
+use wasi_calls_rules::limits::TEXT_BYTES;
 use wasm_validate::ValidModule;
 
 /// What holds of a module by its type.
@@ -35,11 +35,11 @@ pub struct Process {
     pub(crate) steps: u64,
     pub(crate) answers: u64,
     pub(crate) requests: u64,
-    pub(crate) ended: Option<End>,
+    pub(crate) ended: Option<ProcessEnd>,
 }
 
 impl Model for Process {
-    ghost use Rattle.process.specs.Values.{ProcessValue, IsProcess, process_of};
+    ghost use Rattle.process.specs.rules.Values.{ProcessValue, IsProcess, process_of};
 
     ghost Value = { ProcessValue };
 
@@ -49,8 +49,8 @@ impl Model for Process {
 }
 
 impl Process {
-    ghost use Rattle.machine.specs.Values.{memory_of};
-    ghost use Rattle.process.specs.Values.{IsProcess, HasStarted, HasReleased, lines_in, waiting_in};
+    ghost use Rattle.machine.specs.rules.Values.{memory_of};
+    ghost use Rattle.process.specs.rules.Values.{IsProcess, HasStarted, HasReleased, lines_in, waiting_in};
 
     /// The process of a module that begins. All memory that its machine needs is taken here. The fault is the first in the order of
     /// `LinkFault`.
@@ -59,7 +59,7 @@ impl Process {
         requires functions { AllByRecursion IsSmallFunction «module».functions }
         ensures started { IfOk result (HasStarted «module» config) }
         ensures refused { IfErr result (IsRefused config.pages «module») }
-        ensures only { IfErr result (Denies (IsLinkable offer config.pages «module»)) }
+        ensures only { IfErr result (LinkDenies (IsLinkable offer config.pages «module»)) }
     {
         is_valid(&module);
         let mut machine = link(module, config.pages(), alloc)?;
@@ -103,14 +103,14 @@ impl Process {
         ensures value { result ≡ lines_in self.now }
         ensures few { result < 2 ^ 63 }
     {
-        self.host.released() + self.host.waiting().len() as u64
+        self.host.released_count() + self.host.waiting_lines().len() as u64
     }
 
     /// The lines that were emitted and not released yet, in their order. The first one has the number behind those that were released.
     pub fn waiting(&self) -> &[Line]
         ensures { result.now ≡ waiting_in self.now }
     {
-        self.host.waiting()
+        self.host.waiting_lines()
     }
 
     /// The guest's memory.

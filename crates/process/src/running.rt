@@ -1,8 +1,8 @@
 //! A process that runs.
 
 ghost use Rattle.std.specs.Prelude.{◌≡◌, ◌+◌, ◌<◌, ◌≤◌, ◌^◌};
-ghost use Rattle.process.specs.Stops.{is_spent, told};
-ghost use Rattle.process.specs.Values.{IsProcess};
+ghost use Rattle.process.specs.rules.Stops.{is_spent, told};
+ghost use Rattle.process.specs.rules.Values.{IsProcess};
 
 use crate::calling::NUMBERS_END;
 use crate::fault::ProcessFault;
@@ -12,7 +12,7 @@ use crate::turn::take_steps;
 use wasi_abi::Answer;
 
 /// As much of the fuel as can be counted after so many steps.
-fn countable(fuel: u64, steps: u64) -> u64
+fn cap_fuel(fuel: u64, steps: u64) -> u64
     requires { steps < 2 ^ 63 }
     ensures within { result ≤ fuel }
     ensures counted { steps + result < 2 ^ 63 }
@@ -32,7 +32,7 @@ fn is_spent(stop: Result<Stop, ProcessFault>) -> bool
 }
 
 /// What is told of a stop. Where the fuel was cut, no more steps can be counted once that is spent.
-fn told(stop: Result<Stop, ProcessFault>, is_cut: bool) -> Result<Stop, ProcessFault>
+fn report_stop(stop: Result<Stop, ProcessFault>, is_cut: bool) -> Result<Stop, ProcessFault>
     ensures { result ≡ told stop is_cut }
 {
     if is_spent(stop) && is_cut {
@@ -49,31 +49,31 @@ fn is_process(process: &Process)
 }
 
 impl Process {
-    ghost use Rattle.process.specs.Stops.{Advances, Gives};
+    ghost use Rattle.process.specs.rules.Stops.{AdvancesProcess, GivesAnswer};
 
     /// Takes at most `fuel` steps, up to where something is owed to the outside, it has ended, or an answer is wanted. A step after which
     /// something is owed is the last one. Only a step of the host's calls takes memory.
     pub fn advance(&mut self, fuel: u64) -> Result<Stop, ProcessFault>
-        ensures advances { Advances self.old fuel result self.new }
+        ensures advances { AdvancesProcess self.old fuel result self.new }
         ensures released { self.new.host.released ≡ self.old.host.released }
     {
-        if !self.host.waiting().is_empty() {
+        if !self.host.waiting_lines().is_empty() {
             return Ok(Stop::Owes);
         }
         if let Some(end) = self.ended {
             return Ok(Stop::Ended(end));
         }
-        let most = countable(fuel, self.steps);
+        let most = cap_fuel(fuel, self.steps);
         let stretch = take_steps(self.alloc, &mut self.machine, &mut self.host, most);
         self.steps += stretch.steps;
         self.ended = stretch.ended;
-        told(stretch.stop, most < fuel)
+        report_stop(stretch.stop, most < fuel)
     }
 
     /// Takes the step that wants an answer, with this one. While a line waits to be released, every answer is a wrong one. After an error
     /// nothing has changed. No call that is built wants an answer, so that every one is a wrong one yet.
     pub fn give(&mut self, answer: Answer) -> Result<(), ProcessFault>
-        ensures gives { Gives self.old answer result self.new }
+        ensures gives { GivesAnswer self.old answer result self.new }
         ensures released { self.new.host.released ≡ self.old.host.released }
     {
         let _ = answer;

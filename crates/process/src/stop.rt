@@ -5,7 +5,7 @@ use wasm_syntax::Trap;
 
 /// How a process has ended.
 #[derive(Clone, Copy, Debug, PartialEq, Eq)]
-pub enum End {
+pub enum ProcessEnd {
     /// By `proc_exit` with this code, or with 0 where `_start` has returned.
     Exited(u32),
     /// An instruction has trapped.
@@ -17,7 +17,7 @@ pub enum End {
 pub enum Stop {
     /// Lines wait to be released, or the last step was a sync of the guest.
     Owes,
-    Ended(End),
+    Ended(ProcessEnd),
     /// No fuel is left.
     Spent,
     /// The next step wants this answer.

@@ -1,20 +1,19 @@
 //! Turns of a process: the machine runs, and then the host is called, or the process ends.
 
 ghost use Rattle.std.specs.Prelude.{◌≡◌, [], false};
-ghost use Rattle.wasi_calls.specs.Calls.{IsBuilt, AreArguments};
-ghost use Rattle.wasi_abi.specs.Calls.{parameters_of};
-ghost use Rattle.wasi_calls_rows.specs.Hosts.{Host as TheHost};
-ghost use Rattle.wasi_calls_rows.specs.Lines.{lines_ended};
+ghost use Rattle.wasi_calls.specs.rules.Calls.{IsBuilt, AreArguments};
+ghost use Rattle.wasi_abi.specs.rules.Calls.{parameters_of};
+ghost use Rattle.wasi_calls_rules.specs.Hosts.{Host as TheHost};
+ghost use Rattle.wasi_calls_rules.specs.Lines.{lines_ended};
 ghost use Rattle.wasi_calls.specs.Held.{ShowsHost, held_ended};
-ghost use Rattle.machine.specs.Values.{HoldsMemory};
-ghost use Rattle.process.specs.Parts.{IsRunning, HasFewLines, WaitsAt};
+ghost use Rattle.machine.specs.rules.Values.{HoldsMemory};
+ghost use Rattle.process.specs.Parts.{IsRunning, HasFewLines, WaitsAtCall};
 ghost use Rattle.process.specs.Stretches.{Stretches, StepsAt, stop_after, stretch_of};
 
 use crate::calling::{Called, make};
 use crate::fault::ProcessFault;
-use crate::stop::{End, Stop};
-use machine::Machine;
-use machine_running::{Pause, Paused};
+use crate::stop::{ProcessEnd, Stop};
+use machine::{Machine, Pause, Paused};
 use std::alloc::Global;
 use wasi_abi::Call;
 use wasi_calls::Host;
@@ -23,7 +22,7 @@ use wasi_calls::Host;
 #[derive(Clone, Copy, Debug)]
 pub struct Stretch {
     pub steps: u64,
-    pub ended: Option<End>,
+    pub ended: Option<ProcessEnd>,
     pub stop: Option<Result<Stop, ProcessFault>>,
 }
 
@@ -31,15 +30,19 @@ pub struct Stretch {
 #[derive(Clone, Copy, Debug)]
 pub struct Run {
     pub steps: u64,
-    pub ended: Option<End>,
+    pub ended: Option<ProcessEnd>,
     pub stop: Result<Stop, ProcessFault>,
 }
 
 /// Why a process stops after a step, where no line waited before it.
-fn stop_after(host: &Host, synced: bool, ended: Option<End>) -> Option<Result<Stop, ProcessFault>>
+fn stop_after(
+    host: &Host,
+    synced: bool,
+    ended: Option<ProcessEnd>,
+) -> Option<Result<Stop, ProcessFault>>
     ensures { result ≡ stop_after synced host.now.host.lines ended }
 {
-    if synced || !host.waiting().is_empty() {
+    if synced || !host.waiting_lines().is_empty() {
         return Some(Ok(Stop::Owes));
     }
     match ended {
@@ -49,7 +52,7 @@ fn stop_after(host: &Host, synced: bool, ended: Option<End>) -> Option<Result<St
 }
 
 /// The last of so many steps has ended the process.
-fn end(alloc: Global, host: &mut Host, steps: u64, end: End) -> Stretch
+fn end(alloc: Global, host: &mut Host, steps: u64, end: ProcessEnd) -> Stretch
     requires { HasFewLines host.old }
     ensures few { HasFewLines host.new }
     ensures ended { host.new ≡ held_ended host.old }
@@ -98,7 +101,7 @@ fn step(
     requires built { IsBuilt call }
     requires typed { AreArguments (parameters_of call) arguments.now }
     requires holds { HoldsMemory machine.old }
-    requires waits { WaitsAt machine.old host.old call arguments.now }
+    requires waits { WaitsAtCall machine.old host.old call arguments.now }
     requires none_waits { host.old.host.lines ≡ [] }
     requires few { HasFewLines host.old }
     ensures holds { HoldsMemory machine.new }
@@ -137,8 +140,8 @@ fn turn(alloc: Global, machine: &mut Machine, host: &mut Host, fuel: u64) -> Str
                 stop: next.stop,
             }
         }
-        Pause::Returned => end(alloc, host, ran, End::Exited(0)),
-        Pause::Trapped(why) => end(alloc, host, ran, End::Trapped(why)),
+        Pause::Returned => end(alloc, host, ran, ProcessEnd::Exited(0)),
+        Pause::Trapped(why) => end(alloc, host, ran, ProcessEnd::Trapped(why)),
     }
 }
 

@@ -4,10 +4,10 @@ use Rattle.std.specs.List.{AllByRecursion}
 use Rattle.wasm_syntax.specs.declared.value.Value.{Value}
 use Rattle.wasm_syntax.specs.declared.instruction.Instruction.{Instruction}
 use Rattle.wasm_syntax.specs.declared.instruction.Instruction.TheVariants as instr
-use Rattle.wasm_syntax.specs.Sequence.{Sequence, Stop, Plain}
-use Rattle.wasm_syntax_grammar.specs.Examples.{echo, no_type, transfer_type}
+use Rattle.wasm_syntax.specs.rules.Sequence.{Sequence, Stop, Plain}
+use Rattle.wasm_syntax.specs.laws.Examples.{echo, no_type, transfer_type}
 use Rattle.wasm_syntax_rules.specs.Configuration.{Host, Own, LabelOf, FrameOf, Thread, Configuration, Goes}
-use Rattle.wasm_syntax_rules.specs.Examples.{v}
+use Rattle.wasm_syntax_rules.specs.laws.Examples.{v}
 use Rattle.wasm_syntax_rules.specs.Instantiation.{filled_memory, empty_memory}
 use Rattle.wasm_syntax_rules.specs.Steps.{rule, loop_label, IsSettled, here, on}
 use Rattle.wasm_syntax_rules.specs.Validity.{memories_of}
@@ -15,13 +15,13 @@ use Rattle.wasi_abi.specs.declared.answer.Kind.TheVariants as kind
 use Rattle.wasi_abi.specs.declared.answer.Answer.{Answer}
 use Rattle.wasi_abi.specs.declared.answer.Answer.TheVariants as answer
 use Rattle.wasi_abi.specs.declared.call.Call.TheVariants as call
-use Rattle.wasi_abi.specs.Answers.{IsNoNewline}
-use Rattle.wasi_abi.specs.Configs.{Settings}
-use Rattle.wasi_calls_rows.specs.Hosts as host
-use Rattle.wasi_calls_rows.specs.Checks.{Bytes}
+use Rattle.wasi_abi.specs.rules.Answers.{IsNoNewline}
+use Rattle.wasi_abi.specs.rules.Configs.{Settings}
+use Rattle.wasi_calls_rules.specs.Hosts as host
+use Rattle.wasi_calls_rules.specs.Checks.{Bytes}
 use Rattle.process_rules.specs.Processes.{ProcessState, Guest, Exited, IsStart, host_of, closed}
 use Rattle.process_rules.specs.Runs.{On, Wants, next_of, after_rule, stepped, IsWanted, LeadsTo, Moves, Given, Runs, Reaches, none, step, take}
-use Rattle.process_rules.specs.Examples.{ComesTo, at_rest, abc_and_end, echo_memory, echo_end, EchoEnds}
+use Rattle.process_rules.specs.laws.Examples.{ComesTo, at_rest, abc_and_end, echo_memory, echo_end, EchoEnds}
 use Rattle.process_rules.proofs.Ended.{comes}
 use Rattle.process_rules.proofs.EchoValid.{load_there, store_there, again, copying, testing, round, looping, echo_spells, echo_is_valid}
 

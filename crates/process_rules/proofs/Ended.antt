@@ -2,10 +2,10 @@
 use Rattle.std.proofs.Common.{◌≡◌, ℕ, ◌≤◌, List, Some, None, sym, subst, arith}
 use Rattle.wasm_syntax.specs.declared.module.Module.{Module}
 use Rattle.wasm_syntax_rules.specs.Validity.{IsValid}
-use Rattle.wasi_abi.specs.Configs.{Settings}
+use Rattle.wasi_abi.specs.rules.Configs.{Settings}
 use Rattle.process_rules.specs.Processes.{ProcessState, Guest, Ending}
 use Rattle.process_rules.specs.Runs.{Kept, Runs, none, step, take, Reaches}
-use Rattle.process_rules.specs.Examples.{ComesTo}
+use Rattle.process_rules.specs.laws.Examples.{ComesTo}
 use Rattle.process_rules.proofs.OneStart.{start_once}
 use Rattle.process_rules.proofs.OneProcess.{moves_once, one_or_other, one_process}
 

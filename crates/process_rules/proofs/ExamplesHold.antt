@@ -4,21 +4,21 @@ use Rattle.wasm_syntax.specs.declared.value.Value.{Value}
 use Rattle.wasm_syntax.specs.declared.value.Trap.TheVariants as trap
 use Rattle.wasm_syntax.specs.declared.instruction.Instruction.{Instruction}
 use Rattle.wasm_syntax.specs.declared.instruction.Instruction.TheVariants as instr
-use Rattle.wasm_syntax.specs.Sequence.{Sequence, Stop, Plain, Spells}
-use Rattle.wasm_syntax_grammar.specs.Examples.{hello, idle, idle_with_code, no_type}
+use Rattle.wasm_syntax.specs.rules.Sequence.{Sequence, Stop, Plain, Spells}
+use Rattle.wasm_syntax.specs.laws.Examples.{hello, idle, idle_with_code, no_type}
 use Rattle.wasm_syntax_rules.specs.Configuration.{Own, Configuration, Thread, LabelOf, FrameOf}
-use Rattle.wasm_syntax_rules.specs.Examples.{hello as hello_program, hello_body, in_hello, after_call, const_32, v}
+use Rattle.wasm_syntax_rules.specs.laws.Examples.{program_of_hello as hello_program, hello_sequence, in_hello, rest_behind_call, const_32, v}
 use Rattle.wasm_syntax_rules.specs.Instantiation.{filled_memory, empty_memory}
 use Rattle.wasm_syntax_rules.specs.Steps.{Settles, here, on}
 use Rattle.wasm_syntax_rules.specs.Validity.{IsValid, memories_of}
 use Rattle.wasi_abi.specs.declared.call.Call.TheVariants as call
-use Rattle.wasi_abi.specs.Configs.{Settings}
-use Rattle.wasi_calls_rows.specs.Hosts.{Line}
-use Rattle.wasi_calls_rows.specs.Checks.{Bytes}
-use Rattle.wasi_calls_rows.specs.Rows.{row}
+use Rattle.wasi_abi.specs.rules.Configs.{Settings}
+use Rattle.wasi_calls_rules.specs.Hosts.{Line}
+use Rattle.wasi_calls_rules.specs.Checks.{Bytes}
+use Rattle.wasi_calls_rules.specs.Rows.{row}
 use Rattle.process_rules.specs.Processes.{ProcessState, Guest, Exited, Trapped, IsStart, host_of, closed}
 use Rattle.process_rules.specs.Runs.{Moves, Runs, Reaches, none, step}
-use Rattle.process_rules.specs.Examples.{ComesTo, at_rest, HelloEnds, hello_memory, hello_end, page_of_zeros, idle_end, IdleEnds, trapping, trapping_end, TrappingEnds}
+use Rattle.process_rules.specs.laws.Examples.{ComesTo, at_rest, HelloEnds, hello_memory, hello_end, page_of_zeros, idle_end, IdleEnds, trapping, trapping_end, TrappingEnds}
 use Rattle.process_rules.proofs.Ended.{comes}
 use Rattle.process_rules.proofs.ExamplesValid.{hello_spells, hello_is_valid, alone_is_valid}
 
@@ -58,7 +58,7 @@ after config n memory lines values rest = record {
 }
 
 abbrev first : Settings → ProcessState
-first config = after config 0 first_memory [] [] hello_body
+first config = after config 0 first_memory [] [] hello_sequence
 
 abbrev last : Settings → Bytes → ProcessState
 last config memory = record (hello_end config) { configuration = at_rest memory }
@@ -84,11 +84,11 @@ constant : (config : Settings) (n : ℕ) (memory : Bytes) (lines : List Line) (v
 constant config n memory lines values x i rest = record { running = refl; wanted = tt; leads = (_, here refl, refl) }
 
 writes : (config : Settings)
-    → Moves (guest_of config) (after config 4 first_memory [] (v 16 ∷ v 1 ∷ v 0 ∷ v 1 ∷ []) (Plain (instr.Call 0) after_call)) None (after config 5 last_memory (hi_line ∷ []) (v 0 ∷ []) after_call)
+    → Moves (guest_of config) (after config 4 first_memory [] (v 16 ∷ v 1 ∷ v 0 ∷ v 1 ∷ []) (Plain (instr.Call 0) rest_behind_call)) None (after config 5 last_memory (hi_line ∷ []) (v 0 ∷ []) rest_behind_call)
 writes config = record { running = refl; wanted = tt; leads = rw (written config) (_, here refl, refl) }
 
 drops : (config : Settings)
-    → Moves (guest_of config) (after config 5 last_memory (hi_line ∷ []) (v 0 ∷ []) after_call) None (after config 6 last_memory (hi_line ∷ []) [] (Plain (const_32 7) (Plain (instr.Call 1) Stop)))
+    → Moves (guest_of config) (after config 5 last_memory (hi_line ∷ []) (v 0 ∷ []) rest_behind_call) None (after config 6 last_memory (hi_line ∷ []) [] (Plain (const_32 7) (Plain (instr.Call 1) Stop)))
 drops config = record { running = refl; wanted = tt; leads = (_, here refl, refl) }
 
 exits : (config : Settings) → Moves (guest_of config) (after config 7 last_memory (hi_line ∷ []) (v 7 ∷ []) (Plain (instr.Call 1) Stop)) None (last config last_memory)

@@ -6,9 +6,9 @@ use Rattle.wasm_syntax.specs.declared.types.FunctionType.{FunctionType}
 use Rattle.wasm_syntax.specs.declared.value.Value.TheVariants as value
 use Rattle.wasm_syntax.specs.declared.instruction.Instruction.{Instruction}
 use Rattle.wasm_syntax.specs.declared.instruction.Instruction.TheVariants as instr
-use Rattle.wasm_syntax.specs.Sequence.{Sequence, Stop, Plain, Spells}
-use Rattle.wasm_syntax_grammar.specs.Examples.{hello, hello_body as hello_opcodes, idle_with_code, no_type, transfer_type, exit_type, one_page, exports_from}
-use Rattle.wasm_syntax_rules.specs.Examples.{hello_body, after_call}
+use Rattle.wasm_syntax.specs.rules.Sequence.{Sequence, Stop, Plain, Spells}
+use Rattle.wasm_syntax.specs.laws.Examples.{hello, hello_body as hello_opcodes, idle_with_code, no_type, transfer_type, exit_type, one_page, exports_from}
+use Rattle.wasm_syntax_rules.specs.laws.Examples.{hello_sequence, rest_behind_call}
 use Rattle.wasm_syntax_rules.specs.Typing.{Context, HasType, body_context}
 use Rattle.wasm_syntax_rules.specs.Validity.{IsValid, IsMemoryTypeValid, HaveDistinctNames, module_context}
 
@@ -23,7 +23,7 @@ names_differ function = (((λ e. absurd (begin_alike e)), tt), (tt, tt))
 
 -- ---- hello
 
-pub hello_spells : Spells hello_opcodes hello_body
+pub hello_spells : Spells hello_opcodes hello_sequence
 hello_spells = record { is = refl; nested = (tt, (tt, (tt, (tt, (tt, (tt, (tt, (tt, tt)))))))) }
 
 abbrev functions : List FunctionType
@@ -35,13 +35,13 @@ in_body = body_context (module_context hello functions) no_type []
 exit_has_type : HasType in_body ([] ∷ []) (Plain (instr.Call 1) Stop) (I32 ∷ []) []
 exit_has_type = (I32 ∷ [], [], [], refl, (exit_type, refl, refl, refl), refl)
 
-behind_has_type : HasType in_body ([] ∷ []) after_call (I32 ∷ []) []
+behind_has_type : HasType in_body ([] ∷ []) rest_behind_call (I32 ∷ []) []
 behind_has_type = (I32 ∷ [], [], [], refl, (I32, refl, refl), ([], I32 ∷ [], [], refl, (I32, lit< tt, refl, refl), exit_has_type))
 
-call_has_type : HasType in_body ([] ∷ []) (Plain (instr.Call 0) after_call) (I32 ∷ I32 ∷ I32 ∷ I32 ∷ []) []
+call_has_type : HasType in_body ([] ∷ []) (Plain (instr.Call 0) rest_behind_call) (I32 ∷ I32 ∷ I32 ∷ I32 ∷ []) []
 call_has_type = (I32 ∷ I32 ∷ I32 ∷ I32 ∷ [], I32 ∷ [], [], refl, (transfer_type, refl, refl, refl), behind_has_type)
 
-hello_has_type : HasType in_body ([] ∷ []) hello_body [] []
+hello_has_type : HasType in_body ([] ∷ []) hello_sequence [] []
 hello_has_type = (
   [],
   I32 ∷ [],
@@ -63,7 +63,7 @@ hello_is_valid = record {
   functions = functions;
   types = (lit≤ tt, (lit≤ tt, (lit≤ tt, tt)));
   function_types = (refl, (refl, (refl, tt)));
-  bodies = ((no_type, hello_body, refl, hello_spells, hello_has_type), tt);
+  bodies = ((no_type, hello_sequence, refl, hello_spells, hello_has_type), tt);
   tables = tt;
   memories = page_is_valid;
   globals = tt;

@@ -7,15 +7,15 @@ use Rattle.wasm_syntax_rules.specs.Configuration.{Configuration, Thread, Outcome
 use Rattle.wasm_syntax_rules.specs.Steps.{rule}
 use Rattle.wasi_abi.specs.declared.answer.Answer.{Answer}
 use Rattle.wasi_abi.specs.declared.call.Call.{Call}
-use Rattle.wasi_calls_rows.specs.Hosts.{Host}
-use Rattle.wasi_calls_rows.specs.Checks.{Refuses, Ends, Asks as Wishes, Done, Row}
-use Rattle.wasi_calls_rows.specs.Lines.{lines_ended}
-use Rattle.wasi_calls_rows.specs.Rows.{row}
-use Rattle.wasi_calls_rows.specs.Laws.{Emits}
-use Rattle.wasi_calls_rows.proofs.EmitsLines.{emits_none, rows_emit}
+use Rattle.wasi_calls_rules.specs.Hosts.{Host}
+use Rattle.wasi_calls_rules.specs.Checks.{Refuses, Ends, Asks as Wishes, Done, Ruling}
+use Rattle.wasi_calls_rules.specs.Lines.{lines_ended}
+use Rattle.wasi_calls_rules.specs.Rows.{row}
+use Rattle.wasi_calls_rules.specs.laws.Laws.{Emits}
+use Rattle.wasi_calls_rules.proofs.EmitsLines.{emits_none, rows_emit}
 use Rattle.process_rules.specs.Processes.{ProcessState, Guest, closed, closed_at}
 use Rattle.process_rules.specs.Runs.{Next, On, Over, Wants, Nowhere, after_row, after_call, after_rule, next_of, stepped, LeadsTo, Moves, none, step, take}
-use Rattle.process_rules.specs.Laws.{RunsCount, RunsEmit}
+use Rattle.process_rules.specs.laws.Laws.{RunsCount, RunsEmit}
 
 pub emits_on : (g h k : Host) → Emits g h → Emits h k → Emits g k
 emits_on g h k a b = record { lines = a.lines ++ b.lines; are = rw b.are (rw a.are (append_assoc g.lines a.lines b.lines)) }
@@ -44,7 +44,7 @@ EmitsTo h (Over why c after) = Emits h after
 EmitsTo h (Wants kind) = Unit {0}
 EmitsTo h Nowhere = Unit {0}
 
-row_emits_to : (c : Call) (r : Row) (before : Configuration) (h : Host) (waits : Thread) → ((done : Done) → r ≡ Ok done → Emits h done.host)
+row_emits_to : (c : Call) (r : Ruling) (before : Configuration) (h : Host) (waits : Thread) → ((done : Done) → r ≡ Ok done → Emits h done.host)
     → EmitsTo h (after_row c r before h waits)
 row_emits_to c (Ok done) before h waits emits = emits done refl
 row_emits_to c (Err (Refuses e)) before h waits emits = emits_none h h refl

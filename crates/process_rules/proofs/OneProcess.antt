@@ -4,7 +4,7 @@ use Rattle.wasm_syntax_rules.proofs.OneRun.{settles_once}
 use Rattle.wasi_abi.specs.declared.answer.Answer.{Answer}
 use Rattle.process_rules.specs.Processes.{ProcessState, Guest, closed}
 use Rattle.process_rules.specs.Runs.{Next, On, Over, Wants, Nowhere, next_of, stepped, LeadsTo, Moves, Runs, none, step, take}
-use Rattle.process_rules.specs.Laws.{OneProcess, OneRun}
+use Rattle.process_rules.specs.laws.Laws.{OneProcess, OneProcessRun}
 use Rattle.process_rules.proofs.OneStart.{start_once}
 
 leads_once : (guest : Guest) (next : Next) (given : Option Answer) (p q r : ProcessState) → LeadsTo guest next given p q → LeadsTo guest next given p r → q ≡ r
@@ -24,7 +24,7 @@ one_or_other guest p q r a x y =
     let stopped : LeadsTo guest (next_of guest p None) None p q = x.leads in
     (rw y.wanted.1 at stopped)
 
-pub runs_once : OneRun
+pub runs_once : OneProcessRun
 runs_once guest p q r kept n none none = refl
 runs_once guest p q r kept n (step {p = p'} {q = q'} {kept = kept'} {n = n'} m rest) (step {q = r'} m' rest') =
     let same : r' ≡ q' = moves_once guest p' r' q' None m' m in

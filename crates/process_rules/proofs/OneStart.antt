@@ -16,12 +16,14 @@ use Rattle.wasm_syntax_rules.specs.Steps.{Settles}
 use Rattle.wasm_syntax_rules.specs.Linking.{Exports}
 use Rattle.wasm_syntax_rules.proofs.OneProgram.{one_program}
 use Rattle.wasm_syntax_rules.proofs.OneRun.{settles_once}
+use Rattle.wasm_syntax_rules.proofs.OneStore.{store_once}
 use Rattle.wasi_abi.specs.declared.call.Call.{Call}
 use Rattle.wasi_abi.specs.declared.call.Call.TheVariants as call
-use Rattle.wasi_abi.specs.Configs.{Settings}
-use Rattle.wasi_abi.specs.Calls.{name_of}
-use Rattle.file_tree.specs.Files.{is_same_name}
+use Rattle.wasi_abi.specs.rules.Configs.{Settings}
+use Rattle.wasi_abi.specs.rules.Calls.{name_of}
+use Rattle.file_tree.specs.rules.Files.{is_same_name}
 use Rattle.process_rules.specs.Processes.{ProcessState, Guest, AreCalls, IsStart, closed, host_of}
+use Rattle.wasi_abi.proofs.CallLemmas.{name_of-injective as one_name}
 
 -- ---- the program
 
@@ -71,9 +73,6 @@ found call.ProcExit = refl
 found call.SchedYield = refl
 found call.RandomGet = refl
 
-pub one_name : (c d : Call) → name_of c ≡ name_of d → c ≡ d
-one_name c d e = let p = found c in let q = found d in let r : named all_calls (name_of c) ≡ named all_calls (name_of d) = ap (named all_calls) e in cc
-
 pub calls_once : (imports : List Import) (a b : List Call) → AreCalls imports a → AreCalls imports b → a ≡ b
 calls_once [] [] [] h k = refl
 calls_once [] [] (d ∷ b) h k = absurd k
@@ -84,33 +83,6 @@ calls_once (i ∷ imports) (c ∷ a) (d ∷ b) h k =
     let same : c ≡ d = one_name c d (sym h.1 ∙ k.1) in
     let others = calls_once imports a b h.2 k.2 in
     cc
-
--- ---- the store
-
-some_once : {X : Type 0} (o : Option X) (x y : X) → o ≡ Some x → o ≡ Some y → x ≡ y
-some_once o x y e f = cc
-
-initial_once : (globals : List Global) (a b : List Value) → AreInitial globals a → AreInitial globals b → a ≡ b
-initial_once [] [] [] h k = refl
-initial_once [] [] (y ∷ b) h k = absurd k
-initial_once [] (x ∷ a) b h k = absurd h
-initial_once (g ∷ globals) [] b h k = absurd h
-initial_once (g ∷ globals) (x ∷ a) [] h k = absurd k
-initial_once (g ∷ globals) (x ∷ a) (y ∷ b) h k =
-    let same : x ≡ y = some_once (constant_of [] g.initial) x y h.0 k.0 in
-    let others = initial_once globals a b h.1 k.1 in
-    cc
-
-abbrev pub store_of : List ℕ → List Value → List (Option ℕ) → Store
-store_of memory globals table = record { memory = memory; globals = globals; table = table }
-
-store_is : (a b : Store) → a.memory ≡ b.memory → a.globals ≡ b.globals → a.table ≡ b.table → a ≡ b
-store_is a b x y z = let whole : store_of a.memory a.globals a.table ≡ store_of b.memory b.globals b.table = rw (x, y, z) refl in whole
-
-store_once : (m : Module) (a b : Store) → IsInitialStore m a → IsInitialStore m b → a ≡ b
-store_once m a b h k =
-    let globals : a.globals ≡ b.globals = initial_once m.globals a.globals b.globals h.globals k.globals in
-    store_is a b (some_once _ a.memory b.memory h.memory (rw globals k.memory)) globals (some_once _ a.table b.table h.table (rw globals k.table))
 
 -- ---- the entry
 

@@ -3,12 +3,12 @@ use Rattle.std.proofs.Common.{◌≡◌, ℕ, zero, suc, ◌+◌, List, [], ◌�
 use Rattle.wasm_syntax.specs.declared.value.Trap.{Trap}
 use Rattle.wasm_syntax_rules.specs.Configuration.{Program, Configuration, Thread, Outcome, Goes, Traps, Stuck}
 use Rattle.wasm_syntax_rules.specs.Steps.{rule, stopped, IsEnded, Steps, none as no_steps, more as more_steps, Advances}
-use Rattle.wasi_calls_rows.specs.Hosts.{Host}
+use Rattle.wasi_calls_rules.specs.Hosts.{Host}
 use Rattle.process_rules.specs.Processes.{Ending, ProcessState, Guest, Exited, Trapped, over, closed, closed_at}
 use Rattle.process_rules.specs.Runs.{Given, after_rule, stepped, LeadsTo, Moves, Runs, none as no_run, step, take}
 use Rattle.process_rules.specs.Behind.{Syncs}
 use Rattle.process_rules.specs.Owing.{MovesQuietly, RunsQuietly, none, more}
-use Rattle.process_rules.specs.Laws.{RunsJoin, QuietRunsJoin, QuietRunsAreRuns, RulesAreQuiet, LastRuleEnds, TrapEnds}
+use Rattle.process_rules.specs.laws.Laws.{RunsJoin, QuietRunsJoin, QuietRunsAreRuns, RulesAreQuiet, LastRuleEnds, TrapEnds}
 
 -- ---- runs
 

@@ -7,10 +7,10 @@ use Rattle.wasm_syntax_rules.specs.Types.{number_in}
 use Rattle.wasm_syntax_rules.specs.Configuration.{Thread, Asks}
 use Rattle.wasm_syntax_rules.specs.Steps.{rule}
 use Rattle.wasi_abi.specs.declared.call.Call.{Call}
-use Rattle.wasi_abi.specs.Configs.{Settings}
-use Rattle.wasi_calls_rows.specs.Hosts.{Line}
-use Rattle.wasi_calls_rows.specs.Checks.{Done}
-use Rattle.wasi_calls_rows.specs.Rows.{row, IsSync}
+use Rattle.wasi_abi.specs.rules.Configs.{Settings}
+use Rattle.wasi_calls_rules.specs.Hosts.{Line}
+use Rattle.wasi_calls_rules.specs.Checks.{Done}
+use Rattle.wasi_calls_rules.specs.Rows.{row, IsSync}
 use Rattle.process_rules.specs.Processes.{ProcessState, Guest}
 use Rattle.process_rules.specs.Runs.{Kept, Reaches}
 

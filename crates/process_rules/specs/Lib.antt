@@ -2,5 +2,4 @@ pub mod Processes
 pub mod Runs
 pub mod Behind
 pub mod Owing
-pub mod Laws
-pub mod Examples
+pub mod laws

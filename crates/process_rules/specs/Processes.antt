@@ -8,12 +8,12 @@ use Rattle.wasm_syntax_rules.specs.Configuration.{Program, Configuration, Thread
 use Rattle.wasm_syntax_rules.specs.Instantiation.{Begins}
 use Rattle.wasm_syntax_rules.specs.Linking.{Exports}
 use Rattle.wasi_abi.specs.declared.call.Call.{Call}
-use Rattle.wasi_abi.specs.Configs.{Settings}
-use Rattle.wasi_abi.specs.Calls.{module_name, name_of}
+use Rattle.wasi_abi.specs.rules.Configs.{Settings}
+use Rattle.wasi_abi.specs.rules.Calls.{module_name, name_of}
 use Rattle.file_tree.specs.declared.limits.TheConstants.{UNIT_BYTES}
-use Rattle.wasi_calls_rows.specs.Hosts.{Host, first_host}
-use Rattle.wasi_calls_rows.specs.Lines.{lines_ended}
-use Rattle.wasi_calls_rows.specs.declared.limits.TheConstants.{TEXT_BYTES}
+use Rattle.wasi_calls_rules.specs.Hosts.{Host, first_host}
+use Rattle.wasi_calls_rules.specs.Lines.{lines_ended}
+use Rattle.wasi_calls_rules.specs.declared.limits.TheConstants.{TEXT_BYTES}
 use Rattle.std.specs.Prelude.{codes}
 
 -- how a process ended

@@ -11,12 +11,12 @@ use Rattle.wasi_abi.specs.declared.answer.Answer.{Answer}
 use Rattle.wasi_abi.specs.declared.answer.Answer.TheVariants as answer
 use Rattle.wasi_abi.specs.declared.call.Call.{Call}
 use Rattle.wasi_abi.specs.declared.call.Call.TheVariants as call
-use Rattle.wasi_abi.specs.Configs.{Settings}
-use Rattle.wasi_abi.specs.Numbers.{errno_number}
-use Rattle.wasi_abi.specs.Answers.{Fits}
-use Rattle.wasi_calls_rows.specs.Hosts.{Host}
-use Rattle.wasi_calls_rows.specs.Checks.{Refuses, Ends, Asks as Wishes, Row}
-use Rattle.wasi_calls_rows.specs.Rows.{row}
+use Rattle.wasi_abi.specs.rules.Configs.{Settings}
+use Rattle.wasi_abi.specs.rules.Numbers.{errno_number}
+use Rattle.wasi_abi.specs.rules.Answers.{Fits}
+use Rattle.wasi_calls_rules.specs.Hosts.{Host}
+use Rattle.wasi_calls_rules.specs.Checks.{Refuses, Ends, Asks as Wishes, Ruling}
+use Rattle.wasi_calls_rules.specs.Rows.{row}
 use Rattle.process_rules.specs.Processes.{Ending, Exited, Trapped, ProcessState, Guest, IsStart, over, closed}
 
 -- ---- one counted step
@@ -33,7 +33,7 @@ abbrev pub given_by : Call → ℕ → List Value
 given_by call.ProcExit number = []
 given_by _ number = value.I32 number ∷ []
 
-abbrev pub after_row : Call → Row → Configuration → Host → Thread → Next
+abbrev pub after_row : Call → Ruling → Configuration → Host → Thread → Next
 after_row c (Ok done) before h waits = On (answered before done.memory (given_by c 0) waits) done.host
 after_row c (Err (Refuses e)) before h waits = On (answered before before.store.memory (given_by c (errno_number e)) waits) h
 after_row c (Err (Ends code)) before h waits = Over (Exited code) (stopped before) h

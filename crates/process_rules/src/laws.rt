@@ -1,8 +1,8 @@
 //! Laws of what a process reaches. The functions do nothing: what they ensure is the law.
 
-ghost use Rattle.process_rules.specs.Laws.{OneProcess, OneRun, RunsJoin, RunsCount, RunsEmit, QuietRunsJoin, QuietRunsAreRuns, RulesAreQuiet, LastRuleEnds, TrapEnds};
-ghost use Rattle.wasi_abi.specs.Configs.{Settings};
-ghost use Rattle.process_rules.specs.Examples.{HelloEnds, EchoEnds, IdleEnds, TrappingEnds};
+ghost use Rattle.process_rules.specs.laws.Laws.{OneProcess, OneProcessRun, RunsJoin, RunsCount, RunsEmit, QuietRunsJoin, QuietRunsAreRuns, RulesAreQuiet, LastRuleEnds, TrapEnds};
+ghost use Rattle.wasi_abi.specs.rules.Configs.{Settings};
+ghost use Rattle.process_rules.specs.laws.Examples.{HelloEnds, EchoEnds, IdleEnds, TrappingEnds};
 
 /// The same answers lead to the same process.
 pub fn one_process_is_reached()
@@ -11,7 +11,7 @@ pub fn one_process_is_reached()
 
 /// So many steps on the same answers lead from a process to one process.
 pub fn one_run_is_taken()
-    ensures { OneRun }
+    ensures { OneProcessRun }
 {}
 
 /// A run and what it leads on to are one run.

@@ -1,4 +1,33 @@
-//! What a process reaches, as definitions in `specs/`, and their laws.
+//! What a process is, and which process a module reaches on which answers from outside (this
+//! project's own). It joins the rules of execution with those of the calls.
+//!
+//! # Promises
+//!
+//! The calls of `laws` do nothing; what they ensure is proved of the definitions.
+//!
+//! - `one_process_is_reached`: a valid module reaches one process at most, on the same answers in
+//!   the same number of steps. `one_run_is_taken` says the same of any process.
+//! - `runs_join`, `runs_count_and_emit`: runs join, count their steps (`count`), and take back no
+//!   line (`emit`).
+//! - `quiet_runs_join`: steps after which nothing is owed join (`joined`), and are a run without
+//!   answers that emits no line (`runs`).
+//! - `rules_are_quiet`, `last_rule_ends`, `trap_ends`: rules that ask the host for nothing leave
+//!   nothing owed, up to the end or a trap.
+//! - `worked_examples`: what four whole modules come to, under any configuration.
+//!
+//! # Definitions to read
+//!
+//! In `specs/`: `ProcessState`, `Guest`, `IsStart`, `over`, `closed` (`Processes.antt`); `Moves`,
+//! `Runs`, `Reaches`, `next_of` (`Runs.antt`); `IsLine`, `AnswersBehindLine`, `Syncs`,
+//! `AnswersBehindSync` (`Behind.antt`); `IsOwing`, `RunsQuietly` (`Owing.antt`). The laws and
+//! examples are in `specs/laws/`; nobody has to believe them.
+//!
+//! # Who may touch what
+//!
+//! There is no code here but the empty functions of `laws`. Nothing here knows positions, slots,
+//! fuel, generations or sectors. `process`, `worker`, `wasmhost_serve`, `state_image` and
+//! `worker_rules` cite the definitions. They stand on those of `wasm_syntax_rules` and
+//! `wasi_calls_rules`. The crate takes no memory, and has no errors.
 #![tactic(auto)]
 
 pub mod laws;

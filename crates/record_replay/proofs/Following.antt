@@ -1,8 +1,8 @@
 -- Lists of calls follow one another.
 use Rattle.std.proofs.Common.{◌≡◌, ℕ, ◌+◌, List, [], ◌∷◌, ◌++◌, length, refl, Ok, sym, ap, subst, arith}
-use Rattle.wasi_calls_rows.specs.Hosts.{Line}
-use Rattle.record_replay.specs.Calls.{Leads, Giving, Taking, Asked, Released, Answers, Releases, Exchange, Asks, Tells, asks_of, releases_of, Exchanges, all_taken}
-use Rattle.record_replay.specs.Laws.{AreInOrder, ExchangesAreInOrder, LinesAreInOrder}
+use Rattle.wasi_calls_rules.specs.Hosts.{Line}
+use Rattle.record_replay.specs.rules.Calls.{Leads, Giving, Taking, Asked, Released, AnswersInOrder, Releases, Exchange, Asks, Tells, asks_of, releases_of, Exchanges, all_taken}
+use Rattle.record_replay.specs.laws.Laws.{AreInOrder, ExchangesAreInOrder, LinesAreInOrder}
 
 module _ {V C : Type 0} (step : V → C → V → Type 0) where
   -- a list of calls that leads on from where another led
@@ -54,14 +54,14 @@ module _ {S O : Type 0} (gives : Giving S) (takes : Taking O) where
   pub exchanges_join : (s t u : S) (o p q : O) (front rest : List Exchange) → Exchanges gives takes s o front u q → Exchanges gives takes u q rest t p
       → Exchanges gives takes s o (front ++ rest) t p
   exchanges_join s t u o p q front rest first second = record {
-    asked = subst (λ z. Answers gives s z t) (sym (asks_of-append front rest)) (leads_join (Asked gives) s t u (asks_of front) (asks_of rest) first.asked second.asked);
+    asked = subst (λ z. AnswersInOrder gives s z t) (sym (asks_of-append front rest)) (leads_join (Asked gives) s t u (asks_of front) (asks_of rest) first.asked second.asked);
     released = subst (λ z. Releases takes o z p) (sym (releases_of-append front rest)) (leads_join (Released takes) o p q (releases_of front) (releases_of rest) first.released second.released);
   }
 
   pub exchanges_split : (s t : S) (o p : O) (front rest : List Exchange) → Exchanges gives takes s o (front ++ rest) t p
       → (u : S) × (q : O) × Exchanges gives takes s o front u q × Exchanges gives takes u q rest t p
   exchanges_split s t o p front rest whole =
-      let a = leads_split (Asked gives) s t (asks_of front) (asks_of rest) (subst (λ z. Answers gives s z t) (asks_of-append front rest) whole.asked) in
+      let a = leads_split (Asked gives) s t (asks_of front) (asks_of rest) (subst (λ z. AnswersInOrder gives s z t) (asks_of-append front rest) whole.asked) in
       let b = leads_split (Released takes) o p (releases_of front) (releases_of rest) (subst (λ z. Releases takes o z p) (releases_of-append front rest) whole.released) in
       (a.0, b.0, record { asked = a.1; released = b.1 }, record { asked = a.2; released = b.2 })
 

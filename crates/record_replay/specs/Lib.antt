@@ -1,3 +1,2 @@
-pub mod Calls
-pub mod Lists
-pub mod Laws
+pub mod laws
+pub mod rules

@@ -35,7 +35,7 @@ impl AnswerList {
 }
 
 impl Source for AnswerList {
-    ghost use Rattle.record_replay.specs.Lists.{HandsOut};
+    ghost use Rattle.record_replay.specs.rules.Lists.{HandsOut};
 
     ghost gives = { λ old _ said new. HandsOut old said new };
 

@@ -1,7 +1,7 @@
 //! Laws of lists of calls. The functions do nothing: what they ensure is the law.
 
-ghost use Rattle.record_replay.specs.Calls.{Asked, Released};
-ghost use Rattle.record_replay.specs.Laws.{AreInOrder, ExchangesAreInOrder, LinesAreInOrder};
+ghost use Rattle.record_replay.specs.rules.Calls.{Asked, Released};
+ghost use Rattle.record_replay.specs.laws.Laws.{AreInOrder, ExchangesAreInOrder, LinesAreInOrder};
 
 use crate::{Outlet, Source};
 

@@ -50,9 +50,9 @@ impl LineList {
 }
 
 impl Outlet for LineList {
-    ghost use Rattle.record_replay.specs.Lists.{Keeps};
+    ghost use Rattle.record_replay.specs.rules.Lists.{KeepsLine};
 
-    ghost takes = { λ old number line said new. Keeps old number line said new };
+    ghost takes = { λ old number line said new. KeepsLine old number line said new };
 
     fn release(&mut self, number: u64, stream: u8, text: &[u8]) -> Result<(), OutletFault> {
         let Ok(text) = text.to_vec(self.alloc) else {

@@ -5,7 +5,7 @@ use crate::OutletFault;
 /// Whoever takes the lines that a process emits. What a contract says of an outlet it says by one
 /// relation of each call, `takes`; lists of calls are folded with it.
 pub trait Outlet {
-    ghost use Rattle.wasi_calls_rows.specs.Hosts.{Line};
+    ghost use Rattle.wasi_calls_rules.specs.Hosts.{Line};
     ghost use Rattle.record_replay.specs.declared.fault.OutletFault.{OutletFault};
     ghost use Rattle.std.specs.Prelude.{ℕ, Result};
 

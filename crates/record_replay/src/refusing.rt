@@ -13,11 +13,11 @@ pub struct RefusingOutlet<O> {
 }
 
 impl<O> RefusingOutlet<O> {
-    ghost use Rattle.record_replay.specs.Lists.{inside, until_fault};
+    ghost use Rattle.record_replay.specs.rules.Lists.{inner_outlet, until_fault};
 
     /// Release `nth`, counted from 1, is answered by a fault. With 0 none is.
     pub fn new(inner: O, nth: u64) -> Self
-        ensures inside { inside result ≡ inner }
+        ensures inside { inner_outlet result ≡ inner }
         ensures until_fault { until_fault result ≡ nth }
     {
         RefusingOutlet {
@@ -28,7 +28,7 @@ impl<O> RefusingOutlet<O> {
 
     /// The outlet inside.
     pub fn into_inner(self) -> O
-        ensures { result ≡ inside self }
+        ensures { result ≡ inner_outlet self }
     {
         let RefusingOutlet {
             inner,
@@ -39,7 +39,7 @@ impl<O> RefusingOutlet<O> {
 }
 
 impl<O: Outlet> Outlet for RefusingOutlet<O> {
-    ghost use Rattle.record_replay.specs.Lists.{Refuses};
+    ghost use Rattle.record_replay.specs.rules.Lists.{Refuses};
 
     ghost takes = { λ old number line said new. Refuses O.takes old number line said new };
 

@@ -1,9 +1,9 @@
 -- How many unsynced writes there were, one call on and over several.
 use Rattle.std.proofs.Common.{◌≡◌, ◌⊎◌, ◌≤◌, ◌+◌, ℕ, List, ◌∷◌, Vec, length, inl, inr, ⊎_elim, subst, sym, arith}
 use Rattle.std.specs.declared.alloc.Global.{Global}
-use Rattle.sector_disk.specs.Medium.{Medium, CountsUpTo}
-use Rattle.sector_disk.specs.Counts.{HadCount, AnsweredCount}
-use Rattle.sector_disk.specs.Answered.{Answers, unsynced_of}
+use Rattle.sector_disk.specs.rules.Medium.{Medium, CountsUpTo}
+use Rattle.sector_disk.specs.rules.Counts.{HadCount, AnsweredCount}
+use Rattle.sector_disk.specs.rules.Answered.{AnsweredCalls, unsynced_of}
 use Rattle.sector_disk.specs.declared.file_call.FileCall.{FileCall}
 use Rattle.sector_disk.specs.declared.write.Write.{Write}
 
@@ -45,14 +45,14 @@ had_grows settled pending past new count most t n is le since =
 
 -- ---- a disk in a file, one answer on
 
-pub answered_keeps : (old new : Answers) (answer : FileCall × List ℕ) (t n : ℕ) → new ≡ answer ∷ old → AnsweredCount t old n → AnsweredCount t new n
+pub answered_keeps : (old new : AnsweredCalls) (answer : FileCall × List ℕ) (t n : ℕ) → new ≡ answer ∷ old → AnsweredCount t old n → AnsweredCount t new n
 answered_keeps old new answer t n is since =
-    let P : Answers → Type 0 = λ a. AnsweredCount t a n in
+    let P : AnsweredCalls → Type 0 = λ a. AnsweredCount t a n in
     subst P (sym is) (inr since)
 
-pub answered_grows : (old new : Answers) (answer : FileCall × List ℕ) (most t n : ℕ) → new ≡ answer ∷ old → unsynced_of (answer ∷ old) ≤ most → AnsweredCount t new n → AnsweredCount t old n ⊎ (n ≤ most)
+pub answered_grows : (old new : AnsweredCalls) (answer : FileCall × List ℕ) (most t n : ℕ) → new ≡ answer ∷ old → unsynced_of (answer ∷ old) ≤ most → AnsweredCount t new n → AnsweredCount t old n ⊎ (n ≤ most)
 answered_grows old new answer most t n is le since =
-    let P : Answers → Type 0 = λ a. AnsweredCount t a n in
+    let P : AnsweredCalls → Type 0 = λ a. AnsweredCount t a n in
     let R : Type 0 = AnsweredCount t old n ⊎ (n ≤ most) in
     ⊎_elim
     (λ (here : (t ≤ length old + 1) × (n ≡ unsynced_of (answer ∷ old))). (let r : R = inr (let e = here.1 in omega arith) in r))

@@ -2,9 +2,9 @@
 use Rattle.std.proofs.Common.{◌≡◌, ◌≤◌, ◌<◌, ℕ, List, [], true, false, IsTrue, Result, Ok, Err, is_ok, ◌⊎◌, length, refl, sym, ap, ◌∙◌, subst, ⊎_elim, arith}
 use Rattle.std.proofs.lemmas.List.{get_or_past}
 use Rattle.std.proofs.lemmas.Bool.{cases_lt}
-use Rattle.sector_disk.specs.Image.{Image, sector_at, with_sector, with_front, front_over, IsTorn, IsTornWithin, IsFront, IsImage}
-use Rattle.sector_disk.specs.Medium.{Medium, Stays, Holds, Tears, Takes, Writes, BothFollow, spare}
-use Rattle.sector_disk.specs.FrontLaws.{shorter, longer, front_self, with_front_twice}
+use Rattle.sector_disk.specs.rules.Image.{Image, sector_at, with_sector, with_front, front_over, IsTorn, IsTornWithin, IsFront, IsImage}
+use Rattle.sector_disk.specs.rules.Medium.{Medium, Stays, Holds, Tears, TakesWrite, Writes, BothFollow, spare}
+use Rattle.sector_disk.specs.laws.Fronts.{shorter, longer, front_self, with_front_twice}
 use Rattle.sector_disk.specs.declared.fault.DiskFault.{DiskFault}
 use Rattle.sector_disk.proofs.Moments.{shows_left}
 
@@ -18,7 +18,7 @@ taken_of (Err e) k bytes old new writes lt room same =
     (λ (more : old.faults < new.faults). absurd (omega arith))
     (cause.fault refl)
 
-pub takes_of : (result : Result (Unit {0}) DiskFault) (k : ℕ) (bytes : List ℕ) (old new : Medium) → Writes k bytes result old new → IsTrue (is_ok result) → Takes k bytes old new
+pub takes_of : (result : Result (Unit {0}) DiskFault) (k : ℕ) (bytes : List ℕ) (old new : Medium) → Writes k bytes result old new → IsTrue (is_ok result) → TakesWrite k bytes old new
 takes_of (Ok x) k bytes old new writes ok = writes.whole
 takes_of (Err e) k bytes old new writes ok = absurd (let no : false ≡ true = ok in cc)
 
@@ -72,7 +72,7 @@ module _ (old mid new : Medium) (k f : ℕ) (b r : List ℕ) (le : f ≤ 512) (f
       let left = of_left was.0 was.1 image was.2 was.4 in
       (was.0, left.0, stays.may was.0 left.0 left.1, of_shown was.0 shown before.0 was.3, left.2)
 
-  pub merged_takes : Takes k (front_over f b r) mid new → BothFollow (IsFront f k b) (IsTornWithin f k b) old new
+  pub merged_takes : TakesWrite k (front_over f b r) mid new → BothFollow (IsFront f k b) (IsTornWithin f k b) old new
   merged_takes takes shown image now =
       let was = takes.both shown image now in
       let before = mid.of_may was.0 was.1 was.2 in

@@ -1,6 +1,6 @@
 -- A disk in memory.
 use Rattle.std.proofs.Common.{◌≡◌, length, ap, ◌∙◌}
-use Rattle.sector_disk.specs.PendingLaws.{length-replayed}
+use Rattle.sector_disk.specs.laws.Pending.{length-replayed}
 use Rattle.sector_disk.specs.declared.memory.MemDisk.{MemDisk}
 
 pub shown_size : (d : MemDisk) → length d.shown.items ≡ length d.settled.items

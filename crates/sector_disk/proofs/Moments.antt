@@ -1,8 +1,8 @@
 -- How calls of a disk follow one another.
 use Rattle.std.proofs.Common.{◌≤◌, ◌∙◌, refl, sym, subst, ℕ, List, [], inl, inr, ⊎_elim, arith}
 use Rattle.std.proofs.lemmas.List.{set-get_or}
-use Rattle.sector_disk.specs.Image.{Image, IsImage, IsTornWithin}
-use Rattle.sector_disk.specs.Medium.{Medium, Passes, LeavesOnly, Follows, BothFollow, Stays, IsSettled}
+use Rattle.sector_disk.specs.rules.Image.{Image, IsImage, IsTornWithin}
+use Rattle.sector_disk.specs.rules.Medium.{Medium, Passes, LeavesOnly, Follows, BothFollow, Stays, IsAllSynced}
 
 -- before the first call
 pub started : (m : Medium) (P : Image → Type 0) → Passes m m P
@@ -71,14 +71,14 @@ both_then old mid new one_shown one_left two_shown two_left both_shown both_left
       left_steps earlier.1 later.1 image (mid.is_image later.1 are.1) earlier.4 later.4,
     )
 
-pub settled_only : (m : Medium) → IsSettled m → (image : Image) → m.may_leave image → m.shows image
+pub settled_only : (m : Medium) → IsAllSynced m → (image : Image) → m.may_leave image → m.shows image
 settled_only m settled image left =
     let both = m.of_left image left in
     let was = m.of_may both.0 image both.1 in
     subst (λ (i : Image). m.shows i) (sym (settled.same both.0 image both.1)) was.0
 
 -- a call that stays keeps a settled disk settled
-pub settled_stays : (old new : Medium) → Stays old new → IsSettled old → IsSettled new
+pub settled_stays : (old new : Medium) → Stays old new → IsAllSynced old → IsAllSynced new
 settled_stays old new stays settled = record {
   same = λ shown image both. settled.same shown image (stays.may shown image both);
   unsynced = let s = stays.unsynced in let t = settled.unsynced in omega arith;
@@ -114,7 +114,7 @@ pub stays_leaves_only : (old new : Medium) → Stays old new → Passes old new 
 stays_leaves_only old new stays passes = leaves_only old new old.may_leave (stays_passes old new stays passes) (λ image left. left)
 
 -- since a good sync, of a disk that was only read and synced, a cut left what reads give now
-pub since_sync : (sync now : Medium) → IsSettled sync → Stays sync now → (image : Image) → now.left_since sync.moment image → now.shows image
+pub since_sync : (sync now : Medium) → IsAllSynced sync → Stays sync now → (image : Image) → now.left_since sync.moment image → now.shows image
 since_sync sync now settled stays image since =
     let both = now.of_since sync.moment image since in
     let then = stays.since sync.moment both.0 image (omega arith) both.1 in
@@ -134,5 +134,9 @@ pub follows_stays : (old mid new : Medium) (step : Image → Image → Type 0) �
 follows_stays old mid new step stays follow image shows = follow image (stays_shows mid new stays image shows)
 
 -- a step, and then a good sync
-pub settled_follows : (old mid new : Medium) (step : Image → Image → Type 0) → IsSettled new → Stays mid new → Follows step old.shows mid.shows → Follows step old.shows new.may_leave
+pub settled_follows : (old mid new : Medium) (step : Image → Image → Type 0) → IsAllSynced new → Stays mid new → Follows step old.shows mid.shows → Follows step old.shows new.may_leave
 settled_follows old mid new step settled stays follow image left = follows_stays old mid new step stays follow image (settled_only new settled image left)
+
+-- the same of all that a cut leaves
+pub leaves_weaker : (old new : Medium) (P Q : Image → Type 0) → LeavesOnly old new P → ((image : Image) → P image → Q image) → LeavesOnly old new Q
+leaves_weaker old new P Q leaves here = record { each = λ image since. here image (leaves.each image since); passes = weaker old new P Q leaves.passes here }

@@ -2,11 +2,11 @@
 use Rattle.std.proofs.Common.{◌≡◌, ◌≢◌, ◌≤◌, ◌<◌, ◌+◌, ℕ, List, length, Err, ap, ◌∙◌, subst, ⊎_elim, arith, refl}
 use Rattle.std.proofs.lemmas.List.{length-set}
 use Rattle.std.proofs.lemmas.Bool.{cases_lt}
-use Rattle.sector_disk.specs.Image.{Image, sector_at, with_sector, front_over, IsImage, IsTorn, IsWritten}
-use Rattle.sector_disk.specs.Medium.{Medium, After, Follows, BothFollow, Passes, LeavesOnly, Tears, Takes, HasCause, FailsInside}
+use Rattle.sector_disk.specs.rules.Image.{Image, sector_at, with_sector, front_over, IsImage, IsTorn, IsWritten}
+use Rattle.sector_disk.specs.rules.Medium.{Medium, After, Follows, BothFollow, Passes, LeavesOnly, Tears, TakesWrite, HasCause, FailsInside}
 use Rattle.sector_disk.specs.declared.fault.DiskFault.{DiskFault}
-use Rattle.sector_disk.specs.Run.{IsTornRun, IsWrittenRun, HoldsRun}
-use Rattle.sector_disk.specs.FrontLaws.{sector-with_sector, sector-with_other}
+use Rattle.sector_disk.specs.rules.Run.{IsTornRun, IsWrittenRun, HoldsRun}
+use Rattle.sector_disk.specs.laws.Fronts.{sector-with_sector, sector-with_other}
 use Rattle.sector_disk.proofs.Moments.{left_follow, shows_left, both_then, goes_on, leaves_only}
 
 -- before the first write
@@ -80,7 +80,7 @@ module _ (at : ℕ) (sectors : Image) (n : ℕ) (old mid new : Medium) (lt : at 
       (λ a b c is run torn. run_more at sectors n a b c (in_image b is) run torn)
       so_far tears.both
 
-  pub both_take : BothFollow (IsWrittenRun at sectors n) (IsTornRun at sectors n) old mid → Takes (at + n) (sector_at sectors n) mid new → BothFollow (IsWrittenRun at sectors (n + 1)) (IsTornRun at sectors (n + 1)) old new
+  pub both_take : BothFollow (IsWrittenRun at sectors n) (IsTornRun at sectors n) old mid → TakesWrite (at + n) (sector_at sectors n) mid new → BothFollow (IsWrittenRun at sectors (n + 1)) (IsTornRun at sectors (n + 1)) old new
   both_take so_far takes = both_then old mid new _ _ _ _ _ _
       (λ a b c is run written. written_more at sectors n a b c (in_image b is) run written)
       (λ a b c is run torn. run_more at sectors n a b c (in_image b is) run torn)

@@ -1,13 +1,2 @@
-pub mod Image
-pub mod Medium
-pub mod Run
-pub mod Pending
-pub mod FrontLaws
-pub mod PendingLaws
-pub mod Answered
-pub mod Counts
-pub mod Memory
-pub mod Trouble
-pub mod FaultDisk
-pub mod AnsweredLaws
-pub mod File
+pub mod laws
+pub mod rules

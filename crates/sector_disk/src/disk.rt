@@ -1,6 +1,6 @@
 // What each disk does.
 ghost use Rattle.std.specs.Prelude.{◌≡◌};
-ghost use Rattle.sector_disk.specs.Medium.{Medium, Reads, Writes, Syncs};
+ghost use Rattle.sector_disk.specs.rules.Medium.{Medium, Reads, Writes, SyncsMedium};
 
 use crate::DiskFault;
 
@@ -24,5 +24,5 @@ pub trait Disk {
 
     /// After it, a cut leaves what reads give. One that fails settles nothing.
     fn sync(&mut self) -> Result<(), DiskFault>
-        ensures { Syncs result (medium self.old) (medium self.new) };
+        ensures { SyncsMedium result (medium self.old) (medium self.new) };
 }

@@ -1,6 +1,6 @@
 // A disk that stops or fails at a call that it is told.
 ghost use Rattle.std.specs.Prelude.{◌≡◌, ◌+◌, ◌<◌, ◌≤◌, IsTrue, IfSome, IfNone, length, false, ℕ, Bool};
-ghost use Rattle.sector_disk.specs.Trouble.{is_met};
+ghost use Rattle.sector_disk.specs.rules.Trouble.{is_met};
 
 use crate::front::write_front;
 use crate::log::Log;
@@ -26,14 +26,14 @@ pub struct FaultDisk<D> {
 }
 
 impl<D> FaultDisk<D> {
-    ghost use Rattle.sector_disk.specs.FaultDisk.{disk_below, stop_of, fail_of, calls_of, trouble_of, left_front_of};
+    ghost use Rattle.sector_disk.specs.rules.FaultDisk.{disk_below, stop_of, fail_of, call_counts_of, trouble_of, left_front_of};
 
     /// It stops at the one call, and fails at the other. Where both are the same call, it stops.
     pub fn new(inner: D, stop: Option<Place>, fail: Option<Place>) -> Self
         ensures below { disk_below result ≡ inner }
         ensures stop { stop_of result ≡ stop }
         ensures fail { fail_of result ≡ fail }
-        ensures calls { calls_of result ≡ record { reads = 0; writes = 0; syncs = 0 } }
+        ensures calls { call_counts_of result ≡ record { reads = 0; writes = 0; syncs = 0 } }
         ensures left_front { left_front_of result ≡ false }
     {
         FaultDisk {
@@ -50,7 +50,7 @@ impl<D> FaultDisk<D> {
 
     /// How many reads, writes and syncs have begun. Each count stays at the greatest number of 64 bits.
     pub fn calls(&self) -> (u64, u64, u64)
-        ensures { result ≡ ((calls_of self.now).reads, (calls_of self.now).writes, (calls_of self.now).syncs) }
+        ensures { result ≡ ((call_counts_of self.now).reads, (call_counts_of self.now).writes, (call_counts_of self.now).syncs) }
     {
         (self.reads, self.writes, self.syncs)
     }
@@ -106,9 +106,9 @@ impl<D> FaultDisk<D> {
 }
 
 impl<D: Disk> Disk for FaultDisk<D> {
-    ghost use Rattle.sector_disk.specs.FaultDisk.{disk_below, stop_of, fail_of, calls_of, trouble_of, left_front_of};
-    ghost use Rattle.sector_disk.specs.Medium.{Reads, Writes, Syncs};
-    ghost use Rattle.sector_disk.specs.Trouble.{counted, fault_of, troubled, LeavesFront};
+    ghost use Rattle.sector_disk.specs.rules.FaultDisk.{disk_below, stop_of, fail_of, call_counts_of, trouble_of, left_front_of};
+    ghost use Rattle.sector_disk.specs.rules.Medium.{Reads, Writes, SyncsMedium};
+    ghost use Rattle.sector_disk.specs.rules.Trouble.{counted, trouble_fault, troubled, LeavesFront};
 
     ghost medium = { λ f. troubled (D.medium f.inner) f.stop f.fail (length f.faults.items) };
 
@@ -118,11 +118,11 @@ impl<D: Disk> Disk for FaultDisk<D> {
 
     fn read(&mut self, sector: u64, into: &mut [u8; 512]) -> Result<(), DiskFault>
         ensures reads { Reads sector into.new result (⟦<FaultDisk<D> as Disk>⟧.medium self.old) (⟦<FaultDisk<D> as Disk>⟧.medium self.new) }
-        ensures calls { calls_of self.new ≡ record (calls_of self.old) { reads = counted (calls_of self.old).reads } }
+        ensures calls { call_counts_of self.new ≡ record (call_counts_of self.old) { reads = counted (call_counts_of self.old).reads } }
         ensures stop { stop_of self.new ≡ stop_of self.old }
         ensures fail { fail_of self.new ≡ fail_of self.old }
         ensures left_front { left_front_of self.new ≡ left_front_of self.old }
-        ensures trouble { IfSome (trouble_of self.new) (λ trouble. (result ≡ Err (fault_of trouble)) × (into.new ≡ into.old) × (disk_below self.new ≡ disk_below self.old)) }
+        ensures trouble { IfSome (trouble_of self.new) (λ trouble. (result ≡ Err (trouble_fault trouble)) × (into.new ≡ into.old) × (disk_below self.new ≡ disk_below self.old)) }
         ensures passed_on { IfNone (trouble_of self.new) (Reads sector into.new result (D.medium (disk_below self.old)) (D.medium (disk_below self.new))) }
     {
         self.reads = self.reads.saturating_add(1);
@@ -137,10 +137,10 @@ impl<D: Disk> Disk for FaultDisk<D> {
 
     fn write(&mut self, sector: u64, from: &[u8; 512]) -> Result<(), DiskFault>
         ensures writes { Writes sector from.now result (⟦<FaultDisk<D> as Disk>⟧.medium self.old) (⟦<FaultDisk<D> as Disk>⟧.medium self.new) }
-        ensures calls { calls_of self.new ≡ record (calls_of self.old) { writes = counted (calls_of self.old).writes } }
+        ensures calls { call_counts_of self.new ≡ record (call_counts_of self.old) { writes = counted (call_counts_of self.old).writes } }
         ensures stop { stop_of self.new ≡ stop_of self.old }
         ensures fail { fail_of self.new ≡ fail_of self.old }
-        ensures trouble { IfSome (trouble_of self.new) (λ trouble. result ≡ Err (fault_of trouble)) }
+        ensures trouble { IfSome (trouble_of self.new) (λ trouble. result ≡ Err (trouble_fault trouble)) }
         ensures stops { (front : ℕ) → trouble_of self.new ≡ Some (Trouble.Stops front) → LeavesFront front sector from.now (left_front_of self.new) (D.medium (disk_below self.old)) (D.medium (disk_below self.new)) }
         ensures fails { (front : ℕ) → trouble_of self.new ≡ Some (Trouble.Fails front) → (is_taken : Bool) × LeavesFront front sector from.now is_taken (D.medium (disk_below self.old)) (D.medium (disk_below self.new)) }
         ensures stopped { trouble_of self.new ≡ Some Trouble.Stopped → disk_below self.new ≡ disk_below self.old }
@@ -168,13 +168,13 @@ impl<D: Disk> Disk for FaultDisk<D> {
     }
 
     fn sync(&mut self) -> Result<(), DiskFault>
-        ensures syncs { Syncs result (⟦<FaultDisk<D> as Disk>⟧.medium self.old) (⟦<FaultDisk<D> as Disk>⟧.medium self.new) }
-        ensures calls { calls_of self.new ≡ record (calls_of self.old) { syncs = counted (calls_of self.old).syncs } }
+        ensures syncs { SyncsMedium result (⟦<FaultDisk<D> as Disk>⟧.medium self.old) (⟦<FaultDisk<D> as Disk>⟧.medium self.new) }
+        ensures calls { call_counts_of self.new ≡ record (call_counts_of self.old) { syncs = counted (call_counts_of self.old).syncs } }
         ensures stop { stop_of self.new ≡ stop_of self.old }
         ensures fail { fail_of self.new ≡ fail_of self.old }
         ensures left_front { left_front_of self.new ≡ left_front_of self.old }
-        ensures trouble { IfSome (trouble_of self.new) (λ trouble. (result ≡ Err (fault_of trouble)) × (disk_below self.new ≡ disk_below self.old)) }
-        ensures passed_on { IfNone (trouble_of self.new) (Syncs result (D.medium (disk_below self.old)) (D.medium (disk_below self.new))) }
+        ensures trouble { IfSome (trouble_of self.new) (λ trouble. (result ≡ Err (trouble_fault trouble)) × (disk_below self.new ≡ disk_below self.old)) }
+        ensures passed_on { IfNone (trouble_of self.new) (SyncsMedium result (D.medium (disk_below self.old)) (D.medium (disk_below self.new))) }
     {
         self.syncs = self.syncs.saturating_add(1);
         match self.trouble() {

@@ -23,7 +23,7 @@ pub struct FileDisk<F> {
 }
 
 impl<F: OpenFile + FileExt> FileDisk<F> {
-    ghost use Rattle.sector_disk.specs.File.{file_medium, answers_of};
+    ghost use Rattle.sector_disk.specs.rules.File.{file_medium, answers_of};
 
     /// Makes a file of so many sectors of zeros, and makes its entry in its folder durable. It fails
     /// where there is such a path already, and from 2^54 sectors on. After another error a file may be
@@ -93,9 +93,9 @@ fn sync_folder<R: Files>(files: &R, path: &str) -> Result<(), DiskFault>
 }
 
 impl<F: OpenFile + FileExt> Disk for FileDisk<F> {
-    ghost use Rattle.sector_disk.specs.Answered.{ReadLogged, WriteLogged, SyncLogged};
-    ghost use Rattle.sector_disk.specs.File.{file_medium, answers_of};
-    ghost use Rattle.sector_disk.specs.Medium.{Reads, Writes, Syncs};
+    ghost use Rattle.sector_disk.specs.rules.Answered.{ReadLogged, WriteLogged, SyncLogged};
+    ghost use Rattle.sector_disk.specs.rules.File.{file_medium, answers_of};
+    ghost use Rattle.sector_disk.specs.rules.Medium.{Reads, Writes, SyncsMedium};
 
     ghost medium = { file_medium };
 
@@ -144,7 +144,7 @@ impl<F: OpenFile + FileExt> Disk for FileDisk<F> {
     }
 
     fn sync(&mut self) -> Result<(), DiskFault>
-        ensures syncs { Syncs result (file_medium self.old) (file_medium self.new) }
+        ensures syncs { SyncsMedium result (file_medium self.old) (file_medium self.new) }
         ensures logged { SyncLogged result (answers_of self.old) (answers_of self.new) }
     {
         match self.file.sync_all() {

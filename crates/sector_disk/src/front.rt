@@ -1,8 +1,8 @@
 // A front of a write.
 ghost use Rattle.std.specs.Prelude.{◌≡◌, ◌≤◌, ◌+◌};
-ghost use Rattle.sector_disk.specs.Image.{front_over};
-ghost use Rattle.sector_disk.specs.Medium.{CountsUpTo, Passes};
-ghost use Rattle.sector_disk.specs.Trouble.{LeavesFront};
+ghost use Rattle.sector_disk.specs.rules.Image.{front_over};
+ghost use Rattle.sector_disk.specs.rules.Medium.{CountsUpTo, Passes};
+ghost use Rattle.sector_disk.specs.rules.Trouble.{LeavesFront};
 
 use crate::Disk;
 

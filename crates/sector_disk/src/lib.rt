@@ -1,4 +1,34 @@
-//! A disk of sectors: what reads give, what a cut may leave, and what a cut may have left since.
+//! A disk of sectors of 512 bytes (this project's own). There is a model of what reads give and
+//! what a cut of the power may leave, and there are three disks that meet it.
+//!
+//! # Promises
+//!
+//! - `Disk` is the trait. A read, a write and a sync do to a disk's `medium` what `Reads`,
+//!   `Writes` and `SyncsMedium` say. These say what a cut may leave, also inside a call, and what
+//!   an error's cause is.
+//! - `MemDisk` answers exactly as its state says (`answer`, `done`). `cut` leaves the told front
+//!   of each write since the last good sync (`cut`). Each image that a cut may leave is had so
+//!   (`every`).
+//! - `FaultDisk` stops or fails at the call that it is told (`trouble`, `stops`, `fails`), and
+//!   hands all others on (`passed_on`).
+//! - `FileDisk` logs each call that it made of its file, with the answer (`logged`). `create`
+//!   gives a disk of so many sectors (`sectors`). It and `open` begin with an empty log (`fresh`).
+//! - `write_run` and `store_run` write sectors one after another. `store_run`: a cut at any moment
+//!   leaves of each some front (`any_moment`). After Ok each cut leaves all of them (`stored`).
+//!
+//! # Definitions to read
+//!
+//! In `specs/rules/`: `Image`, `with_front`, `IsTorn` (`Image.antt`); `Medium`, `LeavesOnly`,
+//! `Reads`, `Writes`, `SyncsMedium` (`Medium.antt`); `IsTornRun` (`Run.antt`); the state of a
+//! `MemDisk` (`Memory.antt`, `Pending.antt`), of a `FaultDisk` (`Trouble.antt`, `FaultDisk.antt`)
+//! and of a `FileDisk` (`Answered.antt`, `Counts.antt`, `File.antt`).
+//!
+//! # Who may touch what
+//!
+//! What a cut may leave is defined here alone. `disk_layout`, `journal` and `snapshot` use any
+//! `Disk`. The crate stands on no other one of this repository. A `MemDisk` takes memory in `new`
+//! and `cut` alone. That a file behaves as a disk of the model is a premise: of one that doesn't,
+//! clauses say nothing.
 #![tactic(auto)]
 
 mod disk;
@@ -11,8 +41,6 @@ mod log;
 mod memory;
 mod place;
 mod run;
-#[cfg(test)]
-mod tests;
 mod trouble;
 mod write;
 

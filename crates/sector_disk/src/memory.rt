@@ -1,7 +1,7 @@
 // A disk in memory. It keeps the sectors of the last good sync and the writes since, so that it can be cut.
 ghost use Rattle.std.specs.Prelude.{◌≡◌, ◌<◌, ◌≤◌, List, ℕ, [], length, drop, replicate, All, vec_capacity, IfOk, IfErr, OnOk, OnErr};
-ghost use Rattle.sector_disk.specs.Image.{Image, IsImage, sector_at};
-ghost use Rattle.sector_disk.specs.Pending.{IsWriteWithin, first_front, replayed as all_of};
+ghost use Rattle.sector_disk.specs.rules.Image.{Image, IsImage, sector_at};
+ghost use Rattle.sector_disk.specs.rules.Pending.{IsWriteWithin, first_front, replayed as all_of};
 
 use crate::front::leave_front;
 use crate::log::Log;
@@ -34,25 +34,25 @@ pub struct MemDisk {
 }
 
 impl MemDisk {
-    ghost use Rattle.sector_disk.specs.Medium.{IsSettled};
-    ghost use Rattle.sector_disk.specs.Memory.{memory_medium, state_of, shown_by, after_cut, IsEveryCut};
+    ghost use Rattle.sector_disk.specs.rules.Medium.{IsAllSynced};
+    ghost use Rattle.sector_disk.specs.rules.Memory.{memory_medium, memory_state_of, shown_by, after_cut, IsEveryCut};
 
     /// So many sectors of zeros, with room for so many writes between two syncs. It fails only for
     /// want of memory.
     pub fn new(alloc: Global, sectors: u64, writes: usize) -> Result<MemDisk, DiskFault>
-        ensures made { IfOk result (λ d. state_of d ≡ record { settled = replicate sectors (replicate 512 0); pending = []; limit = writes }) }
+        ensures made { IfOk result (λ d. memory_state_of d ≡ record { settled = replicate sectors (replicate 512 0); pending = []; limit = writes }) }
         ensures zeros { IfOk result (λ d. (memory_medium d).shows (replicate sectors (replicate 512 0))) }
-        ensures settled { IfOk result (λ d. IsSettled (memory_medium d)) }
+        ensures settled { IfOk result (λ d. IsAllSynced (memory_medium d)) }
         ensures err { IfErr result (λ e. e ≡ DiskFault.Memory) }
     {
         let mut settled = Vec::new(alloc);
         settled.resize(sectors as usize, [0; 512])?;
-        MemDisk::settled(alloc, settled, writes)
+        MemDisk::from_sectors(alloc, settled, writes)
     }
 
     /// How many writes there were since the last good sync.
-    pub fn unsynced(&self) -> usize
-        ensures { result ≡ length (state_of self.now).pending }
+    pub fn unsynced_count(&self) -> usize
+        ensures { result ≡ length (memory_state_of self.now).pending }
     {
         self.pending.len()
     }
@@ -61,13 +61,13 @@ impl MemDisk {
     /// the oldest first. A missing number, or a larger one than 512, keeps all of its write. It
     /// fails only for want of memory.
     pub fn cut(&self, alloc: Global, tears: &[u16]) -> Result<MemDisk, DiskFault>
-        ensures cut { IfOk result (λ d. state_of d ≡ after_cut (state_of self.now) tears.now) }
+        ensures cut { IfOk result (λ d. memory_state_of d ≡ after_cut (memory_state_of self.now) tears.now) }
 
         // It is one of the images that a cut now may leave, and each of those is had so.
-        ensures left { (memory_medium self.now).may_leave (after_cut (state_of self.now) tears.now).settled }
+        ensures left { (memory_medium self.now).may_leave (after_cut (memory_state_of self.now) tears.now).settled }
         ensures every { IsEveryCut self.now }
-        ensures shows { IfOk result (λ d. (memory_medium d).shows (after_cut (state_of self.now) tears.now).settled) }
-        ensures settled { IfOk result (λ d. IsSettled (memory_medium d)) }
+        ensures shows { IfOk result (λ d. (memory_medium d).shows (after_cut (memory_state_of self.now) tears.now).settled) }
+        ensures settled { IfOk result (λ d. IsAllSynced (memory_medium d)) }
         ensures err { IfErr result (λ e. e ≡ DiskFault.Memory) }
     {
         let mut image = Vec::from_slice(alloc, &self.settled)?;
@@ -78,14 +78,14 @@ impl MemDisk {
                 front_named(tears, i),
             );
         }
-        MemDisk::settled(alloc, image, self.limit)
+        MemDisk::from_sectors(alloc, image, self.limit)
     }
 
-    fn settled(alloc: Global, settled: Vec<Sector>, limit: usize) -> Result<MemDisk, DiskFault>
+    fn from_sectors(alloc: Global, settled: Vec<Sector>, limit: usize) -> Result<MemDisk, DiskFault>
         requires { IsImage (length settled.items) settled.items }
-        ensures made { IfOk result (λ d. state_of d ≡ record { settled = settled.items; pending = []; limit = limit }) }
+        ensures made { IfOk result (λ d. memory_state_of d ≡ record { settled = settled.items; pending = []; limit = limit }) }
         ensures shows { IfOk result (λ d. (memory_medium d).shows settled.items) }
-        ensures settled { IfOk result (λ d. IsSettled (memory_medium d)) }
+        ensures settled { IfOk result (λ d. IsAllSynced (memory_medium d)) }
         ensures err { IfErr result (λ e. e ≡ DiskFault.Memory) }
     {
         let shown = Vec::from_slice(alloc, &settled)?;
@@ -112,8 +112,8 @@ fn front_named(tears: &[u16], i: usize) -> usize
 }
 
 impl Disk for MemDisk {
-    ghost use Rattle.sector_disk.specs.Medium.{Keeps, Reads, Writes, Syncs};
-    ghost use Rattle.sector_disk.specs.Memory.{memory_medium, state_of, shown_by, read_answer, write_answer, after_write, after_sync};
+    ghost use Rattle.sector_disk.specs.rules.Medium.{Keeps, Reads, Writes, SyncsMedium};
+    ghost use Rattle.sector_disk.specs.rules.Memory.{memory_medium, memory_state_of, shown_by, read_answer, write_answer, after_write, after_sync};
 
     ghost medium = { memory_medium };
 
@@ -123,8 +123,8 @@ impl Disk for MemDisk {
 
     fn read(&mut self, sector: u64, into: &mut [u8; 512]) -> Result<(), DiskFault>
         ensures reads { Reads sector into.new result (memory_medium self.old) (memory_medium self.new) }
-        ensures answer { result ≡ read_answer (state_of self.old) sector }
-        ensures bytes { OnOk result (into.new ≡ sector_at (shown_by (state_of self.old)) sector) }
+        ensures answer { result ≡ read_answer (memory_state_of self.old) sector }
+        ensures bytes { OnOk result (into.new ≡ sector_at (shown_by (memory_state_of self.old)) sector) }
         ensures refused { OnErr result (into.new ≡ into.old) }
         ensures same { self.new ≡ self.old }
     {
@@ -137,8 +137,8 @@ impl Disk for MemDisk {
 
     fn write(&mut self, sector: u64, from: &[u8; 512]) -> Result<(), DiskFault>
         ensures writes { Writes sector from.now result (memory_medium self.old) (memory_medium self.new) }
-        ensures answer { result ≡ write_answer (state_of self.old) sector }
-        ensures done { OnOk result (state_of self.new ≡ after_write (state_of self.old) sector from.now) }
+        ensures answer { result ≡ write_answer (memory_state_of self.old) sector }
+        ensures done { OnOk result (memory_state_of self.new ≡ after_write (memory_state_of self.old) sector from.now) }
         ensures refused { OnErr result (self.new ≡ self.old) }
         ensures kept { Keeps (memory_medium self.old) (memory_medium self.new) }
     {
@@ -163,9 +163,9 @@ impl Disk for MemDisk {
     }
 
     fn sync(&mut self) -> Result<(), DiskFault>
-        ensures syncs { Syncs result (memory_medium self.old) (memory_medium self.new) }
+        ensures syncs { SyncsMedium result (memory_medium self.old) (memory_medium self.new) }
         ensures answer { result ≡ Ok tt }
-        ensures done { state_of self.new ≡ after_sync (state_of self.old) }
+        ensures done { memory_state_of self.new ≡ after_sync (memory_state_of self.old) }
         ensures kept { Keeps (memory_medium self.old) (memory_medium self.new) }
     {
         let past = self.past.and(&self.settled, &self.pending);

@@ -1,6 +1,6 @@
 // What a call meets on a disk that is told to stop or to fail.
 ghost use Rattle.std.specs.Prelude.{◌≡◌};
-ghost use Rattle.sector_disk.specs.Trouble.{fault_of};
+ghost use Rattle.sector_disk.specs.rules.Trouble.{trouble_fault};
 
 use crate::DiskFault;
 
@@ -18,7 +18,7 @@ pub(crate) enum Trouble {
 impl Trouble {
     /// What such a call answers.
     pub(crate) fn fault(self) -> DiskFault
-        ensures { result ≡ fault_of self }
+        ensures { result ≡ trouble_fault self }
     {
         match self {
             Trouble::Stops(_) | Trouble::Stopped => DiskFault::Cut,

@@ -1,14 +1,14 @@
 -- The two heads and the two areas of an image.
 use Rattle.std.proofs.Common.{◌≡◌, ◌⊎◌, ℕ, zero, suc, ◌+◌, ◌-◌, ◌*◌, ◌%◌, ◌<◌, ◌≤◌, List, ◌++◌, length, take, max, refl, sym, ap, ◌∙◌, subst, inl, inr, ⊎_elim, arith}
 use Rattle.std.proofs.lemmas.Bool.{cases_lt, cases_eq}
-use Rattle.sector_disk.specs.Image.{Image, sector_at}
+use Rattle.sector_disk.specs.rules.Image.{Image, sector_at}
 use Rattle.disk_layout.specs.declared.geometry.Geometry.{Geometry}
 use Rattle.disk_layout.specs.declared.head.Head.{Head}
-use Rattle.disk_layout.specs.Places.{head_place, area_place, journal_place}
-use Rattle.disk_layout.specs.Sectors.{bytes_from, head_of, stamp_of, shown_generation, IsComplete, IsNewest}
+use Rattle.disk_layout.specs.rules.Places.{head_place, area_place, journal_place}
+use Rattle.disk_layout.specs.rules.Sectors.{bytes_from, head_of, stamp_of, shown_generation, IsComplete, IsNewest}
 use Rattle.disk_layout.proofs.StampLemmas.{shows_there}
-use Rattle.snapshot.specs.Heads.{HasNone, heads_to, IsReady}
-use Rattle.snapshot.specs.Steps.{KeepsNewest, IsElsewhere, Fills, Commits, Replaces}
+use Rattle.snapshot.specs.rules.Heads.{HasNone, heads_to, IsReadyForHead}
+use Rattle.snapshot.specs.rules.Steps.{KeepsNewest, IsOutsideArea, Fills, Commits, Replaces}
 
 pub parity : (n : ℕ) → (n % 2 ≡ 0) ⊎ (n % 2 ≡ 1)
 parity n = ⊎_elim (λ (lt : n % 2 < 1). inl (omega arith)) (λ (ge : 1 ≤ n % 2). inr (omega arith)) (cases_lt (n % 2) 1)
@@ -65,7 +65,7 @@ heads_split image g =
     (parity g)
 
 -- a newest head of this generation is the one before
-pub ready_newest : (g : ℕ) (image : Image) → IsReady g image → (n : ℕ) (h : Head) → IsNewest image n h → n + 1 ≡ g
+pub ready_newest : (g : ℕ) (image : Image) → IsReadyForHead g image → (n : ℕ) (h : Head) → IsNewest image n h → n + 1 ≡ g
 ready_newest g image ready n h is =
     ⊎_elim
     (λ none. absurd (none_at image none.1 n is.complete))
@@ -104,7 +104,7 @@ bytes_same old new place (suc count) same =
     ∙ ap (λ (l : List ℕ). sector_at old place ++ l) (bytes_same old new (place + 1) count (λ k from below. same k (omega arith) (omega arith)))
 
 -- the areas of two generations in a row lie apart
-pub other_area : (geometry : Geometry) (n g k : ℕ) → n + 1 ≡ g → area_place geometry n ≤ k → k < area_place geometry n + geometry.area_sectors → IsElsewhere geometry g k
+pub other_area : (geometry : Geometry) (n g k : ℕ) → n + 1 ≡ g → area_place geometry n ≤ k → k < area_place geometry n + geometry.area_sectors → IsOutsideArea geometry g k
 other_area geometry n g k next from below =
     let at : ℕ → ℕ = λ p. 3 + geometry.module_sectors + p * geometry.area_sectors in
     ⊎_elim
@@ -163,17 +163,17 @@ keeps_then geometry old mid new one two = record {
 
 -- ---- an area that is filled
 
-module _ (geometry : Geometry) (g : ℕ) (old new : Image) (others : (k : ℕ) → IsElsewhere geometry g k → sector_at new k ≡ sector_at old k) where
+module _ (geometry : Geometry) (g : ℕ) (old new : Image) (others : (k : ℕ) → IsOutsideArea geometry g k → sector_at new k ≡ sector_at old k) where
   pub same_heads : (n : ℕ) → sector_at new (head_place n) ≡ sector_at old (head_place n)
   same_heads n = others (head_place n) (inl (omega arith))
 
-  pub filled_keeps : IsReady g old → KeepsNewest geometry old new
+  pub filled_keeps : IsReadyForHead g old → KeepsNewest geometry old new
   filled_keeps ready = keeps geometry old new
       (λ none. none_from new (λ n c. none_at old none n (subst (λ (s : List ℕ). IsComplete (n % 2) s) (same_heads n) c)))
       (λ n h is. (newest_moves old new n h same_heads is, bytes_same old new (area_place geometry n) geometry.area_sectors (λ k from below. others k (other_area geometry n g k (ready_newest g old ready n h is) from below))))
       (heads_move old new same_heads)
 
-  pub filled_ready : IsReady g old → IsReady g new
+  pub filled_ready : IsReadyForHead g old → IsReadyForHead g new
   filled_ready ready = record {
     before = ⊎_elim
         (λ none. inl (none.0, none_from new (λ n c. none_at old none.1 n (subst (λ (s : List ℕ). IsComplete (n % 2) s) (same_heads n) c))))
@@ -182,7 +182,7 @@ module _ (geometry : Geometry) (g : ℕ) (old new : Image) (others : (k : ℕ) �
     none_later = let e = heads_move old new same_heads in omega (arith, e, ready.none_later);
   }
 
-pub fills : (geometry : Geometry) (g : ℕ) (old new : Image) → length new ≡ length old → ((k : ℕ) → IsElsewhere geometry g k → sector_at new k ≡ sector_at old k) → Fills geometry g old new
+pub fills : (geometry : Geometry) (g : ℕ) (old new : Image) → length new ≡ length old → ((k : ℕ) → IsOutsideArea geometry g k → sector_at new k ≡ sector_at old k) → Fills geometry g old new
 fills geometry g old new count others = record { count = count; others = others; newest = filled_keeps geometry g old new others }
 
 pub fills_none : (geometry : Geometry) (g : ℕ) (image : Image) → Fills geometry g image image

@@ -3,15 +3,12 @@ use Rattle.std.proofs.Common.{◌≡◌, ℕ, zero, suc, ◌+◌, ◌/◌, List,
 use Rattle.std.specs.List.{AllByRecursion}
 use Rattle.std.specs.Int.{to_be_bytes}
 use Rattle.sha2.specs.Sha256.{sha256, digest_bytes, final_hash, initial_hash_256}
-use Rattle.guest_memory.specs.Bytes.{IsByte, bytes_of}
-use Rattle.wasi_abi.specs.Layouts.{u32_bytes, u64_bytes, padding}
+use Rattle.guest_memory.specs.rules.Bytes.{IsByte, bytes_of}
+use Rattle.wasi_abi.specs.rules.Layouts.{u32_bytes, u64_bytes, padding}
 use Rattle.disk_layout.specs.declared.head.Head.{Head}
-use Rattle.disk_layout.specs.Sectors.{head_bytes, head_mark}
+use Rattle.disk_layout.specs.rules.Sectors.{head_bytes, head_mark}
 use Rattle.disk_layout.proofs.StampLemmas.{all_append}
-
-all_bytes_of : (n x : ℕ) → AllByRecursion IsByte (bytes_of n x)
-all_bytes_of zero x = tt
-all_bytes_of (suc n) x = (omega arith, all_bytes_of n (x / 256))
+use Rattle.guest_memory.proofs.Lists.{bytes_are as all_bytes_of}
 
 all_padding : (n : ℕ) → AllByRecursion IsByte (padding n)
 all_padding zero = tt

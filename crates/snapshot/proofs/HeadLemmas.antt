@@ -3,17 +3,17 @@ use Rattle.std.proofs.Common.{◌≡◌, ◌≢◌, ◌⊎◌, ℕ, ◌+◌, ◌
 use Rattle.std.proofs.lemmas.Bool.{cases_eq}
 use Rattle.std.proofs.lemmas.List.{take-take, drop-take}
 use Rattle.sha2.specs.Sha256.{sha256}
-use Rattle.guest_memory.specs.Bytes.{part, number_of}
-use Rattle.sector_disk.specs.Image.{Image, sector_at}
+use Rattle.guest_memory.specs.rules.Bytes.{part, number_of}
+use Rattle.sector_disk.specs.rules.Image.{Image, sector_at}
 use Rattle.disk_layout.specs.declared.geometry.Geometry.{Geometry}
 use Rattle.disk_layout.specs.declared.head.Head.{Head}
-use Rattle.disk_layout.specs.Places.{head_place, area_place}
-use Rattle.disk_layout.specs.Sectors.{head_bytes, head_of, stamp_of, shown_generation, IsComplete, IsNewest, Holds, bytes_from}
-use Rattle.disk_layout.specs.Laws.{HeadFits}
+use Rattle.disk_layout.specs.rules.Places.{head_place, area_place}
+use Rattle.disk_layout.specs.rules.Sectors.{head_bytes, head_of, stamp_of, shown_generation, IsComplete, IsNewest, SectorsHold, bytes_from}
+use Rattle.disk_layout.specs.laws.Laws.{HeadFits}
 use Rattle.disk_layout.proofs.StampLemmas.{shows_there, shows_none}
 use Rattle.disk_layout.proofs.FieldLemmas.{head_again}
-use Rattle.snapshot.specs.Heads.{HasNone, heads_to, IsReady}
-use Rattle.snapshot.specs.Steps.{KeepsNewest, HasNew}
+use Rattle.snapshot.specs.rules.Heads.{HasNone, heads_to, IsReadyForHead}
+use Rattle.snapshot.specs.rules.Steps.{KeepsNewest, HasNew}
 use Rattle.snapshot.proofs.AreaLemmas.{none_at, none_from, shown_complete, newest_complete, heads_split, ready_newest, bytes_same, keeps}
 
 -- ---- the parts of a sector
@@ -68,8 +68,8 @@ is_complete h s some is =
 
 -- ---- an image whose area holds the bytes, with a sector in place of its head
 
-module _ (geometry : Geometry) (g version : ℕ) (bytes : List ℕ) (x y : Image) (ready : IsReady g x)
-    (others : (k : ℕ) → k ≢ head_place g → sector_at y k ≡ sector_at x k) (area : Holds x (area_place geometry g) geometry.area_sectors bytes) where
+module _ (geometry : Geometry) (g version : ℕ) (bytes : List ℕ) (x y : Image) (ready : IsReadyForHead g x)
+    (others : (k : ℕ) → k ≢ head_place g → sector_at y k ≡ sector_at x k) (area : SectorsHold x (area_place geometry g) geometry.area_sectors bytes) where
   areas_same : (n : ℕ) → bytes_from y (area_place geometry n) geometry.area_sectors ≡ bytes_from x (area_place geometry n) geometry.area_sectors
   areas_same n = bytes_same x y (area_place geometry n) geometry.area_sectors (λ k from below. others k (omega (arith, from)))
 

@@ -1,12 +1,12 @@
 -- An image shows one newest snapshot at most.
 use Rattle.std.proofs.Common.{◌≡◌, ℕ, List, length, take, sym, ap, ◌∙◌}
-use Rattle.sector_disk.specs.Image.{Image, sector_at}
+use Rattle.sector_disk.specs.rules.Image.{Image, sector_at}
 use Rattle.disk_layout.specs.declared.geometry.Geometry.{Geometry}
 use Rattle.disk_layout.specs.declared.head.Head.{Head}
-use Rattle.disk_layout.specs.Places.{head_place, area_place}
-use Rattle.disk_layout.specs.Sectors.{bytes_from, head_of, IsNewest, HoldsImage}
-use Rattle.snapshot.specs.Newest.{IsDamaged}
-use Rattle.snapshot.specs.Laws.{ShowsOne}
+use Rattle.disk_layout.specs.rules.Places.{head_place, area_place}
+use Rattle.disk_layout.specs.rules.Sectors.{bytes_from, head_of, IsNewest, HoldsImage}
+use Rattle.snapshot.specs.rules.Newest.{IsDamaged}
+use Rattle.snapshot.specs.laws.Laws.{ImageShowsOne}
 use Rattle.snapshot.proofs.AreaLemmas.{none_at, one_newest}
 
 one_head : (x : Image) (a b : ℕ) (h k : Head) → IsNewest x a h → IsNewest x b k → h ≡ k
@@ -34,7 +34,7 @@ not_damaged geometry x g v a one d =
       area = ap (λ (k : Head). take (length a) (bytes_from x (area_place geometry k.generation) geometry.area_sectors)) head ∙ one.area;
     })
 
-pub shows_one : ShowsOne
+pub shows_one : ImageShowsOne
 shows_one = record {
   same = same_image;
   some = λ geometry x g v a one none. let n = one.newest in none_at x none g n.complete;

@@ -5,12 +5,12 @@ use Rattle.std.proofs.lemmas.List.{length-take, take-append-le}
 use Rattle.std.proofs.Math.ListN.{get_or-eq_default}
 use Rattle.std.specs.Result.{IsErrAnd}
 use Rattle.sha2.specs.Sha256.{sha256}
-use Rattle.sector_disk.specs.Image.{Image, sector_at, IsImage}
+use Rattle.sector_disk.specs.rules.Image.{Image, sector_at, IsImage}
 use Rattle.disk_layout.specs.declared.geometry.Geometry.{Geometry}
 use Rattle.disk_layout.specs.declared.head.Head.{Head}
-use Rattle.disk_layout.specs.Places.{area_place}
-use Rattle.disk_layout.specs.Sectors.{bytes_from, IsNewest, HoldsImage}
-use Rattle.snapshot.specs.Newest.{Names, ReadsImage, Finds}
+use Rattle.disk_layout.specs.rules.Places.{area_place}
+use Rattle.disk_layout.specs.rules.Sectors.{bytes_from, IsNewest, HoldsImage}
+use Rattle.snapshot.specs.rules.Newest.{NamesBytes, ReadsImage, FindsNewest}
 use Rattle.snapshot.specs.declared.fault.SnapshotFault.{SnapshotFault}
 use Rattle.snapshot.specs.declared.fault.SnapshotFault.TheVariants.{TooBig, Damaged, Disk, Memory, Failed}
 
@@ -50,20 +50,20 @@ front_within bytes all e =
 
 -- ---- what a head names
 
-pub names_within : (sectors : ℕ) (geometry : Geometry) (image : Image) (h : Head) (bytes : List ℕ) → IsImage sectors image → Names geometry image h bytes → h.length_in_bytes ≤ 512 * geometry.area_sectors
+pub names_within : (sectors : ℕ) (geometry : Geometry) (image : Image) (h : Head) (bytes : List ℕ) → IsImage sectors image → NamesBytes geometry image h bytes → h.length_in_bytes ≤ 512 * geometry.area_sectors
 names_within sectors geometry image h bytes is names =
     let w = front_within bytes (bytes_from image (area_place geometry h.generation) geometry.area_sectors) names.area in
     let m = bytes_at_most sectors image is (area_place geometry h.generation) geometry.area_sectors in
     omega (arith, w, m, names.len)
 
-pub names_only : (geometry : Geometry) (image : Image) (h : Head) (bytes found : List ℕ) → found ≡ take h.length_in_bytes (bytes_from image (area_place geometry h.generation) geometry.area_sectors) → Names geometry image h bytes
+pub names_only : (geometry : Geometry) (image : Image) (h : Head) (bytes found : List ℕ) → found ≡ take h.length_in_bytes (bytes_from image (area_place geometry h.generation) geometry.area_sectors) → NamesBytes geometry image h bytes
     → h.digest ≡ sha256 found
 names_only geometry image h bytes found is names =
     let same = names.area in
     names.digest ∙ ap (λ (l : List ℕ). sha256 l) (sym (is ∙ ap (λ (n : ℕ). take n (bytes_from image (area_place geometry h.generation) geometry.area_sectors)) names.len ∙ same))
 
 pub is_named : (geometry : Geometry) (image : Image) (h : Head) (found : List ℕ) → length found ≡ h.length_in_bytes → found ≡ take h.length_in_bytes (bytes_from image (area_place geometry h.generation) geometry.area_sectors)
-    → h.digest ≡ sha256 found → Names geometry image h found
+    → h.digest ≡ sha256 found → NamesBytes geometry image h found
 is_named geometry image h found len is digest = record {
   len = sym len;
   digest = digest;
@@ -71,14 +71,14 @@ is_named geometry image h found len is digest = record {
 }
 
 -- the newest head and what it names
-pub named_holds : (geometry : Geometry) (image : Image) (h : Head) (bytes : List ℕ) → IsNewest image h.generation h → Names geometry image h bytes → HoldsImage geometry image h.generation h.version bytes
+pub named_holds : (geometry : Geometry) (image : Image) (h : Head) (bytes : List ℕ) → IsNewest image h.generation h → NamesBytes geometry image h bytes → HoldsImage geometry image h.generation h.version bytes
 named_holds geometry image h bytes newest names =
     let len = names.len in
     let digest = names.digest in
     let is : h ≡ record { version = h.version; length_in_bytes = length bytes; digest = sha256 bytes; generation = h.generation } = λ j. record { version = h.version; length_in_bytes = len j; digest = digest j; generation = h.generation } in
     record { newest = subst (λ (k : Head). IsNewest image h.generation k) is newest; area = names.area }
 
-pub fault_found : (geometry : Geometry) (image : Image) (h : Head) (fault : SnapshotFault) → IsNewest image h.generation h → ReadsImage geometry image h (Err fault) → Finds geometry image (Err fault)
+pub fault_found : (geometry : Geometry) (image : Image) (h : Head) (fault : SnapshotFault) → IsNewest image h.generation h → ReadsImage geometry image h (Err fault) → FindsNewest geometry image (Err fault)
 fault_found geometry image h TooBig newest reads = reads
 fault_found geometry image h Damaged newest reads = record { generation = h.generation; head = h; newest = newest; other = reads }
 fault_found geometry image h (Disk fault) newest reads = tt

@@ -1,20 +1,21 @@
 -- The calls of a commit, one after another.
 use Rattle.std.proofs.Common.{ℕ, List, [], ◌++◌, take, ap, ◌∙◌, arith}
-use Rattle.sector_disk.specs.Medium.{Medium, After, Follows, LeavesOnly}
+use Rattle.sector_disk.specs.rules.Medium.{Medium, After, Follows, LeavesOnly}
 use Rattle.disk_layout.specs.declared.geometry.Geometry.{Geometry}
-use Rattle.disk_layout.specs.Places.{area_place}
-use Rattle.disk_layout.specs.Sectors.{bytes_from}
-use Rattle.snapshot.specs.Steps.{Fills, Commits, Replaces}
+use Rattle.disk_layout.specs.rules.Places.{area_place}
+use Rattle.disk_layout.specs.rules.Sectors.{bytes_from}
+use Rattle.snapshot.specs.rules.Steps.{Fills, Commits, Replaces}
 use Rattle.snapshot.specs.declared.snapshots.State.{State}
 use Rattle.snapshot.specs.declared.snapshots.State.TheVariants as state
 use Rattle.snapshot.specs.declared.snapshots.Snapshots.{Snapshots}
-use Rattle.snapshot.specs.Snapshots.{begun_in, given_in, IsBegun, HasPushed}
+use Rattle.snapshot.specs.Snapshots.{begun_in, IsGivenIn, IsBegun, HasPushed}
 use Rattle.snapshot.proofs.AreaLemmas.{fills_none, fills_commits, then_commits, then_replaces}
-use Rattle.snapshot.proofs.StoreLemmas.{leaves_then, leaves_weaker, leaves_now}
+use Rattle.snapshot.proofs.StoreLemmas.{leaves_then, leaves_now}
 use Rattle.snapshot.proofs.WriterLemmas.{none_fills}
+use Rattle.sector_disk.proofs.Moments.{leaves_weaker}
 
 -- of an image that is begun, no byte was pushed, whatever the disk shows
-begun_given : (geometry : Geometry) (m : Medium) (g v : ℕ) (t : State) → begun_in g v t → given_in geometry m t []
+begun_given : (geometry : Geometry) (m : Medium) (g v : ℕ) (t : State) → begun_in g v t → IsGivenIn geometry m t []
 begun_given geometry m g v (state.Begun w) is = record {
   hashed = is.hashed;
   count = let s = is.sectors in let f = is.filled in omega (arith, s, f);

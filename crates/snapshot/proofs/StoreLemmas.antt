@@ -1,18 +1,15 @@
 -- Calls on a disk that follow one another.
 use Rattle.std.proofs.Common.{◌≡◌, ◌⊎◌, ℕ, List, [], sym, ap, ◌∙◌, inl, inr, ⊎_elim}
 use Rattle.std.proofs.lemmas.List.{set-get_or}
-use Rattle.sector_disk.specs.Image.{Image, with_sector, IsTorn, IsWritten}
-use Rattle.sector_disk.specs.Medium.{Medium, Tears, After, Follows, BothFollow, Passes, LeavesOnly, Stays, IsSettled, Holds}
-use Rattle.sector_disk.proofs.Moments.{goes_on, weaker, leaves_only, stays_leaves_only, torn_none, shows_follow, stays_left, stays_shows, left_follow, settled_only}
+use Rattle.sector_disk.specs.rules.Image.{Image, with_sector, IsTorn, IsWritten}
+use Rattle.sector_disk.specs.rules.Medium.{Medium, Tears, After, Follows, BothFollow, Passes, LeavesOnly, Stays, IsAllSynced, Holds}
+use Rattle.sector_disk.proofs.Moments.{goes_on, weaker, leaves_only, stays_leaves_only, torn_none, shows_follow, stays_left, stays_shows, left_follow, settled_only, leaves_weaker}
 
 -- one run of calls, and then another
 pub leaves_then : (old mid new : Medium) (P Q R : Image → Type 0) → LeavesOnly old mid P → LeavesOnly mid new Q → ((image : Image) → P image → R image) → ((image : Image) → Q image → R image) → ((image : Image) → old.may_leave image → R image)
     → LeavesOnly old new R
 leaves_then old mid new P Q R one two from_one from_two from_old =
     leaves_only old new R (goes_on old mid new R Q (weaker old mid P R one.passes from_one) two.passes from_two) from_old
-
-pub leaves_weaker : (old new : Medium) (P R : Image → Type 0) → LeavesOnly old new P → ((image : Image) → P image → R image) → LeavesOnly old new R
-leaves_weaker old new P R one here = record { each = λ image left. here image (one.each image left); passes = weaker old new P R one.passes here }
 
 -- what a cut may leave at the end is one of what it leaves at some moment
 pub leaves_now : (old new : Medium) (P : Image → Type 0) → LeavesOnly old new P → (image : Image) → new.may_leave image → P image
@@ -51,7 +48,7 @@ module _ (k : ℕ) (bytes : List ℕ) (old mid : Medium) (stays : Stays old mid)
 
 -- ---- a sector that is written on a settled disk, and then a sync
 
-module _ (k : ℕ) (bytes : List ℕ) (old new : Medium) (settled : IsSettled old) (tears : Tears k bytes old new) (passes : Passes old new new.may_leave) where
+module _ (k : ℕ) (bytes : List ℕ) (old new : Medium) (settled : IsAllSynced old) (tears : Tears k bytes old new) (passes : Passes old new new.may_leave) where
   torn_shown : (image : Image) → new.may_leave image → old.may_leave image ⊎ After (IsTorn k bytes) old.shows image
   torn_shown image left =
       let was = left_follow old new _ _ tears.both image left in
@@ -68,7 +65,7 @@ module _ (k : ℕ) (bytes : List ℕ) (old new : Medium) (settled : IsSettled ol
       (goes_on old new last (λ image. old.may_leave image ⊎ After (IsTorn k bytes) old.shows image) last.may_leave (let s = settled_write in s.passes) more (λ image left. torn_shown image (stays_left new last stays image left)))
       (λ image left. inl left)
 
-  pub written_left : (last : Medium) → BothFollow (IsWritten k bytes) (IsTorn k bytes) old new → Stays new last → IsSettled last → Follows (IsWritten k bytes) old.shows last.may_leave
+  pub written_left : (last : Medium) → BothFollow (IsWritten k bytes) (IsTorn k bytes) old new → Stays new last → IsAllSynced last → Follows (IsWritten k bytes) old.shows last.may_leave
   written_left last whole stays done = λ image left. shows_follow old new _ _ whole image (stays_shows new last stays image (settled_only last done image left))
 
 -- ---- a sync before that

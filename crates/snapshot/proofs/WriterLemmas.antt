@@ -5,32 +5,32 @@ use Rattle.std.proofs.lemmas.List.{length-set, length-take-le, length-drop}
 use Rattle.std.specs.List.{AllByRecursion}
 use Rattle.sha2.specs.Sha256.{sha256}
 use Rattle.sha2.proofs.Facts256.{length-sha256}
-use Rattle.guest_memory.specs.Bytes.{IsByte, number_of, with_part}
-use Rattle.wasi_abi.specs.Layouts.{padding}
-use Rattle.sector_disk.specs.Image.{Image, sector_at, front_over, IsImage, IsTorn, IsWritten}
-use Rattle.sector_disk.specs.Medium.{Medium, After, Follows, BothFollow, LeavesOnly}
-use Rattle.sector_disk.specs.FrontLaws.{sector-with_sector, sector-with_other}
-use Rattle.sector_disk.proofs.Moments.{started, leaves_only, shows_follow, shows_left}
+use Rattle.guest_memory.specs.rules.Bytes.{IsByte, number_of, with_part}
+use Rattle.wasi_abi.specs.rules.Layouts.{padding}
+use Rattle.sector_disk.specs.rules.Image.{Image, sector_at, front_over, IsImage, IsTorn, IsWritten}
+use Rattle.sector_disk.specs.rules.Medium.{Medium, After, Follows, BothFollow, LeavesOnly}
+use Rattle.sector_disk.specs.laws.Fronts.{sector-with_sector, sector-with_other}
+use Rattle.sector_disk.proofs.Moments.{started, leaves_only, shows_follow, shows_left, leaves_weaker}
 use Rattle.disk_layout.specs.declared.geometry.Geometry.{Geometry}
 use Rattle.disk_layout.specs.declared.head.Head.{Head}
-use Rattle.disk_layout.specs.Places.{head_place, area_place}
-use Rattle.disk_layout.specs.Sectors.{bytes_from, head_bytes, stamp_of, stamp_bytes, shown_generation, Holds}
-use Rattle.disk_layout.specs.Laws.{HeadFits}
+use Rattle.disk_layout.specs.rules.Places.{head_place, area_place}
+use Rattle.disk_layout.specs.rules.Sectors.{bytes_from, head_bytes, stamp_of, stamp_bytes, shown_generation, SectorsHold}
+use Rattle.disk_layout.specs.laws.Laws.{HeadFits}
 use Rattle.disk_layout.proofs.ReadLemmas.{bytes_from-more}
 use Rattle.disk_layout.proofs.StampLemmas.{all_drop, shows_earlier, shows_there}
-use Rattle.disk_layout.proofs.FieldLemmas.{head_again}
-use Rattle.snapshot.specs.Steps.{IsElsewhere, Fills, Commits, Replaces}
+use Rattle.disk_layout.proofs.FieldLemmas.{head_again, drop_over}
+use Rattle.snapshot.specs.rules.Steps.{IsOutsideArea, Fills, Commits, Replaces}
 use Rattle.snapshot.proofs.AreaLemmas.{bytes_same, fills, fills_none, fills_then, fills_commits, then_commits, then_replaces}
 use Rattle.snapshot.proofs.HeadLemmas.{new_head, old_head, shown_within}
 use Rattle.snapshot.proofs.ReadLemmas.{front_of_more}
 use Rattle.snapshot.proofs.ByteLemmas.{all_digest, all_head, length-head}
-use Rattle.snapshot.proofs.StoreLemmas.{leaves_then, leaves_weaker, leaves_now}
+use Rattle.snapshot.proofs.StoreLemmas.{leaves_then, leaves_now}
 
 -- ---- the area alone
 
 pub torn_fills : (geometry : Geometry) (g k : ℕ) (bytes : List ℕ) (old new : Image) → area_place geometry g ≤ k → k < area_place geometry g + geometry.area_sectors → IsTorn k bytes old new → Fills geometry g old new
 torn_fills geometry g k bytes old new from below torn =
-    let apart : (n : ℕ) → IsElsewhere geometry g n → n ≢ k = λ n out e. ⊎_elim (λ (lt : n < area_place geometry g). omega (arith, lt, e, from)) (λ (ge : area_place geometry g + geometry.area_sectors ≤ n). omega (arith, ge, e, below)) out in
+    let apart : (n : ℕ) → IsOutsideArea geometry g n → n ≢ k = λ n out e. ⊎_elim (λ (lt : n < area_place geometry g). omega (arith, lt, e, from)) (λ (ge : area_place geometry g + geometry.area_sectors ≤ n). omega (arith, ge, e, below)) out in
     fills geometry g old new
     (ap (λ (i : Image). length i) torn.is ∙ length-set old k _)
     (λ n out. ap (λ (i : Image). sector_at i n) torn.is ∙ sector-with_other old n k _ (apart n out))
@@ -87,15 +87,12 @@ stored_more place n front chunk stored before old new inside is whole held image
     ∙ ap (λ (l : List ℕ). l ++ chunk) (held was.0 was.1)
 
 -- the image's bytes are the front of the area, whatever stands behind them
-pub area_holds : (image : Image) (place n count : ℕ) (bytes rest : List ℕ) → n ≤ count → bytes_from image place n ≡ bytes ++ rest → Holds image place count bytes
+pub area_holds : (image : Image) (place n count : ℕ) (bytes rest : List ℕ) → n ≤ count → bytes_from image place n ≡ bytes ++ rest → SectorsHold image place count bytes
 area_holds image place n count bytes rest le is =
     let long : length bytes ≤ length (bytes_from image place n) = let e = ap (λ (l : List ℕ). length l) is ∙ length-append bytes rest in omega (arith, e) in
     sym (front_of_more image place n count (length bytes) le long) ∙ ap (λ (l : List ℕ). take (length bytes) l) is ∙ take-append_seam bytes rest
 
 -- ---- a head
-
-drop_over : (d rest : List ℕ) (n k : ℕ) → length d ≡ n → drop (n + k) (d ++ rest) ≡ drop k rest
-drop_over d rest n k e = ap (λ m. drop (m + k) (d ++ rest)) (sym e) ∙ drop-append-add d rest k
 
 pub record IsHead (h : Head) : Type 0 where
   pub fits : HeadFits h
@@ -125,7 +122,7 @@ module _ (geometry : Geometry) (h : Head) (bytes : List ℕ) (is : IsHead h) (le
   is-whole : h ≡ record { version = h.version; length_in_bytes = length bytes; digest = sha256 bytes; generation = h.generation }
   is-whole = λ j. record { version = h.version; length_in_bytes = len j; digest = digest j; generation = h.generation }
 
-  module _ (x y : Image) (sectors : ℕ) (image : IsImage sectors x) (inside : 3 ≤ sectors) (area : Holds x (area_place geometry h.generation) geometry.area_sectors bytes) where
+  module _ (x y : Image) (sectors : ℕ) (image : IsImage sectors x) (inside : 3 ≤ sectors) (area : SectorsHold x (area_place geometry h.generation) geometry.area_sectors bytes) where
     in_image : head_place h.generation < length x
     in_image = let c = image.count in omega (arith, c, inside)
 
@@ -176,7 +173,7 @@ module _ (geometry : Geometry) (h : Head) (bytes : List ℕ) (is : IsHead h) (le
   -- ---- a head behind a settled area
 
   module _ (old mid new : Medium) (inside : 3 ≤ mid.sectors) (one : LeavesOnly old mid (After (Fills geometry h.generation) old.may_leave))
-      (holds : (image : Image) → mid.shows image → Holds image (area_place geometry h.generation) geometry.area_sectors bytes) where
+      (holds : (image : Image) → mid.shows image → SectorsHold image (area_place geometry h.generation) geometry.area_sectors bytes) where
     fills_left : (image : Image) → old.may_leave image → After (Commits geometry h.generation h.version bytes) old.may_leave image
     fills_left image left = (image, left, fills_commits geometry h.generation h.version bytes image image (fills_none geometry h.generation image))
 

@@ -1,7 +1,5 @@
-pub mod Heads
-pub mod Newest
-pub mod Steps
 pub mod Store
-pub mod Laws
 pub mod Writing
 pub mod Snapshots
+pub mod laws
+pub mod rules

@@ -1,11 +1,11 @@
 -- A sector that is stored, and one that is written behind a sync (this project's own).
 use Rattle.std.specs.Prelude.{◌≡◌, ◌⊎◌, ℕ, ◌+◌, ◌<◌, ◌≤◌, List, Result, OnOk, IsErr}
-use Rattle.sector_disk.specs.Image.{Image, IsTorn, IsWritten}
-use Rattle.sector_disk.specs.Medium.{Medium, After, Follows, BothFollow, LeavesOnly, IsSettled, Holds, spare}
+use Rattle.sector_disk.specs.rules.Image.{Image, IsTorn, IsWritten}
+use Rattle.sector_disk.specs.rules.Medium.{Medium, After, Follows, BothFollow, LeavesOnly, IsAllSynced, Holds, spare}
 use Rattle.sector_disk.specs.declared.fault.DiskFault.{DiskFault}
 
 -- Sector k has these bytes afterwards. It is written where reads give others, and then a cut may leave some front of it.
-pub record Stores {T : Type 0} (k : ℕ) (bytes : List ℕ) (result : Result T DiskFault) (old new : Medium) : Type 0 where
+pub record StoresSector {T : Type 0} (k : ℕ) (bytes : List ℕ) (result : Result T DiskFault) (old new : Medium) : Type 0 where
   pub whole : OnOk result (BothFollow (IsWritten k bytes) (IsTorn k bytes) old new)
   pub any_moment : LeavesOnly old new (After (IsTorn k bytes) old.may_leave)
   -- where reads gave these bytes, nothing is written
@@ -15,8 +15,8 @@ pub record Stores {T : Type 0} (k : ℕ) (bytes : List ℕ) (result : Result T D
 
 -- Sector k is written once all that was written before is settled. A cut leaves what it may have left before, or some front of
 -- the sector over what reads gave.
-pub record Settles {T : Type 0} (k : ℕ) (bytes : List ℕ) (result : Result T DiskFault) (old new : Medium) : Type 0 where
+pub record SettlesSector {T : Type 0} (k : ℕ) (bytes : List ℕ) (result : Result T DiskFault) (old new : Medium) : Type 0 where
   pub written : OnOk result (Follows (IsWritten k bytes) old.shows new.may_leave)
-  pub settled : OnOk result (IsSettled new)
+  pub settled : OnOk result (IsAllSynced new)
   pub any_moment : LeavesOnly old new (λ image. old.may_leave image ⊎ After (IsTorn k bytes) old.shows image)
   pub cause : IsErr result → (old.room ≡ 0) ⊎ (old.faults < new.faults)

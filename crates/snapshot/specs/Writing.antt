@@ -1,11 +1,11 @@
 -- An image that is being written into its area (this project's own).
 use Rattle.std.specs.Prelude.{◌≡◌, ℕ, ◌+◌, ◌*◌, List, [], ◌++◌, length, take}
 use Rattle.sha2.specs.Hashers.{Holds256}
-use Rattle.sector_disk.specs.Image.{Image}
-use Rattle.sector_disk.specs.Medium.{Medium}
+use Rattle.sector_disk.specs.rules.Image.{Image}
+use Rattle.sector_disk.specs.rules.Medium.{Medium}
 use Rattle.disk_layout.specs.declared.geometry.Geometry.{Geometry}
-use Rattle.disk_layout.specs.Places.{area_place}
-use Rattle.disk_layout.specs.Sectors.{bytes_from}
+use Rattle.disk_layout.specs.rules.Places.{area_place}
+use Rattle.disk_layout.specs.rules.Sectors.{bytes_from}
 use Rattle.snapshot.specs.declared.writer.AreaWriter.{AreaWriter}
 
 -- how many bytes it was given

@@ -1,7 +1,7 @@
 // Bytes at a place of a sector.
 ghost use Rattle.std.specs.Prelude.{◌≡◌, ◌+◌, ◌≤◌, length, replicate};
-ghost use Rattle.guest_memory.specs.Bytes.{with_part};
-ghost use Rattle.sector_disk.specs.Image.{front_over};
+ghost use Rattle.guest_memory.specs.rules.Bytes.{with_part};
+ghost use Rattle.sector_disk.specs.rules.Image.{front_over};
 
 /// Puts bytes at a place of a sector.
 pub(crate) fn put(sector: &mut [u8; 512], at: usize, bytes: &[u8])
@@ -13,7 +13,7 @@ pub(crate) fn put(sector: &mut [u8; 512], at: usize, bytes: &[u8])
 }
 
 /// A front of a sector, and zeros behind it.
-pub(crate) fn padded(sector: &[u8; 512], front: usize) -> [u8; 512]
+pub(crate) fn pad(sector: &[u8; 512], front: usize) -> [u8; 512]
     requires { front ≤ 512 }
     ensures { result ≡ front_over front sector.now (replicate 512 0) }
 {

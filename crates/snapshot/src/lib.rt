@@ -1,5 +1,34 @@
-//! Images in two areas in turn, each under a head that is written once the image is settled: the newest one,
-//! and how the next one is written sector by sector.
+//! Images of a worker in two areas in turn (this project's own). Each has a head, which is written
+//! once the image is settled. The newest image is read here, and the next one is written.
+//!
+//! # Promises
+//!
+//! - `newest_head`, `image_of`, `newest`: what the two heads and the areas of the disk say
+//!   (`finds`). An image is given only under the digest that its head names (`image`). They only
+//!   read (`reads`).
+//! - `begin`, `push`, `finish` write an image piece by piece, and `commit` is all three. A cut at
+//!   any moment leaves the newest image that there was, or from `finish` on this one. No sector
+//!   but those of its area and its head is changed (`any_moment`). After Ok of `finish` or
+//!   `commit` only this one is left (`done`).
+//! - What is said of the newest image holds where that was of the generation before, or, before
+//!   the first, where there was none (`IsReadyForHead`).
+//! - `TooBig` comes exactly for a generation from 2^63 on, and for an image longer than its area
+//!   (`too_big`). The disk is left alone then (`untouched`). `Disk` comes only where the disk
+//!   failed, or had no room for the writes (`cause`).
+//! - After an error each call answers `Failed`, and leaves the disk alone (`fails`, `untouched`).
+//! - `laws::newest_is_one`: a disk shows no head, a damaged image, or one newest image.
+//!
+//! # Definitions to read
+//!
+//! In `specs/rules/`: `FindsHead`, `IsReadyForHead` (`Heads.antt`); `FindsNewest`, `ReadsImage`,
+//! `IsDamaged` (`Newest.antt`); `Fills`, `Commits`, `Replaces` (`Steps.antt`). Contracts also cite
+//! `IsBegun`, `HasPushed`, `StaysFailed` (`specs/Snapshots.antt`). Of `disk_layout`: `HoldsImage`.
+//!
+//! # Who may touch what
+//!
+//! Only this crate knows an image that is in the middle of being written. It is handed the disk at
+//! each call. It stands on `disk_layout`, `sector_disk` and `block_lanes`; no crate uses it yet.
+//! Reading an image takes memory (`S4 Memory`), and writing one takes none.
 #![tactic(auto)]
 
 mod bytes;
@@ -8,8 +37,6 @@ pub mod laws;
 mod newest;
 mod snapshots;
 mod store;
-#[cfg(test)]
-mod tests;
 mod writer;
 
 pub use fault::SnapshotFault;

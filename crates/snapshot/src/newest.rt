@@ -1,12 +1,12 @@
 // The newest complete head of a disk, and the image that it names.
 ghost use Rattle.std.specs.Prelude.{◌≡◌, ◌+◌, ◌*◌, ◌<◌, ◌≤◌, ◌↔◌, ◌⊎◌, ◌^◌, ℕ, IfOk, IfErr, IsTrue, length, take};
 ghost use Rattle.sha2.specs.Sha256.{sha256};
-ghost use Rattle.sector_disk.specs.Image.{Image, sector_at};
-ghost use Rattle.disk_layout.specs.Places.{journal_place};
-ghost use Rattle.disk_layout.specs.Sectors.{bytes_from};
-ghost use Rattle.disk_layout.specs.Stored.{OnlyReads};
-ghost use Rattle.snapshot.specs.Heads.{HeadIn, FindsHead};
-ghost use Rattle.snapshot.specs.Newest.{ReadsImage};
+ghost use Rattle.sector_disk.specs.rules.Image.{Image, sector_at};
+ghost use Rattle.disk_layout.specs.rules.Places.{journal_place};
+ghost use Rattle.disk_layout.specs.rules.Sectors.{bytes_from};
+ghost use Rattle.disk_layout.specs.rules.Stored.{OnlyReads};
+ghost use Rattle.snapshot.specs.rules.Heads.{HeadIn, FindsHead};
+ghost use Rattle.snapshot.specs.rules.Newest.{ReadsImage};
 
 use crate::fault::SnapshotFault;
 use disk_layout::{Geometry, Head};
@@ -33,7 +33,7 @@ pub(crate) fn newest_head<D: Disk>(disk: &mut D) -> Result<Option<Head>, DiskFau
     disk.read(1, &mut first)?;
     let mut second = [0; 512];
     disk.read(2, &mut second)?;
-    Ok(newer(head_in(0, &first), head_in(1, &second)))
+    Ok(newer_head(head_in(0, &first), head_in(1, &second)))
 }
 
 /// The head of this area, 0 or 1, if its sector is a complete one.
@@ -47,7 +47,7 @@ fn head_in(area: u64, sector: &[u8; 512]) -> Option<Head>
     }
 }
 
-fn newer(first: Option<Head>, second: Option<Head>) -> Option<Head>
+fn newer_head(first: Option<Head>, second: Option<Head>) -> Option<Head>
     ensures { (image : Image) → HeadIn 0 (sector_at image 1) first → HeadIn 1 (sector_at image 2) second → FindsHead image result }
 {
     let Some(head) = first else {

@@ -30,15 +30,15 @@ pub struct Snapshots {
 
 impl Snapshots {
     ghost use Rattle.std.specs.Prelude.{◌+◌, ◌*◌, ◌^◌, ◌++◌, ◌↔◌, false, ℕ, List, length, ◌≡◌, ◌≤◌, ◌<◌, ◌⊎◌, IsTrue, OnOk, IfOk, IsErr};
-    ghost use Rattle.sector_disk.specs.Image.{Image};
-    ghost use Rattle.sector_disk.specs.Medium.{LeavesOnly, After, Follows, IsSettled, spare};
+    ghost use Rattle.sector_disk.specs.rules.Image.{Image};
+    ghost use Rattle.sector_disk.specs.rules.Medium.{LeavesOnly, After, Follows, IsAllSynced, spare};
     ghost use Rattle.sector_disk.specs.declared.fault.DiskFault.{DiskFault};
-    ghost use Rattle.disk_layout.specs.Places.{journal_place};
-    ghost use Rattle.disk_layout.specs.Stored.{OnlyReads};
-    ghost use Rattle.snapshot.specs.Heads.{FindsHead};
-    ghost use Rattle.snapshot.specs.Newest.{ReadsImage, Finds};
-    ghost use Rattle.snapshot.specs.Steps.{Fills, Commits, Replaces};
-    ghost use Rattle.snapshot.specs.Snapshots.{is_idle, is_failed, generation_of, version_of, length_of, sectors_of, IsSameImage, IsBegun, HasPushed, Fails};
+    ghost use Rattle.disk_layout.specs.rules.Places.{journal_place};
+    ghost use Rattle.disk_layout.specs.rules.Stored.{OnlyReads};
+    ghost use Rattle.snapshot.specs.rules.Heads.{FindsHead};
+    ghost use Rattle.snapshot.specs.rules.Newest.{ReadsImage, FindsNewest};
+    ghost use Rattle.snapshot.specs.rules.Steps.{Fills, Commits, Replaces};
+    ghost use Rattle.snapshot.specs.Snapshots.{is_idle, is_failed, generation_of, version_of, length_of, sectors_of, IsSameImage, IsBegun, HasPushed, StaysFailed};
 
     pub fn new() -> Snapshots
         ensures idle { IsTrue (is_idle result) }
@@ -52,7 +52,7 @@ impl Snapshots {
         ensures reads { OnlyReads (D.medium disk.old) (D.medium disk.new) }
         ensures finds { IfOk result (λ head. (image : Image) → (D.medium disk.new).shows image → FindsHead image head) }
         ensures same { OnOk result (self.new ≡ self.old) }
-        ensures fails { Fails result self.old self.new }
+        ensures fails { StaysFailed result self.old self.new }
         ensures untouched { IsTrue (is_failed self.old) → disk.new ≡ disk.old }
         ensures cause { IsErr result → IsTrue (is_failed self.old) ⊎ ((fault : DiskFault) × (result ≡ Err (SnapshotFault.Disk fault)) × ((D.medium disk.old).faults < (D.medium disk.new).faults)) }
     {
@@ -82,7 +82,7 @@ impl Snapshots {
         ensures reads { OnlyReads (D.medium disk.old) (D.medium disk.new) }
         ensures image { (image : Image) → (D.medium disk.new).shows image → ReadsImage geometry.now image head.now result }
         ensures same { OnOk result (self.new ≡ self.old) }
-        ensures fails { Fails result self.old self.new }
+        ensures fails { StaysFailed result self.old self.new }
         ensures untouched { IsTrue (is_failed self.old) → disk.new ≡ disk.old }
         ensures cause { (fault : DiskFault) → result ≡ Err (SnapshotFault.Disk fault) → (D.medium disk.old).faults < (D.medium disk.new).faults }
     {
@@ -107,9 +107,9 @@ impl Snapshots {
     ) -> Result<Option<Snapshot>, SnapshotFault>
         requires { journal_place geometry.now ≤ (D.medium disk.old).sectors }
         ensures reads { OnlyReads (D.medium disk.old) (D.medium disk.new) }
-        ensures finds { (image : Image) → (D.medium disk.new).shows image → Finds geometry.now image result }
+        ensures finds { (image : Image) → (D.medium disk.new).shows image → FindsNewest geometry.now image result }
         ensures same { OnOk result (self.new ≡ self.old) }
-        ensures fails { Fails result self.old self.new }
+        ensures fails { StaysFailed result self.old self.new }
         ensures untouched { IsTrue (is_failed self.old) → disk.new ≡ disk.old }
         ensures cause { (fault : DiskFault) → result ≡ Err (SnapshotFault.Disk fault) → (D.medium disk.old).faults < (D.medium disk.new).faults }
     {
@@ -129,7 +129,7 @@ impl Snapshots {
     pub fn begin(&mut self, generation: u64, version: u32) -> Result<(), SnapshotFault>
         ensures begun { OnOk result (IsBegun generation version self.new) }
         ensures too_big { (result ≡ Err SnapshotFault.TooBig) ↔ ((is_failed self.old ≡ false) × (2 ^ 63 ≤ generation)) }
-        ensures fails { Fails result self.old self.new }
+        ensures fails { StaysFailed result self.old self.new }
         ensures cause { IsErr result → IsTrue (is_failed self.old) ⊎ (result ≡ Err SnapshotFault.TooBig) }
     {
         if self.is_failed() {
@@ -165,7 +165,7 @@ impl Snapshots {
 
         ensures too_big { (result ≡ Err SnapshotFault.TooBig) ↔ ((is_failed self.old ≡ false) × (512 * geometry.now.area_sectors < length_of self.old + length bytes.now)) }
         ensures untouched { IsTrue (is_failed self.old) ⊎ (result ≡ Err SnapshotFault.TooBig) → disk.new ≡ disk.old }
-        ensures fails { Fails result self.old self.new }
+        ensures fails { StaysFailed result self.old self.new }
         ensures cause { IsErr result → IsTrue (is_failed self.old) ⊎ (result ≡ Err SnapshotFault.TooBig) ⊎ ((fault : DiskFault) × (result ≡ Err (SnapshotFault.Disk fault)) × ((spare (D.medium disk.old) + sectors_of self.old < geometry.now.area_sectors) ⊎ ((D.medium disk.old).faults < (D.medium disk.new).faults))) }
     {
         let State::Begun(mut writer) = mem::replace(&mut self.state, State::Failed) else {
@@ -193,11 +193,11 @@ impl Snapshots {
         // Once it has answered Ok, each cut leaves this one.
         ensures done { OnOk result ((bytes : List ℕ) → HasPushed geometry.now (D.medium disk.old) self.old bytes →
             Follows (Replaces geometry.now (generation_of self.old) (version_of self.old) bytes) (D.medium disk.old).may_leave (D.medium disk.new).may_leave) }
-        ensures settled { OnOk result (IsSettled (D.medium disk.new)) }
+        ensures settled { OnOk result (IsAllSynced (D.medium disk.new)) }
         ensures idle { OnOk result (IsTrue (is_idle self.new)) }
 
         ensures untouched { IsTrue (is_failed self.old) → disk.new ≡ disk.old }
-        ensures fails { Fails result self.old self.new }
+        ensures fails { StaysFailed result self.old self.new }
         ensures cause { IsErr result → IsTrue (is_failed self.old) ⊎ ((fault : DiskFault) × (result ≡ Err (SnapshotFault.Disk fault)) × ((spare (D.medium disk.old) + sectors_of self.old < geometry.now.area_sectors) ⊎ ((D.medium disk.old).room ≡ 0) ⊎ ((D.medium disk.old).faults < (D.medium disk.new).faults))) }
     {
         let State::Begun(writer) = mem::replace(&mut self.state, State::Failed) else {
@@ -224,12 +224,12 @@ impl Snapshots {
 
         // Once it has answered Ok, each cut leaves this one.
         ensures done { OnOk result (Follows (Replaces geometry.now generation version image.now) (D.medium disk.old).may_leave (D.medium disk.new).may_leave) }
-        ensures settled { OnOk result (IsSettled (D.medium disk.new)) }
+        ensures settled { OnOk result (IsAllSynced (D.medium disk.new)) }
         ensures idle { OnOk result (IsTrue (is_idle self.new)) }
 
         ensures too_big { (result ≡ Err SnapshotFault.TooBig) ↔ ((is_failed self.old ≡ false) × ((2 ^ 63 ≤ generation) ⊎ (512 * geometry.now.area_sectors < length image.now))) }
         ensures untouched { IsTrue (is_failed self.old) ⊎ (result ≡ Err SnapshotFault.TooBig) → disk.new ≡ disk.old }
-        ensures fails { Fails result self.old self.new }
+        ensures fails { StaysFailed result self.old self.new }
         ensures cause { IsErr result → IsTrue (is_failed self.old) ⊎ (result ≡ Err SnapshotFault.TooBig) ⊎ ((fault : DiskFault) × (result ≡ Err (SnapshotFault.Disk fault)) × ((spare (D.medium disk.old) < geometry.now.area_sectors) ⊎ ((D.medium disk.old).room ≡ 0) ⊎ ((D.medium disk.old).faults < (D.medium disk.new).faults))) }
     {
         self.begin(generation, version)?;

@@ -1,7 +1,7 @@
 // Sectors that are stored where they differ, and one that is written behind a sync.
 ghost use Rattle.std.specs.Prelude.{◌<◌};
-ghost use Rattle.sector_disk.specs.Medium.{IsSettled, Syncs};
-ghost use Rattle.snapshot.specs.Store.{Stores, Settles};
+ghost use Rattle.sector_disk.specs.rules.Medium.{IsAllSynced, SyncsMedium};
+ghost use Rattle.snapshot.specs.Store.{StoresSector, SettlesSector};
 
 use block_lanes::same;
 use sector_disk::{Disk, DiskFault};
@@ -13,7 +13,7 @@ pub(crate) fn store_sector<D: Disk>(
     sector: &[u8; 512],
 ) -> Result<(), DiskFault>
     requires { at < (D.medium disk.old).sectors }
-    ensures { Stores at sector.now result (D.medium disk.old) (D.medium disk.new) }
+    ensures { StoresSector at sector.now result (D.medium disk.old) (D.medium disk.new) }
 {
     let mut held = [0; 512];
     disk.read(at, &mut held)?;
@@ -31,7 +31,7 @@ pub(crate) fn settle_sector<D: Disk>(
     sector: &[u8; 512],
 ) -> Result<(), DiskFault>
     requires { at < (D.medium disk.old).sectors }
-    ensures { Settles at sector.now result (D.medium disk.old) (D.medium disk.new) }
+    ensures { SettlesSector at sector.now result (D.medium disk.old) (D.medium disk.new) }
 {
     settle(disk)?;
     write_settled(disk, at, sector)
@@ -39,7 +39,7 @@ pub(crate) fn settle_sector<D: Disk>(
 
 /// Settles what was written.
 fn settle<D: Disk>(disk: &mut D) -> Result<(), DiskFault>
-    ensures { Syncs result (D.medium disk.old) (D.medium disk.new) }
+    ensures { SyncsMedium result (D.medium disk.old) (D.medium disk.new) }
 {
     disk.sync()
 }
@@ -47,8 +47,8 @@ fn settle<D: Disk>(disk: &mut D) -> Result<(), DiskFault>
 /// Writes a sector of a disk where all is settled, and syncs.
 fn write_settled<D: Disk>(disk: &mut D, at: u64, sector: &[u8; 512]) -> Result<(), DiskFault>
     requires inside { at < (D.medium disk.old).sectors }
-    requires settled { IsSettled (D.medium disk.old) }
-    ensures { Settles at sector.now result (D.medium disk.old) (D.medium disk.new) }
+    requires settled { IsAllSynced (D.medium disk.old) }
+    ensures { SettlesSector at sector.now result (D.medium disk.old) (D.medium disk.new) }
 {
     disk.write(at, sector)?;
     settle(disk)

@@ -1,7 +1,7 @@
 // An image that is being written into its area, sector by sector.
 ghost use Rattle.std.specs.Prelude.{◌≤◌, ◌<◌, ◌^◌};
 
-use crate::bytes::{padded, put};
+use crate::bytes::{pad, put};
 use crate::fault::SnapshotFault;
 use crate::store::{settle_sector, store_sector};
 use disk_layout::{Geometry, Head};
@@ -28,13 +28,13 @@ impl AreaWriter {
     ghost use Rattle.std.specs.Prelude.{◌≡◌, ◌⊎◌, ◌↔◌, ◌+◌, ◌*◌, ◌++◌, ℕ, List, length, take, drop, replicate, IfOk, OnOk, IsErr};
     ghost use Rattle.sha2.specs.Hashers.{Holds256};
     ghost use Rattle.sha2.specs.Sha256.{sha256};
-    ghost use Rattle.guest_memory.specs.Bytes.{with_part};
-    ghost use Rattle.sector_disk.specs.Image.{Image, front_over};
-    ghost use Rattle.sector_disk.specs.Medium.{LeavesOnly, After, Follows, IsSettled, spare};
+    ghost use Rattle.guest_memory.specs.rules.Bytes.{with_part};
+    ghost use Rattle.sector_disk.specs.rules.Image.{Image, front_over};
+    ghost use Rattle.sector_disk.specs.rules.Medium.{LeavesOnly, After, Follows, IsAllSynced, spare};
     ghost use Rattle.sector_disk.specs.declared.fault.DiskFault.{DiskFault};
-    ghost use Rattle.disk_layout.specs.Places.{journal_place, area_place};
-    ghost use Rattle.disk_layout.specs.Sectors.{Holds};
-    ghost use Rattle.snapshot.specs.Steps.{Fills, Commits, Replaces};
+    ghost use Rattle.disk_layout.specs.rules.Places.{journal_place, area_place};
+    ghost use Rattle.disk_layout.specs.rules.Sectors.{SectorsHold};
+    ghost use Rattle.snapshot.specs.rules.Steps.{Fills, Commits, Replaces};
     ghost use Rattle.snapshot.specs.Writing.{written_length, Starts, IsGiven};
 
     pub(crate) fn new(generation: u64, version: u32) -> AreaWriter
@@ -132,14 +132,14 @@ impl AreaWriter {
     fn store_last<D: Disk>(&self, disk: &mut D, geometry: &Geometry) -> Result<(), DiskFault>
         requires within { written_length self.now ≤ 512 * geometry.now.area_sectors }
         requires places { journal_place geometry.now ≤ (D.medium disk.old).sectors }
-        ensures holds { OnOk result ((bytes : List ℕ) → IsGiven geometry.now (D.medium disk.old) self.now bytes → (image : Image) → (D.medium disk.new).shows image → Holds image (area_place geometry.now self.now.generation) geometry.now.area_sectors bytes) }
+        ensures holds { OnOk result ((bytes : List ℕ) → IsGiven geometry.now (D.medium disk.old) self.now bytes → (image : Image) → (D.medium disk.new).shows image → SectorsHold image (area_place geometry.now self.now.generation) geometry.now.area_sectors bytes) }
         ensures any_moment { LeavesOnly (D.medium disk.old) (D.medium disk.new) (After (Fills geometry.now self.now.generation) (D.medium disk.old).may_leave) }
         ensures cause { IsErr result → (spare (D.medium disk.old) + self.now.sectors < geometry.now.area_sectors) ⊎ ((D.medium disk.old).faults < (D.medium disk.new).faults) }
     {
         if self.filled == 0 {
             return Ok(());
         }
-        let last = padded(&self.sector, self.filled);
+        let last = pad(&self.sector, self.filled);
         store_sector(
             disk,
             geometry.area_place(self.generation) + self.sectors,
@@ -178,7 +178,7 @@ impl AreaWriter {
             LeavesOnly (D.medium disk.old) (D.medium disk.new) (After (Commits geometry.now self.generation self.version bytes) (D.medium disk.old).may_leave) }
         ensures done { OnOk result ((bytes : List ℕ) → IsGiven geometry.now (D.medium disk.old) self bytes →
             Follows (Replaces geometry.now self.generation self.version bytes) (D.medium disk.old).may_leave (D.medium disk.new).may_leave) }
-        ensures settled { OnOk result (IsSettled (D.medium disk.new)) }
+        ensures settled { OnOk result (IsAllSynced (D.medium disk.new)) }
         ensures cause { IsErr result → (spare (D.medium disk.old) + self.sectors < geometry.now.area_sectors) ⊎ ((D.medium disk.old).room ≡ 0) ⊎ ((D.medium disk.old).faults < (D.medium disk.new).faults) }
     {
         self.store_last(disk, geometry)?;

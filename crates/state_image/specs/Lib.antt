@@ -1,3 +1,2 @@
-pub mod Image
-pub mod WellTyped
-pub mod Examples
+pub mod laws
+pub mod rules

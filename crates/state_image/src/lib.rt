@@ -1,4 +1,27 @@
-//! The image of a process, as definitions in `specs/`.
+//! The image of a process as bytes, version 1, and which images are accepted (this project's own).
+//! It is definitions alone: no code writes or reads an image yet.
+//!
+//! # Promises
+//!
+//! - `laws::a_fresh_image_has_its_size`: the image of a process that has just begun, with one page
+//!   of memory and an empty file system, has 65,811 bytes.
+//!
+//! Nothing else is proved here. That image and process determine each other is not proved yet.
+//!
+//! # Definitions to read
+//!
+//! In `specs/rules/`:
+//!
+//! - `Image.antt`: `Saved` is a process as its image has it, with positions in the place of
+//!   sequences. `SavedShowsProcess` says which process of the rules that is. `image` is its bytes,
+//!   field by field.
+//! - `WellTyped.antt`: `IsWellTyped` says which of these processes have images that are accepted.
+//!
+//! # Who may touch what
+//!
+//! Only these definitions say which byte of an image means what. `worker_rules` cites them, for
+//! the disk that stands for a worker. They stand on those of `process_rules`, `machine_slots` and
+//! `wasi_calls_rules`. The crate takes no memory, and has no errors.
 #![tactic(auto)]
 
 pub mod laws;

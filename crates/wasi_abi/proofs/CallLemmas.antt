@@ -7,7 +7,8 @@ use Rattle.std.proofs.lemmas.List.{get_or_default}
 use Rattle.std.proofs.lemmas.Slice.Eq.{bytes_eq-Decides}
 use Rattle.wasi_abi.specs.declared.call.Call.{Call}
 use Rattle.wasi_abi.specs.declared.call.Call.TheVariants as call
-use Rattle.wasi_abi.specs.Calls.{all_calls, name_of}
+use Rattle.wasi_abi.specs.rules.Calls.{all_calls, name_of}
+use Rattle.wasm_syntax.proofs.Grammar.Rising.{both}
 
 pub every_call : (c : Call) → Contains all_calls c
 every_call call.ArgsGet = (0, lit< tt, refl)
@@ -53,10 +54,6 @@ passed xs i name seen within is differs before =
     cc in
     let P : ℕ → Type 0 = λ k. (d : Call) → name ≢ name_of (get_or xs k d) in
     λ k d h. below_more P i (λ j below e. before j e below) here k h d
-
-both : (a b : Bool) → (a && b) ≡ true → (a ≡ true) × (b ≡ true)
-both true b h = (refl, h)
-both false b h = absurd (cc h)
 
 not_true : (a : Bool) → not a ≡ true → a ≡ false
 not_true true h = cc h

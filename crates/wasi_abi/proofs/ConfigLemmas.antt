@@ -2,7 +2,7 @@
 use Rattle.std.proofs.Common.{◌≡◌, ◌==◌, ◌↔◌, IsTrue, List, [], ◌∷◌, ℕ, Bool, true, false, ◌||◌, ◌⊎◌, inl, inr, refl, rules}
 use Rattle.std.proofs.lemmas.Bool.Decides.{Decides-eqb}
 use Rattle.std.specs.List.{list_any}
-use Rattle.wasi_abi.specs.Configs.{HasEquals}
+use Rattle.wasi_abi.specs.rules.Configs.{HasEquals}
 
 pub list_any-equals : (text : List ℕ) → IsTrue (list_any (λ b. b == 61) text) ↔ HasEquals text
 list_any-equals [] = search rules

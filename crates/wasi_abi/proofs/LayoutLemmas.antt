@@ -4,19 +4,19 @@ use Rattle.std.proofs.Math.Nat.{div-div-eq-div-mul, div-one, pow-suc}
 use Rattle.std.proofs.lemmas.List.{append-nil, drop_all, take_all, drop-drop}
 use Rattle.std.specs.Int.{byte_at, bytes_low_first}
 use borrow.Rule.Slice.PartMut.{put_mid}
-use Rattle.guest_memory.specs.Bytes.{bytes_of, with_part}
+use Rattle.guest_memory.specs.rules.Bytes.{bytes_of, with_part}
 use Rattle.guest_memory.proofs.ByteLemmas.{length-bytes_of, number_of-bytes_of}
 use Rattle.wasi_abi.specs.declared.layout.Fdstat.{Fdstat}
 use Rattle.wasi_abi.specs.declared.layout.Filestat.{Filestat}
 use Rattle.wasi_abi.specs.declared.layout.Dirent.{Dirent}
-use Rattle.wasi_abi.specs.Layouts.{u16_at, u32_at, u64_at, fdstat_layout, FdstatFits, filestat_layout, FilestatFits, dirent_layout, DirentFits}
+use Rattle.wasi_abi.specs.rules.Layouts.{u16_at, u32_at, u64_at, fdstat_layout, FdstatFits, filestat_layout, FilestatFits, dirent_layout, DirentFits}
 
-byte_at-pow : (i x : ℕ) → byte_at i x ≡ x / 256 ^ i % 256
+pub byte_at-pow : (i x : ℕ) → byte_at i x ≡ x / 256 ^ i % 256
 byte_at-pow zero x = ap (λ y. y % 256) (sym (div-one x))
 byte_at-pow (suc i) x = refl
 
 -- both spellings of a number's bytes are one
-bytes_low_first-bytes_of : (i n x : ℕ) → bytes_low_first i n x ≡ bytes_of n (x / 256 ^ i)
+pub bytes_low_first-bytes_of : (i n x : ℕ) → bytes_low_first i n x ≡ bytes_of n (x / 256 ^ i)
 bytes_low_first-bytes_of i zero x = refl
 bytes_low_first-bytes_of i (suc n) x =
     let here = byte_at-pow i x in

@@ -1,4 +1,4 @@
 pub mod CallLemmas
 mod ConfigLemmas
-mod LayoutLemmas
+pub mod LayoutLemmas
 pub mod RightsLemmas

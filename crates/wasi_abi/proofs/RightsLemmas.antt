@@ -5,7 +5,7 @@ use Rattle.std.proofs.lemmas.Bool.Decides.{nat_tests}
 use Rattle.std.proofs.lemmas.Nat.Bits.{and_pow, bit_at-lt}
 use Rattle.std.proofs.lemmas.Nat.{and_comm}
 use Rattle.std.specs.Int.{bit_at}
-use Rattle.wasi_abi.specs.Numbers.{has_right, are_within}
+use Rattle.wasi_abi.specs.rules.Numbers.{has_right, are_within}
 
 pub are_within-mask : (rights mask : ℕ) → (bit_and rights mask == mask) ≡ are_within mask rights
 are_within-mask rights mask = ap (λ n. n == mask) (and_comm rights mask)

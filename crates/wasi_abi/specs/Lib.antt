@@ -1,6 +1,2 @@
-pub mod Numbers
-pub mod Layouts
-pub mod Answers
-pub mod Calls
-pub mod Configs
-pub mod Laws
+pub mod laws
+pub mod rules

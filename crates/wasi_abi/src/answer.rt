@@ -2,7 +2,7 @@
 
 ghost use Rattle.std.specs.Prelude.{◌↔◌, IsTrue};
 ghost use Rattle.std.specs.List.{AllByRecursion};
-ghost use Rattle.wasi_abi.specs.Answers.{Fits, IsNoNewline};
+ghost use Rattle.wasi_abi.specs.rules.Answers.{Fits, IsNoNewline};
 
 use wasm_syntax::Row;
 

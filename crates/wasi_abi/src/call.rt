@@ -46,7 +46,7 @@ pub enum Call {
 
 impl Call {
     ghost use Rattle.wasi_abi.specs.declared.call.Call.{Call};
-    ghost use Rattle.wasi_abi.specs.Calls.{name_of, parameters_of, results_of};
+    ghost use Rattle.wasi_abi.specs.rules.Calls.{name_of, parameters_of, result_types};
 
     /// Every call.
     pub const ALL: [Call; 31] = [
@@ -170,7 +170,7 @@ impl Call {
 
     /// The types of its results.
     pub fn results(self) -> &'static [ValueType]
-        ensures { result.now ≡ results_of self }
+        ensures { result.now ≡ result_types self }
     {
         match self {
             Call::ProcExit => &[],

@@ -2,7 +2,7 @@
 
 ghost use Rattle.std.specs.Prelude.{◌≡◌, ◌↔◌, ◌≤◌, length, IfOk, IsOk, IsTrue};
 ghost use Rattle.std.specs.List.{AllByRecursion};
-ghost use Rattle.wasi_abi.specs.Configs.{Settings, settings, IsInRange, HasTexts, IsWithinLimits, IsShort, IsText, HasEquals, IsNamed, IsEntry};
+ghost use Rattle.wasi_abi.specs.rules.Configs.{Settings, settings, IsInRange, HasTexts, AreSettingsWithinLimits, IsShortText, IsText, HasEquals, IsNamed, IsEnvironmentEntry};
 
 use std::marker::Model;
 use thiserror::Error;
@@ -47,7 +47,7 @@ impl Model for Config {
 
     ghost view = { λ c. settings c.pages c.files c.journal c.arguments c.environment };
 
-    ghost invariant = { λ c. IsWithinLimits (settings c.pages c.files c.journal c.arguments c.environment) };
+    ghost invariant = { λ c. AreSettingsWithinLimits (settings c.pages c.files c.journal c.arguments c.environment) };
 }
 
 impl Config {
@@ -60,7 +60,7 @@ impl Config {
         environment: Row<Row<u8>>,
     ) -> Result<Config, ConfigFault>
         ensures made { IfOk result (λ c. c ≡ settings pages files journal arguments environment) }
-        ensures ok { IsOk result ↔ IsWithinLimits (settings pages files journal arguments environment) }
+        ensures ok { IsOk result ↔ AreSettingsWithinLimits (settings pages files journal arguments environment) }
         ensures range { let s = settings pages files journal arguments environment in
             (result ≡ Err ConfigFault.Range) ↔ (¬ IsInRange s) }
         ensures text { let s = settings pages files journal arguments environment in
@@ -89,7 +89,7 @@ impl Config {
     /// The most pages of guest memory.
     pub fn pages(&self) -> u32
         ensures value { result ≡ self.now.pages }
-        ensures within { IsWithinLimits self.now }
+        ensures within { AreSettingsWithinLimits self.now }
     {
         self.pages
     }
@@ -97,7 +97,7 @@ impl Config {
     /// The most bytes of all files, in units of 65,536.
     pub fn files(&self) -> u32
         ensures value { result ≡ self.now.files }
-        ensures within { IsWithinLimits self.now }
+        ensures within { AreSettingsWithinLimits self.now }
     {
         self.files
     }
@@ -105,7 +105,7 @@ impl Config {
     /// The sectors of the journal.
     pub fn journal(&self) -> u32
         ensures value { result ≡ self.now.journal }
-        ensures within { IsWithinLimits self.now }
+        ensures within { AreSettingsWithinLimits self.now }
     {
         self.journal
     }
@@ -113,7 +113,7 @@ impl Config {
     /// What the guest is called with, the program's name first.
     pub fn arguments(&self) -> &Row<Row<u8>>
         ensures value { result.now ≡ self.now.arguments }
-        ensures within { IsWithinLimits self.now }
+        ensures within { AreSettingsWithinLimits self.now }
     {
         &self.arguments
     }
@@ -121,14 +121,14 @@ impl Config {
     /// Entries of a name, `=` and a value.
     pub fn environment(&self) -> &Row<Row<u8>>
         ensures value { result.now ≡ self.now.environment }
-        ensures within { IsWithinLimits self.now }
+        ensures within { AreSettingsWithinLimits self.now }
     {
         &self.environment
     }
 }
 
 fn are_few_and_short(texts: &[Row<u8>]) -> bool
-    ensures { IsTrue result ↔ ((length texts.now ≤ 64) × AllByRecursion IsShort texts.now) }
+    ensures { IsTrue result ↔ ((length texts.now ≤ 64) × AllByRecursion IsShortText texts.now) }
 {
     texts.len() <= MOST_TEXTS && texts.iter().all(|text| text.len() <= LONGEST_TEXT)
 }
@@ -140,7 +140,7 @@ fn are_texts(texts: &[Row<u8>]) -> bool
 }
 
 fn are_entries(texts: &[Row<u8>]) -> bool
-    ensures { IsTrue result ↔ AllByRecursion IsEntry texts.now }
+    ensures { IsTrue result ↔ AllByRecursion IsEnvironmentEntry texts.now }
 {
     texts.iter().all(|text| is_text(text.as_slice()) && is_named(text.as_slice()))
 }

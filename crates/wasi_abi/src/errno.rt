@@ -31,7 +31,7 @@ pub enum Errno {
 }
 
 impl Errno {
-    ghost use Rattle.wasi_abi.specs.Numbers.{errno_number};
+    ghost use Rattle.wasi_abi.specs.rules.Numbers.{errno_number};
 
     /// What a refused call returns to the guest.
     pub fn number(self) -> u32

@@ -11,7 +11,7 @@ pub enum FileType {
 }
 
 impl FileType {
-    ghost use Rattle.wasi_abi.specs.Numbers.{file_type_number};
+    ghost use Rattle.wasi_abi.specs.rules.Numbers.{file_type_number};
 
     /// What stands in a layout.
     pub fn number(self) -> u8

@@ -1,9 +1,9 @@
 //! Laws of the definitions that the contracts of this crate cite.
 
 ghost use Rattle.std.specs.Prelude.{◌≡◌, [], ◌∷◌, bit_or, map};
-ghost use Rattle.wasi_abi.specs.Calls.{module_name};
-ghost use Rattle.wasi_abi.specs.Laws.{ErrorsAreNoSuccess, right_masks, CallsDiffer, LayoutSizes, BytesSpellNumbers, WorkedDirectory};
-ghost use Rattle.wasi_abi.specs.Numbers.{rights_number, file_rights, directory_rights, all_rights, input_rights, output_rights};
+ghost use Rattle.wasi_abi.specs.rules.Calls.{module_name};
+ghost use Rattle.wasi_abi.specs.laws.Laws.{ErrorsAreNoSuccess, right_masks, CallsDiffer, LayoutSizes, BytesSpellNumbers, WorkedDirectory};
+ghost use Rattle.wasi_abi.specs.rules.Numbers.{rights_number, file_rights, directory_rights, all_rights, input_rights, output_rights};
 
 use crate::call::MODULE_NAME;
 use crate::rights::Rights;

@@ -1,8 +1,8 @@
 //! What lies in a guest's memory: `fdstat`, `filestat`, `dirent`, `prestat` and `iovec`, byte by byte.
 
 ghost use Rattle.std.specs.Prelude.{◌≡◌, ◌+◌, ◌<◌, ◌≤◌, ◌^◌, ℕ, List, length};
-ghost use Rattle.guest_memory.specs.Bytes.{with_part};
-ghost use Rattle.wasi_abi.specs.Layouts.{u16_bytes, u32_bytes, u64_bytes, u16_at, u32_at, u64_at};
+ghost use Rattle.guest_memory.specs.rules.Bytes.{with_part};
+ghost use Rattle.wasi_abi.specs.rules.Layouts.{u16_bytes, u32_bytes, u64_bytes, u16_at, u32_at, u64_at};
 
 use crate::rights::Rights;
 use byteorder::{ByteOrder, LittleEndian};
@@ -51,7 +51,7 @@ pub struct Iovec {
 
 impl Fdstat {
     ghost use Rattle.wasi_abi.specs.declared.layout.Fdstat.{Fdstat};
-    ghost use Rattle.wasi_abi.specs.Layouts.{fdstat_layout, fdstat_of, FdstatFits};
+    ghost use Rattle.wasi_abi.specs.rules.Layouts.{fdstat_layout, fdstat_of, FdstatFits};
 
     /// Lays it out over all of these bytes.
     pub fn write(&self, bytes: &mut [u8; 24])
@@ -80,7 +80,7 @@ impl Fdstat {
 
 impl Filestat {
     ghost use Rattle.wasi_abi.specs.declared.layout.Filestat.{Filestat};
-    ghost use Rattle.wasi_abi.specs.Layouts.{filestat_layout, filestat_of, FilestatFits};
+    ghost use Rattle.wasi_abi.specs.rules.Layouts.{filestat_layout, filestat_of, FilestatFits};
 
     /// Lays it out over all of these bytes.
     pub fn write(&self, bytes: &mut [u8; 64])
@@ -109,7 +109,7 @@ impl Filestat {
 
 impl Dirent {
     ghost use Rattle.wasi_abi.specs.declared.layout.Dirent.{Dirent};
-    ghost use Rattle.wasi_abi.specs.Layouts.{dirent_layout, dirent_of, DirentFits};
+    ghost use Rattle.wasi_abi.specs.rules.Layouts.{dirent_layout, dirent_of, DirentFits};
 
     /// Lays it out over all of these bytes.
     pub fn write(&self, bytes: &mut [u8; 24])
@@ -138,7 +138,7 @@ impl Dirent {
 
 impl Prestat {
     ghost use Rattle.wasi_abi.specs.declared.layout.Prestat.{Prestat};
-    ghost use Rattle.wasi_abi.specs.Layouts.{prestat_layout, prestat_of, PrestatFits};
+    ghost use Rattle.wasi_abi.specs.rules.Layouts.{prestat_layout, prestat_of, PrestatFits};
 
     /// Lays it out over all of these bytes.
     pub fn write(&self, bytes: &mut [u8; 8])
@@ -161,7 +161,7 @@ impl Prestat {
 
 impl Iovec {
     ghost use Rattle.wasi_abi.specs.declared.layout.Iovec.{Iovec};
-    ghost use Rattle.wasi_abi.specs.Layouts.{iovec_layout, iovec_of, IovecFits};
+    ghost use Rattle.wasi_abi.specs.rules.Layouts.{iovec_layout, iovec_of, IovecFits};
 
     /// Lays it out over all of these bytes.
     pub fn write(&self, bytes: &mut [u8; 8])

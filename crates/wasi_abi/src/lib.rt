@@ -1,4 +1,32 @@
-//! The numbers, layouts and calls of WASI preview 1, outside answers, and configurations.
+//! Numbers, layouts and calls of WASI preview 1, as the witx files of `wasi_snapshot_preview1`
+//! have them. Outside answers, configurations and the sets of rights are this project's own.
+//!
+//! # Promises
+//!
+//! - `Errno`, `FileType` and `Rights` have the numbers of the definitions. `Rights::has` and
+//!   `is_within` test what `are_within` says (`all`, `one`).
+//! - `Call::named` finds the call with a name (`found`, `none`). `name`, `parameters` and
+//!   `results` are those of the definitions.
+//! - `Fdstat`, `Filestat`, `Dirent`, `Prestat`, `Iovec` are written byte by byte as defined. What
+//!   is read is what the bytes hold (`fields`), and so what was written (`written`).
+//! - `fits` is true exactly where an answer is one to what was asked (`Fits`).
+//! - `Config::new` answers Ok exactly within the limits (`ok`), and else `C1 Range` (`range`) or
+//!   `C2 Text` (`text`). A `Config` is within its limits by its type (`within`).
+//! - Seven calls that do nothing ensure laws: numbers of rights, of errors and of calls
+//!   (`calls_differ`), sizes of layouts (`layouts_have_their_sizes`), bytes and numbers
+//!   (`bytes_spell_numbers`).
+//!
+//! # Definitions to read
+//!
+//! In `specs/rules/`: `errno_number`, the rights and sets of rights (`Numbers.antt`);
+//! `fdstat_bytes` and its kin (`Layouts.antt`); `name_of`, `parameters_of`, `result_types`
+//! (`Calls.antt`); `Fits` (`Answers.antt`); `Settings`, `AreSettingsWithinLimits` (`Configs.antt`).
+//!
+//! # Who may touch what
+//!
+//! Only this crate knows at which byte of a layout a field lies, and keeps a configuration's
+//! limits. Nearly every crate of the host's side uses it. It stands on `wasm_syntax`, and on byte
+//! definitions of `guest_memory`. It takes no memory. Its one error is `ConfigFault`.
 #![tactic(auto)]
 
 mod answer;
@@ -9,8 +37,6 @@ mod file_type;
 mod laws;
 mod layout;
 mod rights;
-#[cfg(test)]
-mod tests;
 
 pub use answer::{Answer, Kind, fits};
 pub use call::{Call, MODULE_NAME};

@@ -1,7 +1,7 @@
 //! Rights of a descriptor (`rights`), and the sets of rights of this project's profile.
 
 ghost use Rattle.std.specs.Prelude.{⊤, ◌≡◌, ◌^◌, ℕ, [], ◌∷◌, codes, bit_and};
-ghost use Rattle.wasi_abi.specs.Numbers.{rights_number, has_right, are_within};
+ghost use Rattle.wasi_abi.specs.rules.Numbers.{rights_number, has_right, are_within};
 
 use bitflags::{Flag, Flags, bitflag_items};
 

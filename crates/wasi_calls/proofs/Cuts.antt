@@ -5,11 +5,11 @@ use Rattle.std.specs.List.{AllByRecursion}
 use Rattle.std.proofs.lemmas.Bool.{ltb-true, eqb-false}
 use Rattle.std.proofs.lemmas.Bool.Decides.{eqb_tells}
 use Rattle.std.proofs.lemmas.List.{append-nil}
-use Rattle.wasi_abi.specs.Answers.{newline, IsNoNewline}
-use Rattle.wasi_calls_rows.specs.Hosts.{Line, IsUnfinished}
-use Rattle.wasi_calls_rows.specs.Lines.{Cut, cut_byte, cut_all}
-use Rattle.wasi_calls.specs.Outputs.{Output, output_written, ended_by}
-use Rattle.wasi_calls_rows.specs.declared.limits.TheConstants.{LINE_BYTES}
+use Rattle.wasi_abi.specs.rules.Answers.{newline, IsNoNewline}
+use Rattle.wasi_calls_rules.specs.Hosts.{Line, IsUnfinished}
+use Rattle.wasi_calls_rules.specs.Lines.{Cut, cut_byte, cut_all}
+use Rattle.wasi_calls.specs.Outputs.{Output, output_written, count_ended}
+use Rattle.wasi_calls_rules.specs.declared.limits.TheConstants.{LINE_BYTES}
 
 -- ---- one more byte of a list
 
@@ -82,13 +82,13 @@ written_cut stream before lines after text rest bytes c is cut left put = from_n
 -- ---- bytes that end no line
 
 put_onto : (stream : ℕ) (c : Cut) (b : ℕ) (bytes : List ℕ) (p q : Bool)
-    → (if p then ended_by 0 bytes + 1 else if q then ended_by (length c.unfinished + 1) bytes else ended_by 1 bytes + 1) ≡ 0
-    → (put_by stream c b p q ≡ record { lines = c.lines; unfinished = c.unfinished ++ b ∷ [] }) × (ended_by (length (c.unfinished ++ b ∷ [])) bytes ≡ 0)
+    → (if p then count_ended 0 bytes + 1 else if q then count_ended (length c.unfinished + 1) bytes else count_ended 1 bytes + 1) ≡ 0
+    → (put_by stream c b p q ≡ record { lines = c.lines; unfinished = c.unfinished ++ b ∷ [] }) × (count_ended (length (c.unfinished ++ b ∷ [])) bytes ≡ 0)
 put_onto stream c b bytes true q none = absurd (omega (arith, none))
-put_onto stream c b bytes false true none = (refl, ap (λ (n : ℕ). ended_by n bytes) (length-append c.unfinished (b ∷ [])) ∙ none)
+put_onto stream c b bytes false true none = (refl, ap (λ (n : ℕ). count_ended n bytes) (length-append c.unfinished (b ∷ [])) ∙ none)
 put_onto stream c b bytes false false none = absurd (omega (arith, none))
 
-pub cut_onto : (stream : ℕ) (c : Cut) (bytes : List ℕ) → ended_by (length c.unfinished) bytes ≡ 0
+pub cut_onto : (stream : ℕ) (c : Cut) (bytes : List ℕ) → count_ended (length c.unfinished) bytes ≡ 0
     → cut_all stream c bytes ≡ record { lines = c.lines; unfinished = c.unfinished ++ bytes }
 cut_onto stream c [] none = rw append-nil refl
 cut_onto stream c (b ∷ bytes) none =
@@ -103,23 +103,23 @@ output_of first second waiting released = record { first = first; second = secon
 -- ---- how many lines there are
 
 put_counted : (stream : ℕ) (c : Cut) (b : ℕ) (bytes : List ℕ) (p q : Bool)
-    → length (put_by stream c b p q).lines + ended_by (length (put_by stream c b p q).unfinished) bytes
-    ≡ length c.lines + (if p then ended_by 0 bytes + 1 else if q then ended_by (length c.unfinished + 1) bytes else ended_by 1 bytes + 1)
+    → length (put_by stream c b p q).lines + count_ended (length (put_by stream c b p q).unfinished) bytes
+    ≡ length c.lines + (if p then count_ended 0 bytes + 1 else if q then count_ended (length c.unfinished + 1) bytes else count_ended 1 bytes + 1)
 put_counted stream c b bytes true q = omega (arith, length-append c.lines (record { stream = stream; text = c.unfinished } ∷ []))
 put_counted stream c b bytes false true =
     let longer : length (c.unfinished ++ b ∷ []) ≡ length c.unfinished + 1 = length-append c.unfinished (b ∷ []) in
-    ap (λ (n : ℕ). length c.lines + ended_by n bytes) longer
+    ap (λ (n : ℕ). length c.lines + count_ended n bytes) longer
 put_counted stream c b bytes false false = omega (arith, length-append c.lines (record { stream = stream; text = c.unfinished } ∷ []))
 
-pub lines_counted : (stream : ℕ) (c : Cut) (bytes : List ℕ) → length (cut_all stream c bytes).lines ≡ length c.lines + ended_by (length c.unfinished) bytes
+pub lines_counted : (stream : ℕ) (c : Cut) (bytes : List ℕ) → length (cut_all stream c bytes).lines ≡ length c.lines + count_ended (length c.unfinished) bytes
 lines_counted stream c [] = omega arith
 lines_counted stream c (b ∷ bytes) = lines_counted stream (cut_byte stream c b) bytes ∙ put_counted stream c b bytes (b == newline) (nat_lt (length c.unfinished) LINE_BYTES)
 
 module _ (s n : ℕ) (bytes : List ℕ) (o : Output) where
-  pub first_counted : s ≡ 1 → n ≡ ended_by (length o.first) bytes → length (output_written s bytes o).waiting ≡ length o.waiting + n
+  pub first_counted : s ≡ 1 → n ≡ count_ended (length o.first) bytes → length (output_written s bytes o).waiting ≡ length o.waiting + n
   first_counted e is = rw (e, is) (lines_counted 1 (record { lines = o.waiting; unfinished = o.first }) bytes)
 
-  pub second_counted : s ≢ 1 → n ≡ ended_by (length o.second) bytes → length (output_written s bytes o).waiting ≡ length o.waiting + n
+  pub second_counted : s ≢ 1 → n ≡ count_ended (length o.second) bytes → length (output_written s bytes o).waiting ≡ length o.waiting + n
   second_counted e is = elim (eqb_tells s 1) [
     | inl h ↦ absurd (e h.1)
     | inr h ↦ rw (h.0, is) (lines_counted 2 (record { lines = o.waiting; unfinished = o.second }) bytes)

@@ -4,11 +4,11 @@ use Rattle.std.specs.Prelude.{Bool, true, false, ◌==◌, Option, Some, None, O
 use Rattle.std.specs.List.{AllByRecursion}
 use Rattle.std.proofs.lemmas.Bool.Decides.{eqb_tells}
 use Rattle.std.proofs.lemmas.List.{replicate-append-replicate}
-use Rattle.file_tree.specs.Files.{Files, FileNode, fresh, node_of, is_directory}
-use Rattle.wasi_abi.specs.Numbers.{has_right, fd_write_right, input_rights, output_rights, directory_rights, all_rights}
+use Rattle.file_tree.specs.rules.Files.{Files, FileNode, fresh, node_of, is_directory}
+use Rattle.wasi_abi.specs.rules.Numbers.{has_right, fd_write_right, input_rights, output_rights, directory_rights, all_rights}
 use Rattle.wasi_abi.specs.declared.errno.Errno.TheVariants.{Badf, Notcapable}
-use Rattle.wasi_calls_rows.specs.Hosts.{Target, Stream, Node, Descriptor, Host, stream, first_descriptors, IsThere, IsDescriptor, IsHost}
-use Rattle.wasi_calls_rows.specs.Checks.{◌>>=◌, check, some_or, flat, is_stream, opened, names_directory}
+use Rattle.wasi_calls_rules.specs.Hosts.{Target, Stream, Node, Descriptor, Host, stream, first_descriptors, IsThere, IsDescriptor, IsHost}
+use Rattle.wasi_calls_rules.specs.Checks.{◌>>=◌, check_or, some_or, flat, is_stream, open_descriptor, names_directory}
 use Rattle.wasi_calls.specs.Writes.{writable}
 
 -- one more that is not open
@@ -56,11 +56,11 @@ stream_or (Stream s) fs b e f there = refl
 stream_or (Node k) fs b e f there = let is : b ≡ true = f refl there in absurd (cc)
 
 -- where no node is anything but a directory, a descriptor that names no directory names a stream
-pub stream_alone : (h : Host) (fd : ℕ) (d : Descriptor) (t : Target) (b : Bool) → IsHost h → opened h fd ≡ Ok d → t ≡ d.target → b ≡ false → (is_stream t ≡ false → IsThere h.files t → b ≡ true) → is_stream t ≡ true
+pub stream_alone : (h : Host) (fd : ℕ) (d : Descriptor) (t : Target) (b : Bool) → IsHost h → open_descriptor h fd ≡ Ok d → t ≡ d.target → b ≡ false → (is_stream t ≡ false → IsThere h.files t → b ≡ true) → is_stream t ≡ true
 stream_alone h fd d t b k e named is f =
     let there : IsThere h.files d.target = (descriptor_at (IsDescriptor h.files) h.descriptors fd d k.descriptors (opened_at (slice_get h.descriptors fd) d e)).there in
     stream_or t h.files b is f (rw named there)
 
-pub writable_is : (h : Host) (fd : ℕ) (d : Descriptor) (b : Bool) → opened h fd ≡ Ok d → names_directory h d.target ≡ false → has_right d.base fd_write_right ≡ b
-    → writable h fd ≡ (check b Notcapable >>= λ _. Ok d.target)
+pub writable_is : (h : Host) (fd : ℕ) (d : Descriptor) (b : Bool) → open_descriptor h fd ≡ Ok d → names_directory h d.target ≡ false → has_right d.base fd_write_right ≡ b
+    → writable h fd ≡ (check_or b Notcapable >>= λ _. Ok d.target)
 writable_is h fd d b e f g = rw (e, f, g) refl

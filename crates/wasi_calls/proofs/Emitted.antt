@@ -2,18 +2,18 @@
 use Rattle.std.proofs.Common.{◌≡◌, ℕ, ◌+◌, ◌≤◌, List, ◌++◌, length, take, drop, sym, ap, ◌∙◌, arith, append_assoc, length-append, length-take}
 use Rattle.std.specs.Prelude.{Ok, Err}
 use Rattle.std.proofs.lemmas.List.{take-append-drop}
-use Rattle.guest_memory.specs.Bytes.{with_part}
-use Rattle.wasi_abi.specs.Layouts.{u32_bytes}
-use Rattle.wasi_calls_rows.specs.Hosts.{Line, Stream, Host}
-use Rattle.wasi_calls_rows.specs.Checks.{Bytes, Done, Halt}
-use Rattle.wasi_calls_rows.specs.Lines.{stream_written}
-use Rattle.wasi_calls_rows.specs.Moving.{fd_write}
-use Rattle.wasi_calls.specs.Held.{Held, ShowsHost, behind_lines, behind_lines_of_row, held_released}
+use Rattle.guest_memory.specs.rules.Bytes.{with_part}
+use Rattle.wasi_abi.specs.rules.Layouts.{u32_bytes}
+use Rattle.wasi_calls_rules.specs.Hosts.{Line, Stream, Host}
+use Rattle.wasi_calls_rules.specs.Checks.{Bytes, Done, Halt}
+use Rattle.wasi_calls_rules.specs.Lines.{stream_written}
+use Rattle.wasi_calls_rules.specs.Moving.{fd_write}
+use Rattle.wasi_calls.specs.Held.{HeldHost, ShowsHost, behind_lines, behind_lines_of_row, held_released}
 use Rattle.wasi_calls.specs.Writes.{wanted}
 use Rattle.wasi_calls.proofs.LinesInFront.{write_behind}
 use Rattle.wasi_calls.proofs.WrittenRows.{row_done}
 
-module _ (fd iovs count ret : ℕ) (m : Bytes) (old : Held) (h : Host) (done : Done) (s : ShowsHost old h) (e : fd_write fd iovs count ret m h ≡ Ok done) where
+module _ (fd iovs count ret : ℕ) (m : Bytes) (old : HeldHost) (h : Host) (done : Done) (s : ShowsHost old h) (e : fd_write fd iovs count ret m h ≡ Ok done) where
   -- what the row gives of the host that waits, with the released lines in front
   told : Ok done ≡ behind_lines_of_row s.before (fd_write fd iovs count ret m old.host)
   told = sym e ∙ ap (fd_write fd iovs count ret m) s.is ∙ write_behind s.before fd iovs count ret m old.host
@@ -29,7 +29,7 @@ module _ (fd iovs count ret : ℕ) (m : Bytes) (old : Held) (h : Host) (done : D
       omega (arith, lines, before, counted, length-append s.before (stream_written stream bytes old.host).lines, length-append s.before old.host.lines)
 
 -- where a write is to be made, it is done
-pub write_done : (fd iovs count ret : ℕ) (m : Bytes) (old : Held) (h : Host) (halt : Halt) (stream n : ℕ) (bytes : Bytes) → ShowsHost old h → fd_write fd iovs count ret m h ≡ Err halt
+pub write_done : (fd iovs count ret : ℕ) (m : Bytes) (old : HeldHost) (h : Host) (halt : Halt) (stream n : ℕ) (bytes : Bytes) → ShowsHost old h → fd_write fd iovs count ret m h ≡ Err halt
     → wanted fd iovs count ret m old.host ≡ Ok (record { target = Stream stream; bytes = bytes }) → n ≡ 0
 write_done fd iovs count ret m old h halt stream n bytes s e w =
     let made : Done = record { memory = with_part m ret (u32_bytes (length bytes)); host = behind_lines s.before (stream_written stream bytes old.host) } in
@@ -37,7 +37,7 @@ write_done fd iovs count ret m old h halt stream n bytes s e w =
     let is : Err halt ≡ Ok made = told ∙ ap (behind_lines_of_row s.before) (row_done fd iovs count ret stream m bytes old.host w) in
     absurd (cc)
 
-pub released_shows : (n : ℕ) (old : Held) (h : Host) → n ≤ length old.host.lines → ShowsHost old h → ShowsHost (held_released n old) h
+pub released_shows : (n : ℕ) (old : HeldHost) (h : Host) → n ≤ length old.host.lines → ShowsHost old h → ShowsHost (held_released n old) h
 released_shows n old h le s = record {
   before = s.before ++ take n old.host.lines;
   count = (let c : length s.before ≡ old.released = s.count in omega (arith, c, length-append s.before (take n old.host.lines), length-take n old.host.lines));

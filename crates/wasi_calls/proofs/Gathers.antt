@@ -6,11 +6,12 @@ use Rattle.std.proofs.lemmas.Bool.{cases_lt, le-leb}
 use Rattle.std.proofs.lemmas.List.Sums.{sum_by-cons}
 use Rattle.std.proofs.lemmas.List.{append-nil, take-append-le, take_all, take-take}
 use Rattle.std.proofs.Math.Seq.{take-append-add}
-use Rattle.guest_memory.specs.Bytes.{part}
+use Rattle.guest_memory.specs.rules.Bytes.{part}
 use Rattle.wasi_abi.specs.declared.errno.Errno.TheVariants.{Fault}
-use Rattle.wasi_calls_rows.specs.Checks.{Bytes, Halt, ◌>>=◌, check, in_memory, Buffer, u32_at, buffers_at, is_inside, few_buffers, movable, gathered}
-use Rattle.wasi_calls_rows.specs.declared.limits.TheConstants.{IOVECS, MOVED_BYTES}
-use Rattle.wasi_calls.specs.Writes.{buffer_there, moved}
+use Rattle.wasi_abi.specs.rules.Layouts.{u32_at}
+use Rattle.wasi_calls_rules.specs.Checks.{Bytes, Halt, ◌>>=◌, check_or, in_memory, Buffer, buffers_at, is_inside, few_buffers, movable, gathered}
+use Rattle.wasi_calls_rules.specs.declared.limits.TheConstants.{IOVECS, MOVED_BYTES}
+use Rattle.wasi_calls.specs.Writes.{buffer_there, bytes_moved}
 
 -- how many bytes are moved at most
 unfoldable pub most : ℕ
@@ -29,7 +30,7 @@ collected m at (suc count) front = buffer_there m at >>= λ piece. collected m (
 
 -- all buffers checked first, and then their bytes
 abbrev checked_first : Bytes → List Buffer → List ℕ → Result Bytes Halt
-checked_first m bs front = check (list_all (is_inside m) bs) Fault >>= λ _. Ok (take most (front ++ gathered m bs))
+checked_first m bs front = check_or (list_all (is_inside m) bs) Fault >>= λ _. Ok (take most (front ++ gathered m bs))
 
 -- a part kept under the cap is as good as the whole
 cap_again : (n : ℕ) (a b : List ℕ) → take n (take n a ++ b) ≡ take n (a ++ b)
@@ -45,8 +46,8 @@ cap_again n a b =
 regroup : (front piece rest : List ℕ) → take most (take most (front ++ piece) ++ rest) ≡ take most (front ++ (piece ++ rest))
 regroup front piece rest = cap_again most (front ++ piece) rest ∙ ap (take most) (append_assoc front piece rest)
 
-next_is : (b t : Bool) (piece bytes front : List ℕ) (go : List ℕ → Result Bytes Halt) → go piece ≡ (check t Fault >>= λ _. Ok (take most (take most (front ++ piece) ++ bytes)))
-    → ((check b Fault >>= λ _. Ok piece) >>= go) ≡ (check (b && t) Fault >>= λ _. Ok (take most (front ++ (piece ++ bytes))))
+next_is : (b t : Bool) (piece bytes front : List ℕ) (go : List ℕ → Result Bytes Halt) → go piece ≡ (check_or t Fault >>= λ _. Ok (take most (take most (front ++ piece) ++ bytes)))
+    → ((check_or b Fault >>= λ _. Ok piece) >>= go) ≡ (check_or (b && t) Fault >>= λ _. Ok (take most (front ++ (piece ++ bytes))))
 next_is true true piece bytes front go h = h ∙ ap (λ (x : Bytes). Ok x) (regroup front piece bytes)
 next_is true false piece bytes front go h = h
 next_is false t piece bytes front go h = refl
@@ -83,14 +84,14 @@ take_movable : (m : Bytes) (bs : List Buffer) → take (movable bs) (gathered m 
 take_movable m bs =
     ap (λ (n : ℕ). take (min n (sum_by (λ (b : Buffer). b.len) bs)) (gathered m bs)) (sym most_is) ∙ take_less most (sum_by (λ (b : Buffer). b.len) bs) (gathered m bs) (few_gathered m bs)
 
-buffers_moved : (m : Bytes) (bs : List Buffer) (t : Bool) → ((check t Fault >>= λ _. Ok bs) >>= λ (cs : List Buffer). Ok (take (movable cs) (gathered m cs))) ≡ (check t Fault >>= λ _. Ok (take most ([] ++ gathered m bs)))
+buffers_moved : (m : Bytes) (bs : List Buffer) (t : Bool) → ((check_or t Fault >>= λ _. Ok bs) >>= λ (cs : List Buffer). Ok (take (movable cs) (gathered m cs))) ≡ (check_or t Fault >>= λ _. Ok (take most ([] ++ gathered m bs)))
 buffers_moved m bs true = ap (λ (x : Bytes). Ok x) (take_movable m bs)
 buffers_moved m bs false = refl
 
 pub few_is : (count : ℕ) → count ≤ IOVECS → few_buffers count ≡ Ok tt
 few_is count le = let few : nat_le count IOVECS ≡ true = le-leb count IOVECS le in rw few refl
 
-pub moved_is : (m : Bytes) (iovs count : ℕ) (u v : Unit {0}) → few_buffers count ≡ Ok u → in_memory m iovs (8 * count) ≡ Ok v → moved m iovs count ≡ collected m iovs count []
+pub moved_is : (m : Bytes) (iovs count : ℕ) (u v : Unit {0}) → few_buffers count ≡ Ok u → in_memory m iovs (8 * count) ≡ Ok v → bytes_moved m iovs count ≡ collected m iovs count []
 moved_is m iovs count u v few inside =
     rw (few, inside) (buffers_moved m (buffers_at m iovs count) (list_all (is_inside m) (buffers_at m iovs count)) ∙ sym (collected_is m iovs count [] (omega arith)))
 

@@ -2,22 +2,22 @@
 use Rattle.std.proofs.Common.{◌≡◌, ℕ, List, [], ◌∷◌, ◌++◌, take, length, refl, sym, ap, ◌∙◌, inl, inr}
 use Rattle.std.specs.Prelude.{Result, Ok, Err, Some, None, OnOk, IfErr}
 use Rattle.std.proofs.lemmas.Bool.Decides.{eqb_tells}
-use Rattle.guest_memory.specs.Bytes.{with_part}
-use Rattle.guest_memory.specs.Memories.{LinearMemory}
-use Rattle.file_tree.specs.Files.{bytes_of_node}
-use Rattle.wasi_abi.specs.Layouts.{u32_bytes}
-use Rattle.wasi_abi.specs.Numbers.{fd_write_right}
-use Rattle.wasi_calls_rows.specs.Hosts.{Line, Target, Stream, Node, Descriptor, Host}
-use Rattle.wasi_calls_rows.specs.Checks.{Bytes, Halt, Row, ◌>>=◌, opened, no_directory, with_right, in_memory, buffers, few_buffers, movable, gathered}
-use Rattle.wasi_calls_rows.specs.Lines.{cut_all, stream_written}
-use Rattle.wasi_calls_rows.specs.Small.{done, roomy}
-use Rattle.wasi_calls_rows.specs.Moving.{size_after, file_written, write_offset, offset_after, target_written, fd_write}
-use Rattle.wasi_calls_rows.specs.Rows.{Told, IsDone, IsAsk, IsExit, NoMemory, Shows}
-use Rattle.wasi_calls.specs.Held.{Held, ShowsHost, behind_lines, behind_lines_of_row}
-use Rattle.wasi_calls.specs.declared.stop.Stop.{Stop}
-use Rattle.wasi_calls.specs.declared.stop.Stop.TheVariants as stop
-use Rattle.wasi_calls.specs.Calls.{ShowsRow, outcome_of, told_of}
-use Rattle.wasi_calls.specs.Steps.{Stops}
+use Rattle.guest_memory.specs.rules.Bytes.{with_part}
+use Rattle.guest_memory.specs.rules.Memories.{LinearMemory}
+use Rattle.file_tree.specs.rules.Files.{bytes_of_node}
+use Rattle.wasi_abi.specs.rules.Layouts.{u32_bytes}
+use Rattle.wasi_abi.specs.rules.Numbers.{fd_write_right}
+use Rattle.wasi_calls_rules.specs.Hosts.{Line, Target, Stream, Node, Descriptor, Host}
+use Rattle.wasi_calls_rules.specs.Checks.{Bytes, Halt, Ruling, ◌>>=◌, open_descriptor, no_directory, with_right, in_memory, buffers, few_buffers, movable, gathered}
+use Rattle.wasi_calls_rules.specs.Lines.{cut_all, stream_written}
+use Rattle.wasi_calls_rules.specs.Small.{call_done, roomy}
+use Rattle.wasi_calls_rules.specs.Moving.{size_after, file_written, write_offset, offset_after, target_written, fd_write}
+use Rattle.wasi_calls_rules.specs.Rows.{Told, IsDone, IsAsk, IsExit, NoMemory, TellsRow}
+use Rattle.wasi_calls.specs.Held.{HeldHost, ShowsHost, behind_lines, behind_lines_of_row}
+use Rattle.wasi_calls.specs.declared.stop.CallStop.{CallStop}
+use Rattle.wasi_calls.specs.declared.stop.CallStop.TheVariants as stop
+use Rattle.wasi_calls.specs.rules.Calls.{ShowsRow, call_outcome, told_of}
+use Rattle.wasi_calls.specs.Steps.{StopsStep}
 use Rattle.wasi_calls.proofs.Cuts.{behind_cut, all_behind}
 
 -- a step that gives a host, the same
@@ -26,7 +26,7 @@ behind_host before (Ok h) = Ok (behind_lines before h)
 behind_host before (Err halt) = Err halt
 
 module _ (before : List Line) where
-  next : {A : Type 0} (r : Result A Halt) (f g : A → Row) → ((x : A) → f x ≡ behind_lines_of_row before (g x)) → (r >>= f) ≡ behind_lines_of_row before (r >>= g)
+  next : {A : Type 0} (r : Result A Halt) (f g : A → Ruling) → ((x : A) → f x ≡ behind_lines_of_row before (g x)) → (r >>= f) ≡ behind_lines_of_row before (r >>= g)
   next (Ok x) f g e = e x
   next (Err halt) f g e = refl
 
@@ -34,7 +34,7 @@ module _ (before : List Line) where
   next_host (Ok x) f g e = e x
   next_host (Err halt) f g e = refl
 
-  host_next : (s r : Result Host Halt) (m : Bytes) → s ≡ behind_host before r → (s >>= λ after. done m after) ≡ behind_lines_of_row before (r >>= λ after. done m after)
+  host_next : (s r : Result Host Halt) (m : Bytes) → s ≡ behind_host before r → (s >>= λ after. call_done m after) ≡ behind_lines_of_row before (r >>= λ after. call_done m after)
   host_next s (Ok h) m e = rw e refl
   host_next s (Err halt) m e = rw e refl
 
@@ -67,25 +67,25 @@ module _ (before : List Line) where
 
   pub write_behind : (fd iovs count ret : ℕ) (m : Bytes) (h : Host) → fd_write fd iovs count ret m (behind_lines before h) ≡ behind_lines_of_row before (fd_write fd iovs count ret m h)
   write_behind fd iovs count ret m h =
-      next (opened h fd) _ _ (λ d. next (no_directory h d) _ _ (λ _. next (with_right fd_write_right d) _ _ (λ _. next (few_buffers count) _ _ (λ _.
+      next (open_descriptor h fd) _ _ (λ d. next (no_directory h d) _ _ (λ _. next (with_right fd_write_right d) _ _ (λ _. next (few_buffers count) _ _ (λ _.
       next (buffers m iovs count) _ _ (λ bs. next (in_memory m ret 4) _ _ (λ _.
       let bytes : Bytes = take (movable bs) (gathered m bs) in
       host_next (target_written d.target fd d bytes (behind_lines before h)) (target_written d.target fd d bytes h) (with_part m ret (u32_bytes (length bytes))) (target_behind d.target fd d bytes h)))))))
 
 -- ---- what is told, of every host that is shown
 
-abbrev held_of_both : ℕ → Host → Held
+abbrev held_of_both : ℕ → Host → HeldHost
 held_of_both released h = record { released = released; host = h }
 
 same_held : (m n : ℕ) (g h : Host) → m ≡ n → g ≡ h → held_of_both m g ≡ held_of_both n h
 same_held m n g h e f = rw (e, f) refl
 
-module _ (r : Host → Row) (behind : (before : List Line) (h : Host) → r (behind_lines before h) ≡ behind_lines_of_row before (r h)) (m old_m : Bytes) (held old : Held)
+module _ (r : Host → Ruling) (behind : (before : List Line) (h : Host) → r (behind_lines before h) ≡ behind_lines_of_row before (r h)) (m old_m : Bytes) (held old : HeldHost)
     (released : held.released ≡ old.released) (h : Host) (s : ShowsHost old h) where
   at : r h ≡ behind_lines_of_row s.before (r old.host)
   at = ap r s.is ∙ behind s.before old.host
 
-  pub shown_of : (t : Told) → Shows t m held.host old_m old.host (r old.host) → ShowsRow t m held old_m old (r h)
+  pub shown_of : (t : Told) → TellsRow t m held.host old_m old.host (r old.host) → ShowsRow t m held old_m old (r h)
   shown_of (IsDone None) e = (
     record { memory = m; host = behind_lines s.before held.host },
     at ∙ ap (behind_lines_of_row s.before) e,
@@ -98,11 +98,11 @@ module _ (r : Host → Row) (behind : (before : List Line) (h : Host) → r (beh
   shown_of NoMemory k = (k.0, same_held held.released old.released held.host old.host released k.1)
 
 -- what is told of a write
-pub written_told : (w : Result (Unit {0}) Stop) (memory old_memory : LinearMemory) (held old : Held) (r : Row)
-    → OnOk w (r ≡ Ok (record { memory = memory.bytes; host = held.host })) → IfErr w (λ why. Stops why r) → IfErr w (λ _. memory ≡ old_memory) → IfErr w (λ _. held ≡ old)
-    → Shows (told_of (outcome_of w)) memory.bytes held.host old_memory.bytes old.host r
+pub written_told : (w : Result (Unit {0}) CallStop) (memory old_memory : LinearMemory) (held old : HeldHost) (r : Ruling)
+    → OnOk w (r ≡ Ok (record { memory = memory.bytes; host = held.host })) → IfErr w (λ why. StopsStep why r) → IfErr w (λ _. memory ≡ old_memory) → IfErr w (λ _. held ≡ old)
+    → TellsRow (told_of (call_outcome w)) memory.bytes held.host old_memory.bytes old.host r
 written_told (Ok x) memory old_memory held old r done stopped same_memory same_host = done
 written_told (Err (stop.Refused e)) memory old_memory held old r done stopped same_memory same_host =
-    (stopped, ap (λ (m : LinearMemory). m.bytes) same_memory, ap (λ (h : Held). h.host) same_host)
+    (stopped, ap (λ (m : LinearMemory). m.bytes) same_memory, ap (λ (h : HeldHost). h.host) same_host)
 written_told (Err stop.Memory) memory old_memory held old r done stopped same_memory same_host =
-    (ap (λ (m : LinearMemory). m.bytes) same_memory, ap (λ (h : Held). h.host) same_host)
+    (ap (λ (m : LinearMemory). m.bytes) same_memory, ap (λ (h : HeldHost). h.host) same_host)

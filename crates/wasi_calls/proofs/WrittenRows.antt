@@ -1,15 +1,15 @@
 -- The rule of `fd_write`, once its checks are known to pass or to fail.
 use Rattle.std.proofs.Common.{◌≡◌, ℕ, take, length, refl, sym, ap, ◌∙◌}
 use Rattle.std.specs.Prelude.{Result, Ok, Err}
-use Rattle.guest_memory.specs.Bytes.{with_part}
-use Rattle.wasi_abi.specs.Layouts.{u32_bytes}
-use Rattle.wasi_abi.specs.Numbers.{fd_write_right}
-use Rattle.wasi_calls_rows.specs.Hosts.{Target, Stream, Descriptor, Host}
-use Rattle.wasi_calls_rows.specs.Checks.{Bytes, Halt, Row, ◌>>=◌, opened, no_directory, with_right, in_memory, buffers, few_buffers, movable, gathered}
-use Rattle.wasi_calls_rows.specs.Lines.{stream_written}
-use Rattle.wasi_calls_rows.specs.Small.{done}
-use Rattle.wasi_calls_rows.specs.Moving.{target_written, fd_write}
-use Rattle.wasi_calls.specs.Writes.{Wanted, moved, wanted}
+use Rattle.guest_memory.specs.rules.Bytes.{with_part}
+use Rattle.wasi_abi.specs.rules.Layouts.{u32_bytes}
+use Rattle.wasi_abi.specs.rules.Numbers.{fd_write_right}
+use Rattle.wasi_calls_rules.specs.Hosts.{Target, Stream, Descriptor, Host}
+use Rattle.wasi_calls_rules.specs.Checks.{Bytes, Halt, Ruling, ◌>>=◌, open_descriptor, no_directory, with_right, in_memory, buffers, few_buffers, movable, gathered}
+use Rattle.wasi_calls_rules.specs.Lines.{stream_written}
+use Rattle.wasi_calls_rules.specs.Small.{call_done}
+use Rattle.wasi_calls_rules.specs.Moving.{target_written, fd_write}
+use Rattle.wasi_calls.specs.Writes.{Wanted, bytes_moved, wanted}
 
 -- what the checks leave, the descriptor included
 record Left : Type 0 where
@@ -18,7 +18,7 @@ record Left : Type 0 where
 
 abbrev left : ℕ → ℕ → ℕ → ℕ → Bytes → Host → Result Left Halt
 left fd iovs count ret m h =
-    opened h fd >>= λ d.
+    open_descriptor h fd >>= λ d.
     no_directory h d >>= λ _.
     with_right fd_write_right d >>= λ _.
     few_buffers count >>= λ _.
@@ -31,14 +31,14 @@ through (Ok x) f g k e = e x
 through (Err halt) f g k e = refl
 
 -- what is left to do after the checks
-abbrev write_left : ℕ → ℕ → Bytes → Host → Left → Row
+abbrev write_left : ℕ → ℕ → Bytes → Host → Left → Ruling
 write_left fd ret m h w =
     target_written w.descriptor.target fd w.descriptor w.bytes h >>= λ after.
-    done (with_part m ret (u32_bytes (length w.bytes))) after
+    call_done (with_part m ret (u32_bytes (length w.bytes))) after
 
 row_is : (fd iovs count ret : ℕ) (m : Bytes) (h : Host) → fd_write fd iovs count ret m h ≡ (left fd iovs count ret m h >>= write_left fd ret m h)
 row_is fd iovs count ret m h =
-    through (opened h fd) _ _ (write_left fd ret m h) (λ d.
+    through (open_descriptor h fd) _ _ (write_left fd ret m h) (λ d.
     through (no_directory h d) _ _ (write_left fd ret m h) (λ _.
     through (with_right fd_write_right d) _ _ (write_left fd ret m h) (λ _.
     through (few_buffers count) _ _ (write_left fd ret m h) (λ _.
@@ -56,8 +56,8 @@ both_through (Err halt) f k g l e = refl
 
 wanted_is : (fd iovs count ret : ℕ) (m : Bytes) (h : Host) → wanted fd iovs count ret m h ≡ (left fd iovs count ret m h >>= wanted_of)
 wanted_is fd iovs count ret m h =
-    let rest : Target → Result Wanted Halt = λ target. moved m iovs count >>= λ bytes. in_memory m ret 4 >>= λ _. Ok (record { target = target; bytes = bytes }) in
-    both_through (opened h fd) _ rest _ wanted_of (λ d.
+    let rest : Target → Result Wanted Halt = λ target. bytes_moved m iovs count >>= λ bytes. in_memory m ret 4 >>= λ _. Ok (record { target = target; bytes = bytes }) in
+    both_through (open_descriptor h fd) _ rest _ wanted_of (λ d.
     both_through (no_directory h d) _ rest _ wanted_of (λ _.
     both_through (with_right fd_write_right d) _ rest _ wanted_of (λ _.
     let put : Bytes → Result Wanted Halt = λ bytes. in_memory m ret 4 >>= λ _. Ok (record { target = d.target; bytes = bytes }) in
@@ -66,9 +66,9 @@ wanted_is fd iovs count ret m h =
     through (in_memory m ret 4) _ _ wanted_of (λ _. refl))))))
 
 pub row_done : (fd iovs count ret s : ℕ) (m bytes : Bytes) (h : Host) → wanted fd iovs count ret m h ≡ Ok (record { target = Stream s; bytes = bytes })
-    → fd_write fd iovs count ret m h ≡ done (with_part m ret (u32_bytes (length bytes))) (stream_written s bytes h)
+    → fd_write fd iovs count ret m h ≡ call_done (with_part m ret (u32_bytes (length bytes))) (stream_written s bytes h)
 row_done fd iovs count ret s m bytes h e = row_is fd iovs count ret m h ∙ told (left fd iovs count ret m h) (sym (wanted_is fd iovs count ret m h) ∙ e) where
-  told : (r : Result Left Halt) → (r >>= wanted_of) ≡ Ok (record { target = Stream s; bytes = bytes }) → (r >>= write_left fd ret m h) ≡ done (with_part m ret (u32_bytes (length bytes))) (stream_written s bytes h)
+  told : (r : Result Left Halt) → (r >>= wanted_of) ≡ Ok (record { target = Stream s; bytes = bytes }) → (r >>= write_left fd ret m h) ≡ call_done (with_part m ret (u32_bytes (length bytes))) (stream_written s bytes h)
   told (Ok w) f =
       let same : record { target = w.descriptor.target; bytes = w.bytes } ≡ record { target = Stream s; bytes = bytes } = cc in
       let target : w.descriptor.target ≡ Stream s = ap (λ (x : Wanted). x.target) same in

@@ -1,15 +1,15 @@
 -- The host's side of a process as the code keeps it (this project's own).
 use Rattle.std.specs.Prelude.{◌≡◌, ℕ, ◌*◌, Bool, List, ◌+◌, ◌++◌, length, drop, Option, Ok, Err}
-use Rattle.wasi_abi.specs.Configs.{Settings}
-use Rattle.file_tree.specs.Files.{Files}
+use Rattle.wasi_abi.specs.rules.Configs.{Settings}
+use Rattle.file_tree.specs.rules.Files.{Files}
 use Rattle.file_tree.specs.declared.limits.TheConstants.{UNIT_BYTES}
-use Rattle.wasi_calls_rows.specs.Hosts.{Line, Descriptor, Host}
-use Rattle.wasi_calls_rows.specs.Checks.{Row}
-use Rattle.wasi_calls_rows.specs.Lines.{lines_ended}
+use Rattle.wasi_calls_rules.specs.Hosts.{Line, Descriptor, Host}
+use Rattle.wasi_calls_rules.specs.Checks.{Ruling}
+use Rattle.wasi_calls_rules.specs.Lines.{lines_ended}
 use Rattle.wasi_calls.specs.Outputs.{Output}
 
 -- A host whose lines are those that wait alone, and how many lines were released before them.
-pub record Held : Type 0 where
+pub record HeldHost : Type 0 where
   pub released : ℕ
   pub host : Host
 
@@ -19,14 +19,14 @@ behind_lines before h = record h { lines = before ++ h.lines }
 
 -- It shows a host that has emitted as many lines as were released, and then those that wait. Nothing is kept of the texts of
 -- the released ones, so it shows one host for each choice of them.
-pub record ShowsHost (held : Held) (h : Host) : Type 0 where
+pub record ShowsHost (held : HeldHost) (h : Host) : Type 0 where
   pub before : List Line
   pub count : length before ≡ held.released
   pub is : h ≡ behind_lines before held.host
 
 -- of its parts
-abbrev pub held_of : Settings → ℕ → Files → List (Option Descriptor) → List ℕ → Bool → ℕ → Output → Held
-held_of config limit files descriptors unread input_ended last_monotonic o = record {
+abbrev pub held_host_of : Settings → ℕ → Files → List (Option Descriptor) → List ℕ → Bool → ℕ → Output → HeldHost
+held_host_of config limit files descriptors unread input_ended last_monotonic o = record {
   released = o.released;
   host = record {
     files = files;
@@ -45,14 +45,14 @@ held_of config limit files descriptors unread input_ended last_monotonic o = rec
 }
 
 -- the process ends
-abbrev pub held_ended : Held → Held
+abbrev pub held_ended : HeldHost → HeldHost
 held_ended held = record held { host = lines_ended held.host }
 
 -- what a rule leads to, with other lines in front of the host's own
-abbrev pub behind_lines_of_row : List Line → Row → Row
+abbrev pub behind_lines_of_row : List Line → Ruling → Ruling
 behind_lines_of_row before (Ok done) = Ok (record { memory = done.memory; host = behind_lines before done.host })
 behind_lines_of_row before (Err halt) = Err halt
 
 -- the first so many lines that wait are released
-abbrev pub held_released : ℕ → Held → Held
+abbrev pub held_released : ℕ → HeldHost → HeldHost
 held_released count held = record { released = held.released + count; host = record held.host { lines = drop count held.host.lines } }

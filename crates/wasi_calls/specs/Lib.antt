@@ -3,5 +3,5 @@ pub mod Held
 pub mod Views
 pub mod Steps
 pub mod Writes
-pub mod Calls
-pub mod Laws
+pub mod laws
+pub mod rules

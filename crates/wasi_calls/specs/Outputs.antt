@@ -1,9 +1,9 @@
 -- The two output streams as the code keeps them (this project's own).
 use Rattle.std.specs.Prelude.{ℕ, ◌+◌, ◌==◌, ◌≤◌, nat_lt, if◌then◌else◌, List, [], ◌∷◌, ◌++◌, length}
-use Rattle.wasi_abi.specs.Answers.{newline}
-use Rattle.wasi_calls_rows.specs.Hosts.{Line}
-use Rattle.wasi_calls_rows.specs.Lines.{cut_all, rest_of}
-use Rattle.wasi_calls_rows.specs.declared.limits.TheConstants.{LINE_BYTES}
+use Rattle.wasi_abi.specs.rules.Answers.{newline}
+use Rattle.wasi_calls_rules.specs.Hosts.{Line}
+use Rattle.wasi_calls_rules.specs.Lines.{cut_all, rest_of}
+use Rattle.wasi_calls_rules.specs.declared.limits.TheConstants.{LINE_BYTES}
 
 -- the unfinished lines of streams 1 and 2, the emitted lines that wait, and how many went before them
 pub record Output : Type 0 where
@@ -30,10 +30,10 @@ abbrev pub output_ended : Output → Output
 output_ended o = record o { waiting = o.waiting ++ left_lines o; first = []; second = [] }
 
 -- there is room for as many lines as wait and an end would emit
-abbrev pub HasRoom : ℕ → Output → Type 0
-HasRoom places o = length o.waiting + length (left_lines o) ≤ places
+abbrev pub HasLineRoom : ℕ → Output → Type 0
+HasLineRoom places o = length o.waiting + length (left_lines o) ≤ places
 
 -- how many lines bytes end, where so many bytes are unfinished before them
-abbrev pub ended_by : ℕ → List ℕ → ℕ
-ended_by len [] = 0
-ended_by len (b ∷ bytes) = if b == newline then ended_by 0 bytes + 1 else if nat_lt len LINE_BYTES then ended_by (len + 1) bytes else ended_by 1 bytes + 1
+abbrev pub count_ended : ℕ → List ℕ → ℕ
+count_ended len [] = 0
+count_ended len (b ∷ bytes) = if b == newline then count_ended 0 bytes + 1 else if nat_lt len LINE_BYTES then count_ended (len + 1) bytes else count_ended 1 bytes + 1

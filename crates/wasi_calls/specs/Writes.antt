@@ -1,13 +1,14 @@
 -- The rule of `fd_write` up to the write itself, in the pieces that the code is made of (this project's own).
 use Rattle.std.specs.Prelude.{ℕ, ◌+◌, take, Result, Ok}
-use Rattle.wasi_abi.specs.Numbers.{fd_write_right}
-use Rattle.wasi_calls_rows.specs.Hosts.{Target, Host}
-use Rattle.wasi_calls_rows.specs.Checks.{Bytes, Halt, ◌>>=◌, opened, no_directory, with_right, in_memory, lent, u32_at, buffers, few_buffers, movable, gathered}
+use Rattle.wasi_abi.specs.rules.Numbers.{fd_write_right}
+use Rattle.wasi_calls_rules.specs.Hosts.{Target, Host}
+use Rattle.wasi_abi.specs.rules.Layouts.{u32_at}
+use Rattle.wasi_calls_rules.specs.Checks.{Bytes, Halt, ◌>>=◌, open_descriptor, no_directory, with_right, in_memory, lent, buffers, few_buffers, movable, gathered}
 
 -- what a descriptor names, where it can be written to
 abbrev pub writable : Host → ℕ → Result Target Halt
 writable h fd =
-    opened h fd >>= λ d.
+    open_descriptor h fd >>= λ d.
     no_directory h d >>= λ _.
     with_right fd_write_right d >>= λ _.
     Ok d.target
@@ -17,8 +18,8 @@ abbrev pub buffer_there : Bytes → ℕ → Result Bytes Halt
 buffer_there m at = lent m (u32_at m at) (u32_at m (at + 4))
 
 -- the bytes that a write of buffers moves
-abbrev pub moved : Bytes → ℕ → ℕ → Result Bytes Halt
-moved m iovs count =
+abbrev pub bytes_moved : Bytes → ℕ → ℕ → Result Bytes Halt
+bytes_moved m iovs count =
     few_buffers count >>= λ _.
     buffers m iovs count >>= λ bs.
     Ok (take (movable bs) (gathered m bs))
@@ -32,6 +33,6 @@ pub record Wanted : Type 0 where
 abbrev pub wanted : ℕ → ℕ → ℕ → ℕ → Bytes → Host → Result Wanted Halt
 wanted fd iovs count ret m h =
     writable h fd >>= λ target.
-    moved m iovs count >>= λ bytes.
+    bytes_moved m iovs count >>= λ bytes.
     in_memory m ret 4 >>= λ _.
     Ok (record { target = target; bytes = bytes })

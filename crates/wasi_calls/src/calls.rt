@@ -3,19 +3,19 @@
 ghost use Rattle.std.specs.Prelude.{◌≡◌, ◌+◌, ◌≤◌, ◌∷◌, [], length, option_copied, IfOk, IfErr, Option, Ok, Err};
 ghost use Rattle.wasm_syntax.specs.declared.types.ValueType.TheVariants.{I32};
 ghost use Rattle.wasi_abi.specs.declared.answer.Answer.{Answer};
-ghost use Rattle.wasi_abi.specs.Calls.{parameters_of};
-ghost use Rattle.wasi_calls_rows.specs.Hosts.{Host as TheHost};
-ghost use Rattle.wasi_calls_rows.specs.Checks.{Done, Halt};
-ghost use Rattle.wasi_calls_rows.specs.Rows.{row, Shows};
-ghost use Rattle.wasi_calls_rows.specs.declared.limits.TheConstants.{MOVED_BYTES};
+ghost use Rattle.wasi_abi.specs.rules.Calls.{parameters_of};
+ghost use Rattle.wasi_calls_rules.specs.Hosts.{Host as TheHost};
+ghost use Rattle.wasi_calls_rules.specs.Checks.{Done, Halt};
+ghost use Rattle.wasi_calls_rules.specs.Rows.{row, TellsRow};
+ghost use Rattle.wasi_calls_rules.specs.declared.limits.TheConstants.{MOVED_BYTES};
 ghost use Rattle.wasi_calls.specs.Held.{ShowsHost};
-ghost use Rattle.wasi_calls.specs.Calls.{IsBuilt, AreArguments, outcome_of, told_of, ShowsRow, EndsNothing, IsAsLarge};
-ghost use Rattle.wasi_calls.specs.declared.outcome.Outcome.TheVariants.{Memory as WantOfMemory};
+ghost use Rattle.wasi_calls.specs.rules.Calls.{IsBuilt, AreArguments, call_outcome, told_of, ShowsRow, EndsNothing, IsAsLarge};
+ghost use Rattle.wasi_calls.specs.declared.outcome.CallOutcome.TheVariants.{Memory as WantOfMemory};
 
 use crate::host::Host;
-use crate::outcome::Outcome;
-use crate::stop::Stop;
-use crate::write::{self, Arguments};
+use crate::outcome::CallOutcome;
+use crate::stop::CallStop;
+use crate::write::{self, WriteArguments};
 use guest_memory::Memory;
 use std::alloc::{AllocError, Global};
 use wasi_abi::{Answer, Call};
@@ -31,10 +31,10 @@ pub fn call(
     call: Call,
     arguments: &[u64],
     answer: Option<&Answer>,
-) -> Outcome
+) -> CallOutcome
     requires built { IsBuilt call }
     requires typed { AreArguments (parameters_of call) arguments.now }
-    ensures told { Shows (told_of result) memory.new.bytes host.new.host memory.old.bytes host.old.host
+    ensures told { TellsRow (told_of result) memory.new.bytes host.new.host memory.old.bytes host.old.host
         (row call arguments.now (option_copied answer.entry) memory.old.bytes host.old.host) }
     ensures released { host.new.released ≡ host.old.released }
     ensures shown { (h : TheHost) → ShowsHost host.old h
@@ -45,7 +45,7 @@ pub fn call(
     let _ = answer;
     match call {
         Call::FdWrite => outcome(write::write(alloc, host, memory, write_arguments(arguments))),
-        Call::ProcExit => Outcome::Exit(exit_code(arguments)),
+        Call::ProcExit => CallOutcome::Exit(exit_code(arguments)),
         _ => unreachable!(),
     }
 }
@@ -71,19 +71,19 @@ pub fn lines_emitted(
     match call {
         Call::FdWrite => match write::check(alloc, host, memory, write_arguments(arguments)) {
             Ok(wanted) => Ok(host.lines_of(wanted.stream, &wanted.bytes)),
-            Err(Stop::Refused(_)) => Ok(0),
-            Err(Stop::Memory) => Err(AllocError),
+            Err(CallStop::Refused(_)) => Ok(0),
+            Err(CallStop::Memory) => Err(AllocError),
         },
         Call::ProcExit => Ok(0),
         _ => unreachable!(),
     }
 }
 
-fn write_arguments(arguments: &[u64]) -> Arguments
+fn write_arguments(arguments: &[u64]) -> WriteArguments
     requires { AreArguments (I32 ∷ I32 ∷ I32 ∷ I32 ∷ []) arguments.now }
     ensures { arguments.now ≡ result.fd ∷ result.iovecs ∷ result.count ∷ result.ret ∷ [] }
 {
-    Arguments {
+    WriteArguments {
         fd: arguments[0] as u32,
         iovecs: arguments[1] as u32,
         count: arguments[2] as u32,
@@ -98,12 +98,12 @@ fn exit_code(arguments: &[u64]) -> u32
     arguments[0] as u32
 }
 
-fn outcome(ended: Result<(), Stop>) -> Outcome
-    ensures { result ≡ outcome_of ended }
+fn outcome(ended: Result<(), CallStop>) -> CallOutcome
+    ensures { result ≡ call_outcome ended }
 {
     match ended {
-        Ok(()) => Outcome::Done(None),
-        Err(Stop::Refused(error)) => Outcome::Done(Some(error)),
-        Err(Stop::Memory) => Outcome::Memory,
+        Ok(()) => CallOutcome::Done(None),
+        Err(CallStop::Refused(error)) => CallOutcome::Done(Some(error)),
+        Err(CallStop::Memory) => CallOutcome::Memory,
     }
 }

@@ -1,14 +1,14 @@
 //! Bytes of a stream, cut into lines.
 
 ghost use Rattle.std.specs.Prelude.{◌≡◌, ◌≤◌, [], ◌∷◌, ◌++◌, length, IfOk, OnOk};
-ghost use Rattle.wasi_calls_rows.specs.Lines.{cut_byte, cut_all};
-ghost use Rattle.wasi_calls.specs.Outputs.{ended_by};
+ghost use Rattle.wasi_calls_rules.specs.Lines.{cut_byte, cut_all};
+ghost use Rattle.wasi_calls.specs.Outputs.{count_ended};
 
 use crate::line::Line;
 use std::alloc::{AllocError, Global};
 use std::marker::Model;
 use std::mem;
-use wasi_calls_rows::limits::LINE_BYTES;
+use wasi_calls_rules::limits::LINE_BYTES;
 
 /// Whole lines, and the bytes of the line that is not finished.
 #[derive(Drop)]
@@ -18,7 +18,7 @@ pub struct Cut {
 }
 
 impl Model for Cut {
-    ghost use Rattle.wasi_calls_rows.specs.Lines.{Cut as LinesAndRest};
+    ghost use Rattle.wasi_calls_rules.specs.Lines.{Cut as LinesAndRest};
 
     ghost Value = { LinesAndRest };
 
@@ -73,7 +73,7 @@ impl Cut {
 
 /// How many lines bytes end, where so many bytes are unfinished before them. It takes no memory.
 pub fn count_lines(unfinished: usize, bytes: &[u8]) -> usize
-    ensures value { result ≡ ended_by unfinished bytes.now }
+    ensures value { result ≡ count_ended unfinished bytes.now }
     ensures few { result ≤ length bytes.now }
 {
     let mut lines = 0;

@@ -1,7 +1,7 @@
 //! What a process has opened.
 
 ghost use Rattle.std.specs.Prelude.{◌≡◌};
-ghost use Rattle.wasi_abi.specs.Numbers.{rights_number};
+ghost use Rattle.wasi_abi.specs.rules.Numbers.{rights_number};
 
 use std::marker::Model;
 use wasi_abi::Rights;
@@ -24,8 +24,8 @@ pub struct Descriptor {
 }
 
 impl Model for Descriptor {
-    ghost use Rattle.wasi_abi.specs.Numbers.{rights_number};
-    ghost use Rattle.wasi_calls_rows.specs.Hosts.{Descriptor as Opened};
+    ghost use Rattle.wasi_abi.specs.rules.Numbers.{rights_number};
+    ghost use Rattle.wasi_calls_rules.specs.Hosts.{Descriptor as Opened};
 
     ghost Value = { Opened };
 
@@ -35,7 +35,7 @@ impl Model for Descriptor {
 }
 
 impl Descriptor {
-    ghost use Rattle.wasi_calls_rows.specs.Hosts.{Node, stream};
+    ghost use Rattle.wasi_calls_rules.specs.Hosts.{Node, stream};
     ghost use Rattle.wasi_calls.specs.Views.{target_of};
 
     /// A stream with these rights.

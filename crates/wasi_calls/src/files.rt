@@ -1,7 +1,7 @@
 //! The files of a process. No call that is built changes one, so there is an empty root alone.
 
 ghost use Rattle.std.specs.Prelude.{◌≡◌, true};
-ghost use Rattle.file_tree.specs.Files.{FileNode, node_of, fresh, is_directory};
+ghost use Rattle.file_tree.specs.rules.Files.{FileNode, node_of, fresh, is_directory};
 
 use std::marker::Model;
 
@@ -13,7 +13,7 @@ pub struct Files {
 
 impl Model for Files {
     ghost use Rattle.std.specs.Prelude.{◌≡◌};
-    ghost use Rattle.file_tree.specs.Files.{Files as Tree, fresh};
+    ghost use Rattle.file_tree.specs.rules.Files.{Files as Tree, fresh};
 
     ghost Value = { Tree };
 

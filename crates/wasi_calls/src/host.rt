@@ -2,10 +2,10 @@
 
 ghost use Rattle.std.specs.Prelude.{true, false, ◌≡◌, ◌+◌, ◌*◌, ◌<◌, ◌≤◌, ◌^◌, ◌++◌, length, IfOk, OnOk, OnErr};
 ghost use Rattle.file_tree.specs.declared.limits.TheConstants.{UNIT_BYTES};
-ghost use Rattle.wasi_calls_rows.specs.Hosts.{Host as TheHost, IsThere, IsHost, first_descriptors, first_host};
-ghost use Rattle.wasi_calls_rows.specs.Checks.{opened, is_stream, names_directory};
-ghost use Rattle.wasi_calls_rows.specs.Lines.{stream_written, rest_of, lines_ended};
-ghost use Rattle.wasi_calls.specs.Steps.{Gives};
+ghost use Rattle.wasi_calls_rules.specs.Hosts.{Host as TheHost, IsThere, IsHost, first_descriptors, first_host};
+ghost use Rattle.wasi_calls_rules.specs.Checks.{open_descriptor, is_stream, names_directory};
+ghost use Rattle.wasi_calls_rules.specs.Lines.{stream_written, rest_of, lines_ended};
+ghost use Rattle.wasi_calls.specs.Steps.{GivesValue};
 ghost use Rattle.wasi_calls.specs.Writes.{writable};
 
 use crate::descriptor::{Descriptor, Names};
@@ -15,7 +15,7 @@ use crate::streams::Streams;
 use std::alloc::{AllocError, Global};
 use std::marker::Model;
 use wasi_abi::{Config, Errno, Rights};
-use wasi_calls_rows::limits::DESCRIPTORS;
+use wasi_calls_rules::limits::DESCRIPTORS;
 
 /// The number of the root.
 const ROOT: u64 = 1;
@@ -38,18 +38,18 @@ pub struct Host {
 }
 
 impl Model for Host {
-    ghost use Rattle.wasi_calls_rows.specs.Hosts.{IsHost};
-    ghost use Rattle.wasi_calls.specs.Held.{Held, held_of};
+    ghost use Rattle.wasi_calls_rules.specs.Hosts.{IsHost};
+    ghost use Rattle.wasi_calls.specs.Held.{HeldHost, held_host_of};
 
-    ghost Value = { Held };
+    ghost Value = { HeldHost };
 
-    ghost view = { λ h. held_of h.config h.limit h.files h.descriptors.items h.unread.items h.input_ended h.last_monotonic h.streams };
+    ghost view = { λ h. held_host_of h.config h.limit h.files h.descriptors.items h.unread.items h.input_ended h.last_monotonic h.streams };
 
-    ghost invariant = { λ h. IsHost (held_of h.config h.limit h.files h.descriptors.items h.unread.items h.input_ended h.last_monotonic h.streams).host };
+    ghost invariant = { λ h. IsHost (held_host_of h.config h.limit h.files h.descriptors.items h.unread.items h.input_ended h.last_monotonic h.streams).host };
 }
 
 impl Host {
-    ghost use Rattle.wasi_calls.specs.Held.{Held, ShowsHost, held_ended, held_released};
+    ghost use Rattle.wasi_calls.specs.Held.{HeldHost, ShowsHost, held_ended, held_released};
     ghost use Rattle.wasi_calls.specs.Views.{target_of};
 
     /// The host of a process that begins. `limit` is that of a request's text and of random bytes. It
@@ -71,10 +71,10 @@ impl Host {
 
     /// What a descriptor names, where it can be written to.
     pub(crate) fn writable(&self, fd: u32) -> Result<Names, Errno>
-        ensures gives { Gives target_of result (writable self.now.host fd) }
+        ensures gives { GivesValue target_of result (writable self.now.host fd) }
         ensures stream { IfOk result (λ names. is_stream (target_of names) ≡ true) }
     {
-        let descriptor = self.opened(fd)?;
+        let descriptor = self.find_descriptor(fd)?;
         let names = descriptor.names();
         if self.is_directory(names) {
             return Err(Errno::Isdir);
@@ -85,8 +85,8 @@ impl Host {
         Ok(names)
     }
 
-    fn opened(&self, fd: u32) -> Result<&Descriptor, Errno>
-        ensures gives { Gives (λ d. d.now) result (opened self.now.host fd) }
+    fn find_descriptor(&self, fd: u32) -> Result<&Descriptor, Errno>
+        ensures gives { GivesValue (λ d. d.now) result (open_descriptor self.now.host fd) }
         ensures shape { IsHost self.now.host }
     {
         match self.descriptors.get(fd as usize) {
@@ -128,18 +128,18 @@ impl Host {
     }
 
     /// The lines that wait to be released, in the order in which they were emitted.
-    pub fn waiting(&self) -> &[Line]
+    pub fn waiting_lines(&self) -> &[Line]
         ensures lines { result.now ≡ self.now.host.lines }
         ensures shape { IsHost self.now.host }
     {
-        self.streams.waiting()
+        self.streams.waiting_lines()
     }
 
     /// How many lines were released: the first one that waits has the next number, and numbers begin at 1.
-    pub fn released(&self) -> u64
+    pub fn released_count(&self) -> u64
         ensures { result ≡ self.now.released }
     {
-        self.streams.released()
+        self.streams.released_count()
     }
 
     /// The first so many lines that wait are released.

@@ -1,5 +1,34 @@
-//! The calls of WASI preview 1 (this project's profile), and the host's side of a process that they
-//! change. `fd_write` and `proc_exit` are built.
+//! The calls of WASI preview 1 under this project's profile, and the host's side of a process that
+//! they change. Two of the 31 calls are built: `fd_write` and `proc_exit`.
+//!
+//! # Promises
+//!
+//! - `call`: what it tells, and what it leaves of host and memory, is what the rule of the call
+//!   says (`told`). That holds of every host that is shown (`shown`). But for a call that is done,
+//!   nothing has changed. It releases no line (`released`), and memory is as large as before
+//!   (`large`).
+//! - `call` has no want of memory for a call that ends the process (`wants`). It asks for a built
+//!   call with arguments of its types (`built`, `typed`).
+//! - `lines_emitted`: how many lines such a call would emit if it is done (`count`), and else none
+//!   (`none`). They are at most `MOVED_BYTES` (`few`).
+//! - `Host::new` is the first host of the rules. `waiting_lines` and `released_count` are its
+//!   lines.
+//! - `Host::release` takes lines off, and `Host::end` emits what is not finished (`changed`). Both
+//!   go on showing the rules' host (`shown`).
+//! - `laws::calls_emit_few_lines`: a built call emits no more lines than it may move bytes.
+//!
+//! # Definitions to read
+//!
+//! `specs/rules/Calls.antt`: `IsBuilt`, `AreArguments`, `ShowsRow`, `EndsNothing`.
+//! `specs/Held.antt`: `HeldHost` and `ShowsHost`, which say which hosts of the rules the code's
+//! host is. The rules themselves are `row` and `Host` of `wasi_calls_rules`.
+//!
+//! # Who may touch what
+//!
+//! Only this crate knows how descriptors, streams and unfinished lines are kept. Of the files it
+//! has the empty root alone. `process` uses it. It stands on `wasi_calls_rules`, `wasi_abi` and
+//! `guest_memory`, and on definitions of `file_tree`. `Host::new`, `call` and `lines_emitted` take
+//! memory; without it nothing changes. `release` and `end` take none.
 #![tactic(auto)]
 
 mod calls;
@@ -13,11 +42,9 @@ mod memory;
 mod outcome;
 mod stop;
 mod streams;
-#[cfg(test)]
-mod tests;
 mod write;
 
 pub use calls::{call, lines_emitted};
 pub use host::Host;
 pub use line::Line;
-pub use outcome::Outcome;
+pub use outcome::CallOutcome;

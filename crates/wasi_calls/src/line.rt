@@ -12,7 +12,7 @@ pub struct Line {
 }
 
 impl Model for Line {
-    ghost use Rattle.wasi_calls_rows.specs.Hosts.{Line as Written};
+    ghost use Rattle.wasi_calls_rules.specs.Hosts.{Line as Written};
 
     ghost Value = { Written };
 

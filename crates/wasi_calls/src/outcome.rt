@@ -4,7 +4,7 @@ use wasi_abi::{Errno, Kind};
 
 /// What a caller is told.
 #[derive(Clone, Copy, Debug, PartialEq, Eq)]
-pub enum Outcome {
+pub enum CallOutcome {
     /// The call is over, with an error number or none.
     Done(Option<Errno>),
     /// It wants this answer, and then to be called again.

@@ -1,30 +1,30 @@
 //! Why a call has changed nothing.
 
 ghost use Rattle.std.specs.Prelude.{◌≡◌};
-ghost use Rattle.wasi_calls.specs.declared.stop.Stop.TheVariants.{Refused, Memory as WantOfMemory};
+ghost use Rattle.wasi_calls.specs.declared.stop.CallStop.TheVariants.{Refused, Memory as WantOfMemory};
 
 use std::alloc::AllocError;
 use wasi_abi::Errno;
 
 /// Why a step of a call didn't give what it is to give.
 #[derive(Clone, Copy, Debug, PartialEq, Eq)]
-pub enum Stop {
+pub enum CallStop {
     Refused(Errno),
     Memory,
 }
 
-impl From<Errno> for Stop {
+impl From<Errno> for CallStop {
     ghost from_gives = { λ error stop. stop ≡ Refused error };
 
-    fn from(error: Errno) -> Stop {
-        Stop::Refused(error)
+    fn from(error: Errno) -> CallStop {
+        CallStop::Refused(error)
     }
 }
 
-impl From<AllocError> for Stop {
+impl From<AllocError> for CallStop {
     ghost from_gives = { λ _ stop. stop ≡ WantOfMemory };
 
-    fn from(_error: AllocError) -> Stop {
-        Stop::Memory
+    fn from(_error: AllocError) -> CallStop {
+        CallStop::Memory
     }
 }

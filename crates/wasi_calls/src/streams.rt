@@ -1,7 +1,7 @@
 //! The output streams, and the lines that wait to be released.
 
 ghost use Rattle.std.specs.Prelude.{◌≡◌, ◌+◌, ◌<◌, ◌≤◌, ◌^◌, ◌++◌, length, drop, OnOk, OnErr, vec_len, vec_capacity};
-ghost use Rattle.wasi_calls_rows.specs.Lines.{cut_all, rest_of};
+ghost use Rattle.wasi_calls_rules.specs.Lines.{cut_all, rest_of};
 
 use crate::cut::{Cut, count_lines};
 use crate::line::Line;
@@ -21,13 +21,13 @@ pub struct Streams {
 
 impl Model for Streams {
     ghost use Rattle.std.specs.Prelude.{vec_capacity};
-    ghost use Rattle.wasi_calls.specs.Outputs.{Output, HasRoom};
+    ghost use Rattle.wasi_calls.specs.Outputs.{Output, HasLineRoom};
 
     ghost Value = { Output };
 
     ghost view = { λ s. record { first = s.first.items; second = s.second.items; waiting = s.waiting.items; released = s.released } };
 
-    ghost invariant = { λ s. HasRoom (vec_capacity s.waiting) (record { first = s.first.items; second = s.second.items; waiting = s.waiting.items; released = s.released }) };
+    ghost invariant = { λ s. HasLineRoom (vec_capacity s.waiting) (record { first = s.first.items; second = s.second.items; waiting = s.waiting.items; released = s.released }) };
 }
 
 impl Streams {
@@ -84,14 +84,14 @@ impl Streams {
     }
 
     /// The lines that wait, in the order in which they were emitted.
-    pub fn waiting(&self) -> &[Line]
+    pub fn waiting_lines(&self) -> &[Line]
         ensures { result.now ≡ self.now.waiting }
     {
         self.waiting.as_slice()
     }
 
     /// How many lines were released.
-    pub fn released(&self) -> u64
+    pub fn released_count(&self) -> u64
         ensures { result ≡ self.now.released }
     {
         self.released

@@ -1,17 +1,17 @@
 //! `fd_write`.
 
 ghost use Rattle.std.specs.Prelude.{◌≡◌, ◌+◌, ◌≤◌, length, IfOk, IfErr, OnOk};
-ghost use Rattle.wasi_calls_rows.specs.Hosts.{Stream};
-ghost use Rattle.wasi_calls_rows.specs.Moving.{fd_write};
-ghost use Rattle.wasi_calls_rows.specs.declared.limits.TheConstants.{MOVED_BYTES};
-ghost use Rattle.wasi_calls.specs.Calls.{IsAsLarge};
-ghost use Rattle.wasi_calls.specs.Steps.{GivesWithMemory, Stops};
+ghost use Rattle.wasi_calls_rules.specs.Hosts.{Stream};
+ghost use Rattle.wasi_calls_rules.specs.Moving.{fd_write};
+ghost use Rattle.wasi_calls_rules.specs.declared.limits.TheConstants.{MOVED_BYTES};
+ghost use Rattle.wasi_calls.specs.rules.Calls.{IsAsLarge};
+ghost use Rattle.wasi_calls.specs.Steps.{GivesWithMemory, StopsStep};
 ghost use Rattle.wasi_calls.specs.Writes.{wanted};
 
 use crate::descriptor::Names;
 use crate::host::Host;
 use crate::memory::{gather, in_range};
-use crate::stop::Stop;
+use crate::stop::CallStop;
 use guest_memory::Memory;
 use std::alloc::Global;
 
@@ -24,7 +24,7 @@ pub struct Wanted {
 
 /// The arguments of a call that writes.
 #[derive(Clone, Copy)]
-pub struct Arguments {
+pub struct WriteArguments {
     pub fd: u32,
     /// Where the iovecs lie, and how many they are.
     pub iovecs: u32,
@@ -38,8 +38,8 @@ pub fn check(
     alloc: Global,
     host: &Host,
     memory: &Memory,
-    arguments: Arguments,
-) -> Result<Wanted, Stop>
+    arguments: WriteArguments,
+) -> Result<Wanted, CallStop>
     ensures gives { GivesWithMemory (λ w. record { target = Stream w.stream; bytes = w.bytes.items }) result
         (wanted arguments.fd arguments.iovecs arguments.count arguments.ret memory.now.bytes host.now.host) }
     ensures room { IfOk result (λ w. arguments.ret + 4 ≤ length memory.now.bytes) }
@@ -59,12 +59,12 @@ pub fn write(
     alloc: Global,
     host: &mut Host,
     memory: &mut Memory,
-    arguments: Arguments,
-) -> Result<(), Stop>
+    arguments: WriteArguments,
+) -> Result<(), CallStop>
     ensures done { OnOk result (fd_write arguments.fd arguments.iovecs arguments.count arguments.ret memory.old.bytes host.old.host
         ≡ Ok (record { memory = memory.new.bytes; host = host.new.host })) }
     ensures stopped { IfErr result (λ why.
-        Stops why (fd_write arguments.fd arguments.iovecs arguments.count arguments.ret memory.old.bytes host.old.host)) }
+        StopsStep why (fd_write arguments.fd arguments.iovecs arguments.count arguments.ret memory.old.bytes host.old.host)) }
     ensures memory_kept { IfErr result (λ _. memory.new ≡ memory.old) }
     ensures host_kept { IfErr result (λ _. host.new ≡ host.old) }
     ensures released { host.new.released ≡ host.old.released }

@@ -5,13 +5,13 @@ use Rattle.std.proofs.lemmas.Bool.{eqb-true, eq-eqb, eqb-false, ne_eqb}
 use Rattle.std.proofs.lemmas.List.{append-nil, length-map}
 use Rattle.wasm_syntax.specs.declared.module.Function.{Function}
 use Rattle.wasm_syntax.specs.declared.module.Code.{Code}
-use Rattle.wasm_syntax_grammar.specs.Modules.{function_type_of, code_of}
-use Rattle.wasm_syntax_grammar.specs.ReadingItems.{◌>>=◌, check, u32_at, items_at, vector_at, sized_at}
-use Rattle.wasm_syntax_grammar.specs.ReadingModules.{field_at, functions_of}
-use Rattle.wasm_syntax_grammar.specs.ReadingWithin.{code_within_at}
-use Rattle.wasm_syntax_grammar.proofs.Exact.{bind_some, some_is}
-use Rattle.wasm_syntax_grammar.proofs.Whole.{functions_sound}
-use Rattle.wasm_decode_items.proofs.Binds.{bind_bind, bind_same, bind_none, bind_swap}
+use Rattle.wasm_syntax.specs.rules.Modules.{function_type_of, code_of}
+use Rattle.wasm_syntax.specs.laws.ReadingItems.{◌>>=◌, check, leb_u32_at, items_at, vector_at, sized_at}
+use Rattle.wasm_syntax.specs.laws.ReadingModules.{field_at, functions_of}
+use Rattle.wasm_syntax.specs.laws.ReadingWithin.{code_within_at}
+use Rattle.wasm_syntax.proofs.Grammar.Exact.{bind_some, some_is}
+use Rattle.wasm_syntax.proofs.Grammar.Whole.{functions_sound}
+use Rattle.wasm_decode.proofs.ItemLemmas.Binds.{bind_bind, bind_same, bind_none, bind_swap}
 use Rattle.wasm_decode.specs.Contents.{functions_onto_at, functions_at}
 
 -- ---- one more entry
@@ -109,7 +109,7 @@ ends_joined ts codes = by_both (functions_of ts codes.0) (eqb (length codes.1) 0
 
 whole_codes : (ts : List ℕ) (b : List ℕ) → (functions_at ts b >>= ends) ≡ ((vector_at (sized_at code_within_at) b >>= ends) >>= functions_of ts)
 unfolding functions_at vector_at
-whole_codes ts b = by_count (u32_at b) where
+whole_codes ts b = by_count (leb_u32_at b) where
   by_test : (count : ℕ × List ℕ) (same : Bool) → eqb count.0 (length ts) ≡ same
       → ((check same >>= λ _. functions_onto_at ts [] count.1) >>= ends) ≡ ((items_at (sized_at code_within_at) count.0 count.1 >>= ends) >>= functions_of ts)
   by_test count true is_same =

@@ -6,16 +6,16 @@ use Rattle.std.proofs.lemmas.List.Sums.{sum_by-append}
 use Rattle.wasm_syntax.specs.declared.module.Import.{Import}
 use Rattle.wasm_syntax.specs.declared.module.ImportItem.{ImportItem}
 use Rattle.wasm_syntax.specs.declared.module.ImportItem.TheVariants as import
-use Rattle.wasm_syntax_grammar.specs.declared.limits.TheConstants.{FUNCTIONS}
-use Rattle.wasm_syntax_grammar.specs.Limits.{is_function}
-use Rattle.wasm_syntax_grammar.specs.ReadingItems.{◌>>=◌, check, u32_at, items_at, vector_at}
-use Rattle.wasm_syntax_grammar.specs.ReadingModules.{field_at}
-use Rattle.wasm_syntax_grammar.specs.ReadingWithin.{import_within_at, functions_left}
-use Rattle.wasm_syntax_grammar.proofs.Exact.{some_is}
-use Rattle.wasm_syntax_grammar.proofs.Loops.{with_front, items_go_on, items_fail}
-use Rattle.wasm_decode_items.specs.Entries.{is_one_too_many, import_up_to_at}
-use Rattle.wasm_decode_items.proofs.Binds.{bind_bind, bind_none}
-use Rattle.wasm_decode_items.proofs.Imports.{bounded, import_is_bounded}
+use Rattle.wasm_syntax.specs.declared.limits.TheConstants.{FUNCTIONS}
+use Rattle.wasm_syntax.specs.rules.Limits.{is_function}
+use Rattle.wasm_syntax.specs.laws.ReadingItems.{◌>>=◌, check, leb_u32_at, items_at, vector_at}
+use Rattle.wasm_syntax.specs.laws.ReadingModules.{field_at}
+use Rattle.wasm_syntax.specs.laws.ReadingWithin.{import_within_at, functions_left}
+use Rattle.wasm_syntax.proofs.Grammar.Exact.{some_is}
+use Rattle.wasm_syntax.proofs.Grammar.Loops.{with_front, items_go_on, items_fail}
+use Rattle.wasm_decode.specs.Items.Entries.{is_one_too_many, import_up_to_at}
+use Rattle.wasm_decode.proofs.ItemLemmas.Binds.{bind_bind, bind_none}
+use Rattle.wasm_decode.proofs.ItemLemmas.Imports.{bounded, import_is_bounded}
 use Rattle.wasm_decode.specs.declared.imported.Imports.{Imports}
 use Rattle.wasm_decode.specs.Contents.{functions_of_item, imports_at, no_imports}
 
@@ -95,11 +95,11 @@ module _ (front : List Import) (count i functions : ℕ) (bytes : List ℕ) (tot
   imports_fail lt counted e so_far = by_alone (import_within_at bytes) refl (sym (import_is_bounded functions bytes) ∙ e) lt counted so_far
 
 -- the same behind the count
-pub imports_behind_count : (bytes : List ℕ) (count : ℕ) (after : List ℕ) → u32_at bytes ≡ Some (count, after) → imports_at bytes ≡ (items_at import_within_at count after >>= few)
+pub imports_behind_count : (bytes : List ℕ) (count : ℕ) (after : List ℕ) → leb_u32_at bytes ≡ Some (count, after) → imports_at bytes ≡ (items_at import_within_at count after >>= few)
 unfolding imports_at vector_at
 imports_behind_count bytes count after e = rw e refl
 
-pub imports_without_count : (bytes : List ℕ) → u32_at bytes ≡ None → imports_at bytes ≡ None
+pub imports_without_count : (bytes : List ℕ) → leb_u32_at bytes ≡ None → imports_at bytes ≡ None
 unfolding imports_at vector_at
 imports_without_count bytes e = rw e refl
 

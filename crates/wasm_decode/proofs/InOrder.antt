@@ -3,11 +3,11 @@ use Rattle.std.proofs.Common.{◌≡◌, ℕ, ◌<◌, eqb, List, [], length, Op
 use Rattle.wasm_syntax.specs.declared.types.FunctionType.{FunctionType}
 use Rattle.wasm_syntax.specs.declared.module.Module.{Module}
 use Rattle.wasm_syntax.specs.declared.module.Import.{Import}
-use Rattle.wasm_syntax_grammar.specs.declared.limits.TheConstants.{GLOBALS}
-use Rattle.wasm_syntax_grammar.specs.ReadingItems.{◌>>=◌, check, u32_at, vector_at, vector_up_to_at, sized_at, memory_type_at}
-use Rattle.wasm_syntax_grammar.specs.ReadingModules.{export_at, start_at, field_at, functions_of}
-use Rattle.wasm_syntax_grammar.specs.ReadingWithin.{function_type_within_at, import_within_at, table_type_within_at, global_within_at, element_within_at, data_within_at, code_within_at, functions_left, contents_within_at}
-use Rattle.wasm_decode_items.proofs.Binds.{bind_same}
+use Rattle.wasm_syntax.specs.declared.limits.TheConstants.{GLOBALS}
+use Rattle.wasm_syntax.specs.laws.ReadingItems.{◌>>=◌, check, leb_u32_at, vector_at, vector_up_to_at, sized_at, memory_type_at}
+use Rattle.wasm_syntax.specs.laws.ReadingModules.{export_at, start_at, field_at, functions_of}
+use Rattle.wasm_syntax.specs.laws.ReadingWithin.{function_type_within_at, import_within_at, table_type_within_at, global_within_at, element_within_at, data_within_at, code_within_at, functions_left, contents_within_at}
+use Rattle.wasm_decode.proofs.ItemLemmas.Binds.{bind_same}
 use Rattle.wasm_decode.specs.Contents.{functions_at, contents_read}
 use Rattle.wasm_decode.proofs.Imports.{imports_step}
 use Rattle.wasm_decode.proofs.Functions.{codes_step}
@@ -15,7 +15,7 @@ use Rattle.wasm_decode.proofs.Functions.{codes_step}
 -- what stands behind the imports, by types and code apart
 abbrev rest_within : (ℕ → Option (List ℕ)) → List FunctionType → List Import → ℕ → Option Module
 rest_within body types imports left =
-    field_at (vector_up_to_at u32_at left) [] (body 3) >>= λ function_types.
+    field_at (vector_up_to_at leb_u32_at left) [] (body 3) >>= λ function_types.
     field_at (vector_at table_type_within_at) [] (body 4) >>= λ tables.
     field_at (vector_at memory_type_at) [] (body 5) >>= λ memories.
     field_at (vector_up_to_at global_within_at GLOBALS) [] (body 6) >>= λ globals.
@@ -30,7 +30,7 @@ rest_within body types imports left =
 -- the same, by functions
 abbrev rest_read : (ℕ → Option (List ℕ)) → List FunctionType → List Import → ℕ → Option Module
 rest_read body types imports left =
-    field_at (vector_up_to_at u32_at left) [] (body 3) >>= λ function_types.
+    field_at (vector_up_to_at leb_u32_at left) [] (body 3) >>= λ function_types.
     field_at (vector_at table_type_within_at) [] (body 4) >>= λ tables.
     field_at (vector_at memory_type_at) [] (body 5) >>= λ memories.
     field_at (vector_up_to_at global_within_at GLOBALS) [] (body 6) >>= λ globals.
@@ -44,7 +44,7 @@ rest_read body types imports left =
 
 rest_are : (body : ℕ → Option (List ℕ)) (types : List FunctionType) (imports : List Import) (left : ℕ) → rest_within body types imports left ≡ rest_read body types imports left
 rest_are body types imports left =
-    bind_same (field_at (vector_up_to_at u32_at left) [] (body 3)) _ _ (λ function_types.
+    bind_same (field_at (vector_up_to_at leb_u32_at left) [] (body 3)) _ _ (λ function_types.
     bind_same (field_at (vector_at table_type_within_at) [] (body 4)) _ _ (λ tables.
     bind_same (field_at (vector_at memory_type_at) [] (body 5)) _ _ (λ memories.
     bind_same (field_at (vector_up_to_at global_within_at GLOBALS) [] (body 6)) _ _ (λ globals.

@@ -3,3 +3,4 @@ pub mod Imports
 pub mod InOrder
 pub mod Modules
 pub mod Rising
+pub mod ItemLemmas

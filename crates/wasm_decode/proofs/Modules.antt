@@ -3,21 +3,21 @@ use Rattle.std.proofs.Common.{◌≡◌, ◌≢◌, ℕ, ◌<◌, ◌≤◌, leb
 use Rattle.std.specs.Prelude.{MatchOption}
 use Rattle.std.proofs.lemmas.Bool.{le-leb, lt-leb}
 use Rattle.wasm_syntax.specs.declared.module.Module.{Module}
-use Rattle.wasm_syntax_grammar.specs.declared.limits.TheConstants.{MODULE_BYTES}
-use Rattle.wasm_syntax_grammar.specs.Modules.{Section, body_of, preamble}
-use Rattle.wasm_syntax_grammar.specs.Limits.{HasNoModule}
-use Rattle.wasm_syntax_grammar.specs.ReadingItems.{◌>>=◌, check, fixed_at}
-use Rattle.wasm_syntax_grammar.specs.ReadingModules.{sections_at}
-use Rattle.wasm_syntax_grammar.specs.ReadingWithin.{contents_within_at, module_within_at}
-use Rattle.wasm_syntax_grammar.proofs.Rising.{sections_sound, sections_complete}
-use Rattle.wasm_syntax_grammar.proofs.WholeWithin.{no_module_within}
-use Rattle.wasm_decode_items.specs.declared.span.Span.{Span}
-use Rattle.wasm_decode_items.specs.declared.fault.ReadError.{ReadError}
-use Rattle.wasm_decode_items.specs.declared.fault.ReadError.TheVariants as read
-use Rattle.wasm_decode_items.specs.Answers.{Fails}
-use Rattle.wasm_decode_items.proofs.Binds.{bind_none}
+use Rattle.wasm_syntax.specs.declared.limits.TheConstants.{MODULE_BYTES}
+use Rattle.wasm_syntax.specs.rules.Modules.{Section, body_of, preamble}
+use Rattle.wasm_syntax.specs.rules.Limits.{HasNoModule}
+use Rattle.wasm_syntax.specs.laws.ReadingItems.{◌>>=◌, check, fixed_at}
+use Rattle.wasm_syntax.specs.laws.ReadingModules.{sections_at}
+use Rattle.wasm_syntax.specs.laws.ReadingWithin.{contents_within_at, module_within_at}
+use Rattle.wasm_syntax.proofs.Grammar.Rising.{sections_sound, sections_complete}
+use Rattle.wasm_syntax.proofs.Grammar.WholeWithin.{no_module_within}
+use Rattle.wasm_decode.specs.declared.items.span.Span.{Span}
+use Rattle.wasm_decode.specs.declared.items.fault.ReadError.{ReadError}
+use Rattle.wasm_decode.specs.declared.items.fault.ReadError.TheVariants as read
+use Rattle.wasm_decode.specs.Items.Answers.{FailsToRead}
+use Rattle.wasm_decode.proofs.ItemLemmas.Binds.{bind_none}
 use Rattle.wasm_decode.specs.declared.fault.DecodeFault.TheVariants.{Memory}
-use Rattle.wasm_decode.specs.Faults.{fault_of}
+use Rattle.wasm_decode.specs.rules.Faults.{decode_fault}
 use Rattle.wasm_decode.specs.Sections.{held, NoSections, Splits}
 use Rattle.wasm_decode.specs.Contents.{contents_read}
 use Rattle.wasm_decode.proofs.InOrder.{contents_are, contents_same}
@@ -67,6 +67,6 @@ module _ {R : Type 0} (bytes after : List ℕ) (x : Unit {0}) (bodies : List (Op
 
 -- ---- the fault that callers see
 
-pub refused : (bytes : List ℕ) (e : ReadError) → Fails e (module_within_at bytes) → fault_of e ≢ Memory → HasNoModule bytes
+pub refused : (bytes : List ℕ) (e : ReadError) → FailsToRead e (module_within_at bytes) → decode_fault e ≢ Memory → HasNoModule bytes
 refused bytes read.Memory fails other = absurd (other refl)
 refused bytes (read.Refused r) fails other = no_module_within bytes fails

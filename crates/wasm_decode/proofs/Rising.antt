@@ -3,13 +3,13 @@ use Rattle.std.proofs.Common.{◌≡◌, ℕ, zero, suc, ◌<◌, ◌≢◌, ◌
 use Rattle.std.specs.List.{AllByRecursion}
 use Rattle.std.proofs.lemmas.Bool.{eqb-true, eq-eqb, ne_eqb, lt-ltb}
 use Rattle.std.proofs.lemmas.List.{append-nil}
-use Rattle.wasm_syntax_grammar.specs.Modules.{Section, AreSections, body_of}
-use Rattle.wasm_syntax_grammar.specs.ReadingItems.{◌>>=◌, check, byte_at, bytes_at}
-use Rattle.wasm_syntax_grammar.specs.ReadingModules.{section_at, may_follow, next_section_at}
-use Rattle.wasm_syntax_grammar.proofs.Exact.{Reads, chosen, found, parts}
-use Rattle.wasm_syntax_grammar.proofs.Rising.{IsNext, Reads-next_section_at, section_shorter}
-use Rattle.wasm_decode_items.specs.declared.span.Span.{Span}
-use Rattle.wasm_decode.specs.Sections.{may_stand, is_body, next_at, shown, held, NoSections, Splits}
+use Rattle.wasm_syntax.specs.rules.Modules.{Section, AreSections, body_of}
+use Rattle.wasm_syntax.specs.laws.ReadingItems.{◌>>=◌, check, byte_at, bytes_at}
+use Rattle.wasm_syntax.specs.laws.ReadingModules.{section_at, may_follow, next_section_at}
+use Rattle.wasm_syntax.proofs.Grammar.Exact.{Reads, chosen, found, parts}
+use Rattle.wasm_syntax.proofs.Grammar.Rising.{IsNextSection, Reads-next_section_at, section_shorter}
+use Rattle.wasm_decode.specs.declared.items.span.Span.{Span}
+use Rattle.wasm_decode.specs.Sections.{may_stand, is_body, next_at, span_bytes, held, NoSections, Splits}
 
 -- ---- one section: judged in another order, it is the same
 
@@ -47,7 +47,7 @@ next_is last bytes = by_id (byte_at bytes) where
   by_id None = refl
   by_id (Some id) = by_body (bytes_at id.1) id.0
 
-Reads-next_at : (last : ℕ) → Reads (IsNext last) (next_at last)
+Reads-next_at : (last : ℕ) → Reads (IsNextSection last) (next_at last)
 Reads-next_at last = record {
   sound = λ bytes s rest e. (Reads-next_section_at last).sound bytes s rest (sym (next_is last bytes) ∙ e);
   complete = λ bytes s rest h. next_is last bytes ∙ (Reads-next_section_at last).complete bytes s rest h;
@@ -92,7 +92,7 @@ same_or_apart m n = by_test (eqb m n) refl where
   by_test false e = inr (λ same. absurd (let t : true ≡ false = sym (eq-eqb m n same) ∙ e in cc))
 
 -- the section at the front is the one that was read
-only_one : (last : ℕ) (rest : List ℕ) (s t : Section) (left r : List ℕ) → next_at last rest ≡ Some (s, left) → IsNext last rest t r → (s ≡ t) × (left ≡ r)
+only_one : (last : ℕ) (rest : List ℕ) (s t : Section) (left r : List ℕ) → next_at last rest ≡ Some (s, left) → IsNextSection last rest t r → (s ≡ t) × (left ≡ r)
 only_one last rest s t left r e is = parts s t left r (sym e ∙ (Reads-next_at last).complete rest t r is)
 
 only_step : (all : List ℕ) (last : ℕ) (rest : List ℕ) (front : List Section) (s : Section) (left : List ℕ) → next_at last rest ≡ Some (s, left) → rest ≢ []
@@ -132,7 +132,7 @@ pub goes_on : (all : List ℕ) (last : ℕ) (rest : List ℕ) (bodies after : Li
     → SoFar all last rest bodies → next_at last rest ≡ Some (s, left) → rest ≢ [] → length bodies ≡ 12 → b.bytes.now ≡ s.body
     → after ≡ cond (eqb s.id 0) bodies (set bodies s.id (Some b)) → SoFar all (max last s.id) left after
 goes_on all last rest bodies after s left b so_far e some len body_is after_is =
-    let is : IsNext last rest s left = (Reads-next_at last).sound rest s left e in
+    let is : IsNextSection last rest s left = (Reads-next_at last).sound rest s left e in
     record {
       front = so_far.front ++ s ∷ [];
       ahead = λ ss h. rw append_assoc (so_far.ahead (s ∷ ss) (left, is.0, is.1, h));
@@ -164,7 +164,7 @@ some_of P r h e p = absurd (let t : true ≡ false = sym (h.1 p) ∙ e in cc)
 
 pub all_none : (bodies : List (Option Span)) → AllByRecursion (λ (o : Option Span). o ≡ None) bodies → (id : ℕ) → held bodies id ≡ None
 all_none [] h id = refl
-all_none (o ∷ bodies) h zero = ap shown h.0
+all_none (o ∷ bodies) h zero = ap span_bytes h.0
 all_none (o ∷ bodies) h (suc id) = all_none bodies h.1 id
 
 -- a section takes bytes, and has an id below 12

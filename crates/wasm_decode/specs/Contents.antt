@@ -5,10 +5,10 @@ use Rattle.wasm_syntax.specs.declared.module.Function.{Function}
 use Rattle.wasm_syntax.specs.declared.module.ImportItem.{ImportItem}
 use Rattle.wasm_syntax.specs.declared.module.ImportItem.TheVariants as import
 use Rattle.wasm_decode.specs.declared.imported.Imports.{Imports}
-use Rattle.wasm_syntax_grammar.specs.declared.limits.TheConstants.{FUNCTIONS, GLOBALS}
-use Rattle.wasm_syntax_grammar.specs.ReadingItems.{◌>>=◌, check, u32_at, vector_at, vector_up_to_at, sized_at, memory_type_at}
-use Rattle.wasm_syntax_grammar.specs.ReadingModules.{export_at, start_at, field_at}
-use Rattle.wasm_syntax_grammar.specs.ReadingWithin.{function_type_within_at, import_within_at, table_type_within_at, global_within_at, element_within_at, data_within_at, code_within_at, functions_left}
+use Rattle.wasm_syntax.specs.declared.limits.TheConstants.{FUNCTIONS, GLOBALS}
+use Rattle.wasm_syntax.specs.laws.ReadingItems.{◌>>=◌, check, leb_u32_at, vector_at, vector_up_to_at, sized_at, memory_type_at}
+use Rattle.wasm_syntax.specs.laws.ReadingModules.{export_at, start_at, field_at}
+use Rattle.wasm_syntax.specs.laws.ReadingWithin.{function_type_within_at, import_within_at, table_type_within_at, global_within_at, element_within_at, data_within_at, code_within_at, functions_left}
 
 -- how many functions an import is
 abbrev pub functions_of_item : ImportItem → ℕ
@@ -32,13 +32,13 @@ functions_onto_at (t ∷ ts) functions bytes =
 
 -- as many code entries as there are types
 unfoldable pub functions_at : List ℕ → List ℕ → Option (List Function × List ℕ)
-functions_at types bytes = u32_at bytes >>= λ count. check (count.0 == length types) >>= λ _. functions_onto_at types [] count.1
+functions_at types bytes = leb_u32_at bytes >>= λ count. check (count.0 == length types) >>= λ _. functions_onto_at types [] count.1
 
 unfoldable pub contents_read : (ℕ → Option (List ℕ)) → Option Module
 contents_read body =
     field_at (vector_at function_type_within_at) [] (body 1) >>= λ types.
     field_at imports_at no_imports (body 2) >>= λ imports.
-    field_at (vector_up_to_at u32_at imports.functions_left) [] (body 3) >>= λ function_types.
+    field_at (vector_up_to_at leb_u32_at imports.functions_left) [] (body 3) >>= λ function_types.
     field_at (vector_at table_type_within_at) [] (body 4) >>= λ tables.
     field_at (vector_at memory_type_at) [] (body 5) >>= λ memories.
     field_at (vector_up_to_at global_within_at GLOBALS) [] (body 6) >>= λ globals.

@@ -1,4 +1,5 @@
 pub mod Answers
 pub mod Contents
-pub mod Faults
 pub mod Sections
+pub mod Items
+pub mod rules

@@ -1,8 +1,8 @@
 -- A module's sections by their ids.
 use Rattle.std.specs.Prelude.{◌≡◌, ℕ, ◌<◌, ◌==◌, ◌||◌, ◌&&◌, nat_lt, if◌then◌else◌, Bool, true, is_some, List, Option, Some, None, slice_index_or}
-use Rattle.wasm_decode_items.specs.declared.span.Span.{Span}
-use Rattle.wasm_syntax_grammar.specs.Modules.{Section, AreSections, body_of}
-use Rattle.wasm_syntax_grammar.specs.ReadingItems.{◌>>=◌, check, byte_at, bytes_at, name_at}
+use Rattle.wasm_decode.specs.declared.items.span.Span.{Span}
+use Rattle.wasm_syntax.specs.rules.Modules.{Section, AreSections, body_of}
+use Rattle.wasm_syntax.specs.laws.ReadingItems.{◌>>=◌, check, byte_at, bytes_at, name_at}
 
 -- ---- one section, in the order in which it is judged
 
@@ -25,13 +25,13 @@ abbrev pub section_of : ℕ → Span → Section
 section_of id body = record { id = id; body = body.bytes.now }
 
 -- the bytes of a section
-abbrev pub shown : Option Span → Option (List ℕ)
-shown None = None
-shown (Some body) = Some body.bytes.now
+abbrev pub span_bytes : Option Span → Option (List ℕ)
+span_bytes None = None
+span_bytes (Some body) = Some body.bytes.now
 
 -- the bytes of the section with this id
 abbrev pub held : List (Option Span) → ℕ → Option (List ℕ)
-held bodies id = shown (slice_index_or bodies id None)
+held bodies id = span_bytes (slice_index_or bodies id None)
 
 -- no sections are these bytes, with ids above the last one
 abbrev pub NoSections : ℕ → List ℕ → Type 0

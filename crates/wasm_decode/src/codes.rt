@@ -1,16 +1,16 @@
 //! The code section (section 5.5.13), with the types of the functions whose code it holds.
 
 ghost use Rattle.std.specs.Prelude.{◌≡◌, []};
-ghost use Rattle.wasm_decode_items.specs.Answers.{Gives};
+ghost use Rattle.wasm_decode.specs.Items.Answers.{GivesItem};
 ghost use Rattle.wasm_decode.specs.Contents.{functions_onto_at, functions_at};
 
+use crate::items::{Decoder, ReadError, ReadRefusal, code};
 use std::alloc::Global;
-use wasm_decode_items::{Decoder, ReadError, Refusal, code};
 use wasm_syntax::{Function, Row};
 
 /// A code entry for each of these types.
 fn entries(alloc: Global, decoder: &mut Decoder, types: &[u32]) -> Result<Row<Function>, ReadError>
-    ensures { Gives result decoder.new (functions_onto_at types.now [] decoder.old) }
+    ensures { GivesItem result decoder.new (functions_onto_at types.now [] decoder.old) }
 {
     let mut functions = Row::new(alloc);
     for function_type in types {
@@ -30,12 +30,12 @@ pub fn functions(
     decoder: &mut Decoder,
     types: &Row<u32>,
 ) -> Result<Row<Function>, ReadError>
-    ensures { Gives result decoder.new (functions_at types.now decoder.old) }
+    ensures { GivesItem result decoder.new (functions_at types.now decoder.old) }
 {
     let start = decoder.at();
     let count = decoder.u32()?;
     if count as usize != types.len() {
-        return Err(ReadError::Refused(Refusal::Malformed(start)));
+        return Err(ReadError::Refused(ReadRefusal::Malformed(start)));
     }
     entries(alloc, decoder, types.as_slice())
 }

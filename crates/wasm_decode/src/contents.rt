@@ -6,10 +6,10 @@ ghost use Rattle.wasm_decode.specs.Contents.{contents_read};
 ghost use Rattle.wasm_decode.specs.Sections.{held};
 
 use crate::fields::{functions_of, imports_of, row_of, short_row_of, start_of};
+use crate::items::{ReadError, ReadRefusal, Span};
 use std::alloc::Global;
-use wasm_decode_items::{ReadError, Refusal, Span};
 use wasm_syntax::Module;
-use wasm_syntax_grammar::limits::GLOBALS;
+use wasm_syntax::limits::GLOBALS;
 
 /// The ids of sections.
 mod id {
@@ -42,7 +42,7 @@ mod id {
 pub fn contents(
     alloc: Global,
     bodies: &[Option<Span>],
-    missing_code: Refusal,
+    missing_code: ReadRefusal,
 ) -> Result<Module, ReadError>
     requires { length bodies.now ≡ 12 }
     ensures { GivesAll result (contents_read (held bodies.now)) }

@@ -1,10 +1,10 @@
 //! Why bytes are not decoded.
 
 ghost use Rattle.std.specs.Prelude.{◌≡◌, Some, None};
-ghost use Rattle.wasm_decode.specs.Faults.{fault_of, place_of};
+ghost use Rattle.wasm_decode.specs.rules.Faults.{decode_fault, place_of};
 
+use crate::items::{ReadError, ReadRefusal};
 use thiserror::Error;
-use wasm_decode_items::{ReadError, Refusal};
 
 /// Why bytes are no module, or want of memory. Bytes are counted from 0, and read from the front: the number is that of the byte at
 /// which something begins that can't be there, be it a fixed byte, a number, or a name or vector together with its length.
@@ -34,13 +34,13 @@ impl DecodeFault {
 }
 
 impl From<ReadError> for DecodeFault {
-    ghost from_gives = { λ error fault. fault ≡ fault_of error };
+    ghost from_gives = { λ error fault. fault ≡ decode_fault error };
 
     fn from(error: ReadError) -> DecodeFault {
         match error {
-            ReadError::Refused(Refusal::Malformed(at)) => DecodeFault::Malformed(at),
-            ReadError::Refused(Refusal::Float(at)) => DecodeFault::Float(at),
-            ReadError::Refused(Refusal::Limit) => DecodeFault::Limit,
+            ReadError::Refused(ReadRefusal::Malformed(at)) => DecodeFault::Malformed(at),
+            ReadError::Refused(ReadRefusal::Float(at)) => DecodeFault::Float(at),
+            ReadError::Refused(ReadRefusal::Limit) => DecodeFault::Limit,
             ReadError::Memory => DecodeFault::Memory,
         }
     }

@@ -2,21 +2,21 @@
 //! their ids.
 
 ghost use Rattle.std.specs.Prelude.{◌≡◌, ◌<◌, [], None, length};
-ghost use Rattle.wasm_syntax_grammar.specs.ReadingItems.{vector_at, vector_up_to_at};
-ghost use Rattle.wasm_syntax_grammar.specs.ReadingModules.{field_at, start_at};
+ghost use Rattle.wasm_syntax.specs.laws.ReadingItems.{vector_at, vector_up_to_at};
+ghost use Rattle.wasm_syntax.specs.laws.ReadingModules.{field_at, start_at};
 ghost use Rattle.wasm_decode.specs.Answers.{GivesAll, TakesAll};
 ghost use Rattle.wasm_decode.specs.Contents.{imports_at, no_imports, functions_at};
 ghost use Rattle.wasm_decode.specs.Sections.{held};
 
 use crate::codes::functions;
 use crate::imported::{Imports, read_imports};
+use crate::items::{Decoder, Item, ReadError, ReadRefusal, Span, vector, vector_up_to};
 use std::alloc::Global;
-use wasm_decode_items::{Decoder, Item, ReadError, Refusal, Span, vector, vector_up_to};
+use wasm_syntax::limits::FUNCTIONS;
 use wasm_syntax::{Function, Row};
-use wasm_syntax_grammar::limits::FUNCTIONS;
 
 /// The bytes of the section with this id, to be read.
-fn opened<'a>(bodies: &[Option<Span<'a>>], id: usize) -> Option<Decoder<'a>>
+fn open_section<'a>(bodies: &[Option<Span<'a>>], id: usize) -> Option<Decoder<'a>>
     requires { id < length bodies.now }
     ensures { result ≡ held bodies.now id }
 {
@@ -35,11 +35,11 @@ pub fn row_of<T: Item>(
     requires { id < length bodies.now }
     ensures { GivesAll result (field_at (vector_at T.at) [] (held bodies.now id)) }
 {
-    let Some(mut decoder) = opened(bodies, id) else {
+    let Some(mut decoder) = open_section(bodies, id) else {
         return Ok(Row::new(alloc));
     };
     let items = vector(alloc, &mut decoder)?;
-    decoder.ended()?;
+    decoder.expect_end()?;
     Ok(items)
 }
 
@@ -53,11 +53,11 @@ pub fn short_row_of<T: Item>(
     requires { id < length bodies.now }
     ensures { GivesAll result (field_at (vector_up_to_at T.at most) [] (held bodies.now id)) }
 {
-    let Some(mut decoder) = opened(bodies, id) else {
+    let Some(mut decoder) = open_section(bodies, id) else {
         return Ok(Row::new(alloc));
     };
     let items = vector_up_to(alloc, &mut decoder, most)?;
-    decoder.ended()?;
+    decoder.expect_end()?;
     Ok(items)
 }
 
@@ -66,28 +66,28 @@ pub fn imports_of(alloc: Global, bodies: &[Option<Span>], id: usize) -> Result<I
     requires { id < length bodies.now }
     ensures { GivesAll result (field_at imports_at no_imports (held bodies.now id)) }
 {
-    let Some(mut decoder) = opened(bodies, id) else {
+    let Some(mut decoder) = open_section(bodies, id) else {
         return Ok(Imports {
             items: Row::new(alloc),
             functions_left: FUNCTIONS,
         });
     };
     let imports = read_imports(alloc, &mut decoder)?;
-    decoder.ended()?;
+    decoder.expect_end()?;
     Ok(imports)
 }
 
 /// The index of the start function.
-#[tactic(auto, unfolding(wasm_syntax_grammar::specs::ReadingModules::start_at))]
-pub fn start_of(bodies: &[Option<Span>], id: usize) -> Result<Option<u32>, Refusal>
+#[tactic(auto, unfolding(wasm_syntax::specs::laws::ReadingModules::start_at))]
+pub fn start_of(bodies: &[Option<Span>], id: usize) -> Result<Option<u32>, ReadRefusal>
     requires { id < length bodies.now }
     ensures { TakesAll result (field_at start_at None (held bodies.now id)) }
 {
-    let Some(mut decoder) = opened(bodies, id) else {
+    let Some(mut decoder) = open_section(bodies, id) else {
         return Ok(None);
     };
     let function = decoder.u32()?;
-    decoder.ended()?;
+    decoder.expect_end()?;
     Ok(Some(function))
 }
 
@@ -101,10 +101,10 @@ pub fn functions_of(
     requires { id < length bodies.now }
     ensures { GivesAll result (field_at (functions_at types.now) [] (held bodies.now id)) }
 {
-    let Some(mut decoder) = opened(bodies, id) else {
+    let Some(mut decoder) = open_section(bodies, id) else {
         return Ok(Row::new(alloc));
     };
     let functions = functions(alloc, &mut decoder, types)?;
-    decoder.ended()?;
+    decoder.expect_end()?;
     Ok(functions)
 }

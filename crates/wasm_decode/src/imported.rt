@@ -1,13 +1,13 @@
 //! The import section (section 5.5.5).
 
 ghost use Rattle.std.specs.Prelude.{◌≡◌, ◌+◌, ◌≤◌};
-ghost use Rattle.wasm_decode_items.specs.Answers.{Gives};
+ghost use Rattle.wasm_decode.specs.Items.Answers.{GivesItem};
 ghost use Rattle.wasm_decode.specs.Contents.{functions_of_item, imports_at};
 
+use crate::items::{Decoder, ReadError, import};
 use std::alloc::Global;
-use wasm_decode_items::{Decoder, ReadError, import};
+use wasm_syntax::limits::FUNCTIONS;
 use wasm_syntax::{Import, ImportItem, Row};
-use wasm_syntax_grammar::limits::FUNCTIONS;
 
 /// What a module imports.
 #[derive(Drop)]
@@ -30,7 +30,7 @@ fn with_import(functions: usize, import: &Import) -> usize
 
 /// A vector of imports. One function too many is told where it stands.
 pub fn read_imports(alloc: Global, decoder: &mut Decoder) -> Result<Imports, ReadError>
-    ensures { Gives result decoder.new (imports_at decoder.old) }
+    ensures { GivesItem result decoder.new (imports_at decoder.old) }
 {
     let count = decoder.u32()?;
     let mut items = Row::new(alloc);

@@ -1,4 +1,28 @@
-//! Decoding of WebAssembly modules (Core Specification 1.0, chapter 5), within this product's limits.
+//! Decoding: from bytes to a module, exactly as the binary format spells it (Core Specification
+//! 1.0, chapter 5), within this project's limits.
+//!
+//! # Promises
+//!
+//! - `decode`: the module is spelled by all of the bytes, and is within the limits (`found`). A
+//!   fault other than want of memory comes only where the bytes spell no such module (`only`).
+//! - `DecodeFault::place` is the offset that a fault names, where it names one (`place_of`).
+//!
+//! No clause says which fault it is, nor which offset. Since bytes spell at most one module
+//! (`wasm_syntax::laws`), the module that is found is the only one.
+//!
+//! # Definitions to read
+//!
+//! `specs/rules/Faults.antt`: `place_of`, `decode_fault`. What a module's bytes are is defined in
+//! `wasm_syntax`: `IsModule` (`specs/rules/Modules.antt`), `IsWithinLimits` and `HasNoModule`
+//! (`specs/rules/Limits.antt`). All other files of `specs/` are about the steps of reading.
+//!
+//! # Who may touch what
+//!
+//! Only this crate reads the binary format. Its readers, their places in the bytes, and the order
+//! in which they judge are hidden behind `decode`. `machine_loader` uses it. It stands on
+//! `wasm_syntax`. It takes memory in proportion to the bytes, whatever counts they declare. Want
+//! of it is `B4 Memory`; the other faults are `B1 Malformed`, `B2 Float` and `B3 Limit`. After a
+//! fault nothing is kept.
 #![tactic(auto)]
 
 mod codes;
@@ -6,11 +30,8 @@ mod contents;
 mod fault;
 mod fields;
 mod imported;
-#[cfg(test)]
-mod limit_tests;
+mod items;
 mod sections;
-#[cfg(test)]
-mod tests;
 mod whole;
 
 pub use fault::DecodeFault;

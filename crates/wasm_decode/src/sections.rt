@@ -1,11 +1,11 @@
 //! A module's sections (sections 5.5.2 and 5.5.15), before what they hold is read.
 
 ghost use Rattle.std.specs.Prelude.{◌≡◌, ◌==◌, if◌then◌else◌, slice_set, ◌<◌, List, Some, MatchOption};
-ghost use Rattle.wasm_syntax_grammar.specs.Modules.{Section};
+ghost use Rattle.wasm_syntax.specs.rules.Modules.{Section};
 ghost use Rattle.wasm_decode.specs.Answers.{TakesAs};
 ghost use Rattle.wasm_decode.specs.Sections.{may_stand, next_at, section_of, NoSections, Splits};
 
-use wasm_decode_items::{Decoder, Refusal, Span, counted, skip_name};
+use crate::items::{Decoder, ReadRefusal, Span, skip_name, take_sized};
 
 /// How many kinds of sections there are.
 pub const KINDS: usize = 12;
@@ -20,7 +20,7 @@ const LAST: u8 = 11;
 #[derive(Drop)]
 pub struct Sections<'a> {
     pub bodies: [Option<Span<'a>>; KINDS],
-    pub fault: Option<Refusal>,
+    pub fault: Option<ReadRefusal>,
 }
 
 /// Whether a section with this id may come behind one of id `last`.
@@ -32,19 +32,19 @@ fn may_stand(last: u8, id: u8) -> bool
 
 /// The section at the front, by its id and its bytes. Its id is judged before its size is read.
 #[tactic(auto, unfolding(crate::specs::Sections::next_at))]
-fn next_section<'a>(decoder: &mut Decoder<'a>, last: u8) -> Result<(u8, Span<'a>), Refusal>
+fn next_section<'a>(decoder: &mut Decoder<'a>, last: u8) -> Result<(u8, Span<'a>), ReadRefusal>
     ensures { TakesAs (λ s. section_of s.0 s.1) result decoder.new (next_at last decoder.old) }
 {
     let start = decoder.at();
     let Some(id) = decoder.byte() else {
-        return Err(Refusal::Malformed(start));
+        return Err(ReadRefusal::Malformed(start));
     };
     if !may_stand(last, id) {
-        return Err(Refusal::Malformed(start));
+        return Err(ReadRefusal::Malformed(start));
     }
-    let body = counted(decoder)?.into_span();
+    let body = take_sized(decoder)?.into_span();
     if id == CUSTOM && !skip_name(&mut Decoder::at_span(body)) {
-        return Err(Refusal::Malformed(body.at));
+        return Err(ReadRefusal::Malformed(body.at));
     }
     Ok((id, body))
 }

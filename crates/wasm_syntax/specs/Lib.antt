@@ -1,1 +1,2 @@
-pub mod Sequence
+pub mod laws
+pub mod rules

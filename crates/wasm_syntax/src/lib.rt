@@ -1,6 +1,38 @@
-//! The abstract syntax of WebAssembly modules: types, values, instructions and the parts of a module
-//! (Core Specification 1.0, chapter 2), for the integer instructions.
+//! The abstract syntax of WebAssembly modules, for the integer instructions, and the grammar of
+//! their bytes (Core Specification 1.0, chapters 2 and 5).
+//!
+//! # Promises
+//!
+//! - `Module` and its parts, `Instruction`, the operators and the types are plain data. `Value`
+//!   and `Trap` are those of execution.
+//! - `Row` is the list of its items. `from_vec` and `into_vec` take and give a vector as it is.
+//!   `push` puts an item behind the others (`pushed`), or leaves all as it was (`unchanged`).
+//! - `limits` has this project's limits on modules, as `MODULE_BYTES` and `INSTRUCTIONS`. The
+//!   definitions cite the same constants.
+//! - `laws::bytes_spell_at_most_one_module`: two modules that the same bytes spell are equal.
+//! - `laws::worked_examples`: whole modules beside their bytes, other spellings of one of them,
+//!   and bytes that spell none.
+//!
+//! # Definitions to read
+//!
+//! In `specs/rules/`: `IsUnsigned`, `IsSigned`, `AreItems`, `IsVector`, types (`Items.antt`);
+//! `IsInstruction`, `IsExpression` (`Instructions.antt`); `AreSections`, `IsModule`
+//! (`Modules.antt`); `IsWithinLimits` (`Limits.antt`); `Sequence`, `Spells` (`Sequence.antt`). The
+//! files `Reading..` of `specs/laws/` are a second form, which reads from the front. Nobody has to
+//! believe them: that they read what the relations spell is proved.
+//!
+//! # Who may touch what
+//!
+//! Only `Row` hides something: where items lie, and how much room is reserved, are no part of its
+//! value. Most crates of this repository stand on this one, and it stands on none. `Row::push`
+//! alone takes memory. Where that is refused the item is handed back.
 #![tactic(auto)]
+
+pub mod laws;
+pub mod limits;
+mod opener;
+
+pub use opener::Opener;
 
 mod instruction;
 mod module;

@@ -76,21 +76,3 @@ impl<T> Row<T> {
         self.items.push(item)
     }
 }
-
-#[cfg(test)]
-mod tests {
-    use super::*;
-    use std::test::Fail;
-
-    #[test]
-    fn holds_what_is_pushed(rt: HostRuntime) -> Result<(), Fail> {
-        let mut row = Row::new(rt.alloc());
-        row.push(3u32)?;
-        row.push(5u32)?;
-        assert_eq!(rt; row.as_slice(), [3, 5].as_slice());
-        assert_eq!(rt; row.get(1), Some(&5));
-        assert_eq!(rt; row.get(2), None);
-        assert_eq!(rt; Row::from_vec(row.into_vec()).len(), 2);
-        Ok(())
-    }
-}

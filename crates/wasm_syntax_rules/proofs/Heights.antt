@@ -10,11 +10,11 @@ use Rattle.wasm_syntax.specs.declared.types.FunctionType.{FunctionType}
 use Rattle.wasm_syntax.specs.declared.types.GlobalType.{GlobalType}
 use Rattle.wasm_syntax.specs.declared.instruction.Instruction.{Instruction}
 use Rattle.wasm_syntax.specs.declared.instruction.Instruction.TheVariants as instr
-use Rattle.wasm_syntax.specs.Sequence.{Sequence, Stop, Plain, InBlock, InLoop, InIf, InIfElse, spelled}
+use Rattle.wasm_syntax.specs.rules.Sequence.{Sequence, Stop, Plain, InBlock, InLoop, InIf, InIfElse, spelled}
 use Rattle.wasm_syntax_rules.specs.Types.{takes_of, gives_of, results_of}
 use Rattle.wasm_syntax_rules.specs.Typing.{Context}
-use Rattle.wasm_syntax_rules.specs.Shapes.{Shape, LabelShape, ShapeOf, in_place_of, behind, shape_at, body_shape}
-use Rattle.wasm_syntax_rules.specs.Laws.{labels_height, height, GivesOneAtMost, HeightsAreSmall}
+use Rattle.wasm_syntax_rules.specs.Shapes.{Shape, LabelShape, ShapeOf, in_place_of, types_behind, shape_at, body_shape}
+use Rattle.wasm_syntax_rules.specs.laws.Laws.{labels_height, height, GivesOneAtMost, HeightsAreSmall}
 
 -- so many values at most, where there are any
 abbrev pub AreFew : Option (List ValueType) → ℕ → Type 0
@@ -25,7 +25,7 @@ abbrev pub IsLow : Option Shape → ℕ → Type 0
 IsLow None n = Unit {0}
 IsLow (Some s) n = height s ≤ n
 
-one_given : (fs : List FunctionType) (x : ℕ) (f : FunctionType) → AllByRecursion GivesOneAtMost fs → slice_get fs x ≡ Some f → length f.results ≤ 1
+pub one_given : (fs : List FunctionType) (x : ℕ) (f : FunctionType) → AllByRecursion GivesOneAtMost fs → slice_get fs x ≡ Some f → length f.results ≤ 1
 one_given [] x f h e = absurd (cc)
 one_given (g ∷ fs) zero f h e = let same : g ≡ f = cc in rw same at h.0
 one_given (g ∷ fs) (suc x) f h e = one_given fs x f h.1 e
@@ -44,7 +44,7 @@ pushed_few (Some x) t ts = omega arith
 drop_few : (n : ℕ) (ts : List ValueType) → length (drop n ts) ≤ length ts
 drop_few n ts = simp length-drop (omega arith)
 
-behind_few : (c : Context) → AllByRecursion GivesOneAtMost c.types → AllByRecursion GivesOneAtMost c.functions → (i : Instruction) (ts : List ValueType) → AreFew (behind c i ts) (length ts + 1)
+behind_few : (c : Context) → AllByRecursion GivesOneAtMost c.types → AllByRecursion GivesOneAtMost c.functions → (i : Instruction) (ts : List ValueType) → AreFew (types_behind c i ts) (length ts + 1)
 behind_few c types functions instr.Nop ts = omega arith
 behind_few c types functions (instr.BrIf l) ts = let d = drop_few 1 ts in omega arith
 behind_few c types functions (instr.Call x) ts = called_few (slice_get c.functions x) ts (length ts) (λ f e. one_given c.functions x f functions e) (omega arith)
@@ -89,7 +89,7 @@ module _ (c : Context) (types : AllByRecursion GivesOneAtMost c.types) (function
   shape_low labels s ts zero = omega arith
   shape_low labels Stop ts (suc n) = tt
   shape_low labels (Plain i rest) ts (suc n) =
-      low_after (λ us. shape_at c labels rest us n) (behind c i ts) (length ts + 1) (length ts + labels_height labels + suc n) (behind_few c types functions i ts)
+      low_after (λ us. shape_at c labels rest us n) (types_behind c i ts) (length ts + 1) (length ts + labels_height labels + suc n) (behind_few c types functions i ts)
       (λ us few. lower (shape_at c labels rest us n) (length us + labels_height labels + n) (length ts + labels_height labels + suc n) (shape_low labels rest us n) (omega arith))
   shape_low labels (InBlock t body rest) ts (suc n) =
       either_low (nat_le n (length (spelled body))) _ _ (length ts + labels_height labels + suc n)

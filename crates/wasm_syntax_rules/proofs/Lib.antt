@@ -4,3 +4,5 @@ pub mod OneProgram
 pub mod OneRun
 pub mod ExamplesHold
 pub mod Heights
+pub mod Soundness
+pub mod OneStore

@@ -2,7 +2,7 @@
 use Rattle.std.proofs.Common.{◌≡◌, refl, subst}
 use Rattle.wasm_syntax_rules.specs.Configuration.{Program, Configuration}
 use Rattle.wasm_syntax_rules.specs.Steps.{Settles, here, on, Advances, Steps, none, more, IsSettled, IsUncounted}
-use Rattle.wasm_syntax_rules.specs.Laws.{OneRun}
+use Rattle.wasm_syntax_rules.specs.laws.Laws.{OneRun}
 
 -- a settled configuration settles to itself, and another one by its own next rule
 settled_now : (program : Program) (c d : Configuration) → Settles program c d → IsSettled program c → c ≡ d

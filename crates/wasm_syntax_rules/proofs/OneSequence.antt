@@ -3,8 +3,8 @@ use Rattle.std.proofs.Common.{◌≡◌, List, [], ◌∷◌, ◌++◌, Option, 
 use Rattle.wasm_syntax.specs.declared.types.ValueType.{ValueType}
 use Rattle.wasm_syntax.specs.declared.instruction.Instruction.{Instruction}
 use Rattle.wasm_syntax.specs.declared.instruction.Instruction.TheVariants as instr
-use Rattle.wasm_syntax.specs.Sequence.{Sequence, Stop, Plain, InBlock, InLoop, InIf, InIfElse, spelled, IsPlain, IsNested}
-use Rattle.wasm_syntax_rules.specs.Laws.{OneSequence}
+use Rattle.wasm_syntax.specs.rules.Sequence.{Sequence, Stop, Plain, InBlock, InLoop, InIf, InIfElse, spelled, IsPlain, IsNested}
+use Rattle.wasm_syntax_rules.specs.laws.Laws.{OneSequence}
 
 -- an opcode that parts or closes a sequence
 abbrev pub IsClosing : Instruction → Type 0

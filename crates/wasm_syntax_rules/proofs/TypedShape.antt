@@ -10,10 +10,10 @@ use Rattle.wasm_syntax.specs.declared.value.Value.{Value}
 use Rattle.wasm_syntax.specs.declared.value.Value.TheVariants as value
 use Rattle.wasm_syntax.specs.declared.instruction.Instruction.{Instruction}
 use Rattle.wasm_syntax.specs.declared.instruction.Instruction.TheVariants as instr
-use Rattle.wasm_syntax.specs.Sequence.{Sequence, Stop, Plain, InBlock, InLoop, InIf, InIfElse, spelled}
+use Rattle.wasm_syntax.specs.rules.Sequence.{Sequence, Stop, Plain, InBlock, InLoop, InIf, InIfElse, spelled}
 use Rattle.wasm_syntax_rules.specs.Types.{IsOf, takes_of, gives_of, results_of}
 use Rattle.wasm_syntax_rules.specs.Typing.{Context, HasRule, HasType}
-use Rattle.wasm_syntax_rules.specs.Shapes.{Shape, LabelShape, ShapeOf, type_of, in_place_of, behind, shape_at, body_shape, AreTypedShapes, IsTypedShape, ReachedShapesAreTyped}
+use Rattle.wasm_syntax_rules.specs.Shapes.{Shape, LabelShape, ShapeOf, type_of, in_place_of, types_behind, shape_at, body_shape, AreTypedShapes, IsTypedShape, ReachedShapesAreTyped}
 
 -- typed, where there is a shape
 abbrev pub IsTypedIf : Context → Option Shape → Type 0
@@ -40,7 +40,7 @@ value_type I64 (value.I32 n) h = absurd h
 value_type I64 (value.I64 n) h = refl
 
 -- the types behind an instruction are those of its rule
-pub rule_behind : (c : Context) (labels : List (List ValueType)) (i : Instruction) (p q below : List ValueType) → HasRule c labels i p q → IsBehind (behind c i (p ++ below)) (q ++ below)
+pub rule_behind : (c : Context) (labels : List (List ValueType)) (i : Instruction) (p q below : List ValueType) → HasRule c labels i p q → IsBehind (types_behind c i (p ++ below)) (q ++ below)
 rule_behind c labels instr.Unreachable p q below h = tt
 rule_behind c labels instr.Nop p q below h = rw (h.0, h.1) refl
 rule_behind c labels (instr.Br l) p q below h = tt
@@ -82,7 +82,7 @@ pub shape_typed : (c : Context) (branches : List (List ValueType)) (labels : Lis
 shape_typed c branches labels s ts out zero h t = record { branches = branches; out = out; typed_rest = h; typed_labels = t }
 shape_typed c branches labels Stop ts out (suc n) h t = tt
 shape_typed c branches labels (Plain i rest) ts out (suc n) h t =
-    rw h.3 (behind_typed c (λ us. shape_at c labels rest us n) (behind c i (h.0 ++ h.2)) (h.1 ++ h.2) (rule_behind c branches i h.0 h.1 h.2 h.4) (shape_typed c branches labels rest (h.1 ++ h.2) out n h.5 t))
+    rw h.3 (behind_typed c (λ us. shape_at c labels rest us n) (types_behind c i (h.0 ++ h.2)) (h.1 ++ h.2) (rule_behind c branches i h.0 h.1 h.2 h.4) (shape_typed c branches labels rest (h.1 ++ h.2) out n h.5 t))
 shape_typed c branches labels (InBlock b body rest) ts out (suc n) h t =
     either_typed c (nat_le n (length (spelled body))) _ _ (shape_typed c (results_of b ∷ branches) (ShapeOf (results_of b) rest ts rest ∷ labels) body [] (results_of b) n h.0 (out, refl, h.1, h.1, t)) (shape_typed c branches labels rest (results_of b ++ ts) out (n - (length (spelled body) + 1)) h.1 t)
 shape_typed c branches labels (InLoop b body rest) ts out (suc n) h t =

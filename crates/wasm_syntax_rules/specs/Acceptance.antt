@@ -1,8 +1,8 @@
 -- When a module is accepted: it is spelled by its bytes within the limits, it is valid, and it can be linked.
 use Rattle.std.specs.Prelude.{ℕ, List}
 use Rattle.wasm_syntax.specs.declared.module.Module.{Module}
-use Rattle.wasm_syntax_grammar.specs.Modules.{IsModule}
-use Rattle.wasm_syntax_grammar.specs.Limits.{IsWithinLimits}
+use Rattle.wasm_syntax.specs.rules.Modules.{IsModule}
+use Rattle.wasm_syntax.specs.rules.Limits.{IsWithinLimits}
 use Rattle.wasm_syntax_rules.specs.Validity.{IsValid}
 use Rattle.wasm_syntax_rules.specs.Linking.{Offer, IsLinkable}
 

@@ -4,7 +4,7 @@ use Rattle.wasm_syntax.specs.declared.types.ValueType.{ValueType}
 use Rattle.wasm_syntax.specs.declared.types.FunctionType.{FunctionType}
 use Rattle.wasm_syntax.specs.declared.value.Value.{Value}
 use Rattle.wasm_syntax.specs.declared.value.Trap.{Trap}
-use Rattle.wasm_syntax.specs.Sequence.{Sequence}
+use Rattle.wasm_syntax.specs.rules.Sequence.{Sequence}
 
 -- a function: one of the host's, or one of the module's own with the types of its declared locals and its body (4.2.6)
 pub data Callee : Type 0 where

@@ -10,8 +10,8 @@ use Rattle.wasm_syntax.specs.declared.operator.LoadOperator.{LoadOperator}
 use Rattle.wasm_syntax.specs.declared.operator.StoreOperator.{StoreOperator}
 use Rattle.wasm_syntax.specs.declared.instruction.Instruction.{Instruction}
 use Rattle.wasm_syntax.specs.declared.instruction.Instruction.TheVariants as instr
-use Rattle.int_ops.specs.Integers.{unary_of, binary_of, compare_of, convert_of, truth, sign_extended}
-use Rattle.guest_memory.specs.Bytes.{number_of, bytes_of, page_size, part, with_part}
+use Rattle.int_ops.specs.rules.Integers.{unary_of, binary_of, compare_of, convert_of, truth, sign_extended}
+use Rattle.guest_memory.specs.rules.Bytes.{number_of, bytes_of, page_size, part, with_part}
 use Rattle.wasm_syntax_rules.specs.Types.{width_of, value_of, conversion_takes, conversion_gives, loaded_type, loaded_width, extends_sign, stored_type, stored_width, bytes_in}
 use Rattle.wasm_syntax_rules.specs.Configuration.{Program, Store}
 
@@ -28,9 +28,9 @@ with_top I64 (value.I64 n ∷ values) go = go n values
 with_top t values go = Wrong
 
 -- something that is there
-abbrev pub with_some : {X : Type 0} → Option X → (X → Effect) → Effect
-with_some None go = Wrong
-with_some (Some x) go = go x
+abbrev pub effect_of_some : {X : Type 0} → Option X → (X → Effect) → Effect
+effect_of_some None go = Wrong
+effect_of_some (Some x) go = go x
 
 -- a number of this type on top, or the trap
 abbrev pub with_result : ValueType → Result ℕ Trap → (Value → Effect) → Effect
@@ -76,11 +76,11 @@ effect program instr.Unreachable s ls vs = Fails trap.Unreachable
 effect program instr.Nop s ls vs = Gives s ls vs
 effect program instr.Drop s ls (v ∷ vs) = Gives s ls vs
 effect program instr.Select s ls (value.I32 n ∷ b ∷ a ∷ vs) = Gives s ls (selected n a b ∷ vs)
-effect program (instr.LocalGet x) s ls vs = with_some (slice_get ls x) (λ v. Gives s ls (v ∷ vs))
-effect program (instr.LocalSet x) s ls (v ∷ vs) = with_some (slice_get ls x) (λ _. Gives s (slice_set ls x v) vs)
-effect program (instr.LocalTee x) s ls (v ∷ vs) = with_some (slice_get ls x) (λ _. Gives s (slice_set ls x v) (v ∷ vs))
-effect program (instr.GlobalGet x) s ls vs = with_some (slice_get s.globals x) (λ v. Gives s ls (v ∷ vs))
-effect program (instr.GlobalSet x) s ls (v ∷ vs) = with_some (slice_get s.globals x) (λ _. Gives (record s { globals = slice_set s.globals x v }) ls vs)
+effect program (instr.LocalGet x) s ls vs = effect_of_some (slice_get ls x) (λ v. Gives s ls (v ∷ vs))
+effect program (instr.LocalSet x) s ls (v ∷ vs) = effect_of_some (slice_get ls x) (λ _. Gives s (slice_set ls x v) vs)
+effect program (instr.LocalTee x) s ls (v ∷ vs) = effect_of_some (slice_get ls x) (λ _. Gives s (slice_set ls x v) (v ∷ vs))
+effect program (instr.GlobalGet x) s ls vs = effect_of_some (slice_get s.globals x) (λ v. Gives s ls (v ∷ vs))
+effect program (instr.GlobalSet x) s ls (v ∷ vs) = effect_of_some (slice_get s.globals x) (λ _. Gives (record s { globals = slice_set s.globals x v }) ls vs)
 effect program (instr.Load o m) s ls vs =
     with_top I32 vs (λ i vs. with_result (loaded_type o) (load_at o s.memory (i + m.offset)) (λ v. Gives s ls (v ∷ vs)))
 effect program (instr.Store o m) s ls vs =

@@ -12,8 +12,8 @@ use Rattle.wasm_syntax.specs.declared.module.Function.{Function}
 use Rattle.wasm_syntax.specs.declared.module.Global.{Global}
 use Rattle.wasm_syntax.specs.declared.module.Element.{Element}
 use Rattle.wasm_syntax.specs.declared.module.Data.{Data}
-use Rattle.wasm_syntax.specs.Sequence.{Spells}
-use Rattle.guest_memory.specs.Bytes.{page_size, with_part}
+use Rattle.wasm_syntax.specs.rules.Sequence.{Spells}
+use Rattle.guest_memory.specs.rules.Bytes.{page_size, with_part}
 use Rattle.wasm_syntax_rules.specs.Types.{imported_functions}
 use Rattle.wasm_syntax_rules.specs.Validity.{tables_of, memories_of}
 use Rattle.wasm_syntax_rules.specs.Configuration.{Callee, Host, Own, Program, Store, Configuration}
@@ -67,8 +67,8 @@ abbrev pub with_entries : List (Option ℕ) → List ℕ → ℕ → Option (Lis
 with_entries table functions from =
     if nat_le (from + length functions) (length table) then Some (take from table ++ (map Some functions ++ drop (from + length functions) table)) else None
 
-abbrev pub with_bytes : List ℕ → List ℕ → ℕ → Option (List ℕ)
-with_bytes memory bytes from =
+abbrev pub with_segment : List ℕ → List ℕ → ℕ → Option (List ℕ)
+with_segment memory bytes from =
     if nat_le (from + length bytes) (length memory) then Some (with_part memory from bytes) else None
 
 -- the table after all elements, and memory after all data, in their order, if each of them is inside
@@ -80,7 +80,7 @@ filled_table globals (e ∷ elements) table =
 abbrev pub filled_memory : List Value → List Data → List ℕ → Option (List ℕ)
 filled_memory globals [] memory = Some memory
 filled_memory globals (d ∷ segments) memory =
-    option_and_then (λ memory'. filled_memory globals segments memory') (option_and_then (λ from. with_bytes memory d.bytes from) (offset_of globals d.offset))
+    option_and_then (λ memory'. filled_memory globals segments memory') (option_and_then (λ from. with_segment memory d.bytes from) (offset_of globals d.offset))
 
 -- at first a table has its minimum of empty entries, and a memory its minimum of pages of zeros
 abbrev pub empty_table : List TableType → List (Option ℕ)

@@ -8,5 +8,5 @@ pub mod Instantiation
 pub mod Linking
 pub mod Acceptance
 pub mod Shapes
-pub mod Laws
-pub mod Examples
+pub mod Typed
+pub mod laws

@@ -10,7 +10,7 @@ use Rattle.wasm_syntax.specs.declared.value.Value.{Value}
 use Rattle.wasm_syntax.specs.declared.value.Value.TheVariants as value
 use Rattle.wasm_syntax.specs.declared.instruction.Instruction.{Instruction}
 use Rattle.wasm_syntax.specs.declared.instruction.Instruction.TheVariants as instr
-use Rattle.wasm_syntax.specs.Sequence.{Sequence, Stop, Plain, InBlock, InLoop, InIf, InIfElse, spelled}
+use Rattle.wasm_syntax.specs.rules.Sequence.{Sequence, Stop, Plain, InBlock, InLoop, InIf, InIfElse, spelled}
 use Rattle.wasm_syntax_rules.specs.Types.{conversion_gives, loaded_type, takes_of, gives_of, results_of}
 use Rattle.wasm_syntax_rules.specs.Typing.{Context, HasType}
 
@@ -34,29 +34,29 @@ abbrev pub in_place_of : List ValueType → List ValueType → List ValueType �
 in_place_of takes gives ts = gives ++ drop (length takes) ts
 
 -- the operand types behind an instruction, if typing reaches what follows it
-abbrev pub behind : Context → Instruction → List ValueType → Option (List ValueType)
-behind c instr.Nop ts = Some ts
-behind c (instr.BrIf l) ts = Some (drop 1 ts)
-behind c (instr.Call x) ts = option_map (λ f. in_place_of (takes_of f) (gives_of f) ts) (slice_get c.functions x)
-behind c (instr.CallIndirect x) ts = option_map (λ f. in_place_of (takes_of f) (gives_of f) (drop 1 ts)) (slice_get c.types x)
-behind c instr.Drop ts = Some (drop 1 ts)
-behind c instr.Select ts = Some (drop 2 ts)
-behind c (instr.LocalGet x) ts = option_map (λ t. t ∷ ts) (slice_get c.locals x)
-behind c (instr.LocalSet x) ts = Some (drop 1 ts)
-behind c (instr.LocalTee x) ts = Some ts
-behind c (instr.GlobalGet x) ts = option_map (λ (g : GlobalType). g.value_type ∷ ts) (slice_get c.globals x)
-behind c (instr.GlobalSet x) ts = Some (drop 1 ts)
-behind c (instr.Load o m) ts = Some (loaded_type o ∷ drop 1 ts)
-behind c (instr.Store o m) ts = Some (drop 2 ts)
-behind c instr.MemorySize ts = Some (I32 ∷ ts)
-behind c instr.MemoryGrow ts = Some ts
-behind c (instr.Const v) ts = Some (type_of v ∷ ts)
-behind c (instr.Eqz t) ts = Some (I32 ∷ drop 1 ts)
-behind c (instr.Compare t o) ts = Some (I32 ∷ drop 2 ts)
-behind c (instr.Unary t o) ts = Some ts
-behind c (instr.Binary t o) ts = Some (drop 1 ts)
-behind c (instr.Convert o) ts = Some (conversion_gives o ∷ drop 1 ts)
-behind c _ ts = None
+abbrev pub types_behind : Context → Instruction → List ValueType → Option (List ValueType)
+types_behind c instr.Nop ts = Some ts
+types_behind c (instr.BrIf l) ts = Some (drop 1 ts)
+types_behind c (instr.Call x) ts = option_map (λ f. in_place_of (takes_of f) (gives_of f) ts) (slice_get c.functions x)
+types_behind c (instr.CallIndirect x) ts = option_map (λ f. in_place_of (takes_of f) (gives_of f) (drop 1 ts)) (slice_get c.types x)
+types_behind c instr.Drop ts = Some (drop 1 ts)
+types_behind c instr.Select ts = Some (drop 2 ts)
+types_behind c (instr.LocalGet x) ts = option_map (λ t. t ∷ ts) (slice_get c.locals x)
+types_behind c (instr.LocalSet x) ts = Some (drop 1 ts)
+types_behind c (instr.LocalTee x) ts = Some ts
+types_behind c (instr.GlobalGet x) ts = option_map (λ (g : GlobalType). g.value_type ∷ ts) (slice_get c.globals x)
+types_behind c (instr.GlobalSet x) ts = Some (drop 1 ts)
+types_behind c (instr.Load o m) ts = Some (loaded_type o ∷ drop 1 ts)
+types_behind c (instr.Store o m) ts = Some (drop 2 ts)
+types_behind c instr.MemorySize ts = Some (I32 ∷ ts)
+types_behind c instr.MemoryGrow ts = Some ts
+types_behind c (instr.Const v) ts = Some (type_of v ∷ ts)
+types_behind c (instr.Eqz t) ts = Some (I32 ∷ drop 1 ts)
+types_behind c (instr.Compare t o) ts = Some (I32 ∷ drop 2 ts)
+types_behind c (instr.Unary t o) ts = Some ts
+types_behind c (instr.Binary t o) ts = Some (drop 1 ts)
+types_behind c (instr.Convert o) ts = Some (conversion_gives o ∷ drop 1 ts)
+types_behind c _ ts = None
 
 -- ---- shapes
 
@@ -64,7 +64,7 @@ behind c _ ts = None
 abbrev pub shape_at : Context → List LabelShape → Sequence → List ValueType → ℕ → Option Shape
 shape_at c labels rest ts zero = Some (record { labels = labels; operands = ts; rest = rest })
 shape_at c labels Stop ts (suc n) = None
-shape_at c labels (Plain i rest) ts (suc n) = option_and_then (λ us. shape_at c labels rest us n) (behind c i ts)
+shape_at c labels (Plain i rest) ts (suc n) = option_and_then (λ us. shape_at c labels rest us n) (types_behind c i ts)
 shape_at c labels (InBlock t body rest) ts (suc n) =
     if nat_le n (length (spelled body)) then shape_at c (ShapeOf (results_of t) rest ts rest ∷ labels) body [] n
     else shape_at c labels rest (results_of t ++ ts) (n - (length (spelled body) + 1))

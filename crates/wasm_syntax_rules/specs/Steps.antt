@@ -9,7 +9,7 @@ use Rattle.wasm_syntax.specs.declared.value.Value.TheVariants as value
 use Rattle.wasm_syntax.specs.declared.value.Trap.TheVariants as trap
 use Rattle.wasm_syntax.specs.declared.instruction.Instruction.{Instruction}
 use Rattle.wasm_syntax.specs.declared.instruction.Instruction.TheVariants as instr
-use Rattle.wasm_syntax.specs.Sequence.{Sequence, Stop, Plain, InBlock, InLoop, InIf, InIfElse}
+use Rattle.wasm_syntax.specs.rules.Sequence.{Sequence, Stop, Plain, InBlock, InLoop, InIf, InIfElse}
 use Rattle.wasm_syntax_rules.specs.Types.{value_of, takes_of, gives_of, results_of, is_same_function_type}
 use Rattle.wasm_syntax_rules.specs.Configuration.{Callee, Host, Own, Program, Store, Label, LabelOf, Frame, FrameOf, Thread, Configuration, Outcome, Goes, Traps, Asks, Stuck}
 use Rattle.wasm_syntax_rules.specs.Effects.{Effect, Gives, Fails, Wrong, effect}

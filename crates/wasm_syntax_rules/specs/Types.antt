@@ -160,37 +160,37 @@ is_same_function_type f g = are_same_types f.parameters g.parameters && are_same
 -- ---- imports, in their order (2.5.1: imported ones come first in each index space)
 
 -- the indices of the functions' types, and the types of the others
-abbrev pub with_function : ImportItem → List ℕ → List ℕ
-with_function (import.Function t) others = t ∷ others
-with_function _ others = others
+abbrev pub with_function_index : ImportItem → List ℕ → List ℕ
+with_function_index (import.Function t) others = t ∷ others
+with_function_index _ others = others
 
 abbrev pub imported_functions : List Import → List ℕ
 imported_functions [] = []
-imported_functions (i ∷ imports) = with_function i.item (imported_functions imports)
+imported_functions (i ∷ imports) = with_function_index i.item (imported_functions imports)
 
-abbrev pub with_table : ImportItem → List TableType → List TableType
-with_table (import.Table t) others = t ∷ others
-with_table _ others = others
+abbrev pub with_table_type : ImportItem → List TableType → List TableType
+with_table_type (import.Table t) others = t ∷ others
+with_table_type _ others = others
 
 abbrev pub imported_tables : List Import → List TableType
 imported_tables [] = []
-imported_tables (i ∷ imports) = with_table i.item (imported_tables imports)
+imported_tables (i ∷ imports) = with_table_type i.item (imported_tables imports)
 
-abbrev pub with_memory : ImportItem → List MemoryType → List MemoryType
-with_memory (import.Memory t) others = t ∷ others
-with_memory _ others = others
+abbrev pub with_memory_type : ImportItem → List MemoryType → List MemoryType
+with_memory_type (import.Memory t) others = t ∷ others
+with_memory_type _ others = others
 
 abbrev pub imported_memories : List Import → List MemoryType
 imported_memories [] = []
-imported_memories (i ∷ imports) = with_memory i.item (imported_memories imports)
+imported_memories (i ∷ imports) = with_memory_type i.item (imported_memories imports)
 
-abbrev pub with_global : ImportItem → List GlobalType → List GlobalType
-with_global (import.Global t) others = t ∷ others
-with_global _ others = others
+abbrev pub with_global_type : ImportItem → List GlobalType → List GlobalType
+with_global_type (import.Global t) others = t ∷ others
+with_global_type _ others = others
 
 abbrev pub imported_globals : List Import → List GlobalType
 imported_globals [] = []
-imported_globals (i ∷ imports) = with_global i.item (imported_globals imports)
+imported_globals (i ∷ imports) = with_global_type i.item (imported_globals imports)
 
 abbrev pub global_type_of : Global → GlobalType
 global_type_of g = g.global_type

@@ -11,7 +11,7 @@ use Rattle.wasm_syntax.specs.declared.types.GlobalType.{GlobalType}
 use Rattle.wasm_syntax.specs.declared.types.Mutability.TheVariants.{Variable}
 use Rattle.wasm_syntax.specs.declared.instruction.Instruction.{Instruction}
 use Rattle.wasm_syntax.specs.declared.instruction.Instruction.TheVariants as instr
-use Rattle.wasm_syntax.specs.Sequence.{Sequence, Stop, Plain, InBlock, InLoop, InIf, InIfElse}
+use Rattle.wasm_syntax.specs.rules.Sequence.{Sequence, Stop, Plain, InBlock, InLoop, InIf, InIfElse}
 use Rattle.wasm_syntax_rules.specs.Types.{IsOf, conversion_takes, conversion_gives, loaded_type, loaded_width, stored_type, stored_width, bytes_in, takes_of, gives_of, results_of}
 
 -- What typing looks up (3.1.1): imported ones first in each list; the locals with the parameters; what the function

@@ -20,8 +20,9 @@ use Rattle.wasm_syntax.specs.declared.module.ExportItem.{ExportItem}
 use Rattle.wasm_syntax.specs.declared.module.ExportItem.TheVariants as export
 use Rattle.wasm_syntax.specs.declared.module.Element.{Element}
 use Rattle.wasm_syntax.specs.declared.module.Data.{Data}
-use Rattle.wasm_syntax.specs.Sequence.{Sequence, Spells}
-use Rattle.guest_memory.specs.Bytes.{IsByte}
+use Rattle.wasm_syntax.specs.rules.Sequence.{Sequence, Spells}
+use Rattle.wasm_syntax.specs.rules.Modules.{function_type_of}
+use Rattle.guest_memory.specs.rules.Bytes.{IsByte}
 use Rattle.wasm_syntax_rules.specs.Types.{IsOf, gives_of, imported_functions, imported_tables, imported_memories, imported_globals, global_type_of}
 use Rattle.wasm_syntax_rules.specs.Typing.{Context, HasType, body_context}
 
@@ -57,9 +58,6 @@ AreTypesAt types [] [] = Unit {0}
 AreTypesAt types (x ∷ indices) (f ∷ fs) = (slice_get types x ≡ Some f) × AreTypesAt types indices fs
 AreTypesAt types [] (f ∷ fs) = ⊥
 AreTypesAt types (x ∷ indices) [] = ⊥
-
-abbrev pub function_type_of : Function → ℕ
-function_type_of f = f.function_type
 
 -- the types of all functions, imported ones first
 abbrev pub AreFunctionTypes : Module → List FunctionType → Type 0

@@ -3,8 +3,9 @@
 
 ghost use Rattle.wasm_syntax_rules.specs.Configuration.{Store};
 ghost use Rattle.wasm_syntax_rules.specs.Shapes.{ReachedShapesAreTyped};
-ghost use Rattle.wasm_syntax_rules.specs.Laws.{OneSequence, OneRun, HeightsAreSmall};
-ghost use Rattle.wasm_syntax_rules.specs.Examples.{TypingExamples, HelloRuns, StepExamples};
+ghost use Rattle.wasm_syntax_rules.specs.laws.Laws.{OneSequence, OneRun, HeightsAreSmall};
+ghost use Rattle.wasm_syntax_rules.specs.laws.Examples.{TypingExamples, HelloRuns, StepExamples};
+ghost use Rattle.wasm_syntax_rules.specs.Typed.{NeverStuck, LeavesTyped, AnswersTyped, StepsTyped, ProgramsTyped, BeginsTyped};
 
 /// In a typed body each position that typing reaches has a typed shape.
 pub fn reached_shapes_are_typed()
@@ -27,4 +28,20 @@ pub fn worked_examples()
     ensures typing { TypingExamples }
     ensures hello { (store : Store) → HelloRuns store }
     ensures steps { StepExamples }
+{}
+
+// Laws over all programs and configurations. The functions do nothing: what they ensure is the law.
+
+/// Type soundness: a typed configuration is never stuck, and what follows from it is typed again.
+pub fn typed_configurations_go_on()
+    ensures never_stuck { NeverStuck }
+    ensures leaves_typed { LeavesTyped }
+    ensures answers_typed { AnswersTyped }
+    ensures steps_typed { StepsTyped }
+{}
+
+/// The program of a valid module is typed, and linked to a host it begins settled and typed.
+pub fn valid_modules_begin_typed()
+    ensures programs { ProgramsTyped }
+    ensures begins { BeginsTyped }
 {}

@@ -6,10 +6,10 @@ use Rattle.wasm_syntax.specs.declared.types.FunctionType.{FunctionType}
 use Rattle.wasm_syntax.specs.declared.module.Module.{Module}
 use Rattle.wasm_syntax.specs.declared.module.Function.{Function}
 use Rattle.wasm_syntax_rules.specs.Validity.{IsFunctionTypeValid, IsFunctionValid, module_context}
-use Rattle.wasm_validate_parts.specs.declared.fault.ValidFault.{ValidFault}
-use Rattle.wasm_validate_parts.specs.Answers.{Judges}
-use Rattle.wasm_validate_parts.proofs.Denied.{denies_still}
-use Rattle.wasm_validate_body.specs.Bodies.{HasBody}
+use Rattle.wasm_validate.specs.declared.parts.fault.ValidFault.{ValidFault}
+use Rattle.wasm_validate.specs.Parts.Answers.{Judges}
+use Rattle.wasm_validate.proofs.PartLemmas.Denied.{denies_still}
+use Rattle.wasm_validate.specs.Body.Bodies.{HasBody}
 
 -- what holds of all types holds of one
 pub type_valid : (types : List FunctionType) (x : ℕ) (t : FunctionType) → AllByRecursion IsFunctionTypeValid types → slice_get types x ≡ Some t → length t.results ≤ 1

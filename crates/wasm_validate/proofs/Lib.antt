@@ -1,1 +1,4 @@
 pub mod Functions
+pub mod PartLemmas
+pub mod Algorithm
+pub mod BodyLemmas

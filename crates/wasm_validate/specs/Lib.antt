@@ -1,1 +1,4 @@
 pub mod Bodies
+pub mod Parts
+pub mod Body
+pub mod laws

@@ -4,16 +4,16 @@ ghost use Rattle.std.specs.List.{AllByRecursion};
 ghost use Rattle.wasm_syntax_rules.specs.Validity.{IsFunctionValid};
 ghost use Rattle.wasm_validate.specs.Bodies.{JudgesIn};
 
+use crate::body::BodyChecker;
+use crate::parts::{ModuleContext, ValidFault};
 use std::alloc::Global;
 use wasm_syntax::Function;
-use wasm_validate_body::BodyChecker;
-use wasm_validate_parts::{Context, ValidFault};
 
 /// One function: `Index` where its type doesn't exist, `Limits` where it gives two values, and else the first
 /// fault of its body.
 fn check_function(
     checker: &mut BodyChecker,
-    context: &Context,
+    context: &ModuleContext,
     function: &Function,
 ) -> Result<(), ValidFault>
     ensures { JudgesIn context.now result (λ m functions. IsFunctionValid m functions function.now) }
@@ -29,7 +29,11 @@ fn check_function(
 
 /// The functions of a module whose types are valid, in their order. All bodies are checked over the same
 /// memory.
-pub fn check_functions(own: &[Function], context: &Context, alloc: Global) -> Result<(), ValidFault>
+pub fn check_functions(
+    own: &[Function],
+    context: &ModuleContext,
+    alloc: Global,
+) -> Result<(), ValidFault>
     ensures { JudgesIn context.now result (λ m functions. AllByRecursion (IsFunctionValid m functions) own.now) }
 {
     let mut checker = BodyChecker::new(alloc);

@@ -1,10 +1,42 @@
-//! Validation of modules (Core Specification 1.0, chapter 3).
+//! Validation: whether a module is valid, exactly as the typing rules say (Core Specification 1.0,
+//! chapter 3).
+//!
+//! # Promises
+//!
+//! - `validate`: the module that it answers is the one that it was given (`same`), and is valid
+//!   (`valid`). A fault other than want of memory comes only where it is not valid (`only`).
+//! - `ValidModule` is a valid module by its type. `module` lends it (`same`, `valid`).
+//! - inside, `check_types`: of types and imports the first fault is told (`refused`).
+//!   `check_before_data` and `check_data` judge all other parts but bodies.
+//! - `ModuleContext` looks up what typing looks up, each in constant time. `body::BodyChecker`
+//!   judges one body after another.
+//! - `laws::checking_is_typing`: checking opcodes from the front passes exactly what the rules
+//!   type (`only`, `all`). `laws::parts_are_validity`: the parts and the bodies are all of
+//!   validity.
+//!
+//! Which fault it is, where several others apply, no clause says.
+//!
+//! # Definitions to read
+//!
+//! `IsValid` of `wasm_syntax_rules` (`specs/Validity.antt`) is all that `validate` speaks of, with
+//! `Denies` (`specs/Parts/Answers.antt`). Other crates use `IsContextOf`
+//! (`specs/Parts/Contexts.antt`) and `HasBody` (`specs/Body/Bodies.antt`).
+//! `specs/laws/Checking.antt` is a second form of typing. Nobody has to believe it.
+//!
+//! # Who may touch what
+//!
+//! Only this crate makes a `ValidModule`. `machine_loader` calls `validate`; `machine`,
+//! `machine_jumps` and `process` use the type, the context and the stack of `body`. It stands on
+//! `wasm_syntax` and `wasm_syntax_rules`. Memory is taken in proportion to functions, globals,
+//! exports and the longest body. Want of it is `V5 Memory`. After any fault the module is gone.
 #![tactic(auto)]
 
 mod bodies;
-#[cfg(test)]
-mod tests;
+mod body;
+pub mod laws;
+mod parts;
 mod valid;
 
+pub use body::stack::Stack;
+pub use parts::{ModuleContext, ValidFault, function_type_indices};
 pub use valid::{ValidModule, validate};
-pub use wasm_validate_parts::ValidFault;

@@ -2,13 +2,13 @@
 
 ghost use Rattle.std.specs.Prelude.{◌≡◌, IfOk, IfErr, OnOk};
 ghost use Rattle.wasm_syntax_rules.specs.Validity.{IsValid};
-ghost use Rattle.wasm_validate_parts.specs.Answers.{Denies, Judges};
+ghost use Rattle.wasm_validate.specs.Parts.Answers.{Denies, Judges};
 
 use crate::bodies::check_functions;
+use crate::parts::{ModuleContext, ValidFault, check_before_data, check_data, check_types};
 use std::alloc::Global;
 use std::marker::Model;
 use wasm_syntax::Module;
-use wasm_validate_parts::{Context, ValidFault, check_before_data, check_data, check_types};
 
 /// A module that is valid, by its type. Contracts see the module.
 #[derive(Debug, Drop)]
@@ -43,7 +43,7 @@ fn check(module: &Module, alloc: Global) -> Result<(), ValidFault>
     ensures { Judges result (IsValid «module».now) }
 {
     check_types(module)?;
-    let context = Context::of(module, alloc)?;
+    let context = ModuleContext::of(module, alloc)?;
     check_before_data(module, &context, alloc)?;
     check_data(module, &context)?;
     check_functions(module.functions.as_slice(), &context, alloc)

@@ -1,4 +1,31 @@
-//! A host for durable WebAssembly workers: the program's words, files and streams around its commands.
+//! The program `wasmhost`: its words, files and streams around the commands of `wasmhost_serve`
+//! (this project's own).
+//!
+//! # Promises
+//!
+//! - Each function that answers an exit status answers 7 at most. No clause says more of the
+//!   program.
+//!
+//! What the commands promise of bytes, readers and writers is said in `wasmhost_serve`. This crate
+//! brings these to them:
+//!
+//! - It reads the command line, and a module's file up to one byte beyond the longest module.
+//! - `check` hands over the file's bytes, and `run` also the lines of the standard input.
+//! - Help goes to the output with status 0. A mistake in the words goes to the error output with
+//!   status 2.
+//! - Want of memory is told as `failed N4 Memory` with status 5, and a file that can't be read as
+//!   `failed K2 Io` with status 4.
+//!
+//! # Definitions to read
+//!
+//! None. There is no `specs/` folder.
+//!
+//! # Who may touch what
+//!
+//! Of the crates here only this one has the runtime's handle: the words of the command line,
+//! files, standard streams and the allocator. All else is lent to `wasmhost_serve`. It stands on
+//! that crate, and on `wasm_syntax` for the length of the longest module. It takes memory for the
+//! words, the file, the reader's buffer and a line.
 #![tactic(auto)]
 
 ghost use Rattle.std.specs.Prelude.{◌≤◌};
@@ -10,10 +37,9 @@ use std::io::{self, BufReader, ErrorKind, Input, Read, Write};
 use std::num::NonZeroU64;
 use std::process::ExitCode;
 use std::rt::{Env, Files};
-use wasm_syntax_grammar::limits::MODULE_BYTES;
+use wasm_syntax::limits::MODULE_BYTES;
 use wasmhost_serve::status::{NO_MEMORY, UNREAD, UNWRITTEN, USAGE};
-use wasmhost_serve::{LineOutlet, Options, check_bytes, serve};
-use wasmhost_words::{Order, WordsFault, read_words};
+use wasmhost_serve::{LineOutlet, Options, Order, WordsFault, check_bytes, read_words, serve};
 
 /// How many bytes of a file are read: as many as the longest module has, and one more, by which a longer one is known.
 const READ_BYTES: u64 = MODULE_BYTES as u64 + 1;
@@ -40,7 +66,7 @@ fn say<W: Write>(out: &mut W, status: u8, line: &str) -> u8
 }
 
 /// Why a file wasn't read, on the error output.
-fn unread<E: Write>(err: &mut E, error: &io::Error) -> u8
+fn report_unreadable<E: Write>(err: &mut E, error: &io::Error) -> u8
     ensures { result ≤ 7 }
 {
     if error.kind() == ErrorKind::OutOfMemory {
@@ -61,7 +87,7 @@ fn check<R: Files, W: Write, E: Write>(
 {
     match read_file(rt, alloc, path) {
         Ok(wasm) => check_bytes(alloc, wasm.as_slice(), out),
-        Err(error) => unread(err, &error),
+        Err(error) => report_unreadable(err, &error),
     }
 }
 
@@ -78,11 +104,11 @@ fn run<R: Files + Input, W: Write, E: Write>(
 {
     let wasm = match read_file(rt, alloc, path) {
         Ok(wasm) => wasm,
-        Err(error) => return unread(err, &error),
+        Err(error) => return report_unreadable(err, &error),
     };
     let mut reader = match BufReader::new(alloc, rt.reader()) {
         Ok(reader) => reader,
-        Err(error) => return unread(err, &error),
+        Err(error) => return report_unreadable(err, &error),
     };
     let Ok(mut outlet) = LineOutlet::new(alloc, out) else {
         return say(err, NO_MEMORY, "failed N4 Memory");

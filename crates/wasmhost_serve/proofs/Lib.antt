@@ -1,3 +1,5 @@
 pub mod Told
 pub mod Serving
 pub mod Starting
+pub mod LineLemmas
+pub mod WordLemmas

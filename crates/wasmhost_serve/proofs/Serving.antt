@@ -6,27 +6,27 @@ use Rattle.wasi_abi.specs.declared.answer.Answer.{Answer}
 use Rattle.wasi_abi.specs.declared.answer.Kind.{Kind}
 use Rattle.process_rules.specs.Processes.{ProcessState, Guest}
 use Rattle.process_rules.proofs.Growing.{runs_count}
-use Rattle.record_replay.specs.Calls.{Giving, Taking, Exchange, Asks, Releases, asks_of, releases_of, all_taken}
+use Rattle.record_replay.specs.rules.Calls.{Giving, Taking, Exchange, Asks, Releases, asks_of, releases_of, all_taken}
 use Rattle.record_replay.proofs.Following.{releases_of-append}
-use Rattle.process.specs.Values.{IsProcess}
+use Rattle.process.specs.rules.Values.{IsProcess}
 use Rattle.worker.specs.declared.fault.WorkFault.{WorkFault}
 use Rattle.worker.specs.declared.fault.WorkFault.TheVariants as fault
 use Rattle.worker.specs.declared.fault.Refusal.TheVariants as refusal
 use Rattle.worker.specs.declared.now.Now.{Now}
 use Rattle.worker.specs.declared.now.Now.TheVariants as now
-use Rattle.worker.specs.Values.{WorkerValue}
-use Rattle.worker.specs.Slices.{handed, LeadsTo, LeadsToWish, IsNow, Slices}
-use Rattle.worker.specs.Faults.{StopsAtAnswer, LeadsUpTo, last_answer, Fails, IsCause, SlicesInVain}
+use Rattle.worker.specs.rules.Values.{WorkerValue}
+use Rattle.worker.specs.rules.Slices.{handed, SliceLeadsTo, LeadsToWish, IsNow, Slices}
+use Rattle.worker.specs.rules.Faults.{StopsAtAnswer, LeadsUpTo, last_answer, Fails, IsCause, SlicesInVain}
 use Rattle.worker.proofs.Adding.{slices_add}
 use Rattle.worker.proofs.Failing.{slices_add_in_vain}
-use Rattle.wasmhost_lines.specs.declared.fault.LineFault.{LineFault}
-use Rattle.wasmhost_lines.specs.Prints.{Prints as PrintsLine}
-use Rattle.wasmhost_lines.specs.Laws.{all_printed}
-use Rattle.wasmhost_lines.proofs.Printed.{taken_are_printed}
+use Rattle.wasmhost_serve.specs.declared.lines.fault.LineFault.{LineFault}
+use Rattle.wasmhost_serve.specs.Lines.Prints.{PrintsOneLine as PrintsLine}
+use Rattle.wasmhost_serve.specs.laws.Lines.{all_printed}
+use Rattle.wasmhost_serve.proofs.LineLemmas.Printed.{taken_are_printed}
 use Rattle.wasmhost_serve.specs.declared.run.RunFault.{RunFault}
 use Rattle.wasmhost_serve.specs.declared.run.RunFault.TheVariants as run
-use Rattle.wasmhost_serve.specs.Served.{IsAsking, IsOver, IsSpent}
-use Rattle.wasmhost_serve.specs.Runs.{SlicesSome, SlicesSomeInVain, Prints, IsRun, IsRunInVain, FailsAs, IsToldAs, ended_by}
+use Rattle.wasmhost_serve.specs.rules.Served.{WantsAnswer, IsOver, IsSpent}
+use Rattle.wasmhost_serve.specs.Runs.{SlicesSome, SlicesSomeInVain, Prints, IsWorkerRun, IsRunInVain, FailsAs, IsToldAs, ended_by}
 
 -- ---- slices so far
 
@@ -90,7 +90,7 @@ module _ {S O : Type 0} (gives : Giving S) (contents : O → Option (List ℕ)) 
   takes o number line said p = PrintsLine (contents o) number line said (contents p)
 
   -- all lines on the way to a process were printed, where none had been emitted before
-  leads_print : (guest : Guest) (p q : ProcessState) (exchanges : List Exchange) (n : ℕ) (o o' : O) → p.host.lines ≡ [] → LeadsTo guest p exchanges n q
+  leads_print : (guest : Guest) (p q : ProcessState) (exchanges : List Exchange) (n : ℕ) (o o' : O) → p.host.lines ≡ [] → SliceLeadsTo guest p exchanges n q
       → Releases takes o (releases_of exchanges) o' → (prints : Prints guest p (contents o) (contents o')) × (prints.process ≡ q)
   leads_print guest p q exchanges n o o' none leads released =
       let same : q.host.lines ≡ leads.lines = leads.emitted ∙ ap (λ z. z ++ leads.lines) none in
@@ -106,7 +106,7 @@ module _ {S O : Type 0} (gives : Giving S) (contents : O → Option (List ℕ)) 
         refl,
       )
 
-  pub slices_print : (old new : WorkerValue) (fuel : ℕ) (why : Now) (s s' : S) (o o' : O) → Slices gives takes old fuel why new s s' o o' → why ≢ now.Spent → IsRun old why (contents o) (contents o')
+  pub slices_print : (old new : WorkerValue) (fuel : ℕ) (why : Now) (s s' : S) (o o' : O) → Slices gives takes old fuel why new s s' o o' → why ≢ now.Spent → IsWorkerRun old why (contents o) (contents o')
   slices_print old new fuel why s s' o o' slices other guest p shows none =
       let done = slices.shown guest p shows in
       let works = done.0 in
@@ -129,13 +129,13 @@ module _ {S O : Type 0} (gives : Giving S) (contents : O → Option (List ℕ)) 
         leads_print guest p q h.front n o o' none h.leads (subst (λ z. Releases takes o z o') same released)
 
     wish_prints : (front : List Exchange) (kind : Kind) → LeadsToWish guest p front kind → Releases takes o (releases_of front) o'
-        → (prints : Prints guest p (contents o) (contents o')) × IsAsking guest prints.process
+        → (prints : Prints guest p (contents o) (contents o')) × WantsAnswer guest prints.process
     wish_prints front kind wish released =
         let prints = leads_print guest p wish.process front wish.steps o o' none wish.leads released in
-        (prints.0, subst (IsAsking guest) (sym prints.1) (wish.running, kind, wish.wants))
+        (prints.0, subst (WantsAnswer guest) (sym prints.1) (wish.running, kind, wish.wants))
 
     module _ (old new : WorkerValue) (s s' : S) (fails : Fails gives takes old new guest p s s' o o') where
-      answer_prints : StopsAtAnswer guest p fails.exchanges fails.steps fails.process → (prints : Prints guest p (contents o) (contents o')) × IsAsking guest prints.process
+      answer_prints : StopsAtAnswer guest p fails.exchanges fails.steps fails.process → (prints : Prints guest p (contents o) (contents o')) × WantsAnswer guest prints.process
       answer_prints h =
           let same = ap releases_of h.is ∙ releases_of-append h.front (Asks h.ask ∷ []) ∙ append-nil (releases_of h.front) in
           wish_prints h.front h.ask.kind (fails.wanted h.front [] h.ask h.is) (subst (λ z. Releases takes o z o') same fails.exchanged.released)

@@ -5,21 +5,21 @@ use Rattle.std.proofs.KnownBytes.{Appends-nil}
 use Rattle.std.specs.Io.KnownBytes.{Appends}
 use Rattle.wasm_syntax.specs.declared.module.Module.{Module}
 use Rattle.wasm_syntax_rules.specs.Configuration.{Thread}
-use Rattle.wasi_abi.specs.Configs.{Settings}
+use Rattle.wasi_abi.specs.rules.Configs.{Settings}
 use Rattle.process_rules.specs.Processes.{ProcessState, Guest, IsStart, closed_at, host_of}
-use Rattle.process.specs.Values.{ShowsProcess}
+use Rattle.process.specs.rules.Values.{ShowsProcess}
 use Rattle.worker.specs.declared.fault.WorkFault.{WorkFault}
 use Rattle.worker.specs.declared.fault.WorkFault.TheVariants as fault
 use Rattle.worker.specs.declared.fault.Refusal.TheVariants as refusal
 use Rattle.worker.specs.declared.now.Now.{Now}
-use Rattle.worker.specs.Values.{WorkerValue, IsCreated}
-use Rattle.worker.specs.Faults.{IsRefused}
-use Rattle.wasmhost_lines.specs.declared.fault.LineFault.TheVariants as line
+use Rattle.worker.specs.rules.Values.{WorkerValue, IsCreated}
+use Rattle.worker.specs.rules.Faults.{IsRefusedByWorker}
+use Rattle.wasmhost_serve.specs.declared.lines.fault.LineFault.TheVariants as line
 use Rattle.wasmhost_serve.specs.declared.run.RunFault.{RunFault}
 use Rattle.wasmhost_serve.specs.declared.run.RunFault.TheVariants as run
-use Rattle.wasmhost_serve.specs.Statuses.{status_of}
-use Rattle.wasmhost_serve.specs.Served.{HasPrinted, IsServed, IsRefusal, AsksInVain, Serves, last_words, usual}
-use Rattle.wasmhost_serve.specs.Runs.{Prints, IsRun, IsRunInVain, FailsAs, ended_by}
+use Rattle.wasmhost_serve.specs.rules.Statuses.{status_of}
+use Rattle.wasmhost_serve.specs.rules.Served.{HasPrinted, IsServed, IsRefusal, AsksInVain, Serves, last_words, usual}
+use Rattle.wasmhost_serve.specs.Runs.{Prints, IsWorkerRun, IsRunInVain, FailsAs, ended_by}
 
 -- ---- the start
 
@@ -53,13 +53,13 @@ module _ (bytes : List ℕ) (w : WorkerValue) (old new : Option (List ℕ)) (cre
 
   -- ---- a worker that is over
 
-  pub is_served : (why : Now) (err err' : Option (List ℕ)) → IsRun w why old new → Appends err err' (last_words (ended_by why)) → IsServed bytes old new err err'
+  pub is_served : (why : Now) (err err' : Option (List ℕ)) → IsWorkerRun w why old new → Appends err err' (last_words (ended_by why)) → IsServed bytes old new err err'
   unfolding has_printed
   is_served why err err' did told =
       let done = did created.started.first_guest created.started.first start_shows none_told in
       record { has = has_printed done.0; over = done.1; told = subst (λ z. Appends err err' (last_words z)) (sym done.2) told }
 
-  pub serves_done : (why : Now) (err err' : Option (List ℕ)) (status : ℕ) → IsRun w why old new → (status ≡ 0) ⊎ (status ≡ 7)
+  pub serves_done : (why : Now) (err err' : Option (List ℕ)) (status : ℕ) → IsWorkerRun w why old new → (status ≡ 0) ⊎ (status ≡ 7)
       → (status ≡ 0 → Appends err err' (last_words (ended_by why))) → Serves bytes old new err err' status
   serves_done why err err' status did known told = record {
     served = λ e. is_served why err err' did (told e);
@@ -160,11 +160,11 @@ module _ (bytes : List ℕ) (old new err err' : Option (List ℕ)) where
       says (run.Work (fault.Refused refusal.StepsSpent)) h = inr (has_printed bytes w old new created h.0, h.1)
 
 -- one that wasn't created
-pub serves_nothing : (bytes : List ℕ) (old err err' : Option (List ℕ)) (why : WorkFault) (status : ℕ) → IsRefused usual.pages bytes why → (status ≡ status_of (run.Work why)) ⊎ (status ≡ 7)
+pub serves_nothing : (bytes : List ℕ) (old err err' : Option (List ℕ)) (why : WorkFault) (status : ℕ) → IsRefusedByWorker usual.pages bytes why → (status ≡ status_of (run.Work why)) ⊎ (status ≡ 7)
     → Serves bytes old old err err' status
 serves_nothing bytes old err err' why status refused known = serves_fault bytes old old err err' (run.Work why) status (says why refused) known
   where
-    says : (why : WorkFault) → IsRefused usual.pages bytes why → Says bytes (run.Work why) old old
+    says : (why : WorkFault) → IsRefusedByWorker usual.pages bytes why → Says bytes (run.Work why) old old
     says fault.Source h = absurd h
     says fault.Outlet h = absurd h
     says fault.Memory h = inl (Appends-nil old)

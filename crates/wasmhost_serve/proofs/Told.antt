@@ -1,10 +1,10 @@
 -- What the status of a refused module says of its bytes.
 use Rattle.std.proofs.Common.{◌≡◌, ℕ, List, Bool, true, false, refl, arith}
 use Rattle.std.specs.Prelude.{Result, Ok, Err, ⊤, if◌then◌else◌}
-use Rattle.front_end.specs.declared.fault.FrontFault.{FrontFault}
-use Rattle.front_end.specs.Acceptance.{HasNoAcceptedModule, is_want}
-use Rattle.front_end.proofs.Wants.{no_want}
-use Rattle.wasmhost_serve.specs.Statuses.{IsRight, status_by}
+use Rattle.machine_loader.specs.declared.fault.FrontFault.{FrontFault}
+use Rattle.machine_loader.specs.rules.Acceptance.{HasNoAcceptedModule, is_want}
+use Rattle.machine_loader.proofs.Wants.{no_want}
+use Rattle.wasmhost_serve.specs.rules.Statuses.{IsRight, status_by}
 
 pub refused_by : (pages : ℕ) (bytes : List ℕ) (verdict : Result ⊤ FrontFault) → IsRight pages bytes verdict → status_by verdict ≡ 3 → HasNoAcceptedModule pages bytes
 refused_by pages bytes (Ok done) right e = absurd (omega arith)

@@ -1,3 +1,4 @@
-pub mod Statuses
-pub mod Served
 pub mod Runs
+pub mod Lines
+pub mod laws
+pub mod rules

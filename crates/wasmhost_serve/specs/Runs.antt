@@ -3,21 +3,21 @@ use Rattle.std.specs.Prelude.{◌≡◌, ◌⊎◌, ℕ, false, List, [], Option
 use Rattle.std.specs.Io.KnownBytes.{Appends}
 use Rattle.process_rules.specs.Processes.{Ending, ProcessState, Guest}
 use Rattle.process_rules.specs.Runs.{Kept, Runs}
-use Rattle.record_replay.specs.Calls.{Giving, Taking}
-use Rattle.process.specs.Values.{ShowsProcess, ending_of}
+use Rattle.record_replay.specs.rules.Calls.{Giving, Taking}
+use Rattle.process.specs.rules.Values.{ShowsProcess, ending_of}
 use Rattle.worker.specs.declared.fault.WorkFault.{WorkFault}
 use Rattle.worker.specs.declared.fault.WorkFault.TheVariants as fault
 use Rattle.worker.specs.declared.fault.Refusal.TheVariants as refusal
 use Rattle.worker.specs.declared.now.Now.{Now}
 use Rattle.worker.specs.declared.now.Now.TheVariants as now
-use Rattle.worker.specs.Values.{WorkerValue}
-use Rattle.worker.specs.Slices.{Slices}
-use Rattle.worker.specs.Faults.{SlicesInVain}
-use Rattle.wasmhost_lines.specs.declared.fault.LineFault.{LineFault}
-use Rattle.wasmhost_lines.specs.Laws.{all_printed}
+use Rattle.worker.specs.rules.Values.{WorkerValue}
+use Rattle.worker.specs.rules.Slices.{Slices}
+use Rattle.worker.specs.rules.Faults.{SlicesInVain}
+use Rattle.wasmhost_serve.specs.declared.lines.fault.LineFault.{LineFault}
+use Rattle.wasmhost_serve.specs.laws.Lines.{all_printed}
 use Rattle.wasmhost_serve.specs.declared.run.RunFault.{RunFault}
 use Rattle.wasmhost_serve.specs.declared.run.RunFault.TheVariants as run
-use Rattle.wasmhost_serve.specs.Served.{IsAsking, IsOver, IsSpent}
+use Rattle.wasmhost_serve.specs.rules.Served.{WantsAnswer, IsOver, IsSpent}
 
 -- some slice, of so much fuel
 pub record SlicesSome {S O : Type 0} (gives : Giving S) (takes : Taking O) (old : WorkerValue) (why : Now) (new : WorkerValue) (source source' : S) (outlet outlet' : O) : Type 0 where
@@ -44,15 +44,15 @@ pub record Prints (guest : Guest) (p : ProcessState) (old new : Option (List ℕ
   pub printed : Appends old new (all_printed 1 process.host.lines)
 
 -- whichever process the worker showed
-abbrev pub IsRun : WorkerValue → Now → Option (List ℕ) → Option (List ℕ) → Type 0
-IsRun w why old new =
+abbrev pub IsWorkerRun : WorkerValue → Now → Option (List ℕ) → Option (List ℕ) → Type 0
+IsWorkerRun w why old new =
     (guest : Guest) (p : ProcessState) → ShowsProcess w.process guest p → p.host.lines ≡ []
     → (prints : Prints guest p old new) × IsOver guest prints.process × (prints.process.ended ≡ ended_by why)
 
 -- Where a fault of the source or of a request line comes, an answer is wanted. After a fault of the outlet nothing is known of what was printed.
 abbrev pub FailsAs : Guest → ProcessState → RunFault → Option (List ℕ) → Option (List ℕ) → Type 0
-FailsAs guest p (run.Line why) old new = (prints : Prints guest p old new) × IsAsking guest prints.process
-FailsAs guest p (run.Work fault.Source) old new = (prints : Prints guest p old new) × IsAsking guest prints.process
+FailsAs guest p (run.Line why) old new = (prints : Prints guest p old new) × WantsAnswer guest prints.process
+FailsAs guest p (run.Work fault.Source) old new = (prints : Prints guest p old new) × WantsAnswer guest prints.process
 FailsAs guest p (run.Work fault.Outlet) old new = Unit {0}
 FailsAs guest p (run.Work fault.Memory) old new = Prints guest p old new
 FailsAs guest p (run.Work fault.Failed) old new = ⊥

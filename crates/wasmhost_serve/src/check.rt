@@ -2,11 +2,11 @@
 
 ghost use Rattle.std.specs.Prelude.{◌≡◌, ◌⊎◌, OnOk, IsOk, codes};
 ghost use Rattle.std.specs.Io.KnownBytes.{Appends};
-ghost use Rattle.front_end.specs.Acceptance.{HasAcceptedModule, HasNoAcceptedModule};
-ghost use Rattle.wasmhost_serve.specs.Statuses.{IsRight, status_by};
+ghost use Rattle.machine_loader.specs.rules.Acceptance.{HasAcceptedModule, HasNoAcceptedModule};
+ghost use Rattle.wasmhost_serve.specs.rules.Statuses.{IsRight, status_by};
 
 use crate::status::{NO_MEMORY, REFUSED, UNWRITTEN};
-use front_end::{FrontFault, accept};
+use machine_loader::{FrontFault, accept};
 use std::alloc::Global;
 use std::io::{self, Write};
 

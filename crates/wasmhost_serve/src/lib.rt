@@ -1,15 +1,45 @@
-//! The commands of the program over bytes, readers and writers that are lent to them, each answering the
-//! exit status.
+//! The commands of the program, and its command line (this project's own). A command works on
+//! bytes, readers and writers that are lent to it, and answers the exit status.
+//!
+//! # Promises
+//!
+//! - `check_bytes`: status 0 says that the bytes spell an accepted module (`accepted`), and that
+//!   `accepted` was printed (`printed`). 3 says that they spell none (`refused`). All others are 5
+//!   and 7 (`known`).
+//! - `serve`: what each status of a run says of the module, the lines that were printed, and the
+//!   last words (`serves`). Up to any status but 7 whatever was printed is true. No status is
+//!   above 7 (`known`).
+//! - `LineOutlet` prints each line that it takes, with its number and the letter of its stream
+//!   (`PrintsOneLine`). `laws::taken_lines_are_printed`: the lines that it took are printed, and
+//!   nothing else.
+//! - `words::read_words`: an order is exactly what the words mean. A fault is one that the rules
+//!   of the command line list for them, or want of memory (`IsReading`).
+//! - `laws::faultless_words_mean`, `laws::worked_examples`: words without a fault mean an order;
+//!   seventeen command lines.
+//!
+//! # Definitions to read
+//!
+//! In `specs/rules/`: `Serves`, `HasPrinted`, `usual`, `last_words` (`Served.antt`); `printed`,
+//! `request_line` (`Texts.antt`); `wasmhost`, `meaning_in`, `IsReading`, `IsStatusOf`
+//! (`Commands.antt`). Beside these: `all_printed` (`specs/laws/Lines.antt`), and `PrintsOneLine`
+//! (`specs/Lines/Prints.antt`).
+//!
+//! # Who may touch what
+//!
+//! Only this crate knows how lines, requests and last words are spelled, and the exit statuses
+//! (`status`). `wasmhost` calls it. It stands on `worker` and `machine_loader`. Want of memory is
+//! status 5. Then nothing was printed, or all lines of a process that the module reaches
+//! (`Serves`). Nothing here opens a file.
 #![tactic(auto)]
 
 mod check;
+pub mod laws;
+mod lines;
 mod run;
-#[cfg(test)]
-mod run_tests;
 pub mod status;
-#[cfg(test)]
-mod tests;
+mod words;
 
 pub use check::check_bytes;
+pub use lines::{LineFault, LineOutlet, Request, RequestSource, read_request, trap_name};
 pub use run::{Options, serve};
-pub use wasmhost_lines::LineOutlet;
+pub use words::{Order, WordsFault, read_words};

@@ -2,16 +2,17 @@
 
 ghost use Rattle.std.specs.Prelude.{◌≡◌, ◌≢◌, ◌⊎◌, ◌≤◌, IfOk, IfErr, OnOk};
 ghost use Rattle.std.specs.Io.KnownBytes.{Appends};
-ghost use Rattle.process.specs.Values.{IsProcess};
-ghost use Rattle.worker.specs.Values.{IsCreated};
-ghost use Rattle.worker.specs.Faults.{IsRefused};
+ghost use Rattle.process.specs.rules.Values.{IsProcess};
+ghost use Rattle.worker.specs.rules.Values.{IsCreated};
+ghost use Rattle.worker.specs.rules.Faults.{IsRefusedByWorker};
 ghost use Rattle.worker.specs.declared.now.Now.TheVariants.{Spent};
-ghost use Rattle.wasmhost_serve.specs.Served.{Serves, usual, last_words};
-ghost use Rattle.wasmhost_serve.specs.Runs.{SlicesSome, SlicesSomeInVain, IsRun, IsRunInVain, IsToldAs, ended_by};
-ghost use Rattle.wasmhost_serve.specs.Statuses.{status_of};
+ghost use Rattle.wasmhost_serve.specs.rules.Served.{Serves, usual, last_words};
+ghost use Rattle.wasmhost_serve.specs.Runs.{SlicesSome, SlicesSomeInVain, IsWorkerRun, IsRunInVain, IsToldAs, ended_by};
+ghost use Rattle.wasmhost_serve.specs.rules.Statuses.{status_of};
 
+use crate::lines::{LineFault, LineOutlet, RequestSource, trap_name};
 use crate::status::{BAD_LINE, NO_MEMORY, REFUSED, UNREAD, UNWRITTEN};
-use process::End;
+use process::ProcessEnd;
 use record_replay::{Outlet, Source};
 use std::alloc::{AllocError, Global};
 use std::io::{self, BufRead, Write};
@@ -19,7 +20,6 @@ use std::num::NonZeroU64;
 use thiserror::Error;
 use wasi_abi::Config;
 use wasm_syntax::Row;
-use wasmhost_lines::{LineFault, LineOutlet, RequestSource, trap_name};
 use worker::{Now, WorkFault, Worker};
 
 /// How a worker is driven.
@@ -79,7 +79,7 @@ pub(crate) fn usual_config(alloc: Global) -> Result<Config, AllocError>
 
 fn create(alloc: Global, wasm: &[u8]) -> Result<Worker, WorkFault>
     ensures created { IfOk result (IsCreated wasm.now usual) }
-    ensures refused { IfErr result (IsRefused usual.pages wasm.now) }
+    ensures refused { IfErr result (IsRefusedByWorker usual.pages wasm.now) }
 {
     let Ok(config) = usual_config(alloc) else {
         return Err(WorkFault::Memory);
@@ -116,7 +116,7 @@ fn work<S: Source, O: Outlet>(
 }
 
 /// A fault of the source is that of a request line, where there is one.
-fn told_as(fault: WorkFault, line: Option<LineFault>) -> RunFault
+fn run_fault_of(fault: WorkFault, line: Option<LineFault>) -> RunFault
     ensures { IsToldAs fault line result }
 {
     match line {
@@ -133,13 +133,13 @@ fn run<R: BufRead, W: Write + Drop>(
     reader: &mut R,
     outlet: &mut LineOutlet<W>,
 ) -> Result<Now, RunFault>
-    ensures done { IfOk result (λ now. IsRun worker.old now (W.contents outlet.old.out) (W.contents outlet.new.out)) }
+    ensures done { IfOk result (λ now. IsWorkerRun worker.old now (W.contents outlet.old.out) (W.contents outlet.new.out)) }
     ensures failed { IfErr result (λ fault. IsRunInVain worker.old fault (W.contents outlet.old.out) (W.contents outlet.new.out)) }
 {
     let mut source = RequestSource::new(alloc, reader, 0);
     match work(worker, fuel, &mut source, outlet) {
         Ok(now) => Ok(now),
-        Err(fault) => Err(told_as(fault, source.fault())),
+        Err(fault) => Err(run_fault_of(fault, source.fault())),
     }
 }
 
@@ -148,8 +148,8 @@ fn print_last_words<E: Write>(err: &mut E, now: Now) -> io::Result<()>
     ensures { OnOk result (Appends (E.contents err.old) (E.contents err.new) (last_words (ended_by now))) }
 {
     match now {
-        Now::Ended(End::Exited(code)) => writeln!(err, "exited {code}")?,
-        Now::Ended(End::Trapped(why)) => writeln!(err, "trapped {}", trap_name(why))?,
+        Now::Ended(ProcessEnd::Exited(code)) => writeln!(err, "exited {code}")?,
+        Now::Ended(ProcessEnd::Trapped(why)) => writeln!(err, "trapped {}", trap_name(why))?,
         Now::Waiting | Now::Spent => writeln!(err, "parked")?,
     }
     err.flush()

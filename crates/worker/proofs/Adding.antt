@@ -1,12 +1,12 @@
 -- Two slices, of which the first took all its steps, are one.
 use Rattle.std.proofs.Common.{◌≡◌, ℕ, ◌+◌, ◌<◌, ◌≤◌, List, ◌++◌, sym, ◌∙◌, ap, arith, append_assoc}
 use Rattle.process_rules.specs.Processes.{ProcessState, Guest}
-use Rattle.record_replay.specs.Calls.{Giving, Taking, Exchange}
+use Rattle.record_replay.specs.rules.Calls.{Giving, Taking, Exchange}
 use Rattle.record_replay.proofs.Following.{exchanges_join}
 use Rattle.worker.specs.declared.now.Now.{Now}
 use Rattle.worker.specs.declared.now.Now.TheVariants as now
-use Rattle.worker.specs.Slices.{AreAnswered, IsNow}
-use Rattle.worker.specs.Laws.{SlicesAdd}
+use Rattle.worker.specs.rules.Slices.{AreAnswered, IsNow}
+use Rattle.worker.specs.laws.Laws.{SlicesAdd}
 use Rattle.worker.proofs.Joining.{answered_join, leads_join, wanted_join}
 
 now_on : (guest : Guest) (q : ProcessState) (xs ys : List Exchange) (n k f g : ℕ) (why : Now) → n ≡ f → AreAnswered xs → IsNow guest q ys k g why → IsNow guest q (xs ++ ys) (n + k) (f + g) why

@@ -3,24 +3,18 @@ use Rattle.std.proofs.Common.{◌≡◌, ◌⊎◌, inl, inr, ℕ, zero, suc, �
 use Rattle.std.proofs.lemmas.List.{append_cancel_left}
 use Rattle.process_rules.specs.Processes.{ProcessState, Guest}
 use Rattle.process_rules.specs.Runs.{next_of, LeadsTo as Leads, Moves, Kept, Runs, none, step, take}
-use Rattle.process_rules.proofs.OneProcess.{runs_once}
+use Rattle.process_rules.proofs.OneProcess.{runs_once, one_or_other}
 use Rattle.wasi_abi.specs.declared.answer.Answer.{Answer}
-use Rattle.record_replay.specs.Calls.{Exchange, asks_of, releases_of, all_taken}
-use Rattle.process.specs.declared.stop.End.{End}
-use Rattle.process.specs.declared.stop.End.TheVariants as end
-use Rattle.process.specs.Values.{ending_of}
+use Rattle.record_replay.specs.rules.Calls.{Exchange, asks_of, releases_of, all_taken}
+use Rattle.process.specs.declared.stop.ProcessEnd.{ProcessEnd}
+use Rattle.process.specs.declared.stop.ProcessEnd.TheVariants as end
+use Rattle.process.specs.rules.Values.{ending_of}
 use Rattle.worker.specs.declared.now.Now.{Now}
 use Rattle.worker.specs.declared.now.Now.TheVariants as now
-use Rattle.worker.specs.Slices.{handed, LeadsTo, IsNow}
-use Rattle.worker.specs.Laws.{OneSlice}
+use Rattle.worker.specs.rules.Slices.{handed, SliceLeadsTo, IsNow}
+use Rattle.worker.specs.laws.Laws.{OneSlice}
 
 -- ---- a longer run on the same answers
-
--- no step takes an answer where another one goes on without
-one_or_other : (guest : Guest) (p q r : ProcessState) (a : Answer) → Moves guest p None q → Moves guest p (Some a) r → ⊥
-one_or_other guest p q r a x y =
-    let stopped : Leads guest (next_of guest p None) None p q = x.leads in
-    (rw y.wanted.1 at stopped)
 
 one_move : (guest : Guest) (p q r : ProcessState) → Moves guest p None q → Moves guest p None r → q ≡ r
 one_move guest p q r a b = runs_once guest p q r [] 1 (step a none) (step b none)
@@ -82,7 +76,7 @@ compare (suc n) (suc m) =
 
 -- ---- why they are over
 
-same_end : (a b : End) → ending_of a ≡ ending_of b → a ≡ b
+same_end : (a b : ProcessEnd) → ending_of a ≡ ending_of b → a ≡ b
 same_end (end.Exited m) (end.Exited n) e = cc
 same_end (end.Exited m) (end.Trapped why) e = absurd (cc)
 same_end (end.Trapped why) (end.Exited n) e = absurd (cc)
@@ -106,8 +100,8 @@ same_why guest q xs ys n fuel (now.Ended how) (now.Ended other) h k =
 -- ---- both
 
 -- with as many steps
-alike : (guest : Guest) (p q r : ProcessState) (xs ys : List Exchange) (n fuel : ℕ) (why other : Now) → LeadsTo guest p xs n q → IsNow guest q xs n fuel why
-    → LeadsTo guest p ys n r → IsNow guest r ys n fuel other → handed (asks_of xs) ≡ handed (asks_of ys) → (q ≡ r) × (why ≡ other) × (releases_of xs ≡ releases_of ys)
+alike : (guest : Guest) (p q r : ProcessState) (xs ys : List Exchange) (n fuel : ℕ) (why other : Now) → SliceLeadsTo guest p xs n q → IsNow guest q xs n fuel why
+    → SliceLeadsTo guest p ys n r → IsNow guest r ys n fuel other → handed (asks_of xs) ≡ handed (asks_of ys) → (q ≡ r) × (why ≡ other) × (releases_of xs ≡ releases_of ys)
 alike guest p q r xs ys n fuel why other a h b k answers =
     let same : q ≡ r = runs_once guest p q r (handed (asks_of ys)) n (subst (λ z. Runs guest p z n q) answers a.runs) b.runs in
     let lines : a.lines ≡ b.lines = append_cancel_left p.host.lines a.lines b.lines (sym a.emitted ∙ ap (λ (z : ProcessState). z.host.lines) same ∙ b.emitted) in (
@@ -121,7 +115,7 @@ one_slice guest p q r xs ys n m fuel why other a h b k answers =
     let runs : Runs guest p (handed (asks_of ys)) n q = subst (λ z. Runs guest p z n q) answers a.runs in
     elim (compare n m) [
       | inl e ↦
-          alike guest p q r xs ys m fuel why other (subst (λ z. LeadsTo guest p xs z q) e a) (subst (λ z. IsNow guest q xs z fuel why) e h) b k answers
+          alike guest p q r xs ys m fuel why other (subst (λ z. SliceLeadsTo guest p xs z q) e a) (subst (λ z. IsNow guest q xs z fuel why) e h) b k answers
       | inr (inl e) ↦ absurd (no_longer guest p q r (handed (asks_of ys)) xs ys n m e.0 fuel why other runs b.runs h k e.1)
       | inr (inr e) ↦ absurd (no_longer guest p r q (handed (asks_of ys)) ys xs m n e.0 fuel other why b.runs runs k h e.1)
     ]

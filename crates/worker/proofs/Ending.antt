@@ -5,25 +5,25 @@ use Rattle.std.proofs.lemmas.List.{append-nil}
 use Rattle.wasi_abi.specs.declared.answer.Kind.{Kind}
 use Rattle.wasi_abi.specs.declared.answer.Kind.TheVariants as kind
 use Rattle.wasi_abi.specs.declared.answer.Answer.{Answer}
-use Rattle.wasi_calls_rows.specs.Hosts.{Line}
+use Rattle.wasi_calls_rules.specs.Hosts.{Line}
 use Rattle.process_rules.specs.Processes.{ProcessState, Guest}
 use Rattle.process_rules.specs.Runs.{Wants, next_of}
 use Rattle.process_rules.proofs.Growing.{move_counts}
 use Rattle.record_replay.specs.declared.fault.SourceFault.{SourceFault}
-use Rattle.record_replay.specs.Calls.{Giving, Taking, Ask, Begun, Exchange, Asks, Exchanges}
+use Rattle.record_replay.specs.rules.Calls.{Giving, Taking, Ask, Begun, Exchange, Asks, Exchanges}
 use Rattle.process.specs.declared.fault.ProcessFault.{ProcessFault}
 use Rattle.process.specs.declared.fault.ProcessFault.TheVariants as stop
-use Rattle.process.specs.declared.stop.End.{End}
+use Rattle.process.specs.declared.stop.ProcessEnd.{ProcessEnd}
 use Rattle.process.specs.declared.stop.Stop.TheVariants as stops
-use Rattle.process.specs.Values.{ProcessValue, ShowsProcess, IsProcess, waiting_in}
-use Rattle.process.specs.Stops.{ComesQuietly, Takes, Advances, Gives}
+use Rattle.process.specs.rules.Values.{ProcessValue, ShowsProcess, IsProcess, waiting_in}
+use Rattle.process.specs.rules.Stops.{ComesQuietly, TakesAnswer, AdvancesProcess, GivesAnswer}
 use Rattle.worker.specs.declared.now.Now.TheVariants as ends
 use Rattle.worker.specs.declared.fault.WorkFault.{WorkFault}
 use Rattle.worker.specs.declared.fault.WorkFault.TheVariants as fault
 use Rattle.worker.specs.declared.fault.Refusal.TheVariants as refusal
-use Rattle.worker.specs.Slices.{handed_by, LeadsTo, LeadsToWish, AreWanted, Slices}
-use Rattle.worker.specs.Faults.{IsBadAnswer, LeadsUpTo, last_refused, Fails, IsCause, SlicesInVain}
-use Rattle.worker.specs.Refusals.{fault_of}
+use Rattle.worker.specs.rules.Slices.{handed_by, SliceLeadsTo, LeadsToWish, AreWanted, Slices}
+use Rattle.worker.specs.rules.Faults.{IsBadAnswer, LeadsUpTo, last_refused, Fails, IsCause, SlicesInVain}
+use Rattle.worker.specs.rules.Refusals.{work_fault}
 use Rattle.worker.specs.Turns.{working, failing, first_waiting, taken_by, ReleasesAll, ReleasesSome, AnswersBy, AsksOnce}
 use Rattle.worker.proofs.Joining.{tells, wanted_ask, asked_leads}
 use Rattle.worker.proofs.Going.{released_count, Goes, goes_none, leads, advance_on, owing_last, wish, asked_more, answer_on, told_wanted, told_more, release_on, quiet_runs, owing_runs}
@@ -106,7 +106,7 @@ module _ {S O : Type 0} (gives : Giving S) (takes : Taking O) where
     abbrev one_stop : Goes gives takes old now fuel one_guest one_process s t o q
     one_stop = at one_guest one_process turning.some.shows
 
-    pub spent : Advances now left (Ok stops.Spent) new → Slices gives takes (working old) fuel ends.Spent (working new) s t o q
+    pub spent : AdvancesProcess now left (Ok stops.Spent) new → Slices gives takes (working old) fuel ends.Spent (working new) s t o q
     unfolding advance_on
     spent advances = record {
       had_not_failed = refl;
@@ -132,7 +132,7 @@ module _ {S O : Type 0} (gives : Giving S) (takes : Taking O) where
           );
     }
 
-    pub over : (how : End) → Advances now left (Ok (stops.Ended how)) new → Slices gives takes (working old) fuel (ends.Ended how) (working new) s t o q
+    pub over : (how : ProcessEnd) → AdvancesProcess now left (Ok (stops.Ended how)) new → Slices gives takes (working old) fuel (ends.Ended how) (working new) s t o q
     unfolding advance_on
     over how advances = record {
       had_not_failed = refl;
@@ -157,7 +157,7 @@ module _ {S O : Type 0} (gives : Giving S) (takes : Taking O) where
 
     -- ---- what is owed
 
-    pub owes : Advances now left (Ok stops.Owes) new → Turning old new fuel first s t o q
+    pub owes : AdvancesProcess now left (Ok stops.Owes) new → Turning old new fuel first s t o q
     owes advances = record {
       goes = λ guest p shows.
           let g = at guest p shows in
@@ -174,7 +174,7 @@ module _ {S O : Type 0} (gives : Giving S) (takes : Taking O) where
     }
 
     -- less is left after what was owed is released
-    pub owes_less : Advances now left (Ok stops.Owes) new → (after : ProcessValue) → waiting_in after ≡ [] → after.steps ≡ new.steps → measure fuel first after < measure fuel first now
+    pub owes_less : AdvancesProcess now left (Ok stops.Owes) new → (after : ProcessValue) → waiting_in after ≡ [] → after.steps ≡ new.steps → measure fuel first after < measure fuel first now
     unfolding advance_on
     owes_less advances after empty same_steps =
         let g = one_stop in
@@ -199,7 +199,7 @@ module _ {S O : Type 0} (gives : Giving S) (takes : Taking O) where
 
     -- ---- what is asked
 
-    pub asks : (kind : Kind) → Advances now left (Ok (stops.Asks kind)) new → Wishing old new fuel first s t o q kind
+    pub asks : (kind : Kind) → AdvancesProcess now left (Ok (stops.Asks kind)) new → Wishing old new fuel first s t o q kind
     unfolding advance_on
     asks kind advances = record {
       turning = record {
@@ -223,7 +223,7 @@ module _ {S O : Type 0} (gives : Giving S) (takes : Taking O) where
     }
 
     -- no step is taken back
-    pub asks_counts : (kind : Kind) → Advances now left (Ok (stops.Asks kind)) new → now.steps ≤ new.steps
+    pub asks_counts : (kind : Kind) → AdvancesProcess now left (Ok (stops.Asks kind)) new → now.steps ≤ new.steps
     unfolding advance_on
     asks_counts kind advances =
         let g = one_stop in
@@ -237,7 +237,7 @@ module _ {S O : Type 0} (gives : Giving S) (takes : Taking O) where
 
     -- ---- where no step could be taken
 
-    pub cannot_advance : (why : ProcessFault) → Advances now left (Err why) new → SlicesInVain gives takes (working old) fuel (fault_of why) (failing new) s t o q
+    pub cannot_advance : (why : ProcessFault) → AdvancesProcess now left (Err why) new → SlicesInVain gives takes (working old) fuel (work_fault why) (failing new) s t o q
     unfolding advance_on
     cannot_advance stop.WrongAnswer advances = (refl, refl, λ guest p shows. absurd (advances guest (at guest p shows).process (at guest p shows).shows))
     cannot_advance stop.Memory advances = (
@@ -345,7 +345,7 @@ module _ {S O : Type 0} (gives : Giving S) (takes : Taking O) where
     wanted_now guest p shows =
         wish gives takes old mid mid fuel guest p s t o q (so_far guest p shows) kind wishing.empty (wishing.running guest p shows) (wishing.wants guest p shows)
 
-    leads_now : (guest : Guest) (p : ProcessState) (shows : ShowsProcess old guest p) → LeadsTo guest p (so_far guest p shows).exchanges (so_far guest p shows).steps (so_far guest p shows).process
+    leads_now : (guest : Guest) (p : ProcessState) (shows : ShowsProcess old guest p) → SliceLeadsTo guest p (so_far guest p shows).exchanges (so_far guest p shows).steps (so_far guest p shows).process
     leads_now guest p shows = leads gives takes old mid mid fuel guest p s t o q (so_far guest p shows) wishing.empty
 
     -- ---- no answer
@@ -442,9 +442,9 @@ module _ {S O : Type 0} (gives : Giving S) (takes : Taking O) where
     record IsGiven (said : Result (Option Answer) SourceFault) : Type 0 where
       pub answer : Answer
       pub is : said ≡ Ok (Some answer)
-      pub takes_it : (guest : Guest) (p : ProcessState) → ShowsProcess mid guest p → Takes new guest p answer
+      pub takes_it : (guest : Guest) (p : ProcessState) → ShowsProcess mid guest p → TakesAnswer new guest p answer
 
-    given_so : (a : Answer) (given : Result (Unit {0}) ProcessFault) → Gives mid a given new → ◌≡◌ {A = Result Bool WorkFault} (Ok true) (taken_by given) → IsGiven (Ok (Some a))
+    given_so : (a : Answer) (given : Result (Unit {0}) ProcessFault) → GivesAnswer mid a given new → ◌≡◌ {A = Result Bool WorkFault} (Ok true) (taken_by given) → IsGiven (Ok (Some a))
     given_so a (Ok done) h e = record { answer = a; is = refl; takes_it = λ guest p shows. (h guest p shows).1 }
     given_so a (Err why) h e = absurd (cc)
 
@@ -489,7 +489,7 @@ module _ {S O : Type 0} (gives : Giving S) (takes : Taking O) where
     abbrev one_shown : ShowsProcess mid wishing.turning.some.guest (so_far wishing.turning.some.guest wishing.turning.some.process wishing.turning.some.shows).process
     one_shown = (so_far wishing.turning.some.guest wishing.turning.some.process wishing.turning.some.shows).shows
 
-    refused_by : (a : Answer) (why : ProcessFault) → gives t kind (Ok (Some a)) u → Gives mid a (Err why) new → SlicesInVain gives takes (working old) fuel (fault_of why) (failing new) s u o q
+    refused_by : (a : Answer) (why : ProcessFault) → gives t kind (Ok (Some a)) u → GivesAnswer mid a (Err why) new → SlicesInVain gives takes (working old) fuel (work_fault why) (failing new) s u o q
     refused_by a stop.WrongAnswer asked h = (
       refl,
       refl,
@@ -514,11 +514,11 @@ module _ {S O : Type 0} (gives : Giving S) (takes : Taking O) where
           (wishing.less guest p shows, beyond.2, Some a, up_to (Ok (Some a)) asked a refl guest p shows, beyond.3)),
     )
 
-    given_vainly : (a : Answer) (why : WorkFault) (given : Result (Unit {0}) ProcessFault) → gives t kind (Ok (Some a)) u → Gives mid a given new
+    given_vainly : (a : Answer) (why : WorkFault) (given : Result (Unit {0}) ProcessFault) → gives t kind (Ok (Some a)) u → GivesAnswer mid a given new
         → ◌≡◌ {A = Result Bool WorkFault} (Err why) (taken_by given) → SlicesInVain gives takes (working old) fuel why (failing new) s u o q
     given_vainly a why (Ok done) asked h e = absurd (cc)
     given_vainly a why (Err stopped) asked h e =
-        let same : fault_of stopped ≡ why = cc in
+        let same : work_fault stopped ≡ why = cc in
         let P : WorkFault → Type 0 = λ z. SlicesInVain gives takes (working old) fuel z (failing new) s u o q in
         subst P same (refused_by a stopped asked h)
 

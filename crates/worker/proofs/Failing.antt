@@ -2,20 +2,20 @@
 use Rattle.std.proofs.Common.{◌≡◌, ℕ, ◌+◌, ◌<◌, ◌≤◌, List, ◌++◌, Option, sym, ◌∙◌, ap, arith, append_assoc}
 use Rattle.wasi_abi.specs.declared.answer.Answer.{Answer}
 use Rattle.process_rules.specs.Processes.{ProcessState, Guest}
-use Rattle.record_replay.specs.Calls.{Giving, Taking, Exchange}
+use Rattle.record_replay.specs.rules.Calls.{Giving, Taking, Exchange}
 use Rattle.record_replay.proofs.Following.{exchanges_join}
-use Rattle.process.specs.Values.{ShowsProcess}
+use Rattle.process.specs.rules.Values.{ShowsProcess}
 use Rattle.worker.specs.declared.now.Now.TheVariants as now
 use Rattle.worker.specs.declared.fault.WorkFault.{WorkFault}
 use Rattle.worker.specs.declared.fault.WorkFault.TheVariants as fault
 use Rattle.worker.specs.declared.fault.Refusal.TheVariants as refusal
-use Rattle.worker.specs.Values.{WorkerValue}
-use Rattle.worker.specs.Slices.{LeadsTo, AreAnswered, Slices}
-use Rattle.worker.specs.Faults.{StopsAtLine, StopsAtAnswer, LeadsUpTo, last_answer, Fails, IsCause, SlicesInVain}
-use Rattle.worker.specs.Laws.{SlicesAddInVain}
+use Rattle.worker.specs.rules.Values.{WorkerValue}
+use Rattle.worker.specs.rules.Slices.{SliceLeadsTo, AreAnswered, Slices}
+use Rattle.worker.specs.rules.Faults.{StopsAtLine, StopsAtAnswer, LeadsUpTo, last_answer, Fails, IsCause, SlicesInVain}
+use Rattle.worker.specs.laws.Laws.{SlicesAddInVain}
 use Rattle.worker.proofs.Joining.{answered_join, leads_join, wanted_join}
 
-module _ (guest : Guest) (p q : ProcessState) (xs : List Exchange) (n : ℕ) (leads : LeadsTo guest p xs n q) (answered : AreAnswered xs) where
+module _ (guest : Guest) (p q : ProcessState) (xs : List Exchange) (n : ℕ) (leads : SliceLeadsTo guest p xs n q) (answered : AreAnswered xs) where
   up_to_join : (r : ProcessState) (ys : List Exchange) (k : ℕ) (given : Option Answer) → LeadsUpTo guest q ys k r given → LeadsUpTo guest p (xs ++ ys) (n + k) r given
   up_to_join r ys k given h = record {
     front = xs ++ h.front;

@@ -5,19 +5,19 @@ use Rattle.std.proofs.lemmas.List.{append-nil, drop_all}
 use Rattle.wasi_abi.specs.declared.answer.Kind.{Kind}
 use Rattle.wasi_abi.specs.declared.answer.Kind.TheVariants as kind
 use Rattle.wasi_abi.specs.declared.answer.Answer.{Answer}
-use Rattle.wasi_calls_rows.specs.Hosts.{Line, Host}
-use Rattle.wasi_calls_rows.specs.Laws.{Emits}
-use Rattle.wasi_calls.specs.Held.{Held, ShowsHost}
+use Rattle.wasi_calls_rules.specs.Hosts.{Line, Host}
+use Rattle.wasi_calls_rules.specs.laws.Laws.{Emits}
+use Rattle.wasi_calls.specs.Held.{HeldHost, ShowsHost}
 use Rattle.process_rules.specs.Processes.{ProcessState, Guest}
 use Rattle.process_rules.specs.Runs.{Wants, next_of, Moves, Kept, Given, Runs, none, step, take}
 use Rattle.process_rules.proofs.Quiet.{runs_join, quiet_runs_are_runs}
 use Rattle.process_rules.proofs.Growing.{runs_count, runs_emit}
-use Rattle.record_replay.specs.Calls.{Giving, Taking, Ask, Begun, Exchange, Asks, Exchanges, Releases, Answers, asks_of, releases_of, all_taken}
+use Rattle.record_replay.specs.rules.Calls.{Giving, Taking, Ask, Begun, Exchange, Asks, Exchanges, Releases, AnswersInOrder, asks_of, releases_of, all_taken}
 use Rattle.record_replay.proofs.Following.{exchanges_join, releases_of-append, lines_in_order}
-use Rattle.process.specs.Values.{ProcessValue, ShowsProcess, waiting_in}
-use Rattle.process.specs.Stops.{ComesQuietly, ComesOwing}
-use Rattle.worker.specs.Slices.{handed, LeadsTo, AreAnswered, LeadsToWish, AreWanted}
-use Rattle.worker.specs.Faults.{EmitsLast}
+use Rattle.process.specs.rules.Values.{ProcessValue, ShowsProcess, waiting_in}
+use Rattle.process.specs.rules.Stops.{ComesQuietly, ComesOwing}
+use Rattle.worker.specs.rules.Slices.{handed, SliceLeadsTo, AreAnswered, LeadsToWish, AreWanted}
+use Rattle.worker.specs.rules.Faults.{EmitsLast}
 use Rattle.worker.specs.Turns.{first_waiting, ReleasesAll}
 use Rattle.worker.proofs.Joining.{handed_of_both, none_answered, answered_join, answered_tells, tells, tells_ask_nothing, releases_of_tells, none_wanted, wanted_ask, wanted_tells}
 
@@ -34,7 +34,7 @@ same_cut (x ∷ a) b (y ∷ c) d e n =
     same_cut a b c d tails sizes
 
 -- where no line waited, those that wait are those that were emitted
-pub lines_on : (old new : Held) (g h : Host) → ShowsHost old g → ShowsHost new h → Emits g h → old.host.lines ≡ [] → new.released ≡ old.released → h.lines ≡ g.lines ++ new.host.lines
+pub lines_on : (old new : HeldHost) (g h : Host) → ShowsHost old g → ShowsHost new h → Emits g h → old.host.lines ≡ [] → new.released ≡ old.released → h.lines ≡ g.lines ++ new.host.lines
 lines_on old new g h s t emits empty same =
     let lines_g : g.lines ≡ s.before ++ old.host.lines = ap (λ (z : Host). z.lines) s.is in
     let before_g : g.lines ≡ s.before = lines_g ∙ ap (λ z. s.before ++ z) empty ∙ append-nil s.before in
@@ -44,7 +44,7 @@ lines_on old new g h s t emits empty same =
     emits.are ∙ ap (λ z. g.lines ++ z) (same_cut g.lines emits.lines t.before new.host.lines both sizes)
 
 -- how many lines were released, where so many were and others wait
-pub released_count : (v : Held) (h : Host) (front told : List Line) → ShowsHost v h → h.lines ≡ front ++ (told ++ v.host.lines) → v.released ≡ length front + length told
+pub released_count : (v : HeldHost) (h : Host) (front told : List Line) → ShowsHost v h → h.lines ≡ front ++ (told ++ v.host.lines) → v.released ≡ length front + length told
 released_count v h front told s e =
     let lines : h.lines ≡ s.before ++ v.host.lines = ap (λ (z : Host). z.lines) s.is in
     let one : length h.lines ≡ length s.before + length v.host.lines = ap length lines ∙ length-append s.before v.host.lines in
@@ -110,7 +110,7 @@ module _ {S O : Type 0} (gives : Giving S) (takes : Taking O) where
 
   module _ (old now new : ProcessValue) (fuel : ℕ) (guest : Guest) (p : ProcessState) (s t : S) (o q : O) (g : Goes old now fuel guest p s t o q) where
     -- where no line waits, all that was emitted is released
-    pub leads : waiting_in now ≡ [] → LeadsTo guest p g.exchanges g.steps g.process
+    pub leads : waiting_in now ≡ [] → SliceLeadsTo guest p g.exchanges g.steps g.process
     leads empty = record {
       runs = g.runs;
       lines = g.lines;
@@ -263,7 +263,7 @@ module _ {S O : Type 0} (gives : Giving S) (takes : Taking O) where
       pub told_more : (outlet : O) → Releases takes q begun outlet → Exchanges gives takes s o (g.exchanges ++ tells begun) t outlet
       told_more outlet told =
           let alone : Exchanges gives takes t q (tells begun) t outlet = record {
-            asked = subst (λ z. Answers gives t z t) (sym (tells_ask_nothing begun)) refl;
+            asked = subst (λ z. AnswersInOrder gives t z t) (sym (tells_ask_nothing begun)) refl;
             released = subst (λ z. Releases takes q z outlet) (sym (releases_of_tells begun)) told;
           } in
           exchanges_join gives takes s t t o outlet q g.exchanges (tells begun) g.exchanged alone

@@ -6,9 +6,9 @@ use Rattle.wasi_abi.specs.declared.answer.Kind.{Kind}
 use Rattle.process_rules.specs.Processes.{ProcessState, Guest}
 use Rattle.process_rules.specs.Runs.{Runs}
 use Rattle.process_rules.proofs.Quiet.{runs_join}
-use Rattle.record_replay.specs.Calls.{Ask, Begun, Exchange, Asks, Tells, asks_of, releases_of, all_taken}
+use Rattle.record_replay.specs.rules.Calls.{Ask, Begun, Exchange, Asks, Tells, asks_of, releases_of, all_taken}
 use Rattle.record_replay.proofs.Following.{asks_of-append, releases_of-append, lines_in_order}
-use Rattle.worker.specs.Slices.{handed, handed_by, LeadsTo, IsAnswered, AreAnswered, LeadsToWish, AreWanted}
+use Rattle.worker.specs.rules.Slices.{handed, handed_by, SliceLeadsTo, HasAnswer, AreAnswered, LeadsToWish, AreWanted}
 
 -- ---- answers
 
@@ -24,12 +24,12 @@ handed_of_both xs ys = ap handed (asks_of-append xs ys) ∙ handed_join (asks_of
 pub none_answered : AreAnswered []
 none_answered = record { all = tt }
 
-all_answered : (a b : List Ask) → AllByRecursion IsAnswered a → AllByRecursion IsAnswered b → AllByRecursion IsAnswered (a ++ b)
+all_answered : (a b : List Ask) → AllByRecursion HasAnswer a → AllByRecursion HasAnswer b → AllByRecursion HasAnswer (a ++ b)
 all_answered [] b h k = k
 all_answered (ask ∷ a) b h k = (h.0, all_answered a b h.1 k)
 
 pub answered_join : (xs ys : List Exchange) → AreAnswered xs → AreAnswered ys → AreAnswered (xs ++ ys)
-answered_join xs ys h k = record { all = subst (λ z. AllByRecursion IsAnswered z) (sym (asks_of-append xs ys)) (all_answered (asks_of xs) (asks_of ys) h.all k.all) }
+answered_join xs ys h k = record { all = subst (λ z. AllByRecursion HasAnswer z) (sym (asks_of-append xs ys)) (all_answered (asks_of xs) (asks_of ys) h.all k.all) }
 
 -- ---- where in two lists a call stands
 
@@ -71,7 +71,7 @@ releases_of_tells [] = refl
 releases_of_tells (b ∷ begun) = ap (λ z. b ∷ z) (releases_of_tells begun)
 
 pub answered_tells : (begun : List Begun) → AreAnswered (tells begun)
-answered_tells begun = record { all = subst (λ z. AllByRecursion IsAnswered z) (sym (tells_ask_nothing begun)) tt }
+answered_tells begun = record { all = subst (λ z. AllByRecursion HasAnswer z) (sym (tells_ask_nothing begun)) tt }
 
 no_ask_in : (begun : List Begun) (more rest : List Exchange) (ask : Ask) → tells begun ≡ more ++ (Asks ask ∷ rest) → ⊥
 no_ask_in [] more rest ask e = nil_not more rest (Asks ask) e
@@ -80,7 +80,7 @@ no_ask_in (b ∷ begun) (m ∷ more) rest ask e = let tails : tells begun ≡ mo
 
 -- ---- what they have led to
 
-pub leads_join : (guest : Guest) (p q r : ProcessState) (xs ys : List Exchange) (n k : ℕ) → LeadsTo guest p xs n q → LeadsTo guest q ys k r → LeadsTo guest p (xs ++ ys) (n + k) r
+pub leads_join : (guest : Guest) (p q r : ProcessState) (xs ys : List Exchange) (n k : ℕ) → SliceLeadsTo guest p xs n q → SliceLeadsTo guest q ys k r → SliceLeadsTo guest p (xs ++ ys) (n + k) r
 leads_join guest p q r xs ys n k a b =
     let joined = runs_join guest p q r (handed (asks_of xs)) (handed (asks_of ys)) n k a.runs b.runs in
     let size : length q.host.lines ≡ length (p.host.lines ++ a.lines) = ap length a.emitted in
@@ -96,7 +96,7 @@ leads_join guest p q r xs ys n k a b =
     }
 
 -- a question that brought no answer leads nowhere else
-pub asked_leads : (guest : Guest) (p q : ProcessState) (xs : List Exchange) (n : ℕ) (ask : Ask) → handed_by ask.said ≡ [] → LeadsTo guest p xs n q → LeadsTo guest p (xs ++ (Asks ask ∷ [])) n q
+pub asked_leads : (guest : Guest) (p q : ProcessState) (xs : List Exchange) (n : ℕ) (ask : Ask) → handed_by ask.said ≡ [] → SliceLeadsTo guest p xs n q → SliceLeadsTo guest p (xs ++ (Asks ask ∷ [])) n q
 asked_leads guest p q xs n ask nothing a =
     let same : handed (asks_of (xs ++ (Asks ask ∷ []))) ≡ handed (asks_of xs) =
     handed_of_both xs (Asks ask ∷ []) ∙ ap (λ z. handed (asks_of xs) ++ (z ++ [])) nothing ∙ append-nil (handed (asks_of xs)) in
@@ -107,7 +107,7 @@ asked_leads guest p q xs n ask nothing a =
       released = releases_of-append xs (Asks ask ∷ []) ∙ append-nil (releases_of xs) ∙ a.released;
     }
 
-wish_join : (guest : Guest) (p q : ProcessState) (xs front : List Exchange) (n : ℕ) (kind : Kind) → LeadsTo guest p xs n q → AreAnswered xs → LeadsToWish guest q front kind → LeadsToWish guest p (xs ++ front) kind
+wish_join : (guest : Guest) (p q : ProcessState) (xs front : List Exchange) (n : ℕ) (kind : Kind) → SliceLeadsTo guest p xs n q → AreAnswered xs → LeadsToWish guest q front kind → LeadsToWish guest p (xs ++ front) kind
 wish_join guest p q xs front n kind a answered b = record {
   steps = n + b.steps;
   process = b.process;
@@ -122,7 +122,7 @@ wish_join guest p q xs front n kind a answered b = record {
 pub none_wanted : (guest : Guest) (p : ProcessState) → AreWanted guest p []
 none_wanted guest p = λ front rest ask e. absurd (nil_not front rest (Asks ask) e)
 
-pub wanted_join : (guest : Guest) (p q : ProcessState) (xs ys : List Exchange) (n : ℕ) → AreWanted guest p xs → LeadsTo guest p xs n q → AreAnswered xs → AreWanted guest q ys → AreWanted guest p (xs ++ ys)
+pub wanted_join : (guest : Guest) (p q : ProcessState) (xs ys : List Exchange) (n : ℕ) → AreWanted guest p xs → SliceLeadsTo guest p xs n q → AreAnswered xs → AreWanted guest q ys → AreWanted guest p (xs ++ ys)
 wanted_join guest p q xs ys n before leads answered after = λ front rest ask e.
     elim (split_at xs ys front rest (Asks ask) e) [
       | inl k ↦ before front k.0 ask k.1

@@ -4,11 +4,11 @@ use Rattle.std.specs.Prelude.{Bool, true, false, Result}
 use Rattle.std.specs.Result.{is_err}
 use Rattle.std.proofs.lemmas.List.{take_more, length-take-le}
 use Rattle.std.proofs.Math.Seq.{split_at}
-use Rattle.wasi_calls_rows.specs.Hosts.{Line}
+use Rattle.wasi_calls_rules.specs.Hosts.{Line}
 use Rattle.record_replay.specs.declared.fault.OutletFault.{OutletFault}
-use Rattle.record_replay.specs.Calls.{Taking, Begun, Released, Releases, all_taken}
+use Rattle.record_replay.specs.rules.Calls.{Taking, Begun, Released, Releases, all_taken}
 use Rattle.record_replay.proofs.Following.{leads_on, tells_on}
-use Rattle.process.specs.Values.{ProcessValue, waiting_in, lines_in}
+use Rattle.process.specs.rules.Values.{ProcessValue, waiting_in, lines_in}
 use Rattle.worker.specs.Turns.{first_waiting, ReleasesSome}
 
 -- a release that isn't a fault was taken, and the other one says nothing

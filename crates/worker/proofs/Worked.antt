@@ -2,31 +2,31 @@
 use Rattle.std.proofs.Common.{◌≡◌, ℕ, List, Bool, true, false, refl, subst}
 use Rattle.wasm_syntax.specs.declared.module.Module.{Module}
 use Rattle.wasm_syntax_rules.specs.Linking.{IsLinkable}
-use Rattle.machine_instance.specs.declared.fault.LinkFault.{LinkFault}
-use Rattle.machine_instance.specs.Offers.{offer}
-use Rattle.machine_instance.specs.Refusals.{IsRefused as IsUnlinked, Denies as DeniesLink}
-use Rattle.record_replay.specs.Calls.{Giving, Taking}
-use Rattle.front_end.specs.declared.fault.FrontFault.{FrontFault}
-use Rattle.front_end.specs.declared.fault.FrontFault.TheVariants.{Link}
-use Rattle.front_end.specs.Acceptance.{IsRead, IsTold, IsToldOfReading, Denies, HasNoValidModule, HasNoAcceptedModule, is_want}
-use Rattle.front_end.proofs.Refused.{denied, told, not_linkable}
-use Rattle.front_end.proofs.Wants.{no_want}
+use Rattle.machine.specs.declared.instance.fault.LinkFault.{LinkFault}
+use Rattle.machine.specs.rules.Offers.{offer}
+use Rattle.machine.specs.rules.Refusals.{IsRefused as IsUnlinked, LinkDenies as DeniesLink}
+use Rattle.record_replay.specs.rules.Calls.{Giving, Taking}
+use Rattle.machine_loader.specs.declared.fault.FrontFault.{FrontFault}
+use Rattle.machine_loader.specs.declared.fault.FrontFault.TheVariants.{Link}
+use Rattle.machine_loader.specs.rules.Acceptance.{IsRead, IsTold, IsToldOfReading, FrontDenies, HasNoValidModule, HasNoAcceptedModule, is_want}
+use Rattle.machine_loader.proofs.Refused.{denied, told, not_linkable}
+use Rattle.machine_loader.proofs.Wants.{no_want}
 use Rattle.worker.specs.declared.now.Now.{Now}
-use Rattle.worker.specs.Values.{WorkerValue}
-use Rattle.worker.specs.Slices.{Slices}
-use Rattle.worker.specs.Faults.{IsRefused}
-use Rattle.worker.specs.Refusals.{refusal_by, refusal_of}
+use Rattle.worker.specs.rules.Values.{WorkerValue}
+use Rattle.worker.specs.rules.Slices.{Slices}
+use Rattle.worker.specs.rules.Faults.{IsRefusedByWorker}
+use Rattle.worker.specs.rules.Refusals.{refusal_by, refusal_of}
 
 -- ---- refusals
 
-refused_as : (pages : ℕ) (bytes : List ℕ) (e : FrontFault) (b : Bool) → is_want e ≡ b → IsTold pages bytes e → Denies e (HasNoAcceptedModule pages bytes) → IsRefused pages bytes (refusal_by b e)
+refused_as : (pages : ℕ) (bytes : List ℕ) (e : FrontFault) (b : Bool) → is_want e ≡ b → IsTold pages bytes e → FrontDenies e (HasNoAcceptedModule pages bytes) → IsRefusedByWorker pages bytes (refusal_by b e)
 refused_as pages bytes e true is h none = tt
 refused_as pages bytes e false is h none = (is, h, no_want e (HasNoAcceptedModule pages bytes) is none)
 
-pub unread : (pages : ℕ) (bytes : List ℕ) (e : FrontFault) → IsToldOfReading bytes e → Denies e (HasNoValidModule bytes) → IsRefused pages bytes (refusal_of e)
+pub unread : (pages : ℕ) (bytes : List ℕ) (e : FrontFault) → IsToldOfReading bytes e → FrontDenies e (HasNoValidModule bytes) → IsRefusedByWorker pages bytes (refusal_of e)
 unread pages bytes e h none = refused_as pages bytes e (is_want e) refl (told pages bytes e h) (denied pages bytes e none)
 
-pub unlinked : (pages : ℕ) (bytes : List ℕ) (m : Module) (e : LinkFault) → IsRead bytes m → IsUnlinked pages m e → DeniesLink (IsLinkable offer pages m) e → IsRefused pages bytes (refusal_of (Link e))
+pub unlinked : (pages : ℕ) (bytes : List ℕ) (m : Module) (e : LinkFault) → IsRead bytes m → IsUnlinked pages m e → DeniesLink (IsLinkable offer pages m) e → IsRefusedByWorker pages bytes (refusal_of (Link e))
 unlinked pages bytes m e read h none =
     refused_as pages bytes (Link e) (is_want (Link e)) refl (m, read.spelled, read.limits, read.valid, h) (not_linkable pages bytes m read.spelled e none)
 

@@ -1,6 +1,3 @@
-pub mod Values
-pub mod Slices
-pub mod Faults
-pub mod Refusals
 pub mod Turns
-pub mod Laws
+pub mod laws
+pub mod rules

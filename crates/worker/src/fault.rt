@@ -1,11 +1,11 @@
 //! Why a worker fails.
 
 ghost use Rattle.std.specs.Prelude.{◌≡◌};
-ghost use Rattle.front_end.specs.declared.fault.FrontFault.TheVariants as front;
-ghost use Rattle.worker.specs.Refusals.{fault_of, refusal_of};
+ghost use Rattle.machine_loader.specs.declared.fault.FrontFault.TheVariants as front;
+ghost use Rattle.worker.specs.rules.Refusals.{work_fault, refusal_of};
 
-use front_end::FrontFault;
 use machine::LinkFault;
+use machine_loader::FrontFault;
 use process::ProcessFault;
 use thiserror::Error;
 
@@ -37,7 +37,7 @@ pub enum WorkFault {
 }
 
 impl From<ProcessFault> for WorkFault {
-    ghost from_gives = { λ fault e. e ≡ fault_of fault };
+    ghost from_gives = { λ fault e. e ≡ work_fault fault };
 
     fn from(fault: ProcessFault) -> WorkFault {
         match fault {

@@ -1,6 +1,6 @@
 //! Laws of slices. The functions do nothing: what they ensure is the law.
 
-ghost use Rattle.worker.specs.Laws.{SlicesAdd, SlicesAddInVain, OneSlice};
+ghost use Rattle.worker.specs.laws.Laws.{SlicesAdd, SlicesAddInVain, OneSlice};
 
 use record_replay::{Outlet, Source};
 

@@ -1,6 +1,6 @@
 //! Why a slice is over.
 
-use process::End;
+use process::ProcessEnd;
 
 #[derive(Clone, Copy, Debug, PartialEq, Eq)]
 pub enum Now {
@@ -8,5 +8,5 @@ pub enum Now {
     Spent,
     /// The next step wants an answer that isn't there yet.
     Waiting,
-    Ended(End),
+    Ended(ProcessEnd),
 }

@@ -2,9 +2,9 @@
 
 ghost use Rattle.std.specs.Prelude.{◌≡◌, [], IfOk, IfErr, OnOk, OnErr};
 ghost use Rattle.wasi_abi.specs.declared.answer.Kind.{Kind};
-ghost use Rattle.process.specs.Values.{waiting_in};
-ghost use Rattle.worker.specs.Slices.{Slices};
-ghost use Rattle.worker.specs.Faults.{SlicesInVain};
+ghost use Rattle.process.specs.rules.Values.{waiting_in};
+ghost use Rattle.worker.specs.rules.Slices.{Slices};
+ghost use Rattle.worker.specs.rules.Faults.{SlicesInVain};
 ghost use Rattle.worker.specs.Turns.{working, failing, ReleasesAll, ReleasesSome, AsksOnce};
 ghost use Rattle.worker.specs.declared.fault.WorkFault.TheVariants.{Outlet as OutletFails};
 

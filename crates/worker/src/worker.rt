@@ -1,12 +1,12 @@
 //! A worker, and what its calls do.
 
 ghost use Rattle.std.specs.Prelude.{◌≡◌, IfOk, IfErr};
-ghost use Rattle.worker.specs.Faults.{IsRefused};
+ghost use Rattle.worker.specs.rules.Faults.{IsRefusedByWorker};
 
 use crate::fault::WorkFault;
 use crate::now::Now;
 use crate::turns::work;
-use front_end::read;
+use machine_loader::read;
 use process::Process;
 use record_replay::{Outlet, Source};
 use std::alloc::Global;
@@ -21,7 +21,7 @@ pub struct Worker {
 }
 
 impl Model for Worker {
-    ghost use Rattle.worker.specs.Values.{WorkerValue, IsWorker};
+    ghost use Rattle.worker.specs.rules.Values.{WorkerValue, IsWorker};
 
     ghost Value = { WorkerValue };
 
@@ -31,14 +31,14 @@ impl Model for Worker {
 }
 
 impl Worker {
-    ghost use Rattle.worker.specs.Values.{IsCreated};
-    ghost use Rattle.worker.specs.Slices.{Slices};
-    ghost use Rattle.worker.specs.Faults.{SlicesInVain};
+    ghost use Rattle.worker.specs.rules.Values.{IsCreated};
+    ghost use Rattle.worker.specs.rules.Slices.{Slices};
+    ghost use Rattle.worker.specs.rules.Faults.{SlicesInVain};
 
     /// A fresh worker of the module that the bytes spell.
     pub fn create(alloc: Global, wasm: &[u8], config: Config) -> Result<Worker, WorkFault>
         ensures created { IfOk result (IsCreated wasm.now config) }
-        ensures refused { IfErr result (IsRefused config.pages wasm.now) }
+        ensures refused { IfErr result (IsRefusedByWorker config.pages wasm.now) }
     {
         let module = read(alloc, wasm)?;
         let process = Process::start(alloc, module, config)?;

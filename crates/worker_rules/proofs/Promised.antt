@@ -1,11 +1,11 @@
 -- What events promise, read off their list.
 use Rattle.std.proofs.Common.{◌≡◌, ◌⊎◌, inl, inr, List, [], ◌∷◌, refl, sym, ap, ◌∙◌, subst}
 use Rattle.wasm_syntax.specs.declared.module.Module.{Module}
-use Rattle.wasi_abi.specs.Configs.{Settings}
+use Rattle.wasi_abi.specs.rules.Configs.{Settings}
 use Rattle.worker_rules.specs.Lives.{Release, Event, Told, Opened, Handed, Ended, Beginning, Recovers, Creates, events_of, kept_after, told_in}
 use Rattle.worker_rules.specs.Promises.{Promise, nothing_yet, after, promised, HasOneText, AreKept}
-use Rattle.worker_rules.specs.Laws.{HaveOneText, PromisesAreOfKept, NoNumberHasTwoTexts}
-use Rattle.worker_rules.specs.Examples.{LivesExamples}
+use Rattle.worker_rules.specs.laws.Laws.{HaveOneText, PromisesAreOfKept, NoNumberHasTwoTexts}
+use Rattle.worker_rules.specs.laws.Examples.{LivesExamples}
 
 kept_of_promised : (so_far : Promise) (events : List Event) → (promised so_far events).kept ≡ kept_after so_far.kept events
 kept_of_promised so_far [] = refl

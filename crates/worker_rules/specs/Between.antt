@@ -1,7 +1,7 @@
 -- The disk that a life finds (this project's own).
 use Rattle.std.specs.Prelude.{◌≡◌}
-use Rattle.sector_disk.specs.Image.{Image}
-use Rattle.sector_disk.specs.Medium.{Medium}
+use Rattle.sector_disk.specs.rules.Image.{Image}
+use Rattle.sector_disk.specs.rules.Medium.{Medium}
 use Rattle.worker_rules.specs.Stands.{IsBlank}
 use Rattle.worker_rules.specs.Lives.{Cause, End, Cut, Failed}
 

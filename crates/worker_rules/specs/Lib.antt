@@ -2,5 +2,4 @@ pub mod Stands
 pub mod Lives
 pub mod Between
 pub mod Promises
-pub mod Laws
-pub mod Examples
+pub mod laws

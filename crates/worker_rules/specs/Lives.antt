@@ -1,7 +1,7 @@
 -- The lives of a worker, as the outside sees them: what was handed in and told, in order (this project's own).
 use Rattle.std.specs.Prelude.{ℕ, Bool, List, [], ◌∷◌, ◌++◌, take}
 use Rattle.wasi_abi.specs.declared.answer.Answer.{Answer}
-use Rattle.wasi_calls_rows.specs.Hosts.{Line}
+use Rattle.wasi_calls_rules.specs.Hosts.{Line}
 use Rattle.process_rules.specs.Runs.{Kept, Given}
 
 -- a line that was released, or whose release was begun, with its number from 1 on

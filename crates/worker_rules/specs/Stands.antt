@@ -1,18 +1,18 @@
 -- A disk image that stands for a worker (this project's own).
 use Rattle.std.specs.Prelude.{◌≡◌, ℕ, ◌+◌, ◌<◌, ◌≤◌, List, [], ◌∷◌, ◌++◌, length, map, Option, Some}
 use Rattle.wasm_syntax.specs.declared.module.Module.{Module}
-use Rattle.wasm_syntax_grammar.specs.Modules.{IsModule}
+use Rattle.wasm_syntax.specs.rules.Modules.{IsModule}
 use Rattle.wasm_syntax_rules.specs.Typing.{Context}
 use Rattle.wasi_abi.specs.declared.answer.Answer.{Answer}
-use Rattle.wasi_abi.specs.Configs.{Settings}
-use Rattle.wasi_calls_rows.specs.declared.limits.TheConstants.{TEXT_BYTES}
+use Rattle.wasi_abi.specs.rules.Configs.{Settings}
+use Rattle.wasi_calls_rules.specs.declared.limits.TheConstants.{TEXT_BYTES}
 use Rattle.process_rules.specs.Processes.{ProcessState, Guest}
 use Rattle.process_rules.specs.Runs.{Kept, Given, Moves, Runs, Reaches}
-use Rattle.state_image.specs.Image.{Saved, ShowsProcess, image}
-use Rattle.sector_disk.specs.Image.{Image, sector_at}
-use Rattle.disk_layout.specs.Places.{Geometry, geometry_of, journal_place}
-use Rattle.disk_layout.specs.Sectors.{HasMarks, HasWorker, HoldsImage, shown_generation}
-use Rattle.disk_layout.specs.Journal.{Record, scan}
+use Rattle.state_image.specs.rules.Image.{Saved, SavedShowsProcess, image}
+use Rattle.sector_disk.specs.rules.Image.{Image, sector_at}
+use Rattle.disk_layout.specs.rules.Places.{Geometry, geometry_of, journal_place}
+use Rattle.disk_layout.specs.rules.Sectors.{HasMarks, HasWorker, HoldsImage, shown_generation}
+use Rattle.disk_layout.specs.rules.Journal.{Record, scan}
 
 -- From one process to another by steps of which each that takes an answer is on record, in order, with its count.
 pub data Recorded (guest : Guest) : ProcessState → List Record → ProcessState → Type 0 where
@@ -44,7 +44,7 @@ pub record StandsFor (disk : Image) (m : Module) (config : Settings) (kept : Lis
   pub reached : Reaches m config front steps process
   pub context : Context
   pub table : List (Option ℕ)
-  pub shown : ShowsProcess context reached.guest.program table saved process
+  pub shown : SavedShowsProcess context reached.guest.program table saved process
   pub records : List Record
   pub scanned : scan (geometry_of config (length wasm)) TEXT_BYTES disk generation ≡ records
   pub rest : kept ≡ front ++ map given_in records

@@ -1,7 +1,7 @@
 //! Laws of the promises, and worked examples of lives.
 
-ghost use Rattle.worker_rules.specs.Laws.{PromisesAreOfKept, NoNumberHasTwoTexts};
-ghost use Rattle.worker_rules.specs.Examples.{LivesExamples};
+ghost use Rattle.worker_rules.specs.laws.Laws.{PromisesAreOfKept, NoNumberHasTwoTexts};
+ghost use Rattle.worker_rules.specs.laws.Examples.{LivesExamples};
 
 /// The answers that a promise speaks of are the kept ones.
 pub fn promises_are_of_kept_answers()

@@ -1,5 +1,5 @@
 use Rattle.std.proofs.Common.{◌++◌, length, ap, ◌∙◌, arith}
-use Rattle.wasi_abi.specs.Layouts.{u16_bytes, u32_bytes}
+use Rattle.wasi_abi.specs.rules.Layouts.{u16_bytes, u32_bytes}
 use Rattle.disk_layout.proofs.TextLemmas.{texts_pushed}
 use Rattle.disk_layout.proofs.configuration.push_texts.Goals as goal
 

@@ -1,7 +1,7 @@
 use Rattle.std.proofs.Common.{◌≡◌, ◌++◌, length, take}
 use Rattle.std.specs.List.{flat_map}
-use Rattle.wasi_abi.specs.Layouts.{u32_bytes}
-use Rattle.disk_layout.specs.Places.{short_text_bytes}
+use Rattle.wasi_abi.specs.rules.Layouts.{u32_bytes}
+use Rattle.disk_layout.specs.rules.Places.{short_text_bytes}
 use Rattle.disk_layout.proofs.configuration.push_texts.Given as goal
 
 abbrev pub invariant-loop-text : goal.invariant-loop-text

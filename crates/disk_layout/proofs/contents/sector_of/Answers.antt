@@ -1,6 +1,6 @@
 use Rattle.std.proofs.Common.{◌≡◌, ◌≤◌, ◌+◌, ◌-◌, ◌++◌, length, ap, sym, ◌∙◌, arith}
-use Rattle.guest_memory.specs.Bytes.{part}
-use Rattle.disk_layout.specs.Contents.{filled}
+use Rattle.guest_memory.specs.rules.Bytes.{part}
+use Rattle.disk_layout.specs.rules.Contents.{filled}
 use Rattle.disk_layout.proofs.ContentsLemmas.{part_over, filled_laid}
 use Rattle.disk_layout.proofs.contents.sector_of.Goals as goal
 

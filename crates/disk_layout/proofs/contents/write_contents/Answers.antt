@@ -1,11 +1,11 @@
 use Rattle.std.proofs.Common.{◌≡◌, ◌<◌, ◌≤◌, ◌+◌, ◌++◌, ℕ, List, length, sym, ◌∙◌, subst, arith}
 use Rattle.std.proofs.lemmas.Result.{on_ok_weaker}
-use Rattle.sector_disk.specs.Image.{sector_at}
-use Rattle.sector_disk.specs.Medium.{Tears, Takes, BothFollow}
-use Rattle.sector_disk.specs.Run.{IsTornRun, IsWrittenRun}
+use Rattle.sector_disk.specs.rules.Image.{sector_at}
+use Rattle.sector_disk.specs.rules.Medium.{Tears, TakesWrite, BothFollow}
+use Rattle.sector_disk.specs.rules.Run.{IsTornRun, IsWrittenRun}
 use Rattle.sector_disk.proofs.Moments.{shows_follow, settled_follows, goes_on, stays_left}
 use Rattle.sector_disk.proofs.RunLemmas.{both_tear, both_take, run_passes, run_leaves_only, left_longer}
-use Rattle.disk_layout.specs.Contents.{contents_sectors}
+use Rattle.disk_layout.specs.rules.Contents.{contents_sectors}
 use Rattle.disk_layout.proofs.ContentsLemmas.{counted, contents_at}
 use Rattle.disk_layout.proofs.contents.write_contents.Goals as goal
 
@@ -39,7 +39,7 @@ loop-i-preserved g c =
     let tears = subst (λ (s : List ℕ). Tears (3 + n) s mid new) sector c.write.ensures.tears in
     let inside : 3 + n < mid.sectors = let s = i.passes.sectors in let r = c.requires.room in let e = c.sectors_of-count.ensures in omega arith in
     let both = both_tear 3 sectors n old mid new inside i.tears tears in
-    let takes = subst (λ (s : List ℕ). Takes (3 + n) s mid new) sector c.in_ok-write.ensures.whole in
+    let takes = subst (λ (s : List ℕ). TakesWrite (3 + n) s mid new) sector c.in_ok-write.ensures.whole in
     record {
       whole = both_take 3 sectors n old mid new inside i.whole takes;
       tears = both;

@@ -1,7 +1,7 @@
 use Rattle.std.proofs.Common.{◌≤◌, ◌+◌, ◌++◌, length}
-use Rattle.sector_disk.specs.Medium.{After, BothFollow, Passes}
-use Rattle.sector_disk.specs.Run.{IsTornRun, IsWrittenRun}
-use Rattle.disk_layout.specs.Contents.{contents_sectors}
+use Rattle.sector_disk.specs.rules.Medium.{After, BothFollow, Passes}
+use Rattle.sector_disk.specs.rules.Run.{IsTornRun, IsWrittenRun}
+use Rattle.disk_layout.specs.rules.Contents.{contents_sectors}
 use Rattle.disk_layout.proofs.contents.write_contents.Given as goal
 
 abbrev pub invariant-loop-i : goal.invariant-loop-i

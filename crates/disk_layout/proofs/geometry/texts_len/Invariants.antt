@@ -1,6 +1,6 @@
 use Rattle.std.proofs.Common.{◌≡◌, ◌≤◌, ◌+◌, ◌*◌, length, take}
 use Rattle.std.specs.List.{flat_map}
-use Rattle.disk_layout.specs.Places.{short_text_bytes}
+use Rattle.disk_layout.specs.rules.Places.{short_text_bytes}
 use Rattle.disk_layout.proofs.geometry.texts_len.Given as goal
 
 abbrev pub invariant-loop-text : goal.invariant-loop-text

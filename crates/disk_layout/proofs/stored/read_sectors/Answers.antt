@@ -1,5 +1,5 @@
 use Rattle.std.proofs.Common.{◌++◌, ◌∙◌, length, ap, sym, arith, length-append}
-use Rattle.disk_layout.specs.Sectors.{bytes_from}
+use Rattle.disk_layout.specs.rules.Sectors.{bytes_from}
 use Rattle.sector_disk.proofs.Moments.{stays_shows}
 use Rattle.disk_layout.proofs.ReadLemmas.{read_more, bytes_from-more}
 use Rattle.disk_layout.proofs.stored.read_sectors.Goals as goal

@@ -1,8 +1,8 @@
 use Rattle.std.proofs.Common.{length, ap, sym, ◌∙◌, subst, arith, List, ℕ, Ok}
-use Rattle.sector_disk.specs.Image.{sector_at}
+use Rattle.sector_disk.specs.rules.Image.{sector_at}
 use Rattle.sector_disk.proofs.Moments.{stays_shows}
-use Rattle.disk_layout.specs.Sectors.{super_of}
-use Rattle.disk_layout.specs.Stored.{Checks, IsKnown}
+use Rattle.disk_layout.specs.rules.Sectors.{super_of}
+use Rattle.disk_layout.specs.rules.Stored.{Checks, IsKnown}
 use Rattle.disk_layout.proofs.ReadLemmas.{no_reads, read_more, reads_then, finds_split}
 use Rattle.disk_layout.proofs.stored.read_super.Goals as goal
 

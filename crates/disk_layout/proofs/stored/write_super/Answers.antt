@@ -1,6 +1,6 @@
 use Rattle.std.proofs.Common.{List, ℕ, [], ◌∷◌, subst}
-use Rattle.sector_disk.specs.Medium.{LeavesOnly, After}
-use Rattle.sector_disk.specs.Run.{IsTornRun}
+use Rattle.sector_disk.specs.rules.Medium.{LeavesOnly, After}
+use Rattle.sector_disk.specs.rules.Run.{IsTornRun}
 use Rattle.disk_layout.proofs.stored.write_super.Goals as goal
 
 pub returns-clause-any_moment : goal.returns-clause-any_moment

@@ -1,5 +1,5 @@
 use Rattle.std.proofs.Common.{Some, sym, ap, ◌∙◌}
-use Rattle.file_tree_store.specs.declared.node.Node.{Node}
+use Rattle.file_tree.specs.declared.store.node.Node.{Node}
 use Rattle.file_tree.proofs.Lookups.{node_at_place, node_nowhere}
 use Rattle.file_tree.proofs.lookup.node_of.Goals as goal
 

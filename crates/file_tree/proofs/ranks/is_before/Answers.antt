@@ -1,5 +1,5 @@
 use Rattle.std.proofs.Common.{arith}
-use Rattle.file_tree.specs.Files.{is_before}
+use Rattle.file_tree.specs.rules.Files.{is_before}
 use Rattle.file_tree.proofs.Order.{other_ends, name_ends}
 use Rattle.file_tree.proofs.ranks.is_before.Goals as goal
 

@@ -1,5 +1,5 @@
 use Rattle.std.proofs.Common.{◌≡◌, ◌≤◌, drop, length}
-use Rattle.file_tree.specs.Files.{is_before}
+use Rattle.file_tree.specs.rules.Files.{is_before}
 use Rattle.file_tree.proofs.ranks.is_before.Given as goal
 
 abbrev pub invariant-loop-index : goal.invariant-loop-index

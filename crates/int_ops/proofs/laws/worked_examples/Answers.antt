@@ -3,7 +3,7 @@ use Rattle.std.specs.Int.{w32, w64}
 use Rattle.std.specs.Int.Count.{ones, ones_in, count_leading_zeros, count_trailing_zeros}
 use Rattle.std.proofs.lemmas.Nat.{ones_cat}
 use Rattle.wasm_syntax.specs.declared.operator.UnaryOperator.TheVariants.{Clz, Ctz}
-use Rattle.int_ops.specs.Integers.{unary_of}
+use Rattle.int_ops.specs.rules.Integers.{unary_of}
 use Rattle.int_ops.proofs.laws.worked_examples.Goals as goal
 
 clz : unary_of w32 Clz 0 ≡ 32

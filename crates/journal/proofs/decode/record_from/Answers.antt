@@ -1,7 +1,7 @@
 use Rattle.std.proofs.Common.{◌≡◌, ◌≤◌, ◌+◌, ◌-◌, ℕ, Some, option_map, length, take, drop, get_or, sym, ap, ◌∙◌, arith}
-use Rattle.wasi_abi.specs.Layouts.{u64_at}
-use Rattle.disk_layout.specs.Journal.{answer_of, payload_length}
-use Rattle.journal.specs.Steps.{longest_payload}
+use Rattle.wasi_abi.specs.rules.Layouts.{u64_at}
+use Rattle.disk_layout.specs.rules.Journal.{answer_of, payload_length}
+use Rattle.journal.specs.rules.Steps.{longest_payload}
 use Rattle.journal.proofs.RecordLemmas.{make, record_at_parts}
 use Rattle.journal.proofs.decode.record_from.Goals as goal
 

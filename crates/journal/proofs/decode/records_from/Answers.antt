@@ -1,7 +1,7 @@
 use Rattle.std.proofs.Common.{◌≡◌, ◌≤◌, ◌+◌, ◌-◌, ◌++◌, ◌∷◌, [], ℕ, List, Some, length, take, drop, is_some, subst, sym, ap, ◌∙◌, arith, append_assoc, length-drop}
 use Rattle.std.proofs.lemmas.List.{take_all}
-use Rattle.disk_layout.specs.Journal.{Record, payload_length, record_at, records_at}
-use Rattle.journal.specs.Steps.{longest_payload}
+use Rattle.disk_layout.specs.rules.Journal.{Record, payload_length, record_at, records_at}
+use Rattle.journal.specs.rules.Steps.{longest_payload}
 use Rattle.journal.proofs.RecordLemmas.{read_on}
 use Rattle.journal.proofs.decode.records_from.Goals as goal
 

@@ -1,6 +1,6 @@
 use Rattle.std.proofs.Common.{◌≡◌, ◌≤◌, ◌-◌, ◌++◌, length, drop}
-use Rattle.disk_layout.specs.Journal.{records_at}
-use Rattle.journal.specs.Steps.{longest_payload}
+use Rattle.disk_layout.specs.rules.Journal.{records_at}
+use Rattle.journal.specs.rules.Steps.{longest_payload}
 use Rattle.journal.proofs.decode.records_from.Given as goal
 
 abbrev pub invariant-loop-records : goal.invariant-loop-records

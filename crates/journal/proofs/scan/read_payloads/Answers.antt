@@ -1,9 +1,9 @@
 use Rattle.std.proofs.Common.{◌≡◌, ◌≤◌, ◌<◌, ◌+◌, ◌-◌, ◌++◌, ℕ, List, take, drop, true, false, sym, ap, ◌∙◌, subst, ⊎_elim, arith}
 use Rattle.std.proofs.lemmas.Bool.{cases_lt}
 use Rattle.std.proofs.lemmas.List.{append-nil}
-use Rattle.sector_disk.specs.Image.{Image, sector_at}
+use Rattle.sector_disk.specs.rules.Image.{Image, sector_at}
 use Rattle.sector_disk.proofs.Moments.{stays_shows}
-use Rattle.disk_layout.specs.Journal.{payloads_from, is_of}
+use Rattle.disk_layout.specs.rules.Journal.{payloads_from, is_of}
 use Rattle.disk_layout.proofs.ReadLemmas.{read_more}
 use Rattle.disk_layout.proofs.JournalLemmas.{payload_of_sector}
 use Rattle.journal.proofs.PackedLemmas.{payloads_split, pay_on, pay_off}

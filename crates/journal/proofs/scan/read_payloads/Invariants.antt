@@ -1,7 +1,7 @@
 use Rattle.std.proofs.Common.{◌≡◌, ◌+◌, ◌<◌, ℕ, true}
-use Rattle.sector_disk.specs.Image.{Image, sector_at}
-use Rattle.disk_layout.specs.Journal.{payloads_from, is_of}
-use Rattle.disk_layout.specs.Stored.{OnlyReads}
+use Rattle.sector_disk.specs.rules.Image.{Image, sector_at}
+use Rattle.disk_layout.specs.rules.Journal.{payloads_from, is_of}
+use Rattle.disk_layout.specs.rules.Stored.{OnlyReads}
 use Rattle.journal.proofs.scan.read_payloads.Given as goal
 
 abbrev pub invariant-loop-k : goal.invariant-loop-k

@@ -1,13 +1,13 @@
 use Rattle.std.proofs.Common.{◌≡◌, ◌<◌, ◌≤◌, ◌+◌, ◌*◌, ℕ, List, length, sym, ap, ◌∙◌, subst, arith}
 use Rattle.std.proofs.lemmas.Result.{on_ok_weaker}
-use Rattle.sector_disk.specs.Image.{sector_at}
-use Rattle.sector_disk.specs.Medium.{Tears, Takes, BothFollow}
-use Rattle.sector_disk.specs.Run.{IsTornRun, IsWrittenRun}
+use Rattle.sector_disk.specs.rules.Image.{sector_at}
+use Rattle.sector_disk.specs.rules.Medium.{Tears, TakesWrite, BothFollow}
+use Rattle.sector_disk.specs.rules.Run.{IsTornRun, IsWrittenRun}
 use Rattle.sector_disk.proofs.Moments.{shows_follow, settled_follows, goes_on, stays_left}
 use Rattle.sector_disk.proofs.RunLemmas.{both_tear, both_take, run_passes, run_leaves_only, left_longer}
 use Rattle.sector_disk.proofs.CountLemmas.{counts_then}
-use Rattle.disk_layout.specs.Journal.{journal_sector}
-use Rattle.journal.specs.Packed.{packed, sectors_for}
+use Rattle.disk_layout.specs.rules.Journal.{journal_sector}
+use Rattle.journal.specs.rules.Packed.{packed, sectors_for}
 use Rattle.journal.proofs.PackedLemmas.{packed_at, part_lent}
 use Rattle.journal.proofs.store.store_packed.Goals as goal
 
@@ -45,7 +45,7 @@ loop-i-preserved g c =
     let tears = subst (λ (s : List ℕ). Tears (c.args.at + n) s mid new) sector c.write.ensures.tears in
     let inside : c.args.at + n < mid.sectors = let s = i.passes.sectors in let r = c.requires.room in omega arith in
     let both = both_tear c.args.at batch n old mid new inside i.tears tears in
-    let takes = subst (λ (s : List ℕ). Takes (c.args.at + n) s mid new) sector c.in_ok-write.ensures.whole in
+    let takes = subst (λ (s : List ℕ). TakesWrite (c.args.at + n) s mid new) sector c.in_ok-write.ensures.whole in
     record {
       whole = both_take c.args.at batch n old mid new inside i.whole takes;
       tears = both;

@@ -1,7 +1,7 @@
 use Rattle.std.proofs.Common.{◌≤◌, ◌+◌, length}
-use Rattle.sector_disk.specs.Medium.{After, BothFollow, CountsUpTo, Passes}
-use Rattle.sector_disk.specs.Run.{IsTornRun, IsWrittenRun}
-use Rattle.journal.specs.Packed.{packed, sectors_for}
+use Rattle.sector_disk.specs.rules.Medium.{After, BothFollow, CountsUpTo, Passes}
+use Rattle.sector_disk.specs.rules.Run.{IsTornRun, IsWrittenRun}
+use Rattle.journal.specs.rules.Packed.{packed, sectors_for}
 use Rattle.journal.proofs.store.store_packed.Given as goal
 
 abbrev pub invariant-loop-i : goal.invariant-loop-i

@@ -1,6 +1,6 @@
 use Rattle.std.proofs.Common.{ℕ, sym, subst}
 use Rattle.machine.specs.Insides.{seen, IsMachine}
-use Rattle.machine.specs.Runs.{HasBegun}
+use Rattle.machine.specs.rules.Runs.{HasBegun}
 use Rattle.machine.proofs.Linked.{begin_stands, linked_machine, linked_begun}
 use Rattle.machine.proofs.linking.link.Goals as goal
 

@@ -14,8 +14,8 @@ returns-in-Store c =
 
 pub returns-in-Binary : goal.returns-in-Binary
 returns-in-Binary c =
-    rw (c.outcome_of-in-Binary.ensures, c.in-Binary.is) (comes _ _ _ _ _ c.binary.result _ _ _ tt (λ program store ls vs below callers r.
-    binary_shown program store below callers _ _ _ _ _ _ ls vs _ _ r c.binary.ensures))
+    rw (c.outcome_of-in-Binary.ensures, c.in-Binary.is) (comes _ _ _ _ _ c.apply_binary.result _ _ _ tt (λ program store ls vs below callers r.
+    binary_shown program store below callers _ _ _ _ _ _ ls vs _ _ r c.apply_binary.ensures))
 
 pub returns-in-Select : goal.returns-in-Select
 returns-in-Select c =

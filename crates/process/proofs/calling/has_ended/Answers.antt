@@ -1,6 +1,6 @@
 use Rattle.std.proofs.Common.{refl, subst}
-use Rattle.machine_running.specs.declared.pause.Pause.{Pause}
-use Rattle.machine.specs.Runs.{RunsFor}
+use Rattle.machine.specs.declared.turns.pause.Pause.{Pause}
+use Rattle.machine.specs.rules.Runs.{RunsFor}
 use Rattle.process.proofs.Pausing.{shows_still, ended_still, going_still}
 use Rattle.process.proofs.calling.has_ended.Goals as goal
 

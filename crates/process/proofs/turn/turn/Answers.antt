@@ -1,11 +1,11 @@
 use Rattle.std.proofs.Common.{ℕ, ◌+◌, ◌-◌, ◌≤◌, List, sym, subst, arith}
-use Rattle.machine_running.specs.declared.pause.Pause.{Pause}
-use Rattle.wasi_calls.specs.Calls.{AreArguments}
-use Rattle.wasi_abi.specs.Calls.{parameters_of}
-use Rattle.machine.specs.Runs.{RunsFor}
-use Rattle.process.specs.Parts.{WaitsAt}
+use Rattle.machine.specs.declared.turns.pause.Pause.{Pause}
+use Rattle.wasi_calls.specs.rules.Calls.{AreArguments}
+use Rattle.wasi_abi.specs.rules.Calls.{parameters_of}
+use Rattle.machine.specs.rules.Runs.{RunsFor}
+use Rattle.process.specs.Parts.{WaitsAtCall}
 use Rattle.process.specs.declared.turn.Stretch.{Stretch}
-use Rattle.process.specs.Stretches.{StepsAt, Comes}
+use Rattle.process.specs.Stretches.{StepsAt, ComesToShown}
 use Rattle.process.proofs.Counting.{comes_within}
 use Rattle.process.proofs.Stretching.{left_within, spent, is_built, are_typed, waits_at, stepped_on, returned, trapped}
 use Rattle.process.proofs.turn.turn.Goals as goal
@@ -35,7 +35,7 @@ step-next-requires-clause-waits c =
     let r = c.requires.runs in
     let P : Pause → Type 0 = λ why. RunsFor c.run-why.new.self r.guest.program r.process.configuration c.args.fuel c.run-why.result.left why in
     let h = subst P c.in-Host.is (c.run-why.ensures.runs r.guest.program r.process.configuration r.shows.configuration) in
-    let Q : List ℕ → Type 0 = λ ns. WaitsAt c.run-why.new.self c.args.host.now c.in-Host.call ns in
+    let Q : List ℕ → Type 0 = λ ns. WaitsAtCall c.run-why.new.self c.args.host.now c.in-Host.call ns in
     subst Q (sym c.as_slice.ensures) (waits_at c.args.machine.now c.run-why.new.self c.args.host.now c.run-why.ensures.same r.guest r.process r.shows r.running c.args.fuel c.run-why.result.left c.in-Host.call c.in-Host.arguments h)
 
 pub overflow_add-result : goal.overflow_add-result
@@ -68,7 +68,7 @@ returns-in-Host-clause-stretches c = λ guest p shows running.
 pub returns-in-Returned-clause-stretches : goal.returns-in-Returned-clause-stretches
 returns-in-Returned-clause-stretches c = λ guest p shows running.
     let P : Pause → Type 0 = λ why. RunsFor c.run-why.new.self guest.program p.configuration c.args.fuel c.run-why.result.left why in
-    let Q : Stretch → Type 0 = λ s. Comes c.run-why.new.self c.end.new.host guest p c.args.fuel s in
+    let Q : Stretch → Type 0 = λ s. ComesToShown c.run-why.new.self c.end.new.host guest p c.args.fuel s in
     subst Q (sym c.end.ensures.is)
     (returned c.args.machine.now c.run-why.new.self c.args.host.now c.run-why.ensures.same guest p shows running c.args.fuel c.run-why.result.left c.end.new.host c.end.ensures.ended c.requires.none_waits
     (c.end.ensures.shown p.host shows.host) (subst P c.in-Returned.is (c.run-why.ensures.runs guest.program p.configuration shows.configuration)))
@@ -76,7 +76,7 @@ returns-in-Returned-clause-stretches c = λ guest p shows running.
 pub returns-in-Trapped-clause-stretches : goal.returns-in-Trapped-clause-stretches
 returns-in-Trapped-clause-stretches c = λ guest p shows running.
     let P : Pause → Type 0 = λ why. RunsFor c.run-why.new.self guest.program p.configuration c.args.fuel c.run-why.result.left why in
-    let Q : Stretch → Type 0 = λ s. Comes c.run-why.new.self c.end-in-Trapped.new.host guest p c.args.fuel s in
+    let Q : Stretch → Type 0 = λ s. ComesToShown c.run-why.new.self c.end-in-Trapped.new.host guest p c.args.fuel s in
     subst Q (sym c.end-in-Trapped.ensures.is)
     (trapped c.args.machine.now c.run-why.new.self c.args.host.now c.run-why.ensures.same guest p shows running c.args.fuel c.run-why.result.left c.end-in-Trapped.new.host c.end-in-Trapped.ensures.ended c.requires.none_waits
     (c.end-in-Trapped.ensures.shown p.host shows.host) c.in-Trapped.why (subst P c.in-Trapped.is (c.run-why.ensures.runs guest.program p.configuration shows.configuration)))

@@ -1,5 +1,5 @@
 use Rattle.std.proofs.Common.{List, ℕ, IsTrue, subst, sym, arith, rules}
-use Rattle.sector_disk.specs.Medium.{Holds, Writes}
+use Rattle.sector_disk.specs.rules.Medium.{Holds, Writes}
 use Rattle.sector_disk.proofs.FrontLemmas.{merged_tears, merged_takes, taken_of, takes_of}
 use Rattle.sector_disk.proofs.front.write_front.Goals as goal
 

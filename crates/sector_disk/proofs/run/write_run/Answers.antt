@@ -1,7 +1,7 @@
 use Rattle.std.proofs.Common.{◌≡◌, ◌<◌, ◌≤◌, ◌+◌, ℕ, length, Err, Result, sym, ap, ◌∙◌, subst, arith, rules}
 use Rattle.std.proofs.lemmas.Result.{err_from_is_err_and}
-use Rattle.sector_disk.specs.Image.{sector_at}
-use Rattle.sector_disk.specs.Medium.{Tears, Takes, FailsInside}
+use Rattle.sector_disk.specs.rules.Image.{sector_at}
+use Rattle.sector_disk.specs.rules.Medium.{Tears, TakesWrite, FailsInside}
 use Rattle.sector_disk.specs.declared.fault.DiskFault.{DiskFault}
 use Rattle.sector_disk.proofs.RunLemmas.{both_tear, both_take, both_longer, run_passes, run_leaves_only, fails_inside}
 use Rattle.sector_disk.proofs.run.write_run.Goals as goal
@@ -38,7 +38,7 @@ loop-sector-preserved g c =
     let mid = g.D.Disk.medium c.loop-sector.disk in
     let new = g.D.Disk.medium c.write.new.self in
     let tears = subst (λ (k : ℕ). Tears k (sector_at c.args.sectors.now n) mid new) i.place c.write.ensures.tears in
-    let takes = subst (λ (k : ℕ). Takes k (sector_at c.args.sectors.now n) mid new) i.place c.in_ok-write.ensures.whole in
+    let takes = subst (λ (k : ℕ). TakesWrite k (sector_at c.args.sectors.now n) mid new) i.place c.in_ok-write.ensures.whole in
     let inside : c.args.at + n < mid.sectors = let s = i.passes.sectors in omega arith in
     let both = both_tear c.args.at c.args.sectors.now n old mid new inside i.tears tears in
     record {

@@ -1,6 +1,6 @@
 use Rattle.std.proofs.Common.{◌≡◌, ◌≤◌, ◌+◌, length}
-use Rattle.sector_disk.specs.Medium.{After, BothFollow, Passes}
-use Rattle.sector_disk.specs.Run.{IsTornRun, IsWrittenRun}
+use Rattle.sector_disk.specs.rules.Medium.{After, BothFollow, Passes}
+use Rattle.sector_disk.specs.rules.Run.{IsTornRun, IsWrittenRun}
 use Rattle.sector_disk.proofs.run.write_run.Given as goal
 
 abbrev pub invariant-loop-sector : goal.invariant-loop-sector

@@ -1,5 +1,5 @@
 use Rattle.std.proofs.Common.{◌≡◌, ◌≤◌, ◌++◌, ◌∙◌, length, take, ap, sym, arith, length-append}
-use Rattle.disk_layout.specs.Sectors.{bytes_from}
+use Rattle.disk_layout.specs.rules.Sectors.{bytes_from}
 use Rattle.sector_disk.proofs.Moments.{stays_shows}
 use Rattle.disk_layout.proofs.ReadLemmas.{read_more, bytes_from-more}
 use Rattle.snapshot.proofs.ReadLemmas.{front_of_more}

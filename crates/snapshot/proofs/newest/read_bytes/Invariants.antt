@@ -1,7 +1,7 @@
 use Rattle.std.proofs.Common.{◌≡◌, ◌*◌, length}
-use Rattle.sector_disk.specs.Image.{Image}
-use Rattle.disk_layout.specs.Sectors.{bytes_from}
-use Rattle.disk_layout.specs.Stored.{OnlyReads}
+use Rattle.sector_disk.specs.rules.Image.{Image}
+use Rattle.disk_layout.specs.rules.Sectors.{bytes_from}
+use Rattle.disk_layout.specs.rules.Stored.{OnlyReads}
 use Rattle.snapshot.proofs.newest.read_bytes.Given as goal
 
 abbrev pub invariant-loop-i : goal.invariant-loop-i

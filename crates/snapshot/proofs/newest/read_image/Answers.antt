@@ -1,6 +1,6 @@
 use Rattle.std.proofs.Common.{◌≤◌, ◌*◌, ◌∙◌, List, ℕ, take, ap, arith}
 use Rattle.sha2.specs.Sha256.{sha256}
-use Rattle.disk_layout.specs.Sectors.{bytes_from}
+use Rattle.disk_layout.specs.rules.Sectors.{bytes_from}
 use Rattle.sector_disk.proofs.Moments.{shows_left}
 use Rattle.snapshot.proofs.ReadLemmas.{names_within, is_named}
 use Rattle.snapshot.proofs.newest.read_image.Goals as goal

@@ -1,6 +1,6 @@
 use Rattle.std.proofs.Common.{◌≡◌}
 use Rattle.std.specs.Prelude.{Ok, Err}
-use Rattle.wasi_calls_rows.specs.Moving.{fd_write}
+use Rattle.wasi_calls_rules.specs.Moving.{fd_write}
 use Rattle.wasi_calls.proofs.Emitted.{write_emits, write_done}
 use Rattle.wasi_calls.proofs.calls.lines_emitted.Goals as goal
 

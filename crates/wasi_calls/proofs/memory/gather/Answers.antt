@@ -1,7 +1,7 @@
 use Rattle.std.proofs.Common.{◌≡◌, ℕ, ◌≤◌, ◌-◌, ◌++◌, [], length, take, sym, ap, ◌∙◌, arith, length-take}
 use Rattle.std.proofs.lemmas.Result.{err_from_is_err_and}
-use Rattle.wasi_calls_rows.specs.Checks.{Bytes, Refuses}
-use Rattle.wasi_calls_rows.specs.declared.limits.TheConstants.{MOVED_BYTES}
+use Rattle.wasi_calls_rules.specs.Checks.{Bytes, Refuses}
+use Rattle.wasi_calls_rules.specs.declared.limits.TheConstants.{MOVED_BYTES}
 use Rattle.wasi_calls.proofs.Gathers.{most, most_is, collected, few_is, moved_is, goes_on, ends, is_done, room_for}
 use Rattle.wasi_calls.proofs.memory.gather.Goals as goal
 

@@ -1,5 +1,5 @@
 use Rattle.std.proofs.Common.{◌≡◌, ◌≤◌, ◌+◌, ◌-◌, ◌*◌, [], length}
-use Rattle.wasi_calls_rows.specs.declared.limits.TheConstants.{MOVED_BYTES}
+use Rattle.wasi_calls_rules.specs.declared.limits.TheConstants.{MOVED_BYTES}
 use Rattle.wasi_calls.proofs.Gathers.{collected}
 use Rattle.wasi_calls.proofs.memory.gather.Given as goal
 

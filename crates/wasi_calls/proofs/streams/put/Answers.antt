@@ -1,6 +1,6 @@
 use Rattle.std.proofs.Common.{◌≡◌, [], ◌∙◌, sym, length}
-use Rattle.wasi_calls_rows.specs.Lines.{Cut, cut_all}
-use Rattle.wasi_calls.specs.Outputs.{ended_by}
+use Rattle.wasi_calls_rules.specs.Lines.{Cut, cut_all}
+use Rattle.wasi_calls.specs.Outputs.{count_ended}
 use Rattle.wasi_calls.proofs.Cuts.{written_cut, cut_onto}
 use Rattle.wasi_calls.proofs.streams.put.Goals as goal
 
@@ -10,7 +10,7 @@ returns-then-count_lines-eq0-clause-written c =
     let bytes = c.args.bytes.now in
     let before : Cut = record { lines = c.args.waiting.now.items; unfinished = text } in
     let len : c.len.result ≡ length text = c.len.ensures ∙ c.args.unfinished.now.ok.0 in
-    let none : ended_by (length text) bytes ≡ 0 = sym (rw len at c.count_lines.ensures.value) ∙ c.if-count_lines-eq0.true in
+    let none : count_ended (length text) bytes ≡ 0 = sym (rw len at c.count_lines.ensures.value) ∙ c.if-count_lines-eq0.true in
     rw (c.in_ok-reserve.ensures.items, c.in_ok-extend_from_slice.ensures.items) (cut_onto c.args.stream before bytes none)
 
 pub returns-clause-written : goal.returns-clause-written

@@ -1,8 +1,8 @@
 use Rattle.std.proofs.Common.{◌+◌, [], drop, get_or}
 use Rattle.std.proofs.lemmas.Result.{err_from_is_err_and}
-use Rattle.wasm_syntax_grammar.specs.ReadingItems.{sized_at}
-use Rattle.wasm_syntax_grammar.specs.ReadingWithin.{code_within_at}
-use Rattle.wasm_decode_items.proofs.Fails.{fails_as}
+use Rattle.wasm_syntax.specs.laws.ReadingItems.{sized_at}
+use Rattle.wasm_syntax.specs.laws.ReadingWithin.{code_within_at}
+use Rattle.wasm_decode.proofs.ItemLemmas.Fails.{fails_as}
 use Rattle.wasm_decode.specs.Contents.{functions_onto_at}
 use Rattle.wasm_decode.proofs.Functions.{functions_go_on, functions_fail, functions_are_done, first_left, none_left}
 use Rattle.wasm_decode.proofs.codes.entries.Goals as goal

@@ -1,11 +1,11 @@
 use Rattle.std.proofs.Common.{ℕ, List, Option, refl, ap, ◌∙◌, rules}
 use Rattle.std.proofs.lemmas.Result.{err_from_is_err_and}
 use Rattle.wasm_syntax.specs.declared.module.Import.{Import}
-use Rattle.wasm_syntax_grammar.specs.ReadingItems.{◌>>=◌, items_at}
-use Rattle.wasm_syntax_grammar.specs.ReadingWithin.{import_within_at}
-use Rattle.wasm_syntax_grammar.proofs.Loops.{items_go_on, items_are_done}
-use Rattle.wasm_decode_items.specs.Entries.{import_up_to_at}
-use Rattle.wasm_decode_items.proofs.Fails.{fails_as}
+use Rattle.wasm_syntax.specs.laws.ReadingItems.{◌>>=◌, items_at}
+use Rattle.wasm_syntax.specs.laws.ReadingWithin.{import_within_at}
+use Rattle.wasm_syntax.proofs.Grammar.Loops.{items_go_on, items_are_done}
+use Rattle.wasm_decode.specs.Items.Entries.{import_up_to_at}
+use Rattle.wasm_decode.proofs.ItemLemmas.Fails.{fails_as}
 use Rattle.wasm_decode.specs.Contents.{imports_at}
 use Rattle.wasm_decode.proofs.Imports.{few, few_are, one_more, still_few, import_alone, imports_fail, imports_behind_count, imports_without_count}
 use Rattle.wasm_decode.proofs.imported.read_imports.Goals as goal

@@ -1,10 +1,10 @@
 use Rattle.std.proofs.Common.{◌≡◌, ◌≤◌, ◌-◌}
 use Rattle.std.specs.Prelude.{count_by}
-use Rattle.wasm_syntax_grammar.specs.declared.limits.TheConstants.{FUNCTIONS}
-use Rattle.wasm_syntax_grammar.specs.Limits.{is_function}
-use Rattle.wasm_syntax_grammar.specs.ReadingItems.{items_at}
-use Rattle.wasm_syntax_grammar.specs.ReadingWithin.{import_within_at}
-use Rattle.wasm_syntax_grammar.proofs.Loops.{with_front}
+use Rattle.wasm_syntax.specs.declared.limits.TheConstants.{FUNCTIONS}
+use Rattle.wasm_syntax.specs.rules.Limits.{is_function}
+use Rattle.wasm_syntax.specs.laws.ReadingItems.{items_at}
+use Rattle.wasm_syntax.specs.laws.ReadingWithin.{import_within_at}
+use Rattle.wasm_syntax.proofs.Grammar.Loops.{with_front}
 use Rattle.wasm_decode.proofs.imported.read_imports.Given as goal
 
 abbrev pub invariant-loop : goal.invariant-loop

@@ -1,5 +1,5 @@
 use Rattle.std.proofs.Common.{◌≡◌, List, [], ◌∷◌, Option, None, refl, arith, rules}
-use Rattle.wasm_decode_items.specs.declared.span.Span.{Span}
+use Rattle.wasm_decode.specs.declared.items.span.Span.{Span}
 use Rattle.wasm_decode.specs.Sections.{section_of}
 use Rattle.wasm_decode.proofs.Rising.{begins, all_none, goes_on, is_done, ends, next_shorter, next_below, some_of, empty_of}
 use Rattle.wasm_decode.proofs.sections.split.Goals as goal

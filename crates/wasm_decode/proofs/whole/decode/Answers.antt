@@ -1,5 +1,5 @@
 use Rattle.std.proofs.lemmas.Result.{err_from_is_err_and}
-use Rattle.wasm_syntax_grammar.proofs.WholeWithin.{module_within_sound}
+use Rattle.wasm_syntax.proofs.Grammar.WholeWithin.{module_within_sound}
 use Rattle.wasm_decode.proofs.Modules.{refused}
 use Rattle.wasm_decode.proofs.whole.decode.Goals as goal
 

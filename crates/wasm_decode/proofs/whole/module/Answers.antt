@@ -1,7 +1,7 @@
 use Rattle.std.proofs.Common.{rules}
 use Rattle.std.proofs.lemmas.Result.{err_from_is_err_and}
-use Rattle.wasm_syntax_grammar.specs.ReadingWithin.{module_within_at}
-use Rattle.wasm_decode_items.proofs.Fails.{fails_as}
+use Rattle.wasm_syntax.specs.laws.ReadingWithin.{module_within_at}
+use Rattle.wasm_decode.proofs.ItemLemmas.Fails.{fails_as}
 use Rattle.wasm_decode.specs.Sections.{held}
 use Rattle.wasm_decode.specs.Contents.{contents_read}
 use Rattle.wasm_decode.proofs.Modules.{too_long, no_header, not_made, made, at_fault}

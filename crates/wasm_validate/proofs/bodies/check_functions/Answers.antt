@@ -1,7 +1,7 @@
 use Rattle.std.proofs.lemmas.Result.{err_from_is_err_and}
 use Rattle.wasm_syntax_rules.specs.Validity.{IsFunctionValid}
-use Rattle.wasm_validate_parts.proofs.Loops.{passes, passed, of_all}
-use Rattle.wasm_validate_parts.proofs.Denied.{denies_still}
+use Rattle.wasm_validate.proofs.PartLemmas.Loops.{passes, passed, of_all}
+use Rattle.wasm_validate.proofs.PartLemmas.Denied.{denies_still}
 use Rattle.wasm_validate.proofs.bodies.check_functions.Goals as goal
 
 pub returns-in_err-check_function : goal.returns-in_err-check_function

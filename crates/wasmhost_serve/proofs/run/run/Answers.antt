@@ -9,6 +9,6 @@ returns-in-Ok-clause-done g c =
 pub returns-clause-failed : goal.returns-clause-failed
 returns-clause-failed g c =
     let done = c.in-Err.ensures.failed in
-    told_fails c.args.worker.now c.in-Err.fault c.fault.result c.told_as.result _ _ c.told_as.ensures (
+    told_fails c.args.worker.now c.in-Err.fault c.fault.result c.run_fault_of.result _ _ c.run_fault_of.ensures (
     fails_print _ (λ o. g.W.Write.contents o.out) c.args.worker.now c.work.new.worker done.fuel c.in-Err.fault _ _ c.args.outlet.now c.work.new.outlet done.slices
     )

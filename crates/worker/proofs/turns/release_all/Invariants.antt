@@ -1,6 +1,6 @@
 use Rattle.std.proofs.Common.{take}
-use Rattle.record_replay.specs.Calls.{Releases, all_taken}
-use Rattle.process.specs.Values.{waiting_in}
+use Rattle.record_replay.specs.rules.Calls.{Releases, all_taken}
+use Rattle.process.specs.rules.Values.{waiting_in}
 use Rattle.worker.specs.Turns.{first_waiting}
 use Rattle.worker.proofs.turns.release_all.Given as goal
 

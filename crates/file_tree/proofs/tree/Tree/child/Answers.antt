@@ -1,5 +1,5 @@
 use Rattle.std.proofs.Common.{sym, ap, ◌∙◌}
-use Rattle.file_tree.specs.Files.{Files, child}
+use Rattle.file_tree.specs.rules.Files.{Files, child}
 use Rattle.file_tree.proofs.Seen.{child_shown}
 use Rattle.file_tree.proofs.tree.Tree.child.Goals as goal
 

@@ -1,6 +1,6 @@
 use Rattle.std.proofs.Common.{sym, ap, ◌∙◌, refl}
-use Rattle.file_tree_store.specs.declared.node.Node.{Node}
-use Rattle.file_tree_store.specs.declared.node.Hook.TheVariants.{In}
+use Rattle.file_tree.specs.declared.store.node.Node.{Node}
+use Rattle.file_tree.specs.declared.store.node.Hook.TheVariants.{In}
 use Rattle.file_tree.proofs.Grows.{is_made}
 use Rattle.file_tree.proofs.tree.Tree.create.Goals as goal
 

@@ -1,6 +1,6 @@
 use Rattle.std.proofs.Common.{ap, ◌∙◌}
 use Rattle.std.specs.Prelude.{slice_get, option_map}
-use Rattle.file_tree.specs.Files.{Files, Entry, entries_of}
+use Rattle.file_tree.specs.rules.Files.{Files, Entry, entries_of}
 use Rattle.file_tree.proofs.Ranked.{entry_shown}
 use Rattle.file_tree.proofs.tree.Tree.entry.Goals as goal
 

@@ -1,7 +1,7 @@
 use Rattle.std.proofs.Common.{sym, ap, ◌∙◌, Option}
 use Rattle.std.specs.Prelude.{is_some}
-use Rattle.file_tree_store.specs.declared.node.Node.{Node}
-use Rattle.file_tree.specs.Files.{Files, path_of}
+use Rattle.file_tree.specs.declared.store.node.Node.{Node}
+use Rattle.file_tree.specs.rules.Files.{Files, path_of}
 use Rattle.file_tree.specs.Links.{hook_held, is_hung}
 use Rattle.file_tree.proofs.Lookups.{hung_has_path}
 use Rattle.file_tree.proofs.tree.Tree.has_path.Goals as goal

@@ -1,6 +1,6 @@
 use Rattle.std.proofs.Common.{sym, ap, ◌∙◌, Option}
-use Rattle.file_tree_store.specs.declared.node.Node.{Node}
-use Rattle.file_tree.specs.Files.{Files, is_directory}
+use Rattle.file_tree.specs.declared.store.node.Node.{Node}
+use Rattle.file_tree.specs.rules.Files.{Files, is_directory}
 use Rattle.file_tree.specs.Links.{holds_directory_node, content_held}
 use Rattle.file_tree.proofs.Lookups.{directory_shown}
 use Rattle.file_tree.proofs.tree.Tree.is_directory.Goals as goal

@@ -1,5 +1,5 @@
 use Rattle.std.proofs.Common.{sym, ap, ◌∙◌, not, length, eqb}
-use Rattle.file_tree.specs.Files.{Files, entries_of}
+use Rattle.file_tree.specs.rules.Files.{Files, entries_of}
 use Rattle.file_tree.proofs.Seen.{empty_shown}
 use Rattle.file_tree.proofs.tree.Tree.is_empty.Goals as goal
 

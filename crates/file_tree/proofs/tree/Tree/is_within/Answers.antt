@@ -1,6 +1,6 @@
 use Rattle.std.proofs.Common.{sym, ap, ◌∙◌}
-use Rattle.file_tree.specs.Files.{Files}
-use Rattle.file_tree.specs.Changes.{is_within}
+use Rattle.file_tree.specs.rules.Files.{Files}
+use Rattle.file_tree.specs.rules.Changes.{is_within}
 use Rattle.file_tree.proofs.Within.{within_shown}
 use Rattle.file_tree.proofs.tree.Tree.is_within.Goals as goal
 

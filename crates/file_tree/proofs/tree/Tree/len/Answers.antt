@@ -1,5 +1,5 @@
 use Rattle.std.proofs.Common.{subst}
-use Rattle.file_tree.specs.Files.{IsFiles}
+use Rattle.file_tree.specs.rules.Files.{IsFiles}
 use Rattle.file_tree.proofs.IsFiles.{are_files}
 use Rattle.file_tree.proofs.tree.Tree.len.Goals as goal
 

@@ -1,6 +1,6 @@
 use Rattle.std.proofs.Common.{Option, sym, ap, ◌∙◌}
-use Rattle.file_tree_store.specs.declared.node.Node.{Node}
-use Rattle.file_tree.specs.Files.{Files, path_of}
+use Rattle.file_tree.specs.declared.store.node.Node.{Node}
+use Rattle.file_tree.specs.rules.Files.{Files, path_of}
 use Rattle.file_tree.specs.Links.{hook_held, name_of_hook}
 use Rattle.file_tree.proofs.Parents.{last_name, no_name}
 use Rattle.file_tree.proofs.tree.Tree.name.Goals as goal

@@ -1,7 +1,7 @@
 use Rattle.std.proofs.Common.{◌≢◌, ℕ, Option, Some, ◌++◌, ◌∷◌, [], sym, ap, subst, ◌∙◌}
 use Rattle.std.specs.Prelude.{IfSome, IfNone}
-use Rattle.file_tree.specs.Files.{Name, Path, Files, path_of, child}
-use Rattle.file_tree.specs.Changes.{IsParent}
+use Rattle.file_tree.specs.rules.Files.{Name, Path, Files, path_of, child}
+use Rattle.file_tree.specs.rules.Changes.{IsParent}
 use Rattle.file_tree.specs.Steps.{parent_in}
 use Rattle.file_tree.proofs.Parents.{parent_above, none_above, parent_of_child}
 use Rattle.file_tree.proofs.tree.Tree.parent.Goals as goal

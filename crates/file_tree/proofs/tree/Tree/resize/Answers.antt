@@ -1,5 +1,6 @@
 use Rattle.std.proofs.Common.{ap, arith, length}
-use Rattle.file_tree.specs.Files.{bytes_of_node, resized}
+use Rattle.file_tree.specs.Store.Bytes.{resized}
+use Rattle.file_tree.specs.rules.Files.{bytes_of_node}
 use Rattle.file_tree.proofs.Sizes.{length-resized}
 use Rattle.file_tree.proofs.Contents.{is_resized, no_bytes_changed}
 use Rattle.file_tree.proofs.tree.Tree.resize.Goals as goal

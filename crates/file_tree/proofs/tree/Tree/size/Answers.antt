@@ -1,5 +1,5 @@
 use Rattle.std.proofs.Common.{sym, ap, ◌∙◌, length}
-use Rattle.file_tree.specs.Files.{Files, bytes_of_node}
+use Rattle.file_tree.specs.rules.Files.{Files, bytes_of_node}
 use Rattle.file_tree.specs.Links.{bytes_held_in}
 use Rattle.file_tree.proofs.Lookups.{bytes_shown}
 use Rattle.file_tree.proofs.tree.Tree.size.Goals as goal

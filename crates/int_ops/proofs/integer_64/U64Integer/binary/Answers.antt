@@ -1,7 +1,7 @@
 use Rattle.std.proofs.Common.{Ok, ap, ◌∙◌, ◌%◌}
 use Rattle.std.specs.Int.{w64}
 use Rattle.std.proofs.Math.Nat.{mod-mod}
-use Rattle.int_ops.specs.Integers.{rotated_left, rotated_right}
+use Rattle.int_ops.specs.rules.Integers.{rotated_left, rotated_right}
 use Rattle.int_ops.proofs.Rotations.{rotate_left_is, rotate_right_is}
 use Rattle.int_ops.proofs.integer_64.U64Integer.binary.Goals as goal
 

@@ -1,6 +1,6 @@
 use Rattle.std.proofs.Common.{◌≡◌, ◌<◌, ◌≤◌, ◌+◌, ◌^◌, length, arith, rules, sym, ap, ◌∙◌}
 use Rattle.std.proofs.lemmas.Bool.{eqb-false}
-use Rattle.journal.specs.Packed.{sectors_for}
+use Rattle.journal.specs.rules.Packed.{sectors_for}
 use Rattle.journal.proofs.BarrierLemmas.{nothing_written, any_moment_at, durable_at, room_for, goes, goes_not}
 use Rattle.journal.proofs.journal.Journal.barrier.Goals as goal
 

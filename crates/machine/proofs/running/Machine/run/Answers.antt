@@ -1,5 +1,5 @@
 use Rattle.std.proofs.Common.{sym, ap, ◌∙◌, subst}
-use Rattle.machine.specs.Values.{MachineValue, ShowsIn}
+use Rattle.machine.specs.rules.Values.{MachineValue, ShowsIn}
 use Rattle.machine.proofs.Ran.{holds_again, is_standing, machine_again, runs}
 use Rattle.machine.proofs.running.Machine.run.Goals as goal
 

@@ -1,5 +1,5 @@
 use Rattle.std.proofs.Common.{sym, subst}
-use Rattle.machine.specs.Values.{MachineValue, ShowsIn}
+use Rattle.machine.specs.rules.Values.{MachineValue, ShowsIn}
 use Rattle.machine.proofs.Stopped.{machine_stopped, machine_stops}
 use Rattle.machine.proofs.running.Machine.stop.Goals as goal
 

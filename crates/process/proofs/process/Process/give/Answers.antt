@@ -1,7 +1,7 @@
 use Rattle.std.proofs.Common.{List, refl, subst}
 use Rattle.std.specs.List.{AllByRecursion}
 use Rattle.wasi_abi.specs.declared.call.Call.{Call}
-use Rattle.wasi_calls.specs.Calls.{IsBuilt}
+use Rattle.wasi_calls.specs.rules.Calls.{IsBuilt}
 use Rattle.process_rules.proofs.OneStart.{calls_once}
 use Rattle.process.proofs.Asking.{wants_nothing}
 use Rattle.process.proofs.process.Process.give.Goals as goal

@@ -1,5 +1,5 @@
 use Rattle.std.proofs.Common.{ℕ, subst}
-use Rattle.machine.specs.Runs.{HasBegun}
+use Rattle.machine.specs.rules.Runs.{HasBegun}
 use Rattle.process.proofs.Starting.{has_started, is_process}
 use Rattle.process.proofs.process.Process.start.Goals as goal
 

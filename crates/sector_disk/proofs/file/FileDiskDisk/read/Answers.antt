@@ -1,6 +1,6 @@
 use Rattle.std.proofs.Common.{◌≡◌, ap, subst, arith, rules}
-use Rattle.sector_disk.specs.Answered.{Answers, Explains, unsynced_of}
-use Rattle.sector_disk.specs.AnsweredLaws.{read_since, failed_since}
+use Rattle.sector_disk.specs.rules.Answered.{AnsweredCalls, Explains, unsynced_of}
+use Rattle.sector_disk.specs.laws.Answered.{read_since, failed_since}
 use Rattle.sector_disk.proofs.CountLemmas.{answered_keeps, answered_grows}
 use Rattle.sector_disk.proofs.file.FileDiskDisk.read.Goals as goal
 
@@ -10,9 +10,9 @@ returns-in-Ok-clause-reads g c =
     let same : unsynced_of c.and-self.result.items ≡ unsynced_of d.log.items = ap unsynced_of c.and-self.ensures in
     record {
       inside = omega arith;
-      bytes = λ image shows. let on = subst (λ (a : Answers). Explains d.count a image shows.0) c.and-self.ensures shows.1 in on.1;
+      bytes = λ image shows. let on = subst (λ (a : AnsweredCalls). Explains d.count a image shows.0) c.and-self.ensures shows.1 in on.1;
       stays = record {
-        may = λ shown image both. let on = subst (λ (a : Answers). Explains d.count a shown image) c.and-self.ensures both in on.0;
+        may = λ shown image both. let on = subst (λ (a : AnsweredCalls). Explains d.count a shown image) c.and-self.ensures both in on.0;
         since = λ t shown image le both. read_since d.count t c.and-self.result.items d.log.items image shown c.and-self.ensures le both;
         unsynced = omega arith;
       };
@@ -33,7 +33,7 @@ returns-in-Err-clause-reads g c =
       inside = tt;
       bytes = tt;
       stays = record {
-        may = λ shown image both. subst (λ (a : Answers). Explains d.count a shown image) c.and-self-in-Err.ensures both;
+        may = λ shown image both. subst (λ (a : AnsweredCalls). Explains d.count a shown image) c.and-self-in-Err.ensures both;
         since = λ t shown image le both. failed_since d.count t c.and-self-in-Err.result.items d.log.items image shown c.and-self-in-Err.ensures le both;
         unsynced = omega arith;
       };

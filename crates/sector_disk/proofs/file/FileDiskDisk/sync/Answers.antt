@@ -1,14 +1,14 @@
 use Rattle.std.proofs.Common.{◌≡◌, ap, sym, subst, arith, rules}
-use Rattle.sector_disk.specs.Image.{Image}
-use Rattle.sector_disk.specs.Answered.{Answers, Explains, unsynced_of}
-use Rattle.sector_disk.specs.AnsweredLaws.{stays, synced_since, failed_since}
+use Rattle.sector_disk.specs.rules.Image.{Image}
+use Rattle.sector_disk.specs.rules.Answered.{AnsweredCalls, Explains, unsynced_of}
+use Rattle.sector_disk.specs.laws.Answered.{stays, synced_since, failed_since}
 use Rattle.sector_disk.proofs.CountLemmas.{answered_keeps, answered_grows}
 use Rattle.sector_disk.proofs.file.FileDiskDisk.sync.Goals as goal
 
 pub returns-in-Ok-clause-syncs : goal.returns-in-Ok-clause-syncs
 returns-in-Ok-clause-syncs g c =
     let d = c.args.self.now in
-    let on = λ (shown image : Image) (both : Explains d.count c.and-self.result.items shown image). subst (λ (a : Answers). Explains d.count a shown image) c.and-self.ensures both in
+    let on = λ (shown image : Image) (both : Explains d.count c.and-self.result.items shown image). subst (λ (a : AnsweredCalls). Explains d.count a shown image) c.and-self.ensures both in
     let none : unsynced_of c.and-self.result.items ≡ 0 = ap unsynced_of c.and-self.ensures in
     record {
       settles = record { same = λ shown image both. let was = on shown image both in was.2; unsynced = none };
@@ -35,7 +35,7 @@ returns-in-Err-clause-syncs g c =
     record {
       settles = tt;
       stays = record {
-        may = λ shown image both. subst (λ (a : Answers). Explains d.count a shown image) c.and-self-in-Err.ensures both;
+        may = λ shown image both. subst (λ (a : AnsweredCalls). Explains d.count a shown image) c.and-self-in-Err.ensures both;
         since = λ t shown image le both. failed_since d.count t c.and-self-in-Err.result.items d.log.items image shown c.and-self-in-Err.ensures le both;
         unsynced = omega arith;
       };

@@ -1,14 +1,14 @@
 use Rattle.std.proofs.Common.{◌≡◌, ◌+◌, ap, ◌∙◌, subst, arith, rules}
-use Rattle.sector_disk.specs.Image.{Image}
-use Rattle.sector_disk.specs.Answered.{Answers, Explains, unsynced_of}
-use Rattle.sector_disk.specs.AnsweredLaws.{images, whole_front}
+use Rattle.sector_disk.specs.rules.Image.{Image}
+use Rattle.sector_disk.specs.rules.Answered.{AnsweredCalls, Explains, unsynced_of}
+use Rattle.sector_disk.specs.laws.Answered.{images, whole_front}
 use Rattle.sector_disk.proofs.CountLemmas.{answered_keeps, answered_grows}
 use Rattle.sector_disk.proofs.file.FileDiskDisk.write.Goals as goal
 
 pub returns-in-Ok-clause-writes : goal.returns-in-Ok-clause-writes
 returns-in-Ok-clause-writes g c =
     let d = c.args.self.now in
-    let on = λ (shown image : Image) (both : Explains d.count c.and-self.result.items shown image). subst (λ (a : Answers). Explains d.count a shown image) c.and-self.ensures both in
+    let on = λ (shown image : Image) (both : Explains d.count c.and-self.result.items shown image). subst (λ (a : AnsweredCalls). Explains d.count a shown image) c.and-self.ensures both in
     let more : unsynced_of c.and-self.result.items ≡ unsynced_of d.log.items + 1 = ap unsynced_of c.and-self.ensures in
     record {
       inside = omega arith;

@@ -1,10 +1,10 @@
 use Rattle.std.proofs.Common.{◌≡◌, ◌<◌, ◌≤◌, ◌+◌, ℕ, List, All, get_or, [], length, drop, sym, ap, ◌∙◌, subst, arith}
 use Rattle.std.proofs.lemmas.List.{get_or_read}
 use Rattle.std.proofs.lemmas.List.Elements.{All-get_or}
-use Rattle.sector_disk.specs.Image.{sector_at, with_sector, with_front, front_over, IsImage}
-use Rattle.sector_disk.specs.Pending.{IsWriteWithin, torn_by, first_front}
-use Rattle.sector_disk.specs.FrontLaws.{image-with_front}
-use Rattle.sector_disk.specs.PendingLaws.{torn_left, torn_by_some, torn_step}
+use Rattle.sector_disk.specs.rules.Image.{sector_at, with_sector, with_front, front_over, IsImage}
+use Rattle.sector_disk.specs.rules.Pending.{IsWriteWithin, torn_by, first_front}
+use Rattle.sector_disk.specs.laws.Fronts.{image-with_front}
+use Rattle.sector_disk.specs.laws.Pending.{torn_left, torn_by_some, torn_step}
 use Rattle.sector_disk.specs.declared.write.Write.{Write}
 use Rattle.sector_disk.proofs.memory.MemDisk.cut.Goals as goal
 

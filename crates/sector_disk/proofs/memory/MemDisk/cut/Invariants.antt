@@ -1,6 +1,6 @@
 use Rattle.std.proofs.Common.{◌≡◌, length, drop}
-use Rattle.sector_disk.specs.Image.{IsImage}
-use Rattle.sector_disk.specs.Pending.{torn_by}
+use Rattle.sector_disk.specs.rules.Image.{IsImage}
+use Rattle.sector_disk.specs.rules.Pending.{torn_by}
 use Rattle.sector_disk.proofs.memory.MemDisk.cut.Given as goal
 
 abbrev pub invariant-loop-i : goal.invariant-loop-i

@@ -1,7 +1,7 @@
 use Rattle.std.proofs.Common.{◌<◌, length, [], refl, sym, ap, ◌∙◌, arith, rules}
 use Rattle.std.proofs.lemmas.List.{get_or_read}
-use Rattle.sector_disk.specs.Image.{sector_at}
-use Rattle.sector_disk.specs.Memory.{memory_medium}
+use Rattle.sector_disk.specs.rules.Image.{sector_at}
+use Rattle.sector_disk.specs.rules.Memory.{memory_medium}
 use Rattle.sector_disk.proofs.CountLemmas.{counts_same}
 use Rattle.sector_disk.proofs.MemoryLemmas.{shown_size}
 use Rattle.sector_disk.proofs.memory.MemDiskDisk.read.Goals as goal

@@ -1,7 +1,7 @@
 use Rattle.std.proofs.Common.{rules, inl, inr, ⊎_elim, ◌≡◌, length, sym, ap, ◌∙◌, subst, arith}
-use Rattle.sector_disk.specs.Image.{Image, IsImage}
-use Rattle.sector_disk.specs.Pending.{Leaves, HadLeft, replayed}
-use Rattle.sector_disk.specs.PendingLaws.{had_more, had_less, image-replayed, whole_left}
+use Rattle.sector_disk.specs.rules.Image.{Image, IsImage}
+use Rattle.sector_disk.specs.rules.Pending.{Leaves, HadLeft, replayed}
+use Rattle.sector_disk.specs.laws.Pending.{had_more, had_less, image-replayed, whole_left}
 use Rattle.sector_disk.proofs.CountLemmas.{had_keeps, had_grows}
 use Rattle.sector_disk.proofs.MemoryLemmas.{shown_size}
 use Rattle.sector_disk.proofs.memory.MemDiskDisk.sync.Goals as goal

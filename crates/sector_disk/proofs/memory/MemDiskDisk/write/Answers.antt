@@ -1,10 +1,10 @@
 use Rattle.std.proofs.Common.{inr, ◌≡◌, ◌+◌, rules, ◌<◌, length, refl, sym, ap, ◌∙◌, subst, arith}
 use Rattle.std.proofs.lemmas.List.{length_push}
 use Rattle.std.proofs.lemmas.List.Elements.{All-push}
-use Rattle.sector_disk.specs.Image.{Image, with_sector, IsTorn}
-use Rattle.sector_disk.specs.Pending.{IsWriteWithin, Leaves}
-use Rattle.sector_disk.specs.FrontLaws.{whole-with_front}
-use Rattle.sector_disk.specs.PendingLaws.{had_more, replayed_more, left_more, image-replayed}
+use Rattle.sector_disk.specs.rules.Image.{Image, with_sector, IsTorn}
+use Rattle.sector_disk.specs.rules.Pending.{IsWriteWithin, Leaves}
+use Rattle.sector_disk.specs.laws.Fronts.{whole-with_front}
+use Rattle.sector_disk.specs.laws.Pending.{had_more, replayed_more, left_more, image-replayed}
 use Rattle.sector_disk.proofs.CountLemmas.{had_keeps, had_grows}
 use Rattle.sector_disk.proofs.MemoryLemmas.{shown_size}
 use Rattle.sector_disk.proofs.memory.MemDiskDisk.write.Goals as goal
@@ -27,7 +27,7 @@ returns-clause-writes c =
     let lt : c.args.sector < length c.args.self.now.settled.items = omega arith in
     let d = c.args.self.now in
     let w : Rattle.sector_disk.specs.declared.write.Write.Write = record { sector = c.args.sector; bytes = c.args.from.now } in
-    let image = subst (λ i. Rattle.sector_disk.specs.Image.IsImage (length d.settled.items) i) (sym d.replayed) (image-replayed _ d.pending.items d.settled.items d.full d.within) in
+    let image = subst (λ i. Rattle.sector_disk.specs.rules.Image.IsImage (length d.settled.items) i) (sym d.replayed) (image-replayed _ d.pending.items d.settled.items d.full d.within) in
     let left = λ (new : Image) (left : Leaves c.push.new.self.items d.settled.items new). left_more d.pending.items w d.settled.items new (subst (λ ws. Leaves ws d.settled.items new) c.in-Ok.ensures.items left) in
     let more : length c.push.new.self.items ≡ length d.pending.items + 1 = omega (arith, ap length c.in-Ok.ensures.items, length_push d.pending.items w) in
     record {

@@ -1,7 +1,7 @@
 use Rattle.std.proofs.Common.{◌∙◌, ℕ, [], subst}
 use Rattle.std.proofs.lemmas.Result.{on_ok_weaker}
-use Rattle.sector_disk.specs.Medium.{After, Follows, LeavesOnly}
-use Rattle.snapshot.specs.Steps.{Fills, Commits, Replaces}
+use Rattle.sector_disk.specs.rules.Medium.{After, Follows, LeavesOnly}
+use Rattle.snapshot.specs.rules.Steps.{Fills, Commits, Replaces}
 use Rattle.snapshot.specs.Snapshots.{version_of}
 use Rattle.snapshot.proofs.SnapshotLemmas.{begun_pushed, filled_commits, committed, committed_whole}
 use Rattle.snapshot.proofs.snapshots.Snapshots.commit.Goals as goal

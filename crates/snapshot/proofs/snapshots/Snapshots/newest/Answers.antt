@@ -1,8 +1,8 @@
 use Rattle.std.proofs.Common.{◌≡◌, Option, Result, Err, subst, sym}
 use Rattle.sector_disk.proofs.Moments.{stays_shows}
 use Rattle.disk_layout.specs.declared.head.Head.{Head}
-use Rattle.snapshot.specs.Heads.{FindsHead}
-use Rattle.snapshot.specs.Newest.{Finds}
+use Rattle.snapshot.specs.rules.Heads.{FindsHead}
+use Rattle.snapshot.specs.rules.Newest.{FindsNewest}
 use Rattle.snapshot.proofs.ReadLemmas.{named_holds, fault_found, is_fault}
 use Rattle.snapshot.specs.declared.fault.SnapshotFault.{SnapshotFault}
 use Rattle.snapshot.specs.declared.newest.Snapshot.{Snapshot}
@@ -17,7 +17,7 @@ returns-in_err-image-clause-finds g c = λ image shows.
     let newest = subst (λ (o : Option Head). FindsHead image o) c.in-Some.is (c.in_ok-head.ensures.finds image (stays_shows mid new stays image shows)) in
     let is = c.from_residual-in_err-image.ensures in
     let same : c.from_residual-in_err-image.result ≡ Err fault = is_fault c.from_residual-in_err-image.result fault is.1 in
-    subst (λ (r : Result (Option Snapshot) SnapshotFault). Finds c.args.geometry.now image r) (sym same) (fault_found c.args.geometry.now image c.in-Some.head fault newest (c.in_err-image.ensures.image image shows))
+    subst (λ (r : Result (Option Snapshot) SnapshotFault). FindsNewest c.args.geometry.now image r) (sym same) (fault_found c.args.geometry.now image c.in-Some.head fault newest (c.in_err-image.ensures.image image shows))
 
 pub returns-clause-finds : goal.returns-clause-finds
 returns-clause-finds g c = λ image shows.

@@ -1,14 +1,14 @@
 use Rattle.std.proofs.Common.{◌⊎◌, ◌≤◌, ◌∙◌, ℕ, List, sym, subst, arith}
 use Rattle.std.proofs.lemmas.Result.{on_ok_weaker}
-use Rattle.sector_disk.specs.Image.{Image, IsTorn, IsWritten}
-use Rattle.sector_disk.specs.Medium.{After, Follows, LeavesOnly}
-use Rattle.disk_layout.specs.Places.{head_place, area_place}
-use Rattle.disk_layout.specs.Sectors.{Holds}
-use Rattle.snapshot.specs.Steps.{Fills, Commits, Replaces}
+use Rattle.sector_disk.specs.rules.Image.{Image, IsTorn, IsWritten}
+use Rattle.sector_disk.specs.rules.Medium.{After, Follows, LeavesOnly}
+use Rattle.disk_layout.specs.rules.Places.{head_place, area_place}
+use Rattle.disk_layout.specs.rules.Sectors.{SectorsHold}
+use Rattle.snapshot.specs.rules.Steps.{Fills, Commits, Replaces}
 use Rattle.snapshot.proofs.AreaLemmas.{fills_commits}
-use Rattle.snapshot.proofs.StoreLemmas.{leaves_weaker}
 use Rattle.snapshot.proofs.WriterLemmas.{is_head, finished, replaced}
 use Rattle.snapshot.proofs.writer.AreaWriter.finish.Goals as goal
+use Rattle.sector_disk.proofs.Moments.{leaves_weaker}
 
 pub returns-in_err-store_last-clause-any_moment : goal.returns-in_err-store_last-clause-any_moment
 returns-in_err-store_last-clause-any_moment g c = λ bytes given.
@@ -31,8 +31,8 @@ returns-clause-any_moment g c = λ bytes given.
     let is = is_head h bytes digest c.head-head.ensures.small in
     let len = c.head-head.ensures.length ∙ sym given.count in
     let one = subst (λ (n : ℕ). LeavesOnly old mid (After (Fills geometry n) old.may_leave)) (sym generation) c.store_last.ensures.any_moment in
-    let holds : (image : Image) → mid.shows image → Holds image (area_place geometry h.generation) geometry.area_sectors bytes =
-    λ image shows. subst (λ (n : ℕ). Holds image (area_place geometry n) geometry.area_sectors bytes) (sym generation) (c.in_ok-store_last.ensures.holds bytes given image shows) in
+    let holds : (image : Image) → mid.shows image → SectorsHold image (area_place geometry h.generation) geometry.area_sectors bytes =
+    λ image shows. subst (λ (n : ℕ). SectorsHold image (area_place geometry n) geometry.area_sectors bytes) (sym generation) (c.in_ok-store_last.ensures.holds bytes given image shows) in
     let inside : 3 ≤ mid.sectors = let l = c.store_last.ensures.any_moment in let p = l.passes in let r = c.requires.places in omega (arith, p.sectors, r) in
     let placed = subst (λ (k : ℕ). LeavesOnly mid new (λ image. mid.may_leave image ⊎ After (IsTorn k c.sector.result) mid.shows image)) c.head_place.ensures c.settle_sector.ensures.any_moment in
     let two = subst (λ (l : List ℕ). LeavesOnly mid new (λ image. mid.may_leave image ⊎ After (IsTorn (head_place h.generation) l) mid.shows image)) c.sector.ensures placed in
@@ -55,8 +55,8 @@ returns-clause-done g c =
     let is = is_head h bytes digest c.head-head.ensures.small in
     let len = c.head-head.ensures.length ∙ sym given.count in
     let one = subst (λ (n : ℕ). LeavesOnly old mid (After (Fills geometry n) old.may_leave)) (sym generation) c.store_last.ensures.any_moment in
-    let holds : (image : Image) → mid.shows image → Holds image (area_place geometry h.generation) geometry.area_sectors bytes =
-    λ image shows. subst (λ (n : ℕ). Holds image (area_place geometry n) geometry.area_sectors bytes) (sym generation) (c.in_ok-store_last.ensures.holds bytes given image shows) in
+    let holds : (image : Image) → mid.shows image → SectorsHold image (area_place geometry h.generation) geometry.area_sectors bytes =
+    λ image shows. subst (λ (n : ℕ). SectorsHold image (area_place geometry n) geometry.area_sectors bytes) (sym generation) (c.in_ok-store_last.ensures.holds bytes given image shows) in
     let inside : 3 ≤ mid.sectors = let l = c.store_last.ensures.any_moment in let p = l.passes in let r = c.requires.places in omega (arith, p.sectors, r) in
     let placed = subst (λ (k : ℕ). Follows (IsWritten k c.sector.result) mid.shows new.may_leave) c.head_place.ensures written in
     let two = subst (λ (l : List ℕ). Follows (IsWritten (head_place h.generation) l) mid.shows new.may_leave) c.sector.ensures placed in

@@ -1,8 +1,8 @@
 use Rattle.std.proofs.Common.{◌≡◌, ◌+◌, ◌-◌, ◌++◌, ◌∙◌, ℕ, List, length, take, drop, ap, subst, arith, append_assoc}
 use Rattle.std.proofs.lemmas.List.{take_all, length-drop}
-use Rattle.sector_disk.specs.Medium.{After, LeavesOnly}
+use Rattle.sector_disk.specs.rules.Medium.{After, LeavesOnly}
 use Rattle.disk_layout.proofs.ReadLemmas.{parts_joined}
-use Rattle.snapshot.specs.Steps.{Fills}
+use Rattle.snapshot.specs.rules.Steps.{Fills}
 use Rattle.snapshot.specs.Writing.{IsGiven}
 use Rattle.snapshot.proofs.WriterLemmas.{more_fills}
 use Rattle.snapshot.proofs.writer.AreaWriter.push.Goals as goal

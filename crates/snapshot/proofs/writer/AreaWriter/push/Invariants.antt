@@ -1,6 +1,6 @@
 use Rattle.std.proofs.Common.{◌≡◌, ◌≤◌, ◌+◌, ◌-◌, ◌++◌, ℕ, List, length, take}
-use Rattle.sector_disk.specs.Medium.{After, LeavesOnly}
-use Rattle.snapshot.specs.Steps.{Fills}
+use Rattle.sector_disk.specs.rules.Medium.{After, LeavesOnly}
+use Rattle.snapshot.specs.rules.Steps.{Fills}
 use Rattle.snapshot.specs.Writing.{written_length, IsGiven}
 use Rattle.snapshot.proofs.writer.AreaWriter.push.Given as goal
 

@@ -1,10 +1,10 @@
 use Rattle.std.proofs.Common.{◌≡◌, ◌≤◌, ◌<◌, ◌+◌, ◌-◌, ◌++◌, ◌∙◌, ℕ, List, length, take, sym, subst, arith, length-append}
 use Rattle.std.proofs.lemmas.List.{append-nil, length-take-le, take_all}
-use Rattle.sector_disk.specs.Image.{IsWritten, IsTorn}
-use Rattle.sector_disk.specs.Medium.{BothFollow}
-use Rattle.guest_memory.specs.Bytes.{with_part}
-use Rattle.disk_layout.specs.Places.{area_place}
-use Rattle.disk_layout.specs.Sectors.{bytes_from}
+use Rattle.sector_disk.specs.rules.Image.{IsWritten, IsTorn}
+use Rattle.sector_disk.specs.rules.Medium.{BothFollow}
+use Rattle.guest_memory.specs.rules.Bytes.{with_part}
+use Rattle.disk_layout.specs.rules.Places.{area_place}
+use Rattle.disk_layout.specs.rules.Sectors.{bytes_from}
 use Rattle.snapshot.proofs.AreaLemmas.{area_in}
 use Rattle.snapshot.proofs.WriterLemmas.{store_fills, stored_more, put_behind, length-put}
 use Rattle.snapshot.proofs.writer.AreaWriter.take_in.Goals as goal

@@ -1,5 +1,5 @@
 use Rattle.std.proofs.Common.{arith}
-use Rattle.wasi_abi.specs.Calls.{all_calls}
+use Rattle.wasi_abi.specs.rules.Calls.{all_calls}
 use Rattle.wasi_abi.proofs.CallLemmas.{every_call, passed}
 use Rattle.wasi_abi.proofs.call.Call.named.Goals as goal
 

@@ -1,6 +1,6 @@
 use Rattle.std.proofs.Common.{◌≢◌, ℕ, ◌<◌, get_or}
 use Rattle.wasi_abi.specs.declared.call.Call.{Call}
-use Rattle.wasi_abi.specs.Calls.{name_of}
+use Rattle.wasi_abi.specs.rules.Calls.{name_of}
 use Rattle.wasi_abi.proofs.call.Call.named.Given as goal
 
 abbrev pub invariant-loop-call : goal.invariant-loop-call

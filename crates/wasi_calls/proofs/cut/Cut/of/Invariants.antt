@@ -1,5 +1,5 @@
 use Rattle.std.proofs.Common.{◌≡◌, [], drop}
-use Rattle.wasi_calls_rows.specs.Lines.{cut_all}
+use Rattle.wasi_calls_rules.specs.Lines.{cut_all}
 use Rattle.wasi_calls.proofs.cut.Cut.of.Given as goal
 
 abbrev pub invariant-loop-byte : goal.invariant-loop-byte

@@ -1,8 +1,8 @@
 use Rattle.std.proofs.Common.{◌≡◌, ℕ, refl, sym, ap, ◌∙◌}
 use Rattle.std.specs.Prelude.{true, false, Ok}
-use Rattle.wasi_abi.specs.Numbers.{has_right, fd_write_right}
-use Rattle.wasi_calls_rows.specs.Hosts.{Target}
-use Rattle.wasi_calls_rows.specs.Checks.{names_directory}
+use Rattle.wasi_abi.specs.rules.Numbers.{has_right, fd_write_right}
+use Rattle.wasi_calls_rules.specs.Hosts.{Target}
+use Rattle.wasi_calls_rules.specs.Checks.{names_directory}
 use Rattle.wasi_calls.specs.Views.{target_of}
 use Rattle.wasi_calls.proofs.Descriptors.{writable_is, stream_alone}
 use Rattle.wasi_calls.proofs.host.Host.writable.Goals as goal
@@ -26,4 +26,4 @@ returns-clause-gives c =
 pub returns-clause-stream : goal.returns-clause-stream
 returns-clause-stream c =
     let h = c.args.self.now.host in
-    stream_alone h c.args.fd c.in_ok-descriptor.descriptor.now (target_of c.names-names.result) c.is_directory.result c.opened.ensures.shape c.in_ok-descriptor.ensures.gives c.names-names.ensures c.if-is_directory.false c.is_directory.ensures.no_files
+    stream_alone h c.args.fd c.in_ok-descriptor.descriptor.now (target_of c.names-names.result) c.is_directory.result c.find_descriptor.ensures.shape c.in_ok-descriptor.ensures.gives c.names-names.ensures c.if-is_directory.false c.is_directory.ensures.no_files

@@ -1,13 +1,13 @@
 use Rattle.std.proofs.Common.{◌≡◌}
 use Rattle.wasi_calls.specs.Outputs.{output_written}
-use Rattle.wasi_calls.specs.Held.{held_of}
+use Rattle.wasi_calls.specs.Held.{held_host_of}
 use Rattle.wasi_calls.proofs.Hosts.{with_lines, written_short}
 use Rattle.wasi_calls.proofs.host.Host.write.Goals as goal
 
 pub invariant_of-self-2 : goal.invariant_of-self-2
 invariant_of-self-2 c =
     let s = c.self.inside in
-    let old = (held_of s.config s.limit s.files s.descriptors.items s.unread.items s.input_ended s.last_monotonic s.streams).host in
+    let old = (held_host_of s.config s.limit s.files s.descriptors.items s.unread.items s.input_ended s.last_monotonic s.streams).host in
     let is : c.write.new.self ≡ output_written c.args.stream c.args.bytes.now s.streams = c.in_ok-write.ensures.written in
     let short = written_short c.args.stream c.args.bytes.now s.streams c.self.invariant.first c.self.invariant.second in
     with_lines old c.write.new.self.first c.write.new.self.second c.write.new.self.waiting c.self.invariant (rw is short.0) (rw is short.1)

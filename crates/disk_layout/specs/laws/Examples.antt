@@ -1,0 +1,36 @@
+-- Worked examples of the layout.
+use Rattle.std.specs.Prelude.{◌≡◌, ℕ, List, [], ◌∷◌, length, take, codes, Some, None}
+use Rattle.wasi_abi.specs.rules.Configs.{Settings}
+use Rattle.wasi_abi.specs.declared.answer.Answer.TheVariants as answer
+use Rattle.sector_disk.specs.rules.Image.{front_over}
+use Rattle.disk_layout.specs.rules.Places.{geometry_of, config_bytes, total_sectors, journal_place}
+use Rattle.disk_layout.specs.rules.Sectors.{shown_generation}
+use Rattle.disk_layout.specs.rules.Journal.{Record, record_bytes, record_at, journal_sector}
+
+-- one page, one unit of files, a journal of 64 sectors, and the argument `worker`
+abbrev pub small : Settings
+small = record { pages = 1; files = 1; journal = 64; arguments = codes "worker" ∷ []; environment = [] }
+
+-- the request `hello`, taken by the sixth step
+abbrev pub hello_record : Record
+hello_record = record { step = 6; answer = answer.Request (codes "hello") }
+
+-- a journal sector of generation g at place 3 that holds one byte
+abbrev pub third_sector : ℕ → List ℕ
+third_sector g = journal_sector g 3 (7 ∷ [])
+
+pub record LayoutExamples : Type 0 where
+  pub config_length : length (config_bytes small) ≡ 28
+  pub total : total_sectors (geometry_of small 193) ≡ 4676
+  pub journal : journal_place (geometry_of small 193) ≡ 4612
+  pub module_sectors : (geometry_of small 193).module_sectors ≡ 1
+  pub area_sectors : (geometry_of small 193).area_sectors ≡ 2304
+  pub record_is : record_bytes hello_record ≡ 1 ∷ 6 ∷ 0 ∷ 0 ∷ 0 ∷ 0 ∷ 0 ∷ 0 ∷ 0 ∷ 5 ∷ 0 ∷ 0x68 ∷ 0x65 ∷ 0x6c ∷ 0x6c ∷ 0x6f ∷ []
+  pub record_back : record_at 4096 (record_bytes hello_record) ≡ Some hello_record
+  pub record_cut : record_at 4096 (take 15 (record_bytes hello_record)) ≡ None
+  pub sector_length : length (third_sector 255) ≡ 512
+  -- a sector of generation 255 overwritten for 256 and torn: with 497 new bytes it shows 0, from 498 on it is the new one
+  pub torn_497 : shown_generation 3 (front_over 497 (third_sector 256) (third_sector 255)) ≡ 0
+  pub torn_498 : front_over 498 (third_sector 256) (third_sector 255) ≡ third_sector 256
+  pub shows_256 : shown_generation 3 (third_sector 256) ≡ 256
+  pub torn_496 : shown_generation 3 (front_over 496 (third_sector 256) (third_sector 255)) ≡ 255

@@ -1,0 +1,7 @@
+pub mod Contents
+pub mod Held
+pub mod Journal
+pub mod Places
+pub mod Sectors
+pub mod Spelled
+pub mod Stored

@@ -1,0 +1,104 @@
+-- Records, and the sectors of the journal (this project's own), version 1.
+use Rattle.std.specs.Prelude.{ℕ, zero, suc, ◌+◌, ◌-◌, nat_le, nat_lt, ◌==◌, ◌&&◌, if◌then◌else◌, Bool, true, false, List, [], ◌∷◌, ◌++◌, length, drop, Option, Some, None, option_map}
+use Rattle.guest_memory.specs.rules.Bytes.{number_of, part}
+use Rattle.disk_layout.specs.declared.record.Record.{Record as DeclaredRecord}
+use Rattle.wasi_abi.specs.declared.answer.Answer.{Answer}
+use Rattle.wasi_abi.specs.declared.answer.Answer.TheVariants as answer
+use Rattle.wasi_abi.specs.rules.Layouts.{u16_bytes, u64_bytes, padding}
+use Rattle.sector_disk.specs.rules.Image.{Image, sector_at}
+use Rattle.disk_layout.specs.rules.Places.{Geometry, journal_place}
+use Rattle.disk_layout.specs.rules.Sectors.{stamp_bytes, shown_generation}
+
+-- a step, and the answer that it took
+abbrev pub Record : Type 0
+Record = DeclaredRecord
+
+abbrev pub kind_number : Answer → ℕ
+kind_number (answer.Request text) = 1
+kind_number answer.End = 2
+kind_number (answer.Realtime n) = 3
+kind_number (answer.Monotonic n) = 4
+kind_number (answer.Random bytes) = 5
+
+abbrev pub payload_of : Answer → List ℕ
+payload_of (answer.Request text) = text
+payload_of answer.End = []
+payload_of (answer.Realtime n) = u64_bytes n
+payload_of (answer.Monotonic n) = u64_bytes n
+payload_of (answer.Random bytes) = bytes
+
+-- kind, step, length of the payload in 16 bits, payload
+abbrev pub record_bytes : Record → List ℕ
+record_bytes r = kind_number r.answer ∷ (u64_bytes r.step ++ (u16_bytes (length (payload_of r.answer)) ++ payload_of r.answer))
+
+-- ---- reading records
+
+abbrev pub answer_if : Bool → Answer → Option Answer
+answer_if true a = Some a
+answer_if false a = None
+
+-- an answer by its kind and payload, if they are well formed; texts and bytes have at most so many bytes
+abbrev pub answer_of : ℕ → ℕ → List ℕ → Option Answer
+answer_of limit kind payload =
+    if kind == 1 then answer_if (nat_le (length payload) limit) (answer.Request payload)
+    else if kind == 2 then answer_if (length payload == 0) answer.End
+    else if kind == 3 then answer_if (length payload == 8) (answer.Realtime (number_of payload))
+    else if kind == 4 then answer_if (length payload == 8) (answer.Monotonic (number_of payload))
+    else if kind == 5 then answer_if (nat_le (length payload) limit) (answer.Random payload)
+    else None
+
+-- the bytes of a record before its payload
+abbrev pub record_head : ℕ
+record_head = 11
+
+-- the length of the payload of the record at the front
+abbrev pub payload_length : List ℕ → ℕ
+payload_length bytes = number_of (part bytes 9 2)
+
+-- the record at the front, if it is whole and well formed
+abbrev pub record_at : ℕ → List ℕ → Option Record
+record_at limit [] = None
+record_at limit (kind ∷ bytes) =
+    if nat_le (record_head + payload_length (kind ∷ bytes)) (length (kind ∷ bytes))
+    then option_map (λ a. record { step = number_of (part bytes 0 8); answer = a }) (answer_of limit kind (part (kind ∷ bytes) record_head (payload_length (kind ∷ bytes))))
+    else None
+
+-- a record, if there is one, before the others
+abbrev pub with_first : Option Record → List Record → List Record
+with_first None others = []
+with_first (Some r) others = r ∷ others
+
+-- the records at the front, until one is cut or not well formed; so many at most
+abbrev pub records_at : ℕ → ℕ → List ℕ → List Record
+records_at limit zero bytes = []
+records_at limit (suc n) bytes = with_first (record_at limit bytes) (records_at limit n (drop (record_head + payload_length bytes) bytes))
+
+-- ---- the sectors of the journal
+
+abbrev pub payload_size : ℕ
+payload_size = 494
+
+-- 0 used length, 2 payload and zeros, 496 generation, 504 place
+abbrev pub journal_sector : ℕ → ℕ → List ℕ → List ℕ
+journal_sector g place payload =
+    u16_bytes (length payload) ++ (payload ++ (padding (payload_size - length payload) ++ stamp_bytes (record { generation = g; place = place })))
+
+abbrev pub used_length : List ℕ → ℕ
+used_length sector = number_of (part sector 0 2)
+
+-- whether a sector shows this generation at its place, with a used length in range
+abbrev pub is_of : ℕ → ℕ → List ℕ → Bool
+is_of g place sector = shown_generation place sector == g && nat_lt 0 (used_length sector) && nat_le (used_length sector) payload_size
+
+-- the payloads from this sector on, whose places are counted from 1, as far as sectors are of this generation
+abbrev pub payloads_from : Image → ℕ → ℕ → ℕ → ℕ → List ℕ
+payloads_from image g sector place zero = []
+payloads_from image g sector place (suc count) =
+    if is_of g place (sector_at image sector) then part (sector_at image sector) 2 (used_length (sector_at image sector)) ++ payloads_from image g (sector + 1) (place + 1) count
+    else []
+
+-- what the journal of generation g holds. Each record has a byte at least, so there are no more than bytes
+abbrev pub scan : Geometry → ℕ → Image → ℕ → List Record
+scan geometry limit image g =
+    let bytes : List ℕ = payloads_from image g (journal_place geometry) 1 geometry.journal_sectors in
+    records_at limit (length bytes) bytes

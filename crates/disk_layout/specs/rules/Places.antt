@@ -1,0 +1,62 @@
+-- Where things lie on a disk: super, two heads, configuration and module, two areas, journal (this project's own).
+use Rattle.std.specs.Prelude.{ℕ, ◌+◌, ◌-◌, ◌*◌, ◌/◌, ◌%◌, List, ◌++◌, length}
+use Rattle.std.specs.List.{flat_map}
+use Rattle.wasi_abi.specs.rules.Configs.{Settings}
+use Rattle.disk_layout.specs.declared.geometry.Geometry.{Geometry as DeclaredGeometry}
+use Rattle.wasi_abi.specs.rules.Layouts.{u16_bytes, u32_bytes}
+
+-- where things lie: lengths in bytes, and parts in sectors
+abbrev pub Geometry : Type 0
+Geometry = DeclaredGeometry
+
+abbrev pub sector_size : ℕ
+sector_size = 512
+
+-- ---- the configuration as bytes
+
+-- a length in 16 bits, and the bytes
+abbrev pub short_text_bytes : List ℕ → List ℕ
+short_text_bytes text = u16_bytes (length text) ++ text
+
+abbrev pub texts_bytes : List (List ℕ) → List ℕ
+texts_bytes texts = u32_bytes (length texts) ++ flat_map short_text_bytes texts
+
+abbrev pub config_bytes : Settings → List ℕ
+config_bytes c =
+    u32_bytes c.pages ++ (u32_bytes c.files ++ (u32_bytes c.journal ++ (texts_bytes c.arguments ++ texts_bytes c.environment)))
+
+-- ---- the geometry
+
+abbrev pub rounded_up : ℕ → ℕ
+rounded_up bytes = (bytes + (sector_size - 1)) / sector_size
+
+-- of a configuration and a module of so many bytes
+abbrev pub geometry_of : Settings → ℕ → Geometry
+geometry_of c wasm = record {
+  config = length (config_bytes c);
+  wasm = wasm;
+  module_sectors = rounded_up (length (config_bytes c) + wasm);
+  area_sectors = 2048 + 128 * (c.pages + c.files);
+  journal_sectors = c.journal;
+}
+
+-- sector 0 is the super, 1 and 2 are the heads of areas 0 and 1
+abbrev pub head_place : ℕ → ℕ
+head_place g = 1 + g % 2
+
+abbrev pub module_place : ℕ
+module_place = 3
+
+-- generation g lies in area g mod 2
+abbrev pub area_place : Geometry → ℕ → ℕ
+area_place geometry g = 3 + geometry.module_sectors + (g % 2) * geometry.area_sectors
+
+abbrev pub journal_place : Geometry → ℕ
+journal_place geometry = 3 + geometry.module_sectors + 2 * geometry.area_sectors
+
+abbrev pub total_sectors : Geometry → ℕ
+total_sectors geometry = journal_place geometry + geometry.journal_sectors
+
+-- the most bytes of an image
+abbrev pub image_room : Geometry → ℕ
+image_room geometry = sector_size * geometry.area_sectors

@@ -1,0 +1,65 @@
+// What a worker's disk holds behind its super.
+
+ghost use Rattle.std.specs.Prelude.{◌≡◌, ◌<◌, Err};
+ghost use Rattle.sector_disk.specs.rules.Image.{Image};
+ghost use Rattle.disk_layout.specs.rules.Stored.{OnlyReads};
+ghost use Rattle.disk_layout.specs.rules.Held.{Agrees, GivesContents};
+
+use crate::reading::configuration::config_from;
+use crate::{Geometry, LayoutFault, Stored, read_super};
+use sector_disk::{Disk, DiskFault};
+use std::alloc::Global;
+use wasi_abi::Config;
+use wasm_syntax::Row;
+
+/// A worker's configuration and module, and where its things lie.
+#[derive(Debug, Drop)]
+pub struct Contents {
+    pub geometry: Geometry,
+    pub config: Config,
+    pub wasm: Row<u8>,
+}
+
+/// Reads the super, and the configuration and the module behind it. What is wrong is found in this order:
+/// a mark of the super is missing (`NotAWorker`); the layout is none that is known (`Version`); the super's
+/// lengths and sectors disagree (`Damaged`); the disk ends before the module does (`TooSmall`); the digest
+/// differs, the bytes are no configuration's, or the super's sectors aren't those of the configuration
+/// (`Damaged`); the disk ends before the journal does (`TooSmall`). Want of memory and a fault of the disk may
+/// come before any of these.
+pub fn read_contents<D: Disk>(alloc: Global, disk: &mut D) -> Result<Contents, LayoutFault>
+    ensures reads { OnlyReads (D.medium disk.old) (D.medium disk.new) }
+    ensures gives { (image : Image) → (D.medium disk.new).shows image → GivesContents (D.medium disk.old).sectors image result }
+    ensures cause { (fault : DiskFault) → result ≡ Err (LayoutFault.Disk fault) → (D.medium disk.old).faults < (D.medium disk.new).faults }
+{
+    let sectors = disk.sectors();
+    let stored = read_super(alloc, disk)?;
+    agree(alloc, stored, sectors)
+}
+
+/// The configuration that the stored bytes spell, if the super's numbers are those of it.
+fn agree(alloc: Global, stored: Stored, sectors: u64) -> Result<Contents, LayoutFault>
+    ensures { Agrees sectors stored result }
+{
+    let Stored {
+        geometry,
+        config,
+        wasm,
+    } = stored;
+    let Ok(parsed) = config_from(alloc, config.as_slice()) else {
+        return Err(LayoutFault::Memory);
+    };
+    let Some(config) = parsed else {
+        return Err(LayoutFault::Damaged);
+    };
+    if Geometry::of(&config, geometry.wasm) != geometry {
+        return Err(LayoutFault::Damaged);
+    }
+    if sectors < geometry.total_sectors() {
+        return Err(LayoutFault::TooSmall);
+    }
+    Ok(Contents {
+        geometry,
+        config,
+        wasm,
+    })
+}

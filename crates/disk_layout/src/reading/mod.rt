@@ -1,0 +1,8 @@
+//! The configuration and the module that stand on a worker's disk, read back.
+
+mod configuration;
+mod contents;
+mod texts;
+
+pub use configuration::config_from;
+pub use contents::{Contents, read_contents};

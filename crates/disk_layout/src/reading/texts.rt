@@ -1,0 +1,52 @@
+// Texts from their bytes.
+
+ghost use Rattle.std.specs.Prelude.{IfOk, MatchOption};
+ghost use Rattle.disk_layout.specs.rules.Spelled.{TextFirst, NoTextFirst, TextsFirst, NoTextsFirst};
+
+use crate::{u16_from, u32_from};
+use std::alloc::{AllocError, Global};
+use wasm_syntax::Row;
+
+/// The most texts that a configuration has of a kind.
+const MOST_TEXTS: u32 = 64;
+
+/// The texts at the front, behind their number, and what stands behind them.
+pub(crate) fn texts_from(
+    alloc: Global,
+    bytes: &[u8],
+) -> Result<Option<(Row<Row<u8>>, &[u8])>, AllocError>
+    ensures { IfOk result (λ o. MatchOption o (NoTextsFirst bytes.now) (λ r. TextsFirst bytes.now r.0 r.1.now)) }
+{
+    if bytes.len() < 4 {
+        return Ok(None);
+    }
+    let count = u32_from(bytes, 0);
+    if count > MOST_TEXTS {
+        return Ok(None);
+    }
+    let mut texts = Vec::new(alloc);
+    let mut rest = &bytes[4..];
+    for _ in 0..count {
+        let Some((text, behind)) = text_from(rest) else {
+            return Ok(None);
+        };
+        let text = Row::from_vec(Vec::from_slice(alloc, text)?);
+        texts.push(text)?;
+        rest = behind;
+    }
+    Ok(Some((Row::from_vec(texts), rest)))
+}
+
+/// The text at the front, behind its length, and what stands behind it.
+fn text_from(bytes: &[u8]) -> Option<(&[u8], &[u8])>
+    ensures { MatchOption result (NoTextFirst bytes.now) (λ r. TextFirst bytes.now r.0.now r.1.now) }
+{
+    if bytes.len() < 2 {
+        return None;
+    }
+    let end = 2 + usize::from(u16_from(bytes, 0));
+    if bytes.len() < end {
+        return None;
+    }
+    Some((&bytes[2..end], &bytes[end..]))
+}

@@ -1,5 +1,0 @@
-use Rattle.disk_layout_contents.proofs.SpellingLemmas.{AreRead}
-use Rattle.disk_layout_contents.proofs.texts.texts_from.Given as goal
-
-abbrev pub invariant-loop : goal.invariant-loop
-invariant-loop l = AreRead l.bytes l.count l.counter l.texts.items l.rest

@@ -1,7 +1,0 @@
-use Rattle.std.proofs.Common.{sym, ap, ◌∙◌}
-use Rattle.file_tree.specs.Files.{used}
-use Rattle.file_tree.proofs.Lookups.{used_shown}
-use Rattle.file_tree.proofs.tree.Tree.used.Goals as goal
-
-pub returns : goal.returns
-returns c = c.self.invariant.1 ∙ sym (used_shown c.self.inside.nodes c.self.inside.next) ∙ ap used c.self.view_is

@@ -1,0 +1,65 @@
+//! Nodes of a file tree.
+
+ghost use Rattle.std.specs.Prelude.{◌≡◌, ◌+◌, ◌<◌, ◌^◌, length, OnOk, OnErr};
+ghost use Rattle.file_tree.specs.Store.Changes.{content_written, content_resized};
+
+use crate::store::bytes::ByteList;
+use std::alloc::AllocError;
+
+/// Where a node hangs.
+#[derive(Debug, Drop)]
+pub enum Hook {
+    /// It is the root.
+    Root,
+    /// It was removed.
+    Removed,
+    /// In the directory with this number, under this name.
+    In(u64, ByteList),
+}
+
+/// What a node holds.
+#[derive(Debug, Drop)]
+pub enum NodeContent {
+    /// It is a directory.
+    Directory,
+    /// It is a file of these bytes.
+    File(ByteList),
+}
+
+/// A file or a directory.
+#[derive(Debug, Drop)]
+pub struct Node {
+    /// Its number, by which the tree names it.
+    pub number: u64,
+    /// Where it hangs.
+    pub hook: Hook,
+    /// What it holds.
+    pub content: NodeContent,
+}
+
+impl NodeContent {
+    /// Puts bytes into a file from a place on, and zeros into a gap before it; a directory stays. Only want
+    /// of memory makes it fail, and then nothing is changed.
+    pub fn write(&mut self, from: usize, bytes: &[u8]) -> Result<(), AllocError>
+        requires { from + length bytes.now < 2 ^ 64 }
+        ensures written { OnOk result (self.new ≡ content_written from bytes.now self.old) }
+        ensures unchanged { OnErr result (self.new ≡ self.old) }
+    {
+        match self {
+            NodeContent::Directory => Ok(()),
+            NodeContent::File(file) => file.write(from, bytes),
+        }
+    }
+
+    /// Cuts a file to a size, or puts zeros behind its bytes up to it; a directory stays. Only want of
+    /// memory makes it fail, and then nothing is changed.
+    pub fn resize(&mut self, size: usize) -> Result<(), AllocError>
+        ensures resized { OnOk result (self.new ≡ content_resized size self.old) }
+        ensures unchanged { OnErr result (self.new ≡ self.old) }
+    {
+        match self {
+            NodeContent::Directory => Ok(()),
+            NodeContent::File(file) => file.resize(size),
+        }
+    }
+}

@@ -1,0 +1,127 @@
+//! Nodes in a slab, in the order in which they were pushed.
+
+ghost use Rattle.std.specs.Prelude.{◌≡◌, ◌+◌, ◌<◌, ◌^◌, ◌++◌, ◌∷◌, [], length, OnOk, OnErr, slice_index_or};
+ghost use Rattle.std.specs.List.{remove};
+ghost use Rattle.file_tree.specs.Store.Stored.{changed};
+ghost use Rattle.file_tree.specs.Store.Changes.{with_hook, node_written, node_resized};
+
+use crate::store::node::{Hook, Node};
+use slab::Slab;
+use std::alloc::{AllocError, Global};
+use std::marker::Model;
+
+/// Nodes, which contracts see as a list. A node stays where it is in memory, whatever is removed before it.
+#[derive(Drop)]
+pub struct Nodes {
+    slab: Slab<Node>,
+    order: Vec<usize>,
+}
+
+impl Model for Nodes {
+    ghost use Rattle.std.specs.Prelude.{List};
+    ghost use Rattle.file_tree.specs.declared.store.node.Node.{Node as TheNode};
+
+    ghost Value = { List TheNode };
+
+    ghost use Rattle.file_tree.specs.Store.Stored.{stored, AreStored};
+
+    ghost view = { λ a. stored a.slab a.order.items };
+
+    ghost invariant = { λ a. AreStored a.slab a.order.items };
+}
+
+impl Nodes {
+    /// No nodes. It takes no memory.
+    pub fn new(alloc: Global) -> Self
+        ensures { result ≡ [] }
+    {
+        Nodes {
+            slab: Slab::new(alloc),
+            order: Vec::new(alloc),
+        }
+    }
+
+    /// How many nodes there are.
+    pub fn len(&self) -> usize
+        ensures { result ≡ length self.now }
+    {
+        self.order.len()
+    }
+
+    /// Puts a node behind the others. Only want of memory makes it fail, and then nothing is changed.
+    pub fn push(&mut self, node: Node) -> Result<(), AllocError>
+        ensures pushed { OnOk result (self.new ≡ self.old ++ node ∷ []) }
+        ensures unchanged { OnErr result (self.new ≡ self.old) }
+    {
+        self.slab.reserve(1)?;
+        let key = self.slab.vacant_key();
+        self.order.push(key)?;
+        self.slab.insert_reserved(node);
+        Ok(())
+    }
+
+    /// The node at a place.
+    pub fn get(&self, place: usize) -> &Node
+        requires { place < length self.now }
+        ensures { result.now ≡ slice_index_or self.now place result.now }
+    {
+        match self.slab.get(self.order[place]) {
+            Some(node) => node,
+            None => unreachable!(),
+        }
+    }
+
+    /// Hangs the node at a place elsewhere.
+    pub fn hang(&mut self, place: usize, hook: Hook)
+        requires { place < length self.old }
+        ensures { self.new ≡ changed (with_hook hook) place self.old }
+    {
+        let key = self.order[place];
+        match self.slab.get_mut(key) {
+            Some(node) => node.hook = hook,
+            None => unreachable!(),
+        }
+    }
+
+    /// Puts bytes into the file at a place, from one of its bytes on, and zeros into a gap before it; a directory
+    /// stays. Only want of memory makes it fail, and then nothing is changed.
+    pub fn write(&mut self, place: usize, from: usize, bytes: &[u8]) -> Result<(), AllocError>
+        requires place { place < length self.old }
+        requires end { from + length bytes.now < 2 ^ 64 }
+        ensures written { OnOk result (self.new ≡ changed (node_written from bytes.now) place self.old) }
+        ensures unchanged { OnErr result (self.new ≡ self.old) }
+    {
+        let key = self.order[place];
+        match self.slab.get_mut(key) {
+            Some(node) => node.content.write(from, bytes),
+            None => unreachable!(),
+        }
+    }
+
+    /// Cuts the file at a place to a size, or puts zeros behind its bytes up to it; a directory stays. Only want
+    /// of memory makes it fail, and then nothing is changed.
+    pub fn resize(&mut self, place: usize, size: usize) -> Result<(), AllocError>
+        requires { place < length self.old }
+        ensures resized { OnOk result (self.new ≡ changed (node_resized size) place self.old) }
+        ensures unchanged { OnErr result (self.new ≡ self.old) }
+    {
+        let key = self.order[place];
+        match self.slab.get_mut(key) {
+            Some(node) => node.content.resize(size),
+            None => unreachable!(),
+        }
+    }
+
+    /// Takes out the node at a place.
+    pub fn remove(&mut self, place: usize) -> Node
+        requires { place < length self.old }
+        ensures node { result ≡ slice_index_or self.old place result }
+        ensures others { self.new ≡ remove self.old place }
+    {
+        let key = self.order.remove(place);
+        match self.slab.try_remove(key) {
+            Some(node) => node,
+            None => unreachable!(),
+        }
+    }
+}

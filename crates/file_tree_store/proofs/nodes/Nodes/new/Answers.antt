@@ -1,5 +1,0 @@
-use Rattle.file_tree_store.proofs.Keys.{no_keys}
-use Rattle.file_tree_store.proofs.nodes.Nodes.new.Goals as goal
-
-pub invariant_of-result : goal.invariant_of-result
-invariant_of-result c = no_keys c.new.result c.new-2.result.items c.new-2.ensures.items

@@ -1,0 +1,17 @@
+//! What tests alone can show of the host's side: numbers, layouts and configurations of WASI, calls
+//! on memory and streams, the tree of files, sources and outlets, and processes step after step.
+//!
+//! Each test is a table of rows whose expected values come from outside. Those that take memory
+//! return their error, so that `scripts/refused-allocations` can refuse each allocation in turn.
+#![tactic(auto)]
+
+#[cfg(test)]
+mod abi;
+#[cfg(test)]
+mod calls;
+#[cfg(test)]
+mod processes;
+#[cfg(test)]
+mod sources;
+#[cfg(test)]
+mod trees;

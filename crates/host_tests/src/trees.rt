@@ -1,0 +1,96 @@
+//! That a tree is made and changed where there is memory, and that a caller can test what is asked of it.
+
+use file_tree::limits::NODES;
+use file_tree::{ByteList, NodeKind, Tree, is_name};
+use std::alloc::{AllocError, Global};
+
+fn make_node(
+    alloc: Global,
+    tree: &mut Tree,
+    directory: u64,
+    name: &[u8],
+    kind: NodeKind,
+) -> Result<u64, AllocError> {
+    if !tree.is_directory(directory) || !tree.has_path(directory) || !is_name(name) {
+        return Ok(0);
+    }
+    if tree.child(directory, name).is_some() || tree.len() >= NODES || tree.next() >= 1_000 {
+        return Ok(0);
+    }
+    tree.create(alloc, directory, name, kind)
+}
+
+fn move_node(
+    alloc: Global,
+    tree: &mut Tree,
+    number: u64,
+    directory: u64,
+) -> Result<(), AllocError> {
+    let name = ByteList::copy_of(alloc, b"a")?;
+    if number == 1 || !tree.has_path(number) || tree.is_within(number, directory) {
+        return Ok(());
+    }
+    if !tree.is_directory(directory) || !tree.has_path(directory) {
+        return Ok(());
+    }
+    if tree.child(directory, b"a").is_some() || !is_name(b"a") {
+        return Ok(());
+    }
+    tree.rename(number, directory, name);
+    Ok(())
+}
+
+fn write_file(tree: &mut Tree, number: u64) -> Result<(), AllocError> {
+    if !tree.is_directory(number) {
+        tree.write(number, 2, b"abc")?;
+    }
+    if !tree.is_directory(number) {
+        tree.resize(number, 4)?;
+    }
+    Ok(())
+}
+
+fn remove_node(tree: &mut Tree, number: u64) {
+    if number != 1 && tree.is_empty(number) {
+        tree.remove(number);
+    }
+}
+
+fn forget_node(tree: &mut Tree, number: u64) {
+    if !tree.has_path(number) {
+        tree.forget(number);
+    }
+}
+
+#[test]
+fn changes_with_memory(rt: HostRuntime) -> Result<(), AllocError> {
+    let mut tree = Tree::new(rt.alloc())?;
+    let file = make_node(rt.alloc(), &mut tree, 1, b"a", NodeKind::File)?;
+    let directory = make_node(rt.alloc(), &mut tree, 1, b"d", NodeKind::Directory)?;
+    assert_eq!(rt; file, 2);
+    assert_eq!(rt; directory, 3);
+    move_node(rt.alloc(), &mut tree, file, directory)?;
+    assert_eq!(rt; tree.child(1, b"a"), None);
+    assert_eq!(rt; tree.child(directory, b"a"), Some(file));
+    assert!(rt; !tree.is_empty(directory));
+    assert_eq!(rt; tree.entry(1, 0), Some(directory));
+    assert_eq!(rt; tree.entry(1, 1), None);
+    assert_eq!(rt; tree.name(file), b"a".as_slice());
+    assert_eq!(rt; tree.parent(file), Some(directory));
+    write_file(&mut tree, file)?;
+    assert_eq!(rt; tree.used_bytes(), 4);
+    let mut bytes = [7; 3];
+    assert_eq!(rt; tree.read(file, 1, &mut bytes), 3);
+    assert_eq!(rt; bytes, [0, b'a', b'b']);
+    remove_node(&mut tree, directory);
+    assert!(rt; tree.has_path(directory));
+    remove_node(&mut tree, file);
+    remove_node(&mut tree, directory);
+    assert!(rt; !tree.has_path(directory));
+    assert_eq!(rt; tree.used_bytes(), 4);
+    forget_node(&mut tree, file);
+    assert_eq!(rt; tree.used_bytes(), 0);
+    let again = make_node(rt.alloc(), &mut tree, 1, b"a", NodeKind::File)?;
+    assert_eq!(rt; again, 4);
+    Ok(())
+}

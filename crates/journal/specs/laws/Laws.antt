@@ -1,0 +1,23 @@
+-- Laws of the journal (this project's own).
+use Rattle.std.specs.Prelude.{◌≡◌, ℕ, ◌+◌, ◌<◌, List, []}
+use Rattle.sector_disk.specs.rules.Image.{Image, sector_at}
+use Rattle.disk_layout.specs.rules.Places.{Geometry, journal_place}
+use Rattle.disk_layout.specs.rules.Sectors.{shown_generation}
+use Rattle.disk_layout.specs.rules.Journal.{Record, scan}
+use Rattle.journal.specs.rules.Steps.{RecordsStand, AllRecordsFit, longest_payload}
+
+-- each sector of the journal shows an earlier generation
+abbrev pub ShowsEarlierThan : Geometry → ℕ → Image → Type 0
+ShowsEarlierThan geometry g image = (k : ℕ) → k < geometry.journal_sectors → shown_generation (1 + k) (sector_at image (journal_place geometry + k)) < g
+
+-- a journal of a generation that no sector shows has no records yet
+abbrev pub FreshStands : Type 0
+FreshStands = (geometry : Geometry) (g : ℕ) (image : Image) → ShowsEarlierThan geometry g image → RecordsStand geometry g 0 [] image
+
+-- a scan gives the records that stand in the sectors
+abbrev pub ScansWhatStands : Type 0
+ScansWhatStands = (geometry : Geometry) (g used : ℕ) (records : List Record) (image : Image) → RecordsStand geometry g used records image → AllRecordsFit records → scan geometry longest_payload image g ≡ records
+
+-- a scan of a generation that no sector shows gives none
+abbrev pub ScansNoneOfLater : Type 0
+ScansNoneOfLater = (geometry : Geometry) (g : ℕ) (image : Image) → ShowsEarlierThan geometry g image → scan geometry longest_payload image g ≡ []

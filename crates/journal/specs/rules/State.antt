@@ -1,0 +1,18 @@
+-- What a journal holds beside its disk (this project's own).
+use Rattle.std.specs.Prelude.{ℕ, ◌-◌, ◌*◌, Bool, List, length}
+use Rattle.disk_layout.specs.rules.Places.{Geometry}
+use Rattle.disk_layout.specs.rules.Journal.{payload_size}
+
+-- the generation; how many sectors are written in it; the bytes of records that only memory holds; whether a call has failed
+pub record JournalState : Type 0 where
+  pub generation : ℕ
+  pub used : ℕ
+  pub kept : List ℕ
+  pub has_failed : Bool
+
+abbrev pub state : ℕ → ℕ → List ℕ → Bool → JournalState
+state generation used kept has_failed = record { generation = generation; used = used; kept = kept; has_failed = has_failed }
+
+-- how many more bytes there is room for
+abbrev pub room_of : Geometry → JournalState → ℕ
+room_of geometry s = payload_size * (geometry.journal_sectors - s.used) - length s.kept

@@ -1,0 +1,61 @@
+-- What code and state stand for.
+use Rattle.std.specs.Prelude.{◌≡◌, ℕ, ◌+◌, ◌*◌, ◌≤◌, ◌^◌, List, ◌++◌, length, map, reverse, Some, slice_get}
+use Rattle.std.specs.List.{AllByRecursion}
+use Rattle.wasm_syntax.specs.declared.types.FunctionType.{FunctionType}
+use Rattle.wasm_syntax_rules.specs.Types.{imported_functions}
+use Rattle.wasm_syntax.specs.rules.Modules.{function_type_of}
+use Rattle.wasm_syntax_rules.specs.Validity.{IsValid, AreFunctionTypes, module_context}
+use Rattle.wasm_syntax_rules.specs.Instantiation.{IsProgram}
+use Rattle.wasm_syntax_rules.specs.Linking.{IsOffered}
+use Rattle.wasm_syntax_rules.specs.Configuration.{Program, Configuration}
+use Rattle.machine.specs.rules.Offers.{offer, AreImportedCalls}
+use Rattle.machine_rules.specs.Threads.{IsOwn, MachineParts, PartsStandFor}
+use Rattle.machine.specs.Routines.Routines.{AreRoutines}
+use Rattle.machine.specs.declared.turns.code.Executable.{Executable}
+use Rattle.machine.specs.declared.turns.state.State.{State}
+
+abbrev pub parts_of_state : State → MachineParts
+parts_of_state s = record { frames = s.frames; words = s.slots; globals = s.globals.items; memory = s.memory; later = reverse s.later.items }
+
+-- the code is that of this program of its module, all of whose imports the host offers
+pub record IsExecutable (code : Executable) (functions : List FunctionType) (program : Program) : Type 0 where
+  pub valid : IsValid code.«module»
+  pub types : AreFunctionTypes code.«module» functions
+  pub pages : ℕ
+  pub few : pages ≤ 2 ^ 16
+  pub is_program : IsProgram code.«module» pages program
+  pub routines : AreRoutines code.«module» code.routines.items
+  pub kinds : code.kinds.items ≡ imported_functions code.«module».imports ++ map function_type_of code.«module».functions
+  pub calls : AreImportedCalls code.«module».imports code.calls.items
+  pub offered : AllByRecursion (IsOffered offer code.«module».types) code.«module».imports
+
+-- one of the module's own functions
+pub record HasOwnFunction (code : Executable) (f : ℕ) : Type 0 where
+  pub functions : List FunctionType
+  pub program : Program
+  pub is_code : IsExecutable code functions program
+  pub own : IsOwn program f
+
+-- a function's type
+abbrev pub HasKind : Executable → ℕ → FunctionType → Type 0
+HasKind code f kind = (x : ℕ) × (slice_get code.kinds.items f ≡ Some x) × (slice_get code.«module».types x ≡ Some kind)
+
+-- a function has a type, and there is one with this index
+abbrev pub HaveKinds : Executable → ℕ → ℕ → Type 0
+HaveKinds code f t = (kind : FunctionType) × HasKind code f kind × (other : FunctionType) × (slice_get code.«module».types t ≡ Some other)
+
+-- the state stands for this configuration of the program, settled or not
+pub record Stands (code : Executable) (state : State) (functions : List FunctionType) (program : Program) (d : Configuration) : Type 0 where
+  pub is_code : IsExecutable code functions program
+  pub stands : PartsStandFor (module_context code.«module» functions) program code.table.items (parts_of_state state) d
+
+-- it stands for some
+pub record IsStanding (code : Executable) (state : State) : Type 0 where
+  pub functions : List FunctionType
+  pub program : Program
+  pub configuration : Configuration
+  pub stands : Stands code state functions program configuration
+
+-- what the rules that aren't counted use up: frames, and calls of the host, each of which makes one
+abbrev pub uncounted_work : State → ℕ
+uncounted_work s = length s.frames + 2 * length s.later.items

@@ -1,0 +1,61 @@
+-- Where a machine comes to on fuel.
+use Rattle.std.specs.Prelude.{◌≡◌, ◌≢◌, ℕ, suc, ◌+◌, ◌<◌, List, [], map, reverse, Some, slice_get}
+use Rattle.wasm_syntax.specs.declared.types.FunctionType.{FunctionType}
+use Rattle.wasm_syntax.specs.declared.value.Value.{Value}
+use Rattle.wasm_syntax.specs.declared.value.Trap.{Trap}
+use Rattle.wasi_abi.specs.declared.call.Call.{Call}
+use Rattle.wasi_abi.specs.rules.Calls.{call_type_of}
+use Rattle.wasm_syntax_rules.specs.Types.{AreOf, number_in, takes_of}
+use Rattle.wasm_syntax_rules.specs.Configuration.{Host, Program, Thread, Configuration, Asks, Traps}
+use Rattle.wasm_syntax_rules.specs.Steps.{rule, stopped, IsSettled, IsEnded}
+use Rattle.machine_rules.specs.Walks.{Walks}
+use Rattle.machine.specs.declared.turns.code.Executable.{Executable}
+use Rattle.machine.specs.declared.turns.state.State.{State}
+use Rattle.machine.specs.declared.turns.pause.Pause.{Pause}
+use Rattle.machine.specs.declared.turns.pause.Pause.TheVariants as pause
+use Rattle.machine.specs.declared.turns.pause.Paused.{Paused}
+use Rattle.machine.specs.Turns.Codes.{Stands}
+
+-- so many counted rules of the fuel lead to a configuration that the state stands for
+pub record ComesToState (code : Executable) (new : State) (functions : List FunctionType) (program : Program) (d : Configuration) (fuel left : ℕ) : Type 0 where
+  pub configuration : Configuration
+  pub steps : ℕ
+  pub used : steps + left ≡ fuel
+  pub walks : Walks program steps d configuration
+  pub stands : Stands code new functions program configuration
+
+-- a rule that asks the host for this call, with arguments of its types, the first one first
+pub record RuleAsksFor (code : Executable) (program : Program) (d : Configuration) (call : Call) (arguments : List ℕ) : Type 0 where
+  pub function : ℕ
+  pub operands : List Value
+  pub waits : Thread
+  pub asks : rule program d ≡ Asks function operands waits
+  pub is_call : slice_get code.calls.items function ≡ Some call
+  pub is_host : slice_get program.functions function ≡ Some (Host (call_type_of call))
+  pub typed : AreOf (takes_of (call_type_of call)) operands
+  pub are : arguments ≡ reverse (map number_in operands)
+
+-- The machine traps there. Then it stands for the configuration without a thread.
+pub record TrapsFor (code : Executable) (new : State) (functions : List FunctionType) (program : Program) (d : Configuration) (fuel left : ℕ) (why : Trap) : Type 0 where
+  pub configuration : Configuration
+  pub steps : ℕ
+  pub used : suc steps + left ≡ fuel
+  pub walks : Walks program steps d configuration
+  pub traps : rule program configuration ≡ Traps why
+  pub stands : Stands code new functions program (stopped configuration)
+
+-- Where a machine pauses: settled without fuel; with some fuel left before a call of the host; ended; or trapped.
+abbrev pub PausesFor : Executable → State → List FunctionType → Program → Configuration → ℕ → ℕ → Pause → Type 0
+PausesFor code new functions program d fuel left pause.Spent =
+    (come : ComesToState code new functions program d fuel left) × IsSettled program come.configuration × (come.configuration.thread ≢ []) × (left ≡ 0)
+PausesFor code new functions program d fuel left (pause.Host call arguments) =
+    (come : ComesToState code new functions program d fuel left) × RuleAsksFor code program come.configuration call arguments × (0 < left)
+PausesFor code new functions program d fuel left pause.Returned =
+    (come : ComesToState code new functions program d fuel left) × IsEnded come.configuration
+PausesFor code new functions program d fuel left (pause.Trapped why) = TrapsFor code new functions program d fuel left why
+
+-- whichever configuration the state stood for
+abbrev pub Pauses : Executable → State → ℕ → Paused → State → Type 0
+Pauses code old fuel paused new =
+    (functions : List FunctionType) (program : Program) (d : Configuration) → Stands code old functions program d
+    → PausesFor code new functions program d fuel paused.left paused.why

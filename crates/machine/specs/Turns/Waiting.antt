@@ -1,0 +1,33 @@
+-- A call that waits for the host's answer.
+use Rattle.std.specs.Prelude.{◌≡◌, ℕ, ◌≤◌, List, length, slice_get}
+use Rattle.wasm_syntax.specs.declared.types.FunctionType.{FunctionType}
+use Rattle.wasm_syntax.specs.declared.value.Value.{Value}
+use Rattle.wasm_syntax_rules.specs.Configuration.{Program, Thread, Configuration, Asks}
+use Rattle.wasm_syntax_rules.specs.Steps.{rule}
+use Rattle.machine_rules.specs.laws.Threads.{HasTaken}
+use Rattle.machine.specs.declared.turns.code.Executable.{Executable}
+use Rattle.machine.specs.declared.turns.state.State.{State}
+use Rattle.machine.specs.Turns.Codes.{Stands}
+use Rattle.machine.specs.Turns.Turns.{IsAtPosition}
+
+-- the state stands for a configuration whose rule asks the host for this function
+pub record AsksAt (code : Executable) (s : State) (functions : List FunctionType) (program : Program) (d : Configuration) (f : ℕ) (arguments : List Value) (waits : Thread) : Type 0 where
+  pub stands : Stands code s functions program d
+  pub asks : rule program d ≡ Asks f arguments waits
+
+-- it stands for some configuration that asks for some function
+pub record IsAsking (code : Executable) (s : State) : Type 0 where
+  pub functions : List FunctionType
+  pub program : Program
+  pub configuration : Configuration
+  pub function : ℕ
+  pub arguments : List Value
+  pub waits : Thread
+  pub at : AsksAt code s functions program configuration function arguments waits
+
+-- Whichever configuration it stands for, and whatever that asks for, the call takes so many of the words.
+abbrev pub TakesWords : Executable → State → ℕ → Type 0
+TakesWords code s taken =
+    (functions : List FunctionType) (program : Program) (d : Configuration) (f : ℕ) (arguments : List Value) (waits : Thread)
+    → AsksAt code s functions program d f arguments waits
+    → (taken ≤ length s.slots) × IsAtPosition code s (λ p opcodes. HasTaken (slice_get opcodes p) taken (length arguments))

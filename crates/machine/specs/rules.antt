@@ -1,0 +1,5 @@
+pub mod Instances
+pub mod Offers
+pub mod Refusals
+pub mod Runs
+pub mod Values

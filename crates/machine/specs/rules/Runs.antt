@@ -1,0 +1,107 @@
+-- Where a machine comes to on fuel, and after an answer of the host.
+use Rattle.std.specs.Prelude.{◌≡◌, ◌≢◌, ℕ, suc, ◌+◌, ◌<◌, List, [], map, reverse, Some, slice_get}
+use Rattle.wasm_syntax.specs.declared.types.FunctionType.{FunctionType}
+use Rattle.wasm_syntax.specs.declared.value.Value.{Value}
+use Rattle.wasm_syntax.specs.declared.value.Trap.{Trap}
+use Rattle.wasm_syntax.specs.declared.module.Module.{Module}
+use Rattle.wasi_abi.specs.declared.call.Call.{Call}
+use Rattle.wasi_abi.specs.rules.Calls.{call_type_of}
+use Rattle.wasm_syntax_rules.specs.Types.{AreOf, number_in, takes_of, gives_of}
+use Rattle.wasm_syntax_rules.specs.Configuration.{Host, Program, Thread, Configuration, Asks, Traps}
+use Rattle.wasm_syntax_rules.specs.Steps.{rule, stopped, answered, IsEnded, Settles, Steps}
+use Rattle.wasm_syntax_rules.specs.Instantiation.{Begins}
+use Rattle.wasm_syntax_rules.specs.Linking.{IsLinkable}
+use Rattle.machine.specs.rules.Offers.{offer, AreImportedCalls}
+use Rattle.machine.specs.declared.turns.pause.Pause.{Pause}
+use Rattle.machine.specs.declared.turns.pause.Pause.TheVariants as pause
+use Rattle.machine.specs.declared.turns.pause.Paused.{Paused}
+use Rattle.machine.specs.rules.Values.{MachineValue, HoldsMemory, ShowsIn}
+
+-- ---- the beginning
+
+-- The machine is of this module, and has begun: for each program of the module under so many pages, of which there is one, it shows
+-- where that begins.
+pub record HasBegun (pages : ℕ) (m : Module) (v : MachineValue) : Type 0 where
+  pub guest : v.guest ≡ m
+  pub linkable : IsLinkable offer pages m
+  pub holds : HoldsMemory v
+  pub shows : (program : Program) (d : Configuration) → Begins m pages linkable.entry program d → ShowsIn v program d
+  pub begins : (program : Program) × (d : Configuration) × Begins m pages linkable.entry program d
+
+-- ---- fuel
+
+-- so many counted rules of the fuel lead to a configuration that the machine then shows
+pub record Arrives (new : MachineValue) (program : Program) (d : Configuration) (fuel left : ℕ) : Type 0 where
+  pub configuration : Configuration
+  pub steps : ℕ
+  pub used : steps + left ≡ fuel
+  pub ran : Steps program steps d configuration
+  pub shows : ShowsIn new program configuration
+
+-- The rule asks the host for the function that is this call of the module's imports, with arguments of its types, the first one first.
+pub record AsksFor (m : Module) (program : Program) (d : Configuration) (call : Call) (arguments : List ℕ) : Type 0 where
+  pub function : ℕ
+  pub operands : List Value
+  pub waits : Thread
+  pub asks : rule program d ≡ Asks function operands waits
+  pub calls : List Call
+  pub are_calls : AreImportedCalls m.imports calls
+  pub is_call : slice_get calls function ≡ Some call
+  pub is_host : slice_get program.functions function ≡ Some (Host (call_type_of call))
+  pub typed : AreOf (takes_of (call_type_of call)) operands
+  pub are : arguments ≡ reverse (map number_in operands)
+
+-- The rule after so many traps, which is one more of the fuel. The machine then shows that configuration without a thread.
+pub record TrapsAfter (new : MachineValue) (program : Program) (d : Configuration) (fuel left : ℕ) (why : Trap) : Type 0 where
+  pub configuration : Configuration
+  pub steps : ℕ
+  pub used : suc steps + left ≡ fuel
+  pub ran : Steps program steps d configuration
+  pub traps : rule program configuration ≡ Traps why
+  pub shows : ShowsIn new program (stopped configuration)
+
+-- Why it pauses: the fuel is spent and the program has not ended; some is left, and a call of the host waits; it has ended; or it
+-- has trapped.
+abbrev pub RunsFor : MachineValue → Program → Configuration → ℕ → ℕ → Pause → Type 0
+RunsFor new program d fuel left pause.Spent = (a : Arrives new program d fuel left) × (a.configuration.thread ≢ []) × (left ≡ 0)
+RunsFor new program d fuel left (pause.Host call arguments) = (a : Arrives new program d fuel left) × AsksFor new.guest program a.configuration call arguments × (0 < left)
+RunsFor new program d fuel left pause.Returned = (a : Arrives new program d fuel left) × IsEnded a.configuration
+RunsFor new program d fuel left (pause.Trapped why) = TrapsAfter new program d fuel left why
+
+-- whichever configuration of whichever program it showed
+abbrev pub RunsOnFuel : MachineValue → ℕ → Paused → MachineValue → Type 0
+RunsOnFuel old fuel paused new = (program : Program) (d : Configuration) → ShowsIn old program d → RunsFor new program d fuel paused.left paused.why
+
+-- ---- answers
+
+-- the machine waits at a call of the host, of a type that gives such results
+pub record WaitsFor (results : List Value) (v : MachineValue) : Type 0 where
+  pub program : Program
+  pub configuration : Configuration
+  pub shows : ShowsIn v program configuration
+  pub function : ℕ
+  pub arguments : List Value
+  pub waits : Thread
+  pub kind : FunctionType
+  pub asks : rule program configuration ≡ Asks function arguments waits
+  pub is_host : slice_get program.functions function ≡ Some (Host kind)
+  pub gives : AreOf (gives_of kind) results
+
+-- The answer settles to a configuration that the machine then shows.
+pub record Finishes (new : MachineValue) (program : Program) (answer : Configuration) : Type 0 where
+  pub configuration : Configuration
+  pub settles : Settles program answer configuration
+  pub shows : ShowsIn new program configuration
+
+-- whichever call of the host it waited at that gives such results, with the bytes that memory had then
+abbrev pub Answers : List Value → MachineValue → MachineValue → Type 0
+Answers results old new =
+    (program : Program) (d : Configuration) (f : ℕ) (arguments : List Value) (waits : Thread) (kind : FunctionType)
+    → ShowsIn old program d → rule program d ≡ Asks f arguments waits → slice_get program.functions f ≡ Some (Host kind) → AreOf (gives_of kind) results
+    → Finishes new program (answered d old.state.memory results waits)
+
+-- ---- the end by the host
+
+-- whichever configuration it showed, without its thread
+abbrev pub Stops : MachineValue → MachineValue → Type 0
+Stops old new = (program : Program) (d : Configuration) → ShowsIn old program d → ShowsIn new program (stopped d)

@@ -1,0 +1,117 @@
+//! All frames of a thread.
+
+ghost use Rattle.std.specs.Prelude.{◌≡◌, ◌<◌, ◌≤◌, ◌↔◌, List, [], ◌∷◌, length, reverse, slice_get, Some, IfOk, IsTrue};
+ghost use Rattle.machine_rules.specs.declared.frame.StackFrame.{StackFrame as OneFrame};
+
+use machine_rules::StackFrame;
+use machine_slots::limits::FRAMES;
+use std::alloc::{AllocError, Global};
+use std::marker::Model;
+
+/// What stands where no frame does.
+const NO_FRAME: StackFrame = StackFrame {
+    function: 0,
+    position: 0,
+    base: 0,
+};
+
+/// Frames, which contracts see as a list from the innermost out. All of their memory is taken at once.
+#[derive(Debug, Drop)]
+pub struct Frames {
+    frames: Vec<StackFrame>,
+    height: usize,
+}
+
+impl Model for Frames {
+    ghost use Rattle.std.specs.Prelude.{List, ◌≡◌, ◌≤◌, length, reverse, take};
+    ghost use Rattle.machine_rules.specs.declared.frame.StackFrame.{StackFrame as OneFrame};
+
+    ghost Value = { List OneFrame };
+
+    ghost view = { λ s. reverse (take s.height s.frames.items) };
+
+    ghost invariant = { λ s. (length s.frames.items ≡ 512) × (s.height ≤ 512) };
+}
+
+impl Frames {
+    /// No frames yet. Only want of memory makes it fail.
+    pub fn new(alloc: Global) -> Result<Frames, AllocError>
+        ensures { IfOk result (λ s. s ≡ []) }
+    {
+        let frames = vec![in alloc; NO_FRAME; FRAMES]?;
+        Ok(Frames { frames, height: 0 })
+    }
+
+    #[inline(always)]
+    pub fn len(&self) -> usize
+        ensures len { result ≡ length self.now }
+        ensures bound { result ≤ FRAMES }
+    {
+        self.height
+    }
+
+    #[inline(always)]
+    pub fn is_empty(&self) -> bool
+        ensures { IsTrue result ↔ (self.now ≡ []) }
+    {
+        self.height == 0
+    }
+
+    /// All frames from the outermost in.
+    #[inline(always)]
+    pub fn as_slice(&self) -> &[StackFrame]
+        ensures { result.now ≡ reverse self.now }
+    {
+        &self.frames[..self.height]
+    }
+
+    /// Puts a frame inside all others.
+    #[inline(always)]
+    pub fn push(&mut self, frame: StackFrame)
+        requires { length self.old < FRAMES }
+        ensures { self.new ≡ frame ∷ self.old }
+    {
+        self.frames[self.height] = frame;
+        self.height += 1;
+    }
+
+    /// Takes the innermost frame away.
+    #[inline(always)]
+    pub fn pop(&mut self) -> StackFrame
+        requires { 0 < length self.old }
+        ensures last { self.old ≡ result ∷ self.new }
+        ensures room { length self.new < FRAMES }
+    {
+        self.height -= 1;
+        self.frames[self.height]
+    }
+
+    /// The innermost frame.
+    #[inline(always)]
+    pub fn top(&self) -> StackFrame
+        requires { 0 < length self.now }
+        ensures { slice_get self.now 0 ≡ Some result }
+    {
+        self.frames[self.height - 1]
+    }
+
+    /// Puts the innermost frame at this position.
+    #[inline(always)]
+    pub fn set_position(&mut self, position: usize)
+        requires { 0 < length self.old }
+        ensures len { length self.new ≡ length self.old }
+        ensures position { (frame : OneFrame) (frames : List OneFrame) → self.old ≡ frame ∷ frames → self.new ≡ record frame { position = position } ∷ frames }
+    {
+        let top = self.height - 1;
+        let frame = self.frames[top];
+        self.frames[top] = StackFrame { position, ..frame };
+    }
+
+    /// Leaves no frames.
+    #[inline(always)]
+    pub fn clear(&mut self)
+        ensures { self.new ≡ [] }
+    {
+        self.height = 0;
+    }
+}

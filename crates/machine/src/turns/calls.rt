@@ -1,0 +1,80 @@
+//! Frames that are entered and left.
+
+ghost use Rattle.std.specs.Prelude.{◌≡◌, ◌<◌, ◌≤◌, ◌+◌, ◌-◌, length};
+ghost use Rattle.machine.specs.Turns.Turns.{CanLeave, Entered, EntersOrTraps, HasFrameRoom, IsCleared, LeavesFrame, TrapsWith};
+
+use crate::routines::Routine;
+use crate::turns::pause::{Pause, Paused};
+use crate::turns::state::State;
+use crate::turns::turn::Turn;
+use machine_rules::StackFrame;
+use machine_slots::limits::{FRAMES, HELD_VALUES};
+use wasm_syntax::Trap;
+
+/// Enters a function whose parameters are on top of the words.
+fn enter(state: &mut State, function: u32, parameters: usize, declared: usize)
+    requires parameters { parameters ≤ length state.old.slots }
+    requires room { HasFrameRoom declared state.old }
+    ensures { Entered function parameters declared state.old state.new }
+{
+    let base = state.slots.len() - parameters;
+    state.frames.push(StackFrame {
+        function,
+        position: 0,
+        base,
+    });
+    state.slots.push_zeros(declared);
+}
+
+/// Leaves no frames, words and calls to come: the thread is over.
+pub fn clear(state: &mut State)
+    ensures { IsCleared state.old state.new }
+{
+    state.frames.clear();
+    state.slots.truncate(0);
+    state.later.clear();
+}
+
+/// A trap, which is one of the rules that the fuel is for.
+pub fn trap(state: &mut State, why: Trap, fuel: u64) -> Turn
+    requires { 0 < fuel }
+    ensures cleared { IsCleared state.old state.new }
+    ensures traps { TrapsWith why fuel result }
+{
+    clear(state);
+    Turn::Waits(Paused {
+        why: Pause::Trapped(why),
+        left: fuel - 1,
+    })
+}
+
+/// Enters a function of the module's own, whose parameters are on top, if there is room for its frame and locals.
+pub fn enter_or_trap(state: &mut State, function: u32, routine: &Routine, fuel: u64) -> Turn
+    requires some { 0 < fuel }
+    requires parameters { routine.now.parameters ≤ length state.old.slots }
+    requires locals { routine.now.parameters ≤ routine.now.locals }
+    requires few { routine.now.locals ≤ 512 }
+    ensures { EntersOrTraps function routine.now.parameters (routine.now.locals - routine.now.parameters) state.old fuel result state.new }
+{
+    let declared = routine.locals - routine.parameters;
+    if state.frames.len() >= FRAMES || declared + state.slots.len() > HELD_VALUES {
+        return trap(state, Trap::StackExhausted, fuel);
+    }
+    enter(state, function, routine.parameters, declared);
+    Turn::On(fuel - 1)
+}
+
+/// Leaves the running frame with so many results, which the frame that waits for them is given.
+pub fn leave(state: &mut State, results: usize)
+    requires { CanLeave results state.old }
+    ensures { LeavesFrame results state.old state.new }
+{
+    let frame = state.frames.pop();
+    if state.frames.is_empty() {
+        state.slots.fall(0, frame.base);
+    } else {
+        state.slots.fall(results, frame.base);
+        let waiting = state.frames.top();
+        state.frames.set_position(waiting.position + 1);
+    }
+}

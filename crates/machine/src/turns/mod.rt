@@ -1,0 +1,19 @@
+//! Running a thread turn by turn: its frames, calls, returns and ends, and the calls of the host
+//! (Core Specification 1.0, sections 4.4.7, 4.4.8 and 4.5.5). What a machine holds (`Executable`,
+//! `State`) and why it pauses (`Pause`) are defined here.
+
+mod calls;
+pub mod code;
+mod functions;
+pub mod pause;
+mod running;
+pub mod state;
+pub mod turn;
+mod waiting;
+
+pub use calls::clear;
+pub use code::Executable;
+pub use pause::{Arguments, Pause, Paused};
+pub use running::go_on;
+pub use state::State;
+pub use waiting::words_taken;

@@ -1,5 +1,0 @@
-use Rattle.machine_instance.proofs.Constant.{Continues}
-use Rattle.machine_instance.proofs.globals.initial_globals.Given as goal
-
-abbrev pub invariant-loop-global : goal.invariant-loop-global
-invariant-loop-global l = Continues l.globals l.values.items l.global-index

@@ -1,6 +1,0 @@
-use Rattle.std.proofs.Common.{◌≡◌, ◌+◌, drop}
-use Rattle.machine_instance.proofs.Filled.{entries_put}
-use Rattle.machine_instance.proofs.table.write_entries.Given as goal
-
-abbrev pub invariant-loop-i : goal.invariant-loop-i
-invariant-loop-i l = entries_put l.table (drop l.i l.functions) (l.from + l.i) ≡ entries_put l.initial.table l.functions l.from

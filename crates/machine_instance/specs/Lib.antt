@@ -1,4 +1,0 @@
-pub mod Offers
-pub mod Initial
-pub mod Refusals
-pub mod Instances

@@ -1,0 +1,43 @@
+//! The branch table of a function's body: where execution goes on after each branch, `if` and
+//! `else`, and which values it keeps. It does what sections 4.4.5 and 4.4.8 of the Core
+//! Specification 1.0 say, without labels at run time.
+//!
+//! # Promises
+//!
+//! - `branch_table`: the table is right at each position that typing reaches, if the body has its
+//!   function's type (`IsTableOf`). It asks that functions give one value at most, and that there
+//!   are fewer than 2^32 opcodes (`ones`, `one`, `few`).
+//! - `BranchTable::jump` is the jump with this number of an opcode (`entry`). Of an opcode without
+//!   such a jump it is another one, or none.
+//! - `BranchTable::jump_at` is the same where there is such a jump.
+//! - `laws::opcodes_are_first`, `laws::positions_lead_on`: what stands at a position of a typed
+//!   body, and at the next one where no jump is made.
+//! - `laws::tables_are_right`: the table of one pass over the opcodes of a typed body is right.
+//!
+//! # Definitions to read
+//!
+//! In `specs/`: `Table`, `entry`, `AreJumpsOf`, `IsTable` (`Tables.antt`); `JumpsTo`, `IsJump`,
+//! `IsExit` (`Jumps.antt`); `IsTableOf`, `GivesOnes` (`Contexts.antt`). `Moves.antt` states the
+//! laws. Nobody has to believe `Making.antt`: that its table is right is proved. Positions and
+//! shapes are those of `wasm_syntax_rules` (`body_shape`).
+//!
+//! # Who may touch what
+//!
+//! Only this crate knows how jumps are stored and found. `machine` makes and reads tables, and
+//! `machine_rules` cites the definitions. It stands on `wasm_validate`, for what typing looks up
+//! and for the stack that a walk uses. `branch_table` takes memory, and want of it is its only
+//! error. Looking up a jump takes none.
+#![tactic(auto)]
+
+mod body;
+mod closings;
+pub mod jump;
+pub mod laws;
+mod open;
+mod operands;
+pub mod table;
+mod walk;
+
+pub use body::branch_table;
+pub use jump::Jump;
+pub use table::BranchTable;

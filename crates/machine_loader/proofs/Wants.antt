@@ -1,0 +1,26 @@
+-- What a fault says that is no want of memory.
+use Rattle.std.proofs.Common.{◌≡◌, false}
+use Rattle.wasm_decode.specs.declared.fault.DecodeFault.TheVariants as decode
+use Rattle.wasm_validate.specs.declared.parts.fault.ValidFault.TheVariants as valid
+use Rattle.machine.specs.declared.instance.fault.LinkFault.TheVariants as link
+use Rattle.machine_loader.specs.declared.fault.FrontFault.{FrontFault}
+use Rattle.machine_loader.specs.declared.fault.FrontFault.TheVariants.{Decode, Valid, Link}
+use Rattle.machine_loader.specs.rules.Acceptance.{FrontDenies, is_want}
+
+pub no_want : (e : FrontFault) (P : Type 0) → is_want e ≡ false → FrontDenies e P → P
+no_want (Decode decode.Memory) P w h = absurd (cc)
+no_want (Decode (decode.Malformed at)) P w h = h
+no_want (Decode (decode.Float at)) P w h = h
+no_want (Decode decode.Limit) P w h = h
+no_want (Valid valid.Memory) P w h = absurd (cc)
+no_want (Valid valid.Typing) P w h = h
+no_want (Valid valid.Index) P w h = h
+no_want (Valid valid.Limits) P w h = h
+no_want (Valid valid.DuplicateExport) P w h = h
+no_want (Link link.Memory) P w h = absurd (cc)
+no_want (Link link.NoStart) P w h = h
+no_want (Link link.NoMemory) P w h = h
+no_want (Link link.UnknownImport) P w h = h
+no_want (Link link.ImportType) P w h = h
+no_want (Link link.InitRange) P w h = h
+no_want (Link link.TooManyPages) P w h = h

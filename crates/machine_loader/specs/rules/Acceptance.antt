@@ -1,0 +1,75 @@
+-- Modules that the front end accepts.
+use Rattle.std.specs.Prelude.{◌≢◌, ℕ, List, Bool, true, false, Option, None}
+use Rattle.wasm_syntax.specs.declared.module.Module.{Module}
+use Rattle.wasm_decode.specs.declared.fault.DecodeFault.TheVariants as decode
+use Rattle.wasm_decode.specs.rules.Faults.{place_of}
+use Rattle.wasm_validate.specs.declared.parts.fault.ValidFault.TheVariants as valid
+use Rattle.machine.specs.declared.instance.fault.LinkFault.TheVariants as link
+use Rattle.wasm_syntax.specs.rules.Modules.{IsModule}
+use Rattle.wasm_syntax.specs.rules.Limits.{IsWithinLimits, HasNoModule}
+use Rattle.wasm_syntax_rules.specs.Validity.{IsValid}
+use Rattle.wasm_syntax_rules.specs.Acceptance.{IsAccepted}
+use Rattle.wasm_validate.specs.Parts.Answers.{Denies as DeniesValid}
+use Rattle.machine.specs.rules.Refusals.{IsRefused}
+use Rattle.machine.specs.rules.Offers.{offer}
+use Rattle.machine.specs.rules.Values.{MachineValue}
+use Rattle.machine.specs.rules.Runs.{HasBegun}
+use Rattle.machine_loader.specs.declared.fault.FrontFault.{FrontFault}
+use Rattle.machine_loader.specs.declared.fault.FrontFault.TheVariants.{Decode, Valid, Link}
+
+-- the machine is of the accepted module that these bytes spell, and has begun
+pub record Accepts (pages : ℕ) (bytes : List ℕ) (machine : MachineValue) : Type 0 where
+  pub spelled : Module
+  pub accepted : IsAccepted offer pages bytes spelled
+  pub begun : HasBegun pages spelled machine
+
+-- the bytes spell this module, within the limits, and it is valid
+pub record IsRead (bytes : List ℕ) (m : Module) : Type 0 where
+  pub spelled : IsModule bytes m
+  pub limits : IsWithinLimits bytes m
+  pub valid : IsValid m
+
+-- no module that is spelled by these bytes, within the limits, is valid
+abbrev pub HasNoValidModule : List ℕ → Type 0
+HasNoValidModule bytes = (m : Module) → IsRead bytes m → ⊥
+
+-- these bytes spell an accepted module
+abbrev pub HasAcceptedModule : ℕ → List ℕ → Type 0
+HasAcceptedModule pages bytes = (m : Module) × IsAccepted offer pages bytes m
+
+-- no module that is spelled by these bytes is accepted
+abbrev pub HasNoAcceptedModule : ℕ → List ℕ → Type 0
+HasNoAcceptedModule pages bytes = (m : Module) → IsAccepted offer pages bytes m → ⊥
+
+-- a fault other than want of memory says P
+abbrev pub FrontDenies : FrontFault → Type 0 → Type 0
+FrontDenies (Decode decode.Memory) P = Unit {0}
+FrontDenies (Valid valid.Memory) P = Unit {0}
+FrontDenies (Link link.Memory) P = Unit {0}
+FrontDenies _ P = P
+
+-- Which of the first two steps refuses, and what it says: no module is spelled; or one is, which isn't valid.
+abbrev pub IsToldOfReading : List ℕ → FrontFault → Type 0
+IsToldOfReading bytes (Decode fault) = fault ≢ decode.Memory → HasNoModule bytes
+IsToldOfReading bytes (Valid fault) = (m : Module) × IsModule bytes m × IsWithinLimits bytes m × DeniesValid fault (IsValid m)
+IsToldOfReading bytes (Link fault) = ⊥
+
+-- Which step refuses, and what it says: no module is spelled; or one is, which isn't valid; or it is valid, and this is the
+-- first thing that it wants for linking. Want of memory says only what the steps before found.
+abbrev pub IsTold : ℕ → List ℕ → FrontFault → Type 0
+IsTold pages bytes (Decode fault) = fault ≢ decode.Memory → HasNoModule bytes
+IsTold pages bytes (Valid fault) = (m : Module) × IsModule bytes m × IsWithinLimits bytes m × DeniesValid fault (IsValid m)
+IsTold pages bytes (Link fault) = (m : Module) × IsModule bytes m × IsWithinLimits bytes m × IsValid m × IsRefused pages m fault
+
+-- the host had no room
+abbrev pub is_want : FrontFault → Bool
+is_want (Decode decode.Memory) = true
+is_want (Valid valid.Memory) = true
+is_want (Link link.Memory) = true
+is_want _ = false
+
+-- where in the bytes the fault is, for those of the decoder that say it
+abbrev pub place_in : FrontFault → Option ℕ
+place_in (Decode fault) = place_of fault
+place_in (Valid fault) = None
+place_in (Link fault) = None

@@ -1,0 +1,36 @@
+//! From a module's bytes to a machine, or the reason why there is none: decoding, validation and
+//! linking, one after another. Which modules are accepted is this project's own choice among the
+//! valid modules of the Core Specification 1.0.
+//!
+//! # Promises
+//!
+//! - `read`: the module is spelled by the bytes, within the limits, and valid (`read`).
+//! - `accept`: the machine is of the accepted module that the bytes spell, and has begun
+//!   (`accepted`).
+//! - Either refusal is that of the first step that refuses, and says what that step found
+//!   (`told`). But for want of memory no such module is spelled by the bytes (`only`).
+//! - `FrontFault::place` is where in the bytes the fault is, for those faults of the decoder that
+//!   say it.
+//! - `FrontFault::is_want_of_memory` tells the three wants of memory from all other faults.
+//!
+//! A fault is printed as that of its step.
+//!
+//! # Definitions to read
+//!
+//! In `specs/rules/Acceptance.antt`: `Accepts`, `IsRead`, `HasNoAcceptedModule`,
+//! `HasNoValidModule`, `IsTold`, `IsToldOfReading`, `FrontDenies`, `is_want`, `place_in`. They
+//! lead to `IsAccepted` of `wasm_syntax_rules`, and to `HasBegun` and `IsRefused` of `machine`.
+//!
+//! # Who may touch what
+//!
+//! The crate holds nothing of its own. It is the one place where the three steps are joined.
+//! `worker` uses `read`, and `wasmhost_serve` uses `accept`. It stands on `wasm_decode`,
+//! `wasm_validate` and `machine`. Each step takes memory, and has its own fault for want of it.
+//! After an error nothing is left of the module.
+#![tactic(auto)]
+
+mod fault;
+mod steps;
+
+pub use fault::FrontFault;
+pub use steps::{accept, read};

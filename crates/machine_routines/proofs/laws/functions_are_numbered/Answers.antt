@@ -1,8 +1,0 @@
-use Rattle.machine_routines.proofs.Numbers.{functions_numbered, functions_counted}
-use Rattle.machine_routines.proofs.laws.functions_are_numbered.Goals as goal
-
-pub returns-clause-numbered : goal.returns-clause-numbered
-returns-clause-numbered c = functions_numbered
-
-pub returns-clause-counted : goal.returns-clause-counted
-returns-clause-counted c = functions_counted

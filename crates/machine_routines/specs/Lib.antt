@@ -1,3 +1,0 @@
-pub mod Routines
-pub mod Making
-pub mod Laws

@@ -1,0 +1,14 @@
+use Rattle.machine_rules.proofs.Standing.Walking.{walks_are_steps, walks_settle, walks_compose, walks_are_typed}
+use Rattle.machine_rules.proofs.laws.walks_are_steps.Goals as goal
+
+pub returns-clause-steps : goal.returns-clause-steps
+returns-clause-steps c = walks_are_steps
+
+pub returns-clause-settle : goal.returns-clause-settle
+returns-clause-settle c = walks_settle
+
+pub returns-clause-compose : goal.returns-clause-compose
+returns-clause-compose c = walks_compose
+
+pub returns-clause-typed : goal.returns-clause-typed
+returns-clause-typed c = walks_are_typed

@@ -1,0 +1,4 @@
+pub mod Standing
+pub mod Threads
+pub mod Walks
+pub mod laws

@@ -1,0 +1,76 @@
+//! Laws over all programs, bodies and frames. The functions do nothing: what they ensure is the law.
+
+ghost use Rattle.machine_rules.specs.Walks.{WalksAreSteps, WalksSettle, WalksCompose, WalksAreTyped};
+ghost use Rattle.machine_rules.specs.laws.Standing.{OpcodesRemain, StandsSomewhere, LabelsEnd, OperandsAreFew, EntryStands, EffectsLeadOn, BlocksLeadIn, LoopsLeadIn, IfsLeadIn, ChoicesLeadIn, BranchesLead, ConditionsLead, TablesLead, EndsLeadOut, PartsLeadOut};
+ghost use Rattle.machine_rules.specs.laws.Threads.{SettledIsShown, ShownStands, FramesRun, RunsStand, CallsLead, IndirectCallsLead, ReturnsLead, BodiesEnd, HostCalls, AnswersLead};
+
+/// Walks, and the steps that they are.
+pub fn walks_are_steps()
+    ensures steps { WalksAreSteps }
+    ensures settle { WalksSettle }
+    ensures compose { WalksCompose }
+    ensures typed { WalksAreTyped }
+{}
+
+/// What stands where a frame does, and how many labels and values it has there.
+pub fn frames_stand_at_opcodes()
+    ensures opcodes { OpcodesRemain }
+    ensures somewhere { StandsSomewhere }
+    ensures labels { LabelsEnd }
+    ensures few { OperandsAreFew }
+    ensures entry { EntryStands }
+{}
+
+/// An instruction that stays in its sequence, or begins one, leads to the next position, or where the table says.
+pub fn frames_lead_on()
+    ensures effects { EffectsLeadOn }
+    ensures blocks { BlocksLeadIn }
+    ensures loops { LoopsLeadIn }
+    ensures ifs { IfsLeadIn }
+    ensures choices { ChoicesLeadIn }
+{}
+
+/// A branch leads where the table says.
+pub fn branches_lead()
+    ensures branches { BranchesLead }
+    ensures conditions { ConditionsLead }
+    ensures tables { TablesLead }
+{}
+
+/// An end leads out of its sequence.
+pub fn ends_lead_out()
+    ensures ends { EndsLeadOut }
+    ensures parts { PartsLeadOut }
+{}
+
+// Laws over all typed programs. The functions do nothing: what they ensure is the law.
+
+/// What a machine's frames and words show.
+pub fn machines_show()
+    ensures settled { SettledIsShown }
+    ensures shown { ShownStands }
+{}
+
+/// The running frame apart, and the whole after it has run.
+pub fn frames_run()
+    ensures apart { FramesRun }
+    ensures whole { RunsStand }
+{}
+
+/// What a call leads to.
+pub fn calls_lead()
+    ensures direct { CallsLead }
+    ensures indirect { IndirectCallsLead }
+{}
+
+/// What a return and the end of a body lead to.
+pub fn returns_lead()
+    ensures returns { ReturnsLead }
+    ensures ends { BodiesEnd }
+{}
+
+/// What the host's calls and its answers lead to.
+pub fn hosts_lead()
+    ensures calls { HostCalls }
+    ensures answers { AnswersLead }
+{}

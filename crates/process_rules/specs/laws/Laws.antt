@@ -1,0 +1,71 @@
+-- Laws of what a process reaches.
+use Rattle.std.specs.Prelude.{◌≡◌, ℕ, suc, ◌+◌, List, [], ◌++◌, None}
+use Rattle.wasm_syntax.specs.declared.value.Trap.{Trap}
+use Rattle.wasm_syntax.specs.declared.module.Module.{Module}
+use Rattle.wasm_syntax_rules.specs.Validity.{IsValid}
+use Rattle.wasm_syntax_rules.specs.Configuration.{Configuration, Traps}
+use Rattle.wasm_syntax_rules.specs.Steps.{rule, stopped, IsEnded, Steps}
+use Rattle.wasi_abi.specs.rules.Configs.{Settings}
+use Rattle.wasi_calls_rules.specs.laws.Laws.{Emits}
+use Rattle.process_rules.specs.Processes.{ProcessState, Guest, Exited, Trapped, over}
+use Rattle.process_rules.specs.Runs.{Kept, Moves, Runs, Reaches}
+use Rattle.process_rules.specs.Behind.{Syncs}
+use Rattle.process_rules.specs.Owing.{RunsQuietly}
+
+-- A valid module reaches one process at most on the same answers in the same number of steps.
+abbrev pub OneProcess : Type 0
+OneProcess =
+    (m : Module) (config : Settings) (kept : List Kept) (n : ℕ) (p q : ProcessState) → IsValid m → Reaches m config kept n p → Reaches m config kept n q → p ≡ q
+
+-- ---- runs, one after another
+
+-- so does any process
+abbrev pub OneProcessRun : Type 0
+OneProcessRun = (guest : Guest) (p q r : ProcessState) (kept : List Kept) (n : ℕ) → Runs guest p kept n q → Runs guest p kept n r → q ≡ r
+
+abbrev pub RunsJoin : Type 0
+RunsJoin =
+    (guest : Guest) (p q r : ProcessState) (front rest : List Kept) (n k : ℕ) → Runs guest p front n q → Runs guest q rest k r → Runs guest p (front ++ rest) (n + k) r
+
+-- the first part of a run of so many steps without answers, and what it leads on to
+abbrev pub QuietRunsJoin : Type 0
+QuietRunsJoin = (guest : Guest) (p q r : ProcessState) (n k : ℕ) → RunsQuietly guest p n q → RunsQuietly guest q k r → RunsQuietly guest p (n + k) r
+
+-- steps after which nothing is owed take no answer, and emit no line
+abbrev pub QuietRunsAreRuns : Type 0
+QuietRunsAreRuns = (guest : Guest) (p q : ProcessState) (n : ℕ) → RunsQuietly guest p n q → Runs guest p [] n q × (q.host.lines ≡ p.host.lines)
+
+-- a run of so many steps is counted, and emits lines behind those that were there
+abbrev pub RunsCount : Type 0
+RunsCount = (guest : Guest) (p q : ProcessState) (kept : List Kept) (n : ℕ) → Runs guest p kept n q → q.steps ≡ p.steps + n
+
+abbrev pub RunsEmit : Type 0
+RunsEmit = (guest : Guest) (p q : ProcessState) (kept : List Kept) (n : ℕ) → Runs guest p kept n q → Emits p.host q.host
+
+-- ---- rules that ask the host for nothing
+
+-- Where so many counted rules lead to a configuration that isn't the program's end, after none of them anything is owed.
+abbrev pub RulesAreQuiet : Type 0
+RulesAreQuiet =
+    (guest : Guest) (p : ProcessState) (n : ℕ) (d : Configuration) → p.ended ≡ None → Steps guest.program n p.configuration d → (IsEnded d → ⊥)
+    → RunsQuietly guest p n (record p { configuration = d; steps = p.steps + n })
+
+-- a step that ends the process, behind so many after which nothing is owed
+pub record EndsAfter (guest : Guest) (p : ProcessState) (n : ℕ) (q : ProcessState) : Type 0 where
+  pub before : ProcessState
+  pub runs : RunsQuietly guest p n before
+  pub same_host : before.host ≡ p.host
+  pub moves : Moves guest before None q
+  pub no_sync : Syncs guest before → ⊥
+
+-- The last rule ends it, where that leads to the program's end.
+abbrev pub LastRuleEnds : Type 0
+LastRuleEnds =
+    (guest : Guest) (p : ProcessState) (n : ℕ) (d : Configuration) → p.ended ≡ None → Steps guest.program (suc n) p.configuration d → IsEnded d
+    → EndsAfter guest p n (over (Exited 0) (record p { configuration = d; steps = p.steps + suc n }))
+
+-- A trap behind so many counted rules ends it.
+abbrev pub TrapEnds : Type 0
+TrapEnds =
+    (guest : Guest) (p : ProcessState) (n : ℕ) (d : Configuration) (why : Trap) → p.ended ≡ None → Steps guest.program n p.configuration d → rule guest.program d ≡ Traps why
+    → EndsAfter guest p n (over (Trapped why) (record p { configuration = stopped d; steps = p.steps + suc n }))

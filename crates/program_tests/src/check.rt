@@ -1,0 +1,335 @@
+//! Modules as bytes, and what `wasmhost check` says of them.
+
+use hex::decode;
+use std::alloc::Global;
+use std::process::Abort;
+use std::test::Fail;
+use wasmhost_serve::check_bytes;
+
+const HEADER: &str = "0061736d01000000";
+
+const TYPES: &str = "010401600000";
+
+const FUNCTIONS: &str = "03020100";
+
+const MEMORIES: &str = "0503010001";
+
+const EXPORTS: &str = "071302065f737461727400 00066d656d6f72790200";
+
+pub(crate) const EMPTY_BODY: &str = "0a040102000b";
+
+/// All but the code section, 44 bytes, and all before the exports, 23 bytes.
+pub(crate) const BEFORE_CODE: &str = "0061736d01000000 010401600000 03020100 0503010001 \
+     071302065f737461727400 00066d656d6f72790200";
+
+const BEFORE_EXPORTS: &str = "0061736d01000000 010401600000 03020100 0503010001";
+
+/// The function exported as `_start` twice, and no memory exported.
+const TWO_STARTS: &str = "071302065f73746172740000065f73746172740000";
+
+const NO_MEMORY: &str = "070a01065f73746172740000";
+
+/// An import of the first type of a function `f` of `env`, and of `proc_exit`.
+const UNKNOWN_CALL: &str = "02090103656e7601660000";
+
+const CALL_WITHOUT_CODE: &str =
+    "02240116776173695f736e617073686f745f70726576696577310970726f635f657869740000";
+
+/// What follows one import: the function 1 is exported as `_start`.
+const BEHIND_IMPORTS: &str =
+    "03020100 0503010001 071302065f737461727400 01066d656d6f72790200 0a040102000b";
+
+/// Writes a line and exits with 7.
+pub(crate) const HELLO: [&str; 8] = [
+    HEADER,
+    "01100360000060047f7f7f7f017f60017f00",
+    "02460216776173695f736e617073686f745f70726576696577310866645f77726974650001",
+    "16776173695f736e617073686f745f70726576696577310970726f635f657869740002",
+    "030201000503010001071302065f73746172740002066d656d6f72790200",
+    "0a1301110041014100410141101000",
+    "1a410710010b",
+    "0b11010041000b0b080000000300000068690a",
+];
+
+/// All of the small module.
+const SMALL: [u8; 50] = [
+    0x00, 0x61, 0x73, 0x6d, 0x01, 0x00, 0x00, 0x00, 0x01, 0x04, 0x01, 0x60, 0x00, 0x00, 0x03, 0x02,
+    0x01, 0x00, 0x05, 0x03, 0x01, 0x00, 0x01, 0x07, 0x13, 0x02, 0x06, 0x5f, 0x73, 0x74, 0x61, 0x72,
+    0x74, 0x00, 0x00, 0x06, 0x6d, 0x65, 0x6d, 0x6f, 0x72, 0x79, 0x02, 0x00, 0x0a, 0x04, 0x01, 0x02,
+    0x00, 0x0b,
+];
+
+/// How a module is not accepted that is to be.
+#[derive(Debug, Drop)]
+enum Refused {
+    Memory,
+    Otherwise,
+}
+
+/// The bytes of these texts together, without their spaces.
+pub(crate) fn bytes_of(alloc: Global, texts: &[&str]) -> Result<Vec<u8>, Fail> {
+    let mut bytes = Vec::new(alloc);
+    for text in texts {
+        for digits in text.split(' ') {
+            bytes.extend_from_slice(decode(alloc, digits)?.as_slice())?;
+        }
+    }
+    Ok(bytes)
+}
+
+/// Each row has texts, the status and the line.
+fn check(rt: &impl Abort, alloc: Global, rows: &[(&[&str], u8, &str)]) -> Result<(), Fail> {
+    for (texts, status, line) in rows {
+        let bytes = bytes_of(alloc, texts)?;
+        let mut out = Vec::new(alloc);
+        assert_eq!(rt;
+            check_bytes(alloc, bytes.as_slice(), &mut out),
+            *status,
+            "{texts:?}"
+        );
+        assert_eq!(rt; out.as_slice(), line.as_bytes(), "{texts:?}");
+    }
+    Ok(())
+}
+
+#[test]
+fn modules(rt: HostRuntime) -> Result<(), Fail> {
+    check(
+        &rt,
+        rt.alloc(),
+        &[
+            (&[], 3, "refused B1 Malformed at 0\n"),
+            (&[HEADER], 3, "refused L1 NoStart\n"),
+            (&[BEFORE_CODE, EMPTY_BODY], 0, "accepted\n"),
+            (&HELLO, 0, "accepted\n"),
+        ],
+    )
+}
+
+#[test]
+fn sizes(rt: HostRuntime) -> Result<(), Fail> {
+    check(
+        &rt,
+        rt.alloc(),
+        &[
+            (
+                &[
+                    HEADER,
+                    "01848080800001600000",
+                    FUNCTIONS,
+                    MEMORIES,
+                    EXPORTS,
+                    EMPTY_BODY,
+                ],
+                0,
+                "accepted\n",
+            ),
+            (
+                &[
+                    HEADER,
+                    "0184808080800001600000",
+                    FUNCTIONS,
+                    MEMORIES,
+                    EXPORTS,
+                    EMPTY_BODY,
+                ],
+                3,
+                "refused B1 Malformed at 9\n",
+            ),
+            (
+                &[
+                    HEADER,
+                    "01848080801001600000",
+                    FUNCTIONS,
+                    MEMORIES,
+                    EXPORTS,
+                    EMPTY_BODY,
+                ],
+                3,
+                "refused B1 Malformed at 9\n",
+            ),
+        ],
+    )
+}
+
+#[test]
+fn bodies(rt: HostRuntime) -> Result<(), Fail> {
+    check(
+        &rt,
+        rt.alloc(),
+        &[
+            (
+                &[BEFORE_CODE, "0a06010401017d0b"],
+                3,
+                "refused B2 Float at 50\n",
+            ),
+            (
+                &[BEFORE_CODE, "0a0c010a00 4101047f41010b1a0b"],
+                3,
+                "refused V1 Typing\n",
+            ),
+            (
+                &[BEFORE_CODE, "0a0a010800 41002803001a0b"],
+                3,
+                "refused V3 Limits\n",
+            ),
+        ],
+    )
+}
+
+/// Other faults of the decoder and the validator, and a module without a memory for the host.
+#[test]
+fn faults(rt: HostRuntime) -> Result<(), Fail> {
+    check(
+        &rt,
+        rt.alloc(),
+        &[
+            (&["0061736d02000000"], 3, "refused B1 Malformed at 4\n"),
+            (&[HEADER, "01050160017d00"], 3, "refused B2 Float at 13\n"),
+            (&[HEADER, "010401608102"], 3, "refused B3 Limit\n"),
+            (&[BEFORE_CODE, "0a0601040010050b"], 3, "refused V2 Index\n"),
+            (
+                &[BEFORE_EXPORTS, TWO_STARTS, EMPTY_BODY],
+                3,
+                "refused V4 DuplicateExport\n",
+            ),
+            (
+                &[BEFORE_EXPORTS, NO_MEMORY, EMPTY_BODY],
+                3,
+                "refused L2 NoMemory\n",
+            ),
+        ],
+    )
+}
+
+/// Imports that the host doesn't offer, or with another type; a byte of data at the last place
+/// of memory, and
+/// one behind it; as many pages as `check` allows, and one more.
+#[test]
+fn host(rt: HostRuntime) -> Result<(), Fail> {
+    check(
+        &rt,
+        rt.alloc(),
+        &[
+            (
+                &[HEADER, TYPES, UNKNOWN_CALL, BEHIND_IMPORTS],
+                3,
+                "refused L3 UnknownImport\n",
+            ),
+            (
+                &[HEADER, TYPES, CALL_WITHOUT_CODE, BEHIND_IMPORTS],
+                3,
+                "refused L4 ImportType\n",
+            ),
+            (
+                &[BEFORE_CODE, EMPTY_BODY, "0b09010041ffff030b0100"],
+                0,
+                "accepted\n",
+            ),
+            (
+                &[BEFORE_CODE, EMPTY_BODY, "0b090100418080040b0100"],
+                3,
+                "refused L5 InitRange\n",
+            ),
+            (
+                &[
+                    HEADER,
+                    TYPES,
+                    FUNCTIONS,
+                    "050401008002",
+                    EXPORTS,
+                    EMPTY_BODY,
+                ],
+                0,
+                "accepted\n",
+            ),
+            (
+                &[
+                    HEADER,
+                    TYPES,
+                    FUNCTIONS,
+                    "050401008102",
+                    EXPORTS,
+                    EMPTY_BODY,
+                ],
+                3,
+                "refused L6 TooManyPages\n",
+            ),
+        ],
+    )
+}
+
+/// Sections twice, out of order, too long and too short, and custom sections everywhere.
+#[test]
+fn sections(rt: HostRuntime) -> Result<(), Fail> {
+    let custom = "0005046e616d65";
+    check(
+        &rt,
+        rt.alloc(),
+        &[
+            (&[HEADER, "0cff"], 3, "refused B1 Malformed at 8\n"),
+            (&[HEADER, TYPES, TYPES], 3, "refused B1 Malformed at 14\n"),
+            (
+                &[BEFORE_EXPORTS, MEMORIES],
+                3,
+                "refused B1 Malformed at 23\n",
+            ),
+            (
+                &[HEADER, FUNCTIONS, TYPES],
+                3,
+                "refused B1 Malformed at 12\n",
+            ),
+            (&[HEADER, "010501600000"], 3, "refused B1 Malformed at 9\n"),
+            (&[HEADER, "010301600000"], 3, "refused B1 Malformed at 13\n"),
+            (
+                &[
+                    HEADER, custom, TYPES, custom, FUNCTIONS, custom, MEMORIES, custom, EXPORTS,
+                    custom, EMPTY_BODY, custom,
+                ],
+                0,
+                "accepted\n",
+            ),
+        ],
+    )
+}
+
+/// Each front of a module that is accepted is refused.
+#[test]
+fn fronts(rt: HostRuntime) -> Result<(), Fail> {
+    let alloc = rt.alloc();
+    let bytes = bytes_of(alloc, &[BEFORE_CODE, EMPTY_BODY])?;
+    assert_eq!(rt; bytes.len(), 50);
+    for end in 0..bytes.len() {
+        let mut out = Vec::new(alloc);
+        assert_eq!(rt; check_bytes(alloc, &bytes[..end], &mut out), 3, "{end}");
+    }
+    Ok(())
+}
+
+/// A line that can't be written whole.
+#[test]
+fn output_without_room(rt: HostRuntime) {
+    let mut room = [0u8; 8];
+    let mut out: &mut [u8] = &mut room;
+    assert_eq!(rt; check_bytes(rt.alloc(), &SMALL, &mut out), 7);
+    assert_eq!(rt; check_bytes(rt.alloc(), &SMALL[..9], &mut out), 7);
+}
+
+/// That the small module is accepted, in a room for its line that takes no memory.
+fn accept_small(alloc: Global) -> Result<(), Refused> {
+    let mut room = [0u8; 32];
+    let mut out: &mut [u8] = &mut room;
+    match check_bytes(alloc, &SMALL, &mut out) {
+        0 => Ok(()),
+        5 => Err(Refused::Memory),
+        _ => Err(Refused::Otherwise),
+    }
+}
+
+/// `scripts/refused-allocations` refuses each allocation in turn, and then the status is that
+/// of want of memory.
+#[test]
+fn small_module(rt: HostRuntime) -> Result<(), Fail> {
+    accept_small(rt.alloc())?;
+    Ok(())
+}

@@ -1,0 +1,15 @@
+//! What tests alone can show of the program's commands: the words of the command line, the lines
+//! in and out, what `check` prints of modules, and what `run` prints, tells and exits with.
+//!
+//! Each test is a table of rows whose expected values come from outside. Those that take memory
+//! return their error, so that `scripts/refused-allocations` can refuse each allocation in turn.
+#![tactic(auto)]
+
+#[cfg(test)]
+mod check;
+#[cfg(test)]
+mod lines;
+#[cfg(test)]
+mod run;
+#[cfg(test)]
+mod words;

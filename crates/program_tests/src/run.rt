@@ -1,0 +1,207 @@
+//! Workers that are run: what they print, how many steps they take, and that each allocation
+//! may be refused.
+
+use crate::check::{BEFORE_CODE, EMPTY_BODY, HELLO, bytes_of};
+use record_replay::{AnswerList, LineList};
+use std::alloc::Global;
+use std::num::NonZeroU64;
+use std::test::Fail;
+use wasi_abi::Config;
+use wasm_syntax::Row;
+use wasmhost_serve::{LineOutlet, Options, serve};
+use worker::{Now, Worker};
+
+/// Modules of one body each, without imports.
+const UNREACHABLE: [&str; 2] = [BEFORE_CODE, "0a0501030000 0b"];
+
+const EMPTY: [&str; 2] = [BEFORE_CODE, EMPTY_BODY];
+
+/// The least i32 divided by -1, and its remainder.
+const QUOTIENT: [&str; 2] = [BEFORE_CODE, "0a0e010c00 418080808078417f6d1a 0b"];
+
+const REMAINDER: [&str; 2] = [BEFORE_CODE, "0a0e010c00 418080808078417f6f1a 0b"];
+
+/// A load at 4,294,967,295 with offset 1.
+const FAR_LOAD: [&str; 2] = [BEFORE_CODE, "0a0a010800 417f2802011a 0b"];
+
+/// A function that calls itself.
+const ENDLESS: [&str; 2] = [BEFORE_CODE, "0a0601040010000b"];
+
+/// All of `hello`.
+const HELLO_BYTES: [u8; 168] = [
+    0x00, 0x61, 0x73, 0x6d, 0x01, 0x00, 0x00, 0x00, 0x01, 0x10, 0x03, 0x60, 0x00, 0x00, 0x60, 0x04,
+    0x7f, 0x7f, 0x7f, 0x7f, 0x01, 0x7f, 0x60, 0x01, 0x7f, 0x00, 0x02, 0x46, 0x02, 0x16, 0x77, 0x61,
+    0x73, 0x69, 0x5f, 0x73, 0x6e, 0x61, 0x70, 0x73, 0x68, 0x6f, 0x74, 0x5f, 0x70, 0x72, 0x65, 0x76,
+    0x69, 0x65, 0x77, 0x31, 0x08, 0x66, 0x64, 0x5f, 0x77, 0x72, 0x69, 0x74, 0x65, 0x00, 0x01, 0x16,
+    0x77, 0x61, 0x73, 0x69, 0x5f, 0x73, 0x6e, 0x61, 0x70, 0x73, 0x68, 0x6f, 0x74, 0x5f, 0x70, 0x72,
+    0x65, 0x76, 0x69, 0x65, 0x77, 0x31, 0x09, 0x70, 0x72, 0x6f, 0x63, 0x5f, 0x65, 0x78, 0x69, 0x74,
+    0x00, 0x02, 0x03, 0x02, 0x01, 0x00, 0x05, 0x03, 0x01, 0x00, 0x01, 0x07, 0x13, 0x02, 0x06, 0x5f,
+    0x73, 0x74, 0x61, 0x72, 0x74, 0x00, 0x02, 0x06, 0x6d, 0x65, 0x6d, 0x6f, 0x72, 0x79, 0x02, 0x00,
+    0x0a, 0x13, 0x01, 0x11, 0x00, 0x41, 0x01, 0x41, 0x00, 0x41, 0x01, 0x41, 0x10, 0x10, 0x00, 0x1a,
+    0x41, 0x07, 0x10, 0x01, 0x0b, 0x0b, 0x11, 0x01, 0x00, 0x41, 0x00, 0x0b, 0x0b, 0x08, 0x00, 0x00,
+    0x00, 0x03, 0x00, 0x00, 0x00, 0x68, 0x69, 0x0a,
+];
+
+/// How a run ends that is to print a line.
+#[derive(Debug, Drop)]
+enum Refused {
+    Memory,
+    Otherwise,
+}
+
+/// Texts of a module, steps of a slice, and what is printed: lines, last words, and the status.
+type Case<'a> = (&'a [&'a str], u64, &'a str, &'a str, u8);
+
+#[test]
+fn workers_print(rt: HostRuntime) -> Result<(), Fail> {
+    let alloc = rt.alloc();
+    let rows: [Case<'_>; 9] = [
+        (&HELLO, 100_000, "1 o hi\n", "exited 7\n", 0),
+        (&HELLO, 1, "1 o hi\n", "exited 7\n", 0),
+        (&EMPTY, 1, "", "exited 0\n", 0),
+        (&UNREACHABLE, 100, "", "trapped unreachable\n", 0),
+        (&QUOTIENT, 2, "", "trapped integer overflow\n", 0),
+        (&REMAINDER, 100, "", "exited 0\n", 0),
+        (
+            &FAR_LOAD,
+            100,
+            "",
+            "trapped out of bounds memory access\n",
+            0,
+        ),
+        (&ENDLESS, 100, "", "trapped stack exhausted\n", 0),
+        (&[BEFORE_CODE], 100, "", "failed B1 Malformed\n", 3),
+    ];
+    for (texts, fuel, lines, words, status) in rows {
+        let wasm = bytes_of(alloc, texts)?;
+        let mut reader: &[u8] = b"";
+        let mut outlet = LineOutlet::new(alloc, Vec::new(alloc))?;
+        let mut err = Vec::new(alloc);
+        let fuel = NonZeroU64::try_from(fuel)?;
+        let options = Options { fuel };
+        let answered = serve(
+            alloc,
+            wasm.as_slice(),
+            options,
+            &mut reader,
+            &mut outlet,
+            &mut err,
+        );
+        assert_eq!(rt; answered, status, "{texts:?}");
+        assert_eq!(rt; outlet.out.as_slice(), lines.as_bytes(), "{texts:?}");
+        assert_eq!(rt; err.as_slice(), words.as_bytes(), "{texts:?}");
+    }
+    Ok(())
+}
+
+/// One page, one file unit, 64 journal sectors and no argument.
+fn config(alloc: Global) -> Result<Config, Fail> {
+    Ok(Config::new(1, 1, 64, Row::new(alloc), Row::new(alloc))?)
+}
+
+/// A worker that has ended, by slices of so many steps.
+fn run_to_end(alloc: Global, texts: &[&str], fuel: u64) -> Result<Worker, Fail> {
+    let wasm = bytes_of(alloc, texts)?;
+    let mut worker = Worker::create(alloc, wasm.as_slice(), config(alloc)?)?;
+    let mut source = AnswerList::new(Vec::new(alloc));
+    let mut outlet = LineList::new(alloc);
+    for _ in 0..10_000 {
+        if let Now::Ended(_) = worker.slice(fuel, &mut source, &mut outlet)? {
+            break;
+        }
+    }
+    Ok(worker)
+}
+
+/// The count of bytes that `hello` has `fd_write` put at 16.
+#[test]
+fn hello_has_its_count(rt: HostRuntime) -> Result<(), Fail> {
+    let worker = run_to_end(rt.alloc(), &HELLO, 100)?;
+    assert_eq!(rt; worker.process().memory().load_u32(16, 0), Some(3));
+    Ok(())
+}
+
+#[test]
+fn workers_take_steps(rt: HostRuntime) -> Result<(), Fail> {
+    let rows: [(&[&str], u64); 7] = [
+        (&HELLO, 8),
+        (&EMPTY, 0),
+        (&UNREACHABLE, 1),
+        (&QUOTIENT, 3),
+        (&REMAINDER, 4),
+        (&FAR_LOAD, 2),
+        (&ENDLESS, 512),
+    ];
+    for (texts, steps) in rows {
+        for fuel in [1, 3, 1_000] {
+            assert_eq!(rt;
+                run_to_end(rt.alloc(), texts, fuel)?.process().steps(),
+                steps,
+                "{texts:?} by {fuel}"
+            );
+        }
+    }
+    Ok(())
+}
+
+/// Runs `hello`, in rooms for its line and its last words that take no memory.
+fn run_hello(alloc: Global) -> Result<(), Refused> {
+    let mut reader: &[u8] = b"";
+    let mut lines = [0u8; 32];
+    let mut words = [0u8; 32];
+    let Ok(mut outlet) = LineOutlet::new(alloc, lines.as_mut_slice()) else {
+        return Err(Refused::Memory);
+    };
+    let mut err: &mut [u8] = &mut words;
+    let Some(fuel) = NonZeroU64::new(100_000) else {
+        return Err(Refused::Otherwise);
+    };
+    let options = Options { fuel };
+    let status = serve(
+        alloc,
+        &HELLO_BYTES,
+        options,
+        &mut reader,
+        &mut outlet,
+        &mut err,
+    );
+    drop(outlet);
+    if status == 0 && lines.starts_with(b"1 o hi\n\0") && words.starts_with(b"exited 7\n\0") {
+        return Ok(());
+    }
+    if status == 5 && words.starts_with(b"failed N4 Memory\n\0") {
+        return Err(Refused::Memory);
+    }
+    Err(Refused::Otherwise)
+}
+
+/// `scripts/refused-allocations` refuses each allocation of the whole run in turn, and then it
+/// ends in the named want of memory.
+#[test]
+fn whole_run(rt: HostRuntime) -> Result<(), Refused> {
+    run_hello(rt.alloc())
+}
+
+/// Lines that can't be printed, and last words that can't.
+#[test]
+fn output_without_room(rt: HostRuntime) -> Result<(), Fail> {
+    let fuel = NonZeroU64::try_from(100)?;
+    let options = Options { fuel };
+    let mut reader: &[u8] = b"";
+    for (room, left, status) in [(4, 32, 7), (32, 4, 7), (32, 32, 0)] {
+        let mut lines = [0u8; 32];
+        let mut words = [0u8; 32];
+        let mut outlet = LineOutlet::new(rt.alloc(), &mut lines[..room])?;
+        let mut err: &mut [u8] = &mut words[..left];
+        let answered = serve(
+            rt.alloc(),
+            &HELLO_BYTES,
+            options,
+            &mut reader,
+            &mut outlet,
+            &mut err,
+        );
+        assert_eq!(rt; answered, status, "{room} and {left}");
+    }
+    Ok(())
+}

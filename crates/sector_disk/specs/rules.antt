@@ -1,0 +1,10 @@
+pub mod Answered
+pub mod Counts
+pub mod FaultDisk
+pub mod File
+pub mod Image
+pub mod Medium
+pub mod Memory
+pub mod Pending
+pub mod Run
+pub mod Trouble

@@ -1,0 +1,66 @@
+-- Where a disk is told to stop or to fail, and what a call meets there.
+use Rattle.std.specs.Prelude.{◌≡◌, ◌<◌, ◌≤◌, IsTrue, ◌+◌, ◌-◌, ◌^◌, ◌++◌, ◌==◌, ◌||◌, ℕ, min, Bool, false, nat_lt, nat_le, List, [], ◌∷◌, Option, Some, None, if◌then◌else◌}
+use Rattle.sector_disk.specs.rules.Image.{IsFront, IsTornWithin}
+use Rattle.sector_disk.specs.rules.Medium.{Medium, BothFollow, spare}
+use Rattle.sector_disk.specs.declared.fault.DiskFault.{DiskFault}
+use Rattle.sector_disk.specs.declared.fault.DiskFault.TheVariants.{Io, Cut}
+use Rattle.sector_disk.specs.declared.place.Place.{Place}
+use Rattle.sector_disk.specs.declared.trouble.Trouble.{Trouble}
+use Rattle.sector_disk.specs.declared.trouble.Trouble.TheVariants.{Stops, Stopped, Fails}
+
+-- a counter of 64 bits that counts one more; at its greatest number it stays
+abbrev pub counted : ℕ → ℕ
+counted n = min (n + 1) (2 ^ 64 - 1)
+
+-- how many reads, writes and syncs have begun
+pub record CallCounts : Type 0 where
+  pub reads : ℕ
+  pub writes : ℕ
+  pub syncs : ℕ
+
+-- the number of the last of them, from 1; it stays at the greatest number of 64 bits, too
+abbrev pub call_number : CallCounts → ℕ
+call_number calls = min (calls.reads + calls.writes + calls.syncs) (2 ^ 64 - 1)
+
+-- the call of this number fails where it is told
+abbrev pub failure_at : Option Place → ℕ → Option Trouble
+failure_at None n = None
+failure_at (Some place) n = if place.call == n then Some (Fails (min place.front 512)) else None
+
+-- it stops where it is told, and each later one finds the machine stopped
+abbrev pub trouble_at : Option Place → Option Place → ℕ → Option Trouble
+trouble_at None fail n = failure_at fail n
+trouble_at (Some place) fail n = if nat_lt place.call n then Some Stopped else (if place.call == n then Some (Stops (min place.front 512)) else failure_at fail n)
+
+-- what such a call answers
+abbrev pub trouble_fault : Trouble → DiskFault
+trouble_fault (Stops front) = Cut
+trouble_fault Stopped = Cut
+trouble_fault (Fails front) = Io
+
+-- whether the call of this place has begun
+abbrev pub has_begun : Option Place → ℕ → Bool
+has_begun None n = false
+has_begun (Some place) n = nat_le place.call n
+
+-- whether a call that is told to stop or to fail has begun
+abbrev pub is_met : Option Place → Option Place → CallCounts → Bool
+is_met stop fail calls = has_begun stop (call_number calls) || has_begun fail (call_number calls)
+
+-- a place as numbers
+abbrev pub place_numbers : Option Place → List ℕ
+place_numbers None = 0 ∷ []
+place_numbers (Some place) = 1 ∷ place.call ∷ place.front ∷ []
+
+-- the disk below, told where to stop and to fail, which has met trouble so often
+abbrev pub troubled : Medium → Option Place → Option Place → ℕ → Medium
+troubled below stop fail n = record below { told = place_numbers stop ++ place_numbers fail ++ below.told; faults = below.faults + n }
+
+-- The told front of a write is left, and a cut may leave a front of that. A disk that fails may leave less.
+pub record LeavesFront (front k : ℕ) (bytes : List ℕ) (is_taken : Bool) (old new : Medium) : Type 0 where
+  pub tears : BothFollow (IsTornWithin front k bytes) (IsTornWithin front k bytes) old new
+  pub unsynced : new.unsynced ≤ old.unsynced + 1
+  pub exactly : IsTrue is_taken → BothFollow (IsFront front k bytes) (IsTornWithin front k bytes) old new
+  -- also where no byte is left, it counts as a write
+  pub counts : IsTrue is_taken → new.unsynced ≡ old.unsynced + 1
+  pub taken : k < old.sectors → 0 < spare old → new.faults ≡ old.faults → IsTrue is_taken

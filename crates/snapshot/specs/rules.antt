@@ -1,0 +1,3 @@
+pub mod Heads
+pub mod Newest
+pub mod Steps

@@ -1,0 +1,31 @@
+-- The newest of the two heads of an image (this project's own).
+use Rattle.std.specs.Prelude.{◌≡◌, ◌⊎◌, ℕ, ◌-◌, ◌<◌, List, max, Option, Some, None}
+use Rattle.sector_disk.specs.rules.Image.{Image, sector_at}
+use Rattle.disk_layout.specs.declared.head.Head.{Head}
+use Rattle.disk_layout.specs.rules.Sectors.{head_of, IsComplete, IsNewest, shown_generation}
+
+-- neither head is complete
+pub record HasNone (image : Image) : Type 0 where
+  pub first : IsComplete 0 (sector_at image 1) → ⊥
+  pub second : IsComplete 1 (sector_at image 2) → ⊥
+
+-- the latest generation that a head's sector shows
+abbrev pub heads_to : Image → ℕ
+heads_to image = max (shown_generation 1 (sector_at image 1)) (shown_generation 1 (sector_at image 2))
+
+-- The newest complete head is of the generation before this one (before the first there is none), and no head's sector
+-- shows this one or a later one.
+pub record IsReadyForHead (g : ℕ) (image : Image) : Type 0 where
+  pub before : ((g ≡ 1) × HasNone image) ⊎ ((h : Head) × IsNewest image (g - 1) h)
+  pub none_later : heads_to image < g
+
+-- ---- what is read
+
+-- the head that an area's sector is, if it is a complete one
+abbrev pub HeadIn : ℕ → List ℕ → Option Head → Type 0
+HeadIn area sector None = IsComplete area sector → ⊥
+HeadIn area sector (Some h) = IsComplete area sector × (h ≡ head_of sector)
+
+abbrev pub FindsHead : Image → Option Head → Type 0
+FindsHead image None = HasNone image
+FindsHead image (Some h) = IsNewest image h.generation h

@@ -1,0 +1,46 @@
+-- When a process as its image has it is well typed: the images of these are the ones that are accepted (this project's own).
+use Rattle.std.specs.Prelude.{◌≡◌, ◌≢◌, ℕ, ◌+◌, ◌<◌, ◌≤◌, ◌^◌, List, [], ◌∷◌, length, Option, Some, None}
+use Rattle.wasm_syntax_rules.specs.Typing.{Context}
+use Rattle.wasm_syntax_rules.specs.Configuration.{Program}
+use Rattle.wasi_calls_rules.specs.Hosts.{IsHost}
+use Rattle.wasi_calls_rules.specs.declared.limits.TheConstants.{TEXT_BYTES}
+use Rattle.process_rules.specs.Processes.{Ending, ProcessState}
+use Rattle.machine_slots.specs.rules.Places.{ShownFrame}
+use Rattle.state_image.specs.rules.Image.{Saved, SavedShowsProcess}
+
+-- what a module begins with: its start function, if it has one, and `_start`
+pub record EntryPoints : Type 0 where
+  pub start : Option ℕ
+  pub entry : ℕ
+
+-- the function that the host has called: `_start`, or the start function while `_start` is to come
+abbrev pub IsCalled : EntryPoints → List ℕ → ℕ → Type 0
+IsCalled b [] f = f ≡ b.entry
+IsCalled b (later ∷ []) f = (later ≡ b.entry) × (b.start ≡ Some f)
+IsCalled b (later ∷ other ∷ more) f = ⊥
+
+-- the outermost frame is that of the function that the host has called
+abbrev pub IsOutermost : EntryPoints → List ℕ → List ShownFrame → Type 0
+IsOutermost b later [] = Unit {0}
+IsOutermost b later (place ∷ []) = IsCalled b later place.function
+IsOutermost b later (place ∷ next ∷ places) = IsOutermost b later (next ∷ places)
+
+-- a process that runs has a frame; one that has ended has none, nothing to come, and no unfinished line
+abbrev pub IsAlive : Option Ending → Saved → Type 0
+IsAlive None s = s.machine.frames ≢ []
+IsAlive (Some why) s = (s.machine.frames ≡ []) × (s.machine.later ≡ []) × (s.first ≡ []) × (s.second ≡ [])
+
+pub record IsWellTyped (c : Context) (program : Program) (table : List (Option ℕ)) (beginning : EntryPoints) (s : Saved) : Type 0 where
+  pub process : ProcessState
+  pub shown : SavedShowsProcess c program table s process
+  pub host : IsHost process.host
+  pub outermost : IsOutermost beginning s.machine.later s.machine.frames
+  pub alive : IsAlive s.ended s
+  pub steps : s.steps < 2 ^ 63
+  pub lines : s.lines < 2 ^ 63
+  pub answers : s.answers ≤ s.steps
+  pub requests : s.requests ≤ s.answers
+  -- a request's text and its newline
+  pub unread : length s.unread ≤ TEXT_BYTES + 1
+  -- each step makes one node at most, beside the root and the number that comes next
+  pub next : s.files.next ≤ s.steps + 2

@@ -1,0 +1,5 @@
+pub mod Answers
+pub mod Calls
+pub mod Configs
+pub mod Layouts
+pub mod Numbers

@@ -1,5 +1,0 @@
-use Rattle.wasi_calls_rows.proofs.Fitting.{tests_tell}
-use Rattle.wasi_calls_rows.proofs.laws.answers_are_taken_that_fit.Goals as goal
-
-pub returns : goal.returns
-returns c = tests_tell

@@ -1,5 +1,0 @@
-use Rattle.wasi_calls_rows.proofs.EmitsLines.{rows_emit}
-use Rattle.wasi_calls_rows.proofs.laws.calls_emit_lines.Goals as goal
-
-pub returns : goal.returns
-returns c = rows_emit

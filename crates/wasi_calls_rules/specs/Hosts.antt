@@ -1,0 +1,119 @@
+-- The host's side of a process (this project's own): files, descriptors, streams, and what it was configured with.
+use Rattle.std.specs.Prelude.{◌≡◌, ℕ, ◌<◌, ◌≤◌, ◌^◌, Bool, true, false, List, [], ◌∷◌, length, replicate, Option, Some, None, IfSome, slice_get}
+use Rattle.std.specs.List.{AllByRecursion}
+use Rattle.wasi_abi.specs.rules.Numbers.{are_within, input_rights, output_rights, directory_rights, all_rights}
+use Rattle.wasi_abi.specs.rules.Answers.{IsNoNewline}
+use Rattle.file_tree.specs.rules.Files.{Files, FileNode, IsFiles, node_of, fresh}
+use Rattle.wasi_calls_rules.specs.declared.limits.TheConstants.{DESCRIPTORS, LINE_BYTES}
+
+-- what a descriptor names: a stream by its number, or a node
+pub data Target : Type 0 where
+  Stream : ℕ → Target
+  Node : ℕ → Target
+
+pub record Descriptor : Type 0 where
+  pub target : Target
+  pub offset : ℕ
+  pub flags : ℕ
+  pub base : ℕ
+  pub inheriting : ℕ
+
+-- the stream, 1 or 2, that a line was written to, and its bytes
+pub record Line : Type 0 where
+  pub stream : ℕ
+  pub text : List ℕ
+
+-- What the calls read and change. `limit` is that of request texts and of random bytes, and `room` that of all files, in bytes.
+pub record Host : Type 0 where
+  pub files : Files
+  pub descriptors : List (Option Descriptor)
+  -- bytes of requests that were not read yet, and whether input has ended
+  pub unread : List ℕ
+  pub input_ended : Bool
+  -- the last monotonic time that was seen
+  pub last_monotonic : ℕ
+  -- the unfinished lines of streams 1 and 2, and the lines emitted so far
+  pub first : List ℕ
+  pub second : List ℕ
+  pub lines : List Line
+  pub arguments : List (List ℕ)
+  pub environment : List (List ℕ)
+  pub room : ℕ
+  pub limit : ℕ
+
+-- ---- the beginning
+
+abbrev pub stream : ℕ → ℕ → Descriptor
+stream n rights = record { target = Stream n; offset = 0; flags = 0; base = rights; inheriting = 0 }
+
+-- three streams, the root directory, and nothing else
+abbrev pub first_descriptors : List (Option Descriptor)
+first_descriptors =
+    Some (stream 0 input_rights) ∷ Some (stream 1 output_rights) ∷ Some (stream 2 output_rights)
+    ∷ Some (record { target = Node 1; offset = 0; flags = 0; base = directory_rights; inheriting = all_rights }) ∷ replicate 60 None
+
+-- nothing was read or written yet, and there is an empty root
+abbrev pub first_host : ℕ → ℕ → List (List ℕ) → List (List ℕ) → Host
+first_host room limit arguments environment = record {
+  files = fresh;
+  descriptors = first_descriptors;
+  unread = [];
+  input_ended = false;
+  last_monotonic = 0;
+  first = [];
+  second = [];
+  lines = [];
+  arguments = arguments;
+  environment = environment;
+  room = room;
+  limit = limit;
+}
+
+-- ---- when a value is a host
+
+-- the node is there
+abbrev pub IsThere : Files → Target → Type 0
+IsThere fs (Stream s) = Unit {0}
+IsThere fs (Node k) = IsSomething (node_of fs k)
+  where
+    IsSomething : {X : Type 0} → Option X → Type 0
+    IsSomething None = ⊥
+    IsSomething (Some x) = Unit {0}
+
+pub record IsDescriptor (fs : Files) (d : Descriptor) : Type 0 where
+  pub there : IsThere fs d.target
+  pub offset : d.offset < 2 ^ 63
+  pub flags : d.flags ≤ 31
+  pub base : are_within d.base all_rights ≡ true
+  pub inheriting : are_within d.inheriting all_rights ≡ true
+
+-- a stream stands at its own number, with its rights
+abbrev pub IsOwnStream : List (Option Descriptor) → ℕ → ℕ → Type 0
+IsOwnStream ds n rights = (d : Descriptor) → slice_get ds n ≡ Some (Some d) → (d.target ≡ Stream n) × (d.base ≡ rights) × (d.inheriting ≡ 0)
+
+abbrev pub IsNoStream : Target → Type 0
+IsNoStream (Stream s) = ⊥
+IsNoStream (Node k) = Unit {0}
+
+-- an unfinished line is short, and has no newline
+abbrev pub IsUnfinished : List ℕ → Type 0
+IsUnfinished text = (length text ≤ LINE_BYTES) × AllByRecursion IsNoNewline text
+
+-- a node without a path
+abbrev pub IsRemoved : Files → ℕ → Type 0
+IsRemoved fs k = (n : FileNode) × (node_of fs k ≡ Some n) × (n.path ≡ None)
+
+pub record IsHost (h : Host) : Type 0 where
+  pub files : IsFiles h.files
+  pub places : length h.descriptors ≡ DESCRIPTORS
+  pub descriptors : AllByRecursion (λ (o : Option Descriptor). IfSome o (IsDescriptor h.files)) h.descriptors
+  pub input : IsOwnStream h.descriptors 0 input_rights
+  pub output : IsOwnStream h.descriptors 1 output_rights
+  pub errors : IsOwnStream h.descriptors 2 output_rights
+  -- from 3 on no descriptor names a stream, and 3 names the root
+  pub others : (n : ℕ) (d : Descriptor) → 3 ≤ n → slice_get h.descriptors n ≡ Some (Some d) → IsNoStream d.target
+  pub root : (d : Descriptor) × (slice_get h.descriptors 3 ≡ Some (Some d)) × (d.target ≡ Node 1)
+  pub first : IsUnfinished h.first
+  pub second : IsUnfinished h.second
+  -- a removed node is one that a descriptor names
+  pub open_nodes : (k : ℕ) → IsRemoved h.files k → (n : ℕ) × (d : Descriptor) × (slice_get h.descriptors n ≡ Some (Some d)) × (d.target ≡ Node k)

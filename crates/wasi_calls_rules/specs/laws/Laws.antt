@@ -1,0 +1,69 @@
+-- Laws of the rows: what a call that is done keeps, and which answers the rows take.
+use Rattle.std.specs.Prelude.{◌≡◌, ◌↔◌, ℕ, List, ◌++◌, length, IsTrue, Option, Some, None, Ok}
+use Rattle.std.specs.List.{AllByRecursion}
+use Rattle.wasi_abi.specs.declared.answer.Kind.{Kind}
+use Rattle.wasi_abi.specs.declared.answer.Answer.{Answer}
+use Rattle.wasi_abi.specs.declared.answer.Answer.TheVariants as answer
+use Rattle.wasi_abi.specs.declared.call.Call.{Call}
+use Rattle.wasi_abi.specs.rules.Answers.{Fits}
+use Rattle.guest_memory.specs.rules.Bytes.{IsByte}
+use Rattle.file_tree.specs.rules.Files.{Path, Content, Directory, File, FileNode}
+use Rattle.wasi_calls_rules.specs.Hosts.{Line, Host}
+use Rattle.wasi_calls_rules.specs.Checks.{Bytes, Done, does_fit}
+use Rattle.wasi_calls_rules.specs.Rows.{row}
+
+-- the memory of a call that is done is as long as it was
+abbrev pub RowsKeepMemory : Type 0
+RowsKeepMemory = (c : Call) (arguments : List ℕ) (given : Option Answer) (m : Bytes) (h : Host) (done : Done) → row c arguments given m h ≡ Ok done → length done.memory ≡ length m
+
+-- ---- lines
+
+-- the lines of the first host, and then others, are those of the second
+pub record Emits (before after : Host) : Type 0 where
+  pub lines : List Line
+  pub are : after.lines ≡ before.lines ++ lines
+
+-- a call that is done emits lines behind those that were there
+abbrev pub RowsEmit : Type 0
+RowsEmit = (c : Call) (arguments : List ℕ) (given : Option Answer) (m : Bytes) (h : Host) (done : Done) → row c arguments given m h ≡ Ok done → Emits h done.host
+
+-- ---- bytes
+
+abbrev pub AreBytes : List ℕ → Type 0
+AreBytes bytes = AllByRecursion IsByte bytes
+
+-- the names of a path, where there is one
+abbrev pub IsPathOfBytes : Option Path → Type 0
+IsPathOfBytes None = Unit {0}
+IsPathOfBytes (Some path) = AllByRecursion AreBytes path
+
+abbrev pub IsContentOfBytes : Content → Type 0
+IsContentOfBytes Directory = Unit {0}
+IsContentOfBytes (File bytes) = AreBytes bytes
+
+pub record IsNodeOfBytes (n : FileNode) : Type 0 where
+  pub path : IsPathOfBytes n.path
+  pub content : IsContentOfBytes n.content
+
+-- whatever a call can copy from the host into memory is bytes
+pub record IsOfBytes (h : Host) : Type 0 where
+  pub files : AllByRecursion IsNodeOfBytes h.files.nodes
+  pub unread : AreBytes h.unread
+  pub arguments : AllByRecursion AreBytes h.arguments
+  pub environment : AllByRecursion AreBytes h.environment
+
+abbrev pub IsAnswerOfBytes : Option Answer → Type 0
+IsAnswerOfBytes (Some (answer.Request text)) = AreBytes text
+IsAnswerOfBytes (Some (answer.Random bytes)) = AreBytes bytes
+IsAnswerOfBytes _ = Unit {0}
+
+-- where memory, the host and the answer hold bytes, memory holds bytes after a call that is done
+abbrev pub RowsKeepBytes : Type 0
+RowsKeepBytes = (c : Call) (arguments : List ℕ) (given : Option Answer) (m : Bytes) (h : Host) (done : Done)
+    → AreBytes m → IsOfBytes h → IsAnswerOfBytes given → row c arguments given m h ≡ Ok done → AreBytes done.memory
+
+-- ---- answers
+
+-- the test that the rows make of an answer passes exactly where it fits
+abbrev pub TestsTellWhatFits : Type 0
+TestsTellWhatFits = (limit : ℕ) (k : Kind) (a : Answer) → IsTrue (does_fit limit k a) ↔ Fits limit k a

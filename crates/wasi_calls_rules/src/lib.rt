@@ -1,0 +1,33 @@
+//! The rules of the 31 calls of WASI preview 1. Names, types, numbers and layouts are those of its
+//! witx files. Which error a call answers, the order of its checks, and the rights that it needs
+//! are this project's own profile.
+//!
+//! # Promises
+//!
+//! The calls of `laws` do nothing; what they ensure is proved of the rules of all 31 calls.
+//!
+//! - `calls_keep_memory`: a call that is done keeps the length of memory (`length`), and leaves
+//!   bytes where there were bytes (`bytes`).
+//! - `calls_emit_lines`: a call that is done emits lines behind those that were there.
+//! - `answers_are_taken_that_fit`: the rules take an answer exactly where it fits what is asked.
+//! - `worked_examples`: openings, moves, writes, small calls and directories on examples.
+//! - `limits` has five numbers that definitions and code share, as `LINE_BYTES` and `TEXT_BYTES`.
+//!
+//! # Definitions to read
+//!
+//! In `specs/`: `Host`, `first_host`, `IsHost` (`Hosts.antt`); the checks that all calls share,
+//! and `>>=` (`Checks.antt`); lines (`Lines.antt`); paths and `walk` (`Paths.antt`); one
+//! definition for each call (`Small.antt`, `Moving.antt`, `Entries.antt`). `row` joins them, and
+//! `TellsRow` is what a caller is told (`Rows.antt`). The laws and examples are in `specs/laws/`;
+//! nobody has to believe them.
+//!
+//! # Who may touch what
+//!
+//! There is no code here but limits and the empty functions of `laws`. `wasi_calls` has the code
+//! of the calls that are built; `process_rules`, `record_replay`, `state_image` and `worker_rules`
+//! cite the definitions. They stand on those of `file_tree`, `wasi_abi` and `guest_memory`. The
+//! crate takes no memory, and has no errors.
+#![tactic(auto)]
+
+pub mod laws;
+pub mod limits;

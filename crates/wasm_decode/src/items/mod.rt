@@ -1,0 +1,25 @@
+//! Reading the binary format from the front (Core Specification 1.0, chapter 5): bytes, integers,
+//! vectors, names, types, instructions, expressions and what sections hold. The readers keep to
+//! this project's limits, and say where the first fault stands.
+
+mod codes;
+mod decoder;
+mod entries;
+mod expressions;
+mod fault;
+mod instructions;
+mod item;
+mod operators;
+mod span;
+mod step;
+mod types;
+mod vectors;
+
+pub use codes::code;
+pub use decoder::Decoder;
+pub use entries::import;
+pub use expressions::expression;
+pub use fault::{ReadError, ReadRefusal};
+pub use item::Item;
+pub use span::Span;
+pub use vectors::{name, skip_name, take_sized, vector, vector_up_to};

@@ -1,9 +1,0 @@
-use Rattle.std.proofs.Common.{rules}
-use Rattle.wasm_decode_items.proofs.Bounded.{memory_by_limits}
-use Rattle.wasm_decode_items.proofs.types.memory_type.Goals as goal
-
-pub returns-in_err-limits : goal.returns-in_err-limits
-returns-in_err-limits c = rw memory_by_limits (search rules)
-
-pub returns : goal.returns
-returns c = rw memory_by_limits (search rules)

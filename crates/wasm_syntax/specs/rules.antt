@@ -1,0 +1,5 @@
+pub mod Instructions
+pub mod Items
+pub mod Limits
+pub mod Modules
+pub mod Sequence

@@ -1,0 +1,36 @@
+use Rattle.std.proofs.Common.{◌≡◌, refl, ap}
+use Rattle.wasm_syntax.specs.declared.instruction.Instruction.{Instruction}
+use Rattle.wasm_syntax.specs.declared.instruction.Instruction.TheVariants as instr
+use Rattle.wasm_syntax_rules.specs.Typing.{Context as Typing}
+use Rattle.wasm_validate.specs.laws.Checking.{Refused, arrow_of, labels_of}
+use Rattle.wasm_validate.specs.Body.Kinds.{IsTransfer}
+use Rattle.wasm_validate.specs.Body.Tops.{top_applied}
+use Rattle.wasm_validate.proofs.body.levels.Levels.transfer.Goals as goal
+
+pub returns-in-Br : goal.returns-in-Br
+returns-in-Br c = λ c' scope kind. rw c.in-Br.is (c.branch-self.ensures c')
+
+pub returns-in-BrIf : goal.returns-in-BrIf
+returns-in-BrIf c = λ c' scope kind. rw c.in-BrIf.is (c.branch_if.ensures c')
+
+pub returns-in-BrTable : goal.returns-in-BrTable
+returns-in-BrTable c = λ c' scope kind. rw c.in-BrTable.is (c.branch_table.ensures c')
+
+pub returns-in_default : goal.returns-in_default
+returns-in_default c = λ c' scope kind. ap (λ z. top_applied z c.args.self.now) (refused c' c.args.instruction.now refl kind)
+  where
+    refused : (c' : Typing) (i : Instruction) → c.args.instruction.now ≡ i → IsTransfer i → arrow_of c' (labels_of c.args.self.now) i ≡ Refused
+    refused c' instr.Unreachable e kind = absurd (c.in_default.not-Unreachable e)
+    refused c' instr.Nop e kind = absurd (c.in_default.not-Nop e)
+    refused c' (instr.Br l) e kind = absurd (c.in_default.not-Br l e)
+    refused c' (instr.BrIf l) e kind = absurd (c.in_default.not-BrIf l e)
+    refused c' (instr.BrTable ls l) e kind = absurd (c.in_default.not-BrTable ls l e)
+    refused c' instr.Return e kind = absurd (c.in_default.not-Return e)
+    refused c' (instr.Call f) e kind = absurd (c.in_default.not-Call f e)
+    refused c' (instr.CallIndirect t) e kind = absurd (c.in_default.not-CallIndirect t e)
+    refused c' (instr.Block t) e kind = refl
+    refused c' (instr.Loop t) e kind = refl
+    refused c' (instr.If t) e kind = refl
+    refused c' instr.Else e kind = refl
+    refused c' instr.End e kind = refl
+    refused c' _ e kind = absurd kind

@@ -1,0 +1,19 @@
+use Rattle.std.proofs.Common.{refl}
+use Rattle.wasm_syntax_rules.specs.Validity.{module_context}
+use Rattle.wasm_validate.specs.Parts.Parts.{NamesGlobal}
+use Rattle.wasm_validate.proofs.PartLemmas.Denied.{decides_as}
+use Rattle.wasm_validate.proofs.PartLemmas.Lookups.{is_false}
+use Rattle.wasm_validate.proofs.parts.segments.check_data_segment.Goals as goal
+
+pub returns-then-not-is_memory : goal.returns-then-not-is_memory
+returns-then-not-is_memory c = λ m functions s d. is_false ((c.if-not-is_memory.ensures (module_context m functions) s.context s.one_memory).1 d.0)
+
+pub returns : goal.returns
+returns c = λ m functions s.
+    let t = module_context m functions in
+    let all = c.globals.ensures t s.context in
+    let bytes = rw c.as_slice.ensures at c.are_bytes.ensures in
+    decides_as (NamesGlobal c.globals.result.now c.as_slice-2.result.now) c.check_constant.result
+    (λ constant. ((c.if-not-is_memory.ensures t s.context s.one_memory).0 refl, rw (all, c.as_slice-2.ensures) at constant, bytes))
+    (λ d. rw (all, c.as_slice-2.ensures) d.1)
+    c.check_constant.ensures

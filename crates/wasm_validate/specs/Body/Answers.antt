@@ -1,0 +1,47 @@
+-- What the steps of a check answer.
+use Rattle.std.specs.Prelude.{◌≡◌, ℕ, Bool, true, false, List, Option, Some, None, Result, Ok, Err, slice_get}
+use Rattle.wasm_syntax.specs.declared.types.ValueType.{ValueType}
+use Rattle.wasm_syntax.specs.declared.instruction.Instruction.{Instruction}
+use Rattle.wasm_syntax_rules.specs.Types.{results_of}
+use Rattle.wasm_syntax_rules.specs.Typing.{Context}
+use Rattle.wasm_validate.specs.declared.parts.fault.ValidFault.{ValidFault}
+use Rattle.wasm_validate.specs.declared.parts.fault.ValidFault.TheVariants.{Typing, Index, Limits, DuplicateExport, Memory}
+use Rattle.wasm_validate.specs.laws.Checking.{Known, Level, arrow_of, labels_of}
+use Rattle.wasm_validate.specs.Body.Tops.{top_applied}
+
+-- A fault comes only where there is nothing. Want of memory says nothing of it.
+abbrev pub FailsToCheck : {X : Type 0} → ValidFault → Option X → Type 0
+FailsToCheck Memory o = Unit {0}
+FailsToCheck Typing o = o ≡ None
+FailsToCheck Index o = o ≡ None
+FailsToCheck Limits o = o ≡ None
+FailsToCheck DuplicateExport o = o ≡ None
+
+-- the levels are then these
+abbrev pub LevelsFollow : {X : Type 0} → Result X ValidFault → List Level → Option (List Level) → Type 0
+LevelsFollow (Ok x) new o = o ≡ Some new
+LevelsFollow (Err e) new o = FailsToCheck e o
+
+-- the levels are then those behind an instruction that stays in its sequence
+abbrev pub Performs : {X : Type 0} → Context → Instruction → Result X ValidFault → List Level → List Level → Type 0
+Performs c i r old new = LevelsFollow r new (top_applied (arrow_of c (labels_of old) i) old)
+
+-- the same of a step that tells what it took
+abbrev pub Pops : Result Known ValidFault → List Level → Option (Known × List Level) → Type 0
+Pops (Ok k) new o = o ≡ Some (k, new)
+Pops (Err e) new o = FailsToCheck e o
+
+-- what a branch to a label takes, or there is no such label
+abbrev pub FindsLabel : Result (Option ValueType) ValidFault → List (List ValueType) → ℕ → Type 0
+FindsLabel (Ok t) labels l = slice_get labels l ≡ Some (results_of t)
+FindsLabel (Err e) labels l = (e ≡ Index) × (slice_get labels l ≡ None)
+
+-- nothing but want of memory
+abbrev pub OnlyMemory : {X : Type 0} → Result X ValidFault → Type 0
+OnlyMemory (Ok x) = Unit {0}
+OnlyMemory (Err e) = e ≡ Memory
+
+-- Ok exactly where the test holds
+abbrev pub Tests : {X : Type 0} → Result X ValidFault → Bool → Type 0
+Tests (Ok x) b = b ≡ true
+Tests (Err e) b = b ≡ false

@@ -1,0 +1,13 @@
+-- Bodies that have their function's type.
+use Rattle.std.specs.Prelude.{[], ◌∷◌}
+use Rattle.wasm_syntax.specs.declared.types.FunctionType.{FunctionType}
+use Rattle.wasm_syntax.specs.declared.module.Code.{Code}
+use Rattle.wasm_syntax.specs.rules.Sequence.{Sequence, Spells}
+use Rattle.wasm_syntax_rules.specs.Types.{gives_of}
+use Rattle.wasm_syntax_rules.specs.Typing.{Context, HasType, body_context}
+
+-- The body spells a sequence that gives, from nothing on, what the function gives; a branch out of it all gives that too (3.4.1).
+pub record HasBody (c : Context) (kind : FunctionType) (code : Code) : Type 0 where
+  pub sequence : Sequence
+  pub spells : Spells code.body sequence
+  pub typed : HasType (body_context c kind code.locals) (gives_of kind ∷ []) sequence [] (gives_of kind)

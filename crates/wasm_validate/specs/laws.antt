@@ -1,0 +1,3 @@
+pub mod Algorithm
+pub mod Checking
+pub mod Remaining

@@ -1,0 +1,18 @@
+//! What is proved of the definitions alone.
+
+ghost use Rattle.wasm_validate.specs.Parts.Parts.{PartsGiveValid, ValidGivesParts};
+ghost use Rattle.wasm_validate.specs.laws.Algorithm.{PassesOnlyTyped, PassesAllTyped};
+
+/// What is checked before and behind the code section, and the bodies, are all of validity.
+pub fn parts_are_validity()
+    ensures enough { PartsGiveValid }
+    ensures needed { ValidGivesParts }
+{}
+
+// The law of the definitions. The function does nothing: what it ensures is the law.
+
+/// Exactly what is typed passes the check.
+pub fn checking_is_typing()
+    ensures only { PassesOnlyTyped }
+    ensures all { PassesAllTyped }
+{}

@@ -1,7 +1,0 @@
-use Rattle.std.proofs.Common.{◌≡◌, reverse, length, drop}
-use Rattle.wasm_validate_body.specs.Tops.{top_all_taken}
-use Rattle.wasm_validate_body.proofs.levels.Levels.expect_all.Given as goal
-
-abbrev pub invariant-loop-value_type : goal.invariant-loop-value_type
-invariant-loop-value_type l =
-    top_all_taken (reverse l.types) l.initial.self ≡ top_all_taken (drop (length l.yielded) (reverse l.types)) l.self

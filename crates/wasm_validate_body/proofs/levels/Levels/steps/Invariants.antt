@@ -1,9 +1,0 @@
-use Rattle.std.proofs.Common.{◌≡◌, drop}
-use Rattle.wasm_syntax_rules.specs.Typing.{Context as Typing}
-use Rattle.wasm_validate_algorithm.specs.Checking.{checked}
-use Rattle.wasm_validate_body.specs.Scopes.{IsScopeOf}
-use Rattle.wasm_validate_body.proofs.levels.Levels.steps.Given as goal
-
-abbrev pub invariant-loop-instruction : goal.invariant-loop-instruction
-invariant-loop-instruction l =
-    (c : Typing) → IsScopeOf c l.scope → checked c l.body l.initial.self ≡ checked c (drop l.instruction-index l.body) l.self

@@ -1,8 +1,0 @@
-use Rattle.std.proofs.Common.{arith}
-use Rattle.wasm_validate_parts.proofs.Lookups.{length-types}
-use Rattle.wasm_validate_parts.proofs.context.Context.function_count.Goals as goal
-
-pub returns : goal.returns
-returns c = λ t is.
-    let indices = c.args.self.now.function_types in
-    omega (arith, length-types t.types indices.items t.functions is.functions, indices.ok.0, c.len.ensures)

@@ -1,0 +1,95 @@
+-- From what `clap` says of its matches to what the words mean.
+use Rattle.std.proofs.Common.{◌≡◌, ◌<◌, ℕ, true, false, arith, refl, ap, ap₂, sym, ◌∙◌, subst, List, [], Option, Some, None, Result, Ok, Err, codes, true≢false, inl, inr}
+use Rattle.std.specs.Option.{IsSomeAnd, is_some, option_map, option_map_or, unwrap_or}
+use Rattle.std.specs.Prelude.{Box, IfSome}
+use Rattle.std.specs.Str.Parse.{ParsesUnsigned, digits_value, without_leading_plus}
+use Rattle.std.specs.Box.{box_value}
+use Rattle.clap.specs.Words.{App, ReadsOne, Row, Text, fault_of, first_value, has_subcommand, is_simple_and_free, kind_of, one_text, rows_of, subcommand_name_of, subcommand_of, subcommand_rows, subcommand_rows_of, takes, HasKind, IsAmong}
+use Rattle.clap.specs.declared.error.Error.{Error}
+use Rattle.clap.specs.declared.error.ErrorKind.TheVariants as kind
+use Rattle.clap.specs.declared.parser.matches.ArgMatches.{ArgMatches}
+use Rattle.clap.specs.declared.parser.matches.ArgMatches.TheViews.{out-ArgMatches, out-SubCommand}
+use Rattle.clap.specs.declared.parser.matches.SubCommand.{SubCommand}
+use Rattle.clap.specs.declared.parser.matches.Found.{Found}
+use Rattle.clap.proofs.WalkLemmas.{first_value-rows, one_text-rows}
+use Rattle.wasmhost_serve.specs.rules.Commands.{IsFaultOf, IsFuelText, IsTaken, IsWordsFault, TakesFuel, check, fuel_in, fuel_text_in, meaning_below, path_in, run, wasmhost}
+use Rattle.wasmhost_serve.specs.declared.words.WordsFault.{WordsFault}
+use Rattle.wasmhost_serve.specs.declared.words.WordsFault.TheVariants as fault
+use Rattle.wasmhost_serve.proofs.WordLemmas.Lines.{words_taken}
+
+-- ---- the fuel
+
+-- what `get_one` gives of `--fuel`, or 100,000, is the fuel, and not zero
+pub fuel_is_read : (E : Type 0) (Gives : Text → Result ℕ E → Type 0) (found : Found) (given : Option ℕ)
+    → ((text : Text) (r : Result ℕ E) → Gives text r → ParsesUnsigned 64 10 text r) → (one_text found (codes "fuel") ≡ None → given ≡ None)
+    → ((text : Text) → one_text found (codes "fuel") ≡ Some text → ReadsOne Gives text given) → TakesFuel (rows_of found)
+    → (unwrap_or given 100000 ≡ fuel_in (rows_of found)) × (0 < unwrap_or given 100000)
+fuel_is_read E Gives found given parses none some fits = go (fuel_text_in (rows_of found)) (one_text-rows found (codes "fuel")) fits
+  where
+    number : (text : Text) (given : Option ℕ) → IsFuelText text → ReadsOne Gives text given
+        → (unwrap_or given 100000 ≡ digits_value 10 (without_leading_plus text)) × (0 < unwrap_or given 100000)
+    number text (Some n) fits read =
+        let same : n ≡ digits_value 10 (without_leading_plus text) = (parses text (Ok n) read).1 in
+        (same, omega (arith, fits.2, same))
+    number text None fits read = absurd (parses text (Err read.0) read.1 (fits.0, fits.1))
+
+    go : (text : Option Text) → one_text found (codes "fuel") ≡ text → IfSome text IsFuelText
+        → (unwrap_or given 100000 ≡ option_map_or (λ t. digits_value 10 (without_leading_plus t)) text 100000) × (0 < unwrap_or given 100000)
+    go None is fits = let absent : given ≡ None = none is in rw absent (refl, omega arith)
+    go (Some text) is fits = number text given fits (some text is)
+
+-- ---- orders
+
+pub path_is_some : (found : Found) (path : Option Text) → path ≡ first_value found (codes "MODULE") → path_in (rows_of found) ≡ path
+path_is_some found path is = sym (is ∙ first_value-rows found (codes "MODULE"))
+
+pub means_check : (name path : Text) (rows : List Row) → name ≡ codes "check" → path_in rows ≡ Some path → meaning_below (name, rows) ≡ Some (check path)
+means_check name path rows is found = subst (λ (t : Text). meaning_below (t, rows) ≡ Some (check path)) (sym is) (ap (option_map check) found)
+
+pub means_run : (name path : Text) (fuel : ℕ) (rows : List Row) → name ≡ codes "run" → path_in rows ≡ Some path → fuel ≡ fuel_in rows
+    → meaning_below (name, rows) ≡ Some (run path fuel)
+means_run name path fuel rows is found spent =
+    subst (λ (t : Text). meaning_below (t, rows) ≡ Some (run path fuel)) (sym is) (ap (option_map (λ p. run p (fuel_in rows))) found ∙ ap (λ n. Some (run path n)) (sym spent))
+
+-- ---- the subcommand
+
+named_and_met : (m : ArgMatches) (name : Text) (rows : List Row) → Some name ≡ subcommand_name_of m → Some rows ≡ option_map (λ p. p.1) (subcommand_rows_of m)
+    → subcommand_rows_of m ≡ Some (name, rows)
+named_and_met m name rows = go (out-ArgMatches m).subcommand
+  where
+    go : {Z : Type 0} (o : Option (Box SubCommand Z)) → Some name ≡ option_map (λ b. (out-SubCommand (box_value b)).name.now) o → Some rows ≡ option_map (λ p. p.1) (subcommand_rows o)
+        → subcommand_rows o ≡ Some (name, rows)
+    go None is met = absurd (true≢false (ap is_some is))
+    go (Some b) is met = sym (ap₂ (λ n r. Some (n, r)) (ap (λ o. unwrap_or o name) is) (ap (λ o. unwrap_or o rows) met))
+
+module _ (words : List Text) (m : ArgMatches) (faultless : fault_of wasmhost words ≡ []) (parsed : subcommand_rows_of m ≡ subcommand_of wasmhost words) where
+  taken : IsSomeAnd (subcommand_rows_of m) IsTaken
+  taken = subst (λ o. IsSomeAnd o IsTaken) (sym parsed) (words_taken words faultless)
+
+  pub is_never_alone : false ≡ has_subcommand m → ⊥
+  is_never_alone = go (out-ArgMatches m).subcommand taken
+    where
+      go : {Z : Type 0} (o : Option (Box SubCommand Z)) → IsSomeAnd (subcommand_rows o) IsTaken → false ≡ is_some o → ⊥
+      go None h e = h
+      go (Some b) h e = true≢false (sym e)
+
+  pub met_is_taken : (name : Text) (rows : List Row) → Some name ≡ subcommand_name_of m → Some rows ≡ option_map (λ p. p.1) (subcommand_rows_of m) → IsTaken (name, rows)
+  met_is_taken name rows is met = subst (λ o. IsSomeAnd o IsTaken) (named_and_met m name rows is met) taken
+
+  pub met_is_named : (name : Text) (rows : List Row) → Some name ≡ subcommand_name_of m → Some rows ≡ option_map (λ p. p.1) (subcommand_rows_of m)
+      → subcommand_of wasmhost words ≡ Some (name, rows)
+  met_is_named name rows is met = sym parsed ∙ named_and_met m name rows is met
+
+-- ---- faults
+
+-- what an error of the command line is told as
+pub told_fault : (words : List Text) (app : App) (told : Error) (f : WordsFault) → app ≡ wasmhost
+    → (is_simple_and_free app ≡ true → HasKind (fault_of app words) told) → (takes app words ≡ true → kind_of told ≡ kind.OutOfMemory) → IsWordsFault told f
+    → IsFaultOf words f
+told_fault words app told fault.Memory is kinds passes says = tt
+told_fault words app told (fault.Words kept) is kinds passes says =
+    let among : IsAmong (kind_of told) (fault_of wasmhost words) = elim (kinds (ap is_simple_and_free is)) [
+      | inl memory ↦ absurd (says.1 memory)
+      | inr k ↦ subst (λ a. IsAmong (kind_of told) (fault_of a words)) is k
+    ] in
+    (subst (λ e. IsAmong (kind_of e) (fault_of wasmhost words)) (sym says.0) among, λ t. says.1 (passes (ap (λ a. takes a words) is ∙ t)))

@@ -1,0 +1,125 @@
+-- The program's command line, and the order that its words give.
+use Rattle.std.specs.Prelude.{◌≡◌, ◌⊎◌, ⊤, ℕ, ◌-◌, ◌^◌, List, [], true, false, Option, Some, None, Result, option_map, option_and_then, if◌then◌else◌, codes, ◌≢◌, IfSome, IsSome, MatchResult}
+use Rattle.std.specs.Option.{option_map_or}
+use Rattle.std.specs.Int.NonZero.{non_zero_u64_get}
+use Rattle.std.specs.Str.{bytes_eq}
+use Rattle.std.specs.Str.Parse.{digits_value, without_leading_plus}
+use Rattle.clap.specs.Words.{App, IsAmong, IsUnsignedIn, Row, Rule, Text, app_of, fault_of, first_of, is_broken, kind_of, new_app, new_rule, one_of, rule_of, subcommand_of, subcommand_rows_of, takes, with_rule, with_subcommand}
+use Rattle.clap.specs.Simple.{on_top}
+use Rattle.clap.specs.declared.error.ErrorKind.TheVariants as kind
+use Rattle.clap.specs.declared.error.Error.{Error}
+use Rattle.clap.specs.declared.builder.action.ArgAction.TheVariants.{Set}
+use Rattle.clap.specs.declared.parser.matches.ArgMatches.{ArgMatches}
+use Rattle.clap.specs.declared.builder.arg.Arg.{Arg}
+use Rattle.clap.specs.declared.builder.command.Command.TheViews.{out-Command}
+use Rattle.clap.specs.declared.builder.command.Command.{Command}
+use Rattle.clap.specs.declared.builder.value_parser.ValueParser.TheVariants.{Unsigned}
+use Rattle.wasmhost_serve.specs.declared.words.Order.{Order}
+use Rattle.wasmhost_serve.specs.declared.words.Order.TheVariants.{Check, Run}
+use Rattle.wasmhost_serve.specs.declared.words.WordsFault.{WordsFault}
+use Rattle.wasmhost_serve.specs.declared.words.WordsFault.TheVariants as fault
+
+-- ---- the command line
+
+-- the argument MODULE, which has to be given
+abbrev pub module_rule : Rule
+module_rule = record (new_rule (codes "MODULE")) { required = true; action = Some Set }
+
+-- the option `--fuel`, with a number from 1 to 2^64 - 1
+abbrev pub fuel_rule : Rule
+fuel_rule = record (new_rule (codes "fuel")) { long = Some (codes "fuel"); value_names = 1; parser = Some (Unsigned 1 (2 ^ 64 - 1)) }
+
+-- `check MODULE`
+abbrev pub check_app : App
+check_app = with_rule (new_app (codes "check")) module_rule
+
+-- `run MODULE`, with `--fuel` where it is wanted
+abbrev pub run_app : App
+run_app = with_rule (with_rule (new_app (codes "run")) module_rule) fuel_rule
+
+-- the program, which requires one of the two
+abbrev pub wasmhost : App
+wasmhost = on_top (λ top. record top { subcommand_required = true }) (with_subcommand (with_subcommand (new_app (codes "wasmhost")) check_app.top) run_app.top)
+
+-- the argument has this rule, and belongs to its command alone
+abbrev pub IsArgument : Rule → Arg → Type 0
+IsArgument rule argument = (rule_of argument ≡ rule) × (argument.global ≡ false)
+
+-- the command is this one, whole, and none of its arguments is global
+abbrev pub IsCommand : App → Command → Type 0
+IsCommand app command = (app_of command ≡ app) × (is_broken command ≡ false) × ((out-Command command).has_globals ≡ false)
+
+-- ---- orders
+
+-- what an order says: the path as a text, and the fuel as a number
+pub data Meaning : Type 0 where
+  check : Text → Meaning
+  run : Text → ℕ → Meaning
+
+abbrev pub meaning_of : Order → Meaning
+meaning_of (Check path) = check path.now
+meaning_of (Run path fuel) = run path.now (non_zero_u64_get fuel)
+
+abbrev pub path_in : List Row → Option Text
+path_in = first_of (codes "MODULE")
+
+abbrev pub fuel_text_in : List Row → Option Text
+fuel_text_in = one_of (codes "fuel")
+
+-- the number that `--fuel` gives, or 100,000
+abbrev pub fuel_in : List Row → ℕ
+fuel_in rows = option_map_or (λ text. digits_value 10 (without_leading_plus text)) (fuel_text_in rows) 100000
+
+-- what `check` and `run` mean, with the rows of what stands behind them
+abbrev pub meaning_below : Text × List Row → Option Meaning
+meaning_below met =
+    if bytes_eq met.0 (codes "check") then option_map check (path_in met.1)
+    else if bytes_eq met.0 (codes "run") then option_map (λ path. run path (fuel_in met.1)) (path_in met.1)
+    else None
+
+-- what the words of a command line mean
+abbrev pub meaning_in : List Text → Option Meaning
+meaning_in words = option_and_then meaning_below (subcommand_of wasmhost words)
+
+-- a fault of the words: a mistake, or a call for help, of a kind that is listed for them; or want of memory
+abbrev pub IsFaultOf : List Text → WordsFault → Type 0
+IsFaultOf words (fault.Words told) = IsAmong (kind_of told) (fault_of wasmhost words) × (takes wasmhost words ≡ true → ⊥)
+IsFaultOf words fault.Memory = ⊤
+
+-- what may be answered to the words: the order that they mean, where no kind of fault is listed for them, or a fault of theirs
+abbrev pub IsReading : List Text → Result Order WordsFault → Type 0
+IsReading words result = MatchResult result (λ order. (fault_of wasmhost words ≡ []) × (meaning_in words ≡ Some (meaning_of order))) (IsFaultOf words)
+
+-- ---- steps of reading
+
+-- the matches are those of the words
+abbrev pub IsParse : List Text → Result ArgMatches WordsFault → Type 0
+IsParse words result = MatchResult result (λ matches. (fault_of wasmhost words ≡ []) × (subcommand_rows_of matches ≡ subcommand_of wasmhost words)) (IsFaultOf words)
+
+-- a number from 1 to 2^64 - 1
+abbrev pub IsFuelText : Text → Type 0
+IsFuelText = IsUnsignedIn 1 (2 ^ 64 - 1)
+
+-- the text of `--fuel`, where it is there, is such a number
+abbrev pub TakesFuel : List Row → Type 0
+TakesFuel rows = IfSome (fuel_text_in rows) IsFuelText
+
+-- one of the two commands, with a path, and a fuel where it is there
+abbrev pub IsTaken : Text × List Row → Type 0
+IsTaken met = ((met.0 ≡ codes "check") ⊎ (met.0 ≡ codes "run")) × IsSome (path_in met.1) × TakesFuel met.1
+
+-- ---- faults
+
+-- help and the version are asked for, and no mistakes
+abbrev pub IsAskedFor : Error → Type 0
+IsAskedFor told = (kind_of told ≡ kind.DisplayHelp) ⊎ (kind_of told ≡ kind.DisplayVersion)
+
+-- want of memory is told apart
+abbrev pub IsWordsFault : Error → WordsFault → Type 0
+IsWordsFault told (fault.Words kept) = (kept ≡ told) × (kind_of told ≢ kind.OutOfMemory)
+IsWordsFault told fault.Memory = kind_of told ≡ kind.OutOfMemory
+
+-- help is done, a mistake is 2, and want of memory 5
+abbrev pub IsStatusOf : WordsFault → ℕ → Type 0
+IsStatusOf (fault.Words told) status = ((status ≡ 0) × IsAskedFor told) ⊎ ((status ≡ 2) × (IsAskedFor told → ⊥))
+IsStatusOf fault.Memory status = status ≡ 5

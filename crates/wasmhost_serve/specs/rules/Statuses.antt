@@ -1,0 +1,31 @@
+-- What the commands find, and the exit status that says it.
+use Rattle.std.specs.Prelude.{ℕ, List, Result, Ok, Err, ⊤, if◌then◌else◌}
+use Rattle.machine_loader.specs.declared.fault.FrontFault.{FrontFault}
+use Rattle.machine_loader.specs.rules.Acceptance.{HasAcceptedModule, HasNoAcceptedModule, FrontDenies, is_want}
+use Rattle.worker.specs.declared.fault.WorkFault.TheVariants as fault
+use Rattle.wasmhost_serve.specs.declared.lines.fault.LineFault.TheVariants as line
+use Rattle.wasmhost_serve.specs.declared.run.RunFault.{RunFault}
+use Rattle.wasmhost_serve.specs.declared.run.RunFault.TheVariants as run
+
+-- The bytes spell an accepted module, or none for the fault to be told. Want of memory says nothing of them.
+abbrev pub IsRight : ℕ → List ℕ → Result ⊤ FrontFault → Type 0
+IsRight pages bytes (Ok done) = HasAcceptedModule pages bytes
+IsRight pages bytes (Err fault) = FrontDenies fault (HasNoAcceptedModule pages bytes)
+
+-- the exit status of a verdict whose line is printed
+abbrev pub status_by : Result ⊤ FrontFault → ℕ
+status_by (Ok done) = 0
+status_by (Err fault) = if is_want fault then 5 else 3
+
+-- the exit status of a worker that doesn't run to its end, where that is printed
+abbrev pub status_of : RunFault → ℕ
+status_of (run.Work fault.Source) = 4
+status_of (run.Work fault.Outlet) = 7
+status_of (run.Work fault.Memory) = 5
+status_of (run.Work fault.Failed) = 4
+status_of (run.Work (fault.Refused why)) = 3
+status_of (run.Line line.Read) = 4
+status_of (run.Line line.Kind) = 4
+status_of (run.Line line.Memory) = 5
+status_of (run.Line (line.Number given wanted)) = 6
+status_of (run.Line line.Form) = 6
