@@ -1,0 +1,243 @@
+//! Workers read back from disks, whole and damaged.
+
+use crate::layouts::{PLACES, SECTORS, SPELLED, WASM, layout_fault, written};
+use disk_layout::{Contents, Geometry, LayoutFault, config_bytes_of, config_from, read_contents};
+use sector_disk::{Disk, DiskFault, FaultDisk, Place};
+use std::alloc::{AllocError, Global};
+use wasi_abi::Config;
+use wasm_syntax::Row;
+
+fn is_one_text(texts: &Row<Row<u8>>, text: &[u8]) -> bool {
+    match texts.get(0) {
+        Some(first) => texts.len() == 1 && first.as_slice() == text,
+        None => false,
+    }
+}
+
+fn is_the_worker(contents: &Contents) -> bool {
+    let config = &contents.config;
+    contents.geometry == PLACES
+        && contents.wasm.as_slice() == WASM.as_slice()
+        && (config.pages(), config.files(), config.journal()) == (1, 1, 64)
+        && is_one_text(config.arguments(), b"worker")
+        && config.environment().is_empty()
+}
+
+fn is_spelled_again(alloc: Global, config: &Config) -> Result<bool, LayoutFault> {
+    match config_bytes_of(alloc, config) {
+        Ok(bytes) => Ok(bytes.as_slice() == SPELLED.as_slice()),
+        Err(_) => Err(LayoutFault::Memory),
+    }
+}
+
+fn is_read_back(alloc: Global) -> Result<bool, LayoutFault> {
+    let mut disk = written(alloc, SECTORS, PLACES, &SPELLED).map_err(layout_fault)?;
+    let contents = read_contents(alloc, &mut disk)?;
+    Ok(is_the_worker(&contents) && is_spelled_again(alloc, &contents.config)?)
+}
+
+/// `scripts/refused-allocations` refuses each allocation in turn, and then this ends in want of memory.
+#[test]
+fn a_worker_is_read_back(rt: HostRuntime) -> Result<(), LayoutFault> {
+    assert!(rt; is_read_back(rt.alloc())?);
+    Ok(())
+}
+
+fn fault_of<D: Disk>(alloc: Global, disk: &mut D) -> Option<LayoutFault> {
+    match read_contents(alloc, disk) {
+        Ok(_) => None,
+        Err(fault) => Some(fault),
+    }
+}
+
+/// What is wrong where one byte of the configuration is another, under a digest that is right.
+fn fault_of_spelling(alloc: Global, at: usize, byte: u8) -> Result<Option<LayoutFault>, DiskFault> {
+    let mut spelled = SPELLED;
+    if at >= 28 {
+        return Ok(None);
+    }
+    spelled[at] = byte;
+    let mut disk = written(alloc, SECTORS, PLACES, &spelled)?;
+    Ok(fault_of(alloc, &mut disk))
+}
+
+static OTHER_BYTES: [(usize, u8); 11] = [
+    (0, 0),
+    (2, 1),
+    (4, 65),
+    (8, 63),
+    (12, 0),
+    (12, 2),
+    (12, 65),
+    (16, 5),
+    (16, 7),
+    (18, 0),
+    (24, 1),
+];
+
+#[test]
+fn bytes_of_no_configuration(rt: HostRuntime) -> Result<(), DiskFault> {
+    for (at, byte) in &OTHER_BYTES {
+        assert!(rt;
+            fault_of_spelling(rt.alloc(), *at, *byte)? == Some(LayoutFault::Damaged),
+            "{at} {byte}"
+        );
+    }
+    Ok(())
+}
+
+/// Two pages, one unit of files, a journal of 64 sectors, and the environment `K=v`.
+static ENVIRONMENT: [u8; 25] = *b"\x02\0\0\0\x01\0\0\0\x40\0\0\0\0\0\0\0\x01\0\0\0\x03\0K=v";
+
+/// Bytes with another number of pages, with a zero behind them, and with no name before the `=`.
+static SPELLINGS: [&[u8]; 3] = [
+    b"\x02\x01\0\0\x01\0\0\0\x40\0\0\0\0\0\0\0\x01\0\0\0\x03\0K=v",
+    b"\x02\0\0\0\x01\0\0\0\x40\0\0\0\0\0\0\0\x01\0\0\0\x03\0K=v\0",
+    b"\x02\0\0\0\x01\0\0\0\x40\0\0\0\0\0\0\0\x01\0\0\0\x03\0=Kv",
+];
+
+fn spells_one(alloc: Global, bytes: &[u8]) -> Result<bool, AllocError> {
+    Ok(config_from(alloc, bytes)?.is_some())
+}
+
+/// Whether a front of the bytes spells a configuration.
+fn a_front_spells_one(alloc: Global) -> Result<bool, AllocError> {
+    for len in 0..25 {
+        if spells_one(alloc, &ENVIRONMENT[..len])? {
+            return Ok(true);
+        }
+    }
+    Ok(false)
+}
+
+#[test]
+fn other_bytes_spell_no_configuration(rt: HostRuntime) -> Result<(), AllocError> {
+    for bytes in &SPELLINGS {
+        assert!(rt; !spells_one(rt.alloc(), bytes)?, "{bytes:?}");
+    }
+    assert!(rt; !a_front_spells_one(rt.alloc())?);
+    Ok(())
+}
+
+fn is_environment(alloc: Global) -> Result<bool, AllocError> {
+    match config_from(alloc, &ENVIRONMENT)? {
+        None => Ok(false),
+        Some(config) => Ok(
+            config.pages() == 2
+                && config.arguments().is_empty()
+                && is_one_text(config.environment(), b"K=v")
+                && config_bytes_of(alloc, &config)?.as_slice() == ENVIRONMENT.as_slice(),
+        ),
+    }
+}
+
+/// `scripts/refused-allocations` refuses each allocation in turn, and then this ends in want of memory.
+#[test]
+fn bytes_of_a_configuration(rt: HostRuntime) -> Result<(), AllocError> {
+    assert!(rt; is_environment(rt.alloc())?);
+    Ok(())
+}
+
+/// The numbers of a super: configuration length and sectors of the module, an area and the journal. Then
+/// the sectors of the disk, and what is wrong.
+type Numbers = (u32, u32, u32, u32, u64, Option<LayoutFault>);
+
+static NUMBERS: [Numbers; 11] = [
+    (28, 1, 2304, 64, SECTORS + 1, None),
+    (28, 1, 2304, 64, SECTORS, None),
+    (28, 1, 2304, 64, SECTORS - 1, Some(LayoutFault::TooSmall)),
+    (28, 1, 2304, 64, 3, Some(LayoutFault::TooSmall)),
+    (28, 1, 2304, 64, 0, Some(LayoutFault::NotAWorker)),
+    (28, 2, 2304, 64, SECTORS, Some(LayoutFault::Damaged)),
+    (28, 2, 2304, 64, 3, Some(LayoutFault::Damaged)),
+    (27, 1, 2304, 64, SECTORS, Some(LayoutFault::Damaged)),
+    (28, 1, 2305, 64, SECTORS, Some(LayoutFault::Damaged)),
+    (28, 1, 2303, 64, SECTORS - 2, Some(LayoutFault::Damaged)),
+    (28, 1, 2304, 65, SECTORS, Some(LayoutFault::Damaged)),
+];
+
+fn fault_of_numbers(alloc: Global, row: &Numbers) -> Result<Option<LayoutFault>, DiskFault> {
+    let geometry = Geometry {
+        config: row.0,
+        wasm: 193,
+        module_sectors: row.1,
+        area_sectors: row.2,
+        journal_sectors: row.3,
+    };
+    let mut disk = written(alloc, row.4, geometry, &SPELLED)?;
+    Ok(fault_of(alloc, &mut disk))
+}
+
+/// Supers whose numbers aren't those of their configuration, and disks that are too small.
+#[test]
+fn numbers_that_disagree(rt: HostRuntime) -> Result<(), DiskFault> {
+    for row in &NUMBERS {
+        assert!(rt; fault_of_numbers(rt.alloc(), row)? == row.5, "{row:?}");
+    }
+    Ok(())
+}
+
+/// Turns a bit of a byte of a disk.
+fn damage<D: Disk>(disk: &mut D, sector: u64, at: usize) -> Result<(), DiskFault> {
+    let mut bytes = [0; 512];
+    disk.read(sector, &mut bytes)?;
+    if at >= 512 {
+        return Err(DiskFault::Range);
+    }
+    bytes[at] ^= 1;
+    disk.write(sector, &bytes)
+}
+
+fn fault_of_damage(
+    alloc: Global,
+    sector: u64,
+    at: usize,
+) -> Result<Option<LayoutFault>, DiskFault> {
+    let mut disk = written(alloc, SECTORS, PLACES, &SPELLED)?;
+    damage(&mut disk, sector, at)?;
+    Ok(fault_of(alloc, &mut disk))
+}
+
+/// A sector, a byte of it that is another, and what is wrong.
+static DAMAGES: [(u64, usize, Option<LayoutFault>); 8] = [
+    (0, 7, Some(LayoutFault::NotAWorker)),
+    (0, 504, Some(LayoutFault::NotAWorker)),
+    (0, 8, Some(LayoutFault::Version)),
+    (0, 63, Some(LayoutFault::Damaged)),
+    (0, 64, None),
+    (3, 0, Some(LayoutFault::Damaged)),
+    (3, 220, Some(LayoutFault::Damaged)),
+    (3, 221, None),
+];
+
+#[test]
+fn damaged_disks(rt: HostRuntime) -> Result<(), DiskFault> {
+    for (sector, at, fault) in &DAMAGES {
+        assert!(rt;
+            fault_of_damage(rt.alloc(), *sector, *at)? == *fault,
+            "{sector} {at}"
+        );
+    }
+    Ok(())
+}
+
+fn fault_of_call(alloc: Global, call: u64) -> Result<Option<LayoutFault>, DiskFault> {
+    let disk = written(alloc, SECTORS, PLACES, &SPELLED)?;
+    let mut disk = FaultDisk::new(disk, None, Some(Place { call, front: 0 }));
+    Ok(fault_of(alloc, &mut disk))
+}
+
+/// A read that fails, of the super and of the sector behind the heads. There is no third one.
+static READS: [(u64, Option<LayoutFault>); 3] = [
+    (1, Some(LayoutFault::Disk(DiskFault::Io))),
+    (2, Some(LayoutFault::Disk(DiskFault::Io))),
+    (3, None),
+];
+
+#[test]
+fn a_read_that_fails_is_told(rt: HostRuntime) -> Result<(), DiskFault> {
+    for (call, fault) in &READS {
+        assert!(rt; fault_of_call(rt.alloc(), *call)? == *fault, "{call}");
+    }
+    Ok(())
+}

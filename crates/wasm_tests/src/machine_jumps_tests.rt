@@ -1,0 +1,361 @@
+//! Where jumps of small bodies lead, derived from the standard: a branch to the label of a block or an `if` goes on behind its
+//! `end`, one to that of a loop at the loop, and one to the function's own behind the last `end`. It keeps what the label
+//! takes, above the operands that were below the block.
+
+ghost use Rattle.std.specs.Prelude.{IfOk};
+ghost use Rattle.machine_jumps.specs.Contexts.{GivesOnes};
+
+use crate::spelled::{Refused, with_code};
+use machine_jumps::{BranchTable, Jump, branch_table};
+use machine_loader::read;
+use std::alloc::Global;
+use std::process::Abort;
+use wasm_validate::{ModuleContext, ValidFault, ValidModule};
+
+/// What the bodies of a valid module look up.
+fn context_of(valid: &ValidModule, alloc: Global) -> Result<ModuleContext<'_>, ValidFault>
+    ensures { IfOk result GivesOnes }
+{
+    ModuleContext::of(valid.module(), alloc)
+}
+
+/// The table of the first function, which has the first type.
+fn first_table(alloc: Global, valid: &ValidModule) -> Result<BranchTable, Refused> {
+    let context = context_of(valid, alloc)?;
+    let Some(function_type) = valid.module().types.get(0) else {
+        return Err(Refused::Misspelled);
+    };
+    let Some(function) = valid.module().functions.get(0) else {
+        return Err(Refused::Misspelled);
+    };
+    if function_type.results.len() > 1 || function.code.body.len() > 100 {
+        return Err(Refused::Misspelled);
+    }
+    Ok(branch_table(alloc, &context, function_type, &function.code)?)
+}
+
+fn table_of(alloc: Global, bytes: &[u8]) -> Result<BranchTable, Refused> {
+    let valid = read(alloc, bytes)?;
+    first_table(alloc, &valid)
+}
+
+/// A function from nothing to nothing.
+const NOTHING: &str = "0061736d01000000 010401600000 03020100";
+
+/// A function from nothing to one integer.
+const ONE: &str = "0061736d01000000 0105016000017f 03020100";
+
+/// A function from one integer to one.
+const ONE_TO_ONE: &str = "0061736d01000000 01060160017f017f 03020100";
+
+/// A function's locals and body, the position of an opcode in it, the number of a jump of that opcode, and that jump.
+type Row = (&'static str, usize, usize, Option<Jump>);
+
+fn check(rt: &impl Abort, alloc: Global, front: &str, rows: &[Row]) -> Result<(), Refused> {
+    for (entry, position, number, wanted) in rows {
+        let bytes = with_code(alloc, front, "01", entry, "")?;
+        let table = table_of(alloc, bytes.as_slice())?;
+        assert_eq!(rt;
+            table.jump(*position, *number),
+            *wanted,
+            "{entry} at {position}"
+        );
+    }
+    Ok(())
+}
+
+const BRANCHES: [Row; 8] = [
+    // out of a block, also with its value above another one, and out of a loop within it
+    (
+        "00 0240 01 0c00 0b 0b",
+        2,
+        0,
+        Some(Jump {
+            to: 4,
+            keeps: 0,
+            height: 0,
+        }),
+    ),
+    (
+        "00 4100 027f 4100 4100 0c00 0b 1a 1a 0b",
+        4,
+        0,
+        Some(Jump {
+            to: 6,
+            keeps: 1,
+            height: 1,
+        }),
+    ),
+    (
+        "00 4100 027f 4100 0340 4100 0c01 0b 0b 1a 1a 0b",
+        5,
+        0,
+        Some(Jump {
+            to: 8,
+            keeps: 1,
+            height: 1,
+        }),
+    ),
+    // to the begin of a loop
+    (
+        "00 4100 0340 4100 0d00 0b 1a 0b",
+        3,
+        0,
+        Some(Jump {
+            to: 1,
+            keeps: 0,
+            height: 1,
+        }),
+    ),
+    (
+        "00 4100 037f 4100 4100 0d00 0b 1a 1a 0b",
+        4,
+        0,
+        Some(Jump {
+            to: 1,
+            keeps: 0,
+            height: 1,
+        }),
+    ),
+    // to a loop, behind a block and behind the function: each label of a table, and its default
+    (
+        "00 4100 0240 4100 0340 4100 0e02000102 0b 1a 0b 1a 0b",
+        5,
+        0,
+        Some(Jump {
+            to: 3,
+            keeps: 0,
+            height: 2,
+        }),
+    ),
+    (
+        "00 4100 0240 4100 0340 4100 0e02000102 0b 1a 0b 1a 0b",
+        5,
+        1,
+        Some(Jump {
+            to: 9,
+            keeps: 0,
+            height: 1,
+        }),
+    ),
+    (
+        "00 4100 0240 4100 0340 4100 0e02000102 0b 1a 0b 1a 0b",
+        5,
+        2,
+        Some(Jump {
+            to: 11,
+            keeps: 0,
+            height: 0,
+        }),
+    ),
+];
+
+#[test]
+fn branches_lead_behind_blocks_and_to_loops(rt: HostRuntime) -> Result<(), Refused> {
+    check(&rt, rt.alloc(), NOTHING, &BRANCHES)
+}
+
+/// Where the condition is zero an `if` goes on behind its `else`, or behind its `end`; an `else` goes on behind the `end`.
+const CHOICES: [Row; 10] = [
+    (
+        "00 4100 4100 0440 01 0b 1a 0b",
+        2,
+        0,
+        Some(Jump {
+            to: 5,
+            keeps: 0,
+            height: 1,
+        }),
+    ),
+    (
+        "00 4100 4100 047f 4100 05 4100 0b 1a 1a 0b",
+        2,
+        0,
+        Some(Jump {
+            to: 5,
+            keeps: 0,
+            height: 1,
+        }),
+    ),
+    (
+        "00 4100 4100 047f 4100 05 4100 0b 1a 1a 0b",
+        4,
+        0,
+        Some(Jump {
+            to: 7,
+            keeps: 1,
+            height: 1,
+        }),
+    ),
+    (
+        "00 4100 0440 0c00 05 01 0b 0b",
+        1,
+        0,
+        Some(Jump {
+            to: 4,
+            keeps: 0,
+            height: 0,
+        }),
+    ),
+    (
+        "00 4100 0440 0c00 05 01 0b 0b",
+        2,
+        0,
+        Some(Jump {
+            to: 6,
+            keeps: 0,
+            height: 0,
+        }),
+    ),
+    // an `if` within the first part of another
+    (
+        "00 4100 0440 4100 0440 01 0b 05 01 0b 0b",
+        1,
+        0,
+        Some(Jump {
+            to: 7,
+            keeps: 0,
+            height: 0,
+        }),
+    ),
+    (
+        "00 4100 0440 4100 0440 01 0b 05 01 0b 0b",
+        3,
+        0,
+        Some(Jump {
+            to: 6,
+            keeps: 0,
+            height: 0,
+        }),
+    ),
+    (
+        "00 4100 0440 4100 0440 01 0b 05 01 0b 0b",
+        6,
+        0,
+        Some(Jump {
+            to: 9,
+            keeps: 0,
+            height: 0,
+        }),
+    ),
+    // around a `return`
+    (
+        "00 4100 0440 0f 0b 0240 0c00 0b 0b",
+        1,
+        0,
+        Some(Jump {
+            to: 4,
+            keeps: 0,
+            height: 0,
+        }),
+    ),
+    (
+        "00 4100 0440 0f 0b 0240 0c00 0b 0b",
+        5,
+        0,
+        Some(Jump {
+            to: 7,
+            keeps: 0,
+            height: 0,
+        }),
+    ),
+];
+
+#[test]
+fn choices_lead_behind_the_part_that_is_left_out(rt: HostRuntime) -> Result<(), Refused> {
+    check(&rt, rt.alloc(), NOTHING, &CHOICES)
+}
+
+/// A branch to the function's own label returns its result.
+const RESULTS: [Row; 3] = [
+    (
+        "00 4100 4100 0c00 0b",
+        2,
+        0,
+        Some(Jump {
+            to: 4,
+            keeps: 1,
+            height: 0,
+        }),
+    ),
+    (
+        "00 027f 4100 4100 0d01 0b 0b",
+        3,
+        0,
+        Some(Jump {
+            to: 6,
+            keeps: 1,
+            height: 0,
+        }),
+    ),
+    (
+        "00 4100 4100 0440 4100 0f 0b 0b",
+        2,
+        0,
+        Some(Jump {
+            to: 6,
+            keeps: 0,
+            height: 1,
+        }),
+    ),
+];
+
+#[test]
+fn branches_out_of_the_function_keep_its_result(rt: HostRuntime) -> Result<(), Refused> {
+    check(&rt, rt.alloc(), ONE, &RESULTS)
+}
+
+/// Gives the first local where that isn't zero, and else the second.
+const ROUTINE: [Row; 1] = [(
+    "01017f 2000 0440 2000 0f 0b 2001 0b",
+    1,
+    0,
+    Some(Jump {
+        to: 5,
+        keeps: 0,
+        height: 0,
+    }),
+)];
+
+#[test]
+fn jumps_pass_over_a_return(rt: HostRuntime) -> Result<(), Refused> {
+    check(&rt, rt.alloc(), ONE_TO_ONE, &ROUTINE)
+}
+
+/// An `end` has none, where none is behind it; nor has what follows the last one.
+const NO_JUMP: [Row; 3] = [
+    (
+        "00 0240 0c00 0b 0b",
+        1,
+        0,
+        Some(Jump {
+            to: 3,
+            keeps: 0,
+            height: 0,
+        }),
+    ),
+    ("00 0240 0c00 0b 0b", 2, 0, None),
+    ("00 0240 0c00 0b 0b", 4, 0, None),
+];
+
+#[test]
+fn an_end_has_no_jump(rt: HostRuntime) -> Result<(), Refused> {
+    check(&rt, rt.alloc(), NOTHING, &NO_JUMP)
+}
+
+/// A function that leaves a block.
+const LEAVES: &[u8; 29] = b"\0asm\x01\0\0\0\x01\x04\x01\x60\0\0\x03\x02\x01\0\
+    \x0a\x09\x01\x07\0\x02\x40\x0c\0\x0b\x0b";
+
+/// `scripts/refused-allocations` refuses each allocation in turn, and then this ends in want of memory.
+#[test]
+fn a_branch_table_is_made(rt: HostRuntime) -> Result<(), Refused> {
+    let table = table_of(rt.alloc(), LEAVES)?;
+    let wanted = Some(Jump {
+        to: 3,
+        keeps: 0,
+        height: 0,
+    });
+    assert_eq!(rt; table.jump(1, 0), wanted);
+    Ok(())
+}

@@ -1,0 +1,48 @@
+//! What comes of running a module under two pages of memory.
+
+use machine::{Arguments, Pause};
+use machine_loader::{FrontFault, accept};
+use std::alloc::Global;
+use wasi_abi::Call;
+use wasm_syntax::Trap;
+
+/// Enough for each row that ends.
+const FUEL: u64 = 10_000;
+
+/// How a run ends.
+#[derive(Clone, Copy, Debug, PartialEq, Eq)]
+pub enum End {
+    Spent,
+    Returned,
+    Trapped(Trap),
+    /// A call of the host waits: its arguments are digits of this number, the first one first.
+    Asks(Call, u64),
+}
+
+/// The digits of small arguments.
+fn digits(arguments: &Arguments) -> u64 {
+    arguments.as_slice().iter().fold(
+        0,
+        |number, digit| number.wrapping_mul(10).wrapping_add(*digit),
+    )
+}
+
+/// How `_start` ends.
+pub fn ending(alloc: Global, bytes: &[u8]) -> Result<End, FrontFault> {
+    let mut machine = accept(alloc, bytes, 2)?;
+    Ok(match machine.run(FUEL).why {
+        Pause::Spent => End::Spent,
+        Pause::Returned => End::Returned,
+        Pause::Trapped(trap) => End::Trapped(trap),
+        Pause::Host(call, arguments) => End::Asks(call, digits(&arguments)),
+    })
+}
+
+/// The number that `_start` leaves at address 0, where it returns.
+pub fn left_at_0(alloc: Global, bytes: &[u8]) -> Result<Option<u64>, FrontFault> {
+    let mut machine = accept(alloc, bytes, 2)?;
+    match machine.run(FUEL).why {
+        Pause::Returned => Ok(machine.memory().load_u64(0, 0)),
+        _ => Ok(None),
+    }
+}
