@@ -2,7 +2,7 @@
 
 ghost use Rattle.std.specs.Prelude.{◌≡◌, ◌⊎◌, ◌<◌, ◌≤◌, ◌+◌, ◌*◌, ◌^◌, ◌++◌, length, OnOk, IsErr};
 ghost use Rattle.guest_memory.specs.rules.Bytes.{part};
-ghost use Rattle.sector_disk.specs.rules.Medium.{LeavesOnly, After, Follows, IsAllSynced, FailsInside, spare};
+ghost use Rattle.sector_disk.specs.rules.Medium.{LeavesOnly, After, BothFollow, CountsUpTo, FailsInside, spare};
 ghost use Rattle.sector_disk.specs.rules.Run.{IsTornRun, IsWrittenRun};
 ghost use Rattle.disk_layout.specs.rules.Places.{module_place, rounded_up};
 ghost use Rattle.disk_layout.specs.rules.Contents.{filled, contents_sectors};
@@ -14,7 +14,7 @@ use sector_disk::{Disk, DiskFault};
 const MODULE_PLACE: u64 = 3;
 
 /// Writes configuration and module behind the super and the heads, with zeros up to the end of their last
-/// sector, and syncs.
+/// sector. It makes no sync: nothing of it is durable before a later one.
 pub fn write_contents<D: Disk>(disk: &mut D, config: &[u8], wasm: &[u8]) -> Result<(), DiskFault>
     requires few { length config.now + length wasm.now ≤ 2 ^ 62 }
     requires room { module_place + rounded_up (length config.now + length wasm.now) ≤ (D.medium disk.old).sectors }
@@ -23,10 +23,23 @@ pub fn write_contents<D: Disk>(disk: &mut D, config: &[u8], wasm: &[u8]) -> Resu
     ensures any_moment { let sectors = contents_sectors (config.now ++ wasm.now) in
         LeavesOnly (D.medium disk.old) (D.medium disk.new) (After (IsTornRun module_place sectors (length sectors)) (D.medium disk.old).may_leave) }
 
-    // Once it has answered Ok, each cut leaves all of them.
+    // Once it has answered Ok, reads give all of them, and a cut leaves of each some front. After
+    // an error reads, too, give of each some front.
     ensures stored { let sectors = contents_sectors (config.now ++ wasm.now) in
-        OnOk result (Follows (IsWrittenRun module_place sectors (length sectors)) (D.medium disk.old).shows (D.medium disk.new).may_leave) }
-    ensures settled { OnOk result (IsAllSynced (D.medium disk.new)) }
+        OnOk result (BothFollow (IsWrittenRun module_place sectors (length sectors))
+        (IsTornRun module_place sectors (length sectors)) (D.medium disk.old)
+        (D.medium disk.new)) }
+    ensures torn { let sectors = contents_sectors (config.now ++ wasm.now) in
+        BothFollow (IsTornRun module_place sectors (length sectors))
+        (IsTornRun module_place sectors (length sectors)) (D.medium disk.old)
+        (D.medium disk.new) }
+
+    // Each of its writes waits for a sync, and at no moment were there more.
+    ensures unsynced { OnOk result ((D.medium disk.new).unsynced
+        ≡ (D.medium disk.old).unsynced + rounded_up (length config.now + length wasm.now)) }
+    ensures counts { CountsUpTo
+        ((D.medium disk.old).unsynced + rounded_up (length config.now + length wasm.now))
+        (D.medium disk.old) (D.medium disk.new) }
     ensures cause { IsErr result → (spare (D.medium disk.old) < rounded_up (length config.now + length wasm.now)) ⊎ ((D.medium disk.old).faults < (D.medium disk.new).faults) }
     ensures kind { FailsInside result }
 {
@@ -35,7 +48,7 @@ pub fn write_contents<D: Disk>(disk: &mut D, config: &[u8], wasm: &[u8]) -> Resu
         let sector = sector_of(config, wasm, 512 * i as usize);
         disk.write(MODULE_PLACE + i, &sector)?;
     }
-    disk.sync()
+    Ok(())
 }
 
 /// The bytes from `start` on of configuration and module, one behind the other, with zeros behind them.

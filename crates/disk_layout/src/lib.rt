@@ -8,8 +8,11 @@
 //! - `Super`, `Head`, `Stamp`, `journal_sector` and `record_head` are laid out byte by byte as
 //!   defined. Their readers give the fields that the definitions read.
 //! - `write_super`, `write_contents`: a cut at any moment leaves of each sector some front, and
-//!   all others as they were (`any_moment`). After Ok each cut leaves them whole (`stored`). An
-//!   error says that the disk failed, or had no room for the writes (`cause`).
+//!   all others as they were (`any_moment`). An error says that the disk failed, or had no room
+//!   for the writes (`cause`). There are never more unsynced writes than before and these
+//!   (`counts`).
+//! - After Ok of `write_super` each cut leaves it whole (`stored`). `write_contents` makes no sync
+//!   (`unsynced`): after its Ok reads give all of it, and a cut may leave less (`stored`).
 //! - `read_super` only reads (`reads`). Its answer is true of what the disk shows: the bytes under
 //!   their digest, or what is wrong with them (`finds`).
 //! - `config_bytes_of` gives a configuration's bytes. `config_from` finds the configuration that

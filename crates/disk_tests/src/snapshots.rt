@@ -5,7 +5,7 @@ use crate::disks::{is_all, prints};
 use crate::layouts::is_laid_out;
 use disk_layout::{Geometry, Head};
 use sector_disk::{Disk, DiskFault, FaultDisk, MemDisk, Place};
-use snapshot::{Snapshot, SnapshotFault, Snapshots};
+use snapshot::{Snapshot, SnapshotFault, Snapshots, Writing};
 use std::alloc::{AllocError, Global};
 
 /// Area 0 lies from sector 4 on, area 1 from sector 7 on, and the journal from sector 10 on.
@@ -75,7 +75,7 @@ fn commit_in_pieces<D: Disk>(
     if disk.sectors() < 12 {
         return Err(SnapshotFault::TooBig);
     }
-    snapshots.begin(1, 1)?;
+    snapshots.begin(1, 1, Writing::Changes)?;
     snapshots.push(disk, &GEOMETRY, first)?;
     snapshots.push(disk, &GEOMETRY, second)?;
     snapshots.finish(disk, &GEOMETRY)
@@ -206,7 +206,7 @@ fn fails_what_follows<D: Disk>(snapshots: &mut Snapshots, disk: &mut FaultDisk<D
     let counts = disk.calls();
     is_told
         && commit(snapshots, disk, 3, &SHORT) == Err(SnapshotFault::Failed)
-        && snapshots.begin(3, 1) == Err(SnapshotFault::Failed)
+        && snapshots.begin(3, 1, Writing::Changes) == Err(SnapshotFault::Failed)
         && disk.calls() == counts
 }
 

@@ -4,7 +4,7 @@ use Rattle.std.proofs.lemmas.Bool.{cases_eq}
 use Rattle.file_tree.specs.declared.store.node.Hook.{Hook}
 use Rattle.file_tree.specs.declared.store.node.Node.{Node}
 use Rattle.file_tree.specs.Store.Stored.{changed}
-use Rattle.file_tree.specs.Store.Bytes.{written, resized}
+use Rattle.file_tree.specs.rules.Bytes.{written, resized}
 use Rattle.file_tree.specs.rules.Files.{FileNode, Files, Content, File, bytes_of_content, is_directory, is_directory_content, IsSmallContent, bytes_of_node, with_file_bytes}
 use Rattle.file_tree.specs.declared.limits.TheConstants.{NODES, FILE_BYTES}
 use Rattle.file_tree.specs.Store.Changes.{node_written, node_resized}

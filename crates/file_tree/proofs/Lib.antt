@@ -18,5 +18,7 @@ pub mod WayUp
 pub mod IsFiles
 pub mod Parents
 pub mod Order
-pub mod Ranked
+pub mod DistinctNames
+pub mod Closest
+pub mod NearestNodes
 pub mod StoreLemmas

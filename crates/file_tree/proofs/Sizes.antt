@@ -6,7 +6,7 @@ use Rattle.std.proofs.lemmas.List.{length-replicate}
 use Rattle.file_tree.specs.declared.store.node.NodeContent as store
 use Rattle.file_tree.specs.declared.store.node.NodeContent.TheVariants as content
 use Rattle.file_tree.specs.Store.Changes.{content_written, content_resized}
-use Rattle.file_tree.specs.Store.Bytes.{written, resized}
+use Rattle.file_tree.specs.rules.Bytes.{written, resized}
 use Rattle.file_tree.specs.rules.Files.{Content, Directory, File, bytes_of_content, is_directory_content, IsSmallContent}
 use Rattle.file_tree.specs.declared.limits.TheConstants.{FILE_BYTES}
 use Rattle.file_tree.specs.Links.{content_shown}

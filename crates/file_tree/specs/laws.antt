@@ -1,1 +1,2 @@
+pub mod FileLimits
 pub mod Laws

@@ -1,2 +1,4 @@
+pub mod Bytes
 pub mod Changes
 pub mod Files
+pub mod Listings

@@ -33,12 +33,12 @@
 #![tactic(auto)]
 
 mod children;
+mod entries;
 mod kind;
 pub mod laws;
 pub mod limits;
 mod lookup;
 mod names;
-mod ranks;
 mod store;
 mod tree;
 

@@ -1,6 +1,7 @@
 //! Nodes by their numbers, and what they hold.
 
-ghost use Rattle.std.specs.Prelude.{◌≡◌, ◌<◌, ◌++◌, take, drop, length, max, IfSome, IfNone, option_copied};
+ghost use Rattle.std.specs.Prelude.{◌≡◌, ◌<◌, ◌++◌, take, drop, length, max, IfSome, IfNone, option_copied, option_map};
+ghost use Rattle.file_tree.specs.declared.store.node.Node.{Node as StoredNode};
 ghost use Rattle.std.specs.List.{remove};
 ghost use Rattle.file_tree.specs.Links.{IsPlace, IsNowhere, node_in, hook_held, content_held, holds_directory_node, bytes_held_in, is_hung, name_of_hook, content_shown};
 ghost use Rattle.file_tree.specs.rules.Changes.{empty};
@@ -70,6 +71,16 @@ pub fn name_held(node: Option<&Node>) -> &[u8]
             Hook::Removed => b"",
         },
         None => b"",
+    }
+}
+
+/// The number of a node that is there.
+pub fn number_held(node: Option<&Node>) -> Option<u64>
+    ensures { result ≡ option_map (λ (n : StoredNode). n.number) (option_copied node.entry) }
+{
+    match node {
+        Some(node) => Some(node.number),
+        None => None,
     }
 }
 

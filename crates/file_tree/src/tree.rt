@@ -1,18 +1,19 @@
 //! A tree of files.
 
 ghost use Rattle.std.specs.Prelude.{◌≡◌, ◌<◌, ◌^◌, ◌++◌, ◌∷◌, [], length, ℕ, ◌+◌, ◌≢◌, Some, slice_get, option_map, IfSome, IfNone, ◌≤◌, ◌==◌, drop, false, IfOk, OnOk, OnErr, is_some};
-ghost use Rattle.file_tree.specs.Store.Bytes.{written, resized};
+ghost use Rattle.file_tree.specs.rules.Bytes.{written, resized};
 ghost use Rattle.file_tree.specs.rules.Files.{Name, Path, Entry, IsFiles, fresh, is_directory, bytes_of_node, used, path_of, child, entries_of, created, with_file_bytes, removed, forgotten, renamed};
+ghost use Rattle.file_tree.specs.rules.Listings.{number_at_place, number_after, HasNameAtPlace};
 ghost use Rattle.file_tree.specs.rules.Changes.{IsFree, CanLose, CanMove, IsParent, is_within, empty, path_at, read_from};
 ghost use Rattle.file_tree.specs.declared.limits.TheConstants.{NODES, FILE_BYTES};
 
 use crate::children::{child_of, has_children, leads_to, parent_of};
+use crate::entries::{entry_at, nearest_after};
 use crate::kind::NodeKind;
 use crate::lookup::{
     bytes_held, copy_front, drop_node, holds_directory, holds_path, max_of, name_held, new_content,
-    node_of, place_of,
+    node_of, number_held, place_of,
 };
-use crate::ranks::entry_at;
 use crate::store::{ByteList, Hook, Node, NodeContent, Nodes};
 use std::alloc::{AllocError, Global};
 use std::marker::Model;
@@ -113,12 +114,23 @@ impl Tree {
         !has_children(&self.nodes, directory)
     }
 
-    /// The number of the node at a place, from 0 on, among a directory's entries in the order of their names. It takes no memory,
-    /// and time as the square of the number of nodes.
+    /// The number of the node at a place, from 0 on, among a directory's entries in the order of
+    /// their names. It takes no memory, and goes over the nodes once for each entry up to the place.
     pub fn entry(&self, directory: u64, place: usize) -> Option<u64>
-        ensures { result ≡ option_map (λ (e : Entry). e.number) (slice_get (entries_of self.now directory) place) }
+        ensures { result ≡ number_at_place self.now directory place }
     {
         entry_at(&self.nodes, directory, place)
+    }
+
+    /// The number of the node of a directory with the least name after this one, by the order of
+    /// names: what stands right behind the entry of this name. No bytes come before any name, so
+    /// they lead to the first entry. It takes no memory, and goes over the nodes once.
+    pub fn entry_after(&self, directory: u64, name: &[u8]) -> Option<u64>
+        ensures after { result ≡ number_after self.now directory name.now }
+        ensures next { (i : ℕ) → HasNameAtPlace self.now directory i name.now → result ≡ number_at_place self.now directory (i + 1) }
+        ensures first { name.now ≡ [] → result ≡ number_at_place self.now directory 0 }
+    {
+        number_held(nearest_after(&self.nodes, directory, name))
     }
 
     /// Puts a file's bytes from one of them on into `into`, as many as there are and fit, and gives how many. What is
@@ -143,6 +155,7 @@ impl Tree {
     pub fn name(&self, number: u64) -> &[u8]
         ensures last { (path : Path) (name : Name) → path_of self.now number ≡ Some (path ++ name ∷ []) → result.now ≡ name }
         ensures none { ((path : Path) (name : Name) → path_of self.now number ≢ Some (path ++ name ∷ [])) → result.now ≡ [] }
+        ensures of_entry { (d i : ℕ) → number_at_place self.now d i ≡ Some number → HasNameAtPlace self.now d i result.now }
     {
         name_held(node_of(&self.nodes, number))
     }

@@ -40,7 +40,7 @@ impl Model for Memory {
 
 impl Memory {
     ghost use Rattle.std.specs.Borrow.{sem};
-    ghost use Rattle.guest_memory.specs.Lends.{LendsRange};
+    ghost use Rattle.guest_memory.specs.rules.Lends.{LendsRange};
 
     /// So many pages of zero bytes, with room for as many as the limit. Only want of memory makes
     /// it fail.

@@ -148,6 +148,11 @@ impl Journal {
         ensures settled { OnOk result ((length self.old.kept ≡ 0) ⊎ IsAllSynced (D.medium disk.new)) }
         ensures unsynced { (D.medium disk.new).unsynced ≤ (D.medium disk.old).unsynced + sectors_for (length self.old.kept) }
 
+        // No sync stands between its writes: at some moment all of them were unsynced.
+        ensures together { OnOk result ((D.medium disk.new).unsynced_since
+            (D.medium disk.old).moment
+            ((D.medium disk.old).unsynced + sectors_for (length self.old.kept))) }
+
         // Nor were there more writes that no sync had settled at any moment in between.
         ensures at_once { (n : ℕ) → (D.medium disk.new).unsynced_since (D.medium disk.old).moment n → n ≤ (D.medium disk.old).unsynced + sectors_for (length self.old.kept) }
     {

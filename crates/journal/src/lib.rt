@@ -12,7 +12,7 @@
 //!   stand (`durable`).
 //! - `barrier` fails for a cause: an earlier error, too little journal, no room for its writes, or
 //!   the disk (`failed`, `full`, `cause`). It never has more unsynced writes than its own sectors
-//!   beyond those before (`at_once`).
+//!   beyond those before (`at_once`). No sync stands between them (`together`).
 //! - `Journal::scan` gives the records that the definitions read of what the disk shows (`scans`).
 //!   It only reads (`reads`).
 //! - After an error of `append` or `barrier`, each call of these answers `Failed` (`err`,

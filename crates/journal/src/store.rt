@@ -29,6 +29,8 @@ pub(crate) fn store_packed<D: Disk>(
     ensures stored { OnOk result (Follows (IsWrittenRun at (packed generation place (sectors_for (length bytes.now)) bytes.now) (sectors_for (length bytes.now))) (D.medium disk.old).shows (D.medium disk.new).may_leave) }
     ensures settled { OnOk result (IsAllSynced (D.medium disk.new)) }
     ensures unsynced { (D.medium disk.new).unsynced ≤ (D.medium disk.old).unsynced + sectors_for (length bytes.now) }
+    ensures together { OnOk result ((D.medium disk.new).unsynced_since (D.medium disk.old).moment
+        ((D.medium disk.old).unsynced + sectors_for (length bytes.now))) }
     ensures counts { CountsUpTo ((D.medium disk.old).unsynced + sectors_for (length bytes.now)) (D.medium disk.old) (D.medium disk.new) }
     ensures cause { IsErr result → (spare (D.medium disk.old) < sectors_for (length bytes.now)) ⊎ ((D.medium disk.old).faults < (D.medium disk.new).faults) }
 {

@@ -12,7 +12,7 @@ use Rattle.machine.specs.declared.turns.state.State.{State}
 use Rattle.machine.specs.declared.turns.pause.Paused.{Paused}
 use Rattle.machine.specs.Turns.Codes.{Stands, IsStanding}
 use Rattle.machine.specs.Turns.Pauses.{Pauses}
-use Rattle.machine.specs.Hosting.Answers.{IsWaiting, IsAnswered}
+use Rattle.machine.specs.rules.Answers.{IsWaiting, IsAnswered}
 use Rattle.machine.specs.rules.Runs.{WaitsFor, Answers}
 use Rattle.machine.specs.Insides.{seen, IsMemoryFor, IsSettledIn, IsMachine, with_memory_of}
 use Rattle.machine.proofs.Inside.{settled_with, shown, stood_for}

@@ -1,9 +1,7 @@
 pub mod Insides
-pub mod Lends
 pub mod Frame
 pub mod Routines
 pub mod Turns
-pub mod Instance
 pub mod Hosting
 pub mod laws
 pub mod rules

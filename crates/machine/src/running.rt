@@ -43,9 +43,9 @@ fn is_memory(memory: &Memory)
 impl Machine {
     ghost use Rattle.machine.specs.rules.Values.{HoldsMemory, IsSameMachine, memory_of, without_thread};
     ghost use Rattle.std.specs.Borrow.{sem};
-    ghost use Rattle.machine.specs.Hosting.Answers.{call_results};
+    ghost use Rattle.machine.specs.rules.Answers.{call_results};
     ghost use Rattle.machine.specs.rules.Runs.{RunsOnFuel, Stops, WaitsFor, Answers};
-    ghost use Rattle.machine.specs.Lends.{LendsMemory};
+    ghost use Rattle.machine.specs.rules.Lends.{LendsMemory};
 
     /// Applies rules until the program has ended or trapped, a call of the host waits, or so much fuel is spent: one unit for each
     /// counted rule.

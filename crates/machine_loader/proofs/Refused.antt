@@ -12,7 +12,7 @@ use Rattle.wasm_decode.specs.declared.fault.DecodeFault.{DecodeFault}
 use Rattle.wasm_decode.specs.declared.fault.DecodeFault.TheVariants as decode
 use Rattle.wasm_validate.specs.declared.parts.fault.ValidFault.{ValidFault}
 use Rattle.wasm_validate.specs.declared.parts.fault.ValidFault.TheVariants as valid
-use Rattle.wasm_validate.specs.Parts.Answers.{Denies as DeniesValid}
+use Rattle.wasm_validate.specs.rules.Answers.{Denies as DeniesValid}
 use Rattle.machine.specs.declared.instance.fault.LinkFault.{LinkFault}
 use Rattle.machine.specs.declared.instance.fault.LinkFault.TheVariants as link
 use Rattle.machine.specs.rules.Refusals.{LinkDenies as DeniesLink}

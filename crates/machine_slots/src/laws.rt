@@ -1,5 +1,6 @@
 //! Laws over all programs and frames. The functions do nothing: what they ensure is the law.
 
+ghost use Rattle.machine_slots.specs.laws.StackLimits.{StackLimitNumbers};
 ghost use Rattle.machine_slots.specs.laws.Laws.{BranchesFall, EntryPushesZeros, ReturnsFall, SlotsAreWords, TypedFramesAreReady, WordsAreSlots};
 
 /// Whoever shows a typed frame may operate on it.
@@ -18,4 +19,9 @@ pub fn jumps_are_falls()
     ensures branches { BranchesFall }
     ensures returns { ReturnsFall }
     ensures entries { EntryPushesZeros }
+{}
+
+/// What each limit of the stack is.
+pub fn stack_limits_are()
+    ensures { StackLimitNumbers }
 {}

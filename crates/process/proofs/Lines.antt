@@ -6,7 +6,7 @@ use Rattle.std.proofs.lemmas.Bool.Decides.{nat_tests}
 use Rattle.wasi_calls_rules.specs.Hosts.{Line, Host}
 use Rattle.wasi_calls_rules.specs.Lines.{rest_of}
 use Rattle.wasi_calls_rules.specs.laws.Laws.{Emits}
-use Rattle.wasi_calls.specs.Held.{HeldHost, ShowsHost, held_ended}
+use Rattle.wasi_calls.specs.rules.Held.{HeldHost, ShowsHost, held_ended}
 use Rattle.process.specs.Parts.{HasFewLines}
 
 pub few_left : (first second : List ℕ) → length (rest_of 1 first ++ rest_of 2 second) ≤ 2

@@ -2,7 +2,7 @@
 use Rattle.std.proofs.Common.{◌≡◌, inr, ℕ, ◌+◌, ◌-◌, ◌<◌, ◌≤◌, List, [], Option, Some, None, refl, sym, ap, ◌∙◌, subst, arith}
 use Rattle.std.specs.Prelude.{Result, Ok, Err}
 use Rattle.wasi_abi.specs.declared.call.Call.{Call}
-use Rattle.wasi_calls.specs.Held.{HeldHost}
+use Rattle.wasi_calls.specs.rules.Held.{HeldHost}
 use Rattle.machine.specs.rules.Values.{MachineValue, HoldsMemory}
 use Rattle.process_rules.specs.Processes.{ProcessState, Guest}
 use Rattle.process_rules.specs.Runs.{Moves}

@@ -11,7 +11,7 @@ use Rattle.wasi_abi.specs.declared.call.Call.{Call}
 use Rattle.wasi_abi.specs.rules.Configs.{Settings}
 use Rattle.wasi_calls.specs.rules.Calls.{IsBuilt}
 use Rattle.wasi_calls_rules.specs.Hosts.{Host}
-use Rattle.wasi_calls.specs.Held.{HeldHost, ShowsHost, held_ended}
+use Rattle.wasi_calls.specs.rules.Held.{HeldHost, ShowsHost, held_ended}
 use Rattle.machine.specs.rules.Values.{MachineValue, ShowsIn, IsSameMachine}
 use Rattle.machine.specs.rules.Runs.{HasBegun}
 use Rattle.process_rules.specs.Processes.{Exited, ProcessState, Guest, AreCalls, IsStart, host_of, over, closed}

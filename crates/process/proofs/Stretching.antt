@@ -10,7 +10,7 @@ use Rattle.wasi_abi.specs.declared.call.Call.{Call}
 use Rattle.wasi_abi.specs.rules.Calls.{parameters_of}
 use Rattle.wasi_calls_rules.specs.Hosts.{Host, Line}
 use Rattle.wasi_calls_rules.specs.Lines.{lines_ended}
-use Rattle.wasi_calls.specs.Held.{HeldHost, ShowsHost, held_ended}
+use Rattle.wasi_calls.specs.rules.Held.{HeldHost, ShowsHost, held_ended}
 use Rattle.wasi_calls.specs.rules.Calls.{IsBuilt, AreArguments}
 use Rattle.machine.specs.declared.turns.pause.Pause.{Pause}
 use Rattle.machine.specs.declared.turns.pause.Pause.TheVariants as pause

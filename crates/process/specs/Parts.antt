@@ -7,7 +7,7 @@ use Rattle.wasm_syntax_rules.specs.Steps.{rule, IsEnded}
 use Rattle.wasi_abi.specs.declared.call.Call.{Call}
 use Rattle.wasi_abi.specs.rules.Calls.{call_type_of}
 use Rattle.wasi_calls_rules.specs.Lines.{rest_of}
-use Rattle.wasi_calls.specs.Held.{HeldHost, ShowsHost}
+use Rattle.wasi_calls.specs.rules.Held.{HeldHost, ShowsHost}
 use Rattle.machine.specs.rules.Values.{MachineValue, ShowsIn}
 use Rattle.process_rules.specs.Processes.{ProcessState, Guest, AreCalls}
 

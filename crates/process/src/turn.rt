@@ -5,7 +5,7 @@ ghost use Rattle.wasi_calls.specs.rules.Calls.{IsBuilt, AreArguments};
 ghost use Rattle.wasi_abi.specs.rules.Calls.{parameters_of};
 ghost use Rattle.wasi_calls_rules.specs.Hosts.{Host as TheHost};
 ghost use Rattle.wasi_calls_rules.specs.Lines.{lines_ended};
-ghost use Rattle.wasi_calls.specs.Held.{ShowsHost, held_ended};
+ghost use Rattle.wasi_calls.specs.rules.Held.{ShowsHost, held_ended};
 ghost use Rattle.machine.specs.rules.Values.{HoldsMemory};
 ghost use Rattle.process.specs.Parts.{IsRunning, HasFewLines, WaitsAtCall};
 ghost use Rattle.process.specs.Stretches.{Stretches, StepsAt, stop_after, stretch_of};

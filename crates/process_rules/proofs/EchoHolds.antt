@@ -1,5 +1,5 @@
 -- The worked example `echo` holds: the answers, step by step.
-use Rattle.std.proofs.Common.{◌≡◌, ◌≢◌, inl, ℕ, ◌+◌, ◌==◌, true, false, List, [], ◌∷◌, ◌++◌, replicate, codes, Option, Some, None, refl, sym, ap, subst, lit≤}
+use Rattle.std.proofs.Common.{◌≡◌, ◌≢◌, inl, ℕ, ◌+◌, ◌==◌, true, false, List, [], ◌∷◌, ◌++◌, replicate, codes, Option, Some, None, refl, sym, ap, subst, lit≤, suc, arith}
 use Rattle.std.specs.List.{AllByRecursion}
 use Rattle.wasm_syntax.specs.declared.value.Value.{Value}
 use Rattle.wasm_syntax.specs.declared.instruction.Instruction.{Instruction}
@@ -201,6 +201,82 @@ begins config = record {
     settles = on refl (here refl);
   };
   is = refl;
+}
+
+-- ---- where it asks
+
+-- The processes that ask for the two answers, and the one that has taken the first. The line is
+-- emitted in between.
+pub record EchoAsks (config : Settings) : Type 0 where
+  pub guest : Guest
+  pub start : ProcessState
+  pub begins : IsStart echo config guest start
+  pub asking : ProcessState
+  pub to_asking : Runs guest start [] 5 asking
+  pub no_line : asking.host.lines ≡ []
+  pub asks : next_of guest asking None ≡ Wants kind.Request
+  pub wants_request : IsWanted guest asking (Some (answer.Request (codes "abc")))
+  pub taken : ProcessState
+  pub to_taken : Runs guest start (Given (answer.Request (codes "abc")) ∷ []) 6 taken
+  pub still_no_line : taken.host.lines ≡ []
+  pub asking_again : ProcessState
+  pub to_asking_again : Runs guest start (Given (answer.Request (codes "abc")) ∷ []) 27 asking_again
+  pub one_line : asking_again.host.lines ≡ record { stream = 1; text = codes "abc" } ∷ []
+  pub wants_end : IsWanted guest asking_again (Some answer.End)
+
+-- from the first answer on to the second
+rereads : (config : Settings) → Runs (guest_of config)
+    (after 6 1 (host_of config) (blank (inside (v 0 ∷ []) testing) memory_read)) [] 21
+    (at_read 27 1 (wrote config) memory_written)
+rereads config =
+    step (goes config refl) (step (goes config refl)
+    (step (goes config (loads_four config _ _)) (step (goes config refl)
+    (step (goes config refl)
+    (step (goes config refl) (step (goes config refl)
+    (step (goes config (loads_four config _ _)) (step (goes config (stores_four config _))
+    (step (goes config refl) (step (goes config refl) (step (goes config refl) (step (goes config refl)
+    (step (leads_on config _ None _ _ refl tt (writes config) refl)
+    (step (goes config refl) (step (turns config 21 1 (wrote config) memory_written)
+    (step (enters config 22 1 (wrote config) memory_written)
+    (step (goes config refl) (step (goes config refl)
+    (step (goes config refl) (step (goes config refl) none))))))))))))))))))))
+
+-- a run up to the first answer, and on
+asked_once : (config : Settings) (n : ℕ) (q : ProcessState)
+    → Runs (guest_of config) (after 6 1 (host_of config)
+    (blank (inside (v 0 ∷ []) testing) memory_read)) [] n q
+    → Runs (guest_of config) (after 0 0 (host_of config) (blank around first_memory))
+    (Given abc ∷ []) (n + 6) q
+asked_once config n q rest = rw (sym (plus_six n))
+    (step (enters config 0 0 (host_of config) first_memory)
+    (step (goes config refl) (step (goes config refl) (step (goes config refl) (step (goes config refl)
+    (take (leads_on config _ (Some abc) _ _ refl
+    (kind.Request, wants_first config, (lit≤ tt, abc_fits)) (reads_first config) refl)
+    rest))))))
+  where
+    plus_six : (n : ℕ) → suc (suc (suc (suc (suc (suc n))))) ≡ n + 6
+    plus_six n = omega arith
+
+pub echo_asks : (config : Settings) → EchoAsks config
+echo_asks config = record {
+  guest = guest_of config;
+  start = after 0 0 (host_of config) (blank around first_memory);
+  begins = begins config;
+  asking = at_read 5 0 (host_of config) first_memory;
+  to_asking =
+      step (enters config 0 0 (host_of config) first_memory)
+      (step (goes config refl) (step (goes config refl)
+      (step (goes config refl) (step (goes config refl) none))));
+  no_line = refl;
+  asks = wants_first config;
+  wants_request = (kind.Request, wants_first config, (lit≤ tt, abc_fits));
+  taken = after 6 1 (host_of config) (blank (inside (v 0 ∷ []) testing) memory_read);
+  to_taken = asked_once config 0 _ none;
+  still_no_line = refl;
+  asking_again = at_read 27 1 (wrote config) memory_written;
+  to_asking_again = asked_once config 21 _ (rereads config);
+  one_line = refl;
+  wants_end = (kind.Request, wants_last config, tt);
 }
 
 pub echo_ends : (config : Settings) → EchoEnds config

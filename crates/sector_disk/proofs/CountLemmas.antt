@@ -24,6 +24,16 @@ counts_then a b most old mid new ale ble later one two = record {
 pub counts_since : (most : ℕ) (old new : Medium) → old.unsynced ≤ most → CountsUpTo most old new → (n : ℕ) → new.unsynced_since old.moment n → n ≤ most
 counts_since most old new le counts n since = ⊎_elim (λ (was : old.unsynced_since old.moment n). let e = old.only_count n was in omega arith) (λ few. few) (counts.grows old.moment n (omega arith) since)
 
+-- so many at most, and so now
+pub unsynced_within : (most : ℕ) (old new : Medium) → old.unsynced ≤ most → old.moment ≤ new.moment → CountsUpTo most old new → new.unsynced ≤ most
+unsynced_within most old new le later counts = counts_since most old new le counts new.unsynced (new.count_now old.moment later)
+
+pub counts_more : (few most : ℕ) (old new : Medium) → few ≤ most → CountsUpTo few old new → CountsUpTo most old new
+counts_more few most old new le counts = record {
+  keeps = counts.keeps;
+  grows = λ t n before since. ⊎_elim (λ (was : old.unsynced_since t n). (let r : old.unsynced_since t n ⊎ (n ≤ most) = inl was in r)) (λ (less : n ≤ few). inr (omega arith)) (counts.grows t n before since);
+}
+
 -- ---- a disk in memory, one entry on
 
 pub had_keeps : (settled : Vec (List ℕ) Global) (pending : Vec Write Global) (past new : List (Vec (List ℕ) Global × Vec Write Global)) (count t n : ℕ) → new ≡ (settled, pending) ∷ past → t ≤ length past

@@ -15,6 +15,7 @@
 //!   gives a disk of so many sectors (`sectors`). It and `open` begin with an empty log (`fresh`).
 //! - `write_run` and `store_run` write sectors one after another. `store_run`: a cut at any moment
 //!   leaves of each some front (`any_moment`). After Ok each cut leaves all of them (`stored`).
+//!   There are never more unsynced writes than before and these (`counts`).
 //!
 //! # Definitions to read
 //!

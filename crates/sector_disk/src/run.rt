@@ -1,6 +1,6 @@
 // Sectors that are written one after another.
 ghost use Rattle.std.specs.Prelude.{◌≡◌, ◌⊎◌, ◌+◌, ◌<◌, ◌≤◌, length, OnOk, IsErr};
-ghost use Rattle.sector_disk.specs.rules.Medium.{LeavesOnly, After, Follows, IsAllSynced, FailsInside, spare};
+ghost use Rattle.sector_disk.specs.rules.Medium.{LeavesOnly, After, Follows, IsAllSynced, CountsUpTo, FailsInside, spare};
 ghost use Rattle.sector_disk.specs.rules.Run.{IsTornRun, IsWrittenRun, HoldsRun, WritesRun};
 
 use crate::{Disk, DiskFault};
@@ -29,6 +29,10 @@ pub fn store_run<D: Disk>(disk: &mut D, at: u64, sectors: &[[u8; 512]]) -> Resul
     ensures stored { OnOk result (Follows (IsWrittenRun at sectors.now (length sectors.now)) (D.medium disk.old).shows (D.medium disk.new).may_leave) }
     ensures holds { OnOk result (HoldsRun (D.medium disk.new) at sectors.now (length sectors.now)) }
     ensures settled { OnOk result (IsAllSynced (D.medium disk.new)) }
+
+    // At no moment in between were there more unsynced writes than before and these.
+    ensures counts { CountsUpTo ((D.medium disk.old).unsynced + length sectors.now)
+        (D.medium disk.old) (D.medium disk.new) }
 
     // It fails only where the disk does, or where there is no room for so many writes before a sync.
     ensures cause { IsErr result → (spare (D.medium disk.old) < length sectors.now) ⊎ ((D.medium disk.old).faults < (D.medium disk.new).faults) }

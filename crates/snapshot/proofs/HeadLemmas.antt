@@ -7,13 +7,13 @@ use Rattle.guest_memory.specs.rules.Bytes.{part, number_of}
 use Rattle.sector_disk.specs.rules.Image.{Image, sector_at}
 use Rattle.disk_layout.specs.declared.geometry.Geometry.{Geometry}
 use Rattle.disk_layout.specs.declared.head.Head.{Head}
-use Rattle.disk_layout.specs.rules.Places.{head_place, area_place}
+use Rattle.disk_layout.specs.rules.Places.{head_place, area_place, rounded_up}
 use Rattle.disk_layout.specs.rules.Sectors.{head_bytes, head_of, stamp_of, shown_generation, IsComplete, IsNewest, SectorsHold, bytes_from}
 use Rattle.disk_layout.specs.laws.Laws.{HeadFits}
 use Rattle.disk_layout.proofs.StampLemmas.{shows_there, shows_none}
 use Rattle.disk_layout.proofs.FieldLemmas.{head_again}
 use Rattle.snapshot.specs.rules.Heads.{HasNone, heads_to, IsReadyForHead}
-use Rattle.snapshot.specs.rules.Steps.{KeepsNewest, HasNew}
+use Rattle.snapshot.specs.rules.Steps.{KeepsNewest, HoldsWithZeros, HasNew}
 use Rattle.snapshot.proofs.AreaLemmas.{none_at, none_from, shown_complete, newest_complete, heads_split, ready_newest, bytes_same, keeps}
 
 -- ---- the parts of a sector
@@ -85,8 +85,8 @@ module _ (geometry : Geometry) (g version : ℕ) (bytes : List ℕ) (x y : Image
   other_less : shown_generation 1 (sector_at y (head_place (g + 1))) < g
   other_less = let e = ap (λ (s : List ℕ). shown_generation 1 s) next_head in let w = shown_within x (g + 1) in omega (arith, e, w, ready.none_later)
 
-  pub new_head : (h : Head) → HeadFits h → h ≡ record { version = version; length_in_bytes = length bytes; digest = sha256 bytes; generation = g } → IsHeadSector h (sector_at y (head_place g)) → HasNew geometry g version bytes y
-  new_head h fits is head =
+  pub new_head : (h : Head) → HeadFits h → h ≡ record { version = version; length_in_bytes = length bytes; digest = sha256 bytes; generation = g } → HoldsWithZeros geometry g bytes x → IsHeadSector h (sector_at y (head_place g)) → HasNew geometry g version bytes y
+  new_head h fits is zeros head =
       let at-g : h.generation ≡ g = ap (λ (k : Head). k.generation) is in
       let some : 0 < h.generation = let s = some_generation in omega (arith, s, at-g) in
       let here : shown_generation 1 (sector_at y (head_place g)) ≡ g = head.shows ∙ at-g in
@@ -100,6 +100,7 @@ module _ (geometry : Geometry) (g version : ℕ) (bytes : List ℕ) (x y : Image
           };
           area = ap (λ (l : List ℕ). take (length bytes) l) (areas_same g) ∙ area;
         };
+        zeros = bytes_same x y (area_place geometry g) (rounded_up (length bytes)) (λ k from below. others k (omega (arith, from))) ∙ zeros;
         heads = let e = heads_split y g in let l = other_less in omega (arith, e, here, l);
       }
 

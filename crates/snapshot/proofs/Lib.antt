@@ -2,6 +2,7 @@ pub mod AreaLemmas
 pub mod ReadLemmas
 pub mod HeadLemmas
 pub mod StoreLemmas
+pub mod SpareLemmas
 pub mod WriterLemmas
 pub mod ByteLemmas
 pub mod SnapshotLemmas

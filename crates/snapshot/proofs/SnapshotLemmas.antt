@@ -5,28 +5,29 @@ use Rattle.disk_layout.specs.declared.geometry.Geometry.{Geometry}
 use Rattle.disk_layout.specs.rules.Places.{area_place}
 use Rattle.disk_layout.specs.rules.Sectors.{bytes_from}
 use Rattle.snapshot.specs.rules.Steps.{Fills, Commits, Replaces}
+use Rattle.snapshot.specs.declared.writing.Writing.{Writing}
 use Rattle.snapshot.specs.declared.snapshots.State.{State}
 use Rattle.snapshot.specs.declared.snapshots.State.TheVariants as state
 use Rattle.snapshot.specs.declared.snapshots.Snapshots.{Snapshots}
-use Rattle.snapshot.specs.Snapshots.{begun_in, IsGivenIn, IsBegun, HasPushed}
+use Rattle.snapshot.specs.rules.Snapshots.{begun_in, IsGivenIn, IsBegun, HasPushed}
 use Rattle.snapshot.proofs.AreaLemmas.{fills_none, fills_commits, then_commits, then_replaces}
 use Rattle.snapshot.proofs.StoreLemmas.{leaves_then, leaves_now}
 use Rattle.snapshot.proofs.WriterLemmas.{none_fills}
 use Rattle.sector_disk.proofs.Moments.{leaves_weaker}
 
 -- of an image that is begun, no byte was pushed, whatever the disk shows
-begun_given : (geometry : Geometry) (m : Medium) (g v : ℕ) (t : State) → begun_in g v t → IsGivenIn geometry m t []
-begun_given geometry m g v (state.Begun w) is = record {
+begun_given : (geometry : Geometry) (m : Medium) (g v : ℕ) (told : Writing) (t : State) → begun_in g v told t → IsGivenIn geometry m t []
+begun_given geometry m g v told (state.Begun w) is = record {
   hashed = is.hashed;
   count = let s = is.sectors in let f = is.filled in omega (arith, s, f);
   held = λ image shows.
       ap (λ (n : ℕ). bytes_from image (area_place geometry w.generation) n ++ take w.filled w.sector) is.sectors ∙ ap (λ (n : ℕ). take n w.sector) is.filled;
 }
-begun_given geometry m g v state.Idle is = absurd is
-begun_given geometry m g v state.Failed is = absurd is
+begun_given geometry m g v told state.Idle is = absurd is
+begun_given geometry m g v told state.Failed is = absurd is
 
-pub begun_pushed : (geometry : Geometry) (m : Medium) (g v : ℕ) (s : Snapshots) → IsBegun g v s → HasPushed geometry m s []
-begun_pushed geometry m g v s is = begun_given geometry m g v s.state is.starts
+pub begun_pushed : (geometry : Geometry) (m : Medium) (g v : ℕ) (told : Writing) (s : Snapshots) → IsBegun g v told s → HasPushed geometry m s []
+begun_pushed geometry m g v told s is = begun_given geometry m g v told s.state is.starts
 
 module _ (geometry : Geometry) (g v : ℕ) (bytes : List ℕ) where
   pub filled_commits : (old new : Medium) → LeavesOnly old new (After (Fills geometry g) old.may_leave) → LeavesOnly old new (After (Commits geometry g v bytes) old.may_leave)

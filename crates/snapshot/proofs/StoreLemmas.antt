@@ -46,6 +46,13 @@ module _ (k : ℕ) (bytes : List ℕ) (old mid : Medium) (stays : Stays old mid)
       let was = shows_follow mid new _ _ tears.both image shows in
       sym (holds was.0 was.1) ∙ was-bytes was.0 (stays_shows old mid stays was.0 was.1)
 
+-- a sector that is written
+pub write_only : (k : ℕ) (bytes : List ℕ) (old new : Medium) → Tears k bytes old new → Passes old new new.may_leave → LeavesOnly old new (After (IsTorn k bytes) old.may_leave)
+write_only k bytes old new tears passes =
+    leaves_only old new (After (IsTorn k bytes) old.may_leave)
+    (weaker old new new.may_leave (After (IsTorn k bytes) old.may_leave) passes (λ image left. left_follow old new _ _ tears.both image left))
+    (λ image left. (image, left, torn_none 512 k bytes image))
+
 -- ---- a sector that is written on a settled disk, and then a sync
 
 module _ (k : ℕ) (bytes : List ℕ) (old new : Medium) (settled : IsAllSynced old) (tears : Tears k bytes old new) (passes : Passes old new new.may_leave) where

@@ -1,5 +1,5 @@
 -- Bytes that are given to a writer, and its last sector and head.
-use Rattle.std.proofs.Common.{◌≡◌, ◌≢◌, ◌⊎◌, ℕ, ◌+◌, ◌^◌, ◌<◌, ◌≤◌, List, ◌++◌, length, take, drop, sym, ap, ◌∙◌, subst, inl, inr, ⊎_elim, arith, append_assoc, length-append}
+use Rattle.std.proofs.Common.{◌≡◌, ◌≢◌, ◌⊎◌, ℕ, ◌+◌, ◌-◌, ◌*◌, ◌/◌, ◌^◌, ◌<◌, ◌≤◌, List, ◌++◌, length, take, drop, sym, ap, ◌∙◌, subst, inl, inr, ⊎_elim, arith, append_assoc, length-append}
 use Rattle.std.proofs.Math.Seq.{take-append-add, take-append_seam, drop-append-add}
 use Rattle.std.proofs.lemmas.List.{length-set, length-take-le, length-drop}
 use Rattle.std.specs.List.{AllByRecursion}
@@ -13,13 +13,13 @@ use Rattle.sector_disk.specs.laws.Fronts.{sector-with_sector, sector-with_other}
 use Rattle.sector_disk.proofs.Moments.{started, leaves_only, shows_follow, shows_left, leaves_weaker}
 use Rattle.disk_layout.specs.declared.geometry.Geometry.{Geometry}
 use Rattle.disk_layout.specs.declared.head.Head.{Head}
-use Rattle.disk_layout.specs.rules.Places.{head_place, area_place}
+use Rattle.disk_layout.specs.rules.Places.{head_place, area_place, rounded_up}
 use Rattle.disk_layout.specs.rules.Sectors.{bytes_from, head_bytes, stamp_of, stamp_bytes, shown_generation, SectorsHold}
 use Rattle.disk_layout.specs.laws.Laws.{HeadFits}
 use Rattle.disk_layout.proofs.ReadLemmas.{bytes_from-more}
 use Rattle.disk_layout.proofs.StampLemmas.{all_drop, shows_earlier, shows_there}
 use Rattle.disk_layout.proofs.FieldLemmas.{head_again, drop_over}
-use Rattle.snapshot.specs.rules.Steps.{IsOutsideArea, Fills, Commits, Replaces}
+use Rattle.snapshot.specs.rules.Steps.{IsOutsideArea, HoldsWithZeros, Fills, Commits, Replaces}
 use Rattle.snapshot.proofs.AreaLemmas.{bytes_same, fills, fills_none, fills_then, fills_commits, then_commits, then_replaces}
 use Rattle.snapshot.proofs.HeadLemmas.{new_head, old_head, shown_within}
 use Rattle.snapshot.proofs.ReadLemmas.{front_of_more}
@@ -51,6 +51,10 @@ more_fills geometry g old mid new one two =
     (λ image left. (image, left, fills_none geometry g image))
 
 -- ---- bytes that are given
+
+-- What is unsynced now (u), and the sectors that are still to be filled. s sectors are written and f bytes wait, of t and e before.
+pub sectors_left : (u v s t f e at len left : ℕ) → u + t ≤ v + s → 512 * s + f ≡ 512 * t + e + at → at ≤ len → f < 512 → e < 512 → left ≡ len - at → u + (f + left) / 512 ≤ v + (e + len) / 512
+sectors_left u v s t f e at len left few is within less was left-is = omega arith
 
 -- a sector's front with bytes put behind it
 pub put_behind : (filled : ℕ) (sector chunk : List ℕ) → filled + length chunk ≤ length sector → take (filled + length chunk) (with_part sector filled chunk) ≡ take filled sector ++ chunk
@@ -92,6 +96,12 @@ area_holds image place n count bytes rest le is =
     let long : length bytes ≤ length (bytes_from image place n) = let e = ap (λ (l : List ℕ). length l) is ∙ length-append bytes rest in omega (arith, e) in
     sym (front_of_more image place n count (length bytes) le long) ∙ ap (λ (l : List ℕ). take (length bytes) l) is ∙ take-append_seam bytes rest
 
+-- the same with zeros up to the end of the last sector
+pub zeros_held : (image : Image) (place n z : ℕ) (bytes : List ℕ) → n ≡ rounded_up (length bytes) → z ≡ 512 * n - length bytes → bytes_from image place n ≡ bytes ++ padding z
+    → bytes_from image place (rounded_up (length bytes)) ≡ bytes ++ padding (512 * rounded_up (length bytes) - length bytes)
+zeros_held image place n z bytes n-is z-is is =
+    ap (λ (k : ℕ). bytes_from image place k) (sym n-is) ∙ is ∙ ap (λ (k : ℕ). bytes ++ padding k) (z-is ∙ ap (λ (k : ℕ). 512 * k - length bytes) n-is)
+
 -- ---- a head
 
 pub record IsHead (h : Head) : Type 0 where
@@ -118,11 +128,14 @@ head_placed h is =
 pub head_shows : (h : Head) → IsHead h → shown_generation 1 (head_bytes h) ≡ h.generation
 head_shows h is = shows_there 1 (stamp_of (head_bytes h)).place (stamp_of (head_bytes h)).generation (head_placed h is) ∙ ap (λ (k : Head). k.generation) (head_again h is.fits)
 
-module _ (geometry : Geometry) (h : Head) (bytes : List ℕ) (is : IsHead h) (len : h.length_in_bytes ≡ length bytes) (digest : h.digest ≡ sha256 bytes) where
+module _ (geometry : Geometry) (h : Head) (bytes : List ℕ) (is : IsHead h) (len : h.length_in_bytes ≡ length bytes) (digest : h.digest ≡ sha256 bytes) (few : rounded_up (length bytes) ≤ geometry.area_sectors) where
   is-whole : h ≡ record { version = h.version; length_in_bytes = length bytes; digest = sha256 bytes; generation = h.generation }
   is-whole = λ j. record { version = h.version; length_in_bytes = len j; digest = digest j; generation = h.generation }
 
-  module _ (x y : Image) (sectors : ℕ) (image : IsImage sectors x) (inside : 3 ≤ sectors) (area : SectorsHold x (area_place geometry h.generation) geometry.area_sectors bytes) where
+  module _ (x y : Image) (sectors : ℕ) (image : IsImage sectors x) (inside : 3 ≤ sectors) (zeros : HoldsWithZeros geometry h.generation bytes x) where
+    area : SectorsHold x (area_place geometry h.generation) geometry.area_sectors bytes
+    area = area_holds x (area_place geometry h.generation) (rounded_up (length bytes)) geometry.area_sectors bytes (padding (512 * rounded_up (length bytes) - length bytes)) few zeros
+
     in_image : head_place h.generation < length x
     in_image = let c = image.count in omega (arith, c, inside)
 
@@ -150,7 +163,7 @@ module _ (geometry : Geometry) (h : Head) (bytes : List ℕ) (is : IsHead h) (le
               }) in
               ⊎_elim
               (λ less. inl (old_head geometry h.generation h.version bytes x y ready others area (let e = ap (λ (s : List ℕ). shown_generation 1 s) here in omega (arith, e, less))))
-              (λ new. inr (new_head geometry h.generation h.version bytes x y ready others area h is.fits is-whole (record {
+              (λ new. inr (new_head geometry h.generation h.version bytes x y ready others area h is.fits is-whole zeros (record {
                 shows = ap (λ (s : List ℕ). shown_generation 1 s) here ∙ new.0;
                 first = ap (λ (s : List ℕ). take 496 s) here ∙ new.1;
               })))
@@ -164,7 +177,7 @@ module _ (geometry : Geometry) (h : Head) (bytes : List ℕ) (is : IsHead h) (le
         record {
           count = ap (λ (i : Image). length i) written ∙ length-set x (head_place h.generation) _;
           others = λ k out ne. others k ne;
-          newest = λ ready. new_head geometry h.generation h.version bytes x y ready others area h is.fits is-whole (record {
+          newest = λ ready. new_head geometry h.generation h.version bytes x y ready others area h is.fits is-whole zeros (record {
             shows = ap (λ (s : List ℕ). shown_generation 1 s) here ∙ head_shows h is;
             first = ap (λ (s : List ℕ). take 496 s) here;
           });
@@ -173,7 +186,7 @@ module _ (geometry : Geometry) (h : Head) (bytes : List ℕ) (is : IsHead h) (le
   -- ---- a head behind a settled area
 
   module _ (old mid new : Medium) (inside : 3 ≤ mid.sectors) (one : LeavesOnly old mid (After (Fills geometry h.generation) old.may_leave))
-      (holds : (image : Image) → mid.shows image → SectorsHold image (area_place geometry h.generation) geometry.area_sectors bytes) where
+      (holds : (image : Image) → mid.shows image → HoldsWithZeros geometry h.generation bytes image) where
     fills_left : (image : Image) → old.may_leave image → After (Commits geometry h.generation h.version bytes) old.may_leave image
     fills_left image left = (image, left, fills_commits geometry h.generation h.version bytes image image (fills_none geometry h.generation image))
 

@@ -1,16 +1,27 @@
 -- A sector that is stored, and one that is written behind a sync (this project's own).
-use Rattle.std.specs.Prelude.{◌≡◌, ◌⊎◌, ℕ, ◌+◌, ◌<◌, ◌≤◌, List, Result, OnOk, IsErr}
+use Rattle.std.specs.Prelude.{◌≡◌, ◌⊎◌, ℕ, ◌+◌, ◌<◌, ◌≤◌, max, List, Result, OnOk, IsErr}
 use Rattle.sector_disk.specs.rules.Image.{Image, IsTorn, IsWritten}
-use Rattle.sector_disk.specs.rules.Medium.{Medium, After, Follows, BothFollow, LeavesOnly, IsAllSynced, Holds, spare}
+use Rattle.sector_disk.specs.rules.Medium.{Medium, After, Follows, BothFollow, LeavesOnly, CountsUpTo, IsAllSynced, Holds, spare}
 use Rattle.sector_disk.specs.declared.fault.DiskFault.{DiskFault}
+use Rattle.snapshot.specs.declared.writing.Writing.{Writing}
+use Rattle.snapshot.specs.declared.writing.Writing.TheVariants.{Whole, Changes}
 
--- Sector k has these bytes afterwards. It is written where reads give others, and then a cut may leave some front of it.
-pub record StoresSector {T : Type 0} (k : ℕ) (bytes : List ℕ) (result : Result T DiskFault) (old new : Medium) : Type 0 where
+-- Written whole it is written always. Where only changes are written, a sector of which reads
+-- gave these bytes is not.
+abbrev pub IsStoredAs : {T : Type 0} → Writing → ℕ → List ℕ → Result T DiskFault → Medium
+    → Medium → Type 0
+IsStoredAs Whole k bytes result old new = OnOk result (new.unsynced ≡ old.unsynced + 1)
+IsStoredAs Changes k bytes result old new =
+    (image : Image) → new.shows image → Holds old k bytes → CountsUpTo old.unsynced old new
+
+-- Sector k has these bytes afterwards. Where it is written, a cut may leave some front of it.
+pub record StoresSector {T : Type 0} (k : ℕ) (bytes : List ℕ) (writing : Writing)
+    (result : Result T DiskFault) (old new : Medium) : Type 0 where
   pub whole : OnOk result (BothFollow (IsWritten k bytes) (IsTorn k bytes) old new)
   pub any_moment : LeavesOnly old new (After (IsTorn k bytes) old.may_leave)
-  -- where reads gave these bytes, nothing is written
-  pub spared : (image : Image) → new.shows image → Holds old k bytes → new.unsynced ≡ old.unsynced
+  pub told : IsStoredAs writing k bytes result old new
   pub unsynced : new.unsynced ≤ old.unsynced + 1
+  pub counts : CountsUpTo (old.unsynced + 1) old new
   pub cause : IsErr result → (spare old ≡ 0) ⊎ (old.faults < new.faults)
 
 -- Sector k is written once all that was written before is settled. A cut leaves what it may have left before, or some front of
@@ -19,4 +30,6 @@ pub record SettlesSector {T : Type 0} (k : ℕ) (bytes : List ℕ) (result : Res
   pub written : OnOk result (Follows (IsWritten k bytes) old.shows new.may_leave)
   pub settled : OnOk result (IsAllSynced new)
   pub any_moment : LeavesOnly old new (λ image. old.may_leave image ⊎ After (IsTorn k bytes) old.shows image)
+  -- as many unsynced writes as before, or this one
+  pub counts : CountsUpTo (max old.unsynced 1) old new
   pub cause : IsErr result → (old.room ≡ 0) ⊎ (old.faults < new.faults)

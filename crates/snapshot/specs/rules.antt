@@ -1,3 +1,4 @@
 pub mod Heads
 pub mod Newest
+pub mod Snapshots
 pub mod Steps

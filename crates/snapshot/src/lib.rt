@@ -9,7 +9,12 @@
 //! - `begin`, `push`, `finish` write an image piece by piece, and `commit` is all three. A cut at
 //!   any moment leaves the newest image that there was, or from `finish` on this one. No sector
 //!   but those of its area and its head is changed (`any_moment`). After Ok of `finish` or
-//!   `commit` only this one is left (`done`).
+//!   `commit` only this one is left (`done`). Zeros stand behind it, up to the end of its last
+//!   sector (`HasNew`).
+//! - `begin` is told whether the image is written whole (`Writing`). Then each of its sectors is
+//!   written, whatever the area held (`whole`). Else, and in a `commit`, one is spared where reads
+//!   gave its bytes already (`spared`). There are never more unsynced writes than before and its
+//!   own (`counts`).
 //! - What is said of the newest image holds where that was of the generation before, or, before
 //!   the first, where there was none (`IsReadyForHead`).
 //! - `TooBig` comes exactly for a generation from 2^63 on, and for an image longer than its area
@@ -21,8 +26,9 @@
 //! # Definitions to read
 //!
 //! In `specs/rules/`: `FindsHead`, `IsReadyForHead` (`Heads.antt`); `FindsNewest`, `ReadsImage`,
-//! `IsDamaged` (`Newest.antt`); `Fills`, `Commits`, `Replaces` (`Steps.antt`). Contracts also cite
-//! `IsBegun`, `HasPushed`, `StaysFailed` (`specs/Snapshots.antt`). Of `disk_layout`: `HoldsImage`.
+//! `IsDamaged` (`Newest.antt`); `Fills`, `Commits`, `Replaces`, `HasNew` (`Steps.antt`). Contracts
+//! also cite `IsBegun`, `HasPushed`, `StaysFailed` (`specs/Snapshots.antt`) and `SparesSectors`
+//! (`specs/Writing.antt`). Of `disk_layout`: `HoldsImage`.
 //!
 //! # Who may touch what
 //!
@@ -38,7 +44,9 @@ mod newest;
 mod snapshots;
 mod store;
 mod writer;
+mod writing;
 
 pub use fault::SnapshotFault;
 pub use newest::Snapshot;
 pub use snapshots::Snapshots;
+pub use writing::Writing;

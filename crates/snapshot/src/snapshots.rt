@@ -3,6 +3,7 @@
 use crate::fault::SnapshotFault;
 use crate::newest::{Snapshot, newest_head, read_image};
 use crate::writer::AreaWriter;
+use crate::writing::Writing;
 use disk_layout::{Geometry, Head};
 use sector_disk::Disk;
 use std::alloc::Global;
@@ -29,16 +30,17 @@ pub struct Snapshots {
 }
 
 impl Snapshots {
-    ghost use Rattle.std.specs.Prelude.{◌+◌, ◌*◌, ◌^◌, ◌++◌, ◌↔◌, false, ℕ, List, length, ◌≡◌, ◌≤◌, ◌<◌, ◌⊎◌, IsTrue, OnOk, IfOk, IsErr};
+    ghost use Rattle.std.specs.Prelude.{◌+◌, ◌*◌, ◌/◌, ◌^◌, ◌++◌, ◌↔◌, false, ℕ, List, length, ◌≡◌, ◌≤◌, ◌<◌, ◌⊎◌, IsTrue, OnOk, IfOk, IsErr};
     ghost use Rattle.sector_disk.specs.rules.Image.{Image};
-    ghost use Rattle.sector_disk.specs.rules.Medium.{LeavesOnly, After, Follows, IsAllSynced, spare};
+    ghost use Rattle.sector_disk.specs.rules.Medium.{LeavesOnly, After, Follows, CountsUpTo, IsAllSynced, spare};
     ghost use Rattle.sector_disk.specs.declared.fault.DiskFault.{DiskFault};
-    ghost use Rattle.disk_layout.specs.rules.Places.{journal_place};
+    ghost use Rattle.disk_layout.specs.rules.Places.{journal_place, area_place, rounded_up};
     ghost use Rattle.disk_layout.specs.rules.Stored.{OnlyReads};
     ghost use Rattle.snapshot.specs.rules.Heads.{FindsHead};
     ghost use Rattle.snapshot.specs.rules.Newest.{ReadsImage, FindsNewest};
     ghost use Rattle.snapshot.specs.rules.Steps.{Fills, Commits, Replaces};
-    ghost use Rattle.snapshot.specs.Snapshots.{is_idle, is_failed, generation_of, version_of, length_of, sectors_of, IsSameImage, IsBegun, HasPushed, StaysFailed};
+    ghost use Rattle.snapshot.specs.Writing.{SparesSectors, SparesAllButHead};
+    ghost use Rattle.snapshot.specs.rules.Snapshots.{is_idle, is_failed, generation_of, version_of, length_of, sectors_of, filled_by, writing_of, IsSameImage, IsBegun, HasPushed, StaysFailed};
 
     pub fn new() -> Snapshots
         ensures idle { IsTrue (is_idle result) }
@@ -126,8 +128,13 @@ impl Snapshots {
 
     /// Begins the image of this generation, which is given by `push` and ends with `finish`. It makes no call of
     /// the disk. It is `TooBig` for a generation from 2^63 on. An image that was begun before is left as it is.
-    pub fn begin(&mut self, generation: u64, version: u32) -> Result<(), SnapshotFault>
-        ensures begun { OnOk result (IsBegun generation version self.new) }
+    pub fn begin(
+        &mut self,
+        generation: u64,
+        version: u32,
+        writing: Writing,
+    ) -> Result<(), SnapshotFault>
+        ensures begun { OnOk result (IsBegun generation version writing self.new) }
         ensures too_big { (result ≡ Err SnapshotFault.TooBig) ↔ ((is_failed self.old ≡ false) × (2 ^ 63 ≤ generation)) }
         ensures fails { StaysFailed result self.old self.new }
         ensures cause { IsErr result → IsTrue (is_failed self.old) ⊎ (result ≡ Err SnapshotFault.TooBig) }
@@ -139,13 +146,13 @@ impl Snapshots {
             self.state = State::Failed;
             return Err(SnapshotFault::TooBig);
         }
-        self.state = State::Begun(AreaWriter::new(generation, version));
+        self.state = State::Begun(AreaWriter::new(generation, version, writing));
         Ok(())
     }
 
-    /// Gives more bytes of the image. Each sector of the area that they fill is compared with what the area holds,
-    /// and written where it differs. Where the image would be longer than its area it is `TooBig`, and the disk
-    /// is left alone.
+    /// Gives more bytes of the image. Each sector of the area that they fill is written. Where
+    /// only changes are, it is compared with what the area holds, and written where it differs.
+    /// Where the image would be longer than its area it is `TooBig`, and the disk is left alone.
     pub fn push<D: Disk>(
         &mut self,
         disk: &mut D,
@@ -162,6 +169,22 @@ impl Snapshots {
         ensures length { OnOk result (length_of self.new ≡ length_of self.old + length bytes.now) }
         ensures within { OnOk result (length_of self.new ≤ 512 * geometry.now.area_sectors) }
         ensures unsynced { OnOk result ((D.medium disk.new).unsynced + sectors_of self.old ≤ (D.medium disk.old).unsynced + sectors_of self.new) }
+
+        // Of an image that is written whole, each sector that they fill is written, whatever the
+        // area held.
+        ensures whole { writing_of self.old ≡ Writing.Whole → OnOk result
+            ((D.medium disk.new).unsynced + sectors_of self.old ≡ (D.medium disk.old).unsynced +
+            sectors_of self.new) }
+
+        // Where only changes are written, a sector that they fill is spared where reads gave its
+        // bytes before.
+        ensures spared { writing_of self.old ≡ Writing.Changes → OnOk result
+            (SparesSectors (area_place geometry.now (generation_of self.old)) (sectors_of self.old)
+            (sectors_of self.new) (D.medium disk.old) (D.medium disk.new)) }
+
+        // At no moment were there more unsynced writes than before and the sectors that they fill.
+        ensures counts { CountsUpTo ((D.medium disk.old).unsynced + filled_by self.old
+            (length bytes.now)) (D.medium disk.old) (D.medium disk.new) }
 
         ensures too_big { (result ≡ Err SnapshotFault.TooBig) ↔ ((is_failed self.old ≡ false) × (512 * geometry.now.area_sectors < length_of self.old + length bytes.now)) }
         ensures untouched { IsTrue (is_failed self.old) ⊎ (result ≡ Err SnapshotFault.TooBig) → disk.new ≡ disk.old }
@@ -194,6 +217,22 @@ impl Snapshots {
         ensures done { OnOk result ((bytes : List ℕ) → HasPushed geometry.now (D.medium disk.old) self.old bytes →
             Follows (Replaces geometry.now (generation_of self.old) (version_of self.old) bytes) (D.medium disk.old).may_leave (D.medium disk.new).may_leave) }
         ensures settled { OnOk result (IsAllSynced (D.medium disk.new)) }
+        ensures counts { CountsUpTo ((D.medium disk.old).unsynced + 1) (D.medium disk.old)
+            (D.medium disk.new) }
+
+        // Where only changes are written, the last sector is spared where reads gave its bytes
+        // before.
+        ensures spared { writing_of self.old ≡ Writing.Changes → OnOk result
+            (SparesAllButHead (area_place geometry.now (generation_of self.old))
+            (sectors_of self.old) (rounded_up (length_of self.old)) (D.medium disk.old)
+            (D.medium disk.new)) }
+
+        // Of an image that is written whole, a last sector that isn't full is written, whatever
+        // the area held.
+        ensures whole { writing_of self.old ≡ Writing.Whole →
+            512 * sectors_of self.old < length_of self.old →
+            OnOk result ((D.medium disk.new).unsynced_since (D.medium disk.old).moment
+            ((D.medium disk.old).unsynced + 1)) }
         ensures idle { OnOk result (IsTrue (is_idle self.new)) }
 
         ensures untouched { IsTrue (is_failed self.old) → disk.new ≡ disk.old }
@@ -208,7 +247,8 @@ impl Snapshots {
         Ok(())
     }
 
-    /// Begins an image, gives all of it, and ends it.
+    /// Begins an image, gives all of it, and ends it. Of its sectors it writes those that differ
+    /// from what the area holds.
     pub fn commit<D: Disk>(
         &mut self,
         disk: &mut D,
@@ -225,14 +265,20 @@ impl Snapshots {
         // Once it has answered Ok, each cut leaves this one.
         ensures done { OnOk result (Follows (Replaces geometry.now generation version image.now) (D.medium disk.old).may_leave (D.medium disk.new).may_leave) }
         ensures settled { OnOk result (IsAllSynced (D.medium disk.new)) }
+        ensures counts { CountsUpTo ((D.medium disk.old).unsynced + length image.now / 512 + 1)
+            (D.medium disk.old) (D.medium disk.new) }
         ensures idle { OnOk result (IsTrue (is_idle self.new)) }
+
+        // A sector of the image is spared where reads gave its bytes before.
+        ensures spared { OnOk result (SparesAllButHead (area_place geometry.now generation) 0
+            (rounded_up (length image.now)) (D.medium disk.old) (D.medium disk.new)) }
 
         ensures too_big { (result ≡ Err SnapshotFault.TooBig) ↔ ((is_failed self.old ≡ false) × ((2 ^ 63 ≤ generation) ⊎ (512 * geometry.now.area_sectors < length image.now))) }
         ensures untouched { IsTrue (is_failed self.old) ⊎ (result ≡ Err SnapshotFault.TooBig) → disk.new ≡ disk.old }
         ensures fails { StaysFailed result self.old self.new }
         ensures cause { IsErr result → IsTrue (is_failed self.old) ⊎ (result ≡ Err SnapshotFault.TooBig) ⊎ ((fault : DiskFault) × (result ≡ Err (SnapshotFault.Disk fault)) × ((spare (D.medium disk.old) < geometry.now.area_sectors) ⊎ ((D.medium disk.old).room ≡ 0) ⊎ ((D.medium disk.old).faults < (D.medium disk.new).faults))) }
     {
-        self.begin(generation, version)?;
+        self.begin(generation, version, Writing::Changes)?;
         self.push(disk, geometry, image)?;
         self.finish(disk, geometry)
     }

@@ -3,17 +3,40 @@ ghost use Rattle.std.specs.Prelude.{◌<◌};
 ghost use Rattle.sector_disk.specs.rules.Medium.{IsAllSynced, SyncsMedium};
 ghost use Rattle.snapshot.specs.Store.{StoresSector, SettlesSector};
 
+use crate::writing::Writing;
 use block_lanes::same;
 use sector_disk::{Disk, DiskFault};
 
-/// Writes a sector where reads give other bytes.
+/// Writes a sector, or of one that reads give already nothing.
 pub(crate) fn store_sector<D: Disk>(
     disk: &mut D,
     at: u64,
     sector: &[u8; 512],
+    writing: Writing,
 ) -> Result<(), DiskFault>
     requires { at < (D.medium disk.old).sectors }
-    ensures { StoresSector at sector.now result (D.medium disk.old) (D.medium disk.new) }
+    ensures { StoresSector at sector.now writing result (D.medium disk.old) (D.medium disk.new) }
+{
+    match writing {
+        Writing::Whole => store_always(disk, at, sector),
+        Writing::Changes => store_changed(disk, at, sector),
+    }
+}
+
+/// Writes a sector.
+fn store_always<D: Disk>(disk: &mut D, at: u64, sector: &[u8; 512]) -> Result<(), DiskFault>
+    requires { at < (D.medium disk.old).sectors }
+    ensures { StoresSector at sector.now Writing.Whole result (D.medium disk.old)
+        (D.medium disk.new) }
+{
+    disk.write(at, sector)
+}
+
+/// Writes a sector where reads give other bytes.
+fn store_changed<D: Disk>(disk: &mut D, at: u64, sector: &[u8; 512]) -> Result<(), DiskFault>
+    requires { at < (D.medium disk.old).sectors }
+    ensures { StoresSector at sector.now Writing.Changes result (D.medium disk.old)
+        (D.medium disk.new) }
 {
     let mut held = [0; 512];
     disk.read(at, &mut held)?;

@@ -4,6 +4,7 @@ ghost use Rattle.std.specs.Prelude.{◌≤◌, ◌<◌, ◌^◌};
 use crate::bytes::{pad, put};
 use crate::fault::SnapshotFault;
 use crate::store::{settle_sector, store_sector};
+use crate::writing::Writing;
 use disk_layout::{Geometry, Head};
 use sector_disk::{Disk, DiskFault};
 use sha2::{Digest, Sha256};
@@ -13,6 +14,7 @@ use sha2::{Digest, Sha256};
 pub(crate) struct AreaWriter {
     pub(crate) generation: u64,
     pub(crate) version: u32,
+    pub(crate) writing: Writing,
     /// How many sectors of the area are written.
     pub(crate) sectors: u64,
     /// How many bytes of `sector` are the image's.
@@ -25,24 +27,24 @@ pub(crate) struct AreaWriter {
 }
 
 impl AreaWriter {
-    ghost use Rattle.std.specs.Prelude.{◌≡◌, ◌⊎◌, ◌↔◌, ◌+◌, ◌*◌, ◌++◌, ℕ, List, length, take, drop, replicate, IfOk, OnOk, IsErr};
+    ghost use Rattle.std.specs.Prelude.{◌≡◌, ◌⊎◌, ◌↔◌, ◌+◌, ◌*◌, ◌/◌, ◌++◌, ℕ, List, length, take, drop, replicate, IfOk, OnOk, IsErr};
     ghost use Rattle.sha2.specs.Hashers.{Holds256};
     ghost use Rattle.sha2.specs.Sha256.{sha256};
     ghost use Rattle.guest_memory.specs.rules.Bytes.{with_part};
     ghost use Rattle.sector_disk.specs.rules.Image.{Image, front_over};
-    ghost use Rattle.sector_disk.specs.rules.Medium.{LeavesOnly, After, Follows, IsAllSynced, spare};
+    ghost use Rattle.sector_disk.specs.rules.Medium.{LeavesOnly, After, Follows, CountsUpTo, IsAllSynced, spare};
     ghost use Rattle.sector_disk.specs.declared.fault.DiskFault.{DiskFault};
-    ghost use Rattle.disk_layout.specs.rules.Places.{journal_place, area_place};
-    ghost use Rattle.disk_layout.specs.rules.Sectors.{SectorsHold};
-    ghost use Rattle.snapshot.specs.rules.Steps.{Fills, Commits, Replaces};
-    ghost use Rattle.snapshot.specs.Writing.{written_length, Starts, IsGiven};
+    ghost use Rattle.disk_layout.specs.rules.Places.{journal_place, area_place, rounded_up};
+    ghost use Rattle.snapshot.specs.rules.Steps.{HoldsWithZeros, Fills, Commits, Replaces};
+    ghost use Rattle.snapshot.specs.Writing.{written_length, Starts, SparesSectors, SparesAllButHead, IsGiven};
 
-    pub(crate) fn new(generation: u64, version: u32) -> AreaWriter
-        ensures { Starts generation version result }
+    pub(crate) fn new(generation: u64, version: u32, writing: Writing) -> AreaWriter
+        ensures { Starts generation version writing result }
     {
         AreaWriter {
             generation,
             version,
+            writing,
             sectors: 0,
             filled: 0,
             sector: [0; 512],
@@ -72,8 +74,17 @@ impl AreaWriter {
         ensures length { OnOk result (written_length self.new ≡ written_length self.old + length bytes.now) }
         ensures generation { OnOk result (self.new.generation ≡ self.old.generation) }
         ensures version { OnOk result (self.new.version ≡ self.old.version) }
+        ensures writing { OnOk result (self.new.writing ≡ self.old.writing) }
+        ensures whole { self.old.writing ≡ Writing.Whole → OnOk result
+            ((D.medium disk.new).unsynced + self.old.sectors ≡ (D.medium disk.old).unsynced +
+            self.new.sectors) }
+        ensures spared { self.old.writing ≡ Writing.Changes → OnOk result
+            (SparesSectors (area_place geometry.now self.old.generation) self.old.sectors
+            self.new.sectors (D.medium disk.old) (D.medium disk.new)) }
         ensures unsynced { OnOk result ((D.medium disk.new).unsynced + self.old.sectors ≤ (D.medium disk.old).unsynced + self.new.sectors) }
         ensures any_moment { LeavesOnly (D.medium disk.old) (D.medium disk.new) (After (Fills geometry.now self.old.generation) (D.medium disk.old).may_leave) }
+        ensures counts { CountsUpTo ((D.medium disk.old).unsynced +
+            (self.old.filled + length bytes.now) / 512) (D.medium disk.old) (D.medium disk.new) }
         ensures cause { IsErr result → result ≡ Err SnapshotFault.TooBig ⊎ ((fault : DiskFault) × (result ≡ Err (SnapshotFault.Disk fault)) × ((spare (D.medium disk.old) + self.old.sectors < geometry.now.area_sectors) ⊎ ((D.medium disk.old).faults < (D.medium disk.new).faults))) }
     {
         let total = self.length().saturating_add(bytes.len() as u64);
@@ -103,8 +114,17 @@ impl AreaWriter {
         ensures given { IfOk result (λ n. (before : List ℕ) → IsGiven geometry.now (D.medium disk.old) self.old before → IsGiven geometry.now (D.medium disk.new) self.new (before ++ take n bytes.now)) }
         ensures generation { self.new.generation ≡ self.old.generation }
         ensures version { self.new.version ≡ self.old.version }
+        ensures writing { self.new.writing ≡ self.old.writing }
+        ensures whole { self.old.writing ≡ Writing.Whole → OnOk result
+            ((D.medium disk.new).unsynced + self.old.sectors ≡ (D.medium disk.old).unsynced +
+            self.new.sectors) }
+        ensures spared { self.old.writing ≡ Writing.Changes → OnOk result
+            (SparesSectors (area_place geometry.now self.old.generation) self.old.sectors
+            self.new.sectors (D.medium disk.old) (D.medium disk.new)) }
         ensures unsynced { OnOk result ((D.medium disk.new).unsynced + self.old.sectors ≤ (D.medium disk.old).unsynced + self.new.sectors) }
         ensures any_moment { LeavesOnly (D.medium disk.old) (D.medium disk.new) (After (Fills geometry.now self.old.generation) (D.medium disk.old).may_leave) }
+        ensures counts { CountsUpTo ((D.medium disk.old).unsynced +
+            (self.old.filled + length bytes.now) / 512) (D.medium disk.old) (D.medium disk.new) }
         ensures cause { IsErr result → (spare (D.medium disk.old) + self.old.sectors < geometry.now.area_sectors) ⊎ ((D.medium disk.old).faults < (D.medium disk.new).faults) }
     {
         let filled = self.filled;
@@ -122,7 +142,7 @@ impl AreaWriter {
             return Ok(count);
         }
         let at = geometry.area_place(self.generation) + self.sectors;
-        store_sector(disk, at, &self.sector)?;
+        store_sector(disk, at, &self.sector, self.writing)?;
         self.sectors += 1;
         self.filled = 0;
         Ok(count)
@@ -132,8 +152,17 @@ impl AreaWriter {
     fn store_last<D: Disk>(&self, disk: &mut D, geometry: &Geometry) -> Result<(), DiskFault>
         requires within { written_length self.now ≤ 512 * geometry.now.area_sectors }
         requires places { journal_place geometry.now ≤ (D.medium disk.old).sectors }
-        ensures holds { OnOk result ((bytes : List ℕ) → IsGiven geometry.now (D.medium disk.old) self.now bytes → (image : Image) → (D.medium disk.new).shows image → SectorsHold image (area_place geometry.now self.now.generation) geometry.now.area_sectors bytes) }
+        ensures holds { OnOk result ((bytes : List ℕ) → IsGiven geometry.now (D.medium disk.old)
+            self.now bytes → (image : Image) → (D.medium disk.new).shows image → HoldsWithZeros
+            geometry.now self.now.generation bytes image) }
         ensures any_moment { LeavesOnly (D.medium disk.old) (D.medium disk.new) (After (Fills geometry.now self.now.generation) (D.medium disk.old).may_leave) }
+        ensures counts { CountsUpTo ((D.medium disk.old).unsynced + 1) (D.medium disk.old)
+            (D.medium disk.new) }
+        ensures spared { self.now.writing ≡ Writing.Changes → OnOk result
+            (SparesSectors (area_place geometry.now self.now.generation) self.now.sectors
+            (rounded_up (written_length self.now)) (D.medium disk.old) (D.medium disk.new)) }
+        ensures whole { self.now.writing ≡ Writing.Whole → 0 < self.now.filled → OnOk result
+            ((D.medium disk.new).unsynced ≡ (D.medium disk.old).unsynced + 1) }
         ensures cause { IsErr result → (spare (D.medium disk.old) + self.now.sectors < geometry.now.area_sectors) ⊎ ((D.medium disk.old).faults < (D.medium disk.new).faults) }
     {
         if self.filled == 0 {
@@ -144,6 +173,7 @@ impl AreaWriter {
             disk,
             geometry.area_place(self.generation) + self.sectors,
             &last,
+            self.writing,
         )
     }
 
@@ -179,6 +209,14 @@ impl AreaWriter {
         ensures done { OnOk result ((bytes : List ℕ) → IsGiven geometry.now (D.medium disk.old) self bytes →
             Follows (Replaces geometry.now self.generation self.version bytes) (D.medium disk.old).may_leave (D.medium disk.new).may_leave) }
         ensures settled { OnOk result (IsAllSynced (D.medium disk.new)) }
+        ensures counts { CountsUpTo ((D.medium disk.old).unsynced + 1) (D.medium disk.old)
+            (D.medium disk.new) }
+        ensures spared { self.writing ≡ Writing.Changes → OnOk result
+            (SparesAllButHead (area_place geometry.now self.generation) self.sectors
+            (rounded_up (written_length self)) (D.medium disk.old) (D.medium disk.new)) }
+        ensures whole { self.writing ≡ Writing.Whole → 0 < self.filled → OnOk result
+            ((D.medium disk.new).unsynced_since (D.medium disk.old).moment
+            ((D.medium disk.old).unsynced + 1)) }
         ensures cause { IsErr result → (spare (D.medium disk.old) + self.sectors < geometry.now.area_sectors) ⊎ ((D.medium disk.old).room ≡ 0) ⊎ ((D.medium disk.old).faults < (D.medium disk.new).faults) }
     {
         self.store_last(disk, geometry)?;

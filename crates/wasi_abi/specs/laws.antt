@@ -1,1 +1,2 @@
+pub mod ConfigLimits
 pub mod Laws

@@ -2,6 +2,7 @@
 
 ghost use Rattle.std.specs.Prelude.{◌≡◌, [], ◌∷◌, bit_or, map};
 ghost use Rattle.wasi_abi.specs.rules.Calls.{module_name};
+ghost use Rattle.wasi_abi.specs.laws.ConfigLimits.{ConfigLimitNumbers};
 ghost use Rattle.wasi_abi.specs.laws.Laws.{ErrorsAreNoSuccess, right_masks, CallsDiffer, LayoutSizes, BytesSpellNumbers, WorkedDirectory};
 ghost use Rattle.wasi_abi.specs.rules.Numbers.{rights_number, file_rights, directory_rights, all_rights, input_rights, output_rights};
 
@@ -55,4 +56,9 @@ pub fn bytes_spell_numbers()
 /// Entries of a directory, byte by byte.
 pub fn worked_directory()
     ensures { WorkedDirectory }
+{}
+
+/// What a configuration may have at most and has at least.
+pub fn configuration_limits_are()
+    ensures { ConfigLimitNumbers }
 {}

@@ -8,7 +8,7 @@ use Rattle.std.proofs.lemmas.List.{append-nil}
 use Rattle.wasi_abi.specs.rules.Answers.{newline, IsNoNewline}
 use Rattle.wasi_calls_rules.specs.Hosts.{Line, IsUnfinished}
 use Rattle.wasi_calls_rules.specs.Lines.{Cut, cut_byte, cut_all}
-use Rattle.wasi_calls.specs.Outputs.{Output, output_written, count_ended}
+use Rattle.wasi_calls.specs.rules.Outputs.{Output, output_written, count_ended}
 use Rattle.wasi_calls_rules.specs.declared.limits.TheConstants.{LINE_BYTES}
 
 -- ---- one more byte of a list

@@ -8,7 +8,7 @@ use Rattle.wasi_calls_rules.specs.Hosts.{Line, Stream, Host}
 use Rattle.wasi_calls_rules.specs.Checks.{Bytes, Done, Halt}
 use Rattle.wasi_calls_rules.specs.Lines.{stream_written}
 use Rattle.wasi_calls_rules.specs.Moving.{fd_write}
-use Rattle.wasi_calls.specs.Held.{HeldHost, ShowsHost, behind_lines, behind_lines_of_row, held_released}
+use Rattle.wasi_calls.specs.rules.Held.{HeldHost, ShowsHost, behind_lines, behind_lines_of_row, held_released}
 use Rattle.wasi_calls.specs.Writes.{wanted}
 use Rattle.wasi_calls.proofs.LinesInFront.{write_behind}
 use Rattle.wasi_calls.proofs.WrittenRows.{row_done}

@@ -17,7 +17,7 @@ use Rattle.wasi_calls_rules.specs.Rows.{row}
 use Rattle.wasi_calls_rules.specs.declared.limits.TheConstants.{LINE_BYTES, MOVED_BYTES}
 use Rattle.wasi_calls_rules.proofs.Steps.{HoldsAfter, refused, done_with, step, next}
 use Rattle.wasi_calls.specs.laws.Laws.{CallsEmitFew}
-use Rattle.wasi_calls.specs.Outputs.{count_ended}
+use Rattle.wasi_calls.specs.rules.Outputs.{count_ended}
 use Rattle.wasi_calls.proofs.Cuts.{lines_counted}
 
 ended_few : (len : ℕ) (bytes : List ℕ) → count_ended len bytes ≤ length bytes

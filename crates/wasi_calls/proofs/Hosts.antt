@@ -6,7 +6,7 @@ use Rattle.std.proofs.lemmas.Bool.Decides.{eqb_tells}
 use Rattle.file_tree.specs.rules.Files.{FileNode, Directory, IsFiles, fresh}
 use Rattle.wasi_abi.specs.rules.Numbers.{input_rights, output_rights, directory_rights, all_rights}
 use Rattle.wasi_calls_rules.specs.Hosts.{Line, Node, Descriptor, Host, stream, first_descriptors, first_host, IsDescriptor, IsOwnStream, IsNoStream, IsUnfinished, IsRemoved, IsHost}
-use Rattle.wasi_calls.specs.Outputs.{Output, output_written}
+use Rattle.wasi_calls.specs.rules.Outputs.{Output, output_written}
 use Rattle.wasi_calls.proofs.Cuts.{all_unfinished}
 
 -- ---- after a write

@@ -13,7 +13,7 @@ use Rattle.wasi_calls_rules.specs.Lines.{cut_all, stream_written}
 use Rattle.wasi_calls_rules.specs.Small.{call_done, roomy}
 use Rattle.wasi_calls_rules.specs.Moving.{size_after, file_written, write_offset, offset_after, target_written, fd_write}
 use Rattle.wasi_calls_rules.specs.Rows.{Told, IsDone, IsAsk, IsExit, NoMemory, TellsRow}
-use Rattle.wasi_calls.specs.Held.{HeldHost, ShowsHost, behind_lines, behind_lines_of_row}
+use Rattle.wasi_calls.specs.rules.Held.{HeldHost, ShowsHost, behind_lines, behind_lines_of_row}
 use Rattle.wasi_calls.specs.declared.stop.CallStop.{CallStop}
 use Rattle.wasi_calls.specs.declared.stop.CallStop.TheVariants as stop
 use Rattle.wasi_calls.specs.rules.Calls.{ShowsRow, call_outcome, told_of}

@@ -1,5 +1,3 @@
-pub mod Outputs
-pub mod Held
 pub mod Views
 pub mod Steps
 pub mod Writes

@@ -8,7 +8,7 @@ ghost use Rattle.wasi_calls_rules.specs.Hosts.{Host as TheHost};
 ghost use Rattle.wasi_calls_rules.specs.Checks.{Done, Halt};
 ghost use Rattle.wasi_calls_rules.specs.Rows.{row, TellsRow};
 ghost use Rattle.wasi_calls_rules.specs.declared.limits.TheConstants.{MOVED_BYTES};
-ghost use Rattle.wasi_calls.specs.Held.{ShowsHost};
+ghost use Rattle.wasi_calls.specs.rules.Held.{ShowsHost};
 ghost use Rattle.wasi_calls.specs.rules.Calls.{IsBuilt, AreArguments, call_outcome, told_of, ShowsRow, EndsNothing, IsAsLarge};
 ghost use Rattle.wasi_calls.specs.declared.outcome.CallOutcome.TheVariants.{Memory as WantOfMemory};
 

@@ -2,7 +2,7 @@
 
 ghost use Rattle.std.specs.Prelude.{◌≡◌, ◌≤◌, [], ◌∷◌, ◌++◌, length, IfOk, OnOk};
 ghost use Rattle.wasi_calls_rules.specs.Lines.{cut_byte, cut_all};
-ghost use Rattle.wasi_calls.specs.Outputs.{count_ended};
+ghost use Rattle.wasi_calls.specs.rules.Outputs.{count_ended};
 
 use crate::line::Line;
 use std::alloc::{AllocError, Global};

@@ -39,7 +39,7 @@ pub struct Host {
 
 impl Model for Host {
     ghost use Rattle.wasi_calls_rules.specs.Hosts.{IsHost};
-    ghost use Rattle.wasi_calls.specs.Held.{HeldHost, held_host_of};
+    ghost use Rattle.wasi_calls.specs.rules.Held.{HeldHost, held_host_of};
 
     ghost Value = { HeldHost };
 
@@ -49,7 +49,7 @@ impl Model for Host {
 }
 
 impl Host {
-    ghost use Rattle.wasi_calls.specs.Held.{HeldHost, ShowsHost, held_ended, held_released};
+    ghost use Rattle.wasi_calls.specs.rules.Held.{HeldHost, ShowsHost, held_ended, held_released};
     ghost use Rattle.wasi_calls.specs.Views.{target_of};
 
     /// The host of a process that begins. `limit` is that of a request's text and of random bytes. It

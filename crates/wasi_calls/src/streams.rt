@@ -21,7 +21,7 @@ pub struct Streams {
 
 impl Model for Streams {
     ghost use Rattle.std.specs.Prelude.{vec_capacity};
-    ghost use Rattle.wasi_calls.specs.Outputs.{Output, HasLineRoom};
+    ghost use Rattle.wasi_calls.specs.rules.Outputs.{Output, HasLineRoom};
 
     ghost Value = { Output };
 
@@ -31,7 +31,7 @@ impl Model for Streams {
 }
 
 impl Streams {
-    ghost use Rattle.wasi_calls.specs.Outputs.{no_output, output_written, output_ended, left_lines};
+    ghost use Rattle.wasi_calls.specs.rules.Outputs.{no_output, output_written, output_ended, left_lines};
 
     /// Nothing was written.
     pub fn new(alloc: Global) -> Streams

@@ -8,3 +8,6 @@ pub mod EntryRows
 pub mod KeepsMemory
 pub mod EmitsLines
 pub mod Fitting
+pub mod PathExamplesHold
+pub mod OpenExamplesHold
+pub mod StoryExamplesHold

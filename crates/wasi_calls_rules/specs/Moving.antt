@@ -8,7 +8,7 @@ use Rattle.wasi_abi.specs.rules.Numbers.{fd_read_right, fd_seek_right, fd_write_
 use Rattle.wasi_abi.specs.rules.Answers.{newline}
 use Rattle.wasi_abi.specs.rules.Layouts.{u32_bytes}
 use Rattle.guest_memory.specs.rules.Bytes.{with_part}
-use Rattle.file_tree.specs.Store.Bytes.{written}
+use Rattle.file_tree.specs.rules.Bytes.{written}
 use Rattle.file_tree.specs.rules.Files.{bytes_of_node, with_file_bytes}
 use Rattle.wasi_calls_rules.specs.Hosts.{Target, Stream, Node, Descriptor, Host}
 use Rattle.wasi_calls_rules.specs.Checks.{Bytes, Halt, Refuses, Ruling, ◌>>=◌, open_descriptor, a_file, no_directory, with_right, in_memory, buffers, few_buffers, movable, gathered, scattered, node_named, answered_by}

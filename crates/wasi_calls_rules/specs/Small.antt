@@ -11,7 +11,7 @@ use Rattle.wasi_abi.specs.declared.answer.Answer.TheVariants as answer
 use Rattle.wasi_abi.specs.rules.Numbers.{fd_fdstat_set_flags_right, fd_filestat_get_right, fd_filestat_set_size_right, fd_seek_right, fd_tell_right, character_device, directory_type, regular_file}
 use Rattle.wasi_abi.specs.rules.Layouts.{u32_bytes, u64_bytes, fdstat_bytes, filestat_bytes, prestat_bytes}
 use Rattle.guest_memory.specs.rules.Bytes.{with_part}
-use Rattle.file_tree.specs.Store.Bytes.{resized}
+use Rattle.file_tree.specs.rules.Bytes.{resized}
 use Rattle.file_tree.specs.rules.Files.{Files, slash, path_of, is_directory, bytes_of_node, used, with_file_bytes, forgotten}
 use Rattle.file_tree.specs.declared.limits.TheConstants.{FILE_BYTES}
 use Rattle.wasi_calls_rules.specs.Hosts.{Target, Stream, Node, Descriptor, Host}

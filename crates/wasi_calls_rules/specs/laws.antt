@@ -1,2 +1,11 @@
+pub mod CallLimits
+pub mod DescriptorExamples
 pub mod Examples
 pub mod Laws
+pub mod OpenExamples
+pub mod PathExamples
+pub mod PlainExamples
+pub mod Scenes
+pub mod StoryExamples
+pub mod TransferExamples
+pub mod Trees

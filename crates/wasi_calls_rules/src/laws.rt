@@ -1,7 +1,32 @@
 //! Laws of the rules of the calls. The functions do nothing: what they ensure is the law.
 
-ghost use Rattle.wasi_calls_rules.specs.laws.Examples.{OpeningExamples, MovingExamples, WritingExamples, SmallExamples, DirectoryExamples};
-ghost use Rattle.wasi_calls_rules.specs.laws.Laws.{RowsKeepMemory, RowsKeepBytes, RowsEmit, TestsTellWhatFits};
+ghost use Rattle.wasi_calls_rules.specs.laws.Examples.{OpeningExamples, MovingExamples};
+ghost use Rattle.wasi_calls_rules.specs.laws.Examples.{WritingExamples, SmallExamples};
+ghost use Rattle.wasi_calls_rules.specs.laws.Examples.{DirectoryExamples};
+ghost use Rattle.wasi_calls_rules.specs.laws.PlainExamples.{ErrorNumbers, TextExamples};
+ghost use Rattle.wasi_calls_rules.specs.laws.PlainExamples.{ClockExamples, RandomExamples};
+ghost use Rattle.wasi_calls_rules.specs.laws.PlainExamples.{ProcessExamples};
+ghost use Rattle.wasi_calls_rules.specs.laws.DescriptorExamples.{CloseExamples, SyncExamples};
+ghost use Rattle.wasi_calls_rules.specs.laws.DescriptorExamples.{StatusExamples, FlagExamples};
+ghost use Rattle.wasi_calls_rules.specs.laws.DescriptorExamples.{FileStatusExamples};
+ghost use Rattle.wasi_calls_rules.specs.laws.DescriptorExamples.{SizeExamples, PrestatExamples};
+ghost use Rattle.wasi_calls_rules.specs.laws.DescriptorExamples.{SeekExamples, TellExamples};
+ghost use Rattle.wasi_calls_rules.specs.laws.TransferExamples.{InputExamples, FileReadExamples};
+ghost use Rattle.wasi_calls_rules.specs.laws.TransferExamples.{PlaceReadExamples};
+ghost use Rattle.wasi_calls_rules.specs.laws.TransferExamples.{FileWriteExamples};
+ghost use Rattle.wasi_calls_rules.specs.laws.TransferExamples.{PlaceWriteExamples, MovedExamples};
+ghost use Rattle.wasi_calls_rules.specs.laws.TransferExamples.{LineExamples};
+ghost use Rattle.wasi_calls_rules.specs.laws.PathExamples.{ListingExamples, FormExamples};
+ghost use Rattle.wasi_calls_rules.specs.laws.PathExamples.{WalkExamples, PathStatusExamples};
+ghost use Rattle.wasi_calls_rules.specs.laws.PathExamples.{MakingExamples, RemovalExamples};
+ghost use Rattle.wasi_calls_rules.specs.laws.PathExamples.{RenameExamples};
+ghost use Rattle.wasi_calls_rules.specs.laws.OpenExamples.{OpenedExamples, OpenRefusedExamples};
+ghost use Rattle.wasi_calls_rules.specs.laws.OpenExamples.{OpenRightExamples, OpenLimitExamples};
+ghost use Rattle.wasi_calls_rules.specs.laws.StoryExamples.{RenameStory, UnlinkStory, SizeStory};
+ghost use Rattle.wasi_calls_rules.specs.laws.StoryExamples.{AnswerStory, PageStory};
+ghost use Rattle.wasi_calls_rules.specs.laws.CallLimits.{CallLimitNumbers};
+ghost use Rattle.wasi_calls_rules.specs.laws.Laws.{RowsKeepMemory, RowsKeepBytes, RowsEmit};
+ghost use Rattle.wasi_calls_rules.specs.laws.Laws.{TestsTellWhatFits};
 
 /// The rules give on examples what the profile gives.
 pub fn worked_examples()
@@ -10,6 +35,84 @@ pub fn worked_examples()
     ensures writing { WritingExamples }
     ensures small { SmallExamples }
     ensures directories { DirectoryExamples }
+{}
+
+/// Each error has its number.
+pub fn errors_have_their_numbers()
+    ensures { ErrorNumbers }
+{}
+
+/// Arguments, clocks, random bytes and the process on examples, each limit from both sides.
+pub fn plain_calls_on_examples()
+    ensures texts { TextExamples }
+    ensures clocks { ClockExamples }
+    ensures random { RandomExamples }
+    ensures process { ProcessExamples }
+{}
+
+/// Closing and syncing a descriptor, and what it is told to be, on examples.
+pub fn descriptors_on_examples()
+    ensures closing { CloseExamples }
+    ensures syncing { SyncExamples }
+    ensures status { StatusExamples }
+    ensures flags { FlagExamples }
+    ensures file_status { FileStatusExamples }
+    ensures first_directory { PrestatExamples }
+{}
+
+/// Sizes and offsets of a file on examples, each limit from both sides.
+pub fn sizes_and_offsets_on_examples()
+    ensures sizes { SizeExamples }
+    ensures seeking { SeekExamples }
+    ensures telling { TellExamples }
+{}
+
+/// Reads of input and of files on examples.
+pub fn reads_on_examples()
+    ensures input { InputExamples }
+    ensures files { FileReadExamples }
+    ensures places { PlaceReadExamples }
+    ensures moved { MovedExamples }
+{}
+
+/// Writes to files and lines on examples, each limit from both sides.
+pub fn writes_on_examples()
+    ensures files { FileWriteExamples }
+    ensures places { PlaceWriteExamples }
+    ensures lines { LineExamples }
+{}
+
+/// The form of paths and walks along them on examples, each limit from both sides.
+pub fn paths_on_examples()
+    ensures form { FormExamples }
+    ensures walks { WalkExamples }
+    ensures status { PathStatusExamples }
+{}
+
+/// Directories that are listed, made and removed, and renames, on examples.
+pub fn directories_on_examples()
+    ensures listing { ListingExamples }
+    ensures making { MakingExamples }
+    ensures removal { RemovalExamples }
+    ensures renaming { RenameExamples }
+{}
+
+/// Files and directories that are opened on examples: flags, rights and limits.
+pub fn opening_on_examples()
+    ensures opened { OpenedExamples }
+    ensures refused { OpenRefusedExamples }
+    ensures rights { OpenRightExamples }
+    ensures limits { OpenLimitExamples }
+{}
+
+/// Calls one after another: a file that moves, one that is unlinked while it is open, sizes,
+/// answers and long lines.
+pub fn calls_in_turn_on_examples()
+    ensures renaming { RenameStory }
+    ensures unlinking { UnlinkStory }
+    ensures sizes { SizeStory }
+    ensures answers { AnswerStory }
+    ensures pages { PageStory }
 {}
 
 /// No call that is done makes memory longer or shorter, or puts anything but bytes into it.
@@ -26,4 +129,9 @@ pub fn calls_emit_lines()
 /// The rules take an answer exactly where it fits what is asked for.
 pub fn answers_are_taken_that_fit()
     ensures { TestsTellWhatFits }
+{}
+
+/// What each limit of the calls is.
+pub fn call_limits_are()
+    ensures { CallLimitNumbers }
 {}

@@ -1,5 +1,6 @@
 pub mod Examples
 pub mod Laws
+pub mod ModuleLimits
 pub mod ReadingInstructions
 pub mod ReadingItems
 pub mod ReadingModules

@@ -7,7 +7,7 @@ use Rattle.wasm_syntax.specs.declared.module.Module.{Module}
 use Rattle.wasm_syntax.specs.declared.module.Function.{Function}
 use Rattle.wasm_syntax_rules.specs.Validity.{IsFunctionTypeValid, IsFunctionValid, module_context}
 use Rattle.wasm_validate.specs.declared.parts.fault.ValidFault.{ValidFault}
-use Rattle.wasm_validate.specs.Parts.Answers.{Judges}
+use Rattle.wasm_validate.specs.rules.Answers.{Judges}
 use Rattle.wasm_validate.proofs.PartLemmas.Denied.{denies_still}
 use Rattle.wasm_validate.specs.Body.Bodies.{HasBody}
 

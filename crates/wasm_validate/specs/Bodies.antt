@@ -6,7 +6,7 @@ use Rattle.wasm_syntax.specs.declared.module.Module.{Module}
 use Rattle.wasm_syntax_rules.specs.Validity.{IsFunctionTypeValid, module_context}
 use Rattle.wasm_validate.specs.declared.parts.context.ModuleContext.{ModuleContext}
 use Rattle.wasm_validate.specs.declared.parts.fault.ValidFault.{ValidFault}
-use Rattle.wasm_validate.specs.Parts.Answers.{Judges}
+use Rattle.wasm_validate.specs.rules.Answers.{Judges}
 use Rattle.wasm_validate.specs.Parts.Contexts.{IsContextOf}
 
 -- Ok exactly where P holds, as far as memory goes, of each module with this context and of the types of its functions, where its

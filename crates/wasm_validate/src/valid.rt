@@ -2,7 +2,7 @@
 
 ghost use Rattle.std.specs.Prelude.{◌≡◌, IfOk, IfErr, OnOk};
 ghost use Rattle.wasm_syntax_rules.specs.Validity.{IsValid};
-ghost use Rattle.wasm_validate.specs.Parts.Answers.{Denies, Judges};
+ghost use Rattle.wasm_validate.specs.rules.Answers.{Denies, Judges};
 
 use crate::bodies::check_functions;
 use crate::parts::{ModuleContext, ValidFault, check_before_data, check_data, check_types};

@@ -2,3 +2,4 @@ pub mod Printed
 pub mod Requests
 pub mod Fitting
 pub mod Passing
+pub mod Refusals

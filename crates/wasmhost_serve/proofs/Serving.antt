@@ -20,8 +20,8 @@ use Rattle.worker.specs.rules.Faults.{StopsAtAnswer, LeadsUpTo, last_answer, Fai
 use Rattle.worker.proofs.Adding.{slices_add}
 use Rattle.worker.proofs.Failing.{slices_add_in_vain}
 use Rattle.wasmhost_serve.specs.declared.lines.fault.LineFault.{LineFault}
-use Rattle.wasmhost_serve.specs.Lines.Prints.{PrintsOneLine as PrintsLine}
-use Rattle.wasmhost_serve.specs.laws.Lines.{all_printed}
+use Rattle.wasmhost_serve.specs.rules.Prints.{PrintsOneLine as PrintsLine}
+use Rattle.wasmhost_serve.specs.rules.Printed.{all_printed}
 use Rattle.wasmhost_serve.proofs.LineLemmas.Printed.{taken_are_printed}
 use Rattle.wasmhost_serve.specs.declared.run.RunFault.{RunFault}
 use Rattle.wasmhost_serve.specs.declared.run.RunFault.TheVariants as run

@@ -1,3 +1,2 @@
 pub mod Answers
-pub mod Prints
 pub mod Reads

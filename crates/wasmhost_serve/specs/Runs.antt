@@ -14,7 +14,7 @@ use Rattle.worker.specs.rules.Values.{WorkerValue}
 use Rattle.worker.specs.rules.Slices.{Slices}
 use Rattle.worker.specs.rules.Faults.{SlicesInVain}
 use Rattle.wasmhost_serve.specs.declared.lines.fault.LineFault.{LineFault}
-use Rattle.wasmhost_serve.specs.laws.Lines.{all_printed}
+use Rattle.wasmhost_serve.specs.rules.Printed.{all_printed}
 use Rattle.wasmhost_serve.specs.declared.run.RunFault.{RunFault}
 use Rattle.wasmhost_serve.specs.declared.run.RunFault.TheVariants as run
 use Rattle.wasmhost_serve.specs.rules.Served.{WantsAnswer, IsOver, IsSpent}

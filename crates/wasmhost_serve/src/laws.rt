@@ -1,6 +1,6 @@
 //! Laws of printed lines. The functions do nothing: what they ensure is the law.
 
-ghost use Rattle.wasmhost_serve.specs.laws.Lines.{TakenLinesArePrinted};
+ghost use Rattle.wasmhost_serve.specs.rules.Printed.{TakenLinesArePrinted};
 ghost use Rattle.wasmhost_serve.specs.laws.Examples.{HelpExamples, MistakeExamples, OrderExamples};
 ghost use Rattle.wasmhost_serve.specs.laws.Words.{FaultlessWordsMean};
 

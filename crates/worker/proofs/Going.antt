@@ -7,7 +7,7 @@ use Rattle.wasi_abi.specs.declared.answer.Kind.TheVariants as kind
 use Rattle.wasi_abi.specs.declared.answer.Answer.{Answer}
 use Rattle.wasi_calls_rules.specs.Hosts.{Line, Host}
 use Rattle.wasi_calls_rules.specs.laws.Laws.{Emits}
-use Rattle.wasi_calls.specs.Held.{HeldHost, ShowsHost}
+use Rattle.wasi_calls.specs.rules.Held.{HeldHost, ShowsHost}
 use Rattle.process_rules.specs.Processes.{ProcessState, Guest}
 use Rattle.process_rules.specs.Runs.{Wants, next_of, Moves, Kept, Given, Runs, none, step, take}
 use Rattle.process_rules.proofs.Quiet.{runs_join, quiet_runs_are_runs}

@@ -60,18 +60,12 @@ abbrev pub promised : Promise → List Event → Promise
 promised so_far [] = so_far
 promised so_far (e ∷ events) = promised (after so_far e) events
 
--- what was told with this number is this line
-abbrev pub HasOneText : List Release → Release → Type 0
-HasOneText [] r = Unit {0}
-HasOneText (earlier ∷ told) r = (earlier.number ≡ r.number → earlier.line ≡ r.line) × HasOneText told r
-
--- A line that is told is the line of its number on the kept answers. No number is left out before it, and where it was told
--- before, it is told again with the same text.
+-- A line that is told is the line of its number on the kept answers, and no number is left out
+-- before it.
 pub record IsTelling (m : Module) (config : Settings) (so_far : Promise) (r : Release) : Type 0 where
   pub from_one : 1 ≤ r.number
   pub none_skipped : r.number ≤ last_told so_far.told + 1
   pub is_line : IsLine m config so_far.kept r.number r.line
-  pub one_text : HasOneText so_far.told r
 
 -- every line that this process has emitted was told
 abbrev pub AllTold : List Release → ProcessState → Type 0

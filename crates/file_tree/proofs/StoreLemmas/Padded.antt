@@ -4,7 +4,7 @@ use Rattle.std.specs.Prelude.{replicate, if◌then◌else◌, Result, Ok, Err, O
 use Rattle.std.specs.Prelude.{is_ok}
 use Rattle.std.proofs.lemmas.Bool.{cases_lt}
 use Rattle.std.proofs.lemmas.List.{append-nil, drop_all, take-replicate, length-replicate}
-use Rattle.file_tree.specs.Store.Bytes.{written, resized}
+use Rattle.file_tree.specs.rules.Bytes.{written, resized}
 
 -- so many bytes are the same, however many zeros are behind them
 front_padded : (xs : List ℕ) (n a b : ℕ) → n ≤ length xs + a → n ≤ length xs + b → take n (xs ++ replicate a 0) ≡ take n (xs ++ replicate b 0)

@@ -4,7 +4,7 @@ use Rattle.file_tree.specs.declared.store.node.Hook.{Hook}
 use Rattle.file_tree.specs.declared.store.node.NodeContent.{NodeContent}
 use Rattle.file_tree.specs.declared.store.node.NodeContent.TheVariants.{Directory, File}
 use Rattle.file_tree.specs.declared.store.node.Node.{Node}
-use Rattle.file_tree.specs.Store.Bytes.{written, resized}
+use Rattle.file_tree.specs.rules.Bytes.{written, resized}
 
 abbrev pub with_hook : Hook → Node → Node
 with_hook hook n = record { number = n.number; hook = hook; content = n.content }

@@ -1,7 +1,7 @@
 //! The bytes of a file or of a name.
 
 ghost use Rattle.std.specs.Prelude.{◌≡◌, ◌+◌, ◌-◌, ◌<◌, ◌≤◌, ◌^◌, ◌++◌, [], length, take, drop, replicate, IfOk, OnOk, OnErr};
-ghost use Rattle.file_tree.specs.Store.Bytes.{written, resized};
+ghost use Rattle.file_tree.specs.rules.Bytes.{written, resized};
 
 use std::alloc::{AllocError, Global};
 use std::marker::Model;

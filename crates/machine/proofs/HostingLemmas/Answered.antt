@@ -18,7 +18,7 @@ use Rattle.machine.specs.declared.turns.state.State.{State}
 use Rattle.machine.specs.Turns.Codes.{Stands, parts_of_state}
 use Rattle.machine.specs.Turns.Waiting.{IsAsking, TakesWords}
 use Rattle.machine.proofs.TurnLemmas.Advancing.{ready}
-use Rattle.machine.specs.Hosting.Answers.{IsWaiting, IsAnswered}
+use Rattle.machine.specs.rules.Answers.{IsWaiting, IsAnswered}
 
 -- a front of a list has as many items as it should
 front_count : (taken : ℕ) (words : List ℕ) → taken ≤ length words → length (take taken words) ≡ taken

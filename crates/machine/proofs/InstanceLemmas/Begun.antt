@@ -16,7 +16,7 @@ use Rattle.machine.specs.declared.instance.fault.LinkFault.{LinkFault}
 use Rattle.machine.specs.declared.instance.fault.LinkFault.TheVariants.{NoStart, NoMemory, UnknownImport, ImportType, InitRange, TooManyPages, Memory}
 use Rattle.machine.specs.declared.instance.instance.Instance.{Instance}
 use Rattle.machine.specs.rules.Offers.{offer, AreImportedCalls}
-use Rattle.machine.specs.Instance.Initial.{CanStart, AreImportsOffered, CanBegin, CanFillTable, FillsTable, CanFillMemory, FillsMemory, IsPrepared}
+use Rattle.machine.specs.rules.Initial.{CanStart, AreImportsOffered, CanBegin, CanFillTable, FillsTable, CanFillMemory, FillsMemory, IsPrepared}
 use Rattle.machine.specs.rules.Refusals.{IsImportRefused, AreImportsRefused, IsRefused, LinkDenies}
 use Rattle.machine.specs.rules.Instances.{store_of, IsLinked}
 use Rattle.machine.proofs.InstanceLemmas.Offered.{no_globals, no_tables, no_memories, not_all_offered}

@@ -11,7 +11,7 @@ use Rattle.wasm_syntax.specs.declared.module.Data.{Data}
 use Rattle.guest_memory.specs.rules.Bytes.{with_part}
 use Rattle.wasm_syntax_rules.specs.Instantiation.{offset_of, with_entries, with_segment, filled_table, filled_memory}
 use Rattle.wasm_validate.proofs.PartLemmas.Loops.{next}
-use Rattle.machine.specs.Instance.Initial.{IsInside}
+use Rattle.machine.specs.rules.Initial.{IsInside}
 use Rattle.guest_memory.proofs.Ranges.{length-with_part}
 use Rattle.wasm_syntax_rules.proofs.Soundness.Beginning.{and_then_some}
 

@@ -8,7 +8,7 @@ use Rattle.wasm_syntax_rules.specs.Linking.{IsItemOffered, IsOffered, HasExporte
 use Rattle.machine.specs.declared.instance.fault.LinkFault.{LinkFault}
 use Rattle.machine.specs.declared.instance.fault.LinkFault.TheVariants.{NoStart, NoMemory, UnknownImport, ImportType, InitRange, TooManyPages, Memory}
 use Rattle.machine.specs.rules.Offers.{offer}
-use Rattle.machine.specs.Instance.Initial.{CanStart, AreImportsOffered, CanBegin}
+use Rattle.machine.specs.rules.Initial.{CanStart, AreImportsOffered, CanBegin}
 
 -- The host offers nothing under the import's name, or a function of another type.
 abbrev pub IsImportRefused : List FunctionType → Import → LinkFault → Type 0

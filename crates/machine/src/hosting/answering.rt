@@ -2,7 +2,7 @@
 
 ghost use Rattle.std.specs.Prelude.{◌≡◌, ◌<◌, ◌≤◌, ◌++◌, ℕ, List, length, map};
 ghost use Rattle.wasm_syntax_rules.specs.Types.{number_in};
-ghost use Rattle.machine.specs.Hosting.Answers.{IsAnswered, IsWaiting, call_results};
+ghost use Rattle.machine.specs.rules.Answers.{IsAnswered, IsWaiting, call_results};
 
 use crate::turns::{Executable, State, words_taken};
 use machine_slots::{SLOTS, Slots};

@@ -4,7 +4,7 @@ ghost use Rattle.std.specs.Prelude.{◌≡◌, ◌≢◌, ◌≤◌, IfOk, IfErr
 ghost use Rattle.wasm_syntax_rules.specs.Validity.{IsValid};
 ghost use Rattle.wasm_syntax_rules.specs.Linking.{IsLinkable};
 ghost use Rattle.machine.specs.rules.Offers.{offer};
-ghost use Rattle.machine.specs.Instance.Initial.{IsPrepared};
+ghost use Rattle.machine.specs.rules.Initial.{IsPrepared};
 ghost use Rattle.machine.specs.rules.Refusals.{IsRefused, LinkDenies};
 
 use crate::instance::calls::{check_imports, imported_calls};

@@ -6,7 +6,7 @@ ghost use Rattle.guest_memory.specs.rules.Bytes.{page_size};
 ghost use Rattle.wasm_syntax_rules.specs.Validity.{IsMemoryTypeValid};
 ghost use Rattle.wasm_syntax_rules.specs.Instantiation.{empty_memory, most_pages_of};
 ghost use Rattle.wasm_syntax_rules.specs.Linking.{FitsPages};
-ghost use Rattle.machine.specs.Instance.Initial.{CanFillMemory, FillsMemory};
+ghost use Rattle.machine.specs.rules.Initial.{CanFillMemory, FillsMemory};
 
 use crate::instance::constants::offset;
 use guest_memory::{MOST_PAGES, Memory, MemoryFault};

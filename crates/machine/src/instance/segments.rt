@@ -4,7 +4,7 @@ ghost use Rattle.std.specs.Prelude.{◌≡◌, ◌↔◌, IsTrue, IsSome, List, 
 ghost use Rattle.wasm_syntax.specs.declared.value.Value.{Value as Number};
 ghost use Rattle.wasm_syntax_rules.specs.Validity.{IsValid};
 ghost use Rattle.wasm_syntax_rules.specs.Instantiation.{AreInitial, filled_table, filled_memory};
-ghost use Rattle.machine.specs.Instance.Initial.{IsInside, AreImportsOffered, CanBegin};
+ghost use Rattle.machine.specs.rules.Initial.{IsInside, AreImportsOffered, CanBegin};
 
 use crate::instance::constants::offset;
 use crate::instance::memory::first_pages;

@@ -2,7 +2,7 @@
 
 ghost use Rattle.std.specs.Prelude.{◌≡◌, ◌+◌, ◌≤◌, IfOk, Some, length};
 ghost use Rattle.wasm_syntax_rules.specs.Instantiation.{empty_table, with_entries};
-ghost use Rattle.machine.specs.Instance.Initial.{CanFillTable, FillsTable};
+ghost use Rattle.machine.specs.rules.Initial.{CanFillTable, FillsTable};
 
 use crate::instance::constants::offset;
 use std::alloc::{AllocError, Global};

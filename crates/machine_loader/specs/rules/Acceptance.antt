@@ -9,7 +9,7 @@ use Rattle.wasm_syntax.specs.rules.Modules.{IsModule}
 use Rattle.wasm_syntax.specs.rules.Limits.{IsWithinLimits, HasNoModule}
 use Rattle.wasm_syntax_rules.specs.Validity.{IsValid}
 use Rattle.wasm_syntax_rules.specs.Acceptance.{IsAccepted}
-use Rattle.wasm_validate.specs.Parts.Answers.{Denies as DeniesValid}
+use Rattle.wasm_validate.specs.rules.Answers.{Denies as DeniesValid}
 use Rattle.machine.specs.rules.Refusals.{IsRefused}
 use Rattle.machine.specs.rules.Offers.{offer}
 use Rattle.machine.specs.rules.Values.{MachineValue}

@@ -7,7 +7,7 @@ use Rattle.wasm_syntax_rules.specs.Linking.{IsLinkable}
 use Rattle.wasi_abi.specs.rules.Configs.{Settings}
 use Rattle.wasi_calls_rules.specs.Hosts.{Line}
 use Rattle.wasi_calls_rules.specs.Lines.{rest_of}
-use Rattle.wasi_calls.specs.Held.{HeldHost, ShowsHost, held_released}
+use Rattle.wasi_calls.specs.rules.Held.{HeldHost, ShowsHost, held_released}
 use Rattle.wasi_calls.specs.rules.Calls.{IsBuilt}
 use Rattle.machine.specs.rules.Offers.{offer}
 use Rattle.machine.specs.rules.Values.{MachineValue, ShowsIn}

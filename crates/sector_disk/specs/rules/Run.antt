@@ -1,7 +1,7 @@
 -- Sectors that are written one after another.
 use Rattle.std.specs.Prelude.{◌≡◌, ◌⊎◌, ◌<◌, ◌≤◌, ◌+◌, ℕ, length, Result, OnOk, IsErr}
 use Rattle.sector_disk.specs.rules.Image.{Image, sector_at, front_over}
-use Rattle.sector_disk.specs.rules.Medium.{Medium, After, BothFollow, LeavesOnly, FailsInside, spare}
+use Rattle.sector_disk.specs.rules.Medium.{Medium, After, BothFollow, LeavesOnly, CountsUpTo, FailsInside, spare}
 use Rattle.sector_disk.specs.declared.fault.DiskFault.{DiskFault}
 
 -- new is old after writes of the first n of these sectors from sector `at` on, of each of which some front was left
@@ -27,6 +27,7 @@ pub record WritesRun {T : Type 0} (at : ℕ) (sectors : Image) (result : Result 
   pub whole : OnOk result (BothFollow (IsWrittenRun at sectors (length sectors)) (IsTornRun at sectors (length sectors)) old new)
   pub tears : BothFollow (IsTornRun at sectors (length sectors)) (IsTornRun at sectors (length sectors)) old new
   pub unsynced : new.unsynced ≤ old.unsynced + length sectors
+  pub counts : CountsUpTo (old.unsynced + length sectors) old new
   -- a cut at a moment in between, too, leaves of each some front
   pub any_moment : LeavesOnly old new (After (IsTornRun at sectors (length sectors)) old.may_leave)
   pub cause : IsErr result → (spare old < length sectors) ⊎ (old.faults < new.faults)

@@ -1,9 +1,10 @@
 -- What the calls of a commit change on a disk (this project's own).
-use Rattle.std.specs.Prelude.{◌≡◌, ◌≢◌, ◌⊎◌, ℕ, ◌+◌, ◌<◌, ◌≤◌, List, length}
+use Rattle.std.specs.Prelude.{◌≡◌, ◌≢◌, ◌⊎◌, ℕ, ◌+◌, ◌-◌, ◌*◌, ◌<◌, ◌≤◌, List, ◌++◌, length}
+use Rattle.wasi_abi.specs.rules.Layouts.{padding}
 use Rattle.sector_disk.specs.rules.Image.{Image, sector_at}
 use Rattle.disk_layout.specs.declared.geometry.Geometry.{Geometry}
-use Rattle.disk_layout.specs.rules.Places.{head_place, area_place}
-use Rattle.disk_layout.specs.rules.Sectors.{HoldsImage}
+use Rattle.disk_layout.specs.rules.Places.{head_place, area_place, rounded_up}
+use Rattle.disk_layout.specs.rules.Sectors.{bytes_from, HoldsImage}
 use Rattle.snapshot.specs.rules.Heads.{HasNone, heads_to, IsReadyForHead}
 use Rattle.snapshot.specs.rules.Newest.{IsDamaged}
 
@@ -14,9 +15,18 @@ pub record KeepsNewest (geometry : Geometry) (old new : Image) : Type 0 where
   pub damaged : IsDamaged geometry old → IsDamaged geometry new
   pub heads : heads_to new ≡ heads_to old
 
--- the image of this generation is the newest one, and no head's sector shows a later one
+-- in the area of this generation the sectors that these bytes take hold them, and zeros behind
+-- the last byte
+abbrev pub HoldsWithZeros : Geometry → ℕ → List ℕ → Image → Type 0
+HoldsWithZeros geometry g bytes image =
+    bytes_from image (area_place geometry g) (rounded_up (length bytes))
+    ≡ bytes ++ padding (512 * rounded_up (length bytes) - length bytes)
+
+-- The image of this generation is the newest one, with zeros behind it up to the end of its last
+-- sector. No head's sector shows a later one.
 pub record HasNew (geometry : Geometry) (g version : ℕ) (bytes : List ℕ) (image : Image) : Type 0 where
   pub holds : HoldsImage geometry image g version bytes
+  pub zeros : HoldsWithZeros geometry g bytes image
   pub heads : heads_to image ≡ g
 
 -- no sector of the area of this generation

@@ -13,7 +13,7 @@ use Rattle.wasi_calls.specs.declared.outcome.CallOutcome.{CallOutcome}
 use Rattle.wasi_calls.specs.declared.outcome.CallOutcome.TheVariants as outcome
 use Rattle.wasi_calls.specs.declared.stop.CallStop.{CallStop}
 use Rattle.wasi_calls.specs.declared.stop.CallStop.TheVariants as stop
-use Rattle.wasi_calls.specs.Held.{HeldHost, ShowsHost}
+use Rattle.wasi_calls.specs.rules.Held.{HeldHost, ShowsHost}
 
 -- the calls that are built
 abbrev pub IsBuilt : Call → Type 0

@@ -2,7 +2,7 @@
 use Rattle.std.proofs.Common.{◌≡◌, Option, None}
 use Rattle.wasm_validate.specs.declared.parts.fault.ValidFault.{ValidFault}
 use Rattle.wasm_validate.specs.declared.parts.fault.ValidFault.TheVariants.{Typing, Index, Limits, DuplicateExport, Memory}
-use Rattle.wasm_validate.specs.Parts.Answers.{Denies}
+use Rattle.wasm_validate.specs.rules.Answers.{Denies}
 use Rattle.wasm_validate.specs.Body.Answers.{FailsToCheck}
 
 -- where nothing of the first means nothing of the second, a fault of the first is one of the second

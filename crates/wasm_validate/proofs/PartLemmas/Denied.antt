@@ -2,7 +2,7 @@
 use Rattle.std.proofs.Common.{◌≡◌, ◌⊎◌, inl, inr, sym, subst, Result, Ok, Err}
 use Rattle.wasm_validate.specs.declared.parts.fault.ValidFault.{ValidFault}
 use Rattle.wasm_validate.specs.declared.parts.fault.ValidFault.TheVariants.{Typing, Index, Limits, DuplicateExport, Memory}
-use Rattle.wasm_validate.specs.Parts.Answers.{Denies, DeniesOutright, Decides, Judges, DemandsInTurn}
+use Rattle.wasm_validate.specs.rules.Answers.{Denies, DeniesOutright, Decides, Judges, DemandsInTurn}
 
 -- what needs Q doesn't hold where Q doesn't
 pub outright_as : {P Q : Type 0} (e : ValidFault) → (P → Q) → DeniesOutright e Q → DeniesOutright e P

@@ -15,7 +15,7 @@ use Rattle.wasm_syntax.specs.rules.Modules.{function_type_of}
 use Rattle.wasm_syntax_rules.specs.Validity.{AreTypesAt, IsTableTypeValid, IsMemoryTypeValid, IsValid}
 use Rattle.wasm_validate.specs.declared.parts.fault.ValidFault.{ValidFault}
 use Rattle.wasm_validate.specs.declared.parts.fault.ValidFault.TheVariants.{Typing, Index, Limits, DuplicateExport, Memory}
-use Rattle.wasm_validate.specs.Parts.Answers.{Denies}
+use Rattle.wasm_validate.specs.rules.Answers.{Denies}
 use Rattle.wasm_validate.specs.Parts.Parts.{IsImportItemValid, IsImportValid, import_fault, IsFirstImportFault, AreTypesValid}
 use Rattle.wasm_validate.proofs.PartLemmas.Imported.{all_left}
 use Rattle.wasm_validate.proofs.PartLemmas.Loops.{next}

@@ -3,7 +3,7 @@
 ghost use Rattle.std.specs.Prelude.{◌≡◌, ◌≤◌, length};
 ghost use Rattle.wasm_syntax_rules.specs.Types.{gives_of, results_of};
 ghost use Rattle.wasm_syntax_rules.specs.Typing.{Context as Typing};
-ghost use Rattle.wasm_validate.specs.Parts.Answers.{Judges};
+ghost use Rattle.wasm_validate.specs.rules.Answers.{Judges};
 ghost use Rattle.wasm_validate.specs.Parts.Contexts.{IsContextOf};
 ghost use Rattle.wasm_validate.specs.Body.Answers.{LevelsFollow};
 ghost use Rattle.wasm_validate.specs.Body.Bodies.{HasBody};

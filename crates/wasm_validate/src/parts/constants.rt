@@ -5,7 +5,7 @@ ghost use Rattle.wasm_syntax.specs.declared.instruction.Instruction.{Instruction
 ghost use Rattle.wasm_syntax.specs.declared.instruction.Instruction.TheVariants as instr;
 ghost use Rattle.wasm_syntax_rules.specs.Types.{IsOf};
 ghost use Rattle.wasm_syntax_rules.specs.Validity.{IsConstant, IsIndex};
-ghost use Rattle.wasm_validate.specs.Parts.Answers.{Demands, DemandsInTurn};
+ghost use Rattle.wasm_validate.specs.rules.Answers.{Demands, DemandsInTurn};
 ghost use Rattle.wasm_validate.specs.Parts.Parts.{NamesGlobal, IsConstantGlobal};
 
 use crate::parts::fault::ValidFault;

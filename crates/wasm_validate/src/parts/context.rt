@@ -5,7 +5,7 @@ ghost use Rattle.wasm_syntax_rules.specs.Types.{imported_functions};
 ghost use Rattle.wasm_syntax_rules.specs.Typing.{Context as Typing, HasTable, HasMemory};
 ghost use Rattle.wasm_syntax.specs.rules.Modules.{function_type_of};
 ghost use Rattle.wasm_syntax_rules.specs.Validity.{globals_of};
-ghost use Rattle.wasm_validate.specs.Parts.Answers.{IsFor};
+ghost use Rattle.wasm_validate.specs.rules.Answers.{IsFor};
 ghost use Rattle.wasm_validate.specs.Parts.Contexts.{IsContextOf, IsContextOfModule, HasFunctionTypes};
 
 use crate::parts::counts::{memory_count, table_count};

@@ -2,7 +2,7 @@
 
 ghost use Rattle.std.specs.List.{AllByRecursion};
 ghost use Rattle.wasm_syntax_rules.specs.Validity.{IsConstant, IsGlobalValid};
-ghost use Rattle.wasm_validate.specs.Parts.Answers.{Decides};
+ghost use Rattle.wasm_validate.specs.rules.Answers.{Decides};
 ghost use Rattle.wasm_validate.specs.Parts.Contexts.{HasFunctionTypes, IsContextOfModule};
 
 use crate::parts::constants::check_constant;

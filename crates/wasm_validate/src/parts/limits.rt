@@ -3,7 +3,7 @@
 ghost use Rattle.std.specs.Prelude.{◌≤◌, ◌↔◌, IsTrue, length};
 ghost use Rattle.std.specs.List.{AllByRecursion};
 ghost use Rattle.wasm_syntax_rules.specs.Validity.{AreLimits, IsFunctionTypeValid, IsTableTypeValid, IsMemoryTypeValid, tables_of, memories_of};
-ghost use Rattle.wasm_validate.specs.Parts.Answers.{Demands};
+ghost use Rattle.wasm_validate.specs.rules.Answers.{Demands};
 ghost use Rattle.wasm_validate.specs.Parts.Parts.{IsImportedTableValid, IsImportedMemoryValid};
 
 use crate::parts::counts::{memory_count, table_count};

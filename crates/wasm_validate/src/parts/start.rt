@@ -3,7 +3,7 @@
 ghost use Rattle.std.specs.Prelude.{IfSome};
 ghost use Rattle.wasm_syntax_rules.specs.Typing.{Context as Typing};
 ghost use Rattle.wasm_syntax_rules.specs.Validity.{IsIndex, IsStartValid};
-ghost use Rattle.wasm_validate.specs.Parts.Answers.{DemandsInTurn};
+ghost use Rattle.wasm_validate.specs.rules.Answers.{DemandsInTurn};
 ghost use Rattle.wasm_validate.specs.Parts.Contexts.{IsContextOf};
 
 use crate::parts::context::ModuleContext;

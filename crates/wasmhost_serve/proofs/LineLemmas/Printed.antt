@@ -4,7 +4,7 @@ use Rattle.std.specs.Prelude.{Option}
 use Rattle.std.specs.Io.KnownBytes.{Appends}
 use Rattle.std.proofs.lemmas.List.{append_assoc, append-nil}
 use Rattle.wasmhost_serve.specs.rules.Texts.{printed}
-use Rattle.wasmhost_serve.specs.laws.Lines.{all_printed, TakenLinesArePrinted}
+use Rattle.wasmhost_serve.specs.rules.Printed.{all_printed, TakenLinesArePrinted}
 
 appends_nothing : (o : Option (List ℕ)) → Appends o o []
 appends_nothing None = tt

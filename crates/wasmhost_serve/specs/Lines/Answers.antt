@@ -1,5 +1,6 @@
 -- What a source of request lines hands over.
-use Rattle.std.specs.Prelude.{◌≡◌, ◌≢◌, ℕ, ◌+◌, List, Option, Some, None, OnSome, Result, Ok, Err}
+use Rattle.std.specs.Prelude.{◌≡◌, ◌≢◌, ◌⊎◌, ℕ, ◌+◌, List, Option, Some, None, OnSome, Result, Ok, Err}
+use Rattle.std.specs.Option.{IsSomeAnd}
 use Rattle.std.specs.Io.KnownBytes.{IsAtEnd}
 use Rattle.wasi_abi.specs.declared.answer.Answer.{Answer}
 use Rattle.wasi_abi.specs.declared.answer.Answer.TheVariants as answer
@@ -9,10 +10,11 @@ use Rattle.wasi_abi.specs.rules.Answers.{Fits}
 use Rattle.wasi_calls_rules.specs.declared.limits.TheConstants.{TEXT_BYTES}
 use Rattle.record_replay.specs.declared.fault.SourceFault.{SourceFault}
 use Rattle.wasmhost_serve.specs.declared.lines.fault.LineFault.{LineFault}
+use Rattle.wasmhost_serve.specs.declared.lines.fault.LineFault.TheVariants as fault
 use Rattle.wasmhost_serve.specs.declared.lines.request.Request.{Request}
 use Rattle.wasmhost_serve.specs.declared.lines.request.Request.TheVariants as request
 use Rattle.wasmhost_serve.specs.rules.Numbers.{IsNumberedRequest, request_number}
-use Rattle.wasmhost_serve.specs.Lines.Reads.{HasPassed, HasFound}
+use Rattle.wasmhost_serve.specs.Lines.Reads.{HasPassed, HasFound, MissesNext}
 
 -- the answer that a request line is
 abbrev pub answer_in : Request → Answer
@@ -35,8 +37,16 @@ abbrev pub FindsNext : ℕ → Option (List ℕ) → Option Answer → ℕ → O
 FindsNext taken old (Some a) taken' new = IsNext taken old a taken' new
 FindsNext taken old None taken' new = (taken' ≡ taken) × HasPassed taken old new × OnSome old (IsAtEnd new)
 
--- Requests are answered one by one, in the order of their numbers. Any other question is refused. A refusal takes nothing, and leaves its fault; then
--- all is refused, and the first fault stays.
+-- why a question is refused: it asks for something else than a request, or the next request isn't to be had
+abbrev pub IsRefusedFor : Kind → ℕ → Option (List ℕ) → LineFault → Type 0
+IsRefusedFor kind taken old why = ((kind ≢ kinds.Request) × (why ≡ fault.Kind)) ⊎ ((kind ≡ kinds.Request) × MissesNext taken old why)
+
+-- the first fault stays, and where there was none there is one now
+abbrev pub LeavesFault : Kind → ℕ → Option (List ℕ) → Option LineFault → Option LineFault → Type 0
+LeavesFault kind taken old (Some first) left = left ≡ Some first
+LeavesFault kind taken old None left = IsSomeAnd left (IsRefusedFor kind taken old)
+
+-- Requests are answered one by one, in the order of their numbers. A refusal takes nothing, and leaves its fault; then all is refused.
 abbrev pub HandsNext : Kind → ℕ → Option (List ℕ) → Option LineFault → Result (Option Answer) SourceFault → ℕ → Option (List ℕ) → Option LineFault → Type 0
-HandsNext kind taken old fault (Ok found) taken' new fault' = (kind ≡ kinds.Request) × (fault ≡ None) × (fault' ≡ None) × FindsNext taken old found taken' new
-HandsNext kind taken old fault (Err e) taken' new fault' = (taken' ≡ taken) × (fault' ≢ None) × (fault ≢ None → fault' ≡ fault)
+HandsNext kind taken old found (Ok answered) taken' new left = (kind ≡ kinds.Request) × (found ≡ None) × (left ≡ None) × FindsNext taken old answered taken' new
+HandsNext kind taken old found (Err e) taken' new left = (taken' ≡ taken) × LeavesFault kind taken old found left

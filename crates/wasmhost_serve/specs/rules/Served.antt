@@ -12,7 +12,7 @@ use Rattle.machine_loader.specs.rules.Acceptance.{HasNoAcceptedModule}
 use Rattle.process_rules.specs.Processes.{Ending, Exited, Trapped, ProcessState, Guest}
 use Rattle.process_rules.specs.Runs.{Wants, next_of, Kept, Reaches}
 use Rattle.process.specs.rules.Stops.{IsBeyond}
-use Rattle.wasmhost_serve.specs.laws.Lines.{all_printed}
+use Rattle.wasmhost_serve.specs.rules.Printed.{all_printed}
 use Rattle.wasmhost_serve.specs.rules.Texts.{trap_text}
 
 -- what a worker is configured with for which nothing else is asked: its name is its only argument

@@ -31,7 +31,7 @@ impl<W: Write + Drop> LineOutlet<W> {
 }
 
 impl<W: Write + Drop> Outlet for LineOutlet<W> {
-    ghost use Rattle.wasmhost_serve.specs.Lines.Prints.{PrintsOneLine};
+    ghost use Rattle.wasmhost_serve.specs.rules.Prints.{PrintsOneLine};
 
     ghost takes = { λ old number line said new. PrintsOneLine (W.contents old.out) number line said (W.contents new.out) };
 

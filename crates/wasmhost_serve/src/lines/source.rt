@@ -1,11 +1,13 @@
 //! A source of answers over request lines.
 
-ghost use Rattle.std.specs.Prelude.{◌≡◌, None, IfOk, OnErr};
+ghost use Rattle.std.specs.Prelude.{◌≡◌, None, IfOk, IfErr, OnErr};
 ghost use Rattle.std.specs.List.{AllByRecursion};
 ghost use Rattle.wasi_abi.specs.declared.answer.Kind.TheVariants as kinds;
 ghost use Rattle.wasi_abi.specs.rules.Answers.{Fits, IsNoNewline};
 ghost use Rattle.wasi_calls_rules.specs.declared.limits.TheConstants.{TEXT_BYTES};
+ghost use Rattle.wasmhost_serve.specs.declared.lines.fault.LineFault.TheVariants.{Memory};
 ghost use Rattle.wasmhost_serve.specs.Lines.Answers.{FindsNext, answer_in};
+ghost use Rattle.wasmhost_serve.specs.Lines.Reads.{MissesNext};
 ghost use Rattle.wasmhost_serve.specs.rules.Texts.{IsShortRequest, request_line};
 
 use crate::lines::fault::LineFault;
@@ -57,6 +59,7 @@ impl<R: BufRead + Drop> RequestSource<R> {
     fn answer_of(&self, request: Request<'_>) -> Result<Answer, LineFault>
         ensures is { IfOk result (λ answer. answer ≡ answer_in request.entry) }
         ensures fits { IsShortRequest request.entry → AllByRecursion IsNoNewline (request_line request.entry) → IfOk result (Fits TEXT_BYTES kinds.Request) }
+        ensures failed { IfErr result (λ fault. fault ≡ Memory) }
     {
         let Request::Text { text, .. } = request else {
             return Ok(Answer::End);
@@ -70,6 +73,7 @@ impl<R: BufRead + Drop> RequestSource<R> {
 
     fn next_request(&mut self) -> Result<Option<Answer>, LineFault>
         ensures found { IfOk result (λ found. FindsNext self.old.taken (R.remaining self.old.reader) found self.new.taken (R.remaining self.new.reader)) }
+        ensures failed { IfErr result (MissesNext self.old.taken (R.remaining self.old.reader)) }
         ensures kept { OnErr result (self.new.taken ≡ self.old.taken) }
         ensures fault { self.new.fault ≡ self.old.fault }
     {

@@ -1,10 +1,10 @@
 use Rattle.std.proofs.Common.{◌≡◌, ◌<◌, ◌≤◌, ◌+◌, ◌++◌, ℕ, List, length, sym, ◌∙◌, subst, arith}
-use Rattle.std.proofs.lemmas.Result.{on_ok_weaker}
 use Rattle.sector_disk.specs.rules.Image.{sector_at}
 use Rattle.sector_disk.specs.rules.Medium.{Tears, TakesWrite, BothFollow}
 use Rattle.sector_disk.specs.rules.Run.{IsTornRun, IsWrittenRun}
-use Rattle.sector_disk.proofs.Moments.{shows_follow, settled_follows, goes_on, stays_left}
-use Rattle.sector_disk.proofs.RunLemmas.{both_tear, both_take, run_passes, run_leaves_only, left_longer}
+use Rattle.sector_disk.proofs.RunLemmas.{both_tear, both_take, both_longer, run_passes, run_leaves_only}
+use Rattle.sector_disk.proofs.CountLemmas.{counts_then, counts_more}
+use Rattle.disk_layout.specs.rules.Places.{rounded_up}
 use Rattle.disk_layout.specs.rules.Contents.{contents_sectors}
 use Rattle.disk_layout.proofs.ContentsLemmas.{counted, contents_at}
 use Rattle.disk_layout.proofs.contents.write_contents.Goals as goal
@@ -43,32 +43,74 @@ loop-i-preserved g c =
     record {
       whole = both_take 3 sectors n old mid new inside i.whole takes;
       tears = both;
-      unsynced = let u = tears.unsynced in omega (arith, i.unsynced);
+      unsynced = let u = takes.unsynced in omega (arith, i.unsynced, u);
+      counts = let u = i.unsynced in let p = i.passes in counts_then (old.unsynced + n) (mid.unsynced + 1) (old.unsynced + (n + 1)) old mid new (omega arith) (omega arith) p.later i.counts c.write.ensures.counts;
       passes = run_passes 3 sectors (n + 1) (length sectors) old mid new (omega arith) i.passes both c.write.ensures.passes;
     }
 
-pub returns-clause-any_moment : goal.returns-clause-any_moment
-returns-clause-any_moment g c =
+pub returns-in_err-write-clause-torn : goal.returns-in_err-write-clause-torn
+returns-in_err-write-clause-torn g c =
     let i = c.loop-i.invariant in
     let n = c.loop-i.i in
     let old = g.D.Disk.medium c.args.disk.now in
     let mid = g.D.Disk.medium c.loop-i.disk in
-    let new = g.D.Disk.medium c.sync.new.self in
+    let new = g.D.Disk.medium c.write.new.self in
     let sectors = contents_sectors (c.args.config.now ++ c.args.wasm.now) in
     let many = counted c.args.config.now c.args.wasm.now c.sectors_of-count.result c.sectors_of-count.ensures in
-    let within : n ≤ length sectors = let t = c.loop-i.auto.i-end in omega arith in
-    run_leaves_only 3 sectors (length sectors) old new
-    (goes_on old mid new _ _ i.passes c.sync.ensures.passes (λ image left. left_longer 3 sectors n (length sectors) old mid within i.tears image (stays_left mid new c.sync.ensures.stays image left)))
+    let below : n < length sectors = let t = c.loop-i-test.true in omega arith in
+    let sector : c.sector_of-sector.result ≡ sector_at sectors n = c.sector_of-sector.ensures ∙ sym (contents_at c.args.config.now c.args.wasm.now n below) in
+    let tears = subst (λ (s : List ℕ). Tears (3 + n) s mid new) sector c.write.ensures.tears in
+    let inside : 3 + n < mid.sectors = let s = i.passes.sectors in let r = c.requires.room in let e = c.sectors_of-count.ensures in omega arith in
+    both_longer 3 sectors (n + 1) (length sectors) old new (omega arith) (both_tear 3 sectors n old mid new inside i.tears tears)
+
+pub returns-in_err-write-clause-counts : goal.returns-in_err-write-clause-counts
+returns-in_err-write-clause-counts g c =
+    let i = c.loop-i.invariant in
+    let n = c.loop-i.i in
+    let old = g.D.Disk.medium c.args.disk.now in
+    let mid = g.D.Disk.medium c.loop-i.disk in
+    let new = g.D.Disk.medium c.write.new.self in
+    let most = old.unsynced + rounded_up (length c.args.config.now + length c.args.wasm.now) in
+    let u = i.unsynced in
+    let p = i.passes in
+    let below : n < rounded_up (length c.args.config.now + length c.args.wasm.now) = let e = c.sectors_of-count.ensures in let t = c.loop-i-test.true in omega arith in
+    counts_then (old.unsynced + n) (mid.unsynced + 1) most old mid new (omega arith) (omega arith) p.later i.counts c.write.ensures.counts
+
+pub returns-clause-any_moment : goal.returns-clause-any_moment
+returns-clause-any_moment g c =
+    let i = c.loop-i.invariant in
+    let old = g.D.Disk.medium c.args.disk.now in
+    let new = g.D.Disk.medium c.loop-i.disk in
+    let sectors = contents_sectors (c.args.config.now ++ c.args.wasm.now) in
+    run_leaves_only 3 sectors (length sectors) old new i.passes
 
 pub returns-clause-stored : goal.returns-clause-stored
 returns-clause-stored g c =
     let i = c.loop-i.invariant in
     let n = c.loop-i.i in
     let old = g.D.Disk.medium c.args.disk.now in
-    let mid = g.D.Disk.medium c.loop-i.disk in
-    let new = g.D.Disk.medium c.sync.new.self in
+    let new = g.D.Disk.medium c.loop-i.disk in
     let sectors = contents_sectors (c.args.config.now ++ c.args.wasm.now) in
     let many = counted c.args.config.now c.args.wasm.now c.sectors_of-count.result c.sectors_of-count.ensures in
     let all : n ≡ length sectors = let t = c.loop-i.auto.i-end in let f = c.loop-i-test.false in omega arith in
-    let whole = subst (λ (k : ℕ). BothFollow (IsWrittenRun 3 sectors k) (IsTornRun 3 sectors k) old mid) all i.whole in
-    on_ok_weaker c.sync.result (λ settled. settled_follows old mid new _ settled c.sync.ensures.stays (shows_follow old mid _ _ whole)) c.sync.ensures.settles
+    subst (λ (k : ℕ). BothFollow (IsWrittenRun 3 sectors k) (IsTornRun 3 sectors k) old new) all i.whole
+
+pub returns-clause-torn : goal.returns-clause-torn
+returns-clause-torn g c =
+    let i = c.loop-i.invariant in
+    let n = c.loop-i.i in
+    let old = g.D.Disk.medium c.args.disk.now in
+    let new = g.D.Disk.medium c.loop-i.disk in
+    let sectors = contents_sectors (c.args.config.now ++ c.args.wasm.now) in
+    let many = counted c.args.config.now c.args.wasm.now c.sectors_of-count.result c.sectors_of-count.ensures in
+    let all : n ≡ length sectors = let t = c.loop-i.auto.i-end in let f = c.loop-i-test.false in omega arith in
+    subst (λ (k : ℕ). BothFollow (IsTornRun 3 sectors k) (IsTornRun 3 sectors k) old new) all i.tears
+
+pub returns-clause-counts : goal.returns-clause-counts
+returns-clause-counts g c =
+    let i = c.loop-i.invariant in
+    let n = c.loop-i.i in
+    let old = g.D.Disk.medium c.args.disk.now in
+    let new = g.D.Disk.medium c.loop-i.disk in
+    let within : n ≤ rounded_up (length c.args.config.now + length c.args.wasm.now) = let e = c.sectors_of-count.ensures in let t = c.loop-i.auto.i-end in omega arith in
+    counts_more (old.unsynced + n) (old.unsynced + rounded_up (length c.args.config.now + length c.args.wasm.now)) old new (omega arith) i.counts

@@ -49,7 +49,7 @@ loop-i-preserved g c =
     record {
       whole = both_take c.args.at batch n old mid new inside i.whole takes;
       tears = both;
-      unsynced = let u = tears.unsynced in omega (arith, i.unsynced);
+      unsynced = let u = takes.unsynced in omega (arith, i.unsynced, u);
       counts = let u = i.unsynced in let p = i.passes in let later = p.later in counts_then (old.unsynced + n) (mid.unsynced + 1) (old.unsynced + (n + 1)) old mid new (omega arith) (omega arith) later i.counts c.write.ensures.counts;
       passes = run_passes c.args.at batch (n + 1) count old mid new (omega arith) i.passes both c.write.ensures.passes;
     }
@@ -103,3 +103,18 @@ returns-clause-counts g c =
     let p = i.passes in
     let within : n ≤ sectors_for (length c.args.bytes.now) = let e = c.sectors_for-count.ensures in let t = c.loop-i.auto.i-end in omega arith in
     counts_then (old.unsynced + n) mid.unsynced (old.unsynced + sectors_for (length c.args.bytes.now)) old mid new (omega arith) (omega arith) p.later i.counts c.sync.ensures.counts
+
+pub returns-clause-together : goal.returns-clause-together
+returns-clause-together g c =
+    let i = c.loop-i.invariant in
+    let n = c.loop-i.i in
+    let old = g.D.Disk.medium c.args.disk.now in
+    let mid = g.D.Disk.medium c.loop-i.disk in
+    let new = g.D.Disk.medium c.sync.new.self in
+    let u = i.unsynced in
+    let p = i.passes in
+    let all : mid.unsynced ≡ old.unsynced + sectors_for (length c.args.bytes.now) = let e = c.sectors_for-count.ensures in let t = c.loop-i.auto.i-end in let f = c.loop-i-test.false in omega arith in
+    let counts = c.sync.ensures.counts in
+    on_ok_weaker c.sync.result
+    (λ settled. subst (λ (k : ℕ). new.unsynced_since old.moment k) all (counts.keeps old.moment mid.unsynced p.later (mid.count_now old.moment p.later)))
+    c.sync.ensures.settles

@@ -1,4 +1,4 @@
-use Rattle.std.proofs.Common.{◌≤◌, ◌+◌, length}
+use Rattle.std.proofs.Common.{◌≡◌, ◌+◌, length}
 use Rattle.sector_disk.specs.rules.Medium.{After, BothFollow, CountsUpTo, Passes}
 use Rattle.sector_disk.specs.rules.Run.{IsTornRun, IsWrittenRun}
 use Rattle.journal.specs.rules.Packed.{packed, sectors_for}
@@ -13,7 +13,7 @@ invariant-loop-i g l =
     record {
       whole : BothFollow (IsWrittenRun l.at batch l.i) (IsTornRun l.at batch l.i) old now;
       tears : BothFollow (IsTornRun l.at batch l.i) (IsTornRun l.at batch l.i) old now;
-      unsynced : now.unsynced ≤ old.unsynced + l.i;
+      unsynced : now.unsynced ≡ old.unsynced + l.i;
       counts : CountsUpTo (old.unsynced + l.i) old now;
       passes : Passes old now (After (IsTornRun l.at batch n) old.may_leave);
     }

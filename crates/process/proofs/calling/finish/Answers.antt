@@ -1,5 +1,5 @@
 use Rattle.std.proofs.Common.{ℕ, Some, subst}
-use Rattle.machine.specs.Hosting.Answers.{call_results}
+use Rattle.machine.specs.rules.Answers.{call_results}
 use Rattle.machine.specs.rules.Runs.{Answers}
 use Rattle.process.proofs.calling.finish.Goals as goal
 

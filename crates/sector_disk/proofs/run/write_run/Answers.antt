@@ -4,6 +4,7 @@ use Rattle.sector_disk.specs.rules.Image.{sector_at}
 use Rattle.sector_disk.specs.rules.Medium.{Tears, TakesWrite, FailsInside}
 use Rattle.sector_disk.specs.declared.fault.DiskFault.{DiskFault}
 use Rattle.sector_disk.proofs.RunLemmas.{both_tear, both_take, both_longer, run_passes, run_leaves_only, fails_inside}
+use Rattle.sector_disk.proofs.CountLemmas.{counts_then}
 use Rattle.sector_disk.proofs.run.write_run.Goals as goal
 
 pub returns-in_err-write : goal.returns-in_err-write
@@ -25,6 +26,7 @@ returns-in_err-write g c =
       whole = search rules;
       tears = both_longer _ _ _ _ old new more both;
       unsynced = let u = tears.unsynced in omega (arith, i.unsynced);
+      counts = let u = i.unsynced in let p = i.passes in counts_then (old.unsynced + n) (mid.unsynced + 1) (old.unsynced + length c.args.sectors.now) old mid new (omega arith) (omega arith) p.later i.counts c.write.ensures.counts;
       any_moment = run_leaves_only _ _ _ old new (run_passes _ _ _ _ old mid new more i.passes both c.write.ensures.passes);
       cause = search rules;
       kind = subst P (sym same) kind;
@@ -46,5 +48,6 @@ loop-sector-preserved g c =
       whole = both_take c.args.at c.args.sectors.now n old mid new inside i.whole takes;
       tears = both;
       unsynced = let u = tears.unsynced in omega (arith, i.unsynced);
+      counts = let u = i.unsynced in let p = i.passes in counts_then (old.unsynced + n) (mid.unsynced + 1) (old.unsynced + (n + 1)) old mid new (omega arith) (omega arith) p.later i.counts c.write.ensures.counts;
       passes = run_passes _ _ _ _ old mid new (omega arith) i.passes both c.write.ensures.passes;
     }

@@ -1,5 +1,6 @@
-use Rattle.std.proofs.Common.{rules}
+use Rattle.std.proofs.Common.{max, arith, rules}
 use Rattle.std.proofs.lemmas.Result.{on_ok_weaker}
+use Rattle.sector_disk.proofs.CountLemmas.{counts_more, counts_then}
 use Rattle.snapshot.proofs.StoreLemmas.{sync_leaves, sync_then, written_since}
 use Rattle.snapshot.proofs.store.settle_sector.Goals as goal
 
@@ -11,6 +12,7 @@ returns-in_err-settle g c =
       written = search rules;
       settled = search rules;
       any_moment = sync_leaves c.args.at c.args.sector.now old mid c.settle.ensures.stays c.settle.ensures.passes;
+      counts = counts_more old.unsynced (max old.unsynced 1) old mid (omega arith) c.settle.ensures.counts;
       cause = search rules;
     }
 
@@ -24,5 +26,6 @@ returns g c =
       written = on_ok_weaker c.write_settled.result (written_since c.args.at c.args.sector.now old mid stays c.settle.ensures.passes new) c.write_settled.ensures.written;
       settled = c.write_settled.ensures.settled;
       any_moment = sync_then c.args.at c.args.sector.now old mid stays c.settle.ensures.passes new c.write_settled.ensures.any_moment;
+      counts = let u = stays.unsynced in let p = c.settle.ensures.passes in counts_then old.unsynced (max mid.unsynced 1) (max old.unsynced 1) old mid new (omega arith) (omega (arith, u)) p.later c.settle.ensures.counts c.write_settled.ensures.counts;
       cause = search rules;
     }

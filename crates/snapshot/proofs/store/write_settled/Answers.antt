@@ -1,5 +1,6 @@
-use Rattle.std.proofs.Common.{rules}
+use Rattle.std.proofs.Common.{◌+◌, max, arith, rules}
 use Rattle.std.proofs.lemmas.Result.{on_ok_weaker}
+use Rattle.sector_disk.proofs.CountLemmas.{counts_more, counts_then}
 use Rattle.snapshot.proofs.StoreLemmas.{settled_write, settled_sync, written_left}
 use Rattle.snapshot.proofs.store.write_settled.Goals as goal
 
@@ -11,6 +12,7 @@ returns-in_err-write g c =
       written = search rules;
       settled = search rules;
       any_moment = settled_write c.args.at c.args.sector.now old new c.requires.settled c.write.ensures.tears c.write.ensures.passes;
+      counts = let s = c.requires.settled.unsynced in counts_more (old.unsynced + 1) (max old.unsynced 1) old new (omega (arith, s)) c.write.ensures.counts;
       cause = search rules;
     }
 
@@ -24,5 +26,10 @@ returns g c =
       written = on_ok_weaker c.settle.result (λ done. written_left c.args.at c.args.sector.now old new c.requires.settled c.write.ensures.tears c.write.ensures.passes last takes.both c.settle.ensures.stays done) c.settle.ensures.settles;
       settled = c.settle.ensures.settles;
       any_moment = settled_sync c.args.at c.args.sector.now old new c.requires.settled c.write.ensures.tears c.write.ensures.passes last c.settle.ensures.stays c.settle.ensures.passes;
+      counts =
+          let s = c.requires.settled.unsynced in
+          let t = c.write.ensures.tears.unsynced in
+          let p = c.write.ensures.passes in
+          counts_then (old.unsynced + 1) new.unsynced (max old.unsynced 1) old new last (omega (arith, s)) (omega (arith, s, t)) p.later c.write.ensures.counts c.settle.ensures.counts;
       cause = search rules;
     }

@@ -1,5 +1,5 @@
 use Rattle.std.proofs.Common.{◌≡◌, ◌+◌, ◌≤◌, drop}
-use Rattle.wasi_calls.specs.Outputs.{count_ended}
+use Rattle.wasi_calls.specs.rules.Outputs.{count_ended}
 use Rattle.wasi_calls.proofs.cut.count_lines.Given as goal
 
 abbrev pub invariant-loop-byte : goal.invariant-loop-byte

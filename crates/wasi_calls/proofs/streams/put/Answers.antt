@@ -1,6 +1,6 @@
 use Rattle.std.proofs.Common.{◌≡◌, [], ◌∙◌, sym, length}
 use Rattle.wasi_calls_rules.specs.Lines.{Cut, cut_all}
-use Rattle.wasi_calls.specs.Outputs.{count_ended}
+use Rattle.wasi_calls.specs.rules.Outputs.{count_ended}
 use Rattle.wasi_calls.proofs.Cuts.{written_cut, cut_onto}
 use Rattle.wasi_calls.proofs.streams.put.Goals as goal
 

@@ -1,5 +1,5 @@
 use Rattle.std.proofs.Common.{ap, arith, length}
-use Rattle.file_tree.specs.Store.Bytes.{resized}
+use Rattle.file_tree.specs.rules.Bytes.{resized}
 use Rattle.file_tree.specs.rules.Files.{bytes_of_node}
 use Rattle.file_tree.proofs.Sizes.{length-resized}
 use Rattle.file_tree.proofs.Contents.{is_resized, no_bytes_changed}

@@ -1,5 +1,5 @@
 use Rattle.std.proofs.Common.{ap, arith, length}
-use Rattle.file_tree.specs.Store.Bytes.{written}
+use Rattle.file_tree.specs.rules.Bytes.{written}
 use Rattle.file_tree.specs.rules.Files.{bytes_of_node}
 use Rattle.file_tree.proofs.Sizes.{all_bytes, length-written}
 use Rattle.file_tree.proofs.Contents.{is_written, bytes_at_place, no_bytes_changed}

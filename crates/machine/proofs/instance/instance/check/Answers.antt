@@ -6,7 +6,7 @@ use Rattle.wasm_syntax.specs.declared.types.MemoryType.{MemoryType}
 use Rattle.wasm_syntax.specs.declared.module.Import.{Import}
 use Rattle.wasm_syntax_rules.specs.Linking.{IsOffered, FitsPages}
 use Rattle.machine.specs.rules.Offers.{offer}
-use Rattle.machine.specs.Instance.Initial.{AreImportsOffered}
+use Rattle.machine.specs.rules.Initial.{AreImportsOffered}
 use Rattle.machine.specs.rules.Refusals.{AreImportsRefused}
 use Rattle.machine.proofs.InstanceLemmas.Begun.{own_memories, imports_refused}
 use Rattle.machine.proofs.instance.instance.check.Goals as goal

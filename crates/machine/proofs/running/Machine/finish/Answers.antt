@@ -1,5 +1,5 @@
 use Rattle.std.proofs.Common.{sym, subst}
-use Rattle.machine.specs.Hosting.Answers.{call_results}
+use Rattle.machine.specs.rules.Answers.{call_results}
 use Rattle.machine.specs.rules.Values.{MachineValue}
 use Rattle.machine.specs.rules.Runs.{WaitsFor, Answers}
 use Rattle.machine.specs.Insides.{seen}

@@ -1,8 +1,13 @@
-use Rattle.std.proofs.Common.{◌∙◌, ℕ, [], subst}
+use Rattle.std.proofs.Common.{◌≡◌, ◌≤◌, ◌+◌, ◌/◌, ◌∙◌, ℕ, [], length, subst, arith}
 use Rattle.std.proofs.lemmas.Result.{on_ok_weaker}
 use Rattle.sector_disk.specs.rules.Medium.{After, Follows, LeavesOnly}
 use Rattle.snapshot.specs.rules.Steps.{Fills, Commits, Replaces}
-use Rattle.snapshot.specs.Snapshots.{version_of}
+use Rattle.snapshot.specs.declared.writing.Writing.TheVariants.{Changes}
+use Rattle.snapshot.specs.rules.Snapshots.{version_of, length_of, sectors_of, filled_by}
+use Rattle.snapshot.specs.Writing.{SparesSectors, SparesAllButHead}
+use Rattle.disk_layout.specs.rules.Places.{area_place, rounded_up}
+use Rattle.snapshot.proofs.SpareLemmas.{spares_all_but_head, filled_within}
+use Rattle.sector_disk.proofs.CountLemmas.{counts_more, counts_then, unsynced_within}
 use Rattle.snapshot.proofs.SnapshotLemmas.{begun_pushed, filled_commits, committed, committed_whole}
 use Rattle.snapshot.proofs.snapshots.Snapshots.commit.Goals as goal
 
@@ -24,7 +29,7 @@ returns-clause-any_moment g c =
     let begun = c.in_ok-begin.ensures.begun in
     let same = c.in_ok-push.ensures.same in
     let one = subst (λ (n : ℕ). LeavesOnly old mid (After (Fills geometry n) old.may_leave)) begun.generation c.push.ensures.any_moment in
-    let pushed = c.in_ok-push.ensures.pushed [] (begun_pushed geometry old c.args.generation c.args.version c.begin.new.self begun) in
+    let pushed = c.in_ok-push.ensures.pushed [] (begun_pushed geometry old c.args.generation c.args.version Changes c.begin.new.self begun) in
     let two = c.finish.ensures.any_moment image pushed in
     let at = subst (λ (n : ℕ). LeavesOnly mid new (After (Commits geometry n (version_of c.push.new.self) image) mid.may_leave)) (same.generation ∙ begun.generation) two in
     committed geometry c.args.generation c.args.version image old mid new one (subst (λ (v : ℕ). LeavesOnly mid new (After (Commits geometry c.args.generation v image) mid.may_leave)) (same.version ∙ begun.version) at)
@@ -41,7 +46,55 @@ returns-clause-done g c =
     let begun = c.in_ok-begin.ensures.begun in
     let same = c.in_ok-push.ensures.same in
     let one = subst (λ (n : ℕ). LeavesOnly old mid (After (Fills geometry n) old.may_leave)) begun.generation c.push.ensures.any_moment in
-    let pushed = c.in_ok-push.ensures.pushed [] (begun_pushed geometry old c.args.generation c.args.version c.begin.new.self begun) in
+    let pushed = c.in_ok-push.ensures.pushed [] (begun_pushed geometry old c.args.generation c.args.version Changes c.begin.new.self begun) in
     let at = subst (λ (n : ℕ). Follows (Replaces geometry n (version_of c.push.new.self) image) mid.may_leave new.may_leave) (same.generation ∙ begun.generation) (done image pushed) in
     committed_whole geometry c.args.generation c.args.version image old mid new one (subst (λ (v : ℕ). Follows (Replaces geometry c.args.generation v image) mid.may_leave new.may_leave) (same.version ∙ begun.version) at))
     c.finish.ensures.done
+
+pub returns-in_err-push-clause-counts : goal.returns-in_err-push-clause-counts
+returns-in_err-push-clause-counts g c =
+    let old = g.D.Disk.medium c.args.disk.now in
+    let mid = g.D.Disk.medium c.push.new.disk in
+    let begun = c.in_ok-begin.ensures.begun in
+    let len = length c.args.image.now in
+    let none = begun.length in
+    counts_more (old.unsynced + filled_by c.begin.new.self len) (old.unsynced + len / 512 + 1) old mid (omega (arith, none)) c.push.ensures.counts
+
+pub returns-clause-counts : goal.returns-clause-counts
+returns-clause-counts g c =
+    let old = g.D.Disk.medium c.args.disk.now in
+    let mid = g.D.Disk.medium c.push.new.disk in
+    let new = g.D.Disk.medium c.finish.new.disk in
+    let begun = c.in_ok-begin.ensures.begun in
+    let len = length c.args.image.now in
+    let none = begun.length in
+    let leaves = c.push.ensures.any_moment in
+    let p = leaves.passes in
+    let one = counts_more (old.unsynced + filled_by c.begin.new.self len) (old.unsynced + len / 512) old mid (omega (arith, none)) c.push.ensures.counts in
+    let few = unsynced_within (old.unsynced + len / 512) old mid (omega arith) p.later one in
+    counts_then (old.unsynced + len / 512) (mid.unsynced + 1) (old.unsynced + len / 512 + 1) old mid new (omega arith) (omega (arith, few)) p.later one c.finish.ensures.counts
+
+pub returns-clause-spared : goal.returns-clause-spared
+returns-clause-spared g c =
+    let old = g.D.Disk.medium c.args.disk.now in
+    let mid = g.D.Disk.medium c.push.new.disk in
+    let new = g.D.Disk.medium c.finish.new.disk in
+    let geometry = c.args.geometry.now in
+    let begun = c.in_ok-begin.ensures.begun in
+    let same = c.in_ok-push.ensures.same in
+    let len = c.in_ok-push.ensures.length in
+    let none = begun.length in
+    let place = area_place geometry c.args.generation in
+    let leaves = c.push.ensures.any_moment in
+    let p = leaves.passes in
+    let filled = sectors_of c.push.new.self in
+    let taken = rounded_up (length_of c.push.new.self) in
+    let all : taken ≡ rounded_up (length c.args.image.now) = omega (arith, len, none) in
+    let one = subst (λ (n : ℕ). SparesSectors (area_place geometry n) (sectors_of c.begin.new.self) filled old mid) begun.generation (c.in_ok-push.ensures.spared begun.writing) in
+    let first = subst (λ (n : ℕ). SparesSectors place n filled old mid) begun.sectors one in
+    let few : filled ≤ taken = omega (arith, filled_within c.push.new.self.state) in
+    on_ok_weaker c.finish.result
+    (λ two.
+    let last = subst (λ (n : ℕ). SparesAllButHead (area_place geometry n) filled taken mid new) (same.generation ∙ begun.generation) two in
+    subst (λ (n : ℕ). SparesAllButHead place 0 n old new) all (spares_all_but_head place 0 filled taken old mid new (omega arith) few p.later first last))
+    (c.finish.ensures.spared (same.writing ∙ begun.writing))

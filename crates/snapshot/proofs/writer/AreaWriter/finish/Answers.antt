@@ -1,14 +1,15 @@
-use Rattle.std.proofs.Common.{◌⊎◌, ◌≤◌, ◌∙◌, ℕ, List, sym, subst, arith}
+use Rattle.std.proofs.Common.{◌⊎◌, ◌≤◌, ◌+◌, ◌*◌, max, ◌∙◌, ℕ, List, length, sym, subst, arith}
 use Rattle.std.proofs.lemmas.Result.{on_ok_weaker}
 use Rattle.sector_disk.specs.rules.Image.{Image, IsTorn, IsWritten}
 use Rattle.sector_disk.specs.rules.Medium.{After, Follows, LeavesOnly}
-use Rattle.disk_layout.specs.rules.Places.{head_place, area_place}
-use Rattle.disk_layout.specs.rules.Sectors.{SectorsHold}
-use Rattle.snapshot.specs.rules.Steps.{Fills, Commits, Replaces}
+use Rattle.disk_layout.specs.rules.Places.{head_place, area_place, rounded_up}
+use Rattle.snapshot.specs.rules.Steps.{HoldsWithZeros, Fills, Commits, Replaces}
+use Rattle.snapshot.proofs.SpareLemmas.{spares_head}
 use Rattle.snapshot.proofs.AreaLemmas.{fills_commits}
 use Rattle.snapshot.proofs.WriterLemmas.{is_head, finished, replaced}
 use Rattle.snapshot.proofs.writer.AreaWriter.finish.Goals as goal
 use Rattle.sector_disk.proofs.Moments.{leaves_weaker}
+use Rattle.sector_disk.proofs.CountLemmas.{unsynced_within, counts_then}
 
 pub returns-in_err-store_last-clause-any_moment : goal.returns-in_err-store_last-clause-any_moment
 returns-in_err-store_last-clause-any_moment g c = λ bytes given.
@@ -31,12 +32,13 @@ returns-clause-any_moment g c = λ bytes given.
     let is = is_head h bytes digest c.head-head.ensures.small in
     let len = c.head-head.ensures.length ∙ sym given.count in
     let one = subst (λ (n : ℕ). LeavesOnly old mid (After (Fills geometry n) old.may_leave)) (sym generation) c.store_last.ensures.any_moment in
-    let holds : (image : Image) → mid.shows image → SectorsHold image (area_place geometry h.generation) geometry.area_sectors bytes =
-    λ image shows. subst (λ (n : ℕ). SectorsHold image (area_place geometry n) geometry.area_sectors bytes) (sym generation) (c.in_ok-store_last.ensures.holds bytes given image shows) in
+    let holds : (image : Image) → mid.shows image → HoldsWithZeros geometry h.generation bytes image =
+    λ image shows. subst (λ (n : ℕ). HoldsWithZeros geometry n bytes image) (sym generation) (c.in_ok-store_last.ensures.holds bytes given image shows) in
+    let few : rounded_up (length bytes) ≤ geometry.area_sectors = let n = given.count in let r = c.requires.within in omega (arith, n, r) in
     let inside : 3 ≤ mid.sectors = let l = c.store_last.ensures.any_moment in let p = l.passes in let r = c.requires.places in omega (arith, p.sectors, r) in
     let placed = subst (λ (k : ℕ). LeavesOnly mid new (λ image. mid.may_leave image ⊎ After (IsTorn k c.sector.result) mid.shows image)) c.head_place.ensures c.settle_sector.ensures.any_moment in
     let two = subst (λ (l : List ℕ). LeavesOnly mid new (λ image. mid.may_leave image ⊎ After (IsTorn (head_place h.generation) l) mid.shows image)) c.sector.ensures placed in
-    let done = finished geometry h bytes is len digest old mid new inside one holds two in
+    let done = finished geometry h bytes is len digest few old mid new inside one holds two in
     let at = subst (λ (n : ℕ). LeavesOnly old new (After (Commits geometry n h.version bytes) old.may_leave)) generation done in
     subst (λ (v : ℕ). LeavesOnly old new (After (Commits geometry w.generation v bytes) old.may_leave)) c.head-head.ensures.version at
 
@@ -55,12 +57,50 @@ returns-clause-done g c =
     let is = is_head h bytes digest c.head-head.ensures.small in
     let len = c.head-head.ensures.length ∙ sym given.count in
     let one = subst (λ (n : ℕ). LeavesOnly old mid (After (Fills geometry n) old.may_leave)) (sym generation) c.store_last.ensures.any_moment in
-    let holds : (image : Image) → mid.shows image → SectorsHold image (area_place geometry h.generation) geometry.area_sectors bytes =
-    λ image shows. subst (λ (n : ℕ). SectorsHold image (area_place geometry n) geometry.area_sectors bytes) (sym generation) (c.in_ok-store_last.ensures.holds bytes given image shows) in
+    let holds : (image : Image) → mid.shows image → HoldsWithZeros geometry h.generation bytes image =
+    λ image shows. subst (λ (n : ℕ). HoldsWithZeros geometry n bytes image) (sym generation) (c.in_ok-store_last.ensures.holds bytes given image shows) in
+    let few : rounded_up (length bytes) ≤ geometry.area_sectors = let n = given.count in let r = c.requires.within in omega (arith, n, r) in
     let inside : 3 ≤ mid.sectors = let l = c.store_last.ensures.any_moment in let p = l.passes in let r = c.requires.places in omega (arith, p.sectors, r) in
     let placed = subst (λ (k : ℕ). Follows (IsWritten k c.sector.result) mid.shows new.may_leave) c.head_place.ensures written in
     let two = subst (λ (l : List ℕ). Follows (IsWritten (head_place h.generation) l) mid.shows new.may_leave) c.sector.ensures placed in
-    let done = replaced geometry h bytes is len digest old mid new inside one holds two in
+    let done = replaced geometry h bytes is len digest few old mid new inside one holds two in
     let at = subst (λ (n : ℕ). Follows (Replaces geometry n h.version bytes) old.may_leave new.may_leave) generation done in
     subst (λ (v : ℕ). Follows (Replaces geometry w.generation v bytes) old.may_leave new.may_leave) c.head-head.ensures.version at)
+    c.settle_sector.ensures.written
+
+pub returns-clause-counts : goal.returns-clause-counts
+returns-clause-counts g c =
+    let old = g.D.Disk.medium c.args.disk.now in
+    let mid = g.D.Disk.medium c.store_last.new.disk in
+    let new = g.D.Disk.medium c.settle_sector.new.disk in
+    let leaves = c.store_last.ensures.any_moment in
+    let p = leaves.passes in
+    let few = unsynced_within (old.unsynced + 1) old mid (omega arith) p.later c.store_last.ensures.counts in
+    counts_then (old.unsynced + 1) (max mid.unsynced 1) (old.unsynced + 1) old mid new (omega arith) (omega (arith, few)) p.later c.store_last.ensures.counts c.settle_sector.ensures.counts
+
+pub returns-clause-whole : goal.returns-clause-whole
+returns-clause-whole g c = λ is some.
+    let old = g.D.Disk.medium c.args.disk.now in
+    let mid = g.D.Disk.medium c.store_last.new.disk in
+    let new = g.D.Disk.medium c.settle_sector.new.disk in
+    let leaves = c.store_last.ensures.any_moment in
+    let p = leaves.passes in
+    let one = c.in_ok-store_last.ensures.whole is some in
+    let counts = c.settle_sector.ensures.counts in
+    on_ok_weaker c.settle_sector.result
+    (λ settled. subst (λ (n : ℕ). new.unsynced_since old.moment n) one (counts.keeps old.moment mid.unsynced p.later (mid.count_now old.moment p.later)))
+    c.settle_sector.ensures.settled
+
+pub returns-clause-spared : goal.returns-clause-spared
+returns-clause-spared g c = λ is.
+    let old = g.D.Disk.medium c.args.disk.now in
+    let mid = g.D.Disk.medium c.store_last.new.disk in
+    let new = g.D.Disk.medium c.settle_sector.new.disk in
+    let w = c.args.self in
+    let place = area_place c.args.geometry.now w.generation in
+    let leaves = c.store_last.ensures.any_moment in
+    let p = leaves.passes in
+    on_ok_weaker c.settle_sector.result
+    (λ written. spares_head place w.sectors (rounded_up (512 * w.sectors + w.filled)) c.head_place.result c.sector.result old mid new (omega (arith, c.head_place.ensures)) p.later
+    (c.in_ok-store_last.ensures.spared is) written c.settle_sector.ensures.counts)
     c.settle_sector.ensures.written

@@ -1,10 +1,13 @@
-use Rattle.std.proofs.Common.{◌≡◌, ◌+◌, ◌-◌, ◌++◌, ◌∙◌, ℕ, List, length, take, drop, ap, subst, arith, append_assoc}
+use Rattle.std.proofs.Common.{◌≡◌, ◌≤◌, ◌+◌, ◌-◌, ◌/◌, ◌++◌, ◌∙◌, ℕ, List, length, take, drop, ap, subst, arith, append_assoc}
 use Rattle.std.proofs.lemmas.List.{take_all, length-drop}
 use Rattle.sector_disk.specs.rules.Medium.{After, LeavesOnly}
+use Rattle.sector_disk.proofs.CountLemmas.{counts_then}
 use Rattle.disk_layout.proofs.ReadLemmas.{parts_joined}
+use Rattle.disk_layout.specs.rules.Places.{area_place}
 use Rattle.snapshot.specs.rules.Steps.{Fills}
-use Rattle.snapshot.specs.Writing.{IsGiven}
-use Rattle.snapshot.proofs.WriterLemmas.{more_fills}
+use Rattle.snapshot.specs.Writing.{SparesSectors, IsGiven}
+use Rattle.snapshot.proofs.SpareLemmas.{spares_then}
+use Rattle.snapshot.proofs.WriterLemmas.{more_fills, sectors_left}
 use Rattle.snapshot.proofs.writer.AreaWriter.push.Goals as goal
 
 pub returns-in_err-at-clause-any_moment : goal.returns-in_err-at-clause-any_moment
@@ -15,6 +18,22 @@ returns-in_err-at-clause-any_moment g c =
     let new = g.D.Disk.medium c.take_in.new.disk in
     let two = subst (λ (n : ℕ). LeavesOnly mid new (After (Fills c.args.geometry.now n) mid.may_leave)) i.generation c.take_in.ensures.any_moment in
     more_fills c.args.geometry.now c.args.self.now.generation old mid new i.leaves two
+
+pub returns-in_err-at-clause-counts : goal.returns-in_err-at-clause-counts
+returns-in_err-at-clause-counts g c =
+    let i = c.loop-at.invariant in
+    let old = g.D.Disk.medium c.args.disk.now in
+    let mid = g.D.Disk.medium c.loop-at.disk in
+    let new = g.D.Disk.medium c.take_in.new.disk in
+    let bytes = c.args.bytes.now in
+    let rest : take (length bytes - c.loop-at.at) (drop c.loop-at.at bytes) ≡ drop c.loop-at.at bytes = take_all (length bytes - c.loop-at.at) (drop c.loop-at.at bytes) (omega (arith, length-drop c.loop-at.at bytes)) in
+    let joined : length (take (length bytes - c.loop-at.at) (drop c.loop-at.at bytes)) ≡ length bytes - c.loop-at.at = ap (λ (l : List ℕ). length l) rest ∙ length-drop c.loop-at.at bytes in
+    let left = length (take (length bytes - c.loop-at.at) (drop c.loop-at.at bytes)) in
+    let most = old.unsynced + (c.args.self.now.filled + length bytes) / 512 in
+    let few : mid.unsynced + (c.loop-at.self.filled + left) / 512 ≤ most =
+    sectors_left _ _ _ _ _ _ c.loop-at.at (length bytes) _ i.unsynced i.length i.within c.loop-at.self.open c.args.self.now.open joined in
+    let p = i.leaves.passes in
+    counts_then most (mid.unsynced + (c.loop-at.self.filled + left) / 512) most old mid new (omega arith) few p.later i.counts c.take_in.ensures.counts
 
 pub loop-at-preserved : goal.loop-at-preserved
 loop-at-preserved g c =
@@ -33,11 +52,24 @@ loop-at-preserved g c =
     let joined : length (take (length bytes - c.loop-at.at) (drop c.loop-at.at bytes)) ≡ length bytes - c.loop-at.at = ap (λ (l : List ℕ). length l) rest ∙ length-drop c.loop-at.at bytes in
     let more = count.1 in
     let test = c.loop-at-test.true in
+    let most = old.unsynced + (c.args.self.now.filled + length bytes) / 512 in
+    let few : mid.unsynced + (c.loop-at.self.filled + length (take (length bytes - c.loop-at.at) (drop c.loop-at.at bytes))) / 512 ≤ most =
+    sectors_left _ _ _ _ _ _ c.loop-at.at (length bytes) _ i.unsynced i.length i.within c.loop-at.self.open c.args.self.now.open joined in
     record {
       within = omega (arith, joined, more, test);
       length = omega (arith, len, i.length);
       generation = ok.generation ∙ i.generation;
       version = ok.version ∙ i.version;
+      writing = ok.writing ∙ i.writing;
+      spared = λ is.
+          let two = subst (λ (n : ℕ). SparesSectors (area_place c.args.geometry.now n) c.loop-at.self.sectors c.take_in.new.self.sectors mid new) i.generation (ok.spared (i.writing ∙ is)) in
+          let p = i.leaves.passes in
+          let begun = c.args.self.now.open in
+          let was = c.loop-at.self.open in
+          let is_open = c.take_in.new.self.open in
+          spares_then (area_place c.args.geometry.now c.args.self.now.generation) c.args.self.now.sectors c.loop-at.self.sectors c.take_in.new.self.sectors old mid new
+          (omega (arith, i.length, begun, was)) (omega (arith, len, was, is_open)) p.later (i.spared is) two;
+      whole = λ is. let one = i.whole is in let two = ok.whole (i.writing ∙ is) in omega (arith, one, two);
       given = λ before given.
           let next = ok.given (before ++ take c.loop-at.at bytes) (i.given before given) in
           let is : (before ++ take c.loop-at.at bytes) ++ take n (take (length bytes - c.loop-at.at) (drop c.loop-at.at bytes)) ≡ before ++ take (c.loop-at.at + n) bytes =
@@ -45,5 +77,6 @@ loop-at-preserved g c =
           ∙ ap (λ (l : List ℕ). before ++ (take c.loop-at.at bytes ++ take n l)) rest ∙ ap (λ (l : List ℕ). before ++ l) (parts_joined c.loop-at.at n bytes) in
           subst (λ (l : List ℕ). IsGiven c.args.geometry.now new c.take_in.new.self l) is next;
       unsynced = omega (arith, sync, i.unsynced);
+      counts = let p = i.leaves.passes in counts_then most (mid.unsynced + (c.loop-at.self.filled + length (take (length bytes - c.loop-at.at) (drop c.loop-at.at bytes))) / 512) most old mid new (omega arith) few p.later i.counts c.take_in.ensures.counts;
       leaves = more_fills c.args.geometry.now c.args.self.now.generation old mid new i.leaves two;
     }

@@ -1,4 +1,4 @@
-use Rattle.wasi_calls.specs.Held.{held_host_of}
+use Rattle.wasi_calls.specs.rules.Held.{held_host_of}
 use Rattle.wasi_calls.proofs.Emitted.{released_shows}
 use Rattle.wasi_calls.proofs.host.Host.release.Goals as goal
 

@@ -1,6 +1,6 @@
 use Rattle.std.proofs.Common.{◌≡◌}
-use Rattle.wasi_calls.specs.Outputs.{output_written}
-use Rattle.wasi_calls.specs.Held.{held_host_of}
+use Rattle.wasi_calls.specs.rules.Outputs.{output_written}
+use Rattle.wasi_calls.specs.rules.Held.{held_host_of}
 use Rattle.wasi_calls.proofs.Hosts.{with_lines, written_short}
 use Rattle.wasi_calls.proofs.host.Host.write.Goals as goal
 

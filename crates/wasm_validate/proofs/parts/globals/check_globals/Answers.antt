@@ -4,7 +4,7 @@ use Rattle.wasm_syntax.specs.declared.types.GlobalType.{GlobalType}
 use Rattle.wasm_syntax.specs.declared.module.Global.{Global}
 use Rattle.wasm_syntax_rules.specs.Types.{imported_globals, global_type_of}
 use Rattle.wasm_syntax_rules.specs.Validity.{module_context, IsConstant}
-use Rattle.wasm_validate.specs.Parts.Answers.{Decides}
+use Rattle.wasm_validate.specs.rules.Answers.{Decides}
 use Rattle.wasm_validate.proofs.PartLemmas.Lookups.{take-front, length-front}
 use Rattle.wasm_validate.proofs.parts.globals.check_globals.Goals as goal
 

@@ -5,7 +5,7 @@ use Rattle.wasm_syntax.specs.declared.types.FunctionType.{FunctionType}
 use Rattle.wasm_syntax.specs.declared.module.Export.{Export}
 use Rattle.wasm_syntax.specs.declared.module.Element.{Element}
 use Rattle.wasm_syntax_rules.specs.Validity.{module_context, IsFunctionTypeValid, IsExportItemValid, HaveDistinctNames, IsElementValid}
-use Rattle.wasm_validate.specs.Parts.Answers.{Decides}
+use Rattle.wasm_validate.specs.rules.Answers.{Decides}
 use Rattle.wasm_validate.specs.Parts.Parts.{IsModuleContext}
 use Rattle.wasm_validate.proofs.PartLemmas.Denied.{turn_as, denies_as, judges_as}
 use Rattle.wasm_validate.proofs.parts.parts.check_before_data.Goals as goal

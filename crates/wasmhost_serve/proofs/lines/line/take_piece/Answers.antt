@@ -5,10 +5,11 @@ use Rattle.std.proofs.KnownBytes.{Consumes-nil, Consumes-kept}
 use Rattle.std.proofs.BufReadLemmas.{Consumes_shown, zero_unless_positive}
 use Rattle.std.proofs.Transfers.{StopsAt-of_All, StopsAt-take}
 use Rattle.wasmhost_serve.proofs.lines.line.take_piece.Goals.{then-end-eq0, else-end-eq0}
+use Rattle.wasmhost_serve.proofs.LineLemmas.Refusals.{begins_with}
 use Rattle.wasmhost_serve.proofs.lines.line.take_piece.Goals as goal
 
-pub returns-in-Err : goal.returns-in-Err
-returns-in-Err g c =
+pub returns-in-Err-clause-moved : goal.returns-in-Err-clause-moved
+returns-in-Err-clause-moved g c =
     record {
       piece = [];
       grows = sym (append-nil c.args.line.now.items);
@@ -19,8 +20,8 @@ returns-in-Err g c =
       last = search rules;
     }
 
-pub returns : goal.returns
-returns g c =
+pub returns-clause-moved : goal.returns-clause-moved
+returns-clause-moved g c =
     let end = c.line_length-end in
     let shown = c.in-Ok.available.now in
     let rested = c.fill_buf.follows.lender-at-none in
@@ -47,3 +48,11 @@ returns g c =
           ];
       last = λ _ none. moved.1 (zero_unless_positive _ _ end.ensures.some (sym (length-take-le end.result shown end.ensures.bound) ∙ none));
     }
+
+pub returns-then-end-saturating_sub-clause-failed : goal.returns-then-end-saturating_sub-clause-failed
+returns-then-end-saturating_sub-clause-failed g c =
+    let end = c.line_length-end in
+    let shown = c.in-Ok.available.now in
+    begins_with (g.R.Read.remaining c.args.reader.now) c.args.line.now.items shown end.result end.ensures.bound c.in-Ok.ensures.front (StopsAt-take _ _ _ end.ensures.bound end.ensures.before) (
+    omega arith
+    )

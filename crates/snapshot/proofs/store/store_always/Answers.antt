@@ -1,0 +1,18 @@
+use Rattle.std.proofs.Common.{rules}
+use Rattle.std.proofs.lemmas.Result.{on_ok_weaker}
+use Rattle.snapshot.proofs.StoreLemmas.{write_only}
+use Rattle.snapshot.proofs.store.store_always.Goals as goal
+
+pub returns : goal.returns
+returns g c =
+    let old = g.D.Disk.medium c.args.disk.now in
+    let new = g.D.Disk.medium c.write.new.self in
+    let tears = c.write.ensures.tears in
+    record {
+      whole = on_ok_weaker c.write.result (λ takes. takes.both) c.write.ensures.whole;
+      any_moment = write_only c.args.at c.args.sector.now old new tears c.write.ensures.passes;
+      told = on_ok_weaker c.write.result (λ takes. takes.unsynced) c.write.ensures.whole;
+      unsynced = tears.unsynced;
+      counts = c.write.ensures.counts;
+      cause = search rules;
+    }

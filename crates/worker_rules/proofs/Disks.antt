@@ -1,0 +1,183 @@
+-- What disk images stand for.
+use Rattle.std.proofs.Common.{◌≡◌, ℕ, zero, suc, ◌+◌, ◌-◌, ◌%◌, ◌<◌, ◌≤◌, Bool, false, List, [], ◌∷◌, ◌++◌, Some, if◌then◌else◌, refl, sym, ap, ◌∙◌, subst, arith, lit≤, get_or}
+use Rattle.std.specs.Prelude.{map, length, take}
+use Rattle.std.proofs.lemmas.Bool.{eq-eqb}
+use Rattle.sha2.specs.Sha256.{sha256}
+use Rattle.sha2.proofs.Facts256.{length-sha256}
+use Rattle.wasi_abi.specs.rules.Layouts.{padding}
+use Rattle.wasm_syntax.specs.declared.module.Module.{Module}
+use Rattle.wasm_syntax_rules.specs.Configuration.{Thread}
+use Rattle.wasi_abi.specs.rules.Configs.{Settings}
+use Rattle.process_rules.specs.Processes.{ProcessState, Guest, IsStart, closed_at}
+use Rattle.process_rules.specs.Runs.{Kept, Given, Runs, none, take as takes}
+use Rattle.process_rules.proofs.Growing.{move_counts, runs_count}
+use Rattle.process_rules.proofs.Quiet.{runs_join}
+use Rattle.sector_disk.specs.rules.Image.{Image, sector_at}
+use Rattle.disk_layout.specs.rules.Places.{Geometry, geometry_of, config_bytes, head_place, journal_place}
+use Rattle.disk_layout.specs.rules.Sectors.{IsMarked, super_bytes, super_end_mark, stamp_of, shown_generation}
+use Rattle.disk_layout.specs.rules.Journal.{Record, is_of, payloads_from}
+use Rattle.disk_layout.proofs.FieldLemmas.{drop_over}
+use Rattle.disk_layout.proofs.JournalLemmas.{is_of_other}
+use Rattle.worker_rules.specs.Stands.{Recorded, none as no_record, more, given_in, ShowsNoneLater}
+use Rattle.worker_rules.specs.laws.Disks.{StandsForWhatIsReached, RecordsAscend, BlankStandsForNone, NoLaterImage, NoLaterPayload, OneGeneration, tiny, tiny_disk, DiskExamples}
+
+-- ---- what is reached
+
+record RunsOn (guest : Guest) (p : ProcessState) (kept : List Kept)
+    (q : ProcessState) : Type 0 where
+  steps : ℕ
+  runs : Runs guest p kept steps q
+
+recorded_runs : (guest : Guest) (p q : ProcessState) (records : List Record)
+    → Recorded guest p records q → RunsOn guest p (map given_in records) q
+recorded_runs guest p q records (no_record {p = p'}) = record { steps = 0; runs = none }
+recorded_runs guest p q records (more {p = p'} {q = before} {r = after} {s = last} {a = a} {n =
+    n} {records = rest} first moves recorded) =
+    let on = recorded_runs guest after last rest recorded in
+    record {
+      steps = n + suc on.steps;
+      runs = runs_join guest p' before last [] (Given a ∷ map given_in rest) n (suc on.steps) first
+          (takes moves on.runs);
+    }
+
+closed_counts : (thread : Thread) (later : List ℕ) (p : ProcessState)
+    → (closed_at thread later p).steps ≡ p.steps
+closed_counts [] [] p = refl
+closed_counts [] (f ∷ later) p = refl
+closed_counts (frame ∷ frames) [] p = refl
+closed_counts (frame ∷ frames) (f ∷ later) p = refl
+
+start_counts : (m : Module) (config : Settings) (guest : Guest) (p : ProcessState)
+    → IsStart m config guest p → p.steps ≡ 0
+start_counts m config guest p start = ap (λ (z : ProcessState). z.steps) start.is
+    ∙ closed_counts start.first.thread start.first.later _
+
+pub what_stands_is_reached : StandsForWhatIsReached
+what_stands_is_reached disk m config kept n stands =
+    let on = recorded_runs stands.reached.guest stands.process stands.last stands.records
+    stands.recorded in
+    let runs : Runs stands.reached.guest stands.reached.start
+    (stands.front ++ map given_in stands.records) (stands.steps + on.steps) stands.last =
+    runs_join stands.reached.guest stands.reached.start stands.process stands.last stands.front
+    (map given_in stands.records) stands.steps on.steps stands.reached.runs on.runs in
+    let counted : stands.last.steps ≡ stands.reached.start.steps + (stands.steps + on.steps) =
+    runs_count stands.reached.guest stands.reached.start stands.last _ _ runs in
+    let from_none : stands.reached.start.steps ≡ 0 =
+    start_counts m config stands.reached.guest stands.reached.start stands.reached.begins in
+    let at : n ≡ stands.last.steps = stands.at_step in
+    let steps : n ≡ stands.steps + on.steps = omega (arith, counted, from_none, at) in (
+      stands.last,
+      record {
+        guest = stands.reached.guest;
+        start = stands.reached.start;
+        begins = stands.reached.begins;
+        runs = rw (stands.rest, steps) runs;
+      },
+    )
+
+pub records_ascend : RecordsAscend
+records_ascend guest p q records (no_record {p = p'}) = omega arith
+records_ascend guest p q records (more {p = p'} {q = before} {r = after} {s = last} {a = a} {n =
+    n} {records = rest} first moves recorded) =
+    let counted : before.steps ≡ p'.steps + n = runs_count guest p' before [] n first in
+    let taken : after.steps ≡ before.steps + 1 = move_counts guest before after (Some a) moves in
+    (omega (arith, counted, taken), records_ascend guest after last rest recorded)
+
+-- ---- marks and generations
+
+marks_there : (geometry : Geometry) (digest : List ℕ) → length digest ≡ 32
+    → IsMarked (super_bytes geometry digest)
+marks_there geometry digest size =
+    record {
+      first = refl;
+      last = ap (λ l. take 8 l)
+          (drop_over digest (padding 440 ++ super_end_mark) 32 440 size);
+    }
+
+pub blank_stands_for_none : BlankStandsForNone
+blank_stands_for_none disk m config kept n blank stands =
+    let digest : List ℕ = sha256 (config_bytes config ++ stands.wasm) in
+    blank (subst IsMarked (sym stands.worker.super)
+    (marks_there (geometry_of config (length stands.wasm)) digest
+    (length-sha256 (config_bytes config ++ stands.wasm))))
+
+shown_where : (place : ℕ) (sector : List ℕ) → (stamp_of sector).place ≡ place
+    → shown_generation place sector ≡ (stamp_of sector).generation
+shown_where place sector e = ap (λ (b : Bool). if b then (stamp_of sector).generation else 0)
+    (eq-eqb (stamp_of sector).place place e)
+
+head_below : (geometry : Geometry) (disk : Image) (g x : ℕ) → x < 2
+    → ShowsNoneLater geometry disk g → shown_generation 1 (sector_at disk (1 + x)) ≤ g
+head_below geometry disk g zero h shows = shows.first_head
+head_below geometry disk g (suc zero) h shows = shows.second_head
+head_below geometry disk g (suc (suc x)) h shows = absurd (too_large x h)
+  where
+    too_large : (x : ℕ) → suc (suc x) < 2 → ⊥
+    too_large x h = omega (arith, h)
+
+pub no_later_image : NoLaterImage
+no_later_image geometry shape disk g h version bytes shows holds =
+    let below = head_below geometry disk g (h % 2) (omega arith) shows in
+    let sector : List ℕ = sector_at disk (head_place h) in
+    let same : h ≡ (stamp_of sector).generation = ap (λ z. z.generation) holds.newest.is in
+    rw (same ∙ sym (shown_where 1 sector holds.newest.complete.place)) below
+
+pub one_generation : OneGeneration
+one_generation disk m other config settings kept others n k left right =
+    let up = no_later_image _ _ disk right.generation left.generation 1 _ right.none_later
+    left.holds in
+    let down = no_later_image _ _ disk left.generation right.generation 1 _ left.none_later
+    right.holds in
+    omega (arith, up, down)
+
+no_payloads : (disk : Image) (h sector place count : ℕ)
+    → is_of h place (sector_at disk sector) ≡ false → payloads_from disk h sector place count ≡ []
+no_payloads disk h sector place zero e = refl
+no_payloads disk h sector place (suc count) e = rw e refl
+
+not_of : (h place : ℕ) (sector : List ℕ) → shown_generation place sector < h
+    → is_of h place sector ≡ false
+not_of h place sector below = is_of_other h place sector
+    (λ e. earlier (shown_generation place sector) h below e)
+  where
+    earlier : (n h : ℕ) → n < h → n ≡ h → ⊥
+    earlier n h below e = omega (arith, below, e)
+
+pub no_later_payload : NoLaterPayload
+no_later_payload geometry disk g h k shows later = go (geometry.journal_sectors - k) refl
+  where
+    go : (count : ℕ) → geometry.journal_sectors - k ≡ count
+        → payloads_from disk h (journal_place geometry + k) (k + 1) count ≡ []
+    go zero e = refl
+    go (suc count) e =
+        let within : k < geometry.journal_sectors = omega (arith, e) in
+        let below : shown_generation (k + 1) (sector_at disk (journal_place geometry + k)) ≤ g =
+        shows.journal k within in
+        no_payloads disk h (journal_place geometry + k) (k + 1) (suc count)
+        (not_of h (k + 1) (sector_at disk (journal_place geometry + k))
+        (omega (arith, below, later)))
+
+-- ---- examples
+
+pub disk_examples : DiskExamples
+disk_examples = record {
+  none_later = record { first_head = lit≤ tt; second_head = lit≤ tt; journal = only_first };
+  first_head_later = λ shows. (let h : 4 ≤ 3 = shows.first_head in omega (arith, h));
+  second_head_later = λ shows. (let h : 5 ≤ 3 = shows.second_head in omega (arith, h));
+  journal_later = λ shows. (let h : 4 ≤ 3 = shows.journal 0 (omega arith) in omega (arith, h));
+  no_sectors = λ marks. differ 0 68 (ap (λ l. get_or l 0 0) marks.first) (omega arith);
+  zeros = λ marks. differ 0 68 (ap (λ l. get_or l 0 0) marks.first) (omega arith);
+  torn = λ marks. differ 0 33 (ap (λ l. get_or l 0 0) marks.last) (omega arith);
+  marked = λ blank. blank (record { first = refl; last = refl });
+}
+  where
+    differ : (a b : ℕ) → a ≡ b → a + 1 ≤ b → ⊥
+    differ a b e h = omega (arith, e, h)
+
+    only_first : (k : ℕ) → k < 1 → shown_generation (k + 1)
+        (sector_at (tiny_disk 2 3 3) (journal_place tiny + k)) ≤ 3
+    only_first zero h = lit≤ tt
+    only_first (suc k) h = absurd (none_left k h)
+      where
+        none_left : (k : ℕ) → suc k < 1 → ⊥
+        none_left k h = omega (arith, h)

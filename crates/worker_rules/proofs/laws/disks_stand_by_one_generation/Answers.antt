@@ -1,0 +1,17 @@
+use Rattle.worker_rules.proofs.Disks.{blank_stands_for_none, no_later_image, no_later_payload, one_generation, disk_examples}
+use Rattle.worker_rules.proofs.laws.disks_stand_by_one_generation.Goals as goal
+
+pub returns-clause-blank : goal.returns-clause-blank
+returns-clause-blank c = blank_stands_for_none
+
+pub returns-clause-image : goal.returns-clause-image
+returns-clause-image c = no_later_image
+
+pub returns-clause-payload : goal.returns-clause-payload
+returns-clause-payload c = no_later_payload
+
+pub returns-clause-one : goal.returns-clause-one
+returns-clause-one c = one_generation
+
+pub returns-clause-examples : goal.returns-clause-examples
+returns-clause-examples c = disk_examples

@@ -1,0 +1,8 @@
+use Rattle.worker_rules.proofs.Disks.{what_stands_is_reached, records_ascend}
+use Rattle.worker_rules.proofs.laws.disks_stand_for_what_is_reached.Goals as goal
+
+pub returns-clause-reached : goal.returns-clause-reached
+returns-clause-reached c = what_stands_is_reached
+
+pub returns-clause-in_order : goal.returns-clause-in_order
+returns-clause-in_order c = records_ascend

@@ -1,0 +1,86 @@
+-- Laws of the disk images that stand for a worker.
+use Rattle.std.specs.Prelude.{◌≡◌, ℕ, ◌+◌, ◌-◌, ◌<◌, ◌≤◌, List, [], ◌∷◌, ◌++◌, replicate, take}
+use Rattle.wasm_syntax.specs.declared.module.Module.{Module}
+use Rattle.wasi_abi.specs.rules.Configs.{Settings}
+use Rattle.process_rules.specs.Processes.{ProcessState, Guest}
+use Rattle.process_rules.specs.Runs.{Kept, Reaches}
+use Rattle.sector_disk.specs.rules.Image.{Image}
+use Rattle.disk_layout.specs.rules.Places.{Geometry, journal_place}
+use Rattle.disk_layout.specs.rules.Sectors.{super_bytes, head_bytes, HoldsImage}
+use Rattle.disk_layout.specs.rules.Journal.{Record, journal_sector, payloads_from}
+use Rattle.worker_rules.specs.Stands.{Recorded, ShowsNoneLater, StandsFor, IsBlank}
+
+-- A disk stands only for what the module reaches on all the kept answers, in so many steps.
+abbrev pub StandsForWhatIsReached : Type 0
+StandsForWhatIsReached =
+    (disk : Image) (m : Module) (config : Settings) (kept : List Kept) (n : ℕ)
+    → StandsFor disk m config kept n → (p : ProcessState) × Reaches m config kept n p
+
+-- each of these steps is later than the one before, and none is later than the last
+abbrev pub IsAscending : ℕ → List Record → ℕ → Type 0
+IsAscending step [] last = step ≤ last
+IsAscending step (r ∷ records) last = (step < r.step) × IsAscending r.step records last
+
+-- The records of a journal are in the order of their steps.
+abbrev pub RecordsAscend : Type 0
+RecordsAscend =
+    (guest : Guest) (p q : ProcessState) (records : List Record)
+    → Recorded guest p records q → IsAscending p.steps records q.steps
+
+-- a disk without a worker stands for none
+abbrev pub BlankStandsForNone : Type 0
+BlankStandsForNone =
+    (disk : Image) (m : Module) (config : Settings) (kept : List Kept) (n : ℕ)
+    → IsBlank disk → StandsFor disk m config kept n → ⊥
+
+-- where none is later than g, no image is of a later generation
+abbrev pub NoLaterImage : Type 0
+NoLaterImage =
+    (geometry shape : Geometry) (disk : Image) (g h version : ℕ) (bytes : List ℕ)
+    → ShowsNoneLater geometry disk g → HoldsImage shape disk h version bytes → h ≤ g
+
+-- nor are there payloads of a later generation, from any sector of the journal on
+abbrev pub NoLaterPayload : Type 0
+NoLaterPayload =
+    (geometry : Geometry) (disk : Image) (g h k : ℕ) → ShowsNoneLater geometry disk g → g < h
+    → payloads_from disk h (journal_place geometry + k) (k + 1) (geometry.journal_sectors - k) ≡ []
+
+-- So a disk stands for a worker by one generation alone.
+abbrev pub OneGeneration : Type 0
+OneGeneration =
+    (disk : Image) (m other : Module) (config settings : Settings) (kept others : List Kept)
+    (n k : ℕ)
+    → (left : StandsFor disk m config kept n) → (right : StandsFor disk other settings others k)
+    → left.generation ≡ right.generation
+
+-- ---- examples
+
+-- two heads, of the generations 2 and 3, and one journal sector of generation 3
+abbrev pub tiny : Geometry
+tiny = record { config = 0; wasm = 0; module_sectors = 0; area_sectors = 0; journal_sectors = 1 }
+
+abbrev pub head_of_generation : ℕ → List ℕ
+head_of_generation g = head_bytes (record {
+  version = 1;
+  length_in_bytes = 0;
+  digest = replicate 32 0;
+  generation = g;
+})
+
+abbrev pub tiny_disk : ℕ → ℕ → ℕ → Image
+tiny_disk g h j = [] ∷ head_of_generation g ∷ head_of_generation h ∷ journal_sector j 1
+    (7 ∷ []) ∷ []
+
+-- a super whose last eight bytes are still zeros
+abbrev pub torn_super : List ℕ
+torn_super = take 504 (super_bytes tiny (replicate 32 0)) ++ replicate 8 0
+
+pub record DiskExamples : Type 0 where
+  pub none_later : ShowsNoneLater tiny (tiny_disk 2 3 3) 3
+  pub first_head_later : ShowsNoneLater tiny (tiny_disk 4 3 3) 3 → ⊥
+  pub second_head_later : ShowsNoneLater tiny (tiny_disk 2 5 3) 3 → ⊥
+  pub journal_later : ShowsNoneLater tiny (tiny_disk 2 3 4) 3 → ⊥
+  pub no_sectors : IsBlank []
+  pub zeros : IsBlank (replicate 4 (replicate 512 0))
+  pub torn : IsBlank (torn_super ∷ [])
+  pub marked : IsBlank (super_bytes tiny (replicate 32 0) ∷ []) → ⊥
