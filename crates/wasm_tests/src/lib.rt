@@ -1,6 +1,8 @@
-//! What modules decode, validate and link to, where their branches lead, and what they do when they
-//! run: worked rows of bytes and what comes of them, each public call that takes memory, and what is
-//! printed of faults.
+//! What tests alone can show of modules: what bytes decode, validate and link to, where their
+//! branches lead, and what they do when they run, a row an instruction.
+//!
+//! Each test is a table of rows whose expected values come from outside. Those that take memory
+//! return their error, so that `scripts/refused-allocations` can refuse each allocation in turn.
 #![tactic(auto)]
 
 #[cfg(test)]
