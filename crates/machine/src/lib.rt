@@ -21,8 +21,8 @@
 //!
 //! In `specs/rules/`: `MachineValue`, `ShowsIn` (`Values.antt`); `HasBegun`, `RunsOnFuel`,
 //! `WaitsFor`, `Answers`, `Stops` (`Runs.antt`); `IsRefused`, `LinkDenies` (`Refusals.antt`);
-//! `offer` (`Offers.antt`). Beside these: `CanStart`, `CanBegin` (`specs/Instance/Initial.antt`),
-//! `call_results` (`specs/Hosting/Answers.antt`), and `Shows` of `machine_slots`.
+//! `offer` (`Offers.antt`). Beside these: `CanStart`, `CanBegin` (`specs/rules/Initial.antt`),
+//! `call_results` (`specs/rules/Answers.antt`), and `Shows` of `machine_slots`.
 //!
 //! # Who may touch what
 //!

@@ -27,7 +27,7 @@
 //!
 //! In `specs/rules/`: `FindsHead`, `IsReadyForHead` (`Heads.antt`); `FindsNewest`, `ReadsImage`,
 //! `IsDamaged` (`Newest.antt`); `Fills`, `Commits`, `Replaces`, `HasNew` (`Steps.antt`). Contracts
-//! also cite `IsBegun`, `HasPushed`, `StaysFailed` (`specs/Snapshots.antt`) and `SparesSectors`
+//! also cite `IsBegun`, `HasPushed`, `StaysFailed` (`specs/rules/Snapshots.antt`) and `SparesSectors`
 //! (`specs/Writing.antt`). Of `disk_layout`: `HoldsImage`.
 //!
 //! # Who may touch what

@@ -20,7 +20,7 @@
 //! # Definitions to read
 //!
 //! `specs/rules/Calls.antt`: `IsBuilt`, `AreArguments`, `ShowsRow`, `EndsNothing`.
-//! `specs/Held.antt`: `HeldHost` and `ShowsHost`, which say which hosts of the rules the code's
+//! `specs/rules/Held.antt`: `HeldHost` and `ShowsHost`, which say which hosts of the rules the code's
 //! host is. The rules themselves are `row` and `Host` of `wasi_calls_rules`.
 //!
 //! # Who may touch what

@@ -19,7 +19,7 @@
 //! # Definitions to read
 //!
 //! `IsValid` of `wasm_syntax_rules` (`specs/Validity.antt`) is all that `validate` speaks of, with
-//! `Denies` (`specs/Parts/Answers.antt`). Other crates use `IsContextOf`
+//! `Denies` (`specs/rules/Answers.antt`). Other crates use `IsContextOf`
 //! (`specs/Parts/Contexts.antt`) and `HasBody` (`specs/Body/Bodies.antt`).
 //! `specs/laws/Checking.antt` is a second form of typing. Nobody has to believe it.
 //!

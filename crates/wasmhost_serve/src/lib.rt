@@ -21,8 +21,8 @@
 //!
 //! In `specs/rules/`: `Serves`, `HasPrinted`, `usual`, `last_words` (`Served.antt`); `printed`,
 //! `request_line` (`Texts.antt`); `wasmhost`, `meaning_in`, `IsReading`, `IsStatusOf`
-//! (`Commands.antt`). Beside these: `all_printed` (`specs/laws/Lines.antt`), and `PrintsOneLine`
-//! (`specs/Lines/Prints.antt`).
+//! (`Commands.antt`). Beside these: `all_printed` (`specs/rules/Printed.antt`), and `PrintsOneLine`
+//! (`specs/rules/Prints.antt`).
 //!
 //! # Who may touch what
 //!
