@@ -1,5 +1,5 @@
 -- A process (this project's own): a configuration, the host's side, how far it has come, and how it ended.
-use Rattle.std.specs.Prelude.{◌≡◌, ℕ, ◌*◌, List, [], ◌∷◌, Option, Some, None}
+use Rattle.std.specs.Prelude.{◌≡◌, ℕ, ◌+◌, ◌*◌, ◌<◌, ◌^◌, List, [], ◌∷◌, length, Option, Some, None}
 use Rattle.wasm_syntax.specs.declared.value.Trap.{Trap}
 use Rattle.wasm_syntax.specs.declared.module.Module.{Module}
 use Rattle.wasm_syntax.specs.declared.module.Import.{Import}
@@ -42,6 +42,10 @@ AreCalls [] [] = Unit {0}
 AreCalls (i ∷ imports) (c ∷ calls) = (i.module_name ≡ module_name) × (i.name ≡ name_of c) × AreCalls imports calls
 AreCalls [] (c ∷ calls) = ⊥
 AreCalls (i ∷ imports) [] = ⊥
+
+-- Lines are numbered below 2 ^ 63 - 2: those that were emitted, and those that an end would emit.
+abbrev pub HasLineNumbers : Host → Type 0
+HasLineNumbers h = length (lines_ended h).lines + 2 < 2 ^ 63
 
 -- ---- the beginning
 

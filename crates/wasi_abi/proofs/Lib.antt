@@ -2,3 +2,4 @@ pub mod CallLemmas
 mod ConfigLemmas
 pub mod LayoutLemmas
 pub mod RightsLemmas
+pub mod ByteLemmas

@@ -1,8 +1,7 @@
 //! What a process asks of the outside, and what it is given.
 
 ghost use Rattle.std.specs.Prelude.{◌↔◌, IsTrue};
-ghost use Rattle.std.specs.List.{AllByRecursion};
-ghost use Rattle.wasi_abi.specs.rules.Answers.{Fits, IsNoNewline};
+ghost use Rattle.wasi_abi.specs.rules.Answers.{Fits, IsRequestText, AreSoManyBytes, IsTime};
 
 use wasm_syntax::Row;
 
@@ -36,19 +35,32 @@ pub fn fits(limit: usize, kind: Kind, answer: &Answer) -> bool
     ensures { IsTrue result ↔ Fits limit kind answer.now }
 {
     match (kind, answer) {
-        (Kind::Request, Answer::Request { text }) => {
-            text.len() <= limit && has_no_newline(text.as_slice())
-        }
+        (Kind::Request, Answer::Request { text }) => is_request(limit, text.as_slice()),
         (Kind::Request, Answer::End) => true,
-        (Kind::Realtime, Answer::Realtime { .. }) => true,
-        (Kind::Monotonic, Answer::Monotonic { .. }) => true,
-        (Kind::Random { length }, Answer::Random { bytes }) => bytes.len() == length as usize,
+        (Kind::Realtime, Answer::Realtime { nanoseconds }) => is_time(*nanoseconds),
+        (Kind::Monotonic, Answer::Monotonic { nanoseconds }) => is_time(*nanoseconds),
+        (Kind::Random { length }, Answer::Random { bytes }) => {
+            has_length(length as usize, bytes.as_slice())
+        }
         _ => false,
     }
 }
 
-fn has_no_newline(text: &[u8]) -> bool
-    ensures { IsTrue result ↔ AllByRecursion IsNoNewline text.now }
+fn is_request(limit: usize, text: &[u8]) -> bool
+    ensures { IsTrue result ↔ IsRequestText limit text.now }
 {
-    text.iter().all(|byte| *byte != b'\n')
+    text.len() <= limit && text.iter().all(|byte| *byte != b'\n')
+}
+
+/// Any value of 64 bits is one.
+fn is_time(_nanoseconds: u64) -> bool
+    ensures { IsTrue result ↔ IsTime _nanoseconds }
+{
+    true
+}
+
+fn has_length(length: usize, bytes: &[u8]) -> bool
+    ensures { IsTrue result ↔ AreSoManyBytes length bytes.now }
+{
+    bytes.len() == length
 }

@@ -5,6 +5,9 @@ use Rattle.std.specs.List.{AllByRecursion}
 use Rattle.wasi_abi.specs.declared.errno.Errno.TheVariants.{Inval}
 use Rattle.wasi_abi.specs.declared.answer.Answer.{Answer}
 use Rattle.wasi_abi.specs.declared.answer.Answer.TheVariants as answer
+use Rattle.wasi_abi.specs.declared.answer.Kind.{Kind}
+use Rattle.wasi_abi.specs.declared.answer.Kind.TheVariants as kind
+use Rattle.wasi_abi.specs.rules.Answers.{Fits}
 use Rattle.wasi_abi.specs.declared.call.Call.{Call}
 use Rattle.wasi_abi.specs.declared.call.Call.TheVariants as call
 use Rattle.wasi_abi.specs.rules.Numbers.{fd_datasync_right, fd_sync_right}
@@ -13,8 +16,9 @@ use Rattle.file_tree.specs.rules.Files.{Path, Content, Directory, File, FileNode
 use Rattle.wasi_calls_rules.specs.Hosts.{Host}
 use Rattle.wasi_calls_rules.specs.Checks.{Bytes, Refuses, Ends}
 use Rattle.wasi_calls_rules.specs.Rows.{row}
-use Rattle.wasi_calls_rules.specs.laws.Laws.{RowsKeepMemory, RowsKeepBytes, IsPathOfBytes, IsContentOfBytes, IsNodeOfBytes, IsOfBytes, IsAnswerOfBytes}
+use Rattle.wasi_calls_rules.specs.laws.Laws.{RowsKeepMemory, RowsKeepBytes, IsPathOfBytes, IsContentOfBytes, IsNodeOfBytes, IsOfBytes}
 use Rattle.wasi_calls_rules.proofs.Steps.{refused}
+use Rattle.wasi_calls_rules.proofs.Fitting.{tests_tell}
 use Rattle.wasi_calls_rules.proofs.Supplies.{PathHolds, ContentHolds, NodeHolds, Supplies, AnswerHolds}
 use Rattle.wasi_calls_rules.proofs.SmallRows.{Keeps, GivenHolds, texts_get_keeps, texts_sizes_get_keeps, clock_res_get_keeps, clock_time_get_keeps, fd_close_keeps, fd_syncs_keeps, fd_fdstat_get_keeps, fd_fdstat_set_flags_keeps, fd_filestat_get_keeps, fd_filestat_set_size_keeps, fd_prestat_get_keeps, fd_prestat_dir_name_keeps, fd_seek_keeps, fd_tell_keeps, sched_yield_keeps, random_get_keeps}
 use Rattle.wasi_calls_rules.proofs.MovingRows.{fd_read_keeps, fd_pread_keeps, fd_write_keeps, fd_pwrite_keeps}
@@ -94,7 +98,7 @@ any_host h = record {
 pub rows_keep_memory : RowsKeepMemory
 unfolding AnyNumber
 rows_keep_memory c arguments given m h done e =
-    ((row_keeps AnyNumber (λ _. tt) m (any_bytes m) h (any_host h) given (λ a _. any_answer a) c arguments).holds done e).size
+    ((row_keeps AnyNumber (λ _. tt) m (any_bytes m) h (any_host h) given (λ _ _ a _ _. any_answer a) c arguments).holds done e).size
 
 -- ---- bytes
 
@@ -116,11 +120,16 @@ nodes_of_bytes (n ∷ nodes) k = (record { path = path_of_bytes n.path k.0.path;
 host_of_bytes : (h : Host) → IsOfBytes h → Supplies IsByte h
 host_of_bytes h k = record { files = nodes_of_bytes h.files.nodes k.files; unread = k.unread; arguments = k.arguments; environment = k.environment }
 
-answer_of_bytes : (a : Answer) → IsAnswerOfBytes (Some a) → AnswerHolds IsByte a
-answer_of_bytes (answer.Request text) k = k
-answer_of_bytes (answer.Random bytes) k = k
-answer_of_bytes _ k = tt
+answer_of_bytes : (limit : ℕ) (k : Kind) (a : Answer) → Fits limit k a → AnswerHolds IsByte a
+answer_of_bytes limit kind.Request (answer.Request text) fits = fits.are_bytes
+answer_of_bytes limit (kind.Random n) (answer.Random bytes) fits = fits.are_bytes
+answer_of_bytes limit _ (answer.Realtime n) fits = tt
+answer_of_bytes limit _ (answer.Monotonic n) fits = tt
+answer_of_bytes limit _ answer.End fits = tt
+answer_of_bytes limit _ _ none = absurd none
 
 pub rows_keep_bytes : RowsKeepBytes
-rows_keep_bytes c arguments given m h done old k fine e =
-    ((row_keeps IsByte low_is_byte m old h (host_of_bytes h k) given (λ a is. answer_of_bytes a (rw is at fine)) c arguments).holds done e).bytes
+rows_keep_bytes c arguments given m h done old k e =
+    let fine : GivenHolds IsByte given =
+        (λ limit kind a is test. answer_of_bytes limit kind a ((tests_tell limit kind a).0 test)) in
+    ((row_keeps IsByte low_is_byte m old h (host_of_bytes h k) given fine c arguments).holds done e).bytes

@@ -45,7 +45,7 @@ module _ (Q : ℕ → Type 0) (low : (x : ℕ) → Q (x % 256)) (m : Bytes) (old
       either_way (n == 0) _ _ (done_with (GotHolds Q) (record { bytes = []; host = h }) tt)
       (either_way (has_bytes h.unread) _ _ (done_with (GotHolds Q) (bytes_taken n h.unread h) (all_take Q n h.unread s.unread))
       (either_way h.input_ended _ _ (done_with (GotHolds Q) (record { bytes = []; host = h }) tt)
-      (step (AnswerHolds Q) (answered_by h kind.Request given) _ (answered (AnswerHolds Q) h kind.Request given (λ a e _. fine a e))
+      (step (AnswerHolds Q) (answered_by h kind.Request given) _ (answered (AnswerHolds Q) h kind.Request given (λ a e fits. fine h.limit kind.Request a e fits))
       (λ a k. input_taken_holds n a k))))
 
   target_read_holds : (t : Target) (fd : ℕ) (d : Descriptor) (n : ℕ) (given : Option Answer) → GivenHolds Q given → HoldsAfter (GotHolds Q) (target_read t fd d n given h)

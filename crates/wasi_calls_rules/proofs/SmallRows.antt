@@ -3,17 +3,18 @@ use Rattle.std.proofs.Common.{◌≡◌, ℕ, ◌+◌, ◌*◌, ◌%◌, ◌≤�
 use Rattle.std.specs.Prelude.{Option, Some, true, nat_le, not, ◌==◌, max, pos, ◌+ℤ◌}
 use Rattle.std.specs.Int.{w64, cast_signed}
 use Rattle.std.specs.List.{AllByRecursion}
-use Rattle.std.proofs.lemmas.Bool.{eqb-true}
+use Rattle.std.proofs.lemmas.Bool.{eqb-true, and_parts}
 use Rattle.guest_memory.specs.rules.Bytes.{bytes_of, with_part}
 use Rattle.file_tree.specs.rules.Files.{slash}
 use Rattle.wasi_abi.specs.declared.errno.Errno.TheVariants.{Badf, Inval, Nametoolong, Notcapable}
+use Rattle.wasi_abi.specs.declared.answer.Kind.{Kind}
 use Rattle.wasi_abi.specs.declared.answer.Kind.TheVariants as kind
 use Rattle.wasi_abi.specs.declared.answer.Answer.{Answer}
 use Rattle.wasi_abi.specs.declared.answer.Answer.TheVariants as answer
 use Rattle.wasi_abi.specs.rules.Layouts.{fdstat_bytes, prestat_bytes}
 use Rattle.wasi_abi.specs.rules.Numbers.{fd_fdstat_set_flags_right, fd_filestat_get_right, fd_filestat_set_size_right, fd_seek_right, fd_tell_right}
 use Rattle.wasi_calls_rules.specs.Hosts.{Target, Stream, Node, Host}
-use Rattle.wasi_calls_rules.specs.Checks.{Bytes, Refuses, Done, Ruling, check_or, open_descriptor, a_file, with_right, node_named, does_fit, answered_by}
+use Rattle.wasi_calls_rules.specs.Checks.{Bytes, Refuses, Done, Ruling, check_or, open_descriptor, a_file, with_right, node_named, has_bytes_alone, does_fit, answered_by}
 use Rattle.wasi_calls_rules.specs.Small.{call_done, with_zeros, pointers_to, texts_get, texts_sizes_get, clock_res_get, time_put, clock_kind, clock_time_get, fd_close, fd_syncs, file_type_of, fd_fdstat_get, fd_fdstat_set_flags, filestat_bytes_of, fd_filestat_get, roomy, fd_filestat_set_size, fd_prestat_get, fd_prestat_dir_name, seek_base, file_offset, fd_seek, fd_tell, sched_yield, random_put, random_get}
 use Rattle.wasi_calls_rules.proofs.Steps.{HoldsAfter, refused, done_with, step, next, within, either_way, answered}
 use Rattle.wasi_calls_rules.proofs.Puts.{IsKept, put, put_number, zeros_hold, pointers_hold, length-pointers_to, length-fdstat}
@@ -23,8 +24,10 @@ use Rattle.wasi_calls_rules.proofs.Supplies.{AnswerHolds, fdstat_holds, prestat_
 abbrev pub Keeps : (ℕ → Type 0) → Bytes → Ruling → Type 0
 Keeps Q m r = HoldsAfter (λ (d : Done). IsKept Q m d.memory) r
 
+-- of the bytes of an answer, where the host takes it
 abbrev pub GivenHolds : (ℕ → Type 0) → Option Answer → Type 0
-GivenHolds Q given = (a : Answer) → given ≡ Some a → AnswerHolds Q a
+GivenHolds Q given =
+    (limit : ℕ) (k : Kind) (a : Answer) → given ≡ Some a → does_fit limit k a ≡ true → AnswerHolds Q a
 
 -- as many random bytes as were asked for
 abbrev RandomHolds : (ℕ → Type 0) → ℕ → Answer → Type 0
@@ -141,7 +144,9 @@ module _ (Q : ℕ → Type 0) (low : (x : ℕ) → Q (x % 256)) (m : Bytes) (old
   random_put_keeps _ buf len room k = refused _ (Refuses Inval)
 
   random_given : (len limit : ℕ) (a : Answer) → AnswerHolds Q a → does_fit limit (kind.Random len) a ≡ true → RandomHolds Q len a
-  random_given len limit (answer.Random bytes) k e = (eqb-true (length bytes) len e, k)
+  random_given len limit (answer.Random bytes) k e =
+      let both = and_parts (length bytes == len) (has_bytes_alone bytes) e in
+      (eqb-true (length bytes) len both.0, k)
   random_given len limit _ k e = tt
 
   pub random_get_keeps : (buf len : ℕ) (given : Option Answer) → GivenHolds Q given → Keeps Q m (random_get buf len given m h)
@@ -149,5 +154,5 @@ module _ (Q : ℕ → Type 0) (low : (x : ℕ) → Q (x % 256)) (m : Bytes) (old
       next (check_or (nat_le len h.limit) Inval) _ (λ _. within m buf len _ (λ room.
       either_way (len == 0) _ _ (unchanged h)
       (step (RandomHolds Q len) (answered_by h (kind.Random len) given) _
-      (answered (RandomHolds Q len) h (kind.Random len) given (λ a e fits. random_given len h.limit a (fine a e) fits))
+      (answered (RandomHolds Q len) h (kind.Random len) given (λ a e fits. random_given len h.limit a (fine h.limit (kind.Random len) a e fits) fits))
       (λ a k. random_put_keeps a buf len room k))))

@@ -1,6 +1,6 @@
 -- The checks that all calls share, in their order: the descriptor, its kind, rights, numbers and flags, guest ranges, the
 -- form of paths, and the rest (this project's profile). A call ends at the first that fails, and changes nothing then.
-use Rattle.std.specs.Prelude.{ℕ, zero, suc, ◌+◌, ◌*◌, ◌==◌, not, ◌&&◌, ◌||◌, nat_le, min, Bool, true, false, if◌then◌else◌, List, [], ◌∷◌, ◌++◌, length, take, drop, sum_by, slice_get, Option, Some, None, Result, Ok, Err}
+use Rattle.std.specs.Prelude.{ℕ, zero, suc, ◌+◌, ◌*◌, ◌==◌, not, ◌&&◌, ◌||◌, nat_le, nat_lt, ◌^◌, min, Bool, true, false, if◌then◌else◌, List, [], ◌∷◌, ◌++◌, length, take, drop, sum_by, slice_get, Option, Some, None, Result, Ok, Err}
 use Rattle.std.specs.List.{list_all}
 use Rattle.wasi_abi.specs.declared.errno.Errno.{Errno}
 use Rattle.wasi_abi.specs.declared.errno.Errno.TheVariants.{Badf, Fault, Inval, Isdir, Notdir, Notcapable, Spipe}
@@ -149,12 +149,22 @@ asked k (Some a) = Ok a
 abbrev pub has_no_newline : Bytes → Bool
 has_no_newline text = list_all (λ b. not (b == newline)) text
 
+-- each is below 256
+abbrev pub has_bytes_alone : Bytes → Bool
+has_bytes_alone bytes = list_all (λ b. nat_lt b 256) bytes
+
+abbrev pub has_64_bits : ℕ → Bool
+has_64_bits n = nat_lt n (2 ^ 64)
+
+-- what `Fits` says, as a test
 abbrev pub does_fit : ℕ → Kind → Answer → Bool
-does_fit limit kind.Request (answer.Request text) = nat_le (length text) limit && has_no_newline text
+does_fit limit kind.Request (answer.Request text) =
+    nat_le (length text) limit && (has_bytes_alone text && has_no_newline text)
 does_fit limit kind.Request answer.End = true
-does_fit limit kind.Realtime (answer.Realtime n) = true
-does_fit limit kind.Monotonic (answer.Monotonic n) = true
-does_fit limit (kind.Random n) (answer.Random bytes) = length bytes == n
+does_fit limit kind.Realtime (answer.Realtime n) = has_64_bits n
+does_fit limit kind.Monotonic (answer.Monotonic n) = has_64_bits n
+does_fit limit (kind.Random n) (answer.Random bytes) =
+    (length bytes == n) && has_bytes_alone bytes
 does_fit limit _ _ = false
 
 -- an answer that doesn't fit is as none

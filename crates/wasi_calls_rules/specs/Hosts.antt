@@ -1,9 +1,9 @@
 -- The host's side of a process (this project's own): files, descriptors, streams, and what it was configured with.
-use Rattle.std.specs.Prelude.{◌≡◌, ℕ, ◌<◌, ◌≤◌, ◌^◌, Bool, true, false, List, [], ◌∷◌, length, replicate, Option, Some, None, IfSome, slice_get}
+use Rattle.std.specs.Prelude.{◌≡◌, ℕ, ◌<◌, ◌≤◌, ◌^◌, ◌==◌, if◌then◌else◌, Bool, true, false, List, [], ◌∷◌, length, replicate, Option, Some, None, IfSome, slice_get}
 use Rattle.std.specs.List.{AllByRecursion}
 use Rattle.wasi_abi.specs.rules.Numbers.{are_within, input_rights, output_rights, directory_rights, all_rights}
-use Rattle.wasi_abi.specs.rules.Answers.{IsNoNewline}
-use Rattle.file_tree.specs.rules.Files.{Files, FileNode, IsFiles, node_of, fresh}
+use Rattle.wasi_abi.specs.rules.Answers.{IsNoNewline, AreBytes, IsTime}
+use Rattle.file_tree.specs.rules.Files.{Files, FileNode, IsFiles, node_of, used, fresh}
 use Rattle.wasi_calls_rules.specs.declared.limits.TheConstants.{DESCRIPTORS, LINE_BYTES}
 
 -- what a descriptor names: a stream by its number, or a node
@@ -87,17 +87,22 @@ pub record IsDescriptor (fs : Files) (d : Descriptor) : Type 0 where
   pub base : are_within d.base all_rights ≡ true
   pub inheriting : are_within d.inheriting all_rights ≡ true
 
--- a stream stands at its own number, with its rights
-abbrev pub IsOwnStream : List (Option Descriptor) → ℕ → ℕ → Type 0
-IsOwnStream ds n rights = (d : Descriptor) → slice_get ds n ≡ Some (Some d) → (d.target ≡ Stream n) × (d.base ≡ rights) × (d.inheriting ≡ 0)
+-- stream 0 is read, and 1 and 2 are written
+abbrev pub stream_rights : ℕ → ℕ
+stream_rights s = if s == 0 then input_rights else output_rights
 
-abbrev pub IsNoStream : Target → Type 0
-IsNoStream (Stream s) = ⊥
-IsNoStream (Node k) = Unit {0}
+-- one of the three streams stands at its own number, with its rights, and hands none on
+pub record IsStreamAt (n s : ℕ) (d : Descriptor) : Type 0 where
+  pub number : n ≡ s
+  pub few : s ≤ 2
+  pub base : d.base ≡ stream_rights s
+  pub inheriting : d.inheriting ≡ 0
 
 -- an unfinished line is short, and has no newline
-abbrev pub IsUnfinished : List ℕ → Type 0
-IsUnfinished text = (length text ≤ LINE_BYTES) × AllByRecursion IsNoNewline text
+pub record IsUnfinished (text : List ℕ) : Type 0 where
+  pub short : length text ≤ LINE_BYTES
+  pub are_bytes : AreBytes text
+  pub no_newline : AllByRecursion IsNoNewline text
 
 -- a node without a path
 abbrev pub IsRemoved : Files → ℕ → Type 0
@@ -105,14 +110,16 @@ IsRemoved fs k = (n : FileNode) × (node_of fs k ≡ Some n) × (n.path ≡ None
 
 pub record IsHost (h : Host) : Type 0 where
   pub files : IsFiles h.files
+  -- all files are within their room
+  pub within : used h.files ≤ h.room
   pub places : length h.descriptors ≡ DESCRIPTORS
   pub descriptors : AllByRecursion (λ (o : Option Descriptor). IfSome o (IsDescriptor h.files)) h.descriptors
-  pub input : IsOwnStream h.descriptors 0 input_rights
-  pub output : IsOwnStream h.descriptors 1 output_rights
-  pub errors : IsOwnStream h.descriptors 2 output_rights
-  -- from 3 on no descriptor names a stream, and 3 names the root
-  pub others : (n : ℕ) (d : Descriptor) → 3 ≤ n → slice_get h.descriptors n ≡ Some (Some d) → IsNoStream d.target
+  -- a descriptor that names a stream is that stream's, and 3 names the root
+  pub streams : (n s : ℕ) (d : Descriptor) → slice_get h.descriptors n ≡ Some (Some d)
+      → d.target ≡ Stream s → IsStreamAt n s d
   pub root : (d : Descriptor) × (slice_get h.descriptors 3 ≡ Some (Some d)) × (d.target ≡ Node 1)
+  pub unread : AreBytes h.unread
+  pub last_monotonic : IsTime h.last_monotonic
   pub first : IsUnfinished h.first
   pub second : IsUnfinished h.second
   -- a removed node is one that a descriptor names

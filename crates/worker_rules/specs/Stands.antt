@@ -2,7 +2,8 @@
 use Rattle.std.specs.Prelude.{◌≡◌, ℕ, ◌+◌, ◌<◌, ◌≤◌, List, [], ◌∷◌, ◌++◌, length, map, Option, Some}
 use Rattle.wasm_syntax.specs.declared.module.Module.{Module}
 use Rattle.wasm_syntax.specs.rules.Modules.{IsModule}
-use Rattle.wasm_syntax_rules.specs.Typing.{Context}
+use Rattle.wasm_syntax.specs.declared.types.FunctionType.{FunctionType}
+use Rattle.wasm_syntax_rules.specs.Validity.{AreFunctionTypes, module_context}
 use Rattle.wasi_abi.specs.declared.answer.Answer.{Answer}
 use Rattle.wasi_abi.specs.rules.Configs.{Settings}
 use Rattle.wasi_calls_rules.specs.declared.limits.TheConstants.{TEXT_BYTES}
@@ -42,9 +43,11 @@ pub record StandsFor (disk : Image) (m : Module) (config : Settings) (kept : Lis
   pub steps : ℕ
   pub process : ProcessState
   pub reached : Reaches m config front steps process
-  pub context : Context
+  pub functions : List FunctionType
+  pub function_types : AreFunctionTypes m functions
   pub table : List (Option ℕ)
-  pub shown : SavedShowsProcess context reached.guest.program table saved process
+  pub shown : SavedShowsProcess (module_context m functions) reached.guest.program table saved
+      process
   pub records : List Record
   pub scanned : scan (geometry_of config (length wasm)) TEXT_BYTES disk generation ≡ records
   pub rest : kept ≡ front ++ map given_in records

@@ -10,12 +10,6 @@ use Rattle.disk_layout.specs.rules.Places.{short_text_bytes}
 use Rattle.disk_layout.specs.rules.Spelled.{HasShortLength, TextFirst, NoTextFirst, TextsFirst, NoTextsFirst}
 use Rattle.disk_layout.proofs.StampLemmas.{all_take as bytes_front}
 
--- ---- bytes of a slice
-
-pub all_bytes : (bytes : List ℕ) → ((k : ℕ) → get_or bytes k 0 < 256) → AllByRecursion IsByte bytes
-all_bytes [] each = tt
-all_bytes (b ∷ bytes) each = (each 0, all_bytes bytes (λ k. each (suc k)))
-
 -- ---- numbers
 
 -- a number that stands at the front, and what stands behind it

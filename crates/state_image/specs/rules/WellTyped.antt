@@ -1,10 +1,12 @@
 -- When a process as its image has it is well typed: the images of these are the ones that are accepted (this project's own).
 use Rattle.std.specs.Prelude.{◌≡◌, ◌≢◌, ℕ, ◌+◌, ◌<◌, ◌≤◌, ◌^◌, List, [], ◌∷◌, length, Option, Some, None}
-use Rattle.wasm_syntax_rules.specs.Typing.{Context}
-use Rattle.wasm_syntax_rules.specs.Configuration.{Program}
-use Rattle.wasi_calls_rules.specs.Hosts.{IsHost}
+use Rattle.wasm_syntax.specs.declared.types.FunctionType.{FunctionType}
+use Rattle.wasm_syntax.specs.declared.module.Module.{Module}
+use Rattle.wasm_syntax_rules.specs.Validity.{AreFunctionTypes, module_context}
+use Rattle.wasi_abi.specs.rules.Configs.{Settings}
+use Rattle.wasi_calls_rules.specs.Hosts.{Host, IsHost}
 use Rattle.wasi_calls_rules.specs.declared.limits.TheConstants.{TEXT_BYTES}
-use Rattle.process_rules.specs.Processes.{Ending, ProcessState}
+use Rattle.process_rules.specs.Processes.{Ending, ProcessState, Guest, host_of, IsStart, HasLineNumbers}
 use Rattle.machine_slots.specs.rules.Places.{ShownFrame}
 use Rattle.state_image.specs.rules.Image.{Saved, SavedShowsProcess}
 
@@ -30,14 +32,31 @@ abbrev pub IsAlive : Option Ending → Saved → Type 0
 IsAlive None s = s.machine.frames ≢ []
 IsAlive (Some why) s = (s.machine.frames ≡ []) × (s.machine.later ≡ []) × (s.first ≡ []) × (s.second ≡ [])
 
-pub record IsWellTyped (c : Context) (program : Program) (table : List (Option ℕ)) (beginning : EntryPoints) (s : Saved) : Type 0 where
+-- what no call changes is as the configuration has it
+pub record IsConfigured (config : Settings) (h : Host) : Type 0 where
+  pub room : h.room ≡ (host_of config).room
+  pub limit : h.limit ≡ (host_of config).limit
+  pub arguments : h.arguments ≡ config.arguments
+  pub environment : h.environment ≡ config.environment
+
+-- It shows a process that this module could come to under this configuration, as far as types and
+-- limits tell.
+pub record IsWellTyped (m : Module) (config : Settings) (s : Saved) : Type 0 where
+  pub guest : Guest
+  pub start : ProcessState
+  pub begins : IsStart m config guest start
+  pub functions : List FunctionType
+  pub function_types : AreFunctionTypes m functions
   pub process : ProcessState
-  pub shown : SavedShowsProcess c program table s process
+  pub shown : SavedShowsProcess (module_context m functions) guest.program
+      begins.begins.store.table s process
   pub host : IsHost process.host
-  pub outermost : IsOutermost beginning s.machine.later s.machine.frames
+  pub configured : IsConfigured config process.host
+  pub outermost : IsOutermost (record { start = m.start; entry = begins.entry })
+      s.machine.later s.machine.frames
   pub alive : IsAlive s.ended s
   pub steps : s.steps < 2 ^ 63
-  pub lines : s.lines < 2 ^ 63
+  pub lines : HasLineNumbers process.host
   pub answers : s.answers ≤ s.steps
   pub requests : s.requests ≤ s.answers
   -- a request's text and its newline

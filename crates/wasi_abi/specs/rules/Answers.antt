@@ -1,6 +1,7 @@
 -- Answers from outside, and when one fits what is asked for (this project's own).
-use Rattle.std.specs.Prelude.{◌≡◌, ◌≢◌, ℕ, ◌≤◌, length}
+use Rattle.std.specs.Prelude.{◌≡◌, ◌≢◌, ℕ, ◌<◌, ◌≤◌, ◌^◌, List, length}
 use Rattle.std.specs.List.{AllByRecursion}
+use Rattle.guest_memory.specs.rules.Bytes.{IsByte}
 use Rattle.wasi_abi.specs.declared.answer.Kind.{Kind}
 use Rattle.wasi_abi.specs.declared.answer.Kind.TheVariants as kind
 use Rattle.wasi_abi.specs.declared.answer.Answer.{Answer}
@@ -12,12 +13,30 @@ newline = 10
 abbrev pub IsNoNewline : ℕ → Type 0
 IsNoNewline b = b ≢ newline
 
--- A request is answered by a text of at most so many bytes, without a newline, or by the end of input; a clock by its
--- value; a wish for random bytes by as many.
+abbrev pub AreBytes : List ℕ → Type 0
+AreBytes bytes = AllByRecursion IsByte bytes
+
+-- the text of a request: at most so many bytes, none of them a newline
+pub record IsRequestText (limit : ℕ) (text : List ℕ) : Type 0 where
+  pub short : length text ≤ limit
+  pub are_bytes : AreBytes text
+  pub no_newline : AllByRecursion IsNoNewline text
+
+-- nanoseconds have 64 bits
+abbrev pub IsTime : ℕ → Type 0
+IsTime n = n < 2 ^ 64
+
+-- so many bytes
+pub record AreSoManyBytes (n : ℕ) (bytes : List ℕ) : Type 0 where
+  pub count : length bytes ≡ n
+  pub are_bytes : AreBytes bytes
+
+-- A request is answered by a text or by the end of input, a clock by its value, a wish for random
+-- bytes by as many.
 abbrev pub Fits : ℕ → Kind → Answer → Type 0
-Fits limit kind.Request (answer.Request text) = (length text ≤ limit) × AllByRecursion IsNoNewline text
+Fits limit kind.Request (answer.Request text) = IsRequestText limit text
 Fits limit kind.Request answer.End = Unit {0}
-Fits limit kind.Realtime (answer.Realtime n) = Unit {0}
-Fits limit kind.Monotonic (answer.Monotonic n) = Unit {0}
-Fits limit (kind.Random n) (answer.Random bytes) = length bytes ≡ n
+Fits limit kind.Realtime (answer.Realtime n) = IsTime n
+Fits limit kind.Monotonic (answer.Monotonic n) = IsTime n
+Fits limit (kind.Random n) (answer.Random bytes) = AreSoManyBytes n bytes
 Fits limit _ _ = ⊥

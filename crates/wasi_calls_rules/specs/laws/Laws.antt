@@ -3,10 +3,8 @@ use Rattle.std.specs.Prelude.{◌≡◌, ◌↔◌, ℕ, List, ◌++◌, length,
 use Rattle.std.specs.List.{AllByRecursion}
 use Rattle.wasi_abi.specs.declared.answer.Kind.{Kind}
 use Rattle.wasi_abi.specs.declared.answer.Answer.{Answer}
-use Rattle.wasi_abi.specs.declared.answer.Answer.TheVariants as answer
 use Rattle.wasi_abi.specs.declared.call.Call.{Call}
-use Rattle.wasi_abi.specs.rules.Answers.{Fits}
-use Rattle.guest_memory.specs.rules.Bytes.{IsByte}
+use Rattle.wasi_abi.specs.rules.Answers.{Fits, AreBytes}
 use Rattle.file_tree.specs.rules.Files.{Path, Content, Directory, File, FileNode}
 use Rattle.wasi_calls_rules.specs.Hosts.{Line, Host}
 use Rattle.wasi_calls_rules.specs.Checks.{Bytes, Done, does_fit}
@@ -29,9 +27,6 @@ RowsEmit = (c : Call) (arguments : List ℕ) (given : Option Answer) (m : Bytes)
 
 -- ---- bytes
 
-abbrev pub AreBytes : List ℕ → Type 0
-AreBytes bytes = AllByRecursion IsByte bytes
-
 -- the names of a path, where there is one
 abbrev pub IsPathOfBytes : Option Path → Type 0
 IsPathOfBytes None = Unit {0}
@@ -52,15 +47,11 @@ pub record IsOfBytes (h : Host) : Type 0 where
   pub arguments : AllByRecursion AreBytes h.arguments
   pub environment : AllByRecursion AreBytes h.environment
 
-abbrev pub IsAnswerOfBytes : Option Answer → Type 0
-IsAnswerOfBytes (Some (answer.Request text)) = AreBytes text
-IsAnswerOfBytes (Some (answer.Random bytes)) = AreBytes bytes
-IsAnswerOfBytes _ = Unit {0}
-
--- where memory, the host and the answer hold bytes, memory holds bytes after a call that is done
+-- where memory and the host hold bytes, memory holds bytes after a call that is done
 abbrev pub RowsKeepBytes : Type 0
-RowsKeepBytes = (c : Call) (arguments : List ℕ) (given : Option Answer) (m : Bytes) (h : Host) (done : Done)
-    → AreBytes m → IsOfBytes h → IsAnswerOfBytes given → row c arguments given m h ≡ Ok done → AreBytes done.memory
+RowsKeepBytes = (c : Call) (arguments : List ℕ) (given : Option Answer) (m : Bytes) (h : Host)
+    (done : Done) → AreBytes m → IsOfBytes h → row c arguments given m h ≡ Ok done
+    → AreBytes done.memory
 
 -- ---- answers
 

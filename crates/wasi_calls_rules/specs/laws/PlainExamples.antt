@@ -95,6 +95,16 @@ pub record ClockExamples : Type 0 where
       (old_bytes 8) bare_host ≡ call_done (small_u64 50) seen_fifty
   pub other_clock : answered_call (answer.Monotonic 40) call.ClockTimeGet (0 ∷ 7 ∷ 0 ∷ [])
       (old_bytes 8) bare_host ≡ Err (Asks kind.Realtime)
+  -- the last number of 64 bits, and the first that is none
+  pub latest : answered_call (answer.Realtime (2 ^ 64 - 1)) call.ClockTimeGet (0 ∷ 7 ∷ 0 ∷ [])
+      (old_bytes 8) bare_host ≡ call_done (old_bytes 8) bare_host
+  pub too_late : answered_call (answer.Realtime (2 ^ 64)) call.ClockTimeGet (0 ∷ 7 ∷ 0 ∷ [])
+      (old_bytes 8) bare_host ≡ Err (Asks kind.Realtime)
+  pub latest_seen : answered_call (answer.Monotonic (2 ^ 64 - 1)) call.ClockTimeGet
+      (1 ∷ 7 ∷ 0 ∷ []) (old_bytes 8) bare_host
+      ≡ call_done (old_bytes 8) (record bare_host { last_monotonic = 2 ^ 64 - 1 })
+  pub too_late_seen : answered_call (answer.Monotonic (2 ^ 64)) call.ClockTimeGet
+      (1 ∷ 7 ∷ 0 ∷ []) (old_bytes 8) bare_host ≡ Err (Asks kind.Monotonic)
 
 -- ---- random bytes
 
@@ -114,6 +124,8 @@ pub record RandomExamples : Type 0 where
   pub too_short : answered_call (answer.Random (1 ∷ 2 ∷ [])) call.RandomGet (4 ∷ 3 ∷ [])
       (old_bytes 8) bare_host ≡ Err (Asks (kind.Random 3))
   pub too_long : answered_call (answer.Random (1 ∷ 2 ∷ 3 ∷ 4 ∷ [])) call.RandomGet (4 ∷ 3 ∷ [])
+      (old_bytes 8) bare_host ≡ Err (Asks (kind.Random 3))
+  pub no_byte : answered_call (answer.Random (1 ∷ 256 ∷ 3 ∷ [])) call.RandomGet (4 ∷ 3 ∷ [])
       (old_bytes 8) bare_host ≡ Err (Asks (kind.Random 3))
 
 -- ---- the process

@@ -76,6 +76,8 @@ pub record InputExamples : Type 0 where
       (record bare_host { limit = 4 }) ≡ Err (Asks kind.Request)
   pub two_lines : reads_request (97 ∷ 10 ∷ []) (one_buffer (old_bytes 4) (old_bytes 8)) bare_host
       ≡ Err (Asks kind.Request)
+  pub no_byte : reads_request (97 ∷ 256 ∷ []) (one_buffer (old_bytes 4) (old_bytes 8)) bare_host
+      ≡ Err (Asks kind.Request)
   pub no_request : answered_call (answer.Realtime 5) call.FdRead (0 ∷ 0 ∷ 1 ∷ 8 ∷ [])
       (one_buffer (old_bytes 4) (old_bytes 8)) bare_host ≡ Err (Asks kind.Request)
 

@@ -1,7 +1,7 @@
 use Rattle.std.proofs.Common.{◌≡◌, sym, ◌∙◌, subst, refl, arith}
 use Rattle.wasi_abi.specs.rules.Configs.{Settings, AreSettingsWithinLimits}
 use Rattle.wasi_abi.specs.rules.Layouts.{u32_at}
-use Rattle.disk_layout.proofs.ReadingLemmas.SpellingLemmas.{all_bytes}
+use Rattle.wasi_abi.proofs.ByteLemmas.{all_bytes}
 use Rattle.disk_layout.proofs.ReadingLemmas.ConfigLemmas.{HasTexts, same_settings, no_environment, not_at_the_end, out_of_limits, within_limits}
 use Rattle.disk_layout.proofs.reading.configuration.config_from.Goals as goal
 

@@ -1,6 +1,7 @@
 use Rattle.std.proofs.Common.{◌≡◌, ◌+◌, ◌<◌, ◌^◌, arith}
 use Rattle.wasi_abi.specs.rules.Layouts.{u16_at}
-use Rattle.disk_layout.proofs.ReadingLemmas.SpellingLemmas.{all_bytes, text_lent}
+use Rattle.wasi_abi.proofs.ByteLemmas.{all_bytes}
+use Rattle.disk_layout.proofs.ReadingLemmas.SpellingLemmas.{text_lent}
 use Rattle.disk_layout.proofs.reading.texts.text_from.Goals as goal
 
 pub returns : goal.returns

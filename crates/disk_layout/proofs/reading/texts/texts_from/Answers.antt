@@ -1,6 +1,7 @@
 use Rattle.std.proofs.Common.{◌≡◌, ℕ, List, [], ◌∷◌, ◌++◌, sym, ap, ◌∙◌, subst, arith}
+use Rattle.wasi_abi.proofs.ByteLemmas.{all_bytes}
 use Rattle.disk_layout.specs.rules.Spelled.{TextFirst, TextsFirst}
-use Rattle.disk_layout.proofs.ReadingLemmas.SpellingLemmas.{all_bytes, none_read, one_more_read, nothing_to_read, all_read}
+use Rattle.disk_layout.proofs.ReadingLemmas.SpellingLemmas.{none_read, one_more_read, nothing_to_read, all_read}
 use Rattle.disk_layout.proofs.reading.texts.texts_from.Goals as goal
 
 pub loop-init : goal.loop-init

@@ -1,6 +1,8 @@
-use Rattle.std.proofs.Common.{◌≡◌}
+use Rattle.std.proofs.Common.{◌≡◌, arith}
+use Rattle.wasi_abi.specs.rules.Answers.{AreBytes}
 use Rattle.wasi_calls.specs.rules.Outputs.{output_written}
 use Rattle.wasi_calls.specs.rules.Held.{held_host_of}
+use Rattle.wasi_abi.proofs.ByteLemmas.{all_bytes}
 use Rattle.wasi_calls.proofs.Hosts.{with_lines, written_short}
 use Rattle.wasi_calls.proofs.host.Host.write.Goals as goal
 
@@ -9,5 +11,7 @@ invariant_of-self-2 c =
     let s = c.self.inside in
     let old = (held_host_of s.config s.limit s.files s.descriptors.items s.unread.items s.input_ended s.last_monotonic s.streams).host in
     let is : c.write.new.self ≡ output_written c.args.stream c.args.bytes.now s.streams = c.in_ok-write.ensures.written in
-    let short = written_short c.args.stream c.args.bytes.now s.streams c.self.invariant.first c.self.invariant.second in
+    let low : AreBytes c.args.bytes.now =
+        all_bytes c.args.bytes.now (λ k. omega (arith, c.type_inv.bytes k)) in
+    let short = written_short c.args.stream c.args.bytes.now s.streams low c.self.invariant.first c.self.invariant.second in
     with_lines old c.write.new.self.first c.write.new.self.second c.write.new.self.waiting c.self.invariant (rw is short.0) (rw is short.1)
