@@ -1,15 +1,14 @@
 -- Bytes of a stream, cut one after another: what goes on, what stands in front, and what stays true of the unfinished line.
-use Rattle.std.proofs.Common.{◌≡◌, ◌≢◌, inl, inr, ℕ, suc, ◌+◌, ◌<◌, List, [], ◌∷◌, ◌++◌, length, drop, get_or, refl, sym, ap, ◌∙◌, arith, append_assoc, drop-cons, add-one, length-append}
+use Rattle.std.proofs.Common.{◌≡◌, ℕ, suc, ◌+◌, ◌<◌, List, [], ◌∷◌, ◌++◌, length, drop, get_or, refl, sym, ap, ◌∙◌, arith, append_assoc, drop-cons, add-one, length-append}
 use Rattle.std.specs.Prelude.{Bool, true, false, if◌then◌else◌, ◌==◌, nat_lt}
 use Rattle.std.specs.List.{AllByRecursion}
 use Rattle.std.proofs.lemmas.Bool.{ltb-true, eqb-false}
-use Rattle.std.proofs.lemmas.Bool.Decides.{eqb_tells}
 use Rattle.std.proofs.lemmas.List.{append-nil}
 use Rattle.guest_memory.specs.rules.Bytes.{IsByte}
 use Rattle.wasi_abi.specs.rules.Answers.{newline, IsNoNewline, AreBytes}
 use Rattle.wasi_calls_rules.specs.Hosts.{Line, IsUnfinished}
 use Rattle.wasi_calls_rules.specs.Lines.{Cut, cut_byte, cut_all}
-use Rattle.wasi_calls.specs.rules.Outputs.{Output, output_written, count_ended}
+use Rattle.wasi_calls.specs.rules.Outputs.{count_ended}
 use Rattle.wasi_calls_rules.specs.declared.limits.TheConstants.{LINE_BYTES}
 
 -- ---- one more byte of a list
@@ -27,7 +26,7 @@ abbrev pub behind_cut : List Line → Cut → Cut
 behind_cut before c = record { lines = before ++ c.lines; unfinished = c.unfinished }
 
 -- a byte that ends the line, or begins the next one
-abbrev put_by : ℕ → Cut → ℕ → Bool → Bool → Cut
+abbrev pub put_by : ℕ → Cut → ℕ → Bool → Bool → Cut
 put_by stream c b is_end is_short =
     if is_end then record { lines = c.lines ++ record { stream = stream; text = c.unfinished } ∷ []; unfinished = [] }
     else if is_short then record { lines = c.lines; unfinished = c.unfinished ++ b ∷ [] }
@@ -112,31 +111,3 @@ cut_onto stream c (b ∷ bytes) none =
     let next : Cut = record { lines = c.lines; unfinished = c.unfinished ++ b ∷ [] } in
     let is : cut_all stream (cut_byte stream c b) bytes ≡ cut_all stream next bytes = ap (λ (d : Cut). cut_all stream d bytes) onto.0 in
     is ∙ cut_onto stream next bytes onto.1 ∙ ap (λ (xs : List ℕ). record { lines = c.lines; unfinished = xs }) (append_assoc c.unfinished (b ∷ []) bytes)
-
-abbrev pub output_of : List ℕ → List ℕ → List Line → ℕ → Output
-output_of first second waiting released = record { first = first; second = second; waiting = waiting; released = released }
-
--- ---- how many lines there are
-
-put_counted : (stream : ℕ) (c : Cut) (b : ℕ) (bytes : List ℕ) (p q : Bool)
-    → length (put_by stream c b p q).lines + count_ended (length (put_by stream c b p q).unfinished) bytes
-    ≡ length c.lines + (if p then count_ended 0 bytes + 1 else if q then count_ended (length c.unfinished + 1) bytes else count_ended 1 bytes + 1)
-put_counted stream c b bytes true q = omega (arith, length-append c.lines (record { stream = stream; text = c.unfinished } ∷ []))
-put_counted stream c b bytes false true =
-    let longer : length (c.unfinished ++ b ∷ []) ≡ length c.unfinished + 1 = length-append c.unfinished (b ∷ []) in
-    ap (λ (n : ℕ). length c.lines + count_ended n bytes) longer
-put_counted stream c b bytes false false = omega (arith, length-append c.lines (record { stream = stream; text = c.unfinished } ∷ []))
-
-pub lines_counted : (stream : ℕ) (c : Cut) (bytes : List ℕ) → length (cut_all stream c bytes).lines ≡ length c.lines + count_ended (length c.unfinished) bytes
-lines_counted stream c [] = omega arith
-lines_counted stream c (b ∷ bytes) = lines_counted stream (cut_byte stream c b) bytes ∙ put_counted stream c b bytes (b == newline) (nat_lt (length c.unfinished) LINE_BYTES)
-
-module _ (s n : ℕ) (bytes : List ℕ) (o : Output) where
-  pub first_counted : s ≡ 1 → n ≡ count_ended (length o.first) bytes → length (output_written s bytes o).waiting ≡ length o.waiting + n
-  first_counted e is = rw (e, is) (lines_counted 1 (record { lines = o.waiting; unfinished = o.first }) bytes)
-
-  pub second_counted : s ≢ 1 → n ≡ count_ended (length o.second) bytes → length (output_written s bytes o).waiting ≡ length o.waiting + n
-  second_counted e is = elim (eqb_tells s 1) [
-    | inl h ↦ absurd (e h.1)
-    | inr h ↦ rw (h.0, is) (lines_counted 2 (record { lines = o.waiting; unfinished = o.second }) bytes)
-  ]

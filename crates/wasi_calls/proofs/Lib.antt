@@ -1,4 +1,5 @@
 pub mod Cuts
+pub mod Begun
 pub mod Gathers
 pub mod Hosts
 pub mod Descriptors

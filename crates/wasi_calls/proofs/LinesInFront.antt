@@ -12,7 +12,7 @@ use Rattle.wasi_calls_rules.specs.Checks.{Bytes, Halt, Ruling, ◌>>=◌, open_d
 use Rattle.wasi_calls_rules.specs.Lines.{cut_all, stream_written}
 use Rattle.wasi_calls_rules.specs.Small.{call_done, roomy}
 use Rattle.wasi_calls_rules.specs.Moving.{size_after, file_written, write_offset, offset_after, target_written, fd_write}
-use Rattle.wasi_calls_rules.specs.Rows.{Told, IsDone, IsAsk, IsExit, NoMemory, TellsRow}
+use Rattle.wasi_calls_rules.specs.Rows.{IsNoRefusal, Told, IsDone, IsAsk, IsExit, NoMemory, TellsRow}
 use Rattle.wasi_calls.specs.rules.Held.{HeldHost, ShowsHost, behind_lines, behind_lines_of_row}
 use Rattle.wasi_calls.specs.declared.stop.CallStop.{CallStop}
 use Rattle.wasi_calls.specs.declared.stop.CallStop.TheVariants as stop
@@ -74,6 +74,10 @@ module _ (before : List Line) where
 
 -- ---- what is told, of every host that is shown
 
+no_refusal_behind : (before : List Line) (r : Ruling) → IsNoRefusal r → IsNoRefusal (behind_lines_of_row before r)
+no_refusal_behind before (Ok done) none e is = absurd (cc)
+no_refusal_behind before (Err halt) none e is = none e is
+
 abbrev held_of_both : ℕ → Host → HeldHost
 held_of_both released h = record { released = released; host = h }
 
@@ -95,7 +99,11 @@ module _ (r : Host → Ruling) (behind : (before : List Line) (h : Host) → r (
   shown_of (IsDone (Some e)) k = (at ∙ ap (behind_lines_of_row s.before) k.0, k.1, same_held held.released old.released held.host old.host released k.2)
   shown_of (IsAsk kind) k = (at ∙ ap (behind_lines_of_row s.before) k.0, k.1, same_held held.released old.released held.host old.host released k.2)
   shown_of (IsExit code) k = (at ∙ ap (behind_lines_of_row s.before) k.0, k.1, same_held held.released old.released held.host old.host released k.2)
-  shown_of NoMemory k = (k.0, same_held held.released old.released held.host old.host released k.1)
+  shown_of NoMemory k = (
+    λ e refused. no_refusal_behind s.before (r old.host) k.0 e (sym at ∙ refused),
+    k.1,
+    same_held held.released old.released held.host old.host released k.2,
+  )
 
 -- what is told of a write
 pub written_told : (w : Result (Unit {0}) CallStop) (memory old_memory : LinearMemory) (held old : HeldHost) (r : Ruling)
@@ -105,4 +113,4 @@ written_told (Ok x) memory old_memory held old r done stopped same_memory same_h
 written_told (Err (stop.Refused e)) memory old_memory held old r done stopped same_memory same_host =
     (stopped, ap (λ (m : LinearMemory). m.bytes) same_memory, ap (λ (h : HeldHost). h.host) same_host)
 written_told (Err stop.Memory) memory old_memory held old r done stopped same_memory same_host =
-    (ap (λ (m : LinearMemory). m.bytes) same_memory, ap (λ (h : HeldHost). h.host) same_host)
+    (stopped, ap (λ (m : LinearMemory). m.bytes) same_memory, ap (λ (h : HeldHost). h.host) same_host)

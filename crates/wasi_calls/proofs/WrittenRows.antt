@@ -9,7 +9,7 @@ use Rattle.wasi_calls_rules.specs.Checks.{Bytes, Halt, Ruling, ◌>>=◌, open_d
 use Rattle.wasi_calls_rules.specs.Lines.{stream_written}
 use Rattle.wasi_calls_rules.specs.Small.{call_done}
 use Rattle.wasi_calls_rules.specs.Moving.{target_written, fd_write}
-use Rattle.wasi_calls.specs.Writes.{Wanted, bytes_moved, wanted}
+use Rattle.wasi_calls.specs.Writes.{Wanted, writable, bytes_moved, wanted}
 
 -- what the checks leave, the descriptor included
 record Left : Type 0 where
@@ -64,6 +64,10 @@ wanted_is fd iovs count ret m h =
     both_through (few_buffers count) _ put _ wanted_of (λ _.
     both_through (buffers m iovs count) _ put _ wanted_of (λ bs.
     through (in_memory m ret 4) _ _ wanted_of (λ _. refl))))))
+
+pub checks_pass : (fd iovs count ret s : ℕ) (m bytes : Bytes) (h : Host) (u : Unit {0}) → writable h fd ≡ Ok (Stream s)
+    → bytes_moved m iovs count ≡ Ok bytes → in_memory m ret 4 ≡ Ok u → wanted fd iovs count ret m h ≡ Ok (record { target = Stream s; bytes = bytes })
+checks_pass fd iovs count ret s m bytes h u may moved room = rw (may, moved, room) refl
 
 pub row_done : (fd iovs count ret s : ℕ) (m bytes : Bytes) (h : Host) → wanted fd iovs count ret m h ≡ Ok (record { target = Stream s; bytes = bytes })
     → fd_write fd iovs count ret m h ≡ call_done (with_part m ret (u32_bytes (length bytes))) (stream_written s bytes h)

@@ -1,7 +1,9 @@
--- How steps of the code keep to steps of a rule: what they give, or the refusal. Want of memory may come at any step that takes some.
+-- How steps of the code keep to steps of a rule: what they give, or the refusal. Want of memory
+-- comes where no refusal does.
 use Rattle.std.specs.Prelude.{◌≡◌, Result, Ok, Err}
 use Rattle.wasi_abi.specs.declared.errno.Errno.{Errno}
 use Rattle.wasi_calls_rules.specs.Checks.{Halt, Refuses}
+use Rattle.wasi_calls_rules.specs.Rows.{IsNoRefusal}
 use Rattle.wasi_calls.specs.declared.stop.CallStop.{CallStop}
 use Rattle.wasi_calls.specs.declared.stop.CallStop.TheVariants as stop
 
@@ -10,11 +12,7 @@ abbrev pub GivesValue : {X Y : Type 0} → (X → Y) → Result X Errno → Resu
 GivesValue view (Ok x) step = step ≡ Ok (view x)
 GivesValue view (Err e) step = step ≡ Err (Refuses e)
 
+-- why a step gives nothing
 abbrev pub StopsStep : {Y : Type 0} → CallStop → Result Y Halt → Type 0
 StopsStep (stop.Refused e) step = step ≡ Err (Refuses e)
-StopsStep stop.Memory step = Unit {0}
-
--- one that takes memory
-abbrev pub GivesWithMemory : {X Y : Type 0} → (X → Y) → Result X CallStop → Result Y Halt → Type 0
-GivesWithMemory view (Ok x) step = step ≡ Ok (view x)
-GivesWithMemory view (Err why) step = StopsStep why step
+StopsStep stop.Memory step = IsNoRefusal step

@@ -1,11 +1,12 @@
 //! A call of the guest.
 
-ghost use Rattle.std.specs.Prelude.{◌≡◌, ◌+◌, ◌≤◌, ◌∷◌, [], length, option_copied, IfOk, IfErr, Option, Ok, Err};
+ghost use Rattle.std.specs.Prelude.{◌≡◌, ◌+◌, ◌≤◌, ◌∷◌, [], length, option_copied, Option, Ok, Err};
 ghost use Rattle.wasm_syntax.specs.declared.types.ValueType.TheVariants.{I32};
 ghost use Rattle.wasi_abi.specs.declared.answer.Answer.{Answer};
 ghost use Rattle.wasi_abi.specs.rules.Calls.{parameters_of};
 ghost use Rattle.wasi_calls_rules.specs.Hosts.{Host as TheHost};
 ghost use Rattle.wasi_calls_rules.specs.Checks.{Done, Halt};
+ghost use Rattle.wasi_calls_rules.specs.Lines.{lines_ended};
 ghost use Rattle.wasi_calls_rules.specs.Rows.{row, TellsRow};
 ghost use Rattle.wasi_calls_rules.specs.declared.limits.TheConstants.{MOVED_BYTES};
 ghost use Rattle.wasi_calls.specs.rules.Held.{ShowsHost};
@@ -17,13 +18,13 @@ use crate::outcome::CallOutcome;
 use crate::stop::CallStop;
 use crate::write::{self, WriteArguments};
 use guest_memory::Memory;
-use std::alloc::{AllocError, Global};
+use std::alloc::Global;
 use wasi_abi::{Answer, Call};
 
 /// Makes a call that is built, with its arguments in order and, where it asked for one, an answer
 /// from outside. What it tells is what the rules say; all but a call that is done leave memory and
-/// host as they were. It may say that there is no memory for it where an allocation was refused; a
-/// call that ends the process takes none.
+/// host as they were. It may say that there is no memory for it where an allocation was refused. A
+/// call that is refused, or ends the process, takes none.
 pub fn call(
     alloc: Global,
     host: &mut Host,
@@ -50,31 +51,21 @@ pub fn call(
     }
 }
 
-/// How many lines such a call would emit: none, if it is not done. It changes nothing, and fails for want of
-/// memory alone, which a call that ends the process takes none of.
-pub fn lines_emitted(
-    alloc: Global,
-    host: &Host,
-    memory: &Memory,
-    call: Call,
-    arguments: &[u64],
-) -> Result<usize, AllocError>
+/// How many lines such a call would add, an unfinished one counted as a line: none, if it is not
+/// done. It changes nothing, and takes no memory.
+pub fn lines_begun(host: &Host, memory: &Memory, call: Call, arguments: &[u64]) -> usize
     requires built { IsBuilt call }
     requires typed { AreArguments (parameters_of call) arguments.now }
-    ensures count { IfOk result (λ n. (given : Option Answer) (h : TheHost) (done : Done) → ShowsHost host.now h
-        → row call arguments.now given memory.now.bytes h ≡ Ok done → length done.host.lines ≡ length h.lines + n) }
-    ensures none { IfOk result (λ n. (given : Option Answer) (h : TheHost) (halt : Halt) → ShowsHost host.now h
-        → row call arguments.now given memory.now.bytes h ≡ Err halt → n ≡ 0) }
-    ensures few { IfOk result (λ n. n ≤ MOVED_BYTES) }
-    ensures wants { IfErr result (λ _. EndsNothing call arguments.now) }
+    ensures count { (given : Option Answer) (h : TheHost) (done : Done) → ShowsHost host.now h
+        → row call arguments.now given memory.now.bytes h ≡ Ok done
+        → length (lines_ended done.host).lines ≡ length (lines_ended h).lines + result }
+    ensures none { (given : Option Answer) (h : TheHost) (halt : Halt) → ShowsHost host.now h
+        → row call arguments.now given memory.now.bytes h ≡ Err halt → result ≡ 0 }
+    ensures few { result ≤ MOVED_BYTES }
 {
     match call {
-        Call::FdWrite => match write::check(alloc, host, memory, write_arguments(arguments)) {
-            Ok(wanted) => Ok(host.lines_of(wanted.stream, &wanted.bytes)),
-            Err(CallStop::Refused(_)) => Ok(0),
-            Err(CallStop::Memory) => Err(AllocError),
-        },
-        Call::ProcExit => Ok(0),
+        Call::FdWrite => write::lines_begun(host, memory, write_arguments(arguments)),
+        Call::ProcExit => 0,
         _ => unreachable!(),
     }
 }

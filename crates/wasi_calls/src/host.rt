@@ -6,7 +6,7 @@ ghost use Rattle.wasi_calls_rules.specs.Hosts.{Host as TheHost, IsThere, IsHost,
 ghost use Rattle.wasi_calls_rules.specs.Checks.{open_descriptor, is_stream, names_directory};
 ghost use Rattle.wasi_calls_rules.specs.Lines.{stream_written, rest_of, lines_ended};
 ghost use Rattle.wasi_calls.specs.Steps.{GivesValue};
-ghost use Rattle.wasi_calls.specs.Writes.{writable};
+ghost use Rattle.wasi_calls.specs.Writes.{writable, unfinished_of};
 
 use crate::descriptor::{Descriptor, Names};
 use crate::files::Files;
@@ -119,12 +119,20 @@ impl Host {
         Ok(())
     }
 
-    /// How many lines a write of these bytes would emit. It takes no memory.
-    pub(crate) fn lines_of(&self, stream: u8, bytes: &[u8]) -> usize
-        ensures value { length (stream_written stream bytes.now self.now.host).lines ≡ length self.now.host.lines + result }
-        ensures few { result ≤ length bytes.now }
+    /// The unfinished line of stream 1, or else of 2.
+    pub(crate) fn unfinished(&self, stream: u8) -> &[u8]
+        ensures { result.now ≡ unfinished_of stream self.now.host }
     {
-        self.streams.lines_of(stream, bytes)
+        self.streams.unfinished(stream)
+    }
+
+    /// How many lines are unfinished: an end would emit them.
+    pub fn unfinished_lines(&self) -> usize
+        ensures value { length (lines_ended self.now.host).lines
+            ≡ length self.now.host.lines + result }
+        ensures few { result ≤ 2 }
+    {
+        self.streams.unfinished_lines()
     }
 
     /// The lines that wait to be released, in the order in which they were emitted.

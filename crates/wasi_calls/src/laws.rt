@@ -1,8 +1,8 @@
 //! Laws of the calls that are built. The functions do nothing: what they ensure is the law.
 
-ghost use Rattle.wasi_calls.specs.laws.Laws.{CallsEmitFew};
+ghost use Rattle.wasi_calls.specs.laws.Laws.{CallsBeginFew};
 
-/// One call emits no more lines than it may move bytes.
-pub fn calls_emit_few_lines()
-    ensures { CallsEmitFew }
+/// One call adds no more lines than it may move bytes, unfinished ones counted.
+pub fn calls_begin_few_lines()
+    ensures { CallsBeginFew }
 {}

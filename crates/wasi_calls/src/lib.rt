@@ -9,13 +9,15 @@
 //!   (`large`).
 //! - `call` has no want of memory for a call that ends the process (`wants`). It asks for a built
 //!   call with arguments of its types (`built`, `typed`).
-//! - `lines_emitted`: how many lines such a call would emit if it is done (`count`), and else none
-//!   (`none`). They are at most `MOVED_BYTES` (`few`).
+//! - `call` has no want of memory for a call that is refused (`told`, `shown`).
+//! - `lines_begun`: how many lines such a call adds if it is done, unfinished ones counted
+//!   (`count`), and else none (`none`). They are at most `MOVED_BYTES` (`few`).
 //! - `Host::new` is the first host of the rules. `waiting_lines` and `released_count` are its
 //!   lines.
 //! - `Host::release` takes lines off, and `Host::end` emits what is not finished (`changed`). Both
 //!   go on showing the rules' host (`shown`).
-//! - `laws::calls_emit_few_lines`: a built call emits no more lines than it may move bytes.
+//! - `Host::unfinished_lines`: how many lines an end would emit beside those that wait.
+//! - `laws::calls_begin_few_lines`: a built call adds no more lines than it may move bytes.
 //!
 //! # Definitions to read
 //!
@@ -27,11 +29,12 @@
 //!
 //! Only this crate knows how descriptors, streams and unfinished lines are kept. Of the files it
 //! has the empty root alone. `process` uses it. It stands on `wasi_calls_rules`, `wasi_abi` and
-//! `guest_memory`, and on definitions of `file_tree`. `Host::new`, `call` and `lines_emitted` take
-//! memory; without it nothing changes. `release` and `end` take none.
+//! `guest_memory`, and on definitions of `file_tree`. `Host::new` and `call` alone take memory;
+//! without it nothing changes. A call takes some once all of its checks have passed.
 #![tactic(auto)]
 
 mod calls;
+mod count;
 mod cut;
 mod descriptor;
 mod files;
@@ -44,7 +47,7 @@ mod stop;
 mod streams;
 mod write;
 
-pub use calls::{call, lines_emitted};
+pub use calls::{call, lines_begun};
 pub use host::Host;
 pub use line::Line;
 pub use outcome::CallOutcome;

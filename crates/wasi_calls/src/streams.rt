@@ -1,6 +1,6 @@
 //! The output streams, and the lines that wait to be released.
 
-ghost use Rattle.std.specs.Prelude.{◌≡◌, ◌+◌, ◌<◌, ◌≤◌, ◌^◌, ◌++◌, length, drop, OnOk, OnErr, vec_len, vec_capacity};
+ghost use Rattle.std.specs.Prelude.{◌≡◌, ◌+◌, ◌<◌, ◌≤◌, ◌^◌, ◌++◌, ◌==◌, if◌then◌else◌, length, drop, OnOk, OnErr, vec_len, vec_capacity};
 ghost use Rattle.wasi_calls_rules.specs.Lines.{cut_all, rest_of};
 
 use crate::cut::{Cut, count_lines};
@@ -71,16 +71,23 @@ impl Streams {
         put(alloc, 2, &mut self.second, &mut self.waiting, bytes)
     }
 
-    /// How many lines a write of these bytes would emit. It takes no memory.
-    pub fn lines_of(&self, stream: u8, bytes: &[u8]) -> usize
-        ensures value { length (output_written stream bytes.now self.now).waiting ≡ length self.now.waiting + result }
-        ensures few { result ≤ length bytes.now }
+    /// The unfinished line of stream 1, or else of 2.
+    pub fn unfinished(&self, stream: u8) -> &[u8]
+        ensures { result.now ≡ (if stream == 1 then self.now.first else self.now.second) }
     {
         if stream == 1 {
-            count_lines(self.first.len(), bytes)
+            self.first.as_slice()
         } else {
-            count_lines(self.second.len(), bytes)
+            self.second.as_slice()
         }
+    }
+
+    /// How many lines are unfinished.
+    pub fn unfinished_lines(&self) -> usize
+        ensures value { result ≡ length (left_lines self.now) }
+        ensures few { result ≤ 2 }
+    {
+        usize::from(!self.first.is_empty()) + usize::from(!self.second.is_empty())
     }
 
     /// The lines that wait, in the order in which they were emitted.

@@ -1,25 +1,30 @@
 //! `fd_write`.
 
-ghost use Rattle.std.specs.Prelude.{◌≡◌, ◌+◌, ◌≤◌, length, IfOk, IfErr, OnOk};
-ghost use Rattle.wasi_calls_rules.specs.Hosts.{Stream};
+ghost use Rattle.std.specs.Prelude.{◌≡◌, ◌+◌, ◌≤◌, length, IfOk, IfErr, OnOk, Ok, Err};
+ghost use Rattle.wasi_calls_rules.specs.Hosts.{Host as TheHost};
+ghost use Rattle.wasi_calls_rules.specs.Checks.{Done, Halt, Refuses};
+ghost use Rattle.wasi_calls_rules.specs.Lines.{lines_ended};
 ghost use Rattle.wasi_calls_rules.specs.Moving.{fd_write};
 ghost use Rattle.wasi_calls_rules.specs.declared.limits.TheConstants.{MOVED_BYTES};
+ghost use Rattle.wasi_calls.specs.rules.Held.{ShowsHost};
 ghost use Rattle.wasi_calls.specs.rules.Calls.{IsAsLarge};
-ghost use Rattle.wasi_calls.specs.Steps.{GivesWithMemory, StopsStep};
-ghost use Rattle.wasi_calls.specs.Writes.{wanted};
+ghost use Rattle.wasi_calls.specs.Steps.{StopsStep};
+ghost use Rattle.wasi_calls.specs.Writes.{wanted, PassesChecks};
 
 use crate::descriptor::Names;
 use crate::host::Host;
-use crate::memory::{gather, in_range};
+use crate::memory::{check_buffers, count_begun, gather, in_range};
 use crate::stop::CallStop;
 use guest_memory::Memory;
 use std::alloc::Global;
+use wasi_abi::Errno;
 
-/// What a write is to do, once all of its checks have passed.
-#[derive(Drop)]
-pub struct Wanted {
+/// What a write is to do that has passed all checks.
+#[derive(Clone, Copy)]
+pub struct CheckedWrite {
     pub stream: u8,
-    pub bytes: Vec<u8>,
+    /// How many bytes are moved.
+    pub len: usize,
 }
 
 /// The arguments of a call that writes.
@@ -33,25 +38,38 @@ pub struct WriteArguments {
     pub ret: u32,
 }
 
-/// Checks a write, and gathers its bytes.
-pub fn check(
-    alloc: Global,
-    host: &Host,
-    memory: &Memory,
-    arguments: WriteArguments,
-) -> Result<Wanted, CallStop>
-    ensures gives { GivesWithMemory (λ w. record { target = Stream w.stream; bytes = w.bytes.items }) result
-        (wanted arguments.fd arguments.iovecs arguments.count arguments.ret memory.now.bytes host.now.host) }
-    ensures room { IfOk result (λ w. arguments.ret + 4 ≤ length memory.now.bytes) }
-    ensures short { IfOk result (λ w. length w.bytes.items ≤ MOVED_BYTES) }
+/// Makes all checks of a write. It takes no memory.
+fn check(host: &Host, memory: &Memory, arguments: WriteArguments) -> Result<CheckedWrite, Errno>
+    ensures passed { IfOk result (λ w. PassesChecks arguments.fd arguments.iovecs arguments.count
+        arguments.ret memory.now.bytes host.now.host w.stream w.len) }
+    ensures refused { IfErr result (λ e. wanted arguments.fd arguments.iovecs arguments.count
+        arguments.ret memory.now.bytes host.now.host ≡ Err (Refuses e)) }
 {
     let names = host.writable(arguments.fd)?;
-    let bytes = gather(alloc, memory, arguments.iovecs, arguments.count)?;
+    let len = check_buffers(memory, arguments.iovecs, arguments.count)?;
     in_range(memory, arguments.ret, 4)?;
     match names {
-        Names::Stream(stream) => Ok(Wanted { stream, bytes }),
+        Names::Stream(stream) => Ok(CheckedWrite { stream, len }),
         Names::Node(_) => unreachable!(),
     }
+}
+
+/// How many lines such a write would begin: none, where it is refused.
+pub fn lines_begun(host: &Host, memory: &Memory, arguments: WriteArguments) -> usize
+    ensures count { (h : TheHost) (done : Done) → ShowsHost host.now h
+        → fd_write arguments.fd arguments.iovecs arguments.count arguments.ret memory.now.bytes h
+        ≡ Ok done
+        → length (lines_ended done.host).lines ≡ length (lines_ended h).lines + result }
+    ensures none { (h : TheHost) (halt : Halt) → ShowsHost host.now h
+        → fd_write arguments.fd arguments.iovecs arguments.count arguments.ret memory.now.bytes h
+        ≡ Err halt → result ≡ 0 }
+    ensures few { result ≤ MOVED_BYTES }
+{
+    let Ok(write) = check(host, memory, arguments) else {
+        return 0;
+    };
+    let unfinished = host.unfinished(write.stream).len();
+    count_begun(memory, arguments.iovecs, arguments.count, unfinished)
 }
 
 /// Writes to a stream. Where it is refused or lacks memory, nothing has changed.
@@ -70,10 +88,11 @@ pub fn write(
     ensures released { host.new.released ≡ host.old.released }
     ensures large { IsAsLarge memory.old memory.new }
 {
-    let wanted = check(alloc, host, memory, arguments)?;
-    host.write(alloc, wanted.stream, &wanted.bytes)?;
+    let write = check(host, memory, arguments)?;
+    let bytes = gather(alloc, memory, arguments.iovecs, arguments.count, write.len)?;
+    host.write(alloc, write.stream, &bytes)?;
     memory
-        .store_u32(arguments.ret, 0, wanted.bytes.len() as u32)
+        .store_u32(arguments.ret, 0, bytes.len() as u32)
         .unwrap();
     Ok(())
 }

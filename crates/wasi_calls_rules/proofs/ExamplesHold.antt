@@ -29,13 +29,13 @@ directory_examples = record {
   below_itself = refl;
 }
 
--- a call that is refused is told as such, or memory was wanting
+-- a call that is refused changes nothing, whatever is told
 writing_unchanged : (told : Told) (m : Bytes) (h : Host) → TellsRow told m h one_beyond bare_host (write_row 16 one_beyond) → (m ≡ one_beyond) × (h ≡ bare_host)
 writing_unchanged (IsDone None) m h shown = absurd (cc)
 writing_unchanged (IsDone (Some e)) m h shown = (shown.1, shown.2)
 writing_unchanged (IsAsk k) m h shown = (shown.1, shown.2)
 writing_unchanged (IsExit code) m h shown = (shown.1, shown.2)
-writing_unchanged NoMemory m h shown = shown
+writing_unchanged NoMemory m h shown = (shown.1, shown.2)
 
 pub writing_examples : WritingExamples
 writing_examples = record { is_done = refl; is_refused = refl; number = refl; nothing_changes = writing_unchanged }

@@ -1,5 +1,5 @@
 -- All calls: what each does with its arguments, and what a caller is told (this project's profile).
-use Rattle.std.specs.Prelude.{◌≡◌, ℕ, List, [], ◌∷◌, Option, Some, None, Ok, Err}
+use Rattle.std.specs.Prelude.{◌≡◌, ◌≢◌, ℕ, List, [], ◌∷◌, Option, Some, None, Result, Ok, Err}
 use Rattle.wasi_abi.specs.declared.errno.Errno.{Errno}
 use Rattle.wasi_abi.specs.declared.errno.Errno.TheVariants.{Inval}
 use Rattle.wasi_abi.specs.declared.answer.Kind.{Kind}
@@ -8,7 +8,7 @@ use Rattle.wasi_abi.specs.declared.call.Call.{Call}
 use Rattle.wasi_abi.specs.declared.call.Call.TheVariants as call
 use Rattle.wasi_abi.specs.rules.Numbers.{fd_datasync_right, fd_sync_right}
 use Rattle.wasi_calls_rules.specs.Hosts.{Host}
-use Rattle.wasi_calls_rules.specs.Checks.{Bytes, Refuses, Asks, Ends, Ruling}
+use Rattle.wasi_calls_rules.specs.Checks.{Bytes, Halt, Refuses, Asks, Ends, Ruling}
 use Rattle.wasi_calls_rules.specs.Small.{texts_get, texts_sizes_get, clock_res_get, clock_time_get, fd_close, fd_syncs, fd_fdstat_get, fd_fdstat_set_flags, fd_filestat_get, fd_filestat_set_size, fd_prestat_get, fd_prestat_dir_name, fd_seek, fd_tell, proc_exit, sched_yield, random_get}
 use Rattle.wasi_calls_rules.specs.Moving.{fd_read, fd_pread, fd_write, fd_pwrite}
 use Rattle.wasi_calls_rules.specs.Entries.{fd_readdir, path_create_directory, path_filestat_get, path_remove_directory, path_unlink_file, path_rename, path_open}
@@ -63,10 +63,15 @@ pub data Told : Type 0 where
   IsExit : ℕ → Told
   NoMemory : Told
 
--- What a caller is told is what the row says. All but a call that is done leave memory and host as they were.
+-- it gives no error number
+abbrev pub IsNoRefusal : {A : Type 0} → Result A Halt → Type 0
+IsNoRefusal r = (e : Errno) → r ≢ Err (Refuses e)
+
+-- What a caller is told is what the row says. All but a call that is done leave memory and host as
+-- they were. Memory may be wanting for a call alone that isn't refused.
 abbrev pub TellsRow : Told → Bytes → Host → Bytes → Host → Ruling → Type 0
 TellsRow (IsDone None) m h old_m old_h row = row ≡ Ok (record { memory = m; host = h })
 TellsRow (IsDone (Some e)) m h old_m old_h row = (row ≡ Err (Refuses e)) × (m ≡ old_m) × (h ≡ old_h)
 TellsRow (IsAsk k) m h old_m old_h row = (row ≡ Err (Asks k)) × (m ≡ old_m) × (h ≡ old_h)
 TellsRow (IsExit code) m h old_m old_h row = (row ≡ Err (Ends code)) × (m ≡ old_m) × (h ≡ old_h)
-TellsRow NoMemory m h old_m old_h row = (m ≡ old_m) × (h ≡ old_h)
+TellsRow NoMemory m h old_m old_h row = IsNoRefusal row × (m ≡ old_m) × (h ≡ old_h)

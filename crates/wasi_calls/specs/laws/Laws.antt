@@ -4,11 +4,13 @@ use Rattle.wasi_abi.specs.declared.answer.Answer.{Answer}
 use Rattle.wasi_abi.specs.declared.call.Call.{Call}
 use Rattle.wasi_calls_rules.specs.Hosts.{Host}
 use Rattle.wasi_calls_rules.specs.Checks.{Bytes, Done}
+use Rattle.wasi_calls_rules.specs.Lines.{lines_ended}
 use Rattle.wasi_calls_rules.specs.Rows.{row}
 use Rattle.wasi_calls_rules.specs.declared.limits.TheConstants.{MOVED_BYTES}
 use Rattle.wasi_calls.specs.rules.Calls.{IsBuilt}
 
--- one call emits no more lines than it moves bytes
-abbrev pub CallsEmitFew : Type 0
-CallsEmitFew = (c : Call) → IsBuilt c → (arguments : List ℕ) (given : Option Answer) (m : Bytes) (h : Host) (done : Done)
-    → row c arguments given m h ≡ Ok done → length done.host.lines ≤ length h.lines + MOVED_BYTES
+-- one call adds no more lines than it moves bytes, unfinished ones counted
+abbrev pub CallsBeginFew : Type 0
+CallsBeginFew = (c : Call) → IsBuilt c → (arguments : List ℕ) (given : Option Answer) (m : Bytes)
+    (h : Host) (done : Done) → row c arguments given m h ≡ Ok done
+    → length (lines_ended done.host).lines ≤ length (lines_ended h).lines + MOVED_BYTES

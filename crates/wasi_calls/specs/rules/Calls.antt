@@ -8,7 +8,7 @@ use Rattle.wasi_abi.specs.declared.call.Call.{Call}
 use Rattle.wasi_abi.specs.declared.call.Call.TheVariants as call
 use Rattle.wasi_calls_rules.specs.Hosts.{Host}
 use Rattle.wasi_calls_rules.specs.Checks.{Bytes, Done, Ruling, Refuses, Asks, Ends}
-use Rattle.wasi_calls_rules.specs.Rows.{row, Told, IsDone, IsAsk, IsExit, NoMemory}
+use Rattle.wasi_calls_rules.specs.Rows.{row, IsNoRefusal, Told, IsDone, IsAsk, IsExit, NoMemory}
 use Rattle.wasi_calls.specs.declared.outcome.CallOutcome.{CallOutcome}
 use Rattle.wasi_calls.specs.declared.outcome.CallOutcome.TheVariants as outcome
 use Rattle.wasi_calls.specs.declared.stop.CallStop.{CallStop}
@@ -41,14 +41,15 @@ call_outcome (Ok done) = outcome.Done None
 call_outcome (Err (stop.Refused e)) = outcome.Done (Some e)
 call_outcome (Err stop.Memory) = outcome.Memory
 
--- What a caller is told is what the row says of a host that was shown before. After a call that is done the host of the row
--- is shown. All other outcomes leave memory and host as they were.
+-- What a caller is told is what the row says of a host that was shown before. After a call that
+-- is done the host of the row is shown. All other outcomes leave memory and host as they were.
+-- Memory may be wanting for a call alone that isn't refused.
 abbrev pub ShowsRow : Told → Bytes → HeldHost → Bytes → HeldHost → Ruling → Type 0
 ShowsRow (IsDone None) m held old_m old row = (done : Done) × (row ≡ Ok done) × (m ≡ done.memory) × ShowsHost held done.host
 ShowsRow (IsDone (Some e)) m held old_m old row = (row ≡ Err (Refuses e)) × (m ≡ old_m) × (held ≡ old)
 ShowsRow (IsAsk kind) m held old_m old row = (row ≡ Err (Asks kind)) × (m ≡ old_m) × (held ≡ old)
 ShowsRow (IsExit code) m held old_m old row = (row ≡ Err (Ends code)) × (m ≡ old_m) × (held ≡ old)
-ShowsRow NoMemory m held old_m old row = (m ≡ old_m) × (held ≡ old)
+ShowsRow NoMemory m held old_m old row = IsNoRefusal row × (m ≡ old_m) × (held ≡ old)
 
 -- the call with these arguments doesn't end the process, whatever host, memory and answer it has
 abbrev pub EndsNothing : Call → List ℕ → Type 0

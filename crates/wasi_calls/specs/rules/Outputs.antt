@@ -33,6 +33,16 @@ output_ended o = record o { waiting = o.waiting ++ left_lines o; first = []; sec
 abbrev pub HasLineRoom : ℕ → Output → Type 0
 HasLineRoom places o = length o.waiting + length (left_lines o) ≤ places
 
+-- How many lines bytes begin, where so many bytes are unfinished before them. A byte begins one
+-- where no line is unfinished. Any but a newline does where a full line ends by it.
+abbrev pub count_begun : ℕ → List ℕ → ℕ
+count_begun len [] = 0
+count_begun len (b ∷ bytes) =
+    if b == newline then (if len == 0 then count_begun 0 bytes + 1 else count_begun 0 bytes)
+    else if len == 0 then count_begun 1 bytes + 1
+    else if nat_lt len LINE_BYTES then count_begun (len + 1) bytes
+    else count_begun 1 bytes + 1
+
 -- how many lines bytes end, where so many bytes are unfinished before them
 abbrev pub count_ended : ℕ → List ℕ → ℕ
 count_ended len [] = 0

@@ -1,34 +1,57 @@
-use Rattle.std.proofs.Common.{◌≡◌, ℕ, ◌≤◌, ◌-◌, ◌++◌, [], length, take, sym, ap, ◌∙◌, arith, length-take}
-use Rattle.std.proofs.lemmas.Result.{err_from_is_err_and}
-use Rattle.wasi_calls_rules.specs.Checks.{Bytes, Refuses}
-use Rattle.wasi_calls_rules.specs.declared.limits.TheConstants.{MOVED_BYTES}
-use Rattle.wasi_calls.proofs.Gathers.{most, most_is, collected, few_is, moved_is, goes_on, ends, is_done, room_for}
+use Rattle.std.proofs.Common.{◌≡◌, ◌++◌, ◌≤◌, [], length, take, sym, ap, ◌∙◌, arith, length-take}
+use Rattle.wasi_calls_rules.specs.Checks.{Bytes}
+use Rattle.wasi_calls.proofs.Gathers.{most, most_is, collected, are_there, next_there, fits_next, extended, goes_on, is_done, short_piece}
 use Rattle.wasi_calls.proofs.memory.gather.Goals as goal
 
-pub returns-in_err-buffer-clause-gives : goal.returns-in_err-buffer-clause-gives
-returns-in_err-buffer-clause-gives c =
+pub piece-piece-requires-clause-there : goal.piece-piece-requires-clause-there
+piece-piece-requires-clause-there c =
     let m = c.args.memory.now.bytes in
-    let p = err_from_is_err_and c.from_residual-in_err-buffer.result c.from_residual-in_err-buffer.ensures.1 in
-    let is = moved_is m c.args.iovecs c.args.count tt c.in_ok-in_range.field-0 (few_is c.args.count c.if-count-gt-IOVECS.false) c.in_ok-in_range.ensures.gives in
-    let end = ends m c.loop-place.bytes.items c.args.iovecs c.args.count c.loop-place.place (collected m c.args.iovecs c.args.count []) (Refuses c.in_err-buffer.field-0.0) c.loop-place-test.true c.in_err-buffer.ensures c.loop-place.invariant.2 in
-    rw (p.1, p.2) (is ∙ end)
+    let bytes = c.requires.bytes in
+    next_there m c.args.iovecs c.args.count c.loop-place.place c.loop-place.bytes.items bytes c.loop-place-test.true (are_there m c.args.iovecs c.args.count bytes c.requires.are).are c.loop-place.invariant.2
+
+pub unwrap-requires : goal.unwrap-requires
+unwrap-requires c =
+    let m = c.args.memory.now.bytes in
+    let bytes = c.requires.bytes in
+    let front = c.loop-place.bytes.items in
+    let on = c.loop-place.invariant.2 in
+    let are = (are_there m c.args.iovecs c.args.count bytes c.requires.are).are in
+    let there = next_there m c.args.iovecs c.args.count c.loop-place.place front bytes c.loop-place-test.true are on in
+    let len : c.len.result ≡ length front = omega (arith, c.len.ensures, c.loop-place.bytes.ok.0) in
+    let short : length front ≤ most = omega (arith, c.loop-place.invariant.0, most_is) in
+    let fits = fits_next m c.args.iovecs c.args.count c.loop-place.place front bytes c.loop-place-test.true are on there.0 c.len.result short len there.1 in
+    let room = c.loop-place.invariant.1 in
+    let many = c.requires.many in
+    c.extend_from_slice.ensures.succeeds (omega (arith, fits, many, room, ap length (c.piece-piece.ensures there.0 there.1), c.loop-place.bytes.ok.0))
 
 pub loop-place-preserved : goal.loop-place-preserved
 loop-place-preserved c =
     let m = c.args.memory.now.bytes in
+    let bytes = c.requires.bytes in
     let front = c.loop-place.bytes.items in
-    let piece = c.in_ok-buffer.buffer.now in
-    let short : length front ≤ most = omega (arith, c.loop-place.invariant.1, most_is) in
-    let room : c.len-room.result ≡ length front = omega (arith, c.len-room.ensures, c.loop-place.bytes.ok.0) in
+    let on = c.loop-place.invariant.2 in
+    let are = (are_there m c.args.iovecs c.args.count bytes c.requires.are).are in
+    let there = next_there m c.args.iovecs c.args.count c.loop-place.place front bytes c.loop-place-test.true are on in
+    let piece = there.0 in
+    let len : c.len.result ≡ length front = omega (arith, c.len.ensures, c.loop-place.bytes.ok.0) in
+    let short : length front ≤ most = omega (arith, c.loop-place.invariant.0, most_is) in
+    let fits = fits_next m c.args.iovecs c.args.count c.loop-place.place front bytes c.loop-place-test.true are on piece c.len.result short len there.1 in
+    let room = c.loop-place.invariant.1 in
+    let many = c.requires.many in
+    let is = c.piece-piece.ensures piece there.1 in
+    let ok = c.extend_from_slice.ensures.succeeds (omega (arith, fits, many, room, ap length is, c.loop-place.bytes.ok.0)) in
     let new : c.extend_from_slice.new.self.items ≡ take most (front ++ piece) =
-    c.in_ok-extend_from_slice.ensures.items ∙ ap (λ (x : Bytes). front ++ x) (c.front.ensures ∙ ap (λ (k : ℕ). take (MOVED_BYTES - k) piece) room ∙ ap (λ (k : ℕ). take (k - length front) piece) (sym most_is)) ∙ room_for front piece short in (
-      c.loop-place.invariant.0,
+    extended c.extend_from_slice.result c.extend_from_slice.new.self.items front (front ++ c.piece-piece.result.now) ok c.extend_from_slice.ensures.items
+    ∙ ap (λ (x : Bytes). front ++ x) is ∙ short_piece front piece c.len.result short (sym len) in
+    let grows = c.extend_from_slice.ensures.capacity in (
       omega (arith, ap length new, length-take most (front ++ piece), most_is),
-      rw new (goes_on m piece front c.args.iovecs c.args.count c.loop-place.place (collected m c.args.iovecs c.args.count []) c.loop-place-test.true c.in_ok-buffer.ensures c.loop-place.invariant.2),
+      omega (arith, room, grows),
+      rw new (goes_on m piece front c.args.iovecs c.args.count c.loop-place.place (collected m c.args.iovecs c.args.count []) c.loop-place-test.true there.1 on),
     )
 
-pub returns-clause-gives : goal.returns-clause-gives
-returns-clause-gives c =
+pub returns : goal.returns
+returns c =
     let m = c.args.memory.now.bytes in
-    let is = moved_is m c.args.iovecs c.args.count tt c.in_ok-in_range.field-0 (few_is c.args.count c.if-count-gt-IOVECS.false) c.in_ok-in_range.ensures.gives in
-    is ∙ is_done m c.loop-place.bytes.items c.args.iovecs c.args.count c.loop-place.place (collected m c.args.iovecs c.args.count []) c.loop-place-test.false c.loop-place.invariant.2
+    let bytes = c.requires.bytes in
+    let are = (are_there m c.args.iovecs c.args.count bytes c.requires.are).are in
+    c.requires.are ∙ sym are ∙ is_done m c.loop-place.bytes.items c.args.iovecs c.args.count c.loop-place.place (collected m c.args.iovecs c.args.count []) c.loop-place-test.false c.loop-place.invariant.2

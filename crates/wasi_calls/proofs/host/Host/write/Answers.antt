@@ -12,6 +12,6 @@ invariant_of-self-2 c =
     let old = (held_host_of s.config s.limit s.files s.descriptors.items s.unread.items s.input_ended s.last_monotonic s.streams).host in
     let is : c.write.new.self ≡ output_written c.args.stream c.args.bytes.now s.streams = c.in_ok-write.ensures.written in
     let low : AreBytes c.args.bytes.now =
-        all_bytes c.args.bytes.now (λ k. omega (arith, c.type_inv.bytes k)) in
+    all_bytes c.args.bytes.now (λ k. omega (arith, c.type_inv.bytes k)) in
     let short = written_short c.args.stream c.args.bytes.now s.streams low c.self.invariant.first c.self.invariant.second in
     with_lines old c.write.new.self.first c.write.new.self.second c.write.new.self.waiting c.self.invariant (rw is short.0) (rw is short.1)
