@@ -2,12 +2,18 @@
 
 ghost use Rattle.disk_layout.specs.rules.Contents.{HoldsWhatIsWritten};
 ghost use Rattle.disk_layout.specs.laws.Examples.{LayoutExamples};
+ghost use Rattle.disk_layout.specs.laws.Numbers.{LayoutNumbers};
 ghost use Rattle.disk_layout.specs.laws.Laws.{ShowsEarlier, NeverNewer, ReadsFieldsBack};
 ghost use Rattle.disk_layout.specs.laws.Reading.{OneSpelling, OneAnswer, ReadsWhatIsWritten};
 
 /// Worked examples: sizes, a record, and a torn stamp.
 pub fn worked_examples()
     ensures { LayoutExamples }
+{}
+
+/// What each number of the layout is, and each mark.
+pub fn layout_numbers_are()
+    ensures { LayoutNumbers }
 {}
 
 /// What a sector shows where a write of a later generation over it is torn.
