@@ -52,7 +52,3 @@ journal_place geometry = MODULE_PLACE + geometry.module_sectors + 2 * geometry.a
 
 abbrev pub total_sectors : Geometry → ℕ
 total_sectors geometry = journal_place geometry + geometry.journal_sectors
-
--- the most bytes of an image
-abbrev pub image_room : Geometry → ℕ
-image_room geometry = SECTOR_SIZE * geometry.area_sectors
