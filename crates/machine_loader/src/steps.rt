@@ -31,5 +31,5 @@ pub fn accept(alloc: Global, bytes: &[u8], pages: u32) -> Result<Machine, FrontF
     ensures only { IfErr result (λ e. FrontDenies e (HasNoAcceptedModule pages bytes.now)) }
 {
     let valid = read(alloc, bytes)?;
-    Ok(link(valid, pages, alloc)?)
+    Ok(link(alloc, valid, pages)?)
 }
