@@ -18,7 +18,7 @@ pub fn read(alloc: Global, bytes: &[u8]) -> Result<ValidModule, FrontFault>
     ensures only { IfErr result (λ e. FrontDenies e (HasNoValidModule bytes.now)) }
 {
     let decoded = decode(alloc, bytes)?;
-    Ok(validate(decoded, alloc)?)
+    Ok(validate(alloc, decoded)?)
 }
 
 /// The machine of the module that the bytes spell, where its memory may have so many pages. A refusal is that

@@ -16,7 +16,7 @@ use wasm_validate::{ModuleContext, ValidFault, ValidModule};
 fn context_of(alloc: Global, valid: &ValidModule) -> Result<ModuleContext<'_>, ValidFault>
     ensures { IfOk result GivesOnes }
 {
-    ModuleContext::of(valid.module(), alloc)
+    ModuleContext::of(alloc, valid.module())
 }
 
 /// The table of the first function, which has the first type.
