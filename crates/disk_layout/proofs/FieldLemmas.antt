@@ -9,9 +9,11 @@ use Rattle.guest_memory.specs.rules.Bytes.{bytes_of, with_part, part, number_of}
 use Rattle.guest_memory.proofs.ByteLemmas.{length-bytes_of, number_of-bytes_of}
 use Rattle.wasi_abi.specs.rules.Layouts.{u32_bytes, u64_bytes, padding}
 use Rattle.disk_layout.specs.rules.Places.{Geometry}
-use Rattle.disk_layout.specs.rules.Sectors.{Stamp, stamp_of, stamp_bytes, Head, head_of, head_mark, head_bytes, Super, super_of, super_mark, super_end_mark, super_bytes, IsMarked}
+use Rattle.disk_layout.specs.rules.Sectors.{Stamp, stamp_of, stamp_bytes, Head, head_of, head_bytes, Super, super_of, super_bytes, IsMarked}
 use Rattle.disk_layout.specs.laws.Laws.{HeadFits, SuperFits}
 use Rattle.wasi_abi.proofs.LayoutLemmas.{byte_at-pow, bytes_low_first-bytes_of}
+use Rattle.disk_layout.specs.declared.superblock.TheConstants.{SUPER_MARK, SUPER_END_MARK}
+use Rattle.disk_layout.specs.declared.head.TheConstants.{HEAD_MARK}
 
 pub drop_over : (d rest : List ℕ) (n k : ℕ) → length d ≡ n → drop (n + k) (d ++ rest) ≡ drop k rest
 drop_over d rest n k e = ap (λ m. drop (m + k) (d ++ rest)) (sym e) ∙ drop-append-add d rest k
@@ -28,11 +30,11 @@ stamp_laid generation place old mid new full one two =
     ∙ ap (λ l. take 496 old ++ (u64_bytes generation ++ (u64_bytes place ++ l))) behind
 
 -- a head's fields over zeros, the digest last
-pub head_laid : (version len generation : ℕ) (digest a b c d e f : List ℕ) → length digest ≡ 32 → a ≡ with_part (replicate 512 0) 0 head_mark → b ≡ with_part a 8 (u32_bytes version) → c ≡ with_part b 16 (u64_bytes len)
+pub head_laid : (version len generation : ℕ) (digest a b c d e f : List ℕ) → length digest ≡ 32 → a ≡ with_part (replicate 512 0) 0 HEAD_MARK → b ≡ with_part a 8 (u32_bytes version) → c ≡ with_part b 16 (u64_bytes len)
     → d ≡ with_part c 496 (u64_bytes generation) → e ≡ with_part d 504 (u64_bytes 1) → f ≡ with_part e 24 digest
     → f ≡ head_bytes (record { version = version; length_in_bytes = len; digest = digest; generation = generation })
 head_laid version len generation digest a b c d e f size a-is b-is c-is d-is e-is f-is =
-    let a' = with_part (replicate 512 0) 0 head_mark in
+    let a' = with_part (replicate 512 0) 0 HEAD_MARK in
     let b' = with_part a' 8 (u32_bytes version) in
     let c' = with_part b' 16 (u64_bytes len) in
     let d' = with_part c' 496 (u64_bytes generation) in
@@ -41,21 +43,21 @@ head_laid version len generation digest a b c d e f size a-is b-is c-is d-is e-i
     f-is ∙ ap (λ l. with_part l 24 digest) e-as ∙ ap (λ n. take 24 e' ++ (digest ++ drop (24 + n) e')) size
 
 -- a super's fields over zeros, the digest last
-pub super_laid : (s : Geometry) (digest a b c d e f g h k : List ℕ) → length digest ≡ 32 → a ≡ with_part (replicate 512 0) 0 super_mark → b ≡ with_part a 8 (u32_bytes 1) → c ≡ with_part b 12 (u32_bytes s.config)
+pub super_laid : (s : Geometry) (digest a b c d e f g h k : List ℕ) → length digest ≡ 32 → a ≡ with_part (replicate 512 0) 0 SUPER_MARK → b ≡ with_part a 8 (u32_bytes 1) → c ≡ with_part b 12 (u32_bytes s.config)
     → d ≡ with_part c 16 (u32_bytes s.wasm) → e ≡ with_part d 20 (u32_bytes s.module_sectors) → f ≡ with_part e 24 (u32_bytes s.area_sectors) → g ≡ with_part f 28 (u32_bytes s.journal_sectors)
-    → h ≡ with_part g 504 super_end_mark → k ≡ with_part h 32 digest → k ≡ super_bytes s digest
+    → h ≡ with_part g 504 SUPER_END_MARK → k ≡ with_part h 32 digest → k ≡ super_bytes s digest
 super_laid s digest a b c d e f g h k size a-is b-is c-is d-is e-is f-is g-is h-is k-is =
-    let a' = with_part (replicate 512 0) 0 super_mark in
+    let a' = with_part (replicate 512 0) 0 SUPER_MARK in
     let b' = with_part a' 8 (u32_bytes 1) in
     let c' = with_part b' 12 (u32_bytes s.config) in
     let d' = with_part c' 16 (u32_bytes s.wasm) in
     let e' = with_part d' 20 (u32_bytes s.module_sectors) in
     let f' = with_part e' 24 (u32_bytes s.area_sectors) in
     let g' = with_part f' 28 (u32_bytes s.journal_sectors) in
-    let h' = with_part g' 504 super_end_mark in
+    let h' = with_part g' 504 SUPER_END_MARK in
     let d-as : d ≡ d' = d-is ∙ ap (λ l. with_part l 16 (u32_bytes s.wasm)) (c-is ∙ ap (λ l. with_part l 12 (u32_bytes s.config)) (b-is ∙ ap (λ l. with_part l 8 (u32_bytes 1)) a-is)) in
     let g-as : g ≡ g' = g-is ∙ ap (λ l. with_part l 28 (u32_bytes s.journal_sectors)) (f-is ∙ ap (λ l. with_part l 24 (u32_bytes s.area_sectors)) (e-is ∙ ap (λ l. with_part l 20 (u32_bytes s.module_sectors)) d-as)) in
-    k-is ∙ ap (λ l. with_part l 32 digest) (h-is ∙ ap (λ l. with_part l 504 super_end_mark) g-as) ∙ ap (λ n. take 32 h' ++ (digest ++ drop (32 + n) h')) size
+    k-is ∙ ap (λ l. with_part l 32 digest) (h-is ∙ ap (λ l. with_part l 504 SUPER_END_MARK) g-as) ∙ ap (λ n. take 32 h' ++ (digest ++ drop (32 + n) h')) size
 
 -- ---- and read again
 
@@ -80,7 +82,7 @@ head_again h fits =
     λ j. record { version = v' j; length_in_bytes = l' j; digest = d' j; generation = g' j }
 
 pub marks_again : (s : Super) → SuperFits s → IsMarked (super_bytes s.geometry s.digest)
-marks_again s fits = record { first = refl; last = ap (λ l. take 8 l) (drop_over s.digest (padding 440 ++ super_end_mark) 32 440 fits.digest) }
+marks_again s fits = record { first = refl; last = ap (λ l. take 8 l) (drop_over s.digest (padding 440 ++ SUPER_END_MARK) 32 440 fits.digest) }
 
 pub super_again : (s : Super) → SuperFits s → super_of (super_bytes s.geometry s.digest) ≡ s
 super_again s fits =
@@ -89,5 +91,5 @@ super_again s fits =
     let m' = number_of-bytes_of 4 s.geometry.module_sectors fits.module_sectors in
     let a' = number_of-bytes_of 4 s.geometry.area_sectors fits.area_sectors in
     let j' = number_of-bytes_of 4 s.geometry.journal_sectors fits.journal_sectors in
-    let d' = take_at s.digest (padding 440 ++ super_end_mark) 32 fits.digest in
+    let d' = take_at s.digest (padding 440 ++ SUPER_END_MARK) 32 fits.digest in
     λ i. record { geometry = record { config = c' i; wasm = w' i; module_sectors = m' i; area_sectors = a' i; journal_sectors = j' i }; digest = d' i }

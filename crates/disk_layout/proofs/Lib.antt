@@ -1,4 +1,5 @@
 pub mod FieldLemmas
+pub mod HeadLemmas
 mod TextLemmas
 mod ContentsLemmas
 pub mod ReadLemmas

@@ -9,9 +9,10 @@ use Rattle.sha2.specs.Sha256.{sha256}
 use Rattle.disk_layout.specs.declared.fault.LayoutFault.{LayoutFault}
 use Rattle.disk_layout.specs.declared.fault.LayoutFault.TheVariants.{NotAWorker, Version, TooSmall, Damaged, Memory, Disk}
 use Rattle.disk_layout.specs.declared.stored.Stored.{Stored}
-use Rattle.disk_layout.specs.rules.Places.{Geometry, module_place}
+use Rattle.disk_layout.specs.rules.Places.{Geometry}
 use Rattle.disk_layout.specs.rules.Sectors.{Super, bytes_from}
 use Rattle.disk_layout.specs.rules.Stored.{OnlyReads, IsConsistent, Checks, SplitsContents, FindsStored, HasOtherDigest}
+use Rattle.disk_layout.specs.declared.geometry.TheConstants.{MODULE_PLACE}
 
 pub no_reads : (m : Medium) → OnlyReads m m
 no_reads m = record {
@@ -77,7 +78,7 @@ pub parts_lent : (a b : ℕ) (bytes : List ℕ) → take a bytes ++ take ((a + b
 parts_lent a b bytes = ap (λ n. take a bytes ++ take n (drop a bytes)) (let e : (a + b) - a ≡ b = omega arith in e) ∙ parts_joined a b bytes
 
 -- what is split off is what is found
-pub finds_split : (sectors : ℕ) (image : Image) (c : Super) (bytes : List ℕ) (result : Result Stored LayoutFault) → Checks sectors (sector_at image 0) (Ok c) → bytes ≡ bytes_from image module_place c.geometry.module_sectors → SplitsContents c bytes result
+pub finds_split : (sectors : ℕ) (image : Image) (c : Super) (bytes : List ℕ) (result : Result Stored LayoutFault) → Checks sectors (sector_at image 0) (Ok c) → bytes ≡ bytes_from image MODULE_PLACE c.geometry.module_sectors → SplitsContents c bytes result
     → FindsStored sectors image result
 finds_split sectors image c bytes (Ok s) check is splits =
     let same : s.geometry ≡ c.geometry = splits.0 in
@@ -86,11 +87,11 @@ finds_split sectors image c bytes (Ok s) check is splits =
       known = check.0;
       geometry = same ∙ ap (λ (x : Super). x.geometry) check.1;
       consistent = subst (λ (x : Geometry). IsConsistent x) (sym same) check.2;
-      room = subst (λ (x : Geometry). module_place + x.module_sectors ≤ sectors) (sym same) check.3;
+      room = subst (λ (x : Geometry). MODULE_PLACE + x.module_sectors ≤ sectors) (sym same) check.3;
       config = splits.1 ∙ ap (λ (x : Geometry). x.config) (sym same);
       wasm = splits.2 ∙ ap (λ (x : Geometry). x.wasm) (sym same);
-      contents = ap (λ (x : Geometry). take (length (s.config ++ s.wasm)) (bytes_from image module_place x.module_sectors)) same
-          ∙ ap (λ (n : ℕ). take n (bytes_from image module_place c.geometry.module_sectors)) count
+      contents = ap (λ (x : Geometry). take (length (s.config ++ s.wasm)) (bytes_from image MODULE_PLACE x.module_sectors)) same
+          ∙ ap (λ (n : ℕ). take n (bytes_from image MODULE_PLACE c.geometry.module_sectors)) count
           ∙ ap (λ (l : List ℕ). take (c.geometry.config + c.geometry.wasm) l) (sym is) ∙ sym splits.3;
       digest = ap (λ (x : Super). x.digest) (sym check.1) ∙ splits.4;
     }

@@ -5,11 +5,15 @@ ghost use Rattle.std.specs.List.{AllByRecursion};
 ghost use Rattle.wasi_abi.specs.rules.Configs.{IsShortText};
 ghost use Rattle.disk_layout.specs.rules.Places.{geometry_of, texts_bytes, rounded_up, head_place, area_place, journal_place, total_sectors};
 
+use sector_disk::SECTOR_SIZE;
 use wasi_abi::Config;
 use wasm_syntax::Row;
 
+/// The first sector of configuration and module. Before it stand the super and the two heads.
+pub const MODULE_PLACE: u64 = 3;
+
 /// The lengths of configuration and module in bytes, and of their part of the disk, of an area and of
-/// the journal in sectors of 512 bytes.
+/// the journal in sectors.
 #[derive(Clone, Copy, Debug, PartialEq, Eq)]
 pub struct Geometry {
     pub config: u32,
@@ -47,14 +51,16 @@ impl Geometry {
     pub fn area_place(&self, generation: u64) -> u64
         ensures { result ≡ area_place self.now generation }
     {
-        3 + u64::from(self.module_sectors) + generation % 2 * u64::from(self.area_sectors)
+        MODULE_PLACE
+            + u64::from(self.module_sectors)
+            + generation % 2 * u64::from(self.area_sectors)
     }
 
     /// The first sector of the journal.
     pub fn journal_place(&self) -> u64
         ensures { result ≡ journal_place self.now }
     {
-        3 + u64::from(self.module_sectors) + 2 * u64::from(self.area_sectors)
+        MODULE_PLACE + u64::from(self.module_sectors) + 2 * u64::from(self.area_sectors)
     }
 
     /// How many sectors the disk needs.
@@ -70,7 +76,7 @@ pub(crate) fn sectors_of(bytes: u64) -> u64
     requires { bytes ≤ 2 ^ 63 }
     ensures { result ≡ rounded_up bytes }
 {
-    bytes.div_ceil(512)
+    bytes.div_ceil(SECTOR_SIZE as u64)
 }
 
 /// How many bytes these texts take with their lengths and their number.

@@ -2,18 +2,34 @@
 
 ghost use Rattle.disk_layout.specs.rules.Contents.{HoldsWhatIsWritten};
 ghost use Rattle.disk_layout.specs.laws.Examples.{LayoutExamples};
+ghost use Rattle.disk_layout.specs.laws.RecordExamples.{RecordExamples, JournalExamples};
+ghost use Rattle.disk_layout.specs.laws.Heads.{WrittenIsComplete, HeadExamples};
+ghost use Rattle.disk_layout.specs.laws.Numbers.{LayoutNumbers};
 ghost use Rattle.disk_layout.specs.laws.Laws.{ShowsEarlier, NeverNewer, ReadsFieldsBack};
 ghost use Rattle.disk_layout.specs.laws.Reading.{OneSpelling, OneAnswer, ReadsWhatIsWritten};
 
-/// Worked examples: sizes, a record, and a torn stamp.
+/// Worked examples: sizes, records, a torn stamp, and journals that are scanned.
 pub fn worked_examples()
-    ensures { LayoutExamples }
+    ensures layout { LayoutExamples }
+    ensures records { RecordExamples }
+    ensures journals { JournalExamples }
+{}
+
+/// What each number of the layout is, and each mark.
+pub fn layout_numbers_are()
+    ensures { LayoutNumbers }
 {}
 
 /// What a sector shows where a write of a later generation over it is torn.
 pub fn torn_stamps()
     ensures earlier { ShowsEarlier }
     ensures never_newer { NeverNewer }
+{}
+
+/// A head that is written is complete. Worked examples of heads, and of images that they name.
+pub fn heads_are_complete()
+    ensures complete { WrittenIsComplete }
+    ensures examples { HeadExamples }
 {}
 
 /// The fields that are read of stamps, heads and supers are those that were written.

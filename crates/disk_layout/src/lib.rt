@@ -54,12 +54,16 @@ pub use configuration::config_bytes_of;
 pub use contents::write_contents;
 pub use fault::LayoutFault;
 pub use fields::{u16_from, u32_from};
-pub use geometry::Geometry;
-pub use head::Head;
-pub use journal_sectors::{PAYLOAD_SIZE, is_of, journal_sector, used_length};
+pub use geometry::{Geometry, MODULE_PLACE};
+pub use head::{Head, IMAGE_VERSION};
+pub use journal_sectors::{PAYLOAD_AT, PAYLOAD_SIZE, is_of, journal_sector, used_length};
 pub use reading::{Contents, config_from, read_contents};
-pub use record::Record;
-pub use record_fields::{clock_bytes, clock_from, payload_length, record_head, record_step};
+pub use record::{
+    END_KIND, LONGEST_PAYLOAD, MONOTONIC_KIND, RANDOM_KIND, REALTIME_KIND, REQUEST_KIND, Record,
+};
+pub use record_fields::{
+    RECORD_HEAD_BYTES, clock_bytes, clock_from, payload_length, record_head, record_step,
+};
 pub use stamp::Stamp;
 pub use stored::{Stored, digest_of, read_super, write_super};
 pub use superblock::Super;

@@ -3,36 +3,46 @@
 ghost use Rattle.std.specs.Prelude.{◌≡◌, ◌∷◌, ◌++◌, ◌<◌, ◌≤◌, ◌^◌, length};
 ghost use Rattle.guest_memory.specs.rules.Bytes.{number_of};
 ghost use Rattle.wasi_abi.specs.rules.Layouts.{u16_bytes, u64_bytes, u64_at};
+ghost use Rattle.disk_layout.specs.declared.record_fields.TheConstants.{RECORD_HEAD_BYTES, STEP_AT};
 ghost use Rattle.disk_layout.specs.rules.Journal.{payload_length};
 
 use crate::fields::{put_u16, put_u64, u16_from, u64_from};
 
+/// How many bytes of a record stand before its payload: its kind, its step and the payload's length.
+pub const RECORD_HEAD_BYTES: usize = 11;
+
+/// Where the step stands, behind the kind.
+pub const STEP_AT: usize = 1;
+
+/// Where the payload's length stands.
+pub const PAYLOAD_LENGTH_AT: usize = 9;
+
 /// What stands before a record's payload: its kind, its step and the payload's length in bytes.
-pub fn record_head(kind: u8, step: u64, payload_len: u16) -> [u8; 11]
+pub fn record_head(kind: u8, step: u64, payload_len: u16) -> [u8; RECORD_HEAD_BYTES]
     ensures { result ≡ kind ∷ (u64_bytes step ++ u16_bytes payload_len) }
 {
-    let mut head = [0; 11];
+    let mut head = [0; RECORD_HEAD_BYTES];
     head[0] = kind;
-    put_u64(&mut head, 1, step);
-    put_u16(&mut head, 9, payload_len);
+    put_u64(&mut head, STEP_AT, step);
+    put_u16(&mut head, PAYLOAD_LENGTH_AT, payload_len);
     head
 }
 
 /// The length in bytes of the payload of the record at the front.
 pub fn payload_length(bytes: &[u8]) -> usize
-    requires { 11 ≤ length bytes.now }
+    requires { RECORD_HEAD_BYTES ≤ length bytes.now }
     ensures value { result ≡ payload_length bytes.now }
     ensures within { result < 2 ^ 16 }
 {
-    usize::from(u16_from(bytes, 9))
+    usize::from(u16_from(bytes, PAYLOAD_LENGTH_AT))
 }
 
 /// The step of the record at the front.
 pub fn record_step(bytes: &[u8]) -> u64
-    requires { 11 ≤ length bytes.now }
-    ensures { result ≡ u64_at bytes.now 1 }
+    requires { RECORD_HEAD_BYTES ≤ length bytes.now }
+    ensures { result ≡ u64_at bytes.now STEP_AT }
 {
-    u64_from(bytes, 1)
+    u64_from(bytes, STEP_AT)
 }
 
 /// The value that a clock's payload spells.

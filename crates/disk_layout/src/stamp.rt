@@ -2,8 +2,16 @@
 
 ghost use Rattle.std.specs.Prelude.{◌≡◌, ◌++◌, take};
 ghost use Rattle.disk_layout.specs.rules.Sectors.{stamp_bytes, stamp_of, shown_at};
+ghost use Rattle.disk_layout.specs.declared.stamp.TheConstants.{GENERATION_AT};
 
 use crate::fields::{put_u64, u64_from};
+use sector_disk::SECTOR_SIZE;
+
+/// Where a stamp's generation stands in its sector.
+pub const GENERATION_AT: usize = 496;
+
+/// Where its place stands.
+pub const PLACE_AT: usize = 504;
 
 /// The last 16 bytes of a sector: a generation, and the place that the sector has among its kind.
 #[derive(Clone, Copy, Debug, PartialEq, Eq)]
@@ -14,19 +22,19 @@ pub struct Stamp {
 
 impl Stamp {
     /// Puts it at the end of the sector. All bytes before it stay.
-    pub fn write(&self, sector: &mut [u8; 512])
-        ensures { sector.new ≡ take 496 sector.old ++ stamp_bytes self.now }
+    pub fn write(&self, sector: &mut [u8; SECTOR_SIZE])
+        ensures { sector.new ≡ take GENERATION_AT sector.old ++ stamp_bytes self.now }
     {
-        put_u64(sector, 496, self.generation);
-        put_u64(sector, 504, self.place);
+        put_u64(sector, GENERATION_AT, self.generation);
+        put_u64(sector, PLACE_AT, self.place);
     }
 
-    pub fn read(sector: &[u8; 512]) -> Self
+    pub fn read(sector: &[u8; SECTOR_SIZE]) -> Self
         ensures { result ≡ stamp_of sector.now }
     {
         Stamp {
-            generation: u64_from(sector, 496),
-            place: u64_from(sector, 504),
+            generation: u64_from(sector, GENERATION_AT),
+            place: u64_from(sector, PLACE_AT),
         }
     }
 

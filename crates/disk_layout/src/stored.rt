@@ -2,6 +2,7 @@
 
 ghost use Rattle.std.specs.Prelude.{◌≡◌, ◌⊎◌, ◌↔◌, ◌+◌, ◌*◌, ◌<◌, ◌≤◌, ◌++◌, ℕ, [], ◌∷◌, length, take, IsTrue, IfOk, IfErr, OnOk, IsErr};
 ghost use Rattle.sha2.specs.Sha256.{sha256};
+ghost use Rattle.sector_disk.specs.declared.sector.TheConstants.{SECTOR_SIZE};
 ghost use Rattle.sector_disk.specs.rules.Image.{Image};
 ghost use Rattle.sector_disk.specs.rules.Medium.{LeavesOnly, After, Follows, IsAllSynced, CountsUpTo, FailsInside, spare};
 ghost use Rattle.sector_disk.specs.rules.Run.{IsTornRun, IsWrittenRun};
@@ -9,14 +10,12 @@ ghost use Rattle.disk_layout.specs.rules.Sectors.{bytes_from, super_bytes};
 ghost use Rattle.disk_layout.specs.rules.Stored.{OnlyReads, IsConsistent, Checks, SplitsContents, FindsStored};
 
 use crate::fault::LayoutFault;
-use crate::geometry::{Geometry, sectors_of};
+use crate::geometry::{Geometry, MODULE_PLACE, sectors_of};
 use crate::superblock::Super;
-use sector_disk::{Disk, DiskFault, store_run};
+use sector_disk::{Disk, DiskFault, SECTOR_SIZE, store_run};
 use sha2::{Digest, Sha256};
 use std::alloc::Global;
 use wasm_syntax::Row;
-
-const MODULE_PLACE: u64 = 3;
 
 /// What the super of a disk leads to: the bytes of the configuration and of the module.
 #[derive(Debug, Drop)]
@@ -73,7 +72,7 @@ pub fn read_super<D: Disk>(alloc: Global, disk: &mut D) -> Result<Stored, Layout
     if sectors == 0 {
         return Err(LayoutFault::NotAWorker);
     }
-    let mut sector = [0; 512];
+    let mut sector = [0; SECTOR_SIZE];
     if let Err(fault) = disk.read(0, &mut sector) {
         return Err(LayoutFault::Disk(fault));
     }
@@ -83,7 +82,7 @@ pub fn read_super<D: Disk>(alloc: Global, disk: &mut D) -> Result<Stored, Layout
 }
 
 /// The super that a sector holds, if its numbers agree and the disk has room for what they name.
-fn check(sector: &[u8; 512], sectors: u64) -> Result<Super, LayoutFault>
+fn check(sector: &[u8; SECTOR_SIZE], sectors: u64) -> Result<Super, LayoutFault>
     ensures { Checks sectors sector.now result }
 {
     let contents = Super::read(sector)?;
@@ -113,12 +112,12 @@ fn read_sectors<D: Disk>(
     requires { at + count ≤ (D.medium disk.old).sectors }
     ensures reads { OnlyReads (D.medium disk.old) (D.medium disk.new) }
     ensures bytes { IfOk result (λ v. (image : Image) → (D.medium disk.new).shows image → v.items ≡ bytes_from image at count) }
-    ensures len { IfOk result (λ v. length v.items ≡ 512 * count) }
+    ensures len { IfOk result (λ v. length v.items ≡ SECTOR_SIZE * count) }
     ensures cause { (fault : DiskFault) → result ≡ Err (LayoutFault.Disk fault) → (D.medium disk.old).faults < (D.medium disk.new).faults }
     ensures kind { IfErr result (λ e. e ≡ LayoutFault.Memory ⊎ ((fault : DiskFault) × (e ≡ LayoutFault.Disk fault))) }
 {
     let mut bytes = Vec::new(alloc);
-    let mut sector = [0; 512];
+    let mut sector = [0; SECTOR_SIZE];
     for i in 0..u64::from(count) {
         if let Err(fault) = disk.read(at + i, &mut sector) {
             return Err(LayoutFault::Disk(fault));

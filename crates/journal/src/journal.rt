@@ -7,14 +7,15 @@ ghost use Rattle.disk_layout.specs.rules.Journal.{Record, record_bytes, payload_
 ghost use Rattle.disk_layout.specs.rules.Stored.{OnlyReads};
 ghost use Rattle.journal.specs.rules.State.{state, room_of};
 ghost use Rattle.journal.specs.rules.Packed.{sectors_for};
-ghost use Rattle.journal.specs.rules.Steps.{AppendsFront, RecordsStand, IsOn, RecordFits, longest_payload};
+ghost use Rattle.journal.specs.rules.Steps.{AppendsFront, RecordsStand, IsOn, RecordFits};
+ghost use Rattle.disk_layout.specs.declared.record.TheConstants.{LONGEST_PAYLOAD};
 
-use crate::decode::{LONGEST_PAYLOAD, records_from};
+use crate::decode::records_from;
 use crate::fault::JournalFault;
-use crate::records::{RECORD_HEAD, payload_len, put_record};
+use crate::records::{payload_len, put_record};
 use crate::scan::read_payloads;
 use crate::store::{sectors_for, store_packed};
-use disk_layout::{Geometry, PAYLOAD_SIZE, Record};
+use disk_layout::{Geometry, LONGEST_PAYLOAD, PAYLOAD_SIZE, RECORD_HEAD_BYTES, Record};
 use sector_disk::{Disk, DiskFault};
 use std::alloc::Global;
 use std::marker::Model;
@@ -60,7 +61,7 @@ impl Journal {
     ) -> Result<Vec<Record>, JournalFault>
         requires { total_sectors geometry.now ≤ (D.medium disk.old).sectors }
         ensures reads { OnlyReads (D.medium disk.old) (D.medium disk.new) }
-        ensures scans { IfOk result (λ v. (image : Image) → (D.medium disk.new).shows image → v.items ≡ scan geometry.now longest_payload image generation) }
+        ensures scans { IfOk result (λ v. (image : Image) → (D.medium disk.new).shows image → v.items ≡ scan geometry.now LONGEST_PAYLOAD image generation) }
         ensures cause { (fault : DiskFault) → result ≡ Err (JournalFault.Disk fault) → (D.medium disk.old).faults < (D.medium disk.new).faults }
         ensures kind { IfErr result (λ e. e ≡ JournalFault.Memory ⊎ ((fault : DiskFault) × (e ≡ JournalFault.Disk fault))) }
     {
@@ -86,16 +87,16 @@ impl Journal {
         (PAYLOAD_SIZE * unwritten as usize).saturating_sub(self.kept.len())
     }
 
-    /// Keeps a record in memory, until the next barrier. A payload over 4,096 bytes is `TooLong`; then a
+    /// Keeps a record in memory, until the next barrier. A payload over `LONGEST_PAYLOAD` is `TooLong`; then a
     /// record longer than the room that is left is `Full`. After an error nothing is kept any more.
     pub fn append(&mut self, geometry: &Geometry, entry: &Record) -> Result<(), JournalFault>
         ensures ok { OnOk result (self.new ≡ state self.old.generation self.old.used (self.old.kept ++ record_bytes entry.now) false) }
         ensures fits { OnOk result (RecordFits entry.now) }
         ensures err { OnErr result (self.new.has_failed ≡ true) }
         ensures failed { (result ≡ Err JournalFault.Failed) ↔ (self.old.has_failed ≡ true) }
-        ensures too_long { (result ≡ Err JournalFault.TooLong) ↔ ((self.old.has_failed ≡ false) × (longest_payload < length (payload_of entry.now.answer))) }
+        ensures too_long { (result ≡ Err JournalFault.TooLong) ↔ ((self.old.has_failed ≡ false) × (LONGEST_PAYLOAD < length (payload_of entry.now.answer))) }
         ensures full { (result ≡ Err JournalFault.Full) ↔
-            ((self.old.has_failed ≡ false) × (length (payload_of entry.now.answer) ≤ longest_payload) × (room_of geometry.now self.old < length (record_bytes entry.now))) }
+            ((self.old.has_failed ≡ false) × (length (payload_of entry.now.answer) ≤ LONGEST_PAYLOAD) × (room_of geometry.now self.old < length (record_bytes entry.now))) }
         ensures no_disk { (fault : DiskFault) → result ≡ Err (JournalFault.Disk fault) → ⊥ }
     {
         if self.has_failed {
@@ -106,7 +107,7 @@ impl Journal {
             self.has_failed = true;
             return Err(JournalFault::TooLong);
         }
-        if RECORD_HEAD + payload > self.room(geometry) {
+        if RECORD_HEAD_BYTES + payload > self.room(geometry) {
             self.has_failed = true;
             return Err(JournalFault::Full);
         }

@@ -4,12 +4,12 @@ ghost use Rattle.wasi_abi.specs.rules.Layouts.{u16_bytes, u64_bytes};
 ghost use Rattle.disk_layout.specs.rules.Journal.{record_bytes, payload_of};
 ghost use Rattle.journal.specs.rules.Steps.{ClockFits};
 
-use disk_layout::{Record, clock_bytes, record_head};
+use disk_layout::{
+    END_KIND, MONOTONIC_KIND, RANDOM_KIND, REALTIME_KIND, REQUEST_KIND, Record, clock_bytes,
+    record_head,
+};
 use std::alloc::AllocError;
 use wasi_abi::Answer;
-
-/// The bytes of a record before its payload.
-pub(crate) const RECORD_HEAD: usize = 11;
 
 /// How many bytes a record's payload has.
 pub(crate) fn payload_len(entry: &Record) -> usize
@@ -32,15 +32,25 @@ pub(crate) fn put_record(bytes: &mut Vec<u8>, entry: &Record) -> Result<(), Allo
     ensures clock { ClockFits entry.now.answer }
 {
     match &entry.answer {
-        Answer::Request { text } => put_parts(bytes, 1, entry.step, text.as_slice()),
-        Answer::End => put_parts(bytes, 2, entry.step, &[]),
+        Answer::Request { text } => put_parts(bytes, REQUEST_KIND, entry.step, text.as_slice()),
+        Answer::End => put_parts(bytes, END_KIND, entry.step, &[]),
         Answer::Realtime { nanoseconds } => {
-            put_parts(bytes, 3, entry.step, &clock_bytes(*nanoseconds))
+            put_parts(bytes, REALTIME_KIND, entry.step, &clock_bytes(*nanoseconds))
         }
         Answer::Monotonic { nanoseconds } => {
-            put_parts(bytes, 4, entry.step, &clock_bytes(*nanoseconds))
+            put_parts(
+                bytes,
+                MONOTONIC_KIND,
+                entry.step,
+                &clock_bytes(*nanoseconds),
+            )
         }
-        Answer::Random { bytes: random } => put_parts(bytes, 5, entry.step, random.as_slice()),
+        Answer::Random { bytes: random } => put_parts(
+            bytes,
+            RANDOM_KIND,
+            entry.step,
+            random.as_slice(),
+        ),
     }
 }
 

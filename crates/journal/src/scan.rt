@@ -6,8 +6,8 @@ ghost use Rattle.disk_layout.specs.rules.Journal.{payloads_from};
 ghost use Rattle.disk_layout.specs.rules.Stored.{OnlyReads};
 
 use crate::fault::JournalFault;
-use disk_layout::{Geometry, is_of, used_length};
-use sector_disk::{Disk, DiskFault};
+use disk_layout::{Geometry, PAYLOAD_AT, is_of, used_length};
+use sector_disk::{Disk, DiskFault, SECTOR_SIZE};
 use std::alloc::Global;
 
 /// The payloads of a generation, one after another: from the first sector on, up to the first that isn't
@@ -26,7 +26,7 @@ pub(crate) fn read_payloads<D: Disk>(
 {
     let at = geometry.journal_place();
     let mut bytes = Vec::new(alloc);
-    let mut sector = [0; 512];
+    let mut sector = [0; SECTOR_SIZE];
     for k in 0..u64::from(geometry.journal_sectors) {
         if let Err(fault) = disk.read(at + k, &mut sector) {
             return Err(JournalFault::Disk(fault));
@@ -35,7 +35,7 @@ pub(crate) fn read_payloads<D: Disk>(
             return Ok(bytes);
         }
         let used = used_length(&sector);
-        let Ok(()) = bytes.extend_from_slice(&sector[2..2 + used]) else {
+        let Ok(()) = bytes.extend_from_slice(&sector[PAYLOAD_AT..PAYLOAD_AT + used]) else {
             return Err(JournalFault::Memory);
         };
     }

@@ -34,6 +34,6 @@ module _ (code : Executable) (new : State) (functions : List FunctionType) (prog
 
   pub at_once : (left : ℕ) (why : Pause) → PausesFor code new functions program d 0 left why → SettlesIn code new functions program d
   at_once left pause.Spent h = come_settles left h.0 h.1
-  at_once left (pause.Host call arguments) h = let used = h.0.used in let some = h.2 in absurd (omega (arith, used, some))
+  at_once left (pause.Host asked) h = let used = h.0.used in let some = h.2 in absurd (omega (arith, used, some))
   at_once left pause.Returned h = come_settles left h.0 (ended_settled program h.0.configuration h.1)
   at_once left (pause.Trapped why) h = let used = h.used in absurd (omega (arith, used))

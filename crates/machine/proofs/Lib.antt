@@ -9,6 +9,7 @@ pub mod AskingAgain
 pub mod Written
 pub mod Finished
 pub mod Stopped
+pub mod Telling
 pub mod FrameLemmas
 pub mod RoutineLemmas
 pub mod TurnLemmas

@@ -1,12 +1,10 @@
 -- What linking makes.
-use Rattle.std.proofs.Common.{◌≡◌, ℕ, ◌≤◌, ◌^◌, List, Some, refl, sym, ◌∙◌, subst}
-use Rattle.std.specs.Prelude.{Option}
+use Rattle.std.proofs.Common.{◌≡◌, ℕ, ◌≤◌, ◌^◌, List, sym, ◌∙◌, subst}
 use Rattle.wasm_syntax.specs.declared.types.FunctionType.{FunctionType}
-use Rattle.wasm_syntax.specs.declared.value.Value.{Value}
 use Rattle.wasm_syntax.specs.declared.module.Module.{Module}
 use Rattle.wasm_syntax_rules.specs.Validity.{AreFunctionTypes}
 use Rattle.wasm_syntax_rules.specs.Configuration.{Program, Store, Configuration}
-use Rattle.wasm_syntax_rules.specs.Instantiation.{IsProgram, IsInitialStore, calls_of, Begins}
+use Rattle.wasm_syntax_rules.specs.Instantiation.{IsProgram, calls_of, Begins}
 use Rattle.wasm_syntax_rules.specs.Steps.{Settles}
 use Rattle.wasm_syntax_rules.proofs.OneRun.{settles_once}
 use Rattle.wasm_syntax_rules.proofs.OneStore.{store_once}

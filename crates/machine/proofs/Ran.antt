@@ -21,11 +21,26 @@ use Rattle.machine.specs.Insides.{seen, IsMemoryFor, IsSettledIn, IsMachine}
 use Rattle.machine.proofs.Settled.{ended_settled, asking_settled, trapping_settled}
 use Rattle.machine.proofs.Inside.{settled_with, shown, stood_for}
 
+-- what the code's rule asks for, the machine's does
+pub asks_for : (code : Executable) (s : State) (functions : List FunctionType) (program : Program) (e : Configuration) (call : Call) (arguments : List ℕ) → Stands code s functions program e → CodeAsksFor code program e call arguments → AsksFor code.«module» program e call arguments
+asks_for code s functions program e call arguments stands h = record {
+  function = h.function;
+  operands = h.operands;
+  waits = h.waits;
+  asks = h.asks;
+  calls = code.calls.items;
+  are_calls = stands.is_code.calls;
+  is_call = h.is_call;
+  is_host = h.is_host;
+  typed = h.typed;
+  are = h.are;
+}
+
 module _ (code : Executable) (new : State) (most : ℕ) (functions : List FunctionType) (program : Program) (d : Configuration) where
   -- a pause leaves something settled
   pub pause_settles : (fuel left : ℕ) (why : Pause) → PausesFor code new functions program d fuel left why → IsSettledIn code new functions program
   pause_settles fuel left pause.Spent h = record { configuration = h.0.configuration; stands = h.0.stands; settled = h.1 }
-  pause_settles fuel left (pause.Host call arguments) h = record { configuration = h.0.configuration; stands = h.0.stands; settled = asking_settled program h.0.configuration h.1.function h.1.operands h.1.waits h.1.asks }
+  pause_settles fuel left (pause.Host asked) h = record { configuration = h.0.configuration; stands = h.0.stands; settled = asking_settled program h.0.configuration h.1.function h.1.operands h.1.waits h.1.asks }
   pause_settles fuel left pause.Returned h = record { configuration = h.0.configuration; stands = h.0.stands; settled = ended_settled program h.0.configuration h.1 }
   pause_settles fuel left (pause.Trapped why) h = record { configuration = stopped h.configuration; stands = h.stands; settled = refl }
 
@@ -39,26 +54,12 @@ module _ (code : Executable) (new : State) (most : ℕ) (functions : List Functi
       shows = shown code new functions program come.configuration come.stands most is e;
     }
 
-    asks_for : (e : Configuration) (call : Call) (arguments : List ℕ) → Stands code new functions program e → CodeAsksFor code program e call arguments → AsksFor code.«module» program e call arguments
-    asks_for e call arguments stands h = record {
-      function = h.function;
-      operands = h.operands;
-      waits = h.waits;
-      asks = h.asks;
-      calls = code.calls.items;
-      are_calls = stands.is_code.calls;
-      is_call = h.is_call;
-      is_host = h.is_host;
-      typed = h.typed;
-      are = h.are;
-    }
-
     pub runs_for : (fuel left : ℕ) (why : Pause) → PausesFor code new functions program d fuel left why → RunsFor (seen code new most) program d fuel left why
     unfolding arrives
     runs_for fuel left pause.Spent h = (arrives fuel left h.0 h.1, h.2, h.3)
-    runs_for fuel left (pause.Host call arguments) h =
+    runs_for fuel left (pause.Host asked) h =
         let e = h.0.configuration in
-        (arrives fuel left h.0 (asking_settled program e h.1.function h.1.operands h.1.waits h.1.asks), asks_for e call arguments h.0.stands h.1, h.2)
+        (arrives fuel left h.0 (asking_settled program e h.1.function h.1.operands h.1.waits h.1.asks), asks_for code new functions program e asked.call asked.arguments h.0.stands h.1, h.2)
     runs_for fuel left pause.Returned h = (arrives fuel left h.0 (ended_settled program h.0.configuration h.1), h.1)
     runs_for fuel left (pause.Trapped why) h = record {
       configuration = h.configuration;

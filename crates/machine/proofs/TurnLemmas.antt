@@ -8,3 +8,4 @@ pub mod FunctionKinds
 pub mod Indirect
 pub mod Asking
 pub mod AtCalls
+pub mod WaitingCalls

@@ -9,7 +9,10 @@
 //! - `Machine::run`: on so much fuel it comes to where that many counted rules lead. It pauses
 //!   spent, at a call of the host, ended or trapped, as the rules say (`runs`).
 //! - `finish`: what the host's answer makes of the configuration that waits is then shown
-//!   (`answers`). It asks that such a call waits (`waits`).
+//!   (`answers`). It asks that such a call waits (its `requires`).
+//! - `waits` tells the call of the host that waits, and its arguments: exactly what the next rule asks
+//!   for, or that it asks for nothing. `has_ended` tells whether the program is over. Neither runs
+//!   anything.
 //! - `stop` drops the thread. What was shown is shown without it (`stops`).
 //! - `memory` is the guest's memory. `memory_mut` lends it, and nothing else changes
 //!   (`writes_back`). `unlink` gives the module back.
@@ -20,14 +23,14 @@
 //! # Definitions to read
 //!
 //! In `specs/rules/`: `MachineValue`, `ShowsIn` (`Values.antt`); `HasBegun`, `RunsOnFuel`,
-//! `WaitsFor`, `Answers`, `Stops` (`Runs.antt`); `IsRefused`, `LinkDenies` (`Refusals.antt`);
+//! `TellsWaiting`, `TellsEnd`, `WaitsFor`, `Answers`, `Stops` (`Runs.antt`); `IsRefused`, `LinkDenies` (`Refusals.antt`);
 //! `offer` (`Offers.antt`). Beside these: `CanStart`, `CanBegin` (`specs/rules/Initial.antt`),
 //! `call_results` (`specs/rules/Answers.antt`), and `Shows` of `machine_slots`.
 //!
 //! # Who may touch what
 //!
 //! No code but this crate's and that of `machine_slots`, `machine_jumps` and `machine_rules` looks
-//! at frames, slots or positions. Callers have `Machine`, and `Pause` with its `Arguments`.
+//! at frames, slots or positions. Callers have `Machine`, `Pause`, and `HostCall` with its `Arguments`.
 //! `machine_loader`, `process` and `worker` use it. `link` takes all memory that running needs;
 //! where it fails the module is gone. The other calls take none and have no errors.
 #![tactic(auto)]
@@ -45,4 +48,4 @@ mod turns;
 pub use instance::LinkFault;
 pub use linking::link;
 pub use running::Machine;
-pub use turns::{Arguments, Pause, Paused};
+pub use turns::{Arguments, HostCall, Pause, Paused};

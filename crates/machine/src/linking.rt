@@ -18,7 +18,7 @@ use wasm_validate::ValidModule;
 
 /// Links a module to the host, where its memory may have so many pages, takes all memory that running needs, and begins. The fault
 /// is the first in the order of `LinkFault`.
-pub fn link(module: ValidModule, pages: u32, alloc: Global) -> Result<Machine, LinkFault>
+pub fn link(alloc: Global, module: ValidModule, pages: u32) -> Result<Machine, LinkFault>
     requires pages { pages ≤ MOST_PAGES }
     requires types { AllByRecursion HasFewParameters «module».types }
     requires functions { AllByRecursion IsSmallFunction «module».functions }
@@ -26,7 +26,7 @@ pub fn link(module: ValidModule, pages: u32, alloc: Global) -> Result<Machine, L
     ensures refused { IfErr result (IsRefused pages «module») }
     ensures only { IfErr result (LinkDenies (IsLinkable offer pages «module»)) }
 {
-    let MachineStart { code, mut state } = begin(module, pages, alloc)?;
+    let MachineStart { code, mut state } = begin(alloc, module, pages)?;
     let most_pages = state.memory.limit();
     let _ = go_on(&code, &mut state, 0);
     Ok(Machine {

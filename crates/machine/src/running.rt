@@ -5,7 +5,7 @@ ghost use Rattle.std.specs.List.{AllByRecursion};
 ghost use Rattle.guest_memory.specs.rules.Bytes.{IsByte};
 ghost use Rattle.guest_memory.specs.rules.Memories.{IsWithinLimit};
 
-use crate::turns::{Executable, Paused, State, clear, go_on};
+use crate::turns::{Executable, HostCall, Paused, State, clear, go_on, waiting_call};
 use guest_memory::Memory;
 use guest_memory::laws::are_bytes;
 use std::marker::Model;
@@ -44,7 +44,7 @@ impl Machine {
     ghost use Rattle.machine.specs.rules.Values.{HoldsMemory, IsSameMachine, memory_of, without_thread};
     ghost use Rattle.std.specs.Borrow.{sem};
     ghost use Rattle.machine.specs.rules.Answers.{call_results};
-    ghost use Rattle.machine.specs.rules.Runs.{RunsOnFuel, Stops, WaitsFor, Answers};
+    ghost use Rattle.machine.specs.rules.Runs.{RunsOnFuel, Stops, TellsEnd, TellsWaiting, WaitsFor, Answers};
     ghost use Rattle.machine.specs.rules.Lends.{LendsMemory};
 
     /// Applies rules until the program has ended or trapped, a call of the host waits, or so much fuel is spent: one unit for each
@@ -82,6 +82,23 @@ impl Machine {
         let _ = go_on(&self.code, &mut self.state, 0);
     }
 
+    /// The call of the host that waits for its answer, if one does. Nothing runs.
+    pub fn waits(&self) -> Option<HostCall>
+        requires { HoldsMemory self.now }
+        ensures { TellsWaiting self.now result }
+    {
+        is_memory(&self.state.memory);
+        waiting_call(&self.code, &self.state)
+    }
+
+    /// Whether the program is over: the last function that the host called has returned, or the machine trapped or was stopped.
+    /// Nothing runs.
+    pub fn has_ended(&self) -> bool
+        ensures { TellsEnd self.now result }
+    {
+        self.state.frames.is_empty()
+    }
+
     /// The guest's memory.
     pub fn memory(&self) -> &Memory
         ensures { result.now ≡ memory_of self.now }
@@ -89,8 +106,8 @@ impl Machine {
         &self.state.memory
     }
 
-    /// The guest's memory, to be written. Nothing else changes. A memory with another limit of pages may be put there, but `run` and
-    /// `finish` ask that the limit is the machine's.
+    /// The guest's memory, to be written. Nothing else changes. A memory with another limit of pages may be put there, but `run`,
+    /// `finish` and `waits` ask that the limit is the machine's.
     pub fn memory_mut(&mut self) -> &mut Memory
         ensures* writes_back { sem 𝓛 (LendsMemory self.entry result) }
         ensures memory { result.now ≡ memory_of self.old }

@@ -18,7 +18,7 @@ pub fn read(alloc: Global, bytes: &[u8]) -> Result<ValidModule, FrontFault>
     ensures only { IfErr result (λ e. FrontDenies e (HasNoValidModule bytes.now)) }
 {
     let decoded = decode(alloc, bytes)?;
-    Ok(validate(decoded, alloc)?)
+    Ok(validate(alloc, decoded)?)
 }
 
 /// The machine of the module that the bytes spell, where its memory may have so many pages. A refusal is that
@@ -31,5 +31,5 @@ pub fn accept(alloc: Global, bytes: &[u8], pages: u32) -> Result<Machine, FrontF
     ensures only { IfErr result (λ e. FrontDenies e (HasNoAcceptedModule pages bytes.now)) }
 {
     let valid = read(alloc, bytes)?;
-    Ok(link(valid, pages, alloc)?)
+    Ok(link(alloc, valid, pages)?)
 }

@@ -5,7 +5,6 @@ pub mod Made
 pub mod Beyond
 pub mod Stretching
 pub mod Counting
-pub mod Pausing
 pub mod Looping
 pub mod Starting
 pub mod Asking

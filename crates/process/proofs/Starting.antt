@@ -12,7 +12,7 @@ use Rattle.wasi_abi.specs.rules.Configs.{Settings}
 use Rattle.wasi_calls.specs.rules.Calls.{IsBuilt}
 use Rattle.wasi_calls_rules.specs.Hosts.{Host}
 use Rattle.wasi_calls.specs.rules.Held.{HeldHost, ShowsHost, held_ended}
-use Rattle.machine.specs.rules.Values.{MachineValue, ShowsIn, IsSameMachine}
+use Rattle.machine.specs.rules.Values.{MachineValue, ShowsIn}
 use Rattle.machine.specs.rules.Runs.{HasBegun}
 use Rattle.process_rules.specs.Processes.{Exited, ProcessState, Guest, AreCalls, IsStart, host_of, over, closed}
 use Rattle.process_rules.proofs.OneStart.{item_number, entry_once}
@@ -32,13 +32,12 @@ abbrev pub first_held : Settings → HeldHost
 first_held config = record { released = 0; host = host_of config }
 
 module _ (m : Module) (config : Settings) (valid : IsValid m) (machine : MachineValue) (begun : HasBegun config.pages m machine)
-    (new : MachineValue) (same : IsSameMachine machine new) (shows_on : (program : Program) (d : Configuration) → ShowsIn machine program d → ShowsIn new program d)
     (held last : HeldHost) (held_is : held ≡ first_held config) where
   first_shown : ShowsHost held (host_of config)
   first_shown = let P : HeldHost → Type 0 = λ z. ShowsHost z (host_of config) in subst P (sym held_is) (record { before = []; count = refl; is = refl })
 
-  calls_of : (guest : Guest) → AreCalls m.imports guest.calls → AreCalls new.guest.imports guest.calls
-  calls_of guest calls = let P : Module → Type 0 = λ z. AreCalls z.imports guest.calls in subst P (sym (same.guest ∙ begun.guest)) calls
+  calls_of : (guest : Guest) → AreCalls m.imports guest.calls → AreCalls machine.guest.imports guest.calls
+  calls_of guest calls = let P : Module → Type 0 = λ z. AreCalls z.imports guest.calls in subst P (sym begun.guest) calls
 
   begun_at : (guest : Guest) (p : ProcessState) → (s : IsStart m config guest p) → ShowsIn machine guest.program s.first
   begun_at guest p s =
@@ -47,14 +46,14 @@ module _ (m : Module) (config : Settings) (valid : IsValid m) (machine : Machine
       let P : ℕ → Type 0 = λ n. Begins m config.pages n guest.program s.first in
       begun.shows guest.program s.first (subst P entries s.begins)
 
-  at_start : (guest : Guest) (p : ProcessState) (s : IsStart m config guest p) (ended : Option ProcessEnd) → EndsAt s.first last (host_of config) ended → ShowsProcess (process_of new last 0 0 0 ended) guest p
+  at_start : (guest : Guest) (p : ProcessState) (s : IsStart m config guest p) (ended : Option ProcessEnd) → EndsAt s.first last (host_of config) ended → ShowsProcess (process_of machine last 0 0 0 ended) guest p
   at_start guest p s None ends =
       let q : ProcessState = first_process config s.first in
       let is : p ≡ q = s.is ∙ open_still s.first.thread s.first.later q (λ a b. ends.0 (record { returned = a; nothing_later = b })) in
-      let P : ProcessState → Type 0 = λ z. ShowsProcess (process_of new last 0 0 0 None) guest z in
+      let P : ProcessState → Type 0 = λ z. ShowsProcess (process_of machine last 0 0 0 None) guest z in
       subst P (sym is) (record {
         calls = calls_of guest s.calls;
-        configuration = shows_on guest.program s.first (begun_at guest p s);
+        configuration = begun_at guest p s;
         host = ends.1;
         steps = refl;
         answers = refl;
@@ -65,10 +64,10 @@ module _ (m : Module) (config : Settings) (valid : IsValid m) (machine : Machine
   at_start guest p s (Some how) ends =
       let q : ProcessState = over (Exited 0) (first_process config s.first) in
       let is : p ≡ q = s.is ∙ closed_over (first_process config s.first) ends.0 in
-      let P : ProcessState → Type 0 = λ z. ShowsProcess (process_of new last 0 0 0 (Some how)) guest z in
+      let P : ProcessState → Type 0 = λ z. ShowsProcess (process_of machine last 0 0 0 (Some how)) guest z in
       subst P (sym is) (record {
         calls = calls_of guest s.calls;
-        configuration = shows_on guest.program s.first (begun_at guest p s);
+        configuration = begun_at guest p s;
         host = ends.2;
         steps = refl;
         answers = refl;
@@ -82,7 +81,7 @@ module _ (m : Module) (config : Settings) (valid : IsValid m) (machine : Machine
   none_at_first (Some how) e = ap (λ (z : HeldHost). z.host.lines) e ∙ ap (λ (z : HeldHost). (held_ended z).host.lines) held_is
 
   module _ (ended : Option ProcessEnd) (ends : (program : Program) (d : Configuration) (h : Host) → ShowsIn machine program d → ShowsHost held h → EndsAt d last h ended) where
-    shows_start : (guest : Guest) (p : ProcessState) → IsStart m config guest p → ShowsProcess (process_of new last 0 0 0 ended) guest p
+    shows_start : (guest : Guest) (p : ProcessState) → IsStart m config guest p → ShowsProcess (process_of machine last 0 0 0 ended) guest p
     shows_start guest p s = at_start guest p s ended (ends guest.program s.first (host_of config) (begun_at guest p s) first_shown)
 
     calls : (calls : List Call) × AreCalls m.imports calls × AllByRecursion IsBuilt calls
@@ -105,10 +104,10 @@ module _ (m : Module) (config : Settings) (valid : IsValid m) (machine : Machine
       is = refl;
     }
 
-    pub has_started : IsEndedBy ended held last → HasStarted m config (process_of new last 0 0 0 ended)
+    pub has_started : IsEndedBy ended held last → HasStarted m config (process_of machine last 0 0 0 ended)
     has_started e = record {
       linkable = begun.linkable;
-      guest = same.guest ∙ begun.guest;
+      guest = begun.guest;
       none_waits = none_at_first ended e;
       first_guest = guest_of;
       first = first_of;
@@ -116,7 +115,7 @@ module _ (m : Module) (config : Settings) (valid : IsValid m) (machine : Machine
       shows = shows_start;
     }
 
-    pub is_process : HasFewLines last → IsProcess (process_of new last 0 0 0 ended)
+    pub is_process : HasFewLines last → IsProcess (process_of machine last 0 0 0 ended)
     unfolding guest_of
     is_process few =
         record {

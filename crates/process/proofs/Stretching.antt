@@ -95,7 +95,7 @@ module _ (guest : Guest) (p before q : ProcessState) (k fuel : ℕ) (runs : Runs
 
 pub left_within : (new : MachineValue) (program : Program) (d : Configuration) (fuel left : ℕ) (why : Pause) → RunsFor new program d fuel left why → left ≤ fuel
 left_within new program d fuel left pause.Spent h = let used = h.0.used in omega (arith, used)
-left_within new program d fuel left (pause.Host c arguments) h = let used = h.0.used in omega (arith, used)
+left_within new program d fuel left (pause.Host asked) h = let used = h.0.used in omega (arith, used)
 left_within new program d fuel left pause.Returned h = let used = h.0.used in omega (arith, used)
 left_within new program d fuel left (pause.Trapped why) h = let used = h.used in omega (arith, used)
 
@@ -138,7 +138,7 @@ module _ (old new : MachineValue) (held : HeldHost) (same : IsSameMachine old ne
         }
 
     -- ---- a call waits
-    module _ (c : Call) (arguments : List ℕ) (h : RunsFor new guest.program p.configuration fuel left (pause.Host c arguments)) where
+    module _ (c : Call) (arguments : List ℕ) (h : RunsFor new guest.program p.configuration fuel left (pause.Host (record { call = c; arguments = arguments }))) where
       abbrev a : Arrives new guest.program p.configuration fuel left
       a = h.0
 

@@ -2,7 +2,6 @@
 
 ghost use Rattle.std.specs.Prelude.{true, false, ◌≡◌, ◌↔◌, option_copied, IsTrue, IfOk, IfErr};
 ghost use Rattle.wasm_syntax_rules.specs.Configuration.{Program, Configuration};
-ghost use Rattle.wasm_syntax_rules.specs.Steps.{IsEnded};
 ghost use Rattle.wasi_abi.specs.rules.Calls.{parameters_of};
 ghost use Rattle.wasi_calls_rules.specs.Rows.{IsSync};
 ghost use Rattle.wasi_calls_rules.specs.Hosts.{Host as TheHost};
@@ -17,7 +16,7 @@ ghost use Rattle.process.specs.Callings.{MakesCall, HasNumbers, HasNoNumbers, Ha
 use crate::fault::ProcessFault;
 use crate::stop::ProcessEnd;
 use guest_memory::laws::are_bytes;
-use machine::{Machine, Pause};
+use machine::Machine;
 use std::alloc::{AllocError, Global};
 use wasi_abi::{Answer, Call, Errno, Kind};
 use wasi_calls::{CallOutcome, Host, lines_emitted};
@@ -41,30 +40,15 @@ pub const NUMBERS_END: u64 = 1 << 63;
 /// The lines that an end of the process emits, at most.
 const LINES_LEFT: u64 = 2;
 
-/// Whether the program has come to its end.
-pub fn has_ended(machine: &mut Machine) -> bool
-    requires { HoldsMemory machine.old }
-    ensures same { IsSameMachine machine.old machine.new }
-    ensures holds { HoldsMemory machine.new }
-    ensures shows { (program : Program) (d : Configuration) → ShowsIn machine.old program d → ShowsIn machine.new program d }
-    ensures ended { (program : Program) (d : Configuration) → ShowsIn machine.old program d → IsTrue result ↔ IsEnded d }
-{
-    matches!(machine.run(0).why, Pause::Returned)
-}
-
 /// Ends the process where the program has come to its end.
-pub fn end_with_program(alloc: Global, machine: &mut Machine, host: &mut Host) -> Option<ProcessEnd>
-    requires holds { HoldsMemory machine.old }
+pub fn end_with_program(alloc: Global, machine: &Machine, host: &mut Host) -> Option<ProcessEnd>
     requires few { HasFewLines host.old }
-    ensures same { IsSameMachine machine.old machine.new }
-    ensures holds { HoldsMemory machine.new }
     ensures few { HasFewLines host.new }
     ensures released { host.new.released ≡ host.old.released }
     ensures host { IsEndedBy result host.old host.new }
-    ensures shows { (program : Program) (d : Configuration) → ShowsIn machine.old program d → ShowsIn machine.new program d }
-    ensures ends { (program : Program) (d : Configuration) (h : TheHost) → ShowsIn machine.old program d → ShowsHost host.old h → EndsAt d host.new h result }
+    ensures ends { (program : Program) (d : Configuration) (h : TheHost) → ShowsIn machine.now program d → ShowsHost host.old h → EndsAt d host.new h result }
 {
-    if !has_ended(machine) {
+    if !machine.has_ended() {
         return None;
     }
     host.end(alloc);

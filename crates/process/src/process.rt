@@ -62,9 +62,9 @@ impl Process {
         ensures only { IfErr result (LinkDenies (IsLinkable offer config.pages «module»)) }
     {
         is_valid(&module);
-        let mut machine = link(module, config.pages(), alloc)?;
+        let machine = link(alloc, module, config.pages())?;
         let mut host = Host::new(alloc, config, TEXT_BYTES)?;
-        let ended = end_with_program(alloc, &mut machine, &mut host);
+        let ended = end_with_program(alloc, &machine, &mut host);
         Ok(Process {
             alloc,
             machine,

@@ -70,8 +70,9 @@ impl Process {
         report_stop(stretch.stop, most < fuel)
     }
 
-    /// Takes the step that wants an answer, with this one. While a line waits to be released, every answer is a wrong one. After an error
-    /// nothing has changed. No call that is built wants an answer, so that every one is a wrong one yet.
+    /// Takes the step that wants an answer, with this one. While a line waits to be released, every
+    /// answer is a wrong one. After an error nothing has changed, and nothing ran. No call that is
+    /// built wants an answer, so that every one is a wrong one yet.
     pub fn give(&mut self, answer: Answer) -> Result<(), ProcessFault>
         ensures gives { GivesAnswer self.old answer result self.new }
         ensures released { self.new.host.released ≡ self.old.host.released }

@@ -132,8 +132,9 @@ fn turn(alloc: Global, machine: &mut Machine, host: &mut Host, fuel: u64) -> Str
             ended: None,
             stop: Some(Ok(Stop::Spent)),
         },
-        Pause::Host(call, arguments) => {
-            let next = step(alloc, machine, host, call, arguments.as_slice());
+        Pause::Host(asked) => {
+            let arguments = asked.arguments.as_slice();
+            let next = step(alloc, machine, host, asked.call, arguments);
             Stretch {
                 steps: ran + next.steps,
                 ended: next.ended,

@@ -1,6 +1,5 @@
 -- The worked example `echo` holds: the answers, step by step.
 use Rattle.std.proofs.Common.{◌≡◌, ◌≢◌, inl, ℕ, ◌+◌, ◌==◌, true, false, List, [], ◌∷◌, ◌++◌, replicate, codes, Option, Some, None, refl, sym, ap, subst, lit≤, suc, arith}
-use Rattle.std.specs.List.{AllByRecursion}
 use Rattle.wasm_syntax.specs.declared.value.Value.{Value}
 use Rattle.wasm_syntax.specs.declared.instruction.Instruction.{Instruction}
 use Rattle.wasm_syntax.specs.declared.instruction.Instruction.TheVariants as instr
@@ -15,10 +14,11 @@ use Rattle.wasi_abi.specs.declared.answer.Kind.TheVariants as kind
 use Rattle.wasi_abi.specs.declared.answer.Answer.{Answer}
 use Rattle.wasi_abi.specs.declared.answer.Answer.TheVariants as answer
 use Rattle.wasi_abi.specs.declared.call.Call.TheVariants as call
-use Rattle.wasi_abi.specs.rules.Answers.{IsNoNewline}
+use Rattle.wasi_abi.specs.rules.Answers.{IsRequestText}
 use Rattle.wasi_abi.specs.rules.Configs.{Settings}
 use Rattle.wasi_calls_rules.specs.Hosts as host
 use Rattle.wasi_calls_rules.specs.Checks.{Bytes}
+use Rattle.wasi_calls_rules.specs.declared.limits.TheConstants.{TEXT_BYTES}
 use Rattle.process_rules.specs.Processes.{ProcessState, Guest, Exited, IsStart, host_of, closed}
 use Rattle.process_rules.specs.Runs.{On, Wants, next_of, after_rule, stepped, IsWanted, LeadsTo, Moves, Given, Runs, Reaches, none, step, take}
 use Rattle.process_rules.specs.laws.Examples.{ComesTo, at_rest, abc_and_end, echo_memory, echo_end, EchoEnds}
@@ -157,11 +157,15 @@ stores_four : (config : Settings) (rest : Sequence)
 unfolding memory_read memory_copied
 stores_four config rest = refl
 
-abc_fits : AllByRecursion IsNoNewline (codes "abc")
-abc_fits = (differs 97 refl, (differs 98 refl, (differs 99 refl, tt)))
-  where
-    differs : (b : ℕ) → (b == 10) ≡ false → b ≢ 10
-    differs b other e = let clash : (b == 10) ≡ true = ap (λ z. z == 10) e in absurd (cc)
+differs : (b : ℕ) → (b == 10) ≡ false → b ≢ 10
+differs b other e = let clash : (b == 10) ≡ true = ap (λ z. z == 10) e in absurd (cc)
+
+abc_fits : IsRequestText TEXT_BYTES (codes "abc")
+abc_fits = record {
+  short = lit≤ tt;
+  are_bytes = (omega arith, (omega arith, (omega arith, tt)));
+  no_newline = (differs 97 refl, (differs 98 refl, (differs 99 refl, tt)));
+}
 
 -- ---- the run
 
@@ -184,7 +188,7 @@ runs : (config : Settings) → Runs (guest_of config) (after 0 0 (host_of config
 runs config =
     step (enters config 0 0 (host_of config) first_memory)
     (step (goes config refl) (step (goes config refl) (step (goes config refl) (step (goes config refl)
-    (take (leads_on config _ (Some abc) _ _ refl (kind.Request, wants_first config, (lit≤ tt, abc_fits)) (reads_first config) refl)
+    (take (leads_on config _ (Some abc) _ _ refl (kind.Request, wants_first config, abc_fits) (reads_first config) refl)
     (step (goes config refl) (step (goes config refl) (step (goes config (loads_four config _ _)) (step (goes config refl)
     (step (goes config refl) (copies config)))))))))))
 
@@ -251,7 +255,7 @@ asked_once config n q rest = rw (sym (plus_six n))
     (step (enters config 0 0 (host_of config) first_memory)
     (step (goes config refl) (step (goes config refl) (step (goes config refl) (step (goes config refl)
     (take (leads_on config _ (Some abc) _ _ refl
-    (kind.Request, wants_first config, (lit≤ tt, abc_fits)) (reads_first config) refl)
+    (kind.Request, wants_first config, abc_fits) (reads_first config) refl)
     rest))))))
   where
     plus_six : (n : ℕ) → suc (suc (suc (suc (suc (suc n))))) ≡ n + 6
@@ -269,7 +273,7 @@ echo_asks config = record {
       (step (goes config refl) (step (goes config refl) none))));
   no_line = refl;
   asks = wants_first config;
-  wants_request = (kind.Request, wants_first config, (lit≤ tt, abc_fits));
+  wants_request = (kind.Request, wants_first config, abc_fits);
   taken = after 6 1 (host_of config) (blank (inside (v 0 ∷ []) testing) memory_read);
   to_taken = asked_once config 0 _ none;
   still_no_line = refl;

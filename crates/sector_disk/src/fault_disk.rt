@@ -5,7 +5,7 @@ ghost use Rattle.sector_disk.specs.rules.Trouble.{is_met};
 use crate::front::write_front;
 use crate::log::Log;
 use crate::trouble::Trouble;
-use crate::{Disk, DiskFault, Place};
+use crate::{Disk, DiskFault, Place, SECTOR_SIZE};
 
 /// Hands calls on to the disk below, and counts them. It stops at one that it is told: that call and
 /// each later one is `Cut`, and none of them reaches the disk below, but that of a stopped write the
@@ -93,12 +93,12 @@ impl<D> FaultDisk<D> {
                 return Some(Trouble::Stopped);
             }
             if stop.call == call {
-                return Some(Trouble::Stops(usize::from(stop.front).min(512)));
+                return Some(Trouble::Stops(usize::from(stop.front).min(SECTOR_SIZE)));
             }
         }
         match self.fail {
             Some(fail) if fail.call == call => {
-                Some(Trouble::Fails(usize::from(fail.front).min(512)))
+                Some(Trouble::Fails(usize::from(fail.front).min(SECTOR_SIZE)))
             }
             _ => None,
         }
@@ -116,7 +116,7 @@ impl<D: Disk> Disk for FaultDisk<D> {
         self.inner.sectors()
     }
 
-    fn read(&mut self, sector: u64, into: &mut [u8; 512]) -> Result<(), DiskFault>
+    fn read(&mut self, sector: u64, into: &mut [u8; SECTOR_SIZE]) -> Result<(), DiskFault>
         ensures reads { Reads sector into.new result (⟦<FaultDisk<D> as Disk>⟧.medium self.old) (⟦<FaultDisk<D> as Disk>⟧.medium self.new) }
         ensures calls { call_counts_of self.new ≡ record (call_counts_of self.old) { reads = counted (call_counts_of self.old).reads } }
         ensures stop { stop_of self.new ≡ stop_of self.old }
@@ -135,7 +135,7 @@ impl<D: Disk> Disk for FaultDisk<D> {
         }
     }
 
-    fn write(&mut self, sector: u64, from: &[u8; 512]) -> Result<(), DiskFault>
+    fn write(&mut self, sector: u64, from: &[u8; SECTOR_SIZE]) -> Result<(), DiskFault>
         ensures writes { Writes sector from.now result (⟦<FaultDisk<D> as Disk>⟧.medium self.old) (⟦<FaultDisk<D> as Disk>⟧.medium self.new) }
         ensures calls { call_counts_of self.new ≡ record (call_counts_of self.old) { writes = counted (call_counts_of self.old).writes } }
         ensures stop { stop_of self.new ≡ stop_of self.old }

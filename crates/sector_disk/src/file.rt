@@ -3,7 +3,7 @@ ghost use Rattle.std.specs.Prelude.{◌≡◌, ◌<◌, ◌≤◌, ◌^◌, ◌�
 
 use crate::file_call::{FileCall, NO_BYTES};
 use crate::log::Log;
-use crate::{Disk, DiskFault};
+use crate::{Disk, DiskFault, SECTOR_SIZE};
 use std::fs::{File, OpenFile, OpenOptions};
 use std::os::unix::fs::FileExt;
 use std::rt::Files;
@@ -18,7 +18,7 @@ pub struct FileDisk<F> {
     file: F,
     count: u64,
     /// Each call with its answer. Only clauses read it.
-    log: Log<FileCall, [u8; 512]>,
+    log: Log<FileCall, [u8; SECTOR_SIZE]>,
     ghost small: { count < 2 ^ 55 },
 }
 
@@ -45,7 +45,7 @@ impl<F: OpenFile + FileExt> FileDisk<F> {
         let Ok(file) = File::create_new(files, path) else {
             return Err(DiskFault::Io);
         };
-        if file.set_len(sectors * 512).is_err() || file.sync_all().is_err() {
+        if file.set_len(sectors * SECTOR_SIZE as u64).is_err() || file.sync_all().is_err() {
             return Err(DiskFault::Io);
         }
         sync_folder(files, path)?;
@@ -71,7 +71,7 @@ impl<F: OpenFile + FileExt> FileDisk<F> {
         };
         Ok(FileDisk {
             file,
-            count: found.len() / 512,
+            count: found.len() / SECTOR_SIZE as u64,
             log: Log::new(),
         })
     }
@@ -103,7 +103,7 @@ impl<F: OpenFile + FileExt> Disk for FileDisk<F> {
         self.count
     }
 
-    fn read(&mut self, sector: u64, into: &mut [u8; 512]) -> Result<(), DiskFault>
+    fn read(&mut self, sector: u64, into: &mut [u8; SECTOR_SIZE]) -> Result<(), DiskFault>
         ensures reads { Reads sector into.new result (file_medium self.old) (file_medium self.new) }
         ensures range { IsErrOf result DiskFault.Range ↔ ((file_medium self.old).sectors ≤ sector) }
         ensures logged { ReadLogged result sector into.new (answers_of self.old) (answers_of self.new) }
@@ -111,7 +111,7 @@ impl<F: OpenFile + FileExt> Disk for FileDisk<F> {
         if sector >= self.count {
             return Err(DiskFault::Range);
         }
-        match self.file.read_exact_at(into, sector * 512) {
+        match self.file.read_exact_at(into, sector * SECTOR_SIZE as u64) {
             Ok(()) => {
                 self.log = self.log.and(&FileCall::Read(sector), into);
                 Ok(())
@@ -123,7 +123,7 @@ impl<F: OpenFile + FileExt> Disk for FileDisk<F> {
         }
     }
 
-    fn write(&mut self, sector: u64, from: &[u8; 512]) -> Result<(), DiskFault>
+    fn write(&mut self, sector: u64, from: &[u8; SECTOR_SIZE]) -> Result<(), DiskFault>
         ensures writes { Writes sector from.now result (file_medium self.old) (file_medium self.new) }
         ensures range { IsErrOf result DiskFault.Range ↔ ((file_medium self.old).sectors ≤ sector) }
         ensures logged { WriteLogged result sector from.now (answers_of self.old) (answers_of self.new) }
@@ -131,7 +131,7 @@ impl<F: OpenFile + FileExt> Disk for FileDisk<F> {
         if sector >= self.count {
             return Err(DiskFault::Range);
         }
-        match self.file.write_all_at(from, sector * 512) {
+        match self.file.write_all_at(from, sector * SECTOR_SIZE as u64) {
             Ok(()) => {
                 self.log = self.log.and(&FileCall::Wrote(sector), from);
                 Ok(())

@@ -1,3 +1,5 @@
+use crate::SECTOR_SIZE;
+
 /// A call that a file was asked for, with its answer. Its bytes stand beside it in the log, and are
 /// `NO_BYTES` of a call that has none. Only clauses read it.
 #[derive(Clone, Copy, Debug)]
@@ -13,4 +15,4 @@ pub(crate) enum FileCall {
     Failed,
 }
 
-pub(crate) const NO_BYTES: [u8; 512] = [0; 512];
+pub(crate) const NO_BYTES: [u8; SECTOR_SIZE] = [0; SECTOR_SIZE];

@@ -1,14 +1,15 @@
 // A front of a write.
 ghost use Rattle.std.specs.Prelude.{◌≡◌, ◌≤◌, ◌+◌};
+ghost use Rattle.sector_disk.specs.declared.sector.TheConstants.{SECTOR_SIZE};
 ghost use Rattle.sector_disk.specs.rules.Image.{front_over};
 ghost use Rattle.sector_disk.specs.rules.Medium.{CountsUpTo, Passes};
 ghost use Rattle.sector_disk.specs.rules.Trouble.{LeavesFront};
 
-use crate::Disk;
+use crate::{Disk, SECTOR_SIZE};
 
 /// Leaves a front of the bytes over what the sector holds.
-pub(crate) fn leave_front(sector: &mut [u8; 512], bytes: &[u8; 512], front: usize)
-    requires { front ≤ 512 }
+pub(crate) fn leave_front(sector: &mut [u8; SECTOR_SIZE], bytes: &[u8; SECTOR_SIZE], front: usize)
+    requires { front ≤ SECTOR_SIZE }
     ensures { sector.new ≡ front_over front bytes.now sector.old }
 {
     sector[..front].copy_from_slice(&bytes[..front]);
@@ -19,15 +20,15 @@ pub(crate) fn leave_front(sector: &mut [u8; 512], bytes: &[u8; 512], front: usiz
 pub(crate) fn write_front<D: Disk>(
     disk: &mut D,
     sector: u64,
-    from: &[u8; 512],
+    from: &[u8; SECTOR_SIZE],
     front: usize,
 ) -> bool
-    requires { front ≤ 512 }
+    requires { front ≤ SECTOR_SIZE }
     ensures leaves { LeavesFront front sector from.now result (D.medium disk.old) (D.medium disk.new) }
     ensures counts { CountsUpTo ((D.medium disk.old).unsynced + 1) (D.medium disk.old) (D.medium disk.new) }
     ensures passes { Passes (D.medium disk.old) (D.medium disk.new) (D.medium disk.new).may_leave }
 {
-    let mut bytes = [0; 512];
+    let mut bytes = [0; SECTOR_SIZE];
     if disk.read(sector, &mut bytes).is_err() {
         return false;
     }

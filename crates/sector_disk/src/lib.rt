@@ -1,4 +1,4 @@
-//! A disk of sectors of 512 bytes (this project's own). There is a model of what reads give and
+//! A disk of sectors of 512 bytes (`SECTOR_SIZE`) (this project's own). There is a model of what reads give and
 //! what a cut of the power may leave, and there are three disks that meet it.
 //!
 //! # Promises
@@ -38,10 +38,12 @@ mod fault_disk;
 mod file;
 mod file_call;
 mod front;
+pub mod laws;
 mod log;
 mod memory;
 mod place;
 mod run;
+mod sector;
 mod trouble;
 mod write;
 
@@ -52,3 +54,4 @@ pub use file::FileDisk;
 pub use memory::MemDisk;
 pub use place::Place;
 pub use run::{store_run, write_run};
+pub use sector::SECTOR_SIZE;

@@ -1,15 +1,16 @@
 // A disk in memory. It keeps the sectors of the last good sync and the writes since, so that it can be cut.
 ghost use Rattle.std.specs.Prelude.{◌≡◌, ◌<◌, ◌≤◌, List, ℕ, [], length, drop, replicate, All, vec_capacity, IfOk, IfErr, OnOk, OnErr};
+ghost use Rattle.sector_disk.specs.declared.sector.TheConstants.{SECTOR_SIZE};
 ghost use Rattle.sector_disk.specs.rules.Image.{Image, IsImage, sector_at};
 ghost use Rattle.sector_disk.specs.rules.Pending.{IsWriteWithin, first_front, replayed as all_of};
 
 use crate::front::leave_front;
 use crate::log::Log;
 use crate::write::Write;
-use crate::{Disk, DiskFault};
+use crate::{Disk, DiskFault, SECTOR_SIZE};
 use std::alloc::Global;
 
-type Sector = [u8; 512];
+type Sector = [u8; SECTOR_SIZE];
 
 /// A disk in memory, which a cut can be tried on. It fails only where it is asked for a sector that
 /// it lacks (`Range`) or for more writes between two syncs than it has room for (`Io`). No read,
@@ -40,13 +41,13 @@ impl MemDisk {
     /// So many sectors of zeros, with room for so many writes between two syncs. It fails only for
     /// want of memory.
     pub fn new(alloc: Global, sectors: u64, writes: usize) -> Result<MemDisk, DiskFault>
-        ensures made { IfOk result (λ d. memory_state_of d ≡ record { settled = replicate sectors (replicate 512 0); pending = []; limit = writes }) }
-        ensures zeros { IfOk result (λ d. (memory_medium d).shows (replicate sectors (replicate 512 0))) }
+        ensures made { IfOk result (λ d. memory_state_of d ≡ record { settled = replicate sectors (replicate SECTOR_SIZE 0); pending = []; limit = writes }) }
+        ensures zeros { IfOk result (λ d. (memory_medium d).shows (replicate sectors (replicate SECTOR_SIZE 0))) }
         ensures settled { IfOk result (λ d. IsAllSynced (memory_medium d)) }
         ensures err { IfErr result (λ e. e ≡ DiskFault.Memory) }
     {
         let mut settled = Vec::new(alloc);
-        settled.resize(sectors as usize, [0; 512])?;
+        settled.resize(sectors as usize, [0; SECTOR_SIZE])?;
         MemDisk::from_sectors(alloc, settled, writes)
     }
 
@@ -58,7 +59,7 @@ impl MemDisk {
     }
 
     /// What a cut leaves that keeps these fronts, in bytes, of the writes since the last good sync,
-    /// the oldest first. A missing number, or a larger one than 512, keeps all of its write. It
+    /// the oldest first. A missing number, or a larger one than a sector has bytes, keeps all of its write. It
     /// fails only for want of memory.
     pub fn cut(&self, alloc: Global, tears: &[u16]) -> Result<MemDisk, DiskFault>
         ensures cut { IfOk result (λ d. memory_state_of d ≡ after_cut (memory_state_of self.now) tears.now) }
@@ -102,12 +103,12 @@ impl MemDisk {
 /// The front that the number at `i` names.
 fn front_named(tears: &[u16], i: usize) -> usize
     ensures front { result ≡ first_front (drop i tears.now) }
-    ensures within { result ≤ 512 }
+    ensures within { result ≤ SECTOR_SIZE }
 {
     if i < tears.len() {
-        usize::from(tears[i]).min(512)
+        usize::from(tears[i]).min(SECTOR_SIZE)
     } else {
-        512
+        SECTOR_SIZE
     }
 }
 
@@ -121,7 +122,7 @@ impl Disk for MemDisk {
         self.settled.len() as u64
     }
 
-    fn read(&mut self, sector: u64, into: &mut [u8; 512]) -> Result<(), DiskFault>
+    fn read(&mut self, sector: u64, into: &mut [u8; SECTOR_SIZE]) -> Result<(), DiskFault>
         ensures reads { Reads sector into.new result (memory_medium self.old) (memory_medium self.new) }
         ensures answer { result ≡ read_answer (memory_state_of self.old) sector }
         ensures bytes { OnOk result (into.new ≡ sector_at (shown_by (memory_state_of self.old)) sector) }
@@ -135,7 +136,7 @@ impl Disk for MemDisk {
         Ok(())
     }
 
-    fn write(&mut self, sector: u64, from: &[u8; 512]) -> Result<(), DiskFault>
+    fn write(&mut self, sector: u64, from: &[u8; SECTOR_SIZE]) -> Result<(), DiskFault>
         ensures writes { Writes sector from.now result (memory_medium self.old) (memory_medium self.new) }
         ensures answer { result ≡ write_answer (memory_state_of self.old) sector }
         ensures done { OnOk result (memory_state_of self.new ≡ after_write (memory_state_of self.old) sector from.now) }

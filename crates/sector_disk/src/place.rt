@@ -1,5 +1,5 @@
 /// The number of a call, from 1, and the front in bytes that it leaves if it is a write. A larger
-/// front than 512 is the whole write.
+/// front than a sector is the whole write.
 #[derive(Clone, Copy, Debug)]
 pub struct Place {
     pub call: u64,

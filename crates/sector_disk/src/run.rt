@@ -3,10 +3,10 @@ ghost use Rattle.std.specs.Prelude.{◌≡◌, ◌⊎◌, ◌+◌, ◌<◌, ◌�
 ghost use Rattle.sector_disk.specs.rules.Medium.{LeavesOnly, After, Follows, IsAllSynced, CountsUpTo, FailsInside, spare};
 ghost use Rattle.sector_disk.specs.rules.Run.{IsTornRun, IsWrittenRun, HoldsRun, WritesRun};
 
-use crate::{Disk, DiskFault};
+use crate::{Disk, DiskFault, SECTOR_SIZE};
 
 /// Writes these sectors one after another, the first of them at `at`. It ends at the first error.
-pub fn write_run<D: Disk>(disk: &mut D, at: u64, sectors: &[[u8; 512]]) -> Result<(), DiskFault>
+pub fn write_run<D: Disk>(disk: &mut D, at: u64, sectors: &[[u8; SECTOR_SIZE]]) -> Result<(), DiskFault>
     requires { at + length sectors.now ≤ (D.medium disk.old).sectors }
     ensures { WritesRun at sectors.now result (D.medium disk.old) (D.medium disk.new) }
 {
@@ -19,7 +19,7 @@ pub fn write_run<D: Disk>(disk: &mut D, at: u64, sectors: &[[u8; 512]]) -> Resul
 }
 
 /// Writes these sectors one after another, the first of them at `at`, and syncs.
-pub fn store_run<D: Disk>(disk: &mut D, at: u64, sectors: &[[u8; 512]]) -> Result<(), DiskFault>
+pub fn store_run<D: Disk>(disk: &mut D, at: u64, sectors: &[[u8; SECTOR_SIZE]]) -> Result<(), DiskFault>
     requires { at + length sectors.now ≤ (D.medium disk.old).sectors }
 
     // A cut at any moment leaves of each of the sectors some front, and all others as they were.

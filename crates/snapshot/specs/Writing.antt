@@ -8,10 +8,11 @@ use Rattle.disk_layout.specs.rules.Places.{area_place}
 use Rattle.disk_layout.specs.rules.Sectors.{bytes_from}
 use Rattle.snapshot.specs.declared.writer.AreaWriter.{AreaWriter}
 use Rattle.snapshot.specs.declared.writing.Writing.{Writing}
+use Rattle.sector_disk.specs.declared.sector.TheConstants.{SECTOR_SIZE}
 
 -- how many bytes it was given
 abbrev pub written_length : AreaWriter → ℕ
-written_length w = 512 * w.sectors + w.filled
+written_length w = SECTOR_SIZE * w.sectors + w.filled
 
 -- it writes the image of this generation, whole or its changes, and was given no byte
 pub record Starts (g v : ℕ) (writing : Writing) (w : AreaWriter) : Type 0 where

@@ -1,6 +1,7 @@
 // The newest complete head of a disk, and the image that it names.
 ghost use Rattle.std.specs.Prelude.{◌≡◌, ◌+◌, ◌*◌, ◌<◌, ◌≤◌, ◌↔◌, ◌⊎◌, ◌^◌, ℕ, IfOk, IfErr, IsTrue, length, take};
 ghost use Rattle.sha2.specs.Sha256.{sha256};
+ghost use Rattle.sector_disk.specs.declared.sector.TheConstants.{SECTOR_SIZE};
 ghost use Rattle.sector_disk.specs.rules.Image.{Image, sector_at};
 ghost use Rattle.disk_layout.specs.rules.Places.{journal_place};
 ghost use Rattle.disk_layout.specs.rules.Sectors.{bytes_from};
@@ -10,7 +11,7 @@ ghost use Rattle.snapshot.specs.rules.Newest.{ReadsImage};
 
 use crate::fault::SnapshotFault;
 use disk_layout::{Geometry, Head};
-use sector_disk::{Disk, DiskFault};
+use sector_disk::{Disk, DiskFault, SECTOR_SIZE};
 use sha2::{Digest, Sha256};
 use std::alloc::Global;
 
@@ -29,15 +30,15 @@ pub(crate) fn newest_head<D: Disk>(disk: &mut D) -> Result<Option<Head>, DiskFau
     ensures finds { IfOk result (λ head. (image : Image) → (D.medium disk.new).shows image → FindsHead image head) }
     ensures cause { (fault : DiskFault) → result ≡ Err fault → (D.medium disk.old).faults < (D.medium disk.new).faults }
 {
-    let mut first = [0; 512];
+    let mut first = [0; SECTOR_SIZE];
     disk.read(1, &mut first)?;
-    let mut second = [0; 512];
+    let mut second = [0; SECTOR_SIZE];
     disk.read(2, &mut second)?;
     Ok(newer_head(head_in(0, &first), head_in(1, &second)))
 }
 
 /// The head of this area, 0 or 1, if its sector is a complete one.
-fn head_in(area: u64, sector: &[u8; 512]) -> Option<Head>
+fn head_in(area: u64, sector: &[u8; SECTOR_SIZE]) -> Option<Head>
     ensures { HeadIn area sector.now result }
 {
     if Head::is_complete(area, sector) {
@@ -72,7 +73,7 @@ pub(crate) fn read_image<D: Disk>(
     ensures own { result ≡ Err SnapshotFault.Failed → ⊥ }
     ensures cause { (fault : DiskFault) → result ≡ Err (SnapshotFault.Disk fault) → (D.medium disk.old).faults < (D.medium disk.new).faults }
 {
-    let room = 512 * u64::from(geometry.area_sectors);
+    let room = SECTOR_SIZE as u64 * u64::from(geometry.area_sectors);
     if head.length_in_bytes > room {
         return Err(SnapshotFault::Damaged);
     }
@@ -98,16 +99,16 @@ fn read_bytes<D: Disk>(
     len: u64,
 ) -> Result<Vec<u8>, SnapshotFault>
     requires small { len ≤ 2 ^ 60 }
-    requires room { 512 * at + len ≤ 512 * (D.medium disk.old).sectors }
+    requires room { SECTOR_SIZE * at + len ≤ SECTOR_SIZE * (D.medium disk.old).sectors }
     ensures reads { OnlyReads (D.medium disk.old) (D.medium disk.new) }
-    ensures bytes { IfOk result (λ v. (count : ℕ) → len ≤ 512 * count → (image : Image) → (D.medium disk.new).shows image → v.items ≡ take len (bytes_from image at count)) }
+    ensures bytes { IfOk result (λ v. (count : ℕ) → len ≤ SECTOR_SIZE * count → (image : Image) → (D.medium disk.new).shows image → v.items ≡ take len (bytes_from image at count)) }
     ensures len { IfOk result (λ v. length v.items ≡ len) }
     ensures cause { (fault : DiskFault) → result ≡ Err (SnapshotFault.Disk fault) → (D.medium disk.old).faults < (D.medium disk.new).faults }
     ensures kind { IfErr result (λ e. e ≡ SnapshotFault.Memory ⊎ ((fault : DiskFault) × (e ≡ SnapshotFault.Disk fault))) }
 {
     let mut bytes = Vec::new(alloc);
-    let mut sector = [0; 512];
-    for i in 0..len.div_ceil(512) {
+    let mut sector = [0; SECTOR_SIZE];
+    for i in 0..len.div_ceil(SECTOR_SIZE as u64) {
         disk.read(at + i, &mut sector)?;
         bytes.extend_from_slice(&sector)?;
     }

@@ -31,6 +31,7 @@ pub struct Snapshots {
 
 impl Snapshots {
     ghost use Rattle.std.specs.Prelude.{◌+◌, ◌*◌, ◌/◌, ◌^◌, ◌++◌, ◌↔◌, false, ℕ, List, length, ◌≡◌, ◌≤◌, ◌<◌, ◌⊎◌, IsTrue, OnOk, IfOk, IsErr};
+    ghost use Rattle.sector_disk.specs.declared.sector.TheConstants.{SECTOR_SIZE};
     ghost use Rattle.sector_disk.specs.rules.Image.{Image};
     ghost use Rattle.sector_disk.specs.rules.Medium.{LeavesOnly, After, Follows, CountsUpTo, IsAllSynced, spare};
     ghost use Rattle.sector_disk.specs.declared.fault.DiskFault.{DiskFault};
@@ -167,7 +168,7 @@ impl Snapshots {
         ensures pushed { OnOk result ((before : List ℕ) → HasPushed geometry.now (D.medium disk.old) self.old before → HasPushed geometry.now (D.medium disk.new) self.new (before ++ bytes.now)) }
         ensures same { OnOk result (IsSameImage self.old self.new) }
         ensures length { OnOk result (length_of self.new ≡ length_of self.old + length bytes.now) }
-        ensures within { OnOk result (length_of self.new ≤ 512 * geometry.now.area_sectors) }
+        ensures within { OnOk result (length_of self.new ≤ SECTOR_SIZE * geometry.now.area_sectors) }
         ensures unsynced { OnOk result ((D.medium disk.new).unsynced + sectors_of self.old ≤ (D.medium disk.old).unsynced + sectors_of self.new) }
 
         // Of an image that is written whole, each sector that they fill is written, whatever the
@@ -186,7 +187,7 @@ impl Snapshots {
         ensures counts { CountsUpTo ((D.medium disk.old).unsynced + filled_by self.old
             (length bytes.now)) (D.medium disk.old) (D.medium disk.new) }
 
-        ensures too_big { (result ≡ Err SnapshotFault.TooBig) ↔ ((is_failed self.old ≡ false) × (512 * geometry.now.area_sectors < length_of self.old + length bytes.now)) }
+        ensures too_big { (result ≡ Err SnapshotFault.TooBig) ↔ ((is_failed self.old ≡ false) × (SECTOR_SIZE * geometry.now.area_sectors < length_of self.old + length bytes.now)) }
         ensures untouched { IsTrue (is_failed self.old) ⊎ (result ≡ Err SnapshotFault.TooBig) → disk.new ≡ disk.old }
         ensures fails { StaysFailed result self.old self.new }
         ensures cause { IsErr result → IsTrue (is_failed self.old) ⊎ (result ≡ Err SnapshotFault.TooBig) ⊎ ((fault : DiskFault) × (result ≡ Err (SnapshotFault.Disk fault)) × ((spare (D.medium disk.old) + sectors_of self.old < geometry.now.area_sectors) ⊎ ((D.medium disk.old).faults < (D.medium disk.new).faults))) }
@@ -206,7 +207,7 @@ impl Snapshots {
         geometry: &Geometry,
     ) -> Result<(), SnapshotFault>
         requires begun { is_idle self.old ≡ false }
-        requires within { length_of self.old ≤ 512 * geometry.now.area_sectors }
+        requires within { length_of self.old ≤ SECTOR_SIZE * geometry.now.area_sectors }
         requires places { journal_place geometry.now ≤ (D.medium disk.old).sectors }
 
         // A cut at any moment leaves the newest snapshot that there was, or this one.
@@ -230,7 +231,7 @@ impl Snapshots {
         // Of an image that is written whole, a last sector that isn't full is written, whatever
         // the area held.
         ensures whole { writing_of self.old ≡ Writing.Whole →
-            512 * sectors_of self.old < length_of self.old →
+            SECTOR_SIZE * sectors_of self.old < length_of self.old →
             OnOk result ((D.medium disk.new).unsynced_since (D.medium disk.old).moment
             ((D.medium disk.old).unsynced + 1)) }
         ensures idle { OnOk result (IsTrue (is_idle self.new)) }
@@ -265,7 +266,7 @@ impl Snapshots {
         // Once it has answered Ok, each cut leaves this one.
         ensures done { OnOk result (Follows (Replaces geometry.now generation version image.now) (D.medium disk.old).may_leave (D.medium disk.new).may_leave) }
         ensures settled { OnOk result (IsAllSynced (D.medium disk.new)) }
-        ensures counts { CountsUpTo ((D.medium disk.old).unsynced + length image.now / 512 + 1)
+        ensures counts { CountsUpTo ((D.medium disk.old).unsynced + length image.now / SECTOR_SIZE + 1)
             (D.medium disk.old) (D.medium disk.new) }
         ensures idle { OnOk result (IsTrue (is_idle self.new)) }
 
@@ -273,7 +274,7 @@ impl Snapshots {
         ensures spared { OnOk result (SparesAllButHead (area_place geometry.now generation) 0
             (rounded_up (length image.now)) (D.medium disk.old) (D.medium disk.new)) }
 
-        ensures too_big { (result ≡ Err SnapshotFault.TooBig) ↔ ((is_failed self.old ≡ false) × ((2 ^ 63 ≤ generation) ⊎ (512 * geometry.now.area_sectors < length image.now))) }
+        ensures too_big { (result ≡ Err SnapshotFault.TooBig) ↔ ((is_failed self.old ≡ false) × ((2 ^ 63 ≤ generation) ⊎ (SECTOR_SIZE * geometry.now.area_sectors < length image.now))) }
         ensures untouched { IsTrue (is_failed self.old) ⊎ (result ≡ Err SnapshotFault.TooBig) → disk.new ≡ disk.old }
         ensures fails { StaysFailed result self.old self.new }
         ensures cause { IsErr result → IsTrue (is_failed self.old) ⊎ (result ≡ Err SnapshotFault.TooBig) ⊎ ((fault : DiskFault) × (result ≡ Err (SnapshotFault.Disk fault)) × ((spare (D.medium disk.old) < geometry.now.area_sectors) ⊎ ((D.medium disk.old).room ≡ 0) ⊎ ((D.medium disk.old).faults < (D.medium disk.new).faults))) }

@@ -5,13 +5,13 @@ ghost use Rattle.snapshot.specs.Store.{StoresSector, SettlesSector};
 
 use crate::writing::Writing;
 use block_lanes::same;
-use sector_disk::{Disk, DiskFault};
+use sector_disk::{Disk, DiskFault, SECTOR_SIZE};
 
 /// Writes a sector, or of one that reads give already nothing.
 pub(crate) fn store_sector<D: Disk>(
     disk: &mut D,
     at: u64,
-    sector: &[u8; 512],
+    sector: &[u8; SECTOR_SIZE],
     writing: Writing,
 ) -> Result<(), DiskFault>
     requires { at < (D.medium disk.old).sectors }
@@ -24,7 +24,7 @@ pub(crate) fn store_sector<D: Disk>(
 }
 
 /// Writes a sector.
-fn store_always<D: Disk>(disk: &mut D, at: u64, sector: &[u8; 512]) -> Result<(), DiskFault>
+fn store_always<D: Disk>(disk: &mut D, at: u64, sector: &[u8; SECTOR_SIZE]) -> Result<(), DiskFault>
     requires { at < (D.medium disk.old).sectors }
     ensures { StoresSector at sector.now Writing.Whole result (D.medium disk.old)
         (D.medium disk.new) }
@@ -33,12 +33,16 @@ fn store_always<D: Disk>(disk: &mut D, at: u64, sector: &[u8; 512]) -> Result<()
 }
 
 /// Writes a sector where reads give other bytes.
-fn store_changed<D: Disk>(disk: &mut D, at: u64, sector: &[u8; 512]) -> Result<(), DiskFault>
+fn store_changed<D: Disk>(
+    disk: &mut D,
+    at: u64,
+    sector: &[u8; SECTOR_SIZE],
+) -> Result<(), DiskFault>
     requires { at < (D.medium disk.old).sectors }
     ensures { StoresSector at sector.now Writing.Changes result (D.medium disk.old)
         (D.medium disk.new) }
 {
-    let mut held = [0; 512];
+    let mut held = [0; SECTOR_SIZE];
     disk.read(at, &mut held)?;
     if same(&held, sector) {
         Ok(())
@@ -51,7 +55,7 @@ fn store_changed<D: Disk>(disk: &mut D, at: u64, sector: &[u8; 512]) -> Result<(
 pub(crate) fn settle_sector<D: Disk>(
     disk: &mut D,
     at: u64,
-    sector: &[u8; 512],
+    sector: &[u8; SECTOR_SIZE],
 ) -> Result<(), DiskFault>
     requires { at < (D.medium disk.old).sectors }
     ensures { SettlesSector at sector.now result (D.medium disk.old) (D.medium disk.new) }
@@ -68,7 +72,11 @@ fn settle<D: Disk>(disk: &mut D) -> Result<(), DiskFault>
 }
 
 /// Writes a sector of a disk where all is settled, and syncs.
-fn write_settled<D: Disk>(disk: &mut D, at: u64, sector: &[u8; 512]) -> Result<(), DiskFault>
+fn write_settled<D: Disk>(
+    disk: &mut D,
+    at: u64,
+    sector: &[u8; SECTOR_SIZE],
+) -> Result<(), DiskFault>
     requires inside { at < (D.medium disk.old).sectors }
     requires settled { IsAllSynced (D.medium disk.old) }
     ensures { SettlesSector at sector.now result (D.medium disk.old) (D.medium disk.new) }

@@ -1,12 +1,13 @@
 // An image that is being written into its area, sector by sector.
 ghost use Rattle.std.specs.Prelude.{◌≤◌, ◌<◌, ◌^◌};
+ghost use Rattle.sector_disk.specs.declared.sector.TheConstants.{SECTOR_SIZE};
 
 use crate::bytes::{pad, put};
 use crate::fault::SnapshotFault;
 use crate::store::{settle_sector, store_sector};
 use crate::writing::Writing;
 use disk_layout::{Geometry, Head};
-use sector_disk::{Disk, DiskFault};
+use sector_disk::{Disk, DiskFault, SECTOR_SIZE};
 use sha2::{Digest, Sha256};
 
 /// The image's bytes so far lie in the first sectors of its area, and behind them at the front of `sector`.
@@ -19,11 +20,11 @@ pub(crate) struct AreaWriter {
     pub(crate) sectors: u64,
     /// How many bytes of `sector` are the image's.
     pub(crate) filled: usize,
-    pub(crate) sector: [u8; 512],
+    pub(crate) sector: [u8; SECTOR_SIZE],
     /// Of all bytes so far.
     pub(crate) hasher: Sha256,
     ghost few: { sectors ≤ 2 ^ 32 },
-    ghost open: { filled < 512 },
+    ghost open: { filled < SECTOR_SIZE },
 }
 
 impl AreaWriter {
@@ -47,7 +48,7 @@ impl AreaWriter {
             writing,
             sectors: 0,
             filled: 0,
-            sector: [0; 512],
+            sector: [0; SECTOR_SIZE],
             hasher: Sha256::new(),
         }
     }
@@ -57,7 +58,7 @@ impl AreaWriter {
         ensures length { result ≡ written_length self.now }
         ensures within { result ≤ 2 ^ 42 }
     {
-        512 * self.sectors + self.filled as u64
+        SECTOR_SIZE as u64 * self.sectors + self.filled as u64
     }
 
     /// Gives it more bytes of the image. Where they are more than the area holds, no call of the disk is made.
@@ -68,7 +69,7 @@ impl AreaWriter {
         bytes: &[u8],
     ) -> Result<(), SnapshotFault>
         requires { journal_place geometry.now ≤ (D.medium disk.old).sectors }
-        ensures too_big { (result ≡ Err SnapshotFault.TooBig) ↔ (512 * geometry.now.area_sectors < written_length self.old + length bytes.now) }
+        ensures too_big { (result ≡ Err SnapshotFault.TooBig) ↔ (SECTOR_SIZE * geometry.now.area_sectors < written_length self.old + length bytes.now) }
         ensures untouched { result ≡ Err SnapshotFault.TooBig → disk.new ≡ disk.old }
         ensures given { OnOk result ((before : List ℕ) → IsGiven geometry.now (D.medium disk.old) self.old before → IsGiven geometry.now (D.medium disk.new) self.new (before ++ bytes.now)) }
         ensures length { OnOk result (written_length self.new ≡ written_length self.old + length bytes.now) }
@@ -84,11 +85,11 @@ impl AreaWriter {
         ensures unsynced { OnOk result ((D.medium disk.new).unsynced + self.old.sectors ≤ (D.medium disk.old).unsynced + self.new.sectors) }
         ensures any_moment { LeavesOnly (D.medium disk.old) (D.medium disk.new) (After (Fills geometry.now self.old.generation) (D.medium disk.old).may_leave) }
         ensures counts { CountsUpTo ((D.medium disk.old).unsynced +
-            (self.old.filled + length bytes.now) / 512) (D.medium disk.old) (D.medium disk.new) }
+            (self.old.filled + length bytes.now) / SECTOR_SIZE) (D.medium disk.old) (D.medium disk.new) }
         ensures cause { IsErr result → result ≡ Err SnapshotFault.TooBig ⊎ ((fault : DiskFault) × (result ≡ Err (SnapshotFault.Disk fault)) × ((spare (D.medium disk.old) + self.old.sectors < geometry.now.area_sectors) ⊎ ((D.medium disk.old).faults < (D.medium disk.new).faults))) }
     {
         let total = self.length().saturating_add(bytes.len() as u64);
-        if total > 512 * u64::from(geometry.area_sectors) {
+        if total > SECTOR_SIZE as u64 * u64::from(geometry.area_sectors) {
             return Err(SnapshotFault::TooBig);
         }
         let mut at = 0;
@@ -124,11 +125,11 @@ impl AreaWriter {
         ensures unsynced { OnOk result ((D.medium disk.new).unsynced + self.old.sectors ≤ (D.medium disk.old).unsynced + self.new.sectors) }
         ensures any_moment { LeavesOnly (D.medium disk.old) (D.medium disk.new) (After (Fills geometry.now self.old.generation) (D.medium disk.old).may_leave) }
         ensures counts { CountsUpTo ((D.medium disk.old).unsynced +
-            (self.old.filled + length bytes.now) / 512) (D.medium disk.old) (D.medium disk.new) }
+            (self.old.filled + length bytes.now) / SECTOR_SIZE) (D.medium disk.old) (D.medium disk.new) }
         ensures cause { IsErr result → (spare (D.medium disk.old) + self.old.sectors < geometry.now.area_sectors) ⊎ ((D.medium disk.old).faults < (D.medium disk.new).faults) }
     {
         let filled = self.filled;
-        let room = 512 - filled;
+        let room = SECTOR_SIZE - filled;
         let count = if bytes.len() < room {
             bytes.len()
         } else {
@@ -150,7 +151,7 @@ impl AreaWriter {
 
     /// Stores the sector that isn't full, with zeros behind the image's last byte.
     fn store_last<D: Disk>(&self, disk: &mut D, geometry: &Geometry) -> Result<(), DiskFault>
-        requires within { written_length self.now ≤ 512 * geometry.now.area_sectors }
+        requires within { written_length self.now ≤ SECTOR_SIZE * geometry.now.area_sectors }
         requires places { journal_place geometry.now ≤ (D.medium disk.old).sectors }
         ensures holds { OnOk result ((bytes : List ℕ) → IsGiven geometry.now (D.medium disk.old)
             self.now bytes → (image : Image) → (D.medium disk.new).shows image → HoldsWithZeros
@@ -202,7 +203,7 @@ impl AreaWriter {
 
     /// Stores the last sector, syncs, writes the head, and syncs.
     pub(crate) fn finish<D: Disk>(self, disk: &mut D, geometry: &Geometry) -> Result<(), DiskFault>
-        requires within { written_length self ≤ 512 * geometry.now.area_sectors }
+        requires within { written_length self ≤ SECTOR_SIZE * geometry.now.area_sectors }
         requires places { journal_place geometry.now ≤ (D.medium disk.old).sectors }
         ensures any_moment { (bytes : List ℕ) → IsGiven geometry.now (D.medium disk.old) self bytes →
             LeavesOnly (D.medium disk.old) (D.medium disk.new) (After (Commits geometry.now self.generation self.version bytes) (D.medium disk.old).may_leave) }

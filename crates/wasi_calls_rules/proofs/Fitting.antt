@@ -22,7 +22,7 @@ bytes_alone (b ∷ bytes) =
 
 request_text : (limit : ℕ) (text : Bytes)
     → Decides (nat_le (length text) limit && (has_bytes_alone text && has_no_newline text))
-      (IsRequestText limit text)
+    (IsRequestText limit text)
 request_text limit text =
     Decides-like _ (λ p. record { short = p.0; are_bytes = p.1.0; no_newline = p.1.1 })
     (λ is. (is.short, (is.are_bytes, is.no_newline)))

@@ -131,5 +131,5 @@ answer_of_bytes limit _ _ none = absurd none
 pub rows_keep_bytes : RowsKeepBytes
 rows_keep_bytes c arguments given m h done old k e =
     let fine : GivenHolds IsByte given =
-        (λ limit kind a is test. answer_of_bytes limit kind a ((tests_tell limit kind a).0 test)) in
+    (λ limit kind a is test. answer_of_bytes limit kind a ((tests_tell limit kind a).0 test)) in
     ((row_keeps IsByte low_is_byte m old h (host_of_bytes h k) given fine c arguments).holds done e).bytes

@@ -1,5 +1,8 @@
 pub mod ExamplesHold
 pub mod Steps
+pub mod HostChanges
+pub mod RowChanges
+pub mod Configured
 pub mod Puts
 pub mod Supplies
 pub mod SmallRows

@@ -8,7 +8,7 @@ use Rattle.wasi_abi.specs.declared.answer.Kind.{Kind}
 use Rattle.wasi_abi.specs.declared.answer.Answer.{Answer}
 use Rattle.file_tree.specs.rules.Files.{Name}
 use Rattle.wasi_calls_rules.specs.Hosts.{Host}
-use Rattle.wasi_calls_rules.specs.Checks.{Bytes, Halt, Refuses, Asks, ◌>>=◌, check_or, in_memory, asked, does_fit, answered_by}
+use Rattle.wasi_calls_rules.specs.Checks.{Bytes, Halt, Refuses, Asks, ◌>>=◌, check_or, some_or, in_memory, asked, does_fit, answered_by}
 use Rattle.wasi_calls_rules.specs.Paths.{WalkEnd, Self, Leaf}
 use Rattle.wasi_calls_rules.specs.Entries.{a_leaf}
 
@@ -33,6 +33,12 @@ pub next : {A B : Type 0} {R : B → Type 0} (r : Result A Halt) (go : A → Res
 next (Ok x) go f = f x
 next {R = R} (Err halt) go f = refused R halt
 
+-- the same, where the answer itself is known
+pub next_is : {A B : Type 0} {R : B → Type 0} (r : Result A Halt) (go : A → Result B Halt)
+    → ((x : A) → r ≡ Ok x → HoldsAfter R (go x)) → HoldsAfter R (r >>= go)
+next_is (Ok x) go f = f x refl
+next_is {R = R} (Err halt) go f = refused R halt
+
 pub checked : (b : Bool) (e : Errno) → HoldsAfter (λ (_ : Unit {0}). b ≡ true) (check_or b e)
 checked true e = done_with (λ (_ : Unit {0}). true ≡ true) tt refl
 checked false e = record { holds = λ x h. absurd (cc) }
@@ -46,6 +52,22 @@ within m from len go f =
 pub either_way : {B : Type 0} {R : B → Type 0} (b : Bool) (x y : Result B Halt) → HoldsAfter R x → HoldsAfter R y → HoldsAfter R (if b then x else y)
 either_way true x y h k = h
 either_way false x y h k = k
+
+-- what a check that passes says
+pub passed : (b : Bool) (e : Errno) (u : Unit {0}) → check_or b e ≡ Ok u → b ≡ true
+passed true e u h = refl
+passed false e u h = absurd (cc)
+
+-- what is there where it has to be
+pub some_there : {A : Type 0} (e : Errno) (o : Option A) (x : A) → some_or e o ≡ Ok x → o ≡ Some x
+some_there e None x h = absurd (cc)
+some_there e (Some y) x h = cc
+
+-- either of two answers, knowing which
+pub by_test : {B : Type 0} {R : B → Type 0} (b : Bool) (x y : Result B Halt)
+    → (b ≡ true → HoldsAfter R x) → (b ≡ false → HoldsAfter R y) → HoldsAfter R (if b then x else y)
+by_test true x y f g = f refl
+by_test false x y f g = g refl
 
 -- ---- where an answer from outside is wanted
 

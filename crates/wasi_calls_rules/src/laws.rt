@@ -26,6 +26,8 @@ ghost use Rattle.wasi_calls_rules.specs.laws.StoryExamples.{RenameStory, UnlinkS
 ghost use Rattle.wasi_calls_rules.specs.laws.StoryExamples.{AnswerStory, PageStory};
 ghost use Rattle.wasi_calls_rules.specs.laws.CallLimits.{CallLimitNumbers};
 ghost use Rattle.wasi_calls_rules.specs.laws.Laws.{RowsKeepMemory, RowsKeepBytes, RowsEmit};
+ghost use Rattle.wasi_calls_rules.specs.laws.Laws.{RowsKeepConfigurations};
+ghost use Rattle.wasi_calls_rules.specs.laws.Laws.{RowsMakeOneNodeAtMost};
 ghost use Rattle.wasi_calls_rules.specs.laws.Laws.{TestsTellWhatFits};
 
 /// The rules give on examples what the profile gives.
@@ -124,6 +126,16 @@ pub fn calls_keep_memory()
 /// No call that is done takes back a line.
 pub fn calls_emit_lines()
     ensures { RowsEmit }
+{}
+
+/// A call that is done makes one node at most, and gives no number twice.
+pub fn calls_make_one_node_at_most()
+    ensures { RowsMakeOneNodeAtMost }
+{}
+
+/// No call that is done changes what the host was configured with.
+pub fn calls_keep_configurations()
+    ensures { RowsKeepConfigurations }
 {}
 
 /// The rules take an answer exactly where it fits what is asked for.

@@ -9,6 +9,8 @@
 //! - `calls_keep_memory`: a call that is done keeps the length of memory (`length`), and leaves
 //!   bytes where there were bytes (`bytes`).
 //! - `calls_emit_lines`: a call that is done emits lines behind those that were there.
+//! - `calls_make_one_node_at_most`: a call that is done makes one node at most.
+//! - `calls_keep_configurations`: it leaves room, limit, arguments and environment as they were.
 //! - `answers_are_taken_that_fit`: the rules take an answer exactly where it fits what is asked.
 //! - `worked_examples`: openings, moves, writes, small calls and directories on examples.
 //! - `limits` has five numbers that definitions and code share, as `LINE_BYTES` and `TEXT_BYTES`.

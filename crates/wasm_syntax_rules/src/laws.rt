@@ -5,6 +5,8 @@ ghost use Rattle.wasm_syntax_rules.specs.Configuration.{Store};
 ghost use Rattle.wasm_syntax_rules.specs.Shapes.{ReachedShapesAreTyped};
 ghost use Rattle.wasm_syntax_rules.specs.laws.Laws.{OneSequence, OneRun, HeightsAreSmall};
 ghost use Rattle.wasm_syntax_rules.specs.laws.Examples.{TypingExamples, HelloRuns, StepExamples};
+ghost use Rattle.wasm_syntax_rules.specs.laws.LimitExamples.{StackExamples, BranchExamples};
+ghost use Rattle.wasm_syntax_rules.specs.laws.LimitExamples.{TableExamples, MemoryGrows};
 ghost use Rattle.wasm_syntax_rules.specs.Typed.{NeverStuck, LeavesTyped, AnswersTyped, StepsTyped, ProgramsTyped, BeginsTyped};
 
 /// In a typed body each position that typing reaches has a typed shape.
@@ -28,6 +30,15 @@ pub fn worked_examples()
     ensures typing { TypingExamples }
     ensures hello { (store : Store) → HelloRuns store }
     ensures steps { StepExamples }
+{}
+
+/// The limits of the stack from both sides, branches that leave values behind, calls through the
+/// table, and memory that grows up to its limit.
+pub fn limits_on_examples()
+    ensures stack { StackExamples }
+    ensures branches { BranchExamples }
+    ensures table { TableExamples }
+    ensures memory { MemoryGrows }
 {}
 
 // Laws over all programs and configurations. The functions do nothing: what they ensure is the law.

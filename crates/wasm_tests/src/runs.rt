@@ -34,7 +34,7 @@ pub fn ending(alloc: Global, bytes: &[u8]) -> Result<End, FrontFault> {
         Pause::Spent => End::Spent,
         Pause::Returned => End::Returned,
         Pause::Trapped(trap) => End::Trapped(trap),
-        Pause::Host(call, arguments) => End::Asks(call, digits(&arguments)),
+        Pause::Host(asked) => End::Asks(asked.call, digits(&asked.arguments)),
     })
 }
 

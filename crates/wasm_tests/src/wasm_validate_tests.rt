@@ -324,7 +324,7 @@ fn function(alloc: Global, body: Items<Instruction>) -> Function {
 }
 
 fn told_of_module(alloc: Global, made: Module) -> Option<ValidFault> {
-    validate(made, alloc).err()
+    validate(alloc, made).err()
 }
 
 /// A type from nothing to nothing.

@@ -30,9 +30,9 @@ fn check_function(
 /// The functions of a module whose types are valid, in their order. All bodies are checked over the same
 /// memory.
 pub fn check_functions(
-    own: &[Function],
-    context: &ModuleContext,
     alloc: Global,
+    context: &ModuleContext,
+    own: &[Function],
 ) -> Result<(), ValidFault>
     ensures { JudgesIn context.now result (λ m functions. AllByRecursion (IsFunctionValid m functions) own.now) }
 {

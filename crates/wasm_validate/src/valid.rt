@@ -39,14 +39,14 @@ impl ValidModule {
 
 /// The first fault, in this order: types, imports, functions' types, tables, memories, globals, exports, the
 /// start function, element segments, data segments, bodies.
-fn check(module: &Module, alloc: Global) -> Result<(), ValidFault>
+fn check(alloc: Global, module: &Module) -> Result<(), ValidFault>
     ensures { Judges result (IsValid «module».now) }
 {
     check_types(module)?;
-    let context = ModuleContext::of(module, alloc)?;
-    check_before_data(module, &context, alloc)?;
+    let context = ModuleContext::of(alloc, module)?;
+    check_before_data(alloc, module, &context)?;
     check_data(module, &context)?;
-    check_functions(module.functions.as_slice(), &context, alloc)
+    check_functions(alloc, &context, module.functions.as_slice())
 }
 
 /// Decides whether a module is valid. A fault other than `Memory` says that it is not, and is the first one:
@@ -55,11 +55,11 @@ fn check(module: &Module, alloc: Global) -> Result<(), ValidFault>
 /// the module, but for the names of exports, whose bytes take n log n, and each call in a body takes time in
 /// proportion to its parameters. Memory is taken in proportion to the functions, globals, exports and the
 /// longest body.
-pub fn validate(module: Module, alloc: Global) -> Result<ValidModule, ValidFault>
+pub fn validate(alloc: Global, module: Module) -> Result<ValidModule, ValidFault>
     ensures same { IfOk result (λ v. v ≡ «module») }
     ensures valid { OnOk result (IsValid «module») }
     ensures only { IfErr result (λ e. Denies e (IsValid «module»)) }
 {
-    check(&module, alloc)?;
+    check(alloc, &module)?;
     Ok(ValidModule { module })
 }

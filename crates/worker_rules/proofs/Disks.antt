@@ -14,7 +14,8 @@ use Rattle.process_rules.proofs.Growing.{move_counts, runs_count}
 use Rattle.process_rules.proofs.Quiet.{runs_join}
 use Rattle.sector_disk.specs.rules.Image.{Image, sector_at}
 use Rattle.disk_layout.specs.rules.Places.{Geometry, geometry_of, config_bytes, head_place, journal_place}
-use Rattle.disk_layout.specs.rules.Sectors.{IsMarked, super_bytes, super_end_mark, stamp_of, shown_generation}
+use Rattle.disk_layout.specs.declared.superblock.TheConstants.{SUPER_END_MARK}
+use Rattle.disk_layout.specs.rules.Sectors.{IsMarked, super_bytes, stamp_of, shown_generation}
 use Rattle.disk_layout.specs.rules.Journal.{Record, is_of, payloads_from}
 use Rattle.disk_layout.proofs.FieldLemmas.{drop_over}
 use Rattle.disk_layout.proofs.JournalLemmas.{is_of_other}
@@ -91,7 +92,7 @@ marks_there geometry digest size =
     record {
       first = refl;
       last = ap (λ l. take 8 l)
-          (drop_over digest (padding 440 ++ super_end_mark) 32 440 size);
+          (drop_over digest (padding 440 ++ SUPER_END_MARK) 32 440 size);
     }
 
 pub blank_stands_for_none : BlankStandsForNone

@@ -14,6 +14,7 @@ use Rattle.sector_disk.specs.rules.Image.{Image, sector_at}
 use Rattle.disk_layout.specs.rules.Places.{Geometry, geometry_of, journal_place}
 use Rattle.disk_layout.specs.rules.Sectors.{HasMarks, HasWorker, HoldsImage, shown_generation}
 use Rattle.disk_layout.specs.rules.Journal.{Record, scan}
+use Rattle.disk_layout.specs.declared.head.TheConstants.{IMAGE_VERSION, HEAD_STAMP_PLACE}
 
 -- From one process to another by steps of which each that takes an answer is on record, in order, with its count.
 pub data Recorded (guest : Guest) : ProcessState → List Record → ProcessState → Type 0 where
@@ -25,8 +26,8 @@ given_in r = Given r.answer
 
 -- no head and no journal sector shows a later generation
 pub record ShowsNoneLater (geometry : Geometry) (disk : Image) (g : ℕ) : Type 0 where
-  pub first_head : shown_generation 1 (sector_at disk 1) ≤ g
-  pub second_head : shown_generation 1 (sector_at disk 2) ≤ g
+  pub first_head : shown_generation HEAD_STAMP_PLACE (sector_at disk 1) ≤ g
+  pub second_head : shown_generation HEAD_STAMP_PLACE (sector_at disk 2) ≤ g
   pub journal : (k : ℕ) → k < geometry.journal_sectors → shown_generation (k + 1) (sector_at disk (journal_place geometry + k)) ≤ g
 
 -- On the disk stand the configuration, the module, and an image that the newest complete head names, of a process to which the module
@@ -38,7 +39,7 @@ pub record StandsFor (disk : Image) (m : Module) (config : Settings) (kept : Lis
   pub worker : HasWorker config wasm disk
   pub generation : ℕ
   pub saved : Saved
-  pub holds : HoldsImage (geometry_of config (length wasm)) disk generation 1 (image saved)
+  pub holds : HoldsImage (geometry_of config (length wasm)) disk generation IMAGE_VERSION (image saved)
   pub front : List Kept
   pub steps : ℕ
   pub process : ProcessState

@@ -7,13 +7,14 @@ use Rattle.wasi_abi.specs.rules.Configs.{Settings}
 use Rattle.disk_layout.specs.declared.fault.LayoutFault.{LayoutFault}
 use Rattle.disk_layout.specs.declared.fault.LayoutFault.TheVariants.{NotAWorker, Version, TooSmall, Damaged, Memory, Disk}
 use Rattle.disk_layout.specs.declared.stored.Stored.{Stored}
-use Rattle.disk_layout.specs.rules.Places.{Geometry, geometry_of, config_bytes, module_place, total_sectors}
+use Rattle.disk_layout.specs.rules.Places.{Geometry, geometry_of, config_bytes, total_sectors}
 use Rattle.disk_layout.specs.rules.Sectors.{Super, bytes_from, SectorsHold, super_of}
 use Rattle.disk_layout.specs.rules.Stored.{IsKnown, IsConsistent, IsStored, HasOtherDigest, FindsStored}
 use Rattle.disk_layout.specs.declared.reading.contents.Contents.{Contents}
 use Rattle.disk_layout.specs.rules.Held.{IsHeld, ReachesContents, GivesContents, IsStoredOf, Agrees}
 use Rattle.disk_layout.specs.laws.Reading.{OneAnswer}
 use Rattle.disk_layout.proofs.ReadingLemmas.ConfigLemmas.{config_cut}
+use Rattle.disk_layout.specs.declared.geometry.TheConstants.{MODULE_PLACE}
 
 -- the bytes of configuration and module
 abbrev pub bytes_in : Contents → List ℕ
@@ -25,7 +26,7 @@ pub record Says (image : Image) (c : Contents) : Type 0 where
   pub digest : (super_of (sector_at image 0)).digest ≡ sha256 (bytes_in c)
   pub consistent : IsConsistent (super_of (sector_at image 0)).geometry
   pub count : length (bytes_in c) ≡ (super_of (sector_at image 0)).geometry.config + (super_of (sector_at image 0)).geometry.wasm
-  pub contents : take ((super_of (sector_at image 0)).geometry.config + (super_of (sector_at image 0)).geometry.wasm) (bytes_from image module_place (super_of (sector_at image 0)).geometry.module_sectors) ≡ bytes_in c
+  pub contents : take ((super_of (sector_at image 0)).geometry.config + (super_of (sector_at image 0)).geometry.wasm) (bytes_from image MODULE_PLACE (super_of (sector_at image 0)).geometry.module_sectors) ≡ bytes_in c
 
 pub held_says : (image : Image) (c : Contents) → IsHeld image c → Says image c
 held_says image c held =
@@ -38,8 +39,8 @@ held_says image c held =
       digest = ap (λ (x : Super). x.digest) held.fields;
       consistent = subst (λ (x : Geometry). IsConsistent x) (sym geometry) refl;
       count = count;
-      contents = ap (λ (n : ℕ). take n (bytes_from image module_place s.geometry.module_sectors)) (sym count)
-          ∙ ap (λ (x : Geometry). take (length (bytes_in c)) (bytes_from image module_place x.module_sectors)) own ∙ held.contents;
+      contents = ap (λ (n : ℕ). take n (bytes_from image MODULE_PLACE s.geometry.module_sectors)) (sym count)
+          ∙ ap (λ (x : Geometry). take (length (bytes_in c)) (bytes_from image MODULE_PLACE x.module_sectors)) own ∙ held.contents;
     }
 
 -- ---- what is found, and what is made of it
@@ -57,8 +58,8 @@ same_bytes sectors image stored c is held =
     let count : length (stored.config ++ stored.wasm) ≡ s.geometry.config + s.geometry.wasm =
     length-append stored.config stored.wasm ∙ ap (λ n. n + length stored.wasm) is.config ∙ ap (λ n. stored.geometry.config + n) is.wasm ∙ ap (λ (x : Geometry). x.config + x.wasm) own in
     let both : stored.config ++ stored.wasm ≡ config_bytes c.config ++ c.wasm =
-    sym is.contents ∙ ap (λ (n : ℕ). take n (bytes_from image module_place stored.geometry.module_sectors)) count
-    ∙ ap (λ (x : Geometry). take (s.geometry.config + s.geometry.wasm) (bytes_from image module_place x.module_sectors)) own ∙ says.contents in
+    sym is.contents ∙ ap (λ (n : ℕ). take n (bytes_from image MODULE_PLACE stored.geometry.module_sectors)) count
+    ∙ ap (λ (x : Geometry). take (s.geometry.config + s.geometry.wasm) (bytes_from image MODULE_PLACE x.module_sectors)) own ∙ says.contents in
     let size : length stored.config ≡ length (config_bytes c.config) = is.config ∙ ap (λ (x : Geometry). x.config) (own ∙ says.geometry) in
     record {
       config = sym (take-append_seam stored.config stored.wasm) ∙ ap (λ n. take n (stored.config ++ stored.wasm)) size ∙ ap (λ l. take (length (config_bytes c.config)) l) both ∙ take-append_seam (config_bytes c.config) c.wasm;
@@ -72,7 +73,7 @@ held_of sectors image stored s is of =
     let geometry : stored.geometry ≡ geometry_of s (length stored.wasm) = of.geometry ∙ ap (λ n. geometry_of s n) (sym is.wasm) in
     let bytes : stored.config ++ stored.wasm ≡ config_bytes s ++ stored.wasm = ap (λ l. l ++ stored.wasm) of.spelled in
     let digest : super.digest ≡ sha256 (config_bytes s ++ stored.wasm) = is.digest ∙ ap sha256 bytes in
-    let P : List ℕ → Type 0 = λ l. SectorsHold image module_place stored.geometry.module_sectors l in
+    let P : List ℕ → Type 0 = λ l. SectorsHold image MODULE_PLACE stored.geometry.module_sectors l in
     record {
       known = is.known;
       within = of.within;
@@ -89,7 +90,7 @@ stored_reaches sectors image stored is = (
   is.known,
   refl,
   subst (λ (x : Geometry). IsConsistent x) is.geometry is.consistent,
-  subst (λ (x : Geometry). module_place + x.module_sectors ≤ sectors) is.geometry is.room,
+  subst (λ (x : Geometry). MODULE_PLACE + x.module_sectors ≤ sectors) is.geometry is.room,
 )
 
 same_contents : (g h : Geometry) (s t : Settings) (v w : List ℕ) → g ≡ h → s ≡ t → v ≡ w → (let x : Contents = record { geometry = g; config = s; wasm = v } in x) ≡ record { geometry = h; config = t; wasm = w }

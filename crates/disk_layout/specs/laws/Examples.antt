@@ -3,7 +3,8 @@ use Rattle.std.specs.Prelude.{◌≡◌, ℕ, List, [], ◌∷◌, length, take,
 use Rattle.wasi_abi.specs.rules.Configs.{Settings}
 use Rattle.wasi_abi.specs.declared.answer.Answer.TheVariants as answer
 use Rattle.sector_disk.specs.rules.Image.{front_over}
-use Rattle.disk_layout.specs.rules.Places.{geometry_of, config_bytes, total_sectors, journal_place}
+use Rattle.disk_layout.specs.rules.Places.{geometry_of, config_bytes, rounded_up}
+use Rattle.disk_layout.specs.rules.Places.{head_place, area_place, journal_place, total_sectors}
 use Rattle.disk_layout.specs.rules.Sectors.{shown_generation}
 use Rattle.disk_layout.specs.rules.Journal.{Record, record_bytes, record_at, journal_sector}
 
@@ -19,7 +20,35 @@ hello_record = record { step = 6; answer = answer.Request (codes "hello") }
 abbrev pub third_sector : ℕ → List ℕ
 third_sector g = journal_sector g 3 (7 ∷ [])
 
+-- two pages, three units of files, and the bytes of the environment behind those of the arguments
+abbrev pub varied : Settings
+varied = record {
+  pages = 2;
+  files = 3;
+  journal = 260;
+  arguments = codes "ab" ∷ codes "c" ∷ [];
+  environment = codes "d=" ∷ [];
+}
+
 pub record LayoutExamples : Type 0 where
+  pub config_is : config_bytes varied
+      ≡ 2 ∷ 0 ∷ 0 ∷ 0 ∷ 3 ∷ 0 ∷ 0 ∷ 0 ∷ 4 ∷ 1 ∷ 0 ∷ 0
+      ∷ 2 ∷ 0 ∷ 0 ∷ 0 ∷ 2 ∷ 0 ∷ 0x61 ∷ 0x62 ∷ 1 ∷ 0 ∷ 0x63
+      ∷ 1 ∷ 0 ∷ 0 ∷ 0 ∷ 2 ∷ 0 ∷ 0x64 ∷ 0x3d ∷ []
+  pub no_sector : rounded_up 0 ≡ 0
+  pub full_sector : rounded_up 512 ≡ 1
+  pub one_byte_more : rounded_up 513 ≡ 2
+  pub geometry : geometry_of varied 1000 ≡ record {
+    config = 31;
+    wasm = 1000;
+    module_sectors = 3;
+    area_sectors = 2688;
+    journal_sectors = 260;
+  }
+  pub even_head : head_place 6 ≡ 1
+  pub odd_head : head_place 7 ≡ 2
+  pub even_area : area_place (geometry_of varied 1000) 6 ≡ 6
+  pub odd_area : area_place (geometry_of varied 1000) 7 ≡ 2694
   pub config_length : length (config_bytes small) ≡ 28
   pub total : total_sectors (geometry_of small 193) ≡ 4676
   pub journal : journal_place (geometry_of small 193) ≡ 4612

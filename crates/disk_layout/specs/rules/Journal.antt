@@ -8,17 +8,21 @@ use Rattle.wasi_abi.specs.rules.Layouts.{u16_bytes, u64_bytes, padding}
 use Rattle.sector_disk.specs.rules.Image.{Image, sector_at}
 use Rattle.disk_layout.specs.rules.Places.{Geometry, journal_place}
 use Rattle.disk_layout.specs.rules.Sectors.{stamp_bytes, shown_generation}
+use Rattle.disk_layout.specs.declared.record.TheConstants.{REQUEST_KIND, END_KIND, REALTIME_KIND}
+use Rattle.disk_layout.specs.declared.record.TheConstants.{MONOTONIC_KIND, RANDOM_KIND}
+use Rattle.disk_layout.specs.declared.record_fields.TheConstants.{RECORD_HEAD_BYTES, STEP_AT, PAYLOAD_LENGTH_AT}
+use Rattle.disk_layout.specs.declared.journal_sectors.TheConstants.{PAYLOAD_SIZE, PAYLOAD_AT}
 
 -- a step, and the answer that it took
 abbrev pub Record : Type 0
 Record = DeclaredRecord
 
 abbrev pub kind_number : Answer → ℕ
-kind_number (answer.Request text) = 1
-kind_number answer.End = 2
-kind_number (answer.Realtime n) = 3
-kind_number (answer.Monotonic n) = 4
-kind_number (answer.Random bytes) = 5
+kind_number (answer.Request text) = REQUEST_KIND
+kind_number answer.End = END_KIND
+kind_number (answer.Realtime n) = REALTIME_KIND
+kind_number (answer.Monotonic n) = MONOTONIC_KIND
+kind_number (answer.Random bytes) = RANDOM_KIND
 
 abbrev pub payload_of : Answer → List ℕ
 payload_of (answer.Request text) = text
@@ -40,27 +44,23 @@ answer_if false a = None
 -- an answer by its kind and payload, if they are well formed; texts and bytes have at most so many bytes
 abbrev pub answer_of : ℕ → ℕ → List ℕ → Option Answer
 answer_of limit kind payload =
-    if kind == 1 then answer_if (nat_le (length payload) limit) (answer.Request payload)
-    else if kind == 2 then answer_if (length payload == 0) answer.End
-    else if kind == 3 then answer_if (length payload == 8) (answer.Realtime (number_of payload))
-    else if kind == 4 then answer_if (length payload == 8) (answer.Monotonic (number_of payload))
-    else if kind == 5 then answer_if (nat_le (length payload) limit) (answer.Random payload)
+    if kind == REQUEST_KIND then answer_if (nat_le (length payload) limit) (answer.Request payload)
+    else if kind == END_KIND then answer_if (length payload == 0) answer.End
+    else if kind == REALTIME_KIND then answer_if (length payload == 8) (answer.Realtime (number_of payload))
+    else if kind == MONOTONIC_KIND then answer_if (length payload == 8) (answer.Monotonic (number_of payload))
+    else if kind == RANDOM_KIND then answer_if (nat_le (length payload) limit) (answer.Random payload)
     else None
-
--- the bytes of a record before its payload
-abbrev pub record_head : ℕ
-record_head = 11
 
 -- the length of the payload of the record at the front
 abbrev pub payload_length : List ℕ → ℕ
-payload_length bytes = number_of (part bytes 9 2)
+payload_length bytes = number_of (part bytes PAYLOAD_LENGTH_AT 2)
 
 -- the record at the front, if it is whole and well formed
 abbrev pub record_at : ℕ → List ℕ → Option Record
 record_at limit [] = None
 record_at limit (kind ∷ bytes) =
-    if nat_le (record_head + payload_length (kind ∷ bytes)) (length (kind ∷ bytes))
-    then option_map (λ a. record { step = number_of (part bytes 0 8); answer = a }) (answer_of limit kind (part (kind ∷ bytes) record_head (payload_length (kind ∷ bytes))))
+    if nat_le (RECORD_HEAD_BYTES + payload_length (kind ∷ bytes)) (length (kind ∷ bytes))
+    then option_map (λ a. record { step = number_of (part (kind ∷ bytes) STEP_AT 8); answer = a }) (answer_of limit kind (part (kind ∷ bytes) RECORD_HEAD_BYTES (payload_length (kind ∷ bytes))))
     else None
 
 -- a record, if there is one, before the others
@@ -71,30 +71,27 @@ with_first (Some r) others = r ∷ others
 -- the records at the front, until one is cut or not well formed; so many at most
 abbrev pub records_at : ℕ → ℕ → List ℕ → List Record
 records_at limit zero bytes = []
-records_at limit (suc n) bytes = with_first (record_at limit bytes) (records_at limit n (drop (record_head + payload_length bytes) bytes))
+records_at limit (suc n) bytes = with_first (record_at limit bytes) (records_at limit n (drop (RECORD_HEAD_BYTES + payload_length bytes) bytes))
 
 -- ---- the sectors of the journal
-
-abbrev pub payload_size : ℕ
-payload_size = 494
 
 -- 0 used length, 2 payload and zeros, 496 generation, 504 place
 abbrev pub journal_sector : ℕ → ℕ → List ℕ → List ℕ
 journal_sector g place payload =
-    u16_bytes (length payload) ++ (payload ++ (padding (payload_size - length payload) ++ stamp_bytes (record { generation = g; place = place })))
+    u16_bytes (length payload) ++ (payload ++ (padding (PAYLOAD_SIZE - length payload) ++ stamp_bytes (record { generation = g; place = place })))
 
 abbrev pub used_length : List ℕ → ℕ
 used_length sector = number_of (part sector 0 2)
 
 -- whether a sector shows this generation at its place, with a used length in range
 abbrev pub is_of : ℕ → ℕ → List ℕ → Bool
-is_of g place sector = shown_generation place sector == g && nat_lt 0 (used_length sector) && nat_le (used_length sector) payload_size
+is_of g place sector = shown_generation place sector == g && nat_lt 0 (used_length sector) && nat_le (used_length sector) PAYLOAD_SIZE
 
 -- the payloads from this sector on, whose places are counted from 1, as far as sectors are of this generation
 abbrev pub payloads_from : Image → ℕ → ℕ → ℕ → ℕ → List ℕ
 payloads_from image g sector place zero = []
 payloads_from image g sector place (suc count) =
-    if is_of g place (sector_at image sector) then part (sector_at image sector) 2 (used_length (sector_at image sector)) ++ payloads_from image g (sector + 1) (place + 1) count
+    if is_of g place (sector_at image sector) then part (sector_at image sector) PAYLOAD_AT (used_length (sector_at image sector)) ++ payloads_from image g (sector + 1) (place + 1) count
     else []
 
 -- what the journal of generation g holds. Each record has a byte at least, so there are no more than bytes

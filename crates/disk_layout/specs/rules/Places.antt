@@ -4,13 +4,12 @@ use Rattle.std.specs.List.{flat_map}
 use Rattle.wasi_abi.specs.rules.Configs.{Settings}
 use Rattle.disk_layout.specs.declared.geometry.Geometry.{Geometry as DeclaredGeometry}
 use Rattle.wasi_abi.specs.rules.Layouts.{u16_bytes, u32_bytes}
+use Rattle.sector_disk.specs.declared.sector.TheConstants.{SECTOR_SIZE}
+use Rattle.disk_layout.specs.declared.geometry.TheConstants.{MODULE_PLACE}
 
 -- where things lie: lengths in bytes, and parts in sectors
 abbrev pub Geometry : Type 0
 Geometry = DeclaredGeometry
-
-abbrev pub sector_size : ℕ
-sector_size = 512
 
 -- ---- the configuration as bytes
 
@@ -28,7 +27,7 @@ config_bytes c =
 -- ---- the geometry
 
 abbrev pub rounded_up : ℕ → ℕ
-rounded_up bytes = (bytes + (sector_size - 1)) / sector_size
+rounded_up bytes = (bytes + (SECTOR_SIZE - 1)) / SECTOR_SIZE
 
 -- of a configuration and a module of so many bytes
 abbrev pub geometry_of : Settings → ℕ → Geometry
@@ -44,19 +43,12 @@ geometry_of c wasm = record {
 abbrev pub head_place : ℕ → ℕ
 head_place g = 1 + g % 2
 
-abbrev pub module_place : ℕ
-module_place = 3
-
 -- generation g lies in area g mod 2
 abbrev pub area_place : Geometry → ℕ → ℕ
-area_place geometry g = 3 + geometry.module_sectors + (g % 2) * geometry.area_sectors
+area_place geometry g = MODULE_PLACE + geometry.module_sectors + (g % 2) * geometry.area_sectors
 
 abbrev pub journal_place : Geometry → ℕ
-journal_place geometry = 3 + geometry.module_sectors + 2 * geometry.area_sectors
+journal_place geometry = MODULE_PLACE + geometry.module_sectors + 2 * geometry.area_sectors
 
 abbrev pub total_sectors : Geometry → ℕ
 total_sectors geometry = journal_place geometry + geometry.journal_sectors
-
--- the most bytes of an image
-abbrev pub image_room : Geometry → ℕ
-image_room geometry = sector_size * geometry.area_sectors

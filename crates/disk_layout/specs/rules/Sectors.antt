@@ -1,5 +1,5 @@
 -- The sectors with fields: the super and the heads, and what a sector shows (this project's own). Numbers are little-endian.
-use Rattle.std.specs.Prelude.{◌≡◌, ℕ, zero, suc, ◌+◌, ◌%◌, ◌<◌, ◌≤◌, ◌==◌, if◌then◌else◌, List, [], ◌++◌, length, take, codes}
+use Rattle.std.specs.Prelude.{◌≡◌, ℕ, zero, suc, ◌+◌, ◌%◌, ◌<◌, ◌≤◌, ◌==◌, if◌then◌else◌, List, [], ◌++◌, length, take}
 use Rattle.sha2.specs.Sha256.{sha256}
 use Rattle.guest_memory.specs.rules.Bytes.{number_of, part}
 use Rattle.wasi_abi.specs.rules.Configs.{Settings}
@@ -8,7 +8,15 @@ use Rattle.disk_layout.specs.declared.head.Head.{Head as DeclaredHead}
 use Rattle.disk_layout.specs.declared.superblock.Super.{Super as DeclaredSuper}
 use Rattle.wasi_abi.specs.rules.Layouts.{u32_bytes, u64_bytes, padding}
 use Rattle.sector_disk.specs.rules.Image.{Image, sector_at}
-use Rattle.disk_layout.specs.rules.Places.{Geometry, geometry_of, config_bytes, head_place, module_place, area_place}
+use Rattle.disk_layout.specs.rules.Places.{Geometry, geometry_of, config_bytes, head_place, area_place}
+use Rattle.disk_layout.specs.declared.geometry.TheConstants.{MODULE_PLACE}
+use Rattle.disk_layout.specs.declared.superblock.TheConstants.{SUPER_MARK, SUPER_END_MARK, LAYOUT, LAYOUT_AT}
+use Rattle.disk_layout.specs.declared.superblock.TheConstants.{CONFIG_LENGTH_AT, WASM_LENGTH_AT, MODULE_SECTORS_AT}
+use Rattle.disk_layout.specs.declared.superblock.TheConstants.{AREA_SECTORS_AT, JOURNAL_SECTORS_AT}
+use Rattle.disk_layout.specs.declared.superblock.TheConstants.{CONTENTS_DIGEST_AT, END_MARK_AT}
+use Rattle.disk_layout.specs.declared.head.TheConstants.{HEAD_MARK, VERSION_AT, IMAGE_LENGTH_AT}
+use Rattle.disk_layout.specs.declared.head.TheConstants.{IMAGE_DIGEST_AT, HEAD_STAMP_PLACE}
+use Rattle.disk_layout.specs.declared.stamp.TheConstants.{GENERATION_AT, PLACE_AT}
 
 -- a generation and a place
 abbrev pub Stamp : Type 0
@@ -35,47 +43,41 @@ SectorsHold image place count bytes = take (length bytes) (bytes_from image plac
 
 -- ---- the super
 
-abbrev pub super_mark : List ℕ
-super_mark = codes "DWORKER!"
-
-abbrev pub super_end_mark : List ℕ
-super_end_mark = codes "!REKROWD"
-
 -- 0 mark, 8 layout 1, 12 length of the configuration, 16 of the module, 20 their sectors, 24 those of an area, 28 of the
 -- journal, 32 digest of configuration and module, 64 zeros, 504 mark
 abbrev pub super_bytes : Geometry → List ℕ → List ℕ
 super_bytes g digest =
-    super_mark ++ (u32_bytes 1 ++ (u32_bytes g.config ++ (u32_bytes g.wasm ++ (u32_bytes g.module_sectors ++ (u32_bytes g.area_sectors
-    ++ (u32_bytes g.journal_sectors ++ (digest ++ (padding 440 ++ super_end_mark))))))))
+    SUPER_MARK ++ (u32_bytes LAYOUT ++ (u32_bytes g.config ++ (u32_bytes g.wasm ++ (u32_bytes g.module_sectors ++ (u32_bytes g.area_sectors
+    ++ (u32_bytes g.journal_sectors ++ (digest ++ (padding 440 ++ SUPER_END_MARK))))))))
 
 -- both marks of the super are there
 pub record IsMarked (sector : List ℕ) : Type 0 where
-  pub first : take 8 sector ≡ super_mark
-  pub last : part sector 504 8 ≡ super_end_mark
+  pub first : take 8 sector ≡ SUPER_MARK
+  pub last : part sector END_MARK_AT 8 ≡ SUPER_END_MARK
 
 abbrev pub HasMarks : Image → Type 0
 HasMarks image = IsMarked (sector_at image 0)
 
 -- the fields that a sector holds at their places
 abbrev pub super_layout : List ℕ → ℕ
-super_layout sector = number_of (part sector 8 4)
+super_layout sector = number_of (part sector LAYOUT_AT 4)
 
 abbrev pub super_of : List ℕ → Super
 super_of sector = record {
   geometry = record {
-    config = number_of (part sector 12 4);
-    wasm = number_of (part sector 16 4);
-    module_sectors = number_of (part sector 20 4);
-    area_sectors = number_of (part sector 24 4);
-    journal_sectors = number_of (part sector 28 4);
+    config = number_of (part sector CONFIG_LENGTH_AT 4);
+    wasm = number_of (part sector WASM_LENGTH_AT 4);
+    module_sectors = number_of (part sector MODULE_SECTORS_AT 4);
+    area_sectors = number_of (part sector AREA_SECTORS_AT 4);
+    journal_sectors = number_of (part sector JOURNAL_SECTORS_AT 4);
   };
-  digest = part sector 32 32;
+  digest = part sector CONTENTS_DIGEST_AT 32;
 }
 
 -- the super of this configuration and module, and the two behind the heads
 pub record HasWorker (config : Settings) (wasm : List ℕ) (image : Image) : Type 0 where
   pub super : sector_at image 0 ≡ super_bytes (geometry_of config (length wasm)) (sha256 (config_bytes config ++ wasm))
-  pub contents : SectorsHold image module_place (geometry_of config (length wasm)).module_sectors (config_bytes config ++ wasm)
+  pub contents : SectorsHold image MODULE_PLACE (geometry_of config (length wasm)).module_sectors (config_bytes config ++ wasm)
 
 -- ---- stamps
 
@@ -84,7 +86,7 @@ abbrev pub stamp_bytes : Stamp → List ℕ
 stamp_bytes s = u64_bytes s.generation ++ u64_bytes s.place
 
 abbrev pub stamp_of : List ℕ → Stamp
-stamp_of sector = record { generation = number_of (part sector 496 8); place = number_of (part sector 504 8) }
+stamp_of sector = record { generation = number_of (part sector GENERATION_AT 8); place = number_of (part sector PLACE_AT 8) }
 
 abbrev pub shown_at : ℕ → Stamp → ℕ
 shown_at place s = if s.place == place then s.generation else 0
@@ -95,27 +97,24 @@ shown_generation place sector = shown_at place (stamp_of sector)
 
 -- ---- heads
 
-abbrev pub head_mark : List ℕ
-head_mark = codes "DWAREA.."
-
 -- 0 mark, 8 version, 12 zeros, 16 length of the image, 24 its digest, 56 zeros, 496 generation, 504 place 1
 abbrev pub head_bytes : Head → List ℕ
 head_bytes h =
-    head_mark ++ (u32_bytes h.version ++ (padding 4 ++ (u64_bytes h.length_in_bytes ++ (h.digest ++ (padding 440
-    ++ stamp_bytes (record { generation = h.generation; place = 1 }))))))
+    HEAD_MARK ++ (u32_bytes h.version ++ (padding 4 ++ (u64_bytes h.length_in_bytes ++ (h.digest ++ (padding 440
+    ++ stamp_bytes (record { generation = h.generation; place = HEAD_STAMP_PLACE }))))))
 
 abbrev pub head_of : List ℕ → Head
 head_of sector = record {
-  version = number_of (part sector 8 4);
-  length_in_bytes = number_of (part sector 16 8);
-  digest = part sector 24 32;
-  generation = number_of (part sector 496 8);
+  version = number_of (part sector VERSION_AT 4);
+  length_in_bytes = number_of (part sector IMAGE_LENGTH_AT 8);
+  digest = part sector IMAGE_DIGEST_AT 32;
+  generation = number_of (part sector GENERATION_AT 8);
 }
 
--- A complete head: it begins with the mark, its stamp names place 1, and its generation, never 0, is odd or even as its area is.
+-- A complete head: it begins with the mark, its stamp names a head's place, and its generation, never 0, is odd or even as its area is.
 pub record IsComplete (area : ℕ) (sector : List ℕ) : Type 0 where
-  pub mark : take 8 sector ≡ head_mark
-  pub place : (stamp_of sector).place ≡ 1
+  pub mark : take 8 sector ≡ HEAD_MARK
+  pub place : (stamp_of sector).place ≡ HEAD_STAMP_PLACE
   pub from_one : 1 ≤ (stamp_of sector).generation
   pub parity : (stamp_of sector).generation % 2 ≡ area
 

@@ -6,8 +6,10 @@ use Rattle.sector_disk.specs.rules.Medium.{Medium, Stays, LeavesOnly}
 use Rattle.disk_layout.specs.declared.fault.LayoutFault.{LayoutFault}
 use Rattle.disk_layout.specs.declared.fault.LayoutFault.TheVariants.{NotAWorker, Version, TooSmall, Damaged, Memory, Disk}
 use Rattle.disk_layout.specs.declared.stored.Stored.{Stored}
-use Rattle.disk_layout.specs.rules.Places.{Geometry, rounded_up, module_place}
+use Rattle.disk_layout.specs.rules.Places.{Geometry, rounded_up}
 use Rattle.disk_layout.specs.rules.Sectors.{bytes_from, SectorsHold, Super, IsMarked, HasMarks, super_of, super_layout}
+use Rattle.disk_layout.specs.declared.geometry.TheConstants.{MODULE_PLACE}
+use Rattle.disk_layout.specs.declared.superblock.TheConstants.{LAYOUT}
 
 -- reads alone: the disk shows and may leave no more than before
 pub record OnlyReads (old new : Medium) : Type 0 where
@@ -18,13 +20,13 @@ pub record OnlyReads (old new : Medium) : Type 0 where
 -- the marks are there, and the layout is the one that is known
 pub record IsKnown (sector : List ℕ) : Type 0 where
   pub marks : IsMarked sector
-  pub layout : super_layout sector ≡ 1
+  pub layout : super_layout sector ≡ LAYOUT
 
 -- what is read of a super's sector
 abbrev pub ReadsSuper : List ℕ → Result Super LayoutFault → Type 0
 ReadsSuper sector (Ok s) = IsKnown sector × (s ≡ super_of sector)
 ReadsSuper sector (Err NotAWorker) = IsMarked sector → ⊥
-ReadsSuper sector (Err Version) = IsMarked sector × (super_layout sector ≢ 1)
+ReadsSuper sector (Err Version) = IsMarked sector × (super_layout sector ≢ LAYOUT)
 ReadsSuper sector (Err other) = ⊥
 
 -- configuration and module take as many sectors as the super says
@@ -33,11 +35,11 @@ IsConsistent g = g.module_sectors ≡ rounded_up (g.config + g.wasm)
 
 -- what a super's sector says on a disk of so many sectors. Each fault names a cause that is there
 abbrev pub Checks : ℕ → List ℕ → Result Super LayoutFault → Type 0
-Checks sectors sector (Ok s) = IsKnown sector × (s ≡ super_of sector) × IsConsistent s.geometry × (module_place + s.geometry.module_sectors ≤ sectors)
+Checks sectors sector (Ok s) = IsKnown sector × (s ≡ super_of sector) × IsConsistent s.geometry × (MODULE_PLACE + s.geometry.module_sectors ≤ sectors)
 Checks sectors sector (Err NotAWorker) = IsMarked sector → ⊥
-Checks sectors sector (Err Version) = IsMarked sector × (super_layout sector ≢ 1)
+Checks sectors sector (Err Version) = IsMarked sector × (super_layout sector ≢ LAYOUT)
 Checks sectors sector (Err Damaged) = IsKnown sector × (IsConsistent (super_of sector).geometry → ⊥)
-Checks sectors sector (Err TooSmall) = IsKnown sector × IsConsistent (super_of sector).geometry × (sectors < module_place + (super_of sector).geometry.module_sectors)
+Checks sectors sector (Err TooSmall) = IsKnown sector × IsConsistent (super_of sector).geometry × (sectors < MODULE_PLACE + (super_of sector).geometry.module_sectors)
 Checks sectors sector (Err other) = ⊥
 
 -- these are the configuration and the module in the bytes behind a super, if their digest is the super's
@@ -53,22 +55,22 @@ pub record IsStored (sectors : ℕ) (image : Image) (s : Stored) : Type 0 where
   pub known : IsKnown (sector_at image 0)
   pub geometry : s.geometry ≡ (super_of (sector_at image 0)).geometry
   pub consistent : IsConsistent s.geometry
-  pub room : module_place + s.geometry.module_sectors ≤ sectors
+  pub room : MODULE_PLACE + s.geometry.module_sectors ≤ sectors
   pub config : length s.config ≡ s.geometry.config
   pub wasm : length s.wasm ≡ s.geometry.wasm
-  pub contents : SectorsHold image module_place s.geometry.module_sectors (s.config ++ s.wasm)
+  pub contents : SectorsHold image MODULE_PLACE s.geometry.module_sectors (s.config ++ s.wasm)
   pub digest : (super_of (sector_at image 0)).digest ≡ sha256 (s.config ++ s.wasm)
 
 -- the super says where they stand, and they have another digest
 pub record HasOtherDigest (sectors : ℕ) (image : Image) (s : Super) : Type 0 where
   pub says : Checks sectors (sector_at image 0) (Ok s)
-  pub digest : s.digest ≢ sha256 (take (s.geometry.config + s.geometry.wasm) (bytes_from image module_place s.geometry.module_sectors))
+  pub digest : s.digest ≢ sha256 (take (s.geometry.config + s.geometry.wasm) (bytes_from image MODULE_PLACE s.geometry.module_sectors))
 
 -- what is found on a disk of so many sectors. Where a fault names a cause of the disk's content, it is there.
 abbrev pub FindsStored : ℕ → Image → Result Stored LayoutFault → Type 0
 FindsStored sectors image (Ok s) = IsStored sectors image s
 FindsStored sectors image (Err NotAWorker) = HasMarks image → ⊥
-FindsStored sectors image (Err Version) = HasMarks image × (super_layout (sector_at image 0) ≢ 1)
+FindsStored sectors image (Err Version) = HasMarks image × (super_layout (sector_at image 0) ≢ LAYOUT)
 FindsStored sectors image (Err TooSmall) = Checks sectors (sector_at image 0) (Err TooSmall)
 FindsStored sectors image (Err Damaged) = Checks sectors (sector_at image 0) (Err Damaged) ⊎ HasOtherDigest sectors image (super_of (sector_at image 0))
 FindsStored sectors image (Err Memory) = Unit {0}

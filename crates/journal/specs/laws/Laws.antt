@@ -4,7 +4,8 @@ use Rattle.sector_disk.specs.rules.Image.{Image, sector_at}
 use Rattle.disk_layout.specs.rules.Places.{Geometry, journal_place}
 use Rattle.disk_layout.specs.rules.Sectors.{shown_generation}
 use Rattle.disk_layout.specs.rules.Journal.{Record, scan}
-use Rattle.journal.specs.rules.Steps.{RecordsStand, AllRecordsFit, longest_payload}
+use Rattle.journal.specs.rules.Steps.{RecordsStand, AllRecordsFit}
+use Rattle.disk_layout.specs.declared.record.TheConstants.{LONGEST_PAYLOAD}
 
 -- each sector of the journal shows an earlier generation
 abbrev pub ShowsEarlierThan : Geometry → ℕ → Image → Type 0
@@ -16,8 +17,8 @@ FreshStands = (geometry : Geometry) (g : ℕ) (image : Image) → ShowsEarlierTh
 
 -- a scan gives the records that stand in the sectors
 abbrev pub ScansWhatStands : Type 0
-ScansWhatStands = (geometry : Geometry) (g used : ℕ) (records : List Record) (image : Image) → RecordsStand geometry g used records image → AllRecordsFit records → scan geometry longest_payload image g ≡ records
+ScansWhatStands = (geometry : Geometry) (g used : ℕ) (records : List Record) (image : Image) → RecordsStand geometry g used records image → AllRecordsFit records → scan geometry LONGEST_PAYLOAD image g ≡ records
 
 -- a scan of a generation that no sector shows gives none
 abbrev pub ScansNoneOfLater : Type 0
-ScansNoneOfLater = (geometry : Geometry) (g : ℕ) (image : Image) → ShowsEarlierThan geometry g image → scan geometry longest_payload image g ≡ []
+ScansNoneOfLater = (geometry : Geometry) (g : ℕ) (image : Image) → ShowsEarlierThan geometry g image → scan geometry LONGEST_PAYLOAD image g ≡ []

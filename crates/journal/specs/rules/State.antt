@@ -1,7 +1,7 @@
 -- What a journal holds beside its disk (this project's own).
 use Rattle.std.specs.Prelude.{ℕ, ◌-◌, ◌*◌, Bool, List, length}
 use Rattle.disk_layout.specs.rules.Places.{Geometry}
-use Rattle.disk_layout.specs.rules.Journal.{payload_size}
+use Rattle.disk_layout.specs.declared.journal_sectors.TheConstants.{PAYLOAD_SIZE}
 
 -- the generation; how many sectors are written in it; the bytes of records that only memory holds; whether a call has failed
 pub record JournalState : Type 0 where
@@ -15,4 +15,4 @@ state generation used kept has_failed = record { generation = generation; used =
 
 -- how many more bytes there is room for
 abbrev pub room_of : Geometry → JournalState → ℕ
-room_of geometry s = payload_size * (geometry.journal_sectors - s.used) - length s.kept
+room_of geometry s = PAYLOAD_SIZE * (geometry.journal_sectors - s.used) - length s.kept

@@ -7,10 +7,7 @@ use Rattle.disk_layout.specs.rules.Sectors.{shown_generation}
 use Rattle.disk_layout.specs.rules.Journal.{Record, record_bytes, payload_of, is_of, payloads_from, scan}
 use Rattle.wasi_abi.specs.declared.answer.Answer.{Answer}
 use Rattle.wasi_abi.specs.declared.answer.Answer.TheVariants as answer
-
--- the most bytes of a payload, in version 1
-abbrev pub longest_payload : ℕ
-longest_payload = 4096
+use Rattle.disk_layout.specs.declared.record.TheConstants.{LONGEST_PAYLOAD}
 
 -- a clock's value has room in 64 bits
 abbrev pub ClockFits : Answer → Type 0
@@ -23,7 +20,7 @@ ClockFits (answer.Random bytes) = Unit {0}
 -- a record that a journal of version 1 takes
 pub record RecordFits (r : Record) : Type 0 where
   pub step : r.step < 2 ^ 64
-  pub payload : length (payload_of r.answer) ≤ longest_payload
+  pub payload : length (payload_of r.answer) ≤ LONGEST_PAYLOAD
   pub clock : ClockFits r.answer
 
 abbrev pub AllRecordsFit : List Record → Type 0
@@ -58,7 +55,7 @@ ShowsNoneAfter geometry g image = (k : ℕ) → k < geometry.journal_sectors →
 pub record AppendsFront (geometry : Geometry) (g used : ℕ) (records kept : List Record) (old new : Image) : Type 0 where
   pub count : ℕ
   pub within : count ≤ length kept
-  pub scanned : scan geometry longest_payload new g ≡ records ++ take count kept
+  pub scanned : scan geometry LONGEST_PAYLOAD new g ≡ records ++ take count kept
   pub none_later : ShowsNoneAfter geometry g new
   pub others : SameOthers geometry used old new
 

@@ -161,7 +161,7 @@ kind_read code g kind h kinds e =
     let same : get_or kinds g 0 ≡ h.0 = cc in
     (within, ap (λ x. slice_get code.«module».types x) same ∙ h.2)
 
-not_other : (i : Instruction) → IsCall i → ((g : ℕ) → i ≡ instr.Call g → ⊥) → ((t : ℕ) → i ≡ instr.CallIndirect t → ⊥) → ⊥
+pub not_other : (i : Instruction) → IsCall i → ((g : ℕ) → i ≡ instr.Call g → ⊥) → ((t : ℕ) → i ≡ instr.CallIndirect t → ⊥) → ⊥
 not_other i h a b = ⊎_elim (λ (k : (g : ℕ) × (i ≡ instr.Call g)). a k.0 k.1) (λ (k : (t : ℕ) × (i ≡ instr.CallIndirect t)). b k.0 k.1) h
 
 module _ (code : Executable) (s : State) (frame : StackFrame) (first : slice_get s.frames 0 ≡ Some frame) where

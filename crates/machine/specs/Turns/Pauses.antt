@@ -48,8 +48,8 @@ pub record TrapsFor (code : Executable) (new : State) (functions : List Function
 abbrev pub PausesFor : Executable → State → List FunctionType → Program → Configuration → ℕ → ℕ → Pause → Type 0
 PausesFor code new functions program d fuel left pause.Spent =
     (come : ComesToState code new functions program d fuel left) × IsSettled program come.configuration × (come.configuration.thread ≢ []) × (left ≡ 0)
-PausesFor code new functions program d fuel left (pause.Host call arguments) =
-    (come : ComesToState code new functions program d fuel left) × RuleAsksFor code program come.configuration call arguments × (0 < left)
+PausesFor code new functions program d fuel left (pause.Host asked) =
+    (come : ComesToState code new functions program d fuel left) × RuleAsksFor code program come.configuration asked.call asked.arguments × (0 < left)
 PausesFor code new functions program d fuel left pause.Returned =
     (come : ComesToState code new functions program d fuel left) × IsEnded come.configuration
 PausesFor code new functions program d fuel left (pause.Trapped why) = TrapsFor code new functions program d fuel left why

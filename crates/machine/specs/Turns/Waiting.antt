@@ -1,13 +1,18 @@
 -- A call that waits for the host's answer.
-use Rattle.std.specs.Prelude.{◌≡◌, ℕ, ◌≤◌, List, length, slice_get}
+use Rattle.std.specs.Prelude.{◌≡◌, ℕ, ◌≤◌, List, ◌++◌, length, reverse, Option, Some, None, slice_get}
 use Rattle.wasm_syntax.specs.declared.types.FunctionType.{FunctionType}
 use Rattle.wasm_syntax.specs.declared.value.Value.{Value}
+use Rattle.wasi_abi.specs.declared.call.Call.{Call}
+use Rattle.wasi_abi.specs.rules.Calls.{parameters_of}
 use Rattle.wasm_syntax_rules.specs.Configuration.{Program, Thread, Configuration, Asks}
 use Rattle.wasm_syntax_rules.specs.Steps.{rule}
 use Rattle.machine_rules.specs.laws.Threads.{HasTaken}
 use Rattle.machine.specs.declared.turns.code.Executable.{Executable}
 use Rattle.machine.specs.declared.turns.state.State.{State}
+use Rattle.machine.specs.declared.turns.pause.HostCall.{HostCall}
+use Rattle.machine.specs.rules.Runs.{AsksNothing}
 use Rattle.machine.specs.Turns.Codes.{Stands}
+use Rattle.machine.specs.Turns.Pauses.{RuleAsksFor}
 use Rattle.machine.specs.Turns.Turns.{IsAtPosition}
 
 -- the state stands for a configuration whose rule asks the host for this function
@@ -31,3 +36,22 @@ TakesWords code s taken =
     (functions : List FunctionType) (program : Program) (d : Configuration) (f : ℕ) (arguments : List Value) (waits : Thread)
     → AsksAt code s functions program d f arguments waits
     → (taken ≤ length s.slots) × IsAtPosition code s (λ p opcodes. HasTaken (slice_get opcodes p) taken (length arguments))
+
+-- ---- what it is
+
+-- this call, with its arguments, the first one first, which lie below so many words
+abbrev pub IsCallBelow : List ℕ → Call → ℕ → HostCall → Type 0
+IsCallBelow words call above told =
+    (over arguments under : List ℕ) → words ≡ over ++ (arguments ++ under) → above ≡ length over
+    → length (parameters_of call) ≡ length arguments → told ≡ record { call = call; arguments = reverse arguments }
+
+-- the call that the rule asks the host for, or none where it asks for nothing
+abbrev pub CodeTellsCall : Executable → Program → Configuration → Option HostCall → Type 0
+CodeTellsCall code program d None = AsksNothing program d
+CodeTellsCall code program d (Some told) = RuleAsksFor code program d told.call told.arguments
+
+-- whichever configuration the state stands for
+abbrev pub TellsOfState : Executable → State → Option HostCall → Type 0
+TellsOfState code s told =
+    (functions : List FunctionType) (program : Program) (d : Configuration)
+    → Stands code s functions program d → CodeTellsCall code program d told

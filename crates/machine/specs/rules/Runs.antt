@@ -1,5 +1,5 @@
 -- Where a machine comes to on fuel, and after an answer of the host.
-use Rattle.std.specs.Prelude.{◌≡◌, ◌≢◌, ℕ, suc, ◌+◌, ◌<◌, List, [], map, reverse, Some, slice_get}
+use Rattle.std.specs.Prelude.{◌≡◌, ◌≢◌, ◌↔◌, ℕ, suc, ◌+◌, ◌<◌, Bool, IsTrue, List, [], map, reverse, Option, Some, None, slice_get}
 use Rattle.wasm_syntax.specs.declared.types.FunctionType.{FunctionType}
 use Rattle.wasm_syntax.specs.declared.value.Value.{Value}
 use Rattle.wasm_syntax.specs.declared.value.Trap.{Trap}
@@ -15,6 +15,7 @@ use Rattle.machine.specs.rules.Offers.{offer, AreImportedCalls}
 use Rattle.machine.specs.declared.turns.pause.Pause.{Pause}
 use Rattle.machine.specs.declared.turns.pause.Pause.TheVariants as pause
 use Rattle.machine.specs.declared.turns.pause.Paused.{Paused}
+use Rattle.machine.specs.declared.turns.pause.HostCall.{HostCall}
 use Rattle.machine.specs.rules.Values.{MachineValue, HoldsMemory, ShowsIn}
 
 -- ---- the beginning
@@ -64,13 +65,32 @@ pub record TrapsAfter (new : MachineValue) (program : Program) (d : Configuratio
 -- has trapped.
 abbrev pub RunsFor : MachineValue → Program → Configuration → ℕ → ℕ → Pause → Type 0
 RunsFor new program d fuel left pause.Spent = (a : Arrives new program d fuel left) × (a.configuration.thread ≢ []) × (left ≡ 0)
-RunsFor new program d fuel left (pause.Host call arguments) = (a : Arrives new program d fuel left) × AsksFor new.guest program a.configuration call arguments × (0 < left)
+RunsFor new program d fuel left (pause.Host asked) = (a : Arrives new program d fuel left) × AsksFor new.guest program a.configuration asked.call asked.arguments × (0 < left)
 RunsFor new program d fuel left pause.Returned = (a : Arrives new program d fuel left) × IsEnded a.configuration
 RunsFor new program d fuel left (pause.Trapped why) = TrapsAfter new program d fuel left why
 
 -- whichever configuration of whichever program it showed
 abbrev pub RunsOnFuel : MachineValue → ℕ → Paused → MachineValue → Type 0
 RunsOnFuel old fuel paused new = (program : Program) (d : Configuration) → ShowsIn old program d → RunsFor new program d fuel paused.left paused.why
+
+-- ---- what waits
+
+-- the rule asks the host for nothing
+abbrev pub AsksNothing : Program → Configuration → Type 0
+AsksNothing program d = (f : ℕ) (arguments : List Value) (waits : Thread) → rule program d ≡ Asks f arguments waits → ⊥
+
+-- the call that the rule asks the host for, or none where it asks for nothing
+abbrev pub TellsCall : Module → Program → Configuration → Option HostCall → Type 0
+TellsCall m program d None = AsksNothing program d
+TellsCall m program d (Some asked) = AsksFor m program d asked.call asked.arguments
+
+-- whichever configuration of whichever program it shows
+abbrev pub TellsWaiting : MachineValue → Option HostCall → Type 0
+TellsWaiting v told = (program : Program) (d : Configuration) → ShowsIn v program d → TellsCall v.guest program d told
+
+-- whether that configuration has ended
+abbrev pub TellsEnd : MachineValue → Bool → Type 0
+TellsEnd v told = (program : Program) (d : Configuration) → ShowsIn v program d → IsTrue told ↔ IsEnded d
 
 -- ---- answers
 

@@ -26,14 +26,14 @@ pub struct MachineStart {
 }
 
 /// Takes all memory that running needs. Fails only where memory is refused.
-fn prepare(instance: Instance, alloc: Global) -> Result<MachineStart, AllocError>
+fn prepare(alloc: Global, instance: Instance) -> Result<MachineStart, AllocError>
     requires types { AllByRecursion HasFewParameters instance.«module».types }
     requires functions { AllByRecursion IsSmallFunction instance.«module».functions }
     ensures { IfOk result (IsOfInstance instance) }
 {
     let module = instance.module.module();
     let kinds = function_type_indices(alloc, module)?;
-    let routines = routines(module, alloc)?;
+    let routines = routines(alloc, module)?;
     let later = first_calls(alloc, module.start, instance.entry)?;
     let globals = words_of(alloc, instance.globals.as_slice())?;
     let frames = Frames::new(alloc)?;
@@ -57,7 +57,7 @@ fn prepare(instance: Instance, alloc: Global) -> Result<MachineStart, AllocError
 
 /// Links a module to the host, under so many pages of memory at most, and takes all memory that running needs. The fault is the
 /// first in the order of `LinkFault`. Time in proportion to the module and to its memory and table.
-pub fn begin(module: ValidModule, pages: u32, alloc: Global) -> Result<MachineStart, LinkFault>
+pub fn begin(alloc: Global, module: ValidModule, pages: u32) -> Result<MachineStart, LinkFault>
     requires pages { pages ≤ MOST_PAGES }
     requires types { AllByRecursion HasFewParameters «module».types }
     requires functions { AllByRecursion IsSmallFunction «module».functions }
@@ -65,6 +65,6 @@ pub fn begin(module: ValidModule, pages: u32, alloc: Global) -> Result<MachineSt
     ensures refused { IfErr result (IsRefused pages «module») }
     ensures only { IfErr result (LinkDenies (IsLinkable offer pages «module»)) }
 {
-    let instance = Instance::link(module, pages, alloc)?;
-    Ok(prepare(instance, alloc)?)
+    let instance = Instance::link(alloc, module, pages)?;
+    Ok(prepare(alloc, instance)?)
 }

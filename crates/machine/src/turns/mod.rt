@@ -13,7 +13,7 @@ mod waiting;
 
 pub use calls::clear;
 pub use code::Executable;
-pub use pause::{Arguments, Pause, Paused};
+pub use pause::{Arguments, HostCall, Pause, Paused};
 pub use running::go_on;
 pub use state::State;
-pub use waiting::words_taken;
+pub use waiting::{waiting_call, words_taken};

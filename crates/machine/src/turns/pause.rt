@@ -47,13 +47,20 @@ impl Arguments {
     }
 }
 
+/// A call of the host that waits for its answer.
+#[derive(Debug, Drop)]
+pub struct HostCall {
+    pub call: Call,
+    pub arguments: Arguments,
+}
+
 /// Why a machine stops running.
 #[derive(Debug, Drop)]
 pub enum Pause {
     /// No fuel is left.
     Spent,
     /// A call of the host waits for its answer.
-    Host(Call, Arguments),
+    Host(HostCall),
     /// Nothing is left to run: the last function that the host called has returned, or the machine trapped or was stopped before.
     Returned,
     Trapped(Trap),

@@ -1,14 +1,86 @@
 //! The call of the host that waits for its answer.
 
-ghost use Rattle.std.specs.Prelude.{◌≡◌, ◌<◌, ℕ, Some, length, slice_get};
+ghost use Rattle.std.specs.Prelude.{◌≡◌, ◌<◌, ◌≤◌, ◌+◌, ℕ, Some, length, slice_get};
 ghost use Rattle.wasm_syntax.specs.declared.types.FunctionType.{FunctionType as Kind};
-ghost use Rattle.machine.specs.Turns.Codes.{HasKind};
-ghost use Rattle.machine.specs.Turns.Waiting.{IsAsking, TakesWords};
+ghost use Rattle.wasm_syntax.specs.declared.instruction.Instruction.TheVariants as instr;
+ghost use Rattle.wasi_abi.specs.rules.Calls.{parameters_of};
+ghost use Rattle.machine.specs.Turns.Codes.{HasKind, IsStanding};
+ghost use Rattle.machine.specs.Turns.Turns.{StateIsAtOpcode};
+ghost use Rattle.machine.specs.Turns.Waiting.{IsAsking, IsCallBelow, TakesWords, TellsOfState};
 
 use crate::turns::code::Executable;
-use crate::turns::functions::opcodes_of;
+use crate::turns::functions::{has_kind, opcodes_of};
+use crate::turns::pause::{Arguments, HostCall};
 use crate::turns::state::State;
+use wasi_abi::Call;
 use wasm_syntax::Instruction;
+
+/// This call, whose arguments lie below so many words.
+pub fn asked(state: &State, call: Call, above: usize) -> HostCall
+    requires { length (parameters_of call) + above ≤ length state.now.slots }
+    ensures { IsCallBelow state.now.slots call above result }
+{
+    let words = state.slots.as_slice();
+    let end = words.len() - above;
+    let start = end - call.parameters().len();
+    let arguments = Arguments::of(&words[start..end]);
+    HostCall { call, arguments }
+}
+
+/// What waits at a `call` of this function.
+fn waiting_direct(code: &Executable, state: &State, function: u32) -> Option<HostCall>
+    requires stands { IsStanding code.now state.now }
+    requires here { StateIsAtOpcode code.now state.now (instr.Call function) }
+    ensures { TellsOfState code.now state.now result }
+{
+    match code.calls.as_slice().get(function as usize) {
+        Some(call) => Some(asked(state, *call, 0)),
+        None => None,
+    }
+}
+
+/// What waits at a `call_indirect` with this type, which has the entry's place on top.
+fn waiting_indirect(code: &Executable, state: &State, function_type: u32) -> Option<HostCall>
+    requires stands { IsStanding code.now state.now }
+    requires here { StateIsAtOpcode code.now state.now (instr.CallIndirect function_type) }
+    ensures { TellsOfState code.now state.now result }
+{
+    let place = state.slots.top();
+    let Some(entry) = code.table.as_slice().get(place as usize) else {
+        return None;
+    };
+    let Some(function) = *entry else {
+        return None;
+    };
+    if !has_kind(code, function, function_type) {
+        return None;
+    }
+    match code.calls.as_slice().get(function as usize) {
+        Some(call) => Some(asked(state, *call, 1)),
+        None => None,
+    }
+}
+
+/// The call of the host that the next rule asks for, if it asks for one. Nothing runs.
+pub fn waiting_call(code: &Executable, state: &State) -> Option<HostCall>
+    requires { IsStanding code.now state.now }
+    ensures { TellsOfState code.now state.now result }
+{
+    if state.frames.is_empty() {
+        return None;
+    }
+    let frame = state.frames.top();
+    let Some(instruction) = opcodes_of(code, frame.function).get(frame.position) else {
+        return None;
+    };
+    match instruction {
+        Instruction::Call { function } => waiting_direct(code, state, *function),
+        Instruction::CallIndirect { function_type } => {
+            waiting_indirect(code, state, *function_type)
+        }
+        _ => None,
+    }
+}
 
 /// How many parameters the type with this index has.
 fn parameters_in(code: &Executable, function_type: u32) -> usize

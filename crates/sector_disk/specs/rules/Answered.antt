@@ -6,6 +6,7 @@ use Rattle.sector_disk.specs.declared.fault.DiskFault.{DiskFault}
 use Rattle.sector_disk.specs.declared.fault.DiskFault.TheVariants.{Range, Io}
 use Rattle.sector_disk.specs.declared.file_call.FileCall.{FileCall}
 use Rattle.sector_disk.specs.declared.file_call.FileCall.TheVariants.{Read, Wrote, Tore, Synced, Failed}
+use Rattle.sector_disk.specs.declared.sector.TheConstants.{SECTOR_SIZE}
 
 -- the calls with their bytes, the newest first
 abbrev pub AnsweredCalls : Type 0
@@ -15,10 +16,10 @@ AnsweredCalls = List (FileCall × List ℕ)
 abbrev pub OneOn : FileCall → List ℕ → (Image → Image → Type 0) → Image → Image → Type 0
 OneOn (Read k) bytes before shown left = before shown left × (sector_at shown k ≡ bytes)
 OneOn (Wrote k) bytes before shown left =
-    (was_shown : Image) × (was_left : Image) × (front : ℕ) × before was_shown was_left × (front ≤ 512) × (length bytes ≡ 512)
+    (was_shown : Image) × (was_left : Image) × (front : ℕ) × before was_shown was_left × (front ≤ SECTOR_SIZE) × (length bytes ≡ SECTOR_SIZE)
     × (shown ≡ with_sector was_shown k bytes) × (left ≡ with_front was_left k front bytes)
 OneOn (Tore k) bytes before shown left =
-    (was_shown : Image) × (was_left : Image) × (most : ℕ) × (front : ℕ) × before was_shown was_left × (most ≤ 512) × (front ≤ most) × (length bytes ≡ 512)
+    (was_shown : Image) × (was_left : Image) × (most : ℕ) × (front : ℕ) × before was_shown was_left × (most ≤ SECTOR_SIZE) × (front ≤ most) × (length bytes ≡ SECTOR_SIZE)
     × (shown ≡ with_front was_shown k most bytes) × (left ≡ with_front was_left k front bytes)
 OneOn Synced bytes before shown left = (was_left : Image) × before shown was_left × (left ≡ shown)
 OneOn Failed bytes before shown left = before shown left
@@ -31,8 +32,8 @@ Explains sectors (answer ∷ answers) shown left = OneOn answer.0 answer.1 (Expl
 -- what reads give, one call on
 abbrev pub ShowsOn : FileCall → List ℕ → (Image → Type 0) → Image → Type 0
 ShowsOn (Read k) bytes before shown = before shown × (sector_at shown k ≡ bytes)
-ShowsOn (Wrote k) bytes before shown = (was : Image) × before was × (length bytes ≡ 512) × (shown ≡ with_sector was k bytes)
-ShowsOn (Tore k) bytes before shown = (was : Image) × (front : ℕ) × before was × (front ≤ 512) × (length bytes ≡ 512) × (shown ≡ with_front was k front bytes)
+ShowsOn (Wrote k) bytes before shown = (was : Image) × before was × (length bytes ≡ SECTOR_SIZE) × (shown ≡ with_sector was k bytes)
+ShowsOn (Tore k) bytes before shown = (was : Image) × (front : ℕ) × before was × (front ≤ SECTOR_SIZE) × (length bytes ≡ SECTOR_SIZE) × (shown ≡ with_front was k front bytes)
 ShowsOn Synced bytes before shown = before shown
 ShowsOn Failed bytes before shown = before shown
 

@@ -1,5 +1,6 @@
 -- The bytes of a disk, sector by sector.
 use Rattle.std.specs.Prelude.{◌≡◌, ◌<◌, ◌≤◌, ◌++◌, ℕ, List, [], length, take, drop, slice_index_or, slice_set}
+use Rattle.sector_disk.specs.declared.sector.TheConstants.{SECTOR_SIZE}
 
 abbrev pub Image : Type 0
 Image = List (List ℕ)
@@ -20,10 +21,10 @@ front_over front new old = take front new ++ drop front old
 abbrev pub with_front : Image → ℕ → ℕ → List ℕ → Image
 with_front image k front bytes = with_sector image k (front_over front bytes (sector_at image k))
 
--- so many sectors of 512 bytes each
+-- so many sectors of so many bytes each
 pub record IsImage (sectors : ℕ) (image : Image) : Type 0 where
   pub count : length image ≡ sectors
-  pub full : (k : ℕ) → k < sectors → length (sector_at image k) ≡ 512
+  pub full : (k : ℕ) → k < sectors → length (sector_at image k) ≡ SECTOR_SIZE
 
 -- new is old after a write of these bytes to sector k, of which a front was left, at most so many bytes of it
 pub record IsTornWithin (most k : ℕ) (bytes : List ℕ) (old new : Image) : Type 0 where
@@ -33,7 +34,7 @@ pub record IsTornWithin (most k : ℕ) (bytes : List ℕ) (old new : Image) : Ty
 
 -- new is old after a write of these bytes to sector k, of which some front was left
 abbrev pub IsTorn : ℕ → List ℕ → Image → Image → Type 0
-IsTorn k bytes old new = IsTornWithin 512 k bytes old new
+IsTorn k bytes old new = IsTornWithin SECTOR_SIZE k bytes old new
 
 -- new is old after a write of these bytes to sector k, of which just this front was left
 abbrev pub IsFront : ℕ → ℕ → List ℕ → Image → Image → Type 0

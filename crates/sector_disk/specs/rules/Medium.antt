@@ -3,6 +3,7 @@ use Rattle.std.specs.Prelude.{◌≡◌, ◌⊎◌, ◌<◌, ◌≤◌, ◌+◌,
 use Rattle.sector_disk.specs.rules.Image.{Image, sector_at, with_front, IsImage, IsTorn, IsWritten}
 use Rattle.sector_disk.specs.declared.fault.DiskFault.{DiskFault}
 use Rattle.sector_disk.specs.declared.fault.DiskFault.TheVariants.{Range, Memory}
+use Rattle.sector_disk.specs.declared.sector.TheConstants.{SECTOR_SIZE}
 
 -- Of a disk that obeys the model reads give one image. Of one whose answers fit no image, there is none in any of these sets.
 pub record Medium : Type 1 where
@@ -43,7 +44,7 @@ pub record Medium : Type 1 where
   pub only_count : (n : ℕ) → unsynced_since moment n → n ≡ unsynced
   -- a cut may leave all that reads give, and in any sector a longer front of that than it did
   pub may_stay : (shown image : Image) → may shown image → may shown shown
-  pub may_keep : (shown image : Image) → may shown image → (k front : ℕ) → front ≤ 512 → may shown (with_front image k front (sector_at shown k))
+  pub may_keep : (shown image : Image) → may shown image → (k front : ℕ) → front ≤ SECTOR_SIZE → may shown (with_front image k front (sector_at shown k))
   pub is_image : (image : Image) → may_leave image → IsImage sectors image
 
 -- how many more writes it surely takes before a good sync

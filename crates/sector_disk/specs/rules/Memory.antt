@@ -11,6 +11,7 @@ use Rattle.sector_disk.specs.declared.fault.DiskFault.{DiskFault}
 use Rattle.sector_disk.specs.declared.fault.DiskFault.TheVariants.{Range, Io}
 use Rattle.sector_disk.specs.declared.memory.MemDisk.{MemDisk}
 use Rattle.sector_disk.specs.declared.write.Write.{Write}
+use Rattle.sector_disk.specs.declared.sector.TheConstants.{SECTOR_SIZE}
 
 -- what the last good sync left, the writes since, the oldest first, and how many writes there is room for between two good syncs
 pub record MemoryState : Type 0 where
@@ -90,6 +91,6 @@ memory_medium d = record {
   is_image = λ image left. image-left _ d.pending.items d.settled.items image d.full d.within left;
 }
 
--- each image that a cut may leave is had by numbers of at most 512
+-- each image that a cut may leave is had by numbers of at most a sector's size
 abbrev pub IsEveryCut : MemDisk → Type 0
-IsEveryCut d = (image : Image) → (memory_medium d).may_leave image → (tears : List ℕ) × All (λ tear. tear ≤ 512) tears × (image ≡ (after_cut (memory_state_of d) tears).settled)
+IsEveryCut d = (image : Image) → (memory_medium d).may_leave image → (tears : List ℕ) × All (λ tear. tear ≤ SECTOR_SIZE) tears × (image ≡ (after_cut (memory_state_of d) tears).settled)

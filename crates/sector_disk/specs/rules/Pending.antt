@@ -3,16 +3,17 @@ use Rattle.std.specs.Prelude.{◌≡◌, ◌<◌, ◌≤◌, ◌⊎◌, ℕ, min
 use Rattle.std.specs.declared.alloc.Global.{Global}
 use Rattle.sector_disk.specs.rules.Image.{Image, with_sector, with_front}
 use Rattle.sector_disk.specs.declared.write.Write.{Write}
+use Rattle.sector_disk.specs.declared.sector.TheConstants.{SECTOR_SIZE}
 
 -- a write to one of so many sectors
 pub record IsWriteWithin (sectors : ℕ) (write : Write) : Type 0 where
   pub within : write.sector < sectors
-  pub full : length write.bytes ≡ 512
+  pub full : length write.bytes ≡ SECTOR_SIZE
 
 -- what a cut may leave: of each write some front, over what the earlier ones left
 abbrev pub Leaves : List Write → Image → Image → Type 0
 Leaves [] from image = image ≡ from
-Leaves (write ∷ writes) from image = (front : ℕ) × (front ≤ 512) × Leaves writes (with_front from write.sector front write.bytes) image
+Leaves (write ∷ writes) from image = (front : ℕ) × (front ≤ SECTOR_SIZE) × Leaves writes (with_front from write.sector front write.bytes) image
 
 -- all of them, whole
 abbrev pub replayed : List Write → Image → Image
@@ -21,8 +22,8 @@ replayed (write ∷ writes) from = replayed writes (with_sector from write.secto
 
 -- the front that the first of these numbers names: a missing one, or a larger one, names the whole write
 abbrev pub first_front : List ℕ → ℕ
-first_front [] = 512
-first_front (tear ∷ tears) = min tear 512
+first_front [] = SECTOR_SIZE
+first_front (tear ∷ tears) = min tear SECTOR_SIZE
 
 -- of each write the front that its number names
 abbrev pub torn_by : List ℕ → List Write → Image → Image

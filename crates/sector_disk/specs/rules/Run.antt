@@ -3,13 +3,14 @@ use Rattle.std.specs.Prelude.{◌≡◌, ◌⊎◌, ◌<◌, ◌≤◌, ◌+◌,
 use Rattle.sector_disk.specs.rules.Image.{Image, sector_at, front_over}
 use Rattle.sector_disk.specs.rules.Medium.{Medium, After, BothFollow, LeavesOnly, CountsUpTo, FailsInside, spare}
 use Rattle.sector_disk.specs.declared.fault.DiskFault.{DiskFault}
+use Rattle.sector_disk.specs.declared.sector.TheConstants.{SECTOR_SIZE}
 
 -- new is old after writes of the first n of these sectors from sector `at` on, of each of which some front was left
 pub record IsTornRun (at : ℕ) (sectors : Image) (n : ℕ) (old new : Image) : Type 0 where
   pub count : length new ≡ length old
   pub below : (k : ℕ) → k < at → sector_at new k ≡ sector_at old k
   pub above : (k : ℕ) → at + n ≤ k → sector_at new k ≡ sector_at old k
-  pub each : (j : ℕ) → j < n → (front : ℕ) × (front ≤ 512) × (sector_at new (at + j) ≡ front_over front (sector_at sectors j) (sector_at old (at + j)))
+  pub each : (j : ℕ) → j < n → (front : ℕ) × (front ≤ SECTOR_SIZE) × (sector_at new (at + j) ≡ front_over front (sector_at sectors j) (sector_at old (at + j)))
 
 -- new is old after these writes, whole
 pub record IsWrittenRun (at : ℕ) (sectors : Image) (n : ℕ) (old new : Image) : Type 0 where

@@ -7,6 +7,7 @@ use Rattle.sector_disk.specs.declared.fault.DiskFault.TheVariants.{Io, Cut}
 use Rattle.sector_disk.specs.declared.place.Place.{Place}
 use Rattle.sector_disk.specs.declared.trouble.Trouble.{Trouble}
 use Rattle.sector_disk.specs.declared.trouble.Trouble.TheVariants.{Stops, Stopped, Fails}
+use Rattle.sector_disk.specs.declared.sector.TheConstants.{SECTOR_SIZE}
 
 -- a counter of 64 bits that counts one more; at its greatest number it stays
 abbrev pub counted : ℕ → ℕ
@@ -25,12 +26,12 @@ call_number calls = min (calls.reads + calls.writes + calls.syncs) (2 ^ 64 - 1)
 -- the call of this number fails where it is told
 abbrev pub failure_at : Option Place → ℕ → Option Trouble
 failure_at None n = None
-failure_at (Some place) n = if place.call == n then Some (Fails (min place.front 512)) else None
+failure_at (Some place) n = if place.call == n then Some (Fails (min place.front SECTOR_SIZE)) else None
 
 -- it stops where it is told, and each later one finds the machine stopped
 abbrev pub trouble_at : Option Place → Option Place → ℕ → Option Trouble
 trouble_at None fail n = failure_at fail n
-trouble_at (Some place) fail n = if nat_lt place.call n then Some Stopped else (if place.call == n then Some (Stops (min place.front 512)) else failure_at fail n)
+trouble_at (Some place) fail n = if nat_lt place.call n then Some Stopped else (if place.call == n then Some (Stops (min place.front SECTOR_SIZE)) else failure_at fail n)
 
 -- what such a call answers
 abbrev pub trouble_fault : Trouble → DiskFault

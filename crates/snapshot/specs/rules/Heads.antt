@@ -3,6 +3,7 @@ use Rattle.std.specs.Prelude.{◌≡◌, ◌⊎◌, ℕ, ◌-◌, ◌<◌, List,
 use Rattle.sector_disk.specs.rules.Image.{Image, sector_at}
 use Rattle.disk_layout.specs.declared.head.Head.{Head}
 use Rattle.disk_layout.specs.rules.Sectors.{head_of, IsComplete, IsNewest, shown_generation}
+use Rattle.disk_layout.specs.declared.head.TheConstants.{HEAD_STAMP_PLACE}
 
 -- neither head is complete
 pub record HasNone (image : Image) : Type 0 where
@@ -11,7 +12,7 @@ pub record HasNone (image : Image) : Type 0 where
 
 -- the latest generation that a head's sector shows
 abbrev pub heads_to : Image → ℕ
-heads_to image = max (shown_generation 1 (sector_at image 1)) (shown_generation 1 (sector_at image 2))
+heads_to image = max (shown_generation HEAD_STAMP_PLACE (sector_at image 1)) (shown_generation HEAD_STAMP_PLACE (sector_at image 2))
 
 -- The newest complete head is of the generation before this one (before the first there is none), and no head's sector
 -- shows this one or a later one.

@@ -10,6 +10,7 @@ use Rattle.snapshot.specs.declared.writing.Writing.TheVariants.{Changes}
 use Rattle.snapshot.specs.declared.snapshots.State.{State}
 use Rattle.snapshot.specs.declared.snapshots.State.TheVariants as state
 use Rattle.snapshot.specs.declared.snapshots.Snapshots.{Snapshots}
+use Rattle.sector_disk.specs.declared.sector.TheConstants.{SECTOR_SIZE}
 
 abbrev pub has_failed : State → Bool
 has_failed state.Failed = true
@@ -81,7 +82,7 @@ sectors_of s = sectors_in s.state
 
 -- how many more sectors so many more bytes fill
 abbrev pub filled_by : Snapshots → ℕ → ℕ
-filled_by s count = (length_of s + count) / 512 - sectors_of s
+filled_by s count = (length_of s + count) / SECTOR_SIZE - sectors_of s
 
 -- the same image is in the middle of being written
 pub record IsSameImage (old new : Snapshots) : Type 0 where

@@ -7,6 +7,7 @@ use Rattle.disk_layout.specs.rules.Places.{head_place, area_place, rounded_up}
 use Rattle.disk_layout.specs.rules.Sectors.{bytes_from, HoldsImage}
 use Rattle.snapshot.specs.rules.Heads.{HasNone, heads_to, IsReadyForHead}
 use Rattle.snapshot.specs.rules.Newest.{IsDamaged}
+use Rattle.sector_disk.specs.declared.sector.TheConstants.{SECTOR_SIZE}
 
 -- what `newest` finds is found again
 pub record KeepsNewest (geometry : Geometry) (old new : Image) : Type 0 where
@@ -20,7 +21,7 @@ pub record KeepsNewest (geometry : Geometry) (old new : Image) : Type 0 where
 abbrev pub HoldsWithZeros : Geometry → ℕ → List ℕ → Image → Type 0
 HoldsWithZeros geometry g bytes image =
     bytes_from image (area_place geometry g) (rounded_up (length bytes))
-    ≡ bytes ++ padding (512 * rounded_up (length bytes) - length bytes)
+    ≡ bytes ++ padding (SECTOR_SIZE * rounded_up (length bytes) - length bytes)
 
 -- The image of this generation is the newest one, with zeros behind it up to the end of its last
 -- sector. No head's sector shows a later one.

@@ -1,5 +1,5 @@
 -- Laws of the rows: what a call that is done keeps, and which answers the rows take.
-use Rattle.std.specs.Prelude.{◌≡◌, ◌↔◌, ℕ, List, ◌++◌, length, IsTrue, Option, Some, None, Ok}
+use Rattle.std.specs.Prelude.{◌≡◌, ◌↔◌, ℕ, ◌+◌, ◌≤◌, List, ◌++◌, length, IsTrue, Option, Some, None, Ok}
 use Rattle.std.specs.List.{AllByRecursion}
 use Rattle.wasi_abi.specs.declared.answer.Kind.{Kind}
 use Rattle.wasi_abi.specs.declared.answer.Answer.{Answer}
@@ -52,6 +52,31 @@ abbrev pub RowsKeepBytes : Type 0
 RowsKeepBytes = (c : Call) (arguments : List ℕ) (given : Option Answer) (m : Bytes) (h : Host)
     (done : Done) → AreBytes m → IsOfBytes h → row c arguments given m h ≡ Ok done
     → AreBytes done.memory
+
+-- ---- hosts
+
+-- configured as before: the same room, limit, arguments and environment
+pub record IsConfiguredAs (before after : Host) : Type 0 where
+  pub room : after.room ≡ before.room
+  pub limit : after.limit ≡ before.limit
+  pub arguments : after.arguments ≡ before.arguments
+  pub environment : after.environment ≡ before.environment
+
+-- a call that is done leaves what the host was configured with
+abbrev pub RowsKeepConfigurations : Type 0
+RowsKeepConfigurations = (c : Call) (arguments : List ℕ) (given : Option Answer) (m : Bytes)
+    (h : Host) (done : Done) → row c arguments given m h ≡ Ok done → IsConfiguredAs h done.host
+
+-- at most one number more was given to a node, and none was taken back
+pub record MakesOneNodeAtMost (before after : Host) : Type 0 where
+  pub least : before.files.next ≤ after.files.next
+  pub most : after.files.next ≤ before.files.next + 1
+
+-- a call that is done makes one node at most
+abbrev pub RowsMakeOneNodeAtMost : Type 0
+RowsMakeOneNodeAtMost = (c : Call) (arguments : List ℕ) (given : Option Answer) (m : Bytes)
+    (h : Host) (done : Done) → row c arguments given m h ≡ Ok done
+    → MakesOneNodeAtMost h done.host
 
 -- ---- answers
 

@@ -1,9 +1,9 @@
 -- Bytes stay bytes, and memory keeps its whole pages.
-use Rattle.std.proofs.Common.{◌≡◌, ℕ, zero, suc, ◌+◌, ◌*◌, ◌/◌, ◌%◌, ◌^◌, ◌<◌, ◌≤◌, List, [], ◌∷◌, ◌++◌, length, take, drop, ◌∙◌, arith, length-append, length-take, length-drop, pow-suc}
+use Rattle.std.proofs.Common.{◌≡◌, ℕ, ◌+◌, ◌*◌, ◌≤◌, List, ◌++◌, length, ◌∙◌, arith, length-append}
 use Rattle.std.specs.Prelude.{replicate}
 use Rattle.std.specs.List.{AllByRecursion}
 use Rattle.std.proofs.lemmas.List.{length-replicate}
-use Rattle.guest_memory.specs.rules.Bytes.{IsByte, number_of, bytes_of, page_size, part, with_part}
+use Rattle.guest_memory.specs.rules.Bytes.{IsByte, page_size, with_part}
 use Rattle.wasm_syntax_rules.specs.Configuration.{Program}
 use Rattle.wasm_syntax_rules.specs.Typed.{IsTypedMemory}
 use Rattle.guest_memory.proofs.Ranges.{length-with_part}

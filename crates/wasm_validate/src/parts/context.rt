@@ -60,7 +60,7 @@ fn global_types(alloc: Global, module: &Module) -> Result<Vec<GlobalType>, Alloc
 
 impl<'m> ModuleContext<'m> {
     /// The context of a module. `Index` where a function's type doesn't exist.
-    pub fn of(module: &'m Module, alloc: Global) -> Result<ModuleContext<'m>, ValidFault>
+    pub fn of(alloc: Global, module: &'m Module) -> Result<ModuleContext<'m>, ValidFault>
         ensures found { OnOk result (HasFunctionTypes «module».now) }
         ensures context { IfOk result (IsContextOfModule «module».now) }
         ensures refused { IfErr result (IsFor ValidFault.Index (HasFunctionTypes «module».now)) }

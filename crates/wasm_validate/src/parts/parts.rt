@@ -36,9 +36,9 @@ pub fn check_types(module: &Module) -> Result<(), ValidFault>
 /// segments. The context is the module's own. It takes time in proportion to the module, but for the names
 /// of exports, whose bytes take n log n, and memory for as many slices as there are exports.
 pub fn check_before_data(
+    alloc: Global,
     module: &Module,
     context: &ModuleContext,
-    alloc: Global,
 ) -> Result<(), ValidFault>
     requires sound { AllByRecursion IsFunctionTypeValid «module».now.types }
     requires types { HasFunctionTypes «module».now }

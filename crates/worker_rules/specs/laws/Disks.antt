@@ -9,6 +9,9 @@ use Rattle.disk_layout.specs.rules.Places.{Geometry, journal_place}
 use Rattle.disk_layout.specs.rules.Sectors.{super_bytes, head_bytes, HoldsImage}
 use Rattle.disk_layout.specs.rules.Journal.{Record, journal_sector, payloads_from}
 use Rattle.worker_rules.specs.Stands.{Recorded, ShowsNoneLater, StandsFor, IsBlank}
+use Rattle.sector_disk.specs.declared.sector.TheConstants.{SECTOR_SIZE}
+use Rattle.disk_layout.specs.declared.head.TheConstants.{IMAGE_VERSION}
+use Rattle.disk_layout.specs.declared.superblock.TheConstants.{END_MARK_AT}
 
 -- A disk stands only for what the module reaches on all the kept answers, in so many steps.
 abbrev pub StandsForWhatIsReached : Type 0
@@ -61,7 +64,7 @@ tiny = record { config = 0; wasm = 0; module_sectors = 0; area_sectors = 0; jour
 
 abbrev pub head_of_generation : ℕ → List ℕ
 head_of_generation g = head_bytes (record {
-  version = 1;
+  version = IMAGE_VERSION;
   length_in_bytes = 0;
   digest = replicate 32 0;
   generation = g;
@@ -73,7 +76,7 @@ tiny_disk g h j = [] ∷ head_of_generation g ∷ head_of_generation h ∷ journ
 
 -- a super whose last eight bytes are still zeros
 abbrev pub torn_super : List ℕ
-torn_super = take 504 (super_bytes tiny (replicate 32 0)) ++ replicate 8 0
+torn_super = take END_MARK_AT (super_bytes tiny (replicate 32 0)) ++ replicate 8 0
 
 pub record DiskExamples : Type 0 where
   pub none_later : ShowsNoneLater tiny (tiny_disk 2 3 3) 3
@@ -81,6 +84,6 @@ pub record DiskExamples : Type 0 where
   pub second_head_later : ShowsNoneLater tiny (tiny_disk 2 5 3) 3 → ⊥
   pub journal_later : ShowsNoneLater tiny (tiny_disk 2 3 4) 3 → ⊥
   pub no_sectors : IsBlank []
-  pub zeros : IsBlank (replicate 4 (replicate 512 0))
+  pub zeros : IsBlank (replicate 4 (replicate SECTOR_SIZE 0))
   pub torn : IsBlank (torn_super ∷ [])
   pub marked : IsBlank (super_bytes tiny (replicate 32 0) ∷ []) → ⊥

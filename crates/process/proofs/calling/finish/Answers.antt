@@ -12,6 +12,6 @@ returns-clause-finishes c = λ program d f operands waits kind h shows asks is_h
     record {
       configuration = fin.configuration;
       settles = fin.settles;
-      shows = end.shows program fin.configuration fin.shows;
+      shows = fin.shows;
       ends = end.ends program fin.configuration h fin.shows host;
     }

@@ -20,32 +20,32 @@ step-next-requires-clause-built c =
     let r = c.requires.runs in
     let P : Pause → Type 0 = λ why. RunsFor c.run-why.new.self r.guest.program r.process.configuration c.args.fuel c.run-why.result.left why in
     let h = subst P c.in-Host.is (c.run-why.ensures.runs r.guest.program r.process.configuration r.shows.configuration) in
-    is_built c.args.machine.now c.run-why.new.self c.args.host.now c.run-why.ensures.same r.guest r.process r.shows r.running c.args.fuel c.run-why.result.left c.in-Host.call c.in-Host.arguments h
+    is_built c.args.machine.now c.run-why.new.self c.args.host.now c.run-why.ensures.same r.guest r.process r.shows r.running c.args.fuel c.run-why.result.left c.in-Host.asked.call c.in-Host.asked.arguments h
 
 pub step-next-requires-clause-typed : goal.step-next-requires-clause-typed
 step-next-requires-clause-typed c =
     let r = c.requires.runs in
     let P : Pause → Type 0 = λ why. RunsFor c.run-why.new.self r.guest.program r.process.configuration c.args.fuel c.run-why.result.left why in
     let h = subst P c.in-Host.is (c.run-why.ensures.runs r.guest.program r.process.configuration r.shows.configuration) in
-    let Q : List ℕ → Type 0 = λ ns. AreArguments (parameters_of c.in-Host.call) ns in
-    subst Q (sym c.as_slice.ensures) (are_typed c.args.machine.now c.run-why.new.self c.args.host.now c.run-why.ensures.same r.guest r.process r.shows r.running c.args.fuel c.run-why.result.left c.in-Host.call c.in-Host.arguments h)
+    let Q : List ℕ → Type 0 = λ ns. AreArguments (parameters_of c.in-Host.asked.call) ns in
+    subst Q (sym c.as_slice-arguments.ensures) (are_typed c.args.machine.now c.run-why.new.self c.args.host.now c.run-why.ensures.same r.guest r.process r.shows r.running c.args.fuel c.run-why.result.left c.in-Host.asked.call c.in-Host.asked.arguments h)
 
 pub step-next-requires-clause-waits : goal.step-next-requires-clause-waits
 step-next-requires-clause-waits c =
     let r = c.requires.runs in
     let P : Pause → Type 0 = λ why. RunsFor c.run-why.new.self r.guest.program r.process.configuration c.args.fuel c.run-why.result.left why in
     let h = subst P c.in-Host.is (c.run-why.ensures.runs r.guest.program r.process.configuration r.shows.configuration) in
-    let Q : List ℕ → Type 0 = λ ns. WaitsAtCall c.run-why.new.self c.args.host.now c.in-Host.call ns in
-    subst Q (sym c.as_slice.ensures) (waits_at c.args.machine.now c.run-why.new.self c.args.host.now c.run-why.ensures.same r.guest r.process r.shows r.running c.args.fuel c.run-why.result.left c.in-Host.call c.in-Host.arguments h)
+    let Q : List ℕ → Type 0 = λ ns. WaitsAtCall c.run-why.new.self c.args.host.now c.in-Host.asked.call ns in
+    subst Q (sym c.as_slice-arguments.ensures) (waits_at c.args.machine.now c.run-why.new.self c.args.host.now c.run-why.ensures.same r.guest r.process r.shows r.running c.args.fuel c.run-why.result.left c.in-Host.asked.call c.in-Host.asked.arguments h)
 
 pub overflow_add-result : goal.overflow_add-result
 overflow_add-result c =
     let r = c.requires.runs in
     let P : Pause → Type 0 = λ why. RunsFor c.run-why.new.self r.guest.program r.process.configuration c.args.fuel c.run-why.result.left why in
-    let Q : List ℕ → Type 0 = λ ns. StepsAt c.run-why.new.self c.args.host.now c.in-Host.call ns c.step-next.result c.step-next.new.machine c.step-next.new.host in
-    let come = stepped_on c.args.machine.now c.run-why.new.self c.args.host.now c.run-why.ensures.same r.guest r.process r.shows r.running c.args.fuel c.run-why.result.left c.in-Host.call c.in-Host.arguments
+    let Q : List ℕ → Type 0 = λ ns. StepsAt c.run-why.new.self c.args.host.now c.in-Host.asked.call ns c.step-next.result c.step-next.new.machine c.step-next.new.host in
+    let come = stepped_on c.args.machine.now c.run-why.new.self c.args.host.now c.run-why.ensures.same r.guest r.process r.shows r.running c.args.fuel c.run-why.result.left c.in-Host.asked.call c.in-Host.asked.arguments
     (subst P c.in-Host.is (c.run-why.ensures.runs r.guest.program r.process.configuration r.shows.configuration))
-    c.step-next.new.machine c.step-next.new.host c.step-next.result (subst Q c.as_slice.ensures c.step-next.ensures.steps) in
+    c.step-next.new.machine c.step-next.new.host c.step-next.result (subst Q c.as_slice-arguments.ensures c.step-next.ensures.steps) in
     let within : (c.args.fuel - c.run-why.result.left) + c.step-next.result.steps ≤ c.args.fuel =
     comes_within r.guest r.process come.process c.args.fuel ((c.args.fuel - c.run-why.result.left) + c.step-next.result.steps) c.step-next.new.host.host.lines c.step-next.result.stop come.comes in
     let fits = c.ranges.fuel.fits in
@@ -60,10 +60,10 @@ returns-in-Spent-clause-stretches c = λ guest p shows running.
 pub returns-in-Host-clause-stretches : goal.returns-in-Host-clause-stretches
 returns-in-Host-clause-stretches c = λ guest p shows running.
     let P : Pause → Type 0 = λ why. RunsFor c.run-why.new.self guest.program p.configuration c.args.fuel c.run-why.result.left why in
-    let Q : List ℕ → Type 0 = λ ns. StepsAt c.run-why.new.self c.args.host.now c.in-Host.call ns c.step-next.result c.step-next.new.machine c.step-next.new.host in
-    stepped_on c.args.machine.now c.run-why.new.self c.args.host.now c.run-why.ensures.same guest p shows running c.args.fuel c.run-why.result.left c.in-Host.call c.in-Host.arguments
+    let Q : List ℕ → Type 0 = λ ns. StepsAt c.run-why.new.self c.args.host.now c.in-Host.asked.call ns c.step-next.result c.step-next.new.machine c.step-next.new.host in
+    stepped_on c.args.machine.now c.run-why.new.self c.args.host.now c.run-why.ensures.same guest p shows running c.args.fuel c.run-why.result.left c.in-Host.asked.call c.in-Host.asked.arguments
     (subst P c.in-Host.is (c.run-why.ensures.runs guest.program p.configuration shows.configuration))
-    c.step-next.new.machine c.step-next.new.host c.step-next.result (subst Q c.as_slice.ensures c.step-next.ensures.steps)
+    c.step-next.new.machine c.step-next.new.host c.step-next.result (subst Q c.as_slice-arguments.ensures c.step-next.ensures.steps)
 
 pub returns-in-Returned-clause-stretches : goal.returns-in-Returned-clause-stretches
 returns-in-Returned-clause-stretches c = λ guest p shows running.

@@ -10,13 +10,13 @@ returns-then-head-room-clause-image g c = λ image shows bytes names.
     let m = g.D.Disk.medium c.args.disk.now in
     let w = names_within m.sectors c.args.geometry.now image c.args.head.now bytes (m.is_image image (shows_left m image shows)) names in
     let t = c.if-head-room.true in
-    absurd (omega (arith, w, t, c.from-room.ensures))
+    absurd (omega (arith, w, t, c.from.ensures))
 
 pub returns-clause-image : goal.returns-clause-image
 returns-clause-image g c = λ image shows.
     let h = c.args.head.now in
     let f = c.if-head-room.false in
-    let room : h.length_in_bytes ≤ 512 * c.args.geometry.now.area_sectors = omega (arith, f, c.from-room.ensures) in
+    let room : h.length_in_bytes ≤ 512 * c.args.geometry.now.area_sectors = omega (arith, f, c.from.ensures) in
     let found = c.in_ok-bytes.ensures.bytes c.args.geometry.now.area_sectors room image shows in
     let at = c.area_place-at.ensures in
     let d = c.is_digest_of.ensures in
