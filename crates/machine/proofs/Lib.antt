@@ -3,6 +3,7 @@ pub mod Inside
 pub mod Ran
 pub mod OneProgram
 pub mod OneShown
+pub mod Alike
 pub mod AtOnce
 pub mod Linked
 pub mod AskingAgain

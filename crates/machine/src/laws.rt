@@ -1,5 +1,6 @@
 //! Laws over what machines show. The functions do nothing: what they ensure is the law.
 
+ghost use Rattle.machine.specs.laws.Alike.{OneIsShownAlike, MachinesAnswerAlike, MachinesRunAlike};
 ghost use Rattle.machine.specs.laws.Laws.{AsksTheSame, MachineShowsOne, ShowsWhatIsWritten, WaitsForTheCall};
 ghost use Rattle.machine.specs.laws.Routines.{FunctionsAreNumbered, FunctionsAreCounted};
 ghost use Rattle.wasm_syntax_rules.specs.Typed.{OffersNoEntry};
@@ -15,6 +16,15 @@ pub fn memory_may_be_written()
 /// A machine shows one configuration at most, of one program: its bytes, globals, positions and slots say all of it.
 pub fn shows_one()
     ensures { MachineShowsOne }
+{}
+
+/// Two machines of one module that show one configuration differ in nothing but the positions of
+/// their frames. On the same fuel they pause for the same reason. After that, and after the same
+/// answer of the host, they show one configuration again.
+pub fn run_alike()
+    ensures shown { OneIsShownAlike }
+    ensures run { MachinesRunAlike }
+    ensures answered { MachinesAnswerAlike }
 {}
 
 // Laws over all programs. The functions do nothing: what they ensure is the law.

@@ -10,28 +10,29 @@
 //!   spent, at a call of the host, ended or trapped, as the rules say (`runs`).
 //! - `finish`: what the host's answer makes of the configuration that waits is then shown
 //!   (`answers`). It asks that such a call waits (its `requires`).
-//! - `waits` tells the call of the host that waits, and its arguments: exactly what the next rule asks
-//!   for, or that it asks for nothing. `has_ended` tells whether the program is over. Neither runs
-//!   anything.
+//! - `waits` tells the call of the host that waits, and its arguments: exactly what the next rule
+//!   asks for, or that it asks for nothing. `has_ended` tells whether the program is over. Neither
+//!   runs anything.
 //! - `stop` drops the thread. What was shown is shown without it (`stops`).
 //! - `memory` is the guest's memory. `memory_mut` lends it, and nothing else changes
 //!   (`writes_back`). `unlink` gives the module back.
-//! - `laws`: a machine shows one configuration at most (`shows_one`). While a call waits memory
-//!   may be written (`memory_may_be_written`). No call of the host is an entry
+//! - `laws`: a machine shows one configuration at most (`shows_one`). Two machines that show one
+//!   configuration go on alike, and differ in positions at most (`run_alike`). While a call waits
+//!   memory may be written (`memory_may_be_written`). No call of the host is an entry
 //!   (`no_call_is_an_entry`).
 //!
 //! # Definitions to read
 //!
 //! In `specs/rules/`: `MachineValue`, `ShowsIn` (`Values.antt`); `HasBegun`, `RunsOnFuel`,
-//! `TellsWaiting`, `TellsEnd`, `WaitsFor`, `Answers`, `Stops` (`Runs.antt`); `IsRefused`, `LinkDenies` (`Refusals.antt`);
-//! `offer` (`Offers.antt`). Beside these: `CanStart`, `CanBegin` (`specs/rules/Initial.antt`),
+//! `TellsWaiting`, `TellsEnd`, `WaitsFor`, `Answers`, `Stops` (`Runs.antt`); `IsRefused`,
+//! `LinkDenies` (`Refusals.antt`); `offer` (`Offers.antt`). Beside these: `CanStart`, `CanBegin` (`specs/rules/Initial.antt`),
 //! `call_results` (`specs/rules/Answers.antt`), and `Shows` of `machine_slots`.
 //!
 //! # Who may touch what
 //!
 //! No code but this crate's and that of `machine_slots`, `machine_jumps` and `machine_rules` looks
-//! at frames, slots or positions. Callers have `Machine`, `Pause`, and `HostCall` with its `Arguments`.
-//! `machine_loader`, `process` and `worker` use it. `link` takes all memory that running needs;
+//! at frames, slots or positions. Callers have `Machine`, `Pause`, and `HostCall` with its
+//! `Arguments`. `machine_loader`, `process` and `worker` use it. `link` takes all memory that running needs;
 //! where it fails the module is gone. The other calls take none and have no errors.
 #![tactic(auto)]
 

@@ -91,8 +91,8 @@ impl Machine {
         waiting_call(&self.code, &self.state)
     }
 
-    /// Whether the program is over: the last function that the host called has returned, or the machine trapped or was stopped.
-    /// Nothing runs.
+    /// Whether the program is over: the last function that the host called has returned, or the
+    /// machine trapped or was stopped. Nothing runs.
     pub fn has_ended(&self) -> bool
         ensures { TellsEnd self.now result }
     {
