@@ -4,3 +4,4 @@ pub mod ImportFaults
 pub mod Lookups
 pub mod Loops
 pub mod Names
+pub mod Faults

@@ -1,5 +1,5 @@
 -- What is said of bodies in a module.
-use Rattle.std.specs.Prelude.{List, Result}
+use Rattle.std.specs.Prelude.{IfErr, List, Result}
 use Rattle.std.specs.List.{AllByRecursion}
 use Rattle.wasm_syntax.specs.declared.types.FunctionType.{FunctionType}
 use Rattle.wasm_syntax.specs.declared.module.Module.{Module}
@@ -15,3 +15,9 @@ abbrev pub JudgesIn : {X : Type 0} → ModuleContext → Result X ValidFault →
 JudgesIn code r P =
     (m : Module) (functions : List FunctionType) → IsContextOf (module_context m functions) code → AllByRecursion IsFunctionTypeValid m.types
     → Judges r (P m functions)
+
+-- a fault says this of each such module
+abbrev pub FaultIn : {X : Type 0} → ModuleContext → Result X ValidFault → (Module → List FunctionType → ValidFault → Type 0) → Type 0
+FaultIn code r P =
+    (m : Module) (functions : List FunctionType) → IsContextOf (module_context m functions) code → AllByRecursion IsFunctionTypeValid m.types
+    → IfErr r (P m functions)

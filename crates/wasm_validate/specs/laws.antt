@@ -1,3 +1,4 @@
 pub mod Algorithm
 pub mod Checking
+pub mod FirstFault
 pub mod Remaining

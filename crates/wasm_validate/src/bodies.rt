@@ -2,7 +2,8 @@
 
 ghost use Rattle.std.specs.List.{AllByRecursion};
 ghost use Rattle.wasm_syntax_rules.specs.Validity.{IsFunctionValid};
-ghost use Rattle.wasm_validate.specs.Bodies.{JudgesIn};
+ghost use Rattle.wasm_validate.specs.Bodies.{FaultIn, JudgesIn};
+ghost use Rattle.wasm_validate.specs.Parts.Parts.{IsFaultInFunctions, IsFaultOfFunction};
 
 use crate::body::BodyChecker;
 use crate::parts::{ModuleContext, ValidFault};
@@ -16,7 +17,8 @@ fn check_function(
     context: &ModuleContext,
     function: &Function,
 ) -> Result<(), ValidFault>
-    ensures { JudgesIn context.now result (λ m functions. IsFunctionValid m functions function.now) }
+    ensures valid { JudgesIn context.now result (λ m functions. IsFunctionValid m functions function.now) }
+    ensures fault { FaultIn context.now result (λ m functions. IsFaultOfFunction m functions function.now) }
 {
     let Some(function_type) = context.type_at(function.function_type) else {
         return Err(ValidFault::Index);
@@ -34,7 +36,8 @@ pub fn check_functions(
     context: &ModuleContext,
     own: &[Function],
 ) -> Result<(), ValidFault>
-    ensures { JudgesIn context.now result (λ m functions. AllByRecursion (IsFunctionValid m functions) own.now) }
+    ensures valid { JudgesIn context.now result (λ m functions. AllByRecursion (IsFunctionValid m functions) own.now) }
+    ensures fault { FaultIn context.now result (λ m functions. IsFaultInFunctions m functions own.now) }
 {
     let mut checker = BodyChecker::new(alloc);
     for function in own {

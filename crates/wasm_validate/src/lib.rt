@@ -4,7 +4,8 @@
 //! # Promises
 //!
 //! - `validate`: the module that it answers is the one that it was given (`same`), and is valid
-//!   (`valid`). A fault other than want of memory comes only where it is not valid (`only`).
+//!   (`valid`). A fault other than want of memory comes only where it is not valid (`only`), and is
+//!   of a kind that is there (`fault`). So where one kind alone applies, it is told.
 //! - `ValidModule` is a valid module by its type. `module` lends it (`same`, `valid`).
 //! - inside, `check_types`: of types and imports the first fault is told (`refused`).
 //!   `check_before_data` and `check_data` judge all other parts but bodies.
@@ -14,12 +15,13 @@
 //!   type (`only`, `all`). `laws::parts_are_validity`: the parts and the bodies are all of
 //!   validity.
 //!
-//! Which fault it is, where several others apply, no clause says.
+//! Which fault it is, where several kinds apply, no clause says but for types and imports.
 //!
 //! # Definitions to read
 //!
 //! `IsValid` of `wasm_syntax_rules` (`specs/Validity.antt`) is all that `validate` speaks of, with
-//! `Denies` (`specs/rules/Answers.antt`). Other crates use `IsContextOf`
+//! `Denies` (`specs/rules/Answers.antt`) and `HasFault` (`specs/rules/Faults.antt`): what a module
+//! lacks where a fault is told. Other crates use `IsContextOf`
 //! (`specs/Parts/Contexts.antt`) and `HasBody` (`specs/Body/Bodies.antt`).
 //! `specs/laws/Checking.antt` is a second form of typing. Nobody has to believe it.
 //!

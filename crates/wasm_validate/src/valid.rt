@@ -3,6 +3,7 @@
 ghost use Rattle.std.specs.Prelude.{◌≡◌, IfOk, IfErr, OnOk};
 ghost use Rattle.wasm_syntax_rules.specs.Validity.{IsValid};
 ghost use Rattle.wasm_validate.specs.rules.Answers.{Denies, Judges};
+ghost use Rattle.wasm_validate.specs.rules.Faults.{HasFault};
 
 use crate::bodies::check_functions;
 use crate::parts::{ModuleContext, ValidFault, check_before_data, check_data, check_types};
@@ -40,7 +41,8 @@ impl ValidModule {
 /// The first fault, in this order: types, imports, functions' types, tables, memories, globals, exports, the
 /// start function, element segments, data segments, bodies.
 fn check(alloc: Global, module: &Module) -> Result<(), ValidFault>
-    ensures { Judges result (IsValid «module».now) }
+    ensures valid { Judges result (IsValid «module».now) }
+    ensures fault { IfErr result (HasFault «module».now) }
 {
     check_types(module)?;
     let context = ModuleContext::of(alloc, module)?;
@@ -59,6 +61,7 @@ pub fn validate(alloc: Global, module: Module) -> Result<ValidModule, ValidFault
     ensures same { IfOk result (λ v. v ≡ «module») }
     ensures valid { OnOk result (IsValid «module») }
     ensures only { IfErr result (λ e. Denies e (IsValid «module»)) }
+    ensures fault { IfErr result (HasFault «module») }
 {
     check(alloc, &module)?;
     Ok(ValidModule { module })

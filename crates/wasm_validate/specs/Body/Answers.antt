@@ -7,29 +7,30 @@ use Rattle.wasm_syntax_rules.specs.Typing.{Context}
 use Rattle.wasm_validate.specs.declared.parts.fault.ValidFault.{ValidFault}
 use Rattle.wasm_validate.specs.declared.parts.fault.ValidFault.TheVariants.{Typing, Index, Limits, DuplicateExport, Memory}
 use Rattle.wasm_validate.specs.laws.Checking.{Known, Level, arrow_of, labels_of}
+use Rattle.wasm_validate.specs.laws.FirstFault.{fault_of}
 use Rattle.wasm_validate.specs.Body.Tops.{top_applied}
 
--- A fault comes only where there is nothing. Want of memory says nothing of it.
-abbrev pub FailsToCheck : {X : Type 0} → ValidFault → Option X → Type 0
-FailsToCheck Memory o = Unit {0}
-FailsToCheck Typing o = o ≡ None
-FailsToCheck Index o = o ≡ None
-FailsToCheck Limits o = o ≡ None
-FailsToCheck DuplicateExport o = o ≡ None
+-- A fault comes only where there is nothing, and is of this kind. Want of memory says nothing of it.
+abbrev pub FailsToCheck : {X : Type 0} → ValidFault → ValidFault → Option X → Type 0
+FailsToCheck Memory kind o = Unit {0}
+FailsToCheck Typing Typing o = o ≡ None
+FailsToCheck Index Index o = o ≡ None
+FailsToCheck Limits Limits o = o ≡ None
+FailsToCheck e kind o = ⊥
 
--- the levels are then these
-abbrev pub LevelsFollow : {X : Type 0} → Result X ValidFault → List Level → Option (List Level) → Type 0
-LevelsFollow (Ok x) new o = o ≡ Some new
-LevelsFollow (Err e) new o = FailsToCheck e o
+-- the levels are then these, or the fault is of this kind
+abbrev pub LevelsFollow : {X : Type 0} → ValidFault → Result X ValidFault → List Level → Option (List Level) → Type 0
+LevelsFollow kind (Ok x) new o = o ≡ Some new
+LevelsFollow kind (Err e) new o = FailsToCheck e kind o
 
 -- the levels are then those behind an instruction that stays in its sequence
 abbrev pub Performs : {X : Type 0} → Context → Instruction → Result X ValidFault → List Level → List Level → Type 0
-Performs c i r old new = LevelsFollow r new (top_applied (arrow_of c (labels_of old) i) old)
+Performs c i r old new = LevelsFollow (fault_of c (labels_of old) i) r new (top_applied (arrow_of c (labels_of old) i) old)
 
 -- the same of a step that tells what it took
 abbrev pub Pops : Result Known ValidFault → List Level → Option (Known × List Level) → Type 0
 Pops (Ok k) new o = o ≡ Some (k, new)
-Pops (Err e) new o = FailsToCheck e o
+Pops (Err e) new o = FailsToCheck e Typing o
 
 -- what a branch to a label takes, or there is no such label
 abbrev pub FindsLabel : Result (Option ValueType) ValidFault → List (List ValueType) → ℕ → Type 0
@@ -41,7 +42,7 @@ abbrev pub OnlyMemory : {X : Type 0} → Result X ValidFault → Type 0
 OnlyMemory (Ok x) = Unit {0}
 OnlyMemory (Err e) = e ≡ Memory
 
--- Ok exactly where the test holds
-abbrev pub Tests : {X : Type 0} → Result X ValidFault → Bool → Type 0
-Tests (Ok x) b = b ≡ true
-Tests (Err e) b = b ≡ false
+-- Ok exactly where the test holds, and elsewhere this fault
+abbrev pub Tests : {X : Type 0} → Result X ValidFault → Bool → ValidFault → Type 0
+Tests (Ok x) b kind = b ≡ true
+Tests (Err e) b kind = (b ≡ false) × (e ≡ kind)

@@ -1,21 +1,27 @@
 -- What is checked of a module beside the bodies of its functions.
-use Rattle.std.specs.Prelude.{◌≡◌, ◌≤◌, ◌⊎◌, ℕ, List, [], ◌∷◌, length, Some, slice_get}
+use Rattle.std.specs.Prelude.{◌≡◌, ◌≤◌, ◌⊎◌, ℕ, Bool, true, false, List, [], ◌∷◌, length, Some, slice_get}
 use Rattle.std.specs.List.{AllByRecursion}
 use Rattle.wasm_syntax.specs.declared.types.ValueType.{ValueType}
+use Rattle.wasm_syntax.specs.declared.types.ValueType.TheVariants.{I32}
 use Rattle.wasm_syntax.specs.declared.types.FunctionType.{FunctionType}
 use Rattle.wasm_syntax.specs.declared.types.GlobalType.{GlobalType}
 use Rattle.wasm_syntax.specs.declared.types.Mutability.TheVariants.{Constant}
-use Rattle.wasm_syntax.specs.declared.instruction.Instruction.{Instruction}
-use Rattle.wasm_syntax.specs.declared.instruction.Instruction.TheVariants as instr
 use Rattle.wasm_syntax.specs.declared.module.Module.{Module}
 use Rattle.wasm_syntax.specs.declared.module.Export.{Export}
+use Rattle.wasm_syntax.specs.declared.module.Function.{Function}
+use Rattle.wasm_syntax.specs.declared.module.Global.{Global}
+use Rattle.wasm_syntax.specs.declared.module.Element.{Element}
+use Rattle.wasm_syntax.specs.declared.module.Data.{Data}
 use Rattle.wasm_syntax.specs.declared.module.Import.{Import}
 use Rattle.wasm_syntax.specs.declared.module.ImportItem.{ImportItem}
 use Rattle.wasm_syntax.specs.declared.module.ImportItem.TheVariants as import
-use Rattle.wasm_syntax_rules.specs.Validity.{IsFunctionTypeValid, IsTableTypeValid, IsMemoryTypeValid, IsGlobalValid, IsExportItemValid, HaveDistinctNames, IsStartValid, IsElementValid, IsDataValid, IsFunctionValid, IsIndex, IsValid, AreFunctionTypes, module_context, tables_of, memories_of}
+use Rattle.wasm_syntax_rules.specs.Validity.{IsFunctionTypeValid, IsTableTypeValid, IsMemoryTypeValid, IsGlobalValid, IsExportItemValid, HaveDistinctNames, IsStartValid, IsElementValid, IsDataValid, IsFunctionValid, IsIndex, IsValid, AreFunctionTypes, globals_of, module_context, tables_of, memories_of}
 use Rattle.wasm_validate.specs.declared.parts.context.ModuleContext.{ModuleContext}
+use Rattle.wasm_validate.specs.declared.parts.imports.Before.{Before}
 use Rattle.wasm_validate.specs.declared.parts.fault.ValidFault.{ValidFault}
 use Rattle.wasm_validate.specs.declared.parts.fault.ValidFault.TheVariants.{Index, Limits}
+use Rattle.wasm_validate.specs.rules.Answers.{DeniesOne}
+use Rattle.wasm_validate.specs.rules.Faults.{AreDataIndicesDefined, AreElementIndicesDefined, IsFunctionAligned, AreFunctionIndicesDefined, NamesGlobal, WouldBeConstant, WouldHaveType}
 use Rattle.wasm_validate.specs.Parts.Contexts.{IsContextOf}
 
 -- The context is this module's, whose functions have these types. It has one table and one memory at most.
@@ -35,48 +41,79 @@ abbrev pub IsImportedMemoryValid : ImportItem → Type 0
 IsImportedMemoryValid (import.Memory t) = IsMemoryTypeValid t
 IsImportedMemoryValid _ = Unit {0}
 
--- what is asked of an import by itself: the type of a function exists, and limits are in order
-abbrev pub IsImportItemValid : List FunctionType → ImportItem → Type 0
-IsImportItemValid types (import.Function x) = IsIndex types x
-IsImportItemValid types (import.Table t) = IsTableTypeValid t
-IsImportItemValid types (import.Memory t) = IsMemoryTypeValid t
-IsImportItemValid types (import.Global t) = Unit {0}
+-- what is asked of an import behind others: the type of a function exists, limits are in order, and a table or a memory is the first
+abbrev pub IsImportItemValid : List FunctionType → Before → ImportItem → Type 0
+IsImportItemValid types before (import.Function x) = IsIndex types x
+IsImportItemValid types before (import.Table t) = IsTableTypeValid t × (before.table ≡ false)
+IsImportItemValid types before (import.Memory t) = IsMemoryTypeValid t × (before.memory ≡ false)
+IsImportItemValid types before (import.Global t) = Unit {0}
 
-abbrev pub IsImportValid : List FunctionType → Import → Type 0
-IsImportValid types i = IsImportItemValid types i.item
+-- what was imported, with one import more
+abbrev pub with_import : Before → ImportItem → Before
+with_import before (import.Table t) = record before { table = true }
+with_import before (import.Memory t) = record before { memory = true }
+with_import before item = before
+
+-- nothing was imported
+abbrev pub nothing_before : Before
+nothing_before = record { table = false; memory = false }
+
+-- each of these imports is valid behind those before
+abbrev pub AreImportsValid : List FunctionType → Before → List Import → Type 0
+AreImportsValid types before [] = Unit {0}
+AreImportsValid types before (i ∷ imports) = IsImportItemValid types before i.item × AreImportsValid types (with_import before i.item) imports
 
 -- what is told of an import that isn't valid
-abbrev pub item_fault : ImportItem → ValidFault
-item_fault (import.Function x) = Index
-item_fault (import.Table t) = Limits
-item_fault (import.Memory t) = Limits
-item_fault (import.Global t) = Limits
-
-abbrev pub import_fault : Import → ValidFault
-import_fault i = item_fault i.item
+abbrev pub import_fault : ImportItem → ValidFault
+import_fault (import.Function x) = Index
+import_fault (import.Table t) = Limits
+import_fault (import.Memory t) = Limits
+import_fault (import.Global t) = Limits
 
 -- the fault of the first import that isn't valid
-abbrev pub IsFirstImportFault : List FunctionType → List Import → ValidFault → Type 0
-IsFirstImportFault types [] fault = ⊥
-IsFirstImportFault types (i ∷ imports) fault =
-    ((IsImportValid types i → ⊥) × (fault ≡ import_fault i)) ⊎ (IsImportValid types i × IsFirstImportFault types imports fault)
+abbrev pub IsFirstImportFault : List FunctionType → Before → List Import → ValidFault → Type 0
+IsFirstImportFault types before [] fault = ⊥
+IsFirstImportFault types before (i ∷ imports) fault =
+    ((IsImportItemValid types before i.item → ⊥) × (fault ≡ import_fault i.item)) ⊎ (IsImportItemValid types before i.item × IsFirstImportFault types (with_import before i.item) imports fault)
 
 -- types, and then imports
 abbrev pub AreTypesValid : Module → Type 0
-AreTypesValid m = AllByRecursion IsFunctionTypeValid m.types × AllByRecursion (IsImportValid m.types) m.imports
+AreTypesValid m = AllByRecursion IsFunctionTypeValid m.types × AreImportsValid m.types nothing_before m.imports
 
 -- the first fault of them
 abbrev pub IsFirstTypeFault : Module → ValidFault → Type 0
 IsFirstTypeFault m fault =
     ((AllByRecursion IsFunctionTypeValid m.types → ⊥) × (fault ≡ Limits))
-    ⊎ (AllByRecursion IsFunctionTypeValid m.types × IsFirstImportFault m.types m.imports fault)
-
--- if the expression is one global, there is such a global
-abbrev pub NamesGlobal : List GlobalType → List Instruction → Type 0
-NamesGlobal globals expression = (x : ℕ) → expression ≡ instr.GlobalGet x ∷ instr.End ∷ [] → IsIndex globals x
+    ⊎ (AllByRecursion IsFunctionTypeValid m.types × IsFirstImportFault m.types nothing_before m.imports fault)
 
 abbrev pub IsConstantGlobal : List GlobalType → ℕ → ValueType → Type 0
 IsConstantGlobal globals x t = (g : GlobalType) × (slice_get globals x ≡ Some g) × (g.mutability ≡ Constant) × (g.value_type ≡ t)
+
+-- what a fault says of initial values in which these globals may stand
+abbrev pub IsFaultInGlobals : List GlobalType → List Global → ValidFault → Type 0
+IsFaultInGlobals imported globals e =
+    DeniesOne e (AllByRecursion (λ (g : Global). WouldBeConstant imported g.initial g.global_type.value_type) globals) (AllByRecursion (λ (g : Global). NamesGlobal imported g.initial) globals) (Unit {0})
+
+-- what a fault says of an element segment, and of some
+abbrev pub IsFaultOfElement : Module → List FunctionType → Element → ValidFault → Type 0
+IsFaultOfElement m functions s e = DeniesOne e (WouldBeConstant (globals_of m) s.offset I32) (AreElementIndicesDefined m functions s) (Unit {0})
+
+abbrev pub IsFaultInElements : Module → List FunctionType → List Element → ValidFault → Type 0
+IsFaultInElements m functions ss e = DeniesOne e (AllByRecursion (λ (s : Element). WouldBeConstant (globals_of m) s.offset I32) ss) (AllByRecursion (AreElementIndicesDefined m functions) ss) (Unit {0})
+
+-- what a fault says of a data segment, and of some
+abbrev pub IsFaultOfData : Module → Data → ValidFault → Type 0
+IsFaultOfData m s e = DeniesOne e (WouldBeConstant (globals_of m) s.offset I32) (AreDataIndicesDefined m s) (Unit {0})
+
+abbrev pub IsFaultInData : Module → List Data → ValidFault → Type 0
+IsFaultInData m ss e = DeniesOne e (AllByRecursion (λ (s : Data). WouldBeConstant (globals_of m) s.offset I32) ss) (AllByRecursion (AreDataIndicesDefined m) ss) (Unit {0})
+
+-- what a fault says of a function, and of some
+abbrev pub IsFaultOfFunction : Module → List FunctionType → Function → ValidFault → Type 0
+IsFaultOfFunction m functions f e = DeniesOne e (WouldHaveType m functions f) (AreFunctionIndicesDefined m functions f) (IsFunctionAligned f)
+
+abbrev pub IsFaultInFunctions : Module → List FunctionType → List Function → ValidFault → Type 0
+IsFaultInFunctions m functions fs e = DeniesOne e (AllByRecursion (WouldHaveType m functions) fs) (AllByRecursion (AreFunctionIndicesDefined m functions) fs) (AllByRecursion IsFunctionAligned fs)
 
 -- ---- modules
 

@@ -51,3 +51,12 @@ JudgesExports (Err Index) P Q = P → ⊥
 JudgesExports (Err DuplicateExport) P Q = Q → ⊥
 JudgesExports (Err Typing) P Q = ⊥
 JudgesExports (Err Limits) P Q = ⊥
+
+-- A fault says which of three things doesn't hold: that there is a type for all, that indices are
+-- defined, that limits hold. Want of memory says nothing.
+abbrev pub DeniesOne : ValidFault → Type 0 → Type 0 → Type 0 → Type 0
+DeniesOne Typing typed defined limited = typed → ⊥
+DeniesOne Index typed defined limited = defined → ⊥
+DeniesOne Limits typed defined limited = limited → ⊥
+DeniesOne DuplicateExport typed defined limited = ⊥
+DeniesOne Memory typed defined limited = Unit {0}

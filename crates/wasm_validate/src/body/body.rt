@@ -1,13 +1,14 @@
 //! The body of a function.
 
-ghost use Rattle.std.specs.Prelude.{◌≡◌, ◌≤◌, length};
+ghost use Rattle.std.specs.Prelude.{◌≡◌, ◌≤◌, length, IfErr};
 ghost use Rattle.wasm_syntax_rules.specs.Types.{gives_of, results_of};
 ghost use Rattle.wasm_syntax_rules.specs.Typing.{Context as Typing};
 ghost use Rattle.wasm_validate.specs.rules.Answers.{Judges};
 ghost use Rattle.wasm_validate.specs.Parts.Contexts.{IsContextOf};
 ghost use Rattle.wasm_validate.specs.Body.Answers.{LevelsFollow};
-ghost use Rattle.wasm_validate.specs.Body.Bodies.{HasBody};
+ghost use Rattle.wasm_validate.specs.Body.Bodies.{HasBody, IsFaultOfBody};
 ghost use Rattle.wasm_validate.specs.laws.Checking.{checked};
+ghost use Rattle.wasm_validate.specs.laws.FirstFault.{fault_in};
 ghost use Rattle.wasm_validate.specs.Body.Scopes.{IsScopeOf};
 
 use crate::body::levels::Levels;
@@ -19,7 +20,7 @@ use wasm_syntax::{Code, FunctionType, Instruction, ValueType};
 impl Levels {
     /// One opcode after another.
     fn steps(&mut self, scope: &Scope, body: &[Instruction]) -> Result<(), ValidFault>
-        ensures { (c : Typing) → IsScopeOf c scope.now → LevelsFollow result self.new (checked c body.now self.old) }
+        ensures { (c : Typing) → IsScopeOf c scope.now → LevelsFollow (fault_in c body.now self.old) result self.new (checked c body.now self.old) }
     {
         for instruction in body {
             self.step(scope, instruction)?;
@@ -61,7 +62,8 @@ impl BodyChecker {
         code: &Code,
     ) -> Result<(), ValidFault>
         requires { length function_type.now.results ≤ 1 }
-        ensures { (c : Typing) → IsContextOf c context.now → Judges result (HasBody c function_type.now code.now) }
+        ensures typed { (c : Typing) → IsContextOf c context.now → Judges result (HasBody c function_type.now code.now) }
+        ensures fault { (c : Typing) → IsContextOf c context.now → IfErr result (IsFaultOfBody c function_type.now code.now) }
     {
         let result_type = result_of(function_type);
         self.levels.clear();

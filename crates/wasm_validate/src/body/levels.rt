@@ -136,7 +136,7 @@ impl Levels {
 
     /// Closes the innermost sequence, which has to have no operands left.
     pub fn close(&mut self) -> Result<(), ValidFault>
-        ensures { LevelsFollow result self.new (top_closed self.old) }
+        ensures { LevelsFollow ValidFault.Typing result self.new (top_closed self.old) }
     {
         let Some(control) = self.controls.get(0) else {
             return Err(ValidFault::Typing);

@@ -14,7 +14,7 @@ use wasm_syntax::ValueType;
 impl Levels {
     /// Takes an operand of this type.
     pub fn expect(&mut self, value_type: ValueType) -> Result<(), ValidFault>
-        ensures { LevelsFollow result self.new (top_taken value_type self.old) }
+        ensures { LevelsFollow ValidFault.Typing result self.new (top_taken value_type self.old) }
     {
         match self.pop()? {
             Some(found) if found != value_type => Err(ValidFault::Typing),
@@ -24,7 +24,7 @@ impl Levels {
 
     /// Takes operands of these types, of which the last one is on top.
     pub fn expect_all(&mut self, types: &[ValueType]) -> Result<(), ValidFault>
-        ensures { LevelsFollow result self.new (top_all_taken (reverse types.now) self.old) }
+        ensures { LevelsFollow ValidFault.Typing result self.new (top_all_taken (reverse types.now) self.old) }
     {
         for value_type in types.iter().rev() {
             self.expect(*value_type)?;
@@ -34,7 +34,7 @@ impl Levels {
 
     /// Takes what a block gives.
     pub fn expect_results(&mut self, results: Option<ValueType>) -> Result<(), ValidFault>
-        ensures { LevelsFollow result self.new (top_all_taken (results_of results) self.old) }
+        ensures { LevelsFollow ValidFault.Typing result self.new (top_all_taken (results_of results) self.old) }
     {
         match results {
             Some(value_type) => self.expect(value_type),
@@ -66,7 +66,7 @@ impl Levels {
 
     /// An instruction that takes and gives operands of fixed types.
     pub fn apply(&mut self, takes: &[ValueType], gives: &[ValueType]) -> Result<(), ValidFault>
-        ensures { LevelsFollow result self.new (top_applied (Fixed (reverse takes.now) (reverse gives.now)) self.old) }
+        ensures { LevelsFollow ValidFault.Typing result self.new (top_applied (Fixed (reverse takes.now) (reverse gives.now)) self.old) }
     {
         self.expect_all(takes)?;
         self.push_all(gives)
@@ -74,7 +74,7 @@ impl Levels {
 
     /// `drop`.
     pub fn drop_operand(&mut self) -> Result<(), ValidFault>
-        ensures { LevelsFollow result self.new (top_applied Dropping self.old) }
+        ensures { LevelsFollow ValidFault.Typing result self.new (top_applied Dropping self.old) }
     {
         self.pop()?;
         Ok(())
@@ -82,7 +82,7 @@ impl Levels {
 
     /// `select`: of the two operands below the condition nothing, or the type of one, may be known.
     pub fn select(&mut self) -> Result<(), ValidFault>
-        ensures { LevelsFollow result self.new (top_applied Selecting self.old) }
+        ensures { LevelsFollow ValidFault.Typing result self.new (top_applied Selecting self.old) }
     {
         self.expect(ValueType::I32)?;
         let second = self.pop()?;

@@ -4,6 +4,7 @@ ghost use Rattle.std.specs.Prelude.{◌≡◌};
 ghost use Rattle.wasm_syntax_rules.specs.Typing.{Context as Typing};
 ghost use Rattle.wasm_validate.specs.Body.Answers.{LevelsFollow, Performs};
 ghost use Rattle.wasm_validate.specs.laws.Checking.{levels_after};
+ghost use Rattle.wasm_validate.specs.laws.FirstFault.{opcode_fault};
 ghost use Rattle.wasm_validate.specs.Body.Kinds.{IsTransfer};
 ghost use Rattle.wasm_validate.specs.Body.Scopes.{IsScopeOf};
 
@@ -69,7 +70,7 @@ impl Levels {
 
     /// Any opcode.
     pub fn step(&mut self, scope: &Scope, instruction: &Instruction) -> Result<(), ValidFault>
-        ensures { (c : Typing) → IsScopeOf c scope.now → LevelsFollow result self.new (levels_after c instruction.now self.old) }
+        ensures { (c : Typing) → IsScopeOf c scope.now → LevelsFollow (opcode_fault c instruction.now self.old) result self.new (levels_after c instruction.now self.old) }
     {
         if self.is_empty() {
             return Err(ValidFault::Typing);

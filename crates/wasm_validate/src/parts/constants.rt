@@ -6,7 +6,8 @@ ghost use Rattle.wasm_syntax.specs.declared.instruction.Instruction.TheVariants 
 ghost use Rattle.wasm_syntax_rules.specs.Types.{IsOf};
 ghost use Rattle.wasm_syntax_rules.specs.Validity.{IsConstant, IsIndex};
 ghost use Rattle.wasm_validate.specs.rules.Answers.{Demands, DemandsInTurn};
-ghost use Rattle.wasm_validate.specs.Parts.Parts.{NamesGlobal, IsConstantGlobal};
+ghost use Rattle.wasm_validate.specs.rules.Faults.{NamesGlobal};
+ghost use Rattle.wasm_validate.specs.Parts.Parts.{IsConstantGlobal};
 
 use crate::parts::fault::ValidFault;
 use wasm_syntax::{GlobalType, Instruction, Mutability, Value, ValueType};

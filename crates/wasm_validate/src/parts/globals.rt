@@ -1,9 +1,12 @@
 //! Globals (section 3.4.4).
 
+ghost use Rattle.std.specs.Prelude.{IfErr};
 ghost use Rattle.std.specs.List.{AllByRecursion};
+ghost use Rattle.wasm_syntax_rules.specs.Types.{imported_globals};
 ghost use Rattle.wasm_syntax_rules.specs.Validity.{IsConstant, IsGlobalValid};
 ghost use Rattle.wasm_validate.specs.rules.Answers.{Decides};
 ghost use Rattle.wasm_validate.specs.Parts.Contexts.{HasFunctionTypes, IsContextOfModule};
+ghost use Rattle.wasm_validate.specs.Parts.Parts.{IsFaultInGlobals};
 
 use crate::parts::constants::check_constant;
 use crate::parts::context::ModuleContext;
@@ -13,7 +16,8 @@ use wasm_syntax::{Global, GlobalType, Module};
 
 /// Each global begins with a constant of its type, in which these may stand, and no others.
 fn check_initial_values(imported: &[GlobalType], globals: &[Global]) -> Result<(), ValidFault>
-    ensures { Decides result (AllByRecursion (λ g. IsConstant imported.now g.initial g.global_type.value_type) globals.now) }
+    ensures valid { Decides result (AllByRecursion (λ g. IsConstant imported.now g.initial g.global_type.value_type) globals.now) }
+    ensures fault { IfErr result (IsFaultInGlobals imported.now globals.now) }
 {
     for global in globals {
         let value_type = global.global_type.value_type;
@@ -27,7 +31,8 @@ fn check_initial_values(imported: &[GlobalType], globals: &[Global]) -> Result<(
 pub fn check_globals(module: &Module, context: &ModuleContext) -> Result<(), ValidFault>
     requires types { HasFunctionTypes «module».now }
     requires context { IsContextOfModule «module».now context.now }
-    ensures { Decides result (AllByRecursion (IsGlobalValid «module».now) «module».now.globals) }
+    ensures valid { Decides result (AllByRecursion (IsGlobalValid «module».now) «module».now.globals) }
+    ensures fault { IfErr result (IsFaultInGlobals (imported_globals «module».now.imports) «module».now.globals) }
 {
     let count = imported_global_count(module.imports.as_slice());
     let imported = &context.globals()[..count];

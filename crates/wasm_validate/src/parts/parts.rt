@@ -6,6 +6,7 @@ ghost use Rattle.std.specs.List.{AllByRecursion};
 ghost use Rattle.wasm_syntax.specs.declared.types.FunctionType.{FunctionType as Kind};
 ghost use Rattle.wasm_syntax_rules.specs.Validity.{AreFunctionTypes, IsFunctionTypeValid, IsValid};
 ghost use Rattle.wasm_validate.specs.rules.Answers.{Decides, Denies, Judges};
+ghost use Rattle.wasm_validate.specs.rules.Faults.{HasFault};
 ghost use Rattle.wasm_validate.specs.Parts.Contexts.{HasFunctionTypes, IsContextOfModule};
 ghost use Rattle.wasm_validate.specs.Parts.Parts.{AreTypesValid, IsFirstTypeFault, IsValidBeforeData, AreDataValid, WasValidBeforeData};
 
@@ -26,6 +27,7 @@ pub fn check_types(module: &Module) -> Result<(), ValidFault>
     ensures valid { OnOk result (AreTypesValid «module».now) }
     ensures refused { IfErr result (IsFirstTypeFault «module».now) }
     ensures only { IfErr result (λ e. Denies e (IsValid «module».now)) }
+    ensures fault { IfErr result (HasFault «module».now) }
 {
     let types = module.types.as_slice();
     check_function_types(types)?;
@@ -43,7 +45,8 @@ pub fn check_before_data(
     requires sound { AllByRecursion IsFunctionTypeValid «module».now.types }
     requires types { HasFunctionTypes «module».now }
     requires context { IsContextOfModule «module».now context.now }
-    ensures { (functions : List Kind) → AreFunctionTypes «module».now functions → Judges result (IsValidBeforeData «module».now functions) }
+    ensures valid { (functions : List Kind) → AreFunctionTypes «module».now functions → Judges result (IsValidBeforeData «module».now functions) }
+    ensures fault { IfErr result (HasFault «module».now) }
 {
     check_tables(module)?;
     check_memories(module)?;
@@ -57,7 +60,8 @@ pub fn check_before_data(
 pub fn check_data(module: &Module, context: &ModuleContext) -> Result<(), ValidFault>
     requires before { WasValidBeforeData «module».now }
     requires context { IsContextOfModule «module».now context.now }
-    ensures { Decides result (AreDataValid «module».now) }
+    ensures valid { Decides result (AreDataValid «module».now) }
+    ensures fault { IfErr result (HasFault «module».now) }
 {
     check_data_segments(context, module.data_segments.as_slice())
 }

@@ -2,7 +2,10 @@ use Rattle.std.proofs.Common.{◌≡◌, List, [], ◌∷◌, Option, Some, None
 use Rattle.std.proofs.lemmas.Result.{err_from_is_err_and}
 use Rattle.wasm_syntax_rules.specs.Typing.{body_context}
 use Rattle.wasm_validate.specs.laws.Checking.{Level, new_level, checked}
-use Rattle.wasm_validate.proofs.BodyLemmas.Fails.{denies}
+use Rattle.wasm_validate.specs.laws.FirstFault.{fault_in}
+use Rattle.wasm_validate.proofs.BodyLemmas.Fails.{denies, denies_one}
+use Rattle.wasm_validate.proofs.BodyLemmas.FaultKinds.{first_index, first_limit, passed_fault}
+use Rattle.wasm_validate.proofs.BodyLemmas.Untyped.{untyped}
 use Rattle.wasm_validate.proofs.BodyLemmas.Bodies.{scope_of, body_sound, body_complete}
 use Rattle.wasm_validate.proofs.body.body.BodyChecker.check.Goals as goal
 
@@ -12,8 +15,8 @@ some_not_none o x e h = absurd (cc)
 not_empty : (o : Option (List Level)) (new : List Level) → o ≡ Some new → o ≡ Some [] → new ≡ []
 not_empty o new e h = cc
 
-pub returns-in_err-steps : goal.returns-in_err-steps
-returns-in_err-steps c = λ c' context.
+pub returns-in_err-steps-clause-typed : goal.returns-in_err-steps-clause-typed
+returns-in_err-steps-clause-typed c = λ c' context.
     let p = err_from_is_err_and c.from_residual-in_err-steps.result c.from_residual-in_err-steps.ensures.1 in
     let kind = c.args.function_type.now in
     let code = c.args.code.now in
@@ -22,12 +25,12 @@ returns-in_err-steps c = λ c' context.
     let start = c.in_ok-open.ensures.opened ∙ ap (λ z. new_level r r false ∷ z) c.clear.ensures in
     let steps = c.in_err-steps.ensures bc (scope_of c' kind code _ context c.as_slice.ensures c.as_slice-2.ensures c.as_slice-3.ensures) in
     rw (p.1, p.2)
-    (denies c.in_err-steps.field-0.0 (checked bc c.as_slice-4.result.now c.open.new.self)
+    (denies c.in_err-steps.field-0.0 (fault_in bc c.as_slice-4.result.now c.open.new.self) (checked bc c.as_slice-4.result.now c.open.new.self)
     (λ none body. some_not_none (checked bc code.body (new_level r r false ∷ [])) [] (body_complete c' kind code r c.result_of-result_type.ensures body) (ap (λ z. checked bc z (new_level r r false ∷ [])) (sym c.as_slice-4.ensures) ∙ ap (λ z. checked bc c.as_slice-4.result.now z) (sym start) ∙ none))
     steps)
 
-pub returns-then-is_empty : goal.returns-then-is_empty
-returns-then-is_empty c = λ c' context.
+pub returns-then-is_empty-clause-typed : goal.returns-then-is_empty-clause-typed
+returns-then-is_empty-clause-typed c = λ c' context.
     let kind = c.args.function_type.now in
     let code = c.args.code.now in
     let r = c.result_of-result_type.result in
@@ -38,8 +41,8 @@ returns-then-is_empty c = λ c' context.
     body_sound c' kind code r c.result_of-result_type.ensures
     (ap (λ z. checked bc z (new_level r r false ∷ [])) (sym c.as_slice-4.ensures) ∙ ap (λ z. checked bc c.as_slice-4.result.now z) (sym start) ∙ steps ∙ ap (λ z. Some z) closed)
 
-pub returns-else-is_empty : goal.returns-else-is_empty
-returns-else-is_empty c = λ c' context body.
+pub returns-else-is_empty-clause-typed : goal.returns-else-is_empty-clause-typed
+returns-else-is_empty-clause-typed c = λ c' context body.
     let kind = c.args.function_type.now in
     let code = c.args.code.now in
     let r = c.result_of-result_type.result in
@@ -51,3 +54,34 @@ returns-else-is_empty c = λ c' context body.
     let yes = c.is_empty.ensures.1 none in
     let no = c.if-is_empty.false in
     absurd (cc)
+
+pub returns-in_err-steps-clause-fault : goal.returns-in_err-steps-clause-fault
+returns-in_err-steps-clause-fault c = λ c' context.
+    let p = err_from_is_err_and c.from_residual-in_err-steps.result c.from_residual-in_err-steps.ensures.1 in
+    let kind = c.args.function_type.now in
+    let code = c.args.code.now in
+    let r = c.result_of-result_type.result in
+    let bc = body_context c' kind code.locals in
+    let start = c.in_ok-open.ensures.opened ∙ ap (λ z. new_level r r false ∷ z) c.clear.ensures in
+    let steps = c.in_err-steps.ensures bc (scope_of c' kind code _ context c.as_slice.ensures c.as_slice-2.ensures c.as_slice-3.ensures) in
+    let checked_is = ap (λ z. checked bc z (new_level r r false ∷ [])) (sym c.as_slice-4.ensures) ∙ ap (λ z. checked bc c.as_slice-4.result.now z) (sym start) in
+    let fault_is = ap (λ z. fault_in bc z (new_level r r false ∷ [])) (sym c.as_slice-4.ensures) ∙ ap (λ z. fault_in bc c.as_slice-4.result.now z) (sym start) in
+    rw (p.1, p.2)
+    (denies_one c.in_err-steps.field-0.0 (fault_in bc c.as_slice-4.result.now c.open.new.self) (checked bc c.as_slice-4.result.now c.open.new.self)
+    (λ none kind_is. untyped c' kind code r c.result_of-result_type.ensures (λ some. some_not_none (checked bc code.body (new_level r r false ∷ [])) [] some (checked_is ∙ none)) (fault_is ∙ kind_is))
+    (λ kind_is. first_index bc code.body (new_level r r false ∷ []) (fault_is ∙ kind_is))
+    (λ kind_is. first_limit bc code.body (new_level r r false ∷ []) (fault_is ∙ kind_is))
+    steps)
+
+pub returns-else-is_empty-clause-fault : goal.returns-else-is_empty-clause-fault
+returns-else-is_empty-clause-fault c = λ c' context.
+    let kind = c.args.function_type.now in
+    let code = c.args.code.now in
+    let r = c.result_of-result_type.result in
+    let bc = body_context c' kind code.locals in
+    let start = c.in_ok-open.ensures.opened ∙ ap (λ z. new_level r r false ∷ z) c.clear.ensures in
+    let steps = c.in_ok-steps.ensures bc (scope_of c' kind code _ context c.as_slice.ensures c.as_slice-2.ensures c.as_slice-3.ensures) in
+    let here = ap (λ z. checked bc z (new_level r r false ∷ [])) (sym c.as_slice-4.ensures) ∙ ap (λ z. checked bc c.as_slice-4.result.now z) (sym start) ∙ steps in
+    untyped c' kind code r c.result_of-result_type.ensures
+    (λ passes. let none = not_empty (checked bc code.body (new_level r r false ∷ [])) c.steps.new.self here passes in let yes = c.is_empty.ensures.1 none in let no = c.if-is_empty.false in absurd (cc))
+    (passed_fault bc code.body (new_level r r false ∷ []) c.steps.new.self here)

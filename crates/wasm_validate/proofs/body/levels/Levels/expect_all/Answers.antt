@@ -6,6 +6,7 @@ use Rattle.std.proofs.lemmas.Iterator.Adapters.{YieldsList-from_rev_slice}
 use Rattle.std.proofs.lemmas.Iterator.Consumers.{YieldsList-turn, YieldsList-end}
 use Rattle.wasm_syntax.specs.declared.types.ValueType.{ValueType}
 use Rattle.wasm_syntax.specs.laws.ReadingItems.{◌>>=◌}
+use Rattle.wasm_validate.specs.declared.parts.fault.ValidFault.TheVariants.{Typing}
 use Rattle.wasm_validate.specs.laws.Checking.{Level}
 use Rattle.wasm_validate.specs.Body.Tops.{top_taken, top_all_taken}
 use Rattle.wasm_validate.proofs.BodyLemmas.Fails.{fails_as}
@@ -35,7 +36,7 @@ returns-in_err-expect c =
     let types = reverse c.args.types.now in
     let n = length c.loop-value_type.yielded in
     rw (p.1, p.2)
-    (fails_as c.in_err-expect.field-0.0 (top_taken c.in-Some.value_type.now c.loop-value_type.self) (top_all_taken types c.args.self.now)
+    (fails_as c.in_err-expect.field-0.0 Typing (top_taken c.in-Some.value_type.now c.loop-value_type.self) (top_all_taken types c.args.self.now)
     (λ none. c.loop-value_type.invariant ∙ next_taken types n c.in-Some.value_type.now c.loop-value_type.self turn.0 turn.1 ∙ ap (λ z. z >>= λ levels'. top_all_taken (drop (n + 1) types) levels') none)
     c.in_err-expect.ensures)
 

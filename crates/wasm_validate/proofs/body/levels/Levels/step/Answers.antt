@@ -4,13 +4,18 @@ use Rattle.wasm_syntax.specs.declared.instruction.Instruction.TheVariants as ins
 use Rattle.wasm_syntax.specs.rules.Sequence.{IsPlain}
 use Rattle.wasm_validate.specs.Body.Answers.{LevelsFollow}
 use Rattle.wasm_validate.proofs.BodyLemmas.Steps.{after_is}
+use Rattle.wasm_validate.proofs.BodyLemmas.FaultKinds.{fault_is}
+use Rattle.wasm_validate.specs.laws.Checking.{labels_of, levels_after}
+use Rattle.wasm_validate.specs.laws.FirstFault.{fault_of}
 use Rattle.wasm_validate.proofs.body.levels.Levels.step.Goals as goal
 
 pub returns-in_default : goal.returns-in_default
 returns-in_default c = λ c' scope.
-    subst (λ z. LevelsFollow c.operate.result c.operate.new.self z)
+    subst (λ z. LevelsFollow z c.operate.result c.operate.new.self (levels_after c' c.args.instruction.now c.args.self.now))
+    (fault_is c' c.args.instruction.now c.args.self.now some_open)
+    (subst (λ z. LevelsFollow (fault_of c' (labels_of c.args.self.now) c.args.instruction.now) c.operate.result c.operate.new.self z)
     (after_is c' c.args.instruction.now c.args.self.now some_open (plain c.args.instruction.now refl))
-    (c.operate.ensures c' scope)
+    (c.operate.ensures c' scope))
   where
     some_open : c.args.self.now ≢ []
     some_open e = let yes = c.is_empty.ensures.1 e in let no = c.if-is_empty.false in absurd (cc)

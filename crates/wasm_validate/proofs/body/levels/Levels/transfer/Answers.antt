@@ -1,8 +1,11 @@
-use Rattle.std.proofs.Common.{◌≡◌, refl, ap}
+use Rattle.std.proofs.Common.{◌≡◌, refl, sym, ap, subst}
 use Rattle.wasm_syntax.specs.declared.instruction.Instruction.{Instruction}
 use Rattle.wasm_syntax.specs.declared.instruction.Instruction.TheVariants as instr
-use Rattle.wasm_syntax_rules.specs.Typing.{Context as Typing}
+use Rattle.wasm_syntax_rules.specs.Typing.{Context}
+use Rattle.wasm_validate.specs.declared.parts.fault.ValidFault.TheVariants.{Typing}
 use Rattle.wasm_validate.specs.laws.Checking.{Refused, arrow_of, labels_of}
+use Rattle.wasm_validate.specs.laws.FirstFault.{fault_of}
+use Rattle.wasm_validate.specs.Body.Answers.{FailsToCheck}
 use Rattle.wasm_validate.specs.Body.Kinds.{IsTransfer}
 use Rattle.wasm_validate.specs.Body.Tops.{top_applied}
 use Rattle.wasm_validate.proofs.body.levels.Levels.transfer.Goals as goal
@@ -17,9 +20,28 @@ pub returns-in-BrTable : goal.returns-in-BrTable
 returns-in-BrTable c = λ c' scope kind. rw c.in-BrTable.is (c.branch_table.ensures c')
 
 pub returns-in_default : goal.returns-in_default
-returns-in_default c = λ c' scope kind. ap (λ z. top_applied z c.args.self.now) (refused c' c.args.instruction.now refl kind)
+returns-in_default c = λ c' scope kind.
+    subst (λ z. FailsToCheck Typing z (top_applied (arrow_of c' (labels_of c.args.self.now) c.args.instruction.now) c.args.self.now)) (sym (told c' c.args.instruction.now refl kind))
+    (ap (λ z. top_applied z c.args.self.now) (refused c' c.args.instruction.now refl kind))
   where
-    refused : (c' : Typing) (i : Instruction) → c.args.instruction.now ≡ i → IsTransfer i → arrow_of c' (labels_of c.args.self.now) i ≡ Refused
+    told : (c' : Context) (i : Instruction) → c.args.instruction.now ≡ i → IsTransfer i → fault_of c' (labels_of c.args.self.now) i ≡ Typing
+    told c' (instr.Br l) e kind = absurd (c.in_default.not-Br l e)
+    told c' (instr.BrIf l) e kind = absurd (c.in_default.not-BrIf l e)
+    told c' (instr.BrTable ls l) e kind = absurd (c.in_default.not-BrTable ls l e)
+    told c' (instr.Call f) e kind = absurd (c.in_default.not-Call f e)
+    told c' (instr.CallIndirect t) e kind = absurd (c.in_default.not-CallIndirect t e)
+    told c' (instr.LocalGet x) e kind = absurd kind
+    told c' (instr.LocalSet x) e kind = absurd kind
+    told c' (instr.LocalTee x) e kind = absurd kind
+    told c' (instr.GlobalGet x) e kind = absurd kind
+    told c' (instr.GlobalSet x) e kind = absurd kind
+    told c' (instr.Load o a) e kind = absurd kind
+    told c' (instr.Store o a) e kind = absurd kind
+    told c' instr.MemorySize e kind = absurd kind
+    told c' instr.MemoryGrow e kind = absurd kind
+    told c' _ e kind = refl
+
+    refused : (c' : Context) (i : Instruction) → c.args.instruction.now ≡ i → IsTransfer i → arrow_of c' (labels_of c.args.self.now) i ≡ Refused
     refused c' instr.Unreachable e kind = absurd (c.in_default.not-Unreachable e)
     refused c' instr.Nop e kind = absurd (c.in_default.not-Nop e)
     refused c' (instr.Br l) e kind = absurd (c.in_default.not-Br l e)
