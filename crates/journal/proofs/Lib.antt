@@ -2,3 +2,4 @@ pub mod PackedLemmas
 pub mod RunLemmas
 pub mod RecordLemmas
 mod BarrierLemmas
+mod ExampleLemmas

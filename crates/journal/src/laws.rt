@@ -1,6 +1,15 @@
 //! Laws of the journal.
 
+ghost use Rattle.journal.specs.laws.Examples.{PackingExamples, FittingExamples, StandingExamples, BarrierExamples};
 ghost use Rattle.journal.specs.laws.Laws.{FreshStands, ScansWhatStands, ScansNoneOfLater};
+
+/// Worked examples: bytes in sectors, records that fit, what stands, and what a barrier may leave.
+pub fn worked_examples()
+    ensures packing { PackingExamples }
+    ensures fitting { FittingExamples }
+    ensures standing { StandingExamples }
+    ensures barriers { BarrierExamples }
+{}
 
 /// Where a journal begins, what a scan gives of what stands, and that it gives nothing of a generation
 /// that no sector shows.

@@ -1,3 +1,4 @@
+mod ExampleLemmas
 mod LogSteps
 mod MemoryLemmas
 mod FrontLemmas

@@ -1,8 +1,16 @@
 //! Laws of the disk model. The functions do nothing: what they ensure is the law.
 
 ghost use Rattle.sector_disk.specs.laws.Sizes.{SectorSizeNumber};
+ghost use Rattle.sector_disk.specs.laws.Examples.{ImageExamples, RunExamples, CountExamples};
 
 /// How many bytes a sector has.
 pub fn sector_size_is()
     ensures { SectorSizeNumber }
+{}
+
+/// Worked examples: images, runs of writes, and what is counted.
+pub fn worked_examples()
+    ensures images { ImageExamples }
+    ensures runs { RunExamples }
+    ensures counts { CountExamples }
 {}

@@ -6,7 +6,11 @@ ghost use Rattle.sector_disk.specs.rules.Run.{IsTornRun, IsWrittenRun, HoldsRun,
 use crate::{Disk, DiskFault, SECTOR_SIZE};
 
 /// Writes these sectors one after another, the first of them at `at`. It ends at the first error.
-pub fn write_run<D: Disk>(disk: &mut D, at: u64, sectors: &[[u8; SECTOR_SIZE]]) -> Result<(), DiskFault>
+pub fn write_run<D: Disk>(
+    disk: &mut D,
+    at: u64,
+    sectors: &[[u8; SECTOR_SIZE]],
+) -> Result<(), DiskFault>
     requires { at + length sectors.now ≤ (D.medium disk.old).sectors }
     ensures { WritesRun at sectors.now result (D.medium disk.old) (D.medium disk.new) }
 {
@@ -19,7 +23,11 @@ pub fn write_run<D: Disk>(disk: &mut D, at: u64, sectors: &[[u8; SECTOR_SIZE]]) 
 }
 
 /// Writes these sectors one after another, the first of them at `at`, and syncs.
-pub fn store_run<D: Disk>(disk: &mut D, at: u64, sectors: &[[u8; SECTOR_SIZE]]) -> Result<(), DiskFault>
+pub fn store_run<D: Disk>(
+    disk: &mut D,
+    at: u64,
+    sectors: &[[u8; SECTOR_SIZE]],
+) -> Result<(), DiskFault>
     requires { at + length sectors.now ≤ (D.medium disk.old).sectors }
 
     // A cut at any moment leaves of each of the sectors some front, and all others as they were.

@@ -7,3 +7,4 @@ pub mod WriterLemmas
 pub mod ByteLemmas
 pub mod SnapshotLemmas
 pub mod LawLemmas
+mod ExampleLemmas

@@ -1,8 +1,20 @@
 //! Laws of snapshots.
 
+ghost use Rattle.snapshot.specs.laws.Examples.{NextCanFollow, ReadyExamples, AreaExamples};
 ghost use Rattle.snapshot.specs.laws.Laws.{ImageShowsOne};
 
 /// A disk shows one newest snapshot at most, and a damaged one or none only where it shows no whole one.
 pub fn newest_is_one()
     ensures { ImageShowsOne }
+{}
+
+/// Once an image is the newest one, a disk is ready for the next.
+pub fn next_can_follow()
+    ensures { NextCanFollow }
+{}
+
+/// Worked examples: which head a disk is ready for, and what a commit may change.
+pub fn worked_examples()
+    ensures ready { ReadyExamples }
+    ensures areas { AreaExamples }
 {}

@@ -1,0 +1,152 @@
+-- Worked examples of journals.
+use Rattle.std.proofs.Common.{◌≡◌, ℕ, zero, suc, ◌+◌, ◌<◌, ◌≤◌, Bool, true, false, List, [], ◌∷◌, length, get_or, if◌then◌else◌, lit<, lit≤, refl, sym, ap, subst, arith}
+use Rattle.sector_disk.specs.rules.Image.{Image, sector_at}
+use Rattle.disk_layout.specs.rules.Journal.{is_of}
+use Rattle.disk_layout.specs.rules.Sectors.{shown_generation}
+use Rattle.disk_layout.specs.laws.RecordExamples.{bare, spread, two_records}
+use Rattle.journal.specs.rules.Steps.{SameOthers, ShowsNoneAfter}
+use Rattle.journal.specs.laws.Examples.{FittingExamples, StandingExamples, BarrierExamples, before_one_of, behind_hello, only_hello, whole_end, torn_end, with_end}
+
+differ : (a b : ℕ) → a ≡ b → a < b → ⊥
+differ a b e less = omega (arith, e, less)
+
+abbrev bit_of : Bool → ℕ
+bit_of b = if b then 1 else 0
+
+-- ---- numbers below a small one, and from one on
+
+below_one : (P : ℕ → Type 0) → P 0 → (k : ℕ) → k < 1 → P k
+below_one P p zero less = p
+below_one P p (suc k) less = absurd (omega (arith, less))
+
+below_two : (P : ℕ → Type 0) → P 0 → P 1 → (k : ℕ) → k < 2 → P k
+below_two P p q zero less = p
+below_two P p q (suc k) less = below_one (λ i. P (suc i)) q k (omega (arith, less))
+
+below_three : (P : ℕ → Type 0) → P 0 → P 1 → P 2 → (k : ℕ) → k < 3 → P k
+below_three P p q r zero less = p
+below_three P p q r (suc k) less = below_two (λ i. P (suc i)) q r k (omega (arith, less))
+
+below_four : (P : ℕ → Type 0) → P 0 → P 1 → P 2 → P 3 → (k : ℕ) → k < 4 → P k
+below_four P p q r s zero less = p
+below_four P p q r s (suc k) less = below_three (λ i. P (suc i)) q r s k (omega (arith, less))
+
+-- from one number on, as from the one before it on
+peel : (P : ℕ → Type 0) (n : ℕ) → ((k : ℕ) → n ≤ k → P (suc k)) → (k : ℕ) → suc n ≤ k → P k
+peel P n more zero le = absurd (omega (arith, le))
+peel P n more (suc k) le = more k (omega (arith, le))
+
+from_three : (P : ℕ → Type 0) (n : ℕ) → ((k : ℕ) → n ≤ k → P (suc (suc (suc k)))) → (k : ℕ)
+    → 3 + n ≤ k → P k
+from_three P n more k le = peel P (2 + n) (λ a h.
+    peel (λ i. P (suc i)) (1 + n) (λ b g.
+    peel (λ i. P (suc (suc i))) n more b (omega (arith, g))) a (omega (arith, h))) k (omega (arith, le))
+
+from_six : (P : ℕ → Type 0) → ((k : ℕ) → P (suc (suc (suc (suc (suc (suc k))))))) → (k : ℕ)
+    → 6 ≤ k → P k
+from_six P more = from_three P 3
+    (from_three (λ i. P (suc (suc (suc i)))) 0 (λ k le. more k))
+
+only_two : (P : ℕ → Type 0) → P 2 → (k : ℕ) → 2 ≤ k → k < 3 → P k
+only_two P p k le less = subst P (let e : 2 ≡ k = omega (arith, le, less) in e) p
+
+-- ---- what fits
+
+pub fitting_examples : FittingExamples
+fitting_examples = record {
+  last_step = record { step = omega arith; payload = omega arith; clock = tt };
+  no_step = λ f. (let h = f.step in omega (arith, h));
+  last_time = record { step = omega arith; payload = omega arith; clock = omega arith };
+  no_time = λ f. (let h = f.clock in omega (arith, h));
+  no_count = λ f. (let h = f.clock in omega (arith, h));
+  longest = λ text long. record { step = omega arith; payload = omega (arith, long); clock = tt };
+  too_long = λ text long f. (let h = f.payload in omega (arith, h, long));
+  too_many_bytes = λ bytes long f. (let h = f.payload in omega (arith, h, long));
+}
+
+-- ---- what stands
+
+abbrev stamped : ℕ → Image → ℕ → Type 0
+stamped g image k = is_of g (1 + k) (sector_at image (3 + k)) ≡ true
+
+pub standing_examples : StandingExamples
+standing_examples = record {
+  stands = record {
+    within = omega arith;
+    written = below_two (stamped 5 (spread 12 two_records)) refl refl;
+    holds = refl;
+    clean = only_two (λ k. shown_generation (1 + k) (sector_at (spread 12 two_records) (3 + k)) < 5)
+        (lit< tt);
+  };
+  in_fewer_sectors = λ s.
+      (let h : 5 < 5 = s.clean 1 (omega arith) (omega arith) in omega (arith, h));
+  in_more_sectors = λ s. differ 0 1 (ap bit_of (s.written 2 (omega arith))) (omega arith);
+  of_another_generation = λ s. differ 0 1 (ap bit_of (s.written 0 (omega arith))) (omega arith);
+  before_one_of_earlier = record {
+    within = omega arith;
+    written = below_two (stamped 5 (before_one_of 4)) refl refl;
+    holds = refl;
+    clean = only_two (λ k. shown_generation (1 + k) (sector_at (before_one_of 4) (3 + k)) < 5)
+        (lit< tt);
+  };
+  before_a_later_one = λ s.
+      (let h : 6 < 5 = s.clean 2 (omega arith) (omega arith) in omega (arith, h));
+  beyond_the_journal = λ s. (let h : 2 ≤ 1 = s.within in omega (arith, h));
+  other_records = λ s. differ 16 27 (sym (ap length s.holds)) (omega arith);
+}
+
+-- ---- what a barrier may leave
+
+abbrev same_at : Image → ℕ → Type 0
+same_at new k = sector_at new k ≡ sector_at only_hello k
+
+-- only the journal's second and third sectors differ
+others_same : (second third : List ℕ) → SameOthers bare 1 only_hello (behind_hello second third)
+others_same second third = record {
+  count = refl;
+  below = below_four (same_at (behind_hello second third)) refl refl refl refl;
+  above = from_six (same_at (behind_hello second third)) (λ k. refl);
+}
+
+none_after : (image : Image) → shown_generation 1 (sector_at image 3) ≤ 5
+    → shown_generation 2 (sector_at image 4) ≤ 5 → shown_generation 3 (sector_at image 5) ≤ 5
+    → ShowsNoneAfter bare 5 image
+none_after image first second third =
+    below_three (λ k. shown_generation (1 + k) (sector_at image (3 + k)) ≤ 5) first second third
+
+pub barrier_examples : BarrierExamples
+barrier_examples = record {
+  appended = record {
+    count = 1;
+    within = omega arith;
+    scanned = refl;
+    none_later = none_after with_end (lit≤ tt) (lit≤ tt) (lit≤ tt);
+    others = others_same whole_end [];
+  };
+  nothing_yet = record {
+    count = 0;
+    within = omega arith;
+    scanned = refl;
+    none_later = none_after only_hello (lit≤ tt) (lit≤ tt) (lit≤ tt);
+    others = others_same [] [];
+  };
+  torn = record {
+    count = 0;
+    within = omega arith;
+    scanned = refl;
+    none_later = none_after (behind_hello torn_end []) (lit≤ tt) (lit≤ tt) (lit≤ tt);
+    others = others_same torn_end [];
+  };
+  lost = λ a. differ 0 1 (ap (λ l. min_one (length l)) a.scanned) (omega arith);
+  shows_a_later_one = λ a. (let h : 6 ≤ 5 = a.none_later 2 (omega arith) in omega (arith, h));
+  super_changed = λ a. (let o = a.others in
+      differ 0 7 (sym (ap (λ l. get_or l 0 0) (o.below 0 (omega arith)))) (omega arith));
+  changed_behind = λ a. (let o = a.others in
+      differ 8 9 (ap (λ l. get_or l 0 0) (o.above 6 (omega arith))) (omega arith));
+  longer = λ a. (let o = a.others in differ 7 8 (sym o.count) (omega arith));
+  used_changed = λ o. differ 8 16 (ap (λ l. get_or l 0 0) (o.below 3 (omega arith))) (omega arith);
+}
+  where
+    min_one : ℕ → ℕ
+    min_one zero = 0
+    min_one (suc n) = 1

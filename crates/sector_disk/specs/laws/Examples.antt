@@ -1,0 +1,108 @@
+-- Worked examples of images, of runs of writes, and of what is counted.
+use Rattle.std.specs.Prelude.{◌≡◌, ◌+◌, ◌-◌, ◌^◌, ◌++◌, ℕ, List, [], ◌∷◌, Option, Some, None, replicate, refl}
+use Rattle.sector_disk.specs.rules.Image.{Image, sector_at, with_sector, front_over, with_front, IsImage, IsTornWithin}
+use Rattle.sector_disk.specs.rules.Medium.{Medium}
+use Rattle.sector_disk.specs.rules.Run.{IsTornRun, IsWrittenRun}
+use Rattle.sector_disk.specs.rules.Pending.{replayed, torn_by}
+use Rattle.sector_disk.specs.rules.Answered.{AnsweredCalls, faults_of, unsynced_of}
+use Rattle.sector_disk.specs.rules.Trouble.{counted, call_number, trouble_at, place_numbers, troubled}
+use Rattle.sector_disk.specs.declared.write.Write.{Write}
+use Rattle.sector_disk.specs.declared.place.Place.{Place}
+use Rattle.sector_disk.specs.declared.trouble.Trouble.TheVariants.{Stops, Stopped, Fails}
+use Rattle.sector_disk.specs.declared.file_call.FileCall.TheVariants.{Read, Wrote, Tore, Synced, Failed}
+
+-- three sectors of two bytes
+abbrev pub three : Image
+three = (1 ∷ 1 ∷ []) ∷ (2 ∷ 2 ∷ []) ∷ (3 ∷ 3 ∷ []) ∷ []
+
+-- of these, the middle one and the last with other bytes
+abbrev pub with_both : List ℕ → List ℕ → Image
+with_both middle last = (1 ∷ 1 ∷ []) ∷ middle ∷ last ∷ []
+
+-- what is written there
+abbrev pub eights_and_nines : Image
+eights_and_nines = (8 ∷ 8 ∷ []) ∷ (9 ∷ 9 ∷ []) ∷ []
+
+abbrev pub write_of : ℕ → List ℕ → Write
+write_of k bytes = record { sector = k; bytes = bytes }
+
+-- two writes to the middle, and one to the last
+abbrev pub three_writes : List Write
+three_writes = write_of 1 (8 ∷ 8 ∷ []) ∷ write_of 1 (4 ∷ 5 ∷ []) ∷ write_of 2 (9 ∷ 9 ∷ []) ∷ []
+
+pub record ImageExamples : Type 0 where
+  pub front : front_over 1 (8 ∷ 8 ∷ []) (2 ∷ 2 ∷ []) ≡ 8 ∷ 2 ∷ []
+  pub front_there : with_front three 1 1 (8 ∷ 8 ∷ []) ≡ with_both (8 ∷ 2 ∷ []) (3 ∷ 3 ∷ [])
+  pub sector_there : with_sector three 2 (9 ∷ []) ≡ with_both (2 ∷ 2 ∷ []) (9 ∷ [])
+  pub none_there : with_sector three 3 (9 ∷ []) ≡ three
+  pub nothing_there : sector_at three 3 ≡ []
+  pub all_whole : replayed three_writes three ≡ with_both (4 ∷ 5 ∷ []) (9 ∷ 9 ∷ [])
+  pub each_torn : torn_by (2 ∷ 1 ∷ 0 ∷ []) three_writes three ≡ with_both (4 ∷ 8 ∷ []) (3 ∷ 3 ∷ [])
+  pub missing_are_whole : torn_by (0 ∷ []) three_writes three
+      ≡ with_both (4 ∷ 5 ∷ []) (9 ∷ 9 ∷ [])
+  pub larger_are_whole : torn_by (0 ∷ 600 ∷ 513 ∷ []) three_writes three
+      ≡ with_both (4 ∷ 5 ∷ []) (9 ∷ 9 ∷ [])
+
+-- ---- images and runs, and what is none
+
+pub record RunExamples : Type 0 where
+  pub image : IsImage 1 (replicate 512 0 ∷ [])
+  pub short_sector : IsImage 1 (replicate 511 0 ∷ []) → ⊥
+  pub too_few_sectors : IsImage 2 (replicate 512 0 ∷ []) → ⊥
+  pub torn_within : IsTornWithin 1 1 (8 ∷ 8 ∷ []) three (with_both (8 ∷ 2 ∷ []) (3 ∷ 3 ∷ []))
+  pub torn_beyond : IsTornWithin 1 1 (8 ∷ 8 ∷ []) three (with_both (8 ∷ 8 ∷ []) (3 ∷ 3 ∷ [])) → ⊥
+  pub written : IsWrittenRun 1 eights_and_nines 2 three (with_both (8 ∷ 8 ∷ []) (9 ∷ 9 ∷ []))
+  pub first_written : IsWrittenRun 1 eights_and_nines 1 three
+      (with_both (8 ∷ 8 ∷ []) (3 ∷ 3 ∷ []))
+  pub last_not_written : IsWrittenRun 1 eights_and_nines 2 three
+      (with_both (8 ∷ 8 ∷ []) (3 ∷ 3 ∷ [])) → ⊥
+  pub written_beyond : IsWrittenRun 1 eights_and_nines 1 three
+      (with_both (8 ∷ 8 ∷ []) (9 ∷ 9 ∷ [])) → ⊥
+  pub written_before : IsWrittenRun 1 eights_and_nines 2 three
+      ((7 ∷ 7 ∷ []) ∷ eights_and_nines) → ⊥
+  pub written_longer : IsWrittenRun 1 eights_and_nines 2 three
+      (with_both (8 ∷ 8 ∷ []) (9 ∷ 9 ∷ []) ++ (4 ∷ []) ∷ []) → ⊥
+  pub torn : IsTornRun 1 eights_and_nines 2 three (with_both (8 ∷ 2 ∷ []) (3 ∷ 3 ∷ []))
+  pub torn_beside : IsTornRun 1 eights_and_nines 2 three
+      (with_both (2 ∷ 8 ∷ []) (3 ∷ 3 ∷ [])) → ⊥
+  pub torn_beyond_the_run : IsTornRun 1 eights_and_nines 1 three
+      (with_both (8 ∷ 2 ∷ []) (9 ∷ 3 ∷ [])) → ⊥
+  pub torn_before : IsTornRun 1 eights_and_nines 2 three
+      ((7 ∷ 1 ∷ []) ∷ eights_and_nines) → ⊥
+  pub torn_longer : IsTornRun 1 eights_and_nines 2 three (three ++ (4 ∷ []) ∷ []) → ⊥
+
+-- ---- what is counted
+
+-- a good write, a good sync, a call that failed, and two writes, the last of which failed; the
+-- newest is the first
+abbrev pub five_calls : AnsweredCalls
+five_calls = (Tore 1, []) ∷ (Wrote 1, []) ∷ (Failed, []) ∷ (Synced, []) ∷ (Wrote 0, []) ∷ []
+
+abbrev pub at_third : ℕ → Option Place
+at_third front = Some (record { call = 3; front = front })
+
+pub record CountExamples : Type 0 where
+  pub faults : faults_of five_calls ≡ 2
+  pub unsynced : unsynced_of five_calls ≡ 2
+  pub after_a_read : unsynced_of ((Read 0, []) ∷ five_calls) ≡ 2
+  pub after_a_failed_sync : unsynced_of ((Failed, []) ∷ five_calls) ≡ 2
+  pub after_a_sync : unsynced_of ((Synced, []) ∷ five_calls) ≡ 0
+  pub one_more : counted 7 ≡ 8
+  pub no_more : counted (2 ^ 64 - 1) ≡ 2 ^ 64 - 1
+  pub numbered : call_number (record { reads = 1; writes = 2; syncs = 4 }) ≡ 7
+  pub before_a_stop : trouble_at (at_third 7) None 2 ≡ None
+  pub at_a_stop : trouble_at (at_third 600) (at_third 7) 3 ≡ Some (Stops 512)
+  pub after_a_stop : trouble_at (at_third 7) None 4 ≡ Some Stopped
+  pub at_a_failure : trouble_at None (at_third 7) 3 ≡ Some (Fails 7)
+  pub after_a_failure : trouble_at None (at_third 7) 4 ≡ None
+  pub told : place_numbers (at_third 7) ≡ 1 ∷ 3 ∷ 7 ∷ []
+  pub told_nothing : place_numbers None ≡ 0 ∷ []
+
+-- These two stand here with their proofs: they speak of any disk, as no contract can.
+pub troubles_are_faults : (below : Medium) (stop fail : Option Place) (n : ℕ)
+    → (troubled below stop fail n).faults ≡ below.faults + n
+troubles_are_faults below stop fail n = refl
+
+pub both_are_told : (below : Medium) (stop fail : Option Place) (n : ℕ)
+    → (troubled below stop fail n).told ≡ place_numbers stop ++ place_numbers fail ++ below.told
+both_are_told below stop fail n = refl

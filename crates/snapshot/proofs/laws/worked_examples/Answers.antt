@@ -1,0 +1,8 @@
+use Rattle.snapshot.proofs.ExampleLemmas.{ready_examples, area_examples}
+use Rattle.snapshot.proofs.laws.worked_examples.Goals as goal
+
+pub returns-clause-ready : goal.returns-clause-ready
+returns-clause-ready c = ready_examples
+
+pub returns-clause-areas : goal.returns-clause-areas
+returns-clause-areas c = area_examples

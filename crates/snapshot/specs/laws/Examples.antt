@@ -1,0 +1,82 @@
+-- Worked examples of heads, and of what a commit may change. After a commit the next can follow.
+use Rattle.std.specs.Prelude.{◌≡◌, ℕ, ◌+◌, List, [], ◌∷◌, ◌++◌, replicate}
+use Rattle.sector_disk.specs.rules.Image.{Image}
+use Rattle.disk_layout.specs.declared.geometry.Geometry.{Geometry}
+use Rattle.disk_layout.specs.declared.head.Head.{Head}
+use Rattle.disk_layout.specs.rules.Sectors.{head_bytes}
+use Rattle.snapshot.specs.rules.Heads.{HasNone, heads_to, IsReadyForHead}
+use Rattle.snapshot.specs.rules.Steps.{HoldsWithZeros, HasNew, IsOutsideArea, Fills, Commits, Replaces}
+
+-- once an image is the newest one, a disk is ready for the next
+abbrev pub NextCanFollow : Type 0
+NextCanFollow =
+    (geometry : Geometry) (g version : ℕ) (bytes : List ℕ) (image : Image)
+    → HasNew geometry g version bytes image → IsReadyForHead (g + 1) image
+
+-- ---- heads
+
+-- a head with a digest of zeros
+abbrev pub plain_head : ℕ → Head
+plain_head g = record {
+  version = 1;
+  length_in_bytes = 0;
+  digest = replicate 32 0;
+  generation = g;
+}
+
+abbrev pub with_heads : ℕ → ℕ → Image
+with_heads g h = [] ∷ head_bytes (plain_head g) ∷ head_bytes (plain_head h) ∷ []
+
+abbrev pub headless : Image
+headless = [] ∷ [] ∷ [] ∷ []
+
+pub record ReadyExamples : Type 0 where
+  pub second_shown : heads_to (with_heads 2 3) ≡ 3
+  pub first_shown : heads_to (with_heads 4 3) ≡ 4
+  pub none_shown : heads_to headless ≡ 0
+  pub none_there : HasNone headless
+  pub none_in_its_area : HasNone (with_heads 3 2)
+  pub first_there : HasNone (with_heads 2 2) → ⊥
+  pub second_there : HasNone (with_heads 3 3) → ⊥
+  pub ready_for_the_next : IsReadyForHead 4 (with_heads 2 3)
+  pub ready_for_the_first : IsReadyForHead 1 headless
+  pub not_for_the_same : IsReadyForHead 3 (with_heads 2 3) → ⊥
+  pub not_for_one_later : IsReadyForHead 5 (with_heads 2 3) → ⊥
+  pub not_for_the_second : IsReadyForHead 2 headless → ⊥
+
+-- ---- areas
+
+-- two areas of two sectors, from sector 3 and from sector 5 on, and nothing behind them
+abbrev pub areas : Geometry
+areas = record { config = 0; wasm = 0; module_sectors = 0; area_sectors = 2; journal_sectors = 0 }
+
+-- a disk without heads, and these four sectors in its areas
+abbrev pub area_disk : List ℕ → List ℕ → List ℕ → List ℕ → Image
+area_disk a b c d = [] ∷ [] ∷ [] ∷ a ∷ b ∷ c ∷ d ∷ []
+
+abbrev pub seven_sector : List ℕ
+seven_sector = 7 ∷ replicate 511 0
+
+-- no step of generation 3 on this disk comes to that one
+pub record NoStep (new : Image) : Type 0 where
+  pub fills : Fills areas 3 (area_disk [] [] [] []) new → ⊥
+  pub commits : (bytes : List ℕ) → Commits areas 3 1 bytes (area_disk [] [] [] []) new → ⊥
+  pub replaces : (bytes : List ℕ) → Replaces areas 3 1 bytes (area_disk [] [] [] []) new → ⊥
+
+pub record AreaExamples : Type 0 where
+  pub before_it : IsOutsideArea areas 3 4
+  pub first_in_it : IsOutsideArea areas 3 5 → ⊥
+  pub last_in_it : IsOutsideArea areas 3 6 → ⊥
+  pub behind_it : IsOutsideArea areas 3 7
+  pub behind_the_other : IsOutsideArea areas 4 5
+  pub zeros_behind : HoldsWithZeros areas 3 (7 ∷ []) (area_disk [] [] seven_sector [])
+  pub no_zeros : HoldsWithZeros areas 3 (7 ∷ [])
+      (area_disk [] [] (7 ∷ 9 ∷ replicate 510 0) []) → ⊥
+  pub in_the_other_area : HoldsWithZeros areas 3 (7 ∷ []) (area_disk seven_sector [] [] []) → ⊥
+  pub no_other_area : NoStep (area_disk [] (7 ∷ []) [] [])
+  pub no_super : NoStep ((7 ∷ []) ∷ [] ∷ [] ∷ [] ∷ [] ∷ [] ∷ [] ∷ [])
+  pub no_other_head : NoStep ([] ∷ (7 ∷ []) ∷ [] ∷ [] ∷ [] ∷ [] ∷ [] ∷ [])
+  pub no_more_sectors : NoStep (area_disk [] [] [] [] ++ [] ∷ [])
+  -- before the commit its own head isn't written
+  pub no_head_yet : Fills areas 3 (area_disk [] [] [] [])
+      ([] ∷ [] ∷ (7 ∷ []) ∷ [] ∷ [] ∷ [] ∷ [] ∷ []) → ⊥
