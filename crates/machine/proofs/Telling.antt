@@ -24,12 +24,16 @@ use Rattle.machine.proofs.Ran.{asks_for}
 
 -- ---- what waits
 
-module _ (code : Executable) (s : State) (functions : List FunctionType) (program : Program) (d : Configuration) (stands : Stands code s functions program d) where
-  told_of : (told : Option HostCall) → CodeTellsCall code program d told → TellsCall code.«module» program d told
+module _ (code : Executable) (s : State) (functions : List FunctionType) (program : Program)
+    (d : Configuration) (stands : Stands code s functions program d) where
+  told_of : (told : Option HostCall) → CodeTellsCall code program d told
+      → TellsCall code.«module» program d told
   told_of None h = h
   told_of (Some x) h = asks_for code s functions program d x.call x.arguments stands h
 
-pub tells : (code : Executable) (s : State) (most : ℕ) → IsMachine code s most → IsWithinLimit s.memory → AllByRecursion IsByte s.memory.bytes → (told : Option HostCall) → TellsOfState code s told → TellsWaiting (seen code s most) told
+pub tells : (code : Executable) (s : State) (most : ℕ) → IsMachine code s most
+    → IsWithinLimit s.memory → AllByRecursion IsByte s.memory.bytes → (told : Option HostCall)
+    → TellsOfState code s told → TellsWaiting (seen code s most) told
 tells code s most machine shape bytes told h = λ program d shows.
     let stands = stood_for code s most machine shape bytes program d shows in
     told_of code s shows.functions program d stands told (h shows.functions program d stands)
@@ -37,14 +41,17 @@ tells code s most machine shape bytes told h = λ program d shows.
 -- ---- whether the program has ended
 
 -- no frames show no thread, and the other way round
-no_thread : (c : Context) (program : Program) (frames : List StackFrame) (words : List ℕ) (thread : Thread) → ShowsThread c program (places_of frames words) thread → (frames ≡ []) ↔ (thread ≡ [])
+no_thread : (c : Context) (program : Program) (frames : List StackFrame) (words : List ℕ)
+    (thread : Thread) → ShowsThread c program (places_of frames words) thread
+    → (frames ≡ []) ↔ (thread ≡ [])
 no_thread c program [] words [] h = (λ e. refl, λ e. refl)
 no_thread c program [] words (f ∷ thread) h = absurd h
 no_thread c program (frame ∷ frames) words [] h = absurd h
 no_thread c program (frame ∷ frames) words (f ∷ thread) h = (λ e. absurd (cc), λ e. absurd (cc))
 
 -- where a settled configuration has no thread, the host calls nothing more
-none_later : (program : Program) (later : List ℕ) (store : Store) → AllByRecursion (IsEntry program) later → left_by program [] later store ≡ None → later ≡ []
+none_later : (program : Program) (later : List ℕ) (store : Store)
+    → AllByRecursion (IsEntry program) later → left_by program [] later store ≡ None → later ≡ []
 none_later program [] store h e = refl
 none_later program (f ∷ later) store h e =
     let entry = h.0 in
@@ -52,7 +59,8 @@ none_later program (f ∷ later) store h e =
     let none = (rw there at e) in
     absurd (cc)
 
-pub tells_end : (code : Executable) (s : State) (most : ℕ) (told : Bool) → IsTrue told ↔ (s.frames ≡ []) → TellsEnd (seen code s most) told
+pub tells_end : (code : Executable) (s : State) (most : ℕ) (told : Bool)
+    → IsTrue told ↔ (s.frames ≡ []) → TellsEnd (seen code s most) told
 tells_end code s most told is = λ program d shows.
     let c : Context = module_context code.«module» shows.functions in
     let same = no_thread c program s.frames s.slots d.thread shows.shows.frames in (
@@ -60,7 +68,8 @@ tells_end code s most told is = λ program d shows.
           let thread : d.thread ≡ [] = same.0 (is.0 yes) in
           record {
             returned = thread;
-            nothing_later = none_later program d.later d.store shows.shows.typed.later (subst (λ t. left_by program t d.later d.store ≡ None) thread shows.shows.settled);
+            nothing_later = none_later program d.later d.store shows.shows.typed.later
+                (subst (λ t. left_by program t d.later d.store ≡ None) thread shows.shows.settled);
           },
       λ ended. is.1 (same.1 ended.returned),
     )

@@ -1,6 +1,6 @@
 //! The kind of each fault of linking, two faults at once, what a machine begins with.
 
-use crate::runs::{End, ending, left_at_0};
+use crate::runs::{End, ending, left_at_0, told as told_after};
 use crate::spelled::{Refused, append, spelled, with_code};
 use guest_memory::Memory;
 use machine::{LinkFault, Machine};
@@ -307,6 +307,26 @@ fn entries_and_calls_are_those_of_the_module(rt: HostRuntime) -> Result<(), Refu
     for (body, wanted) in ENDS {
         let bytes = with_code(rt.alloc(), LINKED, "01", body, FILLED)?;
         assert_eq!(rt; ending(rt.alloc(), bytes.as_slice())?, wanted, "{body}");
+    }
+    Ok(())
+}
+
+/// A body, and what is told once it has run: the end, a call that waits, or neither.
+const TOLD: [(&str, Option<End>); 4] = [
+    ("00 0b", Some(End::Returned)),
+    ("00 4105 1000 0b", Some(End::Asks(Call::ProcExit, 5))),
+    (
+        "00 4101 4102 4103 4104 1001 1a 0b",
+        Some(End::Asks(Call::FdWrite, 1234)),
+    ),
+    ("00 0340 0c00 0b 0b", None),
+];
+
+#[test]
+fn ends_and_calls_are_told(rt: HostRuntime) -> Result<(), Refused> {
+    for (body, wanted) in TOLD {
+        let bytes = with_code(rt.alloc(), LINKED, "01", body, FILLED)?;
+        assert_eq!(rt; told_after(rt.alloc(), bytes.as_slice())?, wanted, "{body}");
     }
     Ok(())
 }

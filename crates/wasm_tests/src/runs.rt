@@ -38,6 +38,19 @@ pub fn ending(alloc: Global, bytes: &[u8]) -> Result<End, FrontFault> {
     })
 }
 
+/// What a machine tells once it has run: that it has ended, or the call that waits, or neither.
+pub fn told(alloc: Global, bytes: &[u8]) -> Result<Option<End>, FrontFault> {
+    let mut machine = accept(alloc, bytes, 2)?;
+    let _ = machine.run(FUEL);
+    if machine.has_ended() {
+        return Ok(Some(End::Returned));
+    }
+    match machine.waits() {
+        Some(asked) => Ok(Some(End::Asks(asked.call, digits(&asked.arguments)))),
+        None => Ok(None),
+    }
+}
+
 /// The number that `_start` leaves at address 0, where it returns.
 pub fn left_at_0(alloc: Global, bytes: &[u8]) -> Result<Option<u64>, FrontFault> {
     let mut machine = accept(alloc, bytes, 2)?;
