@@ -143,6 +143,146 @@ fn code_has_an_entry_for_each_function(rt: HostRuntime) -> Result<(), Refused> {
     check(&rt, rt.alloc(), &CODE)
 }
 
+/// One row for each item of a section but the code section.
+const ITEMS: [(&str, &str, Option<DecodeFault>); 28] = [
+    // a type, and the type of a result
+    (HEADER, "0104 01 61 0000", Some(Malformed(11))),
+    (HEADER, "0105 01 6000 0170", Some(Malformed(14))),
+    (HEADER, "0105 01 6000 017d", Some(Float(14))),
+    // an import: names, kind, index, table, memory and global
+    (HEADER, "0206 01 01ff 00 0000", Some(Malformed(11))),
+    (HEADER, "0206 01 00 01ff 0000", Some(Malformed(12))),
+    (HEADER, "0205 01 0000 0400", Some(Malformed(13))),
+    (HEADER, "0209 01 0000 00 8080808010", Some(Malformed(14))),
+    (HEADER, "0207 01 0000 01 7f0000", Some(Malformed(14))),
+    (HEADER, "0207 01 0000 01 700200", Some(Malformed(15))),
+    (HEADER, "0206 01 0000 02 0200", Some(Malformed(14))),
+    (HEADER, "0206 01 0000 03 7000", Some(Malformed(14))),
+    (HEADER, "0206 01 0000 03 7c00", Some(Float(14))),
+    (HEADER, "0206 01 0000 03 7f02", Some(Malformed(15))),
+    // a function, a table, a memory and a global
+    (HEADER, "0306 01 8080808010", Some(Malformed(11))),
+    (HEADER, "0404 01 6f0000", Some(Malformed(11))),
+    (HEADER, "0404 01 700200", Some(Malformed(12))),
+    (HEADER, "0507 01 00 8080808010", Some(Malformed(12))),
+    (HEADER, "0606 01 7000 41000b", Some(Malformed(11))),
+    (HEADER, "0606 01 7d00 41000b", Some(Float(11))),
+    (HEADER, "0606 01 7f00 ff000b", Some(Malformed(13))),
+    (HEADER, "0609 01 7f00 43000000000b", Some(Float(13))),
+    // an export, the start function, element and data segments
+    (HEADER, "0709 01 0161 00 8080808010", Some(Malformed(14))),
+    (HEADER, "0805 8080808010", Some(Malformed(10))),
+    (HEADER, "0906 01 8080808010", Some(Malformed(11))),
+    (HEADER, "0904 01 00 ff0b", Some(Malformed(12))),
+    (
+        HEADER,
+        "090b 01 00 41000b 01 8080808010",
+        Some(Malformed(16)),
+    ),
+    (HEADER, "0b06 01 8080808010", Some(Malformed(11))),
+    (HEADER, "0b06 01 00 41000b 05", Some(Malformed(15))),
+];
+
+#[test]
+fn items_are_told_at_their_first_byte(rt: HostRuntime) -> Result<(), Refused> {
+    check(&rt, rt.alloc(), &ITEMS)
+}
+
+/// One row for each item of an instruction.
+const OPERANDS: [(&str, &str, Option<DecodeFault>); 21] = [
+    // locals: how many runs, and their type
+    (BEFORE_CODE, "0a08 01 06 8080808010 0b", Some(Malformed(48))),
+    (BEFORE_CODE, "0a06 01 04 01 0170 0b", Some(Malformed(50))),
+    // the type of a block, labels, and those of a table
+    (BEFORE_CODE, "0a07 01 05 00 02700b0b", Some(Malformed(50))),
+    (
+        BEFORE_CODE,
+        "0a0a 01 08 00 0c 8080808010 0b",
+        Some(Malformed(50)),
+    ),
+    (
+        BEFORE_CODE,
+        "0a0a 01 08 00 0d 8080808010 0b",
+        Some(Malformed(50)),
+    ),
+    (
+        BEFORE_CODE,
+        "0a0c 01 0a 00 0e01 8080808010 00 0b",
+        Some(Malformed(51)),
+    ),
+    (
+        BEFORE_CODE,
+        "0a0b 01 09 00 0e00 8080808010 0b",
+        Some(Malformed(51)),
+    ),
+    // calls, and the byte behind an indirect one
+    (
+        BEFORE_CODE,
+        "0a0a 01 08 00 10 8080808010 0b",
+        Some(Malformed(50)),
+    ),
+    (
+        BEFORE_CODE,
+        "0a0b 01 09 00 11 8080808010 00 0b",
+        Some(Malformed(50)),
+    ),
+    (BEFORE_CODE, "0a07 01 05 00 110001 0b", Some(Malformed(51))),
+    // locals and globals
+    (
+        BEFORE_CODE,
+        "0a0a 01 08 00 20 8080808010 0b",
+        Some(Malformed(50)),
+    ),
+    (
+        BEFORE_CODE,
+        "0a0a 01 08 00 21 8080808010 0b",
+        Some(Malformed(50)),
+    ),
+    (
+        BEFORE_CODE,
+        "0a0a 01 08 00 22 8080808010 0b",
+        Some(Malformed(50)),
+    ),
+    (
+        BEFORE_CODE,
+        "0a0a 01 08 00 23 8080808010 0b",
+        Some(Malformed(50)),
+    ),
+    (
+        BEFORE_CODE,
+        "0a0a 01 08 00 24 8080808010 0b",
+        Some(Malformed(50)),
+    ),
+    // memory: alignment, offset, and the byte behind its size
+    (
+        BEFORE_CODE,
+        "0a0b 01 09 00 28 8080808010 00 0b",
+        Some(Malformed(50)),
+    ),
+    (
+        BEFORE_CODE,
+        "0a0b 01 09 00 28 00 8080808010 0b",
+        Some(Malformed(51)),
+    ),
+    (
+        BEFORE_CODE,
+        "0a0b 01 09 00 36 8080808010 00 0b",
+        Some(Malformed(50)),
+    ),
+    (
+        BEFORE_CODE,
+        "0a0b 01 09 00 36 00 8080808010 0b",
+        Some(Malformed(51)),
+    ),
+    (BEFORE_CODE, "0a06 01 04 00 3f01 0b", Some(Malformed(50))),
+    (BEFORE_CODE, "0a06 01 04 00 4001 0b", Some(Malformed(50))),
+];
+
+#[test]
+fn operands_are_told_at_their_first_byte(rt: HostRuntime) -> Result<(), Refused> {
+    check(&rt, rt.alloc(), &OPERANDS)
+}
+
 /// The small module, of 50 bytes.
 const SMALL: &[u8; 50] = b"\0asm\x01\0\0\0\x01\x04\x01\x60\0\0\x03\x02\x01\0\x05\x03\x01\0\x01\
     \x07\x13\x02\x06_start\0\0\x06memory\x02\0\x0a\x04\x01\x02\0\x0b";

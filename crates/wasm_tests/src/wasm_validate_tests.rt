@@ -47,16 +47,46 @@ fn types_give_one_result_and_exist(rt: HostRuntime) -> Result<(), Refused> {
     check(&rt, rt.alloc(), HEADER, &TYPES)
 }
 
-/// Types are told before imports, and those before functions, each from the front.
-const ORDER: [Row; 5] = [
+/// Parts are told in the order of their sections, but for data segments, which come before bodies.
+const ORDER: [Row; 17] = [
+    // types, imports, functions
     (
         "0106 01 6000027f7f 0205 01 00000009 0302 01 09 0a04 01 02000b",
         LIMITS,
     ),
+    ("0208 01 00000200818004 0302 01 09 0a04 01 02000b", LIMITS),
+    // functions before tables, memories and globals
+    ("0302 01 09 0405 01 70010201 0a04 01 02000b", INDEX),
+    ("0302 01 09 0504 01 010201 0a04 01 02000b", INDEX),
+    ("0302 01 09 0606 01 7f00 42000b 0a04 01 02000b", INDEX),
+    // tables and memories before globals
+    ("0405 01 70010201 0606 01 7f00 42000b", LIMITS),
+    ("0504 01 010201 0606 01 7f00 42000b", LIMITS),
+    // globals before exports
+    ("0606 01 7f00 42000b 0705 01 01'a'0305", TYPING),
+    ("0606 01 7f00 23000b 0709 02 01'a'0300 01'a'0300", INDEX),
+    // within imports
     ("020c 02 00000009 00000200818004", INDEX),
     ("020c 02 00000200818004 00000009", LIMITS),
-    ("0208 01 00000200818004 0302 01 09 0a04 01 02000b", LIMITS),
-    ("0302 01 09 0405 01 70010201 0a04 01 02000b", INDEX),
+    // a second table or memory that is imported, among the imports; one of the module's own, later
+    (
+        "0104 01 600000 0211 02 01'a'01'b'01700000 01'a'01'b'01700000 0302 01 09 0a04 01 02000b",
+        LIMITS,
+    ),
+    (
+        "0104 01 600000 020f 02 01'a'01'b'020000 01'a'01'b'020000 0302 01 09 0a04 01 02000b",
+        LIMITS,
+    ),
+    ("0211 03 000001700000 000001700000 00000009", LIMITS),
+    ("0211 03 000001700000 00000009 000001700000", INDEX),
+    (
+        "0207 01 000001700001 0302 01 09 0404 01 700001 0a04 01 02000b",
+        INDEX,
+    ),
+    (
+        "0206 01 0000020001 0302 01 09 0503 01 0001 0a04 01 02000b",
+        INDEX,
+    ),
 ];
 
 #[test]
@@ -93,13 +123,15 @@ fn there_is_one_memory_of_limits_in_range(rt: HostRuntime) -> Result<(), Refused
 /// The header, and imports of two globals: a constant one, and one that varies.
 const TWO_GLOBALS: &str = "0061736d01000000 020b 02 0000037f00 0000037f01";
 
-const GLOBALS: [Row; 6] = [
+const GLOBALS: [Row; 8] = [
     ("0606 01 7f01 23000b", None),
     ("0606 01 7f01 23010b", TYPING),
     ("060b 02 7f01 41000b 7f01 23020b", INDEX),
     ("0606 01 7f01 42000b", TYPING),
     ("0604 01 7f01 0b", TYPING),
     ("0607 01 7f01 2309010b", TYPING),
+    ("060b 02 7f01 42000b 7f01 23020b", TYPING),
+    ("060b 02 7f01 23020b 7f01 42000b", INDEX),
 ];
 
 #[test]
@@ -164,6 +196,61 @@ const SEGMENTS: [Row; 7] = [
 #[test]
 fn segments_have_a_place_and_an_offset(rt: HostRuntime) -> Result<(), Refused> {
     check(&rt, rt.alloc(), FURNISHED, &SEGMENTS)
+}
+
+/// Of a module with all that these rows name.
+const LATER: [Row; 14] = [
+    // exports before the start function
+    (
+        "0709 02 01'a'0000 01'a'0000 0801 01 0a09 02 02000b 040020000b",
+        DUPLICATE,
+    ),
+    ("0705 01 01'a'0005 0801 01 0a09 02 02000b 040020000b", INDEX),
+    // the start function before element segments
+    (
+        "0801 01 0907 01 01 41000b 0100 0a09 02 02000b 040020000b",
+        TYPING,
+    ),
+    (
+        "0801 09 0907 01 00 42000b 0100 0a09 02 02000b 040020000b",
+        INDEX,
+    ),
+    // element segments before data segments
+    (
+        "0907 01 00 42000b 0100 0a09 02 02000b 040020000b 0b06 01 01 41000b 00",
+        TYPING,
+    ),
+    (
+        "0907 01 00 41000b 0109 0a09 02 02000b 040020000b 0b06 01 00 42000b 00",
+        INDEX,
+    ),
+    // data segments before bodies
+    ("0a09 02 02000b 040020090b 0b06 01 00 42000b 00", TYPING),
+    ("0a09 02 02000b 040042000b 0b06 01 01 41000b 00", INDEX),
+    // segments and bodies from the front
+    (
+        "090d 02 00 42000b 0100 00 41000b 0109 0a09 02 02000b 040020000b",
+        TYPING,
+    ),
+    (
+        "090d 02 00 41000b 0109 00 42000b 0100 0a09 02 02000b 040020000b",
+        INDEX,
+    ),
+    (
+        "0a09 02 02000b 040020000b 0b0b 02 00 42000b 00 01 41000b 00",
+        TYPING,
+    ),
+    (
+        "0a09 02 02000b 040020000b 0b0b 02 01 41000b 00 00 42000b 00",
+        INDEX,
+    ),
+    ("0a0b 02 040041000b 040020090b", TYPING),
+    ("0a0b 02 040020090b 040042000b", INDEX),
+];
+
+#[test]
+fn later_parts_are_told_in_their_order(rt: HostRuntime) -> Result<(), Refused> {
+    check(&rt, rt.alloc(), FURNISHED, &LATER)
 }
 
 /// Types from nothing to nothing, and from integers of 32 and 64 bits to one of 32, a function of the second and one of the

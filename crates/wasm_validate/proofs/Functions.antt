@@ -41,24 +41,33 @@ module _ (m : Module) (functions : List FunctionType) (f : Function) where
   judged t (Ok x) e b = of_body t e b
   judged t (Err x) e b = denies_still x (λ v. to_body t e v) b
 
-  pub not_named : slice_get m.types f.function_type ≡ None → AreFunctionIndicesDefined m functions f → ⊥
+  pub not_named : slice_get m.types f.function_type ≡ None
+      → AreFunctionIndicesDefined m functions f → ⊥
   not_named e n = let there = n.1 in absurd (cc)
 
-  pub too_many : (t : FunctionType) → slice_get m.types f.function_type ≡ Some t → AllByRecursion IsFunctionTypeValid m.types → 1 < length t.results → ⊥
+  pub too_many : (t : FunctionType) → slice_get m.types f.function_type ≡ Some t
+      → AllByRecursion IsFunctionTypeValid m.types → 1 < length t.results → ⊥
   too_many t e all h = let few = type_valid m.types f.function_type t all e in absurd (omega arith)
 
-  would_have : (t : FunctionType) → slice_get m.types f.function_type ≡ Some t → WouldHaveType m functions f → WouldHaveBody (module_context m functions) t f.code
+  would_have : (t : FunctionType) → slice_get m.types f.function_type ≡ Some t
+      → WouldHaveType m functions f → WouldHaveBody (module_context m functions) t f.code
   would_have t e w =
       let there = w.1 in
       let same : w.0 ≡ t = cc in
       subst (λ (z : FunctionType). WouldHaveBody (module_context m functions) z f.code) same w.2
 
-  named_by : (t : FunctionType) → slice_get m.types f.function_type ≡ Some t → AreFunctionIndicesDefined m functions f → HaveDefinedIndices (body_context (module_context m functions) t f.code.locals) 1 f.code.body
+  named_by : (t : FunctionType) → slice_get m.types f.function_type ≡ Some t
+      → AreFunctionIndicesDefined m functions f
+      → HaveDefinedIndices (body_context (module_context m functions) t f.code.locals) 1 f.code.body
   named_by t e n =
       let there = n.1 in
       let same : n.0 ≡ t = cc in
-      subst (λ (z : FunctionType). HaveDefinedIndices (body_context (module_context m functions) z f.code.locals) 1 f.code.body) same n.2
+      subst (λ (z : FunctionType). HaveDefinedIndices
+      (body_context (module_context m functions) z f.code.locals) 1 f.code.body) same n.2
 
-  pub body_told : (t : FunctionType) (r : Result Unit ValidFault) → slice_get m.types f.function_type ≡ Some t → IfErr r (IsFaultOfBody (module_context m functions) t f.code) → IfErr r (IsFaultOfFunction m functions f)
+  pub body_told : (t : FunctionType) (r : Result Unit ValidFault)
+      → slice_get m.types f.function_type ≡ Some t
+      → IfErr r (IsFaultOfBody (module_context m functions) t f.code)
+      → IfErr r (IsFaultOfFunction m functions f)
   body_told t (Ok x) e h = tt
   body_told t (Err x) e h = one_as x (would_have t e) (named_by t e) (λ k. k) h

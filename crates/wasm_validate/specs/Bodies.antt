@@ -17,7 +17,8 @@ JudgesIn code r P =
     → Judges r (P m functions)
 
 -- a fault says this of each such module
-abbrev pub FaultIn : {X : Type 0} → ModuleContext → Result X ValidFault → (Module → List FunctionType → ValidFault → Type 0) → Type 0
+abbrev pub FaultIn : {X : Type 0} → ModuleContext → Result X ValidFault
+    → (Module → List FunctionType → ValidFault → Type 0) → Type 0
 FaultIn code r P =
     (m : Module) (functions : List FunctionType) → IsContextOf (module_context m functions) code → AllByRecursion IsFunctionTypeValid m.types
     → IfErr r (P m functions)

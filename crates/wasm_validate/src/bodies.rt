@@ -17,8 +17,10 @@ fn check_function(
     context: &ModuleContext,
     function: &Function,
 ) -> Result<(), ValidFault>
-    ensures valid { JudgesIn context.now result (λ m functions. IsFunctionValid m functions function.now) }
-    ensures fault { FaultIn context.now result (λ m functions. IsFaultOfFunction m functions function.now) }
+    ensures valid { JudgesIn context.now result
+        (λ m functions. IsFunctionValid m functions function.now) }
+    ensures fault { FaultIn context.now result
+        (λ m functions. IsFaultOfFunction m functions function.now) }
 {
     let Some(function_type) = context.type_at(function.function_type) else {
         return Err(ValidFault::Index);
@@ -36,8 +38,10 @@ pub fn check_functions(
     context: &ModuleContext,
     own: &[Function],
 ) -> Result<(), ValidFault>
-    ensures valid { JudgesIn context.now result (λ m functions. AllByRecursion (IsFunctionValid m functions) own.now) }
-    ensures fault { FaultIn context.now result (λ m functions. IsFaultInFunctions m functions own.now) }
+    ensures valid { JudgesIn context.now result
+        (λ m functions. AllByRecursion (IsFunctionValid m functions) own.now) }
+    ensures fault { FaultIn context.now result
+        (λ m functions. IsFaultInFunctions m functions own.now) }
 {
     let mut checker = BodyChecker::new(alloc);
     for function in own {

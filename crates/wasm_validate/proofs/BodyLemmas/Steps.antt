@@ -74,7 +74,9 @@ top_applied_is Refused l levels = refl
 
 -- ---- opcodes
 
-pub after_plain : (c : Context) (i : Instruction) (l : Level) (levels : List Level) → IsPlain i → levels_after c i (l ∷ levels) ≡ (applied (arrow_of c (labels_of (l ∷ levels)) i) l >>= onto levels)
+pub after_plain : (c : Context) (i : Instruction) (l : Level) (levels : List Level) → IsPlain i
+    → levels_after c i (l ∷ levels)
+    ≡ (applied (arrow_of c (labels_of (l ∷ levels)) i) l >>= onto levels)
 after_plain c (instr.Block t) l levels h = absurd h
 after_plain c (instr.Loop t) l levels h = absurd h
 after_plain c (instr.If t) l levels h = absurd h

@@ -26,14 +26,25 @@ use Rattle.wasm_validate.proofs.PartLemmas.Loops.{next}
 -- ---- the loop over imports
 
 module _ (types : List FunctionType) (before : Before) (imports : List Import) (i : ℕ) (x : Import) (h : i < length imports) (is : x ≡ get_or imports i x) where
-  pub refused_here : (e : ValidFault) → (IsImportItemValid types before x.item → ⊥) → e ≡ import_fault x.item → IsFirstImportFault types before (drop i imports) e
-  refused_here e r f = let P : List Import → Type 0 = λ xs. IsFirstImportFault types before xs e in subst P (sym (next imports i x h is)) (inl (r, f))
+  pub refused_here : (e : ValidFault) → (IsImportItemValid types before x.item → ⊥)
+      → e ≡ import_fault x.item → IsFirstImportFault types before (drop i imports) e
+  refused_here e r f =
+      let P : List Import → Type 0 = λ xs. IsFirstImportFault types before xs e in subst P
+      (sym (next imports i x h is)) (inl (r, f))
 
-  pub refused_further : (e : ValidFault) → IsImportItemValid types before x.item → IsFirstImportFault types (with_import before x.item) (drop (i + 1) imports) e → IsFirstImportFault types before (drop i imports) e
-  refused_further e o r = let P : List Import → Type 0 = λ xs. IsFirstImportFault types before xs e in subst P (sym (next imports i x h is)) (inr (o, r))
+  pub refused_further : (e : ValidFault) → IsImportItemValid types before x.item
+      → IsFirstImportFault types (with_import before x.item) (drop (i + 1) imports) e
+      → IsFirstImportFault types before (drop i imports) e
+  refused_further e o r =
+      let P : List Import → Type 0 = λ xs. IsFirstImportFault types before xs e in subst P
+      (sym (next imports i x h is)) (inr (o, r))
 
-  pub valid_further : IsImportItemValid types before x.item → AreImportsValid types (with_import before x.item) (drop (i + 1) imports) → AreImportsValid types before (drop i imports)
-  valid_further o r = let P : List Import → Type 0 = AreImportsValid types before in subst P (sym (next imports i x h is)) (o, r)
+  pub valid_further : IsImportItemValid types before x.item
+      → AreImportsValid types (with_import before x.item) (drop (i + 1) imports)
+      → AreImportsValid types before (drop i imports)
+  valid_further o r =
+      let P : List Import → Type 0 = AreImportsValid types before in subst P
+      (sym (next imports i x h is)) (o, r)
 
 -- ---- what the first fault says of all
 
@@ -43,10 +54,13 @@ count true = 1
 count false = 0
 
 -- a function has no type, or a limit of what is imported doesn't hold
-abbrev Says : List FunctionType → ValidFault → Before → List ℕ → List TableType → List MemoryType → Type 0
+abbrev Says : List FunctionType → ValidFault → Before → List ℕ → List TableType → List MemoryType
+    → Type 0
 Says types e before indices tables memories =
     ((e ≡ Index) × ((functions : List FunctionType) → AreTypesAt types indices functions → ⊥))
-    ⊎ ((e ≡ Limits) × (AllByRecursion IsTableTypeValid tables → AllByRecursion IsMemoryTypeValid memories → count before.table + length tables ≤ 1 → count before.memory + length memories ≤ 1 → ⊥))
+    ⊎ ((e ≡ Limits) × (AllByRecursion IsTableTypeValid tables
+    → AllByRecursion IsMemoryTypeValid memories → count before.table + length tables ≤ 1
+    → count before.memory + length memories ≤ 1 → ⊥))
 
 first_one : (b : Bool) (n : ℕ) → count b + suc n ≤ 1 → b ≡ false
 first_one true n h = absurd (omega arith)
@@ -57,35 +71,69 @@ then_none true n h = absurd (omega arith)
 then_none false n h = omega arith
 
 module _ (types : List FunctionType) (own : List ℕ) (e : ValidFault) where
-  here : (item : ImportItem) (before : Before) (indices : List ℕ) (ts : List TableType) (ms : List MemoryType) → (IsImportItemValid types before item → ⊥) → e ≡ import_fault item
-      → Says types e before (with_function_index item indices ++ own) (with_table_type item ts) (with_memory_type item ms)
-  here (import.Function x) before indices ts ms r is = inl (is, λ functions are. by_types functions are)
+  here : (item : ImportItem) (before : Before) (indices : List ℕ) (ts : List TableType)
+      (ms : List MemoryType) → (IsImportItemValid types before item → ⊥) → e ≡ import_fault item
+      → Says types e before (with_function_index item indices ++ own) (with_table_type item ts)
+      (with_memory_type item ms)
+  here (import.Function x) before indices ts ms r is =
+      inl (is, λ functions are. by_types functions are)
     where
-      by_types : (functions : List FunctionType) → AreTypesAt types (x ∷ (indices ++ own)) functions → ⊥
+      by_types : (functions : List FunctionType)
+          → AreTypesAt types (x ∷ (indices ++ own)) functions → ⊥
       by_types [] are = are
       by_types (f ∷ fs) are = r (slice_get_within types x f are.0)
-  here (import.Table t) before indices ts ms r is = inr (is, λ tables memories one_table one_memory. r (tables.0, first_one before.table (length ts) one_table))
-  here (import.Memory t) before indices ts ms r is = inr (is, λ tables memories one_table one_memory. r (memories.0, first_one before.memory (length ms) one_memory))
+  here (import.Table t) before indices ts ms r is =
+      inr (
+        is,
+        λ tables memories one_table one_memory. r
+            (tables.0, first_one before.table (length ts) one_table),
+      )
+  here (import.Memory t) before indices ts ms r is =
+      inr (
+        is,
+        λ tables memories one_table one_memory. r
+            (memories.0, first_one before.memory (length ms) one_memory),
+      )
   here (import.Global t) before indices ts ms r is = absurd (r tt)
 
-  further : (item : ImportItem) (before : Before) (indices : List ℕ) (ts : List TableType) (ms : List MemoryType) → Says types e (with_import before item) (indices ++ own) ts ms
-      → Says types e before (with_function_index item indices ++ own) (with_table_type item ts) (with_memory_type item ms)
-  further (import.Function x) before indices ts ms (inl h) = inl (h.0, λ functions are. by_types functions are)
+  further : (item : ImportItem) (before : Before) (indices : List ℕ) (ts : List TableType)
+      (ms : List MemoryType) → Says types e (with_import before item) (indices ++ own) ts ms
+      → Says types e before (with_function_index item indices ++ own) (with_table_type item ts)
+      (with_memory_type item ms)
+  further (import.Function x) before indices ts ms (inl h) =
+      inl (h.0, λ functions are. by_types functions are)
     where
-      by_types : (functions : List FunctionType) → AreTypesAt types (x ∷ (indices ++ own)) functions → ⊥
+      by_types : (functions : List FunctionType)
+          → AreTypesAt types (x ∷ (indices ++ own)) functions → ⊥
       by_types [] are = are
       by_types (f ∷ fs) are = h.1 fs are.1
   further (import.Function x) before indices ts ms (inr h) = inr h
   further (import.Table t) before indices ts ms (inl h) = inl h
-  further (import.Table t) before indices ts ms (inr h) = inr (h.0, λ tables memories one_table one_memory. h.1 tables.1 memories (then_none before.table (length ts) one_table) one_memory)
+  further (import.Table t) before indices ts ms (inr h) =
+      inr (
+        h.0,
+        λ tables memories one_table one_memory. h.1 tables.1 memories
+            (then_none before.table (length ts) one_table) one_memory,
+      )
   further (import.Memory t) before indices ts ms (inl h) = inl h
-  further (import.Memory t) before indices ts ms (inr h) = inr (h.0, λ tables memories one_table one_memory. h.1 tables memories.1 one_table (then_none before.memory (length ms) one_memory))
+  further (import.Memory t) before indices ts ms (inr h) =
+      inr (
+        h.0,
+        λ tables memories one_table one_memory. h.1 tables memories.1 one_table
+            (then_none before.memory (length ms) one_memory),
+      )
   further (import.Global t) before indices ts ms h = h
 
-  says : (before : Before) (imports : List Import) → IsFirstImportFault types before imports e → Says types e before (imported_functions imports ++ own) (imported_tables imports) (imported_memories imports)
+  says : (before : Before) (imports : List Import) → IsFirstImportFault types before imports e
+      → Says types e before (imported_functions imports ++ own) (imported_tables imports)
+      (imported_memories imports)
   says before [] first = absurd first
-  says before (i ∷ imports) (inl h) = here i.item before (imported_functions imports) (imported_tables imports) (imported_memories imports) h.0 h.1
-  says before (i ∷ imports) (inr h) = further i.item before (imported_functions imports) (imported_tables imports) (imported_memories imports) (says (with_import before i.item) imports h.1)
+  says before (i ∷ imports) (inl h) =
+      here i.item before (imported_functions imports) (imported_tables imports)
+      (imported_memories imports) h.0 h.1
+  says before (i ∷ imports) (inr h) =
+      further i.item before (imported_functions imports) (imported_tables imports)
+      (imported_memories imports) (says (with_import before i.item) imports h.1)
 
 -- ---- modules
 
@@ -104,30 +152,48 @@ module _ (m : Module) where
   own = map function_type_of m.functions
 
   -- a limit of what is imported doesn't hold, so one of the module doesn't
-  imports_limited : AllByRecursion IsTableTypeValid (tables_of m) → AllByRecursion IsMemoryTypeValid (memories_of m) → length (tables_of m) ≤ 1 → length (memories_of m) ≤ 1
-      → (AllByRecursion IsTableTypeValid (imported_tables m.imports) → AllByRecursion IsMemoryTypeValid (imported_memories m.imports) → count false + length (imported_tables m.imports) ≤ 1 → count false + length (imported_memories m.imports) ≤ 1 → ⊥) → ⊥
+  imports_limited : AllByRecursion IsTableTypeValid (tables_of m)
+      → AllByRecursion IsMemoryTypeValid (memories_of m) → length (tables_of m) ≤ 1
+      → length (memories_of m) ≤ 1
+      → (AllByRecursion IsTableTypeValid (imported_tables m.imports)
+      → AllByRecursion IsMemoryTypeValid (imported_memories m.imports)
+      → count false + length (imported_tables m.imports) ≤ 1
+      → count false + length (imported_memories m.imports) ≤ 1 → ⊥) → ⊥
   imports_limited tables memories one_table one_memory h =
-      h (all_left IsTableTypeValid (imported_tables m.imports) m.tables tables) (all_left IsMemoryTypeValid (imported_memories m.imports) m.memories memories)
-      (some_first (imported_tables m.imports) m.tables one_table) (some_first (imported_memories m.imports) m.memories one_memory)
+      h (all_left IsTableTypeValid (imported_tables m.imports) m.tables tables)
+      (all_left IsMemoryTypeValid (imported_memories m.imports) m.memories memories)
+      (some_first (imported_tables m.imports) m.tables one_table)
+      (some_first (imported_memories m.imports) m.memories one_memory)
 
-  imports_invalid : (e : ValidFault) → IsFirstImportFault m.types nothing_before m.imports e → IsValid m → ⊥
+  imports_invalid : (e : ValidFault) → IsFirstImportFault m.types nothing_before m.imports e
+      → IsValid m → ⊥
   imports_invalid e first v = by_kind (says m.types own e nothing_before m.imports first)
     where
-      by_kind : Says m.types e nothing_before (imported_functions m.imports ++ own) (imported_tables m.imports) (imported_memories m.imports) → ⊥
+      by_kind : Says m.types e nothing_before (imported_functions m.imports ++ own)
+          (imported_tables m.imports) (imported_memories m.imports) → ⊥
       by_kind (inl h) = h.1 v.functions v.function_types
       by_kind (inr h) = imports_limited v.tables v.memories v.one_table v.one_memory h.1
 
-  pub imports_denied : (r : Result Unit ValidFault) → IfErr r (IsFirstImportFault m.types nothing_before m.imports) → IfErr r (λ e. Denies e (IsValid m))
+  pub imports_denied : (r : Result Unit ValidFault)
+      → IfErr r (IsFirstImportFault m.types nothing_before m.imports)
+      → IfErr r (λ e. Denies e (IsValid m))
   imports_denied (Ok done) first = tt
   imports_denied (Err e) first = denied e (λ v. imports_invalid e first v)
 
-  imports_fault : (e : ValidFault) → IsFirstImportFault m.types nothing_before m.imports e → HasFault m e
+  imports_fault : (e : ValidFault) → IsFirstImportFault m.types nothing_before m.imports e
+      → HasFault m e
   imports_fault e first = by_kind (says m.types own e nothing_before m.imports first)
     where
-      by_kind : Says m.types e nothing_before (imported_functions m.imports ++ own) (imported_tables m.imports) (imported_memories m.imports) → HasFault m e
-      by_kind (inl h) = let F : ValidFault → Type 0 = HasFault m in subst F (sym h.0) (λ functions are n. h.1 functions are)
-      by_kind (inr h) = let F : ValidFault → Type 0 = HasFault m in subst F (sym h.0) (λ k. imports_limited k.tables k.memories k.one_table k.one_memory h.1)
+      by_kind : Says m.types e nothing_before (imported_functions m.imports ++ own)
+          (imported_tables m.imports) (imported_memories m.imports) → HasFault m e
+      by_kind (inl h) =
+          let F : ValidFault → Type 0 = HasFault m in subst F (sym h.0)
+          (λ functions are n. h.1 functions are)
+      by_kind (inr h) =
+          let F : ValidFault → Type 0 = HasFault m in subst F (sym h.0)
+          (λ k. imports_limited k.tables k.memories k.one_table k.one_memory h.1)
 
-  pub imports_told : (r : Result Unit ValidFault) → IfErr r (IsFirstImportFault m.types nothing_before m.imports) → IfErr r (HasFault m)
+  pub imports_told : (r : Result Unit ValidFault)
+      → IfErr r (IsFirstImportFault m.types nothing_before m.imports) → IfErr r (HasFault m)
   imports_told (Ok done) h = tt
   imports_told (Err e) h = imports_fault e h

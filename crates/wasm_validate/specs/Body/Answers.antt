@@ -10,7 +10,8 @@ use Rattle.wasm_validate.specs.laws.Checking.{Known, Level, arrow_of, labels_of}
 use Rattle.wasm_validate.specs.laws.FirstFault.{fault_of}
 use Rattle.wasm_validate.specs.Body.Tops.{top_applied}
 
--- A fault comes only where there is nothing, and is of this kind. Want of memory says nothing of it.
+-- A fault comes only where there is nothing, and is of this kind. Want of memory says nothing of
+-- it.
 abbrev pub FailsToCheck : {X : Type 0} → ValidFault → ValidFault → Option X → Type 0
 FailsToCheck Memory kind o = Unit {0}
 FailsToCheck Typing Typing o = o ≡ None
@@ -19,13 +20,16 @@ FailsToCheck Limits Limits o = o ≡ None
 FailsToCheck e kind o = ⊥
 
 -- the levels are then these, or the fault is of this kind
-abbrev pub LevelsFollow : {X : Type 0} → ValidFault → Result X ValidFault → List Level → Option (List Level) → Type 0
+abbrev pub LevelsFollow : {X : Type 0} → ValidFault → Result X ValidFault → List Level
+    → Option (List Level) → Type 0
 LevelsFollow kind (Ok x) new o = o ≡ Some new
 LevelsFollow kind (Err e) new o = FailsToCheck e kind o
 
 -- the levels are then those behind an instruction that stays in its sequence
 abbrev pub Performs : {X : Type 0} → Context → Instruction → Result X ValidFault → List Level → List Level → Type 0
-Performs c i r old new = LevelsFollow (fault_of c (labels_of old) i) r new (top_applied (arrow_of c (labels_of old) i) old)
+Performs c i r old new =
+    LevelsFollow (fault_of c (labels_of old) i) r new
+    (top_applied (arrow_of c (labels_of old) i) old)
 
 -- the same of a step that tells what it took
 abbrev pub Pops : Result Known ValidFault → List Level → Option (Known × List Level) → Type 0

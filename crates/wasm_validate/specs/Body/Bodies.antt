@@ -10,9 +10,13 @@ use Rattle.wasm_validate.specs.declared.parts.fault.ValidFault.{ValidFault}
 use Rattle.wasm_validate.specs.rules.Answers.{DeniesOne}
 use Rattle.wasm_validate.specs.rules.Faults.{IsAligned, HaveDefinedIndices, WouldHaveBody}
 
--- what a fault says of a body: it would have no type, an index of it names nothing, or an access is misaligned
+-- what a fault says of a body: it would have no type, an index of it names nothing, or an access is
+-- misaligned
 abbrev pub IsFaultOfBody : Context → FunctionType → Code → ValidFault → Type 0
-IsFaultOfBody c kind code e = DeniesOne e (WouldHaveBody c kind code) (HaveDefinedIndices (body_context c kind code.locals) 1 code.body) (AllByRecursion IsAligned code.body)
+IsFaultOfBody c kind code e =
+    DeniesOne e (WouldHaveBody c kind code)
+    (HaveDefinedIndices (body_context c kind code.locals) 1 code.body)
+    (AllByRecursion IsAligned code.body)
 
 -- The body spells a sequence that gives, from nothing on, what the function gives; a branch out of it all gives that too (3.4.1).
 pub record HasBody (c : Context) (kind : FunctionType) (code : Code) : Type 0 where

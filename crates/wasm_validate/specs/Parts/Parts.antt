@@ -41,7 +41,8 @@ abbrev pub IsImportedMemoryValid : ImportItem → Type 0
 IsImportedMemoryValid (import.Memory t) = IsMemoryTypeValid t
 IsImportedMemoryValid _ = Unit {0}
 
--- what is asked of an import behind others: the type of a function exists, limits are in order, and a table or a memory is the first
+-- what is asked of an import behind others: the type of a function exists, limits are in order, and
+-- a table or a memory is the first
 abbrev pub IsImportItemValid : List FunctionType → Before → ImportItem → Type 0
 IsImportItemValid types before (import.Function x) = IsIndex types x
 IsImportItemValid types before (import.Table t) = IsTableTypeValid t × (before.table ≡ false)
@@ -61,7 +62,9 @@ nothing_before = record { table = false; memory = false }
 -- each of these imports is valid behind those before
 abbrev pub AreImportsValid : List FunctionType → Before → List Import → Type 0
 AreImportsValid types before [] = Unit {0}
-AreImportsValid types before (i ∷ imports) = IsImportItemValid types before i.item × AreImportsValid types (with_import before i.item) imports
+AreImportsValid types before (i ∷ imports) =
+    IsImportItemValid types before i.item
+    × AreImportsValid types (with_import before i.item) imports
 
 -- what is told of an import that isn't valid
 abbrev pub import_fault : ImportItem → ValidFault
@@ -74,17 +77,21 @@ import_fault (import.Global t) = Limits
 abbrev pub IsFirstImportFault : List FunctionType → Before → List Import → ValidFault → Type 0
 IsFirstImportFault types before [] fault = ⊥
 IsFirstImportFault types before (i ∷ imports) fault =
-    ((IsImportItemValid types before i.item → ⊥) × (fault ≡ import_fault i.item)) ⊎ (IsImportItemValid types before i.item × IsFirstImportFault types (with_import before i.item) imports fault)
+    ((IsImportItemValid types before i.item → ⊥) × (fault ≡ import_fault i.item))
+    ⊎ (IsImportItemValid types before i.item
+    × IsFirstImportFault types (with_import before i.item) imports fault)
 
 -- types, and then imports
 abbrev pub AreTypesValid : Module → Type 0
-AreTypesValid m = AllByRecursion IsFunctionTypeValid m.types × AreImportsValid m.types nothing_before m.imports
+AreTypesValid m =
+    AllByRecursion IsFunctionTypeValid m.types × AreImportsValid m.types nothing_before m.imports
 
 -- the first fault of them
 abbrev pub IsFirstTypeFault : Module → ValidFault → Type 0
 IsFirstTypeFault m fault =
     ((AllByRecursion IsFunctionTypeValid m.types → ⊥) × (fault ≡ Limits))
-    ⊎ (AllByRecursion IsFunctionTypeValid m.types × IsFirstImportFault m.types nothing_before m.imports fault)
+    ⊎ (AllByRecursion IsFunctionTypeValid m.types
+    × IsFirstImportFault m.types nothing_before m.imports fault)
 
 abbrev pub IsConstantGlobal : List GlobalType → ℕ → ValueType → Type 0
 IsConstantGlobal globals x t = (g : GlobalType) × (slice_get globals x ≡ Some g) × (g.mutability ≡ Constant) × (g.value_type ≡ t)
@@ -92,28 +99,42 @@ IsConstantGlobal globals x t = (g : GlobalType) × (slice_get globals x ≡ Some
 -- what a fault says of initial values in which these globals may stand
 abbrev pub IsFaultInGlobals : List GlobalType → List Global → ValidFault → Type 0
 IsFaultInGlobals imported globals e =
-    DeniesOne e (AllByRecursion (λ (g : Global). WouldBeConstant imported g.initial g.global_type.value_type) globals) (AllByRecursion (λ (g : Global). NamesGlobal imported g.initial) globals) (Unit {0})
+    DeniesOne e (AllByRecursion
+    (λ (g : Global). WouldBeConstant imported g.initial g.global_type.value_type) globals)
+    (AllByRecursion (λ (g : Global). NamesGlobal imported g.initial) globals) (Unit {0})
 
 -- what a fault says of an element segment, and of some
 abbrev pub IsFaultOfElement : Module → List FunctionType → Element → ValidFault → Type 0
-IsFaultOfElement m functions s e = DeniesOne e (WouldBeConstant (globals_of m) s.offset I32) (AreElementIndicesDefined m functions s) (Unit {0})
+IsFaultOfElement m functions s e =
+    DeniesOne e (WouldBeConstant (globals_of m) s.offset I32)
+    (AreElementIndicesDefined m functions s) (Unit {0})
 
 abbrev pub IsFaultInElements : Module → List FunctionType → List Element → ValidFault → Type 0
-IsFaultInElements m functions ss e = DeniesOne e (AllByRecursion (λ (s : Element). WouldBeConstant (globals_of m) s.offset I32) ss) (AllByRecursion (AreElementIndicesDefined m functions) ss) (Unit {0})
+IsFaultInElements m functions ss e =
+    DeniesOne e (AllByRecursion (λ (s : Element). WouldBeConstant (globals_of m) s.offset I32) ss)
+    (AllByRecursion (AreElementIndicesDefined m functions) ss) (Unit {0})
 
 -- what a fault says of a data segment, and of some
 abbrev pub IsFaultOfData : Module → Data → ValidFault → Type 0
-IsFaultOfData m s e = DeniesOne e (WouldBeConstant (globals_of m) s.offset I32) (AreDataIndicesDefined m s) (Unit {0})
+IsFaultOfData m s e =
+    DeniesOne e (WouldBeConstant (globals_of m) s.offset I32) (AreDataIndicesDefined m s) (Unit {0})
 
 abbrev pub IsFaultInData : Module → List Data → ValidFault → Type 0
-IsFaultInData m ss e = DeniesOne e (AllByRecursion (λ (s : Data). WouldBeConstant (globals_of m) s.offset I32) ss) (AllByRecursion (AreDataIndicesDefined m) ss) (Unit {0})
+IsFaultInData m ss e =
+    DeniesOne e (AllByRecursion (λ (s : Data). WouldBeConstant (globals_of m) s.offset I32) ss)
+    (AllByRecursion (AreDataIndicesDefined m) ss) (Unit {0})
 
 -- what a fault says of a function, and of some
 abbrev pub IsFaultOfFunction : Module → List FunctionType → Function → ValidFault → Type 0
-IsFaultOfFunction m functions f e = DeniesOne e (WouldHaveType m functions f) (AreFunctionIndicesDefined m functions f) (IsFunctionAligned f)
+IsFaultOfFunction m functions f e =
+    DeniesOne e (WouldHaveType m functions f) (AreFunctionIndicesDefined m functions f)
+    (IsFunctionAligned f)
 
 abbrev pub IsFaultInFunctions : Module → List FunctionType → List Function → ValidFault → Type 0
-IsFaultInFunctions m functions fs e = DeniesOne e (AllByRecursion (WouldHaveType m functions) fs) (AllByRecursion (AreFunctionIndicesDefined m functions) fs) (AllByRecursion IsFunctionAligned fs)
+IsFaultInFunctions m functions fs e =
+    DeniesOne e (AllByRecursion (WouldHaveType m functions) fs)
+    (AllByRecursion (AreFunctionIndicesDefined m functions) fs)
+    (AllByRecursion IsFunctionAligned fs)
 
 -- ---- modules
 

@@ -1,5 +1,5 @@
--- Of which kind the first fault is, where checking a body from the front finds one. Nothing here has to be believed: what it
--- says of the body is proved.
+-- Of which kind the first fault is, where checking a body from the front finds one. Nothing here
+-- has to be believed: what it says of the body is proved.
 use Rattle.std.specs.Prelude.{ℕ, ◌^◌, nat_le, Bool, true, false, List, [], ◌∷◌, Option, Some, None, slice_get}
 use Rattle.wasm_syntax.specs.declared.types.ValueType.{ValueType}
 use Rattle.wasm_syntax.specs.declared.instruction.Instruction.{Instruction}
@@ -23,22 +23,30 @@ fault_unless false kind other = kind
 -- the first of these labels that isn't there, or that takes other types than the default one
 abbrev pub labels_fault : List (List ValueType) → List ValueType → List ℕ → ValidFault
 labels_fault labels ts [] = Typing
-labels_fault labels ts (l ∷ ls) = fault_at (slice_get labels l) (λ us. fault_unless (are_same_types us ts) Typing (labels_fault labels ts ls))
+labels_fault labels ts (l ∷ ls) =
+    fault_at (slice_get labels l)
+    (λ us. fault_unless (are_same_types us ts) Typing (labels_fault labels ts ls))
 
 -- what is told of an instruction that stays in its sequence and can't be performed
 abbrev pub fault_of : Context → List (List ValueType) → Instruction → ValidFault
 fault_of c labels (instr.Br l) = fault_at (slice_get labels l) (λ ts. Typing)
 fault_of c labels (instr.BrIf l) = fault_at (slice_get labels l) (λ ts. Typing)
-fault_of c labels (instr.BrTable ls l) = fault_at (slice_get labels l) (λ ts. labels_fault labels ts ls)
+fault_of c labels (instr.BrTable ls l) =
+    fault_at (slice_get labels l) (λ ts. labels_fault labels ts ls)
 fault_of c labels (instr.Call x) = fault_at (slice_get c.functions x) (λ f. Typing)
-fault_of c labels (instr.CallIndirect x) = fault_at (slice_get c.types x) (λ f. fault_unless (has_table c) Index Typing)
+fault_of c labels (instr.CallIndirect x) =
+    fault_at (slice_get c.types x) (λ f. fault_unless (has_table c) Index Typing)
 fault_of c labels (instr.LocalGet x) = fault_at (slice_get c.locals x) (λ t. Typing)
 fault_of c labels (instr.LocalSet x) = fault_at (slice_get c.locals x) (λ t. Typing)
 fault_of c labels (instr.LocalTee x) = fault_at (slice_get c.locals x) (λ t. Typing)
 fault_of c labels (instr.GlobalGet x) = fault_at (slice_get c.globals x) (λ g. Typing)
 fault_of c labels (instr.GlobalSet x) = fault_at (slice_get c.globals x) (λ g. Typing)
-fault_of c labels (instr.Load o a) = fault_unless (has_memory c) Index (fault_unless (nat_le (2 ^ a.align) (bytes_in (loaded_width o))) Limits Typing)
-fault_of c labels (instr.Store o a) = fault_unless (has_memory c) Index (fault_unless (nat_le (2 ^ a.align) (bytes_in (stored_width o))) Limits Typing)
+fault_of c labels (instr.Load o a) =
+    fault_unless (has_memory c) Index
+    (fault_unless (nat_le (2 ^ a.align) (bytes_in (loaded_width o))) Limits Typing)
+fault_of c labels (instr.Store o a) =
+    fault_unless (has_memory c) Index
+    (fault_unless (nat_le (2 ^ a.align) (bytes_in (stored_width o))) Limits Typing)
 fault_of c labels instr.MemorySize = fault_unless (has_memory c) Index Typing
 fault_of c labels instr.MemoryGrow = fault_unless (has_memory c) Index Typing
 fault_of c labels i = Typing
@@ -61,4 +69,6 @@ fault_from kind (Some levels) go = go levels
 -- what is told of the first of these opcodes that can't follow
 abbrev pub fault_in : Context → List Instruction → List Level → ValidFault
 fault_in c [] levels = Typing
-fault_in c (i ∷ opcodes) levels = fault_from (opcode_fault c i levels) (levels_after c i levels) (λ levels'. fault_in c opcodes levels')
+fault_in c (i ∷ opcodes) levels =
+    fault_from (opcode_fault c i levels) (levels_after c i levels)
+    (λ levels'. fault_in c opcodes levels')

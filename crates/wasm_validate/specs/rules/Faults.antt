@@ -79,7 +79,8 @@ AreDataIndicesDefined m d = IsIndex (memories_of m) d.memory × NamesGlobal (glo
 
 -- the indices of the module are defined. In initial values only imported globals are
 pub record AreIndicesDefined (m : Module) (functions : List FunctionType) : Type 0 where
-  pub globals : AllByRecursion (λ (g : Global). NamesGlobal (imported_globals m.imports) g.initial) m.globals
+  pub globals :
+      AllByRecursion (λ (g : Global). NamesGlobal (imported_globals m.imports) g.initial) m.globals
   pub exports : AllByRecursion (λ (e : Export). IsExportItemValid m functions e.item) m.exports
   pub start : IfSome m.start (IsIndex functions)
   pub elements : AllByRecursion (AreElementIndicesDefined m functions) m.elements
@@ -154,17 +155,22 @@ WouldBeStart functions start = (more : List FunctionType) × IsStartValid (funct
 
 -- initial values, the start function, offsets and bodies would have their types
 pub record WouldBeTyped (m : Module) (functions : List FunctionType) : Type 0 where
-  pub globals : AllByRecursion (λ (g : Global). WouldBeConstant (imported_globals m.imports) g.initial g.global_type.value_type) m.globals
+  pub globals :
+      AllByRecursion
+      (λ (g : Global). WouldBeConstant (imported_globals m.imports) g.initial g.global_type.value_type)
+      m.globals
   pub start : WouldBeStart functions m.start
   pub elements : AllByRecursion (λ (e : Element). WouldBeConstant (globals_of m) e.offset I32) m.elements
-  pub data_segments : AllByRecursion (λ (d : Data). WouldBeConstant (globals_of m) d.offset I32) m.data_segments
+  pub data_segments :
+      AllByRecursion (λ (d : Data). WouldBeConstant (globals_of m) d.offset I32) m.data_segments
   pub bodies : AllByRecursion (WouldHaveType m functions) m.functions
 
 -- ---- faults
 
--- The module has a fault of this kind. `Typing`: each function has a type, and something has a wrong
--- one, which nothing more that were defined would mend. `Index`: an index is not defined. `Limits`: a
--- limit doesn't hold. `DuplicateExport`: two exports have one name. `Memory` says nothing of the module.
+-- The module has a fault of this kind. `Typing`: each function has a type, and something has a
+-- wrong one, which nothing more that were defined would mend. `Index`: an index is not defined.
+-- `Limits`: a limit doesn't hold. `DuplicateExport`: two exports have one name. `Memory` says
+-- nothing of the module.
 abbrev pub HasFault : Module → ValidFault → Type 0
 HasFault m Typing =
     (functions : List FunctionType) × AreFunctionTypes m functions × (WouldBeTyped m functions → ⊥)

@@ -20,7 +20,9 @@ use wasm_syntax::{Code, FunctionType, Instruction, ValueType};
 impl Levels {
     /// One opcode after another.
     fn steps(&mut self, scope: &Scope, body: &[Instruction]) -> Result<(), ValidFault>
-        ensures { (c : Typing) → IsScopeOf c scope.now → LevelsFollow (fault_in c body.now self.old) result self.new (checked c body.now self.old) }
+        ensures { (c : Typing) → IsScopeOf c scope.now
+            → LevelsFollow (fault_in c body.now self.old) result self.new
+            (checked c body.now self.old) }
     {
         for instruction in body {
             self.step(scope, instruction)?;
@@ -62,8 +64,10 @@ impl BodyChecker {
         code: &Code,
     ) -> Result<(), ValidFault>
         requires { length function_type.now.results ≤ 1 }
-        ensures typed { (c : Typing) → IsContextOf c context.now → Judges result (HasBody c function_type.now code.now) }
-        ensures fault { (c : Typing) → IsContextOf c context.now → IfErr result (IsFaultOfBody c function_type.now code.now) }
+        ensures typed { (c : Typing) → IsContextOf c context.now
+            → Judges result (HasBody c function_type.now code.now) }
+        ensures fault { (c : Typing) → IsContextOf c context.now
+            → IfErr result (IsFaultOfBody c function_type.now code.now) }
     {
         let result_type = result_of(function_type);
         self.levels.clear();

@@ -52,7 +52,8 @@ impl Levels {
     /// Whether each of these labels takes what the default one of a table takes: `Index` where there is
     /// no such label, and `Typing` where it takes something else.
     fn expect_labels(&self, labels: &[u32], takes: Option<ValueType>) -> Result<(), ValidFault>
-        ensures { Tests result (are_labels (labels_of self.now) (results_of takes) labels.now) (labels_fault (labels_of self.now) (results_of takes) labels.now) }
+        ensures { Tests result (are_labels (labels_of self.now) (results_of takes) labels.now)
+            (labels_fault (labels_of self.now) (results_of takes) labels.now) }
     {
         for label in labels {
             if !is_same(self.label(*label)?, takes) {
@@ -212,7 +213,8 @@ impl Levels {
 
     /// The `else` between the parts of an `if`.
     pub fn part(&mut self) -> Result<(), ValidFault>
-        ensures { (c : Typing) → LevelsFollow ValidFault.Typing result self.new (levels_after c instr.Else self.old) }
+        ensures { (c : Typing) → LevelsFollow ValidFault.Typing result self.new
+            (levels_after c instr.Else self.old) }
     {
         let Some(control) = self.innermost_control() else {
             return Err(ValidFault::Typing);
@@ -227,7 +229,8 @@ impl Levels {
 
     /// The end of a sequence. An `if` without `else` can give nothing.
     pub fn end(&mut self) -> Result<(), ValidFault>
-        ensures { (c : Typing) → LevelsFollow ValidFault.Typing result self.new (levels_after c instr.End self.old) }
+        ensures { (c : Typing) → LevelsFollow ValidFault.Typing result self.new
+            (levels_after c instr.End self.old) }
     {
         let Some(control) = self.innermost_control() else {
             return Err(ValidFault::Typing);

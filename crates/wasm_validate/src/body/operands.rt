@@ -24,7 +24,8 @@ impl Levels {
 
     /// Takes operands of these types, of which the last one is on top.
     pub fn expect_all(&mut self, types: &[ValueType]) -> Result<(), ValidFault>
-        ensures { LevelsFollow ValidFault.Typing result self.new (top_all_taken (reverse types.now) self.old) }
+        ensures { LevelsFollow ValidFault.Typing result self.new
+            (top_all_taken (reverse types.now) self.old) }
     {
         for value_type in types.iter().rev() {
             self.expect(*value_type)?;
@@ -34,7 +35,8 @@ impl Levels {
 
     /// Takes what a block gives.
     pub fn expect_results(&mut self, results: Option<ValueType>) -> Result<(), ValidFault>
-        ensures { LevelsFollow ValidFault.Typing result self.new (top_all_taken (results_of results) self.old) }
+        ensures { LevelsFollow ValidFault.Typing result self.new
+            (top_all_taken (results_of results) self.old) }
     {
         match results {
             Some(value_type) => self.expect(value_type),
@@ -66,7 +68,8 @@ impl Levels {
 
     /// An instruction that takes and gives operands of fixed types.
     pub fn apply(&mut self, takes: &[ValueType], gives: &[ValueType]) -> Result<(), ValidFault>
-        ensures { LevelsFollow ValidFault.Typing result self.new (top_applied (Fixed (reverse takes.now) (reverse gives.now)) self.old) }
+        ensures { LevelsFollow ValidFault.Typing result self.new
+            (top_applied (Fixed (reverse takes.now) (reverse gives.now)) self.old) }
     {
         self.expect_all(takes)?;
         self.push_all(gives)

@@ -70,7 +70,9 @@ impl Levels {
 
     /// Any opcode.
     pub fn step(&mut self, scope: &Scope, instruction: &Instruction) -> Result<(), ValidFault>
-        ensures { (c : Typing) → IsScopeOf c scope.now → LevelsFollow (opcode_fault c instruction.now self.old) result self.new (levels_after c instruction.now self.old) }
+        ensures { (c : Typing) → IsScopeOf c scope.now
+            → LevelsFollow (opcode_fault c instruction.now self.old) result self.new
+            (levels_after c instruction.now self.old) }
     {
         if self.is_empty() {
             return Err(ValidFault::Typing);

@@ -16,7 +16,8 @@ use wasm_syntax::{Global, GlobalType, Module};
 
 /// Each global begins with a constant of its type, in which these may stand, and no others.
 fn check_initial_values(imported: &[GlobalType], globals: &[Global]) -> Result<(), ValidFault>
-    ensures valid { Decides result (AllByRecursion (λ g. IsConstant imported.now g.initial g.global_type.value_type) globals.now) }
+    ensures valid { Decides result (AllByRecursion
+        (λ g. IsConstant imported.now g.initial g.global_type.value_type) globals.now) }
     ensures fault { IfErr result (IsFaultInGlobals imported.now globals.now) }
 {
     for global in globals {
@@ -31,8 +32,10 @@ fn check_initial_values(imported: &[GlobalType], globals: &[Global]) -> Result<(
 pub fn check_globals(module: &Module, context: &ModuleContext) -> Result<(), ValidFault>
     requires types { HasFunctionTypes «module».now }
     requires context { IsContextOfModule «module».now context.now }
-    ensures valid { Decides result (AllByRecursion (IsGlobalValid «module».now) «module».now.globals) }
-    ensures fault { IfErr result (IsFaultInGlobals (imported_globals «module».now.imports) «module».now.globals) }
+    ensures valid { Decides result
+        (AllByRecursion (IsGlobalValid «module».now) «module».now.globals) }
+    ensures fault { IfErr result
+        (IsFaultInGlobals (imported_globals «module».now.imports) «module».now.globals) }
 {
     let count = imported_global_count(module.imports.as_slice());
     let imported = &context.globals()[..count];

@@ -14,8 +14,8 @@ struct Before {
     memory: bool,
 }
 
-/// Whether a function's type exists, and whether a table's and a memory's limits are in order, and there was
-/// none before.
+/// Whether a function's type exists, and whether a table's and a memory's limits are in order, and
+/// there was none before.
 fn is_import_valid(types: &[FunctionType], before: Before, import: &Import) -> bool
     ensures { IsTrue result ↔ IsImportItemValid types.now before import.now.item }
 {
@@ -54,9 +54,9 @@ fn fault_of(import: &Import) -> ValidFault
     }
 }
 
-/// Each import is valid, and there is one table and one memory at most. Otherwise the fault of the first that
-/// isn't: `Index` for a function whose type doesn't exist, `Limits` for a table's or a memory's limits, and for
-/// a second one.
+/// Each import is valid, and there is one table and one memory at most. Otherwise the fault of the
+/// first that isn't: `Index` for a function whose type doesn't exist, `Limits` for a table's or a
+/// memory's limits, and for a second one.
 pub fn check_imports(types: &[FunctionType], imports: &[Import]) -> Result<(), ValidFault>
     ensures valid { OnOk result (AreImportsValid types.now nothing_before imports.now) }
     ensures refused { IfErr result (IsFirstImportFault types.now nothing_before imports.now) }

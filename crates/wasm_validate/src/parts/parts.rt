@@ -45,7 +45,8 @@ pub fn check_before_data(
     requires sound { AllByRecursion IsFunctionTypeValid «module».now.types }
     requires types { HasFunctionTypes «module».now }
     requires context { IsContextOfModule «module».now context.now }
-    ensures valid { (functions : List Kind) → AreFunctionTypes «module».now functions → Judges result (IsValidBeforeData «module».now functions) }
+    ensures valid { (functions : List Kind) → AreFunctionTypes «module».now functions
+        → Judges result (IsValidBeforeData «module».now functions) }
     ensures fault { IfErr result (HasFault «module».now) }
 {
     check_tables(module)?;

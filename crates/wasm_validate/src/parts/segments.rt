@@ -18,8 +18,12 @@ use wasm_syntax::{Data, Element, ValueType};
 /// `Index` where there is no such table, then `check_constant`'s faults of the offset, then `Index` where
 /// there is no such function.
 fn check_element(context: &ModuleContext, element: &Element) -> Result<(), ValidFault>
-    ensures valid { (m : TheModule) (functions : List Kind) → IsModuleContext m functions context.now → Decides result (IsElementValid m functions element.now) }
-    ensures fault { (m : TheModule) (functions : List Kind) → IsModuleContext m functions context.now → IfErr result (IsFaultOfElement m functions element.now) }
+    ensures valid { (m : TheModule) (functions : List Kind)
+        → IsModuleContext m functions context.now
+        → Decides result (IsElementValid m functions element.now) }
+    ensures fault { (m : TheModule) (functions : List Kind)
+        → IsModuleContext m functions context.now
+        → IfErr result (IsFaultOfElement m functions element.now) }
 {
     if !is_table(context, element.table) {
         return Err(ValidFault::Index);
@@ -34,8 +38,10 @@ fn check_element(context: &ModuleContext, element: &Element) -> Result<(), Valid
 
 /// `Index` where there is no such memory, then `check_constant`'s faults of the offset.
 fn check_data_segment(context: &ModuleContext, segment: &Data) -> Result<(), ValidFault>
-    ensures valid { (m : TheModule) (functions : List Kind) → IsModuleContext m functions context.now → Decides result (IsDataValid m segment.now) }
-    ensures fault { (m : TheModule) (functions : List Kind) → IsModuleContext m functions context.now → IfErr result (IsFaultOfData m segment.now) }
+    ensures valid { (m : TheModule) (functions : List Kind)
+        → IsModuleContext m functions context.now → Decides result (IsDataValid m segment.now) }
+    ensures fault { (m : TheModule) (functions : List Kind)
+        → IsModuleContext m functions context.now → IfErr result (IsFaultOfData m segment.now) }
 {
     if !is_memory(context, segment.memory) {
         return Err(ValidFault::Index);
@@ -46,8 +52,12 @@ fn check_data_segment(context: &ModuleContext, segment: &Data) -> Result<(), Val
 
 /// Each element segment goes to a table, from a constant offset on, and names functions that exist.
 pub fn check_elements(context: &ModuleContext, elements: &[Element]) -> Result<(), ValidFault>
-    ensures valid { (m : TheModule) (functions : List Kind) → IsModuleContext m functions context.now → Decides result (AllByRecursion (IsElementValid m functions) elements.now) }
-    ensures fault { (m : TheModule) (functions : List Kind) → IsModuleContext m functions context.now → IfErr result (IsFaultInElements m functions elements.now) }
+    ensures valid { (m : TheModule) (functions : List Kind)
+        → IsModuleContext m functions context.now
+        → Decides result (AllByRecursion (IsElementValid m functions) elements.now) }
+    ensures fault { (m : TheModule) (functions : List Kind)
+        → IsModuleContext m functions context.now
+        → IfErr result (IsFaultInElements m functions elements.now) }
 {
     for element in elements {
         check_element(context, element)?;
@@ -57,8 +67,11 @@ pub fn check_elements(context: &ModuleContext, elements: &[Element]) -> Result<(
 
 /// Each data segment goes to a memory, from a constant offset on.
 pub fn check_data_segments(context: &ModuleContext, segments: &[Data]) -> Result<(), ValidFault>
-    ensures valid { (m : TheModule) (functions : List Kind) → IsModuleContext m functions context.now → Decides result (AllByRecursion (IsDataValid m) segments.now) }
-    ensures fault { (m : TheModule) (functions : List Kind) → IsModuleContext m functions context.now → IfErr result (IsFaultInData m segments.now) }
+    ensures valid { (m : TheModule) (functions : List Kind)
+        → IsModuleContext m functions context.now
+        → Decides result (AllByRecursion (IsDataValid m) segments.now) }
+    ensures fault { (m : TheModule) (functions : List Kind)
+        → IsModuleContext m functions context.now → IfErr result (IsFaultInData m segments.now) }
 {
     for segment in segments {
         check_data_segment(context, segment)?;

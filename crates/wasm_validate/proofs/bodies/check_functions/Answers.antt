@@ -15,7 +15,8 @@ returns-in_err-check_function-clause-valid c = λ m functions context types.
 
 pub loop-function-preserved : goal.loop-function-preserved
 loop-function-preserved c = λ m functions context types.
-    passes (IsFunctionValid m functions) c.args.own.now c.loop-function.function-index c.function-item.result c.loop-function-test.true c.function-item.is (c.in_ok-check_function.ensures.valid m functions context types) (c.loop-function.invariant m functions context types)
+    passes
+    (IsFunctionValid m functions) c.args.own.now c.loop-function.function-index c.function-item.result c.loop-function-test.true c.function-item.is (c.in_ok-check_function.ensures.valid m functions context types) (c.loop-function.invariant m functions context types)
 
 pub returns-clause-valid : goal.returns-clause-valid
 returns-clause-valid c = λ m functions context types.
@@ -25,7 +26,9 @@ pub returns-in_err-check_function-clause-fault : goal.returns-in_err-check_funct
 returns-in_err-check_function-clause-fault c = λ m functions context types.
     let p = err_from_is_err_and c.from_residual.result c.from_residual.ensures.1 in
     rw (p.1, p.2) (one_as c.in_err-check_function.field-0.0
-    (of_all (WouldHaveType m functions) c.args.own.now c.loop-function.function-index c.function-item.result c.loop-function-test.true c.function-item.is)
-    (of_all (AreFunctionIndicesDefined m functions) c.args.own.now c.loop-function.function-index c.function-item.result c.loop-function-test.true c.function-item.is)
+    (of_all
+    (WouldHaveType m functions) c.args.own.now c.loop-function.function-index c.function-item.result c.loop-function-test.true c.function-item.is)
+    (of_all
+    (AreFunctionIndicesDefined m functions) c.args.own.now c.loop-function.function-index c.function-item.result c.loop-function-test.true c.function-item.is)
     (of_all IsFunctionAligned c.args.own.now c.loop-function.function-index c.function-item.result c.loop-function-test.true c.function-item.is)
     (c.in_err-check_function.ensures.fault m functions context types))

@@ -24,13 +24,18 @@ returns-clause-valid c =
     let count = c.imported_global_count-count.ensures ∙ ap (λ i. length (imported_globals i)) c.as_slice.ensures in
     let P : List Global → List GlobalType → Type 0 = λ gs ts. Decides c.check_initial_values.result (AllByRecursion (λ (g : Global). IsConstant ts g.initial g.global_type.value_type) gs) in
     let Q : List Global → Type 0 = λ gs. P gs (take c.imported_global_count-count.result c.globals.result.now) in
-    subst (P m.globals) (take-front (imported_globals m.imports) (map global_type_of m.globals) c.globals.result.now _ all count) (subst Q c.as_slice-2.ensures c.check_initial_values.ensures.valid)
+    subst (P m.globals) (take-front (imported_globals m.imports)
+    (map global_type_of m.globals) c.globals.result.now _ all count)
+    (subst Q c.as_slice-2.ensures c.check_initial_values.ensures.valid)
 
 pub returns-clause-fault : goal.returns-clause-fault
 returns-clause-fault c =
     let m = c.args.module.now in
     let all = c.globals.ensures (module_context m c.requires.types.0) (c.requires.context c.requires.types.0 c.requires.types.1) in
     let count = c.imported_global_count-count.ensures ∙ ap (λ i. length (imported_globals i)) c.as_slice.ensures in
-    let P : List Global → List GlobalType → Type 0 = λ gs ts. IfErr c.check_initial_values.result (IsFaultInGlobals ts gs) in
+    let P : List Global → List GlobalType
+    → Type 0 = λ gs ts. IfErr c.check_initial_values.result (IsFaultInGlobals ts gs) in
     let Q : List Global → Type 0 = λ gs. P gs (take c.imported_global_count-count.result c.globals.result.now) in
-    subst (P m.globals) (take-front (imported_globals m.imports) (map global_type_of m.globals) c.globals.result.now _ all count) (subst Q c.as_slice-2.ensures c.check_initial_values.ensures.fault)
+    subst (P m.globals) (take-front (imported_globals m.imports)
+    (map global_type_of m.globals) c.globals.result.now _ all count)
+    (subst Q c.as_slice-2.ensures c.check_initial_values.ensures.fault)

@@ -34,8 +34,10 @@ returns-in_err-check_constant-clause-fault c =
     let g = c.global-item.result in
     let T : Global → Type 0 = λ g. WouldBeConstant globals g.initial g.global_type.value_type in
     let I : Global → Type 0 = λ g. NamesGlobal globals g.initial in
-    let D : List Instruction → Type 0 = λ e. DeniesOne c.in_err-check_constant.field-0.0 (WouldBeConstant globals e g.global_type.value_type) (NamesGlobal globals e) (Unit {0}) in
-    let told = turn_told c.in_err-check_constant.field-0.0 (constant_there globals c.as_slice.result.now g.global_type.value_type) c.in_err-check_constant.ensures in
+    let D : List Instruction → Type 0 = λ e. DeniesOne c.in_err-check_constant.field-0.0
+    (WouldBeConstant globals e g.global_type.value_type) (NamesGlobal globals e) (Unit {0}) in
+    let told = turn_told c.in_err-check_constant.field-0.0
+    (constant_there globals c.as_slice.result.now g.global_type.value_type) c.in_err-check_constant.ensures in
     rw (p.1, p.2) (one_as c.in_err-check_constant.field-0.0
     (of_all T c.args.globals.now c.loop-global.global-index g c.loop-global-test.true c.global-item.is)
     (of_all I c.args.globals.now c.loop-global.global-index g c.loop-global-test.true c.global-item.is)

@@ -48,17 +48,20 @@ returns-clause-valid c = λ functions are.
 pub returns-in_err-check_tables-clause-fault : goal.returns-in_err-check_tables-clause-fault
 returns-in_err-check_tables-clause-fault c =
     let p = err_from_is_err_and c.from_residual.result c.from_residual.ensures.1 in
-    rw (p.1, p.2) (limits_fault c.args.module.now c.in_err-check_tables.field-0.0 (λ k. (k.tables, k.one_table)) c.in_err-check_tables.ensures)
+    rw (p.1, p.2) (limits_fault c.args.module.now c.in_err-check_tables.field-0.0
+    (λ k. (k.tables, k.one_table)) c.in_err-check_tables.ensures)
 
 pub returns-in_err-check_memories-clause-fault : goal.returns-in_err-check_memories-clause-fault
 returns-in_err-check_memories-clause-fault c =
     let p = err_from_is_err_and c.from_residual-in_err-check_memories.result c.from_residual-in_err-check_memories.ensures.1 in
-    rw (p.1, p.2) (limits_fault c.args.module.now c.in_err-check_memories.field-0.0 (λ k. (k.memories, k.one_memory)) c.in_err-check_memories.ensures)
+    rw (p.1, p.2) (limits_fault c.args.module.now c.in_err-check_memories.field-0.0
+    (λ k. (k.memories, k.one_memory)) c.in_err-check_memories.ensures)
 
 pub returns-in_err-check_globals-clause-fault : goal.returns-in_err-check_globals-clause-fault
 returns-in_err-check_globals-clause-fault c =
     let p = err_from_is_err_and c.from_residual-in_err-check_globals.result c.from_residual-in_err-check_globals.ensures.1 in
-    rw (p.1, p.2) (part_fault c.args.module.now c.requires.types.0 c.requires.types.1 c.in_err-check_globals.field-0.0 (λ w. w.globals) (λ n. n.globals) (λ k. tt) c.in_err-check_globals.ensures.fault)
+    rw (p.1, p.2)
+    (part_fault c.args.module.now c.requires.types.0 c.requires.types.1 c.in_err-check_globals.field-0.0 (λ w. w.globals) (λ n. n.globals) (λ k. tt) c.in_err-check_globals.ensures.fault)
 
 pub returns-in_err-check_exports-clause-fault : goal.returns-in_err-check_exports-clause-fault
 returns-in_err-check_exports-clause-fault c =
@@ -69,8 +72,11 @@ returns-in_err-check_exports-clause-fault c =
     let tables = c.in_ok-check_tables.ensures in
     let memories = c.in_ok-check_memories.ensures in
     let s : IsModuleContext m functions c.args.context.now = record { context = c.requires.context functions c.requires.types.1; one_table = tables.1; one_memory = memories.1 } in
-    let E : List Export → Type 0 = λ es. JudgesExports {X = Unit {0}} (Err e) (AllByRecursion (λ (x : Export). IsExportItemValid m functions x.item) es) (HaveDistinctNames es) in
-    rw (p.1, p.2) (exports_fault m functions c.requires.types.1 e (subst E c.as_slice.ensures (c.in_err-check_exports.ensures m functions s)))
+    let E : List Export → Type 0 = λ es. JudgesExports {X = Unit {0}} (Err e)
+    (AllByRecursion (λ (x : Export). IsExportItemValid m functions x.item) es)
+    (HaveDistinctNames es) in
+    rw (p.1, p.2) (exports_fault m functions c.requires.types.1 e
+    (subst E c.as_slice.ensures (c.in_err-check_exports.ensures m functions s)))
 
 pub returns-in_err-check_start-clause-fault : goal.returns-in_err-check_start-clause-fault
 returns-in_err-check_start-clause-fault c =
@@ -80,7 +86,8 @@ returns-in_err-check_start-clause-fault c =
     let functions = c.requires.types.0 in
     let are = c.requires.types.1 in
     rw (p.1, p.2) (part_fault m functions are e (λ w. w.start) (λ n. n.start) (λ k. tt)
-    (turn_told e (start_there functions m.start) (c.in_err-check_start.ensures (module_context m functions) (c.requires.context functions are))))
+    (turn_told e (start_there functions m.start)
+    (c.in_err-check_start.ensures (module_context m functions) (c.requires.context functions are))))
 
 pub returns-clause-fault : goal.returns-clause-fault
 returns-clause-fault c =
@@ -90,5 +97,7 @@ returns-clause-fault c =
     let tables = c.in_ok-check_tables.ensures in
     let memories = c.in_ok-check_memories.ensures in
     let s : IsModuleContext m functions c.args.context.now = record { context = c.requires.context functions are; one_table = tables.1; one_memory = memories.1 } in
-    let L : List Element → Type 0 = λ es. IfErr c.check_elements.result (IsFaultInElements m functions es) in
-    parts_fault m c.check_elements.result functions are (λ w. w.elements) (λ n. n.elements) (λ k. tt) (subst L c.as_slice-2.ensures (c.check_elements.ensures.fault m functions s))
+    let L : List Element → Type 0 = λ es. IfErr c.check_elements.result
+    (IsFaultInElements m functions es) in
+    parts_fault m c.check_elements.result functions are (λ w. w.elements) (λ n. n.elements)
+    (λ k. tt) (subst L c.as_slice-2.ensures (c.check_elements.ensures.fault m functions s))

@@ -25,7 +25,8 @@ returns-in_err-steps-clause-typed c = λ c' context.
     let start = c.in_ok-open.ensures.opened ∙ ap (λ z. new_level r r false ∷ z) c.clear.ensures in
     let steps = c.in_err-steps.ensures bc (scope_of c' kind code _ context c.as_slice.ensures c.as_slice-2.ensures c.as_slice-3.ensures) in
     rw (p.1, p.2)
-    (denies c.in_err-steps.field-0.0 (fault_in bc c.as_slice-4.result.now c.open.new.self) (checked bc c.as_slice-4.result.now c.open.new.self)
+    (denies c.in_err-steps.field-0.0 (fault_in bc c.as_slice-4.result.now c.open.new.self)
+    (checked bc c.as_slice-4.result.now c.open.new.self)
     (λ none body. some_not_none (checked bc code.body (new_level r r false ∷ [])) [] (body_complete c' kind code r c.result_of-result_type.ensures body) (ap (λ z. checked bc z (new_level r r false ∷ [])) (sym c.as_slice-4.ensures) ∙ ap (λ z. checked bc c.as_slice-4.result.now z) (sym start) ∙ none))
     steps)
 
@@ -64,11 +65,16 @@ returns-in_err-steps-clause-fault c = λ c' context.
     let bc = body_context c' kind code.locals in
     let start = c.in_ok-open.ensures.opened ∙ ap (λ z. new_level r r false ∷ z) c.clear.ensures in
     let steps = c.in_err-steps.ensures bc (scope_of c' kind code _ context c.as_slice.ensures c.as_slice-2.ensures c.as_slice-3.ensures) in
-    let checked_is = ap (λ z. checked bc z (new_level r r false ∷ [])) (sym c.as_slice-4.ensures) ∙ ap (λ z. checked bc c.as_slice-4.result.now z) (sym start) in
-    let fault_is = ap (λ z. fault_in bc z (new_level r r false ∷ [])) (sym c.as_slice-4.ensures) ∙ ap (λ z. fault_in bc c.as_slice-4.result.now z) (sym start) in
+    let checked_is = ap (λ z. checked bc z (new_level r r false ∷ [])) (sym c.as_slice-4.ensures)
+    ∙ ap (λ z. checked bc c.as_slice-4.result.now z) (sym start) in
+    let fault_is = ap (λ z. fault_in bc z (new_level r r false ∷ [])) (sym c.as_slice-4.ensures)
+    ∙ ap (λ z. fault_in bc c.as_slice-4.result.now z) (sym start) in
     rw (p.1, p.2)
-    (denies_one c.in_err-steps.field-0.0 (fault_in bc c.as_slice-4.result.now c.open.new.self) (checked bc c.as_slice-4.result.now c.open.new.self)
-    (λ none kind_is. untyped c' kind code r c.result_of-result_type.ensures (λ some. some_not_none (checked bc code.body (new_level r r false ∷ [])) [] some (checked_is ∙ none)) (fault_is ∙ kind_is))
+    (denies_one c.in_err-steps.field-0.0 (fault_in bc c.as_slice-4.result.now c.open.new.self)
+    (checked bc c.as_slice-4.result.now c.open.new.self)
+    (λ none kind_is. untyped c' kind code r c.result_of-result_type.ensures
+    (λ some. some_not_none (checked bc code.body (new_level r r false ∷ [])) [] some
+    (checked_is ∙ none)) (fault_is ∙ kind_is))
     (λ kind_is. first_index bc code.body (new_level r r false ∷ []) (fault_is ∙ kind_is))
     (λ kind_is. first_limit bc code.body (new_level r r false ∷ []) (fault_is ∙ kind_is))
     steps)
@@ -83,5 +89,7 @@ returns-else-is_empty-clause-fault c = λ c' context.
     let steps = c.in_ok-steps.ensures bc (scope_of c' kind code _ context c.as_slice.ensures c.as_slice-2.ensures c.as_slice-3.ensures) in
     let here = ap (λ z. checked bc z (new_level r r false ∷ [])) (sym c.as_slice-4.ensures) ∙ ap (λ z. checked bc c.as_slice-4.result.now z) (sym start) ∙ steps in
     untyped c' kind code r c.result_of-result_type.ensures
-    (λ passes. let none = not_empty (checked bc code.body (new_level r r false ∷ [])) c.steps.new.self here passes in let yes = c.is_empty.ensures.1 none in let no = c.if-is_empty.false in absurd (cc))
+    (λ passes. let none = not_empty
+    (checked bc code.body
+    (new_level r r false ∷ [])) c.steps.new.self here passes in let yes = c.is_empty.ensures.1 none in let no = c.if-is_empty.false in absurd (cc))
     (passed_fault bc code.body (new_level r r false ∷ []) c.steps.new.self here)

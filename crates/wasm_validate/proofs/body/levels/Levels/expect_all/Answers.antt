@@ -36,7 +36,9 @@ returns-in_err-expect c =
     let types = reverse c.args.types.now in
     let n = length c.loop-value_type.yielded in
     rw (p.1, p.2)
-    (fails_as c.in_err-expect.field-0.0 Typing (top_taken c.in-Some.value_type.now c.loop-value_type.self) (top_all_taken types c.args.self.now)
+    (fails_as c.in_err-expect.field-0.0 Typing
+    (top_taken c.in-Some.value_type.now c.loop-value_type.self)
+    (top_all_taken types c.args.self.now)
     (λ none. c.loop-value_type.invariant ∙ next_taken types n c.in-Some.value_type.now c.loop-value_type.self turn.0 turn.1 ∙ ap (λ z. z >>= λ levels'. top_all_taken (drop (n + 1) types) levels') none)
     c.in_err-expect.ensures)
 

@@ -23,16 +23,26 @@ module _ (labels : List (List ValueType)) (ts : List ValueType) (ls : List ℕ) 
       let is : is_label labels ts (get_or ls n 0) ≡ are_same_types us ts = rw e refl in
       next_label ∙ ap (λ z. z && are_labels labels ts (drop (n + 1) ls)) is
 
-  next_fault : labels_fault labels ts (drop n ls) ≡ fault_at (slice_get labels (get_or ls n 0)) (λ us. fault_unless (are_same_types us ts) Typing (labels_fault labels ts (drop (n + 1) ls)))
+  next_fault : labels_fault labels ts (drop n ls)
+      ≡ fault_at (slice_get labels (get_or ls n 0))
+      (λ us. fault_unless (are_same_types us ts) Typing (labels_fault labels ts (drop (n + 1) ls)))
   next_fault = at_drop_more (λ z. labels_fault labels ts z) ls n 0 h
 
-  no_label_fault : slice_get labels (get_or ls n 0) ≡ None → labels_fault labels ts (drop n ls) ≡ Index
-  no_label_fault e = next_fault ∙ ap (λ z. fault_at z (λ us. fault_unless (are_same_types us ts) Typing (labels_fault labels ts (drop (n + 1) ls)))) e
+  no_label_fault : slice_get labels (get_or ls n 0) ≡ None
+      → labels_fault labels ts (drop n ls) ≡ Index
+  no_label_fault e =
+      next_fault ∙ ap (λ z. fault_at z
+      (λ us. fault_unless (are_same_types us ts) Typing
+      (labels_fault labels ts (drop (n + 1) ls)))) e
 
-  this_fault : (us : List ValueType) (b : Bool) → slice_get labels (get_or ls n 0) ≡ Some us → are_same_types us ts ≡ b → labels_fault labels ts (drop n ls) ≡ fault_unless b Typing (labels_fault labels ts (drop (n + 1) ls))
+  this_fault : (us : List ValueType) (b : Bool) → slice_get labels (get_or ls n 0) ≡ Some us
+      → are_same_types us ts ≡ b
+      → labels_fault labels ts (drop n ls)
+      ≡ fault_unless b Typing (labels_fault labels ts (drop (n + 1) ls))
   this_fault us b e s =
       next_fault
-      ∙ ap (λ z. fault_at z (λ us. fault_unless (are_same_types us ts) Typing (labels_fault labels ts (drop (n + 1) ls)))) e
+      ∙ ap (λ z. fault_at z (λ us. fault_unless (are_same_types us ts) Typing
+      (labels_fault labels ts (drop (n + 1) ls)))) e
       ∙ ap (λ z. fault_unless z Typing (labels_fault labels ts (drop (n + 1) ls))) s
 
 pub returns-in_err-label : goal.returns-in_err-label
@@ -42,8 +52,11 @@ returns-in_err-label c =
     let ts = results_of c.args.takes in
     let none = c.in_err-label.ensures.1 in
     rw (p.1, p.2) (
-      c.loop-label.invariant.test ∙ no_label labels ts c.args.labels.now c.loop-label.label-index c.loop-label-test.true none,
-      c.in_err-label.ensures.0 ∙ sym (c.loop-label.invariant.fault ∙ no_label_fault labels ts c.args.labels.now c.loop-label.label-index c.loop-label-test.true none),
+      c.loop-label.invariant.test
+          ∙ no_label labels ts c.args.labels.now c.loop-label.label-index c.loop-label-test.true none,
+      c.in_err-label.ensures.0 ∙ sym
+          (c.loop-label.invariant.fault
+          ∙ no_label_fault labels ts c.args.labels.now c.loop-label.label-index c.loop-label-test.true none),
     )
 
 pub returns-then-not-is_same : goal.returns-then-not-is_same
@@ -54,8 +67,10 @@ returns-then-not-is_same c =
     let other : are_same_types us ts ≡ false = sym c.is_same.ensures ∙ c.if-not-is_same.true in (
       c.loop-label.invariant.test
           ∙ this_label labels ts c.args.labels.now c.loop-label.label-index c.loop-label-test.true us c.in_ok-label.ensures
-          ∙ ap (λ z. z && are_labels labels ts (drop (c.loop-label.label-index + 1) c.args.labels.now)) other,
-      sym (c.loop-label.invariant.fault ∙ this_fault labels ts c.args.labels.now c.loop-label.label-index c.loop-label-test.true us false c.in_ok-label.ensures other),
+          ∙ ap (λ z. z && are_labels labels ts
+          (drop (c.loop-label.label-index + 1) c.args.labels.now)) other,
+      sym (c.loop-label.invariant.fault
+          ∙ this_fault labels ts c.args.labels.now c.loop-label.label-index c.loop-label-test.true us false c.in_ok-label.ensures other),
     )
 
 pub loop-label-preserved : goal.loop-label-preserved
@@ -67,10 +82,15 @@ loop-label-preserved c =
     record {
       test = c.loop-label.invariant.test
           ∙ this_label labels ts c.args.labels.now c.loop-label.label-index c.loop-label-test.true us c.in_ok-label.ensures
-          ∙ ap (λ z. z && are_labels labels ts (drop (c.loop-label.label-index + 1) c.args.labels.now)) same;
-      fault = c.loop-label.invariant.fault ∙ this_fault labels ts c.args.labels.now c.loop-label.label-index c.loop-label-test.true us true c.in_ok-label.ensures same;
+          ∙ ap (λ z. z && are_labels labels ts
+          (drop (c.loop-label.label-index + 1) c.args.labels.now)) same;
+      fault =
+          c.loop-label.invariant.fault
+          ∙ this_fault labels ts c.args.labels.now c.loop-label.label-index c.loop-label-test.true us true c.in_ok-label.ensures same;
     }
 
 pub returns : goal.returns
 returns c =
-    c.loop-label.invariant.test ∙ at_drop_all (λ z. are_labels (labels_of c.args.self.now) (results_of c.args.takes) z) c.args.labels.now c.loop-label.label-index c.loop-label-test.false
+    c.loop-label.invariant.test
+    ∙ at_drop_all (λ z. are_labels (labels_of c.args.self.now)
+    (results_of c.args.takes) z) c.args.labels.now c.loop-label.label-index c.loop-label-test.false

@@ -6,6 +6,8 @@ use Rattle.wasm_validate.proofs.body.levels.Levels.expect_labels.Given as goal
 
 abbrev pub invariant-loop-label : goal.invariant-loop-label
 invariant-loop-label l = record {
-  test : are_labels (labels_of l.self) (results_of l.takes) l.labels ≡ are_labels (labels_of l.self) (results_of l.takes) (drop l.label-index l.labels);
-  fault : labels_fault (labels_of l.self) (results_of l.takes) l.labels ≡ labels_fault (labels_of l.self) (results_of l.takes) (drop l.label-index l.labels);
+  test : are_labels (labels_of l.self) (results_of l.takes) l.labels
+      ≡ are_labels (labels_of l.self) (results_of l.takes) (drop l.label-index l.labels);
+  fault : labels_fault (labels_of l.self) (results_of l.takes) l.labels
+      ≡ labels_fault (labels_of l.self) (results_of l.takes) (drop l.label-index l.labels);
 }

@@ -11,9 +11,12 @@ use Rattle.wasm_validate.proofs.body.levels.Levels.step.Goals as goal
 
 pub returns-in_default : goal.returns-in_default
 returns-in_default c = λ c' scope.
-    subst (λ z. LevelsFollow z c.operate.result c.operate.new.self (levels_after c' c.args.instruction.now c.args.self.now))
+    subst (λ z. LevelsFollow z c.operate.result c.operate.new.self
+    (levels_after c' c.args.instruction.now c.args.self.now))
     (fault_is c' c.args.instruction.now c.args.self.now some_open)
-    (subst (λ z. LevelsFollow (fault_of c' (labels_of c.args.self.now) c.args.instruction.now) c.operate.result c.operate.new.self z)
+    (subst (λ z. LevelsFollow
+    (fault_of c'
+    (labels_of c.args.self.now) c.args.instruction.now) c.operate.result c.operate.new.self z)
     (after_is c' c.args.instruction.now c.args.self.now some_open (plain c.args.instruction.now refl))
     (c.operate.ensures c' scope))
   where

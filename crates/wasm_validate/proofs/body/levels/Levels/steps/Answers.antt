@@ -14,10 +14,14 @@ next_checked : (c : Typing) (body : List Instruction) (n : ℕ) (i : Instruction
 next_checked c body n i levels h is =
     at_drop_more (λ z. checked c z levels) body n i h ∙ ap (λ z. checked c (z ∷ drop (n + 1) body) levels) (sym is)
 
-next_fault : (c : Typing) (body : List Instruction) (n : ℕ) (i : Instruction) (levels : List Level) → n < length body → i ≡ get_or body n i
-    → fault_in c (drop n body) levels ≡ fault_from (opcode_fault c i levels) (levels_after c i levels) (λ levels'. fault_in c (drop (n + 1) body) levels')
+next_fault : (c : Typing) (body : List Instruction) (n : ℕ) (i : Instruction) (levels : List Level)
+    → n < length body → i ≡ get_or body n i
+    → fault_in c (drop n body) levels
+    ≡ fault_from (opcode_fault c i levels) (levels_after c i levels)
+    (λ levels'. fault_in c (drop (n + 1) body) levels')
 next_fault c body n i levels h is =
-    at_drop_more (λ z. fault_in c z levels) body n i h ∙ ap (λ z. fault_in c (z ∷ drop (n + 1) body) levels) (sym is)
+    at_drop_more (λ z. fault_in c z levels) body n i h
+    ∙ ap (λ z. fault_in c (z ∷ drop (n + 1) body) levels) (sym is)
 
 pub returns-in_err-step : goal.returns-in_err-step
 returns-in_err-step c = λ c' scope.
@@ -27,10 +31,16 @@ returns-in_err-step c = λ c' scope.
     let levels = c.loop-instruction.self in
     let body = c.args.body.now in
     rw (p.1, p.2)
-    (fails_to c.in_err-step.field-0.0 (opcode_fault c' i levels) (fault_in c' body c.args.self.now) (levels_after c' i levels) (checked c' body c.args.self.now)
+    (fails_to c.in_err-step.field-0.0 (opcode_fault c' i levels) (fault_in c' body c.args.self.now)
+    (levels_after c' i levels) (checked c' body c.args.self.now)
     (λ none. (
-      c.loop-instruction.invariant.levels c' scope ∙ next_checked c' body n i levels c.loop-instruction-test.true c.instruction-item.is ∙ ap (λ z. z >>= λ levels'. checked c' (drop (n + 1) body) levels') none,
-      sym (c.loop-instruction.invariant.fault c' scope ∙ next_fault c' body n i levels c.loop-instruction-test.true c.instruction-item.is ∙ ap (λ z. fault_from (opcode_fault c' i levels) z (λ levels'. fault_in c' (drop (n + 1) body) levels')) none),
+      c.loop-instruction.invariant.levels c' scope
+          ∙ next_checked c' body n i levels c.loop-instruction-test.true c.instruction-item.is
+          ∙ ap (λ z. z >>= λ levels'. checked c' (drop (n + 1) body) levels') none,
+      sym (c.loop-instruction.invariant.fault c' scope
+          ∙ next_fault c' body n i levels c.loop-instruction-test.true c.instruction-item.is
+          ∙ ap (λ z. fault_from (opcode_fault c' i levels) z
+          (λ levels'. fault_in c' (drop (n + 1) body) levels')) none),
     ))
     (c.in_err-step.ensures c' scope))
 
@@ -44,13 +54,17 @@ loop-instruction-preserved c =
       levels = λ c' scope.
           c.loop-instruction.invariant.levels c' scope
           ∙ next_checked c' body n i levels c.loop-instruction-test.true c.instruction-item.is
-          ∙ ap (λ z. z >>= λ levels'. checked c' (drop (n + 1) body) levels') (c.in_ok-step.ensures c' scope);
+          ∙ ap (λ z. z >>= λ levels'. checked c' (drop (n + 1) body) levels')
+          (c.in_ok-step.ensures c' scope);
       fault = λ c' scope.
           c.loop-instruction.invariant.fault c' scope
           ∙ next_fault c' body n i levels c.loop-instruction-test.true c.instruction-item.is
-          ∙ ap (λ z. fault_from (opcode_fault c' i levels) z (λ levels'. fault_in c' (drop (n + 1) body) levels')) (c.in_ok-step.ensures c' scope);
+          ∙ ap (λ z. fault_from (opcode_fault c' i levels) z
+          (λ levels'. fault_in c' (drop (n + 1) body) levels')) (c.in_ok-step.ensures c' scope);
     }
 
 pub returns : goal.returns
 returns c = λ c' scope.
-    c.loop-instruction.invariant.levels c' scope ∙ at_drop_all (λ z. checked c' z c.loop-instruction.self) c.args.body.now c.loop-instruction.instruction-index c.loop-instruction-test.false
+    c.loop-instruction.invariant.levels c' scope
+    ∙ at_drop_all
+    (λ z. checked c' z c.loop-instruction.self) c.args.body.now c.loop-instruction.instruction-index c.loop-instruction-test.false

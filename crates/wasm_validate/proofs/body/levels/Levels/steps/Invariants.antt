@@ -7,6 +7,8 @@ use Rattle.wasm_validate.proofs.body.levels.Levels.steps.Given as goal
 
 abbrev pub invariant-loop-instruction : goal.invariant-loop-instruction
 invariant-loop-instruction l = record {
-  levels : (c : Typing) → IsScopeOf c l.scope → checked c l.body l.initial.self ≡ checked c (drop l.instruction-index l.body) l.self;
-  fault : (c : Typing) → IsScopeOf c l.scope → fault_in c l.body l.initial.self ≡ fault_in c (drop l.instruction-index l.body) l.self;
+  levels : (c : Typing) → IsScopeOf c l.scope
+      → checked c l.body l.initial.self ≡ checked c (drop l.instruction-index l.body) l.self;
+  fault : (c : Typing) → IsScopeOf c l.scope
+      → fault_in c l.body l.initial.self ≡ fault_in c (drop l.instruction-index l.body) l.self;
 }

@@ -21,10 +21,13 @@ returns-in-BrTable c = λ c' scope kind. rw c.in-BrTable.is (c.branch_table.ensu
 
 pub returns-in_default : goal.returns-in_default
 returns-in_default c = λ c' scope kind.
-    subst (λ z. FailsToCheck Typing z (top_applied (arrow_of c' (labels_of c.args.self.now) c.args.instruction.now) c.args.self.now)) (sym (told c' c.args.instruction.now refl kind))
+    subst (λ z. FailsToCheck Typing z
+    (top_applied (arrow_of c' (labels_of c.args.self.now) c.args.instruction.now) c.args.self.now))
+    (sym (told c' c.args.instruction.now refl kind))
     (ap (λ z. top_applied z c.args.self.now) (refused c' c.args.instruction.now refl kind))
   where
-    told : (c' : Context) (i : Instruction) → c.args.instruction.now ≡ i → IsTransfer i → fault_of c' (labels_of c.args.self.now) i ≡ Typing
+    told : (c' : Context) (i : Instruction) → c.args.instruction.now ≡ i → IsTransfer i
+        → fault_of c' (labels_of c.args.self.now) i ≡ Typing
     told c' (instr.Br l) e kind = absurd (c.in_default.not-Br l e)
     told c' (instr.BrIf l) e kind = absurd (c.in_default.not-BrIf l e)
     told c' (instr.BrTable ls l) e kind = absurd (c.in_default.not-BrTable ls l e)
@@ -41,7 +44,8 @@ returns-in_default c = λ c' scope kind.
     told c' instr.MemoryGrow e kind = absurd kind
     told c' _ e kind = refl
 
-    refused : (c' : Context) (i : Instruction) → c.args.instruction.now ≡ i → IsTransfer i → arrow_of c' (labels_of c.args.self.now) i ≡ Refused
+    refused : (c' : Context) (i : Instruction) → c.args.instruction.now ≡ i → IsTransfer i
+        → arrow_of c' (labels_of c.args.self.now) i ≡ Refused
     refused c' instr.Unreachable e kind = absurd (c.in_default.not-Unreachable e)
     refused c' instr.Nop e kind = absurd (c.in_default.not-Nop e)
     refused c' (instr.Br l) e kind = absurd (c.in_default.not-Br l e)
