@@ -20,7 +20,7 @@ use Rattle.disk_layout.specs.rules.Journal.{Record, is_of, payloads_from}
 use Rattle.disk_layout.proofs.FieldLemmas.{drop_over}
 use Rattle.disk_layout.proofs.JournalLemmas.{is_of_other}
 use Rattle.worker_rules.specs.Stands.{Recorded, none as no_record, more, given_in, ShowsNoneLater}
-use Rattle.worker_rules.specs.laws.Disks.{StandsForWhatIsReached, RecordsAscend, BlankStandsForNone, NoLaterImage, NoLaterPayload, OneGeneration, tiny, tiny_disk, DiskExamples}
+use Rattle.worker_rules.specs.laws.Disks.{StandsForWhatIsReached, RecordsAscend, StandsByItsParts, BlankStandsForNone, NoLaterImage, NoLaterPayload, OneGeneration, tiny, tiny_disk, DiskExamples}
 
 -- ---- what is reached
 
@@ -83,6 +83,15 @@ records_ascend guest p q records (more {p = p'} {q = before} {r = after} {s = la
     let counted : before.steps ≡ p'.steps + n = runs_count guest p' before [] n first in
     let taken : after.steps ≡ before.steps + 1 = move_counts guest before after (Some a) moves in
     (omega (arith, counted, taken), records_ascend guest after last rest recorded)
+
+pub stands_by_its_parts : StandsByItsParts
+stands_by_its_parts disk m config kept n stands = record {
+  spelled = stands.spelled;
+  worker = stands.worker;
+  image = stands.holds;
+  records = sym stands.scanned;
+  kept_answers = stands.rest;
+}
 
 -- ---- marks and generations
 
@@ -162,6 +171,7 @@ no_later_payload geometry disk g h k shows later = go (geometry.journal_sectors 
 
 pub disk_examples : DiskExamples
 disk_examples = record {
+  longest_payload = refl;
   none_later = record { first_head = lit≤ tt; second_head = lit≤ tt; journal = only_first };
   first_head_later = λ shows. (let h : 4 ≤ 3 = shows.first_head in omega (arith, h));
   second_head_later = λ shows. (let h : 5 ≤ 3 = shows.second_head in omega (arith, h));

@@ -270,6 +270,24 @@ behind_none config zero h behind =
     omega (arith, there, no_lines)
 behind_none config (suc a) h behind = omega (arith, h)
 
+-- where the request is lost, it asks again
+opens_without : (config : Settings)
+    → IsOpening echo config (record nothing_yet { kept = abc_kept }) 0 5
+opens_without config =
+    let asking = (echo_asks config).asking in
+    record {
+      within = omega arith;
+      process = asking;
+      reached = reaches_asking config;
+      answers_held = omega arith;
+      steps_held = omega arith;
+      lines_held = λ i was. absurd was;
+      syncs_held = λ k a h behind.
+          (let none : k ≤ 0 = h in let some = behind.next in absurd (omega (arith, none, some)));
+      all_told = λ i from to. absurd (none_below i asking.host.lines
+          (echo_asks config).no_line from to);
+    }
+
 pub echo_lives_hold : (config : Settings) → EchoLives config
 echo_lives_hold config = record {
   go_on = record {
@@ -305,6 +323,8 @@ echo_lives_hold config = record {
       (λ created. absurd (not_created created), tt),
     );
   };
+  loses_a_request =
+      (opens_new config, (takes_request config _ refl, (opens_without config, tt)));
   loses_a_line = λ kept. (let held = kept.1.1.1.0.lines_held 1
       (inl refl) in behind_none config held.0 held.1 held.2);
   tells_unasked = λ kept. unasked_line config 1 abc_told.line kept.1.0.is_line;

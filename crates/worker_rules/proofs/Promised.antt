@@ -88,6 +88,9 @@ lives_examples = record {
   );
   created_with_an_answer = λ begun. (let e : 1 ≡ 0 = (begun.0 refl).1.0 in omega (arith, e));
   created_with_a_step = λ begun. (let e : 1 ≡ 0 = (begun.0 refl).1.1 in omega (arith, e));
+  leaves_a_line_out = λ whole.
+      (let in_order = whole.in_order in let e : 3 ≡ 2 = in_order.0 in omega (arith, e));
+  opens_twice = λ whole. whole.form;
   shut = (
     record { form = tt; in_order = tt; opens = inr tt },
     record { form = tt; in_order = tt; opens = inr tt },

@@ -3,7 +3,7 @@
 ghost use Rattle.wasm_syntax.specs.declared.module.Module.{Module};
 ghost use Rattle.wasi_abi.specs.rules.Configs.{Settings};
 ghost use Rattle.worker_rules.specs.laws.Laws.{PromisesAreOfKept, NoNumberHasTwoTexts, OpeningsAreForGood, CheckpointsAreForGood, SyncsAreForGood};
-ghost use Rattle.worker_rules.specs.laws.Disks.{StandsForWhatIsReached, RecordsAscend, BlankStandsForNone, NoLaterImage, NoLaterPayload, OneGeneration, DiskExamples};
+ghost use Rattle.worker_rules.specs.laws.Disks.{StandsForWhatIsReached, RecordsAscend, StandsByItsParts, BlankStandsForNone, NoLaterImage, NoLaterPayload, OneGeneration, DiskExamples};
 ghost use Rattle.worker_rules.specs.laws.Examples.{LivesExamples, PromiseExamples};
 ghost use Rattle.worker_rules.specs.laws.Refusals.{RefusedLives, LifeForms};
 ghost use Rattle.worker_rules.specs.laws.WholeLives.{HelloLives, EchoLives};
@@ -26,10 +26,11 @@ pub fn promises_are_for_good()
     ensures syncs { SyncsAreForGood }
 {}
 
-/// A disk stands for what the module reaches, by records in the order of their steps.
+/// A disk stands for what the module reaches, by an image and by records in the order of their steps.
 pub fn disks_stand_for_what_is_reached()
     ensures reached { StandsForWhatIsReached }
     ensures in_order { RecordsAscend }
+    ensures parts { StandsByItsParts }
 {}
 
 /// A disk stands for a worker by one generation, and without the marks of one for none.

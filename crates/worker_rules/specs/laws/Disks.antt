@@ -1,16 +1,20 @@
 -- Laws of the disk images that stand for a worker.
-use Rattle.std.specs.Prelude.{◌≡◌, ℕ, ◌+◌, ◌-◌, ◌<◌, ◌≤◌, List, [], ◌∷◌, ◌++◌, replicate, take}
+use Rattle.std.specs.Prelude.{◌≡◌, ℕ, ◌+◌, ◌-◌, ◌<◌, ◌≤◌, List, [], ◌∷◌, ◌++◌, length, map, replicate, take}
 use Rattle.wasm_syntax.specs.declared.module.Module.{Module}
+use Rattle.wasm_syntax.specs.rules.Modules.{IsModule}
+use Rattle.wasi_calls_rules.specs.declared.limits.TheConstants.{TEXT_BYTES}
+use Rattle.state_image.specs.rules.Image.{image}
 use Rattle.wasi_abi.specs.rules.Configs.{Settings}
 use Rattle.process_rules.specs.Processes.{ProcessState, Guest}
 use Rattle.process_rules.specs.Runs.{Kept, Reaches}
 use Rattle.sector_disk.specs.rules.Image.{Image}
-use Rattle.disk_layout.specs.rules.Places.{Geometry, journal_place}
-use Rattle.disk_layout.specs.rules.Sectors.{super_bytes, head_bytes, HoldsImage}
-use Rattle.disk_layout.specs.rules.Journal.{Record, journal_sector, payloads_from}
-use Rattle.worker_rules.specs.Stands.{Recorded, ShowsNoneLater, StandsFor, IsBlank}
+use Rattle.disk_layout.specs.rules.Places.{Geometry, geometry_of, journal_place}
+use Rattle.disk_layout.specs.rules.Sectors.{super_bytes, head_bytes, HasWorker, HoldsImage}
+use Rattle.disk_layout.specs.rules.Journal.{Record, journal_sector, payloads_from, scan}
+use Rattle.worker_rules.specs.Stands.{Recorded, given_in, ShowsNoneLater, StandsFor, IsBlank}
 use Rattle.sector_disk.specs.declared.sector.TheConstants.{SECTOR_SIZE}
 use Rattle.disk_layout.specs.declared.head.TheConstants.{IMAGE_VERSION}
+use Rattle.disk_layout.specs.declared.record.TheConstants.{LONGEST_PAYLOAD}
 use Rattle.disk_layout.specs.declared.superblock.TheConstants.{END_MARK_AT}
 
 -- A disk stands only for what the module reaches on all the kept answers, in so many steps.
@@ -56,6 +60,23 @@ OneGeneration =
     → (left : StandsFor disk m config kept n) → (right : StandsFor disk other settings others k)
     → left.generation ≡ right.generation
 
+-- What a disk stands by, with its numbers: the module that its bytes spell, an image of version 1,
+-- and records of at most 4,096 bytes each. The kept answers are those of the image and of these.
+pub record StandsBy (disk : Image) (m : Module) (config : Settings) (kept : List Kept) (n : ℕ)
+    (stands : StandsFor disk m config kept n) : Type 0 where
+  pub spelled : IsModule stands.wasm m
+  pub worker : HasWorker config stands.wasm disk
+  pub image : HoldsImage (geometry_of config (length stands.wasm)) disk stands.generation 1
+      (image stands.saved)
+  pub records : stands.records
+      ≡ scan (geometry_of config (length stands.wasm)) 4096 disk stands.generation
+  pub kept_answers : kept ≡ stands.front ++ map given_in stands.records
+
+abbrev pub StandsByItsParts : Type 0
+StandsByItsParts =
+    (disk : Image) (m : Module) (config : Settings) (kept : List Kept) (n : ℕ)
+    → (stands : StandsFor disk m config kept n) → StandsBy disk m config kept n stands
+
 -- ---- examples
 
 -- two heads, of the generations 2 and 3, and one journal sector of generation 3
@@ -79,6 +100,8 @@ abbrev pub torn_super : List ℕ
 torn_super = take END_MARK_AT (super_bytes tiny (replicate 32 0)) ++ replicate 8 0
 
 pub record DiskExamples : Type 0 where
+  -- the longest payload of a record is the longest text of a request
+  pub longest_payload : LONGEST_PAYLOAD ≡ TEXT_BYTES
   pub none_later : ShowsNoneLater tiny (tiny_disk 2 3 3) 3
   pub first_head_later : ShowsNoneLater tiny (tiny_disk 4 3 3) 3 → ⊥
   pub second_head_later : ShowsNoneLater tiny (tiny_disk 2 5 3) 3 → ⊥

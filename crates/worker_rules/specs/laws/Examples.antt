@@ -61,6 +61,9 @@ told_numbers (i ∷ numbers) = record hello_line { number = i } ∷ told_numbers
 abbrev pub created_with : List Event → List Life
 created_with events = record { begins = Creates; events = events; ends = Cut } ∷ []
 
+abbrev pub cut_short : Life
+cut_short = record { begins = Recovers; events = []; ends = Cut }
+
 pub record LivesExamples : Type 0 where
   pub kept : kept_answers both_lives ≡ Given (answer.Request (codes "hello")) ∷ []
   pub told : told_lines both_lives ≡ hello_line ∷ hello_line ∷ []
@@ -75,6 +78,11 @@ pub record LivesExamples : Type 0 where
   pub created_later : AreBegun [] (shut_by (Failed OfDisk) ∷ first_life ∷ [])
   pub created_with_an_answer : AreBegun [] (created_with (Told hello_line ∷ Opened 1 0 ∷ [])) → ⊥
   pub created_with_a_step : AreBegun [] (created_with (Opened 0 1 ∷ [])) → ⊥
+  -- no life leaves a line out, and none opens twice
+  pub leaves_a_line_out : IsWhole (record cut_short {
+    events = Told hello_line ∷ Told (record hello_line { number = 3 }) ∷ [];
+  }) → ⊥
+  pub opens_twice : IsWhole (record cut_short { events = Opened 0 0 ∷ Opened 0 0 ∷ [] }) → ⊥
   -- why a life may not have opened
   pub shut : IsWhole (shut_by Cut) × IsWhole (shut_by (Failed OfDisk))
       × IsWhole (shut_by (Failed OfOutlet)) × IsWhole (shut_by (Failed OfMemory))

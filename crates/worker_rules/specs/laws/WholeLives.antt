@@ -5,7 +5,7 @@ use Rattle.wasi_abi.specs.rules.Configs.{Settings}
 use Rattle.wasi_abi.specs.declared.answer.Answer.{Answer}
 use Rattle.wasi_abi.specs.declared.answer.Answer.TheVariants as answer
 use Rattle.worker_rules.specs.Lives.{Release, Slice, Checkpoint, Told, Opened, Handed, Ended, Recovers, Creates, Cut, Failed, OfOutlet, Event, Life}
-use Rattle.worker_rules.specs.Promises.{GoesOn}
+use Rattle.worker_rules.specs.Promises.{nothing_yet, AreKept, GoesOn}
 use Rattle.worker_rules.specs.laws.Refusals.{AreBroken}
 
 -- the one line of `hello`
@@ -80,7 +80,10 @@ answered_life = record {
 
 pub record EchoLives (config : Settings) : Type 0 where
   pub go_on : GoesOn echo config (asked_life ∷ answered_life ∷ [])
-  -- where its line was told, no life opens without the request behind it
+  -- a request that stands behind no told line may be lost,
+  pub loses_a_request : AreKept echo config nothing_yet
+      (Opened 0 0 ∷ abc_request ∷ Opened 0 5 ∷ [])
+  -- but where its line was told, no life opens without the request behind it
   pub loses_a_line : AreBroken echo config
       (Opened 0 0 ∷ abc_request ∷ Told abc_told ∷ Opened 0 5 ∷ [])
   -- it tells nothing before it was asked

@@ -1,4 +1,4 @@
-use Rattle.worker_rules.proofs.Disks.{what_stands_is_reached, records_ascend}
+use Rattle.worker_rules.proofs.Disks.{what_stands_is_reached, records_ascend, stands_by_its_parts}
 use Rattle.worker_rules.proofs.laws.disks_stand_for_what_is_reached.Goals as goal
 
 pub returns-clause-reached : goal.returns-clause-reached
@@ -6,3 +6,6 @@ returns-clause-reached c = what_stands_is_reached
 
 pub returns-clause-in_order : goal.returns-clause-in_order
 returns-clause-in_order c = records_ascend
+
+pub returns-clause-parts : goal.returns-clause-parts
+returns-clause-parts c = stands_by_its_parts
