@@ -3,10 +3,12 @@
 //!
 //! # Promises
 //!
+//! - `laws::images_tell_processes_apart`: the image of a well-typed process is that of no other
+//!   one.
 //! - `laws::a_fresh_image_has_its_size`: the image of a process that has just begun, with one page
 //!   of memory and an empty file system, has 65,811 bytes.
 //!
-//! Nothing else is proved here. That image and process determine each other is not proved yet.
+//! Nothing else is proved here.
 //!
 //! # Definitions to read
 //!

@@ -1,14 +1,15 @@
 -- When a process as its image has it is well typed: the images of these are the ones that are accepted (this project's own).
 use Rattle.std.specs.Prelude.{◌≡◌, ◌≢◌, ℕ, ◌+◌, ◌<◌, ◌≤◌, ◌^◌, List, [], ◌∷◌, length, Option, Some, None}
+use Rattle.std.specs.List.{AllByRecursion}
 use Rattle.wasm_syntax.specs.declared.types.FunctionType.{FunctionType}
 use Rattle.wasm_syntax.specs.declared.module.Module.{Module}
-use Rattle.wasm_syntax_rules.specs.Validity.{AreFunctionTypes, module_context}
+use Rattle.wasm_syntax_rules.specs.Validity.{AreFunctionTypes, module_context, IsValid}
 use Rattle.wasi_abi.specs.rules.Configs.{Settings}
 use Rattle.wasi_calls_rules.specs.Hosts.{Host, IsHost}
 use Rattle.wasi_calls_rules.specs.declared.limits.TheConstants.{TEXT_BYTES}
 use Rattle.process_rules.specs.Processes.{Ending, ProcessState, Guest, host_of, IsStart, HasLineNumbers}
 use Rattle.machine_slots.specs.rules.Places.{ShownFrame}
-use Rattle.state_image.specs.rules.Image.{Saved, SavedShowsProcess}
+use Rattle.state_image.specs.rules.Image.{Saved, SavedShowsProcess, ending_code}
 
 -- what a module begins with: its start function, if it has one, and `_start`
 pub record EntryPoints : Type 0 where
@@ -39,9 +40,24 @@ pub record IsConfigured (config : Settings) (h : Host) : Type 0 where
   pub arguments : h.arguments ≡ config.arguments
   pub environment : h.environment ≡ config.environment
 
--- It shows a process that this module could come to under this configuration, as far as types and
--- limits tell.
+-- a frame of which the image has each number in 32 bits
+pub record IsPlaceWithin (place : ShownFrame) : Type 0 where
+  pub function : place.function < 2 ^ 32
+  pub position : place.position < 2 ^ 32
+  pub slots : length place.slots < 2 ^ 32
+
+-- What the image has in 32 bits is below 2 ^ 32, where nothing else says so. A memory is within
+-- what 32 bits address.
+pub record IsWithinFields (s : Saved) : Type 0 where
+  pub code : ending_code s.ended < 2 ^ 32
+  pub globals : length s.machine.globals < 2 ^ 32
+  pub frames : AllByRecursion IsPlaceWithin s.machine.frames
+  pub memory : length s.machine.memory ≤ 2 ^ 32
+
+-- It shows a process that this valid module could come to under this configuration, as far as
+-- types and limits tell.
 pub record IsWellTyped (m : Module) (config : Settings) (s : Saved) : Type 0 where
+  pub valid : IsValid m
   pub guest : Guest
   pub start : ProcessState
   pub begins : IsStart m config guest start
@@ -59,6 +75,7 @@ pub record IsWellTyped (m : Module) (config : Settings) (s : Saved) : Type 0 whe
   pub lines : HasLineNumbers process.host
   pub answers : s.answers ≤ s.steps
   pub requests : s.requests ≤ s.answers
+  pub fields : IsWithinFields s
   -- a request's text and its newline
   pub unread : length s.unread ≤ TEXT_BYTES + 1
   -- each step makes one node at most, beside the root and the number that comes next

@@ -1,0 +1,11 @@
+mod Fields
+mod Counts
+mod Machines
+mod Named
+mod Among
+mod PathsTold
+mod Places
+mod FilesWithin
+mod HostWithin
+mod MachineWithin
+mod Whole
