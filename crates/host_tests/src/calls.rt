@@ -125,8 +125,9 @@ fn end(alloc: Global, guest: &mut Guest) {
     guest.host.end(alloc);
 }
 
-/// Writes so many letters to stream 1, with a newline behind them.
-fn cut(alloc: Global, letters: u32) -> Result<Guest, CallStop> {
+/// Writes so many letters to stream 1, with a newline behind them. Then there are so many lines, and
+/// the first and the last of them are so long.
+fn cut(alloc: Global, letters: u32) -> Result<[usize; 3], CallStop> {
     let mut guest = fresh_guest(alloc)?;
     for place in 0..letters {
         let _ = guest.memory.store_u8(BYTES, place, b'a');
@@ -134,16 +135,19 @@ fn cut(alloc: Global, letters: u32) -> Result<Guest, CallStop> {
     let _ = guest.memory.store_u8(BYTES, letters, b'\n');
     name(&mut guest, 0, BYTES, letters.saturating_add(1));
     let _ = write(alloc, &mut guest, 1, 1);
-    Ok(guest)
+    let lines = guest.host.waiting_lines();
+    let first = lines.first().map_or(0, |line| line.text().len());
+    let last = lines.last().map_or(0, |line| line.text().len());
+    Ok([lines.len(), first, last])
 }
 
 #[test]
 fn cuts_lines(rt: HostRuntime) -> Result<(), CallStop> {
     let alloc = rt.alloc();
-    assert!(rt; has_lines(&cut(alloc, 4_097)?, &[(1, 4_096), (1, 1)]));
-    assert!(rt; has_lines(&cut(alloc, 4_096)?, &[(1, 4_096)]));
-    assert!(rt; has_lines(&cut(alloc, 0)?, &[(1, 0)]));
-    assert!(rt; has_lines(&cut(alloc, 8_192)?, &[(1, 4_096), (1, 4_096)]));
+    assert_eq!(rt; cut(alloc, 4_097)?, [2, 4_096, 1]);
+    assert_eq!(rt; cut(alloc, 4_096)?, [1, 4_096, 4_096]);
+    assert_eq!(rt; cut(alloc, 0)?, [1, 0, 0]);
+    assert_eq!(rt; cut(alloc, 8_192)?, [2, 4_096, 4_096]);
     Ok(())
 }
 

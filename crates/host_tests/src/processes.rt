@@ -28,22 +28,36 @@ fn hello(alloc: Global) -> Result<Process, Fail> {
     Ok(Process::start(alloc, module, config)?)
 }
 
-/// Fuel, why the process stops, and then its steps, its lines, and how many of them wait.
+/// Why the process stops on so much fuel: 1 for spent, 2 for owing, and else 0. Then its steps, its
+/// lines, and how many of them wait.
+fn advance(process: &mut Process, fuel: u64) -> [u64; 4] {
+    let why = match process.advance(fuel) {
+        Ok(Stop::Spent) => 1,
+        Ok(Stop::Owes) => 2,
+        _ => 0,
+    };
+    let waiting = process.waiting().len() as u64;
+    [why, process.steps(), process.lines(), waiting]
+}
+
 #[test]
 fn hello_owes_its_line(rt: HostRuntime) -> Result<(), Fail> {
     let mut process = hello(rt.alloc())?;
-    let rows = [
-        (0, Stop::Spent, (0, 0, 0)),
-        (4, Stop::Spent, (4, 0, 0)),
-        (100, Stop::Owes, (5, 1, 1)),
-        (100, Stop::Owes, (5, 1, 1)),
-    ];
-    for (fuel, stop, counts) in rows {
-        assert_eq!(rt; process.advance(fuel), Ok(stop));
-        assert_eq!(rt; process.give(Answer::End), Err(ProcessFault::WrongAnswer));
-        let now = (process.steps(), process.lines(), process.waiting().len());
-        assert_eq!(rt; now, counts);
-    }
+    assert_eq!(rt; advance(&mut process, 0), [1, 0, 0, 0]);
+    assert_eq!(rt; advance(&mut process, 4), [1, 4, 0, 0]);
+    assert_eq!(rt; advance(&mut process, 100), [2, 5, 1, 1]);
+    assert_eq!(rt; advance(&mut process, 100), [2, 5, 1, 1]);
+    Ok(())
+}
+
+/// Nobody has asked.
+#[test]
+fn hello_takes_no_answer(rt: HostRuntime) -> Result<(), Fail> {
+    let mut process = hello(rt.alloc())?;
+    assert_eq!(rt; process.give(Answer::End), Err(ProcessFault::WrongAnswer));
+    assert_eq!(rt; advance(&mut process, 4), [1, 4, 0, 0]);
+    assert_eq!(rt; process.give(Answer::End), Err(ProcessFault::WrongAnswer));
+    assert_eq!(rt; advance(&mut process, 100), [2, 5, 1, 1]);
     Ok(())
 }
 
