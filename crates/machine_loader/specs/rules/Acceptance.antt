@@ -3,6 +3,7 @@ use Rattle.std.specs.Prelude.{◌≢◌, ℕ, List, Bool, true, false, Option, N
 use Rattle.wasm_syntax.specs.declared.module.Module.{Module}
 use Rattle.wasm_decode.specs.declared.fault.DecodeFault.TheVariants as decode
 use Rattle.wasm_decode.specs.rules.Faults.{place_of}
+use Rattle.wasm_validate.specs.declared.parts.fault.ValidFault.{ValidFault}
 use Rattle.wasm_validate.specs.declared.parts.fault.ValidFault.TheVariants as valid
 use Rattle.machine.specs.declared.instance.fault.LinkFault.TheVariants as link
 use Rattle.wasm_syntax.specs.rules.Modules.{IsModule}
@@ -10,6 +11,7 @@ use Rattle.wasm_syntax.specs.rules.Limits.{IsWithinLimits, HasNoModule}
 use Rattle.wasm_syntax_rules.specs.Validity.{IsValid}
 use Rattle.wasm_syntax_rules.specs.Acceptance.{IsAccepted}
 use Rattle.wasm_validate.specs.rules.Answers.{Denies as DeniesValid}
+use Rattle.wasm_validate.specs.rules.Faults.{HasFault}
 use Rattle.machine.specs.rules.Refusals.{IsRefused}
 use Rattle.machine.specs.rules.Offers.{offer}
 use Rattle.machine.specs.rules.Values.{MachineValue}
@@ -48,17 +50,21 @@ FrontDenies (Valid valid.Memory) P = Unit {0}
 FrontDenies (Link link.Memory) P = Unit {0}
 FrontDenies _ P = P
 
+-- a module that isn't valid is told with a fault of a kind that it has
+abbrev pub IsInvalid : Module → ValidFault → Type 0
+IsInvalid m fault = DeniesValid fault (IsValid m) × HasFault m fault
+
 -- Which of the first two steps refuses, and what it says: no module is spelled; or one is, which isn't valid.
 abbrev pub IsToldOfReading : List ℕ → FrontFault → Type 0
 IsToldOfReading bytes (Decode fault) = fault ≢ decode.Memory → HasNoModule bytes
-IsToldOfReading bytes (Valid fault) = (m : Module) × IsModule bytes m × IsWithinLimits bytes m × DeniesValid fault (IsValid m)
+IsToldOfReading bytes (Valid fault) = (m : Module) × IsModule bytes m × IsWithinLimits bytes m × IsInvalid m fault
 IsToldOfReading bytes (Link fault) = ⊥
 
 -- Which step refuses, and what it says: no module is spelled; or one is, which isn't valid; or it is valid, and this is the
 -- first thing that it wants for linking. Want of memory says only what the steps before found.
 abbrev pub IsTold : ℕ → List ℕ → FrontFault → Type 0
 IsTold pages bytes (Decode fault) = fault ≢ decode.Memory → HasNoModule bytes
-IsTold pages bytes (Valid fault) = (m : Module) × IsModule bytes m × IsWithinLimits bytes m × DeniesValid fault (IsValid m)
+IsTold pages bytes (Valid fault) = (m : Module) × IsModule bytes m × IsWithinLimits bytes m × IsInvalid m fault
 IsTold pages bytes (Link fault) = (m : Module) × IsModule bytes m × IsWithinLimits bytes m × IsValid m × IsRefused pages m fault
 
 -- the host had no room

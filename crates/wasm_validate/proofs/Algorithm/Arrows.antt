@@ -12,11 +12,11 @@ use Rattle.wasm_syntax.specs.declared.value.Value.{Value}
 use Rattle.wasm_syntax.specs.declared.value.Value.TheVariants as value
 use Rattle.wasm_syntax.specs.declared.instruction.Instruction.{Instruction}
 use Rattle.wasm_syntax.specs.declared.instruction.Instruction.TheVariants as instr
-use Rattle.wasm_syntax_rules.specs.Types.{IsOf, is_same_type, are_same_types, takes_of, gives_of, loaded_width, stored_width, bytes_in}
+use Rattle.wasm_syntax_rules.specs.Types.{IsOf, are_same_types, takes_of, gives_of, loaded_width, stored_width, bytes_in}
 use Rattle.wasm_syntax_rules.specs.Typing.{Context, HasRule, HasMemory, IsLabel}
 use Rattle.wasm_syntax_rules.specs.Shapes.{type_of}
 use Rattle.wasm_validate.specs.laws.Checking.{Arrow, Fixed, Jump, Dropping, Selecting, Refused, arrow_of_some, only, has_table, has_memory, is_variable, is_label, are_labels, is_number, arrow_of}
-use Rattle.wasm_syntax_rules.proofs.Soundness.ControlSound.{same_type, same_types, are_same}
+use Rattle.wasm_syntax_rules.proofs.Soundness.ControlSound.{same_types, are_same}
 use Rattle.wasm_syntax.proofs.Grammar.Rising.{both as both_true, there}
 
 -- the operands p are taken and q left

@@ -1,5 +1,5 @@
 -- The check of a whole body.
-use Rattle.std.proofs.Common.{◌≡◌, inl, inr, true, false, List, [], ◌∷◌, ◌++◌, Option, Some, refl, sym, ap, ◌∙◌, subst}
+use Rattle.std.proofs.Common.{◌≡◌, inl, inr, false, [], ◌∷◌, ◌++◌, Option, Some, refl, sym, ap, ◌∙◌, subst}
 use Rattle.std.specs.Prelude.{reverse}
 use Rattle.wasm_syntax.specs.declared.types.ValueType.{ValueType}
 use Rattle.wasm_syntax.specs.declared.types.FunctionType.{FunctionType}
@@ -13,7 +13,7 @@ use Rattle.wasm_validate.specs.declared.body.scope.Scope.{Scope}
 use Rattle.wasm_validate.specs.Body.Scopes.{IsScopeOf}
 use Rattle.wasm_validate.specs.Body.Bodies.{HasBody}
 use Rattle.wasm_validate.specs.laws.Checking.{new_level, checked}
-use Rattle.wasm_validate.specs.laws.Remaining.{FitsOperands, Closes, Ends, Remains}
+use Rattle.wasm_validate.specs.laws.Remaining.{Closes, Ends, Remains}
 use Rattle.wasm_validate.proofs.Algorithm.Sound.{sound, opened_fits as no_operands}
 use Rattle.wasm_validate.proofs.Algorithm.Complete.{complete}
 

@@ -1,6 +1,6 @@
 -- Where the first fault of a body is one of typing, the body has no type even if there were more to
 -- name.
-use Rattle.std.proofs.Common.{◌≡◌, ◌≢◌, ◌⊎◌, inl, inr, ℕ, zero, suc, ◌<◌, ◌≤◌, ◌^◌, Bool, true, false, List, [], ◌∷◌, ◌++◌, length, map, Option, Some, None, refl, sym, ap, ◌∙◌, subst, arith, append_assoc}
+use Rattle.std.proofs.Common.{◌≡◌, ◌≢◌, ◌⊎◌, inl, inr, ℕ, zero, suc, ◌^◌, Bool, true, false, List, [], ◌∷◌, ◌++◌, length, map, Option, Some, None, refl, sym, ap, ◌∙◌, subst, arith, append_assoc}
 use Rattle.std.specs.Prelude.{slice_get, nat_le, is_some, ◌&&◌}
 use Rattle.std.proofs.lemmas.List.{append-nil, map-append}
 use Rattle.std.proofs.lemmas.Nat.{pow_pos}
@@ -12,16 +12,15 @@ use Rattle.wasm_syntax.specs.declared.types.GlobalType.{GlobalType}
 use Rattle.wasm_syntax.specs.declared.module.Code.{Code}
 use Rattle.wasm_syntax.specs.declared.instruction.Instruction.{Instruction}
 use Rattle.wasm_syntax.specs.declared.instruction.Instruction.TheVariants as instr
-use Rattle.wasm_syntax.specs.rules.Sequence.{Sequence, Stop, Plain, InBlock, InLoop, InIf, InIfElse, spelled, IsPlain, IsNested, Spells}
+use Rattle.wasm_syntax.specs.rules.Sequence.{Sequence, Stop, Plain, InBlock, InLoop, InIf, InIfElse, spelled, IsPlain, IsNested}
 use Rattle.wasm_syntax.specs.laws.ReadingItems.{◌>>=◌, check}
-use Rattle.wasm_syntax.proofs.Grammar.Exact.{bind_some}
 use Rattle.wasm_syntax.proofs.Grammar.Rising.{both as both_true}
 use Rattle.wasm_syntax_rules.specs.Types.{are_same_types, bytes_in, gives_of, loaded_width, results_of, stored_width, takes_of}
 use Rattle.wasm_syntax_rules.specs.Typing.{Context, HasType, body_context}
 use Rattle.wasm_validate.specs.declared.parts.fault.ValidFault.{ValidFault}
 use Rattle.wasm_validate.specs.declared.parts.fault.ValidFault.TheVariants.{Typing, Index, Limits}
 use Rattle.wasm_validate.specs.rules.Faults.{WouldHaveBody, extended, labels_behind, unaligned}
-use Rattle.wasm_validate.specs.laws.Checking.{Arrow, Fixed, Jump, Level, Refused, applied, are_labels, arrow_of, arrow_of_some, checked, has_memory, has_table, is_label, is_variable, label_of, labels_of, level_closed, levels_after, may_end, new_level, only, operand_taken, result_returned}
+use Rattle.wasm_validate.specs.laws.Checking.{Arrow, Fixed, Jump, Level, applied, are_labels, arrow_of, arrow_of_some, checked, has_memory, has_table, is_label, is_variable, label_of, labels_of, level_closed, levels_after, may_end, new_level, only, operand_taken, result_returned}
 use Rattle.wasm_validate.specs.laws.FirstFault.{fault_at, fault_in, fault_of, fault_unless, labels_fault, opcode_fault}
 use Rattle.wasm_validate.specs.laws.Remaining.{Ends, Remains}
 use Rattle.wasm_validate.proofs.Algorithm.Complete.{complete}

@@ -1,5 +1,5 @@
 -- The first import that isn't valid, and why no module with it is valid.
-use Rattle.std.proofs.Common.{◌≡◌, ◌⊎◌, ℕ, suc, ◌+◌, ◌<◌, ◌≤◌, Bool, true, false, List, [], ◌∷◌, ◌++◌, length, get_or, drop, inl, inr, refl, sym, ap, ◌∙◌, subst, map, arith, Result, Ok, Err}
+use Rattle.std.proofs.Common.{◌≡◌, ◌⊎◌, ℕ, suc, ◌+◌, ◌<◌, ◌≤◌, Bool, true, false, List, [], ◌∷◌, ◌++◌, length, get_or, drop, inl, inr, refl, sym, subst, map, arith, Result, Ok, Err}
 use Rattle.std.specs.Prelude.{IfErr}
 use Rattle.std.specs.List.{AllByRecursion}
 use Rattle.std.proofs.lemmas.List.{length-append}
@@ -18,7 +18,7 @@ use Rattle.wasm_validate.specs.declared.parts.imports.Before.{Before}
 use Rattle.wasm_validate.specs.declared.parts.fault.ValidFault.{ValidFault}
 use Rattle.wasm_validate.specs.declared.parts.fault.ValidFault.TheVariants.{Typing, Index, Limits, DuplicateExport, Memory}
 use Rattle.wasm_validate.specs.rules.Answers.{Denies}
-use Rattle.wasm_validate.specs.rules.Faults.{AreLimitsKept, HasFault}
+use Rattle.wasm_validate.specs.rules.Faults.{HasFault}
 use Rattle.wasm_validate.specs.Parts.Parts.{AreImportsValid, IsFirstImportFault, IsImportItemValid, import_fault, nothing_before, with_import}
 use Rattle.wasm_validate.proofs.PartLemmas.Imported.{all_left}
 use Rattle.wasm_validate.proofs.PartLemmas.Loops.{next}

@@ -5,7 +5,7 @@ use Rattle.wasm_syntax.specs.declared.instruction.Instruction.{Instruction}
 use Rattle.wasm_syntax_rules.specs.Types.{results_of}
 use Rattle.wasm_syntax_rules.specs.Typing.{Context}
 use Rattle.wasm_validate.specs.declared.parts.fault.ValidFault.{ValidFault}
-use Rattle.wasm_validate.specs.declared.parts.fault.ValidFault.TheVariants.{Typing, Index, Limits, DuplicateExport, Memory}
+use Rattle.wasm_validate.specs.declared.parts.fault.ValidFault.TheVariants.{Typing, Index, Limits, Memory}
 use Rattle.wasm_validate.specs.laws.Checking.{Known, Level, arrow_of, labels_of}
 use Rattle.wasm_validate.specs.laws.FirstFault.{fault_of}
 use Rattle.wasm_validate.specs.Body.Tops.{top_applied}

@@ -1,5 +1,5 @@
 -- What is checked of a module beside the bodies of its functions.
-use Rattle.std.specs.Prelude.{◌≡◌, ◌≤◌, ◌⊎◌, ℕ, Bool, true, false, List, [], ◌∷◌, length, Some, slice_get}
+use Rattle.std.specs.Prelude.{◌≡◌, ◌≤◌, ◌⊎◌, ℕ, true, false, List, [], ◌∷◌, length, Some, slice_get}
 use Rattle.std.specs.List.{AllByRecursion}
 use Rattle.wasm_syntax.specs.declared.types.ValueType.{ValueType}
 use Rattle.wasm_syntax.specs.declared.types.ValueType.TheVariants.{I32}

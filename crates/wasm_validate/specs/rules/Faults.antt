@@ -149,18 +149,20 @@ abbrev pub WouldBeConstant : List GlobalType → List Instruction → ValueType 
 WouldBeConstant globals expression t =
     (more : List GlobalType) × IsConstant (globals ++ more) expression t
 
+-- a global would begin with a constant of its type
+abbrev pub WouldBeGlobal : Module → Global → Type 0
+WouldBeGlobal m g = WouldBeConstant (imported_globals m.imports) g.initial g.global_type.value_type
+
 -- the start function would take and give nothing if more functions were defined
 abbrev pub WouldBeStart : List FunctionType → Option ℕ → Type 0
 WouldBeStart functions start = (more : List FunctionType) × IsStartValid (functions ++ more) start
 
 -- initial values, the start function, offsets and bodies would have their types
 pub record WouldBeTyped (m : Module) (functions : List FunctionType) : Type 0 where
-  pub globals :
-      AllByRecursion
-      (λ (g : Global). WouldBeConstant (imported_globals m.imports) g.initial g.global_type.value_type)
-      m.globals
+  pub globals : AllByRecursion (WouldBeGlobal m) m.globals
   pub start : WouldBeStart functions m.start
-  pub elements : AllByRecursion (λ (e : Element). WouldBeConstant (globals_of m) e.offset I32) m.elements
+  pub elements :
+      AllByRecursion (λ (e : Element). WouldBeConstant (globals_of m) e.offset I32) m.elements
   pub data_segments :
       AllByRecursion (λ (d : Data). WouldBeConstant (globals_of m) d.offset I32) m.data_segments
   pub bodies : AllByRecursion (WouldHaveType m functions) m.functions
@@ -175,7 +177,8 @@ abbrev pub HasFault : Module → ValidFault → Type 0
 HasFault m Typing =
     (functions : List FunctionType) × AreFunctionTypes m functions × (WouldBeTyped m functions → ⊥)
 HasFault m Index =
-    (functions : List FunctionType) → AreFunctionTypes m functions → AreIndicesDefined m functions → ⊥
+    (functions : List FunctionType) → AreFunctionTypes m functions
+    → AreIndicesDefined m functions → ⊥
 HasFault m Limits = AreLimitsKept m → ⊥
 HasFault m DuplicateExport = HaveDistinctNames m.exports → ⊥
 HasFault m Memory = Unit {0}

@@ -1,4 +1,4 @@
-use Rattle.std.proofs.Common.{List, subst, sym, ap, ◌∙◌}
+use Rattle.std.proofs.Common.{List, subst}
 use Rattle.std.specs.Prelude.{IfErr}
 use Rattle.std.proofs.lemmas.Result.{err_from_is_err_and}
 use Rattle.wasm_syntax.specs.declared.module.Function.{Function}

@@ -1,5 +1,3 @@
-use Rattle.std.proofs.Common.{subst, sym}
-use Rattle.std.specs.Prelude.{List}
 use Rattle.std.proofs.lemmas.Result.{err_from_is_err_and}
 use Rattle.wasm_syntax_rules.specs.Types.{results_of}
 use Rattle.wasm_validate.specs.laws.Checking.{labels_of}
