@@ -40,7 +40,8 @@ from_three : (P : ℕ → Type 0) (n : ℕ) → ((k : ℕ) → n ≤ k → P (su
     → 3 + n ≤ k → P k
 from_three P n more k le = peel P (2 + n) (λ a h.
     peel (λ i. P (suc i)) (1 + n) (λ b g.
-    peel (λ i. P (suc (suc i))) n more b (omega (arith, g))) a (omega (arith, h))) k (omega (arith, le))
+    peel (λ i. P (suc (suc i))) n more b (omega (arith, g))) a (omega (arith, h)))
+    k (omega (arith, le))
 
 from_six : (P : ℕ → Type 0) → ((k : ℕ) → P (suc (suc (suc (suc (suc (suc k))))))) → (k : ℕ)
     → 6 ≤ k → P k

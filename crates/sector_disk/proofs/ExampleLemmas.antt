@@ -52,7 +52,8 @@ is_run new j = sector_at new (1 + j) ≡ sector_at eights_and_nines j
 
 abbrev is_front : Image → ℕ → Type 0
 is_front new j = (front : ℕ) × (front ≤ 512)
-    × (sector_at new (1 + j) ≡ front_over front (sector_at eights_and_nines j) (sector_at three (1 + j)))
+    × (sector_at new (1 + j)
+    ≡ front_over front (sector_at eights_and_nines j) (sector_at three (1 + j)))
 
 abbrev whole : Image
 whole = with_both (8 ∷ 8 ∷ []) (9 ∷ 9 ∷ [])

@@ -121,5 +121,6 @@ area_examples = record {
     commits = λ bytes c. differ 7 8 (sym c.count) (omega arith);
     replaces = λ bytes r. differ 7 8 (sym r.count) (omega arith);
   };
-  no_head_yet = λ f. differ 0 7 (sym (byte_of 0 (f.others 2 (before 2 (omega arith))))) (omega arith);
+  no_head_yet = λ f.
+      differ 0 7 (sym (byte_of 0 (f.others 2 (before 2 (omega arith))))) (omega arith);
 }

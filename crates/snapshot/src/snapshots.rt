@@ -8,9 +8,7 @@ use disk_layout::{Geometry, Head};
 use sector_disk::Disk;
 use std::alloc::Global;
 use std::mem;
-
-/// Generations are below this.
-const GENERATIONS: u64 = 1 << 63;
+use wasi_abi::NUMBERS_END;
 
 #[derive(Drop)]
 pub(crate) enum State {
@@ -31,6 +29,7 @@ pub struct Snapshots {
 
 impl Snapshots {
     ghost use Rattle.std.specs.Prelude.{◌+◌, ◌*◌, ◌/◌, ◌^◌, ◌++◌, ◌↔◌, false, ℕ, List, length, ◌≡◌, ◌≤◌, ◌<◌, ◌⊎◌, IsTrue, OnOk, IfOk, IsErr};
+    ghost use Rattle.wasi_abi.specs.declared.numbers.TheConstants.{NUMBERS_END};
     ghost use Rattle.sector_disk.specs.declared.sector.TheConstants.{SECTOR_SIZE};
     ghost use Rattle.sector_disk.specs.rules.Image.{Image};
     ghost use Rattle.sector_disk.specs.rules.Medium.{LeavesOnly, After, Follows, CountsUpTo, IsAllSynced, spare};
@@ -128,7 +127,7 @@ impl Snapshots {
     }
 
     /// Begins the image of this generation, which is given by `push` and ends with `finish`. It makes no call of
-    /// the disk. It is `TooBig` for a generation from 2^63 on. An image that was begun before is left as it is.
+    /// the disk. It is `TooBig` for a generation from `NUMBERS_END` on. An image that was begun before is left as it is.
     pub fn begin(
         &mut self,
         generation: u64,
@@ -136,14 +135,14 @@ impl Snapshots {
         writing: Writing,
     ) -> Result<(), SnapshotFault>
         ensures begun { OnOk result (IsBegun generation version writing self.new) }
-        ensures too_big { (result ≡ Err SnapshotFault.TooBig) ↔ ((is_failed self.old ≡ false) × (2 ^ 63 ≤ generation)) }
+        ensures too_big { (result ≡ Err SnapshotFault.TooBig) ↔ ((is_failed self.old ≡ false) × (NUMBERS_END ≤ generation)) }
         ensures fails { StaysFailed result self.old self.new }
         ensures cause { IsErr result → IsTrue (is_failed self.old) ⊎ (result ≡ Err SnapshotFault.TooBig) }
     {
         if self.is_failed() {
             return Err(SnapshotFault::Failed);
         }
-        if generation >= GENERATIONS {
+        if generation >= NUMBERS_END {
             self.state = State::Failed;
             return Err(SnapshotFault::TooBig);
         }
@@ -274,7 +273,7 @@ impl Snapshots {
         ensures spared { OnOk result (SparesAllButHead (area_place geometry.now generation) 0
             (rounded_up (length image.now)) (D.medium disk.old) (D.medium disk.new)) }
 
-        ensures too_big { (result ≡ Err SnapshotFault.TooBig) ↔ ((is_failed self.old ≡ false) × ((2 ^ 63 ≤ generation) ⊎ (SECTOR_SIZE * geometry.now.area_sectors < length image.now))) }
+        ensures too_big { (result ≡ Err SnapshotFault.TooBig) ↔ ((is_failed self.old ≡ false) × ((NUMBERS_END ≤ generation) ⊎ (SECTOR_SIZE * geometry.now.area_sectors < length image.now))) }
         ensures untouched { IsTrue (is_failed self.old) ⊎ (result ≡ Err SnapshotFault.TooBig) → disk.new ≡ disk.old }
         ensures fails { StaysFailed result self.old self.new }
         ensures cause { IsErr result → IsTrue (is_failed self.old) ⊎ (result ≡ Err SnapshotFault.TooBig) ⊎ ((fault : DiskFault) × (result ≡ Err (SnapshotFault.Disk fault)) × ((spare (D.medium disk.old) < geometry.now.area_sectors) ⊎ ((D.medium disk.old).room ≡ 0) ⊎ ((D.medium disk.old).faults < (D.medium disk.new).faults))) }

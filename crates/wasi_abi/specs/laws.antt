@@ -1,2 +1,3 @@
 pub mod ConfigLimits
 pub mod Laws
+pub mod NumbersEnd

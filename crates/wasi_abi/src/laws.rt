@@ -3,6 +3,7 @@
 ghost use Rattle.std.specs.Prelude.{◌≡◌, [], ◌∷◌, bit_or, map};
 ghost use Rattle.wasi_abi.specs.rules.Calls.{module_name};
 ghost use Rattle.wasi_abi.specs.laws.ConfigLimits.{ConfigLimitNumbers};
+ghost use Rattle.wasi_abi.specs.laws.NumbersEnd.{NumbersEndThere};
 ghost use Rattle.wasi_abi.specs.laws.Laws.{ErrorsAreNoSuccess, right_masks, CallsDiffer, LayoutSizes, BytesSpellNumbers, WorkedDirectory};
 ghost use Rattle.wasi_abi.specs.rules.Numbers.{rights_number, file_rights, directory_rights, all_rights, input_rights, output_rights};
 
@@ -56,6 +57,11 @@ pub fn bytes_spell_numbers()
 /// Entries of a directory, byte by byte.
 pub fn worked_directory()
     ensures { WorkedDirectory }
+{}
+
+/// Where the numbers of steps, lines and generations end.
+pub fn numbers_end_is()
+    ensures { NumbersEndThere }
 {}
 
 /// What a configuration may have at most and has at least.

@@ -12,9 +12,10 @@
 //! - `fits` is true exactly where an answer is one to what was asked (`Fits`).
 //! - `Config::new` answers Ok exactly within the limits (`ok`), and else `C1 Range` (`range`) or
 //!   `C2 Text` (`text`). A `Config` is within its limits by its type (`within`).
-//! - Seven calls that do nothing ensure laws: numbers of rights, of errors and of calls
+//! - Nine calls that do nothing ensure laws: numbers of rights, of errors and of calls
 //!   (`calls_differ`), sizes of layouts (`layouts_have_their_sizes`), bytes and numbers
-//!   (`bytes_spell_numbers`).
+//!   (`bytes_spell_numbers`), limits (`configuration_limits_are`), and the end of the numbers of
+//!   steps, lines and generations (`numbers_end_is`).
 //!
 //! # Definitions to read
 //!
@@ -36,6 +37,7 @@ mod errno;
 mod file_type;
 mod laws;
 mod layout;
+mod numbers;
 mod rights;
 
 pub use answer::{Answer, Kind, fits};
@@ -44,8 +46,10 @@ pub use config::{Config, ConfigFault};
 pub use errno::Errno;
 pub use file_type::FileType;
 pub use laws::{
-    bytes_spell_numbers, calls_differ, errors_are_no_success, layouts_have_their_sizes,
-    rights_have_their_bits, sets_have_their_rights, worked_directory,
+    bytes_spell_numbers, calls_differ, configuration_limits_are, errors_are_no_success,
+    layouts_have_their_sizes, numbers_end_is, rights_have_their_bits, sets_have_their_rights,
+    worked_directory,
 };
 pub use layout::{Dirent, Fdstat, Filestat, Iovec, Prestat};
+pub use numbers::NUMBERS_END;
 pub use rights::Rights;

@@ -24,7 +24,13 @@ seven_head version g = record {
 
 -- a disk with two heads of such images, and two areas of a sector
 abbrev pub two_areas : Geometry
-two_areas = record { config = 0; wasm = 0; module_sectors = 0; area_sectors = 1; journal_sectors = 0 }
+two_areas = record {
+  config = 0;
+  wasm = 0;
+  module_sectors = 0;
+  area_sectors = 1;
+  journal_sectors = 0;
+}
 
 abbrev pub seven_disk : List ℕ → List ℕ → Image
 seven_disk first second = [] ∷ first ∷ second ∷ (9 ∷ []) ∷ (7 ∷ 8 ∷ []) ∷ []

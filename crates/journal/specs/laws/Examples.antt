@@ -90,7 +90,8 @@ pub record BarrierExamples : Type 0 where
   pub torn : AppendsEnd (behind_hello torn_end [])
   pub lost : AppendsEnd ([] ∷ [] ∷ [] ∷ [] ∷ [] ∷ [] ∷ (9 ∷ []) ∷ []) → ⊥
   pub shows_a_later_one : AppendsEnd (behind_hello [] (journal_sector 6 3 (7 ∷ []))) → ⊥
-  pub super_changed : AppendsEnd ((7 ∷ []) ∷ [] ∷ [] ∷ journal_sector 5 1 (record_bytes hello_record)
+  pub super_changed : AppendsEnd ((7 ∷ []) ∷ [] ∷ [] ∷
+      journal_sector 5 1 (record_bytes hello_record)
       ∷ [] ∷ [] ∷ (9 ∷ []) ∷ []) → ⊥
   pub changed_behind : AppendsEnd ([] ∷ [] ∷ [] ∷ journal_sector 5 1 (record_bytes hello_record)
       ∷ [] ∷ [] ∷ (8 ∷ []) ∷ []) → ⊥

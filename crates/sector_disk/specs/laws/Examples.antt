@@ -1,11 +1,12 @@
 -- Worked examples of images, of runs of writes, and of what is counted.
-use Rattle.std.specs.Prelude.{◌≡◌, ◌+◌, ◌-◌, ◌^◌, ◌++◌, ℕ, List, [], ◌∷◌, Option, Some, None, replicate, refl}
+use Rattle.std.specs.Prelude.{◌≡◌, ◌<◌, ◌≤◌, ◌+◌, ◌-◌, ◌^◌, ◌++◌, ℕ, List, [], ◌∷◌, Option, Some, None, replicate, refl, Bool, IsTrue}
 use Rattle.sector_disk.specs.rules.Image.{Image, sector_at, with_sector, front_over, with_front, IsImage, IsTornWithin}
-use Rattle.sector_disk.specs.rules.Medium.{Medium}
+use Rattle.std.proofs.Common.{arith}
+use Rattle.sector_disk.specs.rules.Medium.{Medium, spare}
 use Rattle.sector_disk.specs.rules.Run.{IsTornRun, IsWrittenRun}
 use Rattle.sector_disk.specs.rules.Pending.{replayed, torn_by}
 use Rattle.sector_disk.specs.rules.Answered.{AnsweredCalls, faults_of, unsynced_of}
-use Rattle.sector_disk.specs.rules.Trouble.{counted, call_number, trouble_at, place_numbers, troubled}
+use Rattle.sector_disk.specs.rules.Trouble.{counted, call_number, trouble_at, place_numbers, troubled, LeavesFront}
 use Rattle.sector_disk.specs.declared.write.Write.{Write}
 use Rattle.sector_disk.specs.declared.place.Place.{Place}
 use Rattle.sector_disk.specs.declared.trouble.Trouble.TheVariants.{Stops, Stopped, Fails}
@@ -98,7 +99,8 @@ pub record CountExamples : Type 0 where
   pub told : place_numbers (at_third 7) ≡ 1 ∷ 3 ∷ 7 ∷ []
   pub told_nothing : place_numbers None ≡ 0 ∷ []
 
--- These two stand here with their proofs: they speak of any disk, as no contract can.
+-- ---- laws of any disk, which no contract can name: they stand here with their proofs
+
 pub troubles_are_faults : (below : Medium) (stop fail : Option Place) (n : ℕ)
     → (troubled below stop fail n).faults ≡ below.faults + n
 troubles_are_faults below stop fail n = refl
@@ -106,3 +108,18 @@ troubles_are_faults below stop fail n = refl
 pub both_are_told : (below : Medium) (stop fail : Option Place) (n : ℕ)
     → (troubled below stop fail n).told ≡ place_numbers stop ++ place_numbers fail ++ below.told
 both_are_told below stop fail n = refl
+
+-- a front is taken wherever there is room for one more write
+pub front_is_taken : (front k : ℕ) (bytes : List ℕ) (is_taken : Bool) (old new : Medium)
+    → LeavesFront front k bytes is_taken old new → k < old.sectors → old.unsynced + 1 ≤ old.room
+    → new.faults ≡ old.faults → IsTrue is_taken
+front_is_taken front k bytes is_taken old new leaves inside room same =
+    leaves.taken inside (let some : 0 < spare old = omega (arith, room) in some) same
+
+-- reads then give just that front over what they gave
+pub front_is_exact : (front k : ℕ) (bytes : List ℕ) (is_taken : Bool) (old new : Medium)
+    (shown left : Image) → LeavesFront front k bytes is_taken old new → IsTrue is_taken
+    → new.may shown left → (was : Image) × old.shows was × (shown ≡ with_front was k front bytes)
+front_is_exact front k bytes is_taken old new shown left leaves taken may =
+    let both = leaves.exactly taken shown left may in
+    (both.0, (old.of_may both.0 both.1 both.2).0, both.3)
