@@ -40,7 +40,7 @@ no_more_entries p (n ∷ ns) = by (entry_of p n) refl (no_more_entries p ns) whe
 -- ---- each entry
 
 -- two paths that are the same end in one name
-one_last : (a b : Path) (x y : Name) → a ++ x ∷ [] ≡ b ++ y ∷ [] → x ≡ y
+pub one_last : (a b : Path) (x y : Name) → a ++ x ∷ [] ≡ b ++ y ∷ [] → x ≡ y
 one_last [] [] x y e = cc
 one_last [] (n ∷ b) x y e = absurd (omega (arith, ap length e, length-append b (y ∷ [])))
 one_last (m ∷ a) [] x y e = absurd (omega (arith, ap length e, length-append a (x ∷ [])))

@@ -9,3 +9,5 @@ mod FilesWithin
 mod HostWithin
 mod MachineWithin
 mod Whole
+mod ExamplesHold
+mod RefusalsHold

@@ -74,13 +74,13 @@ own_path fs is n among = ap (option_and_then (λ (x : FileNode). x.path))
     (found_own 1 fs.nodes fs.next n is.rising among)
 
 -- the node that has a path
-record IsAt (fs : Files) (k : ℕ) (p : Path) : Type 0 where
+pub record IsAt (fs : Files) (k : ℕ) (p : Path) : Type 0 where
   pub node : FileNode
   pub among : IsAmong node fs.nodes
   pub number : node.number ≡ k
   pub path : node.path ≡ Some p
 
-is_at : (fs : Files) (k : ℕ) (p : Path) → path_of fs k ≡ Some p → IsAt fs k p
+pub is_at : (fs : Files) (k : ℕ) (p : Path) → path_of fs k ≡ Some p → IsAt fs k p
 is_at fs k p e = by (node_of fs k) refl e where
   by : (o : Option FileNode) → node_of fs k ≡ o
       → option_and_then (λ (x : FileNode). x.path) o ≡ Some p → IsAt fs k p

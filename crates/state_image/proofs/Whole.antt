@@ -33,7 +33,7 @@ use Rattle.state_image.proofs.MachineWithin.{machine_within}
 -- ---- within the fields
 
 -- what a process has is within the fields of its image
-record IsWithin (s : Saved) : Type 0 where
+pub record IsWithin (s : Saved) : Type 0 where
   pub counts : HasCounts s
   pub code : IsIn 4 (ending_code s.ended)
   pub streams : HasStreams s
@@ -71,7 +71,7 @@ streams_within m config s w =
       second = omega (arith, second, ap length w.shown.second);
     }
 
-is_within : (m : Module) (config : Settings) (s : Saved) → IsWellTyped m config s → IsWithin s
+pub is_within : (m : Module) (config : Settings) (s : Saved) → IsWellTyped m config s → IsWithin s
 is_within m config s w =
     let steps : s.steps < 2 ^ 63 = w.steps in
     let next : IsIn 8 s.files.next = omega (arith, steps, w.next) in
@@ -93,7 +93,7 @@ is_within m config s w =
 -- ---- what is to come
 
 -- the outermost frame's function is one that the host has called
-called : (b : EntryPoints) (later : List ℕ) (places : List ShownFrame) → places ≢ []
+pub called : (b : EntryPoints) (later : List ℕ) (places : List ShownFrame) → places ≢ []
     → IsOutermost b later places → (f : ℕ) × IsCalled b later f
 called b later [] some h = absurd (some refl)
 called b later (place ∷ []) some h = (place.function, h)

@@ -1,2 +1,4 @@
 pub mod Examples
+pub mod ImageExamples
 pub mod Laws
+pub mod Refusals

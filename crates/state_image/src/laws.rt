@@ -1,6 +1,10 @@
 //! Laws of the image.
 
 ghost use Rattle.state_image.specs.laws.Examples.{FreshImageSize};
+ghost use Rattle.state_image.specs.laws.ImageExamples.{ImagesOnExamples};
+ghost use Rattle.wasi_abi.specs.rules.Configs.{Settings};
+ghost use Rattle.state_image.specs.laws.Refusals.{RefusesCounts, RefusesStreams, RefusesMachines};
+ghost use Rattle.state_image.specs.laws.Refusals.{RefusesFiles, RefusesDescriptors};
 ghost use Rattle.state_image.specs.laws.Laws.{ImagesTellProcessesApart};
 
 /// The image of a well-typed process is that of no other one.
@@ -11,4 +15,18 @@ pub fn images_tell_processes_apart()
 /// The size of the image of a process that has just begun.
 pub fn a_fresh_image_has_its_size()
     ensures { FreshImageSize }
+{}
+
+/// The whole image of a small process, and phases and codes of others.
+pub fn images_on_examples()
+    ensures { ImagesOnExamples }
+{}
+
+/// What no well-typed process has, clause by clause.
+pub fn others_are_refused()
+    ensures counts { (config : Settings) → RefusesCounts config }
+    ensures streams { (config : Settings) → RefusesStreams config }
+    ensures machines { (config : Settings) → RefusesMachines config }
+    ensures files { (config : Settings) → RefusesFiles config }
+    ensures descriptors { (config : Settings) → RefusesDescriptors config }
 {}

@@ -8,6 +8,11 @@
 //! - `laws::a_fresh_image_has_its_size`: the image of a process that has just begun, with one page
 //!   of memory and an empty file system, has 65,811 bytes.
 //!
+//! - `laws::images_on_examples`: the whole image of a small process, byte by byte, and phases and
+//!   codes of others.
+//! - `laws::others_are_refused`: what no well-typed process has: counts, streams, memories, files
+//!   and descriptors just beyond what is allowed.
+//!
 //! Nothing else is proved here.
 //!
 //! # Definitions to read
