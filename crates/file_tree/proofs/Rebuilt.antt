@@ -188,7 +188,7 @@ length_kept : (fs : Files) (ns : List FileNode)
 length_kept fs [] h = refl
 length_kept fs (n ∷ ns) h = ap suc (length_kept fs ns h.1)
 
-path_there : (o : Option FileNode) (p : Path)
+pub path_there : (o : Option FileNode) (p : Path)
     → option_and_then (λ (n : FileNode). n.path) o ≡ Some p
     → (n : FileNode) × (o ≡ Some n) × (n.path ≡ Some p)
 path_there None p e = absurd (cc)
