@@ -22,3 +22,5 @@ pub mod DistinctNames
 pub mod Closest
 pub mod NearestNodes
 pub mod StoreLemmas
+pub mod Rebuilt
+pub mod KeptFiles

@@ -3,6 +3,8 @@ pub mod Steps
 pub mod HostChanges
 pub mod RowChanges
 pub mod Configured
+pub mod GivenNames
+pub mod HostBytes
 pub mod Puts
 pub mod Supplies
 pub mod SmallRows

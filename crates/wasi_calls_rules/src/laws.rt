@@ -26,7 +26,7 @@ ghost use Rattle.wasi_calls_rules.specs.laws.StoryExamples.{RenameStory, UnlinkS
 ghost use Rattle.wasi_calls_rules.specs.laws.StoryExamples.{AnswerStory, PageStory};
 ghost use Rattle.wasi_calls_rules.specs.laws.CallLimits.{CallLimitNumbers};
 ghost use Rattle.wasi_calls_rules.specs.laws.Laws.{RowsKeepMemory, RowsKeepBytes, RowsEmit};
-ghost use Rattle.wasi_calls_rules.specs.laws.Laws.{RowsKeepConfigurations};
+ghost use Rattle.wasi_calls_rules.specs.laws.Laws.{RowsKeepConfigurations, RowsKeepHostsOfBytes};
 ghost use Rattle.wasi_calls_rules.specs.laws.Laws.{RowsMakeOneNodeAtMost};
 ghost use Rattle.wasi_calls_rules.specs.laws.Laws.{TestsTellWhatFits};
 
@@ -131,6 +131,11 @@ pub fn calls_emit_lines()
 /// A call that is done makes one node at most, and gives no number twice.
 pub fn calls_make_one_node_at_most()
     ensures { RowsMakeOneNodeAtMost }
+{}
+
+/// Where memory and the host hold bytes, the host holds bytes after a call that is done.
+pub fn calls_keep_hosts_of_bytes()
+    ensures { RowsKeepHostsOfBytes }
 {}
 
 /// No call that is done changes what the host was configured with.

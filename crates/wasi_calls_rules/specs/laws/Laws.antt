@@ -6,7 +6,7 @@ use Rattle.wasi_abi.specs.declared.answer.Answer.{Answer}
 use Rattle.wasi_abi.specs.declared.call.Call.{Call}
 use Rattle.wasi_abi.specs.rules.Answers.{Fits, AreBytes}
 use Rattle.file_tree.specs.rules.Files.{Path, Content, Directory, File, FileNode}
-use Rattle.wasi_calls_rules.specs.Hosts.{Line, Host}
+use Rattle.wasi_calls_rules.specs.Hosts.{Line, Host, IsHost}
 use Rattle.wasi_calls_rules.specs.Checks.{Bytes, Done, does_fit}
 use Rattle.wasi_calls_rules.specs.Rows.{row}
 
@@ -66,6 +66,18 @@ pub record IsConfiguredAs (before after : Host) : Type 0 where
 abbrev pub RowsKeepConfigurations : Type 0
 RowsKeepConfigurations = (c : Call) (arguments : List ℕ) (given : Option Answer) (m : Bytes)
     (h : Host) (done : Done) → row c arguments given m h ≡ Ok done → IsConfiguredAs h done.host
+
+-- where memory and the host hold bytes, the host holds bytes after a call that is done
+abbrev pub RowsKeepHostsOfBytes : Type 0
+RowsKeepHostsOfBytes = (c : Call) (arguments : List ℕ) (given : Option Answer) (m : Bytes)
+    (h : Host) (done : Done) → AreBytes m → IsOfBytes h → row c arguments given m h ≡ Ok done
+    → IsOfBytes done.host
+
+-- where memory holds bytes, what a call that is done leaves of a host is a host
+abbrev pub RowsKeepHosts : Type 0
+RowsKeepHosts = (c : Call) (arguments : List ℕ) (given : Option Answer) (m : Bytes)
+    (h : Host) (done : Done) → AreBytes m → IsHost h → row c arguments given m h ≡ Ok done
+    → IsHost done.host
 
 -- at most one number more was given to a node, and none was taken back
 pub record MakesOneNodeAtMost (before after : Host) : Type 0 where

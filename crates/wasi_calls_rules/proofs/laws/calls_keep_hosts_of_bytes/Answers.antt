@@ -1,0 +1,5 @@
+use Rattle.wasi_calls_rules.proofs.HostBytes.{rows_keep_hosts_of_bytes}
+use Rattle.wasi_calls_rules.proofs.laws.calls_keep_hosts_of_bytes.Goals as goal
+
+pub returns : goal.returns
+returns c = rows_keep_hosts_of_bytes
