@@ -11,3 +11,5 @@ mod MachineWithin
 mod Whole
 mod ExamplesHold
 mod RefusalsHold
+mod FirstHost
+mod HelloWellTyped

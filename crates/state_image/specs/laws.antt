@@ -2,3 +2,4 @@ pub mod Examples
 pub mod ImageExamples
 pub mod Laws
 pub mod Refusals
+pub mod WellTypedExamples

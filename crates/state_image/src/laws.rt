@@ -5,6 +5,7 @@ ghost use Rattle.state_image.specs.laws.ImageExamples.{ImagesOnExamples};
 ghost use Rattle.wasi_abi.specs.rules.Configs.{Settings};
 ghost use Rattle.state_image.specs.laws.Refusals.{RefusesCounts, RefusesStreams, RefusesMachines};
 ghost use Rattle.state_image.specs.laws.Refusals.{RefusesFiles, RefusesDescriptors};
+ghost use Rattle.state_image.specs.laws.WellTypedExamples.{HelloBeginsWellTyped};
 ghost use Rattle.state_image.specs.laws.Laws.{ImagesTellProcessesApart};
 
 /// The image of a well-typed process is that of no other one.
@@ -20,6 +21,11 @@ pub fn a_fresh_image_has_its_size()
 /// The whole image of a small process, and phases and codes of others.
 pub fn images_on_examples()
     ensures { ImagesOnExamples }
+{}
+
+/// The process that `hello` begins as is well typed.
+pub fn hello_begins_well_typed()
+    ensures { HelloBeginsWellTyped }
 {}
 
 /// What no well-typed process has, clause by clause.

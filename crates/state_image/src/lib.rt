@@ -10,6 +10,8 @@
 //!
 //! - `laws::images_on_examples`: the whole image of a small process, byte by byte, and phases and
 //!   codes of others.
+//! - `laws::hello_begins_well_typed`: the process that `hello` begins as is well typed, under any
+//!   configuration with a page.
 //! - `laws::others_are_refused`: what no well-typed process has: counts, streams, memories, files
 //!   and descriptors just beyond what is allowed.
 //!

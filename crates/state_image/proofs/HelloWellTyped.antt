@@ -1,0 +1,250 @@
+-- The process that `hello` begins as is well typed.
+use Rattle.std.proofs.Common.{◌≡◌, inl, ℕ, zero, suc, ◌^◌, ◌≤◌, List, [], ◌∷◌, length}
+use Rattle.std.proofs.Common.{replicate, Some, None, refl, subst, lit≤, arith}
+use Rattle.std.specs.List.{AllByRecursion}
+use Rattle.std.proofs.lemmas.List.{length-replicate}
+use Rattle.wasm_syntax.specs.declared.types.FunctionType.{FunctionType}
+use Rattle.wasm_syntax.specs.laws.Examples.{hello, no_type, transfer_type, exit_type}
+use Rattle.guest_memory.specs.rules.Bytes.{IsByte}
+use Rattle.wasm_syntax_rules.specs.Typing.{Context, HasType, body_context}
+use Rattle.wasm_syntax_rules.specs.Validity.{memories_of, module_context}
+use Rattle.wasm_syntax_rules.specs.Configuration.{Own, Program, Configuration}
+use Rattle.wasm_syntax_rules.specs.Instantiation.{IsProgram, filled_memory, empty_memory}
+use Rattle.wasm_syntax_rules.specs.Steps.{here, on}
+use Rattle.wasm_syntax_rules.specs.Typed.{IsTyped}
+use Rattle.wasm_syntax_rules.specs.laws.Examples.{program_of_hello, hello_sequence, in_hello}
+use Rattle.wasm_syntax_rules.proofs.Soundness.Beginning.{programs_typed}
+use Rattle.wasi_abi.specs.declared.call.Call.TheVariants as call
+use Rattle.wasi_abi.specs.rules.Configs.{Settings}
+use Rattle.process_rules.specs.Processes.{ProcessState, Guest, IsStart, host_of}
+use Rattle.process_rules.proofs.ExamplesValid.{hello_spells, hello_is_valid}
+use Rattle.machine_slots.specs.rules.Places.{Shows}
+use Rattle.state_image.specs.rules.WellTyped.{IsWellTyped}
+use Rattle.state_image.specs.laws.Examples.{fresh_process}
+use Rattle.state_image.specs.laws.WellTypedExamples.{hello_first_memory, HelloBeginsWellTyped}
+use Rattle.state_image.proofs.FirstHost.{first_is_host}
+
+-- ---- memory
+
+memory : List ℕ
+memory = hello_first_memory
+
+is_first : memory ≡ hello_first_memory
+unfolding memory
+is_first = refl
+
+filled : filled_memory [] hello.data_segments (empty_memory (memories_of hello)) ≡ Some memory
+unfolding memory
+filled = refl
+
+one_page_long : length memory ≡ 65536
+unfolding memory
+one_page_long = omega (arith, length-replicate {A = ℕ} 65525 0)
+
+zeros : (n : ℕ) → AllByRecursion IsByte (replicate n 0)
+zeros zero = tt
+zeros (suc n) = (omega arith, zeros n)
+
+low : (n : ℕ) → n ≤ 255 → IsByte n
+low n le = omega (arith, le)
+
+memory_bytes : AllByRecursion IsByte memory
+unfolding memory
+memory_bytes = (
+  low 8 (lit≤ tt),
+  (
+    low 0 (lit≤ tt),
+    (
+      low 0 (lit≤ tt),
+      (
+        low 0 (lit≤ tt),
+        (
+          low 3 (lit≤ tt),
+          (
+            low 0 (lit≤ tt),
+            (
+              low 0 (lit≤ tt),
+              (
+                low 0 (lit≤ tt),
+                (
+                  low 104 (lit≤ tt),
+                  (low 105 (lit≤ tt), (low 10 (lit≤ tt), zeros 65525)),
+                ),
+              ),
+            ),
+          ),
+        ),
+      ),
+    ),
+  ),
+)
+
+-- ---- how it begins
+
+abbrev program_under : Settings → Program
+program_under config = record program_of_hello { most_pages = config.pages }
+
+abbrev first : Configuration
+first = in_hello (record { memory = memory; globals = []; table = [] }) [] hello_sequence
+
+abbrev guest_of : Settings → Guest
+guest_of config = record
+    { program = program_under config; calls = call.FdWrite ∷ call.ProcExit ∷ [] }
+
+abbrev first_of : Settings → ProcessState
+first_of config = record {
+  configuration = first;
+  host = host_of config;
+  steps = 0;
+  answers = 0;
+  requests = 0;
+  ended = None;
+}
+
+is_program : (config : Settings) → IsProgram hello config.pages (program_under config)
+is_program config = record {
+  types = refl;
+  functions = (refl, (refl, (refl, refl, hello_spells, tt)));
+  most_pages = refl;
+}
+
+begins : (config : Settings) → IsStart hello config (guest_of config) (first_of config)
+begins config = record {
+  entry = 2;
+  first = first;
+  exported = inl (refl, refl);
+  calls = (refl, refl, (refl, refl, tt));
+  begins = record {
+    is_program = is_program config;
+    store = record { memory = memory; globals = []; table = [] };
+    is_store = record { globals = tt; table = refl; memory = filled };
+    settles = on refl (here refl);
+  };
+  is = refl;
+}
+
+-- ---- what it shows
+
+abbrev functions : List FunctionType
+functions = transfer_type ∷ exit_type ∷ no_type ∷ []
+
+abbrev context : Context
+context = module_context hello functions
+
+body_typed : (config : Settings) → config.pages ≤ 2 ^ 16
+    → HasType (body_context context no_type []) ([] ∷ []) hello_sequence [] []
+body_typed config few =
+    (programs_typed config.pages hello functions (program_under config) few hello_is_valid
+    (refl, (refl, (refl, tt))) (is_program config)).bodies
+    2 (Own no_type [] hello_sequence) refl
+
+typed : (config : Settings) → 1 ≤ config.pages → config.pages ≤ 2 ^ 16
+    → IsTyped context (program_under config) first
+typed config some few = record {
+  store = record {
+    memory = record { pages = 1; whole = one_page_long; within = some; bytes = memory_bytes };
+    globals = tt;
+    table = tt;
+  };
+  thread = (
+    no_type,
+    [],
+    hello_sequence,
+    refl,
+    record {
+      branches = [] ∷ [];
+      types = [];
+      out = [];
+      locals = tt;
+      values = tt;
+      typed_rest = body_typed config few;
+      typed_labels = ([], [], refl, tt, refl, refl, refl);
+    },
+    tt,
+  );
+  later = tt;
+}
+
+shows : (config : Settings) → 1 ≤ config.pages → config.pages ≤ 2 ^ 16
+    → Shows context (program_under config) [] (fresh_process memory).machine first
+shows config some few = record {
+  typed = typed config some few;
+  settled = refl;
+  memory = refl;
+  globals = refl;
+  same_table = refl;
+  later = refl;
+  frames = (
+    record {
+      kind = no_type;
+      declared = [];
+      body = hello_sequence;
+      is = refl;
+      same = refl;
+    },
+    record {
+      shape = _;
+      reached = refl;
+      remains = refl;
+      more = λ e. absurd cc;
+      labels_are = (refl, refl, tt, refl, tt);
+      operands = tt;
+      locals = tt;
+      slots = refl;
+    },
+    tt,
+  );
+  few_frames = lit≤ tt;
+  few_values = omega arith;
+}
+
+-- ---- it is well typed
+
+well_typed : (config : Settings) → 1 ≤ config.pages → config.pages ≤ 2 ^ 16
+    → IsWellTyped hello config (fresh_process memory)
+unfolding begins
+well_typed config some few = record {
+  valid = hello_is_valid;
+  guest = guest_of config;
+  start = first_of config;
+  begins = begins config;
+  functions = functions;
+  function_types = (refl, (refl, (refl, tt)));
+  process = first_of config;
+  shown = record {
+    machine = shows config some few;
+    files = refl;
+    descriptors = refl;
+    unread = refl;
+    input_ended = refl;
+    last_monotonic = refl;
+    first = refl;
+    second = refl;
+    steps = refl;
+    answers = refl;
+    requests = refl;
+    lines = refl;
+    ended = refl;
+  };
+  host = first_is_host _ _ _ _;
+  configured = record { room = refl; limit = refl; arguments = refl; environment = refl };
+  outermost = refl;
+  alive = λ e. absurd cc;
+  steps = omega arith;
+  lines = omega arith;
+  answers = omega arith;
+  requests = omega arith;
+  fields = record {
+    code = omega arith;
+    globals = omega arith;
+    frames = (record { function = omega arith; position = omega arith; slots = omega arith }, tt);
+    memory = omega (arith, one_page_long);
+  };
+  unread = omega arith;
+  next = omega arith;
+}
+
+pub hello_begins_well_typed : HelloBeginsWellTyped
+hello_begins_well_typed config some few =
+    subst (λ (m : List ℕ). IsWellTyped hello config (fresh_process m)) is_first
+    (well_typed config some few)
