@@ -5,7 +5,7 @@ use std::alloc::{AllocError, Global};
 use std::io::{self, BufRead, ErrorKind, Read, Write};
 use std::test::Fail;
 use wasi_abi::{Answer, Kind};
-use wasmhost_serve::{LineFault, LineOutlet, Request, RequestSource, read_request};
+use wasmhost_serve::{BufferedLines, LineFault, LineOutlet, Request, RequestSource, read_request};
 
 #[test]
 fn reads_both_forms(rt: HostRuntime) -> Result<(), Fail> {
@@ -123,9 +123,18 @@ fn letters(said: &Result<Option<Answer>, SourceFault>) -> (u8, Option<u8>) {
     }
 }
 
+/// A source over the lines of a reader, behind so many requests.
+fn source_over<R: BufRead + Drop>(
+    alloc: Global,
+    reader: R,
+    taken: u64,
+) -> RequestSource<BufferedLines<R>> {
+    RequestSource::new(alloc, BufferedLines::new(reader), taken)
+}
+
 /// What a source says of request after request.
 fn collect_answers<R: BufRead + Drop>(
-    source: &mut RequestSource<R>,
+    source: &mut RequestSource<BufferedLines<R>>,
     times: usize,
     out: &mut Vec<u8>,
 ) -> Result<(), AllocError> {
@@ -154,7 +163,7 @@ fn answers_the_next_request(rt: HostRuntime) -> Result<(), Fail> {
         (0, b"", 1, b"-", None),
     ];
     for (taken, input, times, wanted, fault) in rows {
-        let mut source = RequestSource::new(rt.alloc(), input, taken);
+        let mut source = source_over(rt.alloc(), input, taken);
         let mut out = Vec::new(rt.alloc());
         collect_answers(&mut source, times, &mut out)?;
         assert_eq!(rt; out.as_slice(), wanted);
@@ -185,7 +194,7 @@ impl BufRead for Broken {
 #[test]
 fn a_failed_read_is_a_fault(rt: HostRuntime) -> Result<(), Fail> {
     let reader = b"1 r a\n2 r b".as_slice().chain(Broken);
-    let mut source = RequestSource::new(rt.alloc(), reader, 0);
+    let mut source = source_over(rt.alloc(), reader, 0);
     let mut out = Vec::new(rt.alloc());
     collect_answers(&mut source, 2, &mut out)?;
     assert_eq!(rt; out.as_slice(), b"ta!".as_slice());
@@ -195,7 +204,7 @@ fn a_failed_read_is_a_fault(rt: HostRuntime) -> Result<(), Fail> {
 
 /// The fault of the first request of `1 r hi`, if there is one.
 fn fault_of_hi(alloc: Global) -> Option<LineFault> {
-    let mut source = RequestSource::new(alloc, b"1 r hi\n".as_slice(), 0);
+    let mut source = source_over(alloc, b"1 r hi\n".as_slice(), 0);
     match source.answer(Kind::Request) {
         Ok(_answer) => None,
         Err(_) => source.fault(),
@@ -235,7 +244,7 @@ fn refuses_a_longer_text(rt: HostRuntime) -> Result<(), Fail> {
         (5000, Some(LineFault::Form)),
     ] {
         let line = long_input(rt.alloc(), b"1 r ", length, b"")?;
-        let mut source = RequestSource::new(rt.alloc(), line.as_slice(), 0);
+        let mut source = source_over(rt.alloc(), line.as_slice(), 0);
         let answer = source.answer(Kind::Request);
         assert_eq!(rt; answer.is_ok(), fault.is_none());
         assert_eq!(rt; source.fault(), fault);
@@ -260,7 +269,7 @@ fn no_part_of_a_line_is_read(rt: HostRuntime) -> Result<(), Fail> {
     ];
     for (taken, front, length, back, wanted, fault) in rows {
         let input = long_input(rt.alloc(), front, length, back)?;
-        let mut source = RequestSource::new(rt.alloc(), input.as_slice(), taken);
+        let mut source = source_over(rt.alloc(), input.as_slice(), taken);
         let mut out = Vec::new(rt.alloc());
         collect_answers(&mut source, 3, &mut out)?;
         assert_eq!(rt; out.as_slice(), wanted);
@@ -271,7 +280,7 @@ fn no_part_of_a_line_is_read(rt: HostRuntime) -> Result<(), Fail> {
 
 #[test]
 fn answers_nothing_else(rt: HostRuntime) -> Result<(), Fail> {
-    let mut source = RequestSource::new(rt.alloc(), b"1 e".as_slice(), 0);
+    let mut source = source_over(rt.alloc(), b"1 e".as_slice(), 0);
     assert!(rt; source.answer(Kind::Realtime).is_err());
     assert_eq!(rt; source.fault(), Some(LineFault::Kind));
     Ok(())

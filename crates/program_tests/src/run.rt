@@ -8,7 +8,7 @@ use std::num::NonZeroU64;
 use std::test::Fail;
 use wasi_abi::Config;
 use wasm_syntax::Row;
-use wasmhost_serve::{LineOutlet, Options, serve};
+use wasmhost_serve::{BufferedLines, LineOutlet, Options, RequestSource, serve};
 use worker::{Now, Worker};
 
 /// Modules of one body each, without imports.
@@ -74,7 +74,7 @@ fn workers_print(rt: HostRuntime) -> Result<(), Fail> {
     ];
     for (texts, fuel, lines, words, status) in rows {
         let wasm = bytes_of(alloc, texts)?;
-        let mut reader: &[u8] = b"";
+        let mut source = RequestSource::new(alloc, BufferedLines::new(b"".as_slice()), 0);
         let mut outlet = LineOutlet::new(alloc, Vec::new(alloc))?;
         let mut err = Vec::new(alloc);
         let fuel = NonZeroU64::try_from(fuel)?;
@@ -83,7 +83,7 @@ fn workers_print(rt: HostRuntime) -> Result<(), Fail> {
             alloc,
             wasm.as_slice(),
             options,
-            &mut reader,
+            &mut source,
             &mut outlet,
             &mut err,
         );
@@ -146,7 +146,7 @@ fn workers_take_steps(rt: HostRuntime) -> Result<(), Fail> {
 
 /// Runs `hello`, in rooms for its line and its last words that take no memory.
 fn run_hello(alloc: Global) -> Result<(), Refused> {
-    let mut reader: &[u8] = b"";
+    let mut source = RequestSource::new(alloc, BufferedLines::new(b"".as_slice()), 0);
     let mut lines = [0u8; 32];
     let mut words = [0u8; 32];
     let Ok(mut outlet) = LineOutlet::new(alloc, lines.as_mut_slice()) else {
@@ -161,7 +161,7 @@ fn run_hello(alloc: Global) -> Result<(), Refused> {
         alloc,
         &HELLO_BYTES,
         options,
-        &mut reader,
+        &mut source,
         &mut outlet,
         &mut err,
     );
@@ -187,7 +187,7 @@ fn whole_run(rt: HostRuntime) -> Result<(), Refused> {
 fn output_without_room(rt: HostRuntime) -> Result<(), Fail> {
     let fuel = NonZeroU64::try_from(100)?;
     let options = Options { fuel };
-    let mut reader: &[u8] = b"";
+    let mut source = RequestSource::new(alloc, BufferedLines::new(b"".as_slice()), 0);
     for (room, left, status) in [(4, 32, 7), (32, 4, 7), (32, 32, 0)] {
         let mut lines = [0u8; 32];
         let mut words = [0u8; 32];
@@ -197,7 +197,7 @@ fn output_without_room(rt: HostRuntime) -> Result<(), Fail> {
             rt.alloc(),
             &HELLO_BYTES,
             options,
-            &mut reader,
+            &mut source,
             &mut outlet,
             &mut err,
         );

@@ -39,7 +39,10 @@ use std::process::ExitCode;
 use std::rt::{Env, Files};
 use wasm_syntax::limits::MODULE_BYTES;
 use wasmhost_serve::status::{NO_MEMORY, UNREAD, UNWRITTEN, USAGE};
-use wasmhost_serve::{LineOutlet, Options, Order, WordsFault, check_bytes, read_words, serve};
+use wasmhost_serve::{
+    BufferedLines, LineOutlet, Options, Order, RequestSource, WordsFault, check_bytes, read_words,
+    serve,
+};
 
 /// How many bytes of a file are read: as many as the longest module has, and one more, by which a longer one is known.
 const READ_BYTES: u64 = MODULE_BYTES as u64 + 1;
@@ -106,10 +109,11 @@ fn run<R: Files + Input, W: Write, E: Write>(
         Ok(wasm) => wasm,
         Err(error) => return report_unreadable(err, &error),
     };
-    let mut reader = match BufReader::new(alloc, rt.reader()) {
+    let reader = match BufReader::new(alloc, rt.reader()) {
         Ok(reader) => reader,
         Err(error) => return report_unreadable(err, &error),
     };
+    let mut source = RequestSource::new(alloc, BufferedLines::new(reader), 0);
     let Ok(mut outlet) = LineOutlet::new(alloc, out) else {
         return say(err, NO_MEMORY, "failed N4 Memory");
     };
@@ -117,7 +121,7 @@ fn run<R: Files + Input, W: Write, E: Write>(
         alloc,
         wasm.as_slice(),
         Options { fuel },
-        &mut reader,
+        &mut source,
         &mut outlet,
         err,
     )

@@ -3,3 +3,4 @@ pub mod Requests
 pub mod Fitting
 pub mod Passing
 pub mod Refusals
+pub mod Asking

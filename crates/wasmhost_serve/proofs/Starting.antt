@@ -1,11 +1,13 @@
 -- From a worker that was created to what the exit status says.
-use Rattle.std.proofs.Common.{◌≡◌, ◌⊎◌, inl, inr, ℕ, ◌≤◌, List, [], ◌∷◌, None, refl, sym, ap, ◌∙◌, subst, arith}
+use Rattle.std.proofs.Common.{◌≡◌, ◌⊎◌, inl, inr, ℕ, ◌+◌, ◌<◌, ◌≤◌, Bool, List, [], ◌∷◌, length, None, refl, sym, ap, ◌∙◌, subst, arith}
 use Rattle.std.specs.Prelude.{Option}
 use Rattle.std.proofs.KnownBytes.{Appends-nil}
 use Rattle.std.specs.Io.KnownBytes.{Appends}
 use Rattle.wasm_syntax.specs.declared.module.Module.{Module}
 use Rattle.wasm_syntax_rules.specs.Configuration.{Thread}
 use Rattle.wasi_abi.specs.rules.Configs.{Settings}
+use Rattle.wasi_abi.specs.declared.answer.Kind.{Kind}
+use Rattle.wasi_abi.specs.declared.answer.Kind.TheVariants as kinds
 use Rattle.process_rules.specs.Processes.{ProcessState, Guest, IsStart, closed_at, host_of}
 use Rattle.process.specs.rules.Values.{ShowsProcess}
 use Rattle.worker.specs.declared.fault.WorkFault.{WorkFault}
@@ -14,12 +16,16 @@ use Rattle.worker.specs.declared.fault.Refusal.TheVariants as refusal
 use Rattle.worker.specs.declared.now.Now.{Now}
 use Rattle.worker.specs.rules.Values.{WorkerValue, IsCreated}
 use Rattle.worker.specs.rules.Faults.{IsRefusedByWorker}
+use Rattle.wasmhost_serve.specs.declared.lines.fault.LineFault.{LineFault}
 use Rattle.wasmhost_serve.specs.declared.lines.fault.LineFault.TheVariants as line
 use Rattle.wasmhost_serve.specs.declared.run.RunFault.{RunFault}
 use Rattle.wasmhost_serve.specs.declared.run.RunFault.TheVariants as run
 use Rattle.wasmhost_serve.specs.rules.Statuses.{status_of}
-use Rattle.wasmhost_serve.specs.rules.Served.{HasPrinted, IsServed, IsRefusal, AsksInVain, Serves, last_words, usual}
+use Rattle.wasmhost_serve.specs.rules.Requests.{BeginsWithOther, BeginsWithLater, BeginsWithNumber}
+use Rattle.wasmhost_serve.specs.rules.Served.{WantsAnswer, MeetsBadLine, LacksAnswer, HasPrinted, IsRefusal, Serves, last_words, usual}
+use Rattle.wasmhost_serve.specs.Lines.Answers.{IsRefusedFor}
 use Rattle.wasmhost_serve.specs.Runs.{Prints, IsWorkerRun, IsRunInVain, FailsAs, ended_by}
+use Rattle.wasmhost_serve.proofs.LineLemmas.Passing.{up_to_map}
 
 -- ---- the start
 
@@ -33,18 +39,24 @@ start_tells_nothing m config guest p start =
     ap (λ (q : ProcessState). q.host.lines) start.is
     ∙ closed_tells_nothing config start.first.thread start.first.later (record { configuration = start.first; host = host_of config; steps = 0; answers = 0; requests = 0; ended = None }) refl
 
-module _ (bytes : List ℕ) (w : WorkerValue) (old new : Option (List ℕ)) (created : IsCreated bytes usual w) where
+-- a number below 3 and above it
+too_small : (n m : ℕ) → n ≡ m → (n ≡ 0) ⊎ (n ≡ 7) → (m ≡ 0 → ⊥) → (m ≡ 7 → ⊥) → ⊥
+too_small n m e (inl k) no_zero no_seven = no_zero (sym e ∙ k)
+too_small n m e (inr k) no_zero no_seven = no_seven (sym e ∙ k)
+
+module _ (bytes : List ℕ) (w : WorkerValue) (lines : Option (List ℕ)) (failed failed' : Bool) (old new : Option (List ℕ)) (created : IsCreated bytes usual w) where
   start_shows : ShowsProcess w.process created.started.first_guest created.started.first
   start_shows = created.started.shows created.started.first_guest created.started.first created.started.is_first
 
   none_told : created.started.first.host.lines ≡ []
   none_told = start_tells_nothing created.spelled usual created.started.first_guest created.started.first created.started.is_first
 
-  has_printed : Prints created.started.first_guest created.started.first old new → HasPrinted bytes old new
+  has_printed : Prints created.started.first_guest created.started.first lines old new → HasPrinted bytes lines old new
   has_printed prints = record {
     spelled = created.spelled;
     accepted = created.accepted;
     kept = prints.kept;
+    requests = prints.requests;
     steps = prints.steps;
     process = prints.process;
     reached = record { guest = created.started.first_guest; start = created.started.first; begins = created.started.is_first; runs = prints.runs };
@@ -53,124 +65,142 @@ module _ (bytes : List ℕ) (w : WorkerValue) (old new : Option (List ℕ)) (cre
 
   -- ---- a worker that is over
 
-  pub is_served : (why : Now) (err err' : Option (List ℕ)) → IsWorkerRun w why old new → Appends err err' (last_words (ended_by why)) → IsServed bytes old new err err'
+  pub serves_done : (why : Now) (err err' : Option (List ℕ)) (status : ℕ) → IsWorkerRun w why lines failed failed' old new → (status ≡ 0) ⊎ (status ≡ 7)
+      → (status ≡ 0 → Appends err err' (last_words (ended_by why))) → Serves bytes lines failed failed' old new err err' status
   unfolding has_printed
-  is_served why err err' did told =
+  serves_done why err err' status did known told =
       let done = did created.started.first_guest created.started.first start_shows none_told in
-      record { has = has_printed done.0; over = done.1; told = subst (λ z. Appends err err' (last_words z)) (sym done.2) told }
-
-  pub serves_done : (why : Now) (err err' : Option (List ℕ)) (status : ℕ) → IsWorkerRun w why old new → (status ≡ 0) ⊎ (status ≡ 7)
-      → (status ≡ 0 → Appends err err' (last_words (ended_by why))) → Serves bytes old new err err' status
-  serves_done why err err' status did known told = record {
-    served = λ e. is_served why err err' did (told e);
-    refused = λ e. elim known [ inl k ↦ absurd (omega (arith, e, k)) | inr k ↦ absurd (omega (arith, e, k)) ];
-    unanswered = λ e. elim known [ inl k ↦ elim e [ inl a ↦ absurd (omega (arith, a, k)) | inr a ↦ absurd (omega (arith, a, k)) ] | inr k ↦ elim e [ inl a ↦ absurd (omega (arith, a, k)) | inr a ↦ absurd (omega (arith, a, k)) ] ];
-    starved = λ e. elim known [ inl k ↦ absurd (omega (arith, e, k)) | inr k ↦ absurd (omega (arith, e, k)) ];
-    known = elim known [ inl k ↦ inl k | inr k ↦ inr (omega (arith, k), omega (arith, k)) ];
-  }
+      record {
+        served = λ e. record { has = has_printed done.0; over = done.1; told = subst (λ z. Appends err err' (last_words z)) (sym done.2) (told e) };
+        refused = λ e. absurd (too_small status 3 e known (λ z. omega (arith, z)) (λ z. omega (arith, z)));
+        unanswered = λ e. absurd (too_small status 4 e known (λ z. omega (arith, z)) (λ z. omega (arith, z)));
+        starved = λ e. absurd (too_small status 5 e known (λ z. omega (arith, z)) (λ z. omega (arith, z)));
+        bad_line = λ e. absurd (too_small status 6 e known (λ z. omega (arith, z)) (λ z. omega (arith, z)));
+        heeded = inl done.3;
+        known = elim known [ inl k ↦ inl k | inr k ↦ inr (omega (arith, k), omega (arith, k)) ];
+      }
 
 -- ---- one that fails
 
--- what each fault says of a run
-abbrev Says : List ℕ → RunFault → Option (List ℕ) → Option (List ℕ) → Type 0
-Says bytes (run.Line why) old new = AsksInVain bytes old new
-Says bytes (run.Work fault.Source) old new = AsksInVain bytes old new
-Says bytes (run.Work fault.Outlet) old new = Unit {0}
-Says bytes (run.Work fault.Memory) old new = Appends old new [] ⊎ HasPrinted bytes old new
-Says bytes (run.Work fault.Failed) old new = ⊥
-Says bytes (run.Work (fault.Refused why)) old new = IsRefusal bytes old new
-
-module _ (bytes : List ℕ) (old new err err' : Option (List ℕ)) where
+module _ (bytes : List ℕ) (lines : Option (List ℕ)) (failed failed' : Bool) (old new err err' : Option (List ℕ)) where
   -- a status that no fault has but this one
-  seven : Serves bytes old new err err' 7
+  seven : Serves bytes lines failed failed' old new err err' 7
   seven = record {
     served = λ e. absurd (omega (arith, e));
     refused = λ e. absurd (omega (arith, e));
-    unanswered = λ e. elim e [ inl a ↦ absurd (omega (arith, a)) | inr a ↦ absurd (omega (arith, a)) ];
+    unanswered = λ e. absurd (omega (arith, e));
     starved = λ e. absurd (omega (arith, e));
+    bad_line = λ e. absurd (omega (arith, e));
+    heeded = inr (inr (inr refl));
     known = inr (omega arith, omega arith);
   }
 
-  three : IsRefusal bytes old new → Serves bytes old new err err' 3
-  three h = record {
+  three : IsRefusal bytes lines old new → failed' ≡ failed → Serves bytes lines failed failed' old new err err' 3
+  three h steady = record {
     served = λ e. absurd (omega (arith, e));
     refused = λ e. h;
-    unanswered = λ e. elim e [ inl a ↦ absurd (omega (arith, a)) | inr a ↦ absurd (omega (arith, a)) ];
+    unanswered = λ e. absurd (omega (arith, e));
     starved = λ e. absurd (omega (arith, e));
+    bad_line = λ e. absurd (omega (arith, e));
+    heeded = inl steady;
     known = inr (omega arith, omega arith);
   }
 
-  four : AsksInVain bytes old new → Serves bytes old new err err' 4
-  four h = record {
+  four : (has : HasPrinted bytes lines old new) → LacksAnswer has.reached.guest has.process failed' → Serves bytes lines failed failed' old new err err' 4
+  four has lacks = record {
     served = λ e. absurd (omega (arith, e));
     refused = λ e. absurd (omega (arith, e));
-    unanswered = λ e. h;
+    unanswered = λ e. (has, lacks);
     starved = λ e. absurd (omega (arith, e));
+    bad_line = λ e. absurd (omega (arith, e));
+    heeded = inr (inl refl);
     known = inr (omega arith, omega arith);
   }
 
-  five : Appends old new [] ⊎ HasPrinted bytes old new → Serves bytes old new err err' 5
+  five : Appends old new [] ⊎ HasPrinted bytes lines old new → Serves bytes lines failed failed' old new err err' 5
   five h = record {
     served = λ e. absurd (omega (arith, e));
     refused = λ e. absurd (omega (arith, e));
-    unanswered = λ e. elim e [ inl a ↦ absurd (omega (arith, a)) | inr a ↦ absurd (omega (arith, a)) ];
+    unanswered = λ e. absurd (omega (arith, e));
     starved = λ e. h;
+    bad_line = λ e. absurd (omega (arith, e));
+    heeded = inr (inr (inl refl));
     known = inr (omega arith, omega arith);
   }
 
-  six : AsksInVain bytes old new → Serves bytes old new err err' 6
-  six h = record {
+  six : (has : HasPrinted bytes lines old new) → MeetsBadLine has.reached.guest lines has.kept has.process → failed' ≡ failed
+      → Serves bytes lines failed failed' old new err err' 6
+  six has meets steady = record {
     served = λ e. absurd (omega (arith, e));
     refused = λ e. absurd (omega (arith, e));
-    unanswered = λ e. h;
+    unanswered = λ e. absurd (omega (arith, e));
     starved = λ e. absurd (omega (arith, e));
+    bad_line = λ e. (has, meets);
+    heeded = inl steady;
     known = inr (omega arith, omega arith);
   }
 
-  by_fault : (why : RunFault) → Says bytes why old new → Serves bytes old new err err' (status_of why)
-  by_fault (run.Work fault.Source) h = four h
-  by_fault (run.Work fault.Outlet) h = seven
-  by_fault (run.Work fault.Memory) h = five h
-  by_fault (run.Work fault.Failed) h = absurd h
-  by_fault (run.Work (fault.Refused why)) h = three h
-  by_fault (run.Line line.Read) h = four h
-  by_fault (run.Line line.Kind) h = four h
-  by_fault (run.Line line.Memory) h = five (inr h.0)
-  by_fault (run.Line (line.Number given wanted)) h = six h
-  by_fault (run.Line line.Form) h = six h
+  -- a process that wants an answer, and why there is none
+  module _ (has : HasPrinted bytes lines old new) (kind : Kind) (wants : WantsAnswer has.reached.guest has.process kind) where
+    wants_request : kind ≡ kinds.Request → WantsAnswer has.reached.guest has.process kinds.Request
+    wants_request e = subst (WantsAnswer has.reached.guest has.process) e wants
 
-  serves_fault : (why : RunFault) (status : ℕ) → Says bytes why old new → (status ≡ status_of why) ⊎ (status ≡ 7) → Serves bytes old new err err' status
-  serves_fault why status h (inl e) = subst (Serves bytes old new err err') (sym e) (by_fault why h)
-  serves_fault why status h (inr e) = subst (Serves bytes old new err err') (sym e) seven
+    by_line : (why : LineFault) → IsRefusedFor kind 0 lines has.kept failed failed' why → Serves bytes lines failed failed' old new err err' (status_of (run.Line why))
+    by_line line.Read (inl k) = let e = k.1 in absurd (cc)
+    by_line line.Read (inr k) = four has (inl (wants_request k.0, k.1))
+    by_line line.Kind (inl k) = four has (inr (inl (kind, k.0, wants)))
+    by_line line.Kind (inr k) = absurd k.1
+    by_line line.Memory (inl k) = let e = k.1 in absurd (cc)
+    by_line line.Memory (inr k) = five (inr has)
+    by_line (line.Number given wanted) (inl k) = let e = k.1 in absurd (cc)
+    by_line (line.Number given wanted) (inr k) =
+        let next = k.1.0 in
+        let beyond = k.1.1 in
+        let later : length has.kept + 1 < given = omega (arith, next, beyond) in
+        six has (
+          wants_request k.0,
+          up_to_map 0 lines has.kept (BeginsWithNumber given) (λ rest. BeginsWithOther rest ⊎ BeginsWithLater (length has.kept) rest)
+              (λ rest is. inr (given, later, is)) k.1.2,
+        ) k.1.3
+    by_line line.Form (inl k) = let e = k.1 in absurd (cc)
+    by_line line.Form (inr k) =
+        six has (wants_request k.0, up_to_map 0 lines has.kept BeginsWithOther (λ rest. BeginsWithOther rest ⊎ BeginsWithLater (length has.kept) rest) (λ rest is. inl is) k.1.0) k.1.1
+
+  told_by : (s : ℕ) (why : RunFault) → Serves bytes lines failed failed' old new err err' (status_of why) → (s ≡ status_of why) ⊎ (s ≡ 7)
+      → Serves bytes lines failed failed' old new err err' s
+  told_by s why serves (inl e) = subst (Serves bytes lines failed failed' old new err err') (sym e) serves
+  told_by s why serves (inr e) = subst (Serves bytes lines failed failed' old new err err') (sym e) seven
 
   -- one that ran
-  pub serves_failed : (w : WorkerValue) (why : RunFault) (status : ℕ) → IsCreated bytes usual w → IsRunInVain w why old new → (status ≡ status_of why) ⊎ (status ≡ 7)
-      → Serves bytes old new err err' status
+  pub serves_failed : (w : WorkerValue) (why : RunFault) (status : ℕ) → IsCreated bytes usual w → IsRunInVain w why lines failed failed' old new → (status ≡ status_of why) ⊎ (status ≡ 7)
+      → Serves bytes lines failed failed' old new err err' status
   unfolding has_printed
   serves_failed w why status created did known =
-      serves_fault why status (says why (did created.unfailed created.started.first_guest created.started.first (start_shows bytes w old new created) (none_told bytes w old new created))) known
+      told_by status why (by_fault why (did created.unfailed created.started.first_guest created.started.first (start_shows bytes w lines failed failed' old new created) (none_told bytes w lines failed failed' old new created))) known
     where
-      says : (why : RunFault) → FailsAs created.started.first_guest created.started.first why old new → Says bytes why old new
-      says (run.Line why) h = (has_printed bytes w old new created h.0, h.1)
-      says (run.Work fault.Source) h = (has_printed bytes w old new created h.0, h.1)
-      says (run.Work fault.Outlet) h = tt
-      says (run.Work fault.Memory) h = inr (has_printed bytes w old new created h)
-      says (run.Work fault.Failed) h = absurd h
-      says (run.Work (fault.Refused (refusal.Front why))) h = absurd h
-      says (run.Work (fault.Refused refusal.StepsSpent)) h = inr (has_printed bytes w old new created h.0, h.1)
+      by_fault : (why : RunFault) → FailsAs created.started.first_guest created.started.first why lines failed failed' old new → Serves bytes lines failed failed' old new err err' (status_of why)
+      by_fault (run.Line why) h = by_line (has_printed bytes w lines failed failed' old new created h.0) h.1 h.2 why h.3
+      by_fault (run.Work fault.Source) h = four (has_printed bytes w lines failed failed' old new created h.0) (inr (inr h.1))
+      by_fault (run.Work fault.Outlet) h = seven
+      by_fault (run.Work fault.Memory) h = five (inr (has_printed bytes w lines failed failed' old new created h))
+      by_fault (run.Work fault.Failed) h = absurd h
+      by_fault (run.Work (fault.Refused (refusal.Front why))) h = absurd h
+      by_fault (run.Work (fault.Refused refusal.StepsSpent)) h = three (inr (has_printed bytes w lines failed failed' old new created h.0, h.1)) h.2
 
 -- one that wasn't created
-pub serves_nothing : (bytes : List ℕ) (old err err' : Option (List ℕ)) (why : WorkFault) (status : ℕ) → IsRefusedByWorker usual.pages bytes why → (status ≡ status_of (run.Work why)) ⊎ (status ≡ 7)
-    → Serves bytes old old err err' status
-serves_nothing bytes old err err' why status refused known = serves_fault bytes old old err err' (run.Work why) status (says why refused) known
+pub serves_nothing : (bytes : List ℕ) (lines : Option (List ℕ)) (failed : Bool) (old err err' : Option (List ℕ)) (why : WorkFault) (status : ℕ)
+    → IsRefusedByWorker usual.pages bytes why → (status ≡ status_of (run.Work why)) ⊎ (status ≡ 7) → Serves bytes lines failed failed old old err err' status
+serves_nothing bytes lines failed old err err' why status refused known =
+    told_by bytes lines failed failed old old err err' status (run.Work why) (by_refusal why refused) known
   where
-    says : (why : WorkFault) → IsRefusedByWorker usual.pages bytes why → Says bytes (run.Work why) old old
-    says fault.Source h = absurd h
-    says fault.Outlet h = absurd h
-    says fault.Memory h = inl (Appends-nil old)
-    says fault.Failed h = absurd h
-    says (fault.Refused (refusal.Front why)) h = inl (h.2, Appends-nil old)
-    says (fault.Refused refusal.StepsSpent) h = absurd h
+    by_refusal : (why : WorkFault) → IsRefusedByWorker usual.pages bytes why → Serves bytes lines failed failed old old err err' (status_of (run.Work why))
+    by_refusal fault.Source h = absurd h
+    by_refusal fault.Outlet h = absurd h
+    by_refusal fault.Memory h = five bytes lines failed failed old old err err' (inl (Appends-nil old))
+    by_refusal fault.Failed h = absurd h
+    by_refusal (fault.Refused (refusal.Front why)) h = three bytes lines failed failed old old err err' (inl (h.2, Appends-nil old)) refl
+    by_refusal (fault.Refused refusal.StepsSpent) h = absurd h
 
-pub few_statuses : (bytes : List ℕ) (old new err err' : Option (List ℕ)) (status : ℕ) → Serves bytes old new err err' status → status ≤ 7
-few_statuses bytes old new err err' status serves = elim serves.known [ inl k ↦ omega (arith, k) | inr k ↦ k.1 ]
+pub few_statuses : (bytes : List ℕ) (lines : Option (List ℕ)) (failed failed' : Bool) (old new err err' : Option (List ℕ)) (status : ℕ)
+    → Serves bytes lines failed failed' old new err err' status → status ≤ 7
+few_statuses bytes lines failed failed' old new err err' status serves = elim serves.known [ inl k ↦ omega (arith, k) | inr k ↦ k.1 ]

@@ -1,6 +1,8 @@
 -- The parts of a run: slices of a worker, and why it is over or fails.
-use Rattle.std.specs.Prelude.{◌≡◌, ◌⊎◌, ℕ, false, List, [], Option, Some, None}
+use Rattle.std.specs.Prelude.{◌≡◌, ◌⊎◌, ℕ, ◌<◌, ⊤, Bool, false, List, [], Option, Some, None}
 use Rattle.std.specs.Io.KnownBytes.{Appends}
+use Rattle.wasi_abi.specs.declared.answer.Kind.{Kind}
+use Rattle.wasi_calls_rules.specs.declared.limits.TheConstants.{TEXT_BYTES}
 use Rattle.process_rules.specs.Processes.{Ending, ProcessState, Guest}
 use Rattle.process_rules.specs.Runs.{Kept, Runs}
 use Rattle.record_replay.specs.rules.Calls.{Giving, Taking}
@@ -14,7 +16,9 @@ use Rattle.worker.specs.rules.Values.{WorkerValue}
 use Rattle.worker.specs.rules.Slices.{Slices}
 use Rattle.worker.specs.rules.Faults.{SlicesInVain}
 use Rattle.wasmhost_serve.specs.declared.lines.fault.LineFault.{LineFault}
+use Rattle.wasmhost_serve.specs.Lines.Answers.{IsRefusedFor}
 use Rattle.wasmhost_serve.specs.rules.Printed.{all_printed}
+use Rattle.wasmhost_serve.specs.rules.Requests.{GiveUpTo}
 use Rattle.wasmhost_serve.specs.declared.run.RunFault.{RunFault}
 use Rattle.wasmhost_serve.specs.declared.run.RunFault.TheVariants as run
 use Rattle.wasmhost_serve.specs.rules.Served.{WantsAnswer, IsOver, IsSpent}
@@ -35,34 +39,39 @@ ended_by now.Spent = None
 ended_by now.Waiting = None
 ended_by (now.Ended how) = Some (ending_of how)
 
--- On some answers a process that had emitted no line comes to another one, and all lines of that were printed.
-pub record Prints (guest : Guest) (p : ProcessState) (old new : Option (List ℕ)) : Type 0 where
+-- On the answers that lines of a reader give a process that had emitted no line comes to another one, and all lines of that were printed.
+pub record Prints (guest : Guest) (p : ProcessState) (lines old new : Option (List ℕ)) : Type 0 where
   pub kept : List Kept
+  pub requests : GiveUpTo 0 lines kept (λ _. ⊤)
   pub steps : ℕ
   pub process : ProcessState
   pub runs : Runs guest p kept steps process
   pub printed : Appends old new (all_printed 1 process.host.lines)
 
--- whichever process the worker showed
-abbrev pub IsWorkerRun : WorkerValue → Now → Option (List ℕ) → Option (List ℕ) → Type 0
-IsWorkerRun w why old new =
+-- whichever process the worker showed; and no read of the reader has failed
+abbrev pub IsWorkerRun : WorkerValue → Now → Option (List ℕ) → Bool → Bool → Option (List ℕ) → Option (List ℕ) → Type 0
+IsWorkerRun w why lines failed failed' old new =
     (guest : Guest) (p : ProcessState) → ShowsProcess w.process guest p → p.host.lines ≡ []
-    → (prints : Prints guest p old new) × IsOver guest prints.process × (prints.process.ended ≡ ended_by why)
+    → (prints : Prints guest p lines old new) × IsOver guest lines prints.kept prints.process × (prints.process.ended ≡ ended_by why) × (failed' ≡ failed)
 
--- Where a fault of the source or of a request line comes, an answer is wanted. After a fault of the outlet nothing is known of what was printed.
-abbrev pub FailsAs : Guest → ProcessState → RunFault → Option (List ℕ) → Option (List ℕ) → Type 0
-FailsAs guest p (run.Line why) old new = (prints : Prints guest p old new) × WantsAnswer guest prints.process
-FailsAs guest p (run.Work fault.Source) old new = (prints : Prints guest p old new) × WantsAnswer guest prints.process
-FailsAs guest p (run.Work fault.Outlet) old new = Unit {0}
-FailsAs guest p (run.Work fault.Memory) old new = Prints guest p old new
-FailsAs guest p (run.Work fault.Failed) old new = ⊥
-FailsAs guest p (run.Work (fault.Refused (refusal.Front why))) old new = ⊥
-FailsAs guest p (run.Work (fault.Refused refusal.StepsSpent)) old new = (prints : Prints guest p old new) × IsSpent guest prints.process
+-- Where a fault of the source or of a request line comes, an answer is wanted. A fault of the source with no line's fault is an answer that
+-- doesn't fit. After a fault of the outlet nothing is known of what was printed.
+abbrev pub FailsAs : Guest → ProcessState → RunFault → Option (List ℕ) → Bool → Bool → Option (List ℕ) → Option (List ℕ) → Type 0
+FailsAs guest p (run.Line why) lines failed failed' old new =
+    (prints : Prints guest p lines old new) × (kind : Kind) × WantsAnswer guest prints.process kind × IsRefusedFor kind 0 lines prints.kept failed failed' why
+FailsAs guest p (run.Work fault.Source) lines failed failed' old new =
+    (prints : Prints guest p lines old new) × (prints.process.host.limit < TEXT_BYTES)
+FailsAs guest p (run.Work fault.Outlet) lines failed failed' old new = Unit {0}
+FailsAs guest p (run.Work fault.Memory) lines failed failed' old new = Prints guest p lines old new
+FailsAs guest p (run.Work fault.Failed) lines failed failed' old new = ⊥
+FailsAs guest p (run.Work (fault.Refused (refusal.Front why))) lines failed failed' old new = ⊥
+FailsAs guest p (run.Work (fault.Refused refusal.StepsSpent)) lines failed failed' old new =
+    (prints : Prints guest p lines old new) × IsSpent guest prints.process × (failed' ≡ failed)
 
 -- whichever process the worker showed, none of whose calls had failed
-abbrev pub IsRunInVain : WorkerValue → RunFault → Option (List ℕ) → Option (List ℕ) → Type 0
-IsRunInVain w why old new =
-    w.failed ≡ false → (guest : Guest) (p : ProcessState) → ShowsProcess w.process guest p → p.host.lines ≡ [] → FailsAs guest p why old new
+abbrev pub IsRunInVain : WorkerValue → RunFault → Option (List ℕ) → Bool → Bool → Option (List ℕ) → Option (List ℕ) → Type 0
+IsRunInVain w why lines failed failed' old new =
+    w.failed ≡ false → (guest : Guest) (p : ProcessState) → ShowsProcess w.process guest p → p.host.lines ≡ [] → FailsAs guest p why lines failed failed' old new
 
 -- A fault of a worker is told as it is; or, where it is the source's, as that of a line, where there is one.
 abbrev pub IsToldAs : WorkFault → Option LineFault → RunFault → Type 0

@@ -6,9 +6,12 @@
 //! - `check_bytes`: status 0 says that the bytes spell an accepted module (`accepted`), and that
 //!   `accepted` was printed (`printed`). 3 says that they spell none (`refused`). All others are 5
 //!   and 7 (`known`).
-//! - `serve`: what each status of a run says of the module, the lines that were printed, and the
-//!   last words (`serves`). Up to any status but 7 whatever was printed is true. No status is
-//!   above 7 (`known`).
+//! - `serve`: what each status of a run says of the module, the request lines, the lines that were
+//!   printed, and the last words (`serves`). Up to any status but 7 whatever was printed is true.
+//!   No status is above 7 (`known`).
+//! - `RequestSource` hands over the answers that the lines of its reader give, in their order, and
+//!   says why it refuses (`HandsNext`). A failed read it tells only of a reader that has failed.
+//! - `LineReader` is what request lines are read from. `BufferedLines` is one over any `BufRead`.
 //! - `LineOutlet` prints each line that it takes, with its number and the letter of its stream
 //!   (`PrintsOneLine`). `laws::taken_lines_are_printed`: the lines that it took are printed, and
 //!   nothing else.
@@ -19,10 +22,10 @@
 //!
 //! # Definitions to read
 //!
-//! In `specs/rules/`: `Serves`, `HasPrinted`, `usual`, `last_words` (`Served.antt`); `printed`,
-//! `request_line` (`Texts.antt`); `wasmhost`, `meaning_in`, `IsReading`, `IsStatusOf`
-//! (`Commands.antt`). Beside these: `all_printed` (`specs/rules/Printed.antt`), and `PrintsOneLine`
-//! (`specs/rules/Prints.antt`).
+//! In `specs/rules/`: `Serves`, `HasPrinted`, `usual`, `last_words` (`Served.antt`);
+//! `GivesAnswers`, `GiveUpTo` (`Requests.antt`); `printed`, `request_line` (`Texts.antt`);
+//! `wasmhost`, `meaning_in`, `IsReading`, `IsStatusOf` (`Commands.antt`). Beside these:
+//! `all_printed` (`specs/rules/Printed.antt`), and `PrintsOneLine` (`specs/rules/Prints.antt`).
 //!
 //! # Who may touch what
 //!
@@ -40,6 +43,9 @@ pub mod status;
 mod words;
 
 pub use check::check_bytes;
-pub use lines::{LineFault, LineOutlet, Request, RequestSource, read_request, trap_name};
+pub use lines::{
+    BufferedLines, LineFault, LineOutlet, LineReader, Request, RequestSource, read_request,
+    trap_name,
+};
 pub use run::{Options, serve};
 pub use words::{Order, WordsFault, read_words};

@@ -10,12 +10,12 @@ ghost use Rattle.wasmhost_serve.specs.rules.Served.{Serves, usual, last_words};
 ghost use Rattle.wasmhost_serve.specs.Runs.{SlicesSome, SlicesSomeInVain, IsWorkerRun, IsRunInVain, IsToldAs, ended_by};
 ghost use Rattle.wasmhost_serve.specs.rules.Statuses.{status_of};
 
-use crate::lines::{LineFault, LineOutlet, RequestSource, trap_name};
+use crate::lines::{LineFault, LineOutlet, LineReader, RequestSource, trap_name};
 use crate::status::{BAD_LINE, NO_MEMORY, REFUSED, UNREAD, UNWRITTEN};
 use process::ProcessEnd;
 use record_replay::{Outlet, Source};
 use std::alloc::{AllocError, Global};
-use std::io::{self, BufRead, Write};
+use std::io::{self, Write};
 use std::num::NonZeroU64;
 use thiserror::Error;
 use wasi_abi::Config;
@@ -125,19 +125,22 @@ fn run_fault_of(fault: WorkFault, line: Option<LineFault>) -> RunFault
     }
 }
 
-/// Runs a worker on the lines of a reader, and prints its own.
-fn run<R: BufRead, W: Write + Drop>(
-    alloc: Global,
+/// Runs a worker on the request lines of a source, and prints its own lines.
+fn run<R: LineReader + Drop, W: Write + Drop>(
     worker: &mut Worker,
     fuel: NonZeroU64,
-    reader: &mut R,
+    source: &mut RequestSource<R>,
     outlet: &mut LineOutlet<W>,
 ) -> Result<Now, RunFault>
-    ensures done { IfOk result (λ now. IsWorkerRun worker.old now (W.contents outlet.old.out) (W.contents outlet.new.out)) }
-    ensures failed { IfErr result (λ fault. IsRunInVain worker.old fault (W.contents outlet.old.out) (W.contents outlet.new.out)) }
+    ensures done { IfOk result (λ now. IsWorkerRun worker.old now (R.unread source.old.reader)
+        (R.has_failed source.old.reader) (R.has_failed source.new.reader)
+        (W.contents outlet.old.out) (W.contents outlet.new.out)) }
+    ensures failed { IfErr result (λ fault. IsRunInVain worker.old fault (R.unread source.old.reader)
+        (R.has_failed source.old.reader) (R.has_failed source.new.reader)
+        (W.contents outlet.old.out) (W.contents outlet.new.out)) }
 {
-    let mut source = RequestSource::new(alloc, reader, 0);
-    match work(worker, fuel, &mut source, outlet) {
+    source.begin_again();
+    match work(worker, fuel, source, outlet) {
         Ok(now) => Ok(now),
         Err(fault) => Err(run_fault_of(fault, source.fault())),
     }
@@ -178,25 +181,30 @@ fn say_fault<E: Write>(err: &mut E, fault: RunFault) -> u8
     }
 }
 
-/// Runs a fresh worker of the module that the bytes spell: request lines of the reader in, its lines to the outlet, last words to `err`. Answers the
-/// exit status: 0 where it has ended, trapped or waits at the end of the reader, 3 for a refused module and where steps or lines can't
-/// be counted further, 4 where the reader fails, 5 for want of memory, 6 for a refused request line, 7 where nothing can be printed.
-pub fn serve<R: BufRead, W: Write + Drop, E: Write>(
+/// Runs a fresh worker of the module that the bytes spell: request lines of the source in, its lines
+/// to the outlet, last words to `err`. Requests are numbered from 1 on, whatever the source took
+/// before. Answers the exit status: 0 where it has ended, trapped or waits at the end of the lines, 3
+/// for a refused module and where steps or lines can't be counted further, 4 where the reader fails, 5
+/// for want of memory, 6 for a refused request line, 7 where nothing can be printed.
+pub fn serve<R: LineReader + Drop, W: Write + Drop, E: Write>(
     alloc: Global,
     wasm: &[u8],
     options: Options,
-    reader: &mut R,
+    source: &mut RequestSource<R>,
     outlet: &mut LineOutlet<W>,
     err: &mut E,
 ) -> u8
-    ensures serves { Serves wasm.now (W.contents outlet.old.out) (W.contents outlet.new.out) (E.contents err.old) (E.contents err.new) result }
+    ensures serves { Serves wasm.now (R.unread source.old.reader)
+        (R.has_failed source.old.reader) (R.has_failed source.new.reader)
+        (W.contents outlet.old.out) (W.contents outlet.new.out)
+        (E.contents err.old) (E.contents err.new) result }
     ensures known { result ≤ 7 }
 {
     let mut worker = match create(alloc, wasm) {
         Ok(worker) => worker,
         Err(fault) => return say_fault(err, RunFault::Work(fault)),
     };
-    match run(alloc, &mut worker, options.fuel, reader, outlet) {
+    match run(&mut worker, options.fuel, source, outlet) {
         Ok(now) => say(err, now),
         Err(fault) => say_fault(err, fault),
     }

@@ -10,7 +10,7 @@ use Rattle.wasi_abi.specs.rules.Answers.{Fits, IsNoNewline, newline}
 use Rattle.wasi_calls_rules.specs.declared.limits.TheConstants.{TEXT_BYTES}
 use Rattle.wasmhost_serve.specs.declared.lines.request.Request.{Request}
 use Rattle.wasmhost_serve.specs.declared.lines.request.Request.TheVariants as request
-use Rattle.wasmhost_serve.specs.Lines.Answers.{answer_in}
+use Rattle.wasmhost_serve.specs.rules.Requests.{answer_in}
 use Rattle.wasmhost_serve.specs.rules.Texts.{IsShortRequest, request_line}
 
 free_to : (n : ℕ) (xs : List ℕ) → length xs ≡ suc n → slice_get xs n ≢ Some newline → All (λ x. x ≢ newline) (take n xs) → AllByRecursion IsNoNewline xs

@@ -1,22 +1,23 @@
 -- Lines that are refused.
-use Rattle.std.proofs.Common.{◌≡◌, ◌≢◌, ℕ, zero, suc, ◌+◌, ◌-◌, ◌^◌, ◌<◌, ◌≤◌, Bool, true, false, List, [], ◌∷◌, ◌++◌, All, None, Some, cond, length, take, drop, codes, refl, sym, ap, subst, ◌∙◌, arith, take-append-drop, length-take-le, take-take, append_assoc, length-append}
-use Rattle.std.specs.Prelude.{Option, IfSome}
+use Rattle.std.proofs.Common.{inl, inr, ◌≡◌, ◌≢◌, ℕ, ◌+◌, ◌-◌, ◌^◌, ◌<◌, ◌≤◌, Bool, true, false, List, [], ◌∷◌, ◌++◌, All, None, Some, cond, length, take, drop, codes, refl, sym, ap, subst, ◌∙◌, arith, take-append-drop, length-take-le, take-take, append_assoc, length-append}
+use Rattle.std.specs.Prelude.{Option, IfSome, OnSome}
 use Rattle.std.proofs.lemmas.Bool.{false≢true}
 use Rattle.std.specs.Fmt.{decimal}
 use Rattle.std.proofs.lemmas.Fmt.{length-decimal-le}
 use Rattle.std.proofs.BufReadLemmas.{take_through-append, take_through-nil}
 use Rattle.std.specs.Io.{StartsWith, StopsAt}
 use Rattle.std.specs.Io.BufRead.{take_through, strip_last, first_piece, ends_with_byte}
-use Rattle.std.specs.Io.KnownBytes.{Consumes}
+use Rattle.std.specs.Io.KnownBytes.{Consumes, IsAtEnd, Keeps}
 use Rattle.wasi_abi.specs.rules.Answers.{newline}
 use Rattle.wasi_calls_rules.specs.declared.limits.TheConstants.{TEXT_BYTES}
 use Rattle.wasmhost_serve.specs.declared.lines.fault.LineFault.{LineFault}
 use Rattle.wasmhost_serve.specs.declared.lines.fault.LineFault.TheVariants as fault
-use Rattle.wasmhost_serve.specs.declared.lines.request.Request.{Request}
 use Rattle.wasmhost_serve.specs.declared.lines.request.Request.TheVariants as request
-use Rattle.wasmhost_serve.specs.rules.Numbers.{IsNumberedRequest, request_number}
-use Rattle.wasmhost_serve.specs.rules.Texts.{IsShortRequest, IsRequestLine, request_line}
-use Rattle.wasmhost_serve.specs.Lines.Reads.{BeginsWithRequest, HasPassed, IsFaultOfReading, GrowsTooLong, BeginsTooLong, MeetsRequest, MeetsOtherLine, MissesNext}
+use Rattle.wasmhost_serve.specs.rules.Texts.{IsRequestLine}
+use Rattle.wasmhost_serve.specs.rules.Requests.{GiveUpTo, BeginsWithOther}
+use Rattle.wasmhost_serve.specs.Lines.Reads.{IsFaultOfReading, IsFaultOfLine, GrowsTooLong, BeginsTooLong, AreSome}
+use Rattle.wasmhost_serve.specs.Lines.Answers.{MissesNext}
+use Rattle.wasmhost_serve.proofs.LineLemmas.Passing.{behind_passed, if_some_map, up_to_here}
 
 -- ---- how long a line is
 
@@ -79,11 +80,17 @@ stops_within (x ∷ xs) rest stops = omega (arith, whole, cut, some)
 
 -- ---- reading a line
 
+-- where nothing is shown of known bytes, they have come to their end
+pub ends_kept : (a b : Option (List ℕ)) (shown : List ℕ) → Keeps a b → IfSome a (λ xs. length shown ≡ 0 → xs ≡ []) → length shown ≡ 0 → OnSome a (IsAtEnd b)
+ends_kept None b shown kept end none = tt
+ends_kept (Some xs) None shown kept end none = absurd kept
+ends_kept (Some xs) (Some ys) shown kept end none = kept ∙ end none
+
 -- what is shown of known bytes, up to where it stops
-pub begins_with : (a : Option (List ℕ)) (line shown : List ℕ) (n : ℕ) → n ≤ length shown → IfSome a (λ xs. StartsWith xs shown) → StopsAt (take n shown) newline
-    → TEXT_BYTES + 24 ≤ length line + n → IfSome a (GrowsTooLong line)
-begins_with None line shown n within front stops long = tt
-begins_with (Some xs) line shown n within front stops long =
+pub begins_with : (limit : ℕ) (a : Option (List ℕ)) (line shown : List ℕ) (n : ℕ) → n ≤ length shown → IfSome a (λ xs. StartsWith xs shown)
+    → StopsAt (take n shown) newline → limit ≤ length line + n → IfSome a (GrowsTooLong limit line)
+begins_with limit None line shown n within front stops long = tt
+begins_with limit (Some xs) line shown n within front stops long =
     let count : length (take n shown) ≡ n = length-take-le n shown within in
     record {
       piece = take n shown;
@@ -92,28 +99,42 @@ begins_with (Some xs) line shown n within front stops long =
       long = omega (arith, count, long);
     }
 
-long_line : (line bytes : List ℕ) → All (λ x. x ≢ newline) line → GrowsTooLong line bytes → BeginsTooLong (line ++ bytes)
-long_line line bytes free grows =
+long_line : (limit : ℕ) (line bytes : List ℕ) → TEXT_BYTES + 24 ≤ limit → All (λ x. x ≢ newline) line → GrowsTooLong limit line bytes
+    → BeginsTooLong (line ++ bytes)
+long_line limit line bytes most free grows =
     let split : bytes ≡ grows.piece ++ drop (length grows.piece) bytes =
     sym (take-append-drop (length grows.piece) bytes) ∙ ap (λ l. l ++ drop (length grows.piece) bytes) grows.front in
     let within = subst (λ l. length grows.piece ≤ length (take_through newline l)) (sym split) (stops_within grows.piece (drop (length grows.piece) bytes) grows.stops) in
     let through = ap length (take_through-append newline line bytes free) ∙ length-append line (take_through newline bytes) in
     let cut = stripped_length (take_through newline (line ++ bytes)) in
     let long = grows.long in
-    omega (arith, within, through, cut, long)
+    omega (arith, most, within, through, cut, long)
 
-read_too_long : (a b : Option (List ℕ)) (line : List ℕ) → Consumes a b line → All (λ x. x ≢ newline) line → IfSome b (GrowsTooLong line) → IfSome a BeginsTooLong
-read_too_long None b line read free grows = tt
-read_too_long (Some xs) None line read free grows = absurd read
-read_too_long (Some xs) (Some ys) line read free grows = subst BeginsTooLong (sym read) (long_line line ys free grows)
+read_too_long : (limit : ℕ) (a b : Option (List ℕ)) (line : List ℕ) → TEXT_BYTES + 24 ≤ limit → Consumes a b line → All (λ x. x ≢ newline) line
+    → IfSome b (GrowsTooLong limit line) → IfSome a BeginsTooLong
+read_too_long limit None b line most read free grows = tt
+read_too_long limit (Some xs) None line most read free grows = absurd read
+read_too_long limit (Some xs) (Some ys) line most read free grows = subst BeginsTooLong (sym read) (long_line limit line ys most free grows)
 
-pub fails_reading : (a b : Option (List ℕ)) (line : List ℕ) (why : LineFault) → Consumes a b line → All (λ x. x ≢ newline) line
-    → IsFaultOfReading (IfSome b (GrowsTooLong line)) why → IsFaultOfReading (IfSome a BeginsTooLong) why
-fails_reading a b line fault.Form read free fails = read_too_long a b line read free fails
-fails_reading a b line fault.Read read free fails = tt
-fails_reading a b line fault.Memory read free fails = tt
-fails_reading a b line fault.Kind read free fails = absurd fails
-fails_reading a b line (fault.Number given wanted) read free fails = absurd fails
+-- bytes behind others are bytes
+some_behind : (line bytes : List ℕ) → AreSome bytes → AreSome (line ++ bytes)
+some_behind line [] some = absurd (some refl)
+some_behind line (y ∷ ys) some = λ none. let e = ap length none in let long = length-append line (y ∷ ys) in omega (arith, e, long)
+
+some_read : (a b : Option (List ℕ)) (line : List ℕ) → Consumes a b line → IfSome b AreSome → IfSome a AreSome
+some_read None b line read some = tt
+some_read (Some xs) None line read some = absurd read
+some_read (Some xs) (Some ys) line read some = subst AreSome (sym read) (some_behind line ys some)
+
+pub fails_reading : (limit : ℕ) (a b : Option (List ℕ)) (line : List ℕ) (failed now failed' : Bool) (why : LineFault) → TEXT_BYTES + 24 ≤ limit
+    → Consumes a b line → All (λ x. x ≢ newline) line → now ≡ failed
+    → IsFaultOfReading (IfSome b (GrowsTooLong limit line)) (IfSome b AreSome) now failed' why → IsFaultOfLine a failed failed' why
+fails_reading limit a b line failed now failed' fault.Form most read free e fails = (read_too_long limit a b line most read free fails.0, fails.1 ∙ e)
+fails_reading limit a b line failed now failed' fault.Read most read free e fails = fails
+fails_reading limit a b line failed now failed' fault.Memory most read free e (inl fails) = inl fails
+fails_reading limit a b line failed now failed' fault.Memory most read free e (inr fails) = inr (some_read a b line read fails.0, fails.1 ∙ e)
+fails_reading limit a b line failed now failed' fault.Kind most read free e fails = absurd fails
+fails_reading limit a b line failed now failed' (fault.Number given wanted) most read free e fails = absurd fails
 
 pub some_bytes : (a : Option (List ℕ)) (line : List ℕ) → IfSome a (λ xs. line ≡ take_through newline xs) → 0 < length line → IfSome a (λ bytes. bytes ≢ [])
 some_bytes None line is some = tt
@@ -121,38 +142,30 @@ some_bytes (Some xs) line is some = λ none. let e = ap length (is ∙ ap (take_
 
 -- ---- behind taken requests
 
-too_long_is_other : (bytes : List ℕ) → BeginsTooLong bytes → (bytes ≢ []) × (IsRequestLine (first_piece newline bytes) → ⊥)
+too_long_is_other : (bytes : List ℕ) → BeginsTooLong bytes → BeginsWithOther bytes
 too_long_is_other bytes long = (
   λ none. let e = ap (λ l. length (first_piece newline l)) none in omega (arith, e, long),
   λ line. let short = request_is_short (first_piece newline bytes) line in omega (arith, short, long),
 )
 
-module _ (taken : ℕ) where
-  long_behind : (a b : Option (List ℕ)) → HasPassed taken a b → IfSome b BeginsTooLong → IfSome a (MeetsOtherLine taken)
-  long_behind None b passed long = tt
-  long_behind (Some bytes) None passed long = absurd passed
-  long_behind (Some bytes) (Some rest) passed long = let other = too_long_is_other rest long in (rest, passed, other.0, other.1)
+module _ (before : ℕ) (a b : Option (List ℕ)) (front : GiveUpTo before a [] (λ rest. b ≡ Some rest)) where
+  -- what holds of the lines that are left
+  pub holds_behind : (P : List ℕ → Type 0) → IfSome b P → GiveUpTo before a [] P
+  holds_behind P h = behind_passed before a b [] P front (up_to_here before b P h)
 
-  pub misses_line : (a b : Option (List ℕ)) (why : LineFault) → HasPassed taken a b → IsFaultOfReading (IfSome b BeginsTooLong) why → MissesNext taken a why
-  misses_line a b fault.Form passed fails = long_behind a b passed fails
-  misses_line a b fault.Read passed fails = tt
-  misses_line a b fault.Memory passed fails = tt
-  misses_line a b fault.Kind passed fails = absurd fails
-  misses_line a b (fault.Number given wanted) passed fails = absurd fails
+  pub misses_line : (failed now failed' : Bool) (why : LineFault) → now ≡ failed → IsFaultOfLine b now failed' why → MissesNext before a [] failed failed' why
+  misses_line failed now failed' fault.Form e fails = (holds_behind BeginsWithOther (if_some_map b BeginsTooLong BeginsWithOther too_long_is_other fails.0), fails.1 ∙ e)
+  misses_line failed now failed' fault.Read e fails = fails
+  misses_line failed now failed' fault.Memory e (inl fails) = inl fails
+  misses_line failed now failed' fault.Memory e (inr fails) = inr (holds_behind AreSome fails.0, fails.1 ∙ e)
+  misses_line failed now failed' fault.Kind e fails = absurd fails
+  misses_line failed now failed' (fault.Number given wanted) e fails = absurd fails
 
-  module _ (line : List ℕ) where
-    pub meets_other : (a b : Option (List ℕ)) → HasPassed taken a b → IfSome b (λ bytes. line ≡ first_piece newline bytes) → IfSome b (λ bytes. bytes ≢ []) → (IsRequestLine line → ⊥)
-        → IfSome a (MeetsOtherLine taken)
-    meets_other None b passed is some other = tt
-    meets_other (Some bytes) None passed is some other = absurd passed
-    meets_other (Some bytes) (Some rest) passed is some other = (rest, passed, some, subst (λ l. IsRequestLine l → ⊥) is other)
-
-    pub meets_later : (r : Request) (given : ℕ) (a b : Option (List ℕ)) → HasPassed taken a b → IfSome b (λ bytes. line ≡ first_piece newline bytes)
-        → IsNumberedRequest r → IsShortRequest r → line ≡ request_line r → given ≡ request_number r → IfSome a (MeetsRequest taken given)
-    meets_later r given None b passed is numbered short spelled e = tt
-    meets_later r given (Some bytes) None passed is numbered short spelled e = absurd passed
-    meets_later r given (Some bytes) (Some rest) passed is numbered short spelled e =
-        (rest, r, passed, record { numbered = numbered; short = short; line = sym is ∙ spelled }, sym e)
+-- a line that is there is no request line
+pub is_other_line : (line : List ℕ) (b : Option (List ℕ)) → IfSome b (λ bytes. line ≡ first_piece newline bytes) → IfSome b AreSome
+    → (IsRequestLine line → ⊥) → IfSome b BeginsWithOther
+is_other_line line None is some other = tt
+is_other_line line (Some bytes) is some other = (some, subst (λ l. IsRequestLine l → ⊥) is other)
 
 -- what no request is read of is no request line
 pub no_line : (line shown : List ℕ) → shown ≡ line → (IsRequestLine shown → false ≡ true) → IsRequestLine line → ⊥

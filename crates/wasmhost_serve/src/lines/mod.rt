@@ -1,16 +1,20 @@
 //! The lines of a worker that is run by a program: request lines of a reader in, released lines to
 //! a writer, and the names that last words give to traps.
 
+mod buffered;
 mod fault;
 mod line;
 mod outlet;
 mod printing;
+mod reader;
 pub mod request;
 mod source;
 mod words;
 
+pub use buffered::BufferedLines;
 pub use fault::LineFault;
 pub use outlet::LineOutlet;
+pub use reader::LineReader;
 pub use request::{Request, read_request};
 pub use source::RequestSource;
 pub use words::trap_name;

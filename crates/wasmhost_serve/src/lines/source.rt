@@ -1,29 +1,29 @@
 //! A source of answers over request lines.
 
-ghost use Rattle.std.specs.Prelude.{◌≡◌, None, IfOk, IfErr, OnErr};
+ghost use Rattle.std.specs.Prelude.{◌≡◌, [], None, IfOk, IfErr, OnOk, OnErr};
 ghost use Rattle.std.specs.List.{AllByRecursion};
 ghost use Rattle.wasi_abi.specs.declared.answer.Kind.TheVariants as kinds;
 ghost use Rattle.wasi_abi.specs.rules.Answers.{Fits, IsNoNewline};
 ghost use Rattle.wasi_calls_rules.specs.declared.limits.TheConstants.{TEXT_BYTES};
 ghost use Rattle.wasmhost_serve.specs.declared.lines.fault.LineFault.TheVariants.{Memory};
-ghost use Rattle.wasmhost_serve.specs.Lines.Answers.{FindsNext, answer_in};
-ghost use Rattle.wasmhost_serve.specs.Lines.Reads.{MissesNext};
+ghost use Rattle.wasmhost_serve.specs.Lines.Answers.{FindsNext, MissesNext};
+ghost use Rattle.wasmhost_serve.specs.rules.Requests.{answer_in};
 ghost use Rattle.wasmhost_serve.specs.rules.Texts.{IsShortRequest, request_line};
 
 use crate::lines::fault::LineFault;
 use crate::lines::line::read_line;
+use crate::lines::reader::LineReader;
 use crate::lines::request::{Request, read_request};
 use record_replay::{Source, SourceFault};
 use std::alloc::Global;
-use std::io::BufRead;
 use wasi_abi::{Answer, Kind};
 use wasm_syntax::Row;
 
-/// Answers requests with the lines of a reader: the next number's text or end. A line with a number that was taken is passed over, and
-/// a later one is refused. No answer is there where the lines have come to their end. After a fault all is refused, since the reader
-/// may stand within a line.
+/// Answers requests with the lines of a reader: the next number's text or end. A line with a number
+/// that was taken is passed over, and a later one is refused. No answer is there where the lines
+/// have come to their end. After a fault all is refused, since the reader may stand within a line.
 #[derive(Drop)]
-pub struct RequestSource<R: BufRead + Drop> {
+pub struct RequestSource<R: LineReader + Drop> {
     alloc: Global,
     reader: R,
     /// How many requests were answered.
@@ -32,7 +32,7 @@ pub struct RequestSource<R: BufRead + Drop> {
     fault: Option<LineFault>,
 }
 
-impl<R: BufRead + Drop> RequestSource<R> {
+impl<R: LineReader + Drop> RequestSource<R> {
     /// Behind so many requests.
     pub fn new(alloc: Global, reader: R, taken: u64) -> Self
         ensures reader { result.reader ≡ reader }
@@ -46,6 +46,16 @@ impl<R: BufRead + Drop> RequestSource<R> {
             line: Vec::new(alloc),
             fault: None,
         }
+    }
+
+    /// As for a fresh worker: no request is taken, and there is no fault. It reads on where it is.
+    pub(crate) fn begin_again(&mut self)
+        ensures reader { self.new.reader ≡ self.old.reader }
+        ensures taken { self.new.taken ≡ 0 }
+        ensures unfailed { self.new.fault ≡ None }
+    {
+        self.taken = 0;
+        self.fault = None;
     }
 
     /// Why answers are refused.
@@ -71,14 +81,16 @@ impl<R: BufRead + Drop> RequestSource<R> {
         Ok(Answer::Request { text })
     }
 
+    /// The next request, or none at the end of the lines.
     fn next_request(&mut self) -> Result<Option<Answer>, LineFault>
-        ensures found { IfOk result (λ found. FindsNext self.old.taken (R.remaining self.old.reader) found self.new.taken (R.remaining self.new.reader)) }
-        ensures failed { IfErr result (MissesNext self.old.taken (R.remaining self.old.reader)) }
+        ensures found { IfOk result (λ found. FindsNext self.old.taken (R.unread self.old.reader) found self.new.taken (R.unread self.new.reader)) }
+        ensures steady { OnOk result (R.has_failed self.new.reader ≡ R.has_failed self.old.reader) }
+        ensures failed { IfErr result (MissesNext self.old.taken (R.unread self.old.reader) [] (R.has_failed self.old.reader) (R.has_failed self.new.reader)) }
         ensures kept { OnErr result (self.new.taken ≡ self.old.taken) }
         ensures fault { self.new.fault ≡ self.old.fault }
     {
         let wanted = self.taken.saturating_add(1);
-        for _ in 0..u64::MAX {
+        loop {
             if !read_line(&mut self.reader, &mut self.line)? {
                 return Ok(None);
             }
@@ -95,14 +107,15 @@ impl<R: BufRead + Drop> RequestSource<R> {
                 return Ok(Some(answer));
             }
         }
-        Err(LineFault::Read)
     }
 }
 
-impl<R: BufRead + Drop> Source for RequestSource<R> {
+impl<R: LineReader + Drop> Source for RequestSource<R> {
     ghost use Rattle.wasmhost_serve.specs.Lines.Answers.{HandsNext};
 
-    ghost gives = { λ old kind said new. HandsNext kind old.taken (R.remaining old.reader) old.fault said new.taken (R.remaining new.reader) new.fault };
+    ghost gives = { λ old kind said new. HandsNext kind
+        old.taken (R.unread old.reader) (R.has_failed old.reader) old.fault said
+        new.taken (R.unread new.reader) (R.has_failed new.reader) new.fault };
 
     fn answer(&mut self, kind: Kind) -> Result<Option<Answer>, SourceFault> {
         if self.fault.is_some() {
