@@ -214,7 +214,15 @@ module _ {S O : Type 0} (taken : S → ℕ) (unread : S → Option (List ℕ)) (
 
   -- a text that doesn't fit, of a request that does
   shorter : (limit : ℕ) (a : Answer) → Fits TEXT_BYTES kinds.Request a → (Fits limit kinds.Request a → ⊥) → limit < TEXT_BYTES
-  shorter limit (answer.Request text) fits bad = let short = fits.0 in let far = λ (e : TEXT_BYTES ≤ limit). bad (omega (arith, e, short), fits.1) in omega (arith, far)
+  shorter limit (answer.Request text) fits bad = 
+      let short = fits.short in
+      let far = λ (e : TEXT_BYTES ≤ limit).
+      bad (record {
+        short = omega (arith, e, short);
+        are_bytes = fits.are_bytes;
+        no_newline = fits.no_newline;
+      }) in
+      omega (arith, far)
   shorter limit answer.End fits bad = absurd (bad tt)
   shorter limit (answer.Realtime n) fits bad = absurd fits
   shorter limit (answer.Monotonic n) fits bad = absurd fits

@@ -3,7 +3,8 @@
 ghost use Rattle.std.specs.Prelude.{◌≡◌, [], None, IfOk, IfErr, OnOk, OnErr};
 ghost use Rattle.std.specs.List.{AllByRecursion};
 ghost use Rattle.wasi_abi.specs.declared.answer.Kind.TheVariants as kinds;
-ghost use Rattle.wasi_abi.specs.rules.Answers.{Fits, IsNoNewline};
+ghost use Rattle.wasi_abi.specs.declared.answer.Answer.TheVariants as answers;
+ghost use Rattle.wasi_abi.specs.rules.Answers.{AreBytes, Fits, IsNoNewline};
 ghost use Rattle.wasi_calls_rules.specs.declared.limits.TheConstants.{TEXT_BYTES};
 ghost use Rattle.wasmhost_serve.specs.declared.lines.fault.LineFault.TheVariants.{Memory};
 ghost use Rattle.wasmhost_serve.specs.Lines.Answers.{FindsNext, MissesNext};
@@ -30,6 +31,19 @@ pub struct RequestSource<R: LineReader + Drop> {
     taken: u64,
     line: Vec<u8>,
     fault: Option<LineFault>,
+}
+
+/// The answer with this text.
+fn text_answer(alloc: Global, text: &[u8]) -> Result<Answer, LineFault>
+    ensures is { IfOk result (λ answer. answer ≡ answers.Request text.now) }
+    ensures bytes { AreBytes text.now }
+    ensures failed { IfErr result (λ fault. fault ≡ Memory) }
+{
+    let Ok(text) = text.to_vec(alloc) else {
+        return Err(LineFault::Memory);
+    };
+    let text = Row::from_vec(text);
+    Ok(Answer::Request { text })
 }
 
 impl<R: LineReader + Drop> RequestSource<R> {
@@ -74,11 +88,7 @@ impl<R: LineReader + Drop> RequestSource<R> {
         let Request::Text { text, .. } = request else {
             return Ok(Answer::End);
         };
-        let Ok(text) = text.to_vec(self.alloc) else {
-            return Err(LineFault::Memory);
-        };
-        let text = Row::from_vec(text);
-        Ok(Answer::Request { text })
+        text_answer(self.alloc, text)
     }
 
     /// The next request, or none at the end of the lines.

@@ -1,7 +1,7 @@
 use Rattle.std.proofs.Common.{rules}
-use Rattle.wasi_abi.specs.declared.answer.Answer.TheVariants as answer
-use Rattle.wasmhost_serve.proofs.LineLemmas.Fitting.{answer_fits}
+use Rattle.wasmhost_serve.proofs.LineLemmas.Fitting.{told_fits}
 use Rattle.wasmhost_serve.proofs.lines.source.RequestSource.answer_of.Goals as goal
 
 pub returns-clause-fits : goal.returns-clause-fits
-returns-clause-fits g c = λ short free. answer_fits c.args.request (answer.Request c.from_vec-text.result) (search rules) short free
+returns-clause-fits g c = λ short free.
+    told_fits c.args.request c.text_answer.result (search rules) (search rules) short free
