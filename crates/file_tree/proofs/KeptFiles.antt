@@ -1,13 +1,12 @@
 -- What a change leaves of a file system is one: a node is made, loses its path, is forgotten or
 -- moved, or a file gets other bytes.
-use Rattle.std.proofs.Common.{◌≡◌, ◌≢◌, ℕ, zero, suc, ◌+◌, ◌<◌, ◌≤◌, Bool, true, false, cond, eqb}
-use Rattle.std.proofs.Common.{List, [], ◌∷◌, ◌++◌, length, get_or, Option, Some, None, refl, sym}
+use Rattle.std.proofs.Common.{◌≡◌, ℕ, suc, ◌+◌, ◌<◌, ◌≤◌, Bool, true, false, cond, eqb}
+use Rattle.std.proofs.Common.{List, [], ◌∷◌, ◌++◌, length, get_or, Some, refl, sym}
 use Rattle.std.proofs.Common.{ap, subst, ◌∙◌, arith}
 use Rattle.std.specs.Prelude.{is_some}
 use Rattle.std.proofs.lemmas.Bool.{eqb-true, eq-eqb}
 use Rattle.file_tree.specs.declared.kind.NodeKind.{NodeKind}
-use Rattle.file_tree.specs.declared.store.node.Hook.{Hook}
-use Rattle.file_tree.specs.declared.store.node.Hook.TheVariants.{Removed, In}
+use Rattle.file_tree.specs.declared.store.node.Hook.TheVariants.{In}
 use Rattle.file_tree.specs.declared.store.node.NodeContent.TheVariants as content
 use Rattle.file_tree.specs.declared.store.node.Node.{Node}
 use Rattle.file_tree.specs.Store.Stored.{changed}
@@ -16,7 +15,7 @@ use Rattle.file_tree.specs.rules.Files.{Name, FileNode, Files, File, IsFiles, Is
 use Rattle.file_tree.specs.rules.Files.{node_of, path_of, is_directory, bytes_of_node, used}
 use Rattle.file_tree.specs.rules.Files.{created, removed, forgotten, renamed, with_file_bytes}
 use Rattle.file_tree.specs.declared.limits.TheConstants.{NODES}
-use Rattle.file_tree.specs.Links.{node_in, AreNodes, files, used_in, file_bytes_of, IsPlace}
+use Rattle.file_tree.specs.Links.{node_in, AreNodes, files, used_in, IsPlace}
 use Rattle.file_tree.proofs.Lookups.{node_at_place, used_shown}
 use Rattle.file_tree.proofs.Lists.{used_changed}
 use Rattle.file_tree.proofs.Grows.{is_made}

@@ -20,7 +20,7 @@ use Rattle.file_tree.specs.Links.{Up, climb, IsTree, node_in, hook_held, hook_of
 use Rattle.file_tree.specs.Links.{content_held, holds_directory_node, is_directory_in, AreNodes}
 use Rattle.file_tree.specs.Links.{AreRisingNodes, shown_node, files}
 use Rattle.file_tree.proofs.Climbs.{in_is, path_is, no_path}
-use Rattle.file_tree.proofs.Seen.{some_path, not_nil}
+use Rattle.file_tree.proofs.Seen.{some_path}
 
 -- ---- lists of nodes with whole paths
 
@@ -99,7 +99,7 @@ above least (n ∷ ns) next h = (h.0, lower ns (above (n.number + 1) ns next h.1
   lower (m ∷ ms) g = (omega (arith, g.0, h.0), lower ms g.1)
 
 -- each is the one of its number
-own_nodes : (least : ℕ) (ns : List FileNode) (next : ℕ) → AreRising least ns next
+pub own_nodes : (least : ℕ) (ns : List FileNode) (next : ℕ) → AreRising least ns next
     → AllByRecursion (λ (n : FileNode). find (λ (m : FileNode). eqb m.number n.number) ns ≡ Some n) ns
 own_nodes least [] next h = tt
 own_nodes least (x ∷ ns) next h = (

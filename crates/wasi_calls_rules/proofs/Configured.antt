@@ -1,5 +1,5 @@
 -- A call that is done keeps what the host was configured with, and makes one node at most.
-use Rattle.std.proofs.Common.{◌≡◌, ℕ, ◌+◌, ◌≤◌, List, refl, ◌∙◌, arith}
+use Rattle.std.proofs.Common.{◌≡◌, ℕ, ◌+◌, List, refl, arith}
 use Rattle.std.specs.Prelude.{Bool, true, false, if◌then◌else◌, ◌==◌, Option, Some, None}
 use Rattle.std.specs.List.{list_any}
 use Rattle.file_tree.specs.rules.Files.{Files, Path, forgotten}
@@ -7,7 +7,7 @@ use Rattle.wasi_calls_rules.specs.Hosts.{Target, Stream, Node, Descriptor, Host}
 use Rattle.wasi_calls_rules.specs.Checks.{Bytes}
 use Rattle.wasi_calls_rules.specs.Lines.{cut_all, stream_written}
 use Rattle.wasi_calls_rules.specs.Small.{names, has_path, swept}
-use Rattle.wasi_calls_rules.specs.Entries.{cut_if, without, without_target, renamed_over}
+use Rattle.wasi_calls_rules.specs.Entries.{cut_if, without, renamed_over}
 use Rattle.wasi_calls_rules.specs.laws.Laws.{IsConfiguredAs, RowsKeepConfigurations}
 use Rattle.wasi_calls_rules.specs.laws.Laws.{MakesOneNodeAtMost, RowsMakeOneNodeAtMost}
 use Rattle.wasi_calls_rules.proofs.HostChanges.{Becomes, stays, sees_time, leaves_unread}

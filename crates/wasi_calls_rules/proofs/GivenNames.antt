@@ -1,13 +1,13 @@
 -- The names of a path that a guest gives, and where a walk along them ends.
-use Rattle.std.proofs.Common.{◌≡◌, ◌≢◌, ◌⊎◌, inl, inr, ℕ, zero, suc, ◌+◌, ◌<◌, ◌≤◌, Bool, true, false}
+use Rattle.std.proofs.Common.{◌≡◌, ◌≢◌, ◌⊎◌, inl, inr, ℕ, suc, ◌+◌, ◌<◌, Bool, true, false}
 use Rattle.std.proofs.Common.{eqb, List, [], ◌∷◌, ◌++◌, length, take, drop, filter, get_or, Option}
 use Rattle.std.proofs.Common.{Some, None, refl, sym, ap, subst, ◌∙◌, arith, append_assoc}
-use Rattle.std.specs.Prelude.{◌==◌, not, ◌&&◌, ◌||◌, if◌then◌else◌, nat_le, Result, Ok, Err}
+use Rattle.std.specs.Prelude.{◌==◌, not, ◌&&◌, ◌||◌, if◌then◌else◌, nat_le, Result}
 use Rattle.std.specs.List.{AllByRecursion, list_all, list_any}
-use Rattle.std.specs.Str.{IsUtf8, is_utf8, IsCharBoundary}
-use Rattle.std.proofs.lemmas.Str.{IsUtf8-nil, IsUtf8-take, IsUtf8-drop, IsUtf8-from_is_utf8}
+use Rattle.std.specs.Str.{IsUtf8, is_utf8}
+use Rattle.std.proofs.lemmas.Str.{IsUtf8-take, IsUtf8-drop, IsUtf8-from_is_utf8}
 use Rattle.std.proofs.lemmas.Str.{IsCharBoundary-before_ascii, IsCharBoundary-after_ascii}
-use Rattle.std.proofs.lemmas.Bool.{eqb-true, eqb-false, leb-true, eq-eqb}
+use Rattle.std.proofs.lemmas.Bool.{eqb-true, leb-true, eq-eqb}
 use Rattle.std.proofs.lemmas.List.{append-nil, length-append}
 use Rattle.wasi_abi.specs.declared.errno.Errno.TheVariants.{Ilseq, Inval, Nametoolong, Noent}
 use Rattle.wasi_abi.specs.declared.errno.Errno.TheVariants.{Notcapable, Notdir}
@@ -15,11 +15,11 @@ use Rattle.wasi_abi.specs.rules.Answers.{AreBytes}
 use Rattle.guest_memory.specs.rules.Bytes.{IsByte, part}
 use Rattle.guest_memory.proofs.Lists.{all_take, all_drop}
 use Rattle.file_tree.specs.rules.Files.{Name, Files, slash, dot, child, is_directory, is_same_name}
-use Rattle.file_tree.specs.rules.Files.{IsNameByte, IsNodeName}
+use Rattle.file_tree.specs.rules.Files.{IsNodeName}
 use Rattle.file_tree.specs.declared.limits.TheConstants.{PATH_BYTES, NAME_BYTES}
 use Rattle.file_tree.proofs.SameNames.{name_or_not}
 use Rattle.wasi_calls_rules.specs.Hosts.{Target, Stream, Node, Host}
-use Rattle.wasi_calls_rules.specs.Checks.{Bytes, Halt, Refuses, ◌>>=◌, check_or, names_directory}
+use Rattle.wasi_calls_rules.specs.Checks.{Bytes, Halt, Refuses, check_or, names_directory}
 use Rattle.wasi_calls_rules.specs.Checks.{node_named, in_memory, lent}
 use Rattle.wasi_calls_rules.specs.Paths.{onto_first, parts_of, is_dropped, is_back, begins_with}
 use Rattle.wasi_calls_rules.specs.Paths.{names_of, formed, WalkEnd, Self, Leaf, directory_entered}
@@ -46,7 +46,7 @@ parts_hold P (b ∷ bytes) h = by_slash (eqb b slash) refl (parts_hold P bytes h
   by_slash : (t : Bool) → eqb b slash ≡ t
       → AllByRecursion (AllByRecursion (InPart P)) (parts_of bytes)
       → AllByRecursion (AllByRecursion (InPart P))
-        (if t then [] ∷ parts_of bytes else onto_first b (parts_of bytes))
+      (if t then [] ∷ parts_of bytes else onto_first b (parts_of bytes))
   by_slash true is rest = (tt, rest)
   by_slash false is rest =
       first_holds (InPart P) b (parts_of bytes)
@@ -82,10 +82,10 @@ halves front bytes text =
     let ascii : get_or all (length front) 0 < 128 = omega (arith, here) in
     let next_place : length front + 1 ≡ suc (length front) = omega arith in (
       subst IsUtf8 (take_front front (slash ∷ bytes))
-        (IsUtf8-take all (length front) text
+          (IsUtf8-take all (length front) text
           (IsCharBoundary-before_ascii all (length front) size ascii)),
       subst IsUtf8 (ap (λ (n : ℕ). drop n all) next_place ∙ drop_front front slash bytes)
-        (IsUtf8-drop all (length front + 1) text
+          (IsUtf8-drop all (length front + 1) text
           (IsCharBoundary-after_ascii all (length front) text size ascii)),
     )
 
@@ -100,24 +100,24 @@ parts_utf8 : (front bytes : Bytes) → IsUtf8 (front ++ bytes)
 parts_utf8 front [] text = (text, tt)
 parts_utf8 front (b ∷ bytes) text =
     by_slash (eqb b slash) refl (parts_utf8 [] bytes) (parts_utf8 (front ++ b ∷ []) bytes) where
-  longer : (parts : List Name)
-      → AllByRecursion IsUtf8 (behind_bytes (front ++ b ∷ []) parts)
-      → AllByRecursion IsUtf8 (behind_bytes front (onto_first b parts))
-  longer [] h = h
-  longer (x ∷ parts) h = (subst IsUtf8 (append_assoc front (b ∷ []) x) h.0, h.1)
+      longer : (parts : List Name)
+          → AllByRecursion IsUtf8 (behind_bytes (front ++ b ∷ []) parts)
+          → AllByRecursion IsUtf8 (behind_bytes front (onto_first b parts))
+      longer [] h = h
+      longer (x ∷ parts) h = (subst IsUtf8 (append_assoc front (b ∷ []) x) h.0, h.1)
 
-  by_slash : (t : Bool) → eqb b slash ≡ t
-      → (IsUtf8 bytes → AllByRecursion IsUtf8 (behind_bytes [] (parts_of bytes)))
-      → (IsUtf8 ((front ++ b ∷ []) ++ bytes)
-        → AllByRecursion IsUtf8 (behind_bytes (front ++ b ∷ []) (parts_of bytes)))
-      → AllByRecursion IsUtf8
-        (behind_bytes front (if t then [] ∷ parts_of bytes else onto_first b (parts_of bytes)))
-  by_slash true is behind on =
-      let cut = halves front bytes
+      by_slash : (t : Bool) → eqb b slash ≡ t
+          → (IsUtf8 bytes → AllByRecursion IsUtf8 (behind_bytes [] (parts_of bytes)))
+          → (IsUtf8 ((front ++ b ∷ []) ++ bytes)
+          → AllByRecursion IsUtf8 (behind_bytes (front ++ b ∷ []) (parts_of bytes)))
+          → AllByRecursion IsUtf8
+          (behind_bytes front (if t then [] ∷ parts_of bytes else onto_first b (parts_of bytes)))
+      by_slash true is behind on =
+          let cut = halves front bytes
           (subst (λ (c : ℕ). IsUtf8 (front ++ c ∷ bytes)) (eqb-true b slash is) text) in
-      (subst IsUtf8 (sym (append-nil front)) cut.0, without_front (parts_of bytes) (behind cut.1))
-  by_slash false is behind on =
-      longer (parts_of bytes) (on (subst IsUtf8 (sym (append_assoc front (b ∷ []) bytes)) text))
+          (subst IsUtf8 (sym (append-nil front)) cut.0, without_front (parts_of bytes) (behind cut.1))
+      by_slash false is behind on =
+          longer (parts_of bytes) (on (subst IsUtf8 (sym (append_assoc front (b ∷ []) bytes)) text))
 
 -- ---- names
 
@@ -165,7 +165,7 @@ all_left P test (x ∷ xs) h = by_case (test x) refl (all_left P test xs h.1) wh
   by_case : (t : Bool) → test x ≡ t
       → AllByRecursion (λ (x : _). P x × (test x ≡ true)) (filter test xs)
       → AllByRecursion (λ (x : _). P x × (test x ≡ true))
-        (if t then x ∷ filter test xs else filter test xs)
+      (if t then x ∷ filter test xs else filter test xs)
   by_case true is rest = ((h.0, is), rest)
   by_case false is rest = rest
 
@@ -201,12 +201,12 @@ parts_are bytes text no_zero =
     let some = parts_hold (λ (b : ℕ). b ≢ 0) bytes no_zero in
     let same = parts_are_bytes bytes parts (parts_hold IsByte bytes) in
     all_with (λ (x : Name). (AllByRecursion (InPart (λ (b : ℕ). b ≢ 0)) x) × IsUtf8 x)
-      (λ (x : Name). AreBytes bytes → AreBytes x) (IsPart bytes) parts
-      (λ x p q. record { no_zero = p.0; text = p.1; are_bytes = q })
-      (all_with (AllByRecursion (InPart (λ (b : ℕ). b ≢ 0))) IsUtf8
-        (λ (x : Name). (AllByRecursion (InPart (λ (b : ℕ). b ≢ 0)) x) × IsUtf8 x) parts
-        (λ x p q. (p, q)) some texts)
-      same
+    (λ (x : Name). AreBytes bytes → AreBytes x) (IsPart bytes) parts
+    (λ x p q. record { no_zero = p.0; text = p.1; are_bytes = q })
+    (all_with (AllByRecursion (InPart (λ (b : ℕ). b ≢ 0))) IsUtf8
+    (λ (x : Name). (AllByRecursion (InPart (λ (b : ℕ). b ≢ 0)) x) × IsUtf8 x) parts
+    (λ x p q. (p, q)) some texts)
+    same
 
 is_given : (bytes : Bytes) (name : Name) → IsPart bytes name → not (is_dropped name) ≡ true
     → nat_le (length name) NAME_BYTES ≡ true → IsGiven bytes name
@@ -241,14 +241,14 @@ names_are_given bytes =
     next_is (check_or (list_all (λ (name : Name). nat_le (length name) NAME_BYTES) (names_of bytes)) Nametoolong) _
     (λ w short.
     let parts = parts_are bytes (IsUtf8-from_is_utf8 bytes (passed (is_utf8 bytes) Ilseq u text))
-        (no_zeros bytes (false_of zeros (passed (not zeros) Inval v none))) in
+    (no_zeros bytes (false_of zeros (passed (not zeros) Inval v none))) in
     done_with (AllByRecursion (IsGiven bytes)) (names_of bytes)
     (all_with (λ (x : Name). IsPart bytes x × (not (is_dropped x) ≡ true))
-      (λ (x : Name). long x ≡ true) (IsGiven bytes) (names_of bytes)
-      (λ x p q. is_given bytes x p.0 p.1 q)
-      (all_left (IsPart bytes) (λ name. not (is_dropped name)) (parts_of bytes) parts)
-      (all_tested long (names_of bytes)
-        (passed (list_all long (names_of bytes)) Nametoolong w short)))))))))
+    (λ (x : Name). long x ≡ true) (IsGiven bytes) (names_of bytes)
+    (λ x p q. is_given bytes x p.0 p.1 q)
+    (all_left (IsPart bytes) (λ name. not (is_dropped name)) (parts_of bytes) parts)
+    (all_tested long (names_of bytes)
+    (passed (list_all long (names_of bytes)) Nametoolong w short)))))))))
 
 -- ---- the walk
 
@@ -270,7 +270,7 @@ module _ (fs : Files) (bytes : Bytes) where
   backed_ends : (go : ℕ → List ℕ → Result WalkEnd Halt) (behind : List ℕ)
       → AllByRecursion IsIn behind
       → ((d : ℕ) (others : List ℕ) → IsIn d → AllByRecursion IsIn others
-        → HoldsAfter (EndsWell fs bytes) (go d others))
+      → HoldsAfter (EndsWell fs bytes) (go d others))
       → HoldsAfter (EndsWell fs bytes) (backed go behind)
   backed_ends go [] h f = refused _ (Refuses Notcapable)
   backed_ends go (d ∷ behind) h f = f d behind h.0 h.1
@@ -292,9 +292,9 @@ module _ (fs : Files) (bytes : Bytes) where
   walk_ends d behind (name ∷ names) dir dirs given =
       by_test (is_back name) _ _
       (λ _. backed_ends _ behind dirs
-        (λ b others in_b in_others. walk_ends b others names in_b in_others given.1))
+      (λ b others in_b in_others. walk_ends b others names in_b in_others given.1))
       (λ no_back. onward_ends d name names _ dir given.0 no_back
-        (λ k in_k. walk_ends k (d ∷ behind) names in_k (dir, dirs) given.1))
+      (λ k in_k. walk_ends k (d ∷ behind) names in_k (dir, dirs) given.1))
 
 -- ---- where a path leads
 
@@ -321,5 +321,5 @@ ends_well m h place r =
     let given = (names_are_given r.bytes).holds r.names r.form in
     let dir = base_directory h r.base.target r.directory in
     let ends = (walk_ends h.files r.bytes (node_named r.base.target) [] r.names dir tt given).holds
-        place r.led in
+    place r.led in
     more_bytes h.files m r.bytes place ((lent_bytes m r.from r.len).holds r.bytes r.read) ends

@@ -1,10 +1,9 @@
 -- A call that is done leaves bytes in the host where there were bytes.
-use Rattle.std.proofs.Common.{◌≡◌, ℕ, ◌+◌, ◌<◌, Bool, true, false, cond, eqb, List, [], ◌∷◌, ◌++◌}
-use Rattle.std.proofs.Common.{length, map, drop, filter, Option, Some, None, refl, sym, ap, subst}
-use Rattle.std.proofs.Common.{◌∙◌, arith}
+use Rattle.std.proofs.Common.{◌≡◌, ℕ, ◌<◌, Bool, true, false, eqb, List, [], ◌∷◌, ◌++◌}
+use Rattle.std.proofs.Common.{map, drop, filter, Option, Some, None, refl, sym, subst}
+use Rattle.std.proofs.Common.{arith}
 use Rattle.std.specs.Prelude.{◌==◌, ◌&&◌, not, if◌then◌else◌, nat_lt, option_map, IfSome, Ok}
-use Rattle.std.specs.Option.{option_and_then}
-use Rattle.std.specs.List.{AllByRecursion, list_all, list_any}
+use Rattle.std.specs.List.{AllByRecursion, list_any}
 use Rattle.std.proofs.lemmas.Bool.{ltb-true}
 use Rattle.wasi_abi.specs.declared.errno.Errno.TheVariants.{Noent}
 use Rattle.wasi_abi.specs.rules.Answers.{newline, AreBytes}
@@ -30,7 +29,7 @@ use Rattle.wasi_calls_rules.proofs.HostChanges.{sets_flags, seeks, reads_file, w
 use Rattle.wasi_calls_rules.proofs.HostChanges.{rewrites, writes_file, makes, opens_new, opens}
 use Rattle.wasi_calls_rules.proofs.HostChanges.{loses, renames}
 use Rattle.wasi_calls_rules.proofs.RowChanges.{changes}
-use Rattle.wasi_calls_rules.proofs.GivenNames.{EndsWell, ends_well}
+use Rattle.wasi_calls_rules.proofs.GivenNames.{ends_well}
 
 -- ---- lists
 

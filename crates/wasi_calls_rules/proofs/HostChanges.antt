@@ -6,7 +6,7 @@ use Rattle.wasi_abi.specs.rules.Answers.{newline, AreBytes}
 use Rattle.file_tree.specs.rules.Files.{Name, Path, Directory, File, child, is_directory}
 use Rattle.file_tree.specs.rules.Files.{bytes_of_node, used, with_file_bytes, created}
 use Rattle.file_tree.specs.declared.limits.TheConstants.{NODES, FILE_BYTES}
-use Rattle.wasi_calls_rules.specs.Hosts.{Target, Node, Descriptor, Host}
+use Rattle.wasi_calls_rules.specs.Hosts.{Node, Descriptor, Host}
 use Rattle.wasi_calls_rules.specs.Checks.{Bytes, names_directory, lent}
 use Rattle.wasi_calls_rules.specs.Checks.{has_64_bits, has_bytes_alone}
 use Rattle.wasi_calls_rules.specs.Lines.{stream_written}

@@ -5,6 +5,11 @@ pub mod RowChanges
 pub mod Configured
 pub mod GivenNames
 pub mod HostBytes
+pub mod Tables
+pub mod NodesAfter
+pub mod KeptLines
+pub mod Standing
+pub mod KeepsHosts
 pub mod Puts
 pub mod Supplies
 pub mod SmallRows

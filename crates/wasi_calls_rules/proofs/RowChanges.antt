@@ -1,13 +1,13 @@
 -- Each call that is done changes the host in one of the ways of `Becomes`.
 use Rattle.std.proofs.Common.{◌≡◌, ℕ, ◌+◌, ◌*◌, ◌≤◌, ◌<◌, ◌^◌, List, [], ◌∷◌, ◌++◌, length}
-use Rattle.std.proofs.Common.{take, drop, max, refl, sym, ◌∙◌, ap, subst, arith}
+use Rattle.std.proofs.Common.{take, drop, refl, sym, ◌∙◌, ap, subst, arith}
 use Rattle.std.specs.Prelude.{Bool, true, false, if◌then◌else◌, ◌==◌, not, ◌&&◌, ◌||◌, nat_lt}
 use Rattle.std.specs.Prelude.{nat_le, Option, Some, None, is_some, Result, Ok, Err, ℤ, pos, negsuc}
 use Rattle.std.specs.Prelude.{◌+ℤ◌, slice_get, replicate}
 use Rattle.std.specs.Int.{w64, cast_signed}
 use Rattle.std.proofs.lemmas.Bool.{leb-true, ltb-true}
 use Rattle.wasi_abi.specs.declared.errno.Errno.TheVariants.{Badf, Exist, Fbig, Inval, Isdir}
-use Rattle.wasi_abi.specs.declared.errno.Errno.TheVariants.{Nametoolong, Noent, Nospc, Mfile}
+use Rattle.wasi_abi.specs.declared.errno.Errno.TheVariants.{Nametoolong, Noent, Nospc}
 use Rattle.wasi_abi.specs.declared.errno.Errno.TheVariants.{Notcapable, Notdir, Notempty, Spipe}
 use Rattle.wasi_abi.specs.declared.answer.Kind.TheVariants as kind
 use Rattle.wasi_abi.specs.declared.answer.Answer.{Answer}
@@ -28,12 +28,12 @@ use Rattle.wasi_abi.specs.rules.Numbers.{exclusive_flag, truncate_flag, has_flag
 use Rattle.guest_memory.specs.rules.Bytes.{IsByte, part}
 use Rattle.guest_memory.proofs.Lists.{all_both, all_take, all_drop, all_replicate}
 use Rattle.file_tree.specs.rules.Bytes.{written, resized}
-use Rattle.file_tree.specs.rules.Files.{Name, Path, child, is_directory, bytes_of_node, used}
+use Rattle.file_tree.specs.rules.Files.{Name, child, is_directory, bytes_of_node, used}
 use Rattle.file_tree.specs.rules.Files.{with_file_bytes}
 use Rattle.file_tree.specs.declared.limits.TheConstants.{NODES, FILE_BYTES}
 use Rattle.file_tree.proofs.Sizes.{length-written, length-resized}
 use Rattle.wasi_calls_rules.specs.Hosts.{Target, Stream, Node, Descriptor, Host}
-use Rattle.wasi_calls_rules.specs.Checks.{Bytes, Halt, Refuses, Ends, Done, Buffer, ◌>>=◌, check_or}
+use Rattle.wasi_calls_rules.specs.Checks.{Bytes, Halt, Refuses, Ends, Done, Buffer, check_or}
 use Rattle.wasi_calls_rules.specs.Checks.{some_or, flat, open_descriptor, is_stream, a_file}
 use Rattle.wasi_calls_rules.specs.Checks.{names_directory, no_directory, a_directory, node_named}
 use Rattle.wasi_calls_rules.specs.Checks.{with_right, needs, within_rights, in_memory, lent, buffers}
@@ -63,8 +63,8 @@ use Rattle.wasi_calls_rules.specs.Rows.{row}
 use Rattle.wasi_calls_rules.proofs.Steps.{HoldsAfter, refused, done_with, step, next, next_is}
 use Rattle.wasi_calls_rules.proofs.Steps.{passed, some_there, by_test, either_way}
 use Rattle.wasi_calls_rules.proofs.Steps.{answered}
-use Rattle.wasi_calls_rules.proofs.HostChanges.{IsOpen, Reached, Rewriting, Making, Opening}
-use Rattle.wasi_calls_rules.proofs.HostChanges.{Losing, Renaming, Becomes, stays, sees_time}
+use Rattle.wasi_calls_rules.proofs.HostChanges.{IsOpen, Reached, Rewriting}
+use Rattle.wasi_calls_rules.proofs.HostChanges.{Becomes, stays, sees_time}
 use Rattle.wasi_calls_rules.proofs.HostChanges.{leaves_unread, takes_text, ends_input, closes}
 use Rattle.wasi_calls_rules.proofs.HostChanges.{sets_flags, seeks, reads_file, writes_stream}
 use Rattle.wasi_calls_rules.proofs.HostChanges.{rewrites, writes_file, makes, opens_new, opens}

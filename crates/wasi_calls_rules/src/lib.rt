@@ -9,6 +9,9 @@
 //! - `calls_keep_memory`: a call that is done keeps the length of memory (`length`), and leaves
 //!   bytes where there were bytes (`bytes`).
 //! - `calls_emit_lines`: a call that is done emits lines behind those that were there.
+//! - `calls_keep_hosts`: where memory holds bytes, a call that is done leaves `IsHost` as it was,
+//!   whatever its arguments are: files, room, descriptors, streams, times and unfinished lines.
+//! - `calls_keep_hosts_of_bytes`: whatever the host can copy into memory stays bytes.
 //! - `calls_make_one_node_at_most`: a call that is done makes one node at most.
 //! - `calls_keep_configurations`: it leaves room, limit, arguments and environment as they were.
 //! - `answers_are_taken_that_fit`: the rules take an answer exactly where it fits what is asked.

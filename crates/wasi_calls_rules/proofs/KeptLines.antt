@@ -1,0 +1,45 @@
+-- Unfinished lines after a write to a stream.
+use Rattle.std.proofs.Common.{◌≡◌, ℕ, Bool, true, false, List, [], ◌∷◌, ◌++◌}
+use Rattle.std.proofs.Common.{length, refl, arith, length-append}
+use Rattle.std.specs.Prelude.{◌==◌, if◌then◌else◌, nat_lt}
+use Rattle.std.proofs.lemmas.Bool.{eq-eqb, ltb-true}
+use Rattle.wasi_abi.specs.rules.Answers.{newline, IsNoNewline, AreBytes}
+use Rattle.guest_memory.specs.rules.Bytes.{IsByte}
+use Rattle.guest_memory.proofs.Lists.{all_both}
+use Rattle.wasi_calls_rules.specs.Hosts.{IsUnfinished}
+use Rattle.wasi_calls_rules.specs.Lines.{Cut, cut_byte, cut_all}
+use Rattle.wasi_calls_rules.specs.declared.limits.TheConstants.{LINE_BYTES}
+
+-- the unfinished line is one
+abbrev pub EndsFine : Cut → Type 0
+EndsFine c = IsUnfinished c.unfinished
+
+cut_unfinished : (stream : ℕ) (c : Cut) (b : ℕ) → IsUnfinished c.unfinished → IsByte b
+    → EndsFine (cut_byte stream c b)
+cut_unfinished stream c b is byte =
+    either (b == newline) (nat_lt (length c.unfinished) LINE_BYTES) refl refl
+  where
+    no_end : (b == newline) ≡ false → IsNoNewline b
+    no_end e same = absurd (let t = eq-eqb b newline same in cc)
+
+    either : (p q : Bool) → (b == newline) ≡ p → nat_lt (length c.unfinished) LINE_BYTES ≡ q
+        → EndsFine (if p then record { lines = c.lines ++ record { stream = stream; text = c.unfinished } ∷ []; unfinished = [] }
+        else if q then record { lines = c.lines; unfinished = c.unfinished ++ b ∷ [] }
+        else record { lines = c.lines ++ record { stream = stream; text = c.unfinished } ∷ []; unfinished = b ∷ [] })
+    either true q is_end room = record { short = omega arith; are_bytes = tt; no_newline = tt }
+    either false true is_end room =
+        let size = length-append c.unfinished (b ∷ []) in
+        let less = ltb-true (length c.unfinished) LINE_BYTES room in
+        record {
+          short = omega (arith, size, less);
+          are_bytes = all_both IsByte c.unfinished (b ∷ []) is.are_bytes (byte, tt);
+          no_newline = all_both IsNoNewline c.unfinished (b ∷ []) is.no_newline (no_end is_end, tt);
+        }
+    either false false is_end room =
+        record { short = omega arith; are_bytes = (byte, tt); no_newline = (no_end is_end, tt) }
+
+pub all_unfinished : (stream : ℕ) (c : Cut) (bytes : List ℕ) → IsUnfinished c.unfinished
+    → AreBytes bytes → IsUnfinished (cut_all stream c bytes).unfinished
+all_unfinished stream c [] is bytes = is
+all_unfinished stream c (b ∷ more) is bytes =
+    all_unfinished stream (cut_byte stream c b) more (cut_unfinished stream c b is bytes.0) bytes.1
