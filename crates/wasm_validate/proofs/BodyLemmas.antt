@@ -5,3 +5,4 @@ pub mod Bodies
 pub mod FaultKinds
 pub mod Untyped
 pub mod Tables
+pub mod NoFault

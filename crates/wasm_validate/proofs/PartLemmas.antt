@@ -5,3 +5,4 @@ pub mod Lookups
 pub mod Loops
 pub mod Names
 pub mod Faults
+pub mod NoFault

@@ -1,4 +1,5 @@
 pub mod Algorithm
 pub mod Checking
+pub mod FaultLaws
 pub mod FirstFault
 pub mod Remaining

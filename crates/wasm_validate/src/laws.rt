@@ -1,6 +1,7 @@
 //! What is proved of the definitions alone.
 
 ghost use Rattle.wasm_validate.specs.Parts.Parts.{PartsGiveValid, ValidGivesParts};
+ghost use Rattle.wasm_validate.specs.laws.FaultLaws.{ValidHasNoFault};
 ghost use Rattle.wasm_validate.specs.laws.Algorithm.{PassesOnlyTyped, PassesAllTyped};
 
 /// What is checked before and behind the code section, and the bodies, are all of validity.
@@ -15,4 +16,9 @@ pub fn parts_are_validity()
 pub fn checking_is_typing()
     ensures only { PassesOnlyTyped }
     ensures all { PassesAllTyped }
+{}
+
+/// A valid module has a fault of no kind.
+pub fn valid_modules_have_no_fault()
+    ensures { ValidHasNoFault }
 {}

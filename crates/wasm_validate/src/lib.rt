@@ -13,7 +13,7 @@
 //!   judges one body after another.
 //! - `laws::checking_is_typing`: checking opcodes from the front passes exactly what the rules
 //!   type (`only`, `all`). `laws::parts_are_validity`: the parts and the bodies are all of
-//!   validity.
+//!   validity. `laws::valid_modules_have_no_fault`: what `fault` says is never so of a valid module.
 //!
 //! Which fault it is, where several kinds apply, no clause says but for types and imports.
 //!
