@@ -86,7 +86,7 @@ no_wish_in_row call.FdWrite b (fd ∷ iovs ∷ count ∷ ret ∷ x ∷ more) giv
 no_wish_in_row call.ProcExit b (code ∷ []) given m h = λ kind e. absurd (cc)
 no_wish_in_row call.ProcExit b [] given m h = λ kind e. absurd (cc)
 no_wish_in_row call.ProcExit b (code ∷ x ∷ more) given m h = λ kind e. absurd (cc)
-no_wish_in_row _ b arguments given m h = λ kind e. absurd b
+no_wish_in_row _ b arguments given m h = λ kind e. absurd (cc)
 
 -- ---- a process
 

@@ -45,7 +45,7 @@ record IsOfferedAs (from name : List ℕ) (c : Call) : Type 0 where
   pub named : IsNamed name c
 
 all_built : AllByRecursion IsBuilt built_calls
-all_built = (tt, (tt, tt))
+all_built = (refl, (refl, tt))
 
 of_module : (from name : List ℕ) (c : Call) (b : Bool) → bytes_eq from module_name ≡ b → cond b (find (λ d. bytes_eq (name_of d) name) built_calls) None ≡ Some c → IsOfferedAs from name c
 of_module from name c true t e = record { from_is = (bytes_eq-Decides from module_name).0 t; named = found_named name built_calls c all_built e }

@@ -68,7 +68,7 @@ gives_number call.FdWrite built arguments typed given m h r e over = record { gi
 gives_number call.ProcExit built [] typed given m h r e over = absurd typed
 gives_number call.ProcExit built (code ∷ []) typed given m h r e over = absurd (exit_over code r e over)
 gives_number call.ProcExit built (code ∷ n ∷ rest) typed given m h r e over = absurd typed.1
-gives_number _ built arguments typed given m h r e over = absurd built
+gives_number _ built arguments typed given m h r e over = absurd (cc)
 
 -- ---- at a call
 

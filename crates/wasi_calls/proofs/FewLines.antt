@@ -68,4 +68,4 @@ of_exit _ given m h = refused _ (Refuses Inval)
 pub calls_begin_few : CallsBeginFew
 calls_begin_few call.FdWrite built arguments given m h done e = (of_write arguments given m h).holds done e
 calls_begin_few call.ProcExit built arguments given m h done e = (of_exit arguments given m h).holds done e
-calls_begin_few _ built arguments given m h done e = absurd built
+calls_begin_few _ built arguments given m h done e = absurd (cc)

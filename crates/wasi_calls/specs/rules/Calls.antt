@@ -1,11 +1,11 @@
 -- What is told of a call, and of which calls (this project's own).
-use Rattle.std.specs.Prelude.{◌≡◌, ◌≢◌, ℕ, ◌<◌, ◌^◌, List, [], ◌∷◌, length, Option, Some, None, Result, Ok, Err}
+use Rattle.std.specs.Prelude.{◌≡◌, ◌≢◌, IsTrue, ℕ, ◌<◌, ◌^◌, List, [], ◌∷◌, length, Option, Some, None, Result, Ok, Err}
 use Rattle.wasm_syntax.specs.declared.types.ValueType.{ValueType}
 use Rattle.wasm_syntax.specs.declared.types.ValueType.TheVariants.{I32, I64}
 use Rattle.guest_memory.specs.rules.Memories.{LinearMemory}
 use Rattle.wasi_abi.specs.declared.answer.Answer.{Answer}
 use Rattle.wasi_abi.specs.declared.call.Call.{Call}
-use Rattle.wasi_abi.specs.declared.call.Call.TheVariants as call
+use Rattle.wasi_abi.specs.rules.Calls.{is_built}
 use Rattle.wasi_calls_rules.specs.Hosts.{Host}
 use Rattle.wasi_calls_rules.specs.Checks.{Bytes, Done, Ruling, Refuses, Asks, Ends}
 use Rattle.wasi_calls_rules.specs.Rows.{row, IsNoRefusal, Told, IsDone, IsAsk, IsExit, NoMemory}
@@ -15,11 +15,9 @@ use Rattle.wasi_calls.specs.declared.stop.CallStop.{CallStop}
 use Rattle.wasi_calls.specs.declared.stop.CallStop.TheVariants as stop
 use Rattle.wasi_calls.specs.rules.Held.{HeldHost, ShowsHost}
 
--- the calls that are built
+-- the call is one of those that are built
 abbrev pub IsBuilt : Call → Type 0
-IsBuilt call.FdWrite = Unit {0}
-IsBuilt call.ProcExit = Unit {0}
-IsBuilt _ = ⊥
+IsBuilt c = IsTrue (is_built c)
 
 -- one number a parameter, each of its type
 abbrev pub AreArguments : List ValueType → List ℕ → Type 0
