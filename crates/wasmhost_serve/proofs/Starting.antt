@@ -29,29 +29,44 @@ use Rattle.wasmhost_serve.proofs.LineLemmas.Passing.{up_to_map}
 
 -- ---- the start
 
-closed_tells_nothing : (config : Settings) (thread : Thread) (later : List ℕ) (p : ProcessState) → p.host ≡ host_of config → (closed_at thread later p).host.lines ≡ []
+closed_tells_nothing : (config : Settings) (thread : Thread) (later : List ℕ) (p : ProcessState)
+    → p.host ≡ host_of config → (closed_at thread later p).host.lines ≡ []
 closed_tells_nothing config [] [] p e = rw e refl
 closed_tells_nothing config [] (f ∷ later) p e = ap (λ h. h.lines) e
 closed_tells_nothing config (frame ∷ thread) later p e = ap (λ h. h.lines) e
 
-start_tells_nothing : (m : Module) (config : Settings) (guest : Guest) (p : ProcessState) → IsStart m config guest p → p.host.lines ≡ []
+start_tells_nothing : (m : Module) (config : Settings) (guest : Guest) (p : ProcessState)
+    → IsStart m config guest p → p.host.lines ≡ []
 start_tells_nothing m config guest p start =
     ap (λ (q : ProcessState). q.host.lines) start.is
-    ∙ closed_tells_nothing config start.first.thread start.first.later (record { configuration = start.first; host = host_of config; steps = 0; answers = 0; requests = 0; ended = None }) refl
+    ∙ closed_tells_nothing config start.first.thread start.first.later
+    (record {
+      configuration = start.first;
+      host = host_of config;
+      steps = 0;
+      answers =
+          0;
+      requests = 0;
+      ended = None;
+    }) refl
 
 -- a number below 3 and above it
 too_small : (n m : ℕ) → n ≡ m → (n ≡ 0) ⊎ (n ≡ 7) → (m ≡ 0 → ⊥) → (m ≡ 7 → ⊥) → ⊥
 too_small n m e (inl k) no_zero no_seven = no_zero (sym e ∙ k)
 too_small n m e (inr k) no_zero no_seven = no_seven (sym e ∙ k)
 
-module _ (bytes : List ℕ) (w : WorkerValue) (lines : Option (List ℕ)) (failed failed' : Bool) (old new : Option (List ℕ)) (created : IsCreated bytes usual w) where
+module _ (bytes : List ℕ) (w : WorkerValue) (lines : Option (List ℕ)) (failed failed' : Bool)
+    (old new : Option (List ℕ)) (created : IsCreated bytes usual w) where
   start_shows : ShowsProcess w.process created.started.first_guest created.started.first
-  start_shows = created.started.shows created.started.first_guest created.started.first created.started.is_first
+  start_shows = created.started.shows created.started.first_guest created.started.first
+      created.started.is_first
 
   none_told : created.started.first.host.lines ≡ []
-  none_told = start_tells_nothing created.spelled usual created.started.first_guest created.started.first created.started.is_first
+  none_told = start_tells_nothing created.spelled usual created.started.first_guest
+      created.started.first created.started.is_first
 
-  has_printed : Prints created.started.first_guest created.started.first lines old new → HasPrinted bytes lines old new
+  has_printed : Prints created.started.first_guest created.started.first lines old new
+      → HasPrinted bytes lines old new
   has_printed prints = record {
     spelled = created.spelled;
     accepted = created.accepted;
@@ -59,30 +74,48 @@ module _ (bytes : List ℕ) (w : WorkerValue) (lines : Option (List ℕ)) (faile
     requests = prints.requests;
     steps = prints.steps;
     process = prints.process;
-    reached = record { guest = created.started.first_guest; start = created.started.first; begins = created.started.is_first; runs = prints.runs };
+    reached = record {
+      guest = created.started.first_guest;
+      start = created.started.first;
+      begins =
+          created.started.is_first;
+      runs = prints.runs;
+    };
     printed = prints.printed;
   }
 
   -- ---- a worker that is over
 
-  pub serves_done : (why : Now) (err err' : Option (List ℕ)) (status : ℕ) → IsWorkerRun w why lines failed failed' old new → (status ≡ 0) ⊎ (status ≡ 7)
-      → (status ≡ 0 → Appends err err' (last_words (ended_by why))) → Serves bytes lines failed failed' old new err err' status
+  pub serves_done : (why : Now) (err err' : Option (List ℕ)) (status : ℕ)
+      → IsWorkerRun w why lines failed failed' old new → (status ≡ 0) ⊎ (status ≡ 7)
+      → (status ≡ 0 → Appends err err' (last_words (ended_by why)))
+      → Serves bytes lines failed failed' old new err err' status
   unfolding has_printed
   serves_done why err err' status did known told =
       let done = did created.started.first_guest created.started.first start_shows none_told in
       record {
-        served = λ e. record { has = has_printed done.0; over = done.1; told = subst (λ z. Appends err err' (last_words z)) (sym done.2) (told e) };
-        refused = λ e. absurd (too_small status 3 e known (λ z. omega (arith, z)) (λ z. omega (arith, z)));
-        unanswered = λ e. absurd (too_small status 4 e known (λ z. omega (arith, z)) (λ z. omega (arith, z)));
-        starved = λ e. absurd (too_small status 5 e known (λ z. omega (arith, z)) (λ z. omega (arith, z)));
-        bad_line = λ e. absurd (too_small status 6 e known (λ z. omega (arith, z)) (λ z. omega (arith, z)));
+        served = λ e. record {
+          has = has_printed done.0;
+          over = done.1;
+          told =
+              subst (λ z. Appends err err' (last_words z)) (sym done.2) (told e);
+        };
+        refused = λ e. absurd (too_small status 3 e known (λ z. omega (arith, z))
+            (λ z. omega (arith, z)));
+        unanswered = λ e. absurd (too_small status 4 e known (λ z. omega (arith, z))
+            (λ z. omega (arith, z)));
+        starved = λ e. absurd (too_small status 5 e known (λ z. omega (arith, z))
+            (λ z. omega (arith, z)));
+        bad_line = λ e. absurd (too_small status 6 e known (λ z. omega (arith, z))
+            (λ z. omega (arith, z)));
         heeded = inl done.3;
         known = elim known [ inl k ↦ inl k | inr k ↦ inr (omega (arith, k), omega (arith, k)) ];
       }
 
 -- ---- one that fails
 
-module _ (bytes : List ℕ) (lines : Option (List ℕ)) (failed failed' : Bool) (old new err err' : Option (List ℕ)) where
+module _ (bytes : List ℕ) (lines : Option (List ℕ)) (failed failed' : Bool)
+    (old new err err' : Option (List ℕ)) where
   -- a status that no fault has but this one
   seven : Serves bytes lines failed failed' old new err err' 7
   seven = record {
@@ -95,7 +128,8 @@ module _ (bytes : List ℕ) (lines : Option (List ℕ)) (failed failed' : Bool) 
     known = inr (omega arith, omega arith);
   }
 
-  three : IsRefusal bytes lines old new → failed' ≡ failed → Serves bytes lines failed failed' old new err err' 3
+  three : IsRefusal bytes lines old new → failed' ≡ failed
+      → Serves bytes lines failed failed' old new err err' 3
   three h steady = record {
     served = λ e. absurd (omega (arith, e));
     refused = λ e. h;
@@ -106,7 +140,8 @@ module _ (bytes : List ℕ) (lines : Option (List ℕ)) (failed failed' : Bool) 
     known = inr (omega arith, omega arith);
   }
 
-  four : (has : HasPrinted bytes lines old new) → LacksAnswer has.reached.guest has.process failed' → Serves bytes lines failed failed' old new err err' 4
+  four : (has : HasPrinted bytes lines old new) → LacksAnswer has.reached.guest has.process failed'
+      → Serves bytes lines failed failed' old new err err' 4
   four has lacks = record {
     served = λ e. absurd (omega (arith, e));
     refused = λ e. absurd (omega (arith, e));
@@ -117,7 +152,8 @@ module _ (bytes : List ℕ) (lines : Option (List ℕ)) (failed failed' : Bool) 
     known = inr (omega arith, omega arith);
   }
 
-  five : Appends old new [] ⊎ HasPrinted bytes lines old new → Serves bytes lines failed failed' old new err err' 5
+  five : Appends old new [] ⊎ HasPrinted bytes lines old new
+      → Serves bytes lines failed failed' old new err err' 5
   five h = record {
     served = λ e. absurd (omega (arith, e));
     refused = λ e. absurd (omega (arith, e));
@@ -128,7 +164,8 @@ module _ (bytes : List ℕ) (lines : Option (List ℕ)) (failed failed' : Bool) 
     known = inr (omega arith, omega arith);
   }
 
-  six : (has : HasPrinted bytes lines old new) → MeetsBadLine has.reached.guest lines has.kept has.process → failed' ≡ failed
+  six : (has : HasPrinted bytes lines old new)
+      → MeetsBadLine has.reached.guest lines has.kept has.process → failed' ≡ failed
       → Serves bytes lines failed failed' old new err err' 6
   six has meets steady = record {
     served = λ e. absurd (omega (arith, e));
@@ -141,11 +178,13 @@ module _ (bytes : List ℕ) (lines : Option (List ℕ)) (failed failed' : Bool) 
   }
 
   -- a process that wants an answer, and why there is none
-  module _ (has : HasPrinted bytes lines old new) (kind : Kind) (wants : WantsAnswer has.reached.guest has.process kind) where
+  module _ (has : HasPrinted bytes lines old new) (kind : Kind)
+      (wants : WantsAnswer has.reached.guest has.process kind) where
     wants_request : kind ≡ kinds.Request → WantsAnswer has.reached.guest has.process kinds.Request
     wants_request e = subst (WantsAnswer has.reached.guest has.process) e wants
 
-    by_line : (why : LineFault) → IsRefusedFor kind 0 lines has.kept failed failed' why → Serves bytes lines failed failed' old new err err' (status_of (run.Line why))
+    by_line : (why : LineFault) → IsRefusedFor kind 0 lines has.kept failed failed' why
+        → Serves bytes lines failed failed' old new err err' (status_of (run.Line why))
     by_line line.Read (inl k) = let e = k.1 in absurd (cc)
     by_line line.Read (inr k) = four has (inl (wants_request k.0, k.1))
     by_line line.Kind (inl k) = four has (inr (inl (kind, k.0, wants)))
@@ -159,48 +198,74 @@ module _ (bytes : List ℕ) (lines : Option (List ℕ)) (failed failed' : Bool) 
         let later : length has.kept + 1 < given = omega (arith, next, beyond) in
         six has (
           wants_request k.0,
-          up_to_map 0 lines has.kept (BeginsWithNumber given) (λ rest. BeginsWithOther rest ⊎ BeginsWithLater (length has.kept) rest)
+          up_to_map 0 lines has.kept (BeginsWithNumber given) (λ rest. BeginsWithOther rest
+              ⊎ BeginsWithLater (length has.kept) rest)
               (λ rest is. inr (given, later, is)) k.1.2,
         ) k.1.3
     by_line line.Form (inl k) = let e = k.1 in absurd (cc)
     by_line line.Form (inr k) =
-        six has (wants_request k.0, up_to_map 0 lines has.kept BeginsWithOther (λ rest. BeginsWithOther rest ⊎ BeginsWithLater (length has.kept) rest) (λ rest is. inl is) k.1.0) k.1.1
+        six has (
+          wants_request k.0,
+          up_to_map 0 lines has.kept BeginsWithOther
+              (λ rest. BeginsWithOther rest ⊎ BeginsWithLater (length has.kept) rest)
+              (λ rest is. inl is) k.1.0,
+        ) k.1.1
 
-  told_by : (s : ℕ) (why : RunFault) → Serves bytes lines failed failed' old new err err' (status_of why) → (s ≡ status_of why) ⊎ (s ≡ 7)
+  told_by : (s : ℕ) (why : RunFault) → Serves bytes lines failed failed' old new err err'
+      (status_of why) → (s ≡ status_of why) ⊎ (s ≡ 7)
       → Serves bytes lines failed failed' old new err err' s
-  told_by s why serves (inl e) = subst (Serves bytes lines failed failed' old new err err') (sym e) serves
-  told_by s why serves (inr e) = subst (Serves bytes lines failed failed' old new err err') (sym e) seven
+  told_by s why serves (inl e) = subst (Serves bytes lines failed failed' old new err err') (sym e)
+      serves
+  told_by s why serves (inr e) = subst (Serves bytes lines failed failed' old new err err') (sym e)
+      seven
 
   -- one that ran
-  pub serves_failed : (w : WorkerValue) (why : RunFault) (status : ℕ) → IsCreated bytes usual w → IsRunInVain w why lines failed failed' old new → (status ≡ status_of why) ⊎ (status ≡ 7)
+  pub serves_failed : (w : WorkerValue) (why : RunFault) (status : ℕ) → IsCreated bytes usual w
+      → IsRunInVain w why lines failed failed' old new → (status ≡ status_of why) ⊎ (status ≡ 7)
       → Serves bytes lines failed failed' old new err err' status
   unfolding has_printed
   serves_failed w why status created did known =
-      told_by status why (by_fault why (did created.unfailed created.started.first_guest created.started.first (start_shows bytes w lines failed failed' old new created) (none_told bytes w lines failed failed' old new created))) known
+      told_by status why (by_fault why (did created.unfailed created.started.first_guest
+      created.started.first (start_shows bytes w lines failed failed' old new created)
+      (none_told bytes w lines failed failed' old new created))) known
     where
-      by_fault : (why : RunFault) → FailsAs created.started.first_guest created.started.first why lines failed failed' old new → Serves bytes lines failed failed' old new err err' (status_of why)
-      by_fault (run.Line why) h = by_line (has_printed bytes w lines failed failed' old new created h.0) h.1 h.2 why h.3
-      by_fault (run.Work fault.Source) h = four (has_printed bytes w lines failed failed' old new created h.0) (inr (inr h.1))
+      by_fault : (why : RunFault) → FailsAs created.started.first_guest created.started.first why
+          lines failed failed' old new → Serves bytes lines failed failed' old new err err'
+          (status_of why)
+      by_fault (run.Line why) h = by_line
+          (has_printed bytes w lines failed failed' old new created h.0) h.1 h.2 why h.3
+      by_fault (run.Work fault.Source) h =
+          four (has_printed bytes w lines failed failed' old new created h.0) (inr (inr h.1))
       by_fault (run.Work fault.Outlet) h = seven
-      by_fault (run.Work fault.Memory) h = five (inr (has_printed bytes w lines failed failed' old new created h))
+      by_fault (run.Work fault.Memory) h =
+          five (inr (has_printed bytes w lines failed failed' old new created h))
       by_fault (run.Work fault.Failed) h = absurd h
       by_fault (run.Work (fault.Refused (refusal.Front why))) h = absurd h
-      by_fault (run.Work (fault.Refused refusal.StepsSpent)) h = three (inr (has_printed bytes w lines failed failed' old new created h.0, h.1)) h.2
+      by_fault (run.Work (fault.Refused refusal.StepsSpent)) h =
+          three (inr (has_printed bytes w lines failed failed' old new created h.0, h.1)) h.2
 
 -- one that wasn't created
-pub serves_nothing : (bytes : List ℕ) (lines : Option (List ℕ)) (failed : Bool) (old err err' : Option (List ℕ)) (why : WorkFault) (status : ℕ)
-    → IsRefusedByWorker usual.pages bytes why → (status ≡ status_of (run.Work why)) ⊎ (status ≡ 7) → Serves bytes lines failed failed old old err err' status
+pub serves_nothing : (bytes : List ℕ) (lines : Option (List ℕ)) (failed : Bool)
+    (old err err' : Option (List ℕ)) (why : WorkFault) (status : ℕ)
+    → IsRefusedByWorker usual.pages bytes why → (status ≡ status_of (run.Work why)) ⊎ (status ≡ 7)
+    → Serves bytes lines failed failed old old err err' status
 serves_nothing bytes lines failed old err err' why status refused known =
-    told_by bytes lines failed failed old old err err' status (run.Work why) (by_refusal why refused) known
+    told_by bytes lines failed failed old old err err' status (run.Work why)
+    (by_refusal why refused) known
   where
-    by_refusal : (why : WorkFault) → IsRefusedByWorker usual.pages bytes why → Serves bytes lines failed failed old old err err' (status_of (run.Work why))
+    by_refusal : (why : WorkFault) → IsRefusedByWorker usual.pages bytes why
+        → Serves bytes lines failed failed old old err err' (status_of (run.Work why))
     by_refusal fault.Source h = absurd h
     by_refusal fault.Outlet h = absurd h
-    by_refusal fault.Memory h = five bytes lines failed failed old old err err' (inl (Appends-nil old))
+    by_refusal fault.Memory h = five bytes lines failed failed old old err err'
+        (inl (Appends-nil old))
     by_refusal fault.Failed h = absurd h
-    by_refusal (fault.Refused (refusal.Front why)) h = three bytes lines failed failed old old err err' (inl (h.2, Appends-nil old)) refl
+    by_refusal (fault.Refused (refusal.Front why)) h =
+        three bytes lines failed failed old old err err' (inl (h.2, Appends-nil old)) refl
     by_refusal (fault.Refused refusal.StepsSpent) h = absurd h
 
-pub few_statuses : (bytes : List ℕ) (lines : Option (List ℕ)) (failed failed' : Bool) (old new err err' : Option (List ℕ)) (status : ℕ)
+pub few_statuses : (bytes : List ℕ) (lines : Option (List ℕ)) (failed failed' : Bool)
+    (old new err err' : Option (List ℕ)) (status : ℕ)
     → Serves bytes lines failed failed' old new err err' status → status ≤ 7
-few_statuses bytes lines failed failed' old new err err' status serves = elim serves.known [ inl k ↦ omega (arith, k) | inr k ↦ k.1 ]
+few_statuses bytes lines failed failed' old new err err' status serves =
+    elim serves.known [ inl k ↦ omega (arith, k) | inr k ↦ k.1 ]

@@ -24,12 +24,15 @@ use Rattle.wasmhost_serve.specs.declared.run.RunFault.TheVariants as run
 use Rattle.wasmhost_serve.specs.rules.Served.{WantsAnswer, IsOver, IsSpent}
 
 -- some slice, of so much fuel
-pub record SlicesSome {S O : Type 0} (gives : Giving S) (takes : Taking O) (old : WorkerValue) (why : Now) (new : WorkerValue) (source source' : S) (outlet outlet' : O) : Type 0 where
+pub record SlicesSome {S O : Type 0} (gives : Giving S) (takes : Taking O) (old : WorkerValue)
+    (why : Now) (new : WorkerValue) (source source' : S) (outlet outlet' : O) : Type 0 where
   pub fuel : ℕ
   pub slices : Slices gives takes old fuel why new source source' outlet outlet'
 
 -- some slice that fails
-pub record SlicesSomeInVain {S O : Type 0} (gives : Giving S) (takes : Taking O) (old : WorkerValue) (why : WorkFault) (new : WorkerValue) (source source' : S) (outlet outlet' : O) : Type 0 where
+pub record SlicesSomeInVain {S O : Type 0} (gives : Giving S) (takes : Taking O)
+    (old : WorkerValue) (why : WorkFault) (new : WorkerValue) (source source' : S)
+    (outlet outlet' : O) : Type 0 where
   pub fuel : ℕ
   pub slices : SlicesInVain gives takes old fuel why new source source' outlet outlet'
 
@@ -39,26 +42,33 @@ ended_by now.Spent = None
 ended_by now.Waiting = None
 ended_by (now.Ended how) = Some (ending_of how)
 
--- On the answers that lines of a reader give a process that had emitted no line comes to another one, and all lines of that were printed.
-pub record Prints (guest : Guest) (p : ProcessState) (lines old new : Option (List ℕ)) : Type 0 where
-  pub kept : List Kept
-  pub requests : GiveUpTo 0 lines kept (λ _. ⊤)
-  pub steps : ℕ
-  pub process : ProcessState
-  pub runs : Runs guest p kept steps process
-  pub printed : Appends old new (all_printed 1 process.host.lines)
+-- On the answers that lines of a reader give a process that had emitted no line comes to another
+-- one, and all lines of that were printed.
+pub record Prints (guest : Guest) (p : ProcessState) (lines old new : Option (List ℕ)) : Type 0
+  where
+    pub kept : List Kept
+    pub requests : GiveUpTo 0 lines kept (λ _. ⊤)
+    pub steps : ℕ
+    pub process : ProcessState
+    pub runs : Runs guest p kept steps process
+    pub printed : Appends old new (all_printed 1 process.host.lines)
 
 -- whichever process the worker showed; and no read of the reader has failed
-abbrev pub IsWorkerRun : WorkerValue → Now → Option (List ℕ) → Bool → Bool → Option (List ℕ) → Option (List ℕ) → Type 0
+abbrev pub IsWorkerRun : WorkerValue → Now → Option (List ℕ) → Bool → Bool → Option (List ℕ)
+    → Option (List ℕ) → Type 0
 IsWorkerRun w why lines failed failed' old new =
     (guest : Guest) (p : ProcessState) → ShowsProcess w.process guest p → p.host.lines ≡ []
-    → (prints : Prints guest p lines old new) × IsOver guest lines prints.kept prints.process × (prints.process.ended ≡ ended_by why) × (failed' ≡ failed)
+    → (prints : Prints guest p lines old new) × IsOver guest lines prints.kept prints.process
+    × (prints.process.ended ≡ ended_by why) × (failed' ≡ failed)
 
--- Where a fault of the source or of a request line comes, an answer is wanted. A fault of the source with no line's fault is an answer that
--- doesn't fit. After a fault of the outlet nothing is known of what was printed.
-abbrev pub FailsAs : Guest → ProcessState → RunFault → Option (List ℕ) → Bool → Bool → Option (List ℕ) → Option (List ℕ) → Type 0
+-- Where a fault of the source or of a request line comes, an answer is wanted. A fault of the
+-- source with no line's fault is an answer that doesn't fit. After a fault of the outlet nothing
+-- is known of what was printed.
+abbrev pub FailsAs : Guest → ProcessState → RunFault → Option (List ℕ) → Bool → Bool
+    → Option (List ℕ) → Option (List ℕ) → Type 0
 FailsAs guest p (run.Line why) lines failed failed' old new =
-    (prints : Prints guest p lines old new) × (kind : Kind) × WantsAnswer guest prints.process kind × IsRefusedFor kind 0 lines prints.kept failed failed' why
+    (prints : Prints guest p lines old new) × (kind : Kind) × WantsAnswer guest prints.process kind
+    × IsRefusedFor kind 0 lines prints.kept failed failed' why
 FailsAs guest p (run.Work fault.Source) lines failed failed' old new =
     (prints : Prints guest p lines old new) × (prints.process.host.limit < TEXT_BYTES)
 FailsAs guest p (run.Work fault.Outlet) lines failed failed' old new = Unit {0}
@@ -69,10 +79,14 @@ FailsAs guest p (run.Work (fault.Refused refusal.StepsSpent)) lines failed faile
     (prints : Prints guest p lines old new) × IsSpent guest prints.process × (failed' ≡ failed)
 
 -- whichever process the worker showed, none of whose calls had failed
-abbrev pub IsRunInVain : WorkerValue → RunFault → Option (List ℕ) → Bool → Bool → Option (List ℕ) → Option (List ℕ) → Type 0
+abbrev pub IsRunInVain : WorkerValue → RunFault → Option (List ℕ) → Bool → Bool → Option (List ℕ)
+    → Option (List ℕ) → Type 0
 IsRunInVain w why lines failed failed' old new =
-    w.failed ≡ false → (guest : Guest) (p : ProcessState) → ShowsProcess w.process guest p → p.host.lines ≡ [] → FailsAs guest p why lines failed failed' old new
+    w.failed ≡ false → (guest : Guest) (p : ProcessState) → ShowsProcess w.process guest p
+    → p.host.lines ≡ [] → FailsAs guest p why lines failed failed' old new
 
--- A fault of a worker is told as it is; or, where it is the source's, as that of a line, where there is one.
+-- A fault of a worker is told as it is; or, where it is the source's, as that of a line, where
+-- there is one.
 abbrev pub IsToldAs : WorkFault → Option LineFault → RunFault → Type 0
-IsToldAs why found told = ((told ≡ run.Work why) × (why ≡ fault.Source → found ≡ None)) ⊎ ((line : LineFault) × (why ≡ fault.Source) × (found ≡ Some line) × (told ≡ run.Line line))
+IsToldAs why found told = ((told ≡ run.Work why) × (why ≡ fault.Source → found ≡ None))
+    ⊎ ((line : LineFault) × (why ≡ fault.Source) × (found ≡ Some line) × (told ≡ run.Line line))

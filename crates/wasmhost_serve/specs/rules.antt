@@ -2,6 +2,7 @@ pub mod Commands
 pub mod Numbers
 pub mod Printed
 pub mod Prints
+pub mod Reports
 pub mod Requests
 pub mod Served
 pub mod Statuses

@@ -15,6 +15,10 @@
 //! - `LineOutlet` prints each line that it takes, with its number and the letter of its stream
 //!   (`PrintsOneLine`). `laws::taken_lines_are_printed`: the lines that it took are printed, and
 //!   nothing else.
+//! - `read_module`: the bytes of a reader, where they are known, up to one more than the longest
+//!   module has. `say_line`, `report`: the line was written and the status is the one given, or it
+//!   is 7 (`SaysLine`). `report_words`: help leaves the error output as it was, and a mistake the
+//!   output.
 //! - `words::read_words`: an order is exactly what the words mean. A fault is one that the rules
 //!   of the command line list for them, or want of memory (`IsReading`).
 //! - `laws::faultless_words_mean`, `laws::worked_examples`: words without a fault mean an order;
@@ -38,8 +42,10 @@
 mod check;
 pub mod laws;
 mod lines;
+mod module_bytes;
 mod run;
 pub mod status;
+mod telling;
 mod words;
 
 pub use check::check_bytes;
@@ -47,5 +53,7 @@ pub use lines::{
     BufferedLines, LineFault, LineOutlet, LineReader, Request, RequestSource, read_request,
     trap_name,
 };
+pub use module_bytes::read_module;
 pub use run::{Options, serve};
+pub use telling::{Obstacle, obstacle_of, report, report_words, say_line};
 pub use words::{Order, WordsFault, read_words};

@@ -94,16 +94,19 @@ fn is_process(worker: &Worker)
     let _ = worker.process().steps();
 }
 
-/// Slice after slice, until the worker is over. It comes to that, or fails, since its steps are numbered.
+/// Slice after slice, until the worker is over. It comes to that, or fails, since its steps are
+/// numbered.
 fn work<S: Source, O: Outlet>(
     worker: &mut Worker,
     fuel: NonZeroU64,
     source: &mut S,
     outlet: &mut O,
 ) -> Result<Now, WorkFault>
-    ensures slices { IfOk result (λ now. SlicesSome S.gives O.takes worker.old now worker.new source.old source.new outlet.old outlet.new) }
+    ensures slices { IfOk result (λ now. SlicesSome S.gives O.takes worker.old now worker.new
+        source.old source.new outlet.old outlet.new) }
     ensures over { IfOk result (λ now. now ≢ Spent) }
-    ensures failed { IfErr result (λ fault. SlicesSomeInVain S.gives O.takes worker.old fault worker.new source.old source.new outlet.old outlet.new) }
+    ensures failed { IfErr result (λ fault. SlicesSomeInVain S.gives O.takes worker.old fault
+        worker.new source.old source.new outlet.old outlet.new) }
 {
     loop {
         is_process(worker);
@@ -135,7 +138,8 @@ fn run<R: LineReader + Drop, W: Write + Drop>(
     ensures done { IfOk result (λ now. IsWorkerRun worker.old now (R.unread source.old.reader)
         (R.has_failed source.old.reader) (R.has_failed source.new.reader)
         (W.contents outlet.old.out) (W.contents outlet.new.out)) }
-    ensures failed { IfErr result (λ fault. IsRunInVain worker.old fault (R.unread source.old.reader)
+    ensures failed { IfErr result (λ fault. IsRunInVain worker.old fault
+        (R.unread source.old.reader)
         (R.has_failed source.old.reader) (R.has_failed source.new.reader)
         (W.contents outlet.old.out) (W.contents outlet.new.out)) }
 {
@@ -148,7 +152,8 @@ fn run<R: LineReader + Drop, W: Write + Drop>(
 
 /// Writes the last words of a worker that is over.
 fn print_last_words<E: Write>(err: &mut E, now: Now) -> io::Result<()>
-    ensures { OnOk result (Appends (E.contents err.old) (E.contents err.new) (last_words (ended_by now))) }
+    ensures { OnOk result (Appends (E.contents err.old) (E.contents err.new)
+        (last_words (ended_by now))) }
 {
     match now {
         Now::Ended(ProcessEnd::Exited(code)) => writeln!(err, "exited {code}")?,
@@ -161,7 +166,8 @@ fn print_last_words<E: Write>(err: &mut E, now: Now) -> io::Result<()>
 /// Says how a worker is over, and answers the exit status.
 fn say<E: Write>(err: &mut E, now: Now) -> u8
     ensures known { (result ≡ 0) ⊎ (result ≡ 7) }
-    ensures told { result ≡ 0 → Appends (E.contents err.old) (E.contents err.new) (last_words (ended_by now)) }
+    ensures told { result ≡ 0 → Appends (E.contents err.old) (E.contents err.new)
+        (last_words (ended_by now)) }
 {
     match print_last_words(err, now) {
         Ok(()) => 0,
@@ -181,11 +187,12 @@ fn say_fault<E: Write>(err: &mut E, fault: RunFault) -> u8
     }
 }
 
-/// Runs a fresh worker of the module that the bytes spell: request lines of the source in, its lines
-/// to the outlet, last words to `err`. Requests are numbered from 1 on, whatever the source took
-/// before. Answers the exit status: 0 where it has ended, trapped or waits at the end of the lines, 3
-/// for a refused module and where steps or lines can't be counted further, 4 where the reader fails, 5
-/// for want of memory, 6 for a refused request line, 7 where nothing can be printed.
+/// Runs a fresh worker of the module that the bytes spell: request lines of the source in, its
+/// lines to the outlet, last words to `err`. Requests are numbered from 1 on, whatever the source
+/// took before. Answers the exit status: 0 where it has ended, trapped or waits at the end of the
+/// lines, 3 for a refused module and where steps or lines can't be counted further, 4 where the
+/// reader fails, 5 for want of memory, 6 for a refused request line, 7 where nothing can be
+/// printed.
 pub fn serve<R: LineReader + Drop, W: Write + Drop, E: Write>(
     alloc: Global,
     wasm: &[u8],

@@ -15,9 +15,11 @@ use Rattle.wasmhost_serve.specs.Lines.Reads.{AreSome}
 use Rattle.wasmhost_serve.specs.Lines.Answers.{HandsNext, HandsAnswer, IsNext, MissesNext, IsRefusedFor, LeavesFault}
 use Rattle.wasmhost_serve.proofs.LineLemmas.Passing.{passed_nothing, up_to_on}
 
-module _ {S : Type 0} (taken : S → ℕ) (unread : S → Option (List ℕ)) (failed : S → Bool) (fault : S → Option LineFault) where
+module _ {S : Type 0} (taken : S → ℕ) (unread : S → Option (List ℕ)) (failed : S → Bool) (fault : S
+    → Option LineFault) where
   abbrev pub gives_lines : Giving S
-  gives_lines s kind said t = HandsNext kind (taken s) (unread s) (failed s) (fault s) said (taken t) (unread t) (failed t) (fault t)
+  gives_lines s kind said t = HandsNext kind (taken s) (unread s) (failed s) (fault s) said
+      (taken t) (unread t) (failed t) (fault t)
 
   -- From one source to another, with no fault, these answers were handed over.
   pub record HasAnswered (s t : S) (kept : List Kept) : Type 0 where
@@ -27,15 +29,24 @@ module _ {S : Type 0} (taken : S → ℕ) (unread : S → Option (List ℕ)) (fa
     pub given : GiveUpTo (taken s) (unread s) kept (λ rest. unread t ≡ Some rest)
 
   -- each question was answered
-  pub all_answered : (asks : List Ask) (s t : S) → AllByRecursion HasAnswer asks → fault s ≡ None → AnswersInOrder gives_lines s asks t → HasAnswered s t (handed asks)
+  pub all_answered : (asks : List Ask) (s t : S) → AllByRecursion HasAnswer asks → fault s ≡ None
+      → AnswersInOrder gives_lines s asks t → HasAnswered s t (handed asks)
   all_answered [] s t all none leads =
-      let here : HasAnswered s s [] = record { unspoilt = none; steady = refl; counted = omega arith; given = passed_nothing (taken s) (unread s) } in
+      let here : HasAnswered s s [] = record {
+        unspoilt = none;
+        steady = refl;
+        counted = omega arith;
+        given =
+            passed_nothing (taken s) (unread s);
+      } in
       subst (λ z. HasAnswered s z []) (sym leads) here
   all_answered (ask ∷ asks) s t all none leads =
       let u = leads.0 in
       let a = all.0.0 in
-      let hands : HandsAnswer ask.kind (taken s) (unread s) (failed s) (fault s) (Some a) (taken u) (unread u) (failed u) (fault u) =
-      subst (λ r. HandsNext ask.kind (taken s) (unread s) (failed s) (fault s) r (taken u) (unread u) (failed u) (fault u)) all.0.1 leads.1 in
+      let hands : HandsAnswer ask.kind (taken s) (unread s) (failed s) (fault s) (Some a) (taken u)
+      (unread u) (failed u) (fault u) =
+      subst (λ r. HandsNext ask.kind (taken s) (unread s) (failed s) (fault s) r (taken u)
+      (unread u) (failed u) (fault u)) all.0.1 leads.1 in
       let next : IsNext (taken s) (unread s) a (taken u) (unread u) = hands.found_next in
       let more = all_answered asks u t all.1 hands.unspoilt leads.2 in
       let one = next.counted in
@@ -44,27 +55,41 @@ module _ {S : Type 0} (taken : S → ℕ) (unread : S → Option (List ℕ)) (fa
         unspoilt = more.unspoilt;
         steady = more.steady ∙ hands.steady;
         counted = omega (arith, one, others);
-        given = up_to_on (taken s) (unread s) (unread u) (Given a ∷ []) (handed asks) (λ rest. unread t ≡ Some rest) next.given
-            (subst (λ n. GiveUpTo n (unread u) (handed asks) (λ rest. unread t ≡ Some rest)) one more.given);
+        given = up_to_on (taken s) (unread s) (unread u) (Given a ∷ []) (handed asks)
+            (λ rest. unread t ≡ Some rest) next.given
+            (subst (λ n. GiveUpTo n (unread u) (handed asks) (λ rest. unread t ≡ Some rest)) one
+            more.given);
       } in
       subst (λ r. HasAnswered s t (handed_by r ++ handed asks)) (sym all.0.1) whole
 
   module _ (s u t : S) (kept : List Kept) (before : HasAnswered s u kept) (kind : Kind) where
     -- what the lines give behind these answers
-    behind : (P : List ℕ → Type 0) → GiveUpTo (taken u) (unread u) [] P → GiveUpTo (taken s) (unread s) kept P
+    behind : (P : List ℕ → Type 0) → GiveUpTo (taken u) (unread u) [] P
+        → GiveUpTo (taken s) (unread s) kept P
     behind P back =
         subst (λ k. GiveUpTo (taken s) (unread s) k P) (append-nil kept)
-        (up_to_on (taken s) (unread s) (unread u) kept [] P before.given (subst (λ n. GiveUpTo n (unread u) [] P) before.counted back))
+        (up_to_on (taken s) (unread s) (unread u) kept [] P before.given
+        (subst (λ n. GiveUpTo n (unread u) [] P) before.counted back))
 
     -- none is left
-    pub none_left : gives_lines u kind (Ok None) t → (kind ≡ kinds.Request) × (failed t ≡ failed s) × GiveUpTo (taken s) (unread s) kept (λ rest. rest ≡ [])
-    none_left hands = (hands.asked, hands.steady ∙ before.steady, behind (λ rest. rest ≡ []) (ends (taken u) (unread u) (unread t) hands.found_next.1))
+    pub none_left : gives_lines u kind (Ok None) t → (kind ≡ kinds.Request) × (failed t ≡ failed s)
+        × GiveUpTo (taken s) (unread s) kept (λ rest. rest ≡ [])
+    none_left hands = (
+      hands.asked,
+      hands.steady
+          ∙ before.steady,
+      behind (λ rest. rest ≡ [])
+          (ends (taken u) (unread u) (unread t) hands.found_next.1),
+    )
       where
-        ends : (n : ℕ) (old new : Option (List ℕ)) → GiveUpTo n old [] (λ rest. (rest ≡ []) × (new ≡ Some rest)) → GiveUpTo n old [] (λ rest. rest ≡ [])
+        ends : (n : ℕ) (old new : Option (List ℕ))
+            → GiveUpTo n old [] (λ rest. (rest ≡ []) × (new ≡ Some rest))
+            → GiveUpTo n old [] (λ rest. rest ≡ [])
         ends n None new h = tt
         ends n (Some bytes) new h = (h.0, h.1, h.2.0)
 
-    misses_behind : (why : LineFault) → MissesNext (taken u) (unread u) [] (failed u) (failed t) why → MissesNext (taken s) (unread s) kept (failed s) (failed t) why
+    misses_behind : (why : LineFault) → MissesNext (taken u) (unread u) [] (failed u) (failed t)
+        why → MissesNext (taken s) (unread s) kept (failed s) (failed t) why
     misses_behind (line.Number given wanted) h =
         let count = before.counted in
         let is = h.0 in
@@ -75,17 +100,23 @@ module _ {S : Type 0} (taken : S → ℕ) (unread : S → Option (List ℕ)) (fa
     misses_behind line.Memory (inr h) = inr (behind AreSome h.0, h.1 ∙ before.steady)
     misses_behind line.Kind h = absurd h
 
-    left_by : (e : SourceFault) → gives_lines u kind (Err e) t → LeavesFault kind (taken u) (unread u) (failed u) (failed t) None (fault t)
-    left_by e h = subst (λ f. LeavesFault kind (taken u) (unread u) (failed u) (failed t) f (fault t)) before.unspoilt h.1
+    left_by : (e : SourceFault) → gives_lines u kind (Err e) t
+        → LeavesFault kind (taken u) (unread u) (failed u) (failed t) None (fault t)
+    left_by e h = subst (λ f. LeavesFault kind (taken u) (unread u) (failed u) (failed t) f
+        (fault t)) before.unspoilt h.1
 
-    pub refused_for : (e : SourceFault) (why : LineFault) → fault t ≡ Some why → gives_lines u kind (Err e) t
+    pub refused_for : (e : SourceFault) (why : LineFault) → fault t ≡ Some why
+        → gives_lines u kind (Err e) t
         → IsRefusedFor kind (taken s) (unread s) kept (failed s) (failed t) why
-    refused_for e why is h = moved (subst (LeavesFault kind (taken u) (unread u) (failed u) (failed t) None) is (left_by e h))
+    refused_for e why is h = moved (subst
+        (LeavesFault kind (taken u) (unread u) (failed u) (failed t) None) is (left_by e h))
       where
-        moved : IsRefusedFor kind (taken u) (unread u) [] (failed u) (failed t) why → IsRefusedFor kind (taken s) (unread s) kept (failed s) (failed t) why
+        moved : IsRefusedFor kind (taken u) (unread u) [] (failed u) (failed t) why
+            → IsRefusedFor kind (taken s) (unread s) kept (failed s) (failed t) why
         moved (inl k) = inl (k.0, k.1, k.2 ∙ before.steady)
         moved (inr k) = inr (k.0, misses_behind why k.1)
 
     -- a refusal leaves a fault
     pub refused_so : (e : SourceFault) → fault t ≡ None → gives_lines u kind (Err e) t → ⊥
-    refused_so e none h = subst (LeavesFault kind (taken u) (unread u) (failed u) (failed t) None) none (left_by e h)
+    refused_so e none h = subst (LeavesFault kind (taken u) (unread u) (failed u) (failed t) None)
+        none (left_by e h)

@@ -15,21 +15,29 @@ use Rattle.wasmhost_serve.specs.declared.lines.request.Request.TheVariants as re
 use Rattle.wasmhost_serve.specs.rules.Requests.{answer_in}
 use Rattle.wasmhost_serve.specs.rules.Texts.{IsShortRequest, request_line}
 
-free_to : (n : ℕ) (xs : List ℕ) → length xs ≡ suc n → slice_get xs n ≢ Some newline → All (λ x. x ≢ newline) (take n xs) → AllByRecursion IsNoNewline xs
+free_to : (n : ℕ) (xs : List ℕ) → length xs ≡ suc n → slice_get xs n ≢ Some newline
+    → All (λ x. x ≢ newline) (take n xs) → AllByRecursion IsNoNewline xs
 free_to n [] long last front = tt
 free_to zero (x ∷ []) long last front = (λ e. last (ap Some e), tt)
 free_to zero (x ∷ y ∷ ys) long last front = absurd (omega (arith, long))
-free_to (suc n) (x ∷ xs) long last front =
-    (All-head (λ z. z ≢ newline) x (take n xs) front, free_to n xs (omega (arith, long)) last (All-tail (λ z. z ≢ newline) x (take n xs) front))
+free_to (suc n) (x ∷ xs) long last front = (
+  All-head (λ z. z ≢ newline) x (take n xs) front,
+  free_to n xs (omega (arith, long)) last
+      (All-tail (λ z. z ≢ newline) x (take n xs) front),
+)
 
 -- a line that doesn't end with its only newline has none
-pub is_free : (line : List ℕ) → slice_get line (length line - 1) ≢ Some newline → StopsAt line newline → AllByRecursion IsNoNewline line
+pub is_free : (line : List ℕ) → slice_get line (length line - 1) ≢ Some newline
+    → StopsAt line newline → AllByRecursion IsNoNewline line
 is_free [] last front = tt
 is_free (x ∷ xs) last front =
     let n : length (x ∷ xs) - 1 ≡ length xs = omega arith in
-    free_to (length xs) (x ∷ xs) (omega arith) (subst (λ k. slice_get (x ∷ xs) k ≢ Some newline) n last) (subst (λ k. All (λ z. z ≢ newline) (take k (x ∷ xs))) n front)
+    free_to (length xs) (x ∷ xs) (omega arith)
+    (subst (λ k. slice_get (x ∷ xs) k ≢ Some newline) n last)
+    (subst (λ k. All (λ z. z ≢ newline) (take k (x ∷ xs))) n front)
 
-free_back : (front back : List ℕ) → AllByRecursion IsNoNewline (front ++ back) → AllByRecursion IsNoNewline back
+free_back : (front back : List ℕ) → AllByRecursion IsNoNewline (front ++ back)
+    → AllByRecursion IsNoNewline back
 free_back [] back h = h
 free_back (x ∷ front) back h = free_back front back h.1
 

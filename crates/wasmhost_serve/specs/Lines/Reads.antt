@@ -12,7 +12,8 @@ use Rattle.wasmhost_serve.specs.declared.lines.fault.LineFault.TheVariants as fa
 use Rattle.wasmhost_serve.specs.declared.lines.buffered.PieceFault.{PieceFault}
 use Rattle.wasmhost_serve.specs.declared.lines.buffered.PieceFault.TheVariants as piece
 
--- A piece went from the reader to the line. It holds no newline but at its end, and the line is done by a newline or by the end of the bytes.
+-- A piece went from the reader to the line. It holds no newline but at its end, and the line is
+-- done by a newline or by the end of the bytes.
 pub record MovesPiece (old new : Option (List ℕ)) (line line' : List ℕ) (done : Bool) : Type 0 where
   pub piece : List ℕ
   pub grows : line' ≡ line ++ piece
@@ -30,18 +31,22 @@ AreSome bytes = bytes ≢ []
 
 -- a reader's error is want of memory where it says so, and else a failed read
 abbrev pub IsFaultOfRead : ErrorKind → LineFault → Type 0
-IsFaultOfRead kind told = ((kind ≡ OutOfMemory) × (told ≡ fault.Memory)) ⊎ ((kind ≢ OutOfMemory) × (told ≡ fault.Read))
+IsFaultOfRead kind told = ((kind ≡ OutOfMemory) × (told ≡ fault.Memory))
+    ⊎ ((kind ≢ OutOfMemory) × (told ≡ fault.Read))
 
--- Why a line isn't read. A failed read is told where the reader has failed. Want of memory is told where it has failed for that, or where
--- bytes are left. This holds where the line's form is told.
+-- Why a line isn't read. A failed read is told where the reader has failed. Want of memory is
+-- told where it has failed for that, or where bytes are left. This holds where the line's form is
+-- told.
 abbrev pub IsFaultOfReading : Type 0 → Type 0 → Bool → Bool → LineFault → Type 0
 IsFaultOfReading bad some failed failed' fault.Form = bad × (failed' ≡ failed)
 IsFaultOfReading bad some failed failed' fault.Read = failed' ≡ true
-IsFaultOfReading bad some failed failed' fault.Memory = (failed' ≡ true) ⊎ (some × (failed' ≡ failed))
+IsFaultOfReading bad some failed failed' fault.Memory = (failed' ≡ true)
+    ⊎ (some × (failed' ≡ failed))
 IsFaultOfReading bad some failed failed' fault.Kind = ⊥
 IsFaultOfReading bad some failed failed' (fault.Number given wanted) = ⊥
 
--- Bytes in front of these, with no newline but at their end, bring a line to the limit, behind those that were read of it.
+-- Bytes in front of these, with no newline but at their end, bring a line to the limit, behind
+-- those that were read of it.
 pub record GrowsTooLong (limit : ℕ) (line bytes : List ℕ) : Type 0 where
   pub piece : List ℕ
   pub front : StartsWith bytes piece
@@ -60,4 +65,5 @@ BeginsTooLong bytes = TEXT_BYTES + 22 < length (first_piece newline bytes)
 
 -- why a line isn't read of these bytes
 abbrev pub IsFaultOfLine : Option (List ℕ) → Bool → Bool → LineFault → Type 0
-IsFaultOfLine bytes failed failed' why = IsFaultOfReading (IfSome bytes BeginsTooLong) (IfSome bytes AreSome) failed failed' why
+IsFaultOfLine bytes failed failed' why =
+    IsFaultOfReading (IfSome bytes BeginsTooLong) (IfSome bytes AreSome) failed failed' why

@@ -21,19 +21,24 @@ pub record BeginsWithRequest (bytes : List ℕ) (r : Request) : Type 0 where
   pub short : IsShortRequest r
   pub line : first_piece newline bytes ≡ request_line r
 
--- The lines in front of the rest give these answers, in order, where so many requests were taken before them. The line of a request
--- that was taken is passed over, and that of the next one is taken.
+-- The lines in front of the rest give these answers, in order, where so many requests were taken
+-- before them. The line of a request that was taken is passed over, and that of the next one is
+-- taken.
 pub data GivesAnswers (before : ℕ) (bytes : List ℕ) : List Kept → List ℕ → Type 0 where
   none : GivesAnswers before bytes [] bytes
-  passed : (kept : List Kept) (rest : List ℕ) (r : Request) → GivesAnswers before bytes kept rest → BeginsWithRequest rest r
-      → request_number r ≤ before + length kept → GivesAnswers before bytes kept (drop_through newline rest)
-  taken : (kept : List Kept) (rest : List ℕ) (r : Request) → GivesAnswers before bytes kept rest → BeginsWithRequest rest r
+  passed : (kept : List Kept) (rest : List ℕ) (r : Request) → GivesAnswers before bytes kept rest
+      → BeginsWithRequest rest r
+      → request_number r ≤ before + length kept
+      → GivesAnswers before bytes kept (drop_through newline rest)
+  taken : (kept : List Kept) (rest : List ℕ) (r : Request) → GivesAnswers before bytes kept rest
+      → BeginsWithRequest rest r
       → request_number r ≡ before + length kept + 1
       → GivesAnswers before bytes (kept ++ Given (answer_in r) ∷ []) (drop_through newline rest)
 
 -- the lines, where they are known, give these answers, and this holds of the rest
 abbrev pub GiveUpTo : ℕ → Option (List ℕ) → List Kept → (List ℕ → Type 0) → Type 0
-GiveUpTo before lines kept P = IfSome lines (λ bytes. (rest : List ℕ) × GivesAnswers before bytes kept rest × P rest)
+GiveUpTo before lines kept P = IfSome lines (λ bytes. (rest : List ℕ)
+    × GivesAnswers before bytes kept rest × P rest)
 
 -- there is a first line, and it is no request line
 abbrev pub BeginsWithOther : List ℕ → Type 0
@@ -41,7 +46,8 @@ BeginsWithOther bytes = (bytes ≢ []) × (IsRequestLine (first_piece newline by
 
 -- the first line is that of a request with this number
 abbrev pub BeginsWithNumber : ℕ → List ℕ → Type 0
-BeginsWithNumber given bytes = (r : Request) × BeginsWithRequest bytes r × (request_number r ≡ given)
+BeginsWithNumber given bytes = (r : Request) × BeginsWithRequest bytes r
+    × (request_number r ≡ given)
 
 -- the first line is that of a request beyond the next one, where so many were taken
 abbrev pub BeginsWithLater : ℕ → List ℕ → Type 0

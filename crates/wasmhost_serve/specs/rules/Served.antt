@@ -28,24 +28,29 @@ usual = settings 16 16 256 (codes "worker" ∷ []) []
 abbrev pub WantsAnswer : Guest → ProcessState → Kind → Type 0
 WantsAnswer guest p kind = (p.ended ≡ None) × (next_of guest p None ≡ Wants kind)
 
--- it wants a request, and the lines of the reader have come to their end behind the answers that were taken
+-- it wants a request, and the lines of the reader have come to their end behind the answers that
+-- were taken
 abbrev pub IsParked : Guest → Option (List ℕ) → List Kept → ProcessState → Type 0
-IsParked guest lines kept p = WantsAnswer guest p kinds.Request × GiveUpTo 0 lines kept (λ rest. rest ≡ [])
+IsParked guest lines kept p = WantsAnswer guest p kinds.Request
+    × GiveUpTo 0 lines kept (λ rest. rest ≡ [])
 
 -- it has ended, or waits at the end of the lines
 abbrev pub IsOver : Guest → Option (List ℕ) → List Kept → ProcessState → Type 0
 IsOver guest lines kept p = (p.ended ≢ None) ⊎ IsParked guest lines kept p
 
--- It wants a request, and the next line can't be taken: it is no request line, or that of a request beyond the next one.
+-- It wants a request, and the next line can't be taken: it is no request line, or that of a
+-- request beyond the next one.
 abbrev pub MeetsBadLine : Guest → Option (List ℕ) → List Kept → ProcessState → Type 0
 MeetsBadLine guest lines kept p =
-    WantsAnswer guest p kinds.Request × GiveUpTo 0 lines kept (λ rest. BeginsWithOther rest ⊎ BeginsWithLater (length kept) rest)
+    WantsAnswer guest p kinds.Request × GiveUpTo 0 lines kept (λ rest. BeginsWithOther rest
+    ⊎ BeginsWithLater (length kept) rest)
 
--- Why no answer is to be had of the lines: the reader has failed; something else than a request is wanted; or the host of the process
--- takes shorter texts than those of requests.
+-- Why no answer is to be had of the lines: the reader has failed; something else than a request
+-- is wanted; or the host of the process takes shorter texts than those of requests.
 abbrev pub LacksAnswer : Guest → ProcessState → Bool → Type 0
 LacksAnswer guest p failed =
-    (WantsAnswer guest p kinds.Request × (failed ≡ true)) ⊎ ((kind : Kind) × (kind ≢ kinds.Request) × WantsAnswer guest p kind)
+    (WantsAnswer guest p kinds.Request × (failed ≡ true))
+    ⊎ ((kind : Kind) × (kind ≢ kinds.Request) × WantsAnswer guest p kind)
     ⊎ (p.host.limit < TEXT_BYTES)
 
 -- its next step, or a line of it, would be beyond those that can be counted
@@ -54,9 +59,11 @@ IsSpent guest p = (p.ended ≡ None) × (given : Option Answer) × IsBeyond gues
 
 -- ---- what is printed
 
--- The bytes spell an accepted module. On the answers that lines of the reader give, in order, it comes to a process. The lines of that,
--- all of them, were printed, each once and in order, with their numbers from 1 on, and nothing else.
-pub record HasPrinted (bytes : List ℕ) (lines : Option (List ℕ)) (old new : Option (List ℕ)) : Type 0 where
+-- The bytes spell an accepted module. On the answers that lines of the reader give, in order, it
+-- comes to a process. The lines of that, all of them, were printed, each once and in order, with
+-- their numbers from 1 on, and nothing else.
+pub record HasPrinted (bytes : List ℕ) (lines : Option (List ℕ)) (old new : Option (List ℕ)) : Type
+    0 where
   pub spelled : Module
   pub accepted : IsAccepted offer usual.pages bytes spelled
   pub kept : List Kept
@@ -74,25 +81,33 @@ last_words None = codes "parked\n"
 
 -- ---- what each exit status says
 
--- It has come to a process that has ended or waits at the end of the lines, and its last words are those of that process.
+-- It has come to a process that has ended or waits at the end of the lines, and its last words are
+-- those of that process.
 pub record IsServed (bytes : List ℕ) (lines old new err err' : Option (List ℕ)) : Type 0 where
   pub has : HasPrinted bytes lines old new
   pub over : IsOver has.reached.guest lines has.kept has.process
   pub told : Appends err err' (last_words has.process.ended)
 
--- No worker was run, since the bytes spell no accepted module; or it has come to where it can't be counted further.
+-- No worker was run, since the bytes spell no accepted module; or it has come to where it can't be
+-- counted further.
 abbrev pub IsRefusal : List ℕ → Option (List ℕ) → Option (List ℕ) → Option (List ℕ) → Type 0
 IsRefusal bytes lines old new =
-    (HasNoAcceptedModule usual.pages bytes × Appends old new []) ⊎ ((has : HasPrinted bytes lines old new) × IsSpent has.reached.guest has.process)
+    (HasNoAcceptedModule usual.pages bytes × Appends old new [])
+    ⊎ ((has : HasPrinted bytes lines old new) × IsSpent has.reached.guest has.process)
 
--- The bytes are those of a module, and the lines those of a reader. 0: it is over. 3: it is refused. 4: an answer isn't to be had. 5: there
--- is no memory. 6: the next line is refused. 7: something can't be printed, and what was printed isn't known. Whatever was printed up to
--- any other status is true. A reader that fails is told by 4, or by 5 where it wants memory, unless that can't be printed.
-pub record Serves (bytes : List ℕ) (lines : Option (List ℕ)) (failed failed' : Bool) (old new err err' : Option (List ℕ)) (status : ℕ) : Type 0 where
+-- The bytes are those of a module, and the lines those of a reader. 0: it is over. 3: it is
+-- refused. 4: an answer isn't to be had. 5: there is no memory. 6: the next line is refused. 7:
+-- something can't be printed, and what was printed isn't known. Whatever was printed up to any
+-- other status is true. A reader that fails is told by 4, or by 5 where it wants memory, unless
+-- that can't be printed.
+pub record Serves (bytes : List ℕ) (lines : Option (List ℕ)) (failed failed' : Bool)
+    (old new err err' : Option (List ℕ)) (status : ℕ) : Type 0 where
   pub served : status ≡ 0 → IsServed bytes lines old new err err'
   pub refused : status ≡ 3 → IsRefusal bytes lines old new
-  pub unanswered : status ≡ 4 → (has : HasPrinted bytes lines old new) × LacksAnswer has.reached.guest has.process failed'
+  pub unanswered : status ≡ 4 → (has : HasPrinted bytes lines old new)
+      × LacksAnswer has.reached.guest has.process failed'
   pub starved : status ≡ 5 → Appends old new [] ⊎ HasPrinted bytes lines old new
-  pub bad_line : status ≡ 6 → (has : HasPrinted bytes lines old new) × MeetsBadLine has.reached.guest lines has.kept has.process
+  pub bad_line : status ≡ 6 → (has : HasPrinted bytes lines old new)
+      × MeetsBadLine has.reached.guest lines has.kept has.process
   pub heeded : (failed' ≡ failed) ⊎ (status ≡ 4) ⊎ (status ≡ 5) ⊎ (status ≡ 7)
   pub known : (status ≡ 0) ⊎ ((3 ≤ status) × (status ≤ 7))

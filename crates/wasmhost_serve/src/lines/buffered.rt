@@ -54,7 +54,8 @@ fn take_piece<R: BufRead>(
     limit: usize,
     line: &mut Vec<u8>,
 ) -> Result<bool, PieceFault>
-    ensures moved { IfOk result (MovesPiece (R.remaining reader.old) (R.remaining reader.new) line.old.items line.new.items) }
+    ensures moved { IfOk result (MovesPiece (R.remaining reader.old) (R.remaining reader.new)
+        line.old.items line.new.items) }
     ensures failed { IfErr result (IsPieceFault (R.remaining reader.old) limit line.old.items) }
 {
     let available = match reader.fill_buf() {

@@ -19,11 +19,13 @@ const TOO_LONG: usize = TEXT_BYTES + 24;
 /// Reads a line with its newline.
 fn read_through<R: LineReader>(reader: &mut R, line: &mut Vec<u8>) -> Result<(), LineFault>
     ensures stops { OnOk result (StopsAt line.new.items newline) }
-    ensures bytes { OnOk result (IfSome (R.unread reader.old) (λ xs. line.new.items ≡ take_through newline xs)) }
+    ensures bytes { OnOk result (IfSome (R.unread reader.old)
+        (λ xs. line.new.items ≡ take_through newline xs)) }
     ensures rest { OnOk result (DropsThrough (R.unread reader.old) (R.unread reader.new) newline) }
     ensures steady { OnOk result (R.has_failed reader.new ≡ R.has_failed reader.old) }
     ensures fewer { OnOk result (R.pieces_left reader.new < R.pieces_left reader.old) }
-    ensures failed { IfErr result (IsFaultOfLine (R.unread reader.old) (R.has_failed reader.old) (R.has_failed reader.new)) }
+    ensures failed { IfErr result (IsFaultOfLine (R.unread reader.old) (R.has_failed reader.old)
+        (R.has_failed reader.new)) }
 {
     line.clear();
     loop {
@@ -48,13 +50,16 @@ fn cut_newline(line: &mut Vec<u8>)
 /// refused, and the reader stands within it then.
 pub fn read_line<R: LineReader>(reader: &mut R, line: &mut Vec<u8>) -> Result<bool, LineFault>
     ensures one_line { OnOk result (AllByRecursion IsNoNewline line.new.items) }
-    ensures bytes { OnOk result (IfSome (R.unread reader.old) (λ xs. line.new.items ≡ first_piece newline xs)) }
+    ensures bytes { OnOk result (IfSome (R.unread reader.old)
+        (λ xs. line.new.items ≡ first_piece newline xs)) }
     ensures rest { OnOk result (DropsThrough (R.unread reader.old) (R.unread reader.new) newline) }
     ensures end { IfOk result (λ is_there. is_there ≡ false → IsAtEnd (R.unread reader.old)) }
-    ensures some { IfOk result (λ is_there. is_there ≡ true → IfSome (R.unread reader.old) (λ bytes. bytes ≢ [])) }
+    ensures some { IfOk result (λ is_there. is_there ≡ true
+        → IfSome (R.unread reader.old) (λ bytes. bytes ≢ [])) }
     ensures steady { OnOk result (R.has_failed reader.new ≡ R.has_failed reader.old) }
     ensures fewer { OnOk result (R.pieces_left reader.new < R.pieces_left reader.old) }
-    ensures failed { IfErr result (IsFaultOfLine (R.unread reader.old) (R.has_failed reader.old) (R.has_failed reader.new)) }
+    ensures failed { IfErr result (IsFaultOfLine (R.unread reader.old) (R.has_failed reader.old)
+        (R.has_failed reader.new)) }
 {
     read_through(reader, line)?;
     let is_there = !line.is_empty();

@@ -20,10 +20,12 @@ pub trait LineReader {
     /// Moves the next bytes to the line, through a newline at most. Answers whether the line is
     /// done: by a newline, or by the end of the bytes. A line of `limit` bytes is refused.
     fn read_piece(&mut self, limit: usize, line: &mut Vec<u8>) -> Result<bool, LineFault>
-        ensures moved { IfOk result (MovesPiece (unread self.old) (unread self.new) line.old.items line.new.items) }
+        ensures moved { IfOk result (MovesPiece (unread self.old) (unread self.new) line.old.items
+            line.new.items) }
         ensures steady { OnOk result (has_failed self.new ≡ has_failed self.old) }
         ensures fewer { OnOk result (pieces_left self.new < pieces_left self.old) }
         ensures failed { IfErr result (IsFaultOfReading
-            (IfSome (unread self.old) (GrowsTooLong limit line.old.items)) (IfSome (unread self.old) AreSome)
+            (IfSome (unread self.old) (GrowsTooLong limit line.old.items))
+            (IfSome (unread self.old) AreSome)
             (has_failed self.old) (has_failed self.new)) };
 }

@@ -82,7 +82,9 @@ impl<R: LineReader + Drop> RequestSource<R> {
     /// The answer of a request.
     fn answer_of(&self, request: Request<'_>) -> Result<Answer, LineFault>
         ensures is { IfOk result (λ answer. answer ≡ answer_in request.entry) }
-        ensures fits { IsShortRequest request.entry → AllByRecursion IsNoNewline (request_line request.entry) → IfOk result (Fits TEXT_BYTES kinds.Request) }
+        ensures fits { IsShortRequest request.entry
+            → AllByRecursion IsNoNewline (request_line request.entry)
+            → IfOk result (Fits TEXT_BYTES kinds.Request) }
         ensures failed { IfErr result (λ fault. fault ≡ Memory) }
     {
         let Request::Text { text, .. } = request else {
@@ -93,9 +95,11 @@ impl<R: LineReader + Drop> RequestSource<R> {
 
     /// The next request, or none at the end of the lines.
     fn next_request(&mut self) -> Result<Option<Answer>, LineFault>
-        ensures found { IfOk result (λ found. FindsNext self.old.taken (R.unread self.old.reader) found self.new.taken (R.unread self.new.reader)) }
+        ensures found { IfOk result (λ found. FindsNext self.old.taken (R.unread self.old.reader)
+            found self.new.taken (R.unread self.new.reader)) }
         ensures steady { OnOk result (R.has_failed self.new.reader ≡ R.has_failed self.old.reader) }
-        ensures failed { IfErr result (MissesNext self.old.taken (R.unread self.old.reader) [] (R.has_failed self.old.reader) (R.has_failed self.new.reader)) }
+        ensures failed { IfErr result (MissesNext self.old.taken (R.unread self.old.reader) []
+            (R.has_failed self.old.reader) (R.has_failed self.new.reader)) }
         ensures kept { OnErr result (self.new.taken ≡ self.old.taken) }
         ensures fault { self.new.fault ≡ self.old.fault }
     {

@@ -30,7 +30,8 @@ returns-then-end-eq0-clause-moved g c =
       stops = StopsAt-of_All [] 10 (All-nil (λ x. x ≢ 10));
       free = λ _. All-nil (λ x. x ≢ 10);
       ends = λ _ some. absurd (omega (arith, some));
-      last = λ _ _. ends_kept _ _ c.in-Ok.available.now c.fill_buf.follows.holds-at-none.0 c.in-Ok.ensures.end none;
+      last = λ _ _. ends_kept _ _ c.in-Ok.available.now c.fill_buf.follows.holds-at-none.0
+          c.in-Ok.ensures.end none;
     }
 
 pub returns-clause-moved : goal.returns-clause-moved
@@ -38,25 +39,34 @@ returns-clause-moved g c =
     let end = c.line_length-end in
     let shown = c.in-Ok.available.now in
     let rested = c.fill_buf.follows.lender-at-none in
-    let filled = subst (FillKeeps _ (g.R.Read.remaining rested) (g.R.BufRead.consumable_len rested)) c.in-Ok.is c.fill_buf.follows.holds-at-none in
-    let moved = Consumes_shown _ _ _ _ shown end.result end.ensures.bound c.in-Ok.ensures.front c.in-Ok.ensures.end filled.0 filled.1 c.consume.ensures.bytes in
+    let filled = subst (FillKeeps _ (g.R.Read.remaining rested)
+    (g.R.BufRead.consumable_len rested)) c.in-Ok.is c.fill_buf.follows.holds-at-none in
+    let moved = Consumes_shown _ _ _ _ shown end.result end.ensures.bound c.in-Ok.ensures.front
+    c.in-Ok.ensures.end filled.0 filled.1 c.consume.ensures.bytes in
     let long = length-take-le end.result shown end.ensures.bound in
     record {
       piece = take end.result shown;
       grows = search rules;
       bytes = moved.0;
       stops = StopsAt-take _ _ _ end.ensures.bound end.ensures.before;
-      free = λ more. subst (λ k. All (λ x. x ≢ 10) (take k shown)) (omega (arith, c.if-end-eq0.false))
-          (All-more (λ x. x ≢ 10) _ (end.result - 1) 0 (omega (arith, c.if-end-eq0.false, end.ensures.bound)) end.ensures.before (λ e. more (eq-eqb _ _ e)));
+      free = λ more. subst (λ k. All (λ x. x ≢ 10) (take k shown))
+          (omega (arith, c.if-end-eq0.false))
+          (All-more (λ x. x ≢ 10) _ (end.result - 1) 0
+          (omega (arith, c.if-end-eq0.false, end.ensures.bound)) end.ensures.before
+          (λ e. more (eq-eqb _ _ e)));
       ends = λ done some. ap (λ n. get_or (take end.result shown) (n - 1) 0) long
-          ∙ get_or-take end.result shown (end.result - 1) 0 (omega (arith, c.if-end-eq0.false)) ∙ eqb-true _ _ done;
+          ∙ get_or-take end.result shown (end.result - 1) 0 (omega (arith, c.if-end-eq0.false))
+          ∙ eqb-true _ _ done;
       last = λ _ none. absurd (omega (arith, c.if-end-eq0.false, long, none));
     }
 
-pub returns-then-end-saturating_sub-clause-failed : goal.returns-then-end-saturating_sub-clause-failed
+pub returns-then-end-saturating_sub-clause-failed :
+    goal.returns-then-end-saturating_sub-clause-failed
 returns-then-end-saturating_sub-clause-failed g c =
     let end = c.line_length-end in
     let shown = c.in-Ok.available.now in
-    begins_with c.args.limit (g.R.Read.remaining c.args.reader.now) c.args.line.now.items shown end.result end.ensures.bound c.in-Ok.ensures.front (StopsAt-take _ _ _ end.ensures.bound end.ensures.before) (
+    begins_with c.args.limit (g.R.Read.remaining c.args.reader.now) c.args.line.now.items shown
+    end.result end.ensures.bound c.in-Ok.ensures.front
+    (StopsAt-take _ _ _ end.ensures.bound end.ensures.before) (
     omega arith
     )

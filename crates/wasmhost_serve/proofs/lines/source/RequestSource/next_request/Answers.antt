@@ -15,8 +15,15 @@ loop-request-preserved g c =
       search rules,
       search rules,
       behind_passed c.args.self.now.taken _ _ _ _ c.loop-request.invariant.3
-          (steps_over c.args.self.now.taken c.read_line.new.line.items c.in-Some.request r.numbered r.short (search rules) _ _ line.bytes line.rest
-          (omega (arith, c.number-given.ensures, c.if-given-wanted.false, c.if-given-wanted-2.false, c.saturating_add-wanted.ensures))),
+          (steps_over c.args.self.now.taken c.read_line.new.line.items c.in-Some.request r.numbered
+          r.short (search rules) _ _ line.bytes line.rest
+          (omega (
+            arith,
+            c.number-given.ensures,
+            c.if-given-wanted.false,
+            c.if-given-wanted-2.false,
+            c.saturating_add-wanted.ensures,
+          ))),
     )
 
 pub returns-then-given-wanted-2-clause-found : goal.returns-then-given-wanted-2-clause-found
@@ -25,11 +32,15 @@ returns-then-given-wanted-2-clause-found g c =
     let line = c.in_ok-read_line.ensures in
     let small = r.numbered.1 in
     let given = c.number-given.ensures in
-    let wanted : c.saturating_add-wanted.result ≡ c.args.self.now.taken + 1 = omega (arith, c.saturating_add-wanted.ensures, given, small, c.if-given-wanted-2.true) in
+    let wanted : c.saturating_add-wanted.result ≡ c.args.self.now.taken + 1 =
+    omega (arith, c.saturating_add-wanted.ensures, given, small, c.if-given-wanted-2.true) in
     record {
-      given = is_given c.args.self.now.taken (g.R.LineReader.unread c.args.self.now.reader) _ _ _ c.in_ok-answer.ensures.is (
-          behind_passed c.args.self.now.taken (g.R.LineReader.unread c.args.self.now.reader) (g.R.LineReader.unread c.loop-request.self.reader) _ _ c.loop-request.invariant.3
-          (takes_request c.args.self.now.taken c.read_line.new.line.items c.in-Some.request r.numbered r.short (search rules) _ _ line.bytes line.rest
+      given = is_given c.args.self.now.taken (g.R.LineReader.unread c.args.self.now.reader) _ _ _
+          c.in_ok-answer.ensures.is (
+          behind_passed c.args.self.now.taken (g.R.LineReader.unread c.args.self.now.reader)
+          (g.R.LineReader.unread c.loop-request.self.reader) _ _ c.loop-request.invariant.3
+          (takes_request c.args.self.now.taken c.read_line.new.line.items c.in-Some.request
+          r.numbered r.short (search rules) _ _ line.bytes line.rest
           (omega (arith, wanted, given, c.if-given-wanted-2.true))));
       fits = c.in_ok-answer.ensures.fits r.short (search rules);
       counted = wanted;
@@ -40,6 +51,7 @@ pub returns-in_err-read_line-clause-failed : goal.returns-in_err-read_line-claus
 returns-in_err-read_line-clause-failed g c =
     let p = err_from_is_err_and c.from_residual.result c.from_residual.ensures.1 in
     rw (p.1, p.2) (
-    misses_line c.args.self.now.taken (g.R.LineReader.unread c.args.self.now.reader) (g.R.LineReader.unread c.loop-request.self.reader) c.loop-request.invariant.3
+    misses_line c.args.self.now.taken (g.R.LineReader.unread c.args.self.now.reader)
+    (g.R.LineReader.unread c.loop-request.self.reader) c.loop-request.invariant.3
     _ _ _ c.in_err-read_line.field-0.0 c.loop-request.invariant.2 c.in_err-read_line.ensures.failed
     )

@@ -6,7 +6,8 @@ use Rattle.wasmhost_serve.proofs.lines.source.RequestSource.next_request.Given a
 abbrev pub invariant-loop-request : goal.invariant-loop-request
 invariant-loop-request g l = (l.self.taken ≡ l.fn.self.taken) × (l.self.fault ≡ l.fn.self.fault)
     × (g.R.LineReader.has_failed l.self.reader ≡ g.R.LineReader.has_failed l.fn.self.reader)
-    × GiveUpTo l.fn.self.taken (g.R.LineReader.unread l.fn.self.reader) [] (λ rest. g.R.LineReader.unread l.self.reader ≡ Some rest)
+    × GiveUpTo l.fn.self.taken (g.R.LineReader.unread l.fn.self.reader) []
+    (λ rest. g.R.LineReader.unread l.self.reader ≡ Some rest)
 
 abbrev pub decreases-loop-request : goal.decreases-loop-request
 decreases-loop-request g l = g.R.LineReader.pieces_left l.self.reader

@@ -1,0 +1,31 @@
+-- What the program says beside the lines of a worker (this project's own).
+use Rattle.std.specs.Prelude.{◌≡◌, ◌≢◌, ◌⊎◌, ℕ, List, [], ◌∷◌, ◌++◌, Option, codes}
+use Rattle.std.specs.Io.KnownBytes.{Appends}
+use Rattle.std.specs.declared.io.ErrorKind.{ErrorKind}
+use Rattle.std.specs.declared.io.ErrorKind.TheVariants.{OutOfMemory}
+use Rattle.wasi_abi.specs.rules.Answers.{newline}
+use Rattle.wasmhost_serve.specs.declared.telling.Obstacle.{Obstacle}
+use Rattle.wasmhost_serve.specs.declared.telling.Obstacle.TheVariants as obstacle
+
+-- The line was written, with its newline, and the status is this one; or the status is 7.
+abbrev pub SaysLine : List ℕ → ℕ → Option (List ℕ) → ℕ → Option (List ℕ) → Type 0
+SaysLine line status old answered new =
+    ((answered ≡ status) × Appends old new (line ++ newline ∷ [])) ⊎ (answered ≡ 7)
+
+-- the exit status of a command that isn't begun
+abbrev pub status_told : Obstacle → ℕ
+status_told obstacle.Memory = 5
+status_told obstacle.Unread = 4
+status_told obstacle.NoText = 2
+
+-- the line that says why
+abbrev pub words_told : Obstacle → List ℕ
+words_told obstacle.Memory = codes "failed N4 Memory"
+words_told obstacle.Unread = codes "failed K2 Io"
+words_told obstacle.NoText = codes "error: an argument is no text"
+
+-- want of memory is told as that, and any other error of a file as a file that can't be read
+abbrev pub IsFileFault : ErrorKind → Obstacle → Type 0
+IsFileFault kind told =
+    ((kind ≡ OutOfMemory) × (told ≡ obstacle.Memory))
+    ⊎ ((kind ≢ OutOfMemory) × (told ≡ obstacle.Unread))
