@@ -163,7 +163,7 @@ pub record IsEntryOf (p : Path) (ns : List FileNode) (e : Entry) : Type 0 where
   pub number : node.number ≡ e.number
   pub path : node.path ≡ Some (p ++ e.name ∷ [])
 
-entry_is_of : (p : Path) (n : FileNode) (e : Entry) → entry_of p n ≡ Some e
+pub entry_is_of : (p : Path) (n : FileNode) (e : Entry) → entry_of p n ≡ Some e
     → (n.number ≡ e.number) × (n.path ≡ Some (p ++ e.name ∷ []))
 entry_is_of p n e is = by n.path is where
   some_entry : (a b : Entry) → Some a ≡ Some b → a ≡ b

@@ -25,7 +25,7 @@ length-inserted e (f ∷ es) = by (is_before e.name f.name) (length-inserted e e
   by true later = refl
   by false later = ap suc later
 
-length-sorted : (es : List Entry) → length (sorted es) ≡ length es
+pub length-sorted : (es : List Entry) → length (sorted es) ≡ length es
 length-sorted [] = refl
 length-sorted (e ∷ es) = length-inserted e (sorted es) ∙ ap suc (length-sorted es)
 
@@ -63,12 +63,21 @@ number_within fs is next n among =
     fs.nodes n (numbers_below 1 fs.nodes fs.next is.rising).1 among in
     omega (arith, below, next)
 
+-- a name of 255 bytes at most
+abbrev pub IsNameShort : Entry → Type 0
+IsNameShort e = length e.name ≤ 255
+
+pub name_short : (fs : Files) → IsFiles fs → (p : Path) (e : Entry)
+    → IsAmong e (entries_in p fs.nodes) → IsNameShort e
+name_short fs is p e among =
+    let of = is_entry_of p fs.nodes e among in
+    short_name fs p e.name (placed_at fs is of.node (p ++ e.name ∷ []) of.among of.path)
+
 entry_within : (fs : Files) → IsFiles fs → IsIn 8 fs.next → (p : Path) (e : Entry)
     → IsAmong e (entries_in p fs.nodes) → IsEntryIn e
 entry_within fs is next p e among =
     let of = is_entry_of p fs.nodes e among in
-    let placed = placed_at fs is of.node (p ++ e.name ∷ []) of.among of.path in
-    let short : length e.name ≤ 255 = short_name fs p e.name placed in
+    let short : length e.name ≤ 255 = name_short fs is p e among in
     let below : IsIn 8 of.node.number = number_within fs is next of.node of.among in
     record { name = omega (arith, short); number = omega (arith, below, of.number) }
 

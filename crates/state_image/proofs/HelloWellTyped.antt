@@ -1,6 +1,6 @@
 -- The process that `hello` begins as is well typed.
 use Rattle.std.proofs.Common.{◌≡◌, inl, ℕ, zero, suc, ◌^◌, ◌≤◌, List, [], ◌∷◌, length}
-use Rattle.std.proofs.Common.{replicate, Some, None, refl, subst, lit≤, arith}
+use Rattle.std.proofs.Common.{replicate, Some, None, refl, subst, lit<, lit≤, arith}
 use Rattle.std.specs.List.{AllByRecursion}
 use Rattle.std.proofs.lemmas.List.{length-replicate}
 use Rattle.wasm_syntax.specs.declared.types.FunctionType.{FunctionType}
@@ -234,10 +234,11 @@ well_typed config some few = record {
   lines = omega arith;
   answers = omega arith;
   requests = omega arith;
-  fields = record {
+  bounds = record {
     code = omega arith;
     globals = omega arith;
-    frames = (record { function = omega arith; position = omega arith; slots = omega arith }, tt);
+    places = (record { function = lit< tt; position = lit< tt }, tt);
+    slots = omega arith;
     memory = omega (arith, one_page_long);
   };
   unread = omega arith;

@@ -13,3 +13,5 @@ mod ExamplesHold
 mod RefusalsHold
 mod FirstHost
 mod HelloWellTyped
+mod Children
+mod Room

@@ -2,6 +2,7 @@
 use Rattle.std.proofs.Common.{◌≡◌, ℕ, ◌*◌, ◌^◌, ◌<◌, ◌≤◌, List, [], ◌∷◌, ◌++◌, length, map}
 use Rattle.std.proofs.Common.{reverse, Option, sym, subst, arith}
 use Rattle.std.specs.List.{AllByRecursion}
+use Rattle.std.proofs.lemmas.List.Sums.{sum_by-cons}
 use Rattle.wasm_syntax.specs.declared.types.ValueType.{ValueType}
 use Rattle.wasm_syntax.specs.declared.types.ValueType.TheVariants.{I32, I64}
 use Rattle.wasm_syntax.specs.declared.types.FunctionType.{FunctionType}
@@ -13,9 +14,10 @@ use Rattle.wasm_syntax_rules.specs.Configuration.{Program, Label, LabelOf, Frame
 use Rattle.wasm_syntax_rules.specs.Configuration.{Configuration}
 use Rattle.wasm_syntax_rules.specs.Typed.{IsTypedMemory}
 use Rattle.wasm_syntax_rules.specs.Shapes.{LabelShape, ShapeOf}
-use Rattle.machine_slots.specs.rules.Places.{ShownFrame, MachineState, HaveShape, all_below}
+use Rattle.machine_slots.specs.rules.Places.{ShownFrame, HaveShape, all_below}
 use Rattle.machine_slots.specs.rules.Places.{slots_of, ShowsCallers, ShowsThread, Shows}
-use Rattle.state_image.specs.rules.WellTyped.{IsPlaceWithin}
+use Rattle.state_image.specs.rules.Image.{Saved}
+use Rattle.state_image.specs.rules.WellTyped.{IsPlaceWithin, slots_in, IsWithinBounds}
 use Rattle.state_image.proofs.Fields.{IsIn}
 use Rattle.state_image.proofs.Machines.{IsPlaceIn, IsWhole, HasMachine, all_behind, all_reversed}
 
@@ -94,18 +96,31 @@ thread_words c program (place ∷ places) (FrameOf f ls labels vs rest ∷ frame
   callers_words c program h.0.kind places frames h.2,
 )
 
+-- each has few slots where all have
+few_slots : (n : ℕ) (places : List ShownFrame) → slots_in places ≤ n
+    → AllByRecursion (λ (place : ShownFrame). length place.slots ≤ n) places
+few_slots n [] le = tt
+few_slots n (place ∷ places) le =
+    let all = sum_by-cons (λ (f : ShownFrame). length f.slots) place places in
+    (omega (arith, le, all), few_slots n places (omega (arith, le, all)))
+
+place_in : (place : ShownFrame) → IsPlaceWithin place → length place.slots ≤ 69632
+    → HasWords place → IsPlaceIn place
+place_in place h le words =
+    let function : place.function < 4096 = h.function in
+    let position : place.position < 4096 = h.position in
+    record {
+      function = omega (arith, function);
+      position = omega (arith, position);
+      slots = record { few = omega (arith, le); each = words };
+    }
+
 places_in : (places : List ShownFrame) → AllByRecursion IsPlaceWithin places
+    → AllByRecursion (λ (place : ShownFrame). length place.slots ≤ 69632) places
     → AllByRecursion HasWords places → AllByRecursion IsPlaceIn places
-places_in [] h k = tt
-places_in (place ∷ places) h k = (
-  record {
-    function = h.0.function;
-    position = h.0.position;
-    slots = record
-        { few = h.0.slots; each = k.0 };
-  },
-  places_in places h.1 k.1,
-)
+places_in [] h le k = tt
+places_in (place ∷ places) h le k =
+    (place_in place h.0 le.0 k.0, places_in places h.1 le.1 k.1)
 
 -- ---- machines
 
@@ -115,24 +130,26 @@ memory_within program memory h le =
     let whole : length memory ≡ h.pages * 65536 = h.whole in
     record { pages = h.pages; whole = h.whole; few = omega (arith, whole, le) }
 
-pub machine_within : (c : Context) (program : Program) (table : List (Option ℕ)) (m : MachineState)
-    (d : Configuration) → Shows c program table m d
-    → length m.globals < 2 ^ 32 → AllByRecursion IsPlaceWithin m.frames → length m.memory ≤ 2 ^ 32
-    → HasMachine m
-machine_within c program table m d h globals frames memory =
+pub machine_within : (c : Context) (program : Program) (table : List (Option ℕ)) (s : Saved)
+    (d : Configuration) → Shows c program table s.machine d → IsWithinBounds s
+    → HasMachine s.machine
+machine_within c program table s d h b =
+    let m = s.machine in
     let few : length m.frames ≤ 512 = h.few_frames in
+    let globals : length m.globals ≤ 1024 = b.globals in
+    let global_types = map value_type_of c.globals in
+    let each = numbers_of d.store.globals
+    (words_of global_types d.store.globals h.typed.store.globals) in
     record {
       globals = record {
-        few = globals;
-        each = subst (AllByRecursion (IsIn 8)) (sym h.globals)
-            (numbers_of d.store.globals
-            (words_of (map value_type_of c.globals) d.store.globals h.typed.store.globals));
+        few = omega (arith, globals);
+        each = subst (AllByRecursion (IsIn 8)) (sym h.globals) each;
       };
       frames = record {
         few = omega (arith, few);
-        each = places_in m.frames frames
+        each = places_in m.frames b.places (few_slots 69632 m.frames b.slots)
             (thread_words c program m.frames d.thread h.frames);
       };
       memory = memory_within program m.memory
-          (subst (IsTypedMemory program) (sym h.memory) h.typed.store.memory) memory;
+          (subst (IsTypedMemory program) (sym h.memory) h.typed.store.memory) b.memory;
     }

@@ -68,7 +68,7 @@ same_entries fs gs same d is = by (node_of fs d) (node_of gs d) refl refl (named
 -- ---- paths
 
 -- a node's path is the one of its number
-own_path : (fs : Files) → IsFiles fs → (n : FileNode) → IsAmong n fs.nodes
+pub own_path : (fs : Files) → IsFiles fs → (n : FileNode) → IsAmong n fs.nodes
     → path_of fs n.number ≡ n.path
 own_path fs is n among = ap (option_and_then (λ (x : FileNode). x.path))
     (found_own 1 fs.nodes fs.next n is.rising among)

@@ -134,7 +134,7 @@ all_open n (Some d ∷ ds) h lt = (
       (omega (arith, lt)),
 )
 
-few_open : (n : ℕ) (ds : List (Option Descriptor)) → length (open_from n ds) ≤ length ds
+pub few_open : (n : ℕ) (ds : List (Option Descriptor)) → length (open_from n ds) ≤ length ds
 few_open n [] = omega arith
 few_open n (None ∷ ds) = omega (arith, few_open (n + 1) ds)
 few_open n (Some d ∷ ds) = omega (arith, few_open (n + 1) ds)

@@ -2,14 +2,10 @@
 use Rattle.std.proofs.Common.{◌≡◌, ◌≢◌, inl, inr, ℕ, zero, suc, ◌+◌, ◌*◌, ◌^◌, ◌<◌, ◌≤◌, eqb}
 use Rattle.std.proofs.Common.{List, [], ◌∷◌, ◌++◌, length, length-append, Option, Some, None, refl}
 use Rattle.std.proofs.Common.{sym, ap, subst, ◌∙◌, arith}
-use Rattle.std.specs.Prelude.{min, slice_get, find, IfSome}
-use Rattle.std.specs.Option.{option_map_or}
+use Rattle.std.specs.Prelude.{slice_get, find, IfSome}
 use Rattle.std.specs.List.{AllByRecursion}
 use Rattle.std.proofs.lemmas.List.Sums.{sum_by-cons}
 use Rattle.wasm_syntax.specs.declared.module.Module.{Module}
-use Rattle.wasm_syntax.specs.declared.types.MemoryType.{MemoryType}
-use Rattle.wasm_syntax_rules.specs.Validity.{memories_of}
-use Rattle.wasm_syntax_rules.specs.Instantiation.{most_pages_of}
 use Rattle.wasi_abi.specs.rules.Answers.{IsNoNewline, AreBytes}
 use Rattle.wasi_abi.specs.rules.Configs.{Settings}
 use Rattle.file_tree.specs.rules.Files.{Name, Path, Directory, File, FileNode, Files}
@@ -18,15 +14,17 @@ use Rattle.file_tree.specs.rules.Files.{HaveDistinctPaths, IsFiles}
 use Rattle.wasi_calls_rules.specs.Hosts.{Stream, Node, Descriptor, IsThere}
 use Rattle.wasi_calls_rules.specs.Hosts.{IsDescriptor, IsStreamAt}
 use Rattle.wasi_calls_rules.specs.Lines.{rest_of}
-use Rattle.process_rules.specs.Processes.{Ending}
-use Rattle.state_image.specs.rules.Image.{Saved}
+use Rattle.process_rules.specs.Processes.{Ending, Exited}
+use Rattle.state_image.specs.rules.Image.{Saved, ending_code}
 use Rattle.state_image.specs.rules.WellTyped.{EntryPoints, IsCalled, IsAlive, IsWellTyped}
+use Rattle.state_image.specs.rules.WellTyped.{slots_in}
 use Rattle.state_image.specs.laws.Refusals.{HasNodes, under_name, below_a, RefusesMachines}
 use Rattle.state_image.specs.laws.Refusals.{IsOpenAt, RefusesCounts}
 use Rattle.state_image.specs.laws.Refusals.{RefusesStreams, RefusesFiles, RefusesDescriptors}
 use Rattle.state_image.proofs.Among.{IsAmong}
 use Rattle.state_image.proofs.FilesWithin.{one_last}
 use Rattle.state_image.proofs.PathsTold.{is_at}
+use Rattle.state_image.proofs.Room.{memory_long}
 use Rattle.state_image.proofs.Whole.{called, is_within}
 
 -- ---- counts
@@ -82,11 +80,18 @@ streams_refused config = record {
   no_byte = λ m s w e. no_byte m s w e;
   long_line = λ m s w e. long m s w e;
   newline_in_line = λ m s w e. newline m s w e;
+  wide_code = λ m s w e. wide m s w e;
   frames_at_end = λ m s w e. e.1 (alive_at_end s s.ended e.0 w.alive).0;
   line_at_end = λ m s w e. e.1 (alive_at_end s s.ended e.0 w.alive).1;
   no_frame = λ m s w e. alive_running s s.ended e.0 w.alive e.1;
   two_to_come = λ m s w e. two m s w e.0 e.1;
 } where
+  wide : (m : Module) (s : Saved) → IsWellTyped m config s → s.ended ≡ Some (Exited (2 ^ 32)) → ⊥
+  wide m s w e =
+      let code : ending_code s.ended < 2 ^ 32 = w.bounds.code in
+      let same : ending_code s.ended ≡ 2 ^ 32 = ap ending_code e in
+      absurd (omega (arith, code, same))
+
   no_byte : (m : Module) (s : Saved) → IsWellTyped m config s → s.unread ≡ 256 ∷ [] → ⊥
   no_byte m s w e =
       let are : AreBytes (256 ∷ []) = subst AreBytes (sym w.shown.unread ∙ e) w.host.unread in
@@ -114,19 +119,16 @@ streams_refused config = record {
 
 -- ---- the machine
 
-most_within : (memories : List MemoryType) (pages : ℕ) → most_pages_of memories pages ≤ pages
-most_within [] pages = omega arith
-most_within (t ∷ memories) pages = by t.limits.maximum where
-  by : (o : Option ℕ) → option_map_or (λ most. min most pages) o pages ≤ pages
-  by None = omega arith
-  by (Some most) = omega arith
-
 pub machines_refused : (config : Settings) → RefusesMachines config
 machines_refused config = record {
   many_frames = λ m s w e. (let few : length s.machine.frames ≤ 512 = w.shown.machine.few_frames in
       absurd (omega (arith, few, e)));
+  many_slots = λ m s w e. (let slots : slots_in s.machine.frames ≤ 69632 = w.bounds.slots in
+      absurd (omega (arith, slots, e)));
+  many_globals = λ m s w e. (let globals : length s.machine.globals ≤ 1024 = w.bounds.globals in
+      absurd (omega (arith, globals, e)));
   part_of_page = λ m s w e. part m s w e;
-  many_pages = λ m s w e. many m s w e;
+  many_pages = λ m s w e. absurd (omega (arith, memory_long m config s w, e));
 } where
   part : (m : Module) (s : Saved) → IsWellTyped m config s → length s.machine.memory ≡ 65537 → ⊥
   part m s w e =
@@ -134,23 +136,6 @@ machines_refused config = record {
       let whole : length w.process.configuration.store.memory ≡ store.pages * 65536 =
       store.whole in
       absurd (omega (arith, whole, ap length w.shown.machine.memory, e))
-
-  many : (m : Module) (s : Saved) → IsWellTyped m config s
-      → config.pages * 65536 < length s.machine.memory → ⊥
-  many m s w lt =
-      let store = w.shown.machine.typed.store.memory in
-      let whole : length w.process.configuration.store.memory ≡ store.pages * 65536 =
-      store.whole in
-      let most = most_within (memories_of m) config.pages in
-      absurd (omega (
-        arith,
-        whole,
-        ap length w.shown.machine.memory,
-        lt,
-        store.within,
-        w.begins.begins.is_program.most_pages,
-        most,
-      ))
 
 -- ---- files
 

@@ -79,11 +79,10 @@ is_within m config s w =
     w.shown.files next in
     record {
       counts = counts_within m config s w;
-      code = w.fields.code;
+      code = w.bounds.code;
       streams = streams_within m config s w;
       machine = machine_within (module_context m w.functions) w.guest.program
-          w.begins.begins.store.table s.machine w.process.configuration
-          w.shown.machine w.fields.globals w.fields.frames w.fields.memory;
+          w.begins.begins.store.table s w.process.configuration w.shown.machine w.bounds;
       files = subst IsFiles (sym w.shown.files) w.host.files;
       next = next;
       places = subst HasPlaces (sym w.shown.descriptors)

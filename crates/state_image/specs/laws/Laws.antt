@@ -1,5 +1,5 @@
 -- Laws of images.
-use Rattle.std.specs.Prelude.{◌≡◌}
+use Rattle.std.specs.Prelude.{◌≡◌, ◌+◌, ◌*◌, ◌≤◌, length}
 use Rattle.wasm_syntax.specs.declared.module.Module.{Module}
 use Rattle.wasi_abi.specs.rules.Configs.{Settings}
 use Rattle.state_image.specs.rules.Image.{Saved, image}
@@ -10,3 +10,9 @@ abbrev pub ImagesTellProcessesApart : Type 0
 ImagesTellProcessesApart =
     (m : Module) (config : Settings) (s t : Saved)
     → IsWellTyped m config s → IsWellTyped m config t → image s ≡ image t → s ≡ t
+
+-- The image of a well-typed process has a mebibyte at most, and what memory and files may have.
+abbrev pub ImagesHaveRoom : Type 0
+ImagesHaveRoom =
+    (m : Module) (config : Settings) (s : Saved) → IsWellTyped m config s
+    → length (image s) ≤ 1048576 + 65536 * (config.pages + config.files)

@@ -5,8 +5,9 @@ use Rattle.wasm_syntax.specs.declared.module.Module.{Module}
 use Rattle.wasi_abi.specs.rules.Configs.{Settings}
 use Rattle.file_tree.specs.rules.Files.{Content, Directory, File, FileNode}
 use Rattle.wasi_calls_rules.specs.Hosts.{Descriptor, Stream, Node}
+use Rattle.process_rules.specs.Processes.{Exited}
 use Rattle.state_image.specs.rules.Image.{Saved}
-use Rattle.state_image.specs.rules.WellTyped.{IsWellTyped}
+use Rattle.state_image.specs.rules.WellTyped.{IsWellTyped, slots_in}
 
 -- no process under this configuration is well typed that has this
 abbrev pub NoneHas : Settings → (Saved → Type 0) → Type 0
@@ -79,7 +80,8 @@ pub record RefusesStreams (config : Settings) : Type 0 where
   pub long_line : NoneHas config (λ s. length s.first ≡ 4097)
   -- a newline ends a line
   pub newline_in_line : NoneHas config (λ s. s.second ≡ 97 ∷ 10 ∷ [])
-  -- an end leaves no frame and no unfinished line, and what runs has a frame
+  -- a code has 32 bits; an end leaves no frame and no unfinished line, and what runs has a frame
+  pub wide_code : NoneHas config (λ s. s.ended ≡ Some (Exited (2 ^ 32)))
   pub frames_at_end : NoneHas config (λ s. (s.ended ≢ None) × (s.machine.frames ≢ []))
   pub line_at_end : NoneHas config (λ s. (s.ended ≢ None) × (s.first ≢ []))
   pub no_frame : NoneHas config (λ s. (s.ended ≡ None) × (s.machine.frames ≡ []))
@@ -90,6 +92,8 @@ pub record RefusesStreams (config : Settings) : Type 0 where
 
 pub record RefusesMachines (config : Settings) : Type 0 where
   pub many_frames : NoneHas config (λ s. length s.machine.frames ≡ 513)
+  pub many_slots : NoneHas config (λ s. slots_in s.machine.frames ≡ 69633)
+  pub many_globals : NoneHas config (λ s. length s.machine.globals ≡ 1025)
   -- a page and a byte
   pub part_of_page : NoneHas config (λ s. length s.machine.memory ≡ 65537)
   -- more than the configured pages

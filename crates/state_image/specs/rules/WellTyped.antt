@@ -1,5 +1,6 @@
 -- When a process as its image has it is well typed: the images of these are the ones that are accepted (this project's own).
-use Rattle.std.specs.Prelude.{◌≡◌, ◌≢◌, ℕ, ◌+◌, ◌<◌, ◌≤◌, ◌^◌, List, [], ◌∷◌, length, Option, Some, None}
+use Rattle.std.specs.Prelude.{◌≡◌, ◌≢◌, ℕ, ◌+◌, ◌<◌, ◌≤◌, ◌^◌, List, [], ◌∷◌}
+use Rattle.std.specs.Prelude.{length, sum_by, Option, Some, None}
 use Rattle.std.specs.List.{AllByRecursion}
 use Rattle.wasm_syntax.specs.declared.types.FunctionType.{FunctionType}
 use Rattle.wasm_syntax.specs.declared.module.Module.{Module}
@@ -8,6 +9,8 @@ use Rattle.wasi_abi.specs.rules.Configs.{Settings}
 use Rattle.wasi_calls_rules.specs.Hosts.{Host, IsHost}
 use Rattle.wasi_calls_rules.specs.declared.limits.TheConstants.{TEXT_BYTES}
 use Rattle.process_rules.specs.Processes.{Ending, ProcessState, Guest, host_of, IsStart, HasLineNumbers}
+use Rattle.wasm_syntax.specs.declared.limits.TheConstants.{FUNCTIONS, INSTRUCTIONS, GLOBALS}
+use Rattle.machine_slots.specs.declared.slots.TheConstants.{SLOTS}
 use Rattle.machine_slots.specs.rules.Places.{ShownFrame}
 use Rattle.state_image.specs.rules.Image.{Saved, SavedShowsProcess, ending_code}
 
@@ -40,18 +43,22 @@ pub record IsConfigured (config : Settings) (h : Host) : Type 0 where
   pub arguments : h.arguments ≡ config.arguments
   pub environment : h.environment ≡ config.environment
 
--- a frame of which the image has each number in 32 bits
+-- a function and a position of a module within the limits
 pub record IsPlaceWithin (place : ShownFrame) : Type 0 where
-  pub function : place.function < 2 ^ 32
-  pub position : place.position < 2 ^ 32
-  pub slots : length place.slots < 2 ^ 32
+  pub function : place.function < FUNCTIONS
+  pub position : place.position < INSTRUCTIONS
 
--- What the image has in 32 bits is below 2 ^ 32, where nothing else says so. A memory is within
--- what 32 bits address.
-pub record IsWithinFields (s : Saved) : Type 0 where
+-- how many slots frames have
+abbrev pub slots_in : List ShownFrame → ℕ
+slots_in frames = sum_by (λ (place : ShownFrame). length place.slots) frames
+
+-- What the limits on modules and on the stack leave of a machine. An exit's code has 32 bits, and
+-- so have the addresses of a memory.
+pub record IsWithinBounds (s : Saved) : Type 0 where
   pub code : ending_code s.ended < 2 ^ 32
-  pub globals : length s.machine.globals < 2 ^ 32
-  pub frames : AllByRecursion IsPlaceWithin s.machine.frames
+  pub globals : length s.machine.globals ≤ GLOBALS
+  pub places : AllByRecursion IsPlaceWithin s.machine.frames
+  pub slots : slots_in s.machine.frames ≤ SLOTS
   pub memory : length s.machine.memory ≤ 2 ^ 32
 
 -- It shows a process that this valid module could come to under this configuration, as far as
@@ -75,7 +82,7 @@ pub record IsWellTyped (m : Module) (config : Settings) (s : Saved) : Type 0 whe
   pub lines : HasLineNumbers process.host
   pub answers : s.answers ≤ s.steps
   pub requests : s.requests ≤ s.answers
-  pub fields : IsWithinFields s
+  pub bounds : IsWithinBounds s
   -- a request's text and its newline
   pub unread : length s.unread ≤ TEXT_BYTES + 1
   -- each step makes one node at most, beside the root and the number that comes next
