@@ -44,42 +44,6 @@ pub all_behind : (before : List Line) (stream : ℕ) (c : Cut) (bytes : List ℕ
 all_behind before stream c [] = refl
 all_behind before stream c (b ∷ bytes) = rw (byte_behind before stream c b) (all_behind before stream (cut_byte stream c b) bytes)
 
--- ---- the unfinished line
-
-all_push : (P : ℕ → Type 0) (xs : List ℕ) (b : ℕ) → AllByRecursion P xs → P b
-    → AllByRecursion P (xs ++ b ∷ [])
-all_push P [] b h k = (k, tt)
-all_push P (x ∷ xs) b h k = (h.0, all_push P xs b h.1 k)
-
-pub nothing_unfinished : IsUnfinished []
-nothing_unfinished = record { short = omega arith; are_bytes = tt; no_newline = tt }
-
-put_unfinished : (stream : ℕ) (c : Cut) (b : ℕ) (p q : Bool) → (b == newline) ≡ p
-    → nat_lt (length c.unfinished) LINE_BYTES ≡ q → IsByte b → IsUnfinished c.unfinished
-    → IsUnfinished (put_by stream c b p q).unfinished
-put_unfinished stream c b true q is at low h = nothing_unfinished
-put_unfinished stream c b false true is at low h =
-    let short : length c.unfinished < LINE_BYTES = ltb-true _ _ at in
-    record {
-      short = omega (arith, length-append c.unfinished (b ∷ []));
-      are_bytes = all_push IsByte c.unfinished b h.are_bytes low;
-      no_newline = all_push IsNoNewline c.unfinished b h.no_newline (eqb-false _ _ is);
-    }
-put_unfinished stream c b false false is at low h =
-    record { short = omega arith; are_bytes = (low, tt); no_newline = (eqb-false _ _ is, tt) }
-
-byte_unfinished : (stream : ℕ) (c : Cut) (b : ℕ) → IsByte b → IsUnfinished c.unfinished
-    → IsUnfinished (cut_byte stream c b).unfinished
-byte_unfinished stream c b low h =
-    put_unfinished stream c b (b == newline) (nat_lt (length c.unfinished) LINE_BYTES) refl refl
-    low h
-
-pub all_unfinished : (stream : ℕ) (c : Cut) (bytes : List ℕ) → AreBytes bytes
-    → IsUnfinished c.unfinished → IsUnfinished (cut_all stream c bytes).unfinished
-all_unfinished stream c [] low h = h
-all_unfinished stream c (b ∷ bytes) low h =
-    all_unfinished stream (cut_byte stream c b) bytes low.1 (byte_unfinished stream c b low.0 h)
-
 -- ---- what one write makes of lines that wait
 
 -- the lines that were emitted before don't matter

@@ -157,10 +157,10 @@ stream_stands h s bytes is b = either (s == 1) where
       else (let c = cut_all 2 (record { lines = h.lines; unfinished = h.second }) bytes in record h { lines = c.lines; second = c.unfinished }))
   either true =
       lines_stand h _ _ h.second is
-      (all_unfinished 1 (record { lines = h.lines; unfinished = h.first }) bytes is.first b) is.second
+      (all_unfinished 1 (record { lines = h.lines; unfinished = h.first }) bytes b is.first) is.second
   either false =
       lines_stand h _ h.first _ is is.first
-      (all_unfinished 2 (record { lines = h.lines; unfinished = h.second }) bytes is.second b)
+      (all_unfinished 2 (record { lines = h.lines; unfinished = h.second }) bytes b is.second)
 
 -- ---- descriptors
 

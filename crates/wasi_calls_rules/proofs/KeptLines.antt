@@ -38,8 +38,11 @@ cut_unfinished stream c b is byte =
     either false false is_end room =
         record { short = omega arith; are_bytes = (byte, tt); no_newline = (no_end is_end, tt) }
 
-pub all_unfinished : (stream : ℕ) (c : Cut) (bytes : List ℕ) → IsUnfinished c.unfinished
-    → AreBytes bytes → IsUnfinished (cut_all stream c bytes).unfinished
-all_unfinished stream c [] is bytes = is
-all_unfinished stream c (b ∷ more) is bytes =
-    all_unfinished stream (cut_byte stream c b) more (cut_unfinished stream c b is bytes.0) bytes.1
+pub nothing_unfinished : IsUnfinished []
+nothing_unfinished = record { short = omega arith; are_bytes = tt; no_newline = tt }
+
+pub all_unfinished : (stream : ℕ) (c : Cut) (bytes : List ℕ) → AreBytes bytes
+    → IsUnfinished c.unfinished → IsUnfinished (cut_all stream c bytes).unfinished
+all_unfinished stream c [] bytes is = is
+all_unfinished stream c (b ∷ more) bytes is =
+    all_unfinished stream (cut_byte stream c b) more bytes.1 (cut_unfinished stream c b is bytes.0)

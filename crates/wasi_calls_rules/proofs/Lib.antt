@@ -10,6 +10,7 @@ pub mod NodesAfter
 pub mod KeptLines
 pub mod Standing
 pub mod KeepsHosts
+pub mod FirstHosts
 pub mod Puts
 pub mod Supplies
 pub mod SmallRows

@@ -27,7 +27,7 @@ ghost use Rattle.wasi_calls_rules.specs.laws.StoryExamples.{AnswerStory, PageSto
 ghost use Rattle.wasi_calls_rules.specs.laws.CallLimits.{CallLimitNumbers};
 ghost use Rattle.wasi_calls_rules.specs.laws.Laws.{RowsKeepMemory, RowsKeepBytes, RowsEmit};
 ghost use Rattle.wasi_calls_rules.specs.laws.Laws.{RowsKeepConfigurations, RowsKeepHostsOfBytes};
-ghost use Rattle.wasi_calls_rules.specs.laws.Laws.{RowsKeepHosts};
+ghost use Rattle.wasi_calls_rules.specs.laws.Laws.{FirstHostsAreHosts, RowsKeepHosts};
 ghost use Rattle.wasi_calls_rules.specs.laws.Laws.{RowsMakeOneNodeAtMost};
 ghost use Rattle.wasi_calls_rules.specs.laws.Laws.{TestsTellWhatFits};
 
@@ -134,9 +134,11 @@ pub fn calls_make_one_node_at_most()
     ensures { RowsMakeOneNodeAtMost }
 {}
 
-/// What a call that is done leaves of a host is a host, where memory holds bytes.
+/// A process begins with a host. What a call that is done leaves of a host is one, where memory holds
+/// bytes.
 pub fn calls_keep_hosts()
-    ensures { RowsKeepHosts }
+    ensures first { FirstHostsAreHosts }
+    ensures kept { RowsKeepHosts }
 {}
 
 /// Where memory and the host hold bytes, the host holds bytes after a call that is done.

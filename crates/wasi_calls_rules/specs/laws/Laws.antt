@@ -6,7 +6,7 @@ use Rattle.wasi_abi.specs.declared.answer.Answer.{Answer}
 use Rattle.wasi_abi.specs.declared.call.Call.{Call}
 use Rattle.wasi_abi.specs.rules.Answers.{Fits, AreBytes}
 use Rattle.file_tree.specs.rules.Files.{Path, Content, Directory, File, FileNode}
-use Rattle.wasi_calls_rules.specs.Hosts.{Line, Host, IsHost}
+use Rattle.wasi_calls_rules.specs.Hosts.{Line, Host, first_host, IsHost}
 use Rattle.wasi_calls_rules.specs.Checks.{Bytes, Done, does_fit}
 use Rattle.wasi_calls_rules.specs.Rows.{row}
 
@@ -78,6 +78,11 @@ abbrev pub RowsKeepHosts : Type 0
 RowsKeepHosts = (c : Call) (arguments : List ℕ) (given : Option Answer) (m : Bytes)
     (h : Host) (done : Done) → AreBytes m → IsHost h → row c arguments given m h ≡ Ok done
     → IsHost done.host
+
+-- what a process begins with is a host
+abbrev pub FirstHostsAreHosts : Type 0
+FirstHostsAreHosts = (room limit : ℕ) (arguments environment : List (List ℕ))
+    → IsHost (first_host room limit arguments environment)
 
 -- at most one number more was given to a node, and none was taken back
 pub record MakesOneNodeAtMost (before after : Host) : Type 0 where

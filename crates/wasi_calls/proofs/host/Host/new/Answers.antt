@@ -1,6 +1,6 @@
 use Rattle.std.proofs.Common.{◌*◌}
 use Rattle.file_tree.specs.declared.limits.TheConstants.{UNIT_BYTES}
-use Rattle.wasi_calls.proofs.Hosts.{first_is_host}
+use Rattle.wasi_calls_rules.proofs.FirstHosts.{first_is_host}
 use Rattle.wasi_calls.proofs.host.Host.new.Goals as goal
 
 pub invariant_of-result : goal.invariant_of-result
