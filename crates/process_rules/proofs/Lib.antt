@@ -7,3 +7,5 @@ pub mod ExamplesValid
 pub mod ExamplesHold
 pub mod EchoValid
 pub mod EchoHolds
+pub mod MemoryKept
+pub mod Hosted

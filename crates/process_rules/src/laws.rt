@@ -1,6 +1,8 @@
 //! Laws of what a process reaches. The functions do nothing: what they ensure is the law.
 
 ghost use Rattle.process_rules.specs.laws.Laws.{OneProcess, OneProcessRun, RunsJoin, RunsCount, RunsEmit, QuietRunsJoin, QuietRunsAreRuns, RulesAreQuiet, LastRuleEnds, TrapEnds};
+ghost use Rattle.process_rules.specs.laws.Laws.{ReachedAreConfigured, NodesAreFew};
+ghost use Rattle.process_rules.specs.laws.Laws.{ReachedHaveHosts};
 ghost use Rattle.wasi_abi.specs.rules.Configs.{Settings};
 ghost use Rattle.process_rules.specs.laws.Examples.{HelloEnds, EchoEnds, IdleEnds, TrappingEnds};
 
@@ -44,6 +46,18 @@ pub fn last_rule_ends()
 /// So is the rule that traps.
 pub fn trap_ends()
     ensures { TrapEnds }
+{}
+
+/// A reached process is configured as at the beginning, and has few nodes: one a step at most, beside
+/// the root and the number that comes next.
+pub fn reached_hosts_are_bounded()
+    ensures configured { ReachedAreConfigured }
+    ensures few { NodesAreFew }
+{}
+
+/// What a valid module reaches has a host, where its arguments and environment are bytes.
+pub fn reached_processes_have_hosts()
+    ensures { ReachedHaveHosts }
 {}
 
 /// Whole modules come to their ends, under any configuration: one that writes a line and exits with a code, one that writes

@@ -1,13 +1,15 @@
 -- Laws of what a process reaches.
-use Rattle.std.specs.Prelude.{◌≡◌, ℕ, suc, ◌+◌, List, [], ◌++◌, None}
+use Rattle.std.specs.Prelude.{◌≡◌, ℕ, suc, ◌+◌, ◌≤◌, List, [], ◌++◌, None}
 use Rattle.wasm_syntax.specs.declared.value.Trap.{Trap}
 use Rattle.wasm_syntax.specs.declared.module.Module.{Module}
 use Rattle.wasm_syntax_rules.specs.Validity.{IsValid}
 use Rattle.wasm_syntax_rules.specs.Configuration.{Configuration, Traps}
 use Rattle.wasm_syntax_rules.specs.Steps.{rule, stopped, IsEnded, Steps}
 use Rattle.wasi_abi.specs.rules.Configs.{Settings}
-use Rattle.wasi_calls_rules.specs.laws.Laws.{Emits}
-use Rattle.process_rules.specs.Processes.{ProcessState, Guest, Exited, Trapped, over}
+use Rattle.wasi_abi.specs.rules.Answers.{AreBytes}
+use Rattle.wasi_calls_rules.specs.Hosts.{IsHost}
+use Rattle.wasi_calls_rules.specs.laws.Laws.{Emits, IsConfiguredAs, IsOfBytes}
+use Rattle.process_rules.specs.Processes.{ProcessState, Guest, Exited, Trapped, over, host_of}
 use Rattle.process_rules.specs.Runs.{Kept, Moves, Runs, Reaches}
 use Rattle.process_rules.specs.Behind.{Syncs}
 use Rattle.process_rules.specs.Owing.{RunsQuietly}
@@ -69,3 +71,29 @@ abbrev pub TrapEnds : Type 0
 TrapEnds =
     (guest : Guest) (p : ProcessState) (n : ℕ) (d : Configuration) (why : Trap) → p.ended ≡ None → Steps guest.program n p.configuration d → rule guest.program d ≡ Traps why
     → EndsAfter guest p n (over (Trapped why) (record p { configuration = stopped d; steps = p.steps + suc n }))
+
+-- ---- hosts
+
+-- A reached process has the host that its configuration gave it, as far as no call changes that.
+abbrev pub ReachedAreConfigured : Type 0
+ReachedAreConfigured =
+    (m : Module) (config : Settings) (kept : List Kept) (n : ℕ) (p : ProcessState)
+    → Reaches m config kept n p → IsConfiguredAs (host_of config) p.host
+
+-- Each step makes one node at most, beside the root and the number that comes next.
+abbrev pub NodesAreFew : Type 0
+NodesAreFew =
+    (m : Module) (config : Settings) (kept : List Kept) (n : ℕ) (p : ProcessState)
+    → Reaches m config kept n p → p.host.files.next ≤ n + 2
+
+-- a process with a host, whose host and memory hold bytes
+pub record HasHost (p : ProcessState) : Type 0 where
+  pub host : IsHost p.host
+  pub of_bytes : IsOfBytes p.host
+  pub memory : AreBytes p.configuration.store.memory
+
+-- What a valid module reaches has a host, where its arguments and environment are bytes.
+abbrev pub ReachedHaveHosts : Type 0
+ReachedHaveHosts =
+    (m : Module) (config : Settings) (kept : List Kept) (n : ℕ) (p : ProcessState) → IsValid m
+    → IsOfBytes (host_of config) → Reaches m config kept n p → HasHost p

@@ -1,0 +1,312 @@
+-- What is reached has a host, of bytes, configured as at the beginning, with few nodes.
+use Rattle.std.proofs.Common.{◌≡◌, ℕ, suc, ◌+◌, ◌≤◌, List, [], ◌∷◌, Option, Some, None, refl, sym}
+use Rattle.std.proofs.Common.{ap, subst, ◌∙◌, ◌*◌, arith}
+use Rattle.std.specs.Prelude.{Ok, Err, reverse, map, slice_get}
+use Rattle.wasm_syntax.specs.declared.value.Value.{Value}
+use Rattle.wasm_syntax.specs.declared.module.Module.{Module}
+use Rattle.wasm_syntax_rules.specs.Types.{number_in}
+use Rattle.wasm_syntax_rules.specs.Validity.{IsValid}
+use Rattle.wasm_syntax_rules.specs.Configuration.{Configuration, Store, Thread, Outcome, Goes, Traps}
+use Rattle.wasm_syntax_rules.specs.Configuration.{Asks, Stuck}
+use Rattle.wasm_syntax_rules.specs.Steps.{rule}
+use Rattle.wasi_abi.specs.declared.answer.Answer.{Answer}
+use Rattle.wasi_abi.specs.declared.call.Call.{Call}
+use Rattle.wasi_abi.specs.rules.Answers.{AreBytes}
+use Rattle.wasi_abi.specs.rules.Configs.{Settings}
+use Rattle.file_tree.specs.declared.limits.TheConstants.{UNIT_BYTES}
+use Rattle.wasi_calls_rules.specs.Hosts.{Host, IsHost}
+use Rattle.wasi_calls_rules.specs.Checks.{Refuses, Ends, Asks as Wishes, Done, Ruling}
+use Rattle.wasi_calls_rules.specs.Lines.{lines_ended}
+use Rattle.wasi_calls_rules.specs.Rows.{row}
+use Rattle.wasi_calls_rules.specs.declared.limits.TheConstants.{TEXT_BYTES}
+use Rattle.wasi_calls_rules.specs.laws.Laws.{IsOfBytes, IsConfiguredAs, MakesOneNodeAtMost}
+use Rattle.wasi_calls_rules.proofs.KeepsMemory.{rows_keep_bytes}
+use Rattle.wasi_calls_rules.proofs.Configured.{rows_keep_configurations}
+use Rattle.wasi_calls_rules.proofs.Configured.{rows_make_one_node_at_most}
+use Rattle.wasi_calls_rules.proofs.HostBytes.{rows_keep_hosts_of_bytes}
+use Rattle.wasi_calls_rules.proofs.KeepsHosts.{rows_keep_hosts}
+use Rattle.wasi_calls_rules.proofs.KeptLines.{nothing_unfinished}
+use Rattle.wasi_calls_rules.proofs.FirstHosts.{first_is_host}
+use Rattle.process_rules.specs.Processes.{ProcessState, Guest, IsStart, host_of, closed, closed_at}
+use Rattle.process_rules.specs.Runs.{Next, On, Over, Wants, Nowhere, after_row, after_call, after_rule}
+use Rattle.process_rules.specs.Runs.{next_of, stepped, LeadsTo, Moves, Kept, Runs, none, step, take}
+use Rattle.process_rules.specs.laws.Laws.{ReachedAreConfigured, NodesAreFew, HasHost}
+use Rattle.process_rules.specs.laws.Laws.{ReachedHaveHosts}
+use Rattle.process_rules.proofs.MemoryKept.{GoesToBytes, rule_bytes, settled_store}
+use Rattle.process_rules.proofs.MemoryKept.{begins_with_bytes}
+
+-- ---- one node a step at most
+
+record Follows (h after : Host) : Type 0 where
+  configured : IsConfiguredAs h after
+  nodes : MakesOneNodeAtMost h after
+
+same_host : (h : Host) → Follows h h
+same_host h = record {
+  configured = record { room = refl; limit = refl; arguments = refl; environment = refl };
+  nodes = record { least = omega arith; most = omega arith };
+}
+
+abbrev FollowsTo : Host → Next → Type 0
+FollowsTo h (On c after) = Follows h after
+FollowsTo h (Over why c after) = Follows h after
+FollowsTo h (Wants kind) = Unit {0}
+FollowsTo h Nowhere = Unit {0}
+
+row_follows : (c : Call) (r : Ruling) (before : Configuration) (h : Host) (waits : Thread)
+    → ((done : Done) → r ≡ Ok done → Follows h done.host) → FollowsTo h (after_row c r before h waits)
+row_follows c (Ok done) before h waits f = f done refl
+row_follows c (Err (Refuses e)) before h waits f = same_host h
+row_follows c (Err (Ends code)) before h waits f = same_host h
+row_follows c (Err (Wishes kind)) before h waits f = tt
+
+call_follows : (o : Option Call) (arguments : List Value) (given : Option Answer)
+    (before : Configuration) (h : Host) (waits : Thread)
+    → FollowsTo h (after_call o arguments given before h waits)
+call_follows None arguments given before h waits = tt
+call_follows (Some c) arguments given before h waits =
+    let numbers = reverse (map number_in arguments) in
+    row_follows c (row c numbers given before.store.memory h) before h waits
+    (λ done e. record {
+      configured = rows_keep_configurations c numbers given before.store.memory h done e;
+      nodes = rows_make_one_node_at_most c numbers given before.store.memory h done e;
+    })
+
+rule_follows : (guest : Guest) (outcome : Outcome) (given : Option Answer) (before : Configuration)
+    (h : Host) → FollowsTo h (after_rule guest outcome given before h)
+rule_follows guest (Goes next) given before h = same_host h
+rule_follows guest (Traps why) given before h = same_host h
+rule_follows guest (Asks f arguments waits) given before h =
+    call_follows (slice_get guest.calls f) arguments given before h waits
+rule_follows guest Stuck given before h = tt
+
+ended_follows : (g h : Host) → Follows g h → Follows g (lines_ended h)
+ended_follows g h f = record {
+  configured = record {
+    room = f.configured.room;
+    limit = f.configured.limit;
+    arguments = f.configured.arguments;
+    environment = f.configured.environment;
+  };
+  nodes = record { least = f.nodes.least; most = f.nodes.most };
+}
+
+closed_follows : (thread : Thread) (later : List ℕ) (g : Host) (p : ProcessState) → Follows g p.host
+    → Follows g (closed_at thread later p).host
+closed_follows [] [] g p f = ended_follows g p.host f
+closed_follows [] (x ∷ later) g p f = f
+closed_follows (frame ∷ frames) [] g p f = f
+closed_follows (frame ∷ frames) (x ∷ later) g p f = f
+
+leads_follow : (guest : Guest) (next : Next) (given : Option Answer) (p q : ProcessState)
+    → FollowsTo p.host next → LeadsTo guest next given p q → Follows p.host q.host
+leads_follow guest (On c h) given p q f to =
+    let after : ProcessState = stepped given to.0 h p in
+    subst (λ (z : ProcessState). Follows p.host z.host) (sym to.2)
+    (closed_follows to.0.thread to.0.later p.host after f)
+leads_follow guest (Over why c h) given p q f to =
+    subst (λ (z : ProcessState). Follows p.host z.host) (sym to) (ended_follows p.host h f)
+leads_follow guest (Wants kind) given p q f to = absurd to
+leads_follow guest Nowhere given p q f to = absurd to
+
+move_follows : (guest : Guest) (p q : ProcessState) (given : Option Answer) → Moves guest p given q
+    → Follows p.host q.host
+move_follows guest p q given moves =
+    leads_follow guest (next_of guest p given) given p q
+    (rule_follows guest (rule guest.program p.configuration) given p.configuration p.host) moves.leads
+
+configured_on : (g h k : Host) → IsConfiguredAs g h → IsConfiguredAs h k → IsConfiguredAs g k
+configured_on g h k a b = record {
+  room = b.room ∙ a.room;
+  limit = b.limit ∙ a.limit;
+  arguments = b.arguments ∙ a.arguments;
+  environment = b.environment ∙ a.environment;
+}
+
+runs_configured : (guest : Guest) (p q : ProcessState) (kept : List Kept) (n : ℕ)
+    → Runs guest p kept n q → IsConfiguredAs p.host q.host
+runs_configured guest p q kept n (none {p = p'}) = (same_host p'.host).configured
+runs_configured guest p q kept n (step {p = p'} {q = next} {kept = kept'} {n = m} moves rest) =
+    configured_on p'.host next.host q.host (move_follows guest p' next None moves).configured
+    (runs_configured guest next q kept' m rest)
+runs_configured guest p q kept n (take {p = p'} {q = next} {a = a} {kept = kept'} {n = m} moves rest) =
+    configured_on p'.host next.host q.host (move_follows guest p' next (Some a) moves).configured
+    (runs_configured guest next q kept' m rest)
+
+runs_nodes : (guest : Guest) (p q : ProcessState) (kept : List Kept) (n : ℕ) → Runs guest p kept n q
+    → q.host.files.next ≤ p.host.files.next + n
+runs_nodes guest p q kept n (none {p = p'}) = omega arith
+runs_nodes guest p q kept n (step {p = p'} {q = next} {kept = kept'} {n = m} moves rest) =
+    let one = (move_follows guest p' next None moves).nodes.most in
+    let others = runs_nodes guest next q kept' m rest in
+    omega (arith, one, others)
+runs_nodes guest p q kept n (take {p = p'} {q = next} {a = a} {kept = kept'} {n = m} moves rest) =
+    let one = (move_follows guest p' next (Some a) moves).nodes.most in
+    let others = runs_nodes guest next q kept' m rest in
+    omega (arith, one, others)
+
+-- the process before its first step
+abbrev beginning : (c : Configuration) → Settings → ProcessState
+beginning c config = record {
+  configuration = c;
+  host = host_of config;
+  steps = 0;
+  answers = 0;
+  requests = 0;
+  ended = None;
+}
+
+start_follows : (m : Module) (config : Settings) (guest : Guest) (p : ProcessState)
+    → IsStart m config guest p → Follows (host_of config) p.host
+start_follows m config guest p start =
+    subst (λ (z : ProcessState). Follows (host_of config) z.host) (sym start.is)
+    (closed_follows start.first.thread start.first.later (host_of config)
+    (beginning start.first config) (same_host (host_of config)))
+
+start_next : (m : Module) (config : Settings) (guest : Guest) (p : ProcessState)
+    → IsStart m config guest p → p.host.files.next ≡ 2
+start_next m config guest p start =
+    ap (λ (z : ProcessState). z.host.files.next) start.is ∙ closed_next start.first.thread start.first.later where
+      closed_next : (thread : Thread) (later : List ℕ)
+          → (closed_at thread later (beginning start.first config)).host.files.next ≡ 2
+      closed_next [] [] = refl
+      closed_next [] (x ∷ later) = refl
+      closed_next (frame ∷ frames) [] = refl
+      closed_next (frame ∷ frames) (x ∷ later) = refl
+
+pub reached_are_configured : ReachedAreConfigured
+reached_are_configured m config kept n p r =
+    configured_on (host_of config) r.start.host p.host
+    (start_follows m config r.guest r.start r.begins).configured
+    (runs_configured r.guest r.start p kept n r.runs)
+
+pub nodes_are_few : NodesAreFew
+nodes_are_few m config kept n p r =
+    let first = start_next m config r.guest r.start r.begins in
+    let others = runs_nodes r.guest r.start p kept n r.runs in
+    omega (arith, first, others)
+
+-- ---- hosts and bytes
+
+record Holds (memory : List ℕ) (h : Host) : Type 0 where
+  memory_bytes : AreBytes memory
+  of_bytes : IsOfBytes h
+  host : IsHost h
+
+abbrev HoldsIn : Next → Type 0
+HoldsIn (On c h) = Holds c.store.memory h
+HoldsIn (Over why c h) = Holds c.store.memory h
+HoldsIn (Wants kind) = Unit {0}
+HoldsIn Nowhere = Unit {0}
+
+row_holds : (c : Call) (r : Ruling) (before : Configuration) (h : Host) (waits : Thread)
+    → Holds before.store.memory h → ((done : Done) → r ≡ Ok done → Holds done.memory done.host)
+    → HoldsIn (after_row c r before h waits)
+row_holds c (Ok done) before h waits k f = f done refl
+row_holds c (Err (Refuses e)) before h waits k f = k
+row_holds c (Err (Ends code)) before h waits k f = k
+row_holds c (Err (Wishes kind)) before h waits k f = tt
+
+call_holds : (o : Option Call) (arguments : List Value) (given : Option Answer)
+    (before : Configuration) (h : Host) (waits : Thread) → Holds before.store.memory h
+    → HoldsIn (after_call o arguments given before h waits)
+call_holds None arguments given before h waits k = tt
+call_holds (Some c) arguments given before h waits k =
+    let numbers = reverse (map number_in arguments) in
+    let m = before.store.memory in
+    row_holds c (row c numbers given m h) before h waits k
+    (λ done e. record {
+      memory_bytes = rows_keep_bytes c numbers given m h done k.memory_bytes k.of_bytes e;
+      of_bytes = rows_keep_hosts_of_bytes c numbers given m h done k.memory_bytes k.of_bytes e;
+      host = rows_keep_hosts c numbers given m h done k.memory_bytes k.host e;
+    })
+
+rule_holds : (guest : Guest) (outcome : Outcome) (given : Option Answer) (before : Configuration)
+    (h : Host) → GoesToBytes outcome → Holds before.store.memory h
+    → HoldsIn (after_rule guest outcome given before h)
+rule_holds guest (Goes next) given before h b k =
+    record { memory_bytes = b; of_bytes = k.of_bytes; host = k.host }
+rule_holds guest (Traps why) given before h b k = k
+rule_holds guest (Asks f arguments waits) given before h b k =
+    call_holds (slice_get guest.calls f) arguments given before h waits k
+rule_holds guest Stuck given before h b k = tt
+
+ended_holds : (memory : List ℕ) (h : Host) → Holds memory h → Holds memory (lines_ended h)
+ended_holds memory h k = record {
+  memory_bytes = k.memory_bytes;
+  of_bytes = record {
+    files = k.of_bytes.files;
+    unread = k.of_bytes.unread;
+    arguments = k.of_bytes.arguments;
+    environment = k.of_bytes.environment;
+  };
+  host = record {
+    files = k.host.files;
+    within = k.host.within;
+    places = k.host.places;
+    descriptors = k.host.descriptors;
+    streams = k.host.streams;
+    root = k.host.root;
+    unread = k.host.unread;
+    last_monotonic = k.host.last_monotonic;
+    first = nothing_unfinished;
+    second = nothing_unfinished;
+    open_nodes = k.host.open_nodes;
+  };
+}
+
+abbrev ProcessHolds : ProcessState → Type 0
+ProcessHolds p = Holds p.configuration.store.memory p.host
+
+closed_holds : (thread : Thread) (later : List ℕ) (p : ProcessState) → ProcessHolds p
+    → ProcessHolds (closed_at thread later p)
+closed_holds [] [] p k = ended_holds p.configuration.store.memory p.host k
+closed_holds [] (x ∷ later) p k = k
+closed_holds (frame ∷ frames) [] p k = k
+closed_holds (frame ∷ frames) (x ∷ later) p k = k
+
+leads_hold : (guest : Guest) (next : Next) (given : Option Answer) (p q : ProcessState)
+    → HoldsIn next → LeadsTo guest next given p q → ProcessHolds q
+leads_hold guest (On c h) given p q k to =
+    let settled : Configuration = to.0 in
+    let after : ProcessState = stepped given settled h p in
+    let same = settled_store guest.program c settled to.1 in
+    subst ProcessHolds (sym to.2)
+    (closed_holds settled.thread settled.later after
+    (subst (λ (s : Store). Holds s.memory h) (sym same) k))
+leads_hold guest (Over why c h) given p q k to =
+    subst ProcessHolds (sym to) (ended_holds c.store.memory h k)
+leads_hold guest (Wants kind) given p q k to = absurd to
+leads_hold guest Nowhere given p q k to = absurd to
+
+move_holds : (guest : Guest) (p q : ProcessState) (given : Option Answer) → Moves guest p given q
+    → ProcessHolds p → ProcessHolds q
+move_holds guest p q given moves k =
+    leads_hold guest (next_of guest p given) given p q
+    (rule_holds guest (rule guest.program p.configuration) given p.configuration p.host
+    (rule_bytes guest.program p.configuration k.memory_bytes) k) moves.leads
+
+runs_hold : (guest : Guest) (p q : ProcessState) (kept : List Kept) (n : ℕ) → Runs guest p kept n q
+    → ProcessHolds p → ProcessHolds q
+runs_hold guest p q kept n none k = k
+runs_hold guest p q kept n (step {p = p'} {q = next} {kept = kept'} {n = m} moves rest) k =
+    runs_hold guest next q kept' m rest (move_holds guest p' next None moves k)
+runs_hold guest p q kept n (take {p = p'} {q = next} {a = a} {kept = kept'} {n = m} moves rest) k =
+    runs_hold guest next q kept' m rest (move_holds guest p' next (Some a) moves k)
+
+start_holds : (m : Module) (config : Settings) (guest : Guest) (p : ProcessState) → IsValid m
+    → IsOfBytes (host_of config) → IsStart m config guest p → ProcessHolds p
+start_holds m config guest p valid bytes start =
+    subst ProcessHolds (sym start.is)
+    (closed_holds start.first.thread start.first.later (beginning start.first config) (record {
+      memory_bytes = begins_with_bytes m config.pages start.entry guest.program start.first valid
+          start.begins;
+      of_bytes = bytes;
+      host = first_is_host (config.files * UNIT_BYTES) TEXT_BYTES config.arguments config.environment;
+    }))
+
+pub reached_have_hosts : ReachedHaveHosts
+reached_have_hosts m config kept n p valid bytes r =
+    let k = runs_hold r.guest r.start p kept n r.runs
+    (start_holds m config r.guest r.start valid bytes r.begins) in
+    record { host = k.host; of_bytes = k.of_bytes; memory = k.memory_bytes }
