@@ -3,6 +3,7 @@ pub mod Lines
 pub mod Making
 pub mod Made
 pub mod Beyond
+pub mod NumberLaws
 pub mod Stretching
 pub mod Counting
 pub mod Looping

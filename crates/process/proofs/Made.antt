@@ -134,7 +134,7 @@ module _ (old mid : MachineValue) (old_held mid_held : HeldHost) (c : Call) (arg
   pub memory_kept : HasCalled old old_held c arguments given outcome.Memory mid mid_held → WaitsAtCall old old_held c arguments → (mid ≡ old) × (mid_held ≡ old_held)
   memory_kept called w =
       let told = called.shown w.process.host w.shows.host in
-      (unchanged old mid old_held mid_held c arguments given outcome.Memory called told.0, told.1)
+      (unchanged old mid old_held mid_held c arguments given outcome.Memory called told.1, told.2)
 
   pub asks_kept : (kind : Kind) → HasCalled old old_held c arguments given (outcome.Ask kind) mid mid_held → WaitsAtCall old old_held c arguments → (mid ≡ old) × (mid_held ≡ old_held)
   asks_kept kind called w =

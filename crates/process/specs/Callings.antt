@@ -1,5 +1,5 @@
 -- What a call of the guest comes to.
-use Rattle.std.specs.Prelude.{◌≡◌, ℕ, ◌+◌, ◌<◌, ◌≤◌, ◌^◌, ◌↔◌, IsTrue, Bool, List, length, Option, Some, None, Result, Ok, Err, slice_get}
+use Rattle.std.specs.Prelude.{◌≡◌, ◌≢◌, ℕ, ◌↔◌, IsTrue, Bool, List, Option, Some, None, Result, Ok, Err, slice_get}
 use Rattle.std.specs.Option.{option_map}
 use Rattle.std.specs.List.{AllByRecursion}
 use Rattle.wasm_syntax.specs.declared.types.FunctionType.{FunctionType}
@@ -22,7 +22,7 @@ use Rattle.wasi_calls.specs.rules.Held.{HeldHost, ShowsHost, held_ended}
 use Rattle.wasi_calls.specs.rules.Calls.{told_of, ShowsRow, EndsNothing, IsAsLarge}
 use Rattle.machine.specs.rules.Answers.{call_results}
 use Rattle.machine.specs.rules.Values.{MachineValue, ShowsIn, memory_of, with_memory}
-use Rattle.process_rules.specs.Processes.{Ending, ProcessState, Guest}
+use Rattle.process_rules.specs.Processes.{Ending, ProcessState, Guest, HasLineNumbers}
 use Rattle.process_rules.specs.Runs.{Wants, next_of, LeadsTo}
 use Rattle.process_rules.specs.Behind.{Syncs}
 use Rattle.process.specs.declared.calling.Called.{Called}
@@ -33,7 +33,7 @@ use Rattle.process.specs.declared.stop.ProcessEnd.{ProcessEnd}
 use Rattle.process.specs.declared.stop.ProcessEnd.TheVariants as end
 use Rattle.process.specs.rules.Values.{ending_of}
 use Rattle.process.specs.Parts.{ShowsParts, IsAtCall}
-use Rattle.process.specs.rules.Stops.{EndsNot, lines_by}
+use Rattle.process.specs.rules.Stops.{EndsNot, LacksNumbers}
 
 -- it leads to a process that is then shown, and has ended so
 pub record LeadsToProcess (machine : MachineValue) (held : HeldHost) (guest : Guest) (p : ProcessState) (given : Option Answer) (how : Option Ending) : Type 0 where
@@ -46,13 +46,15 @@ pub record LeadsToProcess (machine : MachineValue) (held : HeldHost) (guest : Gu
 abbrev pub Tells : Bool → Guest → ProcessState → Option Answer → Type 0
 Tells synced guest p given = given ≡ None → (IsTrue synced ↔ Syncs guest p)
 
--- It is made; or it wants an answer, there is no memory for it, or its lines can't be numbered, and nothing changes.
+-- It is made. Or it wants an answer, there is no memory for it, or its lines can't be numbered:
+-- then
+-- nothing changes.
 abbrev pub CallsFor : MachineValue → HeldHost → MachineValue → HeldHost → Guest → ProcessState → Option Answer → Result Called ProcessFault → Type 0
 CallsFor old old_held new held guest p given (Ok (called.Made synced ended)) = LeadsToProcess new held guest p given (option_map ending_of ended) × Tells synced guest p given
 CallsFor old old_held new held guest p given (Ok (called.Asks kind)) = (new ≡ old) × (held ≡ old_held) × (next_of guest p given ≡ Wants kind)
 CallsFor old old_held new held guest p given (Err fault.Memory) = (new ≡ old) × (held ≡ old_held) × EndsNot guest p
 CallsFor old old_held new held guest p given (Err fault.StepsSpent) =
-    (new ≡ old) × (held ≡ old_held) × (2 ^ 63 ≤ length (lines_by (next_of guest p given) p) + 2)
+    (new ≡ old) × (held ≡ old_held) × LacksNumbers (next_of guest p given)
 CallsFor old old_held new held guest p given (Err fault.WrongAnswer) = ⊥
 
 -- whichever process was shown that is at this call
@@ -63,15 +65,19 @@ MakesCall old old_held call arguments given result new held =
 
 -- ---- the steps of a call
 
--- If the call is done, the lines emitted by then and two more can be numbered.
+-- If the call is done, the lines that there are by then can be numbered.
 abbrev pub HasNumbers : MachineValue → HeldHost → Call → List ℕ → Type 0
 HasNumbers machine held call arguments =
-    (given : Option Answer) (h : Host) (done : Done) → ShowsHost held h → row call arguments given machine.state.memory h ≡ Ok done → length done.host.lines + 2 < 2 ^ 63
+    (given : Option Answer) (h : Host) (done : Done) → ShowsHost held h
+    → row call arguments given machine.state.memory h ≡ Ok done → HasLineNumbers done.host
 
--- they can't, however the call comes out
-pub record HasNoNumbers (machine : MachineValue) (held : HeldHost) (call : Call) (arguments : List ℕ) : Type 0 where
-  pub done : (given : Option Answer) (h : Host) (done : Done) → ShowsHost held h → row call arguments given machine.state.memory h ≡ Ok done → 2 ^ 63 ≤ length done.host.lines + 2
-  pub stopped : (given : Option Answer) (h : Host) (halt : Halt) → ShowsHost held h → row call arguments given machine.state.memory h ≡ Err halt → 2 ^ 63 ≤ length h.lines + 2
+-- The call is done, and they can't.
+pub record HasNoNumbers (machine : MachineValue) (held : HeldHost) (call : Call)
+    (arguments : List ℕ) : Type 0 where
+  pub done : (given : Option Answer) (h : Host) (done : Done) → ShowsHost held h
+      → row call arguments given machine.state.memory h ≡ Ok done → HasLineNumbers done.host → ⊥
+  pub not_stopped : (given : Option Answer) (h : Host) (halt : Halt) → ShowsHost held h
+      → row call arguments given machine.state.memory h ≢ Err halt
 
 -- The host has made the call, on the memory that the machine holds. All else of the machine is as it was.
 pub record HasCalled (old : MachineValue) (old_held : HeldHost) (call : Call) (arguments : List ℕ) (given : Option Answer) (o : CallOutcome) (new : MachineValue) (held : HeldHost) : Type 0 where

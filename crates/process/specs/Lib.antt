@@ -1,4 +1,5 @@
 pub mod Parts
 pub mod Callings
 pub mod Stretches
+pub mod laws
 pub mod rules

@@ -1,12 +1,12 @@
 -- What a process does, seen of its machine and its host alone.
-use Rattle.std.specs.Prelude.{◌≡◌, ℕ, ◌+◌, ◌<◌, ◌^◌, List, ◌++◌, length, map, reverse, Some, None, slice_get}
+use Rattle.std.specs.Prelude.{◌≡◌, ℕ, ◌+◌, ◌<◌, ◌^◌, List, length, map, reverse, Some, None, slice_get}
 use Rattle.wasm_syntax.specs.declared.value.Value.{Value}
 use Rattle.wasm_syntax_rules.specs.Types.{number_in}
 use Rattle.wasm_syntax_rules.specs.Configuration.{Host, Thread, Configuration, Asks}
 use Rattle.wasm_syntax_rules.specs.Steps.{rule, IsEnded}
 use Rattle.wasi_abi.specs.declared.call.Call.{Call}
 use Rattle.wasi_abi.specs.rules.Calls.{call_type_of}
-use Rattle.wasi_calls_rules.specs.Lines.{rest_of}
+use Rattle.wasi_calls_rules.specs.Lines.{lines_ended}
 use Rattle.wasi_calls.specs.rules.Held.{HeldHost, ShowsHost}
 use Rattle.machine.specs.rules.Values.{MachineValue, ShowsIn}
 use Rattle.process_rules.specs.Processes.{ProcessState, Guest, AreCalls}
@@ -25,9 +25,9 @@ pub record IsRunning (machine : MachineValue) (held : HeldHost) : Type 0 where
   pub shows : ShowsParts machine held guest process
   pub running : process.ended ≡ None
 
--- the lines that were emitted can be numbered, and those that an end would emit now
+-- the lines of a host that it shows can be numbered, unfinished ones counted (`HasLineNumbers`)
 abbrev pub HasFewLines : HeldHost → Type 0
-HasFewLines held = held.released + length held.host.lines + length (rest_of 1 held.host.first ++ rest_of 2 held.host.second) < 2 ^ 63
+HasFewLines held = held.released + length (lines_ended held.host).lines + 2 < 2 ^ 63
 
 -- the rule asks the host for this call, with these arguments, the first one first
 pub record IsAtCall (guest : Guest) (d : Configuration) (call : Call) (arguments : List ℕ) : Type 0 where

@@ -1,12 +1,12 @@
 //! A call of the guest.
 
-ghost use Rattle.std.specs.Prelude.{true, false, ◌≡◌, ◌↔◌, option_copied, IsTrue, IfOk, IfErr};
+ghost use Rattle.std.specs.Prelude.{true, false, ◌≡◌, ◌↔◌, option_copied, IsTrue};
 ghost use Rattle.wasm_syntax_rules.specs.Configuration.{Program, Configuration};
 ghost use Rattle.wasi_abi.specs.rules.Calls.{parameters_of};
 ghost use Rattle.wasi_calls_rules.specs.Rows.{IsSync};
 ghost use Rattle.wasi_calls_rules.specs.Hosts.{Host as TheHost};
 ghost use Rattle.wasi_calls.specs.rules.Held.{ShowsHost};
-ghost use Rattle.wasi_calls.specs.rules.Calls.{IsBuilt, AreArguments, EndsNothing};
+ghost use Rattle.wasi_calls.specs.rules.Calls.{IsBuilt, AreArguments};
 ghost use Rattle.machine.specs.rules.Answers.{call_results};
 ghost use Rattle.machine.specs.rules.Values.{HoldsMemory, IsSameMachine, ShowsIn};
 ghost use Rattle.machine.specs.rules.Runs.{WaitsFor};
@@ -17,9 +17,9 @@ use crate::fault::ProcessFault;
 use crate::stop::ProcessEnd;
 use guest_memory::laws::are_bytes;
 use machine::Machine;
-use std::alloc::{AllocError, Global};
+use std::alloc::Global;
 use wasi_abi::{Answer, Call, Errno, Kind};
-use wasi_calls::{CallOutcome, Host, lines_emitted};
+use wasi_calls::{CallOutcome, Host, lines_begun};
 use wasi_calls_rules::limits::MOVED_BYTES;
 
 /// What a call of the guest comes to.
@@ -34,11 +34,11 @@ pub enum Called {
     Asks(Kind),
 }
 
-/// Numbers of steps and lines are below this one.
+/// Numbers of steps are below this one.
 pub const NUMBERS_END: u64 = 1 << 63;
 
-/// The lines that an end of the process emits, at most.
-const LINES_LEFT: u64 = 2;
+/// Numbers of lines are below this one, unfinished lines counted.
+const LINES_END: u64 = NUMBERS_END - 2;
 
 /// Ends the process where the program has come to its end.
 pub fn end_with_program(alloc: Global, machine: &Machine, host: &mut Host) -> Option<ProcessEnd>
@@ -69,27 +69,22 @@ fn has_synced(call: Call, error: Option<Errno>) -> bool
     is_sync(call) && error.is_none()
 }
 
-/// Whether the lines of this call, and those of an end behind it, can be numbered.
-fn has_numbers(
-    alloc: Global,
-    machine: &Machine,
-    host: &Host,
-    call: Call,
-    arguments: &[u64],
-) -> Result<bool, AllocError>
+/// Whether the lines that there are after this call can be numbered, unfinished ones counted. An
+/// end adds none to these.
+fn has_numbers(machine: &Machine, host: &Host, call: Call, arguments: &[u64]) -> bool
     requires built { IsBuilt call }
     requires typed { AreArguments (parameters_of call) arguments.now }
     requires few { HasFewLines host.now }
-    ensures few { IfOk result (λ b. b ≡ true → HasNumbers machine.now host.now call arguments.now) }
-    ensures many { IfOk result (λ b. b ≡ false → HasNoNumbers machine.now host.now call arguments.now) }
-    ensures wants { IfErr result (λ _. EndsNothing call arguments.now) }
+    ensures few { result ≡ true → HasNumbers machine.now host.now call arguments.now }
+    ensures many { result ≡ false → HasNoNumbers machine.now host.now call arguments.now }
 {
-    let lines = host.released_count() + host.waiting_lines().len() as u64;
-    if lines < NUMBERS_END - MOVED_BYTES as u64 - LINES_LEFT {
-        return Ok(true);
+    let unfinished = host.unfinished_lines() as u64;
+    let lines = host.released_count() + host.waiting_lines().len() as u64 + unfinished;
+    if lines < LINES_END - MOVED_BYTES as u64 {
+        return true;
     }
-    let more = lines_emitted(alloc, host, machine.memory(), call, arguments)?;
-    Ok(lines + (more as u64) < NUMBERS_END - LINES_LEFT)
+    let more = lines_begun(host, machine.memory(), call, arguments);
+    lines + (more as u64) < LINES_END
 }
 
 /// Has the host make the call, on the memory of the machine.
@@ -155,7 +150,7 @@ pub fn make(
     ensures released { host.new.released ≡ host.old.released }
     ensures calls { MakesCall machine.old host.old call arguments.now (option_copied answer.entry) result machine.new host.new }
 {
-    if !has_numbers(alloc, machine, host, call, arguments)? {
+    if !has_numbers(machine, host, call, arguments) {
         return Err(ProcessFault::StepsSpent);
     }
     match call_host(alloc, machine, host, call, arguments, answer) {

@@ -1,9 +1,5 @@
 //! Why a process can't do a step.
 
-ghost use Rattle.std.specs.Prelude.{◌≡◌};
-ghost use Rattle.process.specs.declared.fault.ProcessFault.TheVariants.{Memory as WantOfMemory};
-
-use std::alloc::AllocError;
 use thiserror::Error;
 
 /// The process is as it was after its last whole step.
@@ -15,15 +11,8 @@ pub enum ProcessFault {
     /// There is no memory for the next step.
     #[error("P2 Memory")]
     Memory,
-    /// Steps and lines are numbered below 2^63, two lines' numbers being kept for the end, and the next step would go beyond.
+    /// Steps are numbered below 2^63, and lines below 2^63 - 2, unfinished ones counted. The next
+    /// step would go beyond.
     #[error("P3 StepsSpent")]
     StepsSpent,
-}
-
-impl From<AllocError> for ProcessFault {
-    ghost from_gives = { λ _ e. e ≡ WantOfMemory };
-
-    fn from(_error: AllocError) -> ProcessFault {
-        ProcessFault::Memory
-    }
 }

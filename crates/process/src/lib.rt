@@ -12,8 +12,11 @@
 //! - `give` takes an answer only where that is wanted and no line waits (`gives`). No call that is
 //!   built wants one, so today it refuses every answer.
 //! - `released` takes the first lines off that wait, and changes nothing else.
-//! - `steps`, `answers`, `requests`, `lines`, `waiting` and `memory` say what it holds. Steps and
-//!   lines are below 2^63.
+//! - `steps`, `answers`, `requests`, `lines`, `waiting` and `memory` say what it holds. Steps are
+//!   below 2^63, and lines below 2^63 - 2, unfinished ones counted. `P3 StepsSpent` is told where
+//!   the next step would go beyond.
+//! - `laws::lines_run_out_by_calls_alone`: of all steps, a call alone that is done may add a line
+//!   without a number.
 //!
 //! # Definitions to read
 //!
@@ -33,6 +36,7 @@
 
 mod calling;
 mod fault;
+pub mod laws;
 mod process;
 mod running;
 mod stop;

@@ -1,6 +1,6 @@
 //! A process, and what is known of it.
 
-ghost use Rattle.std.specs.Prelude.{◌≡◌, ◌<◌, ◌≤◌, ◌^◌, IfOk, IfErr, length};
+ghost use Rattle.std.specs.Prelude.{◌≡◌, ◌+◌, ◌<◌, ◌≤◌, ◌^◌, IfOk, IfErr, length};
 ghost use Rattle.std.specs.List.{AllByRecursion};
 ghost use Rattle.wasm_syntax.specs.rules.Limits.{HasFewParameters, IsSmallFunction};
 ghost use Rattle.wasm_syntax_rules.specs.Validity.{IsValid};
@@ -98,10 +98,10 @@ impl Process {
         self.requests
     }
 
-    /// How many lines were emitted: fewer than 2^63.
+    /// How many lines were emitted: fewer than 2^63 - 2.
     pub fn lines(&self) -> u64
         ensures value { result ≡ lines_in self.now }
-        ensures few { result < 2 ^ 63 }
+        ensures few { result + 2 < 2 ^ 63 }
     {
         self.host.released_count() + self.host.waiting_lines().len() as u64
     }

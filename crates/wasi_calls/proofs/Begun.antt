@@ -17,7 +17,8 @@ use Rattle.wasi_calls.proofs.Cuts.{put_by}
 abbrev with_rest : ℕ → Cut → ℕ
 with_rest stream c = length c.lines + length (rest_of stream c.unfinished)
 
--- what a byte and others begin: by whether it is a newline, nothing is unfinished, and there is room
+-- what a byte and others begin: by whether it is a newline, nothing is unfinished, and there is
+-- room
 abbrev begun_by : Bool → Bool → Bool → ℕ → List ℕ → ℕ
 begun_by p z q len bytes =
     if p then (if z then count_begun 0 bytes + 1 else count_begun 0 bytes)
@@ -37,20 +38,24 @@ module _ (stream : ℕ) (lines : List Line) (b : ℕ) (bytes : List ℕ) where
   abbrev line_of : List ℕ → Line
   line_of text = record { stream = stream; text = text }
 
-  first_byte : (p : Bool) → Counts stream (cut_of lines []) (put_by stream (cut_of lines []) b p true) bytes (begun_by p true true 0 bytes)
+  first_byte : (p : Bool) → Counts stream (cut_of lines [])
+      (put_by stream (cut_of lines []) b p true) bytes (begun_by p true true 0 bytes)
   first_byte true = omega (arith, length-append lines (line_of [] ∷ []))
   first_byte false = omega arith
 
   further_byte : (x : ℕ) (text : List ℕ) (p q : Bool)
-      → Counts stream (cut_of lines (x ∷ text)) (put_by stream (cut_of lines (x ∷ text)) b p q) bytes
+      → Counts stream (cut_of lines (x ∷ text)) (put_by stream (cut_of lines (x ∷ text)) b p q)
+      bytes
       (begun_by p false q (length (x ∷ text)) bytes)
   further_byte x text true q = omega (arith, length-append lines (line_of (x ∷ text) ∷ []))
   further_byte x text false true =
-      let longer : suc (length (text ++ b ∷ [])) ≡ suc (length text) + 1 = omega (arith, length-append text (b ∷ [])) in
+      let longer : suc (length (text ++ b ∷ [])) ≡ suc (length text) + 1 =
+      omega (arith, length-append text (b ∷ [])) in
       ap (λ (n : ℕ). with_rest stream (cut_of lines (x ∷ text)) + count_begun n bytes) longer
   further_byte x text false false = omega (arith, length-append lines (line_of (x ∷ text) ∷ []))
 
-  byte_counts : (text : List ℕ) → Counts stream (cut_of lines text) (cut_byte stream (cut_of lines text) b) bytes (count_begun (length text) (b ∷ bytes))
+  byte_counts : (text : List ℕ) → Counts stream (cut_of lines text)
+      (cut_byte stream (cut_of lines text) b) bytes (count_begun (length text) (b ∷ bytes))
   byte_counts [] = first_byte (b == newline)
   byte_counts (x ∷ text) =
       let some : (length (x ∷ text) == 0) ≡ false = some_unfinished (length (x ∷ text) == 0) refl in
@@ -62,7 +67,9 @@ module _ (stream : ℕ) (lines : List Line) (b : ℕ) (bytes : List ℕ) where
 
 -- ---- a write
 
-all_count : (stream : ℕ) (c : Cut) (bytes : List ℕ) → with_rest stream (cut_all stream c bytes) ≡ with_rest stream c + count_begun (length c.unfinished) bytes
+all_count : (stream : ℕ) (c : Cut) (bytes : List ℕ)
+    → with_rest stream (cut_all stream c bytes)
+    ≡ with_rest stream c + count_begun (length c.unfinished) bytes
 all_count stream c [] = omega arith
 all_count stream c (b ∷ bytes) =
     let d : Cut = cut_byte stream c b in
@@ -70,41 +77,62 @@ all_count stream c (b ∷ bytes) =
 
 -- lines, and those that an end emits behind them
 all_three : (lines : List Line) (first second : List ℕ)
-    → length (lines ++ (rest_of 1 first ++ rest_of 2 second)) ≡ length lines + length (rest_of 1 first) + length (rest_of 2 second)
+    → length (lines ++ (rest_of 1 first ++ rest_of 2 second))
+    ≡ length lines + length (rest_of 1 first) + length (rest_of 2 second)
 all_three lines first second =
-    omega (arith, length-append lines (rest_of 1 first ++ rest_of 2 second), length-append (rest_of 1 first) (rest_of 2 second))
+    omega (
+      arith,
+      length-append lines (rest_of 1 first ++ rest_of 2 second),
+      length-append (rest_of 1 first) (rest_of 2 second),
+    )
 
 pub stream_begins : (stream : ℕ) (bytes : List ℕ) (h : Host)
-    → length (lines_ended (stream_written stream bytes h)).lines ≡ length (lines_ended h).lines + count_begun (length (unfinished_of stream h)) bytes
+    → length (lines_ended (stream_written stream bytes h)).lines
+    ≡ length (lines_ended h).lines + count_begun (length (unfinished_of stream h)) bytes
 stream_begins stream bytes h =
     let c = cut_all 1 (cut_of h.lines h.first) bytes in
     let d = cut_all 2 (cut_of h.lines h.second) bytes in
     let first = all_count 1 (cut_of h.lines h.first) bytes in
     let second = all_count 2 (cut_of h.lines h.second) bytes in
     elim (eqb_tells stream 1) [
-      | inl k ↦ rw k.0 (omega (arith, first, all_three h.lines h.first h.second, all_three c.lines c.unfinished h.second))
-      | inr k ↦ rw k.0 (omega (arith, second, all_three h.lines h.first h.second, all_three d.lines h.first d.unfinished))
+      | inl k ↦ rw k.0 (omega (
+        arith,
+        first,
+        all_three h.lines h.first h.second,
+        all_three c.lines c.unfinished h.second,
+      ))
+      | inr k ↦ rw k.0 (omega (
+        arith,
+        second,
+        all_three h.lines h.first h.second,
+        all_three d.lines h.first d.unfinished,
+      ))
     ]
 
 -- ---- a loop over bytes
 
 -- one more byte of a list, where a count has this total whatever comes behind
-pub count_more : (begun len next next_len : ℕ) (total : List ℕ → ℕ) (bytes : List ℕ) (i x : ℕ) → i < length bytes → x ≡ get_or bytes i 0
+pub count_more : (begun len next next_len : ℕ) (total : List ℕ → ℕ) (bytes : List ℕ) (i x : ℕ)
+    → i < length bytes → x ≡ get_or bytes i 0
     → ((rest : List ℕ) → next + count_begun next_len rest ≡ begun + count_begun len (x ∷ rest))
     → ((rest : List ℕ) → begun + count_begun len (drop i bytes ++ rest) ≡ total rest)
     → (rest : List ℕ) → next + count_begun next_len (drop (i + 1) bytes ++ rest) ≡ total rest
 count_more begun len next next_len total bytes i x lt at step so_far rest =
-    let split : drop i bytes ≡ x ∷ drop (i + 1) bytes = rw (add-one, drop-cons bytes i 0) (ap (λ (y : ℕ). y ∷ drop (suc i) bytes) (sym at)) in
-    step (drop (i + 1) bytes ++ rest) ∙ ap (λ (ys : List ℕ). begun + count_begun len (ys ++ rest)) (sym split) ∙ so_far rest
+    let split : drop i bytes ≡ x ∷ drop (i + 1) bytes =
+    rw (add-one, drop-cons bytes i 0) (ap (λ (y : ℕ). y ∷ drop (suc i) bytes) (sym at)) in
+    step (drop (i + 1) bytes ++ rest) ∙ ap (λ (ys : List ℕ). begun + count_begun len (ys ++ rest))
+    (sym split) ∙ so_far rest
 
 -- ---- they are few
 
 pub begun_few : (len : ℕ) (bytes : List ℕ) → count_begun len bytes ≤ length bytes
 begun_few len [] = omega arith
 begun_few len (b ∷ bytes) =
-    either_way (b == newline) (len == 0) (nat_lt len LINE_BYTES) (begun_few 0 bytes) (begun_few (len + 1) bytes) (begun_few 1 bytes)
+    either_way (b == newline) (len == 0) (nat_lt len LINE_BYTES) (begun_few 0 bytes)
+    (begun_few (len + 1) bytes) (begun_few 1 bytes)
   where
-    either_way : (p z q : Bool) → count_begun 0 bytes ≤ length bytes → count_begun (len + 1) bytes ≤ length bytes → count_begun 1 bytes ≤ length bytes
+    either_way : (p z q : Bool) → count_begun 0 bytes ≤ length bytes
+        → count_begun (len + 1) bytes ≤ length bytes → count_begun 1 bytes ≤ length bytes
         → begun_by p z q len bytes ≤ length (b ∷ bytes)
     either_way true true q none longer one = omega arith
     either_way true false q none longer one = omega arith

@@ -134,14 +134,21 @@ pub record IsThrough (m : Bytes) (iovs count place moved : ℕ) : Type 0 where
   pub many : length front ≡ moved
   pub on : collected m (iovs + 8 * place) (count - place) front ≡ collected m iovs count []
 
-pub none_yet : (m : Bytes) (iovs count : ℕ) → collected m (iovs + 8 * 0) (count - 0) [] ≡ collected m iovs count []
+pub none_yet : (m : Bytes) (iovs count : ℕ)
+    → collected m (iovs + 8 * 0) (count - 0) [] ≡ collected m iovs count []
 none_yet m iovs count =
     let at : iovs + 8 * 0 ≡ iovs = omega arith in
     let all : count - 0 ≡ count = omega arith in
     rw (at, all) refl
 
 abbrev pub through_none : (m : Bytes) (iovs count : ℕ) → IsThrough m iovs count 0 0
-through_none m iovs count = record { front = []; short = omega arith; many = refl; on = none_yet m iovs count }
+through_none m iovs count = record {
+  front = [];
+  short = omega arith;
+  many = refl;
+  on =
+      none_yet m iovs count;
+}
 
 -- a piece that there is room for
 pub short_piece : (front piece : Bytes) (moved : ℕ) → length front ≤ most → length front ≡ moved
@@ -158,15 +165,23 @@ module _ (m : Bytes) (iovs count i moved : ℕ) (t : IsThrough m iovs count i mo
       let many = t.many in record {
         front = take most (t.front ++ piece);
         short = omega (arith, length-take most (t.front ++ piece));
-        many = omega (arith, counts, many, ap length is, length-append t.front (take (MOVED_BYTES - moved) piece));
+        many = omega (
+          arith,
+          counts,
+          many,
+          ap length is,
+          length-append t.front (take (MOVED_BYTES - moved) piece),
+        );
         on = goes_on m piece t.front iovs count i (collected m iovs count []) lt there t.on;
       }
 
   pub through_all : count ≤ i → collected m iovs count [] ≡ Ok t.front
   through_all le = is_done m t.front iovs count i (collected m iovs count []) le t.on
 
-  pub through_fails : (halt : Halt) → i < count → buffer_there m (iovs + 8 * i) ≡ Err halt → collected m iovs count [] ≡ Err halt
-  through_fails halt lt fails = ends m t.front iovs count i (collected m iovs count []) halt lt fails t.on
+  pub through_fails : (halt : Halt) → i < count → buffer_there m (iovs + 8 * i) ≡ Err halt
+      → collected m iovs count [] ≡ Err halt
+  through_fails halt lt fails = ends m t.front iovs count i (collected m iovs count []) halt lt
+      fails t.on
 
 -- ---- buffers that have passed their checks
 
@@ -174,11 +189,13 @@ passed : (b : Bool) (e : Errno) (u : Unit {0}) → check_or b e ≡ Ok u → b �
 passed true e u is = refl
 passed false e u is = absurd (cc)
 
-bound_left : {A B : Type 0} (r : Result A Halt) (go : A → Result B Halt) (y : B) → (r >>= go) ≡ Ok y → (x : A) × (r ≡ Ok x)
+bound_left : {A B : Type 0} (r : Result A Halt) (go : A → Result B Halt) (y : B) → (r >>= go) ≡ Ok y
+    → (x : A) × (r ≡ Ok x)
 bound_left (Ok x) go y is = (x, refl)
 bound_left (Err halt) go y is = absurd (cc)
 
-bound_right : {A B : Type 0} (r : Result A Halt) (go : A → Result B Halt) (y : B) (x : A) → (r >>= go) ≡ Ok y → r ≡ Ok x → go x ≡ Ok y
+bound_right : {A B : Type 0} (r : Result A Halt) (go : A → Result B Halt) (y : B) (x : A)
+    → (r >>= go) ≡ Ok y → r ≡ Ok x → go x ≡ Ok y
 bound_right (Ok z) go y x is same = let e : z ≡ x = cc in rw (← e) is
 bound_right (Err halt) go y x is same = absurd (cc)
 
@@ -188,7 +205,8 @@ pub record AreThere (m : Bytes) (iovs count : ℕ) (bytes : Bytes) : Type 0 wher
   pub within : iovs + 8 * count ≤ length m
   pub are : collected m iovs count [] ≡ Ok bytes
 
-pub are_there : (m : Bytes) (iovs count : ℕ) (bytes : Bytes) → bytes_moved m iovs count ≡ Ok bytes → AreThere m iovs count bytes
+pub are_there : (m : Bytes) (iovs count : ℕ) (bytes : Bytes) → bytes_moved m iovs count ≡ Ok bytes
+    → AreThere m iovs count bytes
 are_there m iovs count bytes is =
     let few = bound_left (few_buffers count) _ bytes is in
     let rest = bound_right (few_buffers count) _ bytes few.0 is few.1 in
@@ -196,76 +214,105 @@ are_there m iovs count bytes is =
     let inside = bound_left (in_memory m iovs (8 * count)) _ named.0 named.1 in
     record {
       few = leb-true count IOVECS (passed (nat_le count IOVECS) Inval few.0 few.1);
-      within = leb-true (iovs + 8 * count) (length m) (passed (nat_le (iovs + 8 * count) (length m)) Fault inside.0 inside.1);
+      within = leb-true (iovs + 8 * count) (length m)
+          (passed (nat_le (iovs + 8 * count) (length m)) Fault inside.0 inside.1);
       are = sym (moved_is m iovs count few.0 inside.0 few.1 inside.1) ∙ is;
     }
 
 -- what is collected begins with what was
-fits : (m : Bytes) (at count : ℕ) (front bytes : Bytes) → length front ≤ most → collected m at count front ≡ Ok bytes → length front ≤ length bytes
+fits : (m : Bytes) (at count : ℕ) (front bytes : Bytes) → length front ≤ most
+    → collected m at count front ≡ Ok bytes → length front ≤ length bytes
 fits m at zero front bytes short is = let same : front ≡ bytes = cc in rw same (omega arith)
 fits m at (suc count) front bytes short is =
     let first = bound_left (buffer_there m at) _ bytes is in
     let piece = first.0 in
     let rest = bound_right (buffer_there m at) _ bytes piece is first.1 in
     let now : Bytes = take most (front ++ piece) in
-    let grown : length front ≤ length now = omega (arith, short, length-take most (front ++ piece), length-append front piece) in
+    let grown : length front ≤ length now = omega (
+      arith,
+      short,
+      length-take most (front ++ piece),
+      length-append front piece,
+    ) in
     let still : length now ≤ most = omega (arith, length-take most (front ++ piece)) in
     let later = fits m (at + 8) count now bytes still rest in
     omega (arith, grown, later)
 
-module _ (m : Bytes) (iovs count i : ℕ) (front bytes : Bytes) (lt : i < count) (are : collected m iovs count [] ≡ Ok bytes)
+module _ (m : Bytes) (iovs count i : ℕ) (front bytes : Bytes) (lt : i < count)
+    (are : collected m iovs count [] ≡ Ok bytes)
     (on : collected m (iovs + 8 * i) (count - i) front ≡ collected m iovs count []) where
   pub next_there : (piece : Bytes) × (buffer_there m (iovs + 8 * i) ≡ Ok piece)
   next_there =
       let k : count - i ≡ suc (count - (i + 1)) = omega arith in
-      let unrolled : collected m (iovs + 8 * i) (suc (count - (i + 1))) front ≡ Ok bytes = (rw k at on) ∙ are in
+      let unrolled : collected m (iovs + 8 * i) (suc (count - (i + 1))) front ≡ Ok bytes =
+      (rw k at on) ∙ are in
       bound_left (buffer_there m (iovs + 8 * i)) _ bytes unrolled
 
   -- there is room for the next piece among as many bytes as are moved
-  pub fits_next : (piece : Bytes) (n : ℕ) → length front ≤ most → n ≡ length front → buffer_there m (iovs + 8 * i) ≡ Ok piece
+  pub fits_next : (piece : Bytes) (n : ℕ) → length front ≤ most → n ≡ length front
+      → buffer_there m (iovs + 8 * i) ≡ Ok piece
       → length front + length (take (MOVED_BYTES - n) piece) ≤ length bytes
   fits_next piece n short counts there =
       let is = short_piece front piece n short (sym counts) in
       let next = goes_on m piece front iovs count i (collected m iovs count []) lt there on in
-      let still : length (take most (front ++ piece)) ≤ most = omega (arith, length-take most (front ++ piece)) in
-      let within = fits m (iovs + 8 * (i + 1)) (count - (i + 1)) (take most (front ++ piece)) bytes still (next ∙ are) in
+      let still : length (take most (front ++ piece)) ≤ most =
+      omega (arith, length-take most (front ++ piece)) in
+      let within = fits m (iovs + 8 * (i + 1)) (count - (i + 1)) (take most (front ++ piece)) bytes
+      still (next ∙ are) in
       omega (arith, within, ap length is, length-append front (take (MOVED_BYTES - n) piece))
 
 -- what a vector is, extended with success
-pub extended : {T E : Type 0} (r : Result T E) (items old new : Bytes) → IsOk r → items ≡ (if is_ok r then new else old) → items ≡ new
+pub extended : {T E : Type 0} (r : Result T E) (items old new : Bytes) → IsOk r
+    → items ≡ (if is_ok r then new else old) → items ≡ new
 extended r items old new ok is = rw ok at is
 
 -- ---- lines counted on the way
 
--- So many lines begin by the bytes that are moved so far, and so many bytes are unfinished by then. There were `before` unfinished ones.
+-- So many lines begin by the bytes that are moved so far, and so many bytes are unfinished by
+-- then. There were `before` unfinished ones.
 pub record IsCounted (m : Bytes) (iovs count place moved before begun unfinished : ℕ) : Type 0 where
   pub through : IsThrough m iovs count place moved
-  pub counted : (rest : Bytes) → begun + count_begun unfinished rest ≡ count_begun before (through.front ++ rest)
+  pub counted : (rest : Bytes) → begun + count_begun unfinished rest
+      ≡ count_begun before (through.front ++ rest)
   pub few : begun ≤ moved
 
 pub counted_none : (m : Bytes) (iovs count before : ℕ) → IsCounted m iovs count 0 0 before 0 before
-counted_none m iovs count before = record { through = through_none m iovs count; counted = λ rest. omega arith; few = omega arith }
+counted_none m iovs count before = record {
+  through = through_none m iovs count;
+  counted =
+      λ rest. omega arith;
+  few = omega arith;
+}
 
-module _ (m : Bytes) (iovs count i moved before begun unfinished : ℕ) (so_far : IsCounted m iovs count i moved before begun unfinished) where
-  pub counted_next : (piece : Bytes) (n next rest_len : ℕ) → i < count → buffer_there m (iovs + 8 * i) ≡ Ok piece
+module _ (m : Bytes) (iovs count i moved before begun unfinished : ℕ)
+    (so_far : IsCounted m iovs count i moved before begun unfinished) where
+  pub counted_next : (piece : Bytes) (n next rest_len : ℕ) → i < count
+      → buffer_there m (iovs + 8 * i) ≡ Ok piece
       → n ≡ moved + length (take (MOVED_BYTES - moved) piece)
-      → ((rest : Bytes) → next + count_begun rest_len rest ≡ begun + count_begun unfinished (take (MOVED_BYTES - moved) piece ++ rest))
-      → next ≤ begun + length (take (MOVED_BYTES - moved) piece) → IsCounted m iovs count (i + 1) n before next rest_len
+      → ((rest : Bytes) → next + count_begun rest_len rest
+      ≡ begun + count_begun unfinished (take (MOVED_BYTES - moved) piece ++ rest))
+      → next ≤ begun + length (take (MOVED_BYTES - moved) piece)
+      → IsCounted m iovs count (i + 1) n before next rest_len
   unfolding through_next most
   counted_next piece n next rest_len lt there counts put few =
       let t = so_far.through in
       let was = so_far.few in
       let more : Bytes = take (MOVED_BYTES - moved) piece in
-      let is : t.front ++ more ≡ take most (t.front ++ piece) = short_piece t.front piece moved t.short t.many in record {
+      let is : t.front ++ more ≡ take most (t.front ++ piece) =
+      short_piece t.front piece moved t.short t.many in record {
         through = through_next m iovs count i moved t piece n lt there counts;
-        counted = λ rest. put rest ∙ so_far.counted (more ++ rest) ∙ ap (count_begun before) (sym (append_assoc t.front more rest) ∙ ap (λ (x : Bytes). x ++ rest) is);
+        counted = λ rest. put rest ∙ so_far.counted (more ++ rest)
+            ∙ ap (count_begun before) (sym (append_assoc t.front more rest)
+            ∙ ap (λ (x : Bytes). x ++ rest) is);
         few = omega (arith, was, few, counts);
       }
 
-  pub counted_all : (bytes : Bytes) → count ≤ i → bytes_moved m iovs count ≡ Ok bytes → begun ≡ count_begun before bytes
+  pub counted_all : (bytes : Bytes) → count ≤ i → bytes_moved m iovs count ≡ Ok bytes
+      → begun ≡ count_begun before bytes
   counted_all bytes le is =
       let t = so_far.through in
-      let front : Ok t.front ≡ Ok bytes = sym (through_all m iovs count i moved t le) ∙ (are_there m iovs count bytes is).are in
+      let front : Ok t.front ≡ Ok bytes = sym (through_all m iovs count i moved t le)
+      ∙ (are_there m iovs count bytes is).are in
       let same : t.front ≡ bytes = cc in
       let none : begun + 0 ≡ count_begun before (t.front ++ []) = so_far.counted [] in
       omega (arith, none) ∙ ap (count_begun before) (append-nil t.front ∙ same)

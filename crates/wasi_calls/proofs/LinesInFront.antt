@@ -74,7 +74,8 @@ module _ (before : List Line) where
 
 -- ---- what is told, of every host that is shown
 
-no_refusal_behind : (before : List Line) (r : Ruling) → IsNoRefusal r → IsNoRefusal (behind_lines_of_row before r)
+no_refusal_behind : (before : List Line) (r : Ruling) → IsNoRefusal r
+    → IsNoRefusal (behind_lines_of_row before r)
 no_refusal_behind before (Ok done) none e is = absurd (cc)
 no_refusal_behind before (Err halt) none e is = none e is
 
@@ -112,5 +113,8 @@ pub written_told : (w : Result (Unit {0}) CallStop) (memory old_memory : LinearM
 written_told (Ok x) memory old_memory held old r done stopped same_memory same_host = done
 written_told (Err (stop.Refused e)) memory old_memory held old r done stopped same_memory same_host =
     (stopped, ap (λ (m : LinearMemory). m.bytes) same_memory, ap (λ (h : HeldHost). h.host) same_host)
-written_told (Err stop.Memory) memory old_memory held old r done stopped same_memory same_host =
-    (stopped, ap (λ (m : LinearMemory). m.bytes) same_memory, ap (λ (h : HeldHost). h.host) same_host)
+written_told (Err stop.Memory) memory old_memory held old r done stopped same_memory same_host = (
+  stopped,
+  ap (λ (m : LinearMemory). m.bytes) same_memory,
+  ap (λ (h : HeldHost). h.host) same_host,
+)

@@ -65,8 +65,10 @@ wanted_is fd iovs count ret m h =
     both_through (buffers m iovs count) _ put _ wanted_of (λ bs.
     through (in_memory m ret 4) _ _ wanted_of (λ _. refl))))))
 
-pub checks_pass : (fd iovs count ret s : ℕ) (m bytes : Bytes) (h : Host) (u : Unit {0}) → writable h fd ≡ Ok (Stream s)
-    → bytes_moved m iovs count ≡ Ok bytes → in_memory m ret 4 ≡ Ok u → wanted fd iovs count ret m h ≡ Ok (record { target = Stream s; bytes = bytes })
+pub checks_pass : (fd iovs count ret s : ℕ) (m bytes : Bytes) (h : Host) (u : Unit {0})
+    → writable h fd ≡ Ok (Stream s)
+    → bytes_moved m iovs count ≡ Ok bytes → in_memory m ret 4 ≡ Ok u
+    → wanted fd iovs count ret m h ≡ Ok (record { target = Stream s; bytes = bytes })
 checks_pass fd iovs count ret s m bytes h u may moved room = rw (may, moved, room) refl
 
 pub row_done : (fd iovs count ret s : ℕ) (m bytes : Bytes) (h : Host) → wanted fd iovs count ret m h ≡ Ok (record { target = Stream s; bytes = bytes })

@@ -1,11 +1,11 @@
 -- Where a process comes to, and why it stops there.
-use Rattle.std.specs.Prelude.{◌≡◌, ◌≢◌, ◌⊎◌, ℕ, suc, ◌+◌, ◌<◌, ◌≤◌, ◌^◌, [], length, Bool, true, false, ◌&&◌, if◌then◌else◌, List, Option, Some, None, Result, Ok, Err}
+use Rattle.std.specs.Prelude.{◌≡◌, ◌≢◌, ◌⊎◌, ℕ, suc, ◌<◌, ◌≤◌, ◌^◌, [], Bool, true, false, ◌&&◌, if◌then◌else◌, List, Option, Some, None, Result, Ok, Err}
 use Rattle.wasm_syntax.specs.declared.value.Value.{Value}
 use Rattle.wasm_syntax_rules.specs.Configuration.{Configuration, Thread, Asks}
 use Rattle.wasm_syntax_rules.specs.Steps.{rule}
 use Rattle.wasi_abi.specs.declared.answer.Answer.{Answer}
-use Rattle.wasi_calls_rules.specs.Hosts.{Line, Host}
-use Rattle.process_rules.specs.Processes.{Ending, ProcessState, Guest}
+use Rattle.wasi_calls_rules.specs.Hosts.{Host}
+use Rattle.process_rules.specs.Processes.{Ending, ProcessState, Guest, HasLineNumbers}
 use Rattle.process_rules.specs.Runs.{Next, On, Over, Wants, next_of, Moves, IsWanted}
 use Rattle.process_rules.specs.Owing.{IsOwing, RunsQuietly}
 use Rattle.process.specs.declared.stop.Stop.{Stop}
@@ -59,14 +59,15 @@ pub record CallsHost (guest : Guest) (p : ProcessState) : Type 0 where
   pub asks : rule guest.program p.configuration ≡ Asks function operands waits
   pub ends_not : EndsNot guest p
 
--- the lines that are emitted by the next step, but for those of an end
-abbrev pub lines_by : Next → ProcessState → List Line
-lines_by (On configuration host) p = host.lines
-lines_by _ p = p.host.lines
+-- It goes on, with more lines than can be numbered, unfinished ones counted. An end adds no line to
+-- these, and a wish none at all.
+abbrev pub LacksNumbers : Next → Type 0
+LacksNumbers (On configuration host) = HasLineNumbers host → ⊥
+LacksNumbers _ = ⊥
 
--- the next step would be one too many to be counted, or the lines that are emitted by then too many; two more are kept for the end
+-- the next step would be one too many to be counted, or the lines that there are by then too many
 abbrev pub IsBeyond : Guest → ProcessState → Option Answer → Type 0
-IsBeyond guest p given = (suc p.steps ≡ 2 ^ 63) ⊎ (2 ^ 63 ≤ length (lines_by (next_of guest p given) p) + 2)
+IsBeyond guest p given = (suc p.steps ≡ 2 ^ 63) ⊎ LacksNumbers (next_of guest p given)
 
 -- Why it can't go on: there is no memory for the call that is the next step, or that step can't be counted. It is as it was before it.
 abbrev pub FailsFor : ProcessValue → ProcessValue → Guest → ProcessState → ℕ → ProcessFault → Type 0

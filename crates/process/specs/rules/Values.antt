@@ -1,12 +1,12 @@
 -- What contracts see of a process: its machine, its host, how far it has come, and how it ended; and which process of the rules that is.
-use Rattle.std.specs.Prelude.{◌≡◌, ℕ, ◌+◌, ◌<◌, ◌≤◌, ◌^◌, List, [], ◌++◌, length, Option, None, option_map}
+use Rattle.std.specs.Prelude.{◌≡◌, ℕ, ◌+◌, ◌<◌, ◌≤◌, ◌^◌, List, [], length, Option, None, option_map}
 use Rattle.std.specs.List.{AllByRecursion}
 use Rattle.wasm_syntax.specs.declared.module.Module.{Module}
 use Rattle.wasm_syntax_rules.specs.Steps.{IsEnded}
 use Rattle.wasm_syntax_rules.specs.Linking.{IsLinkable}
 use Rattle.wasi_abi.specs.rules.Configs.{Settings}
 use Rattle.wasi_calls_rules.specs.Hosts.{Line}
-use Rattle.wasi_calls_rules.specs.Lines.{rest_of}
+use Rattle.wasi_calls_rules.specs.Lines.{lines_ended}
 use Rattle.wasi_calls.specs.rules.Held.{HeldHost, ShowsHost, held_released}
 use Rattle.wasi_calls.specs.rules.Calls.{IsBuilt}
 use Rattle.machine.specs.rules.Offers.{offer}
@@ -58,8 +58,8 @@ pub record ShowsProcess (v : ProcessValue) (guest : Guest) (p : ProcessState) : 
   pub ended : v.ended ≡ p.ended
   pub closed : p.ended ≡ None → IsEnded p.configuration → ⊥
 
--- It shows some process, whose calls are built, and its numbers can be counted. The lines that its end would emit are counted among its
--- lines.
+-- It shows some process, whose calls are built, and its numbers can be counted. Lines are numbered
+-- below 2 ^ 63 - 2, and those that its end would emit are counted among them.
 pub record IsProcess (v : ProcessValue) : Type 0 where
   pub guest : Guest
   pub process : ProcessState
@@ -68,7 +68,7 @@ pub record IsProcess (v : ProcessValue) : Type 0 where
   pub few_steps : v.steps < 2 ^ 63
   pub few_answers : v.answers ≤ v.steps
   pub few_requests : v.requests ≤ v.answers
-  pub few_lines : lines_in v + length (rest_of 1 v.host.host.first ++ rest_of 2 v.host.host.second) < 2 ^ 63
+  pub few_lines : v.host.released + length (lines_ended v.host.host).lines + 2 < 2 ^ 63
 
 -- The module can be linked under this configuration. It is at the start of the module, and no line waits.
 pub record HasStarted («module» : Module) (config : Settings) (v : ProcessValue) : Type 0 where

@@ -1,26 +1,18 @@
-use Rattle.std.proofs.Common.{◌≡◌, option_copied, refl, sym, ap, ◌∙◌, subst}
-use Rattle.std.specs.Prelude.{Result, Err}
-use Rattle.std.proofs.lemmas.Result.{err_from_is_err_and}
-use Rattle.process.specs.declared.calling.Called.{Called}
-use Rattle.process.specs.declared.fault.ProcessFault.{ProcessFault}
-use Rattle.process.specs.declared.fault.ProcessFault.TheVariants as fault
+use Rattle.std.proofs.Common.{option_copied, refl, sym, subst}
 use Rattle.process.specs.Parts.{HasFewLines}
-use Rattle.process.specs.Callings.{CallsFor}
 use Rattle.process.proofs.Made.{waits_for, done_leads, few_done, tells_done, exit_leads, exit_tells, memory_kept, asks_kept, asks_wants}
 use Rattle.process.proofs.Making.{ends_not}
 use Rattle.process.proofs.Beyond.{beyond}
 use Rattle.process.proofs.calling.make.Goals as goal
 
-pub returns-in_err-has_numbers-clause-calls : goal.returns-in_err-has_numbers-clause-calls
-returns-in_err-has_numbers-clause-calls c = λ guest p shows running at.
-    let failed = err_from_is_err_and c.from_residual.result c.from_residual.ensures.1 in
-    let is : c.from_residual.result ≡ Err fault.Memory = failed.1 ∙ ap (λ (e : ProcessFault). (let r : Result Called ProcessFault = Err e in r)) failed.2 in
-    let P : Result Called ProcessFault → Type 0 = λ r. CallsFor c.args.machine.now c.args.host.now c.args.machine.now c.args.host.now guest p (option_copied c.args.answer) r in
-    subst P (sym is) (refl, refl, ends_not guest p c.args.call c.args.arguments.now at c.in_err-has_numbers.ensures.wants)
-
-pub returns-then-not-branch-clause-calls : goal.returns-then-not-branch-clause-calls
-returns-then-not-branch-clause-calls c = λ guest p shows running at.
-    (refl, refl, beyond c.args.machine.now c.args.host.now c.args.call c.args.arguments.now (option_copied c.args.answer) (c.in_ok-has_numbers.ensures.many c.if-not-branch.true) guest p shows at)
+pub returns-then-not-has_numbers-clause-calls : goal.returns-then-not-has_numbers-clause-calls
+returns-then-not-has_numbers-clause-calls c = λ guest p shows running at. (
+  refl,
+  refl,
+  beyond c.args.machine.now c.args.host.now c.args.call c.args.arguments.now
+      (option_copied c.args.answer) (c.has_numbers.ensures.many c.if-not-has_numbers.true) guest p
+      shows at,
+)
 
 pub finish-ended-requires-clause-waits : goal.finish-ended-requires-clause-waits
 finish-ended-requires-clause-waits c =
@@ -28,7 +20,10 @@ finish-ended-requires-clause-waits c =
 
 pub finish-ended-requires-clause-few : goal.finish-ended-requires-clause-few
 finish-ended-requires-clause-few c =
-    few_done c.args.machine.now c.call_host.new.machine c.args.host.now c.call_host.new.host c.args.call c.args.arguments.now (option_copied c.args.answer) c.in-Done.error c.in-Done.ensures.made (c.in_ok-has_numbers.ensures.few c.if-not-branch.false) c.requires.few c.requires.waits
+    few_done c.args.machine.now c.call_host.new.machine c.args.host.now c.call_host.new.host
+    c.args.call c.args.arguments.now (option_copied c.args.answer) c.in-Done.error
+    c.in-Done.ensures.made (c.has_numbers.ensures.few c.if-not-has_numbers.false) c.requires.few
+    c.requires.waits
 
 pub returns-in-Done-clause-calls : goal.returns-in-Done-clause-calls
 returns-in-Done-clause-calls c = λ guest p shows running at. (

@@ -7,7 +7,9 @@ returns-clause-passed c =
     let buffers = c.in_ok-len.ensures.passed in
     record {
       buffers = buffers;
-      is = checks_pass a.fd a.iovecs a.count a.ret c.in-Stream.stream c.args.memory.now.bytes buffers.bytes c.args.host.now.host c.in_ok-in_range.field-0
-          (rw c.in-Stream.is at c.in_ok-names.ensures.gives) buffers.are c.in_ok-in_range.ensures.gives;
+      is = checks_pass a.fd a.iovecs a.count a.ret c.in-Stream.stream c.args.memory.now.bytes
+          buffers.bytes c.args.host.now.host c.in_ok-in_range.field-0
+          (rw c.in-Stream.is at c.in_ok-names.ensures.gives) buffers.are
+          c.in_ok-in_range.ensures.gives;
       room = c.in_ok-in_range.ensures.room;
     }
