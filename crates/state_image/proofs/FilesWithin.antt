@@ -1,13 +1,13 @@
 -- The numbers of a file system are within the fields that an image has for them.
 use Rattle.std.proofs.Common.{◌≡◌, inl, inr, ℕ, suc, ◌<◌, ◌≤◌, Bool, true, false, cond, List, []}
 use Rattle.std.proofs.Common.{◌∷◌, ◌++◌, length, length-append, map, Option, Some, None, refl, ap}
-use Rattle.std.proofs.Common.{◌∙◌, arith}
+use Rattle.std.proofs.Common.{◌∙◌, arith, subst, sym}
 use Rattle.std.specs.List.{AllByRecursion}
 use Rattle.std.proofs.lemmas.List.{length-map}
-use Rattle.file_tree.specs.rules.Files.{Name, Path, Files, FileNode, Content, Directory, File}
-use Rattle.file_tree.specs.rules.Files.{Entry, is_before, path_of, entry_of, entries_in, inserted}
-use Rattle.file_tree.specs.rules.Files.{sorted, entries_under, entries_of, IsPlaced}
-use Rattle.file_tree.specs.rules.Files.{IsSmallContent, IsFiles}
+use Rattle.file_tree.specs.rules.Files.{IsNodeName, Name, Path, Files, FileNode, Content}
+use Rattle.file_tree.specs.rules.Files.{Directory, File, Entry, is_before, path_of, entry_of}
+use Rattle.file_tree.specs.rules.Files.{entries_in, inserted, sorted, entries_under, entries_of}
+use Rattle.file_tree.specs.rules.Files.{IsPlaced, IsSmallContent, IsFiles}
 use Rattle.file_tree.proofs.Order.{all_sorted}
 use Rattle.state_image.proofs.Fields.{IsIn, AreFew}
 use Rattle.state_image.proofs.Named.{held_of, named, IsEntryIn, IsHeldIn, IsNamedIn, AreNamedIn}
@@ -48,13 +48,11 @@ one_last (m ∷ a) (n ∷ b) x y e = one_last a b x y (tails e) where
   tails : m ∷ (a ++ x ∷ []) ≡ n ∷ (b ++ y ∷ []) → a ++ x ∷ [] ≡ b ++ y ∷ []
   tails e = cc
 
-short_name : (fs : Files) (p : Path) (name : Name) → IsPlaced fs (p ++ name ∷ [])
-    → length name ≤ 255
-short_name fs p name (inl e) = absurd (omega (arith, ap length e, length-append p (name ∷ [])))
-short_name fs p name (inr h) =
-    let same : name ≡ h.2 = one_last p h.1 name h.2 h.3 in
-    let short : length h.2 ≤ 255 = h.4.short in
-    omega (arith, short, ap length same)
+-- the last name of a path is one that a node may have
+pub last_is_name : (fs : Files) (p : Path) (name : Name) → IsPlaced fs (p ++ name ∷ [])
+    → IsNodeName name
+last_is_name fs p name (inl e) = absurd (omega (arith, ap length e, length-append p (name ∷ [])))
+last_is_name fs p name (inr h) = subst IsNodeName (sym (one_last p h.1 name h.2 h.3)) h.4
 
 number_within : (fs : Files) → IsFiles fs → IsIn 8 fs.next → (n : FileNode) → IsAmong n fs.nodes
     → IsIn 8 n.number
@@ -67,11 +65,16 @@ number_within fs is next n among =
 abbrev pub IsNameShort : Entry → Type 0
 IsNameShort e = length e.name ≤ 255
 
+-- the name of an entry
+pub entry_name : (fs : Files) → IsFiles fs → (p : Path) (e : Entry)
+    → IsAmong e (entries_in p fs.nodes) → IsNodeName e.name
+entry_name fs is p e among =
+    let of = is_entry_of p fs.nodes e among in
+    last_is_name fs p e.name (placed_at fs is of.node (p ++ e.name ∷ []) of.among of.path)
+
 pub name_short : (fs : Files) → IsFiles fs → (p : Path) (e : Entry)
     → IsAmong e (entries_in p fs.nodes) → IsNameShort e
-name_short fs is p e among =
-    let of = is_entry_of p fs.nodes e among in
-    short_name fs p e.name (placed_at fs is of.node (p ++ e.name ∷ []) of.among of.path)
+name_short fs is p e among = (entry_name fs is p e among).short
 
 entry_within : (fs : Files) → IsFiles fs → IsIn 8 fs.next → (p : Path) (e : Entry)
     → IsAmong e (entries_in p fs.nodes) → IsEntryIn e

@@ -15,3 +15,5 @@ mod FirstHost
 mod HelloWellTyped
 mod Children
 mod Room
+mod Texts
+mod Spelled

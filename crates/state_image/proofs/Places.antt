@@ -190,7 +190,7 @@ pub record HasPlaces (ds : List (Option Descriptor)) : Type 0 where
   pub places : length ds ≡ 64
   pub each : AllByRecursion (λ (o : Option Descriptor). IfSome o IsDescriptorIn) ds
 
-open_in : (ds : List (Option Descriptor)) → HasPlaces ds
+pub open_in : (ds : List (Option Descriptor)) → HasPlaces ds
     → AreFew Numbered IsNumberedIn (open_from 0 ds)
 open_in ds h = record {
   few = omega (arith, few_open 0 ds, h.places);

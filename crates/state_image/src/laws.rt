@@ -6,16 +6,18 @@ ghost use Rattle.wasi_abi.specs.rules.Configs.{Settings};
 ghost use Rattle.state_image.specs.laws.Refusals.{RefusesCounts, RefusesStreams, RefusesMachines};
 ghost use Rattle.state_image.specs.laws.Refusals.{RefusesFiles, RefusesDescriptors};
 ghost use Rattle.state_image.specs.laws.WellTypedExamples.{HelloBeginsWellTyped};
-ghost use Rattle.state_image.specs.laws.Laws.{ImagesTellProcessesApart, ImagesHaveRoom};
+ghost use Rattle.state_image.specs.laws.Laws.{ImagesTellProcessesApart};
+ghost use Rattle.state_image.specs.laws.Laws.{ImagesHaveRoom, ImagesAreBytes};
 
 /// The image of a well-typed process is that of no other one.
 pub fn images_tell_processes_apart()
     ensures { ImagesTellProcessesApart }
 {}
 
-/// It has a mebibyte at most, and what memory and files may have.
+/// It is of bytes. It has a mebibyte at most, and what memory and files may have.
 pub fn images_have_room()
-    ensures { ImagesHaveRoom }
+    ensures room { ImagesHaveRoom }
+    ensures bytes { ImagesAreBytes }
 {}
 
 /// The size of the image of a process that has just begun.

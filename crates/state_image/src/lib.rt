@@ -6,7 +6,7 @@
 //! - `laws::images_tell_processes_apart`: the image of a well-typed process is that of no other
 //!   one.
 //! - `laws::images_have_room`: it has a mebibyte at most, and what the configuration gives to
-//!   memory and files. That is what an area of the worker's disk has.
+//!   memory and files. That is what an area of the worker's disk has. It is of bytes.
 //! - `laws::a_fresh_image_has_its_size`: the image of a process that has just begun, with one page
 //!   of memory and an empty file system, has 65,811 bytes.
 //!
