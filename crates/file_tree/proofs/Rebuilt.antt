@@ -99,8 +99,11 @@ above least (n ∷ ns) next h = (h.0, lower ns (above (n.number + 1) ns next h.1
   lower (m ∷ ms) g = (omega (arith, g.0, h.0), lower ms g.1)
 
 -- each is the one of its number
+abbrev pub IsFoundIn : List FileNode → FileNode → Type 0
+IsFoundIn ns n = find (λ (m : FileNode). eqb m.number n.number) ns ≡ Some n
+
 pub own_nodes : (least : ℕ) (ns : List FileNode) (next : ℕ) → AreRising least ns next
-    → AllByRecursion (λ (n : FileNode). find (λ (m : FileNode). eqb m.number n.number) ns ≡ Some n) ns
+    → AllByRecursion (IsFoundIn ns) ns
 own_nodes least [] next h = tt
 own_nodes least (x ∷ ns) next h = (
   ap (λ (b : Bool). cond b (Some x) (find (λ (m : FileNode). eqb m.number x.number) ns))
@@ -108,9 +111,9 @@ own_nodes least (x ∷ ns) next h = (
   later ns (own_nodes (x.number + 1) ns next h.1) (above (x.number + 1) ns next h.1),
 ) where
   later : (ms : List FileNode)
-      → AllByRecursion (λ (n : FileNode). find (λ (m : FileNode). eqb m.number n.number) ns ≡ Some n) ms
+      → AllByRecursion (IsFoundIn ns) ms
       → AllByRecursion (λ (n : FileNode). x.number + 1 ≤ n.number) ms
-      → AllByRecursion (λ (n : FileNode). find (λ (m : FileNode). eqb m.number n.number) (x ∷ ns) ≡ Some n) ms
+      → AllByRecursion (IsFoundIn (x ∷ ns)) ms
   later [] g high = tt
   later (n ∷ ms) g high = (
     (let ne : x.number ≢ n.number = λ e. absurd (omega (arith, high.0, e)) in
@@ -153,7 +156,8 @@ nodes_kept fs (n ∷ ns) h = node_kept fs n h.0 ∷ nodes_kept fs ns h.1
 abbrev AreAlike : Files → Option FileNode → Option Node → Type 0
 AreAlike fs o x =
     ((o ≡ None) × (x ≡ None))
-    ⊎ ((n : FileNode) × (h : IfSome n.path (IsPlaced fs)) × (o ≡ Some n) × (x ≡ Some (node_kept fs n h)))
+    ⊎ ((n : FileNode) × (h : IfSome n.path (IsPlaced fs)) × (o ≡ Some n)
+      × (x ≡ Some (node_kept fs n h)))
 
 look_ups : (fs : Files) (ns : List FileNode)
     (h : AllByRecursion (λ (n : FileNode). IfSome n.path (IsPlaced fs)) ns) (k : ℕ)
@@ -387,7 +391,8 @@ module _ (fs : Files) (are : IsFiles fs) where
       }) path
       ∙ ap (λ (c : Content). record { number = n.number; path = n.path; content = c })
       (content_same n.content) in
-      ap (λ (x : FileNode). x ∷ map (shown_node fs.next (hook_of rebuilt)) (nodes_kept fs ns h.1)) one
+      ap (λ (x : FileNode). x ∷ map (shown_node fs.next (hook_of rebuilt)) (nodes_kept fs ns h.1))
+        one
       ∙ ap (λ (xs : List FileNode). n ∷ xs) (shown_back ns h.1 own.1)
 
   pub rebuilt_show : files rebuilt fs.next ≡ fs

@@ -1,5 +1,5 @@
 -- What is reached has a host, of bytes, configured as at the beginning, with few nodes.
-use Rattle.std.proofs.Common.{◌≡◌, ℕ, suc, ◌+◌, ◌≤◌, List, [], ◌∷◌, Option, Some, None, refl, sym}
+use Rattle.std.proofs.Common.{◌≡◌, ℕ, ◌+◌, ◌≤◌, List, [], ◌∷◌, Option, Some, None, refl, sym}
 use Rattle.std.proofs.Common.{ap, subst, ◌∙◌, ◌*◌, arith}
 use Rattle.std.specs.Prelude.{Ok, Err, reverse, map, slice_get}
 use Rattle.wasm_syntax.specs.declared.value.Value.{Value}
@@ -27,10 +27,10 @@ use Rattle.wasi_calls_rules.proofs.HostBytes.{rows_keep_hosts_of_bytes}
 use Rattle.wasi_calls_rules.proofs.KeepsHosts.{rows_keep_hosts}
 use Rattle.wasi_calls_rules.proofs.KeptLines.{nothing_unfinished}
 use Rattle.wasi_calls_rules.proofs.FirstHosts.{first_is_host}
-use Rattle.process_rules.specs.Processes.{ProcessState, Guest, IsStart, host_of, closed, closed_at}
+use Rattle.process_rules.specs.Processes.{ProcessState, Guest, IsStart, host_of, closed_at}
 use Rattle.process_rules.specs.Runs.{Next, On, Over, Wants, Nowhere, after_row, after_call, after_rule}
 use Rattle.process_rules.specs.Runs.{next_of, stepped, LeadsTo, Moves, Kept, Runs, none, step, take}
-use Rattle.process_rules.specs.laws.Laws.{ReachedAreConfigured, NodesAreFew, HasHost}
+use Rattle.process_rules.specs.laws.Laws.{ReachedAreConfigured, NodesAreFew}
 use Rattle.process_rules.specs.laws.Laws.{ReachedHaveHosts}
 use Rattle.process_rules.proofs.MemoryKept.{GoesToBytes, rule_bytes, settled_store}
 use Rattle.process_rules.proofs.MemoryKept.{begins_with_bytes}

@@ -1,6 +1,6 @@
 -- Memory holds bytes at the beginning, and after each rule.
-use Rattle.std.proofs.Common.{◌≡◌, ℕ, zero, suc, ◌+◌, ◌*◌, ◌^◌, ◌<◌, ◌≤◌, Bool, true, false, List, []}
-use Rattle.std.proofs.Common.{◌∷◌, ◌++◌, length, take, drop, Option, Some, None, Result, Ok, Err}
+use Rattle.std.proofs.Common.{◌≡◌, ℕ, zero, suc, ◌+◌, ◌*◌, ◌^◌, ◌<◌, Bool, true, false, List, []}
+use Rattle.std.proofs.Common.{◌∷◌, ◌++◌, length, drop, Option, Some, None, Result, Ok, Err}
 use Rattle.std.proofs.Common.{refl, sym, ap, subst, ◌∙◌, arith}
 use Rattle.std.specs.Prelude.{if◌then◌else◌, nat_le, replicate, slice_get, unwrap_or, ◌-◌}
 use Rattle.std.specs.Option.{option_and_then, option_map}
@@ -18,7 +18,7 @@ use Rattle.wasm_syntax.specs.declared.instruction.Instruction.TheVariants as ins
 use Rattle.wasm_syntax.specs.declared.operator.StoreOperator.{StoreOperator}
 use Rattle.wasm_syntax.specs.declared.module.Module.{Module}
 use Rattle.wasm_syntax.specs.declared.module.Data.{Data}
-use Rattle.wasm_syntax.specs.rules.Sequence.{Sequence, Stop, Plain, InBlock, InLoop, InIf, InIfElse}
+use Rattle.wasm_syntax.specs.rules.Sequence.{Sequence, Plain, InBlock, InLoop, InIf, InIfElse}
 use Rattle.guest_memory.specs.rules.Bytes.{IsByte, bytes_of, page_size, with_part}
 use Rattle.guest_memory.proofs.Lists.{all_both, all_take, all_drop, all_replicate, bytes_are}
 use Rattle.wasm_syntax_rules.specs.Types.{loaded_type, stored_type, stored_width, bytes_in}
@@ -26,15 +26,15 @@ use Rattle.wasm_syntax_rules.specs.Types.{gives_of, takes_of, conversion_takes}
 use Rattle.wasm_syntax_rules.specs.Types.{is_same_function_type}
 use Rattle.wasm_syntax_rules.specs.Validity.{IsDataValid, IsValid, memories_of}
 use Rattle.wasm_syntax_rules.specs.Configuration.{Callee, Host, Own, Program, Store, Label}
-use Rattle.wasm_syntax_rules.specs.Configuration.{LabelOf, Frame, FrameOf, Thread, Configuration}
-use Rattle.wasm_syntax_rules.specs.Configuration.{Outcome, Goes, Traps, Asks, Stuck}
+use Rattle.wasm_syntax_rules.specs.Configuration.{Frame, FrameOf, Thread, Configuration}
+use Rattle.wasm_syntax_rules.specs.Configuration.{Outcome, Goes, Traps, Asks}
 use Rattle.wasm_syntax_rules.specs.Effects.{Effect, Gives, Fails, Wrong, with_top, effect_of_some}
 use Rattle.wasm_syntax_rules.specs.Effects.{with_result, load_at, store_at, pages_of, grown, effect}
 use Rattle.wasm_syntax_rules.specs.Instantiation.{offset_of, with_segment, filled_memory}
-use Rattle.wasm_syntax_rules.specs.Instantiation.{empty_memory, IsInitialStore, Begins}
-use Rattle.wasm_syntax_rules.specs.Steps.{where_some, topmost, branch, returned, is_exhausted, entered, called}
-use Rattle.wasm_syntax_rules.specs.Steps.{calls, kind_of, calls_entry, after_effect, goes_on, execute}
-use Rattle.wasm_syntax_rules.specs.Steps.{rule_of, rule, left, begun, left_by, leave, Settles, here, on}
+use Rattle.wasm_syntax_rules.specs.Instantiation.{empty_memory, Begins}
+use Rattle.wasm_syntax_rules.specs.Steps.{where_some, topmost, branch, is_exhausted, entered, called}
+use Rattle.wasm_syntax_rules.specs.Steps.{calls, kind_of, calls_entry, after_effect, execute}
+use Rattle.wasm_syntax_rules.specs.Steps.{rule_of, rule, left, begun, left_by, Settles, here, on}
 use Rattle.wasi_abi.specs.rules.Answers.{AreBytes}
 
 -- ---- what an instruction does

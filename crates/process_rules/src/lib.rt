@@ -9,6 +9,10 @@
 //!   the same number of steps. `one_run_is_taken` says the same of any process.
 //! - `runs_join`, `runs_count_and_emit`: runs join, count their steps (`count`), and take back no
 //!   line (`emit`).
+//! - `reached_processes_have_hosts`: what a valid module reaches has a host, and host and memory
+//!   hold bytes, where the configuration's texts are bytes.
+//! - `reached_hosts_are_bounded`: a reached host is configured as at the beginning (`configured`),
+//!   and has one node a step at most, beside the root (`few`).
 //! - `quiet_runs_join`: steps after which nothing is owed join (`joined`), and are a run without
 //!   answers that emits no line (`runs`).
 //! - `rules_are_quiet`, `last_rule_ends`, `trap_ends`: rules that ask the host for nothing leave

@@ -5,7 +5,7 @@ use Rattle.std.specs.List.{list_any}
 use Rattle.file_tree.specs.rules.Files.{Files, Path, forgotten}
 use Rattle.wasi_calls_rules.specs.Hosts.{Target, Stream, Node, Descriptor, Host}
 use Rattle.wasi_calls_rules.specs.Checks.{Bytes}
-use Rattle.wasi_calls_rules.specs.Lines.{cut_all, stream_written}
+use Rattle.wasi_calls_rules.specs.Lines.{stream_written}
 use Rattle.wasi_calls_rules.specs.Small.{names, has_path, swept}
 use Rattle.wasi_calls_rules.specs.Entries.{cut_if, without, renamed_over}
 use Rattle.wasi_calls_rules.specs.laws.Laws.{IsConfiguredAs, RowsKeepConfigurations}
@@ -15,6 +15,7 @@ use Rattle.wasi_calls_rules.proofs.HostChanges.{takes_text, ends_input, closes, 
 use Rattle.wasi_calls_rules.proofs.HostChanges.{reads_file, writes_stream, rewrites, writes_file}
 use Rattle.wasi_calls_rules.proofs.HostChanges.{makes, opens_new, opens, loses, renames}
 use Rattle.wasi_calls_rules.proofs.RowChanges.{changes}
+use Rattle.wasi_calls_rules.proofs.KeptLines.{stream_either}
 
 -- ---- what was configured
 
@@ -24,12 +25,9 @@ alike h after room limit arguments environment =
     record { room = room; limit = limit; arguments = arguments; environment = environment }
 
 stream_alike : (h : Host) (s : ℕ) (bytes : Bytes) → IsConfiguredAs h (stream_written s bytes h)
-stream_alike h s bytes = either (s == 1) where
-  either : (p : Bool) → IsConfiguredAs h (if p
-      then (let c = cut_all 1 (record { lines = h.lines; unfinished = h.first }) bytes in record h { lines = c.lines; first = c.unfinished })
-      else (let c = cut_all 2 (record { lines = h.lines; unfinished = h.second }) bytes in record h { lines = c.lines; second = c.unfinished }))
-  either true = alike h _ refl refl refl refl
-  either false = alike h _ refl refl refl refl
+stream_alike h s bytes =
+    stream_either (IsConfiguredAs h) h s bytes (alike h _ refl refl refl refl)
+    (alike h _ refl refl refl refl)
 
 renamed_alike : (h : Host) (k : ℕ) (j : Option ℕ) (from to : Path)
     → IsConfiguredAs h (renamed_over k j from to h)
@@ -78,12 +76,8 @@ swept_next (Node k) ds fs = either (has_path fs k) (list_any (names k) ds) where
 
 stream_next : (h : Host) (s : ℕ) (bytes : Bytes)
     → (stream_written s bytes h).files.next ≡ h.files.next
-stream_next h s bytes = either (s == 1) where
-  either : (p : Bool) → (if p
-      then (let c = cut_all 1 (record { lines = h.lines; unfinished = h.first }) bytes in record h { lines = c.lines; first = c.unfinished })
-      else (let c = cut_all 2 (record { lines = h.lines; unfinished = h.second }) bytes in record h { lines = c.lines; second = c.unfinished })).files.next ≡ h.files.next
-  either true = refl
-  either false = refl
+stream_next h s bytes =
+    stream_either (λ (after : Host). after.files.next ≡ h.files.next) h s bytes refl refl
 
 cut_next : (is_cut : Bool) (k : ℕ) (fs : Files) → (cut_if is_cut k fs).next ≡ fs.next
 cut_next true k fs = refl

@@ -24,17 +24,25 @@ fresh_is_files = record {
 }
 
 abbrev root_descriptor : Descriptor
-root_descriptor = record { target = Node 1; offset = 0; flags = 0; base = directory_rights; inheriting = all_rights }
+root_descriptor = record {
+  target = Node 1;
+  offset = 0;
+  flags = 0;
+  base = directory_rights;
+  inheriting = all_rights;
+}
 
 root_is : IsDescriptor fresh root_descriptor
 root_is =
     record { there = tt; offset = omega arith; flags = omega arith; base = refl; inheriting = refl }
 
-stream_is : (n rights : ℕ) → are_within rights all_rights ≡ true → IsDescriptor fresh (stream n rights)
+stream_is : (n rights : ℕ) → are_within rights all_rights ≡ true
+    → IsDescriptor fresh (stream n rights)
 stream_is n rights e =
     record { there = tt; offset = omega arith; flags = omega arith; base = e; inheriting = refl }
 
-none_of : (n : ℕ) → AllByRecursion (λ (o : Option Descriptor). IfSome o (IsDescriptor fresh)) (replicate n None)
+none_of : (n : ℕ)
+    → AllByRecursion (λ (o : Option Descriptor). IfSome o (IsDescriptor fresh)) (replicate n None)
 none_of zero = tt
 none_of (suc n) = (tt, none_of n)
 
@@ -67,14 +75,16 @@ streams_stand (suc (suc (suc (suc n)))) s d e names = absurd (none_open 60 n d e
 kept : (k : ℕ) → IsRemoved fresh k → ⊥
 kept k (n, is, gone) =
     elim (eqb_tells 1 k) [
-      | inl h ↦ (let root : Some (record { number = 1; path = Some []; content = Directory }) ≡ Some n = rw h.0 at is in
+      | inl h ↦ (let root : Some (record { number = 1; path = Some []; content = Directory }) ≡ Some n =
+          rw h.0 at is in
           let same : record { number = 1; path = Some []; content = Directory } ≡ n = cc in
           let path : Some [] ≡ n.path = ap (λ (m : FileNode). m.path) same in
           absurd (cc))
       | inr h ↦ (let none : None ≡ Some n = rw h.0 at is in absurd (cc))
     ]
 
-pub first_is_host : (room limit : ℕ) (arguments environment : List (List ℕ)) → IsHost (first_host room limit arguments environment)
+pub first_is_host : (room limit : ℕ) (arguments environment : List (List ℕ))
+    → IsHost (first_host room limit arguments environment)
 first_is_host room limit arguments environment = record {
   files = fresh_is_files;
   within = omega arith;

@@ -34,7 +34,8 @@ abbrev InPart : (ℕ → Type 0) → ℕ → Type 0
 InPart P b = P b × (b ≢ slash)
 
 first_holds : (Q : ℕ → Type 0) (b : ℕ) (parts : List Name) → Q b
-    → AllByRecursion (AllByRecursion Q) parts → AllByRecursion (AllByRecursion Q) (onto_first b parts)
+    → AllByRecursion (AllByRecursion Q) parts
+    → AllByRecursion (AllByRecursion Q) (onto_first b parts)
 first_holds Q b [] q h = ((q, tt), tt)
 first_holds Q b (x ∷ parts) q h = ((q, h.0), h.1)
 
@@ -114,8 +115,10 @@ parts_utf8 front (b ∷ bytes) text =
           (behind_bytes front (if t then [] ∷ parts_of bytes else onto_first b (parts_of bytes)))
       by_slash true is behind on =
           let cut = halves front bytes
-          (subst (λ (c : ℕ). IsUtf8 (front ++ c ∷ bytes)) (eqb-true b slash is) text) in
-          (subst IsUtf8 (sym (append-nil front)) cut.0, without_front (parts_of bytes) (behind cut.1))
+          (subst (λ (c : ℕ). IsUtf8 (front ++ c ∷ bytes)) (eqb-true b slash is) text) in (
+            subst IsUtf8 (sym (append-nil front)) cut.0,
+            without_front (parts_of bytes) (behind cut.1),
+          )
       by_slash false is behind on =
           longer (parts_of bytes) (on (subst IsUtf8 (sym (append_assoc front (b ∷ []) bytes)) text))
 
@@ -238,7 +241,8 @@ names_are_given bytes =
     next_is (check_or (is_utf8 bytes) Ilseq) _ (λ u text.
     next_is (check_or (not (list_any (λ b. b == 0) bytes)) Inval) _ (λ v none.
     next (check_or (not (begins_with bytes slash)) Notcapable) _ (λ _.
-    next_is (check_or (list_all (λ (name : Name). nat_le (length name) NAME_BYTES) (names_of bytes)) Nametoolong) _
+    next_is (check_or (list_all (λ (name : Name). nat_le (length name) NAME_BYTES)
+    (names_of bytes)) Nametoolong) _
     (λ w short.
     let parts = parts_are bytes (IsUtf8-from_is_utf8 bytes (passed (is_utf8 bytes) Ilseq u text))
     (no_zeros bytes (false_of zeros (passed (not zeros) Inval v none))) in

@@ -10,13 +10,14 @@ use Rattle.wasi_abi.specs.rules.Answers.{newline, AreBytes}
 use Rattle.guest_memory.specs.rules.Bytes.{IsByte}
 use Rattle.guest_memory.proofs.Lists.{all_both, all_drop}
 use Rattle.file_tree.specs.rules.Files.{Name, Path, Content, Directory, File, FileNode, Files}
-use Rattle.file_tree.specs.rules.Files.{is_same_name, node_of, path_of, bytes_of_content, bytes_held}
-use Rattle.file_tree.specs.rules.Files.{bytes_of_node, changed_at, with_file_bytes, created, removed}
+use Rattle.file_tree.specs.rules.Files.{is_same_name, node_of, path_of, bytes_of_content}
+use Rattle.file_tree.specs.rules.Files.{bytes_held, bytes_of_node, changed_at, created, removed}
+use Rattle.file_tree.specs.rules.Files.{with_file_bytes}
 use Rattle.file_tree.specs.rules.Files.{forgotten, path_behind, path_moved, with_new_front, renamed}
 use Rattle.file_tree.proofs.Rebuilt.{all_found, path_there}
 use Rattle.wasi_calls_rules.specs.Hosts.{Target, Stream, Node, Descriptor, Host}
 use Rattle.wasi_calls_rules.specs.Checks.{Bytes, has_bytes_alone}
-use Rattle.wasi_calls_rules.specs.Lines.{cut_all, stream_written}
+use Rattle.wasi_calls_rules.specs.Lines.{stream_written}
 use Rattle.wasi_calls_rules.specs.Paths.{Leaf}
 use Rattle.wasi_calls_rules.specs.Small.{names, has_path, swept}
 use Rattle.wasi_calls_rules.specs.Entries.{whole_path, cut_if, without, renamed_over}
@@ -29,6 +30,7 @@ use Rattle.wasi_calls_rules.proofs.HostChanges.{sets_flags, seeks, reads_file, w
 use Rattle.wasi_calls_rules.proofs.HostChanges.{rewrites, writes_file, makes, opens_new, opens}
 use Rattle.wasi_calls_rules.proofs.HostChanges.{loses, renames}
 use Rattle.wasi_calls_rules.proofs.RowChanges.{changes}
+use Rattle.wasi_calls_rules.proofs.KeptLines.{stream_either}
 use Rattle.wasi_calls_rules.proofs.GivenNames.{ends_well}
 
 -- ---- lists
@@ -186,14 +188,12 @@ with_files h after k files unread arguments environment = record {
 
 stream_of_bytes : (h : Host) (s : ℕ) (bytes : Bytes) → IsOfBytes h
     → IsOfBytes (stream_written s bytes h)
-stream_of_bytes h s bytes k = either (s == 1) where
-  either : (p : Bool) → IsOfBytes (if p
-      then (let c = cut_all 1 (record { lines = h.lines; unfinished = h.first }) bytes in record h { lines = c.lines; first = c.unfinished })
-      else (let c = cut_all 2 (record { lines = h.lines; unfinished = h.second }) bytes in record h { lines = c.lines; second = c.unfinished }))
-  either true = with_files h _ k k.files refl refl refl
-  either false = with_files h _ k k.files refl refl refl
+stream_of_bytes h s bytes k =
+    stream_either IsOfBytes h s bytes (with_files h _ k k.files refl refl refl)
+    (with_files h _ k k.files refl refl refl)
 
-cut_of_bytes : (is_cut : Bool) (fs : Files) (k : ℕ) → AreOfBytes fs → AreOfBytes (cut_if is_cut k fs)
+cut_of_bytes : (is_cut : Bool) (fs : Files) (k : ℕ) → AreOfBytes fs
+    → AreOfBytes (cut_if is_cut k fs)
 cut_of_bytes true fs k h = rewritten_of_bytes fs k [] tt h
 cut_of_bytes false fs k h = h
 

@@ -24,10 +24,11 @@ use Rattle.file_tree.proofs.Rebuilt.{all_found}
 use Rattle.wasi_calls_rules.specs.Hosts.{Node, Descriptor, Host, IsThere}
 use Rattle.wasi_calls_rules.specs.Hosts.{IsDescriptor, IsHost, IsUnfinished}
 use Rattle.wasi_calls_rules.specs.Checks.{Bytes, check_or, has_64_bits}
-use Rattle.wasi_calls_rules.specs.Lines.{cut_all, stream_written}
+use Rattle.wasi_calls_rules.specs.Lines.{stream_written}
 use Rattle.wasi_calls_rules.specs.Paths.{WalkEnd, Self, Leaf, node_at}
 use Rattle.wasi_calls_rules.specs.Moving.{file_read, moved_to}
-use Rattle.wasi_calls_rules.specs.Entries.{is_directory_empty, is_within_node, gives_way, is_same_node}
+use Rattle.wasi_calls_rules.specs.Entries.{is_directory_empty, is_within_node, gives_way}
+use Rattle.wasi_calls_rules.specs.Entries.{is_same_node}
 use Rattle.wasi_calls_rules.specs.Entries.{without, renamed_over, new_descriptor, cut_if}
 use Rattle.wasi_calls_rules.specs.laws.Laws.{RowsKeepHosts}
 use Rattle.wasi_calls_rules.proofs.Steps.{HoldsAfter, next, passed}
@@ -40,7 +41,7 @@ use Rattle.wasi_calls_rules.proofs.HostChanges.{loses, renames}
 use Rattle.wasi_calls_rules.proofs.RowChanges.{changes}
 use Rattle.wasi_calls_rules.proofs.GivenNames.{EndsWell, ends_well}
 use Rattle.wasi_calls_rules.proofs.HostBytes.{request_bytes, whole_is}
-use Rattle.wasi_calls_rules.proofs.KeptLines.{all_unfinished}
+use Rattle.wasi_calls_rules.proofs.KeptLines.{stream_either, all_unfinished}
 use Rattle.wasi_calls_rules.proofs.Tables.{Table, IsLike, is_descriptor, free_place}
 use Rattle.wasi_calls_rules.proofs.NodesAfter.{NodeAt, node_there, there_node, directory_there}
 use Rattle.wasi_calls_rules.proofs.NodesAfter.{path_node, child_path, child_parent, rewritten_there}
@@ -151,16 +152,13 @@ lines_stand h lines first second is one two = record {
 
 stream_stands : (h : Host) (s : ℕ) (bytes : Bytes) → IsHost h → AreBytes bytes
     → IsHost (stream_written s bytes h)
-stream_stands h s bytes is b = either (s == 1) where
-  either : (p : Bool) → IsHost (if p
-      then (let c = cut_all 1 (record { lines = h.lines; unfinished = h.first }) bytes in record h { lines = c.lines; first = c.unfinished })
-      else (let c = cut_all 2 (record { lines = h.lines; unfinished = h.second }) bytes in record h { lines = c.lines; second = c.unfinished }))
-  either true =
-      lines_stand h _ _ h.second is
-      (all_unfinished 1 (record { lines = h.lines; unfinished = h.first }) bytes b is.first) is.second
-  either false =
-      lines_stand h _ h.first _ is is.first
-      (all_unfinished 2 (record { lines = h.lines; unfinished = h.second }) bytes b is.second)
+stream_stands h s bytes is b =
+    stream_either IsHost h s bytes
+    (lines_stand h _ _ h.second is
+    (all_unfinished 1 (record { lines = h.lines; unfinished = h.first }) bytes b is.first)
+    is.second)
+    (lines_stand h _ h.first _ is is.first
+    (all_unfinished 2 (record { lines = h.lines; unfinished = h.second }) bytes b is.second))
 
 -- ---- descriptors
 

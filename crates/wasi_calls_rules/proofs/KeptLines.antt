@@ -6,9 +6,28 @@ use Rattle.std.proofs.lemmas.Bool.{eq-eqb, ltb-true}
 use Rattle.wasi_abi.specs.rules.Answers.{newline, IsNoNewline, AreBytes}
 use Rattle.guest_memory.specs.rules.Bytes.{IsByte}
 use Rattle.guest_memory.proofs.Lists.{all_both}
-use Rattle.wasi_calls_rules.specs.Hosts.{IsUnfinished}
-use Rattle.wasi_calls_rules.specs.Lines.{Cut, cut_byte, cut_all}
+use Rattle.wasi_calls_rules.specs.Hosts.{Host, IsUnfinished}
+use Rattle.wasi_calls_rules.specs.Lines.{Cut, cut_byte, cut_all, stream_written}
 use Rattle.wasi_calls_rules.specs.declared.limits.TheConstants.{LINE_BYTES}
+
+-- bytes written to stream 1, and to stream 2
+abbrev pub first_written : Host → List ℕ → Host
+first_written h bytes =
+    let c = cut_all 1 (record { lines = h.lines; unfinished = h.first }) bytes in
+    record h { lines = c.lines; first = c.unfinished }
+
+abbrev pub second_written : Host → List ℕ → Host
+second_written h bytes =
+    let c = cut_all 2 (record { lines = h.lines; unfinished = h.second }) bytes in
+    record h { lines = c.lines; second = c.unfinished }
+
+-- what holds after a write to either holds after one to a stream
+pub stream_either : (P : Host → Type 0) (h : Host) (s : ℕ) (bytes : List ℕ)
+    → P (first_written h bytes) → P (second_written h bytes) → P (stream_written s bytes h)
+stream_either P h s bytes one two = either (s == 1) where
+  either : (p : Bool) → P (if p then first_written h bytes else second_written h bytes)
+  either true = one
+  either false = two
 
 -- the unfinished line is one
 abbrev pub EndsFine : Cut → Type 0
@@ -23,9 +42,14 @@ cut_unfinished stream c b is byte =
     no_end e same = absurd (let t = eq-eqb b newline same in cc)
 
     either : (p q : Bool) → (b == newline) ≡ p → nat_lt (length c.unfinished) LINE_BYTES ≡ q
-        → EndsFine (if p then record { lines = c.lines ++ record { stream = stream; text = c.unfinished } ∷ []; unfinished = [] }
-        else if q then record { lines = c.lines; unfinished = c.unfinished ++ b ∷ [] }
-        else record { lines = c.lines ++ record { stream = stream; text = c.unfinished } ∷ []; unfinished = b ∷ [] })
+        → EndsFine (if p then (record {
+          lines = c.lines ++ record { stream = stream; text = c.unfinished } ∷ [];
+          unfinished = [];
+        }) else if q then (record { lines = c.lines; unfinished = c.unfinished ++ b ∷ [] })
+        else (record {
+          lines = c.lines ++ record { stream = stream; text = c.unfinished } ∷ [];
+          unfinished = b ∷ [];
+        }))
     either true q is_end room = record { short = omega arith; are_bytes = tt; no_newline = tt }
     either false true is_end room =
         let size = length-append c.unfinished (b ∷ []) in

@@ -98,7 +98,8 @@ pub child_parent : (fs : Files) (d k : ℕ) (name : Name) → child fs d name �
     → (p : Path) × (path_of fs d ≡ Some p)
 child_parent fs d k name e = by_path (path_of fs d) refl e where
   by_path : (o : Option Path) → path_of fs d ≡ o
-      → option_and_then (λ (q : Path). option_map (λ (n : FileNode). n.number) (at fs (q ++ name ∷ []))) o ≡ Some k
+      → option_and_then (λ (q : Path).
+      option_map (λ (n : FileNode). n.number) (at fs (q ++ name ∷ []))) o ≡ Some k
       → (p : Path) × (path_of fs d ≡ Some p)
   by_path None is e = absurd (cc)
   by_path (Some p) is e = (p, is)
@@ -111,7 +112,8 @@ module _ (f : FileNode → FileNode) (keeps : (n : FileNode) → (f n).number �
       ≡ option_map f (find (λ (n : FileNode). eqb n.number k) ns)
   find_mapped [] k = refl
   find_mapped (x ∷ ns) k =
-      ap (λ (i : ℕ). cond (eqb i k) (Some (f x)) (find (λ (n : FileNode). eqb n.number k) (map f ns)))
+      ap (λ (i : ℕ). cond (eqb i k) (Some (f x))
+      (find (λ (n : FileNode). eqb n.number k) (map f ns)))
       (keeps x)
       ∙ by_test (eqb x.number k) (find_mapped ns k)
     where
@@ -153,7 +155,8 @@ mapped_removed fs after f keeps e k kept h =
 
 -- ---- one node changed
 
-module _ (k : ℕ) (change : FileNode → FileNode) (keeps : (n : FileNode) → (change n).number ≡ n.number) where
+module _ (k : ℕ) (change : FileNode → FileNode)
+    (keeps : (n : FileNode) → (change n).number ≡ n.number) where
   pub changed_number : (n : FileNode) → (changed_at k change n).number ≡ n.number
   changed_number n = by_test (eqb n.number k) where
     by_test : (b : Bool) → (if b then change n else n).number ≡ n.number
@@ -166,7 +169,8 @@ module _ (k : ℕ) (change : FileNode → FileNode) (keeps : (n : FileNode) → 
   pub changed_own : (n : FileNode) → n.number ≡ k → changed_at k change n ≡ change n
   changed_own n e = ap (λ (b : Bool). if b then change n else n) (eq-eqb n.number k e)
 
-pub removed_there : (fs : Files) (k : ℕ) (j : ℕ) → IsThere fs (Node j) → IsThere (removed k fs) (Node j)
+pub removed_there : (fs : Files) (k : ℕ) (j : ℕ) → IsThere fs (Node j)
+    → IsThere (removed k fs) (Node j)
 removed_there fs k =
     mapped_there fs (removed k fs) (changed_at k (λ (n : FileNode). record n { path = None }))
     (changed_number k (λ (n : FileNode). record n { path = None }) (λ n. refl)) refl
@@ -234,7 +238,8 @@ pub renamed_removed : (fs : Files) (from to : Path) (j : ℕ) → IsRemoved (ren
     → IsRemoved fs j
 renamed_removed fs from to j =
     mapped_removed fs (renamed from to fs)
-    (λ (n : FileNode). record n { path = option_map (path_moved from to) n.path }) (λ n. refl) refl j
+    (λ (n : FileNode). record n { path = option_map (path_moved from to) n.path }) (λ n. refl) refl
+    j
     (λ n e none. unmoved n.path none)
   where
     unmoved : (o : Option Path) → option_map (path_moved from to) o ≡ None → o ≡ None
@@ -276,13 +281,16 @@ module _ (new : FileNode) where
 
   -- the new one is found, or another under its number
   pushed_own : (ns : List FileNode)
-      → (n : FileNode) × (find (λ (n : FileNode). eqb n.number new.number) (ns ++ new ∷ []) ≡ Some n)
+      → (n : FileNode)
+      × (find (λ (n : FileNode). eqb n.number new.number) (ns ++ new ∷ []) ≡ Some n)
   pushed_own [] =
       (new, ap (λ (b : Bool). cond b (Some new) None) (eq-eqb new.number new.number refl))
   pushed_own (x ∷ ns) = by_test (eqb x.number new.number) (pushed_own ns) where
     by_test : (b : Bool)
-        → (n : FileNode) × (find (λ (n : FileNode). eqb n.number new.number) (ns ++ new ∷ []) ≡ Some n)
-        → (n : FileNode) × (cond b (Some x) (find (λ (n : FileNode). eqb n.number new.number) (ns ++ new ∷ [])) ≡ Some n)
+        → (n : FileNode)
+        × (find (λ (n : FileNode). eqb n.number new.number) (ns ++ new ∷ []) ≡ Some n)
+        → (n : FileNode) × (cond b (Some x)
+        (find (λ (n : FileNode). eqb n.number new.number) (ns ++ new ∷ [])) ≡ Some n)
     by_test true later = (x, refl)
     by_test false later = later
 
@@ -300,7 +308,8 @@ created_own fs p c =
 pub created_removed : (fs : Files) (p : Path) (c : Content) (j : ℕ) → IsRemoved (created p c fs) j
     → IsRemoved fs j
 created_removed fs p c j h =
-    by_case (pushed_found (record { number = fs.next; path = Some p; content = c }) fs.nodes j h.0 h.1)
+    by_case
+    (pushed_found (record { number = fs.next; path = Some p; content = c }) fs.nodes j h.0 h.1)
   where
     by_case : (h.0 ≡ record { number = fs.next; path = Some p; content = c })
         ⊎ (node_of fs j ≡ Some h.0) → IsRemoved fs j
@@ -310,25 +319,29 @@ created_removed fs p c j h =
 
 -- ---- one node less
 
+-- all nodes but those with this number
+abbrev others : ℕ → List FileNode → List FileNode
+others k ns = filter (λ (n : FileNode). not (eqb n.number k)) ns
+
 filtered_other : (ns : List FileNode) (k j : ℕ) → j ≢ k
-    → find (λ (n : FileNode). eqb n.number j) (filter (λ (n : FileNode). not (eqb n.number k)) ns)
+    → find (λ (n : FileNode). eqb n.number j) (others k ns)
     ≡ find (λ (n : FileNode). eqb n.number j) ns
 filtered_other [] k j ne = refl
 filtered_other (x ∷ ns) k j ne =
     by_tests (eqb x.number k) (eqb x.number j) refl refl (filtered_other ns k j ne)
   where
     by_tests : (s t : Bool) → eqb x.number k ≡ s → eqb x.number j ≡ t
-        → find (λ (n : FileNode). eqb n.number j) (filter (λ (n : FileNode). not (eqb n.number k)) ns)
+        → find (λ (n : FileNode). eqb n.number j) (others k ns)
         ≡ find (λ (n : FileNode). eqb n.number j) ns
         → find (λ (n : FileNode). eqb n.number j)
         (cond (not s) (x ∷ filter (λ (n : FileNode). not (eqb n.number k)) ns)
-        (filter (λ (n : FileNode). not (eqb n.number k)) ns))
+        (others k ns))
         ≡ cond t (Some x) (find (λ (n : FileNode). eqb n.number j) ns)
     by_tests true true is also later =
         absurd (ne (sym (eqb-true x.number j also) ∙ eqb-true x.number k is))
     by_tests true false is also later = later
     by_tests false t is also later =
-        ap (λ (b : Bool). cond b (Some x) (find (λ (n : FileNode). eqb n.number j) (filter (λ (n : FileNode). not (eqb n.number k)) ns))) also
+        ap (λ (b : Bool). cond b (Some x) (find (λ (n : FileNode). eqb n.number j) (others k ns))) also
         ∙ ap (λ (o : Option FileNode). cond t (Some x) o) later
 
 pub forgotten_other : (fs : Files) (k j : ℕ) → j ≢ k → node_of (forgotten k fs) j ≡ node_of fs j
@@ -341,18 +354,18 @@ forgotten_there fs k j ne h =
     there_node (forgotten k fs) j (n.0, forgotten_other fs k j ne ∙ n.1)
 
 filtered_own : (ns : List FileNode) (k : ℕ)
-    → find (λ (n : FileNode). eqb n.number k) (filter (λ (n : FileNode). not (eqb n.number k)) ns)
+    → find (λ (n : FileNode). eqb n.number k) (others k ns)
     ≡ None
 filtered_own [] k = refl
 filtered_own (x ∷ ns) k = by_test (eqb x.number k) refl (filtered_own ns k) where
   by_test : (b : Bool) → eqb x.number k ≡ b
-      → find (λ (n : FileNode). eqb n.number k) (filter (λ (n : FileNode). not (eqb n.number k)) ns) ≡ None
+      → find (λ (n : FileNode). eqb n.number k) (others k ns) ≡ None
       → find (λ (n : FileNode). eqb n.number k)
       (cond (not b) (x ∷ filter (λ (n : FileNode). not (eqb n.number k)) ns)
-      (filter (λ (n : FileNode). not (eqb n.number k)) ns)) ≡ None
+      (others k ns)) ≡ None
   by_test true is later = later
   by_test false is later =
-      ap (λ (b : Bool). cond b (Some x) (find (λ (n : FileNode). eqb n.number k) (filter (λ (n : FileNode). not (eqb n.number k)) ns))) is
+      ap (λ (b : Bool). cond b (Some x) (find (λ (n : FileNode). eqb n.number k) (others k ns))) is
       ∙ later
 
 pub forgotten_own : (fs : Files) (k : ℕ) → node_of (forgotten k fs) k ≡ None

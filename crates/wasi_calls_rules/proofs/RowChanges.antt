@@ -36,7 +36,8 @@ use Rattle.wasi_calls_rules.specs.Hosts.{Target, Stream, Node, Descriptor, Host}
 use Rattle.wasi_calls_rules.specs.Checks.{Bytes, Halt, Refuses, Ends, Done, Buffer, check_or}
 use Rattle.wasi_calls_rules.specs.Checks.{some_or, flat, open_descriptor, is_stream, a_file}
 use Rattle.wasi_calls_rules.specs.Checks.{names_directory, no_directory, a_directory, node_named}
-use Rattle.wasi_calls_rules.specs.Checks.{with_right, needs, within_rights, in_memory, lent, buffers}
+use Rattle.wasi_calls_rules.specs.Checks.{with_right, needs, within_rights, in_memory, lent}
+use Rattle.wasi_calls_rules.specs.Checks.{buffers}
 use Rattle.wasi_calls_rules.specs.Checks.{few_buffers, movable, gathered, answered_by, does_fit}
 use Rattle.wasi_calls_rules.specs.Checks.{has_64_bits, has_bytes_alone, has_no_newline}
 use Rattle.wasi_calls_rules.specs.Paths.{WalkEnd, Self, Leaf, formed, node_at}
@@ -44,7 +45,8 @@ use Rattle.wasi_calls_rules.specs.Small.{call_done, with_zeros, texts_get, texts
 use Rattle.wasi_calls_rules.specs.Small.{clock_res_get, time_put, clock_kind, clock_time_get}
 use Rattle.wasi_calls_rules.specs.Small.{fd_close, fd_syncs, fd_fdstat_get, fd_fdstat_set_flags}
 use Rattle.wasi_calls_rules.specs.Small.{fd_filestat_get, roomy, fd_filestat_set_size}
-use Rattle.wasi_calls_rules.specs.Small.{fd_prestat_get, fd_prestat_dir_name, seek_base, file_offset}
+use Rattle.wasi_calls_rules.specs.Small.{fd_prestat_get, fd_prestat_dir_name, seek_base}
+use Rattle.wasi_calls_rules.specs.Small.{file_offset}
 use Rattle.wasi_calls_rules.specs.Small.{fd_seek, fd_tell, random_put, random_get}
 use Rattle.wasi_calls_rules.specs.Moving.{Got, bytes_taken, input_taken, has_bytes, input_read}
 use Rattle.wasi_calls_rules.specs.Moving.{target_read, fd_read, fd_pread, size_after, file_written}
@@ -520,7 +522,8 @@ module _ (m : Bytes) (h : Host) where
   -- where a path leads that has to end at a name
   reached_leaf : {A : Type 0} {R : A → Type 0} (place : WalkEnd)
       (go : ℕ → Name → Result A Halt) → Reached m h place
-      → ((d : ℕ) (name : Name) → Reached m h (Leaf d name) → node_at h.files place ≡ child h.files d name → HoldsAfter R (go d name))
+      → ((d : ℕ) (name : Name) → Reached m h (Leaf d name)
+      → node_at h.files place ≡ child h.files d name → HoldsAfter R (go d name))
       → HoldsAfter R (a_leaf place go)
   reached_leaf {R = R} (Self k) go r f = refused R (Refuses Inval)
   reached_leaf (Leaf d name) go r f = f d name r refl
@@ -647,10 +650,12 @@ module _ (m : Bytes) (h : Host) where
       next_is (placed h d old_names) _ (λ source old_led.
       next_is (placed h e new_names) _ (λ target new_led.
       reached_leaf source _
-      (reached old_fd old_path old_len d old_bytes old_names source u od dir old_read old_form old_led)
+      (reached old_fd old_path old_len d old_bytes old_names source u od dir old_read old_form
+      old_led)
       (λ from name r is.
       reached_leaf target _
-      (reached new_fd new_path new_len e new_bytes new_names target v oe dire new_read new_form new_led)
+      (reached new_fd new_path new_len e new_bytes new_names target v oe dire new_read new_form
+      new_led)
       (λ to other s also.
       renamed_to_changes from name to other source target r s is also))))))))))))))
 
@@ -719,7 +724,8 @@ module _ (m : Bytes) (h : Host) where
       opened_at_changes (node_at h.files place) place w ret
       (reached fd path len d bytes names place u o dir read form led) refl
       (leb-true w.fdflags 31
-      (third few known flags apart (passed (few && known && flags && apart) Inval v fine)))))))))))))))
+      (third few known flags apart
+      (passed (few && known && flags && apart) Inval v fine)))))))))))))))
 
 -- ---- all calls
 

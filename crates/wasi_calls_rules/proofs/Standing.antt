@@ -168,7 +168,8 @@ lost_stands fs ds room k n s e can =
 -- ---- a node that moves
 
 -- what has to hold of a node and the place that it goes to
-pub record CanGo (fs : Files) (k : ℕ) (from : Path) (d : ℕ) (above : Path) (name : Name) : Type 0 where
+pub record CanGo (fs : Files) (k : ℕ) (from : Path) (d : ℕ) (above : Path)
+    (name : Name) : Type 0 where
   pub not_root : k ≢ 1
   pub path : path_of fs k ≡ Some from
   pub parent : path_of fs d ≡ Some above
@@ -260,7 +261,8 @@ module _ (fs : Files) (ds : Table) (j : ℕ) where
         let none = ap (path_of cleared) same ∙ cleared_path at.0 at.1 in
         absurd (let t : None ≡ Some (above ++ name ∷ []) = sym none ∙ path in cc)
     no_child i path (inr ne) =
-        let before = sym (ap (option_and_then (λ (n : FileNode). n.path)) (cleared_other i ne)) ∙ path in
+        let before =
+        sym (ap (option_and_then (λ (n : FileNode). n.path)) (cleared_other i ne)) ∙ path in
         ne (same_number fs s.are i j (above ++ name ∷ []) before own)
 
     by_child : (o : Option ℕ) → child cleared d name ≡ o → child cleared d name ≡ None
@@ -274,7 +276,8 @@ module _ (fs : Files) (ds : Table) (j : ℕ) where
       → path_of fs d ≡ Some above → is_directory fs d ≡ true → IsNodeName name
       → is_some (path_behind from above) ≡ false → path_of fs j ≡ Some (above ++ name ∷ [])
       → Stands (renamed from (above ++ name ∷ []) cleared) ds room
-  moved_over_stands room k from d above name s after not_root differ path parent directory named outside own =
+  moved_over_stands room k from d above name s after not_root differ path parent directory named
+      outside own =
       moved_stands cleared ds room k from d above name after (record {
         not_root = not_root;
         path = ap (option_and_then (λ (n : FileNode). n.path)) (cleared_other k differ) ∙ path;

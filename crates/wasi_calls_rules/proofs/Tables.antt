@@ -150,13 +150,15 @@ module _ (fs : Files) (ds : Table) (are : AreOpen fs ds) where
           }
 
       root_is : (3 ≡ fd) ⊎ (3 ≢ fd)
-          → (d : Descriptor) × (slice_get (slice_set ds fd (Some new)) 3 ≡ Some (Some d)) × (d.target ≡ Node 1)
+          → (d : Descriptor) × (slice_get (slice_set ds fd (Some new)) 3 ≡ Some (Some d))
+          × (d.target ≡ Node 1)
       root_is (inl same) =
           let d = are.root.0 in
           let own : old ≡ d = some_descriptor old d
           (sym there ∙ ap (slice_get ds) (sym same) ∙ are.root.1) in (
             new,
-            ap (slice_get (slice_set ds fd (Some new))) same ∙ set_same ds fd (Some new) (Some old) there,
+            ap (slice_get (slice_set ds fd (Some new))) same
+                ∙ set_same ds fd (Some new) (Some old) there,
             like.target ∙ ap (λ (x : Descriptor). x.target) own ∙ are.root.2,
           )
       root_is (inr ne) =
