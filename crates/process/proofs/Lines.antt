@@ -1,13 +1,12 @@
 -- How many lines there are.
-use Rattle.std.proofs.Common.{◌≡◌, ◌≢◌, ℕ, ◌+◌, ◌<◌, ◌≤◌, ◌^◌, List, [], ◌∷◌, ◌++◌, length, drop, refl, ap, ◌∙◌, arith, length-append, append-nil}
+use Rattle.std.proofs.Common.{◌≡◌, ◌≢◌, ℕ, ◌+◌, ◌<◌, ◌≤◌, List, [], ◌∷◌, ◌++◌, length, refl, ap, ◌∙◌, arith, length-append, append-nil}
 use Rattle.std.specs.Prelude.{ltb, ◌==◌, true, false}
 use Rattle.std.proofs.lemmas.Bool.{ltb-true, eqb-true}
 use Rattle.std.proofs.lemmas.Bool.Decides.{nat_tests}
-use Rattle.std.proofs.lemmas.List.{length-drop}
 use Rattle.wasi_calls_rules.specs.Hosts.{Line, Host}
-use Rattle.wasi_calls_rules.specs.Lines.{rest_of, lines_ended}
+use Rattle.wasi_calls_rules.specs.Lines.{lines_ended}
 use Rattle.wasi_calls_rules.specs.laws.Laws.{Emits}
-use Rattle.wasi_calls.specs.rules.Held.{HeldHost, ShowsHost, behind_lines, held_ended, held_released}
+use Rattle.wasi_calls.specs.rules.Held.{HeldHost, ShowsHost, behind_lines}
 use Rattle.wasi_calls.proofs.Emitted.{in_front}
 use Rattle.process_rules.specs.Processes.{HasLineNumbers}
 use Rattle.process.specs.Parts.{HasFewLines}
@@ -31,35 +30,6 @@ all_shown held h s =
 pub few_shown : (held : HeldHost) (h : Host) → ShowsHost held h → HasLineNumbers h
     → HasFewLines held
 few_shown held h s few = omega (arith, all_shown held h s, few)
-
-pub numbers_shown : (held : HeldHost) (h : Host) → ShowsHost held h → HasFewLines held
-    → HasLineNumbers h
-numbers_shown held h s few = omega (arith, all_shown held h s, few)
-
--- an end adds none to them
-pub few_ended : (held : HeldHost) → HasFewLines held → HasFewLines (held_ended held)
-few_ended held few = omega (arith, length-append (lines_ended held.host).lines [], few)
-
--- lines that were released are counted still
-pub few_released : (count : ℕ) (held : HeldHost) → count ≤ length held.host.lines
-    → HasFewLines held → HasFewLines (held_released count held)
-few_released count held le few =
-    let left : List Line = rest_of 1 held.host.first ++ rest_of 2 held.host.second in
-    omega (
-      arith,
-      le,
-      few,
-      length-append held.host.lines left,
-      length-drop count held.host.lines,
-      length-append (drop count held.host.lines) left,
-    )
-
--- so are those that wait
-pub few_waiting : (held : HeldHost) → HasFewLines held
-    → held.released + length held.host.lines + 2 < 2 ^ 63
-few_waiting held few =
-    let left : List Line = rest_of 1 held.host.first ++ rest_of 2 held.host.second in
-    omega (arith, few, length-append held.host.lines left)
 
 -- where as many lines were released, and none waits before or after, the lines are the same
 no_more : (a b : List Line) → length (a ++ b) ≡ length a → b ≡ []
