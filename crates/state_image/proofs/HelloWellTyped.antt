@@ -22,7 +22,7 @@ use Rattle.machine_slots.specs.rules.Places.{Shows}
 use Rattle.state_image.specs.rules.WellTyped.{IsWellTyped}
 use Rattle.state_image.specs.laws.Examples.{fresh_process}
 use Rattle.state_image.specs.laws.WellTypedExamples.{hello_first_memory, HelloBeginsWellTyped}
-use Rattle.state_image.proofs.FirstHost.{first_is_host}
+use Rattle.wasi_calls_rules.proofs.FirstHosts.{first_is_host}
 
 -- ---- memory
 

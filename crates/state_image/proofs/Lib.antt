@@ -11,7 +11,6 @@ mod MachineWithin
 mod Whole
 mod ExamplesHold
 mod RefusalsHold
-mod FirstHost
 mod HelloWellTyped
 mod Children
 mod Room
