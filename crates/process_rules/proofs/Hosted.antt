@@ -6,7 +6,8 @@ use Rattle.wasm_syntax.specs.declared.value.Value.{Value}
 use Rattle.wasm_syntax.specs.declared.module.Module.{Module}
 use Rattle.wasm_syntax_rules.specs.Types.{number_in}
 use Rattle.wasm_syntax_rules.specs.Validity.{IsValid}
-use Rattle.wasm_syntax_rules.specs.Configuration.{Configuration, Store, Thread, Outcome, Goes, Traps}
+use Rattle.wasm_syntax_rules.specs.Configuration.{Configuration, Store, Thread, Outcome}
+use Rattle.wasm_syntax_rules.specs.Configuration.{Goes, Traps}
 use Rattle.wasm_syntax_rules.specs.Configuration.{Asks, Stuck}
 use Rattle.wasm_syntax_rules.specs.Steps.{rule}
 use Rattle.wasi_abi.specs.declared.answer.Answer.{Answer}
@@ -28,7 +29,8 @@ use Rattle.wasi_calls_rules.proofs.KeepsHosts.{rows_keep_hosts}
 use Rattle.wasi_calls_rules.proofs.KeptLines.{nothing_unfinished}
 use Rattle.wasi_calls_rules.proofs.FirstHosts.{first_is_host}
 use Rattle.process_rules.specs.Processes.{ProcessState, Guest, IsStart, host_of, closed_at}
-use Rattle.process_rules.specs.Runs.{Next, On, Over, Wants, Nowhere, after_row, after_call, after_rule}
+use Rattle.process_rules.specs.Runs.{Next, On, Over, Wants, Nowhere, after_row, after_call}
+use Rattle.process_rules.specs.Runs.{after_rule}
 use Rattle.process_rules.specs.Runs.{next_of, stepped, LeadsTo, Moves, Kept, Runs, none, step, take}
 use Rattle.process_rules.specs.laws.Laws.{ReachedAreConfigured, NodesAreFew}
 use Rattle.process_rules.specs.laws.Laws.{ReachedHaveHosts}
@@ -54,7 +56,8 @@ FollowsTo h (Wants kind) = Unit {0}
 FollowsTo h Nowhere = Unit {0}
 
 row_follows : (c : Call) (r : Ruling) (before : Configuration) (h : Host) (waits : Thread)
-    → ((done : Done) → r ≡ Ok done → Follows h done.host) → FollowsTo h (after_row c r before h waits)
+    → ((done : Done) → r ≡ Ok done → Follows h done.host)
+    → FollowsTo h (after_row c r before h waits)
 row_follows c (Ok done) before h waits f = f done refl
 row_follows c (Err (Refuses e)) before h waits f = same_host h
 row_follows c (Err (Ends code)) before h waits f = same_host h
@@ -113,7 +116,8 @@ move_follows : (guest : Guest) (p q : ProcessState) (given : Option Answer) → 
     → Follows p.host q.host
 move_follows guest p q given moves =
     leads_follow guest (next_of guest p given) given p q
-    (rule_follows guest (rule guest.program p.configuration) given p.configuration p.host) moves.leads
+    (rule_follows guest (rule guest.program p.configuration) given p.configuration p.host)
+    moves.leads
 
 configured_on : (g h k : Host) → IsConfiguredAs g h → IsConfiguredAs h k → IsConfiguredAs g k
 configured_on g h k a b = record {
@@ -129,7 +133,8 @@ runs_configured guest p q kept n (none {p = p'}) = (same_host p'.host).configure
 runs_configured guest p q kept n (step {p = p'} {q = next} {kept = kept'} {n = m} moves rest) =
     configured_on p'.host next.host q.host (move_follows guest p' next None moves).configured
     (runs_configured guest next q kept' m rest)
-runs_configured guest p q kept n (take {p = p'} {q = next} {a = a} {kept = kept'} {n = m} moves rest) =
+runs_configured guest p q kept n
+    (take {p = p'} {q = next} {a = a} {kept = kept'} {n = m} moves rest) =
     configured_on p'.host next.host q.host (move_follows guest p' next (Some a) moves).configured
     (runs_configured guest next q kept' m rest)
 
@@ -166,7 +171,8 @@ start_follows m config guest p start =
 start_next : (m : Module) (config : Settings) (guest : Guest) (p : ProcessState)
     → IsStart m config guest p → p.host.files.next ≡ 2
 start_next m config guest p start =
-    ap (λ (z : ProcessState). z.host.files.next) start.is ∙ closed_next start.first.thread start.first.later where
+    ap (λ (z : ProcessState). z.host.files.next) start.is
+    ∙ closed_next start.first.thread start.first.later where
       closed_next : (thread : Thread) (later : List ℕ)
           → (closed_at thread later (beginning start.first config)).host.files.next ≡ 2
       closed_next [] [] = refl
@@ -302,7 +308,8 @@ start_holds m config guest p valid bytes start =
       memory_bytes = begins_with_bytes m config.pages start.entry guest.program start.first valid
           start.begins;
       of_bytes = bytes;
-      host = first_is_host (config.files * UNIT_BYTES) TEXT_BYTES config.arguments config.environment;
+      host = first_is_host (config.files * UNIT_BYTES) TEXT_BYTES config.arguments
+          config.environment;
     }))
 
 pub reached_have_hosts : ReachedHaveHosts

@@ -32,7 +32,8 @@ use Rattle.wasm_syntax_rules.specs.Effects.{Effect, Gives, Fails, Wrong, with_to
 use Rattle.wasm_syntax_rules.specs.Effects.{with_result, load_at, store_at, pages_of, grown, effect}
 use Rattle.wasm_syntax_rules.specs.Instantiation.{offset_of, with_segment, filled_memory}
 use Rattle.wasm_syntax_rules.specs.Instantiation.{empty_memory, Begins}
-use Rattle.wasm_syntax_rules.specs.Steps.{where_some, topmost, branch, is_exhausted, entered, called}
+use Rattle.wasm_syntax_rules.specs.Steps.{where_some, topmost, branch, is_exhausted, entered}
+use Rattle.wasm_syntax_rules.specs.Steps.{called}
 use Rattle.wasm_syntax_rules.specs.Steps.{calls, kind_of, calls_entry, after_effect, execute}
 use Rattle.wasm_syntax_rules.specs.Steps.{rule_of, rule, left, begun, left_by, Settles, here, on}
 use Rattle.wasi_abi.specs.rules.Answers.{AreBytes}
@@ -81,15 +82,18 @@ part_bytes memory bytes from h k =
 store_bytes : (o : StoreOperator) (s : Store) (from n : ℕ) (go : Store → Effect) → AreBytes s.memory
     → ((after : Store) → AreBytes after.memory → GivesBytes (go after))
     → GivesBytes (store_at o s from n go)
-store_bytes o s from n go h f = either (nat_le (from + bytes_in (stored_width o)) (length s.memory)) where
-  either : (b : Bool) → GivesBytes (if b
-      then go (record s { memory = with_part s.memory from (bytes_of (bytes_in (stored_width o)) n) })
-      else Fails trap.MemoryOutOfBounds)
-  either true =
-      f (record s { memory = with_part s.memory from (bytes_of (bytes_in (stored_width o)) n) })
-      (part_bytes s.memory (bytes_of (bytes_in (stored_width o)) n) from h
-      (bytes_are (bytes_in (stored_width o)) n))
-  either false = tt
+store_bytes o s from n go h f =
+    either (nat_le (from + bytes_in (stored_width o)) (length s.memory)) where
+      either : (b : Bool) → GivesBytes (if b
+          then go (record s {
+            memory = with_part s.memory from (bytes_of (bytes_in (stored_width o)) n);
+          })
+          else Fails trap.MemoryOutOfBounds)
+      either true =
+          f (record s { memory = with_part s.memory from (bytes_of (bytes_in (stored_width o)) n) })
+          (part_bytes s.memory (bytes_of (bytes_in (stored_width o)) n) from h
+          (bytes_are (bytes_in (stored_width o)) n))
+      either false = tt
 
 grown_bytes : (program : Program) (s : Store) (n : ℕ) (go : Store → Value → Effect)
     → AreBytes s.memory
@@ -100,7 +104,8 @@ grown_bytes program s n go h f = either (nat_le (pages_of s + n) program.most_pa
   zero_is_byte = let below : 0 < 256 = omega arith in below
 
   either : (b : Bool) → GivesBytes (if b
-      then go (record s { memory = s.memory ++ replicate (n * page_size) 0 }) (value.I32 (pages_of s))
+      then go (record s { memory = s.memory ++ replicate (n * page_size) 0 })
+      (value.I32 (pages_of s))
       else go s (value.I32 (2 ^ 32 - 1)))
   either true =
       f (record s { memory = s.memory ++ replicate (n * page_size) 0 }) (value.I32 (pages_of s))
@@ -121,7 +126,8 @@ effect_bytes program (instr.GlobalGet x) s ls vs h = some_bytes (slice_get s.glo
 effect_bytes program (instr.GlobalSet x) s ls (v ∷ vs) h =
     some_bytes (slice_get s.globals x) _ (λ _. h)
 effect_bytes program (instr.Load o m) s ls vs h =
-    top_bytes I32 vs _ (λ i vs. result_bytes (loaded_type o) (load_at o s.memory (i + m.offset)) _ (λ v. h))
+    top_bytes I32 vs _ (λ i vs.
+    result_bytes (loaded_type o) (load_at o s.memory (i + m.offset)) _ (λ v. h))
 effect_bytes program (instr.Store o m) s ls vs h =
     top_bytes (stored_type o) vs _ (λ n vs. top_bytes I32 vs _ (λ i vs.
     store_bytes o s (i + m.offset) n (λ s. Gives s ls vs) h (λ after k. k)))
@@ -160,13 +166,16 @@ called_bytes f (Host kind) c caller vs frames h =
     (λ arguments. tt)
 called_bytes f (Own kind declared body) c caller vs frames h =
     where_bytes (topmost (length (takes_of kind)) vs) _ (λ arguments.
-    either (entered f kind declared body arguments ∷ caller (drop (length (takes_of kind)) vs) ∷ frames))
+    either (entered f kind declared body arguments
+    ∷ caller (drop (length (takes_of kind)) vs) ∷ frames))
   where
     either : (thread : Thread)
-        → GoesToBytes (if is_exhausted thread then Traps trap.StackExhausted else Goes (record c { thread = thread }))
+        → GoesToBytes (if is_exhausted thread then Traps trap.StackExhausted
+        else Goes (record c { thread = thread }))
     either thread = by_test (is_exhausted thread) where
       by_test : (b : Bool)
-          → GoesToBytes (if b then Traps trap.StackExhausted else Goes (record c { thread = thread }))
+          → GoesToBytes (if b then Traps trap.StackExhausted
+          else Goes (record c { thread = thread }))
       by_test true = tt
       by_test false = h
 
@@ -174,7 +183,8 @@ calls_bytes : (program : Program) (f : ℕ) (c : Configuration) (caller : List V
     (vs : List Value) (frames : Thread) → AreBytes c.store.memory
     → GoesToBytes (calls program f c caller vs frames)
 calls_bytes program f c caller vs frames h =
-    where_bytes (slice_get program.functions f) _ (λ callee. called_bytes f callee c caller vs frames h)
+    where_bytes (slice_get program.functions f) _ (λ callee.
+    called_bytes f callee c caller vs frames h)
 
 entry_bytes : (program : Program) (o : Option (Option ℕ)) (kind : FunctionType) (c : Configuration)
     (caller : List Value → Frame) (vs : List Value) (frames : Thread) → AreBytes c.store.memory
@@ -218,7 +228,8 @@ execute_bytes program c f ls labels (instr.CallIndirect t) (value.I32 i ∷ vs) 
     where_bytes (slice_get program.types t) _ (λ kind.
     entry_bytes program (slice_get c.store.table i) kind c _ vs frames h)
 execute_bytes program c f ls labels i vs rest frames h =
-    after_bytes (effect program i c.store ls vs) c (λ ls' vs'. FrameOf f ls' labels vs' rest ∷ frames)
+    after_bytes (effect program i c.store ls vs) c
+    (λ ls' vs'. FrameOf f ls' labels vs' rest ∷ frames)
     (effect_bytes program i c.store ls vs h)
 
 pub rule_bytes : (program : Program) (c : Configuration) → AreBytes c.store.memory
@@ -241,22 +252,26 @@ rule_bytes program c h = by_thread c.thread where
 left_store : (program : Program) (thread : Thread) (later : List ℕ) (store : Store)
     (d : Configuration) → left_by program thread later store ≡ Some d → d.store ≡ store
 left_store program [] [] store d e = absurd (cc)
-left_store program [] (f ∷ later) store d e = by_thread (begun (slice_get program.functions f) f) e where
-  by_thread : (o : Option Thread)
-      → option_map (λ (thread : Thread). record { store = store; thread = thread; later = later }) o ≡ Some d
-      → d.store ≡ store
-  by_thread None e = absurd (cc)
-  by_thread (Some thread) e = kept d thread e where
-    kept : (d : Configuration) (thread : Thread)
-        → Some (record { store = store; thread = thread; later = later }) ≡ Some d → d.store ≡ store
-    kept d thread e =
-        let same : record { store = store; thread = thread; later = later } ≡ d = cc in
-        ap (λ (x : Configuration). x.store) (sym same)
+left_store program [] (f ∷ later) store d e =
+    by_thread (begun (slice_get program.functions f) f) e where
+      by_thread : (o : Option Thread)
+          → option_map (λ (thread : Thread).
+          record { store = store; thread = thread; later = later }) o ≡ Some d
+          → d.store ≡ store
+      by_thread None e = absurd (cc)
+      by_thread (Some thread) e = kept d thread e where
+        kept : (d : Configuration) (thread : Thread)
+            → Some (record { store = store; thread = thread; later = later }) ≡ Some d
+            → d.store ≡ store
+        kept d thread e =
+            let same : record { store = store; thread = thread; later = later } ≡ d = cc in
+            ap (λ (x : Configuration). x.store) (sym same)
 left_store program (FrameOf f ls labels vs rest ∷ frames) later store d e =
     by_thread (left rest f ls labels vs frames) e
   where
     by_thread : (o : Option Thread)
-        → option_map (λ (thread : Thread). record { store = store; thread = thread; later = later }) o ≡ Some d
+        → option_map (λ (thread : Thread).
+        record { store = store; thread = thread; later = later }) o ≡ Some d
         → d.store ≡ store
     by_thread None e = absurd (cc)
     by_thread (Some thread) e =
@@ -298,11 +313,14 @@ and_then_some f (Some x) y e = (x, refl, e)
 filled_bytes : (m : Module) (globals : List Value) (segments : List Data) (memory filled : List ℕ)
     → AllByRecursion (IsDataValid m) segments → AreBytes memory
     → filled_memory globals segments memory ≡ Some filled → AreBytes filled
-filled_bytes m globals [] memory filled v h e = (let same : memory ≡ filled = cc in subst AreBytes same h)
+filled_bytes m globals [] memory filled v h e =
+    (let same : memory ≡ filled = cc in subst AreBytes same h)
 filled_bytes m globals (d ∷ segments) memory filled v h e =
     let next = and_then_some (λ memory'. filled_memory globals segments memory')
-    (option_and_then (λ from. with_segment memory d.bytes from) (offset_of globals d.offset)) filled e in
-    let place = and_then_some (λ from. with_segment memory d.bytes from) (offset_of globals d.offset)
+    (option_and_then (λ from. with_segment memory d.bytes from) (offset_of globals d.offset))
+    filled e in
+    let place = and_then_some (λ from. with_segment memory d.bytes from)
+    (offset_of globals d.offset)
     next.0 next.1 in
     filled_bytes m globals segments next.0 filled v.1
     (segment_bytes memory d.bytes next.0 place.0 h v.0.2 place.2) next.2
