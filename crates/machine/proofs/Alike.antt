@@ -1,66 +1,134 @@
 -- Two machines that show one configuration go on alike.
-use Rattle.std.proofs.Common.{◌≡◌, ◌≢◌, ℕ, suc, ◌+◌, ◌-◌, ◌<◌, ◌≤◌, List, [], ◌∷◌, Some, refl, sym, ap, ◌∙◌, subst, arith}
+use Rattle.std.proofs.Common.{◌≡◌, ◌≢◌, ℕ, suc, ◌+◌, ◌-◌, ◌<◌, ◌≤◌, List, [], ◌∷◌, length, Option, Some, refl, sym, ap, ◌∙◌, subst, arith}
 use Rattle.std.specs.Prelude.{map, reverse}
 use Rattle.wasm_syntax.specs.declared.types.FunctionType.{FunctionType}
+use Rattle.wasm_syntax.specs.declared.types.ValueType.{ValueType}
+use Rattle.wasm_syntax.specs.declared.value.Value.{Value}
+use Rattle.wasm_syntax.specs.declared.instruction.Instruction.TheVariants as instr
 use Rattle.wasm_syntax.specs.declared.module.Module.{Module}
+use Rattle.wasm_syntax.specs.rules.Sequence.{Sequence, Plain, spelled}
 use Rattle.wasi_abi.specs.declared.call.Call.{Call}
 use Rattle.wasm_syntax_rules.specs.Types.{number_in}
-use Rattle.wasm_syntax_rules.specs.Typing.{Context}
+use Rattle.wasm_syntax_rules.specs.Typing.{Context, body_context}
 use Rattle.wasm_syntax_rules.specs.Validity.{module_context}
-use Rattle.wasm_syntax_rules.specs.Configuration.{Program, Thread, FrameOf, Configuration, Traps, Stuck}
+use Rattle.wasm_syntax_rules.specs.Configuration.{Own, Program, Label, Thread, FrameOf, Configuration, Traps, Stuck}
 use Rattle.wasm_syntax_rules.specs.Steps.{rule, rule_of, stopped, answered, IsEnded, Settles, Advances, Steps, none, more}
 use Rattle.wasm_syntax_rules.proofs.OneRun.{one_run, settles_once}
-use Rattle.machine_slots.specs.rules.Places.{ShownFrame, ShowsCallers, ShowsThread}
+use Rattle.machine_slots.specs.rules.Places.{ShownFrame, IsCallOf, ShowsRunning, ShowsWaiting, IsFrameOf, ShowsCallers, ShowsThread}
+use Rattle.machine_slots.proofs.ShapePositions.{labels_tell}
 use Rattle.machine.specs.declared.turns.pause.HostCall.{HostCall}
 use Rattle.machine.specs.declared.turns.pause.Pause.{Pause}
 use Rattle.machine.specs.declared.turns.pause.Pause.TheVariants as pause
 use Rattle.machine.specs.declared.turns.pause.Paused.{Paused}
-use Rattle.machine.specs.rules.Values.{MachineValue, ShowsIn}
+use Rattle.machine.specs.rules.Values.{MachineValue, IsProgramIn, ShowsIn}
 use Rattle.machine.specs.rules.Runs.{AsksFor, RunsFor}
-use Rattle.machine.specs.laws.Alike.{AreAlikeFrames, OneIsShownAlike, MachinesRunAlike, MachinesAnswerAlike}
+use Rattle.machine.specs.laws.Alike.{OneMachineShows, MachinesRunAlike, MachinesAnswerAlike}
+use Rattle.machine.proofs.OneProgram.{one_list}
+use Rattle.machine.proofs.OneShown.{running_of, waiting_of}
 
--- ---- one configuration
+-- ---- one position
 
-callers_alike : (c e : Context) (program : Program) (above other : FunctionType) (frames others : List ShownFrame) (thread : Thread)
-    → ShowsCallers c program above frames thread → ShowsCallers e program other others thread → AreAlikeFrames frames others
-callers_alike c e program above other [] [] [] h k = tt
-callers_alike c e program above other [] (b ∷ others) [] h k = absurd k
-callers_alike c e program above other (a ∷ frames) others [] h k = absurd h
-callers_alike c e program above other [] others (FrameOf f ls labels vs rest ∷ thread) h k = absurd h
-callers_alike c e program above other (a ∷ frames) [] (FrameOf f ls labels vs rest ∷ thread) h k = absurd k
-callers_alike c e program above other (a ∷ frames) (b ∷ others) (FrameOf f ls labels vs rest ∷ thread) h k = (
-  h.0.same ∙ sym k.0.same,
-  h.1.slots ∙ sym k.1.slots,
-  callers_alike c e program h.0.kind k.0.kind frames others thread h.2 k.2,
-)
+-- a call, and what follows it
+call_length : (c : Context) (s : Sequence) (kind : FunctionType) (takes : List ValueType) (rest : Sequence) → IsCallOf c s kind takes rest → length (spelled s) ≡ suc (length (spelled rest))
+call_length c (Plain (instr.Call x) after) kind takes rest h = ap (λ z. suc (length (spelled z))) (sym h.2)
+call_length c (Plain (instr.CallIndirect x) after) kind takes rest h = ap (λ z. suc (length (spelled z))) (sym h.2)
+call_length c _ kind takes rest h = absurd h
 
-frames_alike : (c e : Context) (program : Program) (frames others : List ShownFrame) (thread : Thread)
-    → ShowsThread c program frames thread → ShowsThread e program others thread → AreAlikeFrames frames others
-frames_alike c e program [] [] [] h k = tt
-frames_alike c e program [] (b ∷ others) [] h k = absurd k
-frames_alike c e program (a ∷ frames) others [] h k = absurd h
-frames_alike c e program [] others (FrameOf f ls labels vs rest ∷ thread) h k = absurd h
-frames_alike c e program (a ∷ frames) [] (FrameOf f ls labels vs rest ∷ thread) h k = absurd k
-frames_alike c e program (a ∷ frames) (b ∷ others) (FrameOf f ls labels vs rest ∷ thread) h k = (
-  h.0.same ∙ sym k.0.same,
-  h.1.slots ∙ sym k.1.slots,
-  callers_alike c e program h.0.kind k.0.kind frames others thread h.2 k.2,
-)
+module _ (c : Context) (body : Sequence) (a b : ShownFrame) (ls : List Value) (labels : List Label) (vs : List Value) (rest : Sequence) where
+  one_running_place : ShowsRunning c body a ls labels vs rest → ShowsRunning c body b ls labels vs rest → a.position ≡ b.position
+  one_running_place h k =
+      labels_tell c body a.position b.position h.shape k.shape labels h.reached k.reached h.labels_are k.labels_are
+      (ap (λ z. length (spelled z)) (sym h.remains ∙ k.remains))
 
-pub shown_alike : OneIsShownAlike
-shown_alike v w program d guest h k = record {
-  guest = guest;
-  most_pages = pages;
-  table = sym h.shows.same_table ∙ k.shows.same_table;
-  limit = h.holds ∙ pages ∙ sym k.holds;
-  frames = frames_alike (module_context v.guest h.functions) (module_context w.guest k.functions) program v.state.frames w.state.frames d.thread h.shows.frames k.shows.frames;
-  globals = h.shows.globals ∙ sym k.shows.globals;
-  memory = h.shows.memory ∙ sym k.shows.memory;
-  later = h.shows.later ∙ sym k.shows.later;
-}
-  where
-    pages : v.most_pages ≡ w.most_pages
-    pages = sym h.is.most ∙ k.is.most
+  one_waiting_place : (above other : FunctionType) → ShowsWaiting c body a above ls labels vs rest → ShowsWaiting c body b other ls labels vs rest → a.position ≡ b.position
+  one_waiting_place above other h k =
+      labels_tell c body a.position b.position h.shape k.shape labels h.reached k.reached h.labels_are k.labels_are
+      (call_length c h.shape.rest above h.takes rest h.calls ∙ sym (call_length c k.shape.rest other k.takes rest k.calls))
+
+abbrev frame_at : ℕ → ℕ → List ℕ → ShownFrame
+frame_at f position slots = record { function = f; position = position; slots = slots }
+
+one_frame : (a b : ShownFrame) → a.function ≡ b.function → a.position ≡ b.position → a.slots ≡ b.slots → a ≡ b
+one_frame a b f p s =
+    let whole : frame_at a.function a.position a.slots ≡ frame_at b.function b.position b.slots = rw (f, p, s) refl in
+    whole
+
+-- the function of a frame has one type, one list of declared locals and one body
+module _ (c : Context) (program : Program) (a b : ShownFrame) (f : ℕ) (h : IsFrameOf c program a f) (k : IsFrameOf c program b f) where
+  same_own : Own k.kind k.declared k.body ≡ Own h.kind h.declared h.body
+  same_own = let x = h.is in let y = k.is in cc
+
+  same_kind : k.kind ≡ h.kind
+  same_kind = let e = same_own in cc
+
+  same_declared : k.declared ≡ h.declared
+  same_declared = let e = same_own in cc
+
+  same_body : k.body ≡ h.body
+  same_body = let e = same_own in cc
+
+  module _ (ls : List Value) (labels : List Label) (vs : List Value) (rest : Sequence) where
+    one_running : ShowsRunning (body_context c h.kind h.declared) h.body a ls labels vs rest → ShowsRunning (body_context c k.kind k.declared) k.body b ls labels vs rest → a ≡ b
+    one_running x y =
+        let there : ShowsRunning (body_context c h.kind h.declared) h.body b ls labels vs rest =
+        running_of c b ls labels vs rest k.kind h.kind k.declared h.declared k.body h.body same_kind same_declared same_body y in
+        one_frame a b (h.same ∙ sym k.same) (one_running_place (body_context c h.kind h.declared) h.body a b ls labels vs rest x there) (x.slots ∙ sym y.slots)
+
+    one_waiting : (above other : FunctionType) → ShowsWaiting (body_context c h.kind h.declared) h.body a above ls labels vs rest → ShowsWaiting (body_context c k.kind k.declared) k.body b other ls labels vs rest → a ≡ b
+    one_waiting above other x y =
+        let there : ShowsWaiting (body_context c h.kind h.declared) h.body b other ls labels vs rest =
+        waiting_of c b ls labels vs rest k.kind h.kind k.declared h.declared k.body h.body same_kind same_declared same_body other y in
+        one_frame a b (h.same ∙ sym k.same) (one_waiting_place (body_context c h.kind h.declared) h.body a b ls labels vs rest above other x there) (x.slots ∙ sym y.slots)
+
+-- ---- one machine
+
+one_callers : (c : Context) (program : Program) (above other : FunctionType) (frames others : List ShownFrame) (thread : Thread)
+    → ShowsCallers c program above frames thread → ShowsCallers c program other others thread → frames ≡ others
+one_callers c program above other [] [] [] h k = refl
+one_callers c program above other [] (b ∷ others) [] h k = absurd k
+one_callers c program above other (a ∷ frames) others [] h k = absurd h
+one_callers c program above other [] others (FrameOf f ls labels vs rest ∷ thread) h k = absurd h
+one_callers c program above other (a ∷ frames) [] (FrameOf f ls labels vs rest ∷ thread) h k = absurd k
+one_callers c program above other (a ∷ frames) (b ∷ others) (FrameOf f ls labels vs rest ∷ thread) h k =
+    let first : a ≡ b = one_waiting c program a b f h.0 k.0 ls labels vs rest above other h.1 k.1 in
+    let behind : frames ≡ others = one_callers c program h.0.kind k.0.kind frames others thread h.2 k.2 in
+    cc
+
+one_frames : (c : Context) (program : Program) (frames others : List ShownFrame) (thread : Thread)
+    → ShowsThread c program frames thread → ShowsThread c program others thread → frames ≡ others
+one_frames c program [] [] [] h k = refl
+one_frames c program [] (b ∷ others) [] h k = absurd k
+one_frames c program (a ∷ frames) others [] h k = absurd h
+one_frames c program [] others (FrameOf f ls labels vs rest ∷ thread) h k = absurd h
+one_frames c program (a ∷ frames) [] (FrameOf f ls labels vs rest ∷ thread) h k = absurd k
+one_frames c program (a ∷ frames) (b ∷ others) (FrameOf f ls labels vs rest ∷ thread) h k =
+    let first : a ≡ b = one_running c program a b f h.0 k.0 ls labels vs rest h.1 k.1 in
+    let behind : frames ≡ others = one_callers c program h.0.kind k.0.kind frames others thread h.2 k.2 in
+    cc
+
+abbrev machine_with : Module → ℕ → List (Option ℕ) → List ShownFrame → List ℕ → List ℕ → List ℕ → ℕ → MachineValue
+machine_with m most_pages table frames globals memory later limit =
+    record { guest = m; most_pages = most_pages; table = table; state = record { frames = frames; globals = globals; memory = memory; later = later }; limit = limit }
+
+pub one_machine : OneMachineShows
+one_machine v w program d guest h k =
+    let pages : v.most_pages ≡ w.most_pages = sym h.is.most ∙ k.is.most in
+    let is : IsProgramIn v.guest v.most_pages k.functions program =
+    subst (λ (m : Module). IsProgramIn m v.most_pages k.functions program) (sym guest) (subst (λ n. IsProgramIn w.guest n k.functions program) (sym pages) k.is) in
+    let functions : k.functions ≡ h.functions = one_list v.guest v.most_pages k.functions h.functions program program is h.is in
+    let there : ShowsThread (module_context v.guest h.functions) program w.state.frames d.thread =
+    subst (λ (z : List FunctionType). ShowsThread (module_context v.guest z) program w.state.frames d.thread) functions
+    (subst (λ (m : Module). ShowsThread (module_context m k.functions) program w.state.frames d.thread) (sym guest) k.shows.frames) in
+    let frames : v.state.frames ≡ w.state.frames = one_frames (module_context v.guest h.functions) program v.state.frames w.state.frames d.thread h.shows.frames there in
+    let table : v.table ≡ w.table = sym h.shows.same_table ∙ k.shows.same_table in
+    let globals : v.state.globals ≡ w.state.globals = h.shows.globals ∙ sym k.shows.globals in
+    let memory : v.state.memory ≡ w.state.memory = h.shows.memory ∙ sym k.shows.memory in
+    let later : v.state.later ≡ w.state.later = h.shows.later ∙ sym k.shows.later in
+    let limit : v.limit ≡ w.limit = h.holds ∙ pages ∙ sym k.holds in
+    let whole : machine_with v.guest v.most_pages v.table v.state.frames v.state.globals v.state.memory v.state.later v.limit
+    ≡ machine_with w.guest w.most_pages w.table w.state.frames w.state.globals w.state.memory w.state.later w.limit =
+    rw (guest, pages, table, frames, globals, memory, later, limit) refl in
+    whole
 
 -- ---- where a run halts
 
@@ -193,15 +261,14 @@ run_alike v w v' w' program d fuel x y guest same same' shows shows' runs runs' 
     let whole : paused_with x.why x.left ≡ paused_with y.why y.left = rw (why, left) refl in
     let shown : ShowsIn w' program (shown_after x.why a.end) =
     subst (λ z. ShowsIn w' program (shown_after x.why z)) (sym end) (subst (λ z. ShowsIn w' program (shown_after z b.end)) (sym why) b.shows) in
-    (whole, shown_alike v' w' program (shown_after x.why a.end) guests a.shows shown)
+    (whole, one_machine v' w' program (shown_after x.why a.end) guests a.shows shown)
 
 pub answer_alike : MachinesAnswerAlike
 answer_alike v w v' w' program d results f arguments waits kind guest same same' shows shows' asks there gives answers answers' =
     let a = answers program d f arguments waits kind shows asks there gives in
     let b = answers' program d f arguments waits kind shows' asks there gives in
-    let alike = shown_alike v w program d guest shows shows' in
-    let memory : w.state.memory ≡ v.state.memory = sym alike.memory in
+    let memory : w.state.memory ≡ v.state.memory = ap (λ (z : MachineValue). z.state.memory) (sym (one_machine v w program d guest shows shows')) in
     let settles = subst (λ bytes. Settles program (answered d bytes results waits) b.configuration) memory b.settles in
     let one : b.configuration ≡ a.configuration = settles_once program (answered d v.state.memory results waits) b.configuration a.configuration settles a.settles in
     let guests : v'.guest ≡ w'.guest = same.guest ∙ guest ∙ sym same'.guest in
-    shown_alike v' w' program a.configuration guests a.shows (subst (λ z. ShowsIn w' program z) one b.shows)
+    one_machine v' w' program a.configuration guests a.shows (subst (λ z. ShowsIn w' program z) one b.shows)
