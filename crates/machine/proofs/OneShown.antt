@@ -43,14 +43,14 @@ as_many types vs ws h k = values_count types vs h ∙ sym (values_count types ws
 
 abbrev types_below : List LabelShape → List ValueType
 types_below [] = []
-types_below (ShapeOf takes target types after ∷ shapes) = types ++ types_below shapes
+types_below (ShapeOf takes target types after which ∷ shapes) = types ++ types_below shapes
 
 below_are : (shapes : List LabelShape) (labels : List Label) → HaveShape shapes labels → AreOf (types_below shapes) (all_below labels)
 below_are [] [] h = tt
 below_are [] (label ∷ labels) h = absurd h
 below_are (shape ∷ shapes) [] h = absurd h
-below_are (ShapeOf takes target types after ∷ shapes) (LabelOf keeps target' below after' ∷ labels) h =
-    are_both types (types_below shapes) below (all_below labels) h.2 (below_are shapes labels h.4)
+below_are (ShapeOf takes target types after which ∷ shapes) (LabelOf keeps target' below after' which' ∷ labels) h =
+    are_both types (types_below shapes) below (all_below labels) h.2 (below_are shapes labels h.5)
 
 -- labels of one shape differ in nothing but the values below them
 same_labels : (shapes : List LabelShape) (labels others : List Label) → HaveShape shapes labels → HaveShape shapes others → all_below labels ≡ all_below others → labels ≡ others
@@ -59,11 +59,11 @@ same_labels [] [] (other ∷ others) h k e = absurd k
 same_labels [] (label ∷ labels) others h k e = absurd h
 same_labels (shape ∷ shapes) [] others h k e = absurd h
 same_labels (shape ∷ shapes) (label ∷ labels) [] h k e = absurd k
-same_labels (ShapeOf takes target types after ∷ shapes) (LabelOf a b below c ∷ labels) (LabelOf a' b' below' c' ∷ others) h k e =
+same_labels (ShapeOf takes target types after which ∷ shapes) (LabelOf a b below c d ∷ labels) (LabelOf a' b' below' c' d' ∷ others) h k e =
     let cut = same_parts below below' (all_below labels) (all_below others) (as_many types below below' h.2 k.2) e in
     let values = cut.0 in
-    let behind = same_labels shapes labels others h.4 k.4 cut.1 in
-    let p = h.0 in let q = h.1 in let r = h.3 in let p' = k.0 in let q' = k.1 in let r' = k.3 in
+    let behind = same_labels shapes labels others h.5 k.5 cut.1 in
+    let p = h.0 in let q = h.1 in let r = h.3 in let p' = k.0 in let q' = k.1 in let r' = k.3 in let w = h.4 in let w' = k.4 in
     cc
 
 -- ---- frames
@@ -129,10 +129,10 @@ module _ (c : Context) (body : Sequence) (place : ShownFrame) (f f' : ℕ) (ls m
 
 -- equal functions are shown by the same frames
 module _ (c : Context) (place : ShownFrame) (ls : List Value) (labels : List Label) (vs : List Value) (rest : Sequence) (kind kind' : FunctionType) (declared declared' : List ValueType) (body body' : Sequence) (a : kind ≡ kind') (b : declared ≡ declared') (d : body ≡ body') where
-  running_of : ShowsRunning (body_context c kind declared) body place ls labels vs rest → ShowsRunning (body_context c kind' declared') body' place ls labels vs rest
+  pub running_of : ShowsRunning (body_context c kind declared) body place ls labels vs rest → ShowsRunning (body_context c kind' declared') body' place ls labels vs rest
   running_of h = rw (← a, ← b, ← d) h
 
-  waiting_of : (above : FunctionType) → ShowsWaiting (body_context c kind declared) body place above ls labels vs rest → ShowsWaiting (body_context c kind' declared') body' place above ls labels vs rest
+  pub waiting_of : (above : FunctionType) → ShowsWaiting (body_context c kind declared) body place above ls labels vs rest → ShowsWaiting (body_context c kind' declared') body' place above ls labels vs rest
   waiting_of above h = rw (← a, ← b, ← d) h
 
 -- a place has one function, with one type, one list of declared locals and one body

@@ -1,6 +1,6 @@
 //! Laws over what machines show. The functions do nothing: what they ensure is the law.
 
-ghost use Rattle.machine.specs.laws.Alike.{OneIsShownAlike, MachinesAnswerAlike, MachinesRunAlike};
+ghost use Rattle.machine.specs.laws.Alike.{MachinesAnswerAlike, MachinesRunAlike, OneMachineShows};
 ghost use Rattle.machine.specs.laws.Laws.{AsksTheSame, MachineShowsOne, ShowsWhatIsWritten, WaitsForTheCall};
 ghost use Rattle.machine.specs.laws.Routines.{FunctionsAreNumbered, FunctionsAreCounted};
 ghost use Rattle.wasm_syntax_rules.specs.Typed.{OffersNoEntry};
@@ -18,11 +18,11 @@ pub fn shows_one()
     ensures { MachineShowsOne }
 {}
 
-/// Two machines of one module that show one configuration differ in nothing but the positions of
+/// Two machines of one module that show one configuration have one value, with the positions of
 /// their frames. On the same fuel they pause for the same reason. After that, and after the same
-/// answer of the host, they show one configuration again.
+/// answer of the host, they have one value again.
 pub fn run_alike()
-    ensures shown { OneIsShownAlike }
+    ensures shown { OneMachineShows }
     ensures run { MachinesRunAlike }
     ensures answered { MachinesAnswerAlike }
 {}

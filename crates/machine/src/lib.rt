@@ -17,7 +17,7 @@
 //! - `memory` is the guest's memory. `memory_mut` lends it, and nothing else changes
 //!   (`writes_back`). `unlink` gives the module back.
 //! - `laws`: a machine shows one configuration at most (`shows_one`). Two machines that show one
-//!   configuration go on alike, and differ in positions at most (`run_alike`). While a call waits
+//!   configuration have one value, and run to one value again (`run_alike`). While a call waits
 //!   memory may be written (`memory_may_be_written`). No call of the host is an entry
 //!   (`no_call_is_an_entry`).
 //!

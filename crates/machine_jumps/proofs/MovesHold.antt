@@ -67,12 +67,12 @@ not_choice : (t : Option ValueType) (first second rest : Sequence) → Stop ≡ 
 not_choice t first second rest e = cc
 
 pub opcodes_first : OpcodesAreFirst
-opcodes_first c body p (ShapeOf takes target below after) labels ts rest typed e = first rest (at_label c body p _ labels ts rest typed e)
+opcodes_first c body p (ShapeOf takes target below after which) labels ts rest typed e = first rest (at_label c body p _ labels ts rest typed e)
   where
     get_first : (p : ℕ) (i : Instruction) (more tail : List Instruction) → drop p (opcodes_of body) ≡ (i ∷ more) ++ tail → HasOpcode body p i
     get_first p i more tail e = get_dropped p (opcodes_of body) (more ++ tail) i e
 
-    first : (rest : Sequence) → Place c body p (ShapeOf takes target below after ∷ labels) ts rest → (i : Instruction) × HasOpcode body p i × IsFirst rest i
+    first : (rest : Sequence) → Place c body p (ShapeOf takes target below after which ∷ labels) ts rest → (i : Instruction) × HasOpcode body p i × IsFirst rest i
     first Stop a =
         ⊎_elim
         (λ (h : IsEnded c body labels (a.gives ++ below) after (p + 0) a.tail). (instr.End, get_dropped p (opcodes_of body) h.next instr.End (a.code ∙ h.is), inl refl))
@@ -123,7 +123,7 @@ choice_leads_in c body p labels ts t first second rest typed e =
     runs_here c body (suc p) _ first [] a.gives a.runs
 
 pub end_leads_out : EndLeadsOut
-end_leads_out c body p takes below target after outer ts typed e o = by_closes (at_label c body p _ outer ts Stop typed e)
+end_leads_out c body p takes below target after which outer ts typed e o = by_closes (at_label c body p _ outer ts Stop typed e)
   where
     else_or_end : instr.Else ≡ instr.End → ⊥
     else_or_end e = cc
@@ -131,7 +131,7 @@ end_leads_out c body p takes below target after outer ts typed e o = by_closes (
     some_same : (i j : Instruction) → Some i ≡ Some j → i ≡ j
     some_same i j e = cc
 
-    by_closes : Place c body p (ShapeOf takes target below after ∷ outer) ts Stop → HasShape c body (suc p) outer (ts ++ below) after
+    by_closes : Place c body p (ShapeOf takes target below after which ∷ outer) ts Stop → HasShape c body (suc p) outer (ts ++ below) after
     by_closes a =
         ⊎_elim
         (λ (h : IsEnded c body outer (a.gives ++ below) after (p + 0) a.tail).

@@ -9,6 +9,7 @@ use Rattle.wasm_syntax.specs.declared.types.ValueType.{ValueType}
 use Rattle.wasm_syntax.specs.declared.instruction.Instruction.{Instruction}
 use Rattle.wasm_syntax.specs.declared.instruction.Instruction.TheVariants as instr
 use Rattle.wasm_syntax.specs.rules.Sequence.{Sequence, Stop, Plain, InBlock, InLoop, InIf, InIfElse, spelled}
+use Rattle.wasm_syntax_rules.specs.Configuration.{Main, Second}
 use Rattle.wasm_syntax_rules.specs.Types.{results_of}
 use Rattle.wasm_syntax_rules.specs.Typing.{Context}
 use Rattle.wasm_syntax_rules.specs.Shapes.{Shape, LabelShape, ShapeOf, types_behind, shape_at, body_shape}
@@ -25,7 +26,7 @@ pub record IsEnded (c : Context) (body : Sequence) (labels : List LabelShape) (o
 
 abbrev pub Closes : Context → Sequence → List LabelShape → List ValueType → ℕ → List Instruction → Type 0
 Closes c body [] gives e tail = ⊥
-Closes c body (ShapeOf takes target below after ∷ outer) gives e tail =
+Closes c body (ShapeOf takes target below after which ∷ outer) gives e tail =
     IsEnded c body outer (gives ++ below) after e tail ⊎ ((next : List Instruction) × (tail ≡ instr.Else ∷ next))
 
 pub record Place (c : Context) (body : Sequence) (p : ℕ) (labels : List LabelShape) (ts : List ValueType) (rest : Sequence) : Type 0 where
@@ -82,7 +83,7 @@ module _ (c : Context) (body : Sequence) (p : ℕ) (labels : List LabelShape) (t
       closes = ends_at a.gives a.tail _ _ (far_end instr.End) a.closes;
     }
 
-    pub place_block_in : Place c body p labels ts (InBlock t inner rest) → Place c body (suc p) (ShapeOf (results_of t) rest ts rest ∷ labels) [] inner
+    pub place_block_in : Place c body p labels ts (InBlock t inner rest) → Place c body (suc p) (ShapeOf (results_of t) rest ts rest Main ∷ labels) [] inner
     place_block_in a =
         let after = place_block_behind a in
         record {
@@ -102,7 +103,7 @@ module _ (c : Context) (body : Sequence) (p : ℕ) (labels : List LabelShape) (t
       closes = ends_at a.gives a.tail _ _ (far_end instr.End) a.closes;
     }
 
-    pub place_loop_in : Place c body p labels ts (InLoop t inner rest) → Place c body (suc p) (ShapeOf [] (InLoop t inner rest) ts rest ∷ labels) [] inner
+    pub place_loop_in : Place c body p labels ts (InLoop t inner rest) → Place c body (suc p) (ShapeOf [] (InLoop t inner rest) ts rest Main ∷ labels) [] inner
     place_loop_in a =
         let after = place_loop_behind a in
         record {
@@ -122,7 +123,7 @@ module _ (c : Context) (body : Sequence) (p : ℕ) (labels : List LabelShape) (t
       closes = ends_at a.gives a.tail _ _ (far_end instr.End) a.closes;
     }
 
-    pub place_if_in : Place c body p labels ts (InIf t inner rest) → Place c body (suc p) (ShapeOf (results_of t) rest (drop 1 ts) rest ∷ labels) [] inner
+    pub place_if_in : Place c body p labels ts (InIf t inner rest) → Place c body (suc p) (ShapeOf (results_of t) rest (drop 1 ts) rest Main ∷ labels) [] inner
     place_if_in a =
         let after = place_if_behind a in
         record {
@@ -154,7 +155,7 @@ module _ (c : Context) (body : Sequence) (p : ℕ) (labels : List LabelShape) (t
       closes = ends_at a.gives a.tail _ _ far_end_of_two a.closes;
     }
 
-    pub place_choice_first : Place c body p labels ts (InIfElse t first second rest) → Place c body (suc p) (ShapeOf (results_of t) rest (drop 1 ts) rest ∷ labels) [] first
+    pub place_choice_first : Place c body p labels ts (InIfElse t first second rest) → Place c body (suc p) (ShapeOf (results_of t) rest (drop 1 ts) rest Main ∷ labels) [] first
     place_choice_first a = record {
       gives = results_of t;
       tail = instr.Else ∷ (spelled second ++ (instr.End ∷ (spelled rest ++ a.tail)));
@@ -163,7 +164,7 @@ module _ (c : Context) (body : Sequence) (p : ℕ) (labels : List LabelShape) (t
       closes = inr (spelled second ++ (instr.End ∷ (spelled rest ++ a.tail)), refl);
     }
 
-    pub place_choice_second : Place c body p labels ts (InIfElse t first second rest) → Place c body (suc (suc p + length (spelled first))) (ShapeOf (results_of t) rest (drop 1 ts) rest ∷ labels) [] second
+    pub place_choice_second : Place c body p labels ts (InIfElse t first second rest) → Place c body (suc (suc p + length (spelled first))) (ShapeOf (results_of t) rest (drop 1 ts) rest Second ∷ labels) [] second
     place_choice_second a =
         let after = place_choice_behind a in
         record {
@@ -206,7 +207,7 @@ module _ (c : Context) (body : Sequence) where
   reach (InBlock t inner rest) p (suc n) labels ts s a e =
       let L = length (spelled inner) in
       ⊎_elim
-      (λ (h : (n ≤ L) × (shape_at c (ShapeOf (results_of t) rest ts rest ∷ labels) inner [] n ≡ Some s)).
+      (λ (h : (n ≤ L) × (shape_at c (ShapeOf (results_of t) rest ts rest Main ∷ labels) inner [] n ≡ Some s)).
       placed_at (suc p + n) (p + suc n) s (omega arith) (reach inner (suc p) n _ [] s (place_block_in c body p labels ts t inner rest a) h.1))
       (λ (h : (L < n) × (shape_at c labels rest (results_of t ++ ts) (n - (L + 1)) ≡ Some s)).
       placed_at (suc (suc p + L) + (n - (L + 1))) (p + suc n) s (omega (arith, h.0)) (reach rest (suc (suc p + L)) (n - (L + 1)) labels (results_of t ++ ts) s (place_block_behind c body p labels ts t inner rest a) h.1))
@@ -214,7 +215,7 @@ module _ (c : Context) (body : Sequence) where
   reach (InLoop t inner rest) p (suc n) labels ts s a e =
       let L = length (spelled inner) in
       ⊎_elim
-      (λ (h : (n ≤ L) × (shape_at c (ShapeOf [] (InLoop t inner rest) ts rest ∷ labels) inner [] n ≡ Some s)).
+      (λ (h : (n ≤ L) × (shape_at c (ShapeOf [] (InLoop t inner rest) ts rest Main ∷ labels) inner [] n ≡ Some s)).
       placed_at (suc p + n) (p + suc n) s (omega arith) (reach inner (suc p) n _ [] s (place_loop_in c body p labels ts t inner rest a) h.1))
       (λ (h : (L < n) × (shape_at c labels rest (results_of t ++ ts) (n - (L + 1)) ≡ Some s)).
       placed_at (suc (suc p + L) + (n - (L + 1))) (p + suc n) s (omega (arith, h.0)) (reach rest (suc (suc p + L)) (n - (L + 1)) labels (results_of t ++ ts) s (place_loop_behind c body p labels ts t inner rest a) h.1))
@@ -222,7 +223,7 @@ module _ (c : Context) (body : Sequence) where
   reach (InIf t inner rest) p (suc n) labels ts s a e =
       let L = length (spelled inner) in
       ⊎_elim
-      (λ (h : (n ≤ L) × (shape_at c (ShapeOf (results_of t) rest (drop 1 ts) rest ∷ labels) inner [] n ≡ Some s)).
+      (λ (h : (n ≤ L) × (shape_at c (ShapeOf (results_of t) rest (drop 1 ts) rest Main ∷ labels) inner [] n ≡ Some s)).
       placed_at (suc p + n) (p + suc n) s (omega arith) (reach inner (suc p) n _ [] s (place_if_in c body p labels ts t inner rest a) h.1))
       (λ (h : (L < n) × (shape_at c labels rest (results_of t ++ drop 1 ts) (n - (L + 1)) ≡ Some s)).
       placed_at (suc (suc p + L) + (n - (L + 1))) (p + suc n) s (omega (arith, h.0)) (reach rest (suc (suc p + L)) (n - (L + 1)) labels (results_of t ++ drop 1 ts) s (place_if_behind c body p labels ts t inner rest a) h.1))
@@ -230,11 +231,11 @@ module _ (c : Context) (body : Sequence) where
   reach (InIfElse t first second rest) p (suc n) labels ts s a e =
       let L = length (spelled first) in let M = length (spelled second) in
       ⊎_elim
-      (λ (h : (n ≤ L) × (shape_at c (ShapeOf (results_of t) rest (drop 1 ts) rest ∷ labels) first [] n ≡ Some s)).
+      (λ (h : (n ≤ L) × (shape_at c (ShapeOf (results_of t) rest (drop 1 ts) rest Main ∷ labels) first [] n ≡ Some s)).
       placed_at (suc p + n) (p + suc n) s (omega arith) (reach first (suc p) n _ [] s (place_choice_first c body p labels ts t first second rest a) h.1))
-      (λ (h : (L < n) × ((if nat_le (n - (L + 1)) M then shape_at c (ShapeOf (results_of t) rest (drop 1 ts) rest ∷ labels) second [] (n - (L + 1)) else shape_at c labels rest (results_of t ++ drop 1 ts) (n - (L + 1) - (M + 1))) ≡ Some s)).
+      (λ (h : (L < n) × ((if nat_le (n - (L + 1)) M then shape_at c (ShapeOf (results_of t) rest (drop 1 ts) rest Second ∷ labels) second [] (n - (L + 1)) else shape_at c labels rest (results_of t ++ drop 1 ts) (n - (L + 1) - (M + 1))) ≡ Some s)).
       ⊎_elim
-      (λ (k : (n - (L + 1) ≤ M) × (shape_at c (ShapeOf (results_of t) rest (drop 1 ts) rest ∷ labels) second [] (n - (L + 1)) ≡ Some s)).
+      (λ (k : (n - (L + 1) ≤ M) × (shape_at c (ShapeOf (results_of t) rest (drop 1 ts) rest Second ∷ labels) second [] (n - (L + 1)) ≡ Some s)).
       placed_at (suc (suc p + L) + (n - (L + 1))) (p + suc n) s (omega (arith, h.0)) (reach second (suc (suc p + L)) (n - (L + 1)) _ [] s (place_choice_second c body p labels ts t first second rest a) k.1))
       (λ (k : (M < n - (L + 1)) × (shape_at c labels rest (results_of t ++ drop 1 ts) (n - (L + 1) - (M + 1)) ≡ Some s)).
       placed_at (suc (suc (suc p + L) + M) + (n - (L + 1) - (M + 1))) (p + suc n) s (omega (arith, h.0, k.0)) (reach rest (suc (suc (suc p + L) + M)) (n - (L + 1) - (M + 1)) labels (results_of t ++ drop 1 ts) s (place_choice_behind c body p labels ts t first second rest a) k.1))
@@ -262,13 +263,13 @@ module _ (c : Context) (body : Sequence) where
   in_body n m x y h true t = refl
   in_body n m x y h false t = absurd (let no : m < n = grind (arith, nat_tests) in omega arith)
 
-  pub root_runs : IsTypedBody c body → RunsFrom c body 0 (ShapeOf c.returns Stop [] Stop ∷ []) body [] c.returns
+  pub root_runs : IsTypedBody c body → RunsFrom c body 0 (ShapeOf c.returns Stop [] Stop Main ∷ []) body [] c.returns
   root_runs typed = record {
     typed = typed;
     covers = record { at = λ n h. let same : 0 + n ≡ n = omega arith in ap (λ z. body_shape c body z) same ∙ in_body n (length (spelled body)) _ _ h (nat_le n (length (spelled body))) refl };
   }
 
-  pub root_place : IsTypedBody c body → Place c body 0 (ShapeOf c.returns Stop [] Stop ∷ []) [] body
+  pub root_place : IsTypedBody c body → Place c body 0 (ShapeOf c.returns Stop [] Stop Main ∷ []) [] body
   root_place typed = record {
     gives = c.returns;
     tail = instr.End ∷ [];
@@ -278,10 +279,10 @@ module _ (c : Context) (body : Sequence) where
   }
 
   -- a position is inside of the body or behind its last end
-  pub where_position : (p : ℕ) (s : Shape) → body_shape c body p ≡ Some s → ((p ≤ length (spelled body)) × (shape_at c (ShapeOf c.returns Stop [] Stop ∷ []) body [] p ≡ Some s)) ⊎ ((p ≡ length (spelled body) + 1) × (end_shape ≡ s))
+  pub where_position : (p : ℕ) (s : Shape) → body_shape c body p ≡ Some s → ((p ≤ length (spelled body)) × (shape_at c (ShapeOf c.returns Stop [] Stop Main ∷ []) body [] p ≡ Some s)) ⊎ ((p ≡ length (spelled body) + 1) × (end_shape ≡ s))
   where_position p s e =
       ⊎_elim
-      (λ (h : (p ≤ length (spelled body)) × (shape_at c (ShapeOf c.returns Stop [] Stop ∷ []) body [] p ≡ Some s)). inl h)
+      (λ (h : (p ≤ length (spelled body)) × (shape_at c (ShapeOf c.returns Stop [] Stop Main ∷ []) body [] p ≡ Some s)). inl h)
       (λ (h : (length (spelled body) < p) × ((if p == length (spelled body) + 1 then Some end_shape else None) ≡ Some s)). inr (at_end (p == length (spelled body) + 1) refl h.1))
       (chosen p (length (spelled body)) _ _ s e)
     where
@@ -292,6 +293,6 @@ module _ (c : Context) (body : Sequence) where
   pub where_shape : (p : ℕ) (s : Shape) → IsTypedBody c body → body_shape c body p ≡ Some s → PlaceOf c body p s ⊎ ((p ≡ length (spelled body) + 1) × (end_shape ≡ s))
   where_shape p s typed e =
       ⊎_elim
-      (λ (h : (p ≤ length (spelled body)) × (shape_at c (ShapeOf c.returns Stop [] Stop ∷ []) body [] p ≡ Some s)). inl (placed_at (0 + p) p s (omega arith) (reach body 0 p _ [] s (root_place typed) h.1)))
+      (λ (h : (p ≤ length (spelled body)) × (shape_at c (ShapeOf c.returns Stop [] Stop Main ∷ []) body [] p ≡ Some s)). inl (placed_at (0 + p) p s (omega arith) (reach body 0 p _ [] s (root_place typed) h.1)))
       (λ (h : (p ≡ length (spelled body) + 1) × (end_shape ≡ s)). inr h)
       (where_position p s e)

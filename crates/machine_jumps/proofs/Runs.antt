@@ -7,6 +7,7 @@ use Rattle.wasm_syntax.specs.declared.types.ValueType.{ValueType}
 use Rattle.wasm_syntax.specs.declared.instruction.Instruction.{Instruction}
 use Rattle.wasm_syntax.specs.declared.instruction.Instruction.TheVariants as instr
 use Rattle.wasm_syntax.specs.rules.Sequence.{Sequence, Plain, InBlock, InLoop, InIf, InIfElse, spelled}
+use Rattle.wasm_syntax_rules.specs.Configuration.{Main, Second}
 use Rattle.wasm_syntax_rules.specs.Types.{results_of}
 use Rattle.wasm_syntax_rules.specs.Typing.{Context, HasType}
 use Rattle.wasm_syntax_rules.specs.Shapes.{Shape, LabelShape, ShapeOf, types_behind, shape_at, body_shape}
@@ -15,7 +16,7 @@ use Rattle.wasm_syntax_rules.proofs.TypedShape.{IsBehind, rule_behind}
 -- what branches to the labels take
 abbrev pub branches_of : List LabelShape → List (List ValueType)
 branches_of [] = []
-branches_of (ShapeOf takes target below after ∷ labels) = takes ∷ branches_of labels
+branches_of (ShapeOf takes target below after which ∷ labels) = takes ∷ branches_of labels
 
 -- from position p on, up to the one with this number from there, the shapes are these
 pub record Agrees (c : Context) (body : Sequence) (p len : ℕ) (shapes : ℕ → Option Shape) : Type 0 where
@@ -70,13 +71,13 @@ module _ (c : Context) (body : Sequence) (p : ℕ) (labels : List LabelShape) (t
 
   -- a sequence in a block, closed by its end, and what follows
   module _ (t : Option ValueType) (inner rest : Sequence) where
-    pub run_block_in : RunsFrom c body p labels (InBlock t inner rest) ts gives → RunsFrom c body (suc p) (ShapeOf (results_of t) rest ts rest ∷ labels) inner [] (results_of t)
+    pub run_block_in : RunsFrom c body p labels (InBlock t inner rest) ts gives → RunsFrom c body (suc p) (ShapeOf (results_of t) rest ts rest Main ∷ labels) inner [] (results_of t)
     run_block_in r =
         let L = length (spelled inner) in let R = length (spelled rest) in
         let len = closed_length (spelled inner) (spelled rest) instr.End in
         record {
           typed = r.typed.0;
-          covers = agrees_first c body (suc p) (L + suc R) L R _ (λ n. shape_at c (ShapeOf (results_of t) rest ts rest ∷ labels) inner [] n) (λ n. shape_at c labels rest (results_of t ++ ts) n)
+          covers = agrees_first c body (suc p) (L + suc R) L R _ (λ n. shape_at c (ShapeOf (results_of t) rest ts rest Main ∷ labels) inner [] n) (λ n. shape_at c labels rest (results_of t ++ ts) n)
               (agrees_behind c body p _ (L + suc R) (λ n. shape_at c labels (InBlock t inner rest) ts n) r.covers (ap suc len)) refl (λ n. refl);
         }
 
@@ -86,17 +87,17 @@ module _ (c : Context) (body : Sequence) (p : ℕ) (labels : List LabelShape) (t
         let len = closed_length (spelled inner) (spelled rest) instr.End in
         record {
           typed = r.typed.1;
-          covers = agrees_second c body (suc p) (L + suc R) L R _ (λ n. shape_at c (ShapeOf (results_of t) rest ts rest ∷ labels) inner [] n) (λ n. shape_at c labels rest (results_of t ++ ts) n)
+          covers = agrees_second c body (suc p) (L + suc R) L R _ (λ n. shape_at c (ShapeOf (results_of t) rest ts rest Main ∷ labels) inner [] n) (λ n. shape_at c labels rest (results_of t ++ ts) n)
               (agrees_behind c body p _ (L + suc R) (λ n. shape_at c labels (InBlock t inner rest) ts n) r.covers (ap suc len)) refl (λ n. refl);
         }
 
-    pub run_loop_in : RunsFrom c body p labels (InLoop t inner rest) ts gives → RunsFrom c body (suc p) (ShapeOf [] (InLoop t inner rest) ts rest ∷ labels) inner [] (results_of t)
+    pub run_loop_in : RunsFrom c body p labels (InLoop t inner rest) ts gives → RunsFrom c body (suc p) (ShapeOf [] (InLoop t inner rest) ts rest Main ∷ labels) inner [] (results_of t)
     run_loop_in r =
         let L = length (spelled inner) in let R = length (spelled rest) in
         let len = closed_length (spelled inner) (spelled rest) instr.End in
         record {
           typed = r.typed.0;
-          covers = agrees_first c body (suc p) (L + suc R) L R _ (λ n. shape_at c (ShapeOf [] (InLoop t inner rest) ts rest ∷ labels) inner [] n) (λ n. shape_at c labels rest (results_of t ++ ts) n)
+          covers = agrees_first c body (suc p) (L + suc R) L R _ (λ n. shape_at c (ShapeOf [] (InLoop t inner rest) ts rest Main ∷ labels) inner [] n) (λ n. shape_at c labels rest (results_of t ++ ts) n)
               (agrees_behind c body p _ (L + suc R) (λ n. shape_at c labels (InLoop t inner rest) ts n) r.covers (ap suc len)) refl (λ n. refl);
         }
 
@@ -106,18 +107,18 @@ module _ (c : Context) (body : Sequence) (p : ℕ) (labels : List LabelShape) (t
         let len = closed_length (spelled inner) (spelled rest) instr.End in
         record {
           typed = r.typed.1;
-          covers = agrees_second c body (suc p) (L + suc R) L R _ (λ n. shape_at c (ShapeOf [] (InLoop t inner rest) ts rest ∷ labels) inner [] n) (λ n. shape_at c labels rest (results_of t ++ ts) n)
+          covers = agrees_second c body (suc p) (L + suc R) L R _ (λ n. shape_at c (ShapeOf [] (InLoop t inner rest) ts rest Main ∷ labels) inner [] n) (λ n. shape_at c labels rest (results_of t ++ ts) n)
               (agrees_behind c body p _ (L + suc R) (λ n. shape_at c labels (InLoop t inner rest) ts n) r.covers (ap suc len)) refl (λ n. refl);
         }
 
-    pub run_if_in : RunsFrom c body p labels (InIf t inner rest) ts gives → RunsFrom c body (suc p) (ShapeOf (results_of t) rest (drop 1 ts) rest ∷ labels) inner [] (results_of t)
+    pub run_if_in : RunsFrom c body p labels (InIf t inner rest) ts gives → RunsFrom c body (suc p) (ShapeOf (results_of t) rest (drop 1 ts) rest Main ∷ labels) inner [] (results_of t)
     run_if_in r =
         let L = length (spelled inner) in let R = length (spelled rest) in
         let len = closed_length (spelled inner) (spelled rest) instr.End in
         let h = r.typed in
         record {
           typed = subst (λ z. HasType c (results_of z ∷ branches_of labels) inner [] (results_of z)) (sym h.2) h.3;
-          covers = agrees_first c body (suc p) (L + suc R) L R _ (λ n. shape_at c (ShapeOf (results_of t) rest (drop 1 ts) rest ∷ labels) inner [] n) (λ n. shape_at c labels rest (results_of t ++ drop 1 ts) n)
+          covers = agrees_first c body (suc p) (L + suc R) L R _ (λ n. shape_at c (ShapeOf (results_of t) rest (drop 1 ts) rest Main ∷ labels) inner [] n) (λ n. shape_at c labels rest (results_of t ++ drop 1 ts) n)
               (agrees_behind c body p _ (L + suc R) (λ n. shape_at c labels (InIf t inner rest) ts n) r.covers (ap suc len)) refl (λ n. refl);
         }
 
@@ -130,18 +131,15 @@ module _ (c : Context) (body : Sequence) (p : ℕ) (labels : List LabelShape) (t
         let rest_typed : HasType c (branches_of labels) rest (drop 1 ts) gives = subst (λ z. HasType c (branches_of labels) rest z gives) below h.4 in
         record {
           typed = subst (λ z. HasType c (branches_of labels) rest (results_of z ++ drop 1 ts) gives) (sym h.2) rest_typed;
-          covers = agrees_second c body (suc p) (L + suc R) L R _ (λ n. shape_at c (ShapeOf (results_of t) rest (drop 1 ts) rest ∷ labels) inner [] n) (λ n. shape_at c labels rest (results_of t ++ drop 1 ts) n)
+          covers = agrees_second c body (suc p) (L + suc R) L R _ (λ n. shape_at c (ShapeOf (results_of t) rest (drop 1 ts) rest Main ∷ labels) inner [] n) (λ n. shape_at c labels rest (results_of t ++ drop 1 ts) n)
               (agrees_behind c body p _ (L + suc R) (λ n. shape_at c labels (InIf t inner rest) ts n) r.covers (ap suc len)) refl (λ n. refl);
         }
 
   -- an `if` with two parts, and what follows
   module _ (t : Option ValueType) (first second rest : Sequence) where
-    label : LabelShape
-    label = ShapeOf (results_of t) rest (drop 1 ts) rest
-
     -- the positions from the second part on
     from_second : ℕ → Option Shape
-    from_second n = if nat_le n (length (spelled second)) then shape_at c (ShapeOf (results_of t) rest (drop 1 ts) rest ∷ labels) second [] n else shape_at c labels rest (results_of t ++ drop 1 ts) (n - (length (spelled second) + 1))
+    from_second n = if nat_le n (length (spelled second)) then shape_at c (ShapeOf (results_of t) rest (drop 1 ts) rest Second ∷ labels) second [] n else shape_at c labels rest (results_of t ++ drop 1 ts) (n - (length (spelled second) + 1))
 
     choice_length : length (spelled first ++ (instr.Else ∷ (spelled second ++ (instr.End ∷ spelled rest)))) ≡ length (spelled first) + suc (length (spelled second) + suc (length (spelled rest)))
     choice_length = let len = closed_length (spelled second) (spelled rest) instr.End in closed_length (spelled first) (spelled second ++ (instr.End ∷ spelled rest)) instr.Else ∙ ap (λ z. length (spelled first) + suc z) len
@@ -151,20 +149,20 @@ module _ (c : Context) (body : Sequence) (p : ℕ) (labels : List LabelShape) (t
 
     behind_else : RunsFrom c body p labels (InIfElse t first second rest) ts gives → Agrees c body (suc (suc p + length (spelled first))) (length (spelled second) + suc (length (spelled rest))) from_second
     unfolding from_second
-    behind_else r = agrees_second c body (suc p) _ (length (spelled first)) (length (spelled second) + suc (length (spelled rest))) _ (λ n. shape_at c (ShapeOf (results_of t) rest (drop 1 ts) rest ∷ labels) first [] n) from_second (behind_if r) refl (λ n. refl)
+    behind_else r = agrees_second c body (suc p) _ (length (spelled first)) (length (spelled second) + suc (length (spelled rest))) _ (λ n. shape_at c (ShapeOf (results_of t) rest (drop 1 ts) rest Main ∷ labels) first [] n) from_second (behind_if r) refl (λ n. refl)
 
-    pub run_choice_first : RunsFrom c body p labels (InIfElse t first second rest) ts gives → RunsFrom c body (suc p) (ShapeOf (results_of t) rest (drop 1 ts) rest ∷ labels) first [] (results_of t)
+    pub run_choice_first : RunsFrom c body p labels (InIfElse t first second rest) ts gives → RunsFrom c body (suc p) (ShapeOf (results_of t) rest (drop 1 ts) rest Main ∷ labels) first [] (results_of t)
     unfolding from_second
     run_choice_first r = record {
       typed = r.typed.2;
-      covers = agrees_first c body (suc p) _ (length (spelled first)) (length (spelled second) + suc (length (spelled rest))) _ (λ n. shape_at c (ShapeOf (results_of t) rest (drop 1 ts) rest ∷ labels) first [] n) from_second (behind_if r) refl (λ n. refl);
+      covers = agrees_first c body (suc p) _ (length (spelled first)) (length (spelled second) + suc (length (spelled rest))) _ (λ n. shape_at c (ShapeOf (results_of t) rest (drop 1 ts) rest Main ∷ labels) first [] n) from_second (behind_if r) refl (λ n. refl);
     }
 
-    pub run_choice_second : RunsFrom c body p labels (InIfElse t first second rest) ts gives → RunsFrom c body (suc (suc p + length (spelled first))) (ShapeOf (results_of t) rest (drop 1 ts) rest ∷ labels) second [] (results_of t)
+    pub run_choice_second : RunsFrom c body p labels (InIfElse t first second rest) ts gives → RunsFrom c body (suc (suc p + length (spelled first))) (ShapeOf (results_of t) rest (drop 1 ts) rest Second ∷ labels) second [] (results_of t)
     unfolding from_second
     run_choice_second r = record {
       typed = r.typed.3;
-      covers = agrees_first c body _ _ (length (spelled second)) (length (spelled rest)) from_second (λ n. shape_at c (ShapeOf (results_of t) rest (drop 1 ts) rest ∷ labels) second [] n) (λ n. shape_at c labels rest (results_of t ++ drop 1 ts) n) (behind_else r) refl (λ n. refl);
+      covers = agrees_first c body _ _ (length (spelled second)) (length (spelled rest)) from_second (λ n. shape_at c (ShapeOf (results_of t) rest (drop 1 ts) rest Second ∷ labels) second [] n) (λ n. shape_at c labels rest (results_of t ++ drop 1 ts) n) (behind_else r) refl (λ n. refl);
     }
 
     pub run_choice_behind : RunsFrom c body p labels (InIfElse t first second rest) ts gives → RunsFrom c body (suc (suc (suc p + length (spelled first)) + length (spelled second))) labels rest (results_of t ++ drop 1 ts) gives
@@ -174,5 +172,5 @@ module _ (c : Context) (body : Sequence) (p : ℕ) (labels : List LabelShape) (t
         let below : h.0 ≡ drop 1 ts = sym (ap (drop 1) h.1) in
         record {
           typed = subst (λ z. HasType c (branches_of labels) rest (results_of t ++ z) gives) below h.4;
-          covers = agrees_second c body _ _ (length (spelled second)) (length (spelled rest)) from_second (λ n. shape_at c (ShapeOf (results_of t) rest (drop 1 ts) rest ∷ labels) second [] n) (λ n. shape_at c labels rest (results_of t ++ drop 1 ts) n) (behind_else r) refl (λ n. refl);
+          covers = agrees_second c body _ _ (length (spelled second)) (length (spelled rest)) from_second (λ n. shape_at c (ShapeOf (results_of t) rest (drop 1 ts) rest Second ∷ labels) second [] n) (λ n. shape_at c labels rest (results_of t ++ drop 1 ts) n) (behind_else r) refl (λ n. refl);
         }

@@ -22,10 +22,10 @@ pub record JumpsTo (c : Context) (body : Sequence) (kept below : List ValueType)
 -- the last end are its results.
 abbrev pub IsJump : Context → Sequence → List LabelShape → ℕ → Jump → Type 0
 IsJump c body [] l jump = ⊥
-IsJump c body (ShapeOf takes target below after ∷ outer) zero jump = JumpsTo c body takes below outer target jump
+IsJump c body (ShapeOf takes target below after which ∷ outer) zero jump = JumpsTo c body takes below outer target jump
 IsJump c body (label ∷ outer) (suc l) jump = IsJump c body outer l jump
 
 -- The jump leaves the innermost sequence, whose values are of the types ts, as its end does.
 abbrev pub IsExit : Context → Sequence → List LabelShape → List ValueType → Jump → Type 0
 IsExit c body [] ts jump = ⊥
-IsExit c body (ShapeOf takes target below after ∷ outer) ts jump = JumpsTo c body ts below outer after jump
+IsExit c body (ShapeOf takes target below after which ∷ outer) ts jump = JumpsTo c body ts below outer after jump

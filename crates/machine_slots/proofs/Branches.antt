@@ -17,7 +17,7 @@ use Rattle.machine_slots.proofs.Families.{map-reverse}
 
 pub held_all : (labels : List Label) → held_below labels ≡ length (all_below labels)
 held_all [] = refl
-held_all (LabelOf keeps target below after ∷ labels) = omega (arith, held_all labels, length-append below (all_below labels))
+held_all (LabelOf keeps target below after which ∷ labels) = omega (arith, held_all labels, length-append below (all_below labels))
 
 -- the topmost values are in front of the others
 pub topmost_is : (n : ℕ) (vs kept : List Value) → topmost n vs ≡ Some kept → (length kept ≡ n) × (vs ≡ kept ++ drop n vs)
@@ -47,9 +47,9 @@ record Leads (l : ℕ) (labels outer : List Label) (vs values : List Value) : Ty
 leads : (l f g : ℕ) (ls ms : List Value) (labels outer : List Label) (vs values : List Value) (target : Sequence) → branch l f ls labels vs ≡ Some (FrameOf g ms outer values target) → Leads l labels outer vs values
 leads zero f g ls ms [] outer vs values target e = absurd (cc)
 leads (suc l) f g ls ms [] outer vs values target e = absurd (cc)
-leads zero f g ls ms (LabelOf keeps target' below after ∷ labels) outer vs values target e = here (topmost keeps vs) refl e
+leads zero f g ls ms (LabelOf keeps target' below after which ∷ labels) outer vs values target e = here (topmost keeps vs) refl e
   where
-    here : (o : Option (List Value)) → topmost keeps vs ≡ o → option_map (λ kept. FrameOf f ls labels (kept ++ below) target') o ≡ Some (FrameOf g ms outer values target) → Leads zero (LabelOf keeps target' below after ∷ labels) outer vs values
+    here : (o : Option (List Value)) → topmost keeps vs ≡ o → option_map (λ kept. FrameOf f ls labels (kept ++ below) target') o ≡ Some (FrameOf g ms outer values target) → Leads zero (LabelOf keeps target' below after which ∷ labels) outer vs values
     here None h e = absurd (cc)
     here (Some kept) h e =
         let t = topmost_is keeps vs kept h in
@@ -61,12 +61,12 @@ leads zero f g ls ms (LabelOf keeps target' below after ∷ labels) outer vs val
           skipped = [];
           below = below;
           counts = sym t.0;
-          height = held_all (LabelOf keeps target' below after ∷ labels) ∙ ap (λ z. length (below ++ all_below z)) same;
+          height = held_all (LabelOf keeps target' below after which ∷ labels) ∙ ap (λ z. length (below ++ all_below z)) same;
           operands = t.1;
           leaves = sym left;
           all = ap (λ z. below ++ all_below z) same;
         }
-leads (suc l) f g ls ms (LabelOf keeps target' below after ∷ labels) outer vs values target e =
+leads (suc l) f g ls ms (LabelOf keeps target' below after which ∷ labels) outer vs values target e =
     let r = leads l f g ls ms labels outer vs values target e in
     record {
       kept = r.kept;

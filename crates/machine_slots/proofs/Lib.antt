@@ -3,4 +3,5 @@ pub mod Falls
 pub mod Families
 pub mod Outcomes
 pub mod Places
+pub mod ShapePositions
 pub mod TypedFrames

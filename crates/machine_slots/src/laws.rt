@@ -1,7 +1,7 @@
 //! Laws over all programs and frames. The functions do nothing: what they ensure is the law.
 
 ghost use Rattle.machine_slots.specs.laws.StackLimits.{StackLimitNumbers};
-ghost use Rattle.machine_slots.specs.laws.Laws.{BranchesFall, EntryPushesZeros, ReturnsFall, SlotsAreWords, TypedFramesAreReady, WordsAreSlots};
+ghost use Rattle.machine_slots.specs.laws.Laws.{BranchesFall, EntryPushesZeros, LabelsTellPositions, ReturnsFall, ShapesTellPositions, SlotsAreWords, TypedFramesAreReady, WordsAreSlots};
 
 /// Whoever shows a typed frame may operate on it.
 pub fn typed_frames_are_ready()
@@ -19,6 +19,13 @@ pub fn jumps_are_falls()
     ensures branches { BranchesFall }
     ensures returns { ReturnsFall }
     ensures entries { EntryPushesZeros }
+{}
+
+/// The shape at a position of a body tells which position it is, and so do the labels of a frame there, with how many
+/// opcodes remain.
+pub fn shapes_tell_positions()
+    ensures shapes { ShapesTellPositions }
+    ensures labels { LabelsTellPositions }
 {}
 
 /// What each limit of the stack is.

@@ -14,6 +14,8 @@
 //! - `typed_frames_are_ready`: a typed frame that is shown has the operands of its instruction.
 //! - `words_are_slots`, `jumps_are_falls`: words and slots are the same list in either order, and
 //!   branches, returns and entries are moves of words.
+//! - `shapes_tell_positions`: no two positions of a body have one shape, so that what stands in a
+//!   frame tells its position.
 //!
 //! # Definitions to read
 //!
@@ -43,7 +45,7 @@ mod words;
 
 pub use effects::operate;
 pub use integers::{apply_binary, apply_comparison, apply_conversion, apply_unary, eqz};
-pub use laws::{jumps_are_falls, typed_frames_are_ready, words_are_slots};
+pub use laws::{jumps_are_falls, shapes_tell_positions, typed_frames_are_ready, words_are_slots};
 pub use linear_memory::{load, memory_grow, memory_size, store};
 pub use outcome::EffectOutcome;
 pub use parametric::{constant, drop_top, select};

@@ -5,7 +5,7 @@ use Rattle.wasm_syntax.specs.declared.instruction.Instruction.{Instruction}
 use Rattle.wasm_syntax.specs.declared.instruction.Instruction.TheVariants as instr
 use Rattle.wasm_syntax.specs.rules.Sequence.{Sequence, Stop, Plain}
 use Rattle.wasm_syntax.specs.laws.Examples.{echo, no_type, transfer_type}
-use Rattle.wasm_syntax_rules.specs.Configuration.{Host, Own, LabelOf, FrameOf, Thread, Configuration, Goes}
+use Rattle.wasm_syntax_rules.specs.Configuration.{Host, Own, LabelOf, FrameOf, Thread, Configuration, Goes, Main}
 use Rattle.wasm_syntax_rules.specs.laws.Examples.{v}
 use Rattle.wasm_syntax_rules.specs.Instantiation.{filled_memory, empty_memory}
 use Rattle.wasm_syntax_rules.specs.Steps.{rule, loop_label, IsSettled, here, on}
@@ -69,10 +69,10 @@ abbrev blank : Thread → Bytes → Configuration
 blank thread memory = record { store = record { memory = memory; globals = []; table = [] }; thread = thread; later = [] }
 
 abbrev around : Thread
-around = FrameOf 2 [] (LabelOf 0 Stop [] Stop ∷ []) [] looping ∷ []
+around = FrameOf 2 [] (LabelOf 0 Stop [] Stop Main ∷ []) [] looping ∷ []
 
 abbrev inside : List Value → Sequence → Thread
-inside values rest = FrameOf 2 [] (loop_label None round [] Stop ∷ LabelOf 0 Stop [] Stop ∷ []) values rest ∷ []
+inside values rest = FrameOf 2 [] (loop_label None round [] Stop ∷ LabelOf 0 Stop [] Stop Main ∷ []) values rest ∷ []
 
 -- after n steps, that many answers
 abbrev after : ℕ → ℕ → host.Host → Configuration → ProcessState

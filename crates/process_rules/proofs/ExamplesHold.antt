@@ -6,7 +6,7 @@ use Rattle.wasm_syntax.specs.declared.instruction.Instruction.{Instruction}
 use Rattle.wasm_syntax.specs.declared.instruction.Instruction.TheVariants as instr
 use Rattle.wasm_syntax.specs.rules.Sequence.{Sequence, Stop, Plain, Spells}
 use Rattle.wasm_syntax.specs.laws.Examples.{hello, idle, idle_with_code, no_type}
-use Rattle.wasm_syntax_rules.specs.Configuration.{Own, Configuration, Thread, LabelOf, FrameOf}
+use Rattle.wasm_syntax_rules.specs.Configuration.{Own, Configuration, Thread, LabelOf, FrameOf, Main}
 use Rattle.wasm_syntax_rules.specs.laws.Examples.{program_of_hello as hello_program, hello_sequence, in_hello, rest_behind_call, const_32, v}
 use Rattle.wasm_syntax_rules.specs.Instantiation.{filled_memory, empty_memory}
 use Rattle.wasm_syntax_rules.specs.Steps.{Settles, here, on}
@@ -180,7 +180,7 @@ trapping_spells : Spells (instr.Unreachable ∷ instr.End ∷ []) trapping_body
 trapping_spells = record { is = refl; nested = (tt, tt) }
 
 abbrev before_trap : Thread
-before_trap = FrameOf 0 [] (LabelOf 0 Stop [] Stop ∷ []) [] trapping_body ∷ []
+before_trap = FrameOf 0 [] (LabelOf 0 Stop [] Stop Main ∷ []) [] trapping_body ∷ []
 
 abbrev trapped : Settings → ProcessState
 trapped config = record (at_first config []) { steps = 1; ended = Some (Trapped trap.Unreachable) }

@@ -11,6 +11,7 @@ use Rattle.wasm_syntax.specs.declared.types.GlobalType.{GlobalType}
 use Rattle.wasm_syntax.specs.declared.instruction.Instruction.{Instruction}
 use Rattle.wasm_syntax.specs.declared.instruction.Instruction.TheVariants as instr
 use Rattle.wasm_syntax.specs.rules.Sequence.{Sequence, Stop, Plain, InBlock, InLoop, InIf, InIfElse, spelled}
+use Rattle.wasm_syntax_rules.specs.Configuration.{Main, Second}
 use Rattle.wasm_syntax_rules.specs.Types.{takes_of, gives_of, results_of}
 use Rattle.wasm_syntax_rules.specs.Typing.{Context}
 use Rattle.wasm_syntax_rules.specs.Shapes.{Shape, LabelShape, ShapeOf, in_place_of, types_behind, shape_at, body_shape}
@@ -93,23 +94,23 @@ module _ (c : Context) (types : AllByRecursion GivesOneAtMost c.types) (function
       (λ us few. lower (shape_at c labels rest us n) (length us + labels_height labels + n) (length ts + labels_height labels + suc n) (shape_low labels rest us n) (omega arith))
   shape_low labels (InBlock t body rest) ts (suc n) =
       either_low (nat_le n (length (spelled body))) _ _ (length ts + labels_height labels + suc n)
-      (lower _ _ _ (shape_low (ShapeOf (results_of t) rest ts rest ∷ labels) body [] n) (omega arith))
+      (lower _ _ _ (shape_low (ShapeOf (results_of t) rest ts rest Main ∷ labels) body [] n) (omega arith))
       (lower _ _ _ (shape_low labels rest (results_of t ++ ts) (n - (length (spelled body) + 1))) (let r = results_few t ts in omega arith))
   shape_low labels (InLoop t body rest) ts (suc n) =
       either_low (nat_le n (length (spelled body))) _ _ (length ts + labels_height labels + suc n)
-      (lower _ _ _ (shape_low (ShapeOf [] (InLoop t body rest) ts rest ∷ labels) body [] n) (omega arith))
+      (lower _ _ _ (shape_low (ShapeOf [] (InLoop t body rest) ts rest Main ∷ labels) body [] n) (omega arith))
       (lower _ _ _ (shape_low labels rest (results_of t ++ ts) (n - (length (spelled body) + 1))) (let r = results_few t ts in omega arith))
   shape_low labels (InIf t first rest) ts (suc n) =
       let d = drop_few 1 ts in let r = results_few t (drop 1 ts) in
       either_low (nat_le n (length (spelled first))) _ _ (length ts + labels_height labels + suc n)
-      (lower _ _ _ (shape_low (ShapeOf (results_of t) rest (drop 1 ts) rest ∷ labels) first [] n) (omega arith))
+      (lower _ _ _ (shape_low (ShapeOf (results_of t) rest (drop 1 ts) rest Main ∷ labels) first [] n) (omega arith))
       (lower _ _ _ (shape_low labels rest (results_of t ++ drop 1 ts) (n - (length (spelled first) + 1))) (omega arith))
   shape_low labels (InIfElse t first second rest) ts (suc n) =
       let d = drop_few 1 ts in let r = results_few t (drop 1 ts) in
       either_low (nat_le n (length (spelled first))) _ _ (length ts + labels_height labels + suc n)
-      (lower _ _ _ (shape_low (ShapeOf (results_of t) rest (drop 1 ts) rest ∷ labels) first [] n) (omega arith))
+      (lower _ _ _ (shape_low (ShapeOf (results_of t) rest (drop 1 ts) rest Main ∷ labels) first [] n) (omega arith))
       (either_low (nat_le (n - (length (spelled first) + 1)) (length (spelled second))) _ _ (length ts + labels_height labels + suc n)
-      (lower _ _ _ (shape_low (ShapeOf (results_of t) rest (drop 1 ts) rest ∷ labels) second [] (n - (length (spelled first) + 1))) (omega arith))
+      (lower _ _ _ (shape_low (ShapeOf (results_of t) rest (drop 1 ts) rest Second ∷ labels) second [] (n - (length (spelled first) + 1))) (omega arith))
       (lower _ _ _ (shape_low labels rest (results_of t ++ drop 1 ts) (n - (length (spelled first) + 1) - (length (spelled second) + 1))) (omega arith)))
 
 behind_end : (c : Context) (p n : ℕ) → length c.returns ≤ 1 → (b : Bool) → (p == n + 1) ≡ b → IsLow (if b then Some (record { labels = []; operands = c.returns; rest = Stop }) else None) p
@@ -119,7 +120,7 @@ behind_end c p n one false e = tt
 body_low : (c : Context) (body : Sequence) (p : ℕ) → AllByRecursion GivesOneAtMost c.types → AllByRecursion GivesOneAtMost c.functions → length c.returns ≤ 1 → IsLow (body_shape c body p) p
 body_low c body p types functions one =
     either_low (nat_le p (length (spelled body))) _ _ p
-    (lower _ _ _ (shape_low c types functions (ShapeOf c.returns Stop [] Stop ∷ []) body [] p) (omega arith))
+    (lower _ _ _ (shape_low c types functions (ShapeOf c.returns Stop [] Stop Main ∷ []) body [] p) (omega arith))
     (behind_end c p (length (spelled body)) one (p == length (spelled body) + 1) refl)
 
 pub heights_small : HeightsAreSmall

@@ -11,6 +11,7 @@ use Rattle.wasm_syntax.specs.declared.value.Value.TheVariants as value
 use Rattle.wasm_syntax.specs.declared.instruction.Instruction.{Instruction}
 use Rattle.wasm_syntax.specs.declared.instruction.Instruction.TheVariants as instr
 use Rattle.wasm_syntax.specs.rules.Sequence.{Sequence, Stop, Plain, InBlock, InLoop, InIf, InIfElse, spelled}
+use Rattle.wasm_syntax_rules.specs.Configuration.{Main, Second}
 use Rattle.wasm_syntax_rules.specs.Types.{IsOf, takes_of, gives_of, results_of}
 use Rattle.wasm_syntax_rules.specs.Typing.{Context, HasRule, HasType}
 use Rattle.wasm_syntax_rules.specs.Shapes.{Shape, LabelShape, ShapeOf, type_of, in_place_of, types_behind, shape_at, body_shape, AreTypedShapes, IsTypedShape, ReachedShapesAreTyped}
@@ -84,24 +85,24 @@ shape_typed c branches labels Stop ts out (suc n) h t = tt
 shape_typed c branches labels (Plain i rest) ts out (suc n) h t =
     rw h.3 (behind_typed c (λ us. shape_at c labels rest us n) (types_behind c i (h.0 ++ h.2)) (h.1 ++ h.2) (rule_behind c branches i h.0 h.1 h.2 h.4) (shape_typed c branches labels rest (h.1 ++ h.2) out n h.5 t))
 shape_typed c branches labels (InBlock b body rest) ts out (suc n) h t =
-    either_typed c (nat_le n (length (spelled body))) _ _ (shape_typed c (results_of b ∷ branches) (ShapeOf (results_of b) rest ts rest ∷ labels) body [] (results_of b) n h.0 (out, refl, h.1, h.1, t)) (shape_typed c branches labels rest (results_of b ++ ts) out (n - (length (spelled body) + 1)) h.1 t)
+    either_typed c (nat_le n (length (spelled body))) _ _ (shape_typed c (results_of b ∷ branches) (ShapeOf (results_of b) rest ts rest Main ∷ labels) body [] (results_of b) n h.0 (out, refl, h.1, h.1, t)) (shape_typed c branches labels rest (results_of b ++ ts) out (n - (length (spelled body) + 1)) h.1 t)
 shape_typed c branches labels (InLoop b body rest) ts out (suc n) h t =
-    either_typed c (nat_le n (length (spelled body))) _ _ (shape_typed c ([] ∷ branches) (ShapeOf [] (InLoop b body rest) ts rest ∷ labels) body [] (results_of b) n h.0 (out, refl, h.1, h, t)) (shape_typed c branches labels rest (results_of b ++ ts) out (n - (length (spelled body) + 1)) h.1 t)
+    either_typed c (nat_le n (length (spelled body))) _ _ (shape_typed c ([] ∷ branches) (ShapeOf [] (InLoop b body rest) ts rest Main ∷ labels) body [] (results_of b) n h.0 (out, refl, h.1, h, t)) (shape_typed c branches labels rest (results_of b ++ ts) out (n - (length (spelled body) + 1)) h.1 t)
 shape_typed c branches labels (InIf b first rest) ts out (suc n) h t =
     let below : h.0 ≡ drop 1 ts = sym (ap (drop 1) h.1) in
     let rest_typed : HasType c branches rest (drop 1 ts) out = subst (λ z. HasType c branches rest z out) below h.4 in
     let after : HasType c branches rest (results_of b ++ drop 1 ts) out = subst (λ z. HasType c branches rest (results_of z ++ drop 1 ts) out) (sym h.2) rest_typed in
     let inside : HasType c (results_of b ∷ branches) first [] (results_of b) = subst (λ z. HasType c (results_of z ∷ branches) first [] (results_of z)) (sym h.2) h.3 in
     either_typed c (nat_le n (length (spelled first))) _ _
-    (shape_typed c (results_of b ∷ branches) (ShapeOf (results_of b) rest (drop 1 ts) rest ∷ labels) first [] (results_of b) n inside (out, refl, after, after, t))
+    (shape_typed c (results_of b ∷ branches) (ShapeOf (results_of b) rest (drop 1 ts) rest Main ∷ labels) first [] (results_of b) n inside (out, refl, after, after, t))
     (shape_typed c branches labels rest (results_of b ++ drop 1 ts) out (n - (length (spelled first) + 1)) after t)
 shape_typed c branches labels (InIfElse b first second rest) ts out (suc n) h t =
     let below : h.0 ≡ drop 1 ts = sym (ap (drop 1) h.1) in
     let after : HasType c branches rest (results_of b ++ drop 1 ts) out = subst (λ z. HasType c branches rest (results_of b ++ z) out) below h.4 in
     either_typed c (nat_le n (length (spelled first))) _ _
-    (shape_typed c (results_of b ∷ branches) (ShapeOf (results_of b) rest (drop 1 ts) rest ∷ labels) first [] (results_of b) n h.2 (out, refl, after, after, t))
+    (shape_typed c (results_of b ∷ branches) (ShapeOf (results_of b) rest (drop 1 ts) rest Main ∷ labels) first [] (results_of b) n h.2 (out, refl, after, after, t))
     (either_typed c (nat_le (n - (length (spelled first) + 1)) (length (spelled second))) _ _
-    (shape_typed c (results_of b ∷ branches) (ShapeOf (results_of b) rest (drop 1 ts) rest ∷ labels) second [] (results_of b) (n - (length (spelled first) + 1)) h.3 (out, refl, after, after, t))
+    (shape_typed c (results_of b ∷ branches) (ShapeOf (results_of b) rest (drop 1 ts) rest Second ∷ labels) second [] (results_of b) (n - (length (spelled first) + 1)) h.3 (out, refl, after, after, t))
     (shape_typed c branches labels rest (results_of b ++ drop 1 ts) out (n - (length (spelled first) + 1) - (length (spelled second) + 1)) after t))
 
 -- behind the last end are the results
@@ -112,7 +113,7 @@ returns_typed c false = tt
 body_typed : (c : Context) (body : Sequence) (p : ℕ) → HasType c (c.returns ∷ []) body [] c.returns → IsTypedIf c (body_shape c body p)
 body_typed c body p h =
     either_typed c (nat_le p (length (spelled body))) _ _
-    (shape_typed c (c.returns ∷ []) (ShapeOf c.returns Stop [] Stop ∷ []) body [] c.returns p h (c.returns, refl, append-nil c.returns, append-nil c.returns, refl))
+    (shape_typed c (c.returns ∷ []) (ShapeOf c.returns Stop [] Stop Main ∷ []) body [] c.returns p h (c.returns, refl, append-nil c.returns, append-nil c.returns, refl))
     (returns_typed c (p == length (spelled body) + 1))
 
 pub reached_shapes_typed : ReachedShapesAreTyped

@@ -24,10 +24,16 @@ pub record Store : Type 0 where
   pub globals : List Value
   pub table : List (Option ℕ)
 
+-- Which part of its instruction a label is around: the second part of an `if`, or the main one of any. Two parts of one
+-- `if` may be equal. The label tells them apart, so that a configuration has one position. No rule reads it.
+pub data Part : Type 0 where
+  Main : Part
+  Second : Part
+
 -- A label (4.2.12): how many values a branch to it keeps, and what is executed after such a branch; then the values
--- below its block, and what follows the block.
+-- below its block, what follows the block, and which part of its instruction this is.
 pub data Label : Type 0 where
-  LabelOf : (keeps : ℕ) (target : Sequence) (below : List Value) (after : Sequence) → Label
+  LabelOf : (keeps : ℕ) (target : Sequence) (below : List Value) (after : Sequence) (which : Part) → Label
 
 -- A frame (4.2.12): its function, its locals, the labels around its next instruction, the innermost first, the values
 -- above the innermost label, the last one first, and the instructions that remain there.

@@ -11,12 +11,14 @@ use Rattle.wasm_syntax.specs.declared.value.Value.TheVariants as value
 use Rattle.wasm_syntax.specs.declared.instruction.Instruction.{Instruction}
 use Rattle.wasm_syntax.specs.declared.instruction.Instruction.TheVariants as instr
 use Rattle.wasm_syntax.specs.rules.Sequence.{Sequence, Stop, Plain, InBlock, InLoop, InIf, InIfElse, spelled}
+use Rattle.wasm_syntax_rules.specs.Configuration.{Part, Main, Second}
 use Rattle.wasm_syntax_rules.specs.Types.{conversion_gives, loaded_type, takes_of, gives_of, results_of}
 use Rattle.wasm_syntax_rules.specs.Typing.{Context, HasType}
 
--- a label, with what a branch to it takes, what is executed then, and the types of the values below its block
+-- A label: what a branch to it takes, what is executed then, the types of the values below its block, what follows the
+-- block, and which part of its instruction this is.
 pub data LabelShape : Type 0 where
-  ShapeOf : (takes : List ValueType) (target : Sequence) (below : List ValueType) (after : Sequence) → LabelShape
+  ShapeOf : (takes : List ValueType) (target : Sequence) (below : List ValueType) (after : Sequence) (which : Part) → LabelShape
 
 pub record Shape : Type 0 where
   pub labels : List LabelShape
@@ -66,23 +68,23 @@ shape_at c labels rest ts zero = Some (record { labels = labels; operands = ts; 
 shape_at c labels Stop ts (suc n) = None
 shape_at c labels (Plain i rest) ts (suc n) = option_and_then (λ us. shape_at c labels rest us n) (types_behind c i ts)
 shape_at c labels (InBlock t body rest) ts (suc n) =
-    if nat_le n (length (spelled body)) then shape_at c (ShapeOf (results_of t) rest ts rest ∷ labels) body [] n
+    if nat_le n (length (spelled body)) then shape_at c (ShapeOf (results_of t) rest ts rest Main ∷ labels) body [] n
     else shape_at c labels rest (results_of t ++ ts) (n - (length (spelled body) + 1))
 shape_at c labels (InLoop t body rest) ts (suc n) =
-    if nat_le n (length (spelled body)) then shape_at c (ShapeOf [] (InLoop t body rest) ts rest ∷ labels) body [] n
+    if nat_le n (length (spelled body)) then shape_at c (ShapeOf [] (InLoop t body rest) ts rest Main ∷ labels) body [] n
     else shape_at c labels rest (results_of t ++ ts) (n - (length (spelled body) + 1))
 shape_at c labels (InIf t first rest) ts (suc n) =
-    if nat_le n (length (spelled first)) then shape_at c (ShapeOf (results_of t) rest (drop 1 ts) rest ∷ labels) first [] n
+    if nat_le n (length (spelled first)) then shape_at c (ShapeOf (results_of t) rest (drop 1 ts) rest Main ∷ labels) first [] n
     else shape_at c labels rest (results_of t ++ drop 1 ts) (n - (length (spelled first) + 1))
 shape_at c labels (InIfElse t first second rest) ts (suc n) =
-    if nat_le n (length (spelled first)) then shape_at c (ShapeOf (results_of t) rest (drop 1 ts) rest ∷ labels) first [] n
-    else if nat_le (n - (length (spelled first) + 1)) (length (spelled second)) then shape_at c (ShapeOf (results_of t) rest (drop 1 ts) rest ∷ labels) second [] (n - (length (spelled first) + 1))
+    if nat_le n (length (spelled first)) then shape_at c (ShapeOf (results_of t) rest (drop 1 ts) rest Main ∷ labels) first [] n
+    else if nat_le (n - (length (spelled first) + 1)) (length (spelled second)) then shape_at c (ShapeOf (results_of t) rest (drop 1 ts) rest Second ∷ labels) second [] (n - (length (spelled first) + 1))
     else shape_at c labels rest (results_of t ++ drop 1 ts) (n - (length (spelled first) + 1) - (length (spelled second) + 1))
 
 -- The shape at a position of a function's body. Behind its last end, where a branch out of the whole body leads, are the results.
 abbrev pub body_shape : Context → Sequence → ℕ → Option Shape
 body_shape c body p =
-    if nat_le p (length (spelled body)) then shape_at c (ShapeOf c.returns Stop [] Stop ∷ []) body [] p
+    if nat_le p (length (spelled body)) then shape_at c (ShapeOf c.returns Stop [] Stop Main ∷ []) body [] p
     else if p == length (spelled body) + 1 then Some (record { labels = []; operands = c.returns; rest = Stop })
     else None
 
@@ -91,7 +93,7 @@ body_shape c body p =
 -- the labels around a sequence that leaves `out` lead to the end of the function
 abbrev pub AreTypedShapes : Context → List (List ValueType) → List LabelShape → List ValueType → Type 0
 AreTypedShapes c [] [] out = out ≡ c.returns
-AreTypedShapes c (ts ∷ tss) (ShapeOf takes target below after ∷ labels) out =
+AreTypedShapes c (ts ∷ tss) (ShapeOf takes target below after which ∷ labels) out =
     (end : List ValueType) × (takes ≡ ts) × HasType c tss after (out ++ below) end × HasType c tss target (ts ++ below) end × AreTypedShapes c tss labels end
 AreTypedShapes c [] (label ∷ labels) out = ⊥
 AreTypedShapes c (ts ∷ tss) [] out = ⊥

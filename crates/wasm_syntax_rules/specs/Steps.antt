@@ -11,7 +11,7 @@ use Rattle.wasm_syntax.specs.declared.instruction.Instruction.{Instruction}
 use Rattle.wasm_syntax.specs.declared.instruction.Instruction.TheVariants as instr
 use Rattle.wasm_syntax.specs.rules.Sequence.{Sequence, Stop, Plain, InBlock, InLoop, InIf, InIfElse}
 use Rattle.wasm_syntax_rules.specs.Types.{value_of, takes_of, gives_of, results_of, is_same_function_type}
-use Rattle.wasm_syntax_rules.specs.Configuration.{Callee, Host, Own, Program, Store, Label, LabelOf, Frame, FrameOf, Thread, Configuration, Outcome, Goes, Traps, Asks, Stuck}
+use Rattle.wasm_syntax_rules.specs.Configuration.{Callee, Host, Own, Program, Store, Part, Main, Second, Label, LabelOf, Frame, FrameOf, Thread, Configuration, Outcome, Goes, Traps, Asks, Stuck}
 use Rattle.wasm_syntax_rules.specs.Effects.{Effect, Gives, Fails, Wrong, effect}
 
 -- where something is there, what follows from it
@@ -30,8 +30,8 @@ topmost (suc n) (v ∷ vs) = option_map (λ front. v ∷ front) (topmost n vs)
 -- a branch to the label with this number: the values of the blocks that it leaves are gone, but for those that the label keeps
 abbrev pub branch : ℕ → ℕ → List Value → List Label → List Value → Option Frame
 branch l f ls [] vs = None
-branch zero f ls (LabelOf keeps target below after ∷ labels) vs = option_map (λ kept. FrameOf f ls labels (kept ++ below) target) (topmost keeps vs)
-branch (suc l) f ls (LabelOf keeps target below after ∷ labels) vs = branch l f ls labels vs
+branch zero f ls (LabelOf keeps target below after which ∷ labels) vs = option_map (λ kept. FrameOf f ls labels (kept ++ below) target) (topmost keeps vs)
+branch (suc l) f ls (LabelOf keeps target below after which ∷ labels) vs = branch l f ls labels vs
 
 -- ---- calls (4.4.7)
 
@@ -43,7 +43,7 @@ returned results (FrameOf f ls labels vs rest ∷ frames) = FrameOf f ls labels 
 -- how many locals and operands the frames hold
 abbrev pub held_below : List Label → ℕ
 held_below [] = 0
-held_below (LabelOf keeps target below after ∷ labels) = length below + held_below labels
+held_below (LabelOf keeps target below after which ∷ labels) = length below + held_below labels
 
 abbrev pub held_by : Thread → ℕ
 held_by [] = 0
@@ -59,7 +59,7 @@ zero_of t = value_of t 0
 -- A function begins with its arguments and zeros as locals, inside of a label that stands for its end.
 abbrev pub entered : ℕ → FunctionType → List ValueType → Sequence → List Value → Frame
 entered f kind declared body arguments =
-    FrameOf f (reverse arguments ++ map zero_of declared) (LabelOf (length (gives_of kind)) Stop [] Stop ∷ []) [] body
+    FrameOf f (reverse arguments ++ map zero_of declared) (LabelOf (length (gives_of kind)) Stop [] Stop Main ∷ []) [] body
 
 -- a call of this function from a frame whose values below the arguments are `below`, which goes on with rest
 abbrev pub called : ℕ → Callee → Configuration → (List Value → Frame) → List Value → Thread → Outcome
@@ -118,21 +118,21 @@ abbrev pub inside : Configuration → ℕ → List Value → Label → List Labe
 inside c f ls label labels body frames = Goes (record c { thread = FrameOf f ls (label ∷ labels) [] body ∷ frames })
 
 -- the label of a block, of either part of an if, and of a loop, which is executed anew after a branch to it
-abbrev pub block_label : Option ValueType → List Value → Sequence → Label
-block_label t below rest = LabelOf (length (results_of t)) rest below rest
+abbrev pub block_label : Part → Option ValueType → List Value → Sequence → Label
+block_label which t below rest = LabelOf (length (results_of t)) rest below rest which
 
 abbrev pub loop_label : Option ValueType → Sequence → List Value → Sequence → Label
-loop_label t body below rest = LabelOf 0 (InLoop t body rest) below rest
+loop_label t body below rest = LabelOf 0 (InLoop t body rest) below rest Main
 
 -- the counted rules
 abbrev pub rule_of : Program → Configuration → Thread → Outcome
 rule_of program c (FrameOf f ls labels vs (Plain i rest) ∷ frames) = execute program c f ls labels i vs rest frames
-rule_of program c (FrameOf f ls labels vs (InBlock t body rest) ∷ frames) = inside c f ls (block_label t vs rest) labels body frames
+rule_of program c (FrameOf f ls labels vs (InBlock t body rest) ∷ frames) = inside c f ls (block_label Main t vs rest) labels body frames
 rule_of program c (FrameOf f ls labels vs (InLoop t body rest) ∷ frames) = inside c f ls (loop_label t body vs rest) labels body frames
 rule_of program c (FrameOf f ls labels (value.I32 zero ∷ vs) (InIf t first rest) ∷ frames) = Goes (record c { thread = FrameOf f ls labels vs rest ∷ frames })
-rule_of program c (FrameOf f ls labels (value.I32 (suc n) ∷ vs) (InIf t first rest) ∷ frames) = inside c f ls (block_label t vs rest) labels first frames
-rule_of program c (FrameOf f ls labels (value.I32 zero ∷ vs) (InIfElse t first second rest) ∷ frames) = inside c f ls (block_label t vs rest) labels second frames
-rule_of program c (FrameOf f ls labels (value.I32 (suc n) ∷ vs) (InIfElse t first second rest) ∷ frames) = inside c f ls (block_label t vs rest) labels first frames
+rule_of program c (FrameOf f ls labels (value.I32 (suc n) ∷ vs) (InIf t first rest) ∷ frames) = inside c f ls (block_label Main t vs rest) labels first frames
+rule_of program c (FrameOf f ls labels (value.I32 zero ∷ vs) (InIfElse t first second rest) ∷ frames) = inside c f ls (block_label Second t vs rest) labels second frames
+rule_of program c (FrameOf f ls labels (value.I32 (suc n) ∷ vs) (InIfElse t first second rest) ∷ frames) = inside c f ls (block_label Main t vs rest) labels first frames
 rule_of program c thread = Stuck
 
 abbrev pub rule : Program → Configuration → Outcome
@@ -142,7 +142,7 @@ rule program c = rule_of program c c.thread
 
 -- the end of a label, whose values join those below it, and the end of a function
 abbrev pub left : Sequence → ℕ → List Value → List Label → List Value → Thread → Option Thread
-left Stop f ls (LabelOf keeps target below after ∷ labels) vs frames = Some (FrameOf f ls labels (vs ++ below) after ∷ frames)
+left Stop f ls (LabelOf keeps target below after which ∷ labels) vs frames = Some (FrameOf f ls labels (vs ++ below) after ∷ frames)
 left Stop f ls [] vs frames = Some (returned vs frames)
 left rest f ls labels vs frames = None
 

@@ -51,7 +51,7 @@ pub record IsTypedStore (c : Context) (program : Program) (store : Store) : Type
 -- that stand for it in the list of labels.
 abbrev pub AreTypedLabels : Context → List (List ValueType) → List Label → List ValueType → Type 0
 AreTypedLabels c [] [] out = out ≡ c.returns
-AreTypedLabels c (ts ∷ tss) (LabelOf keeps target below after ∷ labels) out =
+AreTypedLabels c (ts ∷ tss) (LabelOf keeps target below after which ∷ labels) out =
     (types : List ValueType) × (end : List ValueType) × (keeps ≡ length ts) × AreOf types below
     × HasType c tss after (out ++ types) end × HasType c tss target (ts ++ types) end × AreTypedLabels c tss labels end
 AreTypedLabels c [] (label ∷ labels) out = ⊥

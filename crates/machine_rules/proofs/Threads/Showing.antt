@@ -81,7 +81,7 @@ waiting_shown c program kind (frame ∷ frames) words (FrameOf f ls labels vs re
 -- a settled frame has something to execute
 never_stops : (program : Program) (store : Store) (later : List ℕ) (f : ℕ) (ls vs : List Value) (labels : List Label) (frames : Thread) → left_by program (FrameOf f ls labels vs Stop ∷ frames) later store ≡ None → ⊥
 never_stops program store later f ls vs [] frames e = absurd (cc)
-never_stops program store later f ls vs (LabelOf keeps target below after ∷ labels) frames e = absurd (cc)
+never_stops program store later f ls vs (LabelOf keeps target below after which ∷ labels) frames e = absurd (cc)
 
 frames_shown : (c : Context) (program : Program) (frames : List StackFrame) (words : List ℕ) (thread : Thread) (later : List ℕ) (store : Store) → left_by program thread later store ≡ None → AreFrames c program frames words thread → ShowsThread c program (places_of frames words) thread
 frames_shown c program [] words [] later store e h = tt

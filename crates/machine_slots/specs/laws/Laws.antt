@@ -3,15 +3,16 @@ use Rattle.std.specs.Prelude.{◌≡◌, ℕ, zero, suc, ◌+◌, ◌≤◌, ◌
 use Rattle.wasm_syntax.specs.declared.types.ValueType.{ValueType}
 use Rattle.wasm_syntax.specs.declared.value.Value.{Value}
 use Rattle.wasm_syntax.specs.declared.instruction.Instruction.{Instruction}
-use Rattle.wasm_syntax.specs.rules.Sequence.{Sequence}
+use Rattle.wasm_syntax.specs.rules.Sequence.{Sequence, spelled}
 use Rattle.guest_memory.specs.rules.Memories.{LinearMemory}
 use Rattle.wasm_syntax_rules.specs.Types.{AreOf, number_in}
 use Rattle.wasm_syntax_rules.specs.Typing.{Context, HasRule}
 use Rattle.wasm_syntax_rules.specs.Configuration.{Program, Store, Label, LabelOf, FrameOf}
+use Rattle.wasm_syntax_rules.specs.Shapes.{Shape, body_shape}
 use Rattle.wasm_syntax_rules.specs.Steps.{topmost, branch, held_below, zero_of}
 use Rattle.wasm_syntax_rules.specs.Effects.{IsEffect}
 use Rattle.wasm_syntax_rules.specs.Typed.{IsTypedStore}
-use Rattle.machine_slots.specs.rules.Places.{slots_of, all_below}
+use Rattle.machine_slots.specs.rules.Places.{HaveShape, slots_of, all_below}
 use Rattle.machine_slots.specs.Frames.{frame_words, ShowsStore, IsReady}
 
 -- a frame whose operands have the types that the instruction's typing rule asks for, and which is shown, is ready for it
@@ -49,7 +50,7 @@ pub record Falls (keeps height : ℕ) (old new : List ℕ) : Type 0 where
 -- how many values the label with this number keeps
 abbrev pub kept_by : ℕ → List Label → ℕ
 kept_by l [] = 0
-kept_by zero (LabelOf keeps target below after ∷ labels) = keeps
+kept_by zero (LabelOf keeps target below after which ∷ labels) = keeps
 kept_by (suc l) (label ∷ labels) = kept_by l labels
 
 -- a branch is a fall to the height of the locals and of the values below the label
@@ -70,3 +71,17 @@ abbrev pub EntryPushesZeros : Type 0
 EntryPushesZeros =
     (arguments : List Value) (declared : List ValueType) (callers : List ℕ)
     → frame_words (reverse arguments ++ map zero_of declared) [] [] callers ≡ replicate (length declared) 0 ++ (map number_in arguments ++ callers)
+
+-- ---- positions
+
+-- no two positions of a body have one shape
+abbrev pub ShapesTellPositions : Type 0
+ShapesTellPositions =
+    (c : Context) (body : Sequence) (p q : ℕ) (s : Shape) → body_shape c body p ≡ Some s → body_shape c body q ≡ Some s → p ≡ q
+
+-- No two positions fit the same labels and leave as many opcodes of the innermost sequence.
+abbrev pub LabelsTellPositions : Type 0
+LabelsTellPositions =
+    (c : Context) (body : Sequence) (p q : ℕ) (s t : Shape) (labels : List Label)
+    → body_shape c body p ≡ Some s → body_shape c body q ≡ Some t → HaveShape s.labels labels → HaveShape t.labels labels
+    → length (spelled s.rest) ≡ length (spelled t.rest) → p ≡ q

@@ -32,15 +32,15 @@ pub record MachineState : Type 0 where
 -- labels of this shape
 abbrev pub HaveShape : List LabelShape → List Label → Type 0
 HaveShape [] [] = Unit {0}
-HaveShape (ShapeOf takes target types after ∷ shapes) (LabelOf keeps target' below after' ∷ labels) =
-    (keeps ≡ length takes) × (target' ≡ target) × AreOf types below × (after' ≡ after) × HaveShape shapes labels
+HaveShape (ShapeOf takes target types after which ∷ shapes) (LabelOf keeps target' below after' which' ∷ labels) =
+    (keeps ≡ length takes) × (target' ≡ target) × AreOf types below × (after' ≡ after) × (which' ≡ which) × HaveShape shapes labels
 HaveShape [] (label ∷ labels) = ⊥
 HaveShape (shape ∷ shapes) [] = ⊥
 
 -- the values below all labels, the last one first
 abbrev pub all_below : List Label → List Value
 all_below [] = []
-all_below (LabelOf keeps target below after ∷ labels) = below ++ all_below labels
+all_below (LabelOf keeps target below after which ∷ labels) = below ++ all_below labels
 
 -- the slots of a frame: its locals, and then its operands from the first one on; an i32 has zeros above
 abbrev pub slots_of : List Value → List Label → List Value → List ℕ

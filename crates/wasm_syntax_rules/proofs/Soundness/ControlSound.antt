@@ -11,15 +11,15 @@ use Rattle.wasm_syntax.specs.declared.value.Trap.TheVariants as trap
 use Rattle.wasm_syntax.specs.rules.Sequence.{Sequence, Stop}
 use Rattle.wasm_syntax_rules.specs.Types.{AreOf, takes_of, gives_of, is_same_type, are_same_types, is_same_function_type}
 use Rattle.wasm_syntax_rules.specs.Typing.{Context, body_context, IsLabel}
-use Rattle.wasm_syntax_rules.specs.Configuration.{Callee, Host, Own, Program, Label, LabelOf, Frame, FrameOf, Thread, Configuration, Goes, Traps}
+use Rattle.wasm_syntax_rules.specs.Configuration.{Callee, Host, Own, Program, Part, Main, Label, LabelOf, Frame, FrameOf, Thread, Configuration, Goes, Traps}
 use Rattle.wasm_syntax_rules.specs.Steps.{branch, returned, called, kind_of, zero_of}
 use Rattle.wasm_syntax_rules.specs.Typed.{IsTypedCallee, IsTypedProgram, AreTypedLabels, IsTypedFrame, IsTypedThread, IsTyped, IsSound}
 use Rattle.wasm_syntax_rules.proofs.Soundness.Values.{are_both, topmost_are, zeros_are, reverse_are}
 
 -- ---- branches
 
-branch_zero : (c : Context) (f : ℕ) (ls vs : List Value) (ts rest out : List ValueType) (tss : List (List ValueType)) (keeps : ℕ) (target after : Sequence) (below : List Value) (labels : List Label) → AreOf (ts ++ rest) vs → AreOf c.locals ls → AreTypedLabels c (ts ∷ tss) (LabelOf keeps target below after ∷ labels) out → (labels' : List Label) × (vs' : List Value) × (rest' : Sequence) × (branch zero f ls (LabelOf keeps target below after ∷ labels) vs ≡ Some (FrameOf f ls labels' vs' rest')) × IsTypedFrame c [] ls labels' vs' rest'
-branch_zero c f ls vs ts rest out tss keeps target after below labels o l h =
+branch_zero : (c : Context) (f : ℕ) (ls vs : List Value) (ts rest out : List ValueType) (tss : List (List ValueType)) (keeps : ℕ) (target after : Sequence) (which : Part) (below : List Value) (labels : List Label) → AreOf (ts ++ rest) vs → AreOf c.locals ls → AreTypedLabels c (ts ∷ tss) (LabelOf keeps target below after which ∷ labels) out → (labels' : List Label) × (vs' : List Value) × (rest' : Sequence) × (branch zero f ls (LabelOf keeps target below after which ∷ labels) vs ≡ Some (FrameOf f ls labels' vs' rest')) × IsTypedFrame c [] ls labels' vs' rest'
+branch_zero c f ls vs ts rest out tss keeps target after which below labels o l h =
     let r = topmost_are ts rest vs o in (
       labels,
       r.0 ++ below,
@@ -41,10 +41,10 @@ pub branch_has : (c : Context) (d f : ℕ) (ls vs : List Value) (ts rest out : L
 branch_has c d f ls vs ts rest out [] [] is o l h = absurd (cc)
 branch_has c d f ls vs ts rest out [] (b ∷ labels) is o l h = absurd h
 branch_has c d f ls vs ts rest out (us ∷ tss) [] is o l h = absurd h
-branch_has c zero f ls vs ts rest out (us ∷ tss) (LabelOf keeps target below after ∷ labels) is o l h =
+branch_has c zero f ls vs ts rest out (us ∷ tss) (LabelOf keeps target below after which ∷ labels) is o l h =
     let same : ts ≡ us = cc in
-    branch_zero c f ls vs us rest out tss keeps target after below labels (rw same at o) l h
-branch_has c (suc d) f ls vs ts rest out (us ∷ tss) (LabelOf keeps target below after ∷ labels) is o l h =
+    branch_zero c f ls vs us rest out tss keeps target after which below labels (rw same at o) l h
+branch_has c (suc d) f ls vs ts rest out (us ∷ tss) (LabelOf keeps target below after which ∷ labels) is o l h =
     branch_has c d f ls vs ts rest h.1 tss labels is o l h.6
 
 -- the label that a table of labels chooses
@@ -78,7 +78,7 @@ returned_typed base program ts results (FrameOf f ls labels vs rest ∷ frames) 
 -- ---- calls
 
 -- the frame of a function that is entered
-pub entered_typed : (base : Context) (f : ℕ) (kind : FunctionType) (declared : List ValueType) (body : Sequence) (arguments : List Value) → AreOf (takes_of kind) arguments → IsTypedCallee base (Own kind declared body) → IsTypedFrame (body_context base kind declared) [] (reverse arguments ++ map zero_of declared) (LabelOf (length (gives_of kind)) Stop [] Stop ∷ []) [] body
+pub entered_typed : (base : Context) (f : ℕ) (kind : FunctionType) (declared : List ValueType) (body : Sequence) (arguments : List Value) → AreOf (takes_of kind) arguments → IsTypedCallee base (Own kind declared body) → IsTypedFrame (body_context base kind declared) [] (reverse arguments ++ map zero_of declared) (LabelOf (length (gives_of kind)) Stop [] Stop Main ∷ []) [] body
 entered_typed base f kind declared body arguments o h =
     let taken : AreOf kind.parameters (reverse arguments) = (rw reverse-reverse at (reverse_are (takes_of kind) arguments o)) in
     record {

@@ -9,7 +9,7 @@ use Rattle.wasm_syntax.specs.declared.value.Value.{Value}
 use Rattle.wasm_syntax.specs.rules.Sequence.{Sequence, Stop, Plain, InBlock, InLoop, InIf, InIfElse}
 use Rattle.wasm_syntax_rules.specs.Types.{AreOf, takes_of, gives_of}
 use Rattle.wasm_syntax_rules.specs.Typing.{Context, body_context}
-use Rattle.wasm_syntax_rules.specs.Configuration.{Host, Own, Program, Store, Label, LabelOf, FrameOf, Thread, Configuration, Outcome, Asks, Stuck}
+use Rattle.wasm_syntax_rules.specs.Configuration.{Host, Own, Program, Store, Part, Label, LabelOf, FrameOf, Thread, Configuration, Outcome, Asks, Stuck}
 use Rattle.wasm_syntax_rules.specs.Steps.{returned, entered, left, begun, left_by, rule, IsSettled, IsEnded, IsCounted, Settles, here, on, Advances, none, more, answered}
 use Rattle.wasm_syntax_rules.specs.Typed.{IsTypedProgram, IsTypedMemory, IsTypedStore, AreTypedLabels, IsTypedThread, IsEntry, IsTyped, IsSound, NeverStuck, LeavesTyped, AnswersTyped, StepsTyped}
 use Rattle.wasm_syntax_rules.proofs.Soundness.Values.{are_both}
@@ -17,9 +17,9 @@ use Rattle.wasm_syntax_rules.proofs.Soundness.ControlSound.{returned_typed, ente
 use Rattle.wasm_syntax_rules.proofs.Soundness.RuleSound.{never_stuck}
 
 -- the end of a label
-label_left : (base : Context) (program : Program) (kind : FunctionType) (declared : List ValueType) (body : Sequence) (f : ℕ) (ls : List Value) (keeps : ℕ) (target : Sequence) (below : List Value) (after : Sequence) (labels : List Label) (vs : List Value) (frames : Thread) (branches : List (List ValueType)) (out : List ValueType) → slice_get program.functions f ≡ Some (Own kind declared body) → AreOf (kind.parameters ++ declared) ls → AreOf out vs → AreTypedLabels (body_context base kind declared) branches (LabelOf keeps target below after ∷ labels) out → IsTypedThread base program (gives_of kind) frames → IsTypedThread base program [] (FrameOf f ls labels (vs ++ below) after ∷ frames)
-label_left base program kind declared body f ls keeps target below after labels vs frames [] out is l o h waits = absurd h
-label_left base program kind declared body f ls keeps target below after labels vs frames (ts ∷ tss) out is l o h waits =
+label_left : (base : Context) (program : Program) (kind : FunctionType) (declared : List ValueType) (body : Sequence) (f : ℕ) (ls : List Value) (keeps : ℕ) (target : Sequence) (below : List Value) (after : Sequence) (which : Part) (labels : List Label) (vs : List Value) (frames : Thread) (branches : List (List ValueType)) (out : List ValueType) → slice_get program.functions f ≡ Some (Own kind declared body) → AreOf (kind.parameters ++ declared) ls → AreOf out vs → AreTypedLabels (body_context base kind declared) branches (LabelOf keeps target below after which ∷ labels) out → IsTypedThread base program (gives_of kind) frames → IsTypedThread base program [] (FrameOf f ls labels (vs ++ below) after ∷ frames)
+label_left base program kind declared body f ls keeps target below after which labels vs frames [] out is l o h waits = absurd h
+label_left base program kind declared body f ls keeps target below after which labels vs frames (ts ∷ tss) out is l o h waits =
     (kind, declared, body, is, record { branches = tss; types = out ++ h.0; out = h.1; locals = l; values = are_both out h.0 vs below o h.3; typed_rest = h.4; typed_labels = h.6 }, waits)
 
 -- the end of a function
@@ -41,10 +41,10 @@ frame_leaves base program f ls labels vs (InBlock b first rest) frames t e h = a
 frame_leaves base program f ls labels vs (InLoop b first rest) frames t e h = absurd (cc)
 frame_leaves base program f ls labels vs (InIf b first rest) frames t e h = absurd (cc)
 frame_leaves base program f ls labels vs (InIfElse b first second rest) frames t e h = absurd (cc)
-frame_leaves base program f ls (LabelOf keeps target below after ∷ labels) vs Stop frames t e h =
+frame_leaves base program f ls (LabelOf keeps target below after which ∷ labels) vs Stop frames t e h =
     let same : FrameOf f ls labels (vs ++ below) after ∷ frames ≡ t = cc in
     let o : AreOf h.4.out vs = (rw (h.4.typed_rest) at h.4.values) in
-    subst (λ t. IsTypedThread base program [] t) same (label_left base program h.0 h.1 h.2 f ls keeps target below after labels vs frames h.4.branches h.4.out h.3 h.4.locals o h.4.typed_labels h.5)
+    subst (λ t. IsTypedThread base program [] t) same (label_left base program h.0 h.1 h.2 f ls keeps target below after which labels vs frames h.4.branches h.4.out h.3 h.4.locals o h.4.typed_labels h.5)
 frame_leaves base program f ls [] vs Stop frames t e h =
     let same : returned vs frames ≡ t = cc in
     let o : AreOf h.4.out vs = (rw (h.4.typed_rest) at h.4.values) in

@@ -13,7 +13,7 @@ use Rattle.wasm_syntax.specs.declared.instruction.Instruction.TheVariants as ins
 use Rattle.wasm_syntax.specs.rules.Sequence.{Sequence, Stop, Plain, InBlock, InLoop, InIf, InIfElse}
 use Rattle.wasm_syntax_rules.specs.Types.{AreOf, takes_of, gives_of, results_of, is_same_function_type}
 use Rattle.wasm_syntax_rules.specs.Typing.{Context, HasRule, HasType, body_context, IsLabel}
-use Rattle.wasm_syntax_rules.specs.Configuration.{Callee, Own, Program, Label, LabelOf, FrameOf, Thread, Configuration, Goes, Traps}
+use Rattle.wasm_syntax_rules.specs.Configuration.{Callee, Own, Program, Part, Main, Second, Label, LabelOf, FrameOf, Thread, Configuration, Goes, Traps}
 use Rattle.wasm_syntax_rules.specs.Effects.{Effect, Gives, Fails, Wrong, effect, IsEffect}
 use Rattle.wasm_syntax_rules.specs.Steps.{topmost, branch, returned, called, calls, calls_entry, kind_of, goes_on, where_some, after_effect, execute, inside, rule_of, rule, left_by, IsSettled, IsEnded}
 use Rattle.wasm_syntax_rules.specs.Typed.{IsTypedProgram, IsTypedStore, IsTypedEntry, AreTypedLabels, IsTypedThread, IsEntry, IsTyped, IsSound}
@@ -175,35 +175,35 @@ module _ (base : Context) (program : Program) (typed : IsTypedProgram base progr
   -- ---- blocks
 
   -- a sequence inside of a label that keeps what a branch takes, above values of these types
-  inside_sound : (branches : List (List ValueType)) (labels : List Label) (vs : List Value) (first target rest : Sequence) (ts us types out : List ValueType) → AreOf types vs → HasType (body_context base kind declared) (ts ∷ branches) first [] us → HasType (body_context base kind declared) branches target (ts ++ types) out → HasType (body_context base kind declared) branches rest (us ++ types) out → AreTypedLabels (body_context base kind declared) branches labels out → IsSound base program (inside c f ls (LabelOf (length ts) target vs rest) labels first frames)
-  inside_sound branches labels vs first target rest ts us types out o h to r t =
-      goes_typed (ts ∷ branches) (LabelOf (length ts) target vs rest ∷ labels) [] first [] us tt h (types, out, refl, o, r, to, t)
+  inside_sound : (which : Part) (branches : List (List ValueType)) (labels : List Label) (vs : List Value) (first target rest : Sequence) (ts us types out : List ValueType) → AreOf types vs → HasType (body_context base kind declared) (ts ∷ branches) first [] us → HasType (body_context base kind declared) branches target (ts ++ types) out → HasType (body_context base kind declared) branches rest (us ++ types) out → AreTypedLabels (body_context base kind declared) branches labels out → IsSound base program (inside c f ls (LabelOf (length ts) target vs rest which) labels first frames)
+  inside_sound which branches labels vs first target rest ts us types out o h to r t =
+      goes_typed (ts ∷ branches) (LabelOf (length ts) target vs rest which ∷ labels) [] first [] us tt h (types, out, refl, o, r, to, t)
 
   if_sound : (branches : List (List ValueType)) (labels : List Label) (vs : List Value) (b : Option ValueType) (first rest : Sequence) (below out : List ValueType) → b ≡ None → AreOf (I32 ∷ below) vs → HasType (body_context base kind declared) ([] ∷ branches) first [] [] → HasType (body_context base kind declared) branches rest below out → AreTypedLabels (body_context base kind declared) branches labels out → IsSound base program (rule_of program c (FrameOf f ls labels vs (InIf b first rest) ∷ frames))
   if_sound branches labels [] b first rest below out e o x r t = absurd o
   if_sound branches labels (value.I64 n ∷ vs) b first rest below out e o x r t = absurd o.0
   if_sound branches labels (value.I32 zero ∷ vs) b first rest below out e o x r t = goes_typed branches labels vs rest below out o.1 r t
   if_sound branches labels (value.I32 (suc n) ∷ vs) b first rest below out e o x r t =
-      rw e (inside_sound branches labels vs first rest rest [] [] below out o.1 x r r t)
+      rw e (inside_sound Main branches labels vs first rest rest [] [] below out o.1 x r r t)
 
   if_else_sound : (branches : List (List ValueType)) (labels : List Label) (vs : List Value) (b : Option ValueType) (first second rest : Sequence) (below out : List ValueType) → AreOf (I32 ∷ below) vs → HasType (body_context base kind declared) (results_of b ∷ branches) first [] (results_of b) → HasType (body_context base kind declared) (results_of b ∷ branches) second [] (results_of b) → HasType (body_context base kind declared) branches rest (results_of b ++ below) out → AreTypedLabels (body_context base kind declared) branches labels out → IsSound base program (rule_of program c (FrameOf f ls labels vs (InIfElse b first second rest) ∷ frames))
   if_else_sound branches labels [] b first second rest below out o x y r t = absurd o
   if_else_sound branches labels (value.I64 n ∷ vs) b first second rest below out o x y r t = absurd o.0
   if_else_sound branches labels (value.I32 zero ∷ vs) b first second rest below out o x y r t =
-      inside_sound branches labels vs second rest rest (results_of b) (results_of b) below out o.1 y r r t
+      inside_sound Second branches labels vs second rest rest (results_of b) (results_of b) below out o.1 y r r t
   if_else_sound branches labels (value.I32 (suc n) ∷ vs) b first second rest below out o x y r t =
-      inside_sound branches labels vs first rest rest (results_of b) (results_of b) below out o.1 x r r t
+      inside_sound Main branches labels vs first rest rest (results_of b) (results_of b) below out o.1 x r r t
 
   -- what remains of the running function
   rest_sound : (branches : List (List ValueType)) (labels : List Label) (vs : List Value) (rest : Sequence) (types out : List ValueType) → left_by program (FrameOf f ls labels vs rest ∷ frames) c.later c.store ≡ None → AreOf types vs → HasType (body_context base kind declared) branches rest types out → AreTypedLabels (body_context base kind declared) branches labels out → IsSound base program (rule_of program c (FrameOf f ls labels vs rest ∷ frames))
   rest_sound branches [] vs Stop types out s o r t = absurd (cc)
-  rest_sound branches (LabelOf keeps target below after ∷ labels) vs Stop types out s o r t = absurd (cc)
+  rest_sound branches (LabelOf keeps target below after which ∷ labels) vs Stop types out s o r t = absurd (cc)
   rest_sound branches labels vs (Plain i rest) types out s o r t =
       execute_sound branches labels i vs rest r.0 r.1 r.2 out (rw r.3 at o) r.4 r.5 t
   rest_sound branches labels vs (InBlock b first rest) types out s o r t =
-      inside_sound branches labels vs first rest rest (results_of b) (results_of b) types out o r.0 r.1 r.1 t
+      inside_sound Main branches labels vs first rest rest (results_of b) (results_of b) types out o r.0 r.1 r.1 t
   rest_sound branches labels vs (InLoop b first rest) types out s o r t =
-      inside_sound branches labels vs first (InLoop b first rest) rest [] (results_of b) types out o r.0 r r.1 t
+      inside_sound Main branches labels vs first (InLoop b first rest) rest [] (results_of b) types out o r.0 r r.1 t
   rest_sound branches labels vs (InIf b first rest) types out s o r t =
       if_sound branches labels vs b first rest r.0 out r.2 (rw r.1 at o) r.3 r.4 t
   rest_sound branches labels vs (InIfElse b first second rest) types out s o r t =

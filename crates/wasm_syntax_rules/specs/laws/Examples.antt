@@ -12,7 +12,7 @@ use Rattle.wasm_syntax.specs.declared.instruction.Instruction.{Instruction}
 use Rattle.wasm_syntax.specs.declared.instruction.Instruction.TheVariants as instr
 use Rattle.wasm_syntax.specs.rules.Sequence.{Sequence, Stop, Plain, InBlock, InIf, InIfElse}
 use Rattle.wasm_syntax_rules.specs.Typing.{Context, HasType}
-use Rattle.wasm_syntax_rules.specs.Configuration.{Host, Own, Program, Store, LabelOf, FrameOf, Configuration, Outcome, Goes, Traps, Asks}
+use Rattle.wasm_syntax_rules.specs.Configuration.{Host, Own, Program, Store, Main, LabelOf, FrameOf, Configuration, Outcome, Goes, Traps, Asks}
 use Rattle.wasm_syntax_rules.specs.Steps.{rule, leave}
 
 -- ---- typing
@@ -81,7 +81,7 @@ program_of_hello = record { types = nothing ∷ write_call_type ∷ exit_call_ty
 
 -- inside of the only function, above these values
 abbrev pub in_hello : Store → List Value → Sequence → Configuration
-in_hello store values rest = record { store = store; thread = FrameOf 2 [] (LabelOf 0 Stop [] Stop ∷ []) values rest ∷ []; later = [] }
+in_hello store values rest = record { store = store; thread = FrameOf 2 [] (LabelOf 0 Stop [] Stop Main ∷ []) values rest ∷ []; later = [] }
 
 abbrev pub rest_behind_call : Sequence
 rest_behind_call = Plain instr.Drop (Plain (const_32 7) (Plain (instr.Call 1) Stop))

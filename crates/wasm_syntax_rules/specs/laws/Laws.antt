@@ -22,7 +22,7 @@ OneRun = (program : Program) (n : ℕ) (c d e : Configuration) → Steps program
 -- how many values are below the labels, and how many there are with the operands
 abbrev pub labels_height : List LabelShape → ℕ
 labels_height [] = 0
-labels_height (ShapeOf takes target below after ∷ labels) = length below + labels_height labels
+labels_height (ShapeOf takes target below after which ∷ labels) = length below + labels_height labels
 
 abbrev pub height : Shape → ℕ
 height s = length s.operands + labels_height s.labels

@@ -7,7 +7,7 @@ use Rattle.wasm_syntax.specs.declared.value.Trap.TheVariants as trap
 use Rattle.wasm_syntax.specs.declared.instruction.Instruction.{Instruction}
 use Rattle.wasm_syntax.specs.declared.instruction.Instruction.TheVariants as instr
 use Rattle.wasm_syntax.specs.rules.Sequence.{Sequence, Stop, Plain, InLoop}
-use Rattle.wasm_syntax_rules.specs.Configuration.{Own, Program, Store, Label, LabelOf, Frame, FrameOf, Thread, Configuration, Outcome, Goes, Traps}
+use Rattle.wasm_syntax_rules.specs.Configuration.{Own, Program, Store, Main, Label, LabelOf, Frame, FrameOf, Thread, Configuration, Outcome, Goes, Traps}
 use Rattle.wasm_syntax_rules.specs.Steps.{rule}
 use Rattle.wasm_syntax_rules.specs.laws.Examples.{nothing, v, endless, four_bytes, executing, goes_with}
 
@@ -32,7 +32,7 @@ spacious = record endless { functions = Own nothing (replicate 256 I32) Stop ∷
 -- a function's first frame: zeros as locals
 abbrev pub first_frame : ℕ → Sequence → Frame
 first_frame count body =
-    FrameOf 0 (replicate count (v 0)) (LabelOf 0 Stop [] Stop ∷ []) [] body
+    FrameOf 0 (replicate count (v 0)) (LabelOf 0 Stop [] Stop Main ∷ []) [] body
 
 pub record StackExamples : Type 0 where
   -- frame 512 is entered, and frame 513 isn't
@@ -54,7 +54,7 @@ nop = Plain instr.Nop Stop
 
 -- two labels: the inner one keeps no value above 5, and the outer one keeps one above 6
 abbrev pub two_labels : List Label
-two_labels = LabelOf 0 (Plain instr.Drop Stop) (v 5 ∷ []) Stop ∷ LabelOf 1 nop (v 6 ∷ []) Stop ∷ []
+two_labels = LabelOf 0 (Plain instr.Drop Stop) (v 5 ∷ []) Stop Main ∷ LabelOf 1 nop (v 6 ∷ []) Stop Main ∷ []
 
 -- this instruction inside of both labels
 abbrev pub inside_two : Instruction → List Value → Configuration
@@ -63,7 +63,7 @@ inside_two i values = with_thread (FrameOf 0 [] two_labels values (Plain i nop) 
 -- what a branch to the inner label leads to, one to the outer label, and none
 abbrev pub at_inner : Outcome
 at_inner =
-    Goes (with_thread (FrameOf 0 [] (LabelOf 1 nop (v 6 ∷ []) Stop ∷ []) (v 5 ∷ [])
+    Goes (with_thread (FrameOf 0 [] (LabelOf 1 nop (v 6 ∷ []) Stop Main ∷ []) (v 5 ∷ [])
     (Plain instr.Drop Stop) ∷ []))
 
 abbrev pub at_outer : ℕ → Outcome
@@ -86,7 +86,7 @@ pub record BranchExamples : Type 0 where
       ≡ at_outer 9
   -- a loop begins anew inside of no label of its own, and keeps no value
   pub again : rule endless (with_thread (FrameOf 0 []
-      (LabelOf 0 (InLoop None nop Stop) (v 5 ∷ []) Stop ∷ []) (v 9 ∷ [])
+      (LabelOf 0 (InLoop None nop Stop) (v 5 ∷ []) Stop Main ∷ []) (v 9 ∷ [])
       (Plain (instr.Br 0) Stop) ∷ []))
       ≡ Goes (with_thread (FrameOf 0 [] [] (v 5 ∷ []) (InLoop None nop Stop) ∷ []))
 
