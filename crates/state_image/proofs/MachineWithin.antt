@@ -50,10 +50,10 @@ below_words : (shapes : List LabelShape) (labels : List Label) → HaveShape sha
 below_words [] [] h = tt
 below_words [] (label ∷ labels) h = absurd h
 below_words (shape ∷ shapes) [] h = absurd h
-below_words (ShapeOf takes target types after ∷ shapes)
-    (LabelOf keeps target' below after' ∷ labels) h =
+below_words (ShapeOf takes target types after which ∷ shapes)
+    (LabelOf keeps target' below after' which' ∷ labels) h =
     all_behind Value IsWordValue below (all_below labels) (words_of types below h.2)
-    (below_words shapes labels h.4)
+    (below_words shapes labels h.5)
 
 slot_words : (locals types : List ValueType) (shapes : List LabelShape) (ls : List Value)
     (labels : List Label) (vs : List Value)
