@@ -18,7 +18,8 @@
 //! - `config_bytes_of` gives a configuration's bytes. `config_from` finds the configuration that
 //!   any bytes spell, or that there is none.
 //! - `read_contents` reads configuration and module back, or says why it can't (`gives`).
-//! - `laws`: torn stamps, fields that are read back, one right answer of a disk, worked examples.
+//! - `laws`: torn stamps, fields that are read back, one right answer of a disk, heads that are
+//!   complete. Also what each number and mark is (`layout_numbers_are`), and worked examples.
 //!
 //! # Definitions to read
 //!
@@ -29,7 +30,8 @@
 //!
 //! # Who may touch what
 //!
-//! The marks, and the places of fields in supers, heads and stamps, are known here alone.
+//! The marks, and the places of fields in supers, heads and stamps, are known here alone, each as
+//! one constant.
 //! `journal`, `snapshot` and the definitions of `worker_rules` use it. It stands on `sector_disk`
 //! and `wasi_abi`. Reading back and `config_bytes_of` take memory. Whatever fails, a read leaves
 //! the disk unwritten.

@@ -18,7 +18,8 @@
 //! - After an error of `append` or `barrier`, each call of these answers `Failed` (`err`,
 //!   `failed`).
 //! - `laws::what_stands_is_scanned`: a scan gives what stands, and nothing of a generation that no
-//!   sector shows.
+//!   sector shows. `laws::worked_examples`: records that fit, what stands, and what a barrier may
+//!   leave.
 //!
 //! # Definitions to read
 //!

@@ -1,4 +1,4 @@
-//! A disk of sectors of 512 bytes (`SECTOR_SIZE`) (this project's own). There is a model of what reads give and
+//! A disk of sectors of 512 bytes (this project's own). There is a model of what reads give and
 //! what a cut of the power may leave, and there are three disks that meet it.
 //!
 //! # Promises
@@ -16,6 +16,7 @@
 //! - `write_run` and `store_run` write sectors one after another. `store_run`: a cut at any moment
 //!   leaves of each some front (`any_moment`). After Ok each cut leaves all of them (`stored`).
 //!   There are never more unsynced writes than before and these (`counts`).
+//! - `laws`: how many bytes a sector has (`sector_size_is`), and worked examples.
 //!
 //! # Definitions to read
 //!
