@@ -187,7 +187,7 @@ fn whole_run(rt: HostRuntime) -> Result<(), Refused> {
 fn output_without_room(rt: HostRuntime) -> Result<(), Fail> {
     let fuel = NonZeroU64::try_from(100)?;
     let options = Options { fuel };
-    let mut source = RequestSource::new(alloc, BufferedLines::new(b"".as_slice()), 0);
+    let mut source = RequestSource::new(rt.alloc(), BufferedLines::new(b"".as_slice()), 0);
     for (room, left, status) in [(4, 32, 7), (32, 4, 7), (32, 32, 0)] {
         let mut lines = [0u8; 32];
         let mut words = [0u8; 32];
