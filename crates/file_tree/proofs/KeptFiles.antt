@@ -76,7 +76,7 @@ module _ (fs : Files) (are : IsFiles fs) where
       → AreWithin (created (path_at fs d ++ name ∷ []) (empty k) fs) (used fs)
   created_files d name k free few =
       let n : Node =
-          record { number = fs.next; hook = In d name; content = content_kept (empty k) } in
+      record { number = fs.next; hook = In d name; content = content_kept (empty k) } in
       let made = is_made ns fs.next d name k n fs ns_show ns_are free few refl refl
       (content_same (empty k)) in
       let s = shown (ns ++ n ∷ []) (fs.next + 1) _ made.nodes made.files_are in

@@ -157,7 +157,7 @@ abbrev AreAlike : Files → Option FileNode → Option Node → Type 0
 AreAlike fs o x =
     ((o ≡ None) × (x ≡ None))
     ⊎ ((n : FileNode) × (h : IfSome n.path (IsPlaced fs)) × (o ≡ Some n)
-      × (x ≡ Some (node_kept fs n h)))
+    × (x ≡ Some (node_kept fs n h)))
 
 look_ups : (fs : Files) (ns : List FileNode)
     (h : AllByRecursion (λ (n : FileNode). IfSome n.path (IsPlaced fs)) ns) (k : ℕ)
@@ -392,7 +392,7 @@ module _ (fs : Files) (are : IsFiles fs) where
       ∙ ap (λ (c : Content). record { number = n.number; path = n.path; content = c })
       (content_same n.content) in
       ap (λ (x : FileNode). x ∷ map (shown_node fs.next (hook_of rebuilt)) (nodes_kept fs ns h.1))
-        one
+      one
       ∙ ap (λ (xs : List FileNode). n ∷ xs) (shown_back ns h.1 own.1)
 
   pub rebuilt_show : files rebuilt fs.next ≡ fs
