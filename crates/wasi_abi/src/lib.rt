@@ -3,8 +3,9 @@
 //!
 //! # Promises
 //!
-//! - `Errno`, `FileType` and `Rights` have the numbers of the definitions. `Rights::has` and
-//!   `is_within` test what `are_within` says (`all`, `one`).
+//! - `Errno`, `FileType`, `Rights`, `OpenFlags`, `DescriptorFlags` and `Whence` have the numbers of
+//!   the definitions. `Rights::has` and `is_within` test what `are_within` says (`all`, `one`), and
+//!   `has` of flags what `has_flag` says.
 //! - `Call::named` finds the call with a name (`found`, `none`). `name`, `parameters` and
 //!   `results` are those of the definitions.
 //! - `Fdstat`, `Filestat`, `Dirent`, `Prestat`, `Iovec` are written byte by byte as defined. What
@@ -35,6 +36,7 @@ mod call;
 mod config;
 mod errno;
 mod file_type;
+mod flags;
 mod laws;
 mod layout;
 mod numbers;
@@ -45,6 +47,7 @@ pub use call::{Call, MODULE_NAME};
 pub use config::{Config, ConfigFault};
 pub use errno::Errno;
 pub use file_type::FileType;
+pub use flags::{DescriptorFlags, OpenFlags, Whence};
 pub use laws::{
     bytes_spell_numbers, calls_differ, configuration_limits_are, errors_are_no_success,
     layouts_have_their_sizes, numbers_end_is, rights_have_their_bits, sets_have_their_rights,

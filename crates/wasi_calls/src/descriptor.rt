@@ -1,10 +1,13 @@
 //! What a process has opened.
 
-ghost use Rattle.std.specs.Prelude.{◌≡◌};
-ghost use Rattle.wasi_abi.specs.rules.Numbers.{rights_number};
+ghost use Rattle.std.specs.Prelude.{◌≡◌, ◌^◌};
+ghost use Rattle.wasi_abi.specs.rules.Numbers.{rights_number, descriptor_flags_number};
+ghost use Rattle.wasi_calls_rules.specs.Checks.{with_right};
+ghost use Rattle.wasi_abi.specs.Bits.{bit_of};
+ghost use Rattle.wasi_calls.specs.Steps.{GivesValue};
 
 use std::marker::Model;
-use wasi_abi::Rights;
+use wasi_abi::{DescriptorFlags, Errno, Rights};
 
 /// What a descriptor names: a stream by its number, or a node of the file system by its number.
 #[derive(Clone, Copy, Debug, PartialEq, Eq)]
@@ -18,20 +21,20 @@ pub enum Names {
 pub struct Descriptor {
     names: Names,
     offset: u64,
-    flags: u16,
+    flags: DescriptorFlags,
     base: Rights,
     inheriting: Rights,
 }
 
 impl Model for Descriptor {
-    ghost use Rattle.wasi_abi.specs.rules.Numbers.{rights_number};
+    ghost use Rattle.wasi_abi.specs.rules.Numbers.{rights_number, descriptor_flags_number};
     ghost use Rattle.wasi_calls_rules.specs.Hosts.{Descriptor as Opened};
 
     ghost Value = { Opened };
 
     ghost use Rattle.wasi_calls.specs.Views.{target_of};
 
-    ghost view = { λ d. record { target = target_of d.names; offset = d.offset; flags = d.flags; base = rights_number d.base; inheriting = rights_number d.inheriting } };
+    ghost view = { λ d. record { target = target_of d.names; offset = d.offset; flags = descriptor_flags_number d.flags; base = rights_number d.base; inheriting = rights_number d.inheriting } };
 }
 
 impl Descriptor {
@@ -45,7 +48,7 @@ impl Descriptor {
         Descriptor {
             names: Names::Stream(number),
             offset: 0,
-            flags: 0,
+            flags: DescriptorFlags::NONE,
             base: rights,
             inheriting: Rights::from_number(0),
         }
@@ -58,16 +61,36 @@ impl Descriptor {
         Descriptor {
             names: Names::Node(node),
             offset: 0,
-            flags: 0,
+            flags: DescriptorFlags::NONE,
             base,
             inheriting,
         }
     }
 
+    /// What it names.
     pub fn names(&self) -> Names
         ensures { target_of result ≡ self.now.target }
     {
         self.names
+    }
+
+    /// The place in a file from which the next read or write begins.
+    pub fn offset(&self) -> u64
+        ensures { result ≡ self.now.offset }
+    {
+        self.offset
+    }
+
+    /// Nothing where this right is among its own, else `Notcapable`.
+    pub fn check_right(&self, right: Rights) -> Result<(), Errno>
+        requires one { rights_number right ≡ 2 ^ bit_of (rights_number right) }
+        ensures gives { GivesValue (λ x. x) result (with_right (bit_of (rights_number right)) self.now) }
+    {
+        if self.base.has(right) {
+            Ok(())
+        } else {
+            Err(Errno::Notcapable)
+        }
     }
 
     /// What may be done through it.
@@ -75,5 +98,33 @@ impl Descriptor {
         ensures { rights_number result ≡ self.now.base }
     {
         self.base
+    }
+
+    /// The next read or write begins at this place.
+    pub fn move_to(&mut self, offset: u64)
+        ensures { self.new ≡ record self.old { offset = offset } }
+    {
+        self.offset = offset;
+    }
+
+    /// How it is read and written.
+    pub fn flags(&self) -> DescriptorFlags
+        ensures { descriptor_flags_number result ≡ self.now.flags }
+    {
+        self.flags
+    }
+
+    /// It is read and written so from now on.
+    pub fn set_flags(&mut self, flags: DescriptorFlags)
+        ensures { self.new ≡ record self.old { flags = descriptor_flags_number flags } }
+    {
+        self.flags = flags;
+    }
+
+    /// What descriptors that are opened through it may have.
+    pub fn inheriting(&self) -> Rights
+        ensures { rights_number result ≡ self.now.inheriting }
+    {
+        self.inheriting
     }
 }

@@ -33,21 +33,20 @@
 //! without it nothing changes. A call takes some once all of its checks have passed.
 #![tactic(auto)]
 
-mod calls;
+mod changes;
 mod count;
 mod cut;
 mod descriptor;
-mod files;
 mod host;
 pub mod laws;
 mod line;
 mod memory;
+mod offsets;
 mod outcome;
+mod status;
 mod stop;
 mod streams;
-mod write;
 
-pub use calls::{call, lines_begun};
 pub use host::Host;
 pub use line::Line;
 pub use outcome::CallOutcome;

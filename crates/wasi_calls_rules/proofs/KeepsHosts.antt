@@ -52,7 +52,7 @@ use Rattle.wasi_calls_rules.proofs.Standing.{path_at_is, moved_stands, moved_ove
 
 -- ---- the parts of a host
 
-stands : (h : Host) → IsHost h → Stands h.files h.descriptors h.room
+pub stands : (h : Host) → IsHost h → Stands h.files h.descriptors h.room
 stands h is = record {
   are = is.files;
   within = is.within;
@@ -66,7 +66,7 @@ stands h is = record {
 }
 
 -- the same host with other files and descriptors
-standing : (h : Host) (fs : Files) (ds : Table) → IsHost h → Stands fs ds h.room
+pub standing : (h : Host) (fs : Files) (ds : Table) → IsHost h → Stands fs ds h.room
     → IsHost (record h { files = fs; descriptors = ds })
 standing h fs ds is s = record {
   files = s.are;
@@ -83,7 +83,7 @@ standing h fs ds is s = record {
 }
 
 -- with other bytes that are not read yet
-unread_stands : (h : Host) (bytes : Bytes) → IsHost h → AreBytes bytes
+pub unread_stands : (h : Host) (bytes : Bytes) → IsHost h → AreBytes bytes
     → IsHost (record h { unread = bytes })
 unread_stands h bytes is b = record {
   files = is.files;
@@ -118,7 +118,7 @@ time_stands h n is small =
       open_nodes = is.open_nodes;
     }
 
-ended_stands : (h : Host) → IsHost h → IsHost (record h { input_ended = true })
+pub ended_stands : (h : Host) → IsHost h → IsHost (record h { input_ended = true })
 ended_stands h is = record {
   files = is.files;
   within = is.within;
@@ -150,7 +150,7 @@ lines_stand h lines first second is one two = record {
   open_nodes = is.open_nodes;
 }
 
-stream_stands : (h : Host) (s : ℕ) (bytes : Bytes) → IsHost h → AreBytes bytes
+pub stream_stands : (h : Host) (s : ℕ) (bytes : Bytes) → IsHost h → AreBytes bytes
     → IsHost (stream_written s bytes h)
 stream_stands h s bytes is b =
     stream_either IsHost h s bytes
@@ -173,13 +173,13 @@ at_offset fs d offset is small = record {
   flags = is.flags;
 }
 
-like_host : (h : Host) (fd : ℕ) (d new : Descriptor) → IsHost h → IsOpen h fd d → IsLike d new
+pub like_host : (h : Host) (fd : ℕ) (d new : Descriptor) → IsHost h → IsOpen h fd d → IsLike d new
     → IsHost (record h { descriptors = slice_set h.descriptors fd (Some new) })
 like_host h fd d new is open_there like =
     standing h h.files (slice_set h.descriptors fd (Some new)) is
     (like_stands h.files h.descriptors h.room fd d new (stands h is) open_there like)
 
-moved_host : (h : Host) (fd offset : ℕ) (d : Descriptor) → IsHost h → IsOpen h fd d
+pub moved_host : (h : Host) (fd offset : ℕ) (d : Descriptor) → IsHost h → IsOpen h fd d
     → offset < 2 ^ 63 → IsHost (moved_to fd d offset h)
 moved_host h fd offset d is open_there small =
     like_host h fd d (record d { offset = offset }) is open_there
@@ -187,7 +187,7 @@ moved_host h fd offset d is open_there small =
     (is_descriptor h.files h.descriptors fd d (stands h is).table open_there) small)
 
 -- bytes of a file are few
-small_file : (fs : Files) (k : ℕ) → IsFiles fs
+pub small_file : (fs : Files) (k : ℕ) → IsFiles fs
     → (length (bytes_of_node fs k) ≤ FILE_BYTES) × AreBytes (bytes_of_node fs k)
 small_file fs k are = by_node (node_of fs k) refl where
   content : (c : Content) → IsSmallContent c
@@ -203,7 +203,7 @@ small_file fs k are = by_node (node_of fs k) refl where
       (all_found (λ (n : FileNode). IsSmallContent n.content) fs.nodes k n are.contents e)
 
 -- a read ends where the file does, or moves nothing
-read_offset : (bytes : Bytes) (offset n : ℕ) → length bytes ≤ FILE_BYTES → offset < 2 ^ 63
+pub read_offset : (bytes : Bytes) (offset n : ℕ) → length bytes ≤ FILE_BYTES → offset < 2 ^ 63
     → offset + length (take n (drop offset bytes)) < 2 ^ 63
 read_offset bytes offset n small below =
     let moved = length-take n (drop offset bytes) in
@@ -218,7 +218,7 @@ within_all rights some e =
     eq-eqb (bit_and (bit_and rights some) all_rights) (bit_and rights some) same
 
 -- the descriptor of a node that is opened
-opened_is : (fs : Files) (is_dir : Bool) (k flags base inheriting : ℕ) → IsThere fs (Node k)
+pub opened_is : (fs : Files) (is_dir : Bool) (k flags base inheriting : ℕ) → IsThere fs (Node k)
     → flags ≤ 31 → IsDescriptor fs (new_descriptor is_dir k flags base inheriting)
 opened_is fs true k flags base inheriting there few = record {
   there = there;
@@ -237,7 +237,7 @@ opened_is fs false k flags base inheriting there few = record {
 
 -- ---- files
 
-rewriting_stands : (m : Bytes) (h : Host) (k : ℕ) (bytes : Bytes) → AreBytes m → IsHost h
+pub rewriting_stands : (m : Bytes) (h : Host) (k : ℕ) (bytes : Bytes) → AreBytes m → IsHost h
     → Rewriting m h k bytes → Stands (with_file_bytes k bytes h.files) h.descriptors h.room
 rewriting_stands m h k bytes memory is r =
     let s = stands h is in
@@ -247,7 +247,7 @@ rewriting_stands m h k bytes memory is r =
     (r.small, r.are_bytes memory (small_file h.files k is.files).1) r.room
 
 -- the name is free in its directory
-making_free : (m : Bytes) (h : Host) (p : Path) (x : Making m h p)
+pub making_free : (m : Bytes) (h : Host) (p : Path) (x : Making m h p)
     → IsFree h.files x.parent x.name × (path_at h.files x.parent ++ x.name ∷ [] ≡ p)
 making_free m h p x =
     let ends = ends_well m h (Leaf x.parent x.name) x.reached in
@@ -268,7 +268,7 @@ child_not_root : (fs : Files) (k : ℕ) (p : Path) (name : Name) → IsFiles fs
 child_not_root fs k p name are path e =
     not_nil p name (some_path [] (p ++ name ∷ []) (sym are.root ∙ ap (path_of fs) (sym e) ∙ path))
 
-losing_stands : (h : Host) (d k : ℕ) (name : Name) → IsHost h → child h.files d name ≡ Some k
+pub losing_stands : (h : Host) (d k : ℕ) (name : Name) → IsHost h → child h.files d name ≡ Some k
     → (is_directory h.files k ≡ true → is_directory_empty h.files k ≡ true)
     → Stands (without k h).files h.descriptors h.room
 losing_stands h d k name is there empty =
@@ -279,7 +279,7 @@ losing_stands h d k name is there empty =
     (record { not_root = child_not_root h.files k above.0 name is.files path; empty = empty })
 
 -- what is opened is there
-opening_there : (m : Bytes) (h : Host) (k : ℕ) (place : WalkEnd) → IsHost h
+pub opening_there : (m : Bytes) (h : Host) (k : ℕ) (place : WalkEnd) → IsHost h
     → EndsWell h.files m place → node_at h.files place ≡ Some k → NodeAt h.files k
 opening_there m h k (Self j) is ends e =
     (let same : j ≡ k = cc in
@@ -290,7 +290,7 @@ opening_there m h k (Leaf d name) is ends e =
     (child_path h.files d k name above.0 is.files above.1 e)
 
 -- a file that may be cut is there as before
-cut_stands : (fs : Files) (ds : Table) (room k : ℕ) (n : FileNode) (is_cut : Bool)
+pub cut_stands : (fs : Files) (ds : Table) (room k : ℕ) (n : FileNode) (is_cut : Bool)
     → Stands fs ds room → node_of fs k ≡ Some n → (is_cut ≡ true → is_directory fs k ≡ false)
     → Stands (cut_if is_cut k fs) ds room × IsThere (cut_if is_cut k fs) (Node k)
 cut_stands fs ds room k n false s e file = (s, there_node fs k (n, e))
@@ -323,7 +323,7 @@ way_empty fs k j =
     either true empty e is = e
     either false empty e is = absurd (cc)
 
-renaming_stands : (m : Bytes) (h : Host) (k : ℕ) (o : Option ℕ) (from to : Path) → IsHost h
+pub renaming_stands : (m : Bytes) (h : Host) (k : ℕ) (o : Option ℕ) (from to : Path) → IsHost h
     → Renaming m h k o from to
     → Stands (renamed_over k o from to h).files (renamed_over k o from to h).descriptors h.room
 renaming_stands m h k o from to is x = by_target o x.over x.differ x.way where

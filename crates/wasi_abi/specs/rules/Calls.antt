@@ -21,9 +21,15 @@ all_calls =
 
 -- the calls that are built
 abbrev pub is_built : Call → Bool
-is_built call.FdWrite = true
-is_built call.ProcExit = true
-is_built _ = false
+is_built call.ArgsGet = false
+is_built call.ArgsSizesGet = false
+is_built call.EnvironGet = false
+is_built call.EnvironSizesGet = false
+is_built call.ClockResGet = false
+is_built call.ClockTimeGet = false
+is_built call.RandomGet = false
+is_built call.FdRead = false
+is_built _ = true
 
 abbrev pub name_of : Call → List ℕ
 name_of call.ArgsGet = codes "args_get"

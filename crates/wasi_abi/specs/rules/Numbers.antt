@@ -6,6 +6,10 @@ use Rattle.wasi_abi.specs.declared.errno.Errno.{Errno}
 use Rattle.wasi_abi.specs.declared.file_type.FileType.{FileType}
 use Rattle.wasi_abi.specs.declared.file_type.FileType.TheVariants as file_type
 use Rattle.wasi_abi.specs.declared.rights.Rights.{Rights}
+use Rattle.wasi_abi.specs.declared.flags.OpenFlags.{OpenFlags}
+use Rattle.wasi_abi.specs.declared.flags.DescriptorFlags.{DescriptorFlags}
+use Rattle.wasi_abi.specs.declared.flags.Whence.{Whence}
+use Rattle.wasi_abi.specs.declared.flags.Whence.TheVariants as whence
 use Rattle.wasi_abi.specs.declared.errno.Errno.TheVariants.{Badf, Exist, Fault, Fbig, Ilseq, Inval, Isdir, Mfile, Nametoolong, Noent, Nospc, Notdir, Notempty, Spipe, Notcapable}
 
 abbrev pub errno_number : Errno → ℕ
@@ -172,6 +176,12 @@ whence_current = 1
 abbrev pub whence_end : ℕ
 whence_end = 2
 
+-- what an argument says
+abbrev pub whence_number : Whence → ℕ
+whence_number whence.Set = whence_set
+whence_number whence.Current = whence_current
+whence_number whence.End = whence_end
+
 -- ---- clocks
 
 abbrev pub realtime_clock : ℕ
@@ -202,3 +212,10 @@ append_flag = 0
 
 abbrev pub has_flag : ℕ → ℕ → Bool
 has_flag flags bit = bit_at flags bit == 1
+
+-- the number whose bits these flags are
+abbrev pub open_flags_number : OpenFlags → ℕ
+open_flags_number f = f.0
+
+abbrev pub descriptor_flags_number : DescriptorFlags → ℕ
+descriptor_flags_number f = f.0

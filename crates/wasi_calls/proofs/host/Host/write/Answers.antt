@@ -9,7 +9,7 @@ use Rattle.wasi_calls.proofs.host.Host.write.Goals as goal
 pub invariant_of-self-2 : goal.invariant_of-self-2
 invariant_of-self-2 c =
     let s = c.self.inside in
-    let old = (held_host_of s.config s.limit s.files s.descriptors.items s.unread.items s.input_ended s.last_monotonic s.streams).host in
+    let old = (held_host_of s.config s.limit s.tree s.descriptors.items s.unread.items s.input_ended s.last_monotonic s.streams).host in
     let is : c.write.new.self ≡ output_written c.args.stream c.args.bytes.now s.streams = c.in_ok-write.ensures.written in
     let low : AreBytes c.args.bytes.now =
     all_bytes c.args.bytes.now (λ k. omega (arith, c.type_inv.bytes k)) in

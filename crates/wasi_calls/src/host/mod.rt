@@ -1,20 +1,21 @@
 //! The host's side of a process.
 
-ghost use Rattle.std.specs.Prelude.{true, false, ◌≡◌, ◌+◌, ◌*◌, ◌<◌, ◌≤◌, ◌^◌, ◌++◌, length, IfOk, OnOk, OnErr};
-ghost use Rattle.file_tree.specs.declared.limits.TheConstants.{UNIT_BYTES};
-ghost use Rattle.wasi_calls_rules.specs.Hosts.{Host as TheHost, IsThere, IsHost, first_descriptors, first_host};
-ghost use Rattle.wasi_calls_rules.specs.Checks.{open_descriptor, is_stream, names_directory};
-ghost use Rattle.wasi_calls_rules.specs.Lines.{stream_written, rest_of, lines_ended};
-ghost use Rattle.wasi_calls.specs.Steps.{GivesValue};
-ghost use Rattle.wasi_calls.specs.Writes.{writable, unfinished_of};
+mod descriptors;
+mod files;
 
-use crate::descriptor::{Descriptor, Names};
-use crate::files::Files;
+ghost use Rattle.std.specs.Prelude.{◌≡◌, ◌+◌, ◌*◌, ◌<◌, ◌≤◌, ◌^◌, ◌++◌, length, IfOk, OnOk, OnErr};
+ghost use Rattle.file_tree.specs.declared.limits.TheConstants.{UNIT_BYTES};
+ghost use Rattle.wasi_calls_rules.specs.Hosts.{Host as TheHost, IsHost, first_descriptors, first_host};
+ghost use Rattle.wasi_calls_rules.specs.Lines.{stream_written, rest_of, lines_ended};
+ghost use Rattle.wasi_calls.specs.Writes.{unfinished_of};
+
+use crate::descriptor::Descriptor;
 use crate::line::Line;
 use crate::streams::Streams;
+use file_tree::Tree;
 use std::alloc::{AllocError, Global};
 use std::marker::Model;
-use wasi_abi::{Config, Errno, Rights};
+use wasi_abi::{Config, Rights};
 use wasi_calls_rules::limits::DESCRIPTORS;
 
 /// The number of the root.
@@ -29,7 +30,7 @@ const OPENED: usize = 4;
 pub struct Host {
     config: Config,
     limit: usize,
-    files: Files,
+    tree: Tree,
     descriptors: Vec<Option<Descriptor>>,
     unread: Vec<u8>,
     input_ended: bool,
@@ -43,14 +44,13 @@ impl Model for Host {
 
     ghost Value = { HeldHost };
 
-    ghost view = { λ h. held_host_of h.config h.limit h.files h.descriptors.items h.unread.items h.input_ended h.last_monotonic h.streams };
+    ghost view = { λ h. held_host_of h.config h.limit h.tree h.descriptors.items h.unread.items h.input_ended h.last_monotonic h.streams };
 
-    ghost invariant = { λ h. IsHost (held_host_of h.config h.limit h.files h.descriptors.items h.unread.items h.input_ended h.last_monotonic h.streams).host };
+    ghost invariant = { λ h. IsHost (held_host_of h.config h.limit h.tree h.descriptors.items h.unread.items h.input_ended h.last_monotonic h.streams).host };
 }
 
 impl Host {
     ghost use Rattle.wasi_calls.specs.rules.Held.{HeldHost, ShowsHost, held_ended, held_released};
-    ghost use Rattle.wasi_calls.specs.Views.{target_of};
 
     /// The host of a process that begins. `limit` is that of a request's text and of random bytes. It
     /// fails for want of memory alone.
@@ -60,49 +60,13 @@ impl Host {
         Ok(Host {
             config,
             limit,
-            files: Files::new(),
+            tree: Tree::new(alloc)?,
             descriptors: begin(alloc)?,
             unread: Vec::new(alloc),
             input_ended: false,
             last_monotonic: 0,
             streams: Streams::new(alloc),
         })
-    }
-
-    /// What a descriptor names, where it can be written to.
-    pub(crate) fn writable(&self, fd: u32) -> Result<Names, Errno>
-        ensures gives { GivesValue target_of result (writable self.now.host fd) }
-        ensures stream { IfOk result (λ names. is_stream (target_of names) ≡ true) }
-    {
-        let descriptor = self.find_descriptor(fd)?;
-        let names = descriptor.names();
-        if self.is_directory(names) {
-            return Err(Errno::Isdir);
-        }
-        if !descriptor.base().has(Rights::FD_WRITE) {
-            return Err(Errno::Notcapable);
-        }
-        Ok(names)
-    }
-
-    fn find_descriptor(&self, fd: u32) -> Result<&Descriptor, Errno>
-        ensures gives { GivesValue (λ d. d.now) result (open_descriptor self.now.host fd) }
-        ensures shape { IsHost self.now.host }
-    {
-        match self.descriptors.get(fd as usize) {
-            Some(Some(descriptor)) => Ok(descriptor),
-            _ => Err(Errno::Badf),
-        }
-    }
-
-    fn is_directory(&self, names: Names) -> bool
-        ensures value { result ≡ names_directory self.now.host (target_of names) }
-        ensures no_files { is_stream (target_of names) ≡ false → IsThere self.now.host.files (target_of names) → result ≡ true }
-    {
-        match names {
-            Names::Stream(_) => false,
-            Names::Node(node) => self.files.is_directory(node),
-        }
     }
 
     /// Writes bytes to stream 1, or else to 2. It fails for want of memory alone, and changes nothing then.

@@ -1,0 +1,186 @@
+//! Open descriptors of a host.
+
+ghost use Rattle.std.specs.Prelude.{◌≡◌, ◌≢◌, ◌<◌, ◌≤◌, ◌^◌, false, Some, None, Ok, IfOk, slice_get, slice_set};
+ghost use Rattle.file_tree.specs.rules.Files.{is_directory};
+ghost use Rattle.wasi_calls_rules.specs.Hosts.{Node, Descriptor as Opened};
+ghost use Rattle.wasi_calls_rules.specs.Checks.{open_descriptor, names_directory};
+ghost use Rattle.wasi_calls_rules.specs.Checks.{no_directory, a_file, a_directory};
+ghost use Rattle.std.specs.List.{list_any};
+ghost use Rattle.wasi_abi.specs.rules.Numbers.{descriptor_flags_number};
+ghost use Rattle.wasi_calls_rules.specs.Small.{names, swept, with_descriptor};
+ghost use Rattle.wasi_calls.specs.Steps.{GivesValue};
+ghost use Rattle.wasi_calls.specs.Views.{target_of};
+
+use crate::descriptor::{Descriptor, Names};
+use crate::host::Host;
+use file_tree::Tree;
+use wasi_abi::{DescriptorFlags, Errno};
+
+impl Host {
+    /// What is open under this number, or `Badf`.
+    pub(crate) fn descriptor(&self, fd: u32) -> Result<&Descriptor, Errno>
+        ensures gives { GivesValue (λ d. d.now) result (open_descriptor self.now.host fd) }
+        ensures small { IfOk result (λ d. d.now.offset < 2 ^ 63) }
+    {
+        match self.descriptors.get(fd as usize) {
+            Some(Some(descriptor)) => Ok(descriptor),
+            _ => Err(Errno::Badf),
+        }
+    }
+
+    /// Whether a directory is named.
+    pub(crate) fn is_directory(&self, names: Names) -> bool
+        ensures { result ≡ names_directory self.now.host (target_of names) }
+    {
+        match names {
+            Names::Stream(_) => false,
+            Names::Node(node) => self.tree.is_directory(node),
+        }
+    }
+
+    /// `Isdir` where a directory is named.
+    pub(crate) fn no_directory(&self, descriptor: &Descriptor) -> Result<(), Errno>
+        ensures gives { GivesValue (λ x. x) result (no_directory self.now.host descriptor.now) }
+    {
+        if self.is_directory(descriptor.names()) {
+            return Err(Errno::Isdir);
+        }
+        Ok(())
+    }
+
+    /// The file that is named. `Spipe` where a stream is, and `Isdir` where a directory is.
+    pub(crate) fn a_file(&self, descriptor: &Descriptor) -> Result<u64, Errno>
+        ensures gives { GivesValue (λ _. tt) result (a_file self.now.host descriptor.now) }
+        ensures node { IfOk result (λ k. descriptor.now.target ≡ Node k) }
+        ensures file { IfOk result (λ k. is_directory self.now.host.files k ≡ false) }
+    {
+        match descriptor.names() {
+            Names::Stream(_) => Err(Errno::Spipe),
+            Names::Node(node) => {
+                self.no_directory(descriptor)?;
+                Ok(node)
+            }
+        }
+    }
+
+    /// The directory that is named, or `Notdir`.
+    pub(crate) fn a_directory(&self, descriptor: &Descriptor) -> Result<u64, Errno>
+        ensures gives { GivesValue (λ _. tt) result (a_directory self.now.host descriptor.now) }
+        ensures node { IfOk result (λ k. descriptor.now.target ≡ Node k) }
+    {
+        match descriptor.names() {
+            Names::Node(node) if self.tree.is_directory(node) => Ok(node),
+            _ => Err(Errno::Notdir),
+        }
+    }
+
+    /// Moves an open file's next read or write to another place.
+    pub(crate) fn move_to(&mut self, fd: u32, offset: u64)
+        requires open { (d : Opened) × (open_descriptor self.old.host fd ≡ Ok d) }
+        requires small { offset < 2 ^ 63 }
+        ensures moved { (d : Opened) → open_descriptor self.old.host fd ≡ Ok d
+            → self.new.host ≡ with_descriptor fd (record d { offset = offset }) self.old.host }
+        ensures released { self.new.released ≡ self.old.released }
+    {
+        move_descriptor(&mut self.descriptors, fd as usize, offset);
+    }
+
+    /// Gives an open descriptor other flags.
+    pub(crate) fn set_flags(&mut self, fd: u32, flags: DescriptorFlags)
+        requires open { (d : Opened) × (open_descriptor self.old.host fd ≡ Ok d) }
+        requires few { descriptor_flags_number flags ≤ 31 }
+        ensures set { (d : Opened) → open_descriptor self.old.host fd ≡ Ok d
+            → self.new.host
+            ≡ with_descriptor fd (record d { flags = descriptor_flags_number flags }) self.old.host }
+        ensures released { self.new.released ≡ self.old.released }
+    {
+        set_descriptor_flags(&mut self.descriptors, fd as usize, flags);
+    }
+
+    /// Closes an open descriptor. A removed node that nothing else names is forgotten.
+    pub(crate) fn close(&mut self, fd: u32)
+        requires open { (d : Opened) × (open_descriptor self.old.host fd ≡ Ok d) }
+        requires not_root { fd ≢ 3 }
+        ensures closed { (d : Opened) → open_descriptor self.old.host fd ≡ Ok d
+            → self.new.host ≡ record self.old.host {
+                descriptors = slice_set self.old.host.descriptors fd None;
+                files = swept d.target (slice_set self.old.host.descriptors fd None)
+                    self.old.host.files } }
+        ensures released { self.new.released ≡ self.old.released }
+    {
+        let names = take_descriptor(&mut self.descriptors, fd as usize);
+        sweep(&mut self.tree, &self.descriptors, names);
+    }
+}
+
+/// Moves the descriptor at a place, where one is open.
+fn move_descriptor(descriptors: &mut [Option<Descriptor>], place: usize, offset: u64)
+    ensures { (d : Opened) → slice_get descriptors.old place ≡ Some (Some d)
+        → descriptors.new ≡ slice_set descriptors.old place (Some (record d { offset = offset })) }
+{
+    if let Some(Some(descriptor)) = descriptors.get_mut(place) {
+        descriptor.move_to(offset);
+    }
+}
+
+/// Gives the descriptor at a place other flags, where one is open.
+fn set_descriptor_flags(
+    descriptors: &mut [Option<Descriptor>],
+    place: usize,
+    flags: DescriptorFlags,
+)
+    ensures { (d : Opened) → slice_get descriptors.old place ≡ Some (Some d)
+        → descriptors.new ≡ slice_set descriptors.old place
+            (Some (record d { flags = descriptor_flags_number flags })) }
+{
+    if let Some(Some(descriptor)) = descriptors.get_mut(place) {
+        descriptor.set_flags(flags);
+    }
+}
+
+/// Closes the descriptor at a place, and gives what it named.
+fn take_descriptor(descriptors: &mut [Option<Descriptor>], place: usize) -> Names
+    requires { (d : Opened) × (slice_get descriptors.old place ≡ Some (Some d)) }
+    ensures named { (d : Opened) → slice_get descriptors.old place ≡ Some (Some d)
+        → target_of result ≡ d.target }
+    ensures closed { descriptors.new ≡ slice_set descriptors.old place None }
+{
+    match descriptors[place].take() {
+        Some(descriptor) => descriptor.names(),
+        None => unreachable!(),
+    }
+}
+
+/// Forgets a node that has lost its path, once no descriptor names it.
+pub(crate) fn sweep(tree: &mut Tree, descriptors: &[Option<Descriptor>], names: Names)
+    ensures { tree.new ≡ swept (target_of names) descriptors.now tree.old }
+{
+    if let Names::Node(node) = names
+        && !tree.has_path(node)
+        && !is_named(descriptors, node)
+    {
+        tree.forget(node);
+    }
+}
+
+/// Whether a descriptor names a node.
+fn is_named(descriptors: &[Option<Descriptor>], node: u64) -> bool
+    ensures { result ≡ list_any (names node) descriptors.now }
+{
+    for descriptor in descriptors {
+        if names_node(descriptor, node) {
+            return true;
+        }
+    }
+    false
+}
+
+/// Whether it is open, and names a node.
+fn names_node(descriptor: &Option<Descriptor>, node: u64) -> bool
+    ensures { result ≡ names node descriptor.now }
+{
+    match descriptor {
+        Some(descriptor) => descriptor.names() == Names::Node(node),
+        None => false,
+    }
+}
