@@ -1,5 +1,5 @@
 -- A file whose bytes are changed.
-use Rattle.std.proofs.Common.{◌≡◌, ℕ, ◌+◌, ◌-◌, ◌*◌, ◌^◌, get_or, ◌<◌, ◌≤◌, inl, inr, false, List, length, Option, Some, refl, sym, ap, subst, ◌∙◌, arith}
+use Rattle.std.proofs.Common.{◌≡◌, ℕ, zero, suc, ◌∷◌, [], ◌+◌, ◌-◌, ◌*◌, ◌^◌, get_or, ◌<◌, ◌≤◌, inl, inr, false, List, length, Option, Some, refl, sym, ap, subst, ◌∙◌, arith}
 use Rattle.std.proofs.lemmas.Bool.{cases_eq}
 use Rattle.file_tree.specs.declared.store.node.Hook.{Hook}
 use Rattle.file_tree.specs.declared.store.node.Node.{Node}
@@ -11,7 +11,7 @@ use Rattle.file_tree.specs.Store.Changes.{node_written, node_resized}
 use Rattle.file_tree.specs.Links.{IsTree, node_in, hook_held, hook_of, content_held, content_shown, holds_directory_node, is_directory_in, file_bytes_of, bytes_held_in, used_in, AreNodes, shown_node, files, IsPlace, IsNowhere}
 use Rattle.file_tree.proofs.Lookups.{directory_shown, bytes_shown, node_at_place}
 use Rattle.file_tree.proofs.Lists.{in_changed_same, in_changed_other, rising_changed, length-changed, all_changed, all_in, shown_changed_one, none_changed, used_changed, used_holds, used_small}
-use Rattle.file_tree.proofs.Sizes.{AreBytes, file_is, shown_written, shown_resized, small_written, small_resized}
+use Rattle.file_tree.proofs.Sizes.{AreBytes, length-written, file_is, shown_written, shown_resized, small_written, small_resized}
 
 -- the file at a place gets other bytes
 pub record Rewrites (ns : List Node) (next k i : ℕ) (n : Node) (f : Node → Node) (bytes : List ℕ) : Type 0 where
@@ -90,7 +90,7 @@ is_rewritten ns next k i n f bytes fs e r = record {
   fits = (let most : length ns * FILE_BYTES ≤ NODES * FILE_BYTES = omega (arith, r.are.few) in omega (arith, used_small ns r.are.contents, most, r.small.0));
 }
 
-pub is_written : (ns : List Node) (next k i : ℕ) (n : Node) (from : ℕ) (bytes : List ℕ) (fs : Files) → files ns next ≡ fs → AreNodes ns next → IsPlace ns k i → n ≡ get_or ns i n → is_directory fs k ≡ false → AreBytes bytes → from + length bytes ≤ FILE_BYTES
+is_written : (ns : List Node) (next k i : ℕ) (n : Node) (from : ℕ) (bytes : List ℕ) (fs : Files) → files ns next ≡ fs → AreNodes ns next → IsPlace ns k i → n ≡ get_or ns i n → is_directory fs k ≡ false → AreBytes bytes → from + length bytes ≤ length (bytes_of_node fs k)
     → IsRewritten ns next k i n (node_written from bytes) (written (bytes_of_node fs k) from bytes) fs
 is_written ns next k i n from bytes fs e are place at file b fits =
     let there : node_in ns k ≡ Some n = node_at_place ns k i n place ∙ ap (λ (x : Node). Some x) (sym at) in
@@ -105,7 +105,7 @@ is_written ns next k i n from bytes fs e are place at file b fits =
       numbers = λ m. refl;
       hooks = λ m. refl;
       content = shown_written from bytes n.content is_file;
-      small = small_written (file_bytes_of n) from bytes small b fits;
+      small = small_written (file_bytes_of n) from bytes small b (omega (arith, small.0, fits, ap length (bytes_at ns next k n fs e there)));
     }))
 
 pub is_resized : (ns : List Node) (next k i : ℕ) (n : Node) (size : ℕ) (fs : Files) → files ns next ≡ fs → AreNodes ns next → IsPlace ns k i → n ≡ get_or ns i n → is_directory fs k ≡ false → size ≤ FILE_BYTES
@@ -128,3 +128,26 @@ is_resized ns next k i n size fs e are place at file fits =
 
 pub bytes_at_place : (ns : List Node) (next k i : ℕ) (n : Node) (fs : Files) → files ns next ≡ fs → IsPlace ns k i → n ≡ get_or ns i n → file_bytes_of n ≡ bytes_of_node fs k
 bytes_at_place ns next k i n fs e place at = bytes_at ns next k n fs e (node_at_place ns k i n place ∙ ap (λ (x : Node). Some x) (sym at))
+
+-- bytes in the place of others, where files are what the nodes show
+pub record IsOverwritten (ns : List Node) (next k i from : ℕ) (bytes : List ℕ) (fs : Files) : Type 0 where
+  pub nodes : AreNodes (changed (node_written from bytes) i ns) next
+  pub files_are : files (changed (node_written from bytes) i ns) next ≡ with_file_bytes k (written (bytes_of_node fs k) from bytes) fs
+  pub used : used_in (changed (node_written from bytes) i ns) ≡ used_in ns
+
+node_placed : (ns : List Node) (k i : ℕ) → IsPlace ns k i → (n : Node) × (n ≡ get_or ns i n)
+node_placed [] k i h = absurd h
+node_placed (n ∷ ns) k zero h = (n, refl)
+node_placed (n ∷ ns) k (suc i) h = node_placed ns k i h.1
+
+pub is_overwritten : (ns : List Node) (next k i from : ℕ) (bytes : List ℕ) (fs : Files) → files ns next ≡ fs → AreNodes ns next → IsPlace ns k i → is_directory fs k ≡ false → AreBytes bytes → from + length bytes ≤ length (bytes_of_node fs k)
+    → IsOverwritten ns next k i from bytes fs
+is_overwritten ns next k i from bytes fs e are place file b fits =
+    let n = node_placed ns k i place in
+    let all = is_written ns next k i n.0 from bytes fs e are place n.1 file b fits in
+    let there : node_in ns k ≡ Some n.0 = node_at_place ns k i n.0 place ∙ ap (λ (x : Node). Some x) (sym n.1) in
+    record {
+      nodes = all.nodes;
+      files_are = all.files_are;
+      used = omega (arith, all.used, used_holds ns k n.0 there, length-written (bytes_of_node fs k) from bytes, fits, ap length (bytes_at ns next k n.0 fs e there));
+    }

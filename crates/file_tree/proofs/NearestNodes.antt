@@ -7,7 +7,7 @@ use Rattle.std.proofs.lemmas.Bool.{cases_eq, eq-eqb, ne_eqb}
 use Rattle.file_tree.specs.declared.store.node.Hook.{Hook}
 use Rattle.file_tree.specs.declared.store.node.Hook.TheVariants.{Root, Removed, In}
 use Rattle.file_tree.specs.declared.store.node.Node.{Node}
-use Rattle.file_tree.specs.rules.Files.{Name, Entry, IsNodeName, is_before, sorted, entries_of}
+use Rattle.file_tree.specs.rules.Files.{Name, Entry, is_before, sorted, entries_of}
 use Rattle.file_tree.specs.rules.Listings.{number_at_place, number_after, HasNameAtPlace}
 use Rattle.file_tree.specs.Links.{hook_of, AreNodes, files, name_of_hook}
 use Rattle.file_tree.specs.Links.{hooked_name, hooked_entries, with_entry}

@@ -10,9 +10,10 @@
 //! - `parent` gives the directory above a node (`above`), or says that there is none (`none`).
 //!   `name` gives the last name of its path (`last`). `read` copies as many bytes as there are and
 //!   fit (`bytes`).
-//! - `create`, `write`, `resize` make the change of the definitions where they answer Ok
-//!   (`created`, `written`, `resized`). After an error nothing has changed (`unchanged`).
-//! - `remove`, `forget`, `rename` make the change of the definitions. They can't fail.
+//! - `create`, `resize` make the change of the definitions where they answer Ok (`created`,
+//!   `resized`). After an error nothing has changed (`unchanged`).
+//! - `write`, `remove`, `forget`, `rename` make the change of the definitions. They can't fail.
+//!   `write` puts bytes in the place of others: `resize` makes room first.
 //! - Whoever changes a tree has tested first what the `requires` clauses ask, as `free` and
 //!   `room`.
 //! - `laws::renaming_moves_a_subtree`: a rename moves what lies below a path, and no other path.
@@ -28,8 +29,8 @@
 //!
 //! Only this crate knows that nodes lie in a slab, and that each names its directory by number.
 //! `wasi_calls_rules`, `wasi_calls`, `process_rules` and `state_image` use its definitions. No
-//! crate of this repository calls the code yet, and it stands on none. `new`, `create`, `write`,
-//! `resize` and `Bytes::copy_of` take memory, and want of it is the only error.
+//! crate of this repository calls the code yet, and it stands on none. `new`, `create`,
+//! `resize` and `ByteList::copy_of` take memory, and want of it is the only error.
 #![tactic(auto)]
 
 mod children;

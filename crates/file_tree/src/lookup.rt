@@ -1,6 +1,6 @@
 //! Nodes by their numbers, and what they hold.
 
-ghost use Rattle.std.specs.Prelude.{◌≡◌, ◌<◌, ◌++◌, take, drop, length, max, IfSome, IfNone, option_copied, option_map};
+ghost use Rattle.std.specs.Prelude.{◌≡◌, ◌<◌, ◌++◌, take, drop, length, IfSome, IfNone, option_copied, option_map};
 ghost use Rattle.file_tree.specs.declared.store.node.Node.{Node as StoredNode};
 ghost use Rattle.std.specs.List.{remove};
 ghost use Rattle.file_tree.specs.Links.{IsPlace, IsNowhere, node_in, hook_held, content_held, holds_directory_node, bytes_held_in, is_hung, name_of_hook, content_shown};
@@ -106,13 +106,6 @@ pub fn new_content(alloc: Global, kind: NodeKind) -> NodeContent
         NodeKind::Directory => NodeContent::Directory,
         NodeKind::File => NodeContent::File(ByteList::new(alloc)),
     }
-}
-
-/// The larger one of two numbers.
-pub fn max_of(a: u64, b: u64) -> u64
-    ensures { result ≡ max a b }
-{
-    if a < b { b } else { a }
 }
 
 /// Puts bytes from a place on into `into`, as many as there are and fit, and gives how many.

@@ -11,7 +11,7 @@ use crate::children::{child_of, has_children, leads_to, parent_of};
 use crate::entries::{entry_at, nearest_after};
 use crate::kind::NodeKind;
 use crate::lookup::{
-    bytes_held, copy_front, drop_node, holds_directory, holds_path, max_of, name_held, new_content,
+    bytes_held, copy_front, drop_node, holds_directory, holds_path, name_held, new_content,
     node_of, number_held, place_of,
 };
 use crate::store::{ByteList, Hook, Node, NodeContent, Nodes};
@@ -195,23 +195,17 @@ impl Tree {
         Ok(number)
     }
 
-    /// Puts bytes into a file from one of its bytes on, and zeros into a gap before them. The caller has tested that it is no
-    /// directory (`is_directory`), and that the file stays within its limit. Only want of memory makes it fail, and then
-    /// nothing is changed. Where no node has the number nothing is changed either.
-    pub fn write(&mut self, number: u64, from: u64, bytes: &[u8]) -> Result<(), AllocError>
+    /// Puts bytes in the place of others of a file. The caller has tested that it is no directory (`is_directory`), and that
+    /// all of them lie within its size (`size`): else he makes room first (`resize`). It takes no memory, and can't fail. Where
+    /// no node has the number there are no bytes to put, and nothing is changed.
+    pub fn write(&mut self, number: u64, from: u64, bytes: &[u8])
         requires file { is_directory self.old number ≡ false }
-        requires end { from + length bytes.now ≤ FILE_BYTES }
-        ensures written { OnOk result (self.new ≡ with_file_bytes number (written (bytes_of_node self.old number) from bytes.now) self.old) }
-        ensures unchanged { OnErr result (self.new ≡ self.old) }
+        requires within { from + length bytes.now ≤ length (bytes_of_node self.old number) }
+        ensures { self.new ≡ with_file_bytes number (written (bytes_of_node self.old number) from bytes.now) self.old }
     {
-        let Some(place) = place_of(&self.nodes, number) else {
-            return Ok(());
-        };
-        let before = bytes_held(Some(self.nodes.get(place))).len() as u64;
-        self.nodes.write(place, from as usize, bytes)?;
-        let after = max_of(before, from + bytes.len() as u64);
-        self.used = self.used - before + after;
-        Ok(())
+        if let Some(place) = place_of(&self.nodes, number) {
+            self.nodes.write(place, from as usize, bytes);
+        }
     }
 
     /// Cuts a file to so many bytes, or puts zeros behind them. The caller has tested that it is no directory

@@ -42,7 +42,10 @@ fn move_node(
 
 fn write_file(tree: &mut Tree, number: u64) -> Result<(), AllocError> {
     if !tree.is_directory(number) {
-        tree.write(number, 2, b"abc")?;
+        tree.resize(number, 5)?;
+    }
+    if !tree.is_directory(number) && tree.size(number) >= 5 {
+        tree.write(number, 2, b"abc");
     }
     if !tree.is_directory(number) {
         tree.resize(number, 4)?;

@@ -1,9 +1,8 @@
 -- Bytes with zeros behind them.
-use Rattle.std.proofs.Common.{◌≡◌, ℕ, zero, suc, ◌+◌, ◌-◌, ◌≤◌, List, [], ◌∷◌, ◌++◌, length, take, drop, refl, sym, ap, ◌∙◌, arith, inl, inr, length-append}
+use Rattle.std.proofs.Common.{◌≡◌, ℕ, zero, suc, ◌+◌, ◌-◌, ◌≤◌, List, [], ◌∷◌, ◌++◌, length, take, drop, refl, sym, ap, ◌∙◌, arith}
 use Rattle.std.specs.Prelude.{replicate, if◌then◌else◌, Result, Ok, Err, OnOk}
 use Rattle.std.specs.Prelude.{is_ok}
-use Rattle.std.proofs.lemmas.Bool.{cases_lt}
-use Rattle.std.proofs.lemmas.List.{append-nil, drop_all, take-replicate, length-replicate}
+use Rattle.std.proofs.lemmas.List.{append-nil, take-replicate}
 use Rattle.file_tree.specs.rules.Bytes.{written, resized}
 
 -- so many bytes are the same, however many zeros are behind them
@@ -11,13 +10,6 @@ front_padded : (xs : List ℕ) (n a b : ℕ) → n ≤ length xs + a → n ≤ l
 front_padded [] n a b g h = take-replicate n a 0 (omega arith) ∙ sym (take-replicate n b 0 (omega arith))
 front_padded (x ∷ xs) zero a b g h = refl
 front_padded (x ∷ xs) (suc n) a b g h = ap (λ (ys : List ℕ). x ∷ ys) (front_padded xs n a b (omega (arith, g)) (omega (arith, h)))
-
--- behind that many bytes there are no zeros
-back_padded : (xs : List ℕ) (n : ℕ) → drop n (xs ++ replicate (n - length xs) 0) ≡ drop n xs
-back_padded xs n = elim (cases_lt n (length xs)) [
-  | inl lt ↦ (let e : n - length xs ≡ 0 = omega arith in ap (λ (k : ℕ). drop n (xs ++ replicate k 0)) e ∙ ap (drop n) (append-nil xs))
-  | inr le ↦ (let short : length (xs ++ replicate (n - length xs) 0) ≤ n = omega (arith, length-append xs (replicate (n - length xs) 0), length-replicate {A = ℕ} (n - length xs) 0) in drop_all n (xs ++ replicate (n - length xs) 0) short ∙ sym (drop_all n xs le))
-]
 
 pub is_resized : (xs : List ℕ) (n : ℕ) → take n xs ++ replicate (n - length xs) 0 ≡ resized xs n
 is_resized [] zero = refl
@@ -32,10 +24,8 @@ resized_where_ok (Ok a) old new n len same e = e ∙ ap (λ (k : ℕ). take n ol
 resized_where_ok (Err a) old new n len same e = tt
 
 -- what is put over bytes that reach as far as it
-pub is_written : (old now : List ℕ) (from : ℕ) (bytes : List ℕ) → now ≡ old ++ replicate (from + length bytes - length old) 0
-    → take from now ++ (bytes ++ drop (from + length bytes) now) ≡ written old from bytes
-is_written old now from bytes e =
-    let padded = old ++ replicate (from + length bytes - length old) 0 in
-    ap (λ (xs : List ℕ). take from xs ++ (bytes ++ drop (from + length bytes) xs)) e
-    ∙ ap (λ (xs : List ℕ). xs ++ (bytes ++ drop (from + length bytes) padded)) (front_padded old from (from + length bytes - length old) from (omega arith) (omega arith))
-    ∙ ap (λ (xs : List ℕ). take from (old ++ replicate from 0) ++ (bytes ++ xs)) (back_padded old (from + length bytes))
+pub is_written : (old : List ℕ) (from : ℕ) (bytes : List ℕ) → from + length bytes ≤ length old
+    → take from old ++ (bytes ++ drop (from + length bytes) old) ≡ written old from bytes
+is_written old from bytes fits =
+    ap (λ (xs : List ℕ). xs ++ (bytes ++ drop (from + length bytes) old))
+    (ap (take from) (sym (append-nil old)) ∙ front_padded old from 0 from (omega (arith, fits)) (omega arith))

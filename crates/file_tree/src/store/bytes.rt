@@ -1,6 +1,6 @@
 //! The bytes of a file or of a name.
 
-ghost use Rattle.std.specs.Prelude.{◌≡◌, ◌+◌, ◌-◌, ◌<◌, ◌≤◌, ◌^◌, ◌++◌, [], length, take, drop, replicate, IfOk, OnOk, OnErr};
+ghost use Rattle.std.specs.Prelude.{◌≡◌, ◌+◌, ◌≤◌, ◌++◌, [], length, take, drop, IfOk, OnOk, OnErr};
 ghost use Rattle.file_tree.specs.rules.Bytes.{written, resized};
 
 use std::alloc::{AllocError, Global};
@@ -53,27 +53,12 @@ impl ByteList {
         self.items.as_slice().len()
     }
 
-    /// Puts bytes from a place on, and zeros into a gap before it. Only want of memory makes it fail,
-    /// and then nothing is changed.
-    pub fn write(&mut self, from: usize, bytes: &[u8]) -> Result<(), AllocError>
-        requires { from + length bytes.now < 2 ^ 64 }
-        ensures written { OnOk result (self.new ≡ written self.old from bytes.now) }
-        ensures unchanged { OnErr result (self.new ≡ self.old) }
+    /// Puts bytes in the place of others.
+    pub fn write(&mut self, from: usize, bytes: &[u8])
+        requires { from + length bytes.now ≤ length self.old }
+        ensures { self.new ≡ written self.old from bytes.now }
     {
-        self.reach(from + bytes.len())?;
         self.put(from, bytes);
-        Ok(())
-    }
-
-    // Puts zeros behind the bytes up to a size.
-    fn reach(&mut self, size: usize) -> Result<(), AllocError>
-        ensures reached { OnOk result (self.new ≡ self.old ++ replicate (size - length self.old) 0) }
-        ensures unchanged { OnErr result (self.new ≡ self.old) }
-    {
-        if size <= self.len() {
-            return Ok(());
-        }
-        self.items.resize(size, 0)
     }
 
     // Puts bytes in the place of others.

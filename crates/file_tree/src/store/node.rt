@@ -1,6 +1,6 @@
 //! Nodes of a file tree.
 
-ghost use Rattle.std.specs.Prelude.{◌≡◌, ◌+◌, ◌<◌, ◌^◌, length, OnOk, OnErr};
+ghost use Rattle.std.specs.Prelude.{◌≡◌, ◌+◌, ◌≤◌, length, OnOk, OnErr};
 ghost use Rattle.file_tree.specs.Store.Changes.{content_written, content_resized};
 
 use crate::store::bytes::ByteList;
@@ -38,15 +38,16 @@ pub struct Node {
 }
 
 impl NodeContent {
-    /// Puts bytes into a file from a place on, and zeros into a gap before it; a directory stays. Only want
-    /// of memory makes it fail, and then nothing is changed.
-    pub fn write(&mut self, from: usize, bytes: &[u8]) -> Result<(), AllocError>
-        requires { from + length bytes.now < 2 ^ 64 }
-        ensures written { OnOk result (self.new ≡ content_written from bytes.now self.old) }
-        ensures unchanged { OnErr result (self.new ≡ self.old) }
+    ghost use Rattle.file_tree.specs.rules.Files.{bytes_of_content};
+    ghost use Rattle.file_tree.specs.Links.{content_shown};
+
+    /// Puts bytes in the place of others of a file; a directory stays.
+    pub fn write(&mut self, from: usize, bytes: &[u8])
+        requires { from + length bytes.now ≤ length (bytes_of_content (content_shown self.old)) }
+        ensures { self.new ≡ content_written from bytes.now self.old }
     {
         match self {
-            NodeContent::Directory => Ok(()),
+            NodeContent::Directory => {}
             NodeContent::File(file) => file.write(from, bytes),
         }
     }

@@ -1,6 +1,6 @@
 //! Nodes in a slab, in the order in which they were pushed.
 
-ghost use Rattle.std.specs.Prelude.{◌≡◌, ◌+◌, ◌<◌, ◌^◌, ◌++◌, ◌∷◌, [], length, OnOk, OnErr, slice_index_or};
+ghost use Rattle.std.specs.Prelude.{◌≡◌, ◌+◌, ◌<◌, ◌≤◌, ◌++◌, ◌∷◌, [], length, OnOk, OnErr, slice_index_or};
 ghost use Rattle.std.specs.List.{remove};
 ghost use Rattle.file_tree.specs.Store.Stored.{changed};
 ghost use Rattle.file_tree.specs.Store.Changes.{with_hook, node_written, node_resized};
@@ -31,6 +31,9 @@ impl Model for Nodes {
 }
 
 impl Nodes {
+    ghost use Rattle.file_tree.specs.declared.store.node.Node.{Node as TheNode};
+    ghost use Rattle.file_tree.specs.Links.{file_bytes_of};
+
     /// No nodes. It takes no memory.
     pub fn new(alloc: Global) -> Self
         ensures { result ≡ [] }
@@ -83,13 +86,11 @@ impl Nodes {
         }
     }
 
-    /// Puts bytes into the file at a place, from one of its bytes on, and zeros into a gap before it; a directory
-    /// stays. Only want of memory makes it fail, and then nothing is changed.
-    pub fn write(&mut self, place: usize, from: usize, bytes: &[u8]) -> Result<(), AllocError>
+    /// Puts bytes in the place of others of the file at a place; a directory stays.
+    pub fn write(&mut self, place: usize, from: usize, bytes: &[u8])
         requires place { place < length self.old }
-        requires end { from + length bytes.now < 2 ^ 64 }
-        ensures written { OnOk result (self.new ≡ changed (node_written from bytes.now) place self.old) }
-        ensures unchanged { OnErr result (self.new ≡ self.old) }
+        requires within { (n : TheNode) → n ≡ slice_index_or self.old place n → from + length bytes.now ≤ length (file_bytes_of n) }
+        ensures { self.new ≡ changed (node_written from bytes.now) place self.old }
     {
         let key = self.order[place];
         match self.slab.get_mut(key) {

@@ -1,8 +1,7 @@
 use Rattle.std.proofs.Common.{sym, ap, arith}
-use Rattle.std.proofs.lemmas.Result.{on_ok_weaker, on_err_weaker}
 use Rattle.file_tree.specs.declared.store.node.NodeContent.{NodeContent}
 use Rattle.file_tree.specs.Store.Changes.{with_content, node_written}
-use Rattle.file_tree.proofs.StoreLemmas.Keys.{within_keys, key_at, not_vacant, changed_keys, changed_value, kept_value}
+use Rattle.file_tree.proofs.StoreLemmas.Keys.{within_keys, key_at, not_vacant, changed_keys, changed_value, value_at}
 use Rattle.file_tree.proofs.store.nodes.Nodes.write.Goals as goal
 
 pub index-key-requires : goal.index-key-requires
@@ -21,16 +20,16 @@ invariant_of-self c =
     let at = key_at c.self.inside.slab c.self.inside.order.items c.args.self.now c.args.place key c.self.invariant c.self.view_is c.requires.place c.index-key.ensures in
     changed_keys c.self.inside.slab c.self.inside.order.items c.args.self.now c.args.place key n (with_content c.write.new.self n) at (sym c.in-Some.ensures.value)
 
-pub returns-clause-written : goal.returns-clause-written
-returns-clause-written c =
+pub write-requires : goal.write-requires
+write-requires c =
     let key = c.index-key.result.now in
     let n = c.in-Some.node.now in
     let at = key_at c.self.inside.slab c.self.inside.order.items c.args.self.now c.args.place key c.self.invariant c.self.view_is c.requires.place c.index-key.ensures in
-    on_ok_weaker c.write.result (λ e. changed_value c.self.inside.slab c.self.inside.order.items c.args.self.now c.args.place key (node_written c.args.from c.args.bytes.now) n (with_content c.write.new.self n) at (sym c.in-Some.ensures.value) (ap (λ (x : NodeContent). with_content x n) e)) c.write.ensures.written
+    c.requires.within n (value_at c.self.inside.slab c.self.inside.order.items c.args.self.now c.args.place key n n at (sym c.in-Some.ensures.value))
 
-pub returns-clause-unchanged : goal.returns-clause-unchanged
-returns-clause-unchanged c =
+pub returns : goal.returns
+returns c =
     let key = c.index-key.result.now in
     let n = c.in-Some.node.now in
     let at = key_at c.self.inside.slab c.self.inside.order.items c.args.self.now c.args.place key c.self.invariant c.self.view_is c.requires.place c.index-key.ensures in
-    on_err_weaker c.write.result (λ e. kept_value c.self.inside.slab c.self.inside.order.items c.args.self.now c.args.place key n (with_content c.write.new.self n) at (sym c.in-Some.ensures.value) (ap (λ (x : NodeContent). with_content x n) e)) c.write.ensures.unchanged
+    changed_value c.self.inside.slab c.self.inside.order.items c.args.self.now c.args.place key (node_written c.args.from c.args.bytes.now) n (with_content c.write.new.self n) at (sym c.in-Some.ensures.value) (ap (λ (x : NodeContent). with_content x n) c.write.ensures)
