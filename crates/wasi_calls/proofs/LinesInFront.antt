@@ -113,6 +113,8 @@ pub written_told : (w : Result (Unit {0}) CallStop) (memory old_memory : LinearM
 written_told (Ok x) memory old_memory held old r done stopped same_memory same_host = done
 written_told (Err (stop.Refused e)) memory old_memory held old r done stopped same_memory same_host =
     (stopped, ap (λ (m : LinearMemory). m.bytes) same_memory, ap (λ (h : HeldHost). h.host) same_host)
+written_told (Err (stop.Asks kind)) memory old_memory held old r done stopped same_memory same_host =
+    (stopped, ap (λ (m : LinearMemory). m.bytes) same_memory, ap (λ (h : HeldHost). h.host) same_host)
 written_told (Err stop.Memory) memory old_memory held old r done stopped same_memory same_host = (
   stopped,
   ap (λ (m : LinearMemory). m.bytes) same_memory,

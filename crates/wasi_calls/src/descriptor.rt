@@ -100,11 +100,17 @@ impl Descriptor {
         self.base
     }
 
-    /// The next read or write begins at this place.
-    pub fn move_to(&mut self, offset: u64)
-        ensures { self.new ≡ record self.old { offset = offset } }
+    /// The same, with its next read or write at this place.
+    pub fn at_offset(&self, offset: u64) -> Descriptor
+        ensures { result ≡ record self.now { offset = offset } }
     {
-        self.offset = offset;
+        Descriptor {
+            names: self.names,
+            offset,
+            flags: self.flags,
+            base: self.base,
+            inheriting: self.inheriting,
+        }
     }
 
     /// How it is read and written.
@@ -114,11 +120,17 @@ impl Descriptor {
         self.flags
     }
 
-    /// It is read and written so from now on.
-    pub fn set_flags(&mut self, flags: DescriptorFlags)
-        ensures { self.new ≡ record self.old { flags = descriptor_flags_number flags } }
+    /// The same, read and written so.
+    pub fn with_flags(&self, flags: DescriptorFlags) -> Descriptor
+        ensures { result ≡ record self.now { flags = descriptor_flags_number flags } }
     {
-        self.flags = flags;
+        Descriptor {
+            names: self.names,
+            offset: self.offset,
+            flags,
+            base: self.base,
+            inheriting: self.inheriting,
+        }
     }
 
     /// What descriptors that are opened through it may have.

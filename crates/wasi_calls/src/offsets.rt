@@ -4,7 +4,7 @@ ghost use Rattle.std.specs.Prelude.{◌≡◌, ◌<◌, ◌^◌, pos, ◌+ℤ◌
 ghost use Rattle.std.specs.Int.{w64, cast_signed};
 ghost use Rattle.wasi_calls_rules.specs.Checks.{Refuses};
 ghost use Rattle.wasi_calls_rules.specs.Small.{fd_seek, fd_tell, file_offset, seek_base};
-ghost use Rattle.wasi_calls_rules.specs.Hosts.{Node};
+ghost use Rattle.wasi_calls_rules.specs.Hosts.{Node, IsDescriptor};
 ghost use Rattle.wasi_abi.specs.rules.Numbers.{whence_number};
 ghost use Rattle.wasi_calls.specs.Steps.{GivesValue};
 ghost use Rattle.wasi_calls.specs.rules.Calls.{IsAsLarge};
@@ -49,7 +49,7 @@ fn offset_by(base: u64, delta: u64) -> Result<u64, Errno>
 /// The place that an offset counts from, in a file that is open.
 fn base(host: &Host, descriptor: &Descriptor, node: u64, whence: Whence) -> u64
     requires named { descriptor.now.target ≡ Node node }
-    requires offset { descriptor.now.offset < 2 ^ 63 }
+    requires is { IsDescriptor host.now.host.files descriptor.now }
     ensures base { result ≡ seek_base host.now.host descriptor.now (whence_number whence) }
     ensures small { result < 2 ^ 63 }
 {

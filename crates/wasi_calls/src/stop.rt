@@ -4,12 +4,13 @@ ghost use Rattle.std.specs.Prelude.{◌≡◌};
 ghost use Rattle.wasi_calls.specs.declared.stop.CallStop.TheVariants.{Refused, Memory as WantOfMemory};
 
 use std::alloc::AllocError;
-use wasi_abi::Errno;
+use wasi_abi::{Errno, Kind};
 
 /// Why a step of a call didn't give what it is to give.
 #[derive(Clone, Copy, Debug, PartialEq, Eq)]
 pub enum CallStop {
     Refused(Errno),
+    Asks(Kind),
     Memory,
 }
 

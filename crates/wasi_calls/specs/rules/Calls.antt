@@ -37,6 +37,7 @@ told_of outcome.Memory = NoMemory
 abbrev pub call_outcome : Result (Unit {0}) CallStop → CallOutcome
 call_outcome (Ok done) = outcome.Done None
 call_outcome (Err (stop.Refused e)) = outcome.Done (Some e)
+call_outcome (Err (stop.Asks kind)) = outcome.Ask kind
 call_outcome (Err stop.Memory) = outcome.Memory
 
 -- What a caller is told is what the row says of a host that was shown before. After a call that

@@ -2,7 +2,7 @@
 
 ghost use Rattle.std.specs.Prelude.{◌≡◌, ◌≢◌, ◌<◌, ◌≤◌, ◌^◌, false, Some, None, Ok, IfOk, slice_get, slice_set};
 ghost use Rattle.file_tree.specs.rules.Files.{is_directory};
-ghost use Rattle.wasi_calls_rules.specs.Hosts.{Node, Descriptor as Opened};
+ghost use Rattle.wasi_calls_rules.specs.Hosts.{Node, Descriptor as Opened, IsThere, IsDescriptor};
 ghost use Rattle.wasi_calls_rules.specs.Checks.{open_descriptor, names_directory};
 ghost use Rattle.wasi_calls_rules.specs.Checks.{no_directory, a_file, a_directory};
 ghost use Rattle.std.specs.List.{list_any};
@@ -20,7 +20,7 @@ impl Host {
     /// What is open under this number, or `Badf`.
     pub(crate) fn descriptor(&self, fd: u32) -> Result<&Descriptor, Errno>
         ensures gives { GivesValue (λ d. d.now) result (open_descriptor self.now.host fd) }
-        ensures small { IfOk result (λ d. d.now.offset < 2 ^ 63) }
+        ensures is { IfOk result (λ d. IsDescriptor self.now.host.files d.now) }
     {
         match self.descriptors.get(fd as usize) {
             Some(Some(descriptor)) => Ok(descriptor),
@@ -52,6 +52,8 @@ impl Host {
     pub(crate) fn a_file(&self, descriptor: &Descriptor) -> Result<u64, Errno>
         ensures gives { GivesValue (λ _. tt) result (a_file self.now.host descriptor.now) }
         ensures node { IfOk result (λ k. descriptor.now.target ≡ Node k) }
+        ensures there { IsDescriptor self.now.host.files descriptor.now
+            → IfOk result (λ k. IsThere self.now.host.files (Node k)) }
         ensures file { IfOk result (λ k. is_directory self.now.host.files k ≡ false) }
     {
         match descriptor.names() {
@@ -74,6 +76,17 @@ impl Host {
         }
     }
 
+    /// The descriptor that is open under this number.
+    fn opened(&self, fd: u32) -> &Descriptor
+        requires { (d : Opened) × (open_descriptor self.now.host fd ≡ Ok d) }
+        ensures { slice_get self.now.host.descriptors fd ≡ Some (Some result.now) }
+    {
+        match self.descriptors.get(fd as usize) {
+            Some(Some(descriptor)) => descriptor,
+            _ => unreachable!(),
+        }
+    }
+
     /// Moves an open file's next read or write to another place.
     pub(crate) fn move_to(&mut self, fd: u32, offset: u64)
         requires open { (d : Opened) × (open_descriptor self.old.host fd ≡ Ok d) }
@@ -82,7 +95,8 @@ impl Host {
             → self.new.host ≡ with_descriptor fd (record d { offset = offset }) self.old.host }
         ensures released { self.new.released ≡ self.old.released }
     {
-        move_descriptor(&mut self.descriptors, fd as usize, offset);
+        let moved = self.opened(fd).at_offset(offset);
+        self.descriptors[fd as usize] = Some(moved);
     }
 
     /// Gives an open descriptor other flags.
@@ -94,7 +108,8 @@ impl Host {
             ≡ with_descriptor fd (record d { flags = descriptor_flags_number flags }) self.old.host }
         ensures released { self.new.released ≡ self.old.released }
     {
-        set_descriptor_flags(&mut self.descriptors, fd as usize, flags);
+        let changed = self.opened(fd).with_flags(flags);
+        self.descriptors[fd as usize] = Some(changed);
     }
 
     /// Closes an open descriptor. A removed node that nothing else names is forgotten.
@@ -108,46 +123,9 @@ impl Host {
                     self.old.host.files } }
         ensures released { self.new.released ≡ self.old.released }
     {
-        let names = take_descriptor(&mut self.descriptors, fd as usize);
+        let names = self.opened(fd).names();
+        self.descriptors[fd as usize] = None;
         sweep(&mut self.tree, &self.descriptors, names);
-    }
-}
-
-/// Moves the descriptor at a place, where one is open.
-fn move_descriptor(descriptors: &mut [Option<Descriptor>], place: usize, offset: u64)
-    ensures { (d : Opened) → slice_get descriptors.old place ≡ Some (Some d)
-        → descriptors.new ≡ slice_set descriptors.old place (Some (record d { offset = offset })) }
-{
-    if let Some(Some(descriptor)) = descriptors.get_mut(place) {
-        descriptor.move_to(offset);
-    }
-}
-
-/// Gives the descriptor at a place other flags, where one is open.
-fn set_descriptor_flags(
-    descriptors: &mut [Option<Descriptor>],
-    place: usize,
-    flags: DescriptorFlags,
-)
-    ensures { (d : Opened) → slice_get descriptors.old place ≡ Some (Some d)
-        → descriptors.new ≡ slice_set descriptors.old place
-            (Some (record d { flags = descriptor_flags_number flags })) }
-{
-    if let Some(Some(descriptor)) = descriptors.get_mut(place) {
-        descriptor.set_flags(flags);
-    }
-}
-
-/// Closes the descriptor at a place, and gives what it named.
-fn take_descriptor(descriptors: &mut [Option<Descriptor>], place: usize) -> Names
-    requires { (d : Opened) × (slice_get descriptors.old place ≡ Some (Some d)) }
-    ensures named { (d : Opened) → slice_get descriptors.old place ≡ Some (Some d)
-        → target_of result ≡ d.target }
-    ensures closed { descriptors.new ≡ slice_set descriptors.old place None }
-{
-    match descriptors[place].take() {
-        Some(descriptor) => descriptor.names(),
-        None => unreachable!(),
     }
 }
 

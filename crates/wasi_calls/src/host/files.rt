@@ -5,6 +5,7 @@ ghost use Rattle.wasi_abi.specs.rules.Layouts.{filestat_layout};
 ghost use Rattle.file_tree.specs.rules.Bytes.{resized};
 ghost use Rattle.file_tree.specs.rules.Files.{is_directory, bytes_of_node, used, with_file_bytes};
 ghost use Rattle.file_tree.specs.declared.limits.TheConstants.{FILE_BYTES};
+ghost use Rattle.wasi_calls_rules.specs.Hosts.{Node, IsThere};
 ghost use Rattle.wasi_calls_rules.specs.Small.{roomy, file_type_of, filestat_bytes_of};
 ghost use Rattle.wasi_abi.specs.rules.Numbers.{file_type_number};
 ghost use Rattle.wasi_calls.specs.Steps.{GivesValue};
@@ -52,6 +53,7 @@ impl Host {
     /// Cuts a file to a size, or puts zeros behind its bytes. The caller has tested that there is
     /// room. It fails for want of memory alone, and changes nothing then.
     pub(crate) fn resize(&mut self, node: u64, size: u64) -> Result<(), AllocError>
+        requires there { IsThere self.old.host.files (Node node) }
         requires file { is_directory self.old.host.files node ≡ false }
         requires limit { size ≤ FILE_BYTES }
         requires room { used self.old.host.files + size

@@ -1,0 +1,4 @@
+use Rattle.wasi_calls.proofs.host.Host.set_flags.Goals as goal
+
+pub invariant_of-self : goal.invariant_of-self
+invariant_of-self c = ?
