@@ -127,9 +127,10 @@ impl Host {
         requires not_root { fd ≢ 3 }
         ensures closed { (d : Opened) → open_descriptor self.old.host fd ≡ Ok d
             → self.new.host ≡ record self.old.host {
-                descriptors = slice_set self.old.host.descriptors fd None;
-                files = swept d.target (slice_set self.old.host.descriptors fd None)
-                    self.old.host.files } }
+              descriptors = slice_set self.old.host.descriptors fd None;
+              files = swept d.target (slice_set self.old.host.descriptors fd None)
+                  self.old.host.files;
+            } }
         ensures released { self.new.released ≡ self.old.released }
     {
         let names = self.opened(fd).names();
