@@ -6,10 +6,10 @@ use Rattle.std.proofs.lemmas.List.{append-nil, drop_all, take_all, take_at, drop
 use Rattle.std.proofs.lemmas.Nat.{div-add-mod', div_below, mod_below}
 use Rattle.file_tree.specs.declared.limits.TheConstants.{CHUNK_BYTES}
 use Rattle.file_tree.specs.rules.Bytes.{written}
-use Rattle.file_tree.specs.Store.Chunked.{over, AreFull}
+use Rattle.file_tree.specs.Store.Chunked.{overlaid, AreFull}
 use Rattle.file_tree.proofs.StoreLemmas.Padded.{is_written}
 
-pub over_at : (xs : List ℕ) (i : ℕ) (ys : List ℕ) (n : ℕ) → n ≡ i + length ys → n ≤ length xs → take i xs ++ (ys ++ drop n xs) ≡ over xs i ys
+pub over_at : (xs : List ℕ) (i : ℕ) (ys : List ℕ) (n : ℕ) → n ≡ i + length ys → n ≤ length xs → take i xs ++ (ys ++ drop n xs) ≡ overlaid xs i ys
 over_at [] zero [] zero e h = refl
 over_at [] zero [] (suc n) e h = absurd (omega (arith, e))
 over_at [] zero (y ∷ ys) n e h = absurd (omega (arith, e, h))
@@ -22,25 +22,25 @@ over_at (x ∷ xs) (suc i) ys zero e h = absurd (omega (arith, e))
 over_at (x ∷ xs) (suc i) ys (suc n) e h = ap (λ (zs : List ℕ). x ∷ zs) (over_at xs i ys n (omega (arith, e)) (omega (arith, h)))
 
 -- the last bytes of a list, zeros from now on
-pub over_end : (xs : List ℕ) (i : ℕ) (ys : List ℕ) → i + length ys ≡ length xs → take i xs ++ ys ≡ over xs i ys
+pub over_end : (xs : List ℕ) (i : ℕ) (ys : List ℕ) → i + length ys ≡ length xs → take i xs ++ ys ≡ overlaid xs i ys
 over_end xs i ys e =
     ap (λ (zs : List ℕ). take i xs ++ zs) (sym (append-nil ys))
     ∙ ap (λ (zs : List ℕ). take i xs ++ (ys ++ zs)) (sym (drop_all (i + length ys) xs (omega (arith, e))))
     ∙ over_at xs i ys (i + length ys) refl (omega (arith, e))
 
-pub length-over : (xs : List ℕ) (i : ℕ) (ys : List ℕ) → length (over xs i ys) ≡ length xs
-length-over [] i ys = refl
-length-over (x ∷ xs) zero [] = refl
-length-over (x ∷ xs) zero (y ∷ ys) = ap suc (length-over xs zero ys)
-length-over (x ∷ xs) (suc i) ys = ap suc (length-over xs i ys)
+pub length-overlaid : (xs : List ℕ) (i : ℕ) (ys : List ℕ) → length (overlaid xs i ys) ≡ length xs
+length-overlaid [] i ys = refl
+length-overlaid (x ∷ xs) zero [] = refl
+length-overlaid (x ∷ xs) zero (y ∷ ys) = ap suc (length-overlaid xs zero ys)
+length-overlaid (x ∷ xs) (suc i) ys = ap suc (length-overlaid xs i ys)
 
-pub over_none : (xs : List ℕ) (i : ℕ) → over xs i [] ≡ xs
+pub over_none : (xs : List ℕ) (i : ℕ) → overlaid xs i [] ≡ xs
 over_none [] i = refl
 over_none (x ∷ xs) zero = refl
 over_none (x ∷ xs) (suc i) = ap (λ (zs : List ℕ). x ∷ zs) (over_none xs i)
 
 -- one piece, and another one behind it
-pub over_more : (xs : List ℕ) (i : ℕ) (ys zs : List ℕ) (n : ℕ) → n ≡ i + length ys → over (over xs i ys) n zs ≡ over xs i (ys ++ zs)
+pub over_more : (xs : List ℕ) (i : ℕ) (ys zs : List ℕ) (n : ℕ) → n ≡ i + length ys → overlaid (overlaid xs i ys) n zs ≡ overlaid xs i (ys ++ zs)
 over_more [] i ys zs n e = refl
 over_more (x ∷ xs) zero [] zs zero e = refl
 over_more (x ∷ xs) zero [] zs (suc n) e = absurd (omega (arith, e))
@@ -49,23 +49,23 @@ over_more (x ∷ xs) zero (y ∷ ys) zs (suc n) e = ap (λ (ws : List ℕ). y �
 over_more (x ∷ xs) (suc i) ys zs zero e = absurd (omega (arith, e))
 over_more (x ∷ xs) (suc i) ys zs (suc n) e = ap (λ (ws : List ℕ). x ∷ ws) (over_more xs i ys zs n (omega (arith, e)))
 
-pub take-over : (n : ℕ) (xs : List ℕ) (i : ℕ) (ys : List ℕ) → take n (over xs i ys) ≡ over (take n xs) i ys
-take-over zero xs i ys = refl
-take-over (suc n) [] i ys = refl
-take-over (suc n) (x ∷ xs) zero [] = refl
-take-over (suc n) (x ∷ xs) zero (y ∷ ys) = ap (λ (ws : List ℕ). y ∷ ws) (take-over n xs zero ys)
-take-over (suc n) (x ∷ xs) (suc i) ys = ap (λ (ws : List ℕ). x ∷ ws) (take-over n xs i ys)
+pub take-overlaid : (n : ℕ) (xs : List ℕ) (i : ℕ) (ys : List ℕ) → take n (overlaid xs i ys) ≡ overlaid (take n xs) i ys
+take-overlaid zero xs i ys = refl
+take-overlaid (suc n) [] i ys = refl
+take-overlaid (suc n) (x ∷ xs) zero [] = refl
+take-overlaid (suc n) (x ∷ xs) zero (y ∷ ys) = ap (λ (ws : List ℕ). y ∷ ws) (take-overlaid n xs zero ys)
+take-overlaid (suc n) (x ∷ xs) (suc i) ys = ap (λ (ws : List ℕ). x ∷ ws) (take-overlaid n xs i ys)
 
-pub drop-over : (n : ℕ) (xs : List ℕ) (i : ℕ) (ys : List ℕ) → i + length ys ≤ n → drop n (over xs i ys) ≡ drop n xs
-drop-over zero xs zero [] h = over_none xs zero
-drop-over zero xs zero (y ∷ ys) h = absurd (omega (arith, h))
-drop-over zero xs (suc i) ys h = absurd (omega (arith, h))
-drop-over (suc n) [] i ys h = refl
-drop-over (suc n) (x ∷ xs) zero [] h = refl
-drop-over (suc n) (x ∷ xs) zero (y ∷ ys) h = drop-over n xs zero ys (omega (arith, h))
-drop-over (suc n) (x ∷ xs) (suc i) ys h = drop-over n xs i ys (omega (arith, h))
+pub drop-overlaid : (n : ℕ) (xs : List ℕ) (i : ℕ) (ys : List ℕ) → i + length ys ≤ n → drop n (overlaid xs i ys) ≡ drop n xs
+drop-overlaid zero xs zero [] h = over_none xs zero
+drop-overlaid zero xs zero (y ∷ ys) h = absurd (omega (arith, h))
+drop-overlaid zero xs (suc i) ys h = absurd (omega (arith, h))
+drop-overlaid (suc n) [] i ys h = refl
+drop-overlaid (suc n) (x ∷ xs) zero [] h = refl
+drop-overlaid (suc n) (x ∷ xs) zero (y ∷ ys) h = drop-overlaid n xs zero ys (omega (arith, h))
+drop-overlaid (suc n) (x ∷ xs) (suc i) ys h = drop-overlaid n xs i ys (omega (arith, h))
 
-over_left : (xs zs : List ℕ) (i : ℕ) (ys : List ℕ) → i + length ys ≤ length xs → over (xs ++ zs) i ys ≡ over xs i ys ++ zs
+over_left : (xs zs : List ℕ) (i : ℕ) (ys : List ℕ) → i + length ys ≤ length xs → overlaid (xs ++ zs) i ys ≡ overlaid xs i ys ++ zs
 over_left [] zs zero [] h = over_none zs zero
 over_left [] zs zero (y ∷ ys) h = absurd (omega (arith, h))
 over_left [] zs (suc i) ys h = absurd (omega (arith, h))
@@ -73,8 +73,8 @@ over_left (x ∷ xs) zs zero [] h = refl
 over_left (x ∷ xs) zs zero (y ∷ ys) h = ap (λ (ws : List ℕ). y ∷ ws) (over_left xs zs zero ys (omega (arith, h)))
 over_left (x ∷ xs) zs (suc i) ys h = ap (λ (ws : List ℕ). x ∷ ws) (over_left xs zs i ys (omega (arith, h)))
 
-over_right : (xs zs : List ℕ) (i : ℕ) (ys : List ℕ) (n : ℕ) → n ≡ length xs + i → over (xs ++ zs) n ys ≡ xs ++ over zs i ys
-over_right [] zs i ys n e = (let same : n ≡ i = omega (arith, e) in ap (λ (k : ℕ). over zs k ys) same)
+over_right : (xs zs : List ℕ) (i : ℕ) (ys : List ℕ) (n : ℕ) → n ≡ length xs + i → overlaid (xs ++ zs) n ys ≡ xs ++ overlaid zs i ys
+over_right [] zs i ys n e = (let same : n ≡ i = omega (arith, e) in ap (λ (k : ℕ). overlaid zs k ys) same)
 over_right (x ∷ xs) zs i ys zero e = absurd (omega (arith, e))
 over_right (x ∷ xs) zs i ys (suc n) e = ap (λ (ws : List ℕ). x ∷ ws) (over_right xs zs i ys n (omega (arith, e)))
 
@@ -131,11 +131,11 @@ joined_take (suc n) (c ∷ cs) k h e =
 
 -- bytes put into one chunk are put among those of all
 pub over_joined : (cs : List (List ℕ)) (j o : ℕ) (ys d : List ℕ) (at : ℕ) → AreFull cs → j < length cs → o + length ys ≤ CHUNK_BYTES → at ≡ j * CHUNK_BYTES + o
-    → concat (set cs j (over (get_or cs j d) o ys)) ≡ over (concat cs) at ys
+    → concat (set cs j (overlaid (get_or cs j d) o ys)) ≡ overlaid (concat cs) at ys
 over_joined [] j o ys d at h lt fits e = absurd (omega (arith, lt))
 over_joined (c ∷ cs) zero o ys d at h lt fits e =
     let here : at ≡ o = omega (arith, e) in
-    sym (over_left c (concat cs) o ys (omega (arith, fits, h.0))) ∙ ap (λ (k : ℕ). over (c ++ concat cs) k ys) (sym here)
+    sym (over_left c (concat cs) o ys (omega (arith, fits, h.0))) ∙ ap (λ (k : ℕ). overlaid (c ++ concat cs) k ys) (sym here)
 over_joined (c ∷ cs) (suc j) o ys d at h lt fits e =
     let rest = j * CHUNK_BYTES + o in
     ap (λ (xs : List ℕ). c ++ xs) (over_joined cs j o ys d rest h.1 (omega (arith, lt)) fits refl)
@@ -163,13 +163,13 @@ module _ (cs : List (List ℕ)) (at : ℕ) (full : AreFull cs) (within : at < le
   below : at / CHUNK_BYTES < length cs
   below = div_below at CHUNK_BYTES (length cs) (omega arith) within
 
-  pub piece_full : (c x ys : List ℕ) → c ≡ get_or cs (at / CHUNK_BYTES) c → x ≡ over c (at % CHUNK_BYTES) ys → AreFull (set cs (at / CHUNK_BYTES) x)
-  piece_full c x ys e w = full_set cs (at / CHUNK_BYTES) x full (ap length w ∙ length-over c (at % CHUNK_BYTES) ys ∙ ap length e ∙ full_at cs (at / CHUNK_BYTES) c full below)
+  pub piece_full : (c x ys : List ℕ) → c ≡ get_or cs (at / CHUNK_BYTES) c → x ≡ overlaid c (at % CHUNK_BYTES) ys → AreFull (set cs (at / CHUNK_BYTES) x)
+  piece_full c x ys e w = full_set cs (at / CHUNK_BYTES) x full (ap length w ∙ length-overlaid c (at % CHUNK_BYTES) ys ∙ ap length e ∙ full_at cs (at / CHUNK_BYTES) c full below)
 
-  pub piece_written : (c x ys : List ℕ) → c ≡ get_or cs (at / CHUNK_BYTES) c → x ≡ over c (at % CHUNK_BYTES) ys → at % CHUNK_BYTES + length ys ≤ CHUNK_BYTES
-      → concat (set cs (at / CHUNK_BYTES) x) ≡ over (concat cs) at ys
+  pub piece_written : (c x ys : List ℕ) → c ≡ get_or cs (at / CHUNK_BYTES) c → x ≡ overlaid c (at % CHUNK_BYTES) ys → at % CHUNK_BYTES + length ys ≤ CHUNK_BYTES
+      → concat (set cs (at / CHUNK_BYTES) x) ≡ overlaid (concat cs) at ys
   piece_written c x ys e w fits =
-      ap (λ (y : List ℕ). concat (set cs (at / CHUNK_BYTES) y)) (w ∙ ap (λ (y : List ℕ). over y (at % CHUNK_BYTES) ys) e)
+      ap (λ (y : List ℕ). concat (set cs (at / CHUNK_BYTES) y)) (w ∙ ap (λ (y : List ℕ). overlaid y (at % CHUNK_BYTES) ys) e)
       ∙ over_joined cs (at / CHUNK_BYTES) (at % CHUNK_BYTES) ys c at full below fits place
 
   pub piece_read : (c : List ℕ) (r : ℕ) → c ≡ get_or cs (at / CHUNK_BYTES) c → at % CHUNK_BYTES + r ≤ CHUNK_BYTES
@@ -179,7 +179,7 @@ module _ (cs : List (List ℕ)) (at : ℕ) (full : AreFull cs) (within : at < le
       ∙ piece_joined cs (at / CHUNK_BYTES) (at % CHUNK_BYTES) r c at full below fits place
 
   -- the last chunk, with zeros from a byte on
-  pub piece_cleared : (c x : List ℕ) → c ≡ get_or cs (at / CHUNK_BYTES) c → x ≡ over c (at % CHUNK_BYTES) (replicate (CHUNK_BYTES - at % CHUNK_BYTES) 0) → length cs * CHUNK_BYTES < at + CHUNK_BYTES
+  pub piece_cleared : (c x : List ℕ) → c ≡ get_or cs (at / CHUNK_BYTES) c → x ≡ overlaid c (at % CHUNK_BYTES) (replicate (CHUNK_BYTES - at % CHUNK_BYTES) 0) → length cs * CHUNK_BYTES < at + CHUNK_BYTES
       → concat (set cs (at / CHUNK_BYTES) x) ≡ take at (concat cs) ++ replicate (length cs * CHUNK_BYTES - at) 0
   piece_cleared c x e w last =
       let o = at % CHUNK_BYTES in
@@ -210,13 +210,13 @@ take_two (x ∷ xs) (suc i) r zero e = absurd (omega (arith, e))
 take_two (x ∷ xs) (suc i) r (suc n) e = ap (λ (ys : List ℕ). x ∷ ys) (take_two xs i r n (omega (arith, e)))
 
 pub over_two : (xs : List ℕ) (from : ℕ) (ys : List ℕ) (i r n at : ℕ) → n ≡ i + r → at ≡ from + i → i ≤ length ys
-    → over (over xs from (take i ys)) at (take r (drop i ys)) ≡ over xs from (take n ys)
+    → overlaid (overlaid xs from (take i ys)) at (take r (drop i ys)) ≡ overlaid xs from (take n ys)
 over_two xs from ys i r n at e f within =
     over_more xs from (take i ys) (take r (drop i ys)) at (omega (arith, f, within, length-take i ys))
-    ∙ ap (over xs from) (take_two ys i r n e)
+    ∙ ap (overlaid xs from) (take_two ys i r n e)
 
 -- bytes in the place of others, where all of them are there
-pub over_written : (xs : List ℕ) (from : ℕ) (ys : List ℕ) → from + length ys ≤ length xs → over xs from ys ≡ written xs from ys
+pub over_written : (xs : List ℕ) (from : ℕ) (ys : List ℕ) → from + length ys ≤ length xs → overlaid xs from ys ≡ written xs from ys
 over_written xs from ys h = sym (over_at xs from ys (from + length ys) refl h) ∙ is_written xs from ys h
 
 -- a piece that is read behind what was read before

@@ -7,9 +7,9 @@ use Rattle.std.proofs.lemmas.Nat.{div-add-mod', mod_below}
 use Rattle.file_tree.specs.declared.limits.TheConstants.{CHUNK_BYTES}
 use Rattle.file_tree.specs.rules.Bytes.{written, resized}
 use Rattle.file_tree.specs.rules.Chunks.{chunks_for}
-use Rattle.file_tree.specs.Store.Chunked.{over, AreFull, AreChunks}
+use Rattle.file_tree.specs.Store.Chunked.{overlaid, AreFull, AreChunks}
 use Rattle.file_tree.proofs.StoreLemmas.Padded.{is_resized}
-use Rattle.file_tree.proofs.StoreLemmas.Overs.{append_assoc, full_append, length-joined, joined_append, joined_take, take-over, drop-over, over_written}
+use Rattle.file_tree.proofs.StoreLemmas.Overs.{append_assoc, full_append, length-joined, joined_append, joined_take, take-overlaid, drop-overlaid, over_written}
 
 -- ---- how many chunks there are
 
@@ -66,7 +66,7 @@ module _ (cs : List (List ℕ)) (len : ℕ) (are : AreChunks cs len) where
 
   -- bytes put in the place of others
   pub is_put : (ds : List (List ℕ)) (now : List ℕ) (from : ℕ) (ys : List ℕ) → take len (concat cs) ≡ now → from + length ys ≤ length now
-      → AreFull ds → length ds ≡ length cs → concat ds ≡ over (concat cs) from ys → AreMade ds len (written now from ys)
+      → AreFull ds → length ds ≡ length cs → concat ds ≡ overlaid (concat cs) from ys → AreMade ds len (written now from ys)
   is_put ds now from ys e within full count put =
       let sized = size_is now e in
       record {
@@ -74,11 +74,11 @@ module _ (cs : List (List ℕ)) (len : ℕ) (are : AreChunks cs len) where
           full = full;
           count = count ∙ are.count;
           zeros =
-              ap (drop len) put ∙ drop-over len (concat cs) from ys (omega (arith, within, sized)) ∙ are.zeros
+              ap (drop len) put ∙ drop-overlaid len (concat cs) from ys (omega (arith, within, sized)) ∙ are.zeros
               ∙ ap (λ (k : ℕ). zeros_of (k * CHUNK_BYTES - len)) (sym count);
         };
         bytes_are =
-            ap (take len) put ∙ take-over len (concat cs) from ys ∙ ap (λ (xs : List ℕ). over xs from ys) e
+            ap (take len) put ∙ take-overlaid len (concat cs) from ys ∙ ap (λ (xs : List ℕ). overlaid xs from ys) e
             ∙ over_written now from ys within;
       }
 

@@ -5,11 +5,11 @@ use Rattle.file_tree.specs.declared.limits.TheConstants.{CHUNK_BYTES}
 use Rattle.file_tree.specs.rules.Chunks.{chunks_for}
 
 -- bytes in the place of others, as far as there are any
-abbrev pub over : List ℕ → ℕ → List ℕ → List ℕ
-over [] from bytes = []
-over (x ∷ xs) zero [] = x ∷ xs
-over (x ∷ xs) zero (b ∷ bytes) = b ∷ over xs zero bytes
-over (x ∷ xs) (suc from) bytes = x ∷ over xs from bytes
+abbrev pub overlaid : List ℕ → ℕ → List ℕ → List ℕ
+overlaid [] from bytes = []
+overlaid (x ∷ xs) zero [] = x ∷ xs
+overlaid (x ∷ xs) zero (b ∷ bytes) = b ∷ overlaid xs zero bytes
+overlaid (x ∷ xs) (suc from) bytes = x ∷ overlaid xs from bytes
 
 -- each chunk has all its bytes
 abbrev pub AreFull : List (List ℕ) → Type 0

@@ -4,7 +4,7 @@ ghost use Rattle.std.specs.Prelude.{◌≡◌, ◌+◌, ◌*◌, ◌-◌, ◌<�
 ghost use Rattle.std.specs.List.{concat};
 ghost use Rattle.file_tree.specs.declared.limits.TheConstants.{CHUNK_BYTES as BYTES};
 ghost use Rattle.file_tree.specs.rules.Chunks.{chunks_for};
-ghost use Rattle.file_tree.specs.Store.Chunked.{over, AreFull};
+ghost use Rattle.file_tree.specs.Store.Chunked.{overlaid, AreFull};
 
 use crate::limits::CHUNK_BYTES;
 use std::alloc::{AllocError, Global};
@@ -48,7 +48,7 @@ impl Chunk {
     /// Puts bytes in the place of others.
     pub fn write(&mut self, from: usize, bytes: &[u8])
         requires { from + length bytes.now ≤ BYTES }
-        ensures { self.new ≡ over self.old from bytes.now }
+        ensures { self.new ≡ overlaid self.old from bytes.now }
     {
         self.put(from, bytes);
     }
@@ -64,7 +64,7 @@ impl Chunk {
     /// Makes all bytes from one on zeros.
     pub fn clear(&mut self, from: usize)
         requires { from ≤ BYTES }
-        ensures { self.new ≡ over self.old from (replicate (BYTES - from) 0) }
+        ensures { self.new ≡ overlaid self.old from (replicate (BYTES - from) 0) }
     {
         self.put_zeros(from);
     }
@@ -123,7 +123,7 @@ fn write_piece(chunks: &mut Vec<Chunk>, from: usize, bytes: &[u8]) -> usize
     ensures most { result ≤ length bytes.now }
     ensures full { AreFull chunks.new.items }
     ensures count { length chunks.new.items ≡ length chunks.old.items }
-    ensures written { concat chunks.new.items ≡ over (concat chunks.old.items) from (take result bytes.now) }
+    ensures written { concat chunks.new.items ≡ overlaid (concat chunks.old.items) from (take result bytes.now) }
 {
     let count = piece(from, bytes.len());
     chunks[from / CHUNK_BYTES].write(from % CHUNK_BYTES, &bytes[..count]);
@@ -137,7 +137,7 @@ pub fn write_chunks(chunks: &mut Vec<Chunk>, from: usize, bytes: &[u8])
     requires within { from + length bytes.now ≤ length chunks.old.items * BYTES }
     ensures full { AreFull chunks.new.items }
     ensures count { length chunks.new.items ≡ length chunks.old.items }
-    ensures written { concat chunks.new.items ≡ over (concat chunks.old.items) from bytes.now }
+    ensures written { concat chunks.new.items ≡ overlaid (concat chunks.old.items) from bytes.now }
 {
     let mut done = 0;
     while done < bytes.len() {

@@ -1,7 +1,7 @@
 use Rattle.std.proofs.Common.{ℕ, List, ◌+◌, length, take, drop, refl, sym, ap, ◌∙◌, arith, length-drop}
 use Rattle.std.specs.List.{concat}
 use Rattle.std.proofs.lemmas.List.{take_rest}
-use Rattle.file_tree.specs.Store.Chunked.{over}
+use Rattle.file_tree.specs.Store.Chunked.{overlaid}
 use Rattle.file_tree.proofs.StoreLemmas.Overs.{over_none, over_two}
 use Rattle.file_tree.proofs.store.chunks.write_chunks.Goals as goal
 
@@ -19,7 +19,7 @@ loop-done-preserved c =
       w.full,
       w.count ∙ h.2,
       w.written
-          ∙ ap (λ (xs : List ℕ). over (concat c.loop-done.chunks.items) (c.args.from + i) (take r xs)) rest
-          ∙ ap (λ (xs : List ℕ). over xs (c.args.from + i) (take r (drop i c.args.bytes.now))) h.3
+          ∙ ap (λ (xs : List ℕ). overlaid (concat c.loop-done.chunks.items) (c.args.from + i) (take r xs)) rest
+          ∙ ap (λ (xs : List ℕ). overlaid xs (c.args.from + i) (take r (drop i c.args.bytes.now))) h.3
           ∙ over_two (concat c.args.chunks.now.items) c.args.from c.args.bytes.now i r (i + r) (c.args.from + i) refl refl h.0,
     )
