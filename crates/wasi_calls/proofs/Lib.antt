@@ -9,3 +9,5 @@ pub mod FewLines
 pub mod Emitted
 pub mod Files
 pub mod SmallInFront
+pub mod Told
+pub mod RowsInFront
