@@ -22,4 +22,3 @@ pub mod Fitting
 pub mod PathExamplesHold
 pub mod OpenExamplesHold
 pub mod StoryExamplesHold
-pub mod Halts

@@ -1,10 +1,8 @@
 use Rattle.std.proofs.Common.{◌≡◌}
 use Rattle.std.specs.Prelude.{option_copied}
 use Rattle.wasi_abi.specs.declared.call.Call.TheVariants as call
-use Rattle.wasi_calls_rules.specs.Checks.{Ends}
 use Rattle.wasi_calls_rules.specs.Rows.{row}
-use Rattle.wasi_calls_rules.specs.laws.Laws.{ends_process}
-use Rattle.wasi_calls_rules.proofs.Halts.{rows_halt}
+use Rattle.wasi_calls_rules.proofs.Halting.{exit_alone_ends}
 use Rattle.wasi_calls.specs.rules.Calls.{told_of}
 use Rattle.wasi_calls.proofs.LinesInFront.{shown_of}
 use Rattle.wasi_calls.proofs.RowsInFront.{row_behind}
@@ -24,6 +22,4 @@ returns-clause-shown c =
 pub returns-clause-wants : goal.returns-clause-wants
 returns-clause-wants c =
     λ is given m h code ends.
-    let one = rows_halt c.args.call c.args.arguments.now given m h (Ends code) ends in
-    let none = c.make.ensures.wants is in
-    absurd (cc)
+    c.make.ensures.wants is (exit_alone_ends c.args.call c.args.arguments.now given m h code ends)
