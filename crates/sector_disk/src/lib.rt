@@ -34,6 +34,7 @@
 #![tactic(auto)]
 
 mod disk;
+mod disk_call;
 mod fault;
 mod fault_disk;
 mod file;

@@ -1,7 +1,8 @@
 pub mod AreaLemmas
 pub mod ReadLemmas
 pub mod HeadLemmas
-pub mod StoreLemmas
+pub mod StoreCalls
+mod StoreLemmas
 pub mod SpareLemmas
 pub mod WriterLemmas
 pub mod ByteLemmas
