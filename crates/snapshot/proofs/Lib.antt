@@ -9,3 +9,4 @@ pub mod ByteLemmas
 pub mod SnapshotLemmas
 pub mod LawLemmas
 mod ExampleLemmas
+mod CallExamples

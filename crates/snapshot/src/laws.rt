@@ -1,6 +1,6 @@
 //! Laws of snapshots.
 
-ghost use Rattle.snapshot.specs.laws.Examples.{NextCanFollow, ReadyExamples, AreaExamples};
+ghost use Rattle.snapshot.specs.laws.Examples.{NextCanFollow, ReadyExamples, CommitCallExamples, AreaExamples};
 ghost use Rattle.snapshot.specs.laws.Laws.{ImageShowsOne};
 
 /// A disk shows one newest snapshot at most, and a damaged one or none only where it shows no whole one.
@@ -13,8 +13,9 @@ pub fn next_can_follow()
     ensures { NextCanFollow }
 {}
 
-/// Worked examples: which head a disk is ready for, and what a commit may change.
+/// Worked examples: which head a disk is ready for, a commit's calls, and what it may change.
 pub fn worked_examples()
     ensures ready { ReadyExamples }
+    ensures calls { CommitCallExamples }
     ensures areas { AreaExamples }
 {}

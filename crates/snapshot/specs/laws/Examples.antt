@@ -1,9 +1,13 @@
 -- Worked examples of heads, and of what a commit may change. After a commit the next can follow.
 use Rattle.std.specs.Prelude.{◌≡◌, ℕ, ◌+◌, List, [], ◌∷◌, ◌++◌, replicate}
 use Rattle.sector_disk.specs.rules.Image.{Image}
+use Rattle.sector_disk.specs.declared.disk_call.DiskCall.{DiskCall}
+use Rattle.sector_disk.specs.declared.disk_call.DiskCall.TheVariants.{WriteOf, Sync}
 use Rattle.disk_layout.specs.declared.geometry.Geometry.{Geometry}
 use Rattle.disk_layout.specs.declared.head.Head.{Head}
 use Rattle.disk_layout.specs.rules.Sectors.{head_bytes}
+use Rattle.snapshot.specs.declared.writing.Writing.TheVariants.{Whole, Changes}
+use Rattle.snapshot.specs.rules.Calls.{AreStores, with_head}
 use Rattle.snapshot.specs.rules.Heads.{HasNone, heads_to, IsReadyForHead}
 use Rattle.snapshot.specs.rules.Steps.{HoldsWithZeros, HasNew, IsOutsideArea, Fills, Commits, Replaces}
 
@@ -43,6 +47,25 @@ pub record ReadyExamples : Type 0 where
   pub not_for_the_same : IsReadyForHead 3 (with_heads 2 3) → ⊥
   pub not_for_one_later : IsReadyForHead 5 (with_heads 2 3) → ⊥
   pub not_for_the_second : IsReadyForHead 2 headless → ⊥
+
+-- ---- calls; the newest is the first
+
+-- of two sectors from sector 5 on
+abbrev pub ChangesTwo : List DiskCall → Type 0
+ChangesTwo calls = AreStores Changes 5 2 calls
+
+pub record CommitCallExamples : Type 0 where
+  pub second_head : with_head 3 (WriteOf 5 ∷ []) ≡ Sync ∷ WriteOf 2 ∷ Sync ∷ WriteOf 5 ∷ []
+  pub first_head : with_head 4 [] ≡ Sync ∷ WriteOf 1 ∷ Sync ∷ []
+  pub whole : AreStores Whole 5 2 (WriteOf 6 ∷ WriteOf 5 ∷ [])
+  pub whole_but_one : AreStores Whole 5 2 (WriteOf 6 ∷ []) → ⊥
+  pub both_changed : ChangesTwo (WriteOf 6 ∷ WriteOf 5 ∷ [])
+  pub last_changed : ChangesTwo (WriteOf 6 ∷ [])
+  pub none_changed : ChangesTwo []
+  pub falling : ChangesTwo (WriteOf 5 ∷ WriteOf 6 ∷ []) → ⊥
+  pub twice : ChangesTwo (WriteOf 5 ∷ WriteOf 5 ∷ []) → ⊥
+  pub beyond : ChangesTwo (WriteOf 7 ∷ []) → ⊥
+  pub synced : ChangesTwo (Sync ∷ WriteOf 5 ∷ []) → ⊥
 
 -- ---- areas
 
