@@ -10,3 +10,4 @@ pub mod SnapshotLemmas
 pub mod LawLemmas
 mod ExampleLemmas
 mod CallExamples
+mod StateLemmas

@@ -1,5 +1,5 @@
 -- What the calls of a commit ask the disk for, one after another.
-use Rattle.std.proofs.Common.{◌≡◌, ◌≤◌, ◌⊎◌, ℕ, zero, suc, ◌+◌, ◌-◌, List, [], ◌∷◌, ◌++◌, Result, Ok, refl, sym, ap, ◌∙◌, subst, inl, inr, ⊎_elim, arith, append_assoc}
+use Rattle.std.proofs.Common.{◌≡◌, ◌≤◌, ◌⊎◌, ℕ, zero, suc, ◌+◌, ◌-◌, List, [], ◌∷◌, ◌++◌, Result, refl, sym, ap, ◌∙◌, subst, inl, inr, ⊎_elim, arith, append_assoc}
 use Rattle.sector_disk.specs.rules.Medium.{Medium, BeginsCalls, MakesCalls}
 use Rattle.sector_disk.specs.rules.Calls.{rising_writes}
 use Rattle.sector_disk.specs.declared.disk_call.DiskCall.{DiskCall}
@@ -8,14 +8,19 @@ use Rattle.sector_disk.proofs.CallLemmas.{no_calls, begun_then, begun_first, mad
 use Rattle.disk_layout.specs.rules.Places.{head_place}
 use Rattle.snapshot.specs.declared.writing.Writing.{Writing}
 use Rattle.snapshot.specs.declared.writing.Writing.TheVariants.{Whole, Changes}
-use Rattle.snapshot.specs.rules.Calls.{SomeRising, AreStores, MakesStores, MakesStoresAndHead, with_head}
+use Rattle.snapshot.specs.rules.Calls.{SomeRising, AreStores, Stores, MakesStores, MakesStoresAndHead, with_head}
+
+abbrev pub stores : Writing → ℕ → ℕ → Stores
+stores writing at n = record { writing = writing; first = at; count = n }
 
 -- they are begun, and they are all made
 abbrev pub BeginsStores : Writing → ℕ → ℕ → Medium → Medium → Type 0
-BeginsStores writing at n old new = (stores : List DiskCall) × AreStores writing at n stores × BeginsCalls stores old new
+BeginsStores writing at n old new =
+    (calls : List DiskCall) × AreStores writing at n calls × BeginsCalls calls old new
 
 abbrev pub HasStored : Writing → ℕ → ℕ → Medium → Medium → Type 0
-HasStored writing at n old new = (stores : List DiskCall) × AreStores writing at n stores × (new.calls ≡ stores ++ old.calls)
+HasStored writing at n old new =
+    (calls : List DiskCall) × AreStores writing at n calls × (new.calls ≡ calls ++ old.calls)
 
 -- ---- one sector, and none
 
@@ -42,93 +47,134 @@ none_stored Changes at n m = ([], some_none at n, no_calls [] m)
 
 -- ---- more sectors
 
-rising_append : (at n m : ℕ) → rising_writes at (n + m) ≡ rising_writes (at + n) m ++ rising_writes at n
-rising_append at n zero = ap (λ j. rising_writes at j) (let e : n + zero ≡ n = omega arith in e)
+rising_append : (at n m : ℕ)
+    → rising_writes at (n + m) ≡ rising_writes (at + n) m ++ rising_writes at n
+rising_append at n zero =
+    ap (λ j. rising_writes at j) (let e : n + zero ≡ n = omega arith in e)
 rising_append at n (suc m) =
-    ap (λ j. rising_writes at j) (let e : n + suc m ≡ suc (n + m) = omega arith in e)
-    ∙ ap (λ j. WriteOf j ∷ rising_writes at (n + m)) (let e : at + (n + m) ≡ at + n + m = omega arith in e)
+    let one : n + suc m ≡ suc (n + m) = omega arith in
+    let last : at + (n + m) ≡ at + n + m = omega arith in
+    ap (λ j. rising_writes at j) one ∙ ap (λ j. WriteOf j ∷ rising_writes at (n + m)) last
     ∙ ap (λ (l : List DiskCall). WriteOf (at + n + m) ∷ l) (rising_append at n m)
 
-some_append : (at n m : ℕ) (a b : List DiskCall) → SomeRising at n a → SomeRising (at + n) m b → SomeRising at (n + m) (b ++ a)
+some_append : (at n m : ℕ) (a b : List DiskCall) → SomeRising at n a → SomeRising (at + n) m b
+    → SomeRising at (n + m) (b ++ a)
 some_append at n zero a b some none =
     let P : List DiskCall → Type 0 = λ l. SomeRising at (n + zero) (l ++ a) in
-    subst P (sym none) (subst (λ (j : ℕ). SomeRising at j a) (let e : n ≡ n + zero = omega arith in e) some)
+    let e : n ≡ n + zero = omega arith in
+    subst P (sym none) (subst (λ (j : ℕ). SomeRising at j a) e some)
 some_append at n (suc m) a b some more =
-    subst (λ (j : ℕ). SomeRising at j (b ++ a)) (let e : suc (n + m) ≡ n + suc m = omega arith in e)
+    let R : Type 0 = SomeRising at (suc (n + m)) (b ++ a) in
+    let one : suc (n + m) ≡ n + suc m = omega arith in
+    let last : at + n + m ≡ at + (n + m) = omega arith in
+    subst (λ (j : ℕ). SomeRising at j (b ++ a)) one
     (⊎_elim
-    (λ (fewer : SomeRising (at + n) m b). (let r : SomeRising at (suc (n + m)) (b ++ a) = inl (some_append at n m a b some fewer) in r))
-    (λ (last : (earlier : List DiskCall) × (b ≡ WriteOf (at + n + m) ∷ earlier) × SomeRising (at + n) m earlier).
+    (λ (fewer : SomeRising (at + n) m b).
+    (let r : R = inl (some_append at n m a b some fewer) in r))
+    (λ (newest : (earlier : List DiskCall) × (b ≡ WriteOf (at + n + m) ∷ earlier)
+    × SomeRising (at + n) m earlier).
     inr (
-      last.0 ++ a,
-      ap (λ (l : List DiskCall). l ++ a) last.1 ∙ ap (λ j. WriteOf j ∷ (last.0 ++ a)) (let e : at + n + m ≡ at + (n + m) = omega arith in e),
-      some_append at n m a last.0 some last.2,
+      newest.0 ++ a,
+      ap (λ (l : List DiskCall). l ++ a) newest.1 ∙ ap (λ j. WriteOf j ∷ (newest.0 ++ a)) last,
+      some_append at n m a newest.0 some newest.2,
     ))
     more)
 
-stores_append : (writing : Writing) (at n m : ℕ) (a b : List DiskCall) → AreStores writing at n a → AreStores writing (at + n) m b → AreStores writing at (n + m) (b ++ a)
-stores_append Whole at n m a b one two = ap (λ (l : List DiskCall). l ++ a) two ∙ ap (λ (l : List DiskCall). rising_writes (at + n) m ++ l) one ∙ sym (rising_append at n m)
+stores_append : (writing : Writing) (at n m : ℕ) (a b : List DiskCall)
+    → AreStores writing at n a → AreStores writing (at + n) m b
+    → AreStores writing at (n + m) (b ++ a)
+stores_append Whole at n m a b one two =
+    ap (λ (l : List DiskCall). l ++ a) two
+    ∙ ap (λ (l : List DiskCall). rising_writes (at + n) m ++ l) one ∙ sym (rising_append at n m)
 stores_append Changes at n m a b one two = some_append at n m a b one two
 
-some_longer : (at n k : ℕ) (calls : List DiskCall) → SomeRising at n calls → SomeRising at (n + k) calls
+some_longer : (at n k : ℕ) (calls : List DiskCall) → SomeRising at n calls
+    → SomeRising at (n + k) calls
 some_longer at n k calls some = some_append at n k calls [] some (some_none (at + n) k)
 
-pub begun_longer : (writing : Writing) (at n m : ℕ) (old new : Medium) → n ≤ m → BeginsStores writing at n old new → BeginsStores writing at m old new
+pub begun_longer : (writing : Writing) (at n m : ℕ) (old new : Medium) → n ≤ m
+    → BeginsStores writing at n old new → BeginsStores writing at m old new
 begun_longer Whole at n m old new le begun =
-    (rising_writes at m, refl, rising_longer at n m old new le (subst (λ (l : List DiskCall). BeginsCalls l old new) begun.1 begun.2))
+    let all = subst (λ (l : List DiskCall). BeginsCalls l old new) begun.1 begun.2 in
+    (rising_writes at m, refl, rising_longer at n m old new le all)
 begun_longer Changes at n m old new le begun =
-    (begun.0, subst (λ (j : ℕ). SomeRising at j begun.0) (let e : n + (m - n) ≡ m = omega arith in e) (some_longer at n (m - n) begun.0 begun.1), begun.2)
+    let e : n + (m - n) ≡ m = omega arith in
+    let some = some_longer at n (m - n) begun.0 begun.1 in
+    (begun.0, subst (λ (j : ℕ). SomeRising at j begun.0) e some, begun.2)
 
 -- ---- one run of stores, and then another
 
-pub stored_then : {T E : Type 0} (writing : Writing) (at n m : ℕ) (result : Result T E) (old mid new : Medium) → HasStored writing at n old mid → MakesStores writing (at + n) m result mid new → MakesStores writing at (n + m) result old new
-stored_then writing at n m result old mid new one two =
-    (two.0 ++ one.0, stores_append writing at n m one.0 two.0 one.1 two.1, made_then one.0 two.0 result old mid new one.2 two.2)
+module _ (writing : Writing) (at n m : ℕ) (old mid new : Medium)
+    (one : HasStored writing at n old mid) where
+  -- the calls of both
+  both_are : (calls : List DiskCall) → AreStores writing (at + n) m calls
+      → AreStores writing at (n + m) (calls ++ one.0)
+  both_are calls are = stores_append writing at n m one.0 calls one.1 are
 
-pub has_stored_then : (writing : Writing) (at n m : ℕ) (old mid new : Medium) → HasStored writing at n old mid → HasStored writing (at + n) m mid new → HasStored writing at (n + m) old new
-has_stored_then writing at n m old mid new one two = (
-  two.0 ++ one.0,
-  stores_append writing at n m one.0 two.0 one.1 two.1,
-  two.2 ∙ ap (λ (l : List DiskCall). two.0 ++ l) one.2 ∙ sym (append_assoc two.0 one.0 old.calls),
-)
+  pub stored_then : HasStored writing (at + n) m mid new → HasStored writing at (n + m) old new
+  stored_then two = (
+    two.0 ++ one.0,
+    both_are two.0 two.1,
+    two.2 ∙ ap (λ (l : List DiskCall). two.0 ++ l) one.2
+        ∙ sym (append_assoc two.0 one.0 old.calls),
+  )
 
-pub begun_stores_then : (writing : Writing) (at n m : ℕ) (old mid new : Medium) → HasStored writing at n old mid → BeginsStores writing (at + n) m mid new → BeginsStores writing at (n + m) old new
-begun_stores_then writing at n m old mid new one two =
-    (two.0 ++ one.0, stores_append writing at n m one.0 two.0 one.1 two.1, begun_then one.0 two.0 old mid new one.2 two.2)
+  pub begun_stores_then : BeginsStores writing (at + n) m mid new
+      → BeginsStores writing at (n + m) old new
+  begun_stores_then two = (
+    two.0 ++ one.0,
+    both_are two.0 two.1,
+    begun_then one.0 two.0 old mid new one.2 two.2,
+  )
 
-pub head_then : {T E : Type 0} (writing : Writing) (at n m g : ℕ) (result : Result T E) (old mid new : Medium) → HasStored writing at n old mid → MakesStoresAndHead writing (at + n) m g result mid new → MakesStoresAndHead writing at (n + m) g result old new
-head_then writing at n m g result old mid new one two =
-    (two.0 ++ one.0, stores_append writing at n m one.0 two.0 one.1 two.1, made_then one.0 (with_head g two.0) result old mid new one.2 two.2)
+  pub head_then : {T E : Type 0} (g : ℕ) (result : Result T E)
+      → MakesStoresAndHead (stores writing (at + n) m) g result mid new
+      → MakesStoresAndHead (stores writing at (n + m)) g result old new
+  head_then g result two = (
+    two.0 ++ one.0,
+    both_are two.0 two.1,
+    made_then one.0 (with_head g two.0) result old mid new one.2 two.2,
+  )
 
 -- the head is never begun
-abbrev pub BeginsStoresAndHead : Writing → ℕ → ℕ → ℕ → Medium → Medium → Type 0
-BeginsStoresAndHead writing at n g old new = (stores : List DiskCall) × AreStores writing at n stores × BeginsCalls (with_head g stores) old new
+abbrev pub BeginsStoresAndHead : Stores → ℕ → Medium → Medium → Type 0
+BeginsStoresAndHead stores g old new = (calls : List DiskCall)
+    × AreStores stores.writing stores.first stores.count calls
+    × BeginsCalls (with_head g calls) old new
 
-pub no_head : (writing : Writing) (at n g : ℕ) (old new : Medium) → BeginsStores writing at n old new → BeginsStoresAndHead writing at n g old new
-no_head writing at n g old new begun = (begun.0, begun.1, begun_first begun.0 (Sync ∷ WriteOf (head_place g) ∷ Sync ∷ []) old new begun.2)
+pub no_head : (writing : Writing) (at n g : ℕ) (old new : Medium)
+    → BeginsStores writing at n old new
+    → BeginsStoresAndHead (stores writing at n) g old new
+no_head writing at n g old new begun =
+    let rest = Sync ∷ WriteOf (head_place g) ∷ Sync ∷ [] in
+    (begun.0, begun.1, begun_first begun.0 rest old new begun.2)
 
--- ---- at the same places
+-- ---- the same stores
 
-pub has_stored_at : (writing was : Writing) (at place n m : ℕ) (old new : Medium) → was ≡ writing → place ≡ at → m ≡ n → HasStored was place m old new → HasStored writing at n old new
-has_stored_at writing was at place n m old new same here many stored =
-    let one = subst (λ (w : Writing). HasStored w place m old new) same stored in
-    let two = subst (λ (j : ℕ). HasStored writing j m old new) here one in
-    subst (λ (j : ℕ). HasStored writing at j old new) many two
+pub same_stores : (writing was : Writing) (at place n m : ℕ) → was ≡ writing → place ≡ at → m ≡ n
+    → stores was place m ≡ stores writing at n
+same_stores writing was at place n m same here many = rw (same, here, many) refl
 
-pub begun_at : (writing was : Writing) (at place n m : ℕ) (old new : Medium) → was ≡ writing → place ≡ at → m ≡ n → BeginsStores was place m old new → BeginsStores writing at n old new
-begun_at writing was at place n m old new same here many begun =
-    let one = subst (λ (w : Writing). BeginsStores w place m old new) same begun in
-    let two = subst (λ (j : ℕ). BeginsStores writing j m old new) here one in
-    subst (λ (j : ℕ). BeginsStores writing at j old new) many two
+pub has_stored_at : {one other : Stores} (old new : Medium) → one ≡ other
+    → HasStored one.writing one.first one.count old new
+    → HasStored other.writing other.first other.count old new
+has_stored_at old new e stored =
+    subst (λ (s : Stores). HasStored s.writing s.first s.count old new) e stored
 
-pub makes_at : {T E : Type 0} (writing was : Writing) (at place n m : ℕ) (result : Result T E) (old new : Medium) → was ≡ writing → place ≡ at → m ≡ n → MakesStores was place m result old new → MakesStores writing at n result old new
-makes_at writing was at place n m result old new same here many makes =
-    let one = subst (λ (w : Writing). MakesStores w place m result old new) same makes in
-    let two = subst (λ (j : ℕ). MakesStores writing j m result old new) here one in
-    subst (λ (j : ℕ). MakesStores writing at j result old new) many two
+pub begun_at : {one other : Stores} (old new : Medium) → one ≡ other
+    → BeginsStores one.writing one.first one.count old new
+    → BeginsStores other.writing other.first other.count old new
+begun_at old new e begun =
+    subst (λ (s : Stores). BeginsStores s.writing s.first s.count old new) e begun
 
-pub head_at : {T E : Type 0} (writing was : Writing) (at place n m g h : ℕ) (result : Result T E) (old new : Medium) → was ≡ writing → place ≡ at → m ≡ n → h ≡ g → MakesStoresAndHead was place m h result old new → MakesStoresAndHead writing at n g result old new
-head_at writing was at place n m g h result old new same here many whose makes =
-    let one = subst (λ (w : Writing). MakesStoresAndHead w place m h result old new) same makes in
-    let two = subst (λ (j : ℕ). MakesStoresAndHead writing j m h result old new) here one in
-    let three = subst (λ (j : ℕ). MakesStoresAndHead writing at j h result old new) many two in
-    subst (λ (j : ℕ). MakesStoresAndHead writing at n j result old new) whose three
+pub makes_at : {T E : Type 0} {one other : Stores} (result : Result T E) (old new : Medium)
+    → one ≡ other → MakesStores one result old new → MakesStores other result old new
+makes_at result old new e makes =
+    subst (λ (s : Stores). MakesStores s result old new) e makes
+
+pub head_at : {T E : Type 0} {one other : Stores} (g h : ℕ) (result : Result T E)
+    (old new : Medium) → one ≡ other → h ≡ g → MakesStoresAndHead one h result old new
+    → MakesStoresAndHead other g result old new
+head_at {one = one} {other = other} g h result old new e whose makes =
+    let same = subst (λ (s : Stores). MakesStoresAndHead s h result old new) e makes in
+    subst (λ (j : ℕ). MakesStoresAndHead other j result old new) whose same

@@ -24,7 +24,7 @@ pub record StoresSector {T : Type 0} (k : ℕ) (bytes : List ℕ) (writing : Wri
   pub told : IsStoredAs writing k bytes result old new
   pub unsynced : new.unsynced ≤ old.unsynced + 1
   pub counts : CountsUpTo (old.unsynced + 1) old new
-  pub calls : MakesStores writing k 1 result old new
+  pub calls : MakesStores (record { writing = writing; first = k; count = 1 }) result old new
   pub cause : IsErr result → (spare old ≡ 0) ⊎ (old.faults < new.faults)
 
 -- Sector k is written once all that was written before is settled. A cut leaves what it may have left before, or some front of

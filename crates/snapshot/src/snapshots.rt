@@ -189,9 +189,11 @@ impl Snapshots {
 
         // The sectors that they fill are written in rising order, each once at most, and without
         // a sync. After an error these calls are begun.
-        ensures calls { MakesStores (writing_of self.old)
-            (area_place geometry.now (generation_of self.old) + sectors_of self.old)
-            (filled_by self.old (length bytes.now)) result (D.medium disk.old) (D.medium disk.new) }
+        ensures calls { MakesStores (record {
+          writing = writing_of self.old;
+          first = area_place geometry.now (generation_of self.old) + sectors_of self.old;
+          count = filled_by self.old (length bytes.now);
+        }) result (D.medium disk.old) (D.medium disk.new) }
 
         ensures too_big { (result ≡ Err SnapshotFault.TooBig) ↔ ((is_failed self.old ≡ false) × (SECTOR_SIZE * geometry.now.area_sectors < length_of self.old + length bytes.now)) }
         ensures untouched { IsTrue (is_failed self.old) ⊎ (result ≡ Err SnapshotFault.TooBig) → disk.new ≡ disk.old }
@@ -243,10 +245,11 @@ impl Snapshots {
 
         // At most the last sector is written, and then the head between two syncs. After an error
         // these calls are begun.
-        ensures calls { MakesStoresAndHead (writing_of self.old)
-            (area_place geometry.now (generation_of self.old) + sectors_of self.old)
-            (rounded_up (length_of self.old) - sectors_of self.old) (generation_of self.old) result
-            (D.medium disk.old) (D.medium disk.new) }
+        ensures calls { MakesStoresAndHead (record {
+          writing = writing_of self.old;
+          first = area_place geometry.now (generation_of self.old) + sectors_of self.old;
+          count = rounded_up (length_of self.old) - sectors_of self.old;
+        }) (generation_of self.old) result (D.medium disk.old) (D.medium disk.new) }
         ensures idle { OnOk result (IsTrue (is_idle self.new)) }
 
         ensures untouched { IsTrue (is_failed self.old) → disk.new ≡ disk.old }
@@ -289,9 +292,11 @@ impl Snapshots {
 
         // Its calls: writes to sectors of the image, in rising order and each once at most, a
         // sync, the head, and a sync. After an error these calls are begun.
-        ensures calls { MakesStoresAndHead Writing.Changes (area_place geometry.now generation)
-            (rounded_up (length image.now)) generation result (D.medium disk.old)
-            (D.medium disk.new) }
+        ensures calls { MakesStoresAndHead (record {
+          writing = Writing.Changes;
+          first = area_place geometry.now generation;
+          count = rounded_up (length image.now);
+        }) generation result (D.medium disk.old) (D.medium disk.new) }
 
         ensures too_big { (result ≡ Err SnapshotFault.TooBig) ↔ ((is_failed self.old ≡ false) × ((NUMBERS_END ≤ generation) ⊎ (SECTOR_SIZE * geometry.now.area_sectors < length image.now))) }
         ensures untouched { IsTrue (is_failed self.old) ⊎ (result ≡ Err SnapshotFault.TooBig) → disk.new ≡ disk.old }

@@ -87,10 +87,11 @@ impl AreaWriter {
         ensures any_moment { LeavesOnly (D.medium disk.old) (D.medium disk.new) (After (Fills geometry.now self.old.generation) (D.medium disk.old).may_leave) }
         ensures counts { CountsUpTo ((D.medium disk.old).unsynced +
             (self.old.filled + length bytes.now) / SECTOR_SIZE) (D.medium disk.old) (D.medium disk.new) }
-        ensures calls { MakesStores self.old.writing
-            (area_place geometry.now self.old.generation + self.old.sectors)
-            ((self.old.filled + length bytes.now) / SECTOR_SIZE) result
-            (D.medium disk.old) (D.medium disk.new) }
+        ensures calls { MakesStores (record {
+          writing = self.old.writing;
+          first = area_place geometry.now self.old.generation + self.old.sectors;
+          count = (self.old.filled + length bytes.now) / SECTOR_SIZE;
+        }) result (D.medium disk.old) (D.medium disk.new) }
         ensures cause { IsErr result → result ≡ Err SnapshotFault.TooBig ⊎ ((fault : DiskFault) × (result ≡ Err (SnapshotFault.Disk fault)) × ((spare (D.medium disk.old) + self.old.sectors < geometry.now.area_sectors) ⊎ ((D.medium disk.old).faults < (D.medium disk.new).faults))) }
     {
         let total = self.length().saturating_add(bytes.len() as u64);
@@ -133,9 +134,11 @@ impl AreaWriter {
             (self.old.filled + length bytes.now) / SECTOR_SIZE) (D.medium disk.old) (D.medium disk.new) }
         ensures calls { (n : ℕ) × (n ≤ (self.old.filled + length bytes.now) / SECTOR_SIZE)
             × OnOk result (self.new.sectors ≡ self.old.sectors + n)
-            × MakesStores self.old.writing
-            (area_place geometry.now self.old.generation + self.old.sectors) n result
-            (D.medium disk.old) (D.medium disk.new) }
+            × MakesStores (record {
+              writing = self.old.writing;
+              first = area_place geometry.now self.old.generation + self.old.sectors;
+              count = n;
+            }) result (D.medium disk.old) (D.medium disk.new) }
         ensures cause { IsErr result → (spare (D.medium disk.old) + self.old.sectors < geometry.now.area_sectors) ⊎ ((D.medium disk.old).faults < (D.medium disk.new).faults) }
     {
         let filled = self.filled;
@@ -174,10 +177,11 @@ impl AreaWriter {
             (rounded_up (written_length self.now)) (D.medium disk.old) (D.medium disk.new)) }
         ensures whole { self.now.writing ≡ Writing.Whole → 0 < self.now.filled → OnOk result
             ((D.medium disk.new).unsynced ≡ (D.medium disk.old).unsynced + 1) }
-        ensures calls { MakesStores self.now.writing
-            (area_place geometry.now self.now.generation + self.now.sectors)
-            (rounded_up (written_length self.now) - self.now.sectors) result
-            (D.medium disk.old) (D.medium disk.new) }
+        ensures calls { MakesStores (record {
+          writing = self.now.writing;
+          first = area_place geometry.now self.now.generation + self.now.sectors;
+          count = rounded_up (written_length self.now) - self.now.sectors;
+        }) result (D.medium disk.old) (D.medium disk.new) }
         ensures cause { IsErr result → (spare (D.medium disk.old) + self.now.sectors < geometry.now.area_sectors) ⊎ ((D.medium disk.old).faults < (D.medium disk.new).faults) }
     {
         if self.filled == 0 {
@@ -232,10 +236,11 @@ impl AreaWriter {
         ensures whole { self.writing ≡ Writing.Whole → 0 < self.filled → OnOk result
             ((D.medium disk.new).unsynced_since (D.medium disk.old).moment
             ((D.medium disk.old).unsynced + 1)) }
-        ensures calls { MakesStoresAndHead self.writing
-            (area_place geometry.now self.generation + self.sectors)
-            (rounded_up (written_length self) - self.sectors) self.generation result
-            (D.medium disk.old) (D.medium disk.new) }
+        ensures calls { MakesStoresAndHead (record {
+          writing = self.writing;
+          first = area_place geometry.now self.generation + self.sectors;
+          count = rounded_up (written_length self) - self.sectors;
+        }) self.generation result (D.medium disk.old) (D.medium disk.new) }
         ensures cause { IsErr result → (spare (D.medium disk.old) + self.sectors < geometry.now.area_sectors) ⊎ ((D.medium disk.old).room ≡ 0) ⊎ ((D.medium disk.old).faults < (D.medium disk.new).faults) }
     {
         self.store_last(disk, geometry)?;

@@ -71,11 +71,13 @@ pub record IsOn (geometry : Geometry) (g used : ℕ) (kept_bytes : List ℕ) (re
   pub fit_kept : AllRecordsFit kept
   pub generation : g < 2 ^ 64
 
--- so many sectors from this one on are written one after another, and then synced; no sector takes no call
+-- so many sectors from this one on are written one after another, and then synced; for none there
+-- is no call
 abbrev pub calls_to : ℕ → ℕ → List DiskCall
 calls_to at zero = []
 calls_to at (suc n) = synced_writes at (suc n)
 
--- what a barrier asks the disk for: the sectors that the kept bytes take, the first of them behind those in use
+-- what a barrier asks the disk for: the sectors that the kept bytes take, the first of them behind
+-- those in use
 abbrev pub barrier_calls : Geometry → JournalState → List DiskCall
 barrier_calls geometry s = calls_to (journal_place geometry + s.used) (sectors_for (length s.kept))

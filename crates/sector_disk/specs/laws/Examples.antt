@@ -168,6 +168,7 @@ newer_is_not_begun old new made begun = none begun.0 (sym made ∙ begun.1)
     none (suc (suc zero)) e = let k : 8 ≡ 7 = ap first_sector e in omega (arith, k)
     none (suc (suc (suc n))) e =
         let l = ap length e in
-        let rest = ap (λ (x : List DiskCall). length (x ++ old.calls)) (drop_all n [] (omega arith)) in
+        let rest = ap (λ (x : List DiskCall). length (x ++ old.calls))
+        (drop_all n [] (omega arith)) in
         let m : suc (length old.calls) ≡ length old.calls = l ∙ rest in
         omega (arith, m)

@@ -31,7 +31,8 @@ pub record Medium : Type 1 where
   pub room : ℕ
   -- there were so many unsynced writes at some moment since that one
   pub unsynced_since : ℕ → ℕ → Type 0
-  -- the writes and syncs that it was asked for, the newest first; of those that failed some may be missing
+  -- the writes and syncs that it was asked for, the newest first; of those that failed some may
+  -- be missing
   pub calls : List DiskCall
   pub fits : sectors < 2 ^ 64
   -- the sets are those of the pairs
@@ -121,7 +122,8 @@ abbrev pub BeginsCalls : List DiskCall → Medium → Medium → Type 0
 BeginsCalls calls old new = (left_out : ℕ) × (new.calls ≡ drop left_out calls ++ old.calls)
 
 -- Where it answers Ok, just these calls have been made, the newest first. Else they were begun.
-pub record MakesCalls {T E : Type 0} (calls : List DiskCall) (result : Result T E) (old new : Medium) : Type 0 where
+pub record MakesCalls {T E : Type 0} (calls : List DiskCall) (result : Result T E)
+    (old new : Medium) : Type 0 where
   pub all : OnOk result (new.calls ≡ calls ++ old.calls)
   pub begun : BeginsCalls calls old new
 

@@ -19,16 +19,24 @@ abbrev pub AreStores : Writing → ℕ → ℕ → List DiskCall → Type 0
 AreStores Whole at n calls = calls ≡ rising_writes at n
 AreStores Changes at n calls = SomeRising at n calls
 
--- so many sectors from this one on are stored
-abbrev pub MakesStores : {T E : Type 0} → Writing → ℕ → ℕ → Result T E → Medium → Medium → Type 0
-MakesStores writing at n result old new =
-    (stores : List DiskCall) × AreStores writing at n stores × MakesCalls stores result old new
+-- how many sectors are stored, from which one on, and whether whole
+pub record Stores : Type 0 where
+  pub writing : Writing
+  pub first : ℕ
+  pub count : ℕ
+
+-- these sectors are stored
+abbrev pub MakesStores : {T E : Type 0} → Stores → Result T E → Medium → Medium → Type 0
+MakesStores stores result old new = (calls : List DiskCall)
+    × AreStores stores.writing stores.first stores.count calls × MakesCalls calls result old new
 
 -- behind these calls the head of generation g is written, between two syncs
 abbrev pub with_head : ℕ → List DiskCall → List DiskCall
 with_head g calls = Sync ∷ WriteOf (head_place g) ∷ Sync ∷ calls
 
--- so many sectors from this one on are stored, and then the head of generation g
-abbrev pub MakesStoresAndHead : {T E : Type 0} → Writing → ℕ → ℕ → ℕ → Result T E → Medium → Medium → Type 0
-MakesStoresAndHead writing at n g result old new =
-    (stores : List DiskCall) × AreStores writing at n stores × MakesCalls (with_head g stores) result old new
+-- these sectors are stored, and then the head of generation g
+abbrev pub MakesStoresAndHead : {T E : Type 0} → Stores → ℕ → Result T E → Medium → Medium
+    → Type 0
+MakesStoresAndHead stores g result old new = (calls : List DiskCall)
+    × AreStores stores.writing stores.first stores.count calls
+    × MakesCalls (with_head g calls) result old new

@@ -7,7 +7,7 @@ use Rattle.snapshot.specs.rules.Snapshots.{generation_of, version_of, length_of,
 use Rattle.snapshot.specs.Writing.{SparesSectors, SparesAllButHead}
 use Rattle.disk_layout.specs.rules.Places.{area_place, rounded_up}
 use Rattle.snapshot.proofs.SpareLemmas.{spares_all_but_head, filled_within, filled_only}
-use Rattle.snapshot.proofs.StoreCalls.{none_stored, no_head, begun_at, begun_longer, has_stored_at, head_at, head_then}
+use Rattle.snapshot.proofs.StoreCalls.{none_stored, no_head, same_stores, begun_at, begun_longer, has_stored_at, head_at, head_then}
 use Rattle.sector_disk.proofs.CountLemmas.{counts_more, counts_then, unsynced_within}
 use Rattle.snapshot.proofs.SnapshotLemmas.{begun_pushed, filled_commits, committed, committed_whole}
 use Rattle.snapshot.proofs.snapshots.Snapshots.commit.Goals as goal
@@ -122,7 +122,8 @@ returns-in_err-push-clause-calls g c =
     let here : was ≡ at = omega (arith, ap (λ j. area_place geometry j) begun.generation, begun.sectors) in
     let many = filled_by b len in
     let p = c.push.ensures.calls in
-    let one = begun_at Changes (writing_of b) at was many many old mid begun.writing here refl (p.0, p.1, p.2.begun) in
+    let same = same_stores Changes (writing_of b) at was many many begun.writing here refl in
+    let one = begun_at old mid same (p.0, p.1, p.2.begun) in
     let two = begun_longer Changes at many (rounded_up len) old mid (omega (arith, none)) one in
     let all = no_head Changes at (rounded_up len) c.args.generation old mid two in
     (all.0, all.1, record { all = search rules; begun = all.2 })
@@ -146,12 +147,16 @@ returns-clause-calls g c =
     let many = filled_by b len in
     let filled : sectors_of w ≡ many = omega (arith, total, none, begun.sectors, filled_within w.state, filled_only w.state) in
     let p = c.in_ok-push.ensures.calls in
-    let one = has_stored_at Changes (writing_of b) at was many many old mid begun.writing here refl (p.0, p.1, p.2.all) in
+    let first = same_stores Changes (writing_of b) at was many many begun.writing here refl in
+    let one = has_stored_at old mid first (p.0, p.1, p.2.all) in
     let g-same = same.generation ∙ begun.generation in
     let behind = area_place geometry (generation_of w) + sectors_of w in
     let there : behind ≡ at + many = omega (arith, ap (λ j. area_place geometry j) g-same, filled) in
     let last = rounded_up (length_of w) - sectors_of w in
-    let two = head_at Changes (writing_of w) (at + many) behind last last c.args.generation (generation_of w) c.finish.result mid new (same.writing ∙ begun.writing) there refl g-same c.finish.ensures.calls in
-    let both = head_then Changes at many last c.args.generation c.finish.result old mid new one two in
+    let second = same_stores Changes (writing_of w) (at + many) behind last last (same.writing ∙ begun.writing) there refl in
+    let head = c.args.generation in
+    let two = head_at head (generation_of w) c.finish.result mid new second g-same c.finish.ensures.calls in
+    let both = head_then Changes at many last old mid new one head c.finish.result two in
     let all : many + last ≡ rounded_up len = omega (arith, total, none, begun.sectors, filled, filled_within w.state) in
-    head_at Changes Changes at at (rounded_up len) (many + last) c.args.generation c.args.generation c.finish.result old new refl refl all refl both
+    let whole = same_stores Changes Changes at at (rounded_up len) (many + last) refl refl all in
+    head_at head head c.finish.result old new whole refl both

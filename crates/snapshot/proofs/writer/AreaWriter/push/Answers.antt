@@ -8,7 +8,7 @@ use Rattle.snapshot.specs.rules.Steps.{Fills}
 use Rattle.snapshot.specs.Writing.{SparesSectors, IsGiven}
 use Rattle.snapshot.proofs.SpareLemmas.{spares_then}
 use Rattle.snapshot.proofs.WriterLemmas.{more_fills, sectors_left}
-use Rattle.snapshot.proofs.StoreCalls.{HasStored, has_stored_at, has_stored_then, none_stored, begun_at, begun_longer, begun_stores_then}
+use Rattle.snapshot.proofs.StoreCalls.{HasStored, same_stores, has_stored_at, stored_then, none_stored, begun_at, begun_longer, begun_stores_then}
 use Rattle.snapshot.proofs.writer.AreaWriter.push.Goals as goal
 
 pub returns-in_err-at-clause-any_moment : goal.returns-in_err-at-clause-any_moment
@@ -83,11 +83,10 @@ loop-at-preserved g c =
           let place = area_place c.args.geometry.now c.args.self.now.generation + c.args.self.now.sectors in
           let was = area_place c.args.geometry.now c.loop-at.self.generation + c.loop-at.self.sectors in
           let at : was ≡ place + made.0 = omega (arith, ap (λ j. area_place c.args.geometry.now j) i.generation, made.1) in
-          let next = has_stored_at c.args.self.now.writing c.loop-at.self.writing (place + made.0) was here.0 here.0 mid new i.writing at refl (here.3.0, here.3.1, here.3.2.all) in (
-            made.0 + here.0,
-            omega (arith, made.1, here.2),
-            has_stored_then c.args.self.now.writing place made.0 here.0 old mid new made.2 next,
-          );
+          let w = c.args.self.now.writing in
+          let same = same_stores w c.loop-at.self.writing (place + made.0) was here.0 here.0 i.writing at refl in
+          let next = has_stored_at mid new same (here.3.0, here.3.1, here.3.2.all) in
+          (made.0 + here.0, omega (arith, made.1, here.2), stored_then w place made.0 here.0 old mid new made.2 next);
       unsynced = omega (arith, sync, i.unsynced);
       counts = let p = i.leaves.passes in counts_then most (mid.unsynced + (c.loop-at.self.filled + length (take (length bytes - c.loop-at.at) (drop c.loop-at.at bytes))) / 512) most old mid new (omega arith) few p.later i.counts c.take_in.ensures.counts;
       leaves = more_fills c.args.geometry.now c.args.self.now.generation old mid new i.leaves two;
@@ -116,7 +115,8 @@ returns-in_err-at-clause-calls g c =
     let place = area_place c.args.geometry.now w.generation + w.sectors in
     let was = area_place c.args.geometry.now now.generation + now.sectors in
     let at : was ≡ place + made.0 = omega (arith, ap (λ j. area_place c.args.geometry.now j) i.generation, made.1) in
-    let next = begun_at w.writing now.writing (place + made.0) was here.0 here.0 mid new i.writing at refl (here.3.0, here.3.1, here.3.2.begun) in
+    let same = same_stores w.writing now.writing (place + made.0) was here.0 here.0 i.writing at refl in
+    let next = begun_at mid new same (here.3.0, here.3.1, here.3.2.begun) in
     let both = begun_stores_then w.writing place made.0 here.0 old mid new made.2 next in
     let few : made.0 + here.0 ≤ many = omega (arith, made.1, here.1, i.length, i.within, w.open, now.open, joined) in
     let all = begun_longer w.writing place (made.0 + here.0) many old new few both in

@@ -10,7 +10,7 @@ use Rattle.snapshot.specs.declared.writing.Writing.TheVariants.{Changes}
 use Rattle.snapshot.specs.Store.{IsStoredAs}
 use Rattle.snapshot.specs.Writing.{SparesSectors}
 use Rattle.snapshot.specs.rules.Calls.{AreStores}
-use Rattle.snapshot.proofs.StoreCalls.{stores_none, makes_at}
+use Rattle.snapshot.proofs.StoreCalls.{stores_none, same_stores, makes_at}
 use Rattle.snapshot.proofs.SpareLemmas.{spares_none, spares_one}
 use Rattle.snapshot.proofs.AreaLemmas.{area_in}
 use Rattle.snapshot.proofs.WriterLemmas.{store_fills, stored_more, zeros_held}
@@ -112,4 +112,6 @@ returns-clause-calls g c =
     let some = c.if-self-eq0.false in
     let filled = w.open in
     let one : 1 ≡ rounded_up (512 * w.sectors + w.filled) - w.sectors = omega (arith, some, filled) in
-    makes_at w.writing w.writing (place + w.sectors) (c.area_place.result + w.sectors) (rounded_up (512 * w.sectors + w.filled) - w.sectors) 1 c.store_sector.result old new refl (omega (arith, c.area_place.ensures)) one c.store_sector.ensures.calls
+    let at : c.area_place.result + w.sectors ≡ place + w.sectors = omega (arith, c.area_place.ensures) in
+    let same = same_stores w.writing w.writing (place + w.sectors) (c.area_place.result + w.sectors) (rounded_up (512 * w.sectors + w.filled) - w.sectors) 1 refl at one in
+    makes_at c.store_sector.result old new same c.store_sector.ensures.calls
