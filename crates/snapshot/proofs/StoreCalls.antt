@@ -8,9 +8,9 @@ use Rattle.sector_disk.proofs.CallLemmas.{no_calls, begun_then, begun_first, mad
 use Rattle.disk_layout.specs.rules.Places.{head_place}
 use Rattle.snapshot.specs.declared.writing.Writing.{Writing}
 use Rattle.snapshot.specs.declared.writing.Writing.TheVariants.{Whole, Changes}
-use Rattle.snapshot.specs.rules.Calls.{SomeRising, AreStores, Stores, MakesStores, MakesStoresAndHead, with_head}
+use Rattle.snapshot.specs.rules.Calls.{SomeRising, AreStores, AreaStores, MakesStores, MakesStoresAndHead, with_head}
 
-abbrev pub stores : Writing → ℕ → ℕ → Stores
+abbrev pub stores : Writing → ℕ → ℕ → AreaStores
 stores writing at n = record { writing = writing; first = at; count = n }
 
 -- they are begun, and they are all made
@@ -137,7 +137,7 @@ module _ (writing : Writing) (at n m : ℕ) (old mid new : Medium)
   )
 
 -- the head is never begun
-abbrev pub BeginsStoresAndHead : Stores → ℕ → Medium → Medium → Type 0
+abbrev pub BeginsStoresAndHead : AreaStores → ℕ → Medium → Medium → Type 0
 BeginsStoresAndHead stores g old new = (calls : List DiskCall)
     × AreStores stores.writing stores.first stores.count calls
     × BeginsCalls (with_head g calls) old new
@@ -155,26 +155,26 @@ pub same_stores : (writing was : Writing) (at place n m : ℕ) → was ≡ writi
     → stores was place m ≡ stores writing at n
 same_stores writing was at place n m same here many = rw (same, here, many) refl
 
-pub has_stored_at : {one other : Stores} (old new : Medium) → one ≡ other
+pub has_stored_at : {one other : AreaStores} (old new : Medium) → one ≡ other
     → HasStored one.writing one.first one.count old new
     → HasStored other.writing other.first other.count old new
 has_stored_at old new e stored =
-    subst (λ (s : Stores). HasStored s.writing s.first s.count old new) e stored
+    subst (λ (s : AreaStores). HasStored s.writing s.first s.count old new) e stored
 
-pub begun_at : {one other : Stores} (old new : Medium) → one ≡ other
+pub begun_at : {one other : AreaStores} (old new : Medium) → one ≡ other
     → BeginsStores one.writing one.first one.count old new
     → BeginsStores other.writing other.first other.count old new
 begun_at old new e begun =
-    subst (λ (s : Stores). BeginsStores s.writing s.first s.count old new) e begun
+    subst (λ (s : AreaStores). BeginsStores s.writing s.first s.count old new) e begun
 
-pub makes_at : {T E : Type 0} {one other : Stores} (result : Result T E) (old new : Medium)
+pub makes_at : {T E : Type 0} {one other : AreaStores} (result : Result T E) (old new : Medium)
     → one ≡ other → MakesStores one result old new → MakesStores other result old new
 makes_at result old new e makes =
-    subst (λ (s : Stores). MakesStores s result old new) e makes
+    subst (λ (s : AreaStores). MakesStores s result old new) e makes
 
-pub head_at : {T E : Type 0} {one other : Stores} (g h : ℕ) (result : Result T E)
+pub head_at : {T E : Type 0} {one other : AreaStores} (g h : ℕ) (result : Result T E)
     (old new : Medium) → one ≡ other → h ≡ g → MakesStoresAndHead one h result old new
     → MakesStoresAndHead other g result old new
 head_at {one = one} {other = other} g h result old new e whose makes =
-    let same = subst (λ (s : Stores). MakesStoresAndHead s h result old new) e makes in
+    let same = subst (λ (s : AreaStores). MakesStoresAndHead s h result old new) e makes in
     subst (λ (j : ℕ). MakesStoresAndHead other j result old new) whose same

@@ -20,13 +20,13 @@ AreStores Whole at n calls = calls ≡ rising_writes at n
 AreStores Changes at n calls = SomeRising at n calls
 
 -- how many sectors are stored, from which one on, and whether whole
-pub record Stores : Type 0 where
+pub record AreaStores : Type 0 where
   pub writing : Writing
   pub first : ℕ
   pub count : ℕ
 
 -- these sectors are stored
-abbrev pub MakesStores : {T E : Type 0} → Stores → Result T E → Medium → Medium → Type 0
+abbrev pub MakesStores : {T E : Type 0} → AreaStores → Result T E → Medium → Medium → Type 0
 MakesStores stores result old new = (calls : List DiskCall)
     × AreStores stores.writing stores.first stores.count calls × MakesCalls calls result old new
 
@@ -35,7 +35,7 @@ abbrev pub with_head : ℕ → List DiskCall → List DiskCall
 with_head g calls = Sync ∷ WriteOf (head_place g) ∷ Sync ∷ calls
 
 -- these sectors are stored, and then the head of generation g
-abbrev pub MakesStoresAndHead : {T E : Type 0} → Stores → ℕ → Result T E → Medium → Medium
+abbrev pub MakesStoresAndHead : {T E : Type 0} → AreaStores → ℕ → Result T E → Medium → Medium
     → Type 0
 MakesStoresAndHead stores g result old new = (calls : List DiskCall)
     × AreStores stores.writing stores.first stores.count calls
