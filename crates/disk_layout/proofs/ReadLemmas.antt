@@ -19,6 +19,7 @@ no_reads m = record {
   stays = record { may = λ shown image both. both; since = λ t shown image le both. both; unsynced = omega arith };
   leaves = leaves_only m m m.may_leave (started m m.may_leave) (λ image left. left);
   unsynced = refl;
+  calls = refl;
 }
 
 -- one read more
@@ -30,6 +31,7 @@ read_more old mid new k into result reads read =
       stays = stays_on old mid new later reads.stays read.stays;
       leaves = leaves_only old new old.may_leave (goes_on old mid new _ _ so_far.passes read.passes (λ image left. stays_left old mid reads.stays image (stays_left mid new read.stays image left))) (λ image left. left);
       unsynced = read.unsynced ∙ reads.unsynced;
+      calls = read.calls ∙ reads.calls;
     }
 
 pub reads_then : (old mid new : Medium) → OnlyReads old mid → OnlyReads mid new → OnlyReads old new
@@ -40,6 +42,7 @@ reads_then old mid new one two =
       stays = stays_on old mid new before.passes.later one.stays two.stays;
       leaves = leaves_only old new old.may_leave (goes_on old mid new _ _ before.passes after.passes (stays_left old mid one.stays)) (λ image left. left);
       unsynced = two.unsynced ∙ one.unsynced;
+      calls = two.calls ∙ one.calls;
     }
 
 -- a read within the disk fails only where the disk does

@@ -2,7 +2,8 @@
 
 ghost use Rattle.std.specs.Prelude.{◌≡◌, ◌⊎◌, ◌<◌, ◌≤◌, ◌+◌, ◌*◌, ◌^◌, ◌++◌, length, OnOk, IsErr};
 ghost use Rattle.guest_memory.specs.rules.Bytes.{part};
-ghost use Rattle.sector_disk.specs.rules.Medium.{LeavesOnly, After, BothFollow, CountsUpTo, FailsInside, spare};
+ghost use Rattle.sector_disk.specs.rules.Medium.{LeavesOnly, After, BothFollow, CountsUpTo, MakesCalls, FailsInside, spare};
+ghost use Rattle.sector_disk.specs.rules.Calls.{rising_writes};
 ghost use Rattle.sector_disk.specs.rules.Run.{IsTornRun, IsWrittenRun};
 ghost use Rattle.sector_disk.specs.declared.sector.TheConstants.{SECTOR_SIZE};
 ghost use Rattle.disk_layout.specs.declared.geometry.TheConstants.{MODULE_PLACE};
@@ -39,6 +40,11 @@ pub fn write_contents<D: Disk>(disk: &mut D, config: &[u8], wasm: &[u8]) -> Resu
         ≡ (D.medium disk.old).unsynced + rounded_up (length config.now + length wasm.now)) }
     ensures counts { CountsUpTo
         ((D.medium disk.old).unsynced + rounded_up (length config.now + length wasm.now))
+        (D.medium disk.old) (D.medium disk.new) }
+
+    // They are made in rising order, with no sync. After an error they are begun.
+    ensures calls { MakesCalls
+        (rising_writes MODULE_PLACE (rounded_up (length config.now + length wasm.now))) result
         (D.medium disk.old) (D.medium disk.new) }
     ensures cause { IsErr result → (spare (D.medium disk.old) < rounded_up (length config.now + length wasm.now)) ⊎ ((D.medium disk.old).faults < (D.medium disk.new).faults) }
     ensures kind { FailsInside result }

@@ -10,7 +10,7 @@
 //! - `write_super`, `write_contents`: a cut at any moment leaves of each sector some front, and
 //!   all others as they were (`any_moment`). An error says that the disk failed, or had no room
 //!   for the writes (`cause`). There are never more unsynced writes than before and these
-//!   (`counts`).
+//!   (`counts`). They are made in rising order, and `write_super` then syncs once (`calls`).
 //! - After Ok of `write_super` each cut leaves it whole (`stored`). `write_contents` makes no sync
 //!   (`unsynced`): after its Ok reads give all of it, and a cut may leave less (`stored`).
 //! - `read_super` only reads (`reads`). Its answer is true of what the disk shows: the bytes under

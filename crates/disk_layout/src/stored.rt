@@ -4,7 +4,8 @@ ghost use Rattle.std.specs.Prelude.{◌≡◌, ◌⊎◌, ◌↔◌, ◌+◌, �
 ghost use Rattle.sha2.specs.Sha256.{sha256};
 ghost use Rattle.sector_disk.specs.declared.sector.TheConstants.{SECTOR_SIZE};
 ghost use Rattle.sector_disk.specs.rules.Image.{Image};
-ghost use Rattle.sector_disk.specs.rules.Medium.{LeavesOnly, After, Follows, IsAllSynced, CountsUpTo, FailsInside, spare};
+ghost use Rattle.sector_disk.specs.rules.Medium.{LeavesOnly, After, Follows, IsAllSynced, CountsUpTo, MakesCalls, FailsInside, spare};
+ghost use Rattle.sector_disk.specs.rules.Calls.{synced_writes};
 ghost use Rattle.sector_disk.specs.rules.Run.{IsTornRun, IsWrittenRun};
 ghost use Rattle.disk_layout.specs.rules.Sectors.{bytes_from, super_bytes};
 ghost use Rattle.disk_layout.specs.rules.Stored.{OnlyReads, IsConsistent, Checks, SplitsContents, FindsStored};
@@ -52,6 +53,8 @@ pub fn write_super<D: Disk>(disk: &mut D, contents: &Super) -> Result<(), DiskFa
         OnOk result (Follows (IsWrittenRun 0 sectors 1) (D.medium disk.old).shows (D.medium disk.new).may_leave) }
     ensures settled { OnOk result (IsAllSynced (D.medium disk.new)) }
     ensures counts { CountsUpTo ((D.medium disk.old).unsynced + 1) (D.medium disk.old)
+        (D.medium disk.new) }
+    ensures calls { MakesCalls (synced_writes 0 1) result (D.medium disk.old)
         (D.medium disk.new) }
     ensures cause { IsErr result → (spare (D.medium disk.old) < 1) ⊎ ((D.medium disk.old).faults < (D.medium disk.new).faults) }
     ensures kind { FailsInside result }

@@ -495,6 +495,44 @@ fn as_few_sectors_are_written_as_hold_the_bytes(rt: HostRuntime) -> Result<(), J
     Ok(())
 }
 
+/// Whether this sector holds a byte.
+fn holds_a_byte<D: Disk>(disk: &mut D, sector: u64) -> bool {
+    let mut bytes = [0; 512];
+    disk.read(sector, &mut bytes).is_ok() && bytes != [0; 512]
+}
+
+/// Whether of the three sectors of a batch just those before this one are written.
+fn are_written_before<D: Disk>(disk: &mut D, end: u64) -> bool {
+    for sector in 4..7 {
+        if holds_a_byte(disk, sector) != (sector < end) {
+            return false;
+        }
+    }
+    true
+}
+
+/// Whether a barrier of three sectors, stopped at this call, has written just those before `end`.
+fn rises_to(alloc: Global, call: u64, end: u64) -> Result<bool, JournalFault> {
+    let mut disk = faulty(alloc, Some(Place { call, front: 0 }), None)?;
+    match append_and_write(alloc, &mut Journal::fresh(alloc, 1), &mut disk, &[978]) {
+        Err(JournalFault::Disk(_)) => Ok(are_written_before(&mut disk.into_inner(), end)),
+        Ok(()) => Ok(false),
+        Err(fault) => Err(fault),
+    }
+}
+
+/// The call of the disk that stops it, the last of them its sync, and the first sector that isn't
+/// written.
+static RISING: [(u64, u64); 4] = [(1, 4), (2, 5), (3, 6), (4, 7)];
+
+#[test]
+fn a_barrier_writes_in_rising_order(rt: HostRuntime) -> Result<(), JournalFault> {
+    for (call, end) in &RISING {
+        assert!(rt; rises_to(rt.alloc(), *call, *end)?, "{call}");
+    }
+    Ok(())
+}
+
 /// Lengths of requests, the room behind them, the length of one more, and what that is answered.
 type Last = (&'static [usize], usize, usize, Result<(), JournalFault>);
 

@@ -1,13 +1,13 @@
 // The journal of a generation.
 ghost use Rattle.std.specs.Prelude.{◌≡◌, ◌↔◌, ◌⊎◌, ◌+◌, ◌<◌, ◌≤◌, ◌++◌, [], true, false, ℕ, List, length, OnOk, OnErr, IfOk, IfErr, IsErrOf};
 ghost use Rattle.sector_disk.specs.rules.Image.{Image};
-ghost use Rattle.sector_disk.specs.rules.Medium.{LeavesOnly, After, Passes, IsAllSynced, spare};
+ghost use Rattle.sector_disk.specs.rules.Medium.{LeavesOnly, After, Passes, IsAllSynced, MakesCalls, spare};
 ghost use Rattle.disk_layout.specs.rules.Places.{total_sectors};
 ghost use Rattle.disk_layout.specs.rules.Journal.{Record, record_bytes, payload_of, scan};
 ghost use Rattle.disk_layout.specs.rules.Stored.{OnlyReads};
 ghost use Rattle.journal.specs.rules.State.{state, room_of};
 ghost use Rattle.journal.specs.rules.Packed.{sectors_for};
-ghost use Rattle.journal.specs.rules.Steps.{AppendsFront, RecordsStand, IsOn, RecordFits};
+ghost use Rattle.journal.specs.rules.Steps.{AppendsFront, RecordsStand, IsOn, RecordFits, barrier_calls};
 ghost use Rattle.disk_layout.specs.declared.record.TheConstants.{LONGEST_PAYLOAD};
 
 use crate::decode::records_from;
@@ -148,6 +148,11 @@ impl Journal {
         ensures passes { Passes (D.medium disk.old) (D.medium disk.new) (λ _. Unit {0}) }
         ensures settled { OnOk result ((length self.old.kept ≡ 0) ⊎ IsAllSynced (D.medium disk.new)) }
         ensures unsynced { (D.medium disk.new).unsynced ≤ (D.medium disk.old).unsynced + sectors_for (length self.old.kept) }
+
+        // It writes each sector once, in rising order, and then syncs once. After an error these
+        // calls are begun.
+        ensures calls { MakesCalls (barrier_calls geometry.now self.old) result
+            (D.medium disk.old) (D.medium disk.new) }
 
         // No sync stands between its writes: at some moment all of them were unsynced.
         ensures together { OnOk result ((D.medium disk.new).unsynced_since

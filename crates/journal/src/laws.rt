@@ -1,11 +1,13 @@
 //! Laws of the journal.
 
-ghost use Rattle.journal.specs.laws.Examples.{PackingExamples, FittingExamples, StandingExamples, BarrierExamples};
+ghost use Rattle.journal.specs.laws.Examples.{PackingExamples, BarrierCallExamples, FittingExamples, StandingExamples, BarrierExamples};
 ghost use Rattle.journal.specs.laws.Laws.{FreshStands, ScansWhatStands, ScansNoneOfLater};
 
-/// Worked examples: bytes in sectors, records that fit, what stands, and what a barrier may leave.
+/// Worked examples: bytes in sectors, a barrier's calls, records that fit, what stands, and what a
+/// barrier may leave.
 pub fn worked_examples()
     ensures packing { PackingExamples }
+    ensures calls { BarrierCallExamples }
     ensures fitting { FittingExamples }
     ensures standing { StandingExamples }
     ensures barriers { BarrierExamples }

@@ -12,7 +12,8 @@
 //!   stand (`durable`).
 //! - `barrier` fails for a cause: an earlier error, too little journal, no room for its writes, or
 //!   the disk (`failed`, `full`, `cause`). It never has more unsynced writes than its own sectors
-//!   beyond those before (`at_once`). No sync stands between them (`together`).
+//!   beyond those before (`at_once`). No sync stands between them (`together`). It writes them in
+//!   rising order, each once, and then syncs once (`calls`).
 //! - `Journal::scan` gives the records that the definitions read of what the disk shows (`scans`).
 //!   It only reads (`reads`).
 //! - After an error of `append` or `barrier`, each call of these answers `Failed` (`err`,
@@ -24,8 +25,8 @@
 //! # Definitions to read
 //!
 //! In `specs/rules/`: `JournalState`, `room_of` (`State.antt`); `RecordsStand`, `IsOn`,
-//! `AppendsFront`, `RecordFits` (`Steps.antt`); `sectors_for` (`Packed.antt`). Of `disk_layout`:
-//! `record_bytes` and `scan` (`specs/rules/Journal.antt`).
+//! `AppendsFront`, `RecordFits`, `barrier_calls` (`Steps.antt`); `sectors_for` (`Packed.antt`). Of
+//! `disk_layout`: `record_bytes` and `scan` (`specs/rules/Journal.antt`).
 //!
 //! # Who may touch what
 //!

@@ -1,6 +1,7 @@
 // Bytes on sectors of a journal.
 ghost use Rattle.std.specs.Prelude.{◌≡◌, ◌⊎◌, ◌+◌, ◌<◌, ◌≤◌, ◌^◌, length, OnOk, IsErr};
-ghost use Rattle.sector_disk.specs.rules.Medium.{LeavesOnly, After, Follows, IsAllSynced, CountsUpTo, spare};
+ghost use Rattle.sector_disk.specs.rules.Medium.{LeavesOnly, After, Follows, IsAllSynced, CountsUpTo, MakesCalls, spare};
+ghost use Rattle.sector_disk.specs.rules.Calls.{synced_writes};
 ghost use Rattle.sector_disk.specs.rules.Run.{IsTornRun, IsWrittenRun};
 ghost use Rattle.journal.specs.rules.Packed.{packed, sectors_for};
 
@@ -32,6 +33,8 @@ pub(crate) fn store_packed<D: Disk>(
     ensures together { OnOk result ((D.medium disk.new).unsynced_since (D.medium disk.old).moment
         ((D.medium disk.old).unsynced + sectors_for (length bytes.now))) }
     ensures counts { CountsUpTo ((D.medium disk.old).unsynced + sectors_for (length bytes.now)) (D.medium disk.old) (D.medium disk.new) }
+    ensures calls { MakesCalls (synced_writes at (sectors_for (length bytes.now))) result
+        (D.medium disk.old) (D.medium disk.new) }
     ensures cause { IsErr result → (spare (D.medium disk.old) < sectors_for (length bytes.now)) ⊎ ((D.medium disk.old).faults < (D.medium disk.new).faults) }
 {
     let count = sectors_for(bytes.len());

@@ -1,10 +1,11 @@
 -- A front that is left by writing it over what reads give.
-use Rattle.std.proofs.Common.{◌≡◌, ◌≤◌, ◌<◌, ℕ, List, [], true, false, IsTrue, Result, Ok, Err, is_ok, ◌⊎◌, length, refl, sym, ap, ◌∙◌, subst, ⊎_elim, arith}
+use Rattle.std.proofs.Common.{◌≡◌, ◌≤◌, ◌<◌, ℕ, List, [], ◌∷◌, true, false, IsTrue, Result, Ok, Err, is_ok, ◌⊎◌, length, refl, sym, ap, ◌∙◌, subst, ⊎_elim, arith}
 use Rattle.std.proofs.lemmas.List.{get_or_past}
 use Rattle.std.proofs.lemmas.Bool.{cases_lt}
 use Rattle.sector_disk.specs.rules.Image.{Image, sector_at, with_sector, with_front, front_over, IsTorn, IsTornWithin, IsFront, IsImage}
 use Rattle.sector_disk.specs.rules.Medium.{Medium, Stays, Holds, Tears, TakesWrite, Writes, BothFollow, spare}
 use Rattle.sector_disk.specs.laws.Fronts.{shorter, longer, front_self, with_front_twice}
+use Rattle.sector_disk.specs.declared.disk_call.DiskCall.TheVariants.{WriteOf}
 use Rattle.sector_disk.specs.declared.fault.DiskFault.{DiskFault}
 use Rattle.sector_disk.proofs.Moments.{shows_left}
 
@@ -21,6 +22,10 @@ taken_of (Err e) k bytes old new writes lt room same =
 pub takes_of : (result : Result (Unit {0}) DiskFault) (k : ℕ) (bytes : List ℕ) (old new : Medium) → Writes k bytes result old new → IsTrue (is_ok result) → TakesWrite k bytes old new
 takes_of (Ok x) k bytes old new writes ok = writes.whole
 takes_of (Err e) k bytes old new writes ok = absurd (let no : false ≡ true = ok in cc)
+
+pub made_of : (result : Result (Unit {0}) DiskFault) (k : ℕ) (bytes : List ℕ) (old new : Medium) → Writes k bytes result old new → IsTrue (is_ok result) → new.calls ≡ WriteOf k ∷ old.calls
+made_of (Ok x) k bytes old new writes ok = writes.calls.all
+made_of (Err e) k bytes old new writes ok = absurd (let no : false ≡ true = ok in cc)
 
 -- Some front of the merged bytes over an outcome is some front of the bytes over an outcome that keeps more of what reads give.
 module _ (old mid new : Medium) (k f : ℕ) (b r : List ℕ) (le : f ≤ 512) (full-b : length b ≡ 512) (full-r : length r ≡ 512) (stays : Stays old mid) (holds : Holds mid k r) where

@@ -1,4 +1,5 @@
 pub mod Answered
+pub mod Calls
 pub mod Counts
 pub mod FaultDisk
 pub mod File

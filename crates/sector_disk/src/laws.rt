@@ -1,16 +1,17 @@
 //! Laws of the disk model. The functions do nothing: what they ensure is the law.
 
 ghost use Rattle.sector_disk.specs.laws.Sizes.{SectorSizeNumber};
-ghost use Rattle.sector_disk.specs.laws.Examples.{ImageExamples, RunExamples, CountExamples};
+ghost use Rattle.sector_disk.specs.laws.Examples.{ImageExamples, RunExamples, CountExamples, CallExamples};
 
 /// How many bytes a sector has.
 pub fn sector_size_is()
     ensures { SectorSizeNumber }
 {}
 
-/// Worked examples: images, runs of writes, and what is counted.
+/// Worked examples: images, runs of writes, what is counted, and which calls there were.
 pub fn worked_examples()
     ensures images { ImageExamples }
     ensures runs { RunExamples }
     ensures counts { CountExamples }
+    ensures calls { CallExamples }
 {}

@@ -5,7 +5,8 @@
 //!
 //! - `Disk` is the trait. A read, a write and a sync do to a disk's `medium` what `Reads`,
 //!   `Writes` and `SyncsMedium` say. These say what a cut may leave, also inside a call, and what
-//!   an error's cause is.
+//!   an error's cause is. They say which writes and syncs a disk was asked for, in order
+//!   (`calls`).
 //! - `MemDisk` answers exactly as its state says (`answer`, `done`). `cut` leaves the told front
 //!   of each write since the last good sync (`cut`). Each image that a cut may leave is had so
 //!   (`every`).
@@ -15,15 +16,17 @@
 //!   gives a disk of so many sectors (`sectors`). It and `open` begin with an empty log (`fresh`).
 //! - `write_run` and `store_run` write sectors one after another. `store_run`: a cut at any moment
 //!   leaves of each some front (`any_moment`). After Ok each cut leaves all of them (`stored`).
-//!   There are never more unsynced writes than before and these (`counts`).
+//!   There are never more unsynced writes than before and these (`counts`). They are written in
+//!   rising order, and `store_run` then syncs once (`calls`).
 //! - `laws`: how many bytes a sector has (`sector_size_is`), and worked examples.
 //!
 //! # Definitions to read
 //!
 //! In `specs/rules/`: `Image`, `with_front`, `IsTorn` (`Image.antt`); `Medium`, `LeavesOnly`,
-//! `Reads`, `Writes`, `SyncsMedium` (`Medium.antt`); `IsTornRun` (`Run.antt`); the state of a
-//! `MemDisk` (`Memory.antt`, `Pending.antt`), of a `FaultDisk` (`Trouble.antt`, `FaultDisk.antt`)
-//! and of a `FileDisk` (`Answered.antt`, `Counts.antt`, `File.antt`).
+//! `Reads`, `Writes`, `SyncsMedium`, `MakesCalls` (`Medium.antt`); `rising_writes`
+//! (`Calls.antt`); `IsTornRun` (`Run.antt`); the state of a `MemDisk` (`Memory.antt`,
+//! `Pending.antt`), of a `FaultDisk` (`Trouble.antt`, `FaultDisk.antt`) and of a `FileDisk`
+//! (`Answered.antt`, `Counts.antt`, `File.antt`).
 //!
 //! # Who may touch what
 //!
@@ -34,6 +37,7 @@
 #![tactic(auto)]
 
 mod disk;
+mod disk_call;
 mod fault;
 mod fault_disk;
 mod file;

@@ -4,6 +4,7 @@ ghost use Rattle.sector_disk.specs.declared.sector.TheConstants.{SECTOR_SIZE};
 ghost use Rattle.sector_disk.specs.rules.Image.{Image, IsImage, sector_at};
 ghost use Rattle.sector_disk.specs.rules.Pending.{IsWriteWithin, first_front, replayed as all_of};
 
+use crate::disk_call::DiskCall;
 use crate::front::leave_front;
 use crate::log::Log;
 use crate::write::Write;
@@ -27,6 +28,8 @@ pub struct MemDisk {
     limit: usize,
     /// What was settled, and the writes since, before each write and sync. Only clauses read it.
     past: Log<Vec<Sector>, Vec<Write>>,
+    /// Each write and sync that it took. Only clauses read it.
+    calls: Log<DiskCall, ()>,
     ghost full: { IsImage (length settled.items) settled.items },
     ghost within: { All (IsWriteWithin (length settled.items)) pending.items },
     ghost replayed: { shown.items ≡ all_of pending.items settled.items },
@@ -44,6 +47,7 @@ impl MemDisk {
         ensures made { IfOk result (λ d. memory_state_of d ≡ record { settled = replicate sectors (replicate SECTOR_SIZE 0); pending = []; limit = writes }) }
         ensures zeros { IfOk result (λ d. (memory_medium d).shows (replicate sectors (replicate SECTOR_SIZE 0))) }
         ensures settled { IfOk result (λ d. IsAllSynced (memory_medium d)) }
+        ensures fresh { IfOk result (λ d. (memory_medium d).calls ≡ []) }
         ensures err { IfErr result (λ e. e ≡ DiskFault.Memory) }
     {
         let mut settled = Vec::new(alloc);
@@ -69,6 +73,7 @@ impl MemDisk {
         ensures every { IsEveryCut self.now }
         ensures shows { IfOk result (λ d. (memory_medium d).shows (after_cut (memory_state_of self.now) tears.now).settled) }
         ensures settled { IfOk result (λ d. IsAllSynced (memory_medium d)) }
+        ensures fresh { IfOk result (λ d. (memory_medium d).calls ≡ []) }
         ensures err { IfErr result (λ e. e ≡ DiskFault.Memory) }
     {
         let mut image = Vec::from_slice(alloc, &self.settled)?;
@@ -87,6 +92,7 @@ impl MemDisk {
         ensures made { IfOk result (λ d. memory_state_of d ≡ record { settled = settled.items; pending = []; limit = limit }) }
         ensures shows { IfOk result (λ d. (memory_medium d).shows settled.items) }
         ensures settled { IfOk result (λ d. IsAllSynced (memory_medium d)) }
+        ensures fresh { IfOk result (λ d. (memory_medium d).calls ≡ []) }
         ensures err { IfErr result (λ e. e ≡ DiskFault.Memory) }
     {
         let shown = Vec::from_slice(alloc, &settled)?;
@@ -96,6 +102,7 @@ impl MemDisk {
             pending: Vec::with_capacity(alloc, limit)?,
             limit,
             past: Log::new(),
+            calls: Log::new(),
         })
     }
 }
@@ -160,6 +167,7 @@ impl Disk for MemDisk {
         };
         self.shown[at] = *from;
         self.past = past;
+        self.calls = self.calls.and(&DiskCall::WriteOf(sector), &());
         Ok(())
     }
 
@@ -173,6 +181,7 @@ impl Disk for MemDisk {
         self.settled.copy_from_slice(&self.shown);
         self.pending.clear();
         self.past = past;
+        self.calls = self.calls.and(&DiskCall::Sync, &());
         Ok(())
     }
 }

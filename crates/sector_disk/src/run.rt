@@ -1,6 +1,7 @@
 // Sectors that are written one after another.
 ghost use Rattle.std.specs.Prelude.{◌≡◌, ◌⊎◌, ◌+◌, ◌<◌, ◌≤◌, length, OnOk, IsErr};
-ghost use Rattle.sector_disk.specs.rules.Medium.{LeavesOnly, After, Follows, IsAllSynced, CountsUpTo, FailsInside, spare};
+ghost use Rattle.sector_disk.specs.rules.Medium.{LeavesOnly, After, Follows, IsAllSynced, CountsUpTo, MakesCalls, FailsInside, spare};
+ghost use Rattle.sector_disk.specs.rules.Calls.{synced_writes};
 ghost use Rattle.sector_disk.specs.rules.Run.{IsTornRun, IsWrittenRun, HoldsRun, WritesRun};
 
 use crate::{Disk, DiskFault, SECTOR_SIZE};
@@ -40,6 +41,10 @@ pub fn store_run<D: Disk>(
 
     // At no moment in between were there more unsynced writes than before and these.
     ensures counts { CountsUpTo ((D.medium disk.old).unsynced + length sectors.now)
+        (D.medium disk.old) (D.medium disk.new) }
+
+    // One write to each, in rising order, and then one sync. After an error these are begun.
+    ensures calls { MakesCalls (synced_writes at (length sectors.now)) result
         (D.medium disk.old) (D.medium disk.new) }
 
     // It fails only where the disk does, or where there is no room for so many writes before a sync.

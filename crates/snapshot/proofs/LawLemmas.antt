@@ -1,12 +1,14 @@
 -- An image shows one newest snapshot at most.
-use Rattle.std.proofs.Common.{◌≡◌, ℕ, List, length, take, sym, ap, ◌∙◌}
+use Rattle.std.proofs.Common.{◌≡◌, ℕ, ◌+◌, ◌-◌, List, length, take, Err, IsErr, refl, sym, ap, ◌∙◌, subst, inl, inr, arith}
 use Rattle.sector_disk.specs.rules.Image.{Image, sector_at}
 use Rattle.disk_layout.specs.declared.geometry.Geometry.{Geometry}
 use Rattle.disk_layout.specs.declared.head.Head.{Head}
+use Rattle.sha2.specs.Sha256.{sha256}
 use Rattle.disk_layout.specs.rules.Places.{head_place, area_place}
 use Rattle.disk_layout.specs.rules.Sectors.{bytes_from, head_of, IsNewest, HoldsImage}
 use Rattle.snapshot.specs.rules.Newest.{IsDamaged}
-use Rattle.snapshot.specs.laws.Laws.{ImageShowsOne}
+use Rattle.snapshot.specs.rules.Heads.{IsReadyForHead}
+use Rattle.snapshot.specs.laws.Laws.{ImageShowsOne, CanBeginAgain, FailsForGood}
 use Rattle.snapshot.proofs.AreaLemmas.{none_at, one_newest}
 
 one_head : (x : Image) (a b : ℕ) (h k : Head) → IsNewest x a h → IsNewest x b k → h ≡ k
@@ -41,3 +43,36 @@ shows_one = record {
   whole = not_damaged;
   headed = λ geometry x d none. let n = d.newest in none_at x none d.generation n.complete;
 }
+
+-- ---- after a commit that was cut short
+
+pub can_begin_again : CanBeginAgain
+can_begin_again = record {
+  first = λ geometry old new none earlier keeps. record {
+    before = inl (refl, keeps.none none);
+    none_later = let h = keeps.heads in omega (arith, earlier, h);
+  };
+  later = λ geometry g version bytes old new holds earlier keeps.
+      let held = keeps.image g version bytes holds in
+      let head : Head = record {
+        version = version;
+        length_in_bytes = length bytes;
+        digest = sha256 bytes;
+        generation = g;
+      } in
+      let same : g ≡ g + 1 - 1 = omega arith in
+      record {
+        before = inr (head, subst (λ n. IsNewest new n head) same held.newest);
+        none_later = let h = keeps.heads in omega (arith, earlier, h);
+      };
+}
+
+-- ---- after an error
+
+pub fails_for_good : FailsForGood
+fails_for_good first second a b c one failed two =
+    let was = one.failed in
+    let refused = two.refused in
+    let now = two.failed in
+    let answer = refused.1 (was.1 failed) in
+    (answer, now.1 (subst (λ r. IsErr r) (sym answer) refl))

@@ -1,10 +1,13 @@
 pub mod AreaLemmas
 pub mod ReadLemmas
 pub mod HeadLemmas
-pub mod StoreLemmas
+pub mod StoreCalls
+mod StoreLemmas
 pub mod SpareLemmas
 pub mod WriterLemmas
 pub mod ByteLemmas
 pub mod SnapshotLemmas
 pub mod LawLemmas
 mod ExampleLemmas
+mod CallExamples
+mod StateLemmas

@@ -78,3 +78,9 @@ pub filled_within : (t : State) → 512 * sectors_in t ≤ length_in t
 filled_within (state.Begun w) = omega arith
 filled_within state.Idle = omega arith
 filled_within state.Failed = omega arith
+
+-- and those bytes are less than one sector more
+pub filled_only : (t : State) → length_in t < 512 * sectors_in t + 512
+filled_only (state.Begun w) = let open_one = w.open in omega (arith, open_one)
+filled_only state.Idle = omega arith
+filled_only state.Failed = omega arith

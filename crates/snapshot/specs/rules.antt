@@ -1,3 +1,4 @@
+pub mod Calls
 pub mod Heads
 pub mod Newest
 pub mod Snapshots

@@ -15,6 +15,8 @@
 //!   written, whatever the area held (`whole`). Else, and in a `commit`, one is spared where reads
 //!   gave its bytes already (`spared`). There are never more unsynced writes than before and its
 //!   own (`counts`).
+//! - A commit writes sectors of its area in rising order, syncs, writes the head, and syncs. It
+//!   makes no other write and no other sync (`calls`).
 //! - What is said of the newest image holds where that was of the generation before, or, before
 //!   the first, where there was none (`IsReadyForHead`).
 //! - `TooBig` comes exactly for a generation from `NUMBERS_END` on, and for an image longer than
@@ -27,9 +29,10 @@
 //! # Definitions to read
 //!
 //! In `specs/rules/`: `FindsHead`, `IsReadyForHead` (`Heads.antt`); `FindsNewest`, `ReadsImage`,
-//! `IsDamaged` (`Newest.antt`); `Fills`, `Commits`, `Replaces`, `HasNew` (`Steps.antt`). Contracts
-//! also cite `IsBegun`, `HasPushed`, `StaysFailed` (`specs/rules/Snapshots.antt`) and `SparesSectors`
-//! (`specs/Writing.antt`). Of `disk_layout`: `HoldsImage`.
+//! `IsDamaged` (`Newest.antt`); `Fills`, `Commits`, `Replaces`, `HasNew` (`Steps.antt`);
+//! `MakesStores`, `MakesStoresAndHead` (`Calls.antt`). Contracts also cite `IsBegun`, `HasPushed`,
+//! `StaysFailed` (`specs/rules/Snapshots.antt`) and `SparesSectors` (`specs/Writing.antt`). Of
+//! `disk_layout`: `HoldsImage`.
 //!
 //! # Who may touch what
 //!

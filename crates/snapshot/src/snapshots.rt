@@ -28,7 +28,7 @@ pub struct Snapshots {
 }
 
 impl Snapshots {
-    ghost use Rattle.std.specs.Prelude.{◌+◌, ◌*◌, ◌/◌, ◌^◌, ◌++◌, ◌↔◌, false, ℕ, List, length, ◌≡◌, ◌≤◌, ◌<◌, ◌⊎◌, IsTrue, OnOk, IfOk, IsErr};
+    ghost use Rattle.std.specs.Prelude.{◌+◌, ◌-◌, ◌*◌, ◌/◌, ◌^◌, ◌++◌, ◌↔◌, false, ℕ, List, length, ◌≡◌, ◌≤◌, ◌<◌, ◌⊎◌, IsTrue, OnOk, IfOk, IsErr};
     ghost use Rattle.wasi_abi.specs.declared.numbers.TheConstants.{NUMBERS_END};
     ghost use Rattle.sector_disk.specs.declared.sector.TheConstants.{SECTOR_SIZE};
     ghost use Rattle.sector_disk.specs.rules.Image.{Image};
@@ -36,6 +36,7 @@ impl Snapshots {
     ghost use Rattle.sector_disk.specs.declared.fault.DiskFault.{DiskFault};
     ghost use Rattle.disk_layout.specs.rules.Places.{journal_place, area_place, rounded_up};
     ghost use Rattle.disk_layout.specs.rules.Stored.{OnlyReads};
+    ghost use Rattle.snapshot.specs.rules.Calls.{MakesStores, MakesStoresAndHead};
     ghost use Rattle.snapshot.specs.rules.Heads.{FindsHead};
     ghost use Rattle.snapshot.specs.rules.Newest.{ReadsImage, FindsNewest};
     ghost use Rattle.snapshot.specs.rules.Steps.{Fills, Commits, Replaces};
@@ -186,6 +187,14 @@ impl Snapshots {
         ensures counts { CountsUpTo ((D.medium disk.old).unsynced + filled_by self.old
             (length bytes.now)) (D.medium disk.old) (D.medium disk.new) }
 
+        // The sectors that they fill are written in rising order, each once at most, and without
+        // a sync. After an error these calls are begun.
+        ensures calls { MakesStores (record {
+          writing = writing_of self.old;
+          first = area_place geometry.now (generation_of self.old) + sectors_of self.old;
+          count = filled_by self.old (length bytes.now);
+        }) result (D.medium disk.old) (D.medium disk.new) }
+
         ensures too_big { (result ≡ Err SnapshotFault.TooBig) ↔ ((is_failed self.old ≡ false) × (SECTOR_SIZE * geometry.now.area_sectors < length_of self.old + length bytes.now)) }
         ensures untouched { IsTrue (is_failed self.old) ⊎ (result ≡ Err SnapshotFault.TooBig) → disk.new ≡ disk.old }
         ensures fails { StaysFailed result self.old self.new }
@@ -233,6 +242,14 @@ impl Snapshots {
             SECTOR_SIZE * sectors_of self.old < length_of self.old →
             OnOk result ((D.medium disk.new).unsynced_since (D.medium disk.old).moment
             ((D.medium disk.old).unsynced + 1)) }
+
+        // At most the last sector is written, and then the head between two syncs. After an error
+        // these calls are begun.
+        ensures calls { MakesStoresAndHead (record {
+          writing = writing_of self.old;
+          first = area_place geometry.now (generation_of self.old) + sectors_of self.old;
+          count = rounded_up (length_of self.old) - sectors_of self.old;
+        }) (generation_of self.old) result (D.medium disk.old) (D.medium disk.new) }
         ensures idle { OnOk result (IsTrue (is_idle self.new)) }
 
         ensures untouched { IsTrue (is_failed self.old) → disk.new ≡ disk.old }
@@ -272,6 +289,14 @@ impl Snapshots {
         // A sector of the image is spared where reads gave its bytes before.
         ensures spared { OnOk result (SparesAllButHead (area_place geometry.now generation) 0
             (rounded_up (length image.now)) (D.medium disk.old) (D.medium disk.new)) }
+
+        // Its calls: writes to sectors of the image, in rising order and each once at most, a
+        // sync, the head, and a sync. After an error these calls are begun.
+        ensures calls { MakesStoresAndHead (record {
+          writing = Writing.Changes;
+          first = area_place geometry.now generation;
+          count = rounded_up (length image.now);
+        }) generation result (D.medium disk.old) (D.medium disk.new) }
 
         ensures too_big { (result ≡ Err SnapshotFault.TooBig) ↔ ((is_failed self.old ≡ false) × ((NUMBERS_END ≤ generation) ⊎ (SECTOR_SIZE * geometry.now.area_sectors < length image.now))) }
         ensures untouched { IsTrue (is_failed self.old) ⊎ (result ≡ Err SnapshotFault.TooBig) → disk.new ≡ disk.old }

@@ -1,5 +1,6 @@
 // Sectors that are stored where they differ, and one that is written behind a sync.
-ghost use Rattle.std.specs.Prelude.{◌<◌};
+ghost use Rattle.std.specs.Prelude.{◌<◌, [], ◌∷◌};
+ghost use Rattle.sector_disk.specs.declared.disk_call.DiskCall.TheVariants.{WriteOf, Sync};
 ghost use Rattle.sector_disk.specs.rules.Medium.{IsAllSynced, SyncsMedium};
 ghost use Rattle.snapshot.specs.Store.{StoresSector, SettlesSector};
 
@@ -58,7 +59,8 @@ pub(crate) fn settle_sector<D: Disk>(
     sector: &[u8; SECTOR_SIZE],
 ) -> Result<(), DiskFault>
     requires { at < (D.medium disk.old).sectors }
-    ensures { SettlesSector at sector.now result (D.medium disk.old) (D.medium disk.new) }
+    ensures { SettlesSector at sector.now (Sync ∷ WriteOf at ∷ Sync ∷ []) result
+        (D.medium disk.old) (D.medium disk.new) }
 {
     settle(disk)?;
     write_settled(disk, at, sector)
@@ -79,7 +81,8 @@ fn write_settled<D: Disk>(
 ) -> Result<(), DiskFault>
     requires inside { at < (D.medium disk.old).sectors }
     requires settled { IsAllSynced (D.medium disk.old) }
-    ensures { SettlesSector at sector.now result (D.medium disk.old) (D.medium disk.new) }
+    ensures { SettlesSector at sector.now (Sync ∷ WriteOf at ∷ []) result
+        (D.medium disk.old) (D.medium disk.new) }
 {
     disk.write(at, sector)?;
     settle(disk)

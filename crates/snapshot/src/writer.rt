@@ -28,7 +28,7 @@ pub(crate) struct AreaWriter {
 }
 
 impl AreaWriter {
-    ghost use Rattle.std.specs.Prelude.{◌≡◌, ◌⊎◌, ◌↔◌, ◌+◌, ◌*◌, ◌/◌, ◌++◌, ℕ, List, length, take, drop, replicate, IfOk, OnOk, IsErr};
+    ghost use Rattle.std.specs.Prelude.{◌≡◌, ◌⊎◌, ◌↔◌, ◌+◌, ◌-◌, ◌*◌, ◌/◌, ◌++◌, ℕ, List, length, take, drop, replicate, IfOk, OnOk, IsErr};
     ghost use Rattle.sha2.specs.Hashers.{Holds256};
     ghost use Rattle.sha2.specs.Sha256.{sha256};
     ghost use Rattle.guest_memory.specs.rules.Bytes.{with_part};
@@ -36,6 +36,7 @@ impl AreaWriter {
     ghost use Rattle.sector_disk.specs.rules.Medium.{LeavesOnly, After, Follows, CountsUpTo, IsAllSynced, spare};
     ghost use Rattle.sector_disk.specs.declared.fault.DiskFault.{DiskFault};
     ghost use Rattle.disk_layout.specs.rules.Places.{journal_place, area_place, rounded_up};
+    ghost use Rattle.snapshot.specs.rules.Calls.{MakesStores, MakesStoresAndHead};
     ghost use Rattle.snapshot.specs.rules.Steps.{HoldsWithZeros, Fills, Commits, Replaces};
     ghost use Rattle.snapshot.specs.Writing.{written_length, Starts, SparesSectors, SparesAllButHead, IsGiven};
 
@@ -86,6 +87,11 @@ impl AreaWriter {
         ensures any_moment { LeavesOnly (D.medium disk.old) (D.medium disk.new) (After (Fills geometry.now self.old.generation) (D.medium disk.old).may_leave) }
         ensures counts { CountsUpTo ((D.medium disk.old).unsynced +
             (self.old.filled + length bytes.now) / SECTOR_SIZE) (D.medium disk.old) (D.medium disk.new) }
+        ensures calls { MakesStores (record {
+          writing = self.old.writing;
+          first = area_place geometry.now self.old.generation + self.old.sectors;
+          count = (self.old.filled + length bytes.now) / SECTOR_SIZE;
+        }) result (D.medium disk.old) (D.medium disk.new) }
         ensures cause { IsErr result → result ≡ Err SnapshotFault.TooBig ⊎ ((fault : DiskFault) × (result ≡ Err (SnapshotFault.Disk fault)) × ((spare (D.medium disk.old) + self.old.sectors < geometry.now.area_sectors) ⊎ ((D.medium disk.old).faults < (D.medium disk.new).faults))) }
     {
         let total = self.length().saturating_add(bytes.len() as u64);
@@ -126,6 +132,13 @@ impl AreaWriter {
         ensures any_moment { LeavesOnly (D.medium disk.old) (D.medium disk.new) (After (Fills geometry.now self.old.generation) (D.medium disk.old).may_leave) }
         ensures counts { CountsUpTo ((D.medium disk.old).unsynced +
             (self.old.filled + length bytes.now) / SECTOR_SIZE) (D.medium disk.old) (D.medium disk.new) }
+        ensures calls { (n : ℕ) × (n ≤ (self.old.filled + length bytes.now) / SECTOR_SIZE)
+            × OnOk result (self.new.sectors ≡ self.old.sectors + n)
+            × MakesStores (record {
+              writing = self.old.writing;
+              first = area_place geometry.now self.old.generation + self.old.sectors;
+              count = n;
+            }) result (D.medium disk.old) (D.medium disk.new) }
         ensures cause { IsErr result → (spare (D.medium disk.old) + self.old.sectors < geometry.now.area_sectors) ⊎ ((D.medium disk.old).faults < (D.medium disk.new).faults) }
     {
         let filled = self.filled;
@@ -164,6 +177,11 @@ impl AreaWriter {
             (rounded_up (written_length self.now)) (D.medium disk.old) (D.medium disk.new)) }
         ensures whole { self.now.writing ≡ Writing.Whole → 0 < self.now.filled → OnOk result
             ((D.medium disk.new).unsynced ≡ (D.medium disk.old).unsynced + 1) }
+        ensures calls { MakesStores (record {
+          writing = self.now.writing;
+          first = area_place geometry.now self.now.generation + self.now.sectors;
+          count = rounded_up (written_length self.now) - self.now.sectors;
+        }) result (D.medium disk.old) (D.medium disk.new) }
         ensures cause { IsErr result → (spare (D.medium disk.old) + self.now.sectors < geometry.now.area_sectors) ⊎ ((D.medium disk.old).faults < (D.medium disk.new).faults) }
     {
         if self.filled == 0 {
@@ -218,6 +236,11 @@ impl AreaWriter {
         ensures whole { self.writing ≡ Writing.Whole → 0 < self.filled → OnOk result
             ((D.medium disk.new).unsynced_since (D.medium disk.old).moment
             ((D.medium disk.old).unsynced + 1)) }
+        ensures calls { MakesStoresAndHead (record {
+          writing = self.writing;
+          first = area_place geometry.now self.generation + self.sectors;
+          count = rounded_up (written_length self) - self.sectors;
+        }) self.generation result (D.medium disk.old) (D.medium disk.new) }
         ensures cause { IsErr result → (spare (D.medium disk.old) + self.sectors < geometry.now.area_sectors) ⊎ ((D.medium disk.old).room ≡ 0) ⊎ ((D.medium disk.old).faults < (D.medium disk.new).faults) }
     {
         self.store_last(disk, geometry)?;

@@ -1,8 +1,8 @@
 -- Events that break a promise, and what has the form of a life.
-use Rattle.std.proofs.Common.{◌≡◌, ◌≤◌, refl, arith}
+use Rattle.std.proofs.Common.{◌≡◌, ◌≤◌, ⊎_elim, refl, arith}
 use Rattle.wasm_syntax.specs.declared.module.Module.{Module}
 use Rattle.wasi_abi.specs.rules.Configs.{Settings}
-use Rattle.worker_rules.specs.laws.Refusals.{RefusedLives, LifeForms}
+use Rattle.worker_rules.specs.laws.Refusals.{RefusedLives, RefusedLists, LifeForms}
 
 -- an order of two numbers that doesn't hold
 not_one : 1 ≤ 0 → ⊥
@@ -23,6 +23,16 @@ refused_lives m config = record {
   ends_before_where_it_opened = λ kept. (let h : 6 ≤ 5 = kept.1.0.onward in omega (arith, h));
   takes_back_a_step = λ kept. (let h : 6 ≤ 5 = kept.1.1.0.onward in omega (arith, h));
   leaves_an_answer_behind = λ kept. (let e : 0 ≡ 1 = kept.1.1.0.all_taken refl in omega (arith, e));
+}
+
+pub refused_lists : (m : Module) (config : Settings) → RefusedLists m config
+refused_lists m config = record {
+  breaks_a_promise = λ on. not_one on.kept.0.within;
+  breaks_one_of_an_earlier_life = λ on.
+      (let h : 6 ≤ 5 = on.kept.1.0.steps_held in omega (arith, h));
+  shut_by_its_source = λ on. ⊎_elim (λ opened. opened) (λ shut. shut) on.whole.0.opens;
+  opens_twice = λ on. on.whole.0.form;
+  created_twice = λ on. (on.begun.1.0 refl).0 tt;
 }
 
 pub life_forms : LifeForms

@@ -5,7 +5,7 @@ ghost use Rattle.wasi_abi.specs.rules.Configs.{Settings};
 ghost use Rattle.worker_rules.specs.laws.Laws.{PromisesAreOfKept, NoNumberHasTwoTexts, OpeningsAreForGood, CheckpointsAreForGood, SyncsAreForGood};
 ghost use Rattle.worker_rules.specs.laws.Disks.{StandsForWhatIsReached, RecordsAscend, StandsByItsParts, BlankStandsForNone, NoLaterImage, NoLaterPayload, OneGeneration, DiskExamples};
 ghost use Rattle.worker_rules.specs.laws.Examples.{LivesExamples, PromiseExamples};
-ghost use Rattle.worker_rules.specs.laws.Refusals.{RefusedLives, LifeForms};
+ghost use Rattle.worker_rules.specs.laws.Refusals.{RefusedLives, RefusedLists, LifeForms};
 ghost use Rattle.worker_rules.specs.laws.WholeLives.{HelloLives, EchoLives};
 
 /// The answers that a promise speaks of are the kept ones.
@@ -49,9 +49,10 @@ pub fn worked_examples()
     ensures forms { LifeForms }
 {}
 
-/// Events that break a promise, of any module.
+/// Events that break a promise, and lives that don't go on, of any module.
 pub fn broken_promises_are_refused()
-    ensures { (m : Module) (config : Settings) → RefusedLives m config }
+    ensures events { (m : Module) (config : Settings) → RefusedLives m config }
+    ensures lives { (m : Module) (config : Settings) → RefusedLists m config }
 {}
 
 /// Lives of a module that writes a line go on, from its beginning to its end. Others don't.

@@ -11,11 +11,13 @@ use Rattle.disk_layout.specs.rules.Sectors.{bytes_from, SectorsHold, Super, IsMa
 use Rattle.disk_layout.specs.declared.geometry.TheConstants.{MODULE_PLACE}
 use Rattle.disk_layout.specs.declared.superblock.TheConstants.{LAYOUT}
 
--- reads alone: the disk shows and may leave no more than before
+-- reads alone: the disk shows and may leave no more than before, and is asked for no write and no
+-- sync
 pub record OnlyReads (old new : Medium) : Type 0 where
   pub stays : Stays old new
   pub leaves : LeavesOnly old new old.may_leave
   pub unsynced : new.unsynced ≡ old.unsynced
+  pub calls : new.calls ≡ old.calls
 
 -- the marks are there, and the layout is the one that is known
 pub record IsKnown (sector : List ℕ) : Type 0 where

@@ -2,13 +2,14 @@
 use Rattle.std.specs.Prelude.{◌≡◌, ◌-◌, ◌^◌, ℕ, false, List, [], ◌∷◌, ◌++◌, length, take, replicate}
 use Rattle.wasi_abi.specs.declared.answer.Answer.TheVariants as answer
 use Rattle.sector_disk.specs.rules.Image.{Image}
+use Rattle.sector_disk.specs.declared.disk_call.DiskCall.TheVariants.{WriteOf, Sync}
 use Rattle.disk_layout.specs.rules.Places.{Geometry}
 use Rattle.disk_layout.specs.rules.Journal.{record_bytes, journal_sector}
 use Rattle.disk_layout.specs.laws.Examples.{hello_record}
 use Rattle.disk_layout.specs.laws.RecordExamples.{bare, bare_disk, end_record, spread, two_records}
 use Rattle.journal.specs.rules.Packed.{sectors_for, packed}
 use Rattle.journal.specs.rules.State.{state, room_of}
-use Rattle.journal.specs.rules.Steps.{RecordFits, records_bytes, RecordsStand, SameOthers, AppendsFront}
+use Rattle.journal.specs.rules.Steps.{RecordFits, records_bytes, RecordsStand, SameOthers, AppendsFront, barrier_calls}
 
 pub record PackingExamples : Type 0 where
   pub no_sector : sectors_for 0 ≡ 0
@@ -19,6 +20,15 @@ pub record PackingExamples : Type 0 where
   pub room_behind_one : room_of bare (state 5 1 (7 ∷ 8 ∷ []) false) ≡ 986
   pub no_room_behind_all : room_of bare (state 5 3 [] false) ≡ 0
   pub records_in_order : records_bytes (hello_record ∷ end_record ∷ []) ≡ two_records
+
+-- what a barrier asks the disk for, the newest call first: sector 4 is the second of the journal
+pub record BarrierCallExamples : Type 0 where
+  pub nothing_kept : barrier_calls bare (state 5 1 [] false) ≡ []
+  pub one_byte : barrier_calls bare (state 5 1 (7 ∷ []) false) ≡ Sync ∷ WriteOf 4 ∷ []
+  pub full_sector : barrier_calls bare (state 5 1 (replicate 494 7) false)
+      ≡ Sync ∷ WriteOf 4 ∷ []
+  pub two_sectors : barrier_calls bare (state 5 1 (replicate 495 7) false)
+      ≡ Sync ∷ WriteOf 5 ∷ WriteOf 4 ∷ []
 
 -- what a journal takes: clocks and steps of 64 bits, and 4,096 bytes
 pub record FittingExamples : Type 0 where

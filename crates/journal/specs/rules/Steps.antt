@@ -1,13 +1,17 @@
 -- What the sectors of a journal hold, and how a barrier changes it (this project's own).
-use Rattle.std.specs.Prelude.{◌≡◌, ℕ, ◌+◌, ◌^◌, ◌<◌, ◌≤◌, true, List, ◌++◌, length, take}
+use Rattle.std.specs.Prelude.{◌≡◌, ℕ, zero, suc, ◌+◌, ◌^◌, ◌<◌, ◌≤◌, true, List, [], ◌++◌, length, take}
 use Rattle.std.specs.List.{AllByRecursion, flat_map}
 use Rattle.sector_disk.specs.rules.Image.{Image, sector_at}
+use Rattle.sector_disk.specs.rules.Calls.{synced_writes}
+use Rattle.sector_disk.specs.declared.disk_call.DiskCall.{DiskCall}
 use Rattle.disk_layout.specs.rules.Places.{Geometry, journal_place}
 use Rattle.disk_layout.specs.rules.Sectors.{shown_generation}
 use Rattle.disk_layout.specs.rules.Journal.{Record, record_bytes, payload_of, is_of, payloads_from, scan}
 use Rattle.wasi_abi.specs.declared.answer.Answer.{Answer}
 use Rattle.wasi_abi.specs.declared.answer.Answer.TheVariants as answer
 use Rattle.disk_layout.specs.declared.record.TheConstants.{LONGEST_PAYLOAD}
+use Rattle.journal.specs.rules.Packed.{sectors_for}
+use Rattle.journal.specs.rules.State.{JournalState}
 
 -- a clock's value has room in 64 bits
 abbrev pub ClockFits : Answer → Type 0
@@ -66,3 +70,14 @@ pub record IsOn (geometry : Geometry) (g used : ℕ) (kept_bytes : List ℕ) (re
   pub fit : AllRecordsFit records
   pub fit_kept : AllRecordsFit kept
   pub generation : g < 2 ^ 64
+
+-- so many sectors from this one on are written one after another, and then synced; for none there
+-- is no call
+abbrev pub calls_to : ℕ → ℕ → List DiskCall
+calls_to at zero = []
+calls_to at (suc n) = synced_writes at (suc n)
+
+-- what a barrier asks the disk for: the sectors that the kept bytes take, the first of them behind
+-- those in use
+abbrev pub barrier_calls : Geometry → JournalState → List DiskCall
+barrier_calls geometry s = calls_to (journal_place geometry + s.used) (sectors_for (length s.kept))

@@ -1,13 +1,18 @@
 -- Worked examples of images, of runs of writes, and of what is counted.
 use Rattle.std.specs.Prelude.{◌≡◌, ◌<◌, ◌≤◌, ◌+◌, ◌-◌, ◌^◌, ◌++◌, ℕ, List, [], ◌∷◌, Option, Some, None, replicate, refl, Bool, IsTrue}
 use Rattle.sector_disk.specs.rules.Image.{Image, sector_at, with_sector, front_over, with_front, IsImage, IsTornWithin}
-use Rattle.std.proofs.Common.{arith}
-use Rattle.sector_disk.specs.rules.Medium.{Medium, spare}
+use Rattle.std.proofs.Common.{zero, suc, length, drop, sym, ap, ◌∙◌, arith}
+use Rattle.std.proofs.lemmas.List.{drop_all}
+use Rattle.sector_disk.specs.rules.Medium.{Medium, BeginsCalls, spare}
+use Rattle.sector_disk.specs.rules.Calls.{rising_writes, synced_writes}
+use Rattle.sector_disk.specs.rules.Memory.{calls_in}
 use Rattle.sector_disk.specs.rules.Run.{IsTornRun, IsWrittenRun}
 use Rattle.sector_disk.specs.rules.Pending.{replayed, torn_by}
-use Rattle.sector_disk.specs.rules.Answered.{AnsweredCalls, faults_of, unsynced_of}
+use Rattle.sector_disk.specs.rules.Answered.{AnsweredCalls, faults_of, unsynced_of, file_calls}
 use Rattle.sector_disk.specs.rules.Trouble.{counted, call_number, trouble_at, place_numbers, troubled, LeavesFront}
 use Rattle.sector_disk.specs.declared.write.Write.{Write}
+use Rattle.sector_disk.specs.declared.disk_call.DiskCall.{DiskCall}
+use Rattle.sector_disk.specs.declared.disk_call.DiskCall.TheVariants.{WriteOf, Sync}
 use Rattle.sector_disk.specs.declared.place.Place.{Place}
 use Rattle.sector_disk.specs.declared.trouble.Trouble.TheVariants.{Stops, Stopped, Fails}
 use Rattle.sector_disk.specs.declared.file_call.FileCall.TheVariants.{Read, Wrote, Tore, Synced, Failed}
@@ -99,6 +104,16 @@ pub record CountExamples : Type 0 where
   pub told : place_numbers (at_third 7) ≡ 1 ∷ 3 ∷ 7 ∷ []
   pub told_nothing : place_numbers None ≡ 0 ∷ []
 
+-- ---- what was asked for; the newest call is the first
+
+pub record CallExamples : Type 0 where
+  pub rising : rising_writes 7 3 ≡ WriteOf 9 ∷ WriteOf 8 ∷ WriteOf 7 ∷ []
+  pub none : rising_writes 7 0 ≡ []
+  pub synced : synced_writes 7 2 ≡ Sync ∷ WriteOf 8 ∷ WriteOf 7 ∷ []
+  pub of_a_file : file_calls five_calls ≡ WriteOf 1 ∷ WriteOf 1 ∷ Sync ∷ WriteOf 0 ∷ []
+  pub without_reads : file_calls ((Read 5, []) ∷ (Wrote 4, []) ∷ []) ≡ WriteOf 4 ∷ []
+  pub of_a_memory : calls_in ((Sync, tt) ∷ (WriteOf 4, tt) ∷ []) ≡ Sync ∷ WriteOf 4 ∷ []
+
 -- ---- laws of any disk, which no contract can name: they stand here with their proofs
 
 pub troubles_are_faults : (below : Medium) (stop fail : Option Place) (n : ℕ)
@@ -123,3 +138,37 @@ pub front_is_exact : (front k : ℕ) (bytes : List ℕ) (is_taken : Bool) (old n
 front_is_exact front k bytes is_taken old new shown left leaves taken may =
     let both = leaves.exactly taken shown left may in
     (both.0, (old.of_may both.0 both.1 both.2).0, both.3)
+
+-- a disk that is told where to stop or to fail was asked for what the disk below was asked for
+pub calls_are_below : (below : Medium) (stop fail : Option Place) (n : ℕ)
+    → (troubled below stop fail n).calls ≡ below.calls
+calls_are_below below stop fail n = refl
+
+-- of two writes and a sync the first write alone may be made, but not the second alone
+pub oldest_is_begun : (old new : Medium) → new.calls ≡ WriteOf 7 ∷ old.calls
+    → BeginsCalls (synced_writes 7 2) old new
+oldest_is_begun old new made = (2, made)
+
+pub newer_is_not_begun : (old new : Medium) → new.calls ≡ WriteOf 8 ∷ old.calls
+    → BeginsCalls (synced_writes 7 2) old new → ⊥
+newer_is_not_begun old new made begun = none begun.0 (sym made ∙ begun.1)
+  where
+    first_sector : List DiskCall → ℕ
+    first_sector [] = 0
+    first_sector (WriteOf k ∷ calls) = k
+    first_sector (Sync ∷ calls) = 0
+
+    none : (n : ℕ) → WriteOf 8 ∷ old.calls ≡ drop n (synced_writes 7 2) ++ old.calls → ⊥
+    none zero e =
+        let l : suc (length old.calls) ≡ suc (suc (suc (length old.calls))) = ap length e in
+        omega (arith, l)
+    none (suc zero) e =
+        let l : suc (length old.calls) ≡ suc (suc (length old.calls)) = ap length e in
+        omega (arith, l)
+    none (suc (suc zero)) e = let k : 8 ≡ 7 = ap first_sector e in omega (arith, k)
+    none (suc (suc (suc n))) e =
+        let l = ap length e in
+        let rest = ap (λ (x : List DiskCall). length (x ++ old.calls))
+        (drop_all n [] (omega arith)) in
+        let m : suc (length old.calls) ≡ length old.calls = l ∙ rest in
+        omega (arith, m)

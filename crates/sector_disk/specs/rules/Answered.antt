@@ -2,6 +2,8 @@
 use Rattle.std.specs.Prelude.{◌≡◌, ◌⊎◌, ◌≤◌, ◌+◌, ℕ, List, [], ◌∷◌, length, Result, Ok, Err}
 use Rattle.sector_disk.specs.rules.Image.{Image, sector_at, with_sector, with_front, IsImage}
 use Rattle.sector_disk.specs.declared.file_call.TheConstants.{NO_BYTES}
+use Rattle.sector_disk.specs.declared.disk_call.DiskCall.{DiskCall}
+use Rattle.sector_disk.specs.declared.disk_call.DiskCall.TheVariants.{WriteOf, Sync}
 use Rattle.sector_disk.specs.declared.fault.DiskFault.{DiskFault}
 use Rattle.sector_disk.specs.declared.fault.DiskFault.TheVariants.{Range, Io}
 use Rattle.sector_disk.specs.declared.file_call.FileCall.{FileCall}
@@ -63,6 +65,17 @@ count_on call n = n
 abbrev pub unsynced_of : AnsweredCalls → ℕ
 unsynced_of [] = 0
 unsynced_of (answer ∷ answers) = count_on answer.0 (unsynced_of answers)
+
+abbrev pub call_on : FileCall → List DiskCall → List DiskCall
+call_on (Wrote k) calls = WriteOf k ∷ calls
+call_on (Tore k) calls = WriteOf k ∷ calls
+call_on Synced calls = Sync ∷ calls
+call_on call calls = calls
+
+-- its writes and syncs, but those syncs that failed
+abbrev pub file_calls : AnsweredCalls → List DiskCall
+file_calls [] = []
+file_calls (answer ∷ answers) = call_on answer.0 (file_calls answers)
 
 -- what is logged of a call, by its answer: nothing where it was refused before the file was asked
 abbrev pub ReadLogged : Result (Unit {0}) DiskFault → ℕ → List ℕ → AnsweredCalls → AnsweredCalls → Type 0

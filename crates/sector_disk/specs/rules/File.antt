@@ -3,7 +3,7 @@ use Rattle.std.specs.Prelude.{◌<◌, ◌^◌, [], length}
 use Rattle.std.proofs.Common.{arith}
 use Rattle.sector_disk.specs.rules.Image.{Image}
 use Rattle.sector_disk.specs.rules.Medium.{Medium}
-use Rattle.sector_disk.specs.rules.Answered.{AnsweredCalls, Explains, ExplainsSince, faults_of, unsynced_of}
+use Rattle.sector_disk.specs.rules.Answered.{AnsweredCalls, Explains, ExplainsSince, faults_of, unsynced_of, file_calls}
 use Rattle.sector_disk.specs.rules.Counts.{AnsweredCount, answered_now, answered_only}
 use Rattle.sector_disk.specs.laws.Answered.{images, stays, keeps_more_of, since_now, since_only, since_shows}
 use Rattle.sector_disk.specs.declared.file.FileDisk.{FileDisk}
@@ -31,6 +31,7 @@ module _ {F : Type 0} where
     unsynced = unsynced_of d.log.items;
     room = 2 ^ 64;
     unsynced_since = λ t n. AnsweredCount t d.log.items n;
+    calls = file_calls d.log.items;
     fits = count_fits d;
     of_shows = λ image both. both;
     of_left = λ image both. both;

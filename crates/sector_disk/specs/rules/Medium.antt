@@ -1,6 +1,8 @@
 -- A disk at a moment, as the contracts see it: what reads give, what a cut may leave, and what a cut may have left since.
-use Rattle.std.specs.Prelude.{◌≡◌, ◌⊎◌, ◌<◌, ◌≤◌, ◌+◌, ◌-◌, ◌^◌, ℕ, List, Result, OnOk, OnErr, IsErr, IsErrOf}
+use Rattle.std.specs.Prelude.{◌≡◌, ◌⊎◌, ◌<◌, ◌≤◌, ◌+◌, ◌-◌, ◌^◌, ℕ, List, [], ◌∷◌, ◌++◌, drop, Result, OnOk, OnErr, IsErr, IsErrOf}
 use Rattle.sector_disk.specs.rules.Image.{Image, sector_at, with_front, IsImage, IsTorn, IsWritten}
+use Rattle.sector_disk.specs.declared.disk_call.DiskCall.{DiskCall}
+use Rattle.sector_disk.specs.declared.disk_call.DiskCall.TheVariants.{WriteOf, Sync}
 use Rattle.sector_disk.specs.declared.fault.DiskFault.{DiskFault}
 use Rattle.sector_disk.specs.declared.fault.DiskFault.TheVariants.{Range, Memory}
 use Rattle.sector_disk.specs.declared.sector.TheConstants.{SECTOR_SIZE}
@@ -29,6 +31,9 @@ pub record Medium : Type 1 where
   pub room : ℕ
   -- there were so many unsynced writes at some moment since that one
   pub unsynced_since : ℕ → ℕ → Type 0
+  -- the writes and syncs that it was asked for, the newest first; of those that failed some may
+  -- be missing
+  pub calls : List DiskCall
   pub fits : sectors < 2 ^ 64
   -- the sets are those of the pairs
   pub of_shows : (image : Image) → shows image → (left : Image) × may image left
@@ -112,6 +117,16 @@ pub record TakesWrite (k : ℕ) (bytes : List ℕ) (old new : Medium) : Type 0 w
   pub both : BothFollow (IsWritten k bytes) (IsTorn k bytes) old new
   pub unsynced : new.unsynced ≡ old.unsynced + 1
 
+-- Some of these calls have been made, from the oldest on: none but the newest are left out.
+abbrev pub BeginsCalls : List DiskCall → Medium → Medium → Type 0
+BeginsCalls calls old new = (left_out : ℕ) × (new.calls ≡ drop left_out calls ++ old.calls)
+
+-- Where it answers Ok, just these calls have been made, the newest first. Else they were begun.
+pub record MakesCalls {T E : Type 0} (calls : List DiskCall) (result : Result T E)
+    (old new : Medium) : Type 0 where
+  pub all : OnOk result (new.calls ≡ calls ++ old.calls)
+  pub begun : BeginsCalls calls old new
+
 -- a call answers an error only where the disk failed, or for a cause that is named
 pub record HasCause {T : Type 0} (is_out is_full : Type 0) (result : Result T DiskFault) (old new : Medium) : Type 0 where
   pub fault : IsErr result → (is_out ⊎ is_full) ⊎ (old.faults < new.faults)
@@ -130,6 +145,7 @@ pub record Reads {T : Type 0} (k : ℕ) (into : List ℕ) (result : Result T Dis
   pub stays : Stays old new
   pub unsynced : new.unsynced ≡ old.unsynced
   pub counts : CountsUpTo old.unsynced old new
+  pub calls : new.calls ≡ old.calls
   pub passes : Passes old new new.may_leave
   pub cause : HasCause (old.sectors ≤ k) ⊥ result old new
 
@@ -139,6 +155,7 @@ pub record Writes {T : Type 0} (k : ℕ) (bytes : List ℕ) (result : Result T D
   pub whole : OnOk result (TakesWrite k bytes old new)
   pub tears : Tears k bytes old new
   pub counts : CountsUpTo (old.unsynced + 1) old new
+  pub calls : MakesCalls (WriteOf k ∷ []) result old new
   pub passes : Passes old new new.may_leave
   pub cause : HasCause (old.sectors ≤ k) (spare old ≡ 0) result old new
 
@@ -148,5 +165,6 @@ pub record SyncsMedium {T : Type 0} (result : Result T DiskFault) (old new : Med
   pub stays : Stays old new
   pub unsynced : OnErr result (new.unsynced ≡ old.unsynced)
   pub counts : CountsUpTo old.unsynced old new
+  pub calls : MakesCalls (Sync ∷ []) result old new
   pub passes : Passes old new new.may_leave
   pub cause : HasCause ⊥ ⊥ result old new

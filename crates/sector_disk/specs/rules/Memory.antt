@@ -7,6 +7,7 @@ use Rattle.sector_disk.specs.rules.Medium.{Medium}
 use Rattle.sector_disk.specs.rules.Counts.{HadCount, count_only}
 use Rattle.sector_disk.specs.rules.Pending.{Leaves, replayed, torn_by, HadLeft}
 use Rattle.sector_disk.specs.laws.Pending.{whole_left, keeps_more, image-left, none_left}
+use Rattle.sector_disk.specs.declared.disk_call.DiskCall.{DiskCall}
 use Rattle.sector_disk.specs.declared.fault.DiskFault.{DiskFault}
 use Rattle.sector_disk.specs.declared.fault.DiskFault.TheVariants.{Range, Io}
 use Rattle.sector_disk.specs.declared.memory.MemDisk.{MemDisk}
@@ -48,6 +49,11 @@ after_sync state = settled_by state (shown_by state)
 abbrev pub after_cut : MemoryState → List ℕ → MemoryState
 after_cut state tears = settled_by state (torn_by tears state.pending state.settled)
 
+-- the calls that a log of them holds
+abbrev pub calls_in : List (DiskCall × Unit {0}) → List DiskCall
+calls_in [] = []
+calls_in (call ∷ earlier) = call.0 ∷ calls_in earlier
+
 -- a `Vec` has fewer items than there are numbers
 pub vec_fits : (v : Vec (List ℕ) Global) → length v.items < 2 ^ 64
 vec_fits v = omega (arith, v.ok.0, v.ok.1, v.small)
@@ -77,6 +83,7 @@ memory_medium d = record {
   unsynced = length d.pending.items;
   room = d.limit;
   unsynced_since = λ t n. (n ≡ length d.pending.items) ⊎ HadCount t d.past.items n;
+  calls = calls_in d.calls.items;
   fits = vec_fits d.settled;
   may_since = λ t shown image. (shown ≡ d.shown.items) × (Leaves d.pending.items d.settled.items image ⊎ HadLeft t d.past.items image);
   of_since = λ t image since. (d.shown.items, (refl, since));

@@ -1,7 +1,8 @@
 -- Where a disk is told to stop or to fail, and what a call meets there.
 use Rattle.std.specs.Prelude.{◌≡◌, ◌<◌, ◌≤◌, IsTrue, ◌+◌, ◌-◌, ◌^◌, ◌++◌, ◌==◌, ◌||◌, ℕ, min, Bool, false, nat_lt, nat_le, List, [], ◌∷◌, Option, Some, None, if◌then◌else◌}
 use Rattle.sector_disk.specs.rules.Image.{IsFront, IsTornWithin}
-use Rattle.sector_disk.specs.rules.Medium.{Medium, BothFollow, spare}
+use Rattle.sector_disk.specs.rules.Medium.{Medium, BothFollow, BeginsCalls, spare}
+use Rattle.sector_disk.specs.declared.disk_call.DiskCall.TheVariants.{WriteOf}
 use Rattle.sector_disk.specs.declared.fault.DiskFault.{DiskFault}
 use Rattle.sector_disk.specs.declared.fault.DiskFault.TheVariants.{Io, Cut}
 use Rattle.sector_disk.specs.declared.place.Place.{Place}
@@ -64,4 +65,6 @@ pub record LeavesFront (front k : ℕ) (bytes : List ℕ) (is_taken : Bool) (old
   pub exactly : IsTrue is_taken → BothFollow (IsFront front k bytes) (IsTornWithin front k bytes) old new
   -- also where no byte is left, it counts as a write
   pub counts : IsTrue is_taken → new.unsynced ≡ old.unsynced + 1
+  pub called : IsTrue is_taken → new.calls ≡ WriteOf k ∷ old.calls
+  pub begun : BeginsCalls (WriteOf k ∷ []) old new
   pub taken : k < old.sectors → 0 < spare old → new.faults ≡ old.faults → IsTrue is_taken

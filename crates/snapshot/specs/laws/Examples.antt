@@ -1,10 +1,21 @@
 -- Worked examples of heads, and of what a commit may change. After a commit the next can follow.
-use Rattle.std.specs.Prelude.{◌≡◌, ℕ, ◌+◌, List, [], ◌∷◌, ◌++◌, replicate}
+use Rattle.std.specs.Prelude.{◌≡◌, ℕ, ◌+◌, true, false, Err, List, [], ◌∷◌, ◌++◌, replicate}
 use Rattle.sector_disk.specs.rules.Image.{Image}
+use Rattle.sector_disk.specs.declared.disk_call.DiskCall.{DiskCall}
+use Rattle.sector_disk.specs.declared.disk_call.DiskCall.TheVariants.{WriteOf, Sync}
 use Rattle.disk_layout.specs.declared.geometry.Geometry.{Geometry}
 use Rattle.disk_layout.specs.declared.head.Head.{Head}
 use Rattle.disk_layout.specs.rules.Sectors.{head_bytes}
+use Rattle.snapshot.specs.declared.writing.Writing.TheVariants.{Whole, Changes}
+use Rattle.snapshot.specs.rules.Calls.{AreStores, with_head}
 use Rattle.snapshot.specs.rules.Heads.{HasNone, heads_to, IsReadyForHead}
+use Rattle.snapshot.specs.rules.Newest.{ReadsImage}
+use Rattle.snapshot.specs.rules.Snapshots.{is_failed, is_idle, length_of, sectors_of, filled_by}
+use Rattle.snapshot.specs.declared.fault.SnapshotFault.TheVariants.{TooBig}
+use Rattle.snapshot.specs.declared.snapshots.Snapshots.{Snapshots}
+use Rattle.snapshot.specs.declared.snapshots.State.{State}
+use Rattle.snapshot.specs.declared.snapshots.State.TheVariants as state
+use Rattle.snapshot.specs.declared.writer.AreaWriter.{AreaWriter}
 use Rattle.snapshot.specs.rules.Steps.{HoldsWithZeros, HasNew, IsOutsideArea, Fills, Commits, Replaces}
 
 -- once an image is the newest one, a disk is ready for the next
@@ -44,6 +55,25 @@ pub record ReadyExamples : Type 0 where
   pub not_for_one_later : IsReadyForHead 5 (with_heads 2 3) → ⊥
   pub not_for_the_second : IsReadyForHead 2 headless → ⊥
 
+-- ---- calls; the newest is the first
+
+-- of two sectors from sector 5 on
+abbrev pub ChangesTwo : List DiskCall → Type 0
+ChangesTwo calls = AreStores Changes 5 2 calls
+
+pub record CommitCallExamples : Type 0 where
+  pub second_head : with_head 3 (WriteOf 5 ∷ []) ≡ Sync ∷ WriteOf 2 ∷ Sync ∷ WriteOf 5 ∷ []
+  pub first_head : with_head 4 [] ≡ Sync ∷ WriteOf 1 ∷ Sync ∷ []
+  pub whole : AreStores Whole 5 2 (WriteOf 6 ∷ WriteOf 5 ∷ [])
+  pub whole_but_one : AreStores Whole 5 2 (WriteOf 6 ∷ []) → ⊥
+  pub both_changed : ChangesTwo (WriteOf 6 ∷ WriteOf 5 ∷ [])
+  pub last_changed : ChangesTwo (WriteOf 6 ∷ [])
+  pub none_changed : ChangesTwo []
+  pub falling : ChangesTwo (WriteOf 5 ∷ WriteOf 6 ∷ []) → ⊥
+  pub twice : ChangesTwo (WriteOf 5 ∷ WriteOf 5 ∷ []) → ⊥
+  pub beyond : ChangesTwo (WriteOf 7 ∷ []) → ⊥
+  pub synced : ChangesTwo (Sync ∷ WriteOf 5 ∷ []) → ⊥
+
 -- ---- areas
 
 -- two areas of two sectors, from sector 3 and from sector 5 on, and nothing behind them
@@ -80,3 +110,28 @@ pub record AreaExamples : Type 0 where
   -- before the commit its own head isn't written
   pub no_head_yet : Fills areas 3 (area_disk [] [] [] [])
       ([] ∷ [] ∷ (7 ∷ []) ∷ [] ∷ [] ∷ [] ∷ [] ∷ []) → ⊥
+
+-- ---- states
+
+abbrev pub in_state : State → Snapshots
+in_state s = record { state = s }
+
+-- a writer of three sectors, and a hundred bytes behind them
+abbrev pub HasThree : AreaWriter → Type 0
+HasThree w = (w.sectors ≡ 3) × (w.filled ≡ 100)
+
+pub record StateExamples : Type 0 where
+  pub idle : is_idle (in_state state.Idle) ≡ true
+  pub idle_has_not_failed : is_failed (in_state state.Idle) ≡ false
+  pub failed : is_failed (in_state state.Failed) ≡ true
+  pub failed_is_not_idle : is_idle (in_state state.Failed) ≡ false
+  pub begun : (w : AreaWriter) → is_idle (in_state (state.Begun w)) ≡ false
+  pub begun_has_not_failed : (w : AreaWriter) → is_failed (in_state (state.Begun w)) ≡ false
+  pub bytes : (w : AreaWriter) → HasThree w → length_of (in_state (state.Begun w)) ≡ 1636
+  pub sectors : (w : AreaWriter) → HasThree w → sectors_of (in_state (state.Begun w)) ≡ 3
+  pub none_filled : (w : AreaWriter) → HasThree w → filled_by (in_state (state.Begun w)) 411 ≡ 0
+  pub one_filled : (w : AreaWriter) → HasThree w → filled_by (in_state (state.Begun w)) 412 ≡ 1
+  pub two_filled : (w : AreaWriter) → HasThree w → filled_by (in_state (state.Begun w)) 924 ≡ 2
+  -- an image that is read is never too big
+  pub read_too_big : (geometry : Geometry) (image : Image) (h : Head)
+      → ReadsImage geometry image h (Err TooBig) → ⊥

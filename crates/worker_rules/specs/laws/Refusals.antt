@@ -1,9 +1,9 @@
 -- What no lives that go on have, of any module.
-use Rattle.std.specs.Prelude.{ℕ, true, false, List, [], ◌∷◌}
+use Rattle.std.specs.Prelude.{ℕ, true, false, List, [], ◌∷◌, ◌++◌}
 use Rattle.wasm_syntax.specs.declared.module.Module.{Module}
 use Rattle.wasi_abi.specs.rules.Configs.{Settings}
-use Rattle.worker_rules.specs.Lives.{Release, Slice, Checkpoint, Event, Told, Opened, Ended, IsLife}
-use Rattle.worker_rules.specs.Promises.{nothing_yet, AreKept, AreConsecutive}
+use Rattle.worker_rules.specs.Lives.{Release, Slice, Checkpoint, Event, Told, Opened, Ended, Beginning, Recovers, Creates, OfSource, Cut, Failed, Life, IsLife}
+use Rattle.worker_rules.specs.Promises.{nothing_yet, AreKept, AreConsecutive, GoesOn}
 use Rattle.worker_rules.specs.laws.Examples.{hello_line, hello_request}
 
 -- some event of these doesn't keep what was promised before it
@@ -34,6 +34,23 @@ pub record RefusedLives (m : Module) (config : Settings) : Type 0 where
       (Opened 0 0 ∷ Ended Slice false 0 6 ∷ Ended Slice false 0 5 ∷ [])
   pub leaves_an_answer_behind : AreBroken m config
       (Opened 0 0 ∷ hello_request ∷ Ended Slice true 0 6 ∷ [])
+
+-- one life, or two of the same kind, each cut at its end
+abbrev pub one_cut : Beginning → List Event → List Life
+one_cut begins events = record { begins = begins; events = events; ends = Cut } ∷ []
+
+abbrev pub two_cut : Beginning → List Event → List Life
+two_cut begins events = one_cut begins events ++ one_cut begins events
+
+-- lists of lives that don't go on
+pub record RefusedLists (m : Module) (config : Settings) : Type 0 where
+  pub breaks_a_promise : GoesOn m config (one_cut Recovers (Opened 1 0 ∷ [])) → ⊥
+  pub breaks_one_of_an_earlier_life : GoesOn m config
+      (one_cut Recovers (Opened 0 6 ∷ []) ++ one_cut Recovers (Opened 0 5 ∷ [])) → ⊥
+  pub shut_by_its_source : GoesOn m config
+      (record { begins = Recovers; events = []; ends = Failed OfSource } ∷ []) → ⊥
+  pub opens_twice : GoesOn m config (one_cut Recovers (Opened 0 0 ∷ Opened 0 0 ∷ [])) → ⊥
+  pub created_twice : GoesOn m config (two_cut Creates (Opened 0 0 ∷ [])) → ⊥
 
 -- lists of events, and numbers told, that a life has or hasn't
 pub record LifeForms : Type 0 where

@@ -1,9 +1,11 @@
-use Rattle.std.proofs.Common.{◌≡◌, ◌<◌, ◌≤◌, ◌+◌, ◌++◌, ℕ, List, length, sym, ◌∙◌, subst, arith}
+use Rattle.std.proofs.Common.{◌≡◌, ◌<◌, ◌≤◌, ◌+◌, ◌++◌, ℕ, List, length, Ok, Result, sym, ap, ◌∙◌, subst, arith, rules}
 use Rattle.sector_disk.specs.rules.Image.{sector_at}
-use Rattle.sector_disk.specs.rules.Medium.{Tears, TakesWrite, BothFollow}
+use Rattle.sector_disk.specs.rules.Medium.{Tears, TakesWrite, BothFollow, MakesCalls}
+use Rattle.sector_disk.specs.rules.Calls.{rising_writes}
 use Rattle.sector_disk.specs.rules.Run.{IsTornRun, IsWrittenRun}
 use Rattle.sector_disk.proofs.RunLemmas.{both_tear, both_take, both_longer, run_passes, run_leaves_only}
 use Rattle.sector_disk.proofs.CountLemmas.{counts_then, counts_more}
+use Rattle.sector_disk.proofs.CallLemmas.{rising_begun, rising_more}
 use Rattle.disk_layout.specs.rules.Places.{rounded_up}
 use Rattle.disk_layout.specs.rules.Contents.{contents_sectors}
 use Rattle.disk_layout.proofs.ContentsLemmas.{counted, contents_at}
@@ -45,6 +47,7 @@ loop-i-preserved g c =
       tears = both;
       unsynced = let u = takes.unsynced in omega (arith, i.unsynced, u);
       counts = let u = i.unsynced in let p = i.passes in counts_then (old.unsynced + n) (mid.unsynced + 1) (old.unsynced + (n + 1)) old mid new (omega arith) (omega arith) p.later i.counts c.write.ensures.counts;
+      calls = rising_more 3 n old mid new i.calls c.in_ok-write.ensures.calls.all;
       passes = run_passes 3 sectors (n + 1) (length sectors) old mid new (omega arith) i.passes both c.write.ensures.passes;
     }
 
@@ -114,3 +117,25 @@ returns-clause-counts g c =
     let new = g.D.Disk.medium c.loop-i.disk in
     let within : n ≤ rounded_up (length c.args.config.now + length c.args.wasm.now) = let e = c.sectors_of-count.ensures in let t = c.loop-i.auto.i-end in omega arith in
     counts_more (old.unsynced + n) (old.unsynced + rounded_up (length c.args.config.now + length c.args.wasm.now)) old new (omega arith) i.counts
+
+pub returns-in_err-write-clause-calls : goal.returns-in_err-write-clause-calls
+returns-in_err-write-clause-calls g c =
+    let i = c.loop-i.invariant in
+    let n = c.loop-i.i in
+    let old = g.D.Disk.medium c.args.disk.now in
+    let mid = g.D.Disk.medium c.loop-i.disk in
+    let new = g.D.Disk.medium c.write.new.self in
+    let many = rounded_up (length c.args.config.now + length c.args.wasm.now) in
+    let below : n < many = let e = c.sectors_of-count.ensures in let t = c.loop-i-test.true in omega arith in
+    record { all = search rules; begun = rising_begun 3 n old mid new i.calls many below c.write.ensures.calls.begun }
+
+pub returns-clause-calls : goal.returns-clause-calls
+returns-clause-calls g c =
+    let i = c.loop-i.invariant in
+    let n = c.loop-i.i in
+    let old = g.D.Disk.medium c.args.disk.now in
+    let new = g.D.Disk.medium c.loop-i.disk in
+    let many = rounded_up (length c.args.config.now + length c.args.wasm.now) in
+    let all : n ≡ many = let e = c.sectors_of-count.ensures in let t = c.loop-i.auto.i-end in let f = c.loop-i-test.false in omega arith in
+    let made = i.calls ∙ ap (λ k. rising_writes 3 k ++ old.calls) all in
+    record { all = made; begun = (0, made) }

@@ -1,11 +1,14 @@
-use Rattle.std.proofs.Common.{◌≡◌, ◌<◌, ◌≤◌, ◌+◌, ◌*◌, ℕ, List, length, sym, ap, ◌∙◌, subst, arith}
+use Rattle.std.proofs.Common.{◌≡◌, ◌<◌, ◌≤◌, ◌+◌, ◌*◌, ◌++◌, ℕ, List, [], ◌∷◌, length, sym, ap, ◌∙◌, subst, arith, rules}
 use Rattle.std.proofs.lemmas.Result.{on_ok_weaker}
 use Rattle.sector_disk.specs.rules.Image.{sector_at}
 use Rattle.sector_disk.specs.rules.Medium.{Tears, TakesWrite, BothFollow}
+use Rattle.sector_disk.specs.rules.Calls.{rising_writes}
+use Rattle.sector_disk.specs.declared.disk_call.DiskCall.TheVariants.{Sync}
 use Rattle.sector_disk.specs.rules.Run.{IsTornRun, IsWrittenRun}
 use Rattle.sector_disk.proofs.Moments.{shows_follow, settled_follows, goes_on, stays_left}
 use Rattle.sector_disk.proofs.RunLemmas.{both_tear, both_take, run_passes, run_leaves_only, left_longer}
 use Rattle.sector_disk.proofs.CountLemmas.{counts_then}
+use Rattle.sector_disk.proofs.CallLemmas.{begun_first, made_then, rising_begun, rising_more}
 use Rattle.disk_layout.specs.rules.Journal.{journal_sector}
 use Rattle.journal.specs.rules.Packed.{packed, sectors_for}
 use Rattle.journal.proofs.PackedLemmas.{packed_at, part_lent}
@@ -51,6 +54,7 @@ loop-i-preserved g c =
       tears = both;
       unsynced = let u = takes.unsynced in omega (arith, i.unsynced, u);
       counts = let u = i.unsynced in let p = i.passes in let later = p.later in counts_then (old.unsynced + n) (mid.unsynced + 1) (old.unsynced + (n + 1)) old mid new (omega arith) (omega arith) later i.counts c.write.ensures.counts;
+      calls = rising_more c.args.at n old mid new i.calls c.in_ok-write.ensures.calls.all;
       passes = run_passes c.args.at batch (n + 1) count old mid new (omega arith) i.passes both c.write.ensures.passes;
     }
 
@@ -118,3 +122,27 @@ returns-clause-together g c =
     on_ok_weaker c.sync.result
     (λ settled. subst (λ (k : ℕ). new.unsynced_since old.moment k) all (counts.keeps old.moment mid.unsynced p.later (mid.count_now old.moment p.later)))
     c.sync.ensures.settles
+
+pub returns-in_err-write-clause-calls : goal.returns-in_err-write-clause-calls
+returns-in_err-write-clause-calls g c =
+    let i = c.loop-i.invariant in
+    let n = c.loop-i.i in
+    let old = g.D.Disk.medium c.args.disk.now in
+    let mid = g.D.Disk.medium c.loop-i.disk in
+    let new = g.D.Disk.medium c.write.new.self in
+    let count = sectors_for (length c.args.bytes.now) in
+    let below : n < count = let e = c.sectors_for-count.ensures in let t = c.loop-i-test.true in omega arith in
+    let some = rising_begun c.args.at n old mid new i.calls count below c.write.ensures.calls.begun in
+    record { all = search rules; begun = begun_first (rising_writes c.args.at count) (Sync ∷ []) old new some }
+
+pub returns-clause-calls : goal.returns-clause-calls
+returns-clause-calls g c =
+    let i = c.loop-i.invariant in
+    let n = c.loop-i.i in
+    let old = g.D.Disk.medium c.args.disk.now in
+    let mid = g.D.Disk.medium c.loop-i.disk in
+    let new = g.D.Disk.medium c.sync.new.self in
+    let count = sectors_for (length c.args.bytes.now) in
+    let all : n ≡ count = let e = c.sectors_for-count.ensures in let t = c.loop-i.auto.i-end in let f = c.loop-i-test.false in omega arith in
+    let written = i.calls ∙ ap (λ k. rising_writes c.args.at k ++ old.calls) all in
+    made_then (rising_writes c.args.at count) (Sync ∷ []) c.sync.result old mid new written c.sync.ensures.calls

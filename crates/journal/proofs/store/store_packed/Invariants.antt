@@ -1,5 +1,6 @@
-use Rattle.std.proofs.Common.{◌≡◌, ◌+◌, length}
+use Rattle.std.proofs.Common.{◌≡◌, ◌+◌, ◌++◌, length}
 use Rattle.sector_disk.specs.rules.Medium.{After, BothFollow, CountsUpTo, Passes}
+use Rattle.sector_disk.specs.rules.Calls.{rising_writes}
 use Rattle.sector_disk.specs.rules.Run.{IsTornRun, IsWrittenRun}
 use Rattle.journal.specs.rules.Packed.{packed, sectors_for}
 use Rattle.journal.proofs.store.store_packed.Given as goal
@@ -15,5 +16,6 @@ invariant-loop-i g l =
       tears : BothFollow (IsTornRun l.at batch l.i) (IsTornRun l.at batch l.i) old now;
       unsynced : now.unsynced ≡ old.unsynced + l.i;
       counts : CountsUpTo (old.unsynced + l.i) old now;
+      calls : now.calls ≡ rising_writes l.at l.i ++ old.calls;
       passes : Passes old now (After (IsTornRun l.at batch n) old.may_leave);
     }

@@ -1,10 +1,12 @@
-use Rattle.std.proofs.Common.{◌≡◌, ◌<◌, ◌≤◌, ◌+◌, ℕ, length, Err, Result, sym, ap, ◌∙◌, subst, arith, rules}
+use Rattle.std.proofs.Common.{◌≡◌, ◌<◌, ◌≤◌, ◌+◌, ◌++◌, [], ◌∷◌, ℕ, length, Err, Result, sym, ap, ◌∙◌, subst, arith, rules}
 use Rattle.std.proofs.lemmas.Result.{err_from_is_err_and}
 use Rattle.sector_disk.specs.rules.Image.{sector_at}
-use Rattle.sector_disk.specs.rules.Medium.{Tears, TakesWrite, FailsInside}
+use Rattle.sector_disk.specs.rules.Medium.{Tears, TakesWrite, BeginsCalls, FailsInside}
+use Rattle.sector_disk.specs.declared.disk_call.DiskCall.TheVariants.{WriteOf}
 use Rattle.sector_disk.specs.declared.fault.DiskFault.{DiskFault}
 use Rattle.sector_disk.proofs.RunLemmas.{both_tear, both_take, both_longer, run_passes, run_leaves_only, fails_inside}
 use Rattle.sector_disk.proofs.CountLemmas.{counts_then}
+use Rattle.sector_disk.proofs.CallLemmas.{rising_begun, rising_more}
 use Rattle.sector_disk.proofs.run.write_run.Goals as goal
 
 pub returns-in_err-write : goal.returns-in_err-write
@@ -27,6 +29,7 @@ returns-in_err-write g c =
       tears = both_longer _ _ _ _ old new more both;
       unsynced = let u = tears.unsynced in omega (arith, i.unsynced);
       counts = let u = i.unsynced in let p = i.passes in counts_then (old.unsynced + n) (mid.unsynced + 1) (old.unsynced + length c.args.sectors.now) old mid new (omega arith) (omega arith) p.later i.counts c.write.ensures.counts;
+      calls = record { all = search rules; begun = rising_begun c.args.at n old mid new i.calls (length c.args.sectors.now) (omega arith) (subst (λ (k : ℕ). BeginsCalls (WriteOf k ∷ []) mid new) i.place c.write.ensures.calls.begun) };
       any_moment = run_leaves_only _ _ _ old new (run_passes _ _ _ _ old mid new more i.passes both c.write.ensures.passes);
       cause = search rules;
       kind = subst P (sym same) kind;
@@ -49,5 +52,6 @@ loop-sector-preserved g c =
       tears = both;
       unsynced = let u = tears.unsynced in omega (arith, i.unsynced);
       counts = let u = i.unsynced in let p = i.passes in counts_then (old.unsynced + n) (mid.unsynced + 1) (old.unsynced + (n + 1)) old mid new (omega arith) (omega arith) p.later i.counts c.write.ensures.counts;
+      calls = rising_more c.args.at n old mid new i.calls (subst (λ (k : ℕ). new.calls ≡ (WriteOf k ∷ []) ++ mid.calls) i.place c.in_ok-write.ensures.calls.all);
       passes = run_passes _ _ _ _ old mid new (omega arith) i.passes both c.write.ensures.passes;
     }

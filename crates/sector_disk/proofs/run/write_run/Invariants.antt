@@ -1,5 +1,6 @@
-use Rattle.std.proofs.Common.{◌≡◌, ◌≤◌, ◌+◌, length}
+use Rattle.std.proofs.Common.{◌≡◌, ◌≤◌, ◌+◌, ◌++◌, length}
 use Rattle.sector_disk.specs.rules.Medium.{After, BothFollow, CountsUpTo, Passes}
+use Rattle.sector_disk.specs.rules.Calls.{rising_writes}
 use Rattle.sector_disk.specs.rules.Run.{IsTornRun, IsWrittenRun}
 use Rattle.sector_disk.proofs.run.write_run.Given as goal
 
@@ -13,5 +14,6 @@ invariant-loop-sector g l =
       tears : BothFollow (IsTornRun l.at l.sectors l.sector-index) (IsTornRun l.at l.sectors l.sector-index) old now;
       unsynced : now.unsynced ≤ old.unsynced + l.sector-index;
       counts : CountsUpTo (old.unsynced + l.sector-index) old now;
+      calls : now.calls ≡ rising_writes l.at l.sector-index ++ old.calls;
       passes : Passes old now (After (IsTornRun l.at l.sectors (length l.sectors)) old.may_leave);
     }

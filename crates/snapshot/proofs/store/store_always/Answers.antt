@@ -1,4 +1,6 @@
-use Rattle.std.proofs.Common.{rules}
+use Rattle.std.proofs.Common.{[], ◌∷◌, rules}
+use Rattle.sector_disk.specs.declared.disk_call.DiskCall.TheVariants.{WriteOf}
+use Rattle.snapshot.proofs.StoreCalls.{one_always}
 use Rattle.std.proofs.lemmas.Result.{on_ok_weaker}
 use Rattle.snapshot.proofs.StoreLemmas.{write_only}
 use Rattle.snapshot.proofs.store.store_always.Goals as goal
@@ -14,5 +16,6 @@ returns g c =
       told = on_ok_weaker c.write.result (λ takes. takes.unsynced) c.write.ensures.whole;
       unsynced = tears.unsynced;
       counts = c.write.ensures.counts;
+      calls = (WriteOf c.args.at ∷ [], one_always c.args.at, c.write.ensures.calls);
       cause = search rules;
     }

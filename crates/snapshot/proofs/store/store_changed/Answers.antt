@@ -1,6 +1,9 @@
-use Rattle.std.proofs.Common.{◌≡◌, ◌+◌, ◌∙◌, arith, rules}
+use Rattle.std.proofs.Common.{[], ◌∷◌, ◌≡◌, ◌+◌, ◌∙◌, arith, rules}
 use Rattle.std.proofs.lemmas.Result.{on_ok_weaker}
 use Rattle.sector_disk.proofs.CountLemmas.{counts_more, counts_then}
+use Rattle.sector_disk.proofs.CallLemmas.{made_since}
+use Rattle.sector_disk.specs.declared.disk_call.DiskCall.TheVariants.{WriteOf}
+use Rattle.snapshot.proofs.StoreCalls.{one_changed, none_changed}
 use Rattle.snapshot.proofs.StoreLemmas.{as_written, stays_both, read_leaves, write_leaves, held_before}
 use Rattle.snapshot.proofs.store.store_changed.Goals as goal
 
@@ -14,6 +17,7 @@ returns-in_err-read g c =
       told = λ image shows holds. c.read.ensures.counts;
       unsynced = let u = c.read.ensures.unsynced in omega (arith, u);
       counts = counts_more old.unsynced (old.unsynced + 1) old new (omega arith) c.read.ensures.counts;
+      calls = ([], none_changed c.args.at 1, record { all = search rules; begun = (0, c.read.ensures.calls) });
       cause = search rules;
     }
 
@@ -29,6 +33,7 @@ returns-then-same g c =
       told = λ image shows holds. c.read.ensures.counts;
       unsynced = let u = c.read.ensures.unsynced in omega (arith, u);
       counts = counts_more old.unsynced (old.unsynced + 1) old new (omega arith) c.read.ensures.counts;
+      calls = ([], none_changed c.args.at 1, record { all = c.read.ensures.calls; begun = (0, c.read.ensures.calls) });
       cause = search rules;
     }
 
@@ -49,5 +54,6 @@ returns-else-same g c =
           absurd (cc);
       unsynced = let u = c.read.ensures.unsynced in let t = tears.unsynced in omega (arith, u, t);
       counts = let u = c.read.ensures.unsynced in let p = c.read.ensures.passes in counts_then old.unsynced (mid.unsynced + 1) (old.unsynced + 1) old mid new (omega arith) (omega (arith, u)) p.later c.read.ensures.counts c.write.ensures.counts;
+      calls = (WriteOf c.args.at ∷ [], one_changed c.args.at, made_since (WriteOf c.args.at ∷ []) c.write.result old mid new c.read.ensures.calls c.write.ensures.calls);
       cause = search rules;
     }

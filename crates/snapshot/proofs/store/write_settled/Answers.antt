@@ -1,6 +1,8 @@
-use Rattle.std.proofs.Common.{◌+◌, max, arith, rules}
+use Rattle.std.proofs.Common.{[], ◌∷◌, ◌+◌, max, arith, rules}
 use Rattle.std.proofs.lemmas.Result.{on_ok_weaker}
 use Rattle.sector_disk.proofs.CountLemmas.{counts_more, counts_then}
+use Rattle.sector_disk.proofs.CallLemmas.{begun_first, made_then}
+use Rattle.sector_disk.specs.declared.disk_call.DiskCall.TheVariants.{WriteOf, Sync}
 use Rattle.snapshot.proofs.StoreLemmas.{settled_write, settled_sync, written_left}
 use Rattle.snapshot.proofs.store.write_settled.Goals as goal
 
@@ -13,6 +15,7 @@ returns-in_err-write g c =
       settled = search rules;
       any_moment = settled_write c.args.at c.args.sector.now old new c.requires.settled c.write.ensures.tears c.write.ensures.passes;
       counts = let s = c.requires.settled.unsynced in counts_more (old.unsynced + 1) (max old.unsynced 1) old new (omega (arith, s)) c.write.ensures.counts;
+      calls = record { all = search rules; begun = begun_first (WriteOf c.args.at ∷ []) (Sync ∷ []) old new c.write.ensures.calls.begun };
       cause = search rules;
     }
 
@@ -31,5 +34,6 @@ returns g c =
           let t = c.write.ensures.tears.unsynced in
           let p = c.write.ensures.passes in
           counts_then (old.unsynced + 1) new.unsynced (max old.unsynced 1) old new last (omega (arith, s)) (omega (arith, s, t)) p.later c.write.ensures.counts c.settle.ensures.counts;
+      calls = made_then (WriteOf c.args.at ∷ []) (Sync ∷ []) c.settle.result old new last c.in_ok-write.ensures.calls.all c.settle.ensures.calls;
       cause = search rules;
     }

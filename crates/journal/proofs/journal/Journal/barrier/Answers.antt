@@ -2,6 +2,8 @@ use Rattle.std.proofs.Common.{◌≡◌, ◌<◌, ◌≤◌, ◌+◌, ◌^◌, l
 use Rattle.std.proofs.lemmas.Bool.{eqb-false}
 use Rattle.journal.specs.rules.Packed.{sectors_for}
 use Rattle.journal.proofs.BarrierLemmas.{nothing_written, any_moment_at, durable_at, room_for, goes, goes_not}
+use Rattle.sector_disk.proofs.CallLemmas.{no_calls}
+use Rattle.journal.specs.rules.Steps.{barrier_calls}
 use Rattle.journal.proofs.journal.Journal.barrier.Goals as goal
 
 pub returns-then-self-clause-any_moment : goal.returns-then-self-clause-any_moment
@@ -84,3 +86,9 @@ returns-in-Err-clause-passes g c = goes (g.D.Disk.medium c.args.disk.now) (g.D.D
 
 pub returns-clause-passes : goal.returns-clause-passes
 returns-clause-passes g c = goes (g.D.Disk.medium c.args.disk.now) (g.D.Disk.medium c.store_packed-stored.new.disk) _ c.store_packed-stored.ensures.any_moment
+
+pub returns-then-self-clause-calls : goal.returns-then-self-clause-calls
+returns-then-self-clause-calls g c = record { all = tt; begun = no_calls (barrier_calls c.args.geometry.now c.args.self.now) (g.D.Disk.medium c.args.disk.now) }
+
+pub returns-then-count-unwritten-clause-calls : goal.returns-then-count-unwritten-clause-calls
+returns-then-count-unwritten-clause-calls g c = record { all = tt; begun = no_calls (barrier_calls c.args.geometry.now c.args.self.now) (g.D.Disk.medium c.args.disk.now) }

@@ -1,4 +1,4 @@
-use Rattle.std.proofs.Common.{inl, arith, rules}
+use Rattle.std.proofs.Common.{inl, refl, arith, rules}
 use Rattle.sector_disk.proofs.Moments.{torn_none}
 use Rattle.sector_disk.proofs.fault_disk.FaultDiskDisk.write.Goals as goal
 
@@ -12,6 +12,7 @@ returns-in-Some-Stopped-clause-writes g c = record {
     unsynced = omega arith;
   };
   counts = record { keeps = λ t n le since. since; grows = λ t n le since. inl since };
+  calls = record { all = tt; begun = (1, refl) };
   passes = search rules;
   cause = search rules;
 }

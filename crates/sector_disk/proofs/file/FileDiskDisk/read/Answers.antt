@@ -1,5 +1,5 @@
 use Rattle.std.proofs.Common.{◌≡◌, ap, subst, arith, rules}
-use Rattle.sector_disk.specs.rules.Answered.{AnsweredCalls, Explains, unsynced_of}
+use Rattle.sector_disk.specs.rules.Answered.{AnsweredCalls, Explains, unsynced_of, file_calls}
 use Rattle.sector_disk.specs.laws.Answered.{read_since, failed_since}
 use Rattle.sector_disk.proofs.CountLemmas.{answered_keeps, answered_grows}
 use Rattle.sector_disk.proofs.file.FileDiskDisk.read.Goals as goal
@@ -21,6 +21,7 @@ returns-in-Ok-clause-reads g c =
         keeps = λ t n le since. answered_keeps d.log.items c.and-self.result.items _ t n c.and-self.ensures since;
         grows = λ t n le since. answered_grows d.log.items c.and-self.result.items _ (unsynced_of d.log.items) t n c.and-self.ensures (omega arith) since;
       };
+      calls = ap file_calls c.and-self.ensures;
       passes = search rules;
       cause = search rules;
     }
@@ -42,6 +43,7 @@ returns-in-Err-clause-reads g c =
         keeps = λ t n le since. answered_keeps d.log.items c.and-self-in-Err.result.items _ t n c.and-self-in-Err.ensures since;
         grows = λ t n le since. answered_grows d.log.items c.and-self-in-Err.result.items _ (unsynced_of d.log.items) t n c.and-self-in-Err.ensures (omega arith) since;
       };
+      calls = ap file_calls c.and-self-in-Err.ensures;
       passes = search rules;
       cause = search rules;
     }

@@ -1,6 +1,6 @@
 use Rattle.std.proofs.Common.{◌≡◌, ap, sym, subst, arith, rules}
 use Rattle.sector_disk.specs.rules.Image.{Image}
-use Rattle.sector_disk.specs.rules.Answered.{AnsweredCalls, Explains, unsynced_of}
+use Rattle.sector_disk.specs.rules.Answered.{AnsweredCalls, Explains, unsynced_of, file_calls}
 use Rattle.sector_disk.specs.laws.Answered.{stays, synced_since, failed_since}
 use Rattle.sector_disk.proofs.CountLemmas.{answered_keeps, answered_grows}
 use Rattle.sector_disk.proofs.file.FileDiskDisk.sync.Goals as goal
@@ -24,6 +24,7 @@ returns-in-Ok-clause-syncs g c =
         keeps = λ t n le since. answered_keeps d.log.items c.and-self.result.items _ t n c.and-self.ensures since;
         grows = λ t n le since. answered_grows d.log.items c.and-self.result.items _ (unsynced_of d.log.items) t n c.and-self.ensures (omega arith) since;
       };
+      calls = record { all = ap file_calls c.and-self.ensures; begun = (0, ap file_calls c.and-self.ensures) };
       passes = search rules;
       cause = search rules;
     }
@@ -44,6 +45,7 @@ returns-in-Err-clause-syncs g c =
         keeps = λ t n le since. answered_keeps d.log.items c.and-self-in-Err.result.items _ t n c.and-self-in-Err.ensures since;
         grows = λ t n le since. answered_grows d.log.items c.and-self-in-Err.result.items _ (unsynced_of d.log.items) t n c.and-self-in-Err.ensures (omega arith) since;
       };
+      calls = record { all = tt; begun = (1, ap file_calls c.and-self-in-Err.ensures) };
       passes = search rules;
       cause = search rules;
     }

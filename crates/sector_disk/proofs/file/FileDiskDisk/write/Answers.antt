@@ -1,6 +1,6 @@
 use Rattle.std.proofs.Common.{◌≡◌, ◌+◌, ap, ◌∙◌, subst, arith, rules}
 use Rattle.sector_disk.specs.rules.Image.{Image}
-use Rattle.sector_disk.specs.rules.Answered.{AnsweredCalls, Explains, unsynced_of}
+use Rattle.sector_disk.specs.rules.Answered.{AnsweredCalls, Explains, unsynced_of, file_calls}
 use Rattle.sector_disk.specs.laws.Answered.{images, whole_front}
 use Rattle.sector_disk.proofs.CountLemmas.{answered_keeps, answered_grows}
 use Rattle.sector_disk.proofs.file.FileDiskDisk.write.Goals as goal
@@ -27,6 +27,7 @@ returns-in-Ok-clause-writes g c =
         keeps = λ t n le since. answered_keeps d.log.items c.and-self.result.items _ t n c.and-self.ensures since;
         grows = λ t n le since. answered_grows d.log.items c.and-self.result.items _ (unsynced_of d.log.items + 1) t n c.and-self.ensures (omega arith) since;
       };
+      calls = record { all = ap file_calls c.and-self.ensures; begun = (0, ap file_calls c.and-self.ensures) };
       passes = search rules;
       cause = search rules;
     }

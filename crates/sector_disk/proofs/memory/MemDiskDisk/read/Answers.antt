@@ -18,6 +18,7 @@ returns-clause-reads c =
       stays = search rules;
       unsynced = refl;
       counts = counts_same (memory_medium c.args.self.now) _;
+      calls = refl;
       passes = search rules;
       cause = search rules;
     }

@@ -1,5 +1,6 @@
 use Rattle.std.proofs.Common.{rules, inl, inr, ⊎_elim, ◌≡◌, length, sym, ap, ◌∙◌, subst, arith}
 use Rattle.sector_disk.specs.rules.Image.{Image, IsImage}
+use Rattle.sector_disk.specs.rules.Memory.{calls_in}
 use Rattle.sector_disk.specs.rules.Pending.{Leaves, HadLeft, replayed}
 use Rattle.sector_disk.specs.laws.Pending.{had_more, had_less, image-replayed, whole_left}
 use Rattle.sector_disk.proofs.CountLemmas.{had_keeps, had_grows}
@@ -45,6 +46,7 @@ returns-clause-syncs c =
         keeps = λ t n le since. had_keeps d.settled d.pending d.past.items c.and-past.result.items (length c.clear.new.self.items) t n c.and-past.ensures le since;
         grows = λ t n le since. had_grows d.settled d.pending d.past.items c.and-past.result.items (length c.clear.new.self.items) (length d.pending.items) t n c.and-past.ensures (omega (arith, ap length c.clear.ensures.items)) since;
       };
+      calls = record { all = ap calls_in c.and-self.ensures; begun = (0, ap calls_in c.and-self.ensures) };
       passes = search rules;
       cause = search rules;
     }

@@ -2,10 +2,12 @@ use Rattle.std.proofs.Common.{inr, ◌≡◌, ◌+◌, rules, ◌<◌, length, r
 use Rattle.std.proofs.lemmas.List.{length_push}
 use Rattle.std.proofs.lemmas.List.Elements.{All-push}
 use Rattle.sector_disk.specs.rules.Image.{Image, with_sector, IsTorn}
+use Rattle.sector_disk.specs.rules.Memory.{memory_medium, calls_in}
 use Rattle.sector_disk.specs.rules.Pending.{IsWriteWithin, Leaves}
 use Rattle.sector_disk.specs.laws.Fronts.{whole-with_front}
 use Rattle.sector_disk.specs.laws.Pending.{had_more, replayed_more, left_more, image-replayed}
-use Rattle.sector_disk.proofs.CountLemmas.{had_keeps, had_grows}
+use Rattle.sector_disk.proofs.CountLemmas.{counts_same, had_keeps, had_grows}
+use Rattle.sector_disk.proofs.Moments.{torn_none}
 use Rattle.sector_disk.proofs.MemoryLemmas.{shown_size}
 use Rattle.sector_disk.proofs.memory.MemDiskDisk.write.Goals as goal
 
@@ -46,9 +48,23 @@ returns-clause-writes c =
         keeps = λ t n le since. had_keeps d.settled d.pending d.past.items c.and-past.result.items (length c.push.new.self.items) t n c.and-past.ensures le since;
         grows = λ t n le since. had_grows d.settled d.pending d.past.items c.and-past.result.items (length c.push.new.self.items) (length d.pending.items + 1) t n c.and-past.ensures (omega arith) since;
       };
+      calls = record { all = ap calls_in c.and-self.ensures; begun = (0, ap calls_in c.and-self.ensures) };
       passes = search rules;
       cause = search rules;
     }
 
 pub returns-clause-kept : goal.returns-clause-kept
 returns-clause-kept c = λ t image le left. inr (had_more t c.args.self.now.settled c.args.self.now.pending c.args.self.now.past.items c.and-past.result.items image c.and-past.ensures le left)
+
+pub returns-then-sector-sectors-clause-writes : goal.returns-then-sector-sectors-clause-writes
+returns-then-sector-sectors-clause-writes c =
+    let m = memory_medium c.args.self.now in
+    record {
+      inside = tt;
+      whole = tt;
+      tears = record { both = λ shown image both. (shown, image, both, torn_none 512 c.args.sector c.args.from.now shown, torn_none 512 c.args.sector c.args.from.now image); unsynced = omega arith };
+      counts = counts_same m _;
+      calls = record { all = tt; begun = (1, refl) };
+      passes = search rules;
+      cause = search rules;
+    }

@@ -1,12 +1,13 @@
-use Rattle.std.proofs.Common.{◌≡◌, ◌≤◌, ◌+◌, ◌/◌, ◌∙◌, ℕ, [], length, subst, arith}
+use Rattle.std.proofs.Common.{◌≡◌, ◌≤◌, ◌+◌, ◌-◌, ◌/◌, ◌∙◌, ℕ, [], length, refl, ap, subst, arith, rules}
 use Rattle.std.proofs.lemmas.Result.{on_ok_weaker}
 use Rattle.sector_disk.specs.rules.Medium.{After, Follows, LeavesOnly}
 use Rattle.snapshot.specs.rules.Steps.{Fills, Commits, Replaces}
 use Rattle.snapshot.specs.declared.writing.Writing.TheVariants.{Changes}
-use Rattle.snapshot.specs.rules.Snapshots.{version_of, length_of, sectors_of, filled_by}
+use Rattle.snapshot.specs.rules.Snapshots.{generation_of, version_of, length_of, sectors_of, writing_of, filled_by}
 use Rattle.snapshot.specs.Writing.{SparesSectors, SparesAllButHead}
 use Rattle.disk_layout.specs.rules.Places.{area_place, rounded_up}
-use Rattle.snapshot.proofs.SpareLemmas.{spares_all_but_head, filled_within}
+use Rattle.snapshot.proofs.SpareLemmas.{spares_all_but_head, filled_within, filled_only}
+use Rattle.snapshot.proofs.StoreCalls.{none_stored, no_head, same_stores, begun_at, begun_longer, has_stored_at, head_at, head_then}
 use Rattle.sector_disk.proofs.CountLemmas.{counts_more, counts_then, unsynced_within}
 use Rattle.snapshot.proofs.SnapshotLemmas.{begun_pushed, filled_commits, committed, committed_whole}
 use Rattle.snapshot.proofs.snapshots.Snapshots.commit.Goals as goal
@@ -98,3 +99,64 @@ returns-clause-spared g c =
     let last = subst (λ (n : ℕ). SparesAllButHead (area_place geometry n) filled taken mid new) (same.generation ∙ begun.generation) two in
     subst (λ (n : ℕ). SparesAllButHead place 0 n old new) all (spares_all_but_head place 0 filled taken old mid new (omega arith) few p.later first last))
     (c.finish.ensures.spared (same.writing ∙ begun.writing))
+
+pub returns-in_err-begin-clause-calls : goal.returns-in_err-begin-clause-calls
+returns-in_err-begin-clause-calls g c =
+    let m = g.D.Disk.medium c.args.disk.now in
+    let place = area_place c.args.geometry.now c.args.generation in
+    let count = rounded_up (length c.args.image.now) in
+    let none = no_head Changes place count c.args.generation m m (none_stored Changes place count m) in
+    (none.0, none.1, record { all = search rules; begun = none.2 })
+
+pub returns-in_err-push-clause-calls : goal.returns-in_err-push-clause-calls
+returns-in_err-push-clause-calls g c =
+    let old = g.D.Disk.medium c.args.disk.now in
+    let mid = g.D.Disk.medium c.push.new.disk in
+    let geometry = c.args.geometry.now in
+    let b = c.begin.new.self in
+    let begun = c.in_ok-begin.ensures.begun in
+    let len = length c.args.image.now in
+    let none = begun.length in
+    let at = area_place geometry c.args.generation in
+    let was = area_place geometry (generation_of b) + sectors_of b in
+    let here : was ≡ at = omega (arith, ap (λ j. area_place geometry j) begun.generation, begun.sectors) in
+    let many = filled_by b len in
+    let p = c.push.ensures.calls in
+    let same = same_stores Changes (writing_of b) at was many many begun.writing here refl in
+    let one = begun_at old mid same (p.0, p.1, p.2.begun) in
+    let two = begun_longer Changes at many (rounded_up len) old mid (omega (arith, none)) one in
+    let all = no_head Changes at (rounded_up len) c.args.generation old mid two in
+    (all.0, all.1, record { all = search rules; begun = all.2 })
+
+pub returns-clause-calls : goal.returns-clause-calls
+returns-clause-calls g c =
+    let old = g.D.Disk.medium c.args.disk.now in
+    let mid = g.D.Disk.medium c.push.new.disk in
+    let new = g.D.Disk.medium c.finish.new.disk in
+    let geometry = c.args.geometry.now in
+    let b = c.begin.new.self in
+    let w = c.push.new.self in
+    let begun = c.in_ok-begin.ensures.begun in
+    let same = c.in_ok-push.ensures.same in
+    let total = c.in_ok-push.ensures.length in
+    let len = length c.args.image.now in
+    let none = begun.length in
+    let at = area_place geometry c.args.generation in
+    let was = area_place geometry (generation_of b) + sectors_of b in
+    let here : was ≡ at = omega (arith, ap (λ j. area_place geometry j) begun.generation, begun.sectors) in
+    let many = filled_by b len in
+    let filled : sectors_of w ≡ many = omega (arith, total, none, begun.sectors, filled_within w.state, filled_only w.state) in
+    let p = c.in_ok-push.ensures.calls in
+    let first = same_stores Changes (writing_of b) at was many many begun.writing here refl in
+    let one = has_stored_at old mid first (p.0, p.1, p.2.all) in
+    let g-same = same.generation ∙ begun.generation in
+    let behind = area_place geometry (generation_of w) + sectors_of w in
+    let there : behind ≡ at + many = omega (arith, ap (λ j. area_place geometry j) g-same, filled) in
+    let last = rounded_up (length_of w) - sectors_of w in
+    let second = same_stores Changes (writing_of w) (at + many) behind last last (same.writing ∙ begun.writing) there refl in
+    let head = c.args.generation in
+    let two = head_at head (generation_of w) c.finish.result mid new second g-same c.finish.ensures.calls in
+    let both = head_then Changes at many last old mid new one head c.finish.result two in
+    let all : many + last ≡ rounded_up len = omega (arith, total, none, begun.sectors, filled, filled_within w.state) in
+    let whole = same_stores Changes Changes at at (rounded_up len) (many + last) refl refl all in
+    head_at head head c.finish.result old new whole refl both

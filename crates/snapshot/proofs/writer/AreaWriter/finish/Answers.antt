@@ -1,7 +1,10 @@
-use Rattle.std.proofs.Common.{◌⊎◌, ◌≤◌, ◌+◌, ◌*◌, max, ◌∙◌, ℕ, List, length, sym, subst, arith}
+use Rattle.std.proofs.Common.{◌≡◌, ◌⊎◌, ◌≤◌, ◌+◌, ◌*◌, max, ◌-◌, ◌∙◌, ℕ, List, [], ◌∷◌, length, sym, ap, subst, arith, rules}
 use Rattle.std.proofs.lemmas.Result.{on_ok_weaker}
 use Rattle.sector_disk.specs.rules.Image.{Image, IsTorn, IsWritten}
-use Rattle.sector_disk.specs.rules.Medium.{After, Follows, LeavesOnly}
+use Rattle.sector_disk.specs.rules.Medium.{After, Follows, LeavesOnly, MakesCalls}
+use Rattle.sector_disk.specs.declared.disk_call.DiskCall.TheVariants.{WriteOf, Sync}
+use Rattle.sector_disk.proofs.CallLemmas.{made_then}
+use Rattle.snapshot.proofs.StoreCalls.{no_head}
 use Rattle.disk_layout.specs.rules.Places.{head_place, area_place, rounded_up}
 use Rattle.snapshot.specs.rules.Steps.{HoldsWithZeros, Fills, Commits, Replaces}
 use Rattle.snapshot.proofs.SpareLemmas.{spares_head}
@@ -104,3 +107,26 @@ returns-clause-spared g c = λ is.
     (λ written. spares_head place w.sectors (rounded_up (512 * w.sectors + w.filled)) c.head_place.result c.sector.result old mid new (omega (arith, c.head_place.ensures)) p.later
     (c.in_ok-store_last.ensures.spared is) written c.settle_sector.ensures.counts)
     c.settle_sector.ensures.written
+
+pub returns-in_err-store_last-clause-calls : goal.returns-in_err-store_last-clause-calls
+returns-in_err-store_last-clause-calls g c =
+    let old = g.D.Disk.medium c.args.disk.now in
+    let new = g.D.Disk.medium c.store_last.new.disk in
+    let w = c.args.self in
+    let s = c.store_last.ensures.calls in
+    let place = area_place c.args.geometry.now w.generation + w.sectors in
+    let begun = no_head w.writing place (rounded_up (512 * w.sectors + w.filled) - w.sectors) w.generation old new (s.0, s.1, s.2.begun) in
+    (begun.0, begun.1, record { all = search rules; begun = begun.2 })
+
+pub returns-clause-calls : goal.returns-clause-calls
+returns-clause-calls g c =
+    let old = g.D.Disk.medium c.args.disk.now in
+    let mid = g.D.Disk.medium c.store_last.new.disk in
+    let new = g.D.Disk.medium c.settle_sector.new.disk in
+    let w = c.args.self in
+    let s = c.in_ok-store_last.ensures.calls in
+    let r = c.settle_sector.result in
+    let k = c.head_place.result in
+    let here : k ≡ head_place w.generation = c.head_place.ensures ∙ ap (λ (n : ℕ). head_place n) c.head-head.ensures.generation in
+    let head = made_then s.0 (Sync ∷ WriteOf k ∷ Sync ∷ []) r old mid new s.2.all c.settle_sector.ensures.calls in
+    (s.0, s.1, subst (λ (j : ℕ). MakesCalls (Sync ∷ WriteOf j ∷ Sync ∷ s.0) r old new) here head)

@@ -4,6 +4,7 @@ use Rattle.disk_layout.specs.rules.Places.{area_place}
 use Rattle.snapshot.specs.rules.Steps.{Fills}
 use Rattle.snapshot.specs.declared.writing.Writing.TheVariants.{Whole, Changes}
 use Rattle.snapshot.specs.Writing.{written_length, SparesSectors, IsGiven}
+use Rattle.snapshot.proofs.StoreCalls.{HasStored}
 use Rattle.snapshot.proofs.writer.AreaWriter.push.Given as goal
 
 abbrev pub invariant-loop-at : goal.invariant-loop-at
@@ -19,6 +20,7 @@ invariant-loop-at g l =
       writing : l.self.writing ≡ l.fn.self.writing;
       whole : l.fn.self.writing ≡ Whole → now.unsynced + l.fn.self.sectors ≡ old.unsynced + l.self.sectors;
       given : (before : List ℕ) → IsGiven l.geometry old l.fn.self before → IsGiven l.geometry now l.self (before ++ take l.at l.bytes);
+      calls : (n : ℕ) × (l.self.sectors ≡ l.fn.self.sectors + n) × HasStored l.fn.self.writing (area_place l.geometry l.fn.self.generation + l.fn.self.sectors) n old now;
       unsynced : now.unsynced + l.fn.self.sectors ≤ old.unsynced + l.self.sectors;
       spared : l.fn.self.writing ≡ Changes → SparesSectors (area_place l.geometry l.fn.self.generation) l.fn.self.sectors l.self.sectors old now;
       leaves : LeavesOnly old now (After (Fills l.geometry l.fn.self.generation) old.may_leave);

@@ -1,4 +1,4 @@
-use Rattle.std.proofs.Common.{◌≡◌, ◌≤◌, ◌<◌, ◌+◌, ◌-◌, ◌*◌, ◌++◌, ◌∙◌, ℕ, List, [], take, drop, replicate, sym, ap, subst, arith}
+use Rattle.std.proofs.Common.{◌≡◌, ◌≤◌, ◌<◌, ◌+◌, ◌-◌, ◌*◌, ◌++◌, ◌∙◌, ℕ, List, [], take, drop, replicate, refl, sym, ap, subst, arith}
 use Rattle.std.proofs.lemmas.List.{append-nil, drop-replicate}
 use Rattle.std.proofs.lemmas.Result.{on_ok_weaker}
 use Rattle.sector_disk.specs.rules.Image.{IsWritten, IsTorn}
@@ -9,6 +9,8 @@ use Rattle.snapshot.specs.declared.writing.Writing.{Writing}
 use Rattle.snapshot.specs.declared.writing.Writing.TheVariants.{Changes}
 use Rattle.snapshot.specs.Store.{IsStoredAs}
 use Rattle.snapshot.specs.Writing.{SparesSectors}
+use Rattle.snapshot.specs.rules.Calls.{AreStores}
+use Rattle.snapshot.proofs.StoreCalls.{stores_none, same_stores, makes_at}
 use Rattle.snapshot.proofs.SpareLemmas.{spares_none, spares_one}
 use Rattle.snapshot.proofs.AreaLemmas.{area_in}
 use Rattle.snapshot.proofs.WriterLemmas.{store_fills, stored_more, zeros_held}
@@ -91,3 +93,25 @@ returns-clause-spared g c = λ is.
     let here = subst (λ (k : ℕ). BothFollow (IsWritten (k + w.sectors) bytes) (IsTorn (k + w.sectors) bytes) old new) c.area_place.ensures whole in
     subst (λ (n : ℕ). SparesSectors place w.sectors n old new) last (spares_one place w.sectors bytes old new inside here placed))
     c.store_sector.ensures.whole
+
+pub returns-then-self-eq0-clause-calls : goal.returns-then-self-eq0-clause-calls
+returns-then-self-eq0-clause-calls g c =
+    let m = g.D.Disk.medium c.args.disk.now in
+    let w = c.args.self.now in
+    let place = area_place c.args.geometry.now w.generation + w.sectors in
+    let none = c.if-self-eq0.true in
+    let same : 0 ≡ rounded_up (512 * w.sectors + w.filled) - w.sectors = omega (arith, none) in
+    ([], subst (λ (n : ℕ). AreStores w.writing place n []) same (stores_none w.writing place), record { all = refl; begun = (0, refl) })
+
+pub returns-clause-calls : goal.returns-clause-calls
+returns-clause-calls g c =
+    let old = g.D.Disk.medium c.args.disk.now in
+    let new = g.D.Disk.medium c.store_sector.new.disk in
+    let w = c.args.self.now in
+    let place = area_place c.args.geometry.now w.generation in
+    let some = c.if-self-eq0.false in
+    let filled = w.open in
+    let one : 1 ≡ rounded_up (512 * w.sectors + w.filled) - w.sectors = omega (arith, some, filled) in
+    let at : c.area_place.result + w.sectors ≡ place + w.sectors = omega (arith, c.area_place.ensures) in
+    let same = same_stores w.writing w.writing (place + w.sectors) (c.area_place.result + w.sectors) (rounded_up (512 * w.sectors + w.filled) - w.sectors) 1 refl at one in
+    makes_at c.store_sector.result old new same c.store_sector.ensures.calls
