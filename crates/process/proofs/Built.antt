@@ -1,6 +1,6 @@
 -- The calls that a module's imports name.
 use Rattle.std.proofs.Common.{◌≡◌, ℕ, Bool, true, false, cond, List, [], ◌∷◌, Option, Some, None, refl, sym, subst}
-use Rattle.std.specs.Prelude.{slice_get, map, reverse, IsSome}
+use Rattle.std.specs.Prelude.{slice_get, map, filter, reverse, IsSome, IsTrue}
 use Rattle.std.specs.List.{AllByRecursion, find}
 use Rattle.std.specs.Str.{bytes_eq}
 use Rattle.std.proofs.lemmas.Slice.Eq.{bytes_eq-Decides}
@@ -17,7 +17,7 @@ use Rattle.wasm_syntax_rules.proofs.Soundness.Values.{reverse_are}
 use Rattle.machine_slots.proofs.Families.{map-reverse}
 use Rattle.machine.proofs.RoutineLemmas.Made.{all_at}
 use Rattle.wasi_abi.specs.declared.call.Call.{Call}
-use Rattle.wasi_abi.specs.rules.Calls.{module_name, name_of, parameters_of, call_type_of}
+use Rattle.wasi_abi.specs.rules.Calls.{module_name, all_calls, is_built, name_of, parameters_of, call_type_of}
 use Rattle.wasi_calls.specs.rules.Calls.{IsBuilt, AreArguments}
 use Rattle.machine.specs.rules.Offers.{built_calls, offered_call, offer, imported_call, AreImportedCalls as AreOffered}
 use Rattle.machine.proofs.InstanceLemmas.Offered.{has_call}
@@ -44,8 +44,19 @@ record IsOfferedAs (from name : List ℕ) (c : Call) : Type 0 where
   pub from_is : from ≡ module_name
   pub named : IsNamed name c
 
+-- what a filter leaves passes its test
+all_pass : {A : Type 0} (test : A → Bool) (xs : List A)
+    → AllByRecursion (λ x. IsTrue (test x)) (filter test xs)
+all_pass test [] = tt
+all_pass test (x ∷ xs) = by_test (test x) refl (all_pass test xs)
+  where
+    by_test : (b : Bool) → test x ≡ b → AllByRecursion (λ y. IsTrue (test y)) (filter test xs)
+        → AllByRecursion (λ y. IsTrue (test y)) (cond b (x ∷ filter test xs) (filter test xs))
+    by_test true passes rest = (passes, rest)
+    by_test false fails rest = rest
+
 all_built : AllByRecursion IsBuilt built_calls
-all_built = (refl, (refl, tt))
+all_built = all_pass is_built all_calls
 
 of_module : (from name : List ℕ) (c : Call) (b : Bool) → bytes_eq from module_name ≡ b → cond b (find (λ d. bytes_eq (name_of d) name) built_calls) None ≡ Some c → IsOfferedAs from name c
 of_module from name c true t e = record { from_is = (bytes_eq-Decides from module_name).0 t; named = found_named name built_calls c all_built e }

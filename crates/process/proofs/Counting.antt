@@ -2,11 +2,12 @@
 use Rattle.std.proofs.Common.{◌≡◌, inl, inr, ℕ, suc, ◌+◌, ◌<◌, ◌≤◌, ◌^◌, Bool, true, false, List, [], ◌∷◌, Option, Some, None, refl, sym, ap, ◌∙◌, subst, arith}
 use Rattle.std.specs.Prelude.{Result, Ok, Err}
 use Rattle.wasm_syntax_rules.specs.Configuration.{Thread}
+use Rattle.wasi_abi.specs.declared.answer.Answer.{Answer}
 use Rattle.wasi_calls_rules.specs.Hosts.{Line}
 use Rattle.wasi_calls.specs.rules.Held.{HeldHost}
 use Rattle.machine.specs.rules.Values.{MachineValue}
 use Rattle.process_rules.specs.Processes.{ProcessState, Guest, closed_at}
-use Rattle.process_rules.specs.Runs.{Next, On, Over, Wants, Nowhere, next_of, stepped, LeadsTo, Moves}
+use Rattle.process_rules.specs.Runs.{Next, On, Over, Wants, Nowhere, next_of, taken, request_taken, stepped, LeadsTo, Moves}
 use Rattle.process_rules.specs.Owing.{RunsQuietly, none, more}
 use Rattle.process_rules.proofs.Growing.{move_counts}
 use Rattle.process.specs.declared.stop.ProcessEnd.{ProcessEnd}
@@ -39,26 +40,48 @@ closed_requests [] (f ∷ later) p = refl
 closed_requests (frame ∷ frames) [] p = refl
 closed_requests (frame ∷ frames) (f ∷ later) p = refl
 
-leads_answers : (guest : Guest) (next : Next) (p q : ProcessState) → LeadsTo guest next None p q → q.answers ≡ p.answers
-leads_answers guest (On c h) p q to =
-    let e = ap (λ (z : ProcessState). z.answers) to.2 ∙ closed_answers to.0.thread to.0.later (stepped None to.0 h p) in omega (arith, e)
-leads_answers guest (Over why c h) p q to = let e = ap (λ (z : ProcessState). z.answers) to in omega (arith, e)
-leads_answers guest (Wants kind) p q to = absurd to
-leads_answers guest Nowhere p q to = absurd to
+leads_answers : (guest : Guest) (next : Next) (given : Option Answer) (p q : ProcessState)
+    → LeadsTo guest next given p q → q.answers ≡ p.answers + taken given
+leads_answers guest (On c h) given p q to =
+    ap (λ (z : ProcessState). z.answers) to.2
+    ∙ closed_answers to.0.thread to.0.later (stepped given to.0 h p)
+leads_answers guest (Over why c h) given p q to = ap (λ (z : ProcessState). z.answers) to
+leads_answers guest (Wants kind) given p q to = absurd to
+leads_answers guest Nowhere given p q to = absurd to
 
-leads_requests : (guest : Guest) (next : Next) (p q : ProcessState) → LeadsTo guest next None p q → q.requests ≡ p.requests
-leads_requests guest (On c h) p q to =
-    let e = ap (λ (z : ProcessState). z.requests) to.2 ∙ closed_requests to.0.thread to.0.later (stepped None to.0 h p) in omega (arith, e)
-leads_requests guest (Over why c h) p q to = let e = ap (λ (z : ProcessState). z.requests) to in omega (arith, e)
-leads_requests guest (Wants kind) p q to = absurd to
-leads_requests guest Nowhere p q to = absurd to
+leads_requests : (guest : Guest) (next : Next) (given : Option Answer) (p q : ProcessState)
+    → LeadsTo guest next given p q → q.requests ≡ p.requests + request_taken given
+leads_requests guest (On c h) given p q to =
+    ap (λ (z : ProcessState). z.requests) to.2
+    ∙ closed_requests to.0.thread to.0.later (stepped given to.0 h p)
+leads_requests guest (Over why c h) given p q to = ap (λ (z : ProcessState). z.requests) to
+leads_requests guest (Wants kind) given p q to = absurd to
+leads_requests guest Nowhere given p q to = absurd to
+
+-- one step later, with an answer or without
+pub record CountedBy (given : Option Answer) (p q : ProcessState) : Type 0 where
+  pub steps : q.steps ≡ p.steps + 1
+  pub answers : q.answers ≡ p.answers + taken given
+  pub requests : q.requests ≡ p.requests + request_taken given
+
+pub counted_by : (guest : Guest) (given : Option Answer) (p q : ProcessState)
+    → Moves guest p given q → CountedBy given p q
+counted_by guest given p q moves = record {
+  steps = move_counts guest p q given moves;
+  answers = leads_answers guest (next_of guest p given) given p q moves.leads;
+  requests = leads_requests guest (next_of guest p given) given p q moves.leads;
+}
 
 move_counted : (guest : Guest) (p q : ProcessState) → Moves guest p None q → Counted p q 1
-move_counted guest p q moves = record {
-  steps = move_counts guest p q None moves;
-  answers = leads_answers guest (next_of guest p None) p q moves.leads;
-  requests = leads_requests guest (next_of guest p None) p q moves.leads;
-}
+move_counted guest p q moves =
+    let by = counted_by guest None p q moves in
+    let answers = by.answers in
+    let requests = by.requests in
+    record {
+      steps = by.steps;
+      answers = omega (arith, answers);
+      requests = omega (arith, requests);
+    }
 
 counted_on : (p m q : ProcessState) (n k : ℕ) → Counted p m n → Counted m q k → Counted p q (n + k)
 counted_on p m q n k a b =

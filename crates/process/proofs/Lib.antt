@@ -8,4 +8,5 @@ pub mod Stretching
 pub mod Counting
 pub mod Looping
 pub mod Starting
-pub mod Asking
+pub mod Waiting
+pub mod Giving

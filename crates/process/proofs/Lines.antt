@@ -64,6 +64,9 @@ less_when a b e = ltb-true a b e
 pub more_when : (a b : ℕ) → ltb a b ≡ false → b ≤ a
 more_when a b e = grind (arith, nat_tests)
 
+pub below_when : (a b : ℕ) → a ≤ b → a ≢ b → a < b
+below_when a b within apart = grind arith
+
 pub empty_when : (lines : List Line) → (length lines == 0) ≡ true → lines ≡ []
 empty_when [] e = refl
 empty_when (line ∷ lines) e = let none : length (line ∷ lines) ≡ 0 = eqb-true (length (line ∷ lines)) 0 e in absurd (omega (arith, none))

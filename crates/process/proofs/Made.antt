@@ -47,9 +47,9 @@ module _ (old mid : MachineValue) (old_held mid_held : HeldHost) (c : Call) (arg
 
   -- ---- a call that is over
 
-  module _ (built : IsBuilt c) (typed : AreArguments (parameters_of c) arguments) (error : Option Errno) (called : HasCalled old old_held c arguments given (outcome.Done error) mid mid_held) where
+  module _ (typed : AreArguments (parameters_of c) arguments) (error : Option Errno) (called : HasCalled old old_held c arguments given (outcome.Done error) mid mid_held) where
     goes : (guest : Guest) (p : ProcessState) → ShowsParts old old_held guest p → (at : IsAtCall guest p.configuration c arguments) → GoesOnGiven guest p c arguments at given mid.state.memory mid_held (error_number error)
-    goes guest p shows at = goes_on guest p c arguments at given built typed error mid.state.memory mid_held old_held shows.host (told_at (outcome.Done error) called guest p shows)
+    goes guest p shows at = goes_on guest p c arguments at given typed error mid.state.memory mid_held old_held shows.host (told_at (outcome.Done error) called guest p shows)
 
     pub waits_for : WaitsAtCall old old_held c arguments → WaitsFor (call_results (Some (error_number error))) mid
     waits_for w =

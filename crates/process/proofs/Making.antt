@@ -57,18 +57,34 @@ IsOver (Err (Refuses e)) = Unit {0}
 IsOver (Err (Ends code)) = ⊥
 IsOver (Err (Wishes kind)) = ⊥
 
-exit_over : (code : ℕ) (r : Ruling) → Err (Ends code) ≡ r → IsOver r → ⊥
-exit_over code (Ok done) e over = cc
-exit_over code (Err (Refuses f)) e over = cc
-exit_over code (Err (Ends c)) e over = over
-exit_over code (Err (Wishes kind)) e over = over
+-- every call but the end of the process gives one
+pub gives_number : (c : Call) → c ≢ call.ProcExit → GivesNumber c
+gives_number call.ProcExit other = absurd (other refl)
+gives_number _ other = record { gives = λ n. refl; typed = λ n small. (small, tt) }
 
-pub gives_number : (c : Call) → IsBuilt c → (arguments : List ℕ) → AreArguments (parameters_of c) arguments → (given : Option Answer) (m : Bytes) (h : Host) (r : Ruling) → row c arguments given m h ≡ r → IsOver r → GivesNumber c
-gives_number call.FdWrite built arguments typed given m h r e over = record { gives = λ n. refl; typed = λ n small. (small, tt) }
-gives_number call.ProcExit built [] typed given m h r e over = absurd typed
-gives_number call.ProcExit built (code ∷ []) typed given m h r e over = absurd (exit_over code r e over)
-gives_number call.ProcExit built (code ∷ n ∷ rest) typed given m h r e over = absurd typed.1
-gives_number _ built arguments typed given m h r e over = absurd (cc)
+-- with its one argument the end of the process is never over
+exit_not_over : (arguments : List ℕ) → AreArguments (parameters_of call.ProcExit) arguments
+    → (given : Option Answer) (m : Bytes) (h : Host) (r : Ruling)
+    → row call.ProcExit arguments given m h ≡ r → IsOver r → ⊥
+exit_not_over [] typed given m h r e over = typed
+exit_not_over (code ∷ []) typed given m h (Ok done) e over = absurd (cc)
+exit_not_over (code ∷ []) typed given m h (Err (Refuses f)) e over = absurd (cc)
+exit_not_over (code ∷ []) typed given m h (Err (Ends c)) e over = over
+exit_not_over (code ∷ []) typed given m h (Err (Wishes kind)) e over = over
+exit_not_over (code ∷ n ∷ rest) typed given m h r e over = typed.1
+
+-- so a call that is over gives its number
+over_gives : (c : Call) (arguments : List ℕ) → AreArguments (parameters_of c) arguments
+    → (given : Option Answer) (m : Bytes) (h : Host) (r : Ruling) → row c arguments given m h ≡ r
+    → IsOver r → GivesNumber c
+over_gives c arguments typed given m h r e over = gives_number c (λ is. not_exit c is typed e)
+  where
+    not_exit : (d : Call) → d ≡ call.ProcExit → AreArguments (parameters_of d) arguments
+        → row d arguments given m h ≡ r → ⊥
+    not_exit d is typed_d e_d =
+        let P : Call → Type 0 = λ z. AreArguments (parameters_of z) arguments in
+        let Q : Call → Type 0 = λ z. row z arguments given m h ≡ r in
+        exit_not_over arguments (subst P is typed_d) given m h r (subst Q is e_d) over
 
 -- ---- at a call
 
@@ -90,10 +106,10 @@ module _ (guest : Guest) (p : ProcessState) (c : Call) (arguments : List ℕ) (a
     pub shows : ShowsHost held host
     pub gives : GivesNumber c
 
-  module _ (built : IsBuilt c) (typed : AreArguments (parameters_of c) arguments) where
+  module _ (typed : AreArguments (parameters_of c) arguments) where
     pub goes_on : (error : Option Errno) (m : Bytes) (held old : HeldHost) → ShowsHost old p.host → ShowsRow (IsDone error) m held p.configuration.store.memory old (row c arguments given p.configuration.store.memory p.host) → GoesOnGiven m held (error_number error)
     goes_on None m held old shows told =
-        let number = gives_number c built arguments typed given p.configuration.store.memory p.host (Ok told.0) told.1 tt in
+        let number = over_gives c arguments typed given p.configuration.store.memory p.host (Ok told.0) told.1 tt in
         record {
           host = told.0.host;
           next = next_is (Ok told.0) told.1
@@ -103,7 +119,7 @@ module _ (guest : Guest) (p : ProcessState) (c : Call) (arguments : List ℕ) (a
           gives = number;
         }
     goes_on (Some e) m held old shows told =
-        let number = gives_number c built arguments typed given p.configuration.store.memory p.host (Err (Refuses e)) told.0 tt in
+        let number = over_gives c arguments typed given p.configuration.store.memory p.host (Err (Refuses e)) told.0 tt in
         record {
           host = p.host;
           next = next_is (Err (Refuses e)) told.0

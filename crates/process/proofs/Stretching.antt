@@ -33,7 +33,7 @@ use Rattle.process.specs.declared.turn.Stretch.{Stretch}
 use Rattle.process.specs.rules.Values.{ending_of}
 use Rattle.process.specs.Parts.{ShowsParts, IsAtCall, WaitsAtCall}
 use Rattle.process.specs.Stretches.{ComesOn, ComesBy, ComesToShown, StepsAt, stop_after}
-use Rattle.process.proofs.Built.{same_calls, call_built, arguments_typed}
+use Rattle.process.proofs.Waiting.{at_call, is_built, are_typed}
 use Rattle.process.proofs.Lines.{same_lines, other_lines}
 
 -- ---- joining
@@ -146,24 +146,13 @@ module _ (old new : MachineValue) (held : HeldHost) (same : IsSameMachine old ne
       asks_open e = let stuck = no_rule guest.program a.configuration e in let asks = h.1.asks in cc
 
       pub is_at : IsAtCall guest a.configuration c arguments
-      is_at =
-          let asks = h.1 in
-          let same_list : asks.calls ≡ guest.calls = same_calls new.guest.imports asks.calls guest.calls asks.are_calls calls_still in
-          record {
-            function = asks.function;
-            operands = asks.operands;
-            waits = asks.waits;
-            asks = asks.asks;
-            is_call = ap (λ (cs : List Call). slice_get cs asks.function) (sym same_list) ∙ asks.is_call;
-            is_host = asks.is_host;
-            are = asks.are;
-          }
+      is_at = at_call new guest calls_still a.configuration c arguments h.1
 
-      pub is_built : IsBuilt c
-      is_built = call_built new.guest.imports h.1.calls h.1.function c h.1.are_calls h.1.is_call
+      pub call_is_built : IsBuilt c
+      call_is_built = is_built new guest calls_still a.configuration c arguments h.1
 
-      pub are_typed : AreArguments (parameters_of c) arguments
-      are_typed = let P : List ℕ → Type 0 = λ ns. AreArguments (parameters_of c) ns in subst P (sym h.1.are) (arguments_typed c h.1.operands h.1.typed)
+      pub call_is_typed : AreArguments (parameters_of c) arguments
+      call_is_typed = are_typed new guest calls_still a.configuration c arguments h.1
 
       pub waits_at : WaitsAtCall new held c arguments
       waits_at = record { guest = guest; process = ran a.configuration a.steps; shows = ran_shows a asks_open; running = running; at = is_at }

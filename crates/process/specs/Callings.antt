@@ -23,7 +23,7 @@ use Rattle.wasi_calls.specs.rules.Calls.{told_of, ShowsRow, EndsNothing, IsAsLar
 use Rattle.machine.specs.rules.Answers.{call_results}
 use Rattle.machine.specs.rules.Values.{MachineValue, ShowsIn, memory_of, with_memory}
 use Rattle.process_rules.specs.Processes.{Ending, ProcessState, Guest, HasLineNumbers}
-use Rattle.process_rules.specs.Runs.{Wants, next_of, LeadsTo}
+use Rattle.process_rules.specs.Runs.{Wants, next_of, LeadsTo, IsWanted}
 use Rattle.process_rules.specs.Behind.{Syncs}
 use Rattle.process.specs.declared.calling.Called.{Called}
 use Rattle.process.specs.declared.calling.Called.TheVariants as called
@@ -33,7 +33,7 @@ use Rattle.process.specs.declared.stop.ProcessEnd.{ProcessEnd}
 use Rattle.process.specs.declared.stop.ProcessEnd.TheVariants as end
 use Rattle.process.specs.rules.Values.{ending_of}
 use Rattle.process.specs.Parts.{ShowsParts, IsAtCall}
-use Rattle.process.specs.rules.Stops.{EndsNot, LacksNumbers}
+use Rattle.process.specs.rules.Stops.{EndsNot, CallsHost, LacksNumbers}
 
 -- it leads to a process that is then shown, and has ended so
 pub record LeadsToProcess (machine : MachineValue) (held : HeldHost) (guest : Guest) (p : ProcessState) (given : Option Answer) (how : Option Ending) : Type 0 where
@@ -120,3 +120,26 @@ HasFinished old old_held number ended new held =
     (program : Program) (d : Configuration) (f : ℕ) (operands : List Value) (waits : Thread) (kind : FunctionType) (h : Host)
     → ShowsIn old program d → rule program d ≡ Asks f operands waits → slice_get program.functions f ≡ Some (IsHost kind) → AreOf (gives_of kind) (call_results (Some number)) → ShowsHost old_held h
     → FinishesAt new held program (answered d old.state.memory (call_results (Some number)) waits) h ended
+
+-- ---- answers
+
+-- The answer is the one that is wanted, and the call is made with it. Or it isn't, there is no memory
+-- for the call, or its lines can't be numbered: then nothing changes.
+abbrev pub AnswersFor : MachineValue → HeldHost → MachineValue → HeldHost → Guest → ProcessState
+    → Answer → Result (Option ProcessEnd) ProcessFault → Type 0
+AnswersFor old old_held new held guest p answer (Ok ended) =
+    IsWanted guest p (Some answer)
+    × LeadsToProcess new held guest p (Some answer) (option_map ending_of ended)
+AnswersFor old old_held new held guest p answer (Err fault.WrongAnswer) =
+    (new ≡ old) × (held ≡ old_held) × (IsWanted guest p (Some answer) → ⊥)
+AnswersFor old old_held new held guest p answer (Err fault.Memory) =
+    (new ≡ old) × (held ≡ old_held) × CallsHost guest p
+AnswersFor old old_held new held guest p answer (Err fault.StepsSpent) =
+    (new ≡ old) × (held ≡ old_held) × LacksNumbers (next_of guest p (Some answer))
+
+-- whichever process was shown that has not ended
+abbrev pub AnswersCall : MachineValue → HeldHost → Answer
+    → Result (Option ProcessEnd) ProcessFault → MachineValue → HeldHost → Type 0
+AnswersCall old old_held answer result new held =
+    (guest : Guest) (p : ProcessState) → ShowsParts old old_held guest p → p.ended ≡ None
+    → AnswersFor old old_held new held guest p answer result

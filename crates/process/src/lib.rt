@@ -34,6 +34,7 @@
 //! whole step.
 #![tactic(auto)]
 
+mod answering;
 mod calling;
 mod fault;
 pub mod laws;

@@ -2,8 +2,8 @@
 
 ghost use Rattle.std.specs.Prelude.{◌≡◌, ◌+◌, ◌<◌, ◌≤◌, ◌^◌};
 ghost use Rattle.process.specs.rules.Stops.{is_spent, told};
-ghost use Rattle.process.specs.rules.Values.{IsProcess};
 
+use crate::answering::{answer_call, count_requests};
 use crate::calling::NUMBERS_END;
 use crate::fault::ProcessFault;
 use crate::process::Process;
@@ -41,13 +41,6 @@ fn report_stop(stop: Result<Stop, ProcessFault>, is_cut: bool) -> Result<Stop, P
     stop
 }
 
-/// What holds of a process by its type.
-fn is_process(process: &Process)
-    ensures { IsProcess process.now }
-{
-    let _ = process.steps();
-}
-
 impl Process {
     ghost use Rattle.process.specs.rules.Stops.{AdvancesProcess, GivesAnswer};
 
@@ -70,15 +63,23 @@ impl Process {
         report_stop(stretch.stop, most < fuel)
     }
 
-    /// Takes the step that wants an answer, with this one. While a line waits to be released, every
-    /// answer is a wrong one. After an error nothing has changed, and nothing ran. No call that is
-    /// built wants an answer, so that every one is a wrong one yet.
+    /// Takes the step that wants an answer, with this one. While a line waits to be released, and
+    /// once the process has ended, every answer is a wrong one. After an error nothing has changed,
+    /// and nothing runs.
     pub fn give(&mut self, answer: Answer) -> Result<(), ProcessFault>
         ensures gives { GivesAnswer self.old answer result self.new }
         ensures released { self.new.host.released ≡ self.old.host.released }
     {
-        let _ = answer;
-        is_process(self);
-        Err(ProcessFault::WrongAnswer)
+        if !self.host.waiting_lines().is_empty() || self.ended.is_some() {
+            return Err(ProcessFault::WrongAnswer);
+        }
+        if self.steps + 1 == NUMBERS_END {
+            return Err(ProcessFault::StepsSpent);
+        }
+        self.ended = answer_call(self.alloc, &mut self.machine, &mut self.host, &answer)?;
+        self.steps += 1;
+        self.answers += 1;
+        self.requests += count_requests(&answer);
+        Ok(())
     }
 }

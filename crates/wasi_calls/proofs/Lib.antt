@@ -11,3 +11,4 @@ pub mod Files
 pub mod SmallInFront
 pub mod Told
 pub mod RowsInFront
+pub mod Wishes

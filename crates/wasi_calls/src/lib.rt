@@ -11,9 +11,10 @@
 //! - `call` has no want of memory for a call that ends the process (`wants`), is refused, or asks
 //!   for an answer (`told`, `shown`). It asks for a built call with arguments of its types
 //!   (`built`, `typed`).
-//! - `wish`: the answer that a call wants before it can be made, or none.
 //! - `lines_begun`: how many lines such a call adds if it is done, unfinished ones counted
 //!   (`count`), and else none (`none`). They are at most `MOVED_BYTES` (`few`).
+//! - `wanted_answer`: the answer from outside that a call wants before it can be made. That is the one
+//!   that its rule asks for, of every host that is shown.
 //! - `Host::new` is the first host of the rules. `waiting_lines` and `released_count` are its
 //!   lines.
 //! - `Host::release` takes lines off, and `Host::end` emits what is not finished (`changed`). Both
@@ -23,7 +24,7 @@
 //!
 //! # Definitions to read
 //!
-//! `specs/rules/Calls.antt`: `IsBuilt`, `AreArguments`, `ShowsRow`, `EndsNothing`.
+//! `specs/rules/Calls.antt`: `IsBuilt`, `AreArguments`, `ShowsRow`, `wish_of`, `EndsNothing`.
 //! `specs/rules/Held.antt`: `HeldHost` and `ShowsHost`, which say which hosts of the rules the code's
 //! host is. The rules themselves are `row` and `Host` of `wasi_calls_rules`.
 //!
@@ -54,8 +55,10 @@ mod outcome;
 mod status;
 mod stop;
 mod streams;
+mod wish;
 
 pub use calls::call;
 pub use host::Host;
 pub use line::Line;
 pub use outcome::CallOutcome;
+pub use wish::wanted_answer;

@@ -5,6 +5,7 @@ use Rattle.wasm_syntax.specs.declared.types.ValueType.TheVariants.{I32, I64}
 use Rattle.guest_memory.specs.rules.Memories.{LinearMemory}
 use Rattle.wasi_abi.specs.declared.answer.Answer.{Answer}
 use Rattle.wasi_abi.specs.declared.errno.Errno.{Errno}
+use Rattle.wasi_abi.specs.declared.answer.Kind.{Kind}
 use Rattle.wasi_abi.specs.declared.call.Call.{Call}
 use Rattle.wasi_abi.specs.rules.Calls.{is_built}
 use Rattle.wasi_calls_rules.specs.Hosts.{Host}
@@ -55,6 +56,13 @@ ShowsRow (IsDone (Some e)) m held old_m old row = (row ≡ Err (Refuses e)) × (
 ShowsRow (IsAsk kind) m held old_m old row = (row ≡ Err (Asks kind)) × (m ≡ old_m) × (held ≡ old)
 ShowsRow (IsExit code) m held old_m old row = (row ≡ Err (Ends code)) × (m ≡ old_m) × (held ≡ old)
 ShowsRow NoMemory m held old_m old row = IsNoRefusal row × (m ≡ old_m) × (held ≡ old)
+
+-- the answer from outside that a row asks for
+abbrev pub wish_of : Ruling → Option Kind
+wish_of (Err (Asks kind)) = Some kind
+wish_of (Err (Refuses e)) = None
+wish_of (Err (Ends code)) = None
+wish_of (Ok done) = None
 
 -- the call with these arguments doesn't end the process, whatever host, memory and answer it has
 abbrev pub EndsNothing : Call → List ℕ → Type 0

@@ -99,6 +99,13 @@ impl Host {
         self.streams.unfinished_lines()
     }
 
+    /// The most bytes of a request's text, and of the random bytes that a call may want.
+    pub fn limit(&self) -> usize
+        ensures { result ≡ self.now.host.limit }
+    {
+        self.limit
+    }
+
     /// The lines that wait to be released, in the order in which they were emitted.
     pub fn waiting_lines(&self) -> &[Line]
         ensures lines { result.now ≡ self.now.host.lines }

@@ -16,7 +16,7 @@ returns-then-not-has_numbers-clause-calls c = λ guest p shows running at. (
 
 pub finish-ended-requires-clause-waits : goal.finish-ended-requires-clause-waits
 finish-ended-requires-clause-waits c =
-    waits_for c.args.machine.now c.call_host.new.machine c.args.host.now c.call_host.new.host c.args.call c.args.arguments.now (option_copied c.args.answer) c.requires.built c.requires.typed c.in-Done.error c.in-Done.ensures.made c.requires.waits
+    waits_for c.args.machine.now c.call_host.new.machine c.args.host.now c.call_host.new.host c.args.call c.args.arguments.now (option_copied c.args.answer) c.requires.typed c.in-Done.error c.in-Done.ensures.made c.requires.waits
 
 pub finish-ended-requires-clause-few : goal.finish-ended-requires-clause-few
 finish-ended-requires-clause-few c =
@@ -27,7 +27,7 @@ finish-ended-requires-clause-few c =
 
 pub returns-in-Done-clause-calls : goal.returns-in-Done-clause-calls
 returns-in-Done-clause-calls c = λ guest p shows running at. (
-  done_leads c.args.machine.now c.call_host.new.machine c.args.host.now c.call_host.new.host c.args.call c.args.arguments.now (option_copied c.args.answer) c.requires.built c.requires.typed c.in-Done.error c.in-Done.ensures.made
+  done_leads c.args.machine.now c.call_host.new.machine c.args.host.now c.call_host.new.host c.args.call c.args.arguments.now (option_copied c.args.answer) c.requires.typed c.in-Done.error c.in-Done.ensures.made
       c.finish-ended.new.machine c.finish-ended.new.host c.finish-ended.result c.finish-ended.ensures.finishes c.finish-ended.ensures.same guest p shows at,
   tells_done c.args.machine.now c.call_host.new.machine c.args.host.now c.call_host.new.host c.args.call c.args.arguments.now (option_copied c.args.answer) c.has_synced-synced.result c.in-Done.error c.has_synced-synced.ensures c.in-Done.ensures.made guest p shows running at,
 )

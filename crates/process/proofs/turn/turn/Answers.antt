@@ -7,7 +7,7 @@ use Rattle.process.specs.Parts.{WaitsAtCall}
 use Rattle.process.specs.declared.turn.Stretch.{Stretch}
 use Rattle.process.specs.Stretches.{StepsAt, ComesToShown}
 use Rattle.process.proofs.Counting.{comes_within}
-use Rattle.process.proofs.Stretching.{left_within, spent, is_built, are_typed, waits_at, stepped_on, returned, trapped}
+use Rattle.process.proofs.Stretching.{left_within, spent, call_is_built, call_is_typed, waits_at, stepped_on, returned, trapped}
 use Rattle.process.proofs.turn.turn.Goals as goal
 
 pub overflow_sub-ran : goal.overflow_sub-ran
@@ -20,7 +20,7 @@ step-next-requires-clause-built c =
     let r = c.requires.runs in
     let P : Pause → Type 0 = λ why. RunsFor c.run-why.new.self r.guest.program r.process.configuration c.args.fuel c.run-why.result.left why in
     let h = subst P c.in-Host.is (c.run-why.ensures.runs r.guest.program r.process.configuration r.shows.configuration) in
-    is_built c.args.machine.now c.run-why.new.self c.args.host.now c.run-why.ensures.same r.guest r.process r.shows r.running c.args.fuel c.run-why.result.left c.in-Host.asked.call c.in-Host.asked.arguments h
+    call_is_built c.args.machine.now c.run-why.new.self c.args.host.now c.run-why.ensures.same r.guest r.process r.shows r.running c.args.fuel c.run-why.result.left c.in-Host.asked.call c.in-Host.asked.arguments h
 
 pub step-next-requires-clause-typed : goal.step-next-requires-clause-typed
 step-next-requires-clause-typed c =
@@ -28,7 +28,7 @@ step-next-requires-clause-typed c =
     let P : Pause → Type 0 = λ why. RunsFor c.run-why.new.self r.guest.program r.process.configuration c.args.fuel c.run-why.result.left why in
     let h = subst P c.in-Host.is (c.run-why.ensures.runs r.guest.program r.process.configuration r.shows.configuration) in
     let Q : List ℕ → Type 0 = λ ns. AreArguments (parameters_of c.in-Host.asked.call) ns in
-    subst Q (sym c.as_slice-arguments.ensures) (are_typed c.args.machine.now c.run-why.new.self c.args.host.now c.run-why.ensures.same r.guest r.process r.shows r.running c.args.fuel c.run-why.result.left c.in-Host.asked.call c.in-Host.asked.arguments h)
+    subst Q (sym c.as_slice-arguments.ensures) (call_is_typed c.args.machine.now c.run-why.new.self c.args.host.now c.run-why.ensures.same r.guest r.process r.shows r.running c.args.fuel c.run-why.result.left c.in-Host.asked.call c.in-Host.asked.arguments h)
 
 pub step-next-requires-clause-waits : goal.step-next-requires-clause-waits
 step-next-requires-clause-waits c =

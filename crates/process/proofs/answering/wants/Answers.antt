@@ -1,0 +1,20 @@
+use Rattle.std.proofs.Common.{◌≡◌, ℕ, List, Option, None, Some, refl, sym, ap, ◌∙◌, subst}
+use Rattle.wasi_abi.specs.declared.answer.Kind.{Kind}
+use Rattle.guest_memory.specs.rules.Memories.{LinearMemory}
+use Rattle.wasi_calls_rules.specs.Hosts.{Host}
+use Rattle.wasi_calls_rules.specs.Rows.{row}
+use Rattle.wasi_calls.specs.rules.Held.{ShowsHost}
+use Rattle.wasi_calls.specs.rules.Calls.{wish_of}
+use Rattle.process.proofs.Waiting.{wants_that}
+use Rattle.process.proofs.answering.wants.Goals as goal
+
+pub returns-in-Some : goal.returns-in-Some
+returns-in-Some c = λ guest p shows at.
+    let told : (h : Host) → ShowsHost c.args.host.now h → Some c.in-Some.kind
+    ≡ wish_of (row c.args.call c.args.arguments.now None c.args.machine.now.state.memory h) =
+    λ h s. sym c.in-Some.is ∙ c.wanted_answer.ensures h s
+    ∙ ap (λ (m : LinearMemory). wish_of (row c.args.call c.args.arguments.now None m.bytes h))
+    c.memory.ensures in
+    wants_that guest p c.args.call c.args.arguments.now at c.args.machine.now c.args.host.now shows
+    c.in-Some.kind told c.args.answer.now c.limit.result c.limit.ensures c.fits.result
+    c.fits.ensures
