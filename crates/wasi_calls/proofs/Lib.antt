@@ -8,4 +8,6 @@ pub mod LinesInFront
 pub mod FewLines
 pub mod Emitted
 pub mod Walks
+pub mod GivenPaths
+pub mod Parts
 pub mod Entries
