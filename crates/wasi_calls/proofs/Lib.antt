@@ -11,3 +11,5 @@ pub mod Walks
 pub mod GivenPaths
 pub mod Parts
 pub mod Entries
+pub mod Files
+pub mod SmallInFront
