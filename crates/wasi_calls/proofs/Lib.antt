@@ -13,3 +13,5 @@ pub mod Parts
 pub mod Entries
 pub mod Files
 pub mod SmallInFront
+pub mod Told
+pub mod RowsInFront
