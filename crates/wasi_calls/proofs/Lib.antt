@@ -7,8 +7,13 @@ pub mod WrittenRows
 pub mod LinesInFront
 pub mod FewLines
 pub mod Emitted
+pub mod Walks
+pub mod GivenPaths
+pub mod Parts
+pub mod Entries
 pub mod Files
 pub mod SmallInFront
 pub mod Told
 pub mod RowsInFront
 pub mod Wishes
+pub mod PathsInFront

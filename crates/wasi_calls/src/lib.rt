@@ -52,6 +52,7 @@ mod line;
 mod memory;
 mod offsets;
 mod outcome;
+mod paths;
 mod status;
 mod stop;
 mod streams;
