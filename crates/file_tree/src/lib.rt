@@ -5,8 +5,9 @@
 //! - `is_name` is true exactly of the names that a node may have (`IsNodeName`).
 //! - `Tree::new` is the fresh tree, an empty root. `Tree` is a file system at any time (`len`:
 //!   `shape`).
-//! - `is_directory`, `size`, `used_bytes`, `has_path`, `child`, `entry`, `is_empty`, `is_within`,
-//!   `next` and `len` answer what the definitions do. `entry` goes by the order of names.
+//! - `is_directory`, `size`, `used_bytes`, `chunks`, `has_path`, `child`, `entry`, `is_empty`,
+//!   `is_within`, `next` and `len` answer what the definitions do. `entry` goes by the order of
+//!   names.
 //! - `parent` gives the directory above a node (`above`), or says that there is none (`none`).
 //!   `name` gives the last name of its path (`last`). `read` copies as many bytes as there are and
 //!   fit (`bytes`).
@@ -14,6 +15,7 @@
 //!   `resized`). After an error nothing has changed (`unchanged`).
 //! - `write`, `remove`, `forget`, `rename` make the change of the definitions. They can't fail.
 //!   `write` puts bytes in the place of others: `resize` makes room first.
+//! - Files lie in chunks of 4,096 bytes, as many as their bytes need. `chunks` counts them.
 //! - Whoever changes a tree has tested first what the `requires` clauses ask, as `free` and
 //!   `room`.
 //! - `laws::renaming_moves_a_subtree`: a rename moves what lies below a path, and no other path.
@@ -21,13 +23,14 @@
 //! # Definitions to read
 //!
 //! In `specs/rules/`: `Files`, `IsFiles`, `child`, `entries_of`, `created`, `removed`,
-//! `forgotten`, `renamed`, `written`, `resized` (`Files.antt`); `IsFree`, `CanLose`, `CanMove`,
-//! `IsParent`, `read_from` (`Changes.antt`). All other files of `specs/` say how the code keeps
-//! nodes.
+//! `forgotten`, `renamed` (`Files.antt`); `written`, `resized` (`Bytes.antt`); `chunks_of`
+//! (`Chunks.antt`); `IsFree`, `CanLose`, `CanMove`, `IsParent`, `read_from` (`Changes.antt`). All
+//! other files of `specs/` say how the code keeps nodes and bytes.
 //!
 //! # Who may touch what
 //!
-//! Only this crate knows that nodes lie in a slab, and that each names its directory by number.
+//! Only this crate knows that nodes lie in a slab, that each names its directory by number, and
+//! that a file's bytes lie in chunks, which the file owns.
 //! `wasi_calls_rules`, `wasi_calls`, `process_rules` and `state_image` use its definitions. No
 //! crate of this repository calls the code yet, and it stands on none. `new`, `create`,
 //! `resize` and `ByteList::copy_of` take memory, and want of it is the only error.

@@ -65,6 +65,20 @@ fn forget_node(tree: &mut Tree, number: u64) {
     }
 }
 
+fn set_size(tree: &mut Tree, number: u64, size: u64) -> Result<(), AllocError> {
+    if tree.is_directory(number) || size > 8_192 {
+        return Ok(());
+    }
+    tree.resize(number, size)
+}
+
+fn put_bytes(tree: &mut Tree, number: u64, from: u64, bytes: &[u8]) {
+    let size = tree.size(number);
+    if !tree.is_directory(number) && from <= size && bytes.len() as u64 <= size - from {
+        tree.write(number, from, bytes);
+    }
+}
+
 #[test]
 fn changes_with_memory(rt: HostRuntime) -> Result<(), AllocError> {
     let mut tree = Tree::new(rt.alloc())?;
@@ -95,5 +109,26 @@ fn changes_with_memory(rt: HostRuntime) -> Result<(), AllocError> {
     assert_eq!(rt; tree.used_bytes(), 0);
     let again = make_node(rt.alloc(), &mut tree, 1, b"a", NodeKind::File)?;
     assert_eq!(rt; again, 4);
+    Ok(())
+}
+
+#[test]
+fn bytes_that_were_cut_off_are_zeros(rt: HostRuntime) -> Result<(), AllocError> {
+    let mut tree = Tree::new(rt.alloc())?;
+    let file = make_node(rt.alloc(), &mut tree, 1, b"a", NodeKind::File)?;
+    set_size(&mut tree, file, 5_000)?;
+    put_bytes(&mut tree, file, 0, &[b'a'; 5_000]);
+    assert_eq!(rt; tree.chunks(), 2);
+    set_size(&mut tree, file, 4_100)?;
+    set_size(&mut tree, file, 5_000)?;
+    let mut bytes = [7; 6];
+    assert_eq!(rt; tree.read(file, 4_094, &mut bytes), 6);
+    assert_eq!(rt; bytes, [b'a'; 6]);
+    assert_eq!(rt; tree.read(file, 4_098, &mut bytes), 6);
+    assert_eq!(rt; bytes, [b'a', b'a', 0, 0, 0, 0]);
+    assert_eq!(rt; tree.read(file, 4_997, &mut bytes), 3);
+    assert_eq!(rt; bytes, [0; 6]);
+    set_size(&mut tree, file, 4_096)?;
+    assert_eq!(rt; tree.chunks(), 1);
     Ok(())
 }

@@ -2,7 +2,7 @@
 
 ghost use Rattle.std.specs.Prelude.{◌≡◌, ◌+◌, ◌*◌, ◌-◌, ◌<◌, ◌≤◌, ◌^◌, ◌%◌, ◌++◌, length, take, drop, replicate, IfOk};
 ghost use Rattle.std.specs.List.{concat};
-ghost use Rattle.file_tree.specs.declared.limits.TheConstants.{CHUNK_BYTES as BYTES};
+ghost use Rattle.file_tree.specs.declared.limits.TheConstants.{CHUNK_BYTES};
 ghost use Rattle.file_tree.specs.rules.Chunks.{chunks_for};
 ghost use Rattle.file_tree.specs.Store.Chunked.{overlaid, AreFull};
 
@@ -18,19 +18,19 @@ pub struct Chunk {
 
 impl Model for Chunk {
     ghost use Rattle.std.specs.Prelude.{◌≡◌, ℕ, List, length};
-    ghost use Rattle.file_tree.specs.declared.limits.TheConstants.{CHUNK_BYTES as BYTES};
+    ghost use Rattle.file_tree.specs.declared.limits.TheConstants.{CHUNK_BYTES};
 
     ghost Value = { List ℕ };
 
     ghost view = { λ c. c.items.items };
 
-    ghost invariant = { λ c. length c.items.items ≡ BYTES };
+    ghost invariant = { λ c. length c.items.items ≡ CHUNK_BYTES };
 }
 
 impl Chunk {
     /// A chunk of zeros. Only want of memory makes it fail.
     pub fn zeros(alloc: Global) -> Result<Self, AllocError>
-        ensures { IfOk result (λ c. c ≡ replicate BYTES 0) }
+        ensures { IfOk result (λ c. c ≡ replicate CHUNK_BYTES 0) }
     {
         Ok(Chunk {
             items: vec![in alloc; 0; CHUNK_BYTES]?,
@@ -40,39 +40,39 @@ impl Chunk {
     /// All bytes.
     pub fn as_slice(&self) -> &[u8]
         ensures bytes { result.now ≡ self.now }
-        ensures full { length self.now ≡ BYTES }
+        ensures full { length self.now ≡ CHUNK_BYTES }
     {
         self.items.as_slice()
     }
 
     /// Puts bytes in the place of others.
     pub fn write(&mut self, from: usize, bytes: &[u8])
-        requires { from + length bytes.now ≤ BYTES }
+        requires { from + length bytes.now ≤ CHUNK_BYTES }
         ensures { self.new ≡ overlaid self.old from bytes.now }
     {
         self.put(from, bytes);
     }
 
     fn put(&mut self, from: usize, bytes: &[u8])
-        requires { from + length bytes.now ≤ BYTES }
+        requires { from + length bytes.now ≤ CHUNK_BYTES }
         ensures put { self.new ≡ take from self.old ++ (bytes.now ++ drop (from + length bytes.now) self.old) }
-        ensures full { length self.old ≡ BYTES }
+        ensures full { length self.old ≡ CHUNK_BYTES }
     {
         self.items[from..from + bytes.len()].copy_from_slice(bytes);
     }
 
     /// Makes all bytes from one on zeros.
     pub fn clear(&mut self, from: usize)
-        requires { from ≤ BYTES }
-        ensures { self.new ≡ overlaid self.old from (replicate (BYTES - from) 0) }
+        requires { from ≤ CHUNK_BYTES }
+        ensures { self.new ≡ overlaid self.old from (replicate (CHUNK_BYTES - from) 0) }
     {
         self.put_zeros(from);
     }
 
     fn put_zeros(&mut self, from: usize)
-        requires { from ≤ BYTES }
-        ensures put { self.new ≡ take from self.old ++ replicate (BYTES - from) 0 }
-        ensures full { length self.old ≡ BYTES }
+        requires { from ≤ CHUNK_BYTES }
+        ensures put { self.new ≡ take from self.old ++ replicate (CHUNK_BYTES - from) 0 }
+        ensures full { length self.old ≡ CHUNK_BYTES }
     {
         zero(&mut self.items[from..]);
     }
@@ -87,7 +87,7 @@ fn zero(items: &mut [u8])
 
 /// So many chunks of zeros. Only want of memory makes it fail.
 pub fn zero_chunks(alloc: Global, count: usize) -> Result<Vec<Chunk>, AllocError>
-    ensures { IfOk result (λ chunks. chunks.items ≡ replicate count (replicate BYTES 0)) }
+    ensures { IfOk result (λ chunks. chunks.items ≡ replicate count (replicate CHUNK_BYTES 0)) }
 {
     let mut chunks = Vec::with_capacity(alloc, count)?;
     for _ in 0..count {
@@ -98,7 +98,7 @@ pub fn zero_chunks(alloc: Global, count: usize) -> Result<Vec<Chunk>, AllocError
 
 /// How many chunks a file of so many bytes has.
 pub fn chunks_of_size(size: usize) -> usize
-    requires { size + BYTES ≤ 2 ^ 64 }
+    requires { size + CHUNK_BYTES ≤ 2 ^ 64 }
     ensures { result ≡ chunks_for size }
 {
     (size + (CHUNK_BYTES - 1)) / CHUNK_BYTES
@@ -108,7 +108,7 @@ pub fn chunks_of_size(size: usize) -> usize
 fn piece(from: usize, most: usize) -> usize
     ensures some { 0 < most → 0 < result }
     ensures most { result ≤ most }
-    ensures chunk { from % BYTES + result ≤ BYTES }
+    ensures chunk { from % CHUNK_BYTES + result ≤ CHUNK_BYTES }
 {
     let room = CHUNK_BYTES - from % CHUNK_BYTES;
     if most < room { most } else { room }
@@ -118,7 +118,7 @@ fn piece(from: usize, most: usize) -> usize
 fn write_piece(chunks: &mut Vec<Chunk>, from: usize, bytes: &[u8]) -> usize
     requires full { AreFull chunks.old.items }
     requires some { 0 < length bytes.now }
-    requires within { from + length bytes.now ≤ length chunks.old.items * BYTES }
+    requires within { from + length bytes.now ≤ length chunks.old.items * CHUNK_BYTES }
     ensures some { 0 < result }
     ensures most { result ≤ length bytes.now }
     ensures full { AreFull chunks.new.items }
@@ -134,7 +134,7 @@ fn write_piece(chunks: &mut Vec<Chunk>, from: usize, bytes: &[u8]) -> usize
 pub fn write_chunks(chunks: &mut Vec<Chunk>, from: usize, bytes: &[u8])
     requires full { AreFull chunks.old.items }
     requires fits { from + length bytes.now < 2 ^ 64 }
-    requires within { from + length bytes.now ≤ length chunks.old.items * BYTES }
+    requires within { from + length bytes.now ≤ length chunks.old.items * CHUNK_BYTES }
     ensures full { AreFull chunks.new.items }
     ensures count { length chunks.new.items ≡ length chunks.old.items }
     ensures written { concat chunks.new.items ≡ overlaid (concat chunks.old.items) from bytes.now }
@@ -148,11 +148,11 @@ pub fn write_chunks(chunks: &mut Vec<Chunk>, from: usize, bytes: &[u8])
 /// Makes all bytes from one on zeros, in the chunk in which it lies.
 pub fn clear_chunk(chunks: &mut Vec<Chunk>, from: usize)
     requires full { AreFull chunks.old.items }
-    requires within { from ≤ length chunks.old.items * BYTES }
-    requires last { length chunks.old.items * BYTES < from + BYTES }
+    requires within { from ≤ length chunks.old.items * CHUNK_BYTES }
+    requires last { length chunks.old.items * CHUNK_BYTES < from + CHUNK_BYTES }
     ensures full { AreFull chunks.new.items }
     ensures count { length chunks.new.items ≡ length chunks.old.items }
-    ensures cleared { concat chunks.new.items ≡ take from (concat chunks.old.items) ++ replicate (length chunks.old.items * BYTES - from) 0 }
+    ensures cleared { concat chunks.new.items ≡ take from (concat chunks.old.items) ++ replicate (length chunks.old.items * CHUNK_BYTES - from) 0 }
 {
     let start = from % CHUNK_BYTES;
     if start > 0 {
@@ -164,7 +164,7 @@ pub fn clear_chunk(chunks: &mut Vec<Chunk>, from: usize)
 fn read_piece(chunks: &Vec<Chunk>, from: usize, into: &mut [u8]) -> usize
     requires full { AreFull chunks.now.items }
     requires some { 0 < length into.old }
-    requires within { from + length into.old ≤ length chunks.now.items * BYTES }
+    requires within { from + length into.old ≤ length chunks.now.items * CHUNK_BYTES }
     ensures some { 0 < result }
     ensures most { result ≤ length into.old }
     ensures bytes { into.new ≡ take result (drop from (concat chunks.now.items)) ++ drop result into.old }
@@ -180,7 +180,7 @@ fn read_piece(chunks: &Vec<Chunk>, from: usize, into: &mut [u8]) -> usize
 pub fn read_chunks(chunks: &Vec<Chunk>, from: usize, into: &mut [u8])
     requires full { AreFull chunks.now.items }
     requires fits { from + length into.old < 2 ^ 64 }
-    requires within { from + length into.old ≤ length chunks.now.items * BYTES }
+    requires within { from + length into.old ≤ length chunks.now.items * CHUNK_BYTES }
     ensures { into.new ≡ take (length into.old) (drop from (concat chunks.now.items)) }
 {
     let mut done = 0;
