@@ -7,3 +7,4 @@ pub mod WrittenRows
 pub mod LinesInFront
 pub mod FewLines
 pub mod Emitted
+pub mod Listings

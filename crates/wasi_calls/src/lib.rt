@@ -40,6 +40,7 @@ mod descriptor;
 mod host;
 pub mod laws;
 mod line;
+mod listing;
 mod memory;
 mod offsets;
 mod outcome;

@@ -1,6 +1,7 @@
 //! The host's side of a process.
 
 mod descriptors;
+mod entries;
 mod files;
 
 ghost use Rattle.std.specs.Prelude.{◌≡◌, ◌+◌, ◌*◌, ◌<◌, ◌≤◌, ◌^◌, ◌++◌, length, IfOk, OnOk, OnErr};
