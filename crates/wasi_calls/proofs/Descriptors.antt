@@ -9,8 +9,9 @@ use Rattle.wasi_abi.specs.rules.Numbers.{has_right, fd_write_right, input_rights
 use Rattle.wasi_abi.specs.declared.errno.Errno.TheVariants.{Badf, Notcapable}
 use Rattle.wasi_calls_rules.specs.Hosts.{Target, Stream, Node, Descriptor, Host, stream, first_descriptors, IsThere, IsDescriptor, IsHost}
 use Rattle.wasi_calls_rules.specs.Checks.{◌>>=◌, check_or, some_or, flat, is_stream, open_descriptor, names_directory}
-use Rattle.wasi_calls_rules.proofs.Tables.{is_descriptor}
-use Rattle.wasi_calls_rules.proofs.KeepsHosts.{stands}
+use Rattle.wasi_calls_rules.specs.Small.{with_descriptor}
+use Rattle.wasi_calls_rules.proofs.Tables.{is_descriptor, IsLike}
+use Rattle.wasi_calls_rules.proofs.KeepsHosts.{stands, like_host}
 
 -- one more that is not open
 pub one_more : (X : Type 0) (front items after : List X) (x : X) (n : ℕ) → 4 ≤ n → items ≡ front ++ replicate (n - 4) x → after ≡ items ++ x ∷ [] → after ≡ front ++ replicate (n + 1 - 4) x
@@ -48,3 +49,21 @@ pub same_open : (h : Host) (fd : ℕ) (d e : Descriptor) → open_descriptor h f
 same_open h fd d e o there =
     let both : Some (Some e) ≡ Some (Some d) = sym there ∙ is_open h fd d o in
     cc
+
+pub descriptor_at : (h : Host) (n : ℕ) (d : Descriptor) → IsHost h
+    → slice_get h.descriptors n ≡ Some (Some d) → IsDescriptor h.files d
+descriptor_at h n d is there = is_descriptor h.files h.descriptors n d (stands h is).table there
+
+-- a descriptor is given other flags
+pub flagged_host : (h : Host) (fd flags : ℕ) (d : Descriptor) → IsHost h
+    → slice_get h.descriptors fd ≡ Some (Some d) → flags ≤ 31
+    → IsHost (with_descriptor fd (record d { flags = flags }) h)
+flagged_host h fd flags d is there few =
+    let own = descriptor_at h fd d is there in
+    like_host h fd d (record d { flags = flags }) is there (record {
+      target = refl;
+      base = refl;
+      inheriting = refl;
+      offset = own.offset;
+      flags = few;
+    })

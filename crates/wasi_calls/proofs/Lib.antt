@@ -8,3 +8,4 @@ pub mod LinesInFront
 pub mod FewLines
 pub mod Emitted
 pub mod Listings
+pub mod Files

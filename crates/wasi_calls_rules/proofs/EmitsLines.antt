@@ -1,6 +1,6 @@
 -- Each call that is done emits lines behind those that were there. Only a write to a stream emits any.
-use Rattle.std.proofs.Common.{◌≡◌, ℕ, ◌*◌, List, [], ◌∷◌, ◌++◌, length, take, refl, sym, ◌∙◌, append_assoc}
-use Rattle.std.specs.Prelude.{Bool, true, false, if◌then◌else◌, ◌==◌, not, ◌&&◌, ◌||◌, nat_lt, nat_le, Option, Some, None, is_some, pos, ◌+ℤ◌}
+use Rattle.std.proofs.Common.{◌≡◌, ℕ, ◌*◌, List, [], ◌∷◌, ◌++◌, ◌≤◌, length, take, refl, sym, ◌∙◌, append_assoc, arith, length-take}
+use Rattle.std.specs.Prelude.{Bool, true, false, if◌then◌else◌, ◌==◌, not, ◌&&◌, ◌||◌, nat_lt, nat_le, Option, Some, None, is_some, Ok, pos, ◌+ℤ◌}
 use Rattle.std.specs.Int.{w64, cast_signed}
 use Rattle.std.proofs.lemmas.List.{append-nil}
 use Rattle.file_tree.specs.rules.Files.{Name, is_directory, bytes_of_node}
@@ -20,7 +20,7 @@ use Rattle.wasi_calls_rules.specs.Small.{call_done, with_zeros, texts_get, texts
 use Rattle.wasi_calls_rules.specs.Moving.{Got, bytes_taken, input_taken, has_bytes, input_read, target_read, fd_read, fd_pread, size_after, file_written, write_offset, offset_after, target_written, fd_write, fd_pwrite}
 use Rattle.wasi_calls_rules.specs.Entries.{fd_readdir, placed, whole_path, a_free_node, path_create_directory, path_filestat_get, is_directory_empty, path_remove_directory, path_unlink_file, is_within_node, gives_way, without_target, is_same_node, renamed_to, path_rename, free_number, Wish, opened_there, opened_new, opened_at, path_open}
 use Rattle.wasi_calls_rules.specs.Rows.{row}
-use Rattle.wasi_calls_rules.specs.declared.limits.TheConstants.{LINE_BYTES}
+use Rattle.wasi_calls_rules.specs.declared.limits.TheConstants.{LINE_BYTES, MOVED_BYTES}
 use Rattle.wasi_calls_rules.specs.laws.Laws.{Emits, RowsEmit}
 use Rattle.wasi_calls_rules.proofs.Steps.{HoldsAfter, refused, done_with, step, next, either_way, leaf}
 
@@ -66,263 +66,314 @@ stream_emits s bytes h = either (s == 1) where
       let longer = all_longer 2 (record { lines = h.lines; unfinished = h.second }) bytes in
       record { lines = longer.lines; are = longer.are }
 
--- ---- the rules
+-- ---- what a call leaves of the lines
 
-abbrev EmitsBy : Host → Done → Type 0
-EmitsBy h d = Emits h d.host
+-- the lines, and what is unfinished, are as they were
+pub record KeepsLines (before after : Host) : Type 0 where
+  pub lines : after.lines ≡ before.lines
+  pub first : after.first ≡ before.first
+  pub second : after.second ≡ before.second
 
-abbrev EmitsByRead : Host → Got → Type 0
-EmitsByRead h got = Emits h got.host
+same_lines : (before after : Host) → after.lines ≡ before.lines → after.first ≡ before.first
+    → after.second ≡ before.second → KeepsLines before after
+same_lines before after lines first second =
+    record { lines = lines; first = first; second = second }
+
+-- or bytes were written to a stream, no more than a call moves
+pub data WritesFew (before after : Host) : Type 0 where
+  keeps : KeepsLines before after → WritesFew before after
+  writes : (s : ℕ) (bytes : Bytes) → length bytes ≤ MOVED_BYTES
+      → after ≡ stream_written s bytes before → WritesFew before after
+
+abbrev KeepsBy : Host → Done → Type 0
+KeepsBy h d = KeepsLines h d.host
+
+abbrev KeepsByRead : Host → Got → Type 0
+KeepsByRead h got = KeepsLines h got.host
+
+abbrev pub WritesFewBy : Host → Done → Type 0
+WritesFewBy h d = WritesFew h d.host
 
 module _ (m : Bytes) (h : Host) where
-  kept : (now : Bytes) (after : Host) → after.lines ≡ h.lines → HoldsAfter (EmitsBy h) (call_done now after)
-  kept now after same = done_with (EmitsBy h) (record { memory = now; host = after }) (emits_none h after same)
+  kept : (now : Bytes) (after : Host) → after.lines ≡ h.lines → after.first ≡ h.first
+      → after.second ≡ h.second → HoldsAfter (KeepsBy h) (call_done now after)
+  kept now after lines first second =
+      done_with (KeepsBy h) (record { memory = now; host = after })
+      (same_lines h after lines first second)
 
-  texts_get_emits : (texts : List Bytes) (array buf : ℕ) → HoldsAfter (EmitsBy h) (texts_get texts array buf m h)
-  texts_get_emits texts array buf =
-      next (in_memory m array (4 * length texts)) _ (λ _. next (in_memory m buf (length (with_zeros texts))) _ (λ _. kept _ h refl))
+  texts_get_keeps : (texts : List Bytes) (array buf : ℕ) → HoldsAfter (KeepsBy h) (texts_get texts array buf m h)
+  texts_get_keeps texts array buf =
+      next (in_memory m array (4 * length texts)) _ (λ _. next (in_memory m buf (length (with_zeros texts))) _ (λ _. kept _ h refl refl refl))
 
-  texts_sizes_get_emits : (texts : List Bytes) (count size : ℕ) → HoldsAfter (EmitsBy h) (texts_sizes_get texts count size m h)
-  texts_sizes_get_emits texts count size = next (in_memory m count 4) _ (λ _. next (in_memory m size 4) _ (λ _. kept _ h refl))
+  texts_sizes_get_keeps : (texts : List Bytes) (count size : ℕ) → HoldsAfter (KeepsBy h) (texts_sizes_get texts count size m h)
+  texts_sizes_get_keeps texts count size = next (in_memory m count 4) _ (λ _. next (in_memory m size 4) _ (λ _. kept _ h refl refl refl))
 
-  clock_res_get_emits : (id ret : ℕ) → HoldsAfter (EmitsBy h) (clock_res_get id ret m h)
-  clock_res_get_emits id ret = next (check_or (nat_le id 1) Inval) _ (λ _. next (in_memory m ret 8) _ (λ _. kept _ h refl))
+  clock_res_get_keeps : (id ret : ℕ) → HoldsAfter (KeepsBy h) (clock_res_get id ret m h)
+  clock_res_get_keeps id ret = next (check_or (nat_le id 1) Inval) _ (λ _. next (in_memory m ret 8) _ (λ _. kept _ h refl refl refl))
 
-  time_put_emits : (a : Answer) (ret : ℕ) → HoldsAfter (EmitsBy h) (time_put a ret m h)
-  time_put_emits (answer.Monotonic n) ret = kept _ _ refl
-  time_put_emits (answer.Realtime n) ret = kept _ h refl
-  time_put_emits _ ret = refused _ (Refuses Inval)
+  time_put_keeps : (a : Answer) (ret : ℕ) → HoldsAfter (KeepsBy h) (time_put a ret m h)
+  time_put_keeps (answer.Monotonic n) ret = kept _ _ refl refl refl
+  time_put_keeps (answer.Realtime n) ret = kept _ h refl refl refl
+  time_put_keeps _ ret = refused _ (Refuses Inval)
 
-  clock_time_get_emits : (id ret : ℕ) (given : Option Answer) → HoldsAfter (EmitsBy h) (clock_time_get id ret given m h)
-  clock_time_get_emits id ret given =
-      next (check_or (nat_le id 1) Inval) _ (λ _. next (in_memory m ret 8) _ (λ _. next (answered_by h (clock_kind id) given) _ (λ a. time_put_emits a ret)))
+  clock_time_get_keeps : (id ret : ℕ) (given : Option Answer) → HoldsAfter (KeepsBy h) (clock_time_get id ret given m h)
+  clock_time_get_keeps id ret given =
+      next (check_or (nat_le id 1) Inval) _ (λ _. next (in_memory m ret 8) _ (λ _. next (answered_by h (clock_kind id) given) _ (λ a. time_put_keeps a ret)))
 
   -- ---- descriptors
 
-  fd_close_emits : (fd : ℕ) → HoldsAfter (EmitsBy h) (fd_close fd m h)
-  fd_close_emits fd = next (open_descriptor h fd) _ (λ d. next (check_or (not (fd == 3)) Notcapable) _ (λ _. kept m _ refl))
+  fd_close_keeps : (fd : ℕ) → HoldsAfter (KeepsBy h) (fd_close fd m h)
+  fd_close_keeps fd = next (open_descriptor h fd) _ (λ d. next (check_or (not (fd == 3)) Notcapable) _ (λ _. kept m _ refl refl refl))
 
-  fd_syncs_emits : (right fd : ℕ) → HoldsAfter (EmitsBy h) (fd_syncs right fd m h)
-  fd_syncs_emits right fd = next (open_descriptor h fd) _ (λ d. next (with_right right d) _ (λ _. kept m h refl))
+  fd_syncs_keeps : (right fd : ℕ) → HoldsAfter (KeepsBy h) (fd_syncs right fd m h)
+  fd_syncs_keeps right fd = next (open_descriptor h fd) _ (λ d. next (with_right right d) _ (λ _. kept m h refl refl refl))
 
-  fd_fdstat_get_emits : (fd ret : ℕ) → HoldsAfter (EmitsBy h) (fd_fdstat_get fd ret m h)
-  fd_fdstat_get_emits fd ret = next (open_descriptor h fd) _ (λ d. next (in_memory m ret 24) _ (λ _. kept _ h refl))
+  fd_fdstat_get_keeps : (fd ret : ℕ) → HoldsAfter (KeepsBy h) (fd_fdstat_get fd ret m h)
+  fd_fdstat_get_keeps fd ret = next (open_descriptor h fd) _ (λ d. next (in_memory m ret 24) _ (λ _. kept _ h refl refl refl))
 
-  fd_fdstat_set_flags_emits : (fd flags : ℕ) → HoldsAfter (EmitsBy h) (fd_fdstat_set_flags fd flags m h)
-  fd_fdstat_set_flags_emits fd flags =
-      next (open_descriptor h fd) _ (λ d. next (with_right fd_fdstat_set_flags_right d) _ (λ _. next (check_or (nat_le flags 31) Inval) _ (λ _. kept m _ refl)))
+  fd_fdstat_set_flags_keeps : (fd flags : ℕ) → HoldsAfter (KeepsBy h) (fd_fdstat_set_flags fd flags m h)
+  fd_fdstat_set_flags_keeps fd flags =
+      next (open_descriptor h fd) _ (λ d. next (with_right fd_fdstat_set_flags_right d) _ (λ _. next (check_or (nat_le flags 31) Inval) _ (λ _. kept m _ refl refl refl)))
 
-  fd_filestat_get_emits : (fd ret : ℕ) → HoldsAfter (EmitsBy h) (fd_filestat_get fd ret m h)
-  fd_filestat_get_emits fd ret =
-      next (open_descriptor h fd) _ (λ d. next (with_right fd_filestat_get_right d) _ (λ _. next (in_memory m ret 64) _ (λ _. kept _ h refl)))
+  fd_filestat_get_keeps : (fd ret : ℕ) → HoldsAfter (KeepsBy h) (fd_filestat_get fd ret m h)
+  fd_filestat_get_keeps fd ret =
+      next (open_descriptor h fd) _ (λ d. next (with_right fd_filestat_get_right d) _ (λ _. next (in_memory m ret 64) _ (λ _. kept _ h refl refl refl)))
 
-  fd_filestat_set_size_emits : (fd size : ℕ) → HoldsAfter (EmitsBy h) (fd_filestat_set_size fd size m h)
-  fd_filestat_set_size_emits fd size =
+  fd_filestat_set_size_keeps : (fd size : ℕ) → HoldsAfter (KeepsBy h) (fd_filestat_set_size fd size m h)
+  fd_filestat_set_size_keeps fd size =
       next (open_descriptor h fd) _ (λ d. next (a_file h d) _ (λ _. next (with_right fd_filestat_set_size_right d) _ (λ _.
-      next (roomy h (node_named d.target) size) _ (λ _. kept m _ refl))))
+      next (roomy h (node_named d.target) size) _ (λ _. kept m _ refl refl refl))))
 
-  fd_prestat_get_emits : (fd ret : ℕ) → HoldsAfter (EmitsBy h) (fd_prestat_get fd ret m h)
-  fd_prestat_get_emits fd ret = next (open_descriptor h fd) _ (λ d. next (in_memory m ret 8) _ (λ _. next (check_or (fd == 3) Badf) _ (λ _. kept _ h refl)))
+  fd_prestat_get_keeps : (fd ret : ℕ) → HoldsAfter (KeepsBy h) (fd_prestat_get fd ret m h)
+  fd_prestat_get_keeps fd ret = next (open_descriptor h fd) _ (λ d. next (in_memory m ret 8) _ (λ _. next (check_or (fd == 3) Badf) _ (λ _. kept _ h refl refl refl)))
 
-  fd_prestat_dir_name_emits : (fd path len : ℕ) → HoldsAfter (EmitsBy h) (fd_prestat_dir_name fd path len m h)
-  fd_prestat_dir_name_emits fd path len =
+  fd_prestat_dir_name_keeps : (fd path len : ℕ) → HoldsAfter (KeepsBy h) (fd_prestat_dir_name fd path len m h)
+  fd_prestat_dir_name_keeps fd path len =
       next (open_descriptor h fd) _ (λ d. next (in_memory m path 1) _ (λ _. next (check_or (fd == 3) Badf) _ (λ _. next (check_or (not (len == 0)) Nametoolong) _ (λ _.
-      kept _ h refl))))
+      kept _ h refl refl refl))))
 
-  fd_seek_emits : (fd delta whence ret : ℕ) → HoldsAfter (EmitsBy h) (fd_seek fd delta whence ret m h)
-  fd_seek_emits fd delta whence ret =
+  fd_seek_keeps : (fd delta whence ret : ℕ) → HoldsAfter (KeepsBy h) (fd_seek fd delta whence ret m h)
+  fd_seek_keeps fd delta whence ret =
       next (open_descriptor h fd) _ (λ d. next (a_file h d) _ (λ _. next (with_right fd_seek_right d) _ (λ _. next (check_or (nat_le whence 2) Inval) _ (λ _.
-      next (in_memory m ret 8) _ (λ _. next (file_offset (pos (seek_base h d whence) +ℤ cast_signed w64 delta)) _ (λ offset. kept _ _ refl))))))
+      next (in_memory m ret 8) _ (λ _. next (file_offset (pos (seek_base h d whence) +ℤ cast_signed w64 delta)) _ (λ offset. kept _ _ refl refl refl))))))
 
-  fd_tell_emits : (fd ret : ℕ) → HoldsAfter (EmitsBy h) (fd_tell fd ret m h)
-  fd_tell_emits fd ret =
-      next (open_descriptor h fd) _ (λ d. next (a_file h d) _ (λ _. next (with_right fd_tell_right d) _ (λ _. next (in_memory m ret 8) _ (λ _. kept _ h refl))))
+  fd_tell_keeps : (fd ret : ℕ) → HoldsAfter (KeepsBy h) (fd_tell fd ret m h)
+  fd_tell_keeps fd ret =
+      next (open_descriptor h fd) _ (λ d. next (a_file h d) _ (λ _. next (with_right fd_tell_right d) _ (λ _. next (in_memory m ret 8) _ (λ _. kept _ h refl refl refl))))
 
-  random_put_emits : (a : Answer) (buf : ℕ) → HoldsAfter (EmitsBy h) (random_put a buf m h)
-  random_put_emits (answer.Random bytes) buf = kept _ h refl
-  random_put_emits _ buf = refused _ (Refuses Inval)
+  random_put_keeps : (a : Answer) (buf : ℕ) → HoldsAfter (KeepsBy h) (random_put a buf m h)
+  random_put_keeps (answer.Random bytes) buf = kept _ h refl refl refl
+  random_put_keeps _ buf = refused _ (Refuses Inval)
 
-  random_get_emits : (buf len : ℕ) (given : Option Answer) → HoldsAfter (EmitsBy h) (random_get buf len given m h)
-  random_get_emits buf len given =
+  random_get_keeps : (buf len : ℕ) (given : Option Answer) → HoldsAfter (KeepsBy h) (random_get buf len given m h)
+  random_get_keeps buf len given =
       next (check_or (nat_le len h.limit) Inval) _ (λ _. next (in_memory m buf len) _ (λ _.
-      either_way (len == 0) _ _ (kept m h refl) (next (answered_by h (kind.Random len) given) _ (λ a. random_put_emits a buf))))
+      either_way (len == 0) _ _ (kept m h refl refl refl) (next (answered_by h (kind.Random len) given) _ (λ a. random_put_keeps a buf))))
 
   -- ---- reads and writes
 
-  input_taken_emits : (n : ℕ) (a : Answer) → HoldsAfter (EmitsByRead h) (input_taken n a h)
-  input_taken_emits n (answer.Request text) = done_with (EmitsByRead h) (bytes_taken n (text ++ newline ∷ []) h) (emits_none h _ refl)
-  input_taken_emits n answer.End = done_with (EmitsByRead h) _ (emits_none h _ refl)
-  input_taken_emits n _ = refused _ (Refuses Inval)
+  input_taken_keeps : (n : ℕ) (a : Answer) → HoldsAfter (KeepsByRead h) (input_taken n a h)
+  input_taken_keeps n (answer.Request text) = done_with (KeepsByRead h) (bytes_taken n (text ++ newline ∷ []) h) (same_lines h _ refl refl refl)
+  input_taken_keeps n answer.End = done_with (KeepsByRead h) _ (same_lines h _ refl refl refl)
+  input_taken_keeps n _ = refused _ (Refuses Inval)
 
-  input_read_emits : (n : ℕ) (given : Option Answer) → HoldsAfter (EmitsByRead h) (input_read n given h)
-  input_read_emits n given =
-      either_way (n == 0) _ _ (done_with (EmitsByRead h) (record { bytes = []; host = h }) (emits_none h h refl))
-      (either_way (has_bytes h.unread) _ _ (done_with (EmitsByRead h) (bytes_taken n h.unread h) (emits_none h _ refl))
-      (either_way h.input_ended _ _ (done_with (EmitsByRead h) (record { bytes = []; host = h }) (emits_none h h refl))
-      (next (answered_by h kind.Request given) _ (λ a. input_taken_emits n a))))
+  input_read_keeps : (n : ℕ) (given : Option Answer) → HoldsAfter (KeepsByRead h) (input_read n given h)
+  input_read_keeps n given =
+      either_way (n == 0) _ _ (done_with (KeepsByRead h) (record { bytes = []; host = h }) (same_lines h h refl refl refl))
+      (either_way (has_bytes h.unread) _ _ (done_with (KeepsByRead h) (bytes_taken n h.unread h) (same_lines h _ refl refl refl))
+      (either_way h.input_ended _ _ (done_with (KeepsByRead h) (record { bytes = []; host = h }) (same_lines h h refl refl refl))
+      (next (answered_by h kind.Request given) _ (λ a. input_taken_keeps n a))))
 
-  target_read_emits : (t : Target) (fd : ℕ) (d : Descriptor) (n : ℕ) (given : Option Answer) → HoldsAfter (EmitsByRead h) (target_read t fd d n given h)
-  target_read_emits (Stream i) fd d n given = input_read_emits n given
-  target_read_emits (Node k) fd d n given = done_with (EmitsByRead h) _ (emits_none h _ refl)
+  target_read_keeps : (t : Target) (fd : ℕ) (d : Descriptor) (n : ℕ) (given : Option Answer) → HoldsAfter (KeepsByRead h) (target_read t fd d n given h)
+  target_read_keeps (Stream i) fd d n given = input_read_keeps n given
+  target_read_keeps (Node k) fd d n given = done_with (KeepsByRead h) _ (same_lines h _ refl refl refl)
 
-  fd_read_emits : (fd iovs count ret : ℕ) (given : Option Answer) → HoldsAfter (EmitsBy h) (fd_read fd iovs count ret given m h)
-  fd_read_emits fd iovs count ret given =
+  fd_read_keeps : (fd iovs count ret : ℕ) (given : Option Answer) → HoldsAfter (KeepsBy h) (fd_read fd iovs count ret given m h)
+  fd_read_keeps fd iovs count ret given =
       next (open_descriptor h fd) _ (λ d. next (no_directory h d) _ (λ _. next (with_right fd_read_right d) _ (λ _. next (few_buffers count) _ (λ _.
       next (buffers m iovs count) _ (λ bs. next (in_memory m ret 4) _ (λ _.
-      step (EmitsByRead h) (target_read d.target fd d (movable bs) given h) _ (target_read_emits d.target fd d (movable bs) given)
-      (λ got emits. done_with (EmitsBy h) _ emits)))))))
+      step (KeepsByRead h) (target_read d.target fd d (movable bs) given h) _ (target_read_keeps d.target fd d (movable bs) given)
+      (λ got emits. done_with (KeepsBy h) _ emits)))))))
 
-  fd_pread_emits : (fd iovs count offset ret : ℕ) → HoldsAfter (EmitsBy h) (fd_pread fd iovs count offset ret m h)
-  fd_pread_emits fd iovs count offset ret =
+  fd_pread_keeps : (fd iovs count offset ret : ℕ) → HoldsAfter (KeepsBy h) (fd_pread fd iovs count offset ret m h)
+  fd_pread_keeps fd iovs count offset ret =
       next (open_descriptor h fd) _ (λ d. next (a_file h d) _ (λ _. next (with_right fd_read_right d) _ (λ _. next (with_right fd_seek_right d) _ (λ _. next (few_buffers count) _ (λ _.
-      next (buffers m iovs count) _ (λ bs. next (in_memory m ret 4) _ (λ _. kept _ h refl)))))))
+      next (buffers m iovs count) _ (λ bs. next (in_memory m ret 4) _ (λ _. kept _ h refl refl refl)))))))
 
-  file_written_emits : (k offset : ℕ) (bytes : Bytes) → HoldsAfter (Emits h) (file_written k offset bytes h)
-  file_written_emits k offset [] = done_with (Emits h) h (emits_none h h refl)
-  file_written_emits k offset (b ∷ bytes) =
-      next (roomy h k (size_after (bytes_of_node h.files k) offset (b ∷ bytes))) _ (λ _. done_with (Emits h) _ (emits_none h _ refl))
+  file_written_keeps : (k offset : ℕ) (bytes : Bytes) → HoldsAfter (KeepsLines h) (file_written k offset bytes h)
+  file_written_keeps k offset [] = done_with (KeepsLines h) h (same_lines h h refl refl refl)
+  file_written_keeps k offset (b ∷ bytes) =
+      next (roomy h k (size_after (bytes_of_node h.files k) offset (b ∷ bytes))) _ (λ _. done_with (KeepsLines h) _ (same_lines h _ refl refl refl))
 
-  offset_emits : (fd offset : ℕ) (d : Descriptor) (bytes : Bytes) (after : Host) → Emits h after → Emits h (offset_after fd offset d bytes after)
-  offset_emits fd offset d [] after emits = emits
-  offset_emits fd offset d (b ∷ bytes) after emits = record { lines = emits.lines; are = emits.are }
+  offset_keeps : (fd offset : ℕ) (d : Descriptor) (bytes : Bytes) (after : Host) → KeepsLines h after → KeepsLines h (offset_after fd offset d bytes after)
+  offset_keeps fd offset d [] after emits = emits
+  offset_keeps fd offset d (b ∷ bytes) after emits = record { lines = emits.lines; first = emits.first; second = emits.second }
 
-  target_written_emits : (t : Target) (fd : ℕ) (d : Descriptor) (bytes : Bytes) → HoldsAfter (Emits h) (target_written t fd d bytes h)
-  target_written_emits (Stream s) fd d bytes = done_with (Emits h) (stream_written s bytes h) (stream_emits s bytes h)
-  target_written_emits (Node k) fd d bytes =
-      step (Emits h) (file_written k (write_offset h k d) bytes h) _ (file_written_emits k (write_offset h k d) bytes)
-      (λ after emits. done_with (Emits h) _ (offset_emits fd (write_offset h k d) d bytes after emits))
+  target_written_writes : (t : Target) (fd : ℕ) (d : Descriptor) (bytes : Bytes)
+      → length bytes ≤ MOVED_BYTES → HoldsAfter (WritesFew h) (target_written t fd d bytes h)
+  target_written_writes (Stream s) fd d bytes few =
+      done_with (WritesFew h) (stream_written s bytes h) (writes s bytes few refl)
+  target_written_writes (Node k) fd d bytes few =
+      step (KeepsLines h) (file_written k (write_offset h k d) bytes h) _
+      (file_written_keeps k (write_offset h k d) bytes)
+      (λ after kept_so. done_with (WritesFew h) _
+      (keeps (offset_keeps fd (write_offset h k d) d bytes after kept_so)))
 
-  fd_write_emits : (fd iovs count ret : ℕ) → HoldsAfter (EmitsBy h) (fd_write fd iovs count ret m h)
-  fd_write_emits fd iovs count ret =
+  fd_write_writes : (fd iovs count ret : ℕ) → HoldsAfter (WritesFewBy h) (fd_write fd iovs count ret m h)
+  fd_write_writes fd iovs count ret =
       next (open_descriptor h fd) _ (λ d. next (no_directory h d) _ (λ _. next (with_right fd_write_right d) _ (λ _. next (few_buffers count) _ (λ _.
       next (buffers m iovs count) _ (λ bs. next (in_memory m ret 4) _ (λ _.
       let bytes : Bytes = take (movable bs) (gathered m bs) in
-      step (Emits h) (target_written d.target fd d bytes h) _ (target_written_emits d.target fd d bytes) (λ after emits. done_with (EmitsBy h) _ emits)))))))
+      let few : length bytes ≤ MOVED_BYTES = omega (arith, length-take (movable bs) (gathered m bs)) in
+      step (WritesFew h) (target_written d.target fd d bytes h) _ (target_written_writes d.target fd d bytes few) (λ after few_so. done_with (WritesFewBy h) _ few_so)))))))
 
-  fd_pwrite_emits : (fd iovs count offset ret : ℕ) → HoldsAfter (EmitsBy h) (fd_pwrite fd iovs count offset ret m h)
-  fd_pwrite_emits fd iovs count offset ret =
+  fd_pwrite_keeps : (fd iovs count offset ret : ℕ) → HoldsAfter (KeepsBy h) (fd_pwrite fd iovs count offset ret m h)
+  fd_pwrite_keeps fd iovs count offset ret =
       next (open_descriptor h fd) _ (λ d. next (a_file h d) _ (λ _. next (with_right fd_write_right d) _ (λ _. next (with_right fd_seek_right d) _ (λ _. next (few_buffers count) _ (λ _.
       next (buffers m iovs count) _ (λ bs. next (in_memory m ret 4) _ (λ _.
       let bytes : Bytes = take (movable bs) (gathered m bs) in
-      step (Emits h) (file_written (node_named d.target) offset bytes h) _ (file_written_emits (node_named d.target) offset bytes) (λ after emits. done_with (EmitsBy h) _ emits))))))))
+      step (KeepsLines h) (file_written (node_named d.target) offset bytes h) _ (file_written_keeps (node_named d.target) offset bytes) (λ after emits. done_with (KeepsBy h) _ emits))))))))
 
   -- ---- directories and paths
 
-  fd_readdir_emits : (fd buf len cookie ret : ℕ) → HoldsAfter (EmitsBy h) (fd_readdir fd buf len cookie ret m h)
-  fd_readdir_emits fd buf len cookie ret =
+  fd_readdir_keeps : (fd buf len cookie ret : ℕ) → HoldsAfter (KeepsBy h) (fd_readdir fd buf len cookie ret m h)
+  fd_readdir_keeps fd buf len cookie ret =
       next (open_descriptor h fd) _ (λ d. next (a_directory h d) _ (λ _. next (with_right fd_readdir_right d) _ (λ _.
-      next (in_memory m buf len) _ (λ _. next (in_memory m ret 4) _ (λ _. kept _ h refl)))))
+      next (in_memory m buf len) _ (λ _. next (in_memory m ret 4) _ (λ _. kept _ h refl refl refl)))))
 
-  path_create_directory_emits : (fd path len : ℕ) → HoldsAfter (EmitsBy h) (path_create_directory fd path len m h)
-  path_create_directory_emits fd path len =
+  path_create_directory_keeps : (fd path len : ℕ) → HoldsAfter (KeepsBy h) (path_create_directory fd path len m h)
+  path_create_directory_keeps fd path len =
       next (open_descriptor h fd) _ (λ d. next (a_directory h d) _ (λ _. next (with_right path_create_directory_right d) _ (λ _.
       next (lent m path len) _ (λ bytes. next (formed bytes) _ (λ names. next (placed h d names) _ (λ place.
       leaf place _ (λ parent name. next (check_or (not (is_some (node_at h.files place))) Exist) _ (λ _.
-      next (whole_path h.files parent name) _ (λ p. next (a_free_node h.files) _ (λ _. kept m _ refl))))))))))
+      next (whole_path h.files parent name) _ (λ p. next (a_free_node h.files) _ (λ _. kept m _ refl refl refl))))))))))
 
-  path_filestat_get_emits : (fd flags path len ret : ℕ) → HoldsAfter (EmitsBy h) (path_filestat_get fd flags path len ret m h)
-  path_filestat_get_emits fd flags path len ret =
+  path_filestat_get_keeps : (fd flags path len ret : ℕ) → HoldsAfter (KeepsBy h) (path_filestat_get fd flags path len ret m h)
+  path_filestat_get_keeps fd flags path len ret =
       next (open_descriptor h fd) _ (λ d. next (a_directory h d) _ (λ _. next (with_right path_filestat_get_right d) _ (λ _.
       next (check_or (nat_le flags 1) Inval) _ (λ _. next (lent m path len) _ (λ bytes. next (in_memory m ret 64) _ (λ _.
       next (formed bytes) _ (λ names. next (placed h d names) _ (λ place.
-      next (some_or Noent (node_at h.files place)) _ (λ k. kept _ h refl)))))))))
+      next (some_or Noent (node_at h.files place)) _ (λ k. kept _ h refl refl refl)))))))))
 
-  path_remove_directory_emits : (fd path len : ℕ) → HoldsAfter (EmitsBy h) (path_remove_directory fd path len m h)
-  path_remove_directory_emits fd path len =
+  path_remove_directory_keeps : (fd path len : ℕ) → HoldsAfter (KeepsBy h) (path_remove_directory fd path len m h)
+  path_remove_directory_keeps fd path len =
       next (open_descriptor h fd) _ (λ d. next (a_directory h d) _ (λ _. next (with_right path_remove_directory_right d) _ (λ _.
       next (lent m path len) _ (λ bytes. next (formed bytes) _ (λ names. next (placed h d names) _ (λ place.
       leaf place _ (λ parent name. next (some_or Noent (node_at h.files place)) _ (λ k.
-      next (check_or (is_directory h.files k) Notdir) _ (λ _. next (check_or (is_directory_empty h.files k) Notempty) _ (λ _. kept m _ refl))))))))))
+      next (check_or (is_directory h.files k) Notdir) _ (λ _. next (check_or (is_directory_empty h.files k) Notempty) _ (λ _. kept m _ refl refl refl))))))))))
 
-  path_unlink_file_emits : (fd path len : ℕ) → HoldsAfter (EmitsBy h) (path_unlink_file fd path len m h)
-  path_unlink_file_emits fd path len =
+  path_unlink_file_keeps : (fd path len : ℕ) → HoldsAfter (KeepsBy h) (path_unlink_file fd path len m h)
+  path_unlink_file_keeps fd path len =
       next (open_descriptor h fd) _ (λ d. next (a_directory h d) _ (λ _. next (with_right path_unlink_file_right d) _ (λ _.
       next (lent m path len) _ (λ bytes. next (formed bytes) _ (λ names. next (placed h d names) _ (λ place.
       leaf place _ (λ parent name. next (some_or Noent (node_at h.files place)) _ (λ k.
-      next (check_or (not (is_directory h.files k)) Isdir) _ (λ _. kept m _ refl)))))))))
+      next (check_or (not (is_directory h.files k)) Isdir) _ (λ _. kept m _ refl refl refl)))))))))
 
-  cleared_lines : (j : Option ℕ) → (without_target j h).lines ≡ h.lines
-  cleared_lines None = refl
-  cleared_lines (Some j) = refl
+  cleared_lines : (j : Option ℕ) → KeepsLines h (without_target j h)
+  cleared_lines None = same_lines h h refl refl refl
+  cleared_lines (Some j) = same_lines h (without_target (Some j) h) refl refl refl
 
-  renamed_to_emits : (d : ℕ) (name : Name) (source : WalkEnd) (e : ℕ) (other : Name) (target : WalkEnd) → HoldsAfter (EmitsBy h) (renamed_to d name source e other target m h)
-  renamed_to_emits d name source e other target =
+  renamed_to_keeps : (d : ℕ) (name : Name) (source : WalkEnd) (e : ℕ) (other : Name) (target : WalkEnd) → HoldsAfter (KeepsBy h) (renamed_to d name source e other target m h)
+  renamed_to_keeps d name source e other target =
       next (some_or Noent (node_at h.files source)) _ (λ k. next (whole_path h.files d name) _ (λ from. next (whole_path h.files e other) _ (λ to.
       next (check_or (not (is_within_node h.files k e)) Inval) _ (λ _.
-      either_way (is_same_node k (node_at h.files target)) _ _ (kept m h refl)
-      (next (gives_way h.files k (node_at h.files target)) _ (λ _. kept m _ (cleared_lines (node_at h.files target))))))))
+      either_way (is_same_node k (node_at h.files target)) _ _ (kept m h refl refl refl)
+      (next (gives_way h.files k (node_at h.files target)) _ (λ _. (let c = cleared_lines (node_at h.files target) in kept m _ c.lines c.first c.second)))))))
 
-  path_rename_emits : (old_fd old_path old_len new_fd new_path new_len : ℕ) → HoldsAfter (EmitsBy h) (path_rename old_fd old_path old_len new_fd new_path new_len m h)
-  path_rename_emits old_fd old_path old_len new_fd new_path new_len =
+  path_rename_keeps : (old_fd old_path old_len new_fd new_path new_len : ℕ) → HoldsAfter (KeepsBy h) (path_rename old_fd old_path old_len new_fd new_path new_len m h)
+  path_rename_keeps old_fd old_path old_len new_fd new_path new_len =
       next (open_descriptor h old_fd) _ (λ d. next (open_descriptor h new_fd) _ (λ e. next (a_directory h d) _ (λ _. next (a_directory h e) _ (λ _.
       next (with_right path_rename_source_right d) _ (λ _. next (with_right path_rename_target_right e) _ (λ _.
       next (lent m old_path old_len) _ (λ old_bytes. next (lent m new_path new_len) _ (λ new_bytes.
       next (formed old_bytes) _ (λ old_names. next (formed new_bytes) _ (λ new_names.
       next (placed h d old_names) _ (λ source. next (placed h e new_names) _ (λ target.
-      leaf source _ (λ from name. leaf target _ (λ to other. renamed_to_emits from name source to other target))))))))))))))
+      leaf source _ (λ from name. leaf target _ (λ to other. renamed_to_keeps from name source to other target))))))))))))))
 
-  opened_there_emits : (k : ℕ) (w : Wish) (ret : ℕ) → HoldsAfter (EmitsBy h) (opened_there k w ret m h)
-  opened_there_emits k w ret =
+  opened_there_keeps : (k : ℕ) (w : Wish) (ret : ℕ) → HoldsAfter (KeepsBy h) (opened_there k w ret m h)
+  opened_there_keeps k w ret =
       next (check_or (not (has_flag w.oflags create_flag && has_flag w.oflags exclusive_flag)) Exist) _ (λ _.
       next (check_or (not (is_directory h.files k && (has_flag w.oflags create_flag || has_flag w.oflags truncate_flag || has_flag w.base 6))) Isdir) _ (λ _.
       next (check_or (is_directory h.files k || not (has_flag w.oflags directory_flag)) Notdir) _ (λ _.
-      next (free_number h) _ (λ n. kept _ _ refl))))
+      next (free_number h) _ (λ n. kept _ _ refl refl refl))))
 
-  opened_new_emits : (place : WalkEnd) (w : Wish) (ret : ℕ) → HoldsAfter (EmitsBy h) (opened_new place w ret m h)
-  opened_new_emits place w ret =
+  opened_new_keeps : (place : WalkEnd) (w : Wish) (ret : ℕ) → HoldsAfter (KeepsBy h) (opened_new place w ret m h)
+  opened_new_keeps place w ret =
       next (check_or (has_flag w.oflags create_flag) Noent) _ (λ _.
-      leaf place _ (λ d name. next (whole_path h.files d name) _ (λ p. next (free_number h) _ (λ n. next (a_free_node h.files) _ (λ _. kept _ _ refl)))))
+      leaf place _ (λ d name. next (whole_path h.files d name) _ (λ p. next (free_number h) _ (λ n. next (a_free_node h.files) _ (λ _. kept _ _ refl refl refl)))))
 
-  opened_at_emits : (o : Option ℕ) (place : WalkEnd) (w : Wish) (ret : ℕ) → HoldsAfter (EmitsBy h) (opened_at o place w ret m h)
-  opened_at_emits None place w ret = opened_new_emits place w ret
-  opened_at_emits (Some k) place w ret = opened_there_emits k w ret
+  opened_at_keeps : (o : Option ℕ) (place : WalkEnd) (w : Wish) (ret : ℕ) → HoldsAfter (KeepsBy h) (opened_at o place w ret m h)
+  opened_at_keeps None place w ret = opened_new_keeps place w ret
+  opened_at_keeps (Some k) place w ret = opened_there_keeps k w ret
 
-  path_open_emits : (fd dirflags path len : ℕ) (w : Wish) (ret : ℕ) → HoldsAfter (EmitsBy h) (path_open fd dirflags path len w ret m h)
-  path_open_emits fd dirflags path len w ret =
+  path_open_keeps : (fd dirflags path len : ℕ) (w : Wish) (ret : ℕ) → HoldsAfter (KeepsBy h) (path_open fd dirflags path len w ret m h)
+  path_open_keeps fd dirflags path len w ret =
       next (open_descriptor h fd) _ (λ d. next (a_directory h d) _ (λ _. next (with_right path_open_right d) _ (λ _.
       next (needs (has_flag w.oflags create_flag) path_create_file_right d) _ (λ _.
       next (needs (has_flag w.oflags truncate_flag) path_filestat_set_size_right d) _ (λ _.
       next (within_rights w.base d.inheriting) _ (λ _. next (within_rights w.inheriting d.inheriting) _ (λ _.
       next (check_or (nat_le dirflags 1 && nat_le w.oflags 15 && nat_le w.fdflags 31 && not (has_flag w.oflags create_flag && has_flag w.oflags directory_flag)) Inval) _ (λ _.
       next (lent m path len) _ (λ bytes. next (in_memory m ret 4) _ (λ _. next (formed bytes) _ (λ names. next (placed h d names) _ (λ place.
-      opened_at_emits (node_at h.files place) place w ret))))))))))))
+      opened_at_keeps (node_at h.files place) place w ret))))))))))))
 
 -- ---- all calls
 
-row_emits : (c : Call) (arguments : List ℕ) (given : Option Answer) (m : Bytes) (h : Host) → HoldsAfter (EmitsBy h) (row c arguments given m h)
-row_emits call.ArgsGet (argv ∷ buf ∷ []) given m h = texts_get_emits m h h.arguments argv buf
-row_emits call.ArgsSizesGet (count ∷ size ∷ []) given m h = texts_sizes_get_emits m h h.arguments count size
-row_emits call.EnvironGet (environ ∷ buf ∷ []) given m h = texts_get_emits m h h.environment environ buf
-row_emits call.EnvironSizesGet (count ∷ size ∷ []) given m h = texts_sizes_get_emits m h h.environment count size
-row_emits call.ClockResGet (id ∷ ret ∷ []) given m h = clock_res_get_emits m h id ret
-row_emits call.ClockTimeGet (id ∷ precision ∷ ret ∷ []) given m h = clock_time_get_emits m h id ret given
-row_emits call.FdClose (fd ∷ []) given m h = fd_close_emits m h fd
-row_emits call.FdDatasync (fd ∷ []) given m h = fd_syncs_emits m h fd_datasync_right fd
-row_emits call.FdFdstatGet (fd ∷ ret ∷ []) given m h = fd_fdstat_get_emits m h fd ret
-row_emits call.FdFdstatSetFlags (fd ∷ flags ∷ []) given m h = fd_fdstat_set_flags_emits m h fd flags
-row_emits call.FdFilestatGet (fd ∷ ret ∷ []) given m h = fd_filestat_get_emits m h fd ret
-row_emits call.FdFilestatSetSize (fd ∷ size ∷ []) given m h = fd_filestat_set_size_emits m h fd size
-row_emits call.FdPread (fd ∷ iovs ∷ count ∷ offset ∷ ret ∷ []) given m h = fd_pread_emits m h fd iovs count offset ret
-row_emits call.FdPrestatGet (fd ∷ ret ∷ []) given m h = fd_prestat_get_emits m h fd ret
-row_emits call.FdPrestatDirName (fd ∷ path ∷ len ∷ []) given m h = fd_prestat_dir_name_emits m h fd path len
-row_emits call.FdPwrite (fd ∷ iovs ∷ count ∷ offset ∷ ret ∷ []) given m h = fd_pwrite_emits m h fd iovs count offset ret
-row_emits call.FdRead (fd ∷ iovs ∷ count ∷ ret ∷ []) given m h = fd_read_emits m h fd iovs count ret given
-row_emits call.FdReaddir (fd ∷ buf ∷ len ∷ cookie ∷ ret ∷ []) given m h = fd_readdir_emits m h fd buf len cookie ret
-row_emits call.FdSeek (fd ∷ delta ∷ whence ∷ ret ∷ []) given m h = fd_seek_emits m h fd delta whence ret
-row_emits call.FdSync (fd ∷ []) given m h = fd_syncs_emits m h fd_sync_right fd
-row_emits call.FdTell (fd ∷ ret ∷ []) given m h = fd_tell_emits m h fd ret
-row_emits call.FdWrite (fd ∷ iovs ∷ count ∷ ret ∷ []) given m h = fd_write_emits m h fd iovs count ret
-row_emits call.PathCreateDirectory (fd ∷ path ∷ len ∷ []) given m h = path_create_directory_emits m h fd path len
-row_emits call.PathFilestatGet (fd ∷ flags ∷ path ∷ len ∷ ret ∷ []) given m h = path_filestat_get_emits m h fd flags path len ret
-row_emits call.PathOpen (fd ∷ dirflags ∷ path ∷ len ∷ oflags ∷ base ∷ inheriting ∷ fdflags ∷ ret ∷ []) given m h =
-    path_open_emits m h fd dirflags path len (record { oflags = oflags; base = base; inheriting = inheriting; fdflags = fdflags }) ret
-row_emits call.PathRemoveDirectory (fd ∷ path ∷ len ∷ []) given m h = path_remove_directory_emits m h fd path len
-row_emits call.PathRename (old_fd ∷ old_path ∷ old_len ∷ new_fd ∷ new_path ∷ new_len ∷ []) given m h = path_rename_emits m h old_fd old_path old_len new_fd new_path new_len
-row_emits call.PathUnlinkFile (fd ∷ path ∷ len ∷ []) given m h = path_unlink_file_emits m h fd path len
-row_emits call.ProcExit (code ∷ []) given m h = refused _ (Ends code)
-row_emits call.SchedYield [] given m h = kept m h m h refl
-row_emits call.RandomGet (buf ∷ len ∷ []) given m h = random_get_emits m h buf len given
-row_emits _ _ given m h = refused _ (Refuses Inval)
+row_keeps : (c : Call) (arguments : List ℕ) (given : Option Answer) (m : Bytes) (h : Host)
+    → (c ≡ call.FdWrite → ⊥) → HoldsAfter (KeepsBy h) (row c arguments given m h)
+row_keeps call.ArgsGet (argv ∷ buf ∷ []) given m h other = texts_get_keeps m h h.arguments argv buf
+row_keeps call.ArgsSizesGet (count ∷ size ∷ []) given m h other = texts_sizes_get_keeps m h h.arguments count size
+row_keeps call.EnvironGet (environ ∷ buf ∷ []) given m h other = texts_get_keeps m h h.environment environ buf
+row_keeps call.EnvironSizesGet (count ∷ size ∷ []) given m h other = texts_sizes_get_keeps m h h.environment count size
+row_keeps call.ClockResGet (id ∷ ret ∷ []) given m h other = clock_res_get_keeps m h id ret
+row_keeps call.ClockTimeGet (id ∷ precision ∷ ret ∷ []) given m h other = clock_time_get_keeps m h id ret given
+row_keeps call.FdClose (fd ∷ []) given m h other = fd_close_keeps m h fd
+row_keeps call.FdDatasync (fd ∷ []) given m h other = fd_syncs_keeps m h fd_datasync_right fd
+row_keeps call.FdFdstatGet (fd ∷ ret ∷ []) given m h other = fd_fdstat_get_keeps m h fd ret
+row_keeps call.FdFdstatSetFlags (fd ∷ flags ∷ []) given m h other = fd_fdstat_set_flags_keeps m h fd flags
+row_keeps call.FdFilestatGet (fd ∷ ret ∷ []) given m h other = fd_filestat_get_keeps m h fd ret
+row_keeps call.FdFilestatSetSize (fd ∷ size ∷ []) given m h other = fd_filestat_set_size_keeps m h fd size
+row_keeps call.FdPread (fd ∷ iovs ∷ count ∷ offset ∷ ret ∷ []) given m h other = fd_pread_keeps m h fd iovs count offset ret
+row_keeps call.FdPrestatGet (fd ∷ ret ∷ []) given m h other = fd_prestat_get_keeps m h fd ret
+row_keeps call.FdPrestatDirName (fd ∷ path ∷ len ∷ []) given m h other = fd_prestat_dir_name_keeps m h fd path len
+row_keeps call.FdPwrite (fd ∷ iovs ∷ count ∷ offset ∷ ret ∷ []) given m h other = fd_pwrite_keeps m h fd iovs count offset ret
+row_keeps call.FdRead (fd ∷ iovs ∷ count ∷ ret ∷ []) given m h other = fd_read_keeps m h fd iovs count ret given
+row_keeps call.FdReaddir (fd ∷ buf ∷ len ∷ cookie ∷ ret ∷ []) given m h other = fd_readdir_keeps m h fd buf len cookie ret
+row_keeps call.FdSeek (fd ∷ delta ∷ whence ∷ ret ∷ []) given m h other = fd_seek_keeps m h fd delta whence ret
+row_keeps call.FdSync (fd ∷ []) given m h other = fd_syncs_keeps m h fd_sync_right fd
+row_keeps call.FdTell (fd ∷ ret ∷ []) given m h other = fd_tell_keeps m h fd ret
+row_keeps call.PathCreateDirectory (fd ∷ path ∷ len ∷ []) given m h other = path_create_directory_keeps m h fd path len
+row_keeps call.PathFilestatGet (fd ∷ flags ∷ path ∷ len ∷ ret ∷ []) given m h other = path_filestat_get_keeps m h fd flags path len ret
+row_keeps call.PathOpen (fd ∷ dirflags ∷ path ∷ len ∷ oflags ∷ base ∷ inheriting ∷ fdflags ∷ ret ∷ []) given m h other =
+    path_open_keeps m h fd dirflags path len (record { oflags = oflags; base = base; inheriting = inheriting; fdflags = fdflags }) ret
+row_keeps call.PathRemoveDirectory (fd ∷ path ∷ len ∷ []) given m h other = path_remove_directory_keeps m h fd path len
+row_keeps call.PathRename (old_fd ∷ old_path ∷ old_len ∷ new_fd ∷ new_path ∷ new_len ∷ []) given m h other = path_rename_keeps m h old_fd old_path old_len new_fd new_path new_len
+row_keeps call.PathUnlinkFile (fd ∷ path ∷ len ∷ []) given m h other = path_unlink_file_keeps m h fd path len
+row_keeps call.ProcExit (code ∷ []) given m h other = refused _ (Ends code)
+row_keeps call.SchedYield [] given m h other = kept m h m h refl refl refl
+row_keeps call.RandomGet (buf ∷ len ∷ []) given m h other = random_get_keeps m h buf len given
+row_keeps call.FdWrite arguments given m h other = absurd (other refl)
+row_keeps _ _ given m h other = refused _ (Refuses Inval)
+
+-- a call but `fd_write` leaves the lines as they are
+pub rows_keep_lines : (c : Call) (arguments : List ℕ) (given : Option Answer) (m : Bytes) (h : Host)
+    (done : Done) → (c ≡ call.FdWrite → ⊥) → row c arguments given m h ≡ Ok done
+    → KeepsLines h done.host
+rows_keep_lines c arguments given m h done other e =
+    (row_keeps c arguments given m h other).holds done e
+
+write_writes : (arguments : List ℕ) (given : Option Answer) (m : Bytes) (h : Host)
+    → HoldsAfter (WritesFewBy h) (row call.FdWrite arguments given m h)
+write_writes (fd ∷ iovs ∷ count ∷ ret ∷ []) given m h = fd_write_writes m h fd iovs count ret
+write_writes _ given m h = refused _ (Refuses Inval)
+
+pub rows_write_few : (c : Call) (arguments : List ℕ) (given : Option Answer) (m : Bytes) (h : Host)
+    (done : Done) → row c arguments given m h ≡ Ok done → WritesFew h done.host
+rows_write_few call.FdWrite arguments given m h done e =
+    (write_writes arguments given m h).holds done e
+rows_write_few c arguments given m h done e =
+    keeps (rows_keep_lines c arguments given m h done (λ same. absurd (cc)) e)
 
 pub rows_emit : RowsEmit
-rows_emit c arguments given m h done e = (row_emits c arguments given m h).holds done e
+rows_emit c arguments given m h done e = by_case (rows_write_few c arguments given m h done e) where
+  by_case : WritesFew h done.host → Emits h done.host
+  by_case (keeps k) = emits_none h done.host k.lines
+  by_case (writes s bytes few is) = rw is (stream_emits s bytes h)

@@ -63,7 +63,8 @@ impl Host {
             self.old.host.files } }) }
         ensures unchanged { OnErr result (self.new ≡ self.old) }
     {
-        self.tree.resize(node, size)
+        self.tree.resize(node, size)?;
+        Ok(())
     }
 
     /// The type of what is named.

@@ -1,4 +1,18 @@
+use Rattle.std.proofs.Common.{◌≡◌, ◌+◌, ◌≤◌, length, arith}
+use Rattle.std.specs.Prelude.{false}
+use Rattle.file_tree.specs.rules.Bytes.{resized}
+use Rattle.file_tree.specs.rules.Files.{is_directory, bytes_of_node, used, with_file_bytes}
+use Rattle.wasi_calls_rules.specs.Hosts.{Node, IsThere}
+use Rattle.wasi_calls.specs.rules.Held.{held_host_of}
+use Rattle.wasi_calls.proofs.Files.{resized_host}
 use Rattle.wasi_calls.proofs.host.Host.resize.Goals as goal
 
-pub invariant_of-self : goal.invariant_of-self
-invariant_of-self c = ?
+pub invariant_of-self-2 : goal.invariant_of-self-2
+invariant_of-self-2 c =
+    let s = c.self.inside in
+    let held = held_host_of s.config s.limit s.tree s.descriptors.items s.unread.items
+    s.input_ended s.last_monotonic s.streams in
+    rw c.in_ok-resize.ensures.resized
+    (resized_host held.host c.args.node c.args.size c.self.invariant
+    (rw (← c.self.view_is) at c.requires.there) (rw (← c.self.view_is) at c.requires.file)
+    c.requires.limit (rw (← c.self.view_is) at c.requires.room))
