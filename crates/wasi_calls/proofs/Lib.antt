@@ -9,3 +9,4 @@ pub mod FewLines
 pub mod Emitted
 pub mod Listings
 pub mod Files
+pub mod Walks

@@ -1,4 +1,5 @@
 pub mod Views
+pub mod Places
 pub mod Steps
 pub mod Writes
 pub mod Listings

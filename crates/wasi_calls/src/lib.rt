@@ -44,6 +44,7 @@ mod listing;
 mod memory;
 mod offsets;
 mod outcome;
+mod paths;
 mod status;
 mod stop;
 mod streams;

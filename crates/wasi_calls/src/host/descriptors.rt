@@ -1,6 +1,6 @@
 //! Open descriptors of a host.
 
-ghost use Rattle.std.specs.Prelude.{◌≡◌, ◌≢◌, ◌<◌, ◌≤◌, ◌^◌, false, Some, None, Ok, IfOk, slice_get, slice_set};
+ghost use Rattle.std.specs.Prelude.{◌≡◌, ◌≢◌, ◌<◌, ◌≤◌, ◌^◌, true, false, Some, None, Ok, IfOk, slice_get, slice_set};
 ghost use Rattle.file_tree.specs.rules.Files.{is_directory};
 ghost use Rattle.wasi_calls_rules.specs.Hosts.{Node, Descriptor as Opened, IsThere, IsDescriptor};
 ghost use Rattle.wasi_calls_rules.specs.Hosts.{IsHost};
@@ -78,6 +78,8 @@ impl Host {
     pub(crate) fn a_directory(&self, descriptor: &Descriptor) -> Result<u64, Errno>
         ensures gives { GivesValue (λ _. tt) result (a_directory self.now.host descriptor.now) }
         ensures node { IfOk result (λ k. descriptor.now.target ≡ Node k) }
+        ensures directory { IfOk result (λ _.
+            names_directory self.now.host descriptor.now.target ≡ true) }
     {
         match descriptor.names() {
             Names::Node(node) if self.tree.is_directory(node) => Ok(node),
@@ -127,9 +129,10 @@ impl Host {
         requires not_root { fd ≢ 3 }
         ensures closed { (d : Opened) → open_descriptor self.old.host fd ≡ Ok d
             → self.new.host ≡ record self.old.host {
-                descriptors = slice_set self.old.host.descriptors fd None;
-                files = swept d.target (slice_set self.old.host.descriptors fd None)
-                    self.old.host.files } }
+              descriptors = slice_set self.old.host.descriptors fd None;
+              files = swept d.target (slice_set self.old.host.descriptors fd None)
+                  self.old.host.files;
+            } }
         ensures released { self.new.released ≡ self.old.released }
     {
         let names = self.opened(fd).names();

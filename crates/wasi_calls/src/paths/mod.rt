@@ -1,0 +1,19 @@
+//! Paths that a guest gives: their bytes, their form, and where they lead.
+
+mod form;
+mod walk;
+
+ghost use Rattle.wasi_calls_rules.specs.Checks.{lent};
+ghost use Rattle.wasi_calls.specs.Steps.{GivesValue};
+
+pub use form::PathNames;
+use guest_memory::Memory;
+pub use walk::{Place, placed};
+use wasi_abi::Errno;
+
+/// The bytes of a path, or `Fault`.
+pub fn path_bytes(memory: &Memory, path: u32, len: u32) -> Result<&[u8], Errno>
+    ensures { GivesValue (λ s. s.now) result (lent memory.now.bytes path len) }
+{
+    memory.part(path, len).ok_or(Errno::Fault)
+}

@@ -1,0 +1,78 @@
+//! Where a path leads.
+
+ghost use Rattle.std.specs.Prelude.{◌≡◌, [], true, IfOk};
+ghost use Rattle.file_tree.specs.rules.Files.{is_directory};
+ghost use Rattle.wasi_calls_rules.specs.Checks.{names_directory};
+ghost use Rattle.wasi_calls_rules.specs.Entries.{placed};
+ghost use Rattle.wasi_calls_rules.specs.Paths.{is_back, walk};
+ghost use Rattle.wasi_calls.specs.Places.{AreWalked, IsWellPlaced, place_of};
+ghost use Rattle.wasi_calls.specs.Steps.{GivesValue};
+
+use crate::descriptor::{Descriptor, Names};
+use crate::host::Host;
+use crate::paths::form::PathNames;
+use wasi_abi::Errno;
+
+/// Where a walk ends: at a directory, or at a name in one.
+#[derive(Clone, Copy)]
+pub enum Place<'a> {
+    Directory(u64),
+    Leaf(u64, &'a [u8]),
+}
+
+/// Where the names lead from an open directory. `Notcapable` where they leave it, `Noent` where one
+/// but the last isn't there, and `Notdir` where it is no directory.
+pub fn placed<'a>(
+    host: &Host,
+    descriptor: &Descriptor,
+    names: PathNames<'a>,
+) -> Result<Place<'a>, Errno>
+    requires directory { names_directory host.now.host descriptor.now.target ≡ true }
+    requires walked { AreWalked names }
+    ensures gives { GivesValue place_of result
+        (placed host.now.host descriptor.now names.entry) }
+    ensures well { IfOk result (λ place. IsWellPlaced host.now.host.files (place_of place)) }
+{
+    match descriptor.names() {
+        Names::Node(directory) => walk(host, directory, names),
+        Names::Stream(_) => unreachable!(),
+    }
+}
+
+/// Where the names lead from a directory. It keeps how far below that it is, which is how often the
+/// names may lead back.
+fn walk<'a>(host: &Host, start: u64, names: PathNames<'a>) -> Result<Place<'a>, Errno>
+    requires directory { is_directory host.now.host.files start ≡ true }
+    requires walked { AreWalked names }
+    ensures gives { GivesValue place_of result (walk host.now.host.files start [] names.entry) }
+    ensures well { IfOk result (λ place. IsWellPlaced host.now.host.files (place_of place)) }
+{
+    let mut names = names;
+    let mut directory = start;
+    let mut depth: usize = 0;
+    while let Some(name) = names.next() {
+        if is_back(name) {
+            if depth == 0 {
+                return Err(Errno::Notcapable);
+            }
+            depth -= 1;
+            directory = host.parent(directory);
+        } else if names.is_empty() {
+            return Ok(Place::Leaf(directory, name));
+        } else {
+            directory = host.entered(directory, name)?;
+            depth += 1;
+        }
+    }
+    Ok(Place::Directory(directory))
+}
+
+/// Whether it is `..`.
+fn is_back(name: &[u8]) -> bool
+    ensures { result ≡ is_back name.now }
+{
+    match name {
+        [first, second] => *first == b'.' && *second == b'.',
+        _ => false,
+    }
+}
