@@ -3,5 +3,6 @@ pub mod Places
 pub mod Steps
 pub mod Writes
 pub mod Listings
+pub mod Openings
 pub mod laws
 pub mod rules

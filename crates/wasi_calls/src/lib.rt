@@ -43,6 +43,7 @@ mod line;
 mod listing;
 mod memory;
 mod offsets;
+mod opening;
 mod outcome;
 mod paths;
 mod status;
