@@ -10,3 +10,6 @@ pub mod Emitted
 pub mod Listings
 pub mod Files
 pub mod Walks
+pub mod GivenPaths
+pub mod Parts
+pub mod Entries

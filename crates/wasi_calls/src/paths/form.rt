@@ -1,7 +1,10 @@
 //! The form of a path, and the names that it goes along.
 
-ghost use Rattle.std.specs.Prelude.{◌≡◌, ◌≢◌, ◌<◌, [], ◌∷◌, length, if◌then◌else◌};
-ghost use Rattle.wasi_calls_rules.specs.Paths.{is_dropped, names_of};
+ghost use Rattle.std.specs.Prelude.{◌≡◌, ◌≢◌, ◌<◌, ◌==◌, [], ◌∷◌, length, if◌then◌else◌};
+ghost use Rattle.std.specs.List.{list_any};
+ghost use Rattle.std.specs.Str.{is_utf8};
+ghost use Rattle.file_tree.specs.rules.Files.{slash};
+ghost use Rattle.wasi_calls_rules.specs.Paths.{begins_with, is_dropped, names_of};
 
 use file_tree::limits::{NAME_BYTES, PATH_BYTES};
 use std::marker::Model;
@@ -43,13 +46,13 @@ impl<'a> PathNames<'a> {
         if bytes.len() > PATH_BYTES {
             return Err(Errno::Nametoolong);
         }
-        if str::from_utf8(bytes).is_err() {
+        if !is_text(bytes) {
             return Err(Errno::Ilseq);
         }
-        if bytes.contains(&0) {
+        if has_zero(bytes) {
             return Err(Errno::Inval);
         }
-        if bytes[0] == b'/' {
+        if is_whole(bytes) {
             return Err(Errno::Notcapable);
         }
         let names = PathNames { rest: bytes };
@@ -91,6 +94,35 @@ impl<'a> PathNames<'a> {
             }
         }
         false
+    }
+}
+
+/// Whether it is UTF-8.
+fn is_text(bytes: &[u8]) -> bool
+    ensures { result ≡ is_utf8 bytes.now }
+{
+    str::from_utf8(bytes).is_ok()
+}
+
+/// Whether a zero byte is there.
+fn has_zero(bytes: &[u8]) -> bool
+    ensures { result ≡ list_any (λ b. b == 0) bytes.now }
+{
+    for byte in bytes {
+        if *byte == 0 {
+            return true;
+        }
+    }
+    false
+}
+
+/// Whether it begins with a slash, and so at the root.
+fn is_whole(bytes: &[u8]) -> bool
+    ensures { result ≡ begins_with bytes.now slash }
+{
+    match bytes {
+        [first, ..] => *first == b'/',
+        [] => false,
     }
 }
 
