@@ -8,6 +8,7 @@ pub mod LinesInFront
 pub mod FewLines
 pub mod Emitted
 pub mod Listings
+pub mod Openings
 pub mod Files
 pub mod Walks
 pub mod GivenPaths

@@ -1,5 +1,5 @@
 -- The rule of `path_open` in the pieces that the code is made of (this project's own).
-use Rattle.std.specs.Prelude.{ℕ, not, ◌&&◌, ◌||◌, nat_le, Bool, Result, Ok}
+use Rattle.std.specs.Prelude.{ℕ, not, ◌&&◌, ◌||◌, nat_le, Bool, false, Option, Some, None, Result, Ok}
 use Rattle.wasi_abi.specs.declared.errno.Errno.TheVariants.{Exist, Inval, Isdir, Notdir}
 use Rattle.wasi_abi.specs.rules.Numbers.{path_create_file_right, path_open_right, path_filestat_set_size_right, create_flag, directory_flag, exclusive_flag, truncate_flag, has_flag, open_flags_number, descriptor_flags_number, rights_number}
 use Rattle.wasi_calls_rules.specs.Hosts.{Descriptor, Host}
@@ -46,3 +46,8 @@ may_be_opened is_dir w =
     check_or (not (has_flag w.oflags create_flag && has_flag w.oflags exclusive_flag)) Exist >>= λ _.
     check_or (not (is_dir && (has_flag w.oflags create_flag || has_flag w.oflags truncate_flag || has_flag w.base 6))) Isdir >>= λ _.
     check_or (is_dir || not (has_flag w.oflags directory_flag)) Notdir
+
+-- nothing is open at this place, which may be given
+abbrev pub is_free : ℕ → Option Descriptor → Bool
+is_free n None = nat_le 3 n
+is_free n (Some d) = false

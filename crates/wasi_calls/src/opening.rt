@@ -1,11 +1,13 @@
 //! Opening a path: `path_open`.
 
-ghost use Rattle.std.specs.Prelude.{◌≡◌, ◌<◌, ◌≤◌, ◌^◌, ℕ, None, OnOk, IfOk, IfErr, Ok, Err};
+ghost use Rattle.std.specs.Prelude.{◌≡◌, ◌&&◌, ◌||◌, ◌<◌, ◌≤◌, ◌^◌, ℕ, None, OnOk, IfOk, IfErr, Ok, Err};
 ghost use Rattle.guest_memory.specs.rules.Bytes.{with_part};
 ghost use Rattle.wasi_abi.specs.Bits.{bit_of};
 ghost use Rattle.wasi_abi.specs.rules.Layouts.{u32_bytes};
-ghost use Rattle.wasi_abi.specs.rules.Numbers.{rights_number, has_flag};
-ghost use Rattle.wasi_calls_rules.specs.Hosts.{Node, IsThere};
+ghost use Rattle.wasi_abi.specs.rules.Numbers.{rights_number, has_flag, has_right, fd_write_right};
+ghost use Rattle.wasi_abi.specs.rules.Numbers.{create_flag, exclusive_flag, truncate_flag};
+ghost use Rattle.wasi_calls_rules.specs.Hosts.{Node, IsThere, IsDescriptor};
+ghost use Rattle.file_tree.specs.rules.Files.{Files};
 ghost use Rattle.wasi_calls_rules.specs.Checks.{Bytes, needs, within_rights};
 ghost use Rattle.wasi_calls_rules.specs.Entries.{new_descriptor, path_open};
 ghost use Rattle.wasi_calls_rules.specs.Entries.{opened_there, opened_new, opened_at};
@@ -134,26 +136,50 @@ fn check_flags(dirflags: u32, wish: OpenWish) -> Result<CheckedWish, Errno>
 fn check_there(is_directory: bool, wish: CheckedWish) -> Result<(), Errno>
     ensures { GivesValue (λ x. x) result (may_be_opened is_directory (wish_of wish)) }
 {
-    let creates = wish.flags.has(OpenFlags::CREATE);
-    if creates && wish.flags.has(OpenFlags::EXCLUSIVE) {
+    if makes(wish) {
         return Err(Errno::Exist);
     }
-    if is_directory {
-        if creates || wish.flags.has(OpenFlags::TRUNCATE) || wish.base.has(Rights::FD_WRITE) {
-            return Err(Errno::Isdir);
-        }
-        return Ok(());
+    if is_directory && changes(wish) {
+        return Err(Errno::Isdir);
     }
-    if wish.flags.has(OpenFlags::DIRECTORY) {
+    if !is_directory && wish.flags.has(OpenFlags::DIRECTORY) {
         return Err(Errno::Notdir);
     }
     Ok(())
 }
 
+/// Whether a file is to be made, and none may be there.
+fn makes(wish: CheckedWish) -> bool
+    ensures { result ≡ (has_flag (wish_of wish).oflags create_flag
+        && has_flag (wish_of wish).oflags exclusive_flag) }
+{
+    wish.flags.has(OpenFlags::CREATE) && wish.flags.has(OpenFlags::EXCLUSIVE)
+}
+
+/// Whether what is opened is to be made, cut or written.
+fn changes(wish: CheckedWish) -> bool
+    ensures { result ≡ (has_flag (wish_of wish).oflags create_flag
+        || has_flag (wish_of wish).oflags truncate_flag
+        || has_right (wish_of wish).base fd_write_right) }
+{
+    wish.flags.has(OpenFlags::CREATE)
+        || wish.flags.has(OpenFlags::TRUNCATE)
+        || writes(wish)
+}
+
+/// Whether what is opened is to be written.
+fn writes(wish: CheckedWish) -> bool
+    ensures { result ≡ has_right (wish_of wish).base fd_write_right }
+{
+    wish.base.has(Rights::FD_WRITE)
+}
+
 /// The descriptor of a node that is opened. Its rights are cut to what a node of its kind may have.
 fn opened(node: u64, is_directory: bool, wish: CheckedWish) -> Descriptor
-    ensures { result ≡ new_descriptor is_directory node (wish_of wish).fdflags
+    ensures new { result ≡ new_descriptor is_directory node (wish_of wish).fdflags
         (wish_of wish).base (wish_of wish).inheriting }
+    ensures is { (fs : Files) → IsThere fs (Node node) → (wish_of wish).fdflags ≤ 31
+        → IsDescriptor fs result }
 {
     if is_directory {
         let base = wish.base.intersection(Rights::DIRECTORY);

@@ -1,11 +1,13 @@
 //! Nodes of a host that are opened: free numbers, and what is put under them.
 
-ghost use Rattle.std.specs.Prelude.{◌≡◌, [], Some, Ok, IfOk, IfSome, OnOk, OnErr, false, ℕ};
+ghost use Rattle.std.specs.Prelude.{◌≡◌, ◌<◌, length, [], Some, Ok, IfOk, IfSome, OnOk, OnErr, false};
 ghost use Rattle.file_tree.specs.rules.Files.{is_directory, with_file_bytes};
 ghost use Rattle.wasi_calls_rules.specs.Hosts.{Node, IsThere, IsDescriptor};
+ghost use Rattle.wasi_calls_rules.specs.Checks.{node_named};
 ghost use Rattle.wasi_calls_rules.specs.Entries.{free_from, free_number};
 ghost use Rattle.wasi_calls_rules.specs.Paths.{node_at};
 ghost use Rattle.wasi_calls_rules.specs.Small.{with_descriptor};
+ghost use Rattle.wasi_calls.specs.Openings.{is_free};
 ghost use Rattle.wasi_calls.specs.Places.{IsWellPlaced, place_of};
 ghost use Rattle.wasi_calls.specs.Steps.{GivesValue};
 
@@ -42,7 +44,7 @@ impl Host {
     /// Opens a descriptor of a node under a free number.
     pub(crate) fn open(&mut self, number: u32, descriptor: Descriptor)
         requires free { free_number self.old.host ≡ Ok number }
-        requires node { (k : ℕ) × (descriptor.target ≡ Node k) }
+        requires node { descriptor.target ≡ Node (node_named descriptor.target) }
         requires is { IsDescriptor self.old.host.files descriptor }
         ensures { self.new ≡ record self.old {
             host = with_descriptor number descriptor self.old.host } }
@@ -56,20 +58,33 @@ impl Host {
         requires file { is_directory self.old.host.files node ≡ false }
         ensures cut { OnOk result (self.new ≡ record self.old { host = record self.old.host {
             files = with_file_bytes node [] self.old.host.files } }) }
+        ensures there { OnOk result (IsThere self.new.host.files (Node node)) }
         ensures unchanged { OnErr result (self.new ≡ self.old) }
     {
-        self.resize(node, 0)
+        self.tree.resize(node, 0)?;
+        Ok(())
     }
 }
 
 /// The place of the first that is free, behind those of the streams.
 fn first_free(descriptors: &[Option<Descriptor>]) -> Option<usize>
-    ensures { result ≡ free_from 0 descriptors.now }
+    ensures first { result ≡ free_from 0 descriptors.now }
+    ensures within { IfSome result (λ n. n < length descriptors.now) }
 {
     for place in 0..descriptors.len() {
-        if place >= FIRST_FREE && descriptors[place].is_none() {
+        if is_free(place, &descriptors[place]) {
             return Some(place);
         }
     }
     None
+}
+
+/// Whether nothing is open at a place that may be given.
+fn is_free(place: usize, descriptor: &Option<Descriptor>) -> bool
+    ensures { result ≡ is_free place descriptor.now }
+{
+    match descriptor {
+        Some(_) => false,
+        None => place >= FIRST_FREE,
+    }
 }
