@@ -8,9 +8,11 @@ use Rattle.file_tree.specs.rules.Bytes.{written, resized}
 use Rattle.file_tree.specs.rules.Files.{FileNode, Files, Content, File, bytes_of_content, is_directory, is_directory_content, IsSmallContent, bytes_of_node, with_file_bytes}
 use Rattle.file_tree.specs.declared.limits.TheConstants.{NODES, FILE_BYTES}
 use Rattle.file_tree.specs.Store.Changes.{node_written, node_resized}
-use Rattle.file_tree.specs.Links.{IsTree, node_in, hook_held, hook_of, content_held, content_shown, holds_directory_node, is_directory_in, file_bytes_of, bytes_held_in, used_in, AreNodes, shown_node, files, IsPlace, IsNowhere}
+use Rattle.file_tree.specs.Links.{IsTree, node_in, hook_held, hook_of, content_held, content_shown, holds_directory_node, is_directory_in, file_bytes_of, bytes_held_in, used_in, chunks_in, AreNodes, shown_node, files, IsPlace, IsNowhere}
 use Rattle.file_tree.proofs.Lookups.{directory_shown, bytes_shown, node_at_place}
-use Rattle.file_tree.proofs.Lists.{in_changed_same, in_changed_other, rising_changed, length-changed, all_changed, all_in, shown_changed_one, none_changed, used_changed, used_holds, used_small}
+use Rattle.file_tree.proofs.Lists.{in_changed_same, in_changed_other, rising_changed, length-changed, all_changed, all_in, shown_changed_one, none_changed, used_changed, used_holds, used_small, chunks_changed, chunks_hold, chunks_within}
+use Rattle.file_tree.proofs.StoreLemmas.Sized.{no_more}
+use Rattle.file_tree.specs.rules.Chunks.{chunks_for}
 use Rattle.file_tree.proofs.Sizes.{AreBytes, length-written, file_is, shown_written, shown_resized, small_written, small_resized}
 
 -- the file at a place gets other bytes
@@ -81,6 +83,9 @@ pub record IsRewritten (ns : List Node) (next k i : ℕ) (n : Node) (f : Node �
   pub files_are : files (changed f i ns) next ≡ with_file_bytes k bytes fs
   pub used : used_in (changed f i ns) ≡ used_in ns - length (file_bytes_of n) + length bytes
   pub fits : used_in ns - length (file_bytes_of n) + length bytes < 2 ^ 64
+  pub chunks : chunks_in (changed f i ns) ≡ chunks_in ns - chunks_for (length (file_bytes_of n)) + chunks_for (length bytes)
+  pub chunks_hold : chunks_for (length (file_bytes_of n)) ≤ chunks_in ns
+  pub chunks_fit : chunks_in ns - chunks_for (length (file_bytes_of n)) + chunks_for (length bytes) < 2 ^ 64
 
 is_rewritten : (ns : List Node) (next k i : ℕ) (n : Node) (f : Node → Node) (bytes : List ℕ) (fs : Files) → files ns next ≡ fs → Rewrites ns next k i n f bytes → IsRewritten ns next k i n f bytes fs
 is_rewritten ns next k i n f bytes fs e r = record {
@@ -88,6 +93,9 @@ is_rewritten ns next k i n f bytes fs e r = record {
   files_are = rewritten_files ns next k i n f bytes r ∙ ap (with_file_bytes k bytes) e;
   used = omega (arith, used_changed f ns k i n r.place r.there, used_holds ns k n r.there, ap (λ (c : Content). length (bytes_of_content c)) r.content);
   fits = (let most : length ns * FILE_BYTES ≤ NODES * FILE_BYTES = omega (arith, r.are.few) in omega (arith, used_small ns r.are.contents, most, r.small.0));
+  chunks = omega (arith, chunks_changed f ns k i n r.place r.there, chunks_hold ns k n r.there, ap (λ (c : Content). chunks_for (length (bytes_of_content c))) r.content);
+  chunks_hold = chunks_hold ns k n r.there;
+  chunks_fit = (let most : length ns * FILE_BYTES ≤ NODES * FILE_BYTES = omega (arith, r.are.few) in omega (arith, used_small ns r.are.contents, chunks_within ns, most, r.small.0, no_more (length bytes)));
 }
 
 is_written : (ns : List Node) (next k i : ℕ) (n : Node) (from : ℕ) (bytes : List ℕ) (fs : Files) → files ns next ≡ fs → AreNodes ns next → IsPlace ns k i → n ≡ get_or ns i n → is_directory fs k ≡ false → AreBytes bytes → from + length bytes ≤ length (bytes_of_node fs k)
@@ -134,6 +142,7 @@ pub record IsOverwritten (ns : List Node) (next k i from : ℕ) (bytes : List �
   pub nodes : AreNodes (changed (node_written from bytes) i ns) next
   pub files_are : files (changed (node_written from bytes) i ns) next ≡ with_file_bytes k (written (bytes_of_node fs k) from bytes) fs
   pub used : used_in (changed (node_written from bytes) i ns) ≡ used_in ns
+  pub chunks : chunks_in (changed (node_written from bytes) i ns) ≡ chunks_in ns
 
 node_placed : (ns : List Node) (k i : ℕ) → IsPlace ns k i → (n : Node) × (n ≡ get_or ns i n)
 node_placed [] k i h = absurd h
@@ -146,8 +155,10 @@ is_overwritten ns next k i from bytes fs e are place file b fits =
     let n = node_placed ns k i place in
     let all = is_written ns next k i n.0 from bytes fs e are place n.1 file b fits in
     let there : node_in ns k ≡ Some n.0 = node_at_place ns k i n.0 place ∙ ap (λ (x : Node). Some x) (sym n.1) in
+    let same : length (written (bytes_of_node fs k) from bytes) ≡ length (file_bytes_of n.0) = omega (arith, length-written (bytes_of_node fs k) from bytes, fits, ap length (bytes_at ns next k n.0 fs e there)) in
     record {
       nodes = all.nodes;
       files_are = all.files_are;
-      used = omega (arith, all.used, used_holds ns k n.0 there, length-written (bytes_of_node fs k) from bytes, fits, ap length (bytes_at ns next k n.0 fs e there));
+      used = omega (arith, all.used, used_holds ns k n.0 there, same);
+      chunks = omega (arith, all.chunks, all.chunks_hold, ap chunks_for same);
     }

@@ -9,7 +9,8 @@ use Rattle.file_tree.specs.declared.store.node.Hook.{Hook}
 use Rattle.file_tree.specs.declared.store.node.Hook.TheVariants.{Root, Removed, In}
 use Rattle.file_tree.specs.declared.store.node.Node.{Node}
 use Rattle.file_tree.specs.rules.Files.{Name, Path, FileNode, Files, IsSmallContent, forgotten, path_of}
-use Rattle.file_tree.specs.Links.{IsTree, node_in, hook_held, hook_of, content_held, content_shown, holds_directory_node, is_directory_in, is_hung, file_bytes_of, used_in, AreNodes, AreRisingNodes, shown_node, files, IsPlace, IsNowhere}
+use Rattle.file_tree.specs.Links.{IsTree, node_in, hook_held, hook_of, content_held, content_shown, holds_directory_node, is_directory_in, is_hung, file_bytes_of, used_in, chunks_in, AreNodes, AreRisingNodes, shown_node, files, IsPlace, IsNowhere}
+use Rattle.file_tree.specs.rules.Chunks.{chunks_for}
 use Rattle.file_tree.proofs.Lookups.{node_nowhere, hung_has_path}
 use Rattle.file_tree.proofs.Lists.{numbers_from, nowhere_above}
 use Rattle.file_tree.proofs.Seen.{nothing_in}
@@ -71,6 +72,7 @@ pub record IsForgotten (ns : List Node) (next k i : ℕ) (n : Node) (fs : Files)
   pub nodes : AreNodes (remove ns i) next
   pub files_are : files (remove ns i) next ≡ forgotten k fs
   pub used : used_in (remove ns i) + length (file_bytes_of n) ≡ used_in ns
+  pub chunks : chunks_in (remove ns i) + chunks_for (length (file_bytes_of n)) ≡ chunks_in ns
 
 no_path_is : (o : Option Path) → is_some o ≡ false → o ≡ None
 no_path_is None e = refl
@@ -104,6 +106,7 @@ is_forgotten ns next k i n fs e are place at gone =
           ∙ ap (λ (xs : List FileNode). record { nodes = xs; next = next }) (shown_without (shown_node next (hook_of ns)) 1 ns next k i (λ m. refl) are.rising place)
           ∙ ap (forgotten k) e;
       used = (let sum = sum_by-remove (λ (x : Node). length (file_bytes_of x)) ns i n lt in omega (arith, sum, ap (λ (x : Node). length (file_bytes_of x)) at));
+      chunks = (let sum = sum_by-remove (λ (x : Node). chunks_for (length (file_bytes_of x))) ns i n lt in omega (arith, sum, ap (λ (x : Node). chunks_for (length (file_bytes_of x))) at));
     }
 
 -- where no node has the number nothing is changed

@@ -1,13 +1,15 @@
 -- Nodes in a list of which one is changed, put behind the others or taken out.
 use Rattle.std.proofs.Common.{◌≡◌, ◌≢◌, ℕ, zero, suc, ◌+◌, ◌*◌, ◌<◌, ◌≤◌, Bool, true, false, cond, eqb, List, [], ◌∷◌, ◌++◌, length, map, Option, Some, refl, sym, ap, subst, ◌∙◌, arith}
-use Rattle.std.specs.List.{AllByRecursion}
+use Rattle.std.specs.List.{AllByRecursion, sum_by}
 use Rattle.std.proofs.lemmas.Bool.{eqb-true, eq-eqb, ne_eqb}
 use Rattle.std.proofs.lemmas.List.Sums.{sum_by-cons}
 use Rattle.file_tree.specs.declared.store.node.Node.{Node}
 use Rattle.file_tree.specs.Store.Stored.{changed}
 use Rattle.file_tree.specs.rules.Files.{FileNode, Content, Directory, File, bytes_of_content, changed_at, IsSmallContent}
 use Rattle.file_tree.specs.declared.limits.TheConstants.{FILE_BYTES}
-use Rattle.file_tree.specs.Links.{node_in, file_bytes_of, used_in, content_shown, AreRisingNodes, IsPlace, IsNowhere}
+use Rattle.file_tree.specs.rules.Chunks.{chunks_for}
+use Rattle.file_tree.proofs.StoreLemmas.Sized.{no_more}
+use Rattle.file_tree.specs.Links.{node_in, file_bytes_of, used_in, chunks_in, content_shown, AreRisingNodes, IsPlace, IsNowhere}
 
 -- ---- rising numbers
 
@@ -76,23 +78,47 @@ all_in P (m ∷ ns) k n e h = by_test (eqb m.number k) (λ later. all_in P ns k 
   by_test true later e = (let some_is : m ≡ n = cc in subst P some_is h.0)
   by_test false later e = later e
 
--- how many bytes there are after a change
-pub used_changed : (f : Node → Node) (ns : List Node) (k i : ℕ) (n : Node) → IsPlace ns k i → node_in ns k ≡ Some n → used_in (changed f i ns) + length (file_bytes_of n) ≡ used_in ns + length (file_bytes_of (f n))
-used_changed f [] k i n h e = absurd h
-used_changed f (m ∷ ns) k zero n h e =
+-- a sum over all nodes after a change of one
+pub sum_changed : (size : Node → ℕ) (f : Node → Node) (ns : List Node) (k i : ℕ) (n : Node) → IsPlace ns k i → node_in ns k ≡ Some n → sum_by size (changed f i ns) + size n ≡ sum_by size ns + size (f n)
+sum_changed size f [] k i n h e = absurd h
+sum_changed size f (m ∷ ns) k zero n h e =
     let some_is : m ≡ n = (let s : Some m ≡ Some n = sym (ap (λ (b : Bool). cond b (Some m) (node_in ns k)) (eq-eqb m.number k h)) ∙ e in cc) in
-    let size : Node → ℕ = λ x. length (file_bytes_of x) in
-    omega (arith, sum_by-cons (λ (x : Node). length (file_bytes_of x)) (f m) ns, sum_by-cons (λ (x : Node). length (file_bytes_of x)) m ns, ap (λ (x : Node). length (file_bytes_of x)) some_is, ap (λ (x : Node). length (file_bytes_of (f x))) some_is)
-used_changed f (m ∷ ns) k (suc i) n h e =
+    omega (arith, sum_by-cons size (f m) ns, sum_by-cons size m ns, ap size some_is, ap (λ (x : Node). size (f x)) some_is)
+sum_changed size f (m ∷ ns) k (suc i) n h e =
     let later : node_in ns k ≡ Some n = sym (ap (λ (b : Bool). cond b (Some m) (node_in ns k)) (ne_eqb m.number k h.0)) ∙ e in
-    omega (arith, sum_by-cons (λ (x : Node). length (file_bytes_of x)) m (changed f i ns), sum_by-cons (λ (x : Node). length (file_bytes_of x)) m ns, used_changed f ns k i n h.1 later)
+    omega (arith, sum_by-cons size m (changed f i ns), sum_by-cons size m ns, sum_changed size f ns k i n h.1 later)
+
+-- it is no less than what one node adds
+pub sum_holds : (size : Node → ℕ) (ns : List Node) (k : ℕ) (n : Node) → node_in ns k ≡ Some n → size n ≤ sum_by size ns
+sum_holds size [] k n e = absurd cc
+sum_holds size (m ∷ ns) k n e = by_test (eqb m.number k) (λ later. sum_holds size ns k n later) e where
+  by_test : (b : Bool) → (node_in ns k ≡ Some n → size n ≤ sum_by size ns) → cond b (Some m) (node_in ns k) ≡ Some n → size n ≤ sum_by size (m ∷ ns)
+  by_test true later e = (let some_is : m ≡ n = cc in omega (arith, sum_by-cons size m ns, ap size some_is))
+  by_test false later e = omega (arith, sum_by-cons size m ns, later e)
+
+-- how many bytes and chunks there are
+abbrev pub size_of : Node → ℕ
+size_of n = length (file_bytes_of n)
+
+abbrev pub chunks_of_node : Node → ℕ
+chunks_of_node n = chunks_for (length (file_bytes_of n))
+
+pub used_changed : (f : Node → Node) (ns : List Node) (k i : ℕ) (n : Node) → IsPlace ns k i → node_in ns k ≡ Some n → used_in (changed f i ns) + length (file_bytes_of n) ≡ used_in ns + length (file_bytes_of (f n))
+used_changed f ns k i n h e = sum_changed size_of f ns k i n h e
 
 pub used_holds : (ns : List Node) (k : ℕ) (n : Node) → node_in ns k ≡ Some n → length (file_bytes_of n) ≤ used_in ns
-used_holds [] k n e = absurd cc
-used_holds (m ∷ ns) k n e = by_test (eqb m.number k) (λ later. used_holds ns k n later) e where
-  by_test : (b : Bool) → (node_in ns k ≡ Some n → length (file_bytes_of n) ≤ used_in ns) → cond b (Some m) (node_in ns k) ≡ Some n → length (file_bytes_of n) ≤ used_in (m ∷ ns)
-  by_test true later e = (let some_is : m ≡ n = cc in omega (arith, sum_by-cons (λ (x : Node). length (file_bytes_of x)) m ns, ap (λ (x : Node). length (file_bytes_of x)) some_is))
-  by_test false later e = omega (arith, sum_by-cons (λ (x : Node). length (file_bytes_of x)) m ns, later e)
+used_holds ns k n e = sum_holds size_of ns k n e
+
+pub chunks_changed : (f : Node → Node) (ns : List Node) (k i : ℕ) (n : Node) → IsPlace ns k i → node_in ns k ≡ Some n → chunks_in (changed f i ns) + chunks_of_node n ≡ chunks_in ns + chunks_of_node (f n)
+chunks_changed f ns k i n h e = sum_changed chunks_of_node f ns k i n h e
+
+pub chunks_hold : (ns : List Node) (k : ℕ) (n : Node) → node_in ns k ≡ Some n → chunks_of_node n ≤ chunks_in ns
+chunks_hold ns k n e = sum_holds chunks_of_node ns k n e
+
+-- a chunk holds a byte at least
+pub chunks_within : (ns : List Node) → chunks_in ns ≤ used_in ns
+chunks_within [] = omega arith
+chunks_within (m ∷ ns) = omega (arith, sum_by-cons size_of m ns, sum_by-cons chunks_of_node m ns, no_more (length (file_bytes_of m)), chunks_within ns)
 
 pub small_bytes : (n : Node) → IsSmallContent (content_shown n.content) → length (file_bytes_of n) ≤ FILE_BYTES
 small_bytes n h = of_content (content_shown n.content) h where

@@ -9,7 +9,8 @@ use Rattle.file_tree.specs.declared.store.node.Hook.{Hook}
 use Rattle.file_tree.specs.declared.store.node.Hook.TheVariants.{Root, Removed, In}
 use Rattle.file_tree.specs.declared.store.node.Node.{Node}
 use Rattle.file_tree.specs.rules.Files.{Path, FileNode, path_of, is_directory, holds_directory, bytes_of_node, bytes_held, bytes_of_content, used}
-use Rattle.file_tree.specs.Links.{climb, node_in, hook_held, hook_of, content_held, is_directory_in, holds_directory_node, file_bytes_of, bytes_held_in, used_in, is_hung, AreNodes, shown_node, files, IsPlace, IsNowhere}
+use Rattle.file_tree.specs.rules.Chunks.{chunks_for, chunks_of}
+use Rattle.file_tree.specs.Links.{climb, node_in, hook_held, hook_of, content_held, is_directory_in, holds_directory_node, file_bytes_of, bytes_held_in, used_in, chunks_in, is_hung, AreNodes, shown_node, files, IsPlace, IsNowhere}
 use Rattle.file_tree.proofs.Climbs.{path_is, no_path}
 use Rattle.file_tree.proofs.Lists.{number_in}
 
@@ -77,6 +78,15 @@ used_shown ns next = go ns where
       sum_by-cons (λ (n : FileNode). length (bytes_of_content n.content)) (shown_node next (hook_of ns) m) (map (shown_node next (hook_of ns)) ms)
       ∙ ap (λ (n : ℕ). length (file_bytes_of m) + n) (go ms)
       ∙ sym (sum_by-cons (λ (n : Node). length (file_bytes_of n)) m ms)
+
+pub chunks_shown : (ns : List Node) (next : ℕ) → chunks_of (files ns next) ≡ chunks_in ns
+chunks_shown ns next = go ns where
+  go : (ms : List Node) → chunks_of (record { nodes = map (shown_node next (hook_of ns)) ms; next = next }) ≡ chunks_in ms
+  go [] = refl
+  go (m ∷ ms) =
+      sum_by-cons (λ (n : FileNode). chunks_for (length (bytes_of_content n.content))) (shown_node next (hook_of ns) m) (map (shown_node next (hook_of ns)) ms)
+      ∙ ap (λ (n : ℕ). chunks_for (length (file_bytes_of m)) + n) (go ms)
+      ∙ sym (sum_by-cons (λ (n : Node). chunks_for (length (file_bytes_of n))) m ms)
 
 -- ---- whether a node has a path
 

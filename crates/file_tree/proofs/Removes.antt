@@ -9,12 +9,12 @@ use Rattle.file_tree.specs.Store.Stored.{changed}
 use Rattle.file_tree.specs.Store.Changes.{with_hook}
 use Rattle.file_tree.specs.rules.Files.{Name, IsNodeName, Path, FileNode, Files, removed, entries_of, is_directory}
 use Rattle.file_tree.specs.rules.Changes.{CanLose}
-use Rattle.file_tree.specs.Links.{Up, climb, IsTree, node_in, hook_of, content_shown, is_directory_in, has_child, used_in, AreNodes, shown_node, files, IsPlace, IsNowhere}
+use Rattle.file_tree.specs.Links.{Up, climb, IsTree, node_in, hook_of, content_shown, is_directory_in, has_child, used_in, chunks_in, AreNodes, shown_node, files, IsPlace, IsNowhere}
 use Rattle.file_tree.proofs.Climbs.{path_is, no_path}
 use Rattle.file_tree.proofs.Lookups.{directory_shown, node_at_place}
 use Rattle.file_tree.proofs.Lists.{shown_changed_one, none_changed, number_in}
 use Rattle.file_tree.proofs.Grows.{removed_or_not}
-use Rattle.file_tree.proofs.Hangs.{Hangs, hung_here, hung_others, hung_used, hung_nodes}
+use Rattle.file_tree.proofs.Hangs.{Hangs, hung_here, hung_others, hung_used, hung_chunks, hung_nodes}
 use Rattle.file_tree.proofs.Seen.{empty_shown, no_child}
 
 pub record Loses (hook after : ℕ → Hook) (next k : ℕ) : Type 0 where
@@ -57,6 +57,7 @@ pub record IsLost (ns : List Node) (next k i : ℕ) (fs : Files) : Type 0 where
   pub nodes : AreNodes (changed (with_hook Removed) i ns) next
   pub files_are : files (changed (with_hook Removed) i ns) next ≡ removed k fs
   pub used : used_in (changed (with_hook Removed) i ns) ≡ used_in ns
+  pub chunks : chunks_in (changed (with_hook Removed) i ns) ≡ chunks_in ns
 
 not_false : (b : Bool) → not b ≡ true → b ≡ false
 not_false true e = absurd cc
@@ -92,6 +93,7 @@ is_lost ns next k i fs e are place can =
       nodes = hung_nodes ns next k i n Removed h (lost_tree hook after next k l) placed;
       files_are = ap (λ (xs : List FileNode). record { nodes = xs; next = next }) (shown_changed_one S T g (with_hook Removed) 1 ns next k i n place there are.rising (λ m. refl) others one) ∙ ap (removed k) e;
       used = hung_used ns next k i n Removed h;
+      chunks = hung_chunks ns next k i n Removed h;
     }
 
 -- where no node has the number nothing is changed

@@ -1,2 +1,4 @@
 pub mod Keys
+pub mod Overs
 pub mod Padded
+pub mod Sized

@@ -7,6 +7,7 @@ use Rattle.file_tree.specs.declared.store.node.NodeContent as store
 use Rattle.file_tree.specs.declared.store.node.NodeContent.TheVariants as content
 use Rattle.file_tree.specs.declared.store.node.Node.{Node}
 use Rattle.file_tree.specs.rules.Files.{Name, Path, FileNode, Files, Content, Directory, File, IsNodeName, IsSmallContent, bytes_of_content, is_directory_content, is_same_name, Entry}
+use Rattle.file_tree.specs.rules.Chunks.{chunks_for}
 use Rattle.file_tree.specs.declared.limits.TheConstants.{NODES}
 
 -- ---- hooks
@@ -87,6 +88,10 @@ bytes_held_in (Some n) = file_bytes_of n
 -- how many bytes all files have
 abbrev pub used_in : List Node → ℕ
 used_in ns = sum_by (λ (n : Node). length (file_bytes_of n)) ns
+
+-- how many chunks all files have
+abbrev pub chunks_in : List Node → ℕ
+chunks_in ns = sum_by (λ (n : Node). chunks_for (length (file_bytes_of n))) ns
 
 abbrev pub AreRisingNodes : ℕ → List Node → ℕ → Type 0
 AreRisingNodes least [] next = least ≤ next

@@ -1,4 +1,5 @@
 pub mod Bytes
 pub mod Changes
+pub mod Chunks
 pub mod Files
 pub mod Listings

@@ -5,9 +5,10 @@ ghost use Rattle.file_tree.specs.declared.store.node.Node.{Node as StoredNode};
 ghost use Rattle.std.specs.List.{remove};
 ghost use Rattle.file_tree.specs.Links.{IsPlace, IsNowhere, node_in, hook_held, content_held, holds_directory_node, bytes_held_in, is_hung, name_of_hook, content_shown};
 ghost use Rattle.file_tree.specs.rules.Changes.{empty};
+ghost use Rattle.file_tree.specs.rules.Chunks.{chunks_for};
 
 use crate::kind::NodeKind;
-use crate::store::{ByteList, Hook, Node, NodeContent, Nodes};
+use crate::store::{FileBytes, Hook, Node, NodeContent, Nodes};
 use std::alloc::Global;
 
 /// The place of the node with this number.
@@ -47,16 +48,44 @@ pub fn holds_directory(node: Option<&Node>) -> bool
     }
 }
 
-/// The bytes of a file that is there, else none.
-pub fn bytes_held(node: Option<&Node>) -> &[u8]
-    ensures { result.now ≡ bytes_held_in (option_copied node.entry) }
+/// How many bytes a file has that is there; a directory has none.
+pub fn size_held(node: Option<&Node>) -> usize
+    ensures { result ≡ length (bytes_held_in (option_copied node.entry)) }
 {
     match node {
         Some(node) => match &node.content {
-            NodeContent::Directory => b"",
-            NodeContent::File(file) => file.as_slice(),
+            NodeContent::Directory => 0,
+            NodeContent::File(file) => file.len(),
         },
-        None => b"",
+        None => 0,
+    }
+}
+
+/// How many chunks a file has that is there; a directory has none.
+pub fn chunks_held(node: Option<&Node>) -> usize
+    ensures { result ≡ chunks_for (length (bytes_held_in (option_copied node.entry))) }
+{
+    match node {
+        Some(node) => match &node.content {
+            NodeContent::Directory => 0,
+            NodeContent::File(file) => file.chunks(),
+        },
+        None => 0,
+    }
+}
+
+/// Puts a file's bytes from one of them on into `into`, as many as there are and fit, and gives how many. Where no file is
+/// there, there are none.
+pub fn read_held(node: Option<&Node>, from: usize, into: &mut [u8]) -> usize
+    ensures count { result ≡ length (take (length into.old) (drop from (bytes_held_in (option_copied node.entry)))) }
+    ensures copied { into.new ≡ take (length into.old) (drop from (bytes_held_in (option_copied node.entry))) ++ drop result into.old }
+{
+    match node {
+        Some(node) => match &node.content {
+            NodeContent::Directory => 0,
+            NodeContent::File(file) => file.read(from, into),
+        },
+        None => 0,
     }
 }
 
@@ -104,25 +133,7 @@ pub fn new_content(alloc: Global, kind: NodeKind) -> NodeContent
 {
     match kind {
         NodeKind::Directory => NodeContent::Directory,
-        NodeKind::File => NodeContent::File(ByteList::new(alloc)),
-    }
-}
-
-/// Puts bytes from a place on into `into`, as many as there are and fit, and gives how many.
-pub fn copy_front(bytes: &[u8], from: u64, into: &mut [u8]) -> usize
-    ensures count { result ≡ length (take (length into.old) (drop from bytes.now)) }
-    ensures copied { into.new ≡ take (length into.old) (drop from bytes.now) ++ drop result into.old }
-{
-    if from >= bytes.len() as u64 {
-        return 0;
-    }
-    let rest = &bytes[from as usize..];
-    if rest.len() >= into.len() {
-        into.copy_from_slice(&rest[..into.len()]);
-        into.len()
-    } else {
-        into[..rest.len()].copy_from_slice(rest);
-        rest.len()
+        NodeKind::File => NodeContent::File(FileBytes::new(alloc)),
     }
 }
 

@@ -3,6 +3,7 @@
 ghost use Rattle.std.specs.Prelude.{◌≡◌, ◌<◌, ◌^◌, ◌++◌, ◌∷◌, [], length, ℕ, ◌+◌, ◌≢◌, Some, slice_get, option_map, IfSome, IfNone, ◌≤◌, ◌==◌, drop, false, IfOk, OnOk, OnErr, is_some};
 ghost use Rattle.file_tree.specs.rules.Bytes.{written, resized};
 ghost use Rattle.file_tree.specs.rules.Files.{Name, Path, Entry, IsFiles, fresh, is_directory, bytes_of_node, used, path_of, child, entries_of, created, with_file_bytes, removed, forgotten, renamed};
+ghost use Rattle.file_tree.specs.rules.Chunks.{chunks_of};
 ghost use Rattle.file_tree.specs.rules.Listings.{number_at_place, number_after, HasNameAtPlace};
 ghost use Rattle.file_tree.specs.rules.Changes.{IsFree, CanLose, CanMove, IsParent, is_within, empty, path_at, read_from};
 ghost use Rattle.file_tree.specs.declared.limits.TheConstants.{NODES, FILE_BYTES};
@@ -11,10 +12,10 @@ use crate::children::{child_of, has_children, leads_to, parent_of};
 use crate::entries::{entry_at, nearest_after};
 use crate::kind::NodeKind;
 use crate::lookup::{
-    bytes_held, copy_front, drop_node, holds_directory, holds_path, name_held, new_content,
-    node_of, number_held, place_of,
+    chunks_held, drop_node, holds_directory, holds_path, name_held, new_content, node_of,
+    number_held, place_of, read_held, size_held,
 };
-use crate::store::{ByteList, Hook, Node, NodeContent, Nodes};
+use crate::store::{ByteList, Hook, Node, NodeContent, Nodes, chunks_of_size};
 use std::alloc::{AllocError, Global};
 use std::marker::Model;
 
@@ -24,6 +25,7 @@ pub struct Tree {
     nodes: Nodes,
     next: u64,
     used: u64,
+    chunks: usize,
 }
 
 impl Model for Tree {
@@ -32,11 +34,11 @@ impl Model for Tree {
 
     ghost Value = { Files };
 
-    ghost use Rattle.file_tree.specs.Links.{files, AreNodes, used_in};
+    ghost use Rattle.file_tree.specs.Links.{files, AreNodes, used_in, chunks_in};
 
     ghost view = { λ t. files t.nodes t.next };
 
-    ghost invariant = { λ t. AreNodes t.nodes t.next × (t.used ≡ used_in t.nodes) };
+    ghost invariant = { λ t. AreNodes t.nodes t.next × (t.used ≡ used_in t.nodes) × (t.chunks ≡ chunks_in t.nodes) };
 }
 
 impl Tree {
@@ -54,6 +56,7 @@ impl Tree {
             nodes,
             next: 2,
             used: 0,
+            chunks: 0,
         })
     }
 
@@ -68,7 +71,7 @@ impl Tree {
     pub fn size(&self, number: u64) -> u64
         ensures { result ≡ length (bytes_of_node self.now number) }
     {
-        bytes_held(node_of(&self.nodes, number)).len() as u64
+        size_held(node_of(&self.nodes, number)) as u64
     }
 
     /// How many bytes all files have, removed ones that are still there included.
@@ -76,6 +79,13 @@ impl Tree {
         ensures { result ≡ used self.now }
     {
         self.used
+    }
+
+    /// How many chunks all files have, removed ones that are still there included: what they take of memory.
+    pub fn chunks(&self) -> usize
+        ensures { result ≡ chunks_of self.now }
+    {
+        self.chunks
     }
 
     /// Whether the node with this number has a path: it is there, and wasn't removed.
@@ -139,7 +149,7 @@ impl Tree {
         ensures count { result ≡ length (read_from self.now number from (length into.old)) }
         ensures bytes { into.new ≡ read_from self.now number from (length into.old) ++ drop result into.old }
     {
-        copy_front(bytes_held(node_of(&self.nodes, number)), from, into)
+        read_held(node_of(&self.nodes, number), from as usize, into)
     }
 
     /// The directory above a node: none above the root, a removed node, or one that isn't there.
@@ -220,9 +230,11 @@ impl Tree {
         let Some(place) = place_of(&self.nodes, number) else {
             return Ok(());
         };
-        let before = bytes_held(Some(self.nodes.get(place))).len() as u64;
+        let file = Some(self.nodes.get(place));
+        let (bytes, chunks) = (size_held(file) as u64, chunks_held(file));
         self.nodes.resize(place, size as usize)?;
-        self.used = self.used - before + size;
+        self.used = self.used - bytes + size;
+        self.chunks = self.chunks - chunks + chunks_of_size(size as usize);
         Ok(())
     }
 
@@ -244,9 +256,11 @@ impl Tree {
         ensures { self.new ≡ forgotten number self.old }
     {
         if let Some(place) = place_of(&self.nodes, number) {
-            let size = bytes_held(Some(self.nodes.get(place))).len() as u64;
+            let file = Some(self.nodes.get(place));
+            let (bytes, chunks) = (size_held(file) as u64, chunks_held(file));
             drop_node(&mut self.nodes, place);
-            self.used -= size;
+            self.used -= bytes;
+            self.chunks -= chunks;
         }
     }
 

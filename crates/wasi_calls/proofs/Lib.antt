@@ -14,3 +14,4 @@ pub mod Walks
 pub mod GivenPaths
 pub mod Parts
 pub mod Entries
+pub mod SmallInFront

@@ -26,7 +26,7 @@ behind_host before (Ok h) = Ok (behind_lines before h)
 behind_host before (Err halt) = Err halt
 
 module _ (before : List Line) where
-  next : {A : Type 0} (r : Result A Halt) (f g : A → Ruling) → ((x : A) → f x ≡ behind_lines_of_row before (g x)) → (r >>= f) ≡ behind_lines_of_row before (r >>= g)
+  pub next : {A : Type 0} (r : Result A Halt) (f g : A → Ruling) → ((x : A) → f x ≡ behind_lines_of_row before (g x)) → (r >>= f) ≡ behind_lines_of_row before (r >>= g)
   next (Ok x) f g e = e x
   next (Err halt) f g e = refl
 

@@ -33,6 +33,8 @@
 //! without it nothing changes. A call takes some once all of its checks have passed.
 #![tactic(auto)]
 
+mod arguments;
+mod calls;
 mod changes;
 mod count;
 mod cut;
@@ -50,6 +52,7 @@ mod status;
 mod stop;
 mod streams;
 
+pub use calls::call;
 pub use host::Host;
 pub use line::Line;
 pub use outcome::CallOutcome;

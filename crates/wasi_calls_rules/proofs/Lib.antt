@@ -22,3 +22,4 @@ pub mod Fitting
 pub mod PathExamplesHold
 pub mod OpenExamplesHold
 pub mod StoryExamplesHold
+pub mod Halts

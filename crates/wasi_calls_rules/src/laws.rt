@@ -28,7 +28,7 @@ ghost use Rattle.wasi_calls_rules.specs.laws.CallLimits.{CallLimitNumbers};
 ghost use Rattle.wasi_calls_rules.specs.laws.Laws.{RowsKeepMemory, RowsKeepBytes, RowsEmit};
 ghost use Rattle.wasi_calls_rules.specs.laws.Laws.{RowsKeepConfigurations, RowsKeepHostsOfBytes};
 ghost use Rattle.wasi_calls_rules.specs.laws.Laws.{FirstHostsAreHosts, RowsKeepHosts};
-ghost use Rattle.wasi_calls_rules.specs.laws.Laws.{RowsMakeOneNodeAtMost};
+ghost use Rattle.wasi_calls_rules.specs.laws.Laws.{RowsMakeOneNodeAtMost, RowsHalt};
 ghost use Rattle.wasi_calls_rules.specs.laws.Laws.{TestsTellWhatFits};
 
 /// The rules give on examples what the profile gives.
@@ -122,6 +122,11 @@ pub fn calls_in_turn_on_examples()
 pub fn calls_keep_memory()
     ensures length { RowsKeepMemory }
     ensures bytes { RowsKeepBytes }
+{}
+
+/// Three calls alone ask for an answer from outside, and one alone ends the process.
+pub fn calls_halt_each_for_its_reasons()
+    ensures { RowsHalt }
 {}
 
 /// No call that is done takes back a line.

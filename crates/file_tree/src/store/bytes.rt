@@ -1,7 +1,6 @@
-//! The bytes of a file or of a name.
+//! The bytes of a name.
 
-ghost use Rattle.std.specs.Prelude.{◌≡◌, ◌+◌, ◌≤◌, ◌++◌, [], length, take, drop, IfOk, OnOk, OnErr};
-ghost use Rattle.file_tree.specs.rules.Bytes.{written, resized};
+ghost use Rattle.std.specs.Prelude.{◌≡◌, [], length, IfOk};
 
 use std::alloc::{AllocError, Global};
 use std::marker::Model;
@@ -51,30 +50,5 @@ impl ByteList {
         ensures { result ≡ length self.now }
     {
         self.items.as_slice().len()
-    }
-
-    /// Puts bytes in the place of others.
-    pub fn write(&mut self, from: usize, bytes: &[u8])
-        requires { from + length bytes.now ≤ length self.old }
-        ensures { self.new ≡ written self.old from bytes.now }
-    {
-        self.put(from, bytes);
-    }
-
-    // Puts bytes in the place of others.
-    fn put(&mut self, from: usize, bytes: &[u8])
-        requires { from + length bytes.now ≤ length self.old }
-        ensures { self.new ≡ take from self.old ++ (bytes.now ++ drop (from + length bytes.now) self.old) }
-    {
-        self.items[from..from + bytes.len()].copy_from_slice(bytes);
-    }
-
-    /// Cuts the bytes to a size, or puts zeros behind them up to it. Only want of memory makes it fail,
-    /// and then nothing is changed.
-    pub fn resize(&mut self, size: usize) -> Result<(), AllocError>
-        ensures resized { OnOk result (self.new ≡ resized self.old size) }
-        ensures unchanged { OnErr result (self.new ≡ self.old) }
-    {
-        self.items.resize(size, 0)
     }
 }

@@ -1,10 +1,14 @@
 //! What a file tree is stored in: nodes in a slab, which contracts see as a list in the order in
-//! which they were pushed, and the bytes of files and names.
+//! which they were pushed, the bytes of files in chunks, and the bytes of names.
 
 mod bytes;
+mod chunks;
+mod file;
 mod node;
 mod nodes;
 
 pub use bytes::ByteList;
+pub use chunks::chunks_of_size;
+pub use file::FileBytes;
 pub use node::{Hook, Node, NodeContent};
 pub use nodes::Nodes;

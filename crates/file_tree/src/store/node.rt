@@ -1,9 +1,11 @@
 //! Nodes of a file tree.
 
 ghost use Rattle.std.specs.Prelude.{◌≡◌, ◌+◌, ◌≤◌, length, OnOk, OnErr};
+ghost use Rattle.file_tree.specs.declared.limits.TheConstants.{FILE_BYTES};
 ghost use Rattle.file_tree.specs.Store.Changes.{content_written, content_resized};
 
 use crate::store::bytes::ByteList;
+use crate::store::file::FileBytes;
 use std::alloc::AllocError;
 
 /// Where a node hangs.
@@ -23,7 +25,7 @@ pub enum NodeContent {
     /// It is a directory.
     Directory,
     /// It is a file of these bytes.
-    File(ByteList),
+    File(FileBytes),
 }
 
 /// A file or a directory.
@@ -55,6 +57,7 @@ impl NodeContent {
     /// Cuts a file to a size, or puts zeros behind its bytes up to it; a directory stays. Only want of
     /// memory makes it fail, and then nothing is changed.
     pub fn resize(&mut self, size: usize) -> Result<(), AllocError>
+        requires { size ≤ FILE_BYTES }
         ensures resized { OnOk result (self.new ≡ content_resized size self.old) }
         ensures unchanged { OnErr result (self.new ≡ self.old) }
     {

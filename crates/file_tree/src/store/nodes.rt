@@ -2,6 +2,7 @@
 
 ghost use Rattle.std.specs.Prelude.{◌≡◌, ◌+◌, ◌<◌, ◌≤◌, ◌++◌, ◌∷◌, [], length, OnOk, OnErr, slice_index_or};
 ghost use Rattle.std.specs.List.{remove};
+ghost use Rattle.file_tree.specs.declared.limits.TheConstants.{FILE_BYTES};
 ghost use Rattle.file_tree.specs.Store.Stored.{changed};
 ghost use Rattle.file_tree.specs.Store.Changes.{with_hook, node_written, node_resized};
 
@@ -102,7 +103,8 @@ impl Nodes {
     /// Cuts the file at a place to a size, or puts zeros behind its bytes up to it; a directory stays. Only want
     /// of memory makes it fail, and then nothing is changed.
     pub fn resize(&mut self, place: usize, size: usize) -> Result<(), AllocError>
-        requires { place < length self.old }
+        requires place { place < length self.old }
+        requires size { size ≤ FILE_BYTES }
         ensures resized { OnOk result (self.new ≡ changed (node_resized size) place self.old) }
         ensures unchanged { OnErr result (self.new ≡ self.old) }
     {

@@ -4,6 +4,7 @@ use Rattle.wasm_syntax.specs.declared.types.ValueType.{ValueType}
 use Rattle.wasm_syntax.specs.declared.types.ValueType.TheVariants.{I32, I64}
 use Rattle.guest_memory.specs.rules.Memories.{LinearMemory}
 use Rattle.wasi_abi.specs.declared.answer.Answer.{Answer}
+use Rattle.wasi_abi.specs.declared.errno.Errno.{Errno}
 use Rattle.wasi_abi.specs.declared.call.Call.{Call}
 use Rattle.wasi_abi.specs.rules.Calls.{is_built}
 use Rattle.wasi_calls_rules.specs.Hosts.{Host}
@@ -32,6 +33,11 @@ told_of (outcome.Done e) = IsDone e
 told_of (outcome.Ask kind) = IsAsk kind
 told_of (outcome.Exit code) = IsExit code
 told_of outcome.Memory = NoMemory
+
+-- how a call ends that is done, or refused
+abbrev pub check_outcome : Result (Unit {0}) Errno → CallOutcome
+check_outcome (Ok done) = outcome.Done None
+check_outcome (Err e) = outcome.Done (Some e)
 
 -- how a call ends that is done, or stopped
 abbrev pub call_outcome : Result (Unit {0}) CallStop → CallOutcome

@@ -4,6 +4,7 @@ ghost use Rattle.std.specs.Prelude.{◌≡◌, ◌<◌, ◌++◌, ◌∷◌, [],
 ghost use Rattle.file_tree.specs.rules.Files.{Name, child, is_directory, path_of, created};
 ghost use Rattle.file_tree.specs.rules.Changes.{IsFree, empty, path_at};
 ghost use Rattle.file_tree.specs.declared.limits.TheConstants.{NODES};
+ghost use Rattle.wasi_calls_rules.specs.Hosts.{IsHost};
 ghost use Rattle.wasi_calls_rules.specs.Entries.{a_free_node, is_directory_empty, whole_path};
 ghost use Rattle.wasi_calls_rules.specs.Entries.{without};
 ghost use Rattle.wasi_calls_rules.specs.Paths.{directory_entered, node_at};
@@ -53,6 +54,7 @@ impl Host {
             (directory_entered self.now.host.files (child self.now.host.files directory name.now)) }
         ensures child { IfOk result (λ k. child self.now.host.files directory name.now ≡ Some k) }
         ensures directory { IfOk result (λ k. is_directory self.now.host.files k ≡ true) }
+        ensures shape { IsHost self.now.host }
     {
         let node = self.child(directory, name).ok_or(Errno::Noent)?;
         if !self.tree.is_directory(node) {

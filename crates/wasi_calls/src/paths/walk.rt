@@ -39,8 +39,7 @@ pub fn placed<'a>(
     }
 }
 
-/// Where the names lead from a directory. It keeps how far below that it is, which is how often the
-/// names may lead back.
+/// Where the names lead from a directory. They may lead back no further than there.
 fn walk<'a>(host: &Host, start: u64, names: PathNames<'a>) -> Result<Place<'a>, Errno>
     requires directory { is_directory host.now.host.files start ≡ true }
     requires walked { AreWalked names }
@@ -49,19 +48,16 @@ fn walk<'a>(host: &Host, start: u64, names: PathNames<'a>) -> Result<Place<'a>, 
 {
     let mut names = names;
     let mut directory = start;
-    let mut depth: usize = 0;
     while let Some(name) = names.next() {
         if is_back(name) {
-            if depth == 0 {
+            if directory == start {
                 return Err(Errno::Notcapable);
             }
-            depth -= 1;
             directory = host.parent(directory);
         } else if names.is_empty() {
             return Ok(Place::Leaf(directory, name));
         } else {
             directory = host.entered(directory, name)?;
-            depth += 1;
         }
     }
     Ok(Place::Directory(directory))

@@ -1,13 +1,14 @@
 -- Laws of the rows: what a call that is done keeps, and which answers the rows take.
-use Rattle.std.specs.Prelude.{◌≡◌, ◌↔◌, ℕ, ◌+◌, ◌≤◌, List, ◌++◌, length, IsTrue, Option, Some, None, Ok}
+use Rattle.std.specs.Prelude.{◌≡◌, ◌↔◌, ℕ, ◌+◌, ◌≤◌, List, ◌++◌, length, Bool, true, false, IsTrue, Option, Some, None, Ok, Err}
 use Rattle.std.specs.List.{AllByRecursion}
 use Rattle.wasi_abi.specs.declared.answer.Kind.{Kind}
 use Rattle.wasi_abi.specs.declared.answer.Answer.{Answer}
 use Rattle.wasi_abi.specs.declared.call.Call.{Call}
+use Rattle.wasi_abi.specs.declared.call.Call.TheVariants as call
 use Rattle.wasi_abi.specs.rules.Answers.{Fits, AreBytes}
 use Rattle.file_tree.specs.rules.Files.{Path, Content, Directory, File, FileNode}
 use Rattle.wasi_calls_rules.specs.Hosts.{Line, Host, first_host, IsHost}
-use Rattle.wasi_calls_rules.specs.Checks.{Bytes, Done, does_fit}
+use Rattle.wasi_calls_rules.specs.Checks.{Bytes, Halt, Refuses, Asks, Ends, Done, does_fit}
 use Rattle.wasi_calls_rules.specs.Rows.{row}
 
 -- the memory of a call that is done is as long as it was
@@ -100,3 +101,28 @@ RowsMakeOneNodeAtMost = (c : Call) (arguments : List ℕ) (given : Option Answer
 -- the test that the rows make of an answer passes exactly where it fits
 abbrev pub TestsTellWhatFits : Type 0
 TestsTellWhatFits = (limit : ℕ) (k : Kind) (a : Answer) → IsTrue (does_fit limit k a) ↔ Fits limit k a
+
+-- ---- halts
+
+-- the calls that want an answer from outside
+abbrev pub asks_outside : Call → Bool
+asks_outside call.FdRead = true
+asks_outside call.ClockTimeGet = true
+asks_outside call.RandomGet = true
+asks_outside _ = false
+
+-- the call that ends the process
+abbrev pub ends_process : Call → Bool
+ends_process call.ProcExit = true
+ends_process _ = false
+
+-- why this call may halt: each may be refused
+abbrev pub IsHaltOf : Call → Halt → Type 0
+IsHaltOf c (Refuses e) = Unit {0}
+IsHaltOf c (Asks k) = asks_outside c ≡ true
+IsHaltOf c (Ends code) = ends_process c ≡ true
+
+-- three calls alone ask for an answer, and one alone ends the process
+abbrev pub RowsHalt : Type 0
+RowsHalt = (c : Call) (arguments : List ℕ) (given : Option Answer) (m : Bytes) (h : Host)
+    (halt : Halt) → row c arguments given m h ≡ Err halt → IsHaltOf c halt

@@ -8,7 +8,7 @@ pub invariant_of-self-2 : goal.invariant_of-self-2
 invariant_of-self-2 c =
     let n : Node = record { number = c.self.inside.next; hook = In c.args.directory c.in_ok-name.name; content = c.new_content.result } in
     let made = is_made c.self.inside.nodes c.self.inside.next c.args.directory c.args.name.now c.args.kind n c.args.self.now c.self.view_is c.self.invariant.0 c.requires.free c.requires.room refl (ap (λ x. In c.args.directory x) c.in_ok-name.ensures) c.new_content.ensures in
-    rw c.in_ok-push.ensures.pushed (made.nodes, c.self.invariant.1 ∙ sym made.used)
+    rw c.in_ok-push.ensures.pushed (made.nodes, c.self.invariant.1 ∙ sym made.used, c.self.invariant.2 ∙ sym made.chunks)
 
 pub returns-clause-created : goal.returns-clause-created
 returns-clause-created c =

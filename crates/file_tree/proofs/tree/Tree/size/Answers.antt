@@ -6,8 +6,8 @@ use Rattle.file_tree.proofs.tree.Tree.size.Goals as goal
 
 pub returns : goal.returns
 returns c =
-    ap length
-    (c.bytes_held.ensures
-    ∙ ap bytes_held_in c.node_of.ensures
+    c.size_held.ensures
+    ∙ ap length
+    (ap bytes_held_in c.node_of.ensures
     ∙ sym (bytes_shown c.self.inside.nodes c.self.inside.next c.args.number)
     ∙ ap (λ (fs : Files). bytes_of_node fs c.args.number) c.self.view_is)

@@ -12,7 +12,7 @@ write-requires-clause-within c = λ n at.
 pub invariant_of-self : goal.invariant_of-self
 invariant_of-self c =
     let all = is_overwritten c.self.inside.nodes c.self.inside.next c.args.number c.in-Some.place c.args.from c.args.bytes.now c.args.self.now c.self.view_is c.self.invariant.0 c.in-Some.ensures.there c.requires.file (all_bytes c.args.bytes.now (λ k. omega (arith, c.type_inv.bytes k))) c.requires.within in
-    rw c.write.ensures (all.nodes, c.self.invariant.1 ∙ sym all.used)
+    rw c.write.ensures (all.nodes, c.self.invariant.1 ∙ sym all.used, c.self.invariant.2 ∙ sym all.chunks)
 
 pub returns-in-Some : goal.returns-in-Some
 returns-in-Some c =

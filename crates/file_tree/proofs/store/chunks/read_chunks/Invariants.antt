@@ -1,0 +1,11 @@
+use Rattle.std.proofs.Common.{◌≡◌, ◌≤◌, ◌-◌, length, take, drop}
+use Rattle.std.specs.List.{concat}
+use Rattle.file_tree.proofs.store.chunks.read_chunks.Given as goal
+
+abbrev pub invariant-loop-done : goal.invariant-loop-done
+invariant-loop-done l =
+    (l.done ≤ length l.initial.into)
+    × (take l.done l.into ≡ take l.done (drop l.from (concat l.chunks.items)))
+
+abbrev pub decreases-loop-done : goal.decreases-loop-done
+decreases-loop-done l = length l.initial.into - l.done

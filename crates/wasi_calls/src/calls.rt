@@ -1,0 +1,125 @@
+//! A call of the guest.
+
+ghost use Rattle.std.specs.Prelude.{◌≡◌, ◌+◌, ◌≤◌, ◌∷◌, [], length, option_copied, Option, Ok, Err};
+ghost use Rattle.wasi_abi.specs.declared.answer.Answer.{Answer};
+ghost use Rattle.wasi_abi.specs.rules.Calls.{parameters_of};
+ghost use Rattle.wasi_calls_rules.specs.Hosts.{Host as TheHost};
+ghost use Rattle.wasi_calls_rules.specs.Rows.{row, TellsRow};
+ghost use Rattle.wasi_calls.specs.rules.Held.{ShowsHost};
+ghost use Rattle.wasi_calls.specs.rules.Calls.{IsBuilt, AreArguments, call_outcome, check_outcome};
+ghost use Rattle.wasi_calls.specs.rules.Calls.{told_of, ShowsRow, EndsNothing, IsAsLarge};
+ghost use Rattle.wasi_calls.specs.declared.outcome.CallOutcome.TheVariants.{Memory as WantOfMemory};
+
+use crate::arguments::{of_seek, one, one_and_long, three, two};
+use crate::host::Host;
+use crate::outcome::CallOutcome;
+use crate::stop::CallStop;
+use crate::{changes, offsets, status};
+use guest_memory::Memory;
+use std::alloc::Global;
+use wasi_abi::{Answer, Call, Errno, Rights};
+
+/// Makes a call that is built, with its arguments in order and, where it asked for one, an answer
+/// from outside. What it tells is what the rules say; all but a call that is done leave memory and
+/// host as they were. It may say that there is no memory for it where an allocation was refused. A
+/// call that is refused, or ends the process, takes none.
+pub fn call(
+    alloc: Global,
+    host: &mut Host,
+    memory: &mut Memory,
+    call: Call,
+    arguments: &[u64],
+    answer: Option<&Answer>,
+) -> CallOutcome
+    requires built { IsBuilt call }
+    requires typed { AreArguments (parameters_of call) arguments.now }
+    ensures told { TellsRow (told_of result) memory.new.bytes host.new.host memory.old.bytes host.old.host
+        (row call arguments.now (option_copied answer.entry) memory.old.bytes host.old.host) }
+    ensures released { host.new.released ≡ host.old.released }
+    ensures shown { (h : TheHost) → ShowsHost host.old h
+        → ShowsRow (told_of result) memory.new.bytes host.new memory.old.bytes host.old
+        (row call arguments.now (option_copied answer.entry) memory.old.bytes h) }
+    ensures wants { result ≡ WantOfMemory → EndsNothing call arguments.now }
+    ensures large { IsAsLarge memory.old memory.new }
+{
+    make(alloc, host, memory, call, arguments, answer)
+}
+
+/// Makes it, on the host that has the lines that wait alone.
+fn make(
+    alloc: Global,
+    host: &mut Host,
+    memory: &mut Memory,
+    call: Call,
+    arguments: &[u64],
+    answer: Option<&Answer>,
+) -> CallOutcome
+    requires built { IsBuilt call }
+    requires typed { AreArguments (parameters_of call) arguments.now }
+    ensures told { TellsRow (told_of result) memory.new.bytes host.new.host memory.old.bytes host.old.host
+        (row call arguments.now (option_copied answer.entry) memory.old.bytes host.old.host) }
+    ensures released { host.new.released ≡ host.old.released }
+    ensures large { IsAsLarge memory.old memory.new }
+{
+    let _ = alloc;
+    let _ = answer;
+    match call {
+        Call::FdClose => checked(changes::close(host, one(arguments))),
+        Call::FdDatasync => checked(changes::sync(host, one(arguments), Rights::FD_DATASYNC)),
+        Call::FdFdstatGet => {
+            let (fd, ret) = two(arguments);
+            checked(status::get_fdstat(host, memory, fd, ret))
+        }
+        Call::FdFdstatSetFlags => {
+            let (fd, flags) = two(arguments);
+            checked(status::set_flags(host, fd, flags))
+        }
+        Call::FdFilestatGet => {
+            let (fd, ret) = two(arguments);
+            checked(status::get_filestat(host, memory, fd, ret))
+        }
+        Call::FdFilestatSetSize => {
+            let (fd, size) = one_and_long(arguments);
+            stopped(changes::set_size(host, fd, size))
+        }
+        Call::FdPrestatGet => {
+            let (fd, ret) = two(arguments);
+            checked(status::get_prestat(host, memory, fd, ret))
+        }
+        Call::FdPrestatDirName => {
+            let (fd, path, len) = three(arguments);
+            checked(status::get_prestat_name(host, memory, fd, path, len))
+        }
+        Call::FdSeek => checked(offsets::seek(host, memory, of_seek(arguments))),
+        Call::FdSync => checked(changes::sync(host, one(arguments), Rights::FD_SYNC)),
+        Call::FdTell => {
+            let (fd, ret) = two(arguments);
+            checked(offsets::tell(host, memory, fd, ret))
+        }
+        Call::ProcExit => CallOutcome::Exit(one(arguments)),
+        Call::SchedYield => CallOutcome::Done(None),
+        _ => unreachable!(),
+    }
+}
+
+/// How a call ends that takes no memory.
+fn checked(ended: Result<(), Errno>) -> CallOutcome
+    ensures { result ≡ check_outcome ended }
+{
+    match ended {
+        Ok(()) => CallOutcome::Done(None),
+        Err(error) => CallOutcome::Done(Some(error)),
+    }
+}
+
+/// How a call ends that may want memory or an answer.
+fn stopped(ended: Result<(), CallStop>) -> CallOutcome
+    ensures { result ≡ call_outcome ended }
+{
+    match ended {
+        Ok(()) => CallOutcome::Done(None),
+        Err(CallStop::Refused(error)) => CallOutcome::Done(Some(error)),
+        Err(CallStop::Asks(kind)) => CallOutcome::Ask(kind),
+        Err(CallStop::Memory) => CallOutcome::Memory,
+    }
+}
