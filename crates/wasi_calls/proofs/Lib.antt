@@ -9,6 +9,7 @@ pub mod FewLines
 pub mod Emitted
 pub mod Listings
 pub mod Openings
+pub mod Renamings
 pub mod Files
 pub mod Walks
 pub mod GivenPaths

@@ -1,13 +1,13 @@
--- Descriptors that are opened, and the rule of `path_open` in the order of the code.
+-- Nodes that are opened, and the numbers of their descriptors.
 use Rattle.std.proofs.Common.{◌≡◌, ℕ, zero, suc, ◌+◌, ◌<◌, ◌≤◌, List, [], ◌∷◌, ◌++◌, length, refl, sym, ap, subst, ◌∙◌, arith}
 use Rattle.std.specs.Prelude.{Bool, true, false, Option, Some, None, Ok, IfSome, slice_get, slice_set}
-use Rattle.file_tree.specs.rules.Files.{Files, IsFiles, is_directory}
+use Rattle.file_tree.specs.rules.Files.{Path, File, Files, IsFiles, is_directory, created}
 use Rattle.wasi_calls_rules.specs.Hosts.{Node, Descriptor, Host, IsThere, IsDescriptor, IsHost}
 use Rattle.wasi_calls_rules.specs.Checks.{node_named}
-use Rattle.wasi_calls_rules.specs.Entries.{Wish, free_number, new_descriptor}
+use Rattle.wasi_calls_rules.specs.Entries.{free_number}
 use Rattle.wasi_calls_rules.specs.Paths.{WalkEnd, Self, Leaf, node_at}
-use Rattle.wasi_calls_rules.proofs.KeepsHosts.{stands, standing, opened_is}
-use Rattle.wasi_calls_rules.proofs.NodesAfter.{there_node, directory_there, path_node, child_path, child_parent}
+use Rattle.wasi_calls_rules.proofs.KeepsHosts.{stands, standing}
+use Rattle.wasi_calls_rules.proofs.NodesAfter.{there_node, directory_there, path_node, child_path, child_parent, created_own}
 use Rattle.wasi_calls_rules.proofs.Standing.{new_stands}
 use Rattle.wasi_calls_rules.proofs.Tables.{free_place}
 use Rattle.wasi_calls.specs.Places.{IsWellPlaced}
@@ -36,12 +36,13 @@ well_there fs (Leaf d name) (Some k) are well e =
     there_node fs k (path_node fs k (above.0 ++ name ∷ [])
     (child_path fs d k name above.0 are above.1 (sym e)))
 
-pub opened_own : (fs : Files) (is_dir : Bool) (k : ℕ) (w : Wish) (d : Descriptor)
-    → d ≡ new_descriptor is_dir k w.fdflags w.base w.inheriting → IsThere fs (Node k)
-    → w.fdflags ≤ 31 → IsDescriptor fs d
-opened_own fs is_dir k w d e there few =
-    subst (IsDescriptor fs) (sym e)
-    (opened_is fs is_dir k w.fdflags w.base w.inheriting there few)
+-- a file that was made is there
+pub made_there : (fs after : Files) (p : Path) (k : ℕ) → after ≡ created p (File []) fs
+    → k ≡ fs.next → IsThere after (Node k)
+made_there fs after p k e f =
+    subst (λ (x : Files). IsThere x (Node k)) (sym e)
+    (subst (λ (i : ℕ). IsThere (created p (File []) fs) (Node i)) (sym f)
+    (created_own fs p (File [])))
 
 -- ---- hosts
 

@@ -4,5 +4,6 @@ pub mod Steps
 pub mod Writes
 pub mod Listings
 pub mod Openings
+pub mod Renamings
 pub mod laws
 pub mod rules

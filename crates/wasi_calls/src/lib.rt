@@ -48,6 +48,7 @@ mod offsets;
 mod opening;
 mod outcome;
 mod paths;
+mod renaming;
 mod status;
 mod stop;
 mod streams;

@@ -2,7 +2,7 @@
 
 ghost use Rattle.std.specs.Prelude.{◌≡◌, ◌<◌, length, [], Some, Ok, IfOk, IfSome, OnOk, OnErr, false};
 ghost use Rattle.file_tree.specs.rules.Files.{is_directory, with_file_bytes};
-ghost use Rattle.wasi_calls_rules.specs.Hosts.{Node, IsThere, IsDescriptor};
+ghost use Rattle.wasi_calls_rules.specs.Hosts.{Node, IsThere, IsDescriptor, IsHost};
 ghost use Rattle.wasi_calls_rules.specs.Checks.{node_named};
 ghost use Rattle.wasi_calls_rules.specs.Entries.{free_from, free_number};
 ghost use Rattle.wasi_calls_rules.specs.Paths.{node_at};
@@ -26,6 +26,7 @@ impl Host {
         requires well { IsWellPlaced self.now.host.files (place_of place) }
         ensures node { result ≡ node_at self.now.host.files (place_of place.entry) }
         ensures there { IfSome result (λ k. IsThere self.now.host.files (Node k)) }
+        ensures shape { IsHost self.now.host }
     {
         let _nodes = self.tree.len();
         self.node_at(place)

@@ -11,6 +11,6 @@ returns-then-is_directory-clause-is c = λ fs there few.
 
 pub returns-else-is_directory-clause-is : goal.returns-else-is_directory-clause-is
 returns-else-is_directory-clause-is c = λ fs there few.
-    rw (c.with_flags-else-is_directory.ensures, c.file.ensures, c.intersection-base-2.ensures)
+    rw (c.with_flags-else-is_directory.ensures, c.file.ensures, c.intersection-base-else-is_directory.ensures)
     (opened_is fs false c.args.node (descriptor_flags_number c.args.wish.descriptor_flags)
     (rights_number c.args.wish.base) (rights_number c.args.wish.inheriting) there few)
