@@ -1,17 +1,19 @@
 -- Nodes that move to another name, and what they replace.
 use Rattle.std.proofs.Common.{◌≡◌, ◌≢◌, ℕ, ◌++◌, Bool, true, false, [], ◌∷◌, length, refl, sym, ap, ◌∙◌, arith, length-append}
-use Rattle.std.specs.Prelude.{Option, Some, None, is_some, unwrap_or}
+use Rattle.std.specs.Prelude.{Option, Some, None, Ok, is_some, unwrap_or}
 use Rattle.std.specs.Option.{option_and_then}
 use Rattle.std.proofs.lemmas.Bool.{eq-eqb}
 use Rattle.file_tree.specs.rules.Changes.{CanMove, IsFree, is_within, within_path, path_at}
 use Rattle.file_tree.specs.rules.Files.{Name, Path, FileNode, Files, IsFiles, node_of, path_of, child, is_directory, holds_directory, renamed, path_behind}
 use Rattle.file_tree.proofs.Seen.{some_path}
 use Rattle.wasi_calls_rules.specs.Hosts.{Host, IsHost}
-use Rattle.wasi_calls_rules.specs.Entries.{is_directory_empty, is_within_node, without}
+use Rattle.wasi_calls_rules.specs.Entries.{is_directory_empty, is_within_node, is_same_node, gives_way, renamed_over, whole_path, without}
+use Rattle.wasi_calls_rules.specs.Checks.{Bytes}
+use Rattle.wasi_calls_rules.specs.Paths.{Leaf}
 use Rattle.wasi_calls_rules.proofs.KeepsHosts.{stands, standing, losing_stands, way_empty, child_not_root}
 use Rattle.wasi_calls_rules.proofs.NodesAfter.{child_path, child_parent}
 use Rattle.wasi_calls_rules.proofs.Standing.{Stands, CanGo, cleared, cleared_other, free_then, moved_stands, path_at_is}
-use Rattle.wasi_calls.specs.Renamings.{MayTake}
+use Rattle.wasi_calls.specs.Renamings.{MayTake, place_renamed}
 
 -- the two words for a directory in a node say the same
 pub within_is : (fs : Files) (k d : ℕ) → is_within fs k d ≡ is_within_node fs k d
@@ -79,6 +81,26 @@ pub child_at : (fs : Files) (d k : ℕ) (name : Name) → IsFiles fs → is_some
 child_at fs d k name are is there =
     path_at_is fs k (path_at fs d ++ name ∷ [])
     (child_path fs d k name (path_at fs d) are (has_path fs d is) there)
+
+-- ---- the rule, once all has been tested
+
+pub place_moved : (h : Host) (d e k : ℕ) (name other : Name) (o : Option ℕ) (after : Host)
+    (m : Bytes) (u : Unit {0}) → IsFiles h.files → is_some (path_of h.files d) ≡ true
+    → child h.files d name ≡ Some k
+    → whole_path h.files d name ≡ Ok (path_at h.files d ++ name ∷ [])
+    → whole_path h.files e other ≡ Ok (path_at h.files e ++ other ∷ [])
+    → is_within_node h.files k e ≡ false → child h.files e other ≡ o → is_same_node k o ≡ false
+    → gives_way h.files k o ≡ Ok u
+    → after ≡ renamed_over k o (path_at h.files k) (path_at h.files e ++ other ∷ []) h
+    → place_renamed (Leaf d name) (Leaf e other) m h ≡ Ok (record { memory = m; host = after })
+place_moved h d e k name other o after m u are dir there from to outside over differ way is =
+    let own = child_at h.files d k name are dir there in
+    let same : after
+        ≡ renamed_over k o (path_at h.files d ++ name ∷ []) (path_at h.files e ++ other ∷ []) h =
+    is ∙ ap (λ (p : Path). renamed_over k o p (path_at h.files e ++ other ∷ []) h) own in
+    rw (there, from, to, outside, over, differ, way, same) refl
+
+-- ---- what is replaced
 
 module _ (h : Host) (k d j : ℕ) (name : Name) (is : IsHost h)
     (t : MayTake h.files k d name (Some j)) where

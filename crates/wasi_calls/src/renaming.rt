@@ -111,7 +111,9 @@ fn rename_place(
     let Place::Leaf(to, name) = target else {
         return Err(CallStop::Refused(Errno::Inval));
     };
-    let node = host.node_there(source).ok_or(Errno::Noent)?;
+    let Some(node) = host.node_there(source) else {
+        return Err(CallStop::Refused(Errno::Noent));
+    };
     host.check_path(from)?;
     host.check_path(to)?;
     if host.is_within(node, to) {
@@ -155,5 +157,6 @@ pub fn rename(
     let new_names = PathNames::of(new_bytes)?;
     let source = placed(host, old, old_names)?;
     let target = placed(host, new, new_names)?;
-    rename_place(alloc, host, source, target)
+    rename_place(alloc, host, source, target)?;
+    Ok(())
 }
