@@ -15,3 +15,4 @@ pub mod Files
 pub mod SmallInFront
 pub mod Told
 pub mod RowsInFront
+pub mod PathsInFront
