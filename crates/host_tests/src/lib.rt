@@ -10,6 +10,8 @@ mod abi;
 #[cfg(test)]
 mod calls;
 #[cfg(test)]
+mod files;
+#[cfg(test)]
 mod processes;
 #[cfg(test)]
 mod sources;

@@ -16,3 +16,6 @@ pub mod GivenPaths
 pub mod Parts
 pub mod Entries
 pub mod SmallInFront
+pub mod Told
+pub mod RowsInFront
+pub mod PathsInFront

@@ -1,12 +1,12 @@
 -- Parts of a path between slashes, and the names among them.
 use Rattle.std.proofs.Common.{◌≡◌, ◌≢◌, ℕ, zero, suc, ◌+◌, ◌-◌, ◌<◌, ◌≤◌, Bool, true, false, List, [], ◌∷◌}
-use Rattle.std.proofs.Common.{◌++◌, length, take, drop, get_or, filter, refl, sym, ap, subst, ◌∙◌}
+use Rattle.std.proofs.Common.{length, take, drop, get_or, filter, refl, sym, ap, subst, ◌∙◌}
 use Rattle.std.proofs.Common.{eqb, arith}
-use Rattle.std.specs.Prelude.{◌==◌, not, ◌&&◌, ◌||◌, if◌then◌else◌}
+use Rattle.std.specs.Prelude.{◌==◌, not, ◌&&◌, if◌then◌else◌}
 use Rattle.std.proofs.lemmas.Bool.{eqb-true}
 use Rattle.std.proofs.lemmas.List.{take_rest}
-use Rattle.file_tree.specs.rules.Files.{Name, slash, dot, is_same_name}
-use Rattle.wasi_calls_rules.specs.Paths.{is_dropped, is_back, onto_first, parts_of, names_of}
+use Rattle.file_tree.specs.rules.Files.{Name, slash, dot}
+use Rattle.wasi_calls_rules.specs.Paths.{is_dropped, is_back, parts_of, names_of}
 
 -- ---- tests of a part by its length
 

@@ -1,18 +1,16 @@
 -- A walk that has come some way.
-use Rattle.std.proofs.Common.{◌≡◌, ◌≢◌, ℕ, ◌+◌, ◌++◌, Bool, true, false, List, [], ◌∷◌, length}
+use Rattle.std.proofs.Common.{◌≡◌, ◌≢◌, ℕ, ◌+◌, ◌++◌, true, false, List, [], ◌∷◌, length}
 use Rattle.std.proofs.Common.{refl, sym, ap, subst, ◌∙◌, arith}
-use Rattle.std.specs.Prelude.{Some, Result, Ok, Err, if◌then◌else◌}
+use Rattle.std.specs.Prelude.{Some, Result, Ok, IsTrue}
 use Rattle.std.proofs.lemmas.List.{length-append}
-use Rattle.wasi_abi.specs.declared.errno.Errno.{Errno}
-use Rattle.wasi_abi.specs.declared.errno.Errno.TheVariants.{Notcapable}
-use Rattle.file_tree.specs.rules.Files.{Name, Path, Files, IsFiles, IsNodeName, path_of, child}
+use Rattle.file_tree.specs.rules.Files.{Name, Path, Files, IsFiles, path_of, child}
 use Rattle.file_tree.specs.rules.Files.{is_directory}
 use Rattle.file_tree.proofs.Seen.{some_path}
-use Rattle.wasi_calls_rules.specs.Checks.{Halt, Refuses, ◌>>=◌}
-use Rattle.wasi_calls_rules.specs.Paths.{WalkEnd, Self, Leaf, is_back, directory_entered, backed}
+use Rattle.wasi_calls_rules.specs.Checks.{Halt, ◌>>=◌}
+use Rattle.wasi_calls_rules.specs.Paths.{WalkEnd, is_back, directory_entered}
 use Rattle.wasi_calls_rules.specs.Paths.{onward, walk}
 use Rattle.wasi_calls_rules.proofs.NodesAfter.{child_path, child_parent}
-use Rattle.wasi_calls.specs.Places.{AreWalked, IsWellPlaced}
+use Rattle.wasi_calls.specs.Places.{AreWalked}
 
 -- the directories behind one, the last one first: each is a child of the one before
 abbrev pub AreAbove : Files → ℕ → ℕ → List ℕ → Type 0
@@ -29,16 +27,6 @@ pub record Leads (fs : Files) (start : ℕ) (names : List Name) (d : ℕ)
   pub directory : is_directory fs d ≡ true
   pub walked : AreWalked left
   pub same : walk fs start [] names ≡ walk fs d behind left
-
-pub begins : (fs : Files) (start : ℕ) (names : List Name) → is_directory fs start ≡ true
-    → AreWalked names → Leads fs start names start names
-begins fs start names directory walked = record {
-  behind = [];
-  above = refl;
-  directory = directory;
-  walked = walked;
-  same = refl;
-}
 
 -- ---- how far below the start
 
@@ -70,108 +58,52 @@ child_apart fs start d k behind name are chain there e =
     let far = from.2 in
     omega (arith, size, longer, far)
 
--- ---- the ends of a walk
+-- what is no empty list, by a test that says so
+pub not_last : (names : List Name) → (names ≡ [] → IsTrue false) → names ≢ []
+not_last names h e = absurd (let t : false ≡ true = h e in cc)
 
-module _ (fs : Files) (start : ℕ) (names : List Name) (d : ℕ) where
-  pub at_end : (left : List Name) → Leads fs start names d left → left ≡ []
-      → walk fs start [] names ≡ Ok (Self d)
-  at_end left l e = l.same ∙ ap (walk fs d l.behind) e
+-- ---- a step further
 
-  module _ (left : List Name) (name : Name) (after : List Name) (l : Leads fs start names d left)
-      (e : left ≡ name ∷ after) where
-    walked : AreWalked (name ∷ after)
-    walked = subst AreWalked e l.walked
+module _ (fs : Files) (start : ℕ) (names : List Name) (d : ℕ) (left : List Name) (name : Name)
+    (after : List Name) (l : Leads fs start names d left) (e : left ≡ name ∷ after) where
+  walked : AreWalked (name ∷ after)
+  walked = subst AreWalked e l.walked
 
-    here : walk fs start [] names ≡ walk fs d l.behind (name ∷ after)
-    here = l.same ∙ ap (walk fs d l.behind) e
+  here : walk fs start [] names ≡ walk fs d l.behind (name ∷ after)
+  here = l.same ∙ ap (walk fs d l.behind) e
 
-    backs : (behind : List ℕ) → is_back name ≡ true
-        → walk fs d behind (name ∷ after) ≡ backed (λ b others. walk fs b others after) behind
-    backs behind is = rw is refl
+  goes_on : (behind : List ℕ) → is_back name ≡ false
+      → walk fs d behind (name ∷ after)
+      ≡ onward fs d name after (λ k. walk fs k (d ∷ behind) after)
+  goes_on behind other = rw other refl
 
-    goes_on : (behind : List ℕ) → is_back name ≡ false
-        → walk fs d behind (name ∷ after)
-        ≡ onward fs d name after (λ k. walk fs k (d ∷ behind) after)
-    goes_on behind other = rw other refl
+  -- another name, which has to be a directory
+  onward_is : (xs : List Name) (go : ℕ → Result WalkEnd Halt) → xs ≢ []
+      → onward fs d name xs go ≡ (directory_entered fs (child fs d name) >>= go)
+  onward_is [] go more = absurd (more refl)
+  onward_is (x ∷ xs) go more = refl
 
-    -- back from where it began
-    pub leaves : is_back name ≡ true → d ≡ start
-        → walk fs start [] names ≡ Err (Refuses Notcapable)
-    leaves is at = here ∙ by_behind l.behind l.above where
-      by_behind : (behind : List ℕ) → AreAbove fs start d behind
-          → walk fs d behind (name ∷ after) ≡ Err (Refuses Notcapable)
-      by_behind [] chain = backs [] is
-      by_behind (above ∷ behind) chain = absurd (chain.0 at)
+  entering : is_back name ≡ false → after ≢ []
+      → walk fs start [] names
+      ≡ (directory_entered fs (child fs d name) >>= λ k. walk fs k (d ∷ l.behind) after)
+  entering other more =
+      here ∙ goes_on l.behind other
+      ∙ onward_is after (λ k. walk fs k (d ∷ l.behind) after) more
 
-    -- back from further on
-    pub parent_there : d ≢ start → (k : ℕ) × (n : Name) × (child fs k n ≡ Some d)
-    parent_there other = by_behind l.behind l.above where
-      by_behind : (behind : List ℕ) → AreAbove fs start d behind
-          → (k : ℕ) × (n : Name) × (child fs k n ≡ Some d)
-      by_behind [] chain = absurd (other chain)
-      by_behind (above ∷ behind) chain = (above, chain.1.0, chain.1.1)
-
-    pub goes_back : is_back name ≡ true → d ≢ start → (k : ℕ)
-        → ((a : ℕ) (n : Name) → child fs a n ≡ Some d → k ≡ a) → Leads fs start names k after
-    goes_back is other k parent = by_behind l.behind l.above here where
-      by_behind : (behind : List ℕ) → AreAbove fs start d behind
-          → walk fs start [] names ≡ walk fs d behind (name ∷ after)
-          → Leads fs start names k after
-      by_behind [] chain same = absurd (other chain)
-      by_behind (above ∷ behind) chain same =
-          let at : above ≡ k = sym (parent above chain.1.0 chain.1.1) in
-          record {
-            behind = behind;
-            above = subst (λ (j : ℕ). AreAbove fs start j behind) at chain.3;
-            directory = subst (λ (j : ℕ). is_directory fs j ≡ true) at chain.2;
-            walked = walked.1;
-            same = same ∙ backs (above ∷ behind) is
-                ∙ ap (λ (j : ℕ). walk fs j behind after) at;
-          }
-
-    -- the last name
-    pub leaf_reached : is_back name ≡ false → after ≡ []
-        → walk fs start [] names ≡ Ok (Leaf d name)
-    leaf_reached other last =
-        here ∙ goes_on l.behind other
-        ∙ ap (λ (xs : List Name). onward fs d name xs (λ k. walk fs k (d ∷ l.behind) xs)) last
-
-    pub leaf_well : is_back name ≡ false → IsWellPlaced fs (Leaf d name)
-    leaf_well other = (l.directory, walked.0 other)
-
-    -- another name, which has to be a directory
-    onward_is : (xs : List Name) (go : ℕ → Result WalkEnd Halt) → xs ≢ []
-        → onward fs d name xs go ≡ (directory_entered fs (child fs d name) >>= go)
-    onward_is [] go more = absurd (more refl)
-    onward_is (x ∷ xs) go more = refl
-
-    entering : is_back name ≡ false → after ≢ []
-        → walk fs start [] names
-        ≡ (directory_entered fs (child fs d name) >>= λ k. walk fs k (d ∷ l.behind) after)
-    entering other more =
-        here ∙ goes_on l.behind other
-        ∙ onward_is after (λ k. walk fs k (d ∷ l.behind) after) more
-
-    pub stops : is_back name ≡ false → after ≢ [] → (x : Errno)
-        → directory_entered fs (child fs d name) ≡ Err (Refuses x)
-        → walk fs start [] names ≡ Err (Refuses x)
-    stops other more x is =
-        entering other more
-        ∙ ap (λ (r : Result ℕ Halt). r >>= λ k. walk fs k (d ∷ l.behind) after) is
-
-    pub goes_in : is_back name ≡ false → after ≢ [] → (k : ℕ) → IsFiles fs
-        → directory_entered fs (child fs d name) ≡ Ok k → child fs d name ≡ Some k
-        → is_directory fs k ≡ true → Leads fs start names k after
-    goes_in other more k are is there directory = record {
-      behind = d ∷ l.behind;
-      above = (
-        child_apart fs start d k l.behind name are l.above there,
-        (name, there),
-        l.directory,
-        l.above,
-      );
-      directory = directory;
-      walked = walked.1;
-      same = entering other more
-          ∙ ap (λ (r : Result ℕ Halt). r >>= λ j. walk fs j (d ∷ l.behind) after) is;
-    }
+  -- into a directory
+  pub goes_in : is_back name ≡ false → after ≢ [] → (k : ℕ) → IsFiles fs
+      → directory_entered fs (child fs d name) ≡ Ok k → child fs d name ≡ Some k
+      → is_directory fs k ≡ true → Leads fs start names k after
+  goes_in other more k are is there directory = record {
+    behind = d ∷ l.behind;
+    above = (
+      child_apart fs start d k l.behind name are l.above there,
+      (name, there),
+      l.directory,
+      l.above,
+    );
+    directory = directory;
+    walked = walked.1;
+    same = entering other more
+        ∙ ap (λ (r : Result ℕ Halt). r >>= λ j. walk fs j (d ∷ l.behind) after) is;
+  }

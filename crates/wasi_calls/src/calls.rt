@@ -1,10 +1,10 @@
 //! A call of the guest.
 
-ghost use Rattle.std.specs.Prelude.{◌≡◌, ◌+◌, ◌≤◌, ◌∷◌, [], length, option_copied, Option, Ok, Err};
-ghost use Rattle.wasi_abi.specs.declared.answer.Answer.{Answer};
+ghost use Rattle.std.specs.Prelude.{◌≡◌, ◌≢◌, option_copied};
 ghost use Rattle.wasi_abi.specs.rules.Calls.{parameters_of};
 ghost use Rattle.wasi_calls_rules.specs.Hosts.{Host as TheHost};
 ghost use Rattle.wasi_calls_rules.specs.Rows.{row, TellsRow};
+ghost use Rattle.wasi_abi.specs.declared.call.Call.TheVariants.{ProcExit};
 ghost use Rattle.wasi_calls.specs.rules.Held.{ShowsHost};
 ghost use Rattle.wasi_calls.specs.rules.Calls.{IsBuilt, AreArguments, call_outcome, check_outcome};
 ghost use Rattle.wasi_calls.specs.rules.Calls.{told_of, ShowsRow, EndsNothing, IsAsLarge};
@@ -59,6 +59,7 @@ fn make(
     ensures told { TellsRow (told_of result) memory.new.bytes host.new.host memory.old.bytes host.old.host
         (row call arguments.now (option_copied answer.entry) memory.old.bytes host.old.host) }
     ensures released { host.new.released ≡ host.old.released }
+    ensures wants { result ≡ WantOfMemory → call ≢ ProcExit }
     ensures large { IsAsLarge memory.old memory.new }
 {
     let _ = alloc;

@@ -1,5 +1,6 @@
 //! The calls of WASI preview 1 under this project's profile, and the host's side of a process that
-//! they change. Two of the 31 calls are built: `fd_write` and `proc_exit`.
+//! they change. Built are 24 of the 31 calls: all on files, descriptors and streams, `proc_exit` and
+//! `sched_yield`.
 //!
 //! # Promises
 //!
@@ -7,9 +8,10 @@
 //!   says (`told`). That holds of every host that is shown (`shown`). But for a call that is done,
 //!   nothing has changed. It releases no line (`released`), and memory is as large as before
 //!   (`large`).
-//! - `call` has no want of memory for a call that ends the process (`wants`). It asks for a built
-//!   call with arguments of its types (`built`, `typed`).
-//! - `call` has no want of memory for a call that is refused (`told`, `shown`).
+//! - `call` has no want of memory for a call that ends the process (`wants`), is refused, or asks
+//!   for an answer (`told`, `shown`). It asks for a built call with arguments of its types
+//!   (`built`, `typed`).
+//! - `wish`: the answer that a call wants before it can be made, or none.
 //! - `lines_begun`: how many lines such a call adds if it is done, unfinished ones counted
 //!   (`count`), and else none (`none`). They are at most `MOVED_BYTES` (`few`).
 //! - `Host::new` is the first host of the rules. `waiting_lines` and `released_count` are its
@@ -27,10 +29,14 @@
 //!
 //! # Who may touch what
 //!
-//! Only this crate knows how descriptors, streams and unfinished lines are kept. Of the files it
-//! has the empty root alone. `process` uses it. It stands on `wasi_calls_rules`, `wasi_abi` and
-//! `guest_memory`, and on definitions of `file_tree`. `Host::new` and `call` alone take memory;
-//! without it nothing changes. A call takes some once all of its checks have passed.
+//! Only this crate knows how descriptors, streams and unfinished lines are kept. Its files are a
+//! `Tree` of `file_tree`, which it alone changes. `process` uses it. It stands on
+//! `wasi_calls_rules`, `file_tree`, `wasi_abi` and `guest_memory`.
+//!
+//! Memory is taken by `Host::new`, and by a call once all of its checks have passed: for lines, for
+//! the bytes of files, for new nodes and their names, and for the rest of a request that was read in
+//! part. Without it nothing changes. Bytes go straight from the guest's buffers into lines and
+//! files, and back: none are joined first.
 #![tactic(auto)]
 
 mod arguments;

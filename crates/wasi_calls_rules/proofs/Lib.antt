@@ -19,7 +19,8 @@ pub mod EntryRows
 pub mod KeepsMemory
 pub mod EmitsLines
 pub mod Fitting
+pub mod Halting
+pub mod AskingOnce
 pub mod PathExamplesHold
 pub mod OpenExamplesHold
 pub mod StoryExamplesHold
-pub mod Halts

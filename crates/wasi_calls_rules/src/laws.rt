@@ -28,8 +28,9 @@ ghost use Rattle.wasi_calls_rules.specs.laws.CallLimits.{CallLimitNumbers};
 ghost use Rattle.wasi_calls_rules.specs.laws.Laws.{RowsKeepMemory, RowsKeepBytes, RowsEmit};
 ghost use Rattle.wasi_calls_rules.specs.laws.Laws.{RowsKeepConfigurations, RowsKeepHostsOfBytes};
 ghost use Rattle.wasi_calls_rules.specs.laws.Laws.{FirstHostsAreHosts, RowsKeepHosts};
-ghost use Rattle.wasi_calls_rules.specs.laws.Laws.{RowsMakeOneNodeAtMost, RowsHalt};
+ghost use Rattle.wasi_calls_rules.specs.laws.Laws.{RowsMakeOneNodeAtMost};
 ghost use Rattle.wasi_calls_rules.specs.laws.Laws.{TestsTellWhatFits};
+ghost use Rattle.wasi_calls_rules.specs.laws.Laws.{FewRowsAsk, RowsAskOnce, ExitAloneEnds};
 
 /// The rules give on examples what the profile gives.
 pub fn worked_examples()
@@ -124,11 +125,6 @@ pub fn calls_keep_memory()
     ensures bytes { RowsKeepBytes }
 {}
 
-/// Three calls alone ask for an answer from outside, and one alone ends the process.
-pub fn calls_halt_each_for_its_reasons()
-    ensures { RowsHalt }
-{}
-
 /// No call that is done takes back a line.
 pub fn calls_emit_lines()
     ensures { RowsEmit }
@@ -159,6 +155,17 @@ pub fn calls_keep_configurations()
 /// The rules take an answer exactly where it fits what is asked for.
 pub fn answers_are_taken_that_fit()
     ensures { TestsTellWhatFits }
+{}
+
+/// Three calls may want an answer from outside. A call wants none once it has one that fits.
+pub fn few_calls_ask_and_once()
+    ensures few { FewRowsAsk }
+    ensures once { RowsAskOnce }
+{}
+
+/// No call but `proc_exit` ends the process.
+pub fn one_call_ends()
+    ensures { ExitAloneEnds }
 {}
 
 /// What each limit of the calls is.

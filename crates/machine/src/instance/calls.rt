@@ -15,7 +15,32 @@ use wasi_abi::{Call, MODULE_NAME};
 use wasm_syntax::{FunctionType, Import, ImportItem};
 
 /// The calls that are built.
-const BUILT: [Call; 2] = [Call::FdWrite, Call::ProcExit];
+const BUILT: [Call; 24] = [
+    Call::FdClose,
+    Call::FdDatasync,
+    Call::FdFdstatGet,
+    Call::FdFdstatSetFlags,
+    Call::FdFilestatGet,
+    Call::FdFilestatSetSize,
+    Call::FdPread,
+    Call::FdPrestatGet,
+    Call::FdPrestatDirName,
+    Call::FdPwrite,
+    Call::FdRead,
+    Call::FdReaddir,
+    Call::FdSeek,
+    Call::FdSync,
+    Call::FdTell,
+    Call::FdWrite,
+    Call::PathCreateDirectory,
+    Call::PathFilestatGet,
+    Call::PathOpen,
+    Call::PathRemoveDirectory,
+    Call::PathRename,
+    Call::PathUnlinkFile,
+    Call::ProcExit,
+    Call::SchedYield,
+];
 
 /// The call that the host offers to an import.
 fn call_of(import: &Import) -> Option<Call>

@@ -28,7 +28,6 @@ is_built call.EnvironSizesGet = false
 is_built call.ClockResGet = false
 is_built call.ClockTimeGet = false
 is_built call.RandomGet = false
-is_built call.FdRead = false
 is_built _ = true
 
 abbrev pub name_of : Call → List ℕ

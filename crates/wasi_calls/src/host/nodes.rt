@@ -54,7 +54,7 @@ impl Host {
             (directory_entered self.now.host.files (child self.now.host.files directory name.now)) }
         ensures child { IfOk result (λ k. child self.now.host.files directory name.now ≡ Some k) }
         ensures directory { IfOk result (λ k. is_directory self.now.host.files k ≡ true) }
-        ensures shape { IsHost self.now.host }
+        ensures shape { IfOk result (λ _. IsHost self.now.host) }
     {
         let node = self.child(directory, name).ok_or(Errno::Noent)?;
         if !self.tree.is_directory(node) {

@@ -1,5 +1,6 @@
 //! Paths that a guest gives: their bytes, their form, and where they lead.
 
+pub mod entries;
 mod form;
 mod walk;
 

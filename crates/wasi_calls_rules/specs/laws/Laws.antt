@@ -1,5 +1,5 @@
 -- Laws of the rows: what a call that is done keeps, and which answers the rows take.
-use Rattle.std.specs.Prelude.{◌≡◌, ◌↔◌, ℕ, ◌+◌, ◌≤◌, List, ◌++◌, length, Bool, true, false, IsTrue, Option, Some, None, Ok, Err}
+use Rattle.std.specs.Prelude.{◌≡◌, ◌≢◌, ◌↔◌, ℕ, ◌+◌, ◌≤◌, List, ◌++◌, length, IsTrue, Option, Some, None, Ok, Err}
 use Rattle.std.specs.List.{AllByRecursion}
 use Rattle.wasi_abi.specs.declared.answer.Kind.{Kind}
 use Rattle.wasi_abi.specs.declared.answer.Answer.{Answer}
@@ -8,7 +8,7 @@ use Rattle.wasi_abi.specs.declared.call.Call.TheVariants as call
 use Rattle.wasi_abi.specs.rules.Answers.{Fits, AreBytes}
 use Rattle.file_tree.specs.rules.Files.{Path, Content, Directory, File, FileNode}
 use Rattle.wasi_calls_rules.specs.Hosts.{Line, Host, first_host, IsHost}
-use Rattle.wasi_calls_rules.specs.Checks.{Bytes, Halt, Refuses, Asks, Ends, Done, does_fit}
+use Rattle.wasi_calls_rules.specs.Checks.{Bytes, Done, Asks, Ends, does_fit}
 use Rattle.wasi_calls_rules.specs.Rows.{row}
 
 -- the memory of a call that is done is as long as it was
@@ -102,27 +102,27 @@ RowsMakeOneNodeAtMost = (c : Call) (arguments : List ℕ) (given : Option Answer
 abbrev pub TestsTellWhatFits : Type 0
 TestsTellWhatFits = (limit : ℕ) (k : Kind) (a : Answer) → IsTrue (does_fit limit k a) ↔ Fits limit k a
 
--- ---- halts
+-- the calls that may want an answer from outside
+abbrev pub MayAsk : Call → Type 0
+MayAsk call.ClockTimeGet = Unit {0}
+MayAsk call.FdRead = Unit {0}
+MayAsk call.RandomGet = Unit {0}
+MayAsk _ = ⊥
 
--- the calls that want an answer from outside
-abbrev pub asks_outside : Call → Bool
-asks_outside call.FdRead = true
-asks_outside call.ClockTimeGet = true
-asks_outside call.RandomGet = true
-asks_outside _ = false
+-- no other call wants one
+abbrev pub FewRowsAsk : Type 0
+FewRowsAsk = (c : Call) (arguments : List ℕ) (given : Option Answer) (m : Bytes) (h : Host)
+    (k : Kind) → row c arguments given m h ≡ Err (Asks k) → MayAsk c
 
--- the call that ends the process
-abbrev pub ends_process : Call → Bool
-ends_process call.ProcExit = true
-ends_process _ = false
+-- a call that wants an answer wants none once it has one that fits
+abbrev pub RowsAskOnce : Type 0
+RowsAskOnce = (c : Call) (arguments : List ℕ) (m : Bytes) (h : Host) (k other : Kind) (a : Answer)
+    → row c arguments None m h ≡ Err (Asks k) → Fits h.limit k a
+    → row c arguments (Some a) m h ≢ Err (Asks other)
 
--- why this call may halt: each may be refused
-abbrev pub IsHaltOf : Call → Halt → Type 0
-IsHaltOf c (Refuses e) = Unit {0}
-IsHaltOf c (Asks k) = asks_outside c ≡ true
-IsHaltOf c (Ends code) = ends_process c ≡ true
+-- ---- the end of the process
 
--- three calls alone ask for an answer, and one alone ends the process
-abbrev pub RowsHalt : Type 0
-RowsHalt = (c : Call) (arguments : List ℕ) (given : Option Answer) (m : Bytes) (h : Host)
-    (halt : Halt) → row c arguments given m h ≡ Err halt → IsHaltOf c halt
+-- no call but `proc_exit` ends it
+abbrev pub ExitAloneEnds : Type 0
+ExitAloneEnds = (c : Call) (arguments : List ℕ) (given : Option Answer) (m : Bytes) (h : Host)
+    (code : ℕ) → row c arguments given m h ≡ Err (Ends code) → c ≡ call.ProcExit

@@ -1,0 +1,50 @@
+-- What is told of calls of every host that is shown.
+use Rattle.std.proofs.Common.{◌≡◌, ℕ, List, [], ◌∷◌, refl, sym, ap}
+use Rattle.std.specs.Prelude.{Option, Some, None, Result, Ok, Err, OnOk, IfErr}
+use Rattle.guest_memory.specs.rules.Memories.{LinearMemory}
+use Rattle.wasi_abi.specs.declared.answer.Answer.{Answer}
+use Rattle.wasi_abi.specs.declared.call.Call.{Call}
+use Rattle.wasi_abi.specs.declared.call.Call.TheVariants as call
+use Rattle.wasi_abi.specs.declared.errno.Errno.{Errno}
+use Rattle.wasi_abi.specs.rules.Numbers.{fd_datasync_right, fd_sync_right}
+use Rattle.wasi_calls_rules.specs.Hosts.{Line, Host}
+use Rattle.wasi_calls_rules.specs.Checks.{Bytes, Halt, Refuses, Asks, Ends, Ruling}
+use Rattle.wasi_calls_rules.specs.Rows.{row, TellsRow, IsNoRefusal}
+use Rattle.wasi_calls.specs.rules.Held.{HeldHost, behind_lines, behind_lines_of_row}
+use Rattle.wasi_calls.specs.rules.Calls.{told_of, check_outcome, call_outcome}
+use Rattle.wasi_calls.specs.declared.stop.CallStop.{CallStop}
+use Rattle.wasi_calls.specs.declared.stop.CallStop.TheVariants as stop
+use Rattle.wasi_calls.specs.Steps.{StopsStep}
+
+same_host : (held old : HeldHost) → held ≡ old → held.host ≡ old.host
+same_host held old e = ap (λ (x : HeldHost). x.host) e
+
+-- a call that takes no memory, and whatever memory holds
+pub checked_told : (r : Result (Unit {0}) Errno) (held old : HeldHost) (rule : Bytes → Ruling)
+    → ((m : Bytes) → OnOk r (rule m ≡ Ok (record { memory = m; host = held.host })))
+    → ((m : Bytes) → IfErr r (λ e. rule m ≡ Err (Refuses e))) → IfErr r (λ _. held ≡ old)
+    → (m : Bytes) → TellsRow (told_of (check_outcome r)) m held.host m old.host (rule m)
+checked_told (Ok x) held old rule done refused kept m = done m
+checked_told (Err e) held old rule done refused kept m =
+    (refused m, refl, same_host held old kept)
+
+-- a call that changes nothing
+pub unchanged_told : (r : Result (Unit {0}) Errno) (held : HeldHost) (rule : Bytes → Ruling)
+    → ((m : Bytes) → OnOk r (rule m ≡ Ok (record { memory = m; host = held.host })))
+    → ((m : Bytes) → IfErr r (λ e. rule m ≡ Err (Refuses e)))
+    → (m : Bytes) → TellsRow (told_of (check_outcome r)) m held.host m held.host (rule m)
+unchanged_told (Ok x) held rule done refused m = done m
+unchanged_told (Err e) held rule done refused m = (refused m, refl, refl)
+
+-- a call that may want memory, and whatever memory holds
+pub stopped_told : (r : Result (Unit {0}) CallStop) (held old : HeldHost) (rule : Bytes → Ruling)
+    → ((m : Bytes) → OnOk r (rule m ≡ Ok (record { memory = m; host = held.host })))
+    → ((m : Bytes) → IfErr r (λ why. StopsStep why (rule m))) → IfErr r (λ _. held ≡ old)
+    → (m : Bytes) → TellsRow (told_of (call_outcome r)) m held.host m old.host (rule m)
+stopped_told (Ok x) held old rule done stops kept m = done m
+stopped_told (Err (stop.Refused e)) held old rule done stops kept m =
+    (stops m, refl, same_host held old kept)
+stopped_told (Err (stop.Asks kind)) held old rule done stops kept m =
+    (stops m, refl, same_host held old kept)
+stopped_told (Err stop.Memory) held old rule done stops kept m =
+    (stops m, refl, same_host held old kept)

@@ -1,0 +1,162 @@
+//! The calls on names in directories: `path_filestat_get`, `path_create_directory`,
+//! `path_remove_directory` and `path_unlink_file`.
+
+ghost use Rattle.std.specs.Prelude.{◌≡◌, OnOk, IfErr, Ok, Err};
+ghost use Rattle.wasi_calls_rules.specs.Checks.{Refuses};
+ghost use Rattle.wasi_calls_rules.specs.Entries.{path_create_directory, path_filestat_get};
+ghost use Rattle.wasi_calls_rules.specs.Entries.{path_remove_directory, path_unlink_file};
+ghost use Rattle.wasi_calls.specs.Steps.{StopsStep};
+ghost use Rattle.wasi_calls.specs.rules.Calls.{IsAsLarge};
+
+use crate::descriptor::Names;
+use crate::host::Host;
+use crate::memory::in_range;
+use crate::paths::{PathNames, Place, path_bytes, placed};
+use crate::status::put_filestat;
+use crate::stop::CallStop;
+use file_tree::NodeKind;
+use guest_memory::Memory;
+use std::alloc::Global;
+use wasi_abi::{Errno, Rights};
+
+/// The largest lookup flags: whether a link is followed, and there is none.
+const LOOKUP_FLAGS: u32 = 1;
+
+/// The arguments of `path_filestat_get`.
+#[derive(Clone, Copy)]
+pub struct PathFilestatArguments {
+    pub fd: u32,
+    pub flags: u32,
+    pub path: u32,
+    pub len: u32,
+    /// Where the answer is put.
+    pub ret: u32,
+}
+
+/// `path_filestat_get`.
+pub fn get_path_filestat(
+    host: &Host,
+    memory: &mut Memory,
+    arguments: PathFilestatArguments,
+) -> Result<(), Errno>
+    ensures done { OnOk result (path_filestat_get arguments.fd arguments.flags arguments.path
+        arguments.len arguments.ret memory.old.bytes host.now.host
+        ≡ Ok (record { memory = memory.new.bytes; host = host.now.host })) }
+    ensures refused { IfErr result (λ e. path_filestat_get arguments.fd arguments.flags
+        arguments.path arguments.len arguments.ret memory.old.bytes host.now.host
+        ≡ Err (Refuses e)) }
+    ensures kept { IfErr result (λ _. memory.new ≡ memory.old) }
+    ensures large { IsAsLarge memory.old memory.new }
+{
+    let descriptor = host.descriptor(arguments.fd)?;
+    host.a_directory(descriptor)?;
+    descriptor.check_right(Rights::PATH_FILESTAT_GET)?;
+    if arguments.flags > LOOKUP_FLAGS {
+        return Err(Errno::Inval);
+    }
+    let bytes = path_bytes(memory, arguments.path, arguments.len)?;
+    in_range(memory, arguments.ret, 64)?;
+    let names = PathNames::of(bytes)?;
+    let place = placed(host, descriptor, names)?;
+    let node = host.node_at(place).ok_or(Errno::Noent)?;
+    put_filestat(host, memory, Names::Node(node), arguments.ret);
+    Ok(())
+}
+
+/// `path_create_directory`.
+pub fn create_directory(
+    host: &mut Host,
+    alloc: Global,
+    memory: &Memory,
+    fd: u32,
+    path: u32,
+    len: u32,
+) -> Result<(), CallStop>
+    ensures done { OnOk result (path_create_directory fd path len memory.now.bytes host.old.host
+        ≡ Ok (record { memory = memory.now.bytes; host = host.new.host })) }
+    ensures stopped { IfErr result (λ why.
+        StopsStep why (path_create_directory fd path len memory.now.bytes host.old.host)) }
+    ensures kept { IfErr result (λ _. host.new ≡ host.old) }
+    ensures released { host.new.released ≡ host.old.released }
+{
+    let descriptor = host.descriptor(fd)?;
+    host.a_directory(descriptor)?;
+    descriptor.check_right(Rights::PATH_CREATE_DIRECTORY)?;
+    let bytes = path_bytes(memory, path, len)?;
+    let names = PathNames::of(bytes)?;
+    let Place::Leaf(directory, name) = placed(host, descriptor, names)? else {
+        return Err(CallStop::Refused(Errno::Inval));
+    };
+    if host.child(directory, name).is_some() {
+        return Err(CallStop::Refused(Errno::Exist));
+    }
+    host.check_path(directory)?;
+    host.check_free_node()?;
+    host.create(alloc, directory, name, NodeKind::Directory)?;
+    Ok(())
+}
+
+/// `path_remove_directory`.
+pub fn remove_directory(
+    host: &mut Host,
+    memory: &Memory,
+    fd: u32,
+    path: u32,
+    len: u32,
+) -> Result<(), Errno>
+    ensures done { OnOk result (path_remove_directory fd path len memory.now.bytes host.old.host
+        ≡ Ok (record { memory = memory.now.bytes; host = host.new.host })) }
+    ensures refused { IfErr result (λ e. path_remove_directory fd path len memory.now.bytes
+        host.old.host ≡ Err (Refuses e)) }
+    ensures kept { IfErr result (λ _. host.new ≡ host.old) }
+    ensures released { host.new.released ≡ host.old.released }
+{
+    let descriptor = host.descriptor(fd)?;
+    host.a_directory(descriptor)?;
+    descriptor.check_right(Rights::PATH_REMOVE_DIRECTORY)?;
+    let bytes = path_bytes(memory, path, len)?;
+    let names = PathNames::of(bytes)?;
+    let Place::Leaf(directory, name) = placed(host, descriptor, names)? else {
+        return Err(Errno::Inval);
+    };
+    let node = host.child(directory, name).ok_or(Errno::Noent)?;
+    if !host.is_directory(Names::Node(node)) {
+        return Err(Errno::Notdir);
+    }
+    if !host.is_empty(node) {
+        return Err(Errno::Notempty);
+    }
+    host.remove(node);
+    Ok(())
+}
+
+/// `path_unlink_file`.
+pub fn unlink_file(
+    host: &mut Host,
+    memory: &Memory,
+    fd: u32,
+    path: u32,
+    len: u32,
+) -> Result<(), Errno>
+    ensures done { OnOk result (path_unlink_file fd path len memory.now.bytes host.old.host
+        ≡ Ok (record { memory = memory.now.bytes; host = host.new.host })) }
+    ensures refused { IfErr result (λ e. path_unlink_file fd path len memory.now.bytes
+        host.old.host ≡ Err (Refuses e)) }
+    ensures kept { IfErr result (λ _. host.new ≡ host.old) }
+    ensures released { host.new.released ≡ host.old.released }
+{
+    let descriptor = host.descriptor(fd)?;
+    host.a_directory(descriptor)?;
+    descriptor.check_right(Rights::PATH_UNLINK_FILE)?;
+    let bytes = path_bytes(memory, path, len)?;
+    let names = PathNames::of(bytes)?;
+    let Place::Leaf(directory, name) = placed(host, descriptor, names)? else {
+        return Err(Errno::Inval);
+    };
+    let node = host.child(directory, name).ok_or(Errno::Noent)?;
+    if host.is_directory(Names::Node(node)) {
+        return Err(Errno::Isdir);
+    }
+    host.remove(node);
+    Ok(())
+}

@@ -1,0 +1,415 @@
+-- Why a call is not done: a walk over all rows, for any predicate on why that holds of refusals.
+use Rattle.std.proofs.Common.{◌≡◌, ℕ, List, [], ◌∷◌, refl}
+use Rattle.std.specs.Prelude.{Bool, true, false, if◌then◌else◌, Option, Some, None, Result, Ok, Err, ℤ, pos, negsuc, nat_lt, ◌^◌}
+use Rattle.wasi_abi.specs.declared.errno.Errno.{Errno}
+use Rattle.wasi_abi.specs.declared.errno.Errno.TheVariants.{Inval, Noent, Notcapable, Notdir}
+use Rattle.wasi_abi.specs.declared.answer.Kind.{Kind}
+use Rattle.wasi_abi.specs.declared.answer.Answer.{Answer}
+use Rattle.wasi_abi.specs.declared.answer.Answer.TheVariants as answer
+use Rattle.wasi_abi.specs.declared.call.Call.{Call}
+use Rattle.wasi_abi.specs.declared.call.Call.TheVariants as call
+use Rattle.file_tree.specs.rules.Files.{Name, Files, is_directory, child}
+use Rattle.wasi_abi.specs.rules.Numbers.{fd_datasync_right, fd_sync_right}
+use Rattle.wasi_calls_rules.specs.Hosts.{Target, Stream, Node, Descriptor, Host}
+use Rattle.wasi_calls_rules.specs.Checks.{Bytes, Buffer, Halt, Refuses, Asks, Ends, ◌>>=◌, check_or, some_or, a_file, lent, buffers, asked, fitting, answered_by}
+use Rattle.wasi_calls_rules.specs.Paths.{WalkEnd, Self, Leaf, formed, directory_entered, backed, onward, is_back, walk}
+use Rattle.wasi_calls_rules.specs.Small.{texts_get, texts_sizes_get, clock_res_get, time_put, clock_time_get, fd_close, fd_syncs, fd_fdstat_get, fd_fdstat_set_flags, fd_filestat_get, roomy, fd_filestat_set_size, fd_prestat_get, fd_prestat_dir_name, file_offset, fd_seek, fd_tell, random_put, random_get}
+use Rattle.wasi_calls_rules.specs.Moving.{Got, input_taken, input_read, target_read, fd_read, fd_pread, file_written, write_offset, target_written, fd_write, fd_pwrite}
+use Rattle.wasi_calls_rules.specs.Entries.{fd_readdir, a_leaf, placed, path_create_directory, path_filestat_get, path_remove_directory, path_unlink_file, gives_way, renamed_to, path_rename, Wish, opened_there, opened_new, opened_at, path_open}
+use Rattle.wasi_calls_rules.specs.Rows.{row}
+use Rattle.wasi_calls_rules.specs.laws.Laws.{MayAsk, FewRowsAsk, ExitAloneEnds}
+
+-- where it is not done, this holds of why
+pub record HaltsBy {A : Type 0} (Q : Halt → Type 0) (r : Result A Halt) : Type 0 where
+  pub halts : (halt : Halt) → r ≡ Err halt → Q halt
+
+module _ (Q : Halt → Type 0) (refusals : (e : Errno) → Q (Refuses e)) where
+  -- ---- steps
+
+  pub done : {A : Type 0} (x : A) → HaltsBy Q (Ok x)
+  done x = record { halts = λ halt e. absurd (cc) }
+
+  halted : {A : Type 0} (why : Halt) → Q why → HaltsBy {A = A} Q (Err why)
+  halted why q = record { halts = λ halt same. let is : why ≡ halt = cc in rw is at q }
+
+  refused : {A : Type 0} (e : Errno) → HaltsBy {A = A} Q (Err (Refuses e))
+  refused e = halted (Refuses e) (refusals e)
+
+  next : {A B : Type 0} (r : Result A Halt) (go : A → Result B Halt) → HaltsBy Q r
+      → ((x : A) → HaltsBy Q (go x)) → HaltsBy Q (r >>= go)
+  next (Ok x) go h f = f x
+  next (Err why) go h f = halted why (h.halts why refl)
+
+  check : {B : Type 0} (b : Bool) (e : Errno) (go : Unit {0} → Result B Halt) → HaltsBy Q (go tt)
+      → HaltsBy Q (check_or b e >>= go)
+  check true e go h = h
+  check false e go h = refused e
+
+  checked : (b : Bool) (e : Errno) → HaltsBy Q (check_or b e)
+  checked true e = done tt
+  checked false e = refused e
+
+  found : {A B : Type 0} (e : Errno) (o : Option A) (go : A → Result B Halt)
+      → ((x : A) → HaltsBy Q (go x)) → HaltsBy Q (some_or e o >>= go)
+  found e None go f = refused e
+  found e (Some x) go f = f x
+
+  either : {A : Type 0} (b : Bool) (x y : Result A Halt) → HaltsBy Q x → HaltsBy Q y
+      → HaltsBy Q (if b then x else y)
+  either true x y h k = h
+  either false x y h k = k
+
+  leaf : {A : Type 0} (place : WalkEnd) (go : ℕ → Name → Result A Halt)
+      → ((d : ℕ) (name : Name) → HaltsBy Q (go d name)) → HaltsBy Q (a_leaf place go)
+  leaf (Self k) go f = refused Inval
+  leaf (Leaf d name) go f = f d name
+
+  pub buffers_halt : (m : Bytes) (iovs count : ℕ) → HaltsBy Q (buffers m iovs count)
+  buffers_halt m iovs count = search (check, done) depth 8
+
+  buffers_then : {A : Type 0} (m : Bytes) (iovs count : ℕ) (go : List Buffer → Result A Halt)
+      → ((bs : List Buffer) → HaltsBy Q (go bs)) → HaltsBy Q (buffers m iovs count >>= go)
+  buffers_then m iovs count go f = next (buffers m iovs count) go (buffers_halt m iovs count) f
+
+  lent_then : {A : Type 0} (m : Bytes) (from len : ℕ) (go : Bytes → Result A Halt)
+      → ((bytes : Bytes) → HaltsBy Q (go bytes)) → HaltsBy Q (lent m from len >>= go)
+  lent_then m from len go f = next (lent m from len) go (search (check, done) depth 8) f
+
+  file_then : {A : Type 0} (h : Host) (d : Descriptor) (go : Unit {0} → Result A Halt)
+      → HaltsBy Q (go tt) → HaltsBy Q (a_file h d >>= go)
+  file_then h d go k = next (a_file h d) go (search (check, checked) depth 8) (λ _. k)
+
+  roomy_then : {A : Type 0} (h : Host) (k size : ℕ) (go : Unit {0} → Result A Halt)
+      → HaltsBy Q (go tt) → HaltsBy Q (roomy h k size >>= go)
+  roomy_then h k size go f = next (roomy h k size) go (search (check, checked) depth 8) (λ _. f)
+
+  offset_then : {A : Type 0} (z : ℤ) (go : ℕ → Result A Halt) → ((n : ℕ) → HaltsBy Q (go n))
+      → HaltsBy Q (file_offset z >>= go)
+  offset_then (pos n) go f =
+      next (file_offset (pos n)) go (either (nat_lt n (2 ^ 63)) _ _ (done n) (refused Inval)) f
+  offset_then (negsuc n) go f = refused Inval
+
+  -- ---- paths
+
+  formed_then : {A : Type 0} (bytes : List ℕ) (go : List Name → Result A Halt)
+      → ((names : List Name) → HaltsBy Q (go names)) → HaltsBy Q (formed bytes >>= go)
+  formed_then bytes go f = next (formed bytes) go (search (check, done) depth 12) f
+
+  entered_halts : (fs : Files) (o : Option ℕ) → HaltsBy Q (directory_entered fs o)
+  entered_halts fs None = refused Noent
+  entered_halts fs (Some k) = either (is_directory fs k) _ _ (done k) (refused Notdir)
+
+  onward_halts : (fs : Files) (d : ℕ) (name : Name) (names : List Name)
+      (walk_on : ℕ → Result WalkEnd Halt) → ((k : ℕ) → HaltsBy Q (walk_on k))
+      → HaltsBy Q (onward fs d name names walk_on)
+  onward_halts fs d name [] walk_on f = done (Leaf d name)
+  onward_halts fs d name (more ∷ names) walk_on f =
+      next (directory_entered fs (child fs d name)) walk_on (entered_halts fs (child fs d name)) f
+
+  backed_halts : (walk_on : ℕ → List ℕ → Result WalkEnd Halt) (behind : List ℕ)
+      → ((d : ℕ) (others : List ℕ) → HaltsBy Q (walk_on d others))
+      → HaltsBy Q (backed walk_on behind)
+  backed_halts walk_on [] f = refused Notcapable
+  backed_halts walk_on (d ∷ behind) f = f d behind
+
+  walk_halts : (fs : Files) (d : ℕ) (behind : List ℕ) (names : List Name)
+      → HaltsBy Q (walk fs d behind names)
+  walk_halts fs d behind [] = done (Self d)
+  walk_halts fs d behind (name ∷ names) =
+      either (is_back name) _ _
+      (backed_halts (λ b others. walk fs b others names) behind
+      (λ b others. walk_halts fs b others names))
+      (onward_halts fs d name names (λ k. walk fs k (d ∷ behind) names)
+      (λ k. walk_halts fs k (d ∷ behind) names))
+
+  placed_then : {A : Type 0} (h : Host) (d : Descriptor) (names : List Name)
+      (go : WalkEnd → Result A Halt) → ((place : WalkEnd) → HaltsBy Q (go place))
+      → HaltsBy Q (placed h d names >>= go)
+  placed_then h d names go f = next (placed h d names) go (walk_halts h.files _ [] names) f
+
+  -- ---- the rules that want no answer
+
+  module _ (m : Bytes) (h : Host) where
+    texts_get_halts : (texts : List Bytes) (array buf : ℕ)
+        → HaltsBy Q (texts_get texts array buf m h)
+    texts_get_halts texts array buf = search (check, done) depth 14
+
+    texts_sizes_get_halts : (texts : List Bytes) (count size : ℕ)
+        → HaltsBy Q (texts_sizes_get texts count size m h)
+    texts_sizes_get_halts texts count size = search (check, done) depth 14
+
+    clock_res_get_halts : (id ret : ℕ) → HaltsBy Q (clock_res_get id ret m h)
+    clock_res_get_halts id ret = search (check, done) depth 14
+
+    fd_close_halts : (fd : ℕ) → HaltsBy Q (fd_close fd m h)
+    fd_close_halts fd = search (found, check, done) depth 14
+
+    fd_syncs_halts : (right fd : ℕ) → HaltsBy Q (fd_syncs right fd m h)
+    fd_syncs_halts right fd = search (found, check, done) depth 14
+
+    fd_fdstat_get_halts : (fd ret : ℕ) → HaltsBy Q (fd_fdstat_get fd ret m h)
+    fd_fdstat_get_halts fd ret = search (found, check, done) depth 14
+
+    fd_fdstat_set_flags_halts : (fd flags : ℕ) → HaltsBy Q (fd_fdstat_set_flags fd flags m h)
+    fd_fdstat_set_flags_halts fd flags = search (found, check, done) depth 14
+
+    fd_filestat_get_halts : (fd ret : ℕ) → HaltsBy Q (fd_filestat_get fd ret m h)
+    fd_filestat_get_halts fd ret = search (found, check, done) depth 14
+
+    fd_filestat_set_size_halts : (fd size : ℕ) → HaltsBy Q (fd_filestat_set_size fd size m h)
+    fd_filestat_set_size_halts fd size = search (found, file_then, roomy_then, check, done) depth 14
+
+    fd_prestat_get_halts : (fd ret : ℕ) → HaltsBy Q (fd_prestat_get fd ret m h)
+    fd_prestat_get_halts fd ret = search (found, check, done) depth 14
+
+    fd_prestat_dir_name_halts : (fd path len : ℕ) → HaltsBy Q (fd_prestat_dir_name fd path len m h)
+    fd_prestat_dir_name_halts fd path len = search (found, check, done) depth 14
+
+    fd_seek_halts : (fd delta whence ret : ℕ) → HaltsBy Q (fd_seek fd delta whence ret m h)
+    fd_seek_halts fd delta whence ret = search (found, file_then, offset_then, check, done) depth 14
+
+    fd_tell_halts : (fd ret : ℕ) → HaltsBy Q (fd_tell fd ret m h)
+    fd_tell_halts fd ret = search (found, file_then, check, done) depth 14
+
+    fd_pread_halts : (fd iovs count offset ret : ℕ)
+        → HaltsBy Q (fd_pread fd iovs count offset ret m h)
+    fd_pread_halts fd iovs count offset ret =
+        search (found, file_then, buffers_then, check, done) depth 14
+
+    file_written_halts : (k offset : ℕ) (bytes : Bytes) → HaltsBy Q (file_written k offset bytes h)
+    file_written_halts k offset [] = done h
+    file_written_halts k offset (b ∷ bytes) = search (roomy_then, done) depth 8
+
+    target_written_halts : (t : Target) (fd : ℕ) (d : Descriptor) (bytes : Bytes)
+        → HaltsBy Q (target_written t fd d bytes h)
+    target_written_halts (Stream s) fd d bytes = done _
+    target_written_halts (Node k) fd d bytes =
+        next _ _ (file_written_halts k (write_offset h k d) bytes) (λ after. done _)
+
+    target_written_then : {A : Type 0} (t : Target) (fd : ℕ) (d : Descriptor) (bytes : Bytes)
+        (go : Host → Result A Halt) → ((after : Host) → HaltsBy Q (go after))
+        → HaltsBy Q (target_written t fd d bytes h >>= go)
+    target_written_then t fd d bytes go f =
+        next (target_written t fd d bytes h) go (target_written_halts t fd d bytes) f
+
+    file_written_then : {A : Type 0} (k offset : ℕ) (bytes : Bytes) (go : Host → Result A Halt)
+        → ((after : Host) → HaltsBy Q (go after)) → HaltsBy Q (file_written k offset bytes h >>= go)
+    file_written_then k offset bytes go f =
+        next (file_written k offset bytes h) go (file_written_halts k offset bytes) f
+
+    fd_write_halts : (fd iovs count ret : ℕ) → HaltsBy Q (fd_write fd iovs count ret m h)
+    fd_write_halts fd iovs count ret =
+        search (found, buffers_then, target_written_then, check, done) depth 14
+
+    fd_pwrite_halts : (fd iovs count offset ret : ℕ)
+        → HaltsBy Q (fd_pwrite fd iovs count offset ret m h)
+    fd_pwrite_halts fd iovs count offset ret =
+        search (found, file_then, buffers_then, file_written_then, check, done) depth 14
+
+    fd_readdir_halts : (fd buf len cookie ret : ℕ)
+        → HaltsBy Q (fd_readdir fd buf len cookie ret m h)
+    fd_readdir_halts fd buf len cookie ret = search (found, check, done) depth 14
+
+    path_create_directory_halts : (fd path len : ℕ)
+        → HaltsBy Q (path_create_directory fd path len m h)
+    path_create_directory_halts fd path len =
+        search (found, lent_then, formed_then, placed_then, leaf, check, done) depth 14
+
+    path_filestat_get_halts : (fd flags path len ret : ℕ)
+        → HaltsBy Q (path_filestat_get fd flags path len ret m h)
+    path_filestat_get_halts fd flags path len ret =
+        search (found, lent_then, formed_then, placed_then, check, done) depth 14
+
+    path_remove_directory_halts : (fd path len : ℕ)
+        → HaltsBy Q (path_remove_directory fd path len m h)
+    path_remove_directory_halts fd path len =
+        search (found, lent_then, formed_then, placed_then, leaf, check, done) depth 14
+
+    path_unlink_file_halts : (fd path len : ℕ) → HaltsBy Q (path_unlink_file fd path len m h)
+    path_unlink_file_halts fd path len =
+        search (found, lent_then, formed_then, placed_then, leaf, check, done) depth 14
+
+    way_then : {A : Type 0} (k : ℕ) (o : Option ℕ) (go : Unit {0} → Result A Halt)
+        → HaltsBy Q (go tt) → HaltsBy Q (gives_way h.files k o >>= go)
+    way_then k None go f = f
+    way_then k (Some j) go f =
+        next (gives_way h.files k (Some j)) go (search (check, checked) depth 8) (λ _. f)
+
+    renamed_to_halts : (d : ℕ) (name : Name) (source : WalkEnd) (e : ℕ) (other : Name)
+        (target : WalkEnd) → HaltsBy Q (renamed_to d name source e other target m h)
+    renamed_to_halts d name source e other target =
+        search (found, either, way_then, check, done) depth 14
+
+    path_rename_halts : (old_fd old_path old_len new_fd new_path new_len : ℕ)
+        → HaltsBy Q (path_rename old_fd old_path old_len new_fd new_path new_len m h)
+    path_rename_halts old_fd old_path old_len new_fd new_path new_len =
+        search (found, lent_then, formed_then, placed_then, leaf, check, renamed_to_halts) depth 18
+
+    opened_there_halts : (k : ℕ) (w : Wish) (ret : ℕ) → HaltsBy Q (opened_there k w ret m h)
+    opened_there_halts k w ret = search (found, check, done) depth 14
+
+    opened_new_halts : (place : WalkEnd) (w : Wish) (ret : ℕ)
+        → HaltsBy Q (opened_new place w ret m h)
+    opened_new_halts place w ret = search (found, leaf, check, done) depth 14
+
+    opened_at_halts : (o : Option ℕ) (place : WalkEnd) (w : Wish) (ret : ℕ)
+        → HaltsBy Q (opened_at o place w ret m h)
+    opened_at_halts None place w ret = opened_new_halts place w ret
+    opened_at_halts (Some k) place w ret = opened_there_halts k w ret
+
+    path_open_halts : (fd dirflags path len : ℕ) (w : Wish) (ret : ℕ)
+        → HaltsBy Q (path_open fd dirflags path len w ret m h)
+    path_open_halts fd dirflags path len w ret =
+        search (found, lent_then, formed_then, placed_then, check, opened_at_halts) depth 18
+
+    -- ---- what becomes of an answer
+
+    pub time_put_halts : (a : Answer) (ret : ℕ) → HaltsBy Q (time_put a ret m h)
+    time_put_halts (answer.Monotonic n) ret = done _
+    time_put_halts (answer.Realtime n) ret = done _
+    time_put_halts _ ret = refused Inval
+
+    pub random_put_halts : (a : Answer) (buf : ℕ) → HaltsBy Q (random_put a buf m h)
+    random_put_halts (answer.Random bytes) buf = done _
+    random_put_halts _ buf = refused Inval
+
+    pub input_taken_halts : (n : ℕ) (a : Answer) → HaltsBy Q (input_taken n a h)
+    input_taken_halts n (answer.Request text) = done _
+    input_taken_halts n answer.End = done _
+    input_taken_halts n _ = refused Inval
+
+    -- ---- the rules that may want one
+
+    module _ (wishes : (k : Kind) → Q (Asks k)) where
+      asked_halts : (k : Kind) (o : Option Answer) → HaltsBy Q (asked k o)
+      asked_halts k None = halted (Asks k) (wishes k)
+      asked_halts k (Some a) = done a
+
+      answered_then : {A : Type 0} (k : Kind) (given : Option Answer) (go : Answer → Result A Halt)
+          → ((a : Answer) → HaltsBy Q (go a)) → HaltsBy Q (answered_by h k given >>= go)
+      answered_then k given go f =
+          next (answered_by h k given) go (asked_halts k (fitting h.limit k given)) f
+
+      clock_time_get_halts : (id ret : ℕ) (given : Option Answer)
+          → HaltsBy Q (clock_time_get id ret given m h)
+      clock_time_get_halts id ret given = search (check, answered_then, time_put_halts) depth 12
+
+      random_get_halts : (buf len : ℕ) (given : Option Answer)
+          → HaltsBy Q (random_get buf len given m h)
+      random_get_halts buf len given =
+          search (check, either, answered_then, random_put_halts, done) depth 12
+
+      input_read_halts : (n : ℕ) (given : Option Answer) → HaltsBy Q (input_read n given h)
+      input_read_halts n given = search (either, answered_then, input_taken_halts, done) depth 12
+
+      target_read_halts : (t : Target) (fd : ℕ) (d : Descriptor) (n : ℕ) (given : Option Answer)
+          → HaltsBy Q (target_read t fd d n given h)
+      target_read_halts (Stream s) fd d n given = input_read_halts n given
+      target_read_halts (Node k) fd d n given = done _
+
+      target_read_then : {A : Type 0} (t : Target) (fd : ℕ) (d : Descriptor) (n : ℕ)
+          (given : Option Answer) (go : Got → Result A Halt) → ((got : Got) → HaltsBy Q (go got))
+          → HaltsBy Q (target_read t fd d n given h >>= go)
+      target_read_then t fd d n given go f =
+          next (target_read t fd d n given h) go (target_read_halts t fd d n given) f
+
+      fd_read_halts : (fd iovs count ret : ℕ) (given : Option Answer)
+          → HaltsBy Q (fd_read fd iovs count ret given m h)
+      fd_read_halts fd iovs count ret given =
+          search (found, buffers_then, target_read_then, check, done) depth 12
+
+-- ---- all calls
+
+-- how a call may come to nothing
+abbrev MayHalt : Call → Halt → Type 0
+MayHalt c (Refuses e) = Unit {0}
+MayHalt c (Asks k) = MayAsk c
+MayHalt c (Ends code) = c ≡ call.ProcExit
+
+refuses : (c : Call) (e : Errno) → MayHalt c (Refuses e)
+refuses c e = tt
+
+row_halts : (c : Call) (arguments : List ℕ) (given : Option Answer) (m : Bytes) (h : Host)
+    → HaltsBy (MayHalt c) (row c arguments given m h)
+row_halts call.ArgsGet (argv ∷ buf ∷ []) given m h =
+    texts_get_halts (MayHalt call.ArgsGet) (refuses call.ArgsGet) m h h.arguments argv buf
+row_halts call.ArgsSizesGet (count ∷ size ∷ []) given m h =
+    texts_sizes_get_halts (MayHalt call.ArgsSizesGet) (refuses call.ArgsSizesGet) m h h.arguments
+    count size
+row_halts call.EnvironGet (environ ∷ buf ∷ []) given m h =
+    texts_get_halts (MayHalt call.EnvironGet) (refuses call.EnvironGet) m h h.environment environ
+    buf
+row_halts call.EnvironSizesGet (count ∷ size ∷ []) given m h =
+    texts_sizes_get_halts (MayHalt call.EnvironSizesGet) (refuses call.EnvironSizesGet) m h
+    h.environment count size
+row_halts call.ClockResGet (id ∷ ret ∷ []) given m h =
+    clock_res_get_halts (MayHalt call.ClockResGet) (refuses call.ClockResGet) m h id ret
+row_halts call.ClockTimeGet (id ∷ precision ∷ ret ∷ []) given m h =
+    clock_time_get_halts (MayHalt call.ClockTimeGet) (refuses call.ClockTimeGet) m h (λ k. tt) id
+    ret given
+row_halts call.FdClose (fd ∷ []) given m h =
+    fd_close_halts (MayHalt call.FdClose) (refuses call.FdClose) m h fd
+row_halts call.FdDatasync (fd ∷ []) given m h =
+    fd_syncs_halts (MayHalt call.FdDatasync) (refuses call.FdDatasync) m h fd_datasync_right fd
+row_halts call.FdFdstatGet (fd ∷ ret ∷ []) given m h =
+    fd_fdstat_get_halts (MayHalt call.FdFdstatGet) (refuses call.FdFdstatGet) m h fd ret
+row_halts call.FdFdstatSetFlags (fd ∷ flags ∷ []) given m h =
+    fd_fdstat_set_flags_halts (MayHalt call.FdFdstatSetFlags) (refuses call.FdFdstatSetFlags) m h fd
+    flags
+row_halts call.FdFilestatGet (fd ∷ ret ∷ []) given m h =
+    fd_filestat_get_halts (MayHalt call.FdFilestatGet) (refuses call.FdFilestatGet) m h fd ret
+row_halts call.FdFilestatSetSize (fd ∷ size ∷ []) given m h =
+    fd_filestat_set_size_halts (MayHalt call.FdFilestatSetSize) (refuses call.FdFilestatSetSize) m h
+    fd size
+row_halts call.FdPread (fd ∷ iovs ∷ count ∷ offset ∷ ret ∷ []) given m h =
+    fd_pread_halts (MayHalt call.FdPread) (refuses call.FdPread) m h fd iovs count offset ret
+row_halts call.FdPrestatGet (fd ∷ ret ∷ []) given m h =
+    fd_prestat_get_halts (MayHalt call.FdPrestatGet) (refuses call.FdPrestatGet) m h fd ret
+row_halts call.FdPrestatDirName (fd ∷ path ∷ len ∷ []) given m h =
+    fd_prestat_dir_name_halts (MayHalt call.FdPrestatDirName) (refuses call.FdPrestatDirName) m h fd
+    path len
+row_halts call.FdPwrite (fd ∷ iovs ∷ count ∷ offset ∷ ret ∷ []) given m h =
+    fd_pwrite_halts (MayHalt call.FdPwrite) (refuses call.FdPwrite) m h fd iovs count offset ret
+row_halts call.FdRead (fd ∷ iovs ∷ count ∷ ret ∷ []) given m h =
+    fd_read_halts (MayHalt call.FdRead) (refuses call.FdRead) m h (λ k. tt) fd iovs count ret given
+row_halts call.FdReaddir (fd ∷ buf ∷ len ∷ cookie ∷ ret ∷ []) given m h =
+    fd_readdir_halts (MayHalt call.FdReaddir) (refuses call.FdReaddir) m h fd buf len cookie ret
+row_halts call.FdSeek (fd ∷ delta ∷ whence ∷ ret ∷ []) given m h =
+    fd_seek_halts (MayHalt call.FdSeek) (refuses call.FdSeek) m h fd delta whence ret
+row_halts call.FdSync (fd ∷ []) given m h =
+    fd_syncs_halts (MayHalt call.FdSync) (refuses call.FdSync) m h fd_sync_right fd
+row_halts call.FdTell (fd ∷ ret ∷ []) given m h =
+    fd_tell_halts (MayHalt call.FdTell) (refuses call.FdTell) m h fd ret
+row_halts call.FdWrite (fd ∷ iovs ∷ count ∷ ret ∷ []) given m h =
+    fd_write_halts (MayHalt call.FdWrite) (refuses call.FdWrite) m h fd iovs count ret
+row_halts call.PathCreateDirectory (fd ∷ path ∷ len ∷ []) given m h =
+    path_create_directory_halts (MayHalt call.PathCreateDirectory)
+    (refuses call.PathCreateDirectory) m h fd path len
+row_halts call.PathFilestatGet (fd ∷ flags ∷ path ∷ len ∷ ret ∷ []) given m h =
+    path_filestat_get_halts (MayHalt call.PathFilestatGet) (refuses call.PathFilestatGet) m h fd
+    flags path len ret
+row_halts call.PathOpen (fd ∷ dirflags ∷ path ∷ len ∷ oflags ∷ base ∷ inheriting ∷ fdflags ∷ ret ∷
+    []) given m h =
+    path_open_halts (MayHalt call.PathOpen) (refuses call.PathOpen) m h fd dirflags path len
+    (record { oflags = oflags; base = base; inheriting = inheriting; fdflags = fdflags }) ret
+row_halts call.PathRemoveDirectory (fd ∷ path ∷ len ∷ []) given m h =
+    path_remove_directory_halts (MayHalt call.PathRemoveDirectory)
+    (refuses call.PathRemoveDirectory) m h fd path len
+row_halts call.PathRename (fd ∷ path ∷ len ∷ to_fd ∷ to_path ∷ to_len ∷ []) given m h =
+    path_rename_halts (MayHalt call.PathRename) (refuses call.PathRename) m h fd path len to_fd
+    to_path to_len
+row_halts call.PathUnlinkFile (fd ∷ path ∷ len ∷ []) given m h =
+    path_unlink_file_halts (MayHalt call.PathUnlinkFile) (refuses call.PathUnlinkFile) m h fd path
+    len
+row_halts call.ProcExit (code ∷ []) given m h =
+    halted (MayHalt call.ProcExit) (refuses call.ProcExit) (Ends code) refl
+row_halts call.SchedYield [] given m h = done (MayHalt call.SchedYield) (refuses call.SchedYield) _
+row_halts call.RandomGet (buf ∷ len ∷ []) given m h =
+    random_get_halts (MayHalt call.RandomGet) (refuses call.RandomGet) m h (λ k. tt) buf len given
+row_halts c _ given m h = refused (MayHalt c) (refuses c) Inval
+
+pub few_rows_ask : FewRowsAsk
+few_rows_ask c arguments given m h k e = (row_halts c arguments given m h).halts (Asks k) e
+
+pub exit_alone_ends : ExitAloneEnds
+exit_alone_ends c arguments given m h code e = (row_halts c arguments given m h).halts (Ends code) e
