@@ -19,3 +19,4 @@ pub mod SmallInFront
 pub mod Told
 pub mod RowsInFront
 pub mod PathsInFront
+pub mod OpeningInFront

@@ -83,10 +83,10 @@ put_more total count into done piece rest after now r e f =
           ∙ ap (λ (xs : List ℕ). with_part into done xs) (sym both) ∙ r.bytes;
       many =
           let more : length (take (length after - now) rest)
-              ≡ length (take (room - length piece) rest) =
+          ≡ length (take (room - length piece) rest) =
           ap (λ (k : ℕ). length (take k rest)) left in
           let all : length (take room (piece ++ rest))
-              ≡ length t + length (take (room - length piece) rest) =
+          ≡ length t + length (take (room - length piece) rest) =
           ap (λ (xs : List ℕ). length xs) both
           ∙ length-append t (take (room - length piece) rest) in
           let was = r.many in
@@ -107,8 +107,7 @@ put_both into after last done now piece other h e f g =
 put_none : (into : List ℕ) (done : ℕ) (piece : List ℕ) → done ≤ length into → piece ≡ []
     → (with_part into done piece ≡ into) × (done + length piece ≡ done)
 put_none into done piece h e =
-    let same : done + 0 ≡ done = omega arith in
-    (
+    let same : done + 0 ≡ done = omega arith in (
       ap (with_part into done) e ∙ ap (λ (k : ℕ). take done into ++ drop k into) same ∙ whole done into,
       ap (λ (xs : List ℕ). done + length xs) e ∙ same,
     )

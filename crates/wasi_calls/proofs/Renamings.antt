@@ -34,8 +34,10 @@ has_path fs k is = by (path_of fs k) is where
 
 -- a node that may move leaves a host
 pub moved_host : (h : Host) (k d : ℕ) (name : Name) → IsHost h → CanMove h.files k d name
-    → IsHost (record h { files =
-        renamed (path_at h.files k) (path_at h.files d ++ name ∷ []) h.files })
+    → IsHost (record h {
+      files =
+          renamed (path_at h.files k) (path_at h.files d ++ name ∷ []) h.files;
+    })
 moved_host h k d name is can =
     let fs = h.files in
     let own = has_path fs k can.there in
@@ -96,7 +98,7 @@ pub place_moved : (h : Host) (d e k : ℕ) (name other : Name) (o : Option ℕ) 
 place_moved h d e k name other o after m u are dir there from to outside over differ way is =
     let own = child_at h.files d k name are dir there in
     let same : after
-        ≡ renamed_over k o (path_at h.files d ++ name ∷ []) (path_at h.files e ++ other ∷ []) h =
+    ≡ renamed_over k o (path_at h.files d ++ name ∷ []) (path_at h.files e ++ other ∷ []) h =
     is ∙ ap (λ (p : Path). renamed_over k o p (path_at h.files e ++ other ∷ []) h) own in
     rw (there, from, to, outside, over, differ, way, same) refl
 

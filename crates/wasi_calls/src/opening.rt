@@ -32,6 +32,7 @@ const MOST_LOOKUP_FLAGS: u32 = 1;
 
 /// The bits of `oflags` for which the descriptor needs a right.
 const CREATE_BIT: u32 = 0;
+
 const TRUNCATE_BIT: u32 = 3;
 
 /// The arguments of `path_open`.
@@ -106,7 +107,10 @@ fn check_rights(descriptor: &Descriptor, wish: OpenWish) -> Result<(), Errno>
     let truncates = has_bit(wish.oflags, TRUNCATE_BIT);
     check_need(descriptor, truncates, Rights::PATH_FILESTAT_SET_SIZE)?;
     check_within(Rights::from_number(wish.base), descriptor.inheriting())?;
-    check_within(Rights::from_number(wish.inheriting), descriptor.inheriting())
+    check_within(
+        Rights::from_number(wish.inheriting),
+        descriptor.inheriting(),
+    )
 }
 
 /// What is asked for, or `Inval` where flags are none, or a directory is to be made.
@@ -162,9 +166,7 @@ fn changes(wish: CheckedWish) -> bool
         || has_flag (wish_of wish).oflags truncate_flag
         || has_right (wish_of wish).base fd_write_right) }
 {
-    wish.flags.has(OpenFlags::CREATE)
-        || wish.flags.has(OpenFlags::TRUNCATE)
-        || writes(wish)
+    wish.flags.has(OpenFlags::CREATE) || wish.flags.has(OpenFlags::TRUNCATE) || writes(wish)
 }
 
 /// Whether what is opened is to be written.

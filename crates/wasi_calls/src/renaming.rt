@@ -66,18 +66,14 @@ fn check_way(host: &Host, node: u64, replaced: Option<u64>) -> Result<(), Errno>
 }
 
 /// Gives a node a name in a directory. What stood there loses its path.
-fn rename_over(
-    host: &mut Host,
-    node: u64,
-    replaced: Option<u64>,
-    directory: u64,
-    name: ByteList,
-)
+fn rename_over(host: &mut Host, node: u64, replaced: Option<u64>, directory: u64, name: ByteList)
     requires shape { IsHost host.old.host }
     requires may { MayTake host.old.host.files node directory name replaced }
-    ensures { host.new ≡ record host.old { host = renamed_over node replaced
-        (path_at host.old.host.files node)
-        (path_at host.old.host.files directory ++ name ∷ []) host.old.host } }
+    ensures { host.new ≡ record host.old {
+      host = renamed_over node replaced
+          (path_at host.old.host.files node)
+          (path_at host.old.host.files directory ++ name ∷ []) host.old.host;
+    } }
 {
     match replaced {
         None => host.rename(node, directory, name),

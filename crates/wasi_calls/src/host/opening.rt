@@ -48,7 +48,8 @@ impl Host {
         requires node { descriptor.target ≡ Node (node_named descriptor.target) }
         requires is { IsDescriptor self.old.host.files descriptor }
         ensures { self.new ≡ record self.old {
-            host = with_descriptor number descriptor self.old.host } }
+          host = with_descriptor number descriptor self.old.host;
+        } }
     {
         self.descriptors[number as usize] = Some(descriptor);
     }
@@ -57,8 +58,11 @@ impl Host {
     pub(crate) fn truncate(&mut self, node: u64) -> Result<(), AllocError>
         requires there { IsThere self.old.host.files (Node node) }
         requires file { is_directory self.old.host.files node ≡ false }
-        ensures cut { OnOk result (self.new ≡ record self.old { host = record self.old.host {
-            files = with_file_bytes node [] self.old.host.files } }) }
+        ensures cut { OnOk result (self.new ≡ record self.old {
+          host = record self.old.host {
+            files = with_file_bytes node [] self.old.host.files;
+          };
+        }) }
         ensures there { OnOk result (IsThere self.new.host.files (Node node)) }
         ensures unchanged { OnErr result (self.new ≡ self.old) }
     {

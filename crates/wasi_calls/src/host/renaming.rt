@@ -19,9 +19,12 @@ impl Host {
     /// Moves a node, with all that lies below it, to a free name in a directory.
     pub(crate) fn rename(&mut self, node: u64, directory: u64, name: ByteList)
         requires { CanMove self.old.host.files node directory name }
-        ensures { self.new ≡ record self.old { host = record self.old.host {
+        ensures { self.new ≡ record self.old {
+          host = record self.old.host {
             files = renamed (path_at self.old.host.files node)
-                (path_at self.old.host.files directory ++ name ∷ []) self.old.host.files } } }
+                (path_at self.old.host.files directory ++ name ∷ []) self.old.host.files;
+          };
+        } }
     {
         self.tree.rename(node, directory, name);
     }
