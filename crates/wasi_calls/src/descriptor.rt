@@ -67,6 +67,19 @@ impl Descriptor {
         }
     }
 
+    /// A file with these rights. It hands none on.
+    pub fn file(node: u64, base: Rights) -> Descriptor
+        ensures { result ≡ record { target = Node node; offset = 0; flags = 0; base = rights_number base; inheriting = 0 } }
+    {
+        Descriptor {
+            names: Names::Node(node),
+            offset: 0,
+            flags: DescriptorFlags::NONE,
+            base,
+            inheriting: Rights::from_number(0),
+        }
+    }
+
     /// What it names.
     pub fn names(&self) -> Names
         ensures { target_of result ≡ self.now.target }

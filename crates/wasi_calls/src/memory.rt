@@ -38,7 +38,7 @@ fn buffer(memory: &Memory, iovecs: u32, offset: u32) -> Result<&[u8], Errno>
 }
 
 /// The front of a buffer that there is room for.
-fn front(buffer: &[u8], room: usize) -> &[u8]
+pub fn front(buffer: &[u8], room: usize) -> &[u8]
     ensures { result.now ≡ take room buffer.now }
 {
     if buffer.len() <= room {

@@ -263,7 +263,7 @@ making_free m h p x =
     )
 
 -- a child isn't the root
-child_not_root : (fs : Files) (k : ℕ) (p : Path) (name : Name) → IsFiles fs
+pub child_not_root : (fs : Files) (k : ℕ) (p : Path) (name : Name) → IsFiles fs
     → path_of fs k ≡ Some (p ++ name ∷ []) → k ≢ 1
 child_not_root fs k p name are path e =
     not_nil p name (some_path [] (p ++ name ∷ []) (sym are.root ∙ ap (path_of fs) (sym e) ∙ path))
@@ -308,7 +308,7 @@ outside_is : (fs : Files) (k d : ℕ) (from above : Path) → path_of fs k ≡ S
 outside_is fs k d from above own parent e = (rw (own, parent) at e)
 
 -- a directory that gives way is empty
-way_empty : (fs : Files) (k j : ℕ)
+pub way_empty : (fs : Files) (k j : ℕ)
     → HoldsAfter (λ (_ : Unit {0}). is_directory fs j ≡ true → is_directory_empty fs j ≡ true)
     (gives_way fs k (Some j))
 way_empty fs k j =

@@ -181,7 +181,7 @@ pub record CanGo (fs : Files) (k : ℕ) (from : Path) (d : ℕ) (above : Path)
 pub path_at_is : (fs : Files) (k : ℕ) (p : Path) → path_of fs k ≡ Some p → path_at fs k ≡ p
 path_at_is fs k p e = ap (λ (o : Option Path). unwrap_or o []) e
 
-can_move : (fs : Files) (k : ℕ) (from : Path) (d : ℕ) (above : Path) (name : Name)
+pub can_move : (fs : Files) (k : ℕ) (from : Path) (d : ℕ) (above : Path) (name : Name)
     → CanGo fs k from d above name → CanMove fs k d name
 can_move fs k from d above name g = record {
   not_root = g.not_root;
@@ -235,10 +235,10 @@ swept_path fs ds j e = by_tests (has_path fs j) (list_any (names j) ds) where
   by_tests false false = ap (option_and_then (λ (n : FileNode). n.path)) (forgotten_own fs j)
 
 module _ (fs : Files) (ds : Table) (j : ℕ) where
-  abbrev cleared : Files
+  abbrev pub cleared : Files
   cleared = swept (Node j) ds (removed j fs)
 
-  cleared_other : (i : ℕ) → i ≢ j → node_of cleared i ≡ node_of fs i
+  pub cleared_other : (i : ℕ) → i ≢ j → node_of cleared i ≡ node_of fs i
   cleared_other i ne = swept_other (removed j fs) ds j i ne ∙ removed_other fs j i ne
 
   cleared_path : (n : FileNode) → node_of fs j ≡ Some n → path_of cleared j ≡ None
@@ -248,7 +248,7 @@ module _ (fs : Files) (ds : Table) (j : ℕ) where
       (ap (option_and_then (λ (n : FileNode). n.path)) own.1 ∙ own.2)
 
   -- where it stood nothing stands
-  free_then : (room d : ℕ) (above : Path) (name : Name) → Stands fs ds room
+  pub free_then : (room d : ℕ) (above : Path) (name : Name) → Stands fs ds room
       → Stands cleared ds room → path_of fs d ≡ Some above → d ≢ j
       → path_of fs j ≡ Some (above ++ name ∷ []) → child cleared d name ≡ None
   free_then room d above name s after parent other own = by_child (child cleared d name) refl where

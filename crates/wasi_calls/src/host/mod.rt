@@ -1,8 +1,11 @@
 //! The host's side of a process.
 
 mod descriptors;
+mod entries;
 mod files;
 mod nodes;
+mod opening;
+mod renaming;
 
 ghost use Rattle.std.specs.Prelude.{◌≡◌, ◌+◌, ◌*◌, ◌<◌, ◌≤◌, ◌^◌, ◌++◌, length, IfOk, OnOk, OnErr};
 ghost use Rattle.file_tree.specs.declared.limits.TheConstants.{UNIT_BYTES};

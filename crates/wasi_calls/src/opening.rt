@@ -1,0 +1,306 @@
+//! Opening a path: `path_open`.
+
+ghost use Rattle.std.specs.Prelude.{◌≡◌, ◌&&◌, ◌||◌, ◌<◌, ◌≤◌, ◌^◌, ℕ, None, OnOk, IfOk, IfErr, Ok, Err};
+ghost use Rattle.guest_memory.specs.rules.Bytes.{with_part};
+ghost use Rattle.wasi_abi.specs.Bits.{bit_of};
+ghost use Rattle.wasi_abi.specs.rules.Layouts.{u32_bytes};
+ghost use Rattle.wasi_abi.specs.rules.Numbers.{rights_number, has_flag, has_right, fd_write_right};
+ghost use Rattle.wasi_abi.specs.rules.Numbers.{create_flag, exclusive_flag, truncate_flag};
+ghost use Rattle.wasi_calls_rules.specs.Hosts.{Node, IsThere, IsDescriptor};
+ghost use Rattle.file_tree.specs.rules.Files.{Files};
+ghost use Rattle.wasi_calls_rules.specs.Checks.{Bytes, needs, within_rights};
+ghost use Rattle.wasi_calls_rules.specs.Entries.{new_descriptor, path_open};
+ghost use Rattle.wasi_calls_rules.specs.Entries.{opened_there, opened_new, opened_at};
+ghost use Rattle.wasi_calls_rules.specs.Paths.{node_at};
+ghost use Rattle.wasi_calls.specs.Openings.{asked_for, wish_of, may_open, right_flags, may_be_opened};
+ghost use Rattle.wasi_calls.specs.Places.{IsWellPlaced, place_of};
+ghost use Rattle.wasi_calls.specs.Steps.{GivesValue, StopsStep};
+ghost use Rattle.wasi_calls.specs.rules.Calls.{IsAsLarge};
+
+use crate::descriptor::{Descriptor, Names};
+use crate::host::Host;
+use crate::memory::in_range;
+use crate::paths::{PathNames, Place, path_bytes, placed};
+use crate::stop::CallStop;
+use file_tree::NodeKind;
+use guest_memory::Memory;
+use std::alloc::Global;
+use wasi_abi::{DescriptorFlags, Errno, OpenFlags, Rights};
+
+/// The most that `dirflags` may be: one flag.
+const MOST_LOOKUP_FLAGS: u32 = 1;
+
+/// The bits of `oflags` for which the descriptor needs a right.
+const CREATE_BIT: u32 = 0;
+
+const TRUNCATE_BIT: u32 = 3;
+
+/// The arguments of `path_open`.
+#[derive(Clone, Copy)]
+pub struct OpenArguments {
+    pub fd: u32,
+    pub dirflags: u32,
+    pub path: u32,
+    pub len: u32,
+    pub wish: OpenWish,
+    /// Where the number of the new descriptor is put.
+    pub ret: u32,
+}
+
+/// What a guest asks for.
+#[derive(Clone, Copy)]
+pub struct OpenWish {
+    pub oflags: u32,
+    pub base: u64,
+    pub inheriting: u64,
+    pub fdflags: u32,
+}
+
+/// What is asked for, in flags that there are.
+#[derive(Clone, Copy)]
+pub struct CheckedWish {
+    flags: OpenFlags,
+    base: Rights,
+    inheriting: Rights,
+    descriptor_flags: DescriptorFlags,
+}
+
+/// Whether a number has this bit.
+fn has_bit(number: u32, bit: u32) -> bool
+    requires { bit < 32 }
+    ensures { result ≡ has_flag number bit }
+{
+    (number >> bit) & 1 == 1
+}
+
+/// A right where something is asked for that needs it, else `Notcapable`.
+fn check_need(descriptor: &Descriptor, is_asked: bool, right: Rights) -> Result<(), Errno>
+    requires one { rights_number right ≡ 2 ^ bit_of (rights_number right) }
+    ensures { GivesValue (λ x. x) result
+        (needs is_asked (bit_of (rights_number right)) descriptor.now) }
+{
+    if is_asked {
+        descriptor.check_right(right)
+    } else {
+        Ok(())
+    }
+}
+
+/// Nothing where these rights are among all those, else `Notcapable`.
+fn check_within(rights: Rights, all: Rights) -> Result<(), Errno>
+    ensures { GivesValue (λ x. x) result (within_rights (rights_number rights) (rights_number all)) }
+{
+    if rights.is_within(all) {
+        Ok(())
+    } else {
+        Err(Errno::Notcapable)
+    }
+}
+
+/// The rights that an opening needs of the directory's descriptor, else `Notcapable`.
+fn check_rights(descriptor: &Descriptor, wish: OpenWish) -> Result<(), Errno>
+    ensures { GivesValue (λ x. x) result (may_open descriptor.now (asked_for wish)) }
+{
+    descriptor.check_right(Rights::PATH_OPEN)?;
+    let creates = has_bit(wish.oflags, CREATE_BIT);
+    check_need(descriptor, creates, Rights::PATH_CREATE_FILE)?;
+    let truncates = has_bit(wish.oflags, TRUNCATE_BIT);
+    check_need(descriptor, truncates, Rights::PATH_FILESTAT_SET_SIZE)?;
+    check_within(Rights::from_number(wish.base), descriptor.inheriting())?;
+    check_within(
+        Rights::from_number(wish.inheriting),
+        descriptor.inheriting(),
+    )
+}
+
+/// What is asked for, or `Inval` where flags are none, or a directory is to be made.
+fn check_flags(dirflags: u32, wish: OpenWish) -> Result<CheckedWish, Errno>
+    ensures gives { GivesValue (λ _. tt) result (right_flags dirflags (asked_for wish)) }
+    ensures wish { IfOk result (λ a. wish_of a ≡ asked_for wish) }
+    ensures few { IfOk result (λ a. (wish_of a).fdflags ≤ 31) }
+{
+    if dirflags > MOST_LOOKUP_FLAGS {
+        return Err(Errno::Inval);
+    }
+    let flags = OpenFlags::from_number(wish.oflags).ok_or(Errno::Inval)?;
+    let descriptor_flags = DescriptorFlags::from_number(wish.fdflags).ok_or(Errno::Inval)?;
+    if flags.has(OpenFlags::CREATE) && flags.has(OpenFlags::DIRECTORY) {
+        return Err(Errno::Inval);
+    }
+    Ok(CheckedWish {
+        flags,
+        base: Rights::from_number(wish.base),
+        inheriting: Rights::from_number(wish.inheriting),
+        descriptor_flags,
+    })
+}
+
+/// Nothing where a node that is there may be opened so. `Exist` where it is to be made, `Isdir`
+/// where a directory is to be changed, and `Notdir` where a file is to be a directory.
+fn check_there(is_directory: bool, wish: CheckedWish) -> Result<(), Errno>
+    ensures { GivesValue (λ x. x) result (may_be_opened is_directory (wish_of wish)) }
+{
+    if makes(wish) {
+        return Err(Errno::Exist);
+    }
+    if is_directory && changes(wish) {
+        return Err(Errno::Isdir);
+    }
+    if !is_directory && wish.flags.has(OpenFlags::DIRECTORY) {
+        return Err(Errno::Notdir);
+    }
+    Ok(())
+}
+
+/// Whether a file is to be made, and none may be there.
+fn makes(wish: CheckedWish) -> bool
+    ensures { result ≡ (has_flag (wish_of wish).oflags create_flag
+        && has_flag (wish_of wish).oflags exclusive_flag) }
+{
+    wish.flags.has(OpenFlags::CREATE) && wish.flags.has(OpenFlags::EXCLUSIVE)
+}
+
+/// Whether what is opened is to be made, cut or written.
+fn changes(wish: CheckedWish) -> bool
+    ensures { result ≡ (has_flag (wish_of wish).oflags create_flag
+        || has_flag (wish_of wish).oflags truncate_flag
+        || has_right (wish_of wish).base fd_write_right) }
+{
+    wish.flags.has(OpenFlags::CREATE) || wish.flags.has(OpenFlags::TRUNCATE) || writes(wish)
+}
+
+/// Whether what is opened is to be written.
+fn writes(wish: CheckedWish) -> bool
+    ensures { result ≡ has_right (wish_of wish).base fd_write_right }
+{
+    wish.base.has(Rights::FD_WRITE)
+}
+
+/// The descriptor of a node that is opened. Its rights are cut to what a node of its kind may have.
+fn opened(node: u64, is_directory: bool, wish: CheckedWish) -> Descriptor
+    ensures new { result ≡ new_descriptor is_directory node (wish_of wish).fdflags
+        (wish_of wish).base (wish_of wish).inheriting }
+    ensures is { (fs : Files) → IsThere fs (Node node) → (wish_of wish).fdflags ≤ 31
+        → IsDescriptor fs result }
+{
+    if is_directory {
+        let base = wish.base.intersection(Rights::DIRECTORY);
+        let inheriting = wish.inheriting.intersection(Rights::ALL);
+        Descriptor::directory(node, base, inheriting).with_flags(wish.descriptor_flags)
+    } else {
+        let base = wish.base.intersection(Rights::FILE);
+        Descriptor::file(node, base).with_flags(wish.descriptor_flags)
+    }
+}
+
+/// Opens a node that is there, and gives the number of its descriptor.
+fn open_there(host: &mut Host, node: u64, wish: CheckedWish) -> Result<u32, CallStop>
+    requires there { IsThere host.old.host.files (Node node) }
+    requires few { (wish_of wish).fdflags ≤ 31 }
+    ensures done { (ret : ℕ) (m : Bytes) → IfOk result (λ n.
+        opened_there node (wish_of wish) ret m host.old.host
+        ≡ Ok (record { memory = with_part m ret (u32_bytes n); host = host.new.host })) }
+    ensures stopped { (ret : ℕ) (m : Bytes) → IfErr result (λ why.
+        StopsStep why (opened_there node (wish_of wish) ret m host.old.host)) }
+    ensures kept { IfErr result (λ _. host.new ≡ host.old) }
+    ensures released { host.new.released ≡ host.old.released }
+{
+    let is_directory = host.is_directory(Names::Node(node));
+    check_there(is_directory, wish)?;
+    let number = host.free_number()?;
+    if wish.flags.has(OpenFlags::TRUNCATE) {
+        host.truncate(node)?;
+        host.open(number, opened(node, is_directory, wish));
+        return Ok(number);
+    }
+    host.open(number, opened(node, is_directory, wish));
+    Ok(number)
+}
+
+/// Makes a file at a place and opens it, and gives the number of its descriptor.
+fn open_new(
+    alloc: Global,
+    host: &mut Host,
+    place: Place<'_>,
+    wish: CheckedWish,
+) -> Result<u32, CallStop>
+    requires well { IsWellPlaced host.old.host.files (place_of place) }
+    requires free { node_at host.old.host.files (place_of place) ≡ None }
+    requires few { (wish_of wish).fdflags ≤ 31 }
+    ensures done { (ret : ℕ) (m : Bytes) → IfOk result (λ n.
+        opened_new (place_of place.entry) (wish_of wish) ret m host.old.host
+        ≡ Ok (record { memory = with_part m ret (u32_bytes n); host = host.new.host })) }
+    ensures stopped { (ret : ℕ) (m : Bytes) → IfErr result (λ why.
+        StopsStep why (opened_new (place_of place.entry) (wish_of wish) ret m host.old.host)) }
+    ensures kept { IfErr result (λ _. host.new ≡ host.old) }
+    ensures released { host.new.released ≡ host.old.released }
+{
+    if !wish.flags.has(OpenFlags::CREATE) {
+        return Err(CallStop::Refused(Errno::Noent));
+    }
+    let Place::Leaf(directory, name) = place else {
+        return Err(CallStop::Refused(Errno::Inval));
+    };
+    host.check_path(directory)?;
+    let number = host.free_number()?;
+    host.check_free_node()?;
+    let node = host.create(alloc, directory, name, NodeKind::File)?;
+    host.open(number, opened(node, false, wish));
+    Ok(number)
+}
+
+/// Opens what is at a place, and gives the number of its descriptor.
+fn open_at(
+    alloc: Global,
+    host: &mut Host,
+    place: Place<'_>,
+    wish: CheckedWish,
+) -> Result<u32, CallStop>
+    requires well { IsWellPlaced host.old.host.files (place_of place) }
+    requires few { (wish_of wish).fdflags ≤ 31 }
+    ensures done { (ret : ℕ) (m : Bytes) → IfOk result (λ n.
+        opened_at (node_at host.old.host.files (place_of place.entry)) (place_of place.entry)
+        (wish_of wish) ret m host.old.host
+        ≡ Ok (record { memory = with_part m ret (u32_bytes n); host = host.new.host })) }
+    ensures stopped { (ret : ℕ) (m : Bytes) → IfErr result (λ why. StopsStep why
+        (opened_at (node_at host.old.host.files (place_of place.entry)) (place_of place.entry)
+        (wish_of wish) ret m host.old.host)) }
+    ensures kept { IfErr result (λ _. host.new ≡ host.old) }
+    ensures released { host.new.released ≡ host.old.released }
+{
+    match host.node_there(place) {
+        Some(node) => open_there(host, node, wish),
+        None => open_new(alloc, host, place, wish),
+    }
+}
+
+/// `path_open`.
+pub fn open(
+    alloc: Global,
+    host: &mut Host,
+    memory: &mut Memory,
+    arguments: OpenArguments,
+) -> Result<(), CallStop>
+    ensures done { OnOk result (path_open arguments.fd arguments.dirflags arguments.path
+        arguments.len (asked_for arguments.wish) arguments.ret memory.old.bytes host.old.host
+        ≡ Ok (record { memory = memory.new.bytes; host = host.new.host })) }
+    ensures stopped { IfErr result (λ why. StopsStep why (path_open arguments.fd
+        arguments.dirflags arguments.path arguments.len (asked_for arguments.wish) arguments.ret
+        memory.old.bytes host.old.host)) }
+    ensures memory_kept { IfErr result (λ _. memory.new ≡ memory.old) }
+    ensures host_kept { IfErr result (λ _. host.new ≡ host.old) }
+    ensures released { host.new.released ≡ host.old.released }
+    ensures large { IsAsLarge memory.old memory.new }
+{
+    let descriptor = host.descriptor(arguments.fd)?;
+    host.a_directory(descriptor)?;
+    check_rights(descriptor, arguments.wish)?;
+    let wish = check_flags(arguments.dirflags, arguments.wish)?;
+    let bytes = path_bytes(memory, arguments.path, arguments.len)?;
+    in_range(memory, arguments.ret, 4)?;
+    let names = PathNames::of(bytes)?;
+    let place = placed(host, descriptor, names)?;
+    let number = open_at(alloc, host, place, wish)?;
+    memory.store_u32(arguments.ret, 0, number).unwrap();
+    Ok(())
+}
