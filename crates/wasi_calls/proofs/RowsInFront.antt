@@ -16,6 +16,9 @@ use Rattle.wasi_calls.proofs.SmallInFront.{close_behind, sync_behind, fdstat_beh
 use Rattle.wasi_calls.proofs.SmallInFront.{set_flags_behind, filestat_behind, set_size_behind}
 use Rattle.wasi_calls.proofs.SmallInFront.{prestat_behind, prestat_name_behind, seek_behind}
 use Rattle.wasi_calls.proofs.SmallInFront.{tell_behind, random_get_behind}
+use Rattle.wasi_calls.proofs.OpeningInFront.{fd_readdir_behind, path_rename_behind, path_open_behind}
+use Rattle.wasi_calls.proofs.PathsInFront.{path_filestat_behind, create_directory_behind}
+use Rattle.wasi_calls.proofs.PathsInFront.{remove_directory_behind, unlink_file_behind}
 
 pub row_behind : (before : List Line) (c : Call) (arguments : List ℕ) (given : Option Answer)
     (m : Bytes) (h : Host) → IsBehind before (row c arguments given m) h
@@ -53,14 +56,31 @@ row_behind before call.ProcExit (code ∷ []) given m h = refl
 row_behind before call.SchedYield [] given m h = refl
 row_behind before call.RandomGet (buf ∷ len ∷ []) given m h =
     random_get_behind before m h buf len given
-row_behind before call.FdPread (fd ∷ iovs ∷ count ∷ offset ∷ ret ∷ []) given m h = ?
-row_behind before call.FdPwrite (fd ∷ iovs ∷ count ∷ offset ∷ ret ∷ []) given m h = ?
-row_behind before call.FdRead (fd ∷ iovs ∷ count ∷ ret ∷ []) given m h = ?
-row_behind before call.FdReaddir (fd ∷ buf ∷ len ∷ cookie ∷ ret ∷ []) given m h = ?
-row_behind before call.PathCreateDirectory (fd ∷ path ∷ len ∷ []) given m h = ?
-row_behind before call.PathFilestatGet (fd ∷ flags ∷ path ∷ len ∷ ret ∷ []) given m h = ?
-row_behind before call.PathOpen (fd ∷ dirflags ∷ path ∷ len ∷ oflags ∷ base ∷ inheriting ∷ fdflags ∷ ret ∷ []) given m h = ?
-row_behind before call.PathRemoveDirectory (fd ∷ path ∷ len ∷ []) given m h = ?
-row_behind before call.PathRename (old_fd ∷ old_path ∷ old_len ∷ new_fd ∷ new_path ∷ new_len ∷ []) given m h = ?
-row_behind before call.PathUnlinkFile (fd ∷ path ∷ len ∷ []) given m h = ?
+row_behind before call.FdPread (fd ∷ iovs ∷ count ∷ offset ∷ ret ∷ []) given m h =
+    pread_behind before m h fd iovs count offset ret
+row_behind before call.FdPwrite (fd ∷ iovs ∷ count ∷ offset ∷ ret ∷ []) given m h =
+    pwrite_behind before m h fd iovs count offset ret
+row_behind before call.FdRead (fd ∷ iovs ∷ count ∷ ret ∷ []) given m h =
+    read_behind before m h fd iovs count ret given
+row_behind before call.FdReaddir (fd ∷ buf ∷ len ∷ cookie ∷ ret ∷ []) given m h =
+    fd_readdir_behind before m h fd buf len cookie ret
+row_behind before call.PathCreateDirectory (fd ∷ path ∷ len ∷ []) given m h =
+    create_directory_behind before m h fd path len
+row_behind before call.PathFilestatGet (fd ∷ flags ∷ path ∷ len ∷ ret ∷ []) given m h =
+    path_filestat_behind before m h fd flags path len ret
+row_behind before call.PathOpen
+    (fd ∷ dirflags ∷ path ∷ len ∷ oflags ∷ base ∷ inheriting ∷ fdflags ∷ ret ∷ []) given m h =
+    path_open_behind before m h fd dirflags path len (record {
+      oflags = oflags;
+      base = base;
+      inheriting = inheriting;
+      fdflags = fdflags;
+    }) ret
+row_behind before call.PathRemoveDirectory (fd ∷ path ∷ len ∷ []) given m h =
+    remove_directory_behind before m h fd path len
+row_behind before call.PathRename
+    (old_fd ∷ old_path ∷ old_len ∷ new_fd ∷ new_path ∷ new_len ∷ []) given m h =
+    path_rename_behind before m h old_fd old_path old_len new_fd new_path new_len
+row_behind before call.PathUnlinkFile (fd ∷ path ∷ len ∷ []) given m h =
+    unlink_file_behind before m h fd path len
 row_behind before _ _ given m h = refl

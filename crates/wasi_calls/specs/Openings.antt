@@ -18,8 +18,8 @@ asked_for w = record {
 }
 
 -- the same, in flags that there are
-abbrev pub wish_of : CheckedWish → Wish
-wish_of w = record {
+abbrev pub checked_wish : CheckedWish → Wish
+checked_wish w = record {
   oflags = open_flags_number w.flags;
   base = rights_number w.base;
   inheriting = rights_number w.inheriting;

@@ -1,9 +1,13 @@
 //! A call of the guest.
 
-ghost use Rattle.std.specs.Prelude.{◌≡◌, ◌≢◌, option_copied};
+ghost use Rattle.std.specs.Prelude.{◌≡◌, ◌≢◌, ◌+◌, ◌≤◌, length, Option, Ok, Err, option_copied};
+ghost use Rattle.wasi_abi.specs.declared.answer.Answer.{Answer};
 ghost use Rattle.wasi_abi.specs.rules.Calls.{parameters_of};
 ghost use Rattle.wasi_calls_rules.specs.Hosts.{Host as TheHost};
+ghost use Rattle.wasi_calls_rules.specs.Checks.{Done, Halt};
+ghost use Rattle.wasi_calls_rules.specs.Lines.{lines_ended};
 ghost use Rattle.wasi_calls_rules.specs.Rows.{row, TellsRow};
+ghost use Rattle.wasi_calls_rules.specs.declared.limits.TheConstants.{MOVED_BYTES};
 ghost use Rattle.wasi_abi.specs.declared.call.Call.TheVariants.{ProcExit};
 ghost use Rattle.wasi_calls.specs.rules.Held.{ShowsHost};
 ghost use Rattle.wasi_calls.specs.rules.Calls.{IsBuilt, AreArguments, call_outcome, check_outcome};
@@ -62,11 +66,39 @@ fn make(
     ensures wants { result ≡ WantOfMemory → call ≢ ProcExit }
     ensures large { IsAsLarge memory.old memory.new }
 {
-    let _ = alloc;
-    let _ = answer;
     match call {
         Call::FdClose => checked(changes::close(host, one(arguments))),
         Call::FdDatasync => checked(changes::sync(host, one(arguments), Rights::FD_DATASYNC)),
+        Call::FdFilestatSetSize => {
+            let (fd, size) = one_and_long(arguments);
+            stopped(changes::set_size(host, fd, size))
+        }
+        Call::FdPread => checked(read::read_at(host, memory, of_placed_move(arguments))),
+        Call::FdPwrite => stopped(write::write_at(host, memory, of_placed_move(arguments))),
+        Call::FdRead => stopped(read::read(host, memory, of_move(arguments), answer)),
+        Call::FdReaddir => checked(listing::list(host, memory, of_list(arguments))),
+        Call::FdSeek => checked(offsets::seek(host, memory, of_seek(arguments))),
+        Call::FdSync => checked(changes::sync(host, one(arguments), Rights::FD_SYNC)),
+        Call::FdWrite => stopped(write::write(alloc, host, memory, of_move(arguments))),
+        Call::PathCreateDirectory => {
+            let (fd, path, len) = three(arguments);
+            stopped(entries::create_directory(alloc, host, memory, fd, path, len))
+        }
+        Call::PathFilestatGet => {
+            checked(entries::get_path_filestat(host, memory, of_path_filestat(arguments)))
+        }
+        Call::PathOpen => stopped(opening::open(alloc, host, memory, of_open(arguments))),
+        Call::PathRemoveDirectory => {
+            let (fd, path, len) = three(arguments);
+            checked(entries::remove_directory(host, memory, fd, path, len))
+        }
+        Call::PathRename => stopped(renaming::rename(alloc, host, memory, of_rename(arguments))),
+        Call::PathUnlinkFile => {
+            let (fd, path, len) = three(arguments);
+            checked(entries::unlink_file(host, memory, fd, path, len))
+        }
+        Call::ProcExit => CallOutcome::Exit(one(arguments)),
+        Call::SchedYield => CallOutcome::Done(None),
         Call::FdFdstatGet => {
             let (fd, ret) = two(arguments);
             checked(status::get_fdstat(host, memory, fd, ret))
@@ -79,10 +111,6 @@ fn make(
             let (fd, ret) = two(arguments);
             checked(status::get_filestat(host, memory, fd, ret))
         }
-        Call::FdFilestatSetSize => {
-            let (fd, size) = one_and_long(arguments);
-            stopped(changes::set_size(host, fd, size))
-        }
         Call::FdPrestatGet => {
             let (fd, ret) = two(arguments);
             checked(status::get_prestat(host, memory, fd, ret))
@@ -91,15 +119,29 @@ fn make(
             let (fd, path, len) = three(arguments);
             checked(status::get_prestat_name(host, memory, fd, path, len))
         }
-        Call::FdSeek => checked(offsets::seek(host, memory, of_seek(arguments))),
-        Call::FdSync => checked(changes::sync(host, one(arguments), Rights::FD_SYNC)),
         Call::FdTell => {
             let (fd, ret) = two(arguments);
             checked(offsets::tell(host, memory, fd, ret))
         }
-        Call::ProcExit => CallOutcome::Exit(one(arguments)),
-        Call::SchedYield => CallOutcome::Done(None),
         _ => unreachable!(),
+    }
+}
+
+/// How many lines such a call would add, an unfinished one counted as a line: none, if it is not
+/// done. It changes nothing, and takes no memory.
+pub fn lines_begun(host: &Host, memory: &Memory, call: Call, arguments: &[u64]) -> usize
+    requires built { IsBuilt call }
+    requires typed { AreArguments (parameters_of call) arguments.now }
+    ensures count { (given : Option Answer) (h : TheHost) (done : Done) → ShowsHost host.now h
+        → row call arguments.now given memory.now.bytes h ≡ Ok done
+        → length (lines_ended done.host).lines ≡ length (lines_ended h).lines + result }
+    ensures none { (given : Option Answer) (h : TheHost) (halt : Halt) → ShowsHost host.now h
+        → row call arguments.now given memory.now.bytes h ≡ Err halt → result ≡ 0 }
+    ensures few { result ≤ MOVED_BYTES }
+{
+    match call {
+        Call::FdWrite => write::lines_begun(host, memory, of_move(arguments)),
+        _ => 0,
     }
 }
 

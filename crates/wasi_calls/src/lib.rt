@@ -61,7 +61,7 @@ mod stop;
 mod streams;
 mod wish;
 
-pub use calls::call;
+pub use calls::{call, lines_begun};
 pub use host::Host;
 pub use line::Line;
 pub use outcome::CallOutcome;

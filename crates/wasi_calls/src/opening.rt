@@ -12,7 +12,7 @@ ghost use Rattle.wasi_calls_rules.specs.Checks.{Bytes, needs, within_rights};
 ghost use Rattle.wasi_calls_rules.specs.Entries.{new_descriptor, path_open};
 ghost use Rattle.wasi_calls_rules.specs.Entries.{opened_there, opened_new, opened_at};
 ghost use Rattle.wasi_calls_rules.specs.Paths.{node_at};
-ghost use Rattle.wasi_calls.specs.Openings.{asked_for, wish_of, may_open, right_flags, may_be_opened};
+ghost use Rattle.wasi_calls.specs.Openings.{asked_for, checked_wish, may_open, right_flags, may_be_opened};
 ghost use Rattle.wasi_calls.specs.Places.{IsWellPlaced, place_of};
 ghost use Rattle.wasi_calls.specs.Steps.{GivesValue, StopsStep};
 ghost use Rattle.wasi_calls.specs.rules.Calls.{IsAsLarge};
@@ -116,8 +116,8 @@ fn check_rights(descriptor: &Descriptor, wish: OpenWish) -> Result<(), Errno>
 /// What is asked for, or `Inval` where flags are none, or a directory is to be made.
 fn check_flags(dirflags: u32, wish: OpenWish) -> Result<CheckedWish, Errno>
     ensures gives { GivesValue (λ _. tt) result (right_flags dirflags (asked_for wish)) }
-    ensures wish { IfOk result (λ a. wish_of a ≡ asked_for wish) }
-    ensures few { IfOk result (λ a. (wish_of a).fdflags ≤ 31) }
+    ensures wish { IfOk result (λ a. checked_wish a ≡ asked_for wish) }
+    ensures few { IfOk result (λ a. (checked_wish a).fdflags ≤ 31) }
 {
     if dirflags > MOST_LOOKUP_FLAGS {
         return Err(Errno::Inval);
@@ -138,7 +138,7 @@ fn check_flags(dirflags: u32, wish: OpenWish) -> Result<CheckedWish, Errno>
 /// Nothing where a node that is there may be opened so. `Exist` where it is to be made, `Isdir`
 /// where a directory is to be changed, and `Notdir` where a file is to be a directory.
 fn check_there(is_directory: bool, wish: CheckedWish) -> Result<(), Errno>
-    ensures { GivesValue (λ x. x) result (may_be_opened is_directory (wish_of wish)) }
+    ensures { GivesValue (λ x. x) result (may_be_opened is_directory (checked_wish wish)) }
 {
     if makes(wish) {
         return Err(Errno::Exist);
@@ -154,33 +154,33 @@ fn check_there(is_directory: bool, wish: CheckedWish) -> Result<(), Errno>
 
 /// Whether a file is to be made, and none may be there.
 fn makes(wish: CheckedWish) -> bool
-    ensures { result ≡ (has_flag (wish_of wish).oflags create_flag
-        && has_flag (wish_of wish).oflags exclusive_flag) }
+    ensures { result ≡ (has_flag (checked_wish wish).oflags create_flag
+        && has_flag (checked_wish wish).oflags exclusive_flag) }
 {
     wish.flags.has(OpenFlags::CREATE) && wish.flags.has(OpenFlags::EXCLUSIVE)
 }
 
 /// Whether what is opened is to be made, cut or written.
 fn changes(wish: CheckedWish) -> bool
-    ensures { result ≡ (has_flag (wish_of wish).oflags create_flag
-        || has_flag (wish_of wish).oflags truncate_flag
-        || has_right (wish_of wish).base fd_write_right) }
+    ensures { result ≡ (has_flag (checked_wish wish).oflags create_flag
+        || has_flag (checked_wish wish).oflags truncate_flag
+        || has_right (checked_wish wish).base fd_write_right) }
 {
     wish.flags.has(OpenFlags::CREATE) || wish.flags.has(OpenFlags::TRUNCATE) || writes(wish)
 }
 
 /// Whether what is opened is to be written.
 fn writes(wish: CheckedWish) -> bool
-    ensures { result ≡ has_right (wish_of wish).base fd_write_right }
+    ensures { result ≡ has_right (checked_wish wish).base fd_write_right }
 {
     wish.base.has(Rights::FD_WRITE)
 }
 
 /// The descriptor of a node that is opened. Its rights are cut to what a node of its kind may have.
 fn opened(node: u64, is_directory: bool, wish: CheckedWish) -> Descriptor
-    ensures new { result ≡ new_descriptor is_directory node (wish_of wish).fdflags
-        (wish_of wish).base (wish_of wish).inheriting }
-    ensures is { (fs : Files) → IsThere fs (Node node) → (wish_of wish).fdflags ≤ 31
+    ensures new { result ≡ new_descriptor is_directory node (checked_wish wish).fdflags
+        (checked_wish wish).base (checked_wish wish).inheriting }
+    ensures is { (fs : Files) → IsThere fs (Node node) → (checked_wish wish).fdflags ≤ 31
         → IsDescriptor fs result }
 {
     if is_directory {
@@ -196,12 +196,12 @@ fn opened(node: u64, is_directory: bool, wish: CheckedWish) -> Descriptor
 /// Opens a node that is there, and gives the number of its descriptor.
 fn open_there(host: &mut Host, node: u64, wish: CheckedWish) -> Result<u32, CallStop>
     requires there { IsThere host.old.host.files (Node node) }
-    requires few { (wish_of wish).fdflags ≤ 31 }
+    requires few { (checked_wish wish).fdflags ≤ 31 }
     ensures done { (ret : ℕ) (m : Bytes) → IfOk result (λ n.
-        opened_there node (wish_of wish) ret m host.old.host
+        opened_there node (checked_wish wish) ret m host.old.host
         ≡ Ok (record { memory = with_part m ret (u32_bytes n); host = host.new.host })) }
     ensures stopped { (ret : ℕ) (m : Bytes) → IfErr result (λ why.
-        StopsStep why (opened_there node (wish_of wish) ret m host.old.host)) }
+        StopsStep why (opened_there node (checked_wish wish) ret m host.old.host)) }
     ensures kept { IfErr result (λ _. host.new ≡ host.old) }
     ensures released { host.new.released ≡ host.old.released }
 {
@@ -226,12 +226,12 @@ fn open_new(
 ) -> Result<u32, CallStop>
     requires well { IsWellPlaced host.old.host.files (place_of place) }
     requires free { node_at host.old.host.files (place_of place) ≡ None }
-    requires few { (wish_of wish).fdflags ≤ 31 }
+    requires few { (checked_wish wish).fdflags ≤ 31 }
     ensures done { (ret : ℕ) (m : Bytes) → IfOk result (λ n.
-        opened_new (place_of place.entry) (wish_of wish) ret m host.old.host
+        opened_new (place_of place.entry) (checked_wish wish) ret m host.old.host
         ≡ Ok (record { memory = with_part m ret (u32_bytes n); host = host.new.host })) }
     ensures stopped { (ret : ℕ) (m : Bytes) → IfErr result (λ why.
-        StopsStep why (opened_new (place_of place.entry) (wish_of wish) ret m host.old.host)) }
+        StopsStep why (opened_new (place_of place.entry) (checked_wish wish) ret m host.old.host)) }
     ensures kept { IfErr result (λ _. host.new ≡ host.old) }
     ensures released { host.new.released ≡ host.old.released }
 {
@@ -257,14 +257,14 @@ fn open_at(
     wish: CheckedWish,
 ) -> Result<u32, CallStop>
     requires well { IsWellPlaced host.old.host.files (place_of place) }
-    requires few { (wish_of wish).fdflags ≤ 31 }
+    requires few { (checked_wish wish).fdflags ≤ 31 }
     ensures done { (ret : ℕ) (m : Bytes) → IfOk result (λ n.
         opened_at (node_at host.old.host.files (place_of place.entry)) (place_of place.entry)
-        (wish_of wish) ret m host.old.host
+        (checked_wish wish) ret m host.old.host
         ≡ Ok (record { memory = with_part m ret (u32_bytes n); host = host.new.host })) }
     ensures stopped { (ret : ℕ) (m : Bytes) → IfErr result (λ why. StopsStep why
         (opened_at (node_at host.old.host.files (place_of place.entry)) (place_of place.entry)
-        (wish_of wish) ret m host.old.host)) }
+        (checked_wish wish) ret m host.old.host)) }
     ensures kept { IfErr result (λ _. host.new ≡ host.old) }
     ensures released { host.new.released ≡ host.old.released }
 {

@@ -65,8 +65,8 @@ pub fn get_path_filestat(
 
 /// `path_create_directory`.
 pub fn create_directory(
-    host: &mut Host,
     alloc: Global,
+    host: &mut Host,
     memory: &Memory,
     fd: u32,
     path: u32,
