@@ -33,6 +33,7 @@
 //! without it nothing changes. A call takes some once all of its checks have passed.
 #![tactic(auto)]
 
+mod buffers;
 mod changes;
 mod count;
 mod cut;
@@ -41,11 +42,14 @@ mod host;
 pub mod laws;
 mod line;
 mod memory;
+mod moves;
 mod offsets;
 mod outcome;
+mod read;
 mod status;
 mod stop;
 mod streams;
+mod write;
 
 pub use host::Host;
 pub use line::Line;

@@ -3,6 +3,7 @@
 ghost use Rattle.std.specs.Prelude.{◌≡◌, ◌≢◌, ◌<◌, ◌≤◌, ◌^◌, false, Some, None, Ok, IfOk, slice_get, slice_set};
 ghost use Rattle.file_tree.specs.rules.Files.{is_directory};
 ghost use Rattle.wasi_calls_rules.specs.Hosts.{Node, Descriptor as Opened, IsThere, IsDescriptor};
+ghost use Rattle.wasi_calls_rules.specs.Hosts.{IsHost};
 ghost use Rattle.wasi_calls_rules.specs.Checks.{open_descriptor, names_directory};
 ghost use Rattle.wasi_calls_rules.specs.Checks.{no_directory, a_file, a_directory};
 ghost use Rattle.std.specs.List.{list_any};
@@ -21,6 +22,14 @@ impl Host {
     pub(crate) fn descriptor(&self, fd: u32) -> Result<&Descriptor, Errno>
         ensures gives { GivesValue (λ d. d.now) result (open_descriptor self.now.host fd) }
         ensures is { IfOk result (λ d. IsDescriptor self.now.host.files d.now) }
+    {
+        let descriptor = self.find_descriptor(fd)?;
+        Ok(descriptor)
+    }
+
+    fn find_descriptor(&self, fd: u32) -> Result<&Descriptor, Errno>
+        ensures gives { GivesValue (λ d. d.now) result (open_descriptor self.now.host fd) }
+        ensures shape { IsHost self.now.host }
     {
         match self.descriptors.get(fd as usize) {
             Some(Some(descriptor)) => Ok(descriptor),
@@ -118,9 +127,10 @@ impl Host {
         requires not_root { fd ≢ 3 }
         ensures closed { (d : Opened) → open_descriptor self.old.host fd ≡ Ok d
             → self.new.host ≡ record self.old.host {
-                descriptors = slice_set self.old.host.descriptors fd None;
-                files = swept d.target (slice_set self.old.host.descriptors fd None)
-                    self.old.host.files } }
+              descriptors = slice_set self.old.host.descriptors fd None;
+              files = swept d.target (slice_set self.old.host.descriptors fd None)
+                  self.old.host.files;
+            } }
         ensures released { self.new.released ≡ self.old.released }
     {
         let names = self.opened(fd).names();
