@@ -1,14 +1,14 @@
 -- Bytes of a stream, cut one after another: what goes on, what stands in front, and what stays true of the unfinished line.
-use Rattle.std.proofs.Common.{◌≡◌, ℕ, suc, ◌+◌, ◌<◌, List, [], ◌∷◌, ◌++◌, length, drop, get_or, refl, sym, ap, ◌∙◌, arith, append_assoc, drop-cons, add-one, length-append}
-use Rattle.std.specs.Prelude.{Bool, true, false, if◌then◌else◌, ◌==◌, nat_lt}
+use Rattle.std.proofs.Common.{◌≡◌, ℕ, suc, ◌+◌, ◌<◌, ◌≤◌, List, [], ◌∷◌, ◌++◌, length, drop, get_or, refl, sym, ap, ◌∙◌, arith, append_assoc, drop-cons, add-one, length-append}
+use Rattle.std.specs.Prelude.{Bool, true, false, if◌then◌else◌, ◌==◌, ◌&&◌, not, nat_lt}
+use Rattle.wasi_calls_rules.specs.Checks.{has_no_newline}
 use Rattle.std.specs.List.{AllByRecursion}
-use Rattle.std.proofs.lemmas.Bool.{ltb-true, eqb-false}
+use Rattle.std.proofs.lemmas.Bool.{ltb-true, lt-ltb, eqb-false}
 use Rattle.std.proofs.lemmas.List.{append-nil}
 use Rattle.guest_memory.specs.rules.Bytes.{IsByte}
 use Rattle.wasi_abi.specs.rules.Answers.{newline, IsNoNewline, AreBytes}
 use Rattle.wasi_calls_rules.specs.Hosts.{Line, IsUnfinished}
 use Rattle.wasi_calls_rules.specs.Lines.{Cut, cut_byte, cut_all}
-use Rattle.wasi_calls.specs.rules.Outputs.{count_ended}
 use Rattle.wasi_calls_rules.specs.declared.limits.TheConstants.{LINE_BYTES}
 
 -- ---- one more byte of a list
@@ -60,18 +60,31 @@ written_cut stream before lines after text rest bytes c is cut left put = from_n
 
 -- ---- bytes that end no line
 
-put_onto : (stream : ℕ) (c : Cut) (b : ℕ) (bytes : List ℕ) (p q : Bool)
-    → (if p then count_ended 0 bytes + 1 else if q then count_ended (length c.unfinished + 1) bytes else count_ended 1 bytes + 1) ≡ 0
-    → (put_by stream c b p q ≡ record { lines = c.lines; unfinished = c.unfinished ++ b ∷ [] }) × (count_ended (length (c.unfinished ++ b ∷ [])) bytes ≡ 0)
-put_onto stream c b bytes true q none = absurd (omega (arith, none))
-put_onto stream c b bytes false true none = (refl, ap (λ (n : ℕ). count_ended n bytes) (length-append c.unfinished (b ∷ [])) ∙ none)
-put_onto stream c b bytes false false none = absurd (omega (arith, none))
+halves : (p t : Bool) → (not p && t) ≡ true → (p ≡ false) × (t ≡ true)
+halves false t e = (refl, e)
+halves true t e = absurd (cc)
 
-pub cut_onto : (stream : ℕ) (c : Cut) (bytes : List ℕ) → count_ended (length c.unfinished) bytes ≡ 0
-    → cut_all stream c bytes ≡ record { lines = c.lines; unfinished = c.unfinished ++ bytes }
-cut_onto stream c [] none = rw append-nil refl
-cut_onto stream c (b ∷ bytes) none =
-    let onto = put_onto stream c b bytes (b == newline) (nat_lt (length c.unfinished) LINE_BYTES) none in
-    let next : Cut = record { lines = c.lines; unfinished = c.unfinished ++ b ∷ [] } in
-    let is : cut_all stream (cut_byte stream c b) bytes ≡ cut_all stream next bytes = ap (λ (d : Cut). cut_all stream d bytes) onto.0 in
-    is ∙ cut_onto stream next bytes onto.1 ∙ ap (λ (xs : List ℕ). record { lines = c.lines; unfinished = xs }) (append_assoc c.unfinished (b ∷ []) bytes)
+put_onto : (stream : ℕ) (c : Cut) (b : ℕ) (p q : Bool) → p ≡ false → q ≡ true
+    → put_by stream c b p q ≡ record { lines = c.lines; unfinished = c.unfinished ++ b ∷ [] }
+put_onto stream c b p q e f = rw (e, f) refl
+
+pub cut_onto : (stream : ℕ) (lines : List Line) (text bytes : List ℕ)
+    → length text + length bytes ≤ LINE_BYTES → has_no_newline bytes ≡ true
+    → cut_all stream (record { lines = lines; unfinished = text }) bytes
+    ≡ record { lines = lines; unfinished = text ++ bytes }
+cut_onto stream lines text [] few none = rw append-nil refl
+cut_onto stream lines text (b ∷ bytes) few none =
+    let both = halves (b == newline) (has_no_newline bytes) none in
+    let room : nat_lt (length text) LINE_BYTES ≡ true =
+    lt-ltb (length text) LINE_BYTES (omega (arith, few)) in
+    let onto = put_onto stream (record { lines = lines; unfinished = text }) b (b == newline)
+    (nat_lt (length text) LINE_BYTES) both.0 room in
+    ap (λ (d : Cut). cut_all stream d bytes) onto
+    ∙ cut_onto stream lines (text ++ b ∷ []) bytes
+    (omega (arith, few, length-append text (b ∷ []))) both.1
+    ∙ ap (λ (xs : List ℕ). record { lines = lines; unfinished = xs })
+    (append_assoc text (b ∷ []) bytes)
+
+pub both_true : (p q : Bool) → (p && q) ≡ true → (p ≡ true) × (q ≡ true)
+both_true true q e = (refl, e)
+both_true false q e = absurd (cc)

@@ -1,9 +1,11 @@
+pub mod Fronts
+pub mod WrittenFiles
+pub mod FileRows
+pub mod Pieces
 pub mod Cuts
 pub mod Begun
-pub mod Gathers
 pub mod Hosts
 pub mod Descriptors
-pub mod WrittenRows
 pub mod LinesInFront
 pub mod FewLines
 pub mod Emitted

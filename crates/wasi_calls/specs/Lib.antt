@@ -5,5 +5,6 @@ pub mod Writes
 pub mod Listings
 pub mod Openings
 pub mod Renamings
+pub mod Moves
 pub mod laws
 pub mod rules

@@ -1,8 +1,13 @@
 //! Lines that bytes begin.
 
 ghost use Rattle.std.specs.Prelude.{◌≡◌, ◌+◌, ◌<◌, ◌≤◌, ◌^◌, List, ◌∷◌, ◌++◌, ℕ, length};
+ghost use Rattle.wasi_calls_rules.specs.Checks.{gathered};
+ghost use Rattle.wasi_calls_rules.specs.declared.limits.TheConstants.{MOVED_BYTES};
 ghost use Rattle.wasi_calls.specs.rules.Outputs.{count_begun};
+ghost use Rattle.wasi_calls.specs.Moves.{AreInside};
 
+use crate::buffers::Buffers;
+use guest_memory::Memory;
 use wasi_calls_rules::limits::LINE_BYTES;
 
 /// How many lines bytes begin, one run of bytes after another. It takes no memory.
@@ -59,4 +64,17 @@ impl LineCount {
             self.unfinished += 1;
         }
     }
+}
+
+/// How many lines the bytes of buffers begin on a stream with so many unfinished ones.
+pub fn count_begun(memory: &Memory, buffers: &Buffers, unfinished: usize) -> usize
+    requires { AreInside memory.now.bytes buffers.now }
+    ensures value { result ≡ count_begun unfinished (gathered memory.now.bytes buffers.now) }
+    ensures few { result ≤ MOVED_BYTES }
+{
+    let mut lines = LineCount::new(unfinished);
+    for buffer in buffers.as_slice() {
+        lines.put(buffer.bytes(memory));
+    }
+    lines.begun()
 }

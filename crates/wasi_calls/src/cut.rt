@@ -1,10 +1,13 @@
 //! Bytes of a stream, cut into lines.
 
-ghost use Rattle.std.specs.Prelude.{◌≡◌, ◌≤◌, [], ◌∷◌, ◌++◌, length, IfOk, OnOk};
+ghost use Rattle.std.specs.Prelude.{◌≡◌, [], ◌∷◌, ◌++◌, IfOk, OnOk};
+ghost use Rattle.wasi_calls_rules.specs.Checks.{gathered};
 ghost use Rattle.wasi_calls_rules.specs.Lines.{cut_byte, cut_all};
-ghost use Rattle.wasi_calls.specs.rules.Outputs.{count_ended};
+ghost use Rattle.wasi_calls.specs.Moves.{AreInside};
 
+use crate::buffers::Buffers;
 use crate::line::Line;
+use guest_memory::Memory;
 use std::alloc::{AllocError, Global};
 use std::marker::Model;
 use std::mem;
@@ -26,16 +29,25 @@ impl Model for Cut {
 }
 
 impl Cut {
-    /// What bytes make of an unfinished line. It fails for want of memory alone.
-    pub fn of(alloc: Global, stream: u8, unfinished: &[u8], bytes: &[u8]) -> Result<Cut, AllocError>
-        ensures { IfOk result (λ c. c ≡ cut_all stream (record { lines = []; unfinished = unfinished.now }) bytes.now) }
+    /// What the bytes of buffers make of an unfinished line. It fails for want of memory alone.
+    pub fn of(
+        alloc: Global,
+        stream: u8,
+        unfinished: &[u8],
+        memory: &Memory,
+        buffers: &Buffers,
+    ) -> Result<Cut, AllocError>
+        requires { AreInside memory.now.bytes buffers.now }
+        ensures { IfOk result (λ c. c ≡ cut_all stream
+            (record { lines = []; unfinished = unfinished.now })
+            (gathered memory.now.bytes buffers.now)) }
     {
         let mut cut = Cut {
             lines: Vec::new(alloc),
             unfinished: unfinished.to_vec(alloc)?,
         };
-        for byte in bytes {
-            cut.put(alloc, stream, *byte)?;
+        for buffer in buffers.as_slice() {
+            cut.put_all(alloc, stream, buffer.bytes(memory))?;
         }
         Ok(cut)
     }
@@ -47,6 +59,15 @@ impl Cut {
     {
         let Cut { lines, unfinished } = self;
         (lines, unfinished)
+    }
+
+    fn put_all(&mut self, alloc: Global, stream: u8, bytes: &[u8]) -> Result<(), AllocError>
+        ensures { OnOk result (self.new ≡ cut_all stream self.old bytes.now) }
+    {
+        for byte in bytes {
+            self.put(alloc, stream, *byte)?;
+        }
+        Ok(())
     }
 
     fn put(&mut self, alloc: Global, stream: u8, byte: u8) -> Result<(), AllocError>
@@ -69,25 +90,4 @@ impl Cut {
         self.lines.push(Line::new(stream, text))?;
         Ok(())
     }
-}
-
-/// How many lines bytes end, where so many bytes are unfinished before them. It takes no memory.
-pub fn count_lines(unfinished: usize, bytes: &[u8]) -> usize
-    ensures value { result ≡ count_ended unfinished bytes.now }
-    ensures few { result ≤ length bytes.now }
-{
-    let mut lines = 0;
-    let mut len = unfinished;
-    for byte in bytes {
-        if *byte == b'\n' {
-            lines += 1;
-            len = 0;
-        } else if len < LINE_BYTES {
-            len += 1;
-        } else {
-            lines += 1;
-            len = 1;
-        }
-    }
-    lines
 }

@@ -41,6 +41,7 @@
 #![tactic(auto)]
 
 mod arguments;
+mod buffers;
 mod calls;
 mod changes;
 mod count;
@@ -51,15 +52,18 @@ pub mod laws;
 mod line;
 mod listing;
 mod memory;
+mod moves;
 mod offsets;
 mod opening;
 mod outcome;
 mod paths;
+mod read;
 mod renaming;
 mod status;
 mod stop;
 mod streams;
 mod wish;
+mod write;
 
 pub use calls::{call, lines_begun};
 pub use host::Host;

@@ -1,13 +1,19 @@
 //! The output streams, and the lines that wait to be released.
 
-ghost use Rattle.std.specs.Prelude.{◌≡◌, ◌+◌, ◌<◌, ◌≤◌, ◌^◌, ◌++◌, ◌==◌, if◌then◌else◌, length, drop, OnOk, OnErr, vec_len, vec_capacity};
+ghost use Rattle.std.specs.Prelude.{◌≡◌, ◌+◌, ◌<◌, ◌≤◌, ◌^◌, ◌++◌, ◌==◌, ◌&&◌, nat_le, if◌then◌else◌, length, drop, OnOk, OnErr, vec_len, vec_capacity};
+ghost use Rattle.wasi_calls_rules.specs.Checks.{gathered, has_no_newline};
 ghost use Rattle.wasi_calls_rules.specs.Lines.{cut_all, rest_of};
+ghost use Rattle.wasi_calls_rules.specs.declared.limits.TheConstants.{LINE_BYTES};
+ghost use Rattle.wasi_calls.specs.Moves.{total_len, AreInside};
 
-use crate::cut::{Cut, count_lines};
+use crate::buffers::Buffers;
+use crate::cut::Cut;
 use crate::line::Line;
+use guest_memory::Memory;
 use std::alloc::{AllocError, Global};
 use std::marker::Model;
 use std::mem;
+use wasi_calls_rules::limits::LINE_BYTES;
 
 /// What was written to streams 1 and 2 and not released yet. There is always room for the lines
 /// that an end would emit.
@@ -45,30 +51,67 @@ impl Streams {
         }
     }
 
-    /// Writes bytes to stream 1, or else to 2. It fails for want of memory alone, and changes nothing then.
-    pub fn write(&mut self, alloc: Global, stream: u8, bytes: &[u8]) -> Result<(), AllocError>
-        ensures written { OnOk result (self.new ≡ output_written stream bytes.now self.old) }
+    /// Writes the bytes of buffers to stream 1, or else to 2. It fails for want of memory alone, and
+    /// changes nothing then.
+    pub fn write(
+        &mut self,
+        alloc: Global,
+        stream: u8,
+        memory: &Memory,
+        buffers: &Buffers,
+    ) -> Result<(), AllocError>
+        requires { AreInside memory.now.bytes buffers.now }
+        ensures written { OnOk result (self.new
+            ≡ output_written stream (gathered memory.now.bytes buffers.now) self.old) }
         ensures unchanged { OnErr result (self.new ≡ self.old) }
     {
         if stream == 1 {
-            self.write_first(alloc, bytes)
+            self.write_first(alloc, memory, buffers)
         } else {
-            self.write_second(alloc, bytes)
+            self.write_second(alloc, memory, buffers)
         }
     }
 
-    fn write_first(&mut self, alloc: Global, bytes: &[u8]) -> Result<(), AllocError>
-        ensures written { OnOk result (self.new ≡ output_written 1 bytes.now self.old) }
+    fn write_first(
+        &mut self,
+        alloc: Global,
+        memory: &Memory,
+        buffers: &Buffers,
+    ) -> Result<(), AllocError>
+        requires { AreInside memory.now.bytes buffers.now }
+        ensures written { OnOk result (self.new
+            ≡ output_written 1 (gathered memory.now.bytes buffers.now) self.old) }
         ensures unchanged { OnErr result (self.new ≡ self.old) }
     {
-        put(alloc, 1, &mut self.first, &mut self.waiting, bytes)
+        put(
+            alloc,
+            1,
+            &mut self.first,
+            &mut self.waiting,
+            memory,
+            buffers,
+        )
     }
 
-    fn write_second(&mut self, alloc: Global, bytes: &[u8]) -> Result<(), AllocError>
-        ensures written { OnOk result (self.new ≡ output_written 2 bytes.now self.old) }
+    fn write_second(
+        &mut self,
+        alloc: Global,
+        memory: &Memory,
+        buffers: &Buffers,
+    ) -> Result<(), AllocError>
+        requires { AreInside memory.now.bytes buffers.now }
+        ensures written { OnOk result (self.new
+            ≡ output_written 2 (gathered memory.now.bytes buffers.now) self.old) }
         ensures unchanged { OnErr result (self.new ≡ self.old) }
     {
-        put(alloc, 2, &mut self.second, &mut self.waiting, bytes)
+        put(
+            alloc,
+            2,
+            &mut self.second,
+            &mut self.waiting,
+            memory,
+            buffers,
+        )
     }
 
     /// The unfinished line of stream 1, or else of 2.
@@ -125,30 +168,82 @@ impl Streams {
     }
 }
 
-/// Puts bytes behind a stream's unfinished line, and the lines that they end behind those that wait. Bytes that end none are
-/// put in place: a line that is written byte by byte isn't copied.
+/// Puts the bytes of buffers behind a stream's unfinished line, and the lines that they end behind
+/// those that wait. Bytes that end none are put in place: a line that is written byte by byte isn't
+/// copied.
 fn put(
     alloc: Global,
     stream: u8,
     unfinished: &mut Vec<u8>,
     waiting: &mut Vec<Line>,
-    bytes: &[u8],
+    memory: &Memory,
+    buffers: &Buffers,
 ) -> Result<(), AllocError>
-    ensures written { OnOk result (cut_all stream (record { lines = waiting.old.items; unfinished = unfinished.old.items }) bytes.now
+    requires { AreInside memory.now.bytes buffers.now }
+    ensures written { OnOk result (cut_all stream
+        (record { lines = waiting.old.items; unfinished = unfinished.old.items })
+        (gathered memory.now.bytes buffers.now)
         ≡ record { lines = waiting.new.items; unfinished = unfinished.new.items }) }
     ensures room { OnOk result (vec_len waiting.new + 2 ≤ vec_capacity waiting.new) }
     ensures capacity { vec_capacity waiting.old ≤ vec_capacity waiting.new }
     ensures same_lines { OnErr result (waiting.new.items ≡ waiting.old.items) }
     ensures same_rest { OnErr result (unfinished.new.items ≡ unfinished.old.items) }
 {
-    if count_lines(unfinished.len(), bytes) == 0 {
+    if ends_no_line(unfinished, memory, buffers) {
         waiting.reserve(2)?;
-        unfinished.extend_from_slice(bytes)?;
-        return Ok(());
+        return append(unfinished, memory, buffers);
     }
-    let (lines, rest) = Cut::of(alloc, stream, unfinished, bytes)?.into_parts();
+    let (lines, rest) = Cut::of(alloc, stream, unfinished, memory, buffers)?.into_parts();
     emit(waiting, lines)?;
     *unfinished = rest;
+    Ok(())
+}
+
+/// Whether the bytes of buffers end no line behind an unfinished one.
+fn ends_no_line(unfinished: &[u8], memory: &Memory, buffers: &Buffers) -> bool
+    requires { AreInside memory.now.bytes buffers.now }
+    ensures { result ≡ (nat_le (length unfinished.now + total_len buffers.now) LINE_BYTES
+        && has_no_newline (gathered memory.now.bytes buffers.now)) }
+{
+    unfinished.len() + buffers.len() <= LINE_BYTES && have_no_newline(memory, buffers)
+}
+
+/// Whether no byte of buffers is a newline.
+fn have_no_newline(memory: &Memory, buffers: &Buffers) -> bool
+    requires { AreInside memory.now.bytes buffers.now }
+    ensures { result ≡ has_no_newline (gathered memory.now.bytes buffers.now) }
+{
+    for buffer in buffers.as_slice() {
+        if !is_without_newline(buffer.bytes(memory)) {
+            return false;
+        }
+    }
+    true
+}
+
+/// Whether no byte is a newline.
+fn is_without_newline(bytes: &[u8]) -> bool
+    ensures { result ≡ has_no_newline bytes.now }
+{
+    for byte in bytes {
+        if *byte == b'\n' {
+            return false;
+        }
+    }
+    true
+}
+
+/// Puts the bytes of buffers behind others. After a failure they are as they were.
+fn append(bytes: &mut Vec<u8>, memory: &Memory, buffers: &Buffers) -> Result<(), AllocError>
+    requires { AreInside memory.now.bytes buffers.now }
+    ensures appended { OnOk result (bytes.new.items
+        ≡ bytes.old.items ++ gathered memory.now.bytes buffers.now) }
+    ensures unchanged { OnErr result (bytes.new.items ≡ bytes.old.items) }
+{
+    bytes.reserve(buffers.len())?;
+    for buffer in buffers.as_slice() {
+        bytes.extend_from_slice(buffer.bytes(memory)).unwrap();
+    }
     Ok(())
 }
 

@@ -42,8 +42,3 @@ count_begun len (b ∷ bytes) =
     else if len == 0 then count_begun 1 bytes + 1
     else if nat_lt len LINE_BYTES then count_begun (len + 1) bytes
     else count_begun 1 bytes + 1
-
--- how many lines bytes end, where so many bytes are unfinished before them
-abbrev pub count_ended : ℕ → List ℕ → ℕ
-count_ended len [] = 0
-count_ended len (b ∷ bytes) = if b == newline then count_ended 0 bytes + 1 else if nat_lt len LINE_BYTES then count_ended (len + 1) bytes else count_ended 1 bytes + 1

@@ -3,6 +3,7 @@
 mod descriptors;
 mod entries;
 mod files;
+mod moving;
 mod nodes;
 mod opening;
 mod renaming;
@@ -10,13 +11,18 @@ mod renaming;
 ghost use Rattle.std.specs.Prelude.{◌≡◌, ◌+◌, ◌*◌, ◌<◌, ◌≤◌, ◌^◌, ◌++◌, length, IfOk, OnOk, OnErr};
 ghost use Rattle.file_tree.specs.declared.limits.TheConstants.{UNIT_BYTES};
 ghost use Rattle.wasi_calls_rules.specs.Hosts.{Host as TheHost, IsHost, first_descriptors, first_host};
+ghost use Rattle.wasi_calls_rules.specs.Checks.{gathered};
 ghost use Rattle.wasi_calls_rules.specs.Lines.{stream_written, rest_of, lines_ended};
+ghost use Rattle.wasi_calls.specs.Moves.{AreInside};
 ghost use Rattle.wasi_calls.specs.Writes.{unfinished_of};
 
+use crate::buffers::Buffers;
 use crate::descriptor::Descriptor;
 use crate::line::Line;
 use crate::streams::Streams;
 use file_tree::Tree;
+use guest_memory::Memory;
+use guest_memory::laws::are_bytes;
 use std::alloc::{AllocError, Global};
 use std::marker::Model;
 use wasi_abi::{Config, Rights};
@@ -73,17 +79,22 @@ impl Host {
         })
     }
 
-    /// Writes bytes to stream 1, or else to 2. It fails for want of memory alone, and changes nothing then.
+    /// Writes the bytes of buffers to stream 1, or else to 2. It fails for want of memory alone, and
+    /// changes nothing then.
     pub(crate) fn write(
         &mut self,
         alloc: Global,
         stream: u8,
-        bytes: &[u8],
+        memory: &Memory,
+        buffers: &Buffers,
     ) -> Result<(), AllocError>
-        ensures written { OnOk result (self.new ≡ record self.old { host = stream_written stream bytes.now self.old.host }) }
+        requires { AreInside memory.now.bytes buffers.now }
+        ensures written { OnOk result (self.new ≡ record self.old { host =
+            stream_written stream (gathered memory.now.bytes buffers.now) self.old.host }) }
         ensures unchanged { OnErr result (self.new ≡ self.old) }
     {
-        self.streams.write(alloc, stream, bytes)?;
+        are_bytes(memory.bytes());
+        self.streams.write(alloc, stream, memory, buffers)?;
         Ok(())
     }
 

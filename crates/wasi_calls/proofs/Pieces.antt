@@ -1,0 +1,161 @@
+-- Buffers gone through one after another: what is left of their bytes, and what was put into them.
+use Rattle.std.proofs.Common.{◌≡◌, ℕ, ◌+◌, ◌-◌, ◌<◌, ◌≤◌, min, inl, inr, List, [], ◌∷◌, ◌++◌, length, take, drop, get_or, refl, sym, ap, ◌∙◌, append_assoc, arith, length-take, length-drop, length-append}
+use Rattle.std.specs.Prelude.{Bool, true, false, ◌&&◌, ◌==◌, not}
+use Rattle.std.specs.List.{AllByRecursion, list_all}
+use Rattle.std.proofs.lemmas.Bool.{cases_lt}
+use Rattle.std.proofs.lemmas.List.{append-nil, take_all, take-take, drop_more, drop_all, drop-drop, drop-take}
+use Rattle.guest_memory.specs.rules.Bytes.{part, with_part}
+use Rattle.guest_memory.proofs.Ranges.{length-with_part}
+use Rattle.wasi_calls_rules.specs.Hosts.{Line}
+use Rattle.wasi_calls_rules.specs.Checks.{Bytes, Buffer, gathered, scattered, has_no_newline}
+use Rattle.wasi_calls_rules.specs.Lines.{Cut, cut_byte, cut_all}
+use Rattle.wasi_calls_rules.proofs.Puts.{IsKept}
+use Rattle.wasi_calls.specs.Moves.{total_len, AreInside}
+
+-- ---- one buffer more
+
+pub next_one : (bs : List Buffer) (i : ℕ) (b : Buffer) → i < length bs → b ≡ get_or bs i b
+    → drop i bs ≡ b ∷ drop (i + 1) bs
+next_one bs i b lt at = drop_more bs i b lt ∙ ap (λ (x : Buffer). x ∷ drop (i + 1) bs) (sym at)
+
+module _ (m : Bytes) (bs : List Buffer) (i : ℕ) (b : Buffer)
+    (split : drop i bs ≡ b ∷ drop (i + 1) bs) where
+  pub next_inside : AreInside m (drop i bs)
+      → (b.from + b.len ≤ length m) × AreInside m (drop (i + 1) bs)
+  next_inside inside = rw split at inside
+
+  pub next_gathered : gathered m (drop i bs)
+      ≡ part m b.from b.len ++ gathered m (drop (i + 1) bs)
+  next_gathered = ap (gathered m) split
+
+  pub next_total : total_len (drop i bs) ≡ b.len + total_len (drop (i + 1) bs)
+  next_total = ap total_len split
+
+  pub next_scattered : (source : Bytes) → scattered m (drop i bs) source
+      ≡ scattered (with_part m b.from (take b.len source)) (drop (i + 1) bs) (drop b.len source)
+  next_scattered source = ap (λ (xs : List Buffer). scattered m xs source) split
+
+-- ---- runs of bytes
+
+pub cut_both : (stream : ℕ) (c : Cut) (xs ys : Bytes)
+    → cut_all stream c (xs ++ ys) ≡ cut_all stream (cut_all stream c xs) ys
+cut_both stream c [] ys = refl
+cut_both stream c (x ∷ xs) ys = cut_both stream (cut_byte stream c x) xs ys
+
+pub no_newline_both : (xs ys : Bytes)
+    → has_no_newline (xs ++ ys) ≡ (has_no_newline xs && has_no_newline ys)
+no_newline_both [] ys = refl
+no_newline_both (x ∷ xs) ys = by_test (not (x == 10)) (no_newline_both xs ys) where
+  by_test : (p : Bool) → has_no_newline (xs ++ ys) ≡ (has_no_newline xs && has_no_newline ys)
+      → (p && has_no_newline (xs ++ ys)) ≡ ((p && has_no_newline xs) && has_no_newline ys)
+  by_test true e = e
+  by_test false e = refl
+
+-- ---- bytes put into buffers
+
+pub scattered_total : (m : Bytes) (bs : List Buffer) (bytes : Bytes)
+    → scattered m bs (take (total_len bs) bytes) ≡ scattered m bs bytes
+scattered_total m [] bytes = refl
+scattered_total m (b ∷ bs) bytes =
+    let t : ℕ = total_len bs in
+    let front : take b.len (take (b.len + t) bytes) ≡ take b.len bytes =
+    take-take b.len (b.len + t) bytes (omega arith) in
+    ap (λ (x : Bytes). scattered (with_part m b.from x) bs (drop b.len (take (b.len + t) bytes)))
+    front
+    ∙ ap (scattered (with_part m b.from (take b.len bytes)) bs) (drop-take b.len t bytes)
+    ∙ scattered_total (with_part m b.from (take b.len bytes)) bs (drop b.len bytes)
+
+-- what is left once a buffer has taken its part
+pub left_behind : (source : Bytes) (moved len : ℕ)
+    → drop (moved + length (take len (drop moved source))) source
+    ≡ drop len (drop moved source)
+left_behind source moved len =
+    let taken = length-take len (drop moved source) in
+    let rest = length-drop moved source in
+    elim (cases_lt (length (drop moved source)) len) [
+      | inl lt ↦ (
+          drop_all (moved + length (take len (drop moved source))) source
+          (omega (arith, taken, rest, lt))
+          ∙ sym (drop_all len (drop moved source) (omega (arith, lt))))
+      | inr ge ↦ (
+          let all : length (take len (drop moved source)) ≡ len = omega (arith, taken) in
+          ap (λ (n : ℕ). drop (moved + n) source) all ∙ sym (drop-drop len moved source))
+    ]
+
+-- how many bytes are moved from here on
+pub counts_on : (source : Bytes) (moved len rest total : ℕ)
+    → moved + length (take (len + rest) (drop moved source)) ≡ total
+    → (moved + length (take len (drop moved source)))
+    + length (take rest (drop (moved + length (take len (drop moved source))) source))
+    ≡ total
+counts_on source moved len rest total so_far =
+    let now : ℕ = moved + length (take len (drop moved source)) in
+    omega (
+      arith,
+      so_far,
+      length-take (len + rest) (drop moved source),
+      length-take len (drop moved source),
+      length-take rest (drop now source),
+      length-drop moved source,
+      length-drop now source,
+    )
+
+-- so many bytes of a source stand in the buffers before these
+pub record IsMoved (old now : Bytes) (bs rest : List Buffer) (source : Bytes) (moved : ℕ)
+    : Type 0 where
+  pub size : length now ≡ length old
+  pub inside : AreInside old rest
+  pub puts : scattered now rest (drop moved source) ≡ scattered old bs source
+  pub counts : moved + length (take (total_len rest) (drop moved source))
+      ≡ length (take (total_len bs) source)
+
+pub moved_none : (m : Bytes) (bs : List Buffer) (source : Bytes) → AreInside m bs
+    → IsMoved m m bs bs source 0
+moved_none m bs source inside = record {
+  size = refl;
+  inside = inside;
+  puts = refl;
+  counts = omega arith;
+}
+
+module _ (old now : Bytes) (bs items : List Buffer) (source : Bytes) (moved i : ℕ) (b : Buffer)
+    (split : drop i items ≡ b ∷ drop (i + 1) items)
+    (so_far : IsMoved old now bs (drop i items) source moved) where
+  pub moved_inside : b.from + b.len ≤ length now
+  moved_inside =
+      let own = (next_inside old items i b split so_far.inside).0 in
+      omega (arith, own, so_far.size)
+
+  pub moved_next : (piece after : Bytes) (n : ℕ) → piece ≡ take b.len (drop moved source)
+      → after ≡ with_part now b.from piece → n ≡ moved + length piece
+      → IsMoved old after bs (drop (i + 1) items) source n
+  moved_next piece after n is put count =
+      let rest : List Buffer = drop (i + 1) items in
+      let len = ap length is in
+      let taken = length-take b.len (drop moved source) in
+      let inside = moved_inside in
+      let k : n ≡ moved + length (take b.len (drop moved source)) = omega (arith, count, len) in
+      record {
+        size = ap length put
+            ∙ length-with_part now b.from piece (omega (arith, inside, len, taken))
+            ∙ so_far.size;
+        inside = (next_inside old items i b split so_far.inside).1;
+        puts = rw (put, is, k)
+            (ap (scattered (with_part now b.from (take b.len (drop moved source))) rest)
+            (left_behind source moved b.len)
+            ∙ sym (next_scattered now items i b split (drop moved source)) ∙ so_far.puts);
+        counts = rw k (counts_on source moved b.len (total_len rest)
+            (length (take (total_len bs) source))
+            (ap (λ (t : ℕ). moved + length (take t (drop moved source)))
+            (sym (next_total old items i b split)) ∙ so_far.counts));
+      }
+
+pub moved_all : (old now : Bytes) (bs : List Buffer) (source : Bytes) (moved : ℕ)
+    → IsMoved old now bs [] source moved
+    → (now ≡ scattered old bs (take (total_len bs) source))
+    × (moved ≡ length (take (total_len bs) source))
+moved_all old now bs source moved all =
+    let counts = all.counts in (
+      all.puts ∙ sym (scattered_total old bs source),
+      omega (arith, counts),
+    )

@@ -1,0 +1,54 @@
+//! `fd_read` and `fd_pread`.
+
+ghost use Rattle.std.specs.Prelude.{◌≡◌, option_copied, IfErr, OnOk, Ok, Err};
+ghost use Rattle.wasi_calls_rules.specs.Checks.{Refuses};
+ghost use Rattle.wasi_calls_rules.specs.Moving.{fd_read, fd_pread};
+ghost use Rattle.wasi_calls.specs.rules.Calls.{IsAsLarge};
+ghost use Rattle.wasi_calls.specs.Steps.{StopsStep};
+
+use crate::host::Host;
+use crate::moves::{MoveArguments, PlacedArguments, check, check_placed};
+use crate::stop::CallStop;
+use guest_memory::Memory;
+use wasi_abi::{Answer, Errno, Rights};
+
+/// `fd_read`, with the line that it asked for before, where one is there. Where it is refused, asks or
+/// lacks memory, nothing has changed.
+pub fn read(
+    host: &mut Host,
+    memory: &mut Memory,
+    arguments: MoveArguments,
+    answer: Option<&Answer>,
+) -> Result<(), CallStop>
+    ensures done { OnOk result (fd_read arguments.fd arguments.iovecs arguments.count
+        arguments.ret (option_copied answer.entry) memory.old.bytes host.old.host
+        ≡ Ok (record { memory = memory.new.bytes; host = host.new.host })) }
+    ensures stopped { IfErr result (λ why. StopsStep why (fd_read arguments.fd arguments.iovecs
+        arguments.count arguments.ret (option_copied answer.entry) memory.old.bytes
+        host.old.host)) }
+    ensures memory_kept { IfErr result (λ _. memory.new ≡ memory.old) }
+    ensures host_kept { IfErr result (λ _. host.new ≡ host.old) }
+    ensures released { host.new.released ≡ host.old.released }
+    ensures large { IsAsLarge memory.old memory.new }
+{
+    let buffers = check(host, memory, arguments, Rights::FD_READ)?;
+    let moved = host.take(arguments.fd, memory, &buffers, answer)?;
+    memory.store_u32(arguments.ret, 0, moved as u32).unwrap();
+    Ok(())
+}
+
+/// `fd_pread`. Where it is refused, nothing has changed.
+pub fn read_at(host: &Host, memory: &mut Memory, arguments: PlacedArguments) -> Result<(), Errno>
+    ensures done { OnOk result (fd_pread arguments.fd arguments.iovecs arguments.count
+        arguments.offset arguments.ret memory.old.bytes host.now.host
+        ≡ Ok (record { memory = memory.new.bytes; host = host.now.host })) }
+    ensures refused { IfErr result (λ e. fd_pread arguments.fd arguments.iovecs arguments.count
+        arguments.offset arguments.ret memory.old.bytes host.now.host ≡ Err (Refuses e)) }
+    ensures kept { IfErr result (λ _. memory.new ≡ memory.old) }
+    ensures large { IsAsLarge memory.old memory.new }
+{
+    let checked = check_placed(host, memory, arguments, Rights::FD_READ)?;
+    let moved = host.read_file(checked.node, arguments.offset, memory, &checked.buffers);
+    memory.store_u32(arguments.ret, 0, moved as u32).unwrap();
+    Ok(())
+}

@@ -1,0 +1,89 @@
+//! `fd_write` and `fd_pwrite`.
+
+ghost use Rattle.std.specs.Prelude.{◌≡◌, ◌+◌, ◌≤◌, length, IfErr, OnOk, Ok, Err};
+ghost use Rattle.wasi_calls_rules.specs.Hosts.{Host as TheHost};
+ghost use Rattle.wasi_calls_rules.specs.Checks.{Done, Halt};
+ghost use Rattle.wasi_calls_rules.specs.Lines.{lines_ended};
+ghost use Rattle.wasi_calls_rules.specs.Moving.{fd_write, fd_pwrite};
+ghost use Rattle.wasi_calls_rules.specs.declared.limits.TheConstants.{MOVED_BYTES};
+ghost use Rattle.wasi_calls.specs.rules.Held.{ShowsHost};
+ghost use Rattle.wasi_calls.specs.rules.Calls.{IsAsLarge};
+ghost use Rattle.wasi_calls.specs.Steps.{StopsStep};
+
+use crate::count::count_begun;
+use crate::descriptor::Names;
+use crate::host::Host;
+use crate::moves::{MoveArguments, PlacedArguments, check, check_placed};
+use crate::stop::CallStop;
+use guest_memory::Memory;
+use std::alloc::Global;
+use wasi_abi::Rights;
+
+/// How many lines such a write would begin: none, where it is refused or goes to a file.
+pub fn lines_begun(host: &Host, memory: &Memory, arguments: MoveArguments) -> usize
+    ensures count { (h : TheHost) (done : Done) → ShowsHost host.now h
+        → fd_write arguments.fd arguments.iovecs arguments.count arguments.ret memory.now.bytes h
+        ≡ Ok done
+        → length (lines_ended done.host).lines ≡ length (lines_ended h).lines + result }
+    ensures none { (h : TheHost) (halt : Halt) → ShowsHost host.now h
+        → fd_write arguments.fd arguments.iovecs arguments.count arguments.ret memory.now.bytes h
+        ≡ Err halt → result ≡ 0 }
+    ensures few { result ≤ MOVED_BYTES }
+{
+    let Ok(buffers) = check(host, memory, arguments, Rights::FD_WRITE) else {
+        return 0;
+    };
+    match host.descriptor(arguments.fd).unwrap().names() {
+        Names::Stream(stream) => count_begun(memory, &buffers, host.unfinished(stream).len()),
+        Names::Node(_) => 0,
+    }
+}
+
+/// `fd_write`. Where it is refused or lacks memory, nothing has changed.
+pub fn write(
+    alloc: Global,
+    host: &mut Host,
+    memory: &mut Memory,
+    arguments: MoveArguments,
+) -> Result<(), CallStop>
+    ensures done { OnOk result (fd_write arguments.fd arguments.iovecs arguments.count
+        arguments.ret memory.old.bytes host.old.host
+        ≡ Ok (record { memory = memory.new.bytes; host = host.new.host })) }
+    ensures stopped { IfErr result (λ why. StopsStep why (fd_write arguments.fd arguments.iovecs
+        arguments.count arguments.ret memory.old.bytes host.old.host)) }
+    ensures memory_kept { IfErr result (λ _. memory.new ≡ memory.old) }
+    ensures host_kept { IfErr result (λ _. host.new ≡ host.old) }
+    ensures released { host.new.released ≡ host.old.released }
+    ensures large { IsAsLarge memory.old memory.new }
+{
+    let buffers = check(host, memory, arguments, Rights::FD_WRITE)?;
+    host.put(alloc, arguments.fd, memory, &buffers)?;
+    memory
+        .store_u32(arguments.ret, 0, buffers.len() as u32)
+        .unwrap();
+    Ok(())
+}
+
+/// `fd_pwrite`. Where it is refused or lacks memory, nothing has changed.
+pub fn write_at(
+    host: &mut Host,
+    memory: &mut Memory,
+    arguments: PlacedArguments,
+) -> Result<(), CallStop>
+    ensures done { OnOk result (fd_pwrite arguments.fd arguments.iovecs arguments.count
+        arguments.offset arguments.ret memory.old.bytes host.old.host
+        ≡ Ok (record { memory = memory.new.bytes; host = host.new.host })) }
+    ensures stopped { IfErr result (λ why. StopsStep why (fd_pwrite arguments.fd arguments.iovecs
+        arguments.count arguments.offset arguments.ret memory.old.bytes host.old.host)) }
+    ensures memory_kept { IfErr result (λ _. memory.new ≡ memory.old) }
+    ensures host_kept { IfErr result (λ _. host.new ≡ host.old) }
+    ensures released { host.new.released ≡ host.old.released }
+    ensures large { IsAsLarge memory.old memory.new }
+{
+    let checked = check_placed(host, memory, arguments, Rights::FD_WRITE)?;
+    host.write_file(checked.node, arguments.offset, memory, &checked.buffers)?;
+    memory
+        .store_u32(arguments.ret, 0, checked.buffers.len() as u32)
+        .unwrap();
+    Ok(())
+}
