@@ -23,3 +23,4 @@ pub mod RowsInFront
 pub mod Wishes
 pub mod PathsInFront
 pub mod OpeningInFront
+pub mod MovesInFront

@@ -34,7 +34,7 @@ module _ (before : List Line) where
   next_host (Ok x) f g e = e x
   next_host (Err halt) f g e = refl
 
-  host_next : (s r : Result Host Halt) (m : Bytes) → s ≡ behind_host before r → (s >>= λ after. call_done m after) ≡ behind_lines_of_row before (r >>= λ after. call_done m after)
+  pub host_next : (s r : Result Host Halt) (m : Bytes) → s ≡ behind_host before r → (s >>= λ after. call_done m after) ≡ behind_lines_of_row before (r >>= λ after. call_done m after)
   host_next s (Ok h) m e = rw e refl
   host_next s (Err halt) m e = rw e refl
 
@@ -51,7 +51,7 @@ module _ (before : List Line) where
         | inr k ↦ rw (k.0, second) refl
       ]
 
-  file_behind : (k offset : ℕ) (bytes : Bytes) (h : Host) → file_written k offset bytes (behind_lines before h) ≡ behind_host before (file_written k offset bytes h)
+  pub file_behind : (k offset : ℕ) (bytes : Bytes) (h : Host) → file_written k offset bytes (behind_lines before h) ≡ behind_host before (file_written k offset bytes h)
   file_behind k offset [] h = refl
   file_behind k offset (b ∷ bytes) h = next_host (roomy h k (size_after (bytes_of_node h.files k) offset (b ∷ bytes))) _ _ (λ _. refl)
 
