@@ -24,7 +24,9 @@
 //!   failed, or had no room for the writes (`cause`).
 //! - After an error each call answers `Failed`, and leaves the disk alone (`fails`, `untouched`).
 //! - `laws::newest_is_one`: a disk shows no head, a damaged image, or one newest image.
-//!   `laws::next_can_follow`: once an image is the newest one, a disk is ready for the next.
+//!   `laws::next_can_follow`: once an image is the newest one, a disk is ready for the next. Where
+//!   a commit left the one before it, it is ready for the same generation again.
+//!   `laws::failures_are_for_good`: from the first error on each call fails.
 //!
 //! # Definitions to read
 //!
