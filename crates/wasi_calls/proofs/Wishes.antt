@@ -1,15 +1,17 @@
 -- Calls that want no answer from outside.
-use Rattle.std.proofs.Common.{◌≡◌, ◌≢◌, ℕ, List, Some, None, refl}
-use Rattle.std.specs.Prelude.{Ok, Err}
+use Rattle.std.proofs.Common.{◌≡◌, ◌≢◌, ℕ, List, Some, None, refl, ap, ◌∙◌}
+use Rattle.std.specs.Prelude.{Result, Ok, Err}
 use Rattle.wasi_abi.specs.declared.answer.Kind.{Kind}
 use Rattle.wasi_abi.specs.declared.call.Call.{Call}
 use Rattle.wasi_abi.specs.declared.call.Call.TheVariants as call
-use Rattle.wasi_calls_rules.specs.Hosts.{Host}
-use Rattle.wasi_calls_rules.specs.Checks.{Bytes, Ruling, Refuses, Asks, Ends}
+use Rattle.wasi_calls_rules.specs.Hosts.{Line, Host}
+use Rattle.wasi_calls_rules.specs.Checks.{Bytes, Halt, Ruling, Refuses, Asks, Ends, ◌>>=◌}
 use Rattle.wasi_calls_rules.specs.Rows.{row}
 use Rattle.wasi_calls_rules.specs.laws.Laws.{MayAsk}
 use Rattle.wasi_calls_rules.proofs.Halting.{few_rows_ask}
+use Rattle.wasi_calls.specs.rules.Held.{HeldHost, ShowsHost, behind_lines_of_row}
 use Rattle.wasi_calls.specs.rules.Calls.{IsBuilt, wish_of}
+use Rattle.wasi_calls.proofs.RowsInFront.{row_behind}
 
 no_wish_in : (r : Ruling) → ((kind : Kind) → r ≢ Err (Asks kind)) → None ≡ wish_of r
 no_wish_in (Ok done) asks_not = refl
@@ -24,9 +26,34 @@ wants_none c may_not arguments m h =
     no_wish_in (row c arguments None m h)
     (λ kind e. may_not (few_rows_ask c arguments None m h kind e))
 
--- no call that is built may ask
-pub built_ask_not : (c : Call) → IsBuilt c → MayAsk c → ⊥
-built_ask_not call.ClockTimeGet built may = cc
-built_ask_not call.FdRead built may = cc
-built_ask_not call.RandomGet built may = cc
-built_ask_not _ built may = may
+-- a call that is built and no read may not ask
+pub reads_alone_ask : (c : Call) → IsBuilt c → (c ≡ call.FdRead → ⊥) → MayAsk c → ⊥
+reads_alone_ask call.ClockTimeGet built other may = cc
+reads_alone_ask call.FdRead built other may = other refl
+reads_alone_ask call.RandomGet built other may = cc
+reads_alone_ask _ built other may = may
+
+-- what is behind a step that gives something asks for nothing
+pub wish_after : {A B : Type 0} (r : Result A Halt) (go : A → B)
+    → wish_of (r >>= λ x. Ok (go x)) ≡ wish_of r
+wish_after (Ok x) go = refl
+wish_after (Err halt) go = by_halt halt where
+  by_halt : (h : Halt) → wish_of {A = B} (Err h) ≡ wish_of {A = A} (Err h)
+  by_halt (Refuses e) = refl
+  by_halt (Asks kind) = refl
+  by_halt (Ends code) = refl
+
+-- with lines in front a call asks for the same
+wish_behind : (before : List Line) (r : Ruling) → wish_of (behind_lines_of_row before r) ≡ wish_of r
+wish_behind before (Ok done) = refl
+wish_behind before (Err (Refuses e)) = refl
+wish_behind before (Err (Asks kind)) = refl
+wish_behind before (Err (Ends code)) = refl
+
+pub wish_shown : (c : Call) (arguments : List ℕ) (m : Bytes) (held : HeldHost) (h : Host)
+    → ShowsHost held h
+    → wish_of (row c arguments None m h) ≡ wish_of (row c arguments None m held.host)
+wish_shown c arguments m held h s =
+    ap (λ (g : Host). wish_of (row c arguments None m g)) s.is
+    ∙ ap (λ (r : Ruling). wish_of r) (row_behind s.before c arguments None m held.host)
+    ∙ wish_behind s.before (row c arguments None m held.host)

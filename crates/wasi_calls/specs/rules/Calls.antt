@@ -9,7 +9,7 @@ use Rattle.wasi_abi.specs.declared.answer.Kind.{Kind}
 use Rattle.wasi_abi.specs.declared.call.Call.{Call}
 use Rattle.wasi_abi.specs.rules.Calls.{is_built}
 use Rattle.wasi_calls_rules.specs.Hosts.{Host}
-use Rattle.wasi_calls_rules.specs.Checks.{Bytes, Done, Ruling, Refuses, Asks, Ends}
+use Rattle.wasi_calls_rules.specs.Checks.{Bytes, Done, Halt, Ruling, Refuses, Asks, Ends}
 use Rattle.wasi_calls_rules.specs.Rows.{row, IsNoRefusal, Told, IsDone, IsAsk, IsExit, NoMemory}
 use Rattle.wasi_calls.specs.declared.outcome.CallOutcome.{CallOutcome}
 use Rattle.wasi_calls.specs.declared.outcome.CallOutcome.TheVariants as outcome
@@ -58,11 +58,11 @@ ShowsRow (IsExit code) m held old_m old row = (row ≡ Err (Ends code)) × (m �
 ShowsRow NoMemory m held old_m old row = IsNoRefusal row × (m ≡ old_m) × (held ≡ old)
 
 -- the answer from outside that a row asks for
-abbrev pub wish_of : Ruling → Option Kind
+abbrev pub wish_of : {A : Type 0} → Result A Halt → Option Kind
 wish_of (Err (Asks kind)) = Some kind
 wish_of (Err (Refuses e)) = None
 wish_of (Err (Ends code)) = None
-wish_of (Ok done) = None
+wish_of (Ok x) = None
 
 -- the call with these arguments doesn't end the process, whatever host, memory and answer it has
 abbrev pub EndsNothing : Call → List ℕ → Type 0

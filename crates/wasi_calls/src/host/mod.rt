@@ -3,6 +3,7 @@
 mod descriptors;
 mod entries;
 mod files;
+mod input;
 mod moving;
 mod nodes;
 mod opening;
