@@ -1,13 +1,13 @@
 -- What the rules say of a write to a file, once it is known whether it is refused.
 use Rattle.std.proofs.Common.{◌≡◌, ℕ, ◌+◌, ◌<◌, ◌≤◌, max, List, [], ◌∷◌, length, refl, sym, ap, ◌∙◌, arith}
-use Rattle.std.specs.Prelude.{Bool, true, false, nat_le, ◌==◌, if◌then◌else◌, Result, Ok, Err}
+use Rattle.std.specs.Prelude.{Bool, true, false, nat_le, ◌==◌, if◌then◌else◌, slice_get, Option, Result, Ok, Err}
 use Rattle.std.proofs.lemmas.Bool.{lt-leb, eqb-true}
 use Rattle.file_tree.specs.rules.Bytes.{written, resized}
 use Rattle.file_tree.specs.rules.Files.{Files, bytes_of_node, with_file_bytes}
 use Rattle.file_tree.specs.declared.limits.TheConstants.{FILE_BYTES}
-use Rattle.wasi_abi.specs.declared.errno.Errno.TheVariants.{Fbig}
+use Rattle.wasi_abi.specs.declared.errno.Errno.TheVariants.{Badf, Fbig}
 use Rattle.wasi_calls_rules.specs.Hosts.{Target, Stream, Node, Descriptor, Host, IsThere}
-use Rattle.wasi_calls_rules.specs.Checks.{Bytes, Halt, Refuses, ◌>>=◌, Buffer, gathered, open_descriptor}
+use Rattle.wasi_calls_rules.specs.Checks.{Bytes, Halt, Refuses, ◌>>=◌, Buffer, gathered, some_or, flat, open_descriptor}
 use Rattle.wasi_calls_rules.specs.Small.{roomy}
 use Rattle.wasi_calls_rules.specs.Moving.{size_after, file_written, write_offset, offset_after, moved_to, target_written}
 use Rattle.wasi_calls_rules.specs.Rows.{IsNoRefusal}
@@ -97,3 +97,36 @@ offset_behind_is fd offset d (b ∷ bytes) h = by_test (length (b ∷ bytes) == 
       ≡ (if p then h else moved_to fd d (offset + length (b ∷ bytes)) h)
   by_test true e = absurd (omega (arith, eqb-true (length (b ∷ bytes)) 0 e))
   by_test false e = refl
+
+-- ---- a write to what is open
+
+written_by : (r : Result (Unit {0}) Halt) (made after h : Host) → (r >>= λ _. Ok made) ≡ Ok after
+    → made.descriptors ≡ h.descriptors → after.descriptors ≡ h.descriptors
+written_by (Ok u) made after h is same =
+    let e : made ≡ after = cc in ap (λ (x : Host). x.descriptors) (sym e) ∙ same
+written_by (Err halt) made after h is same = absurd (cc)
+
+pub kept_descriptors : (k from : ℕ) (bytes : Bytes) (h after : Host)
+    → file_written k from bytes h ≡ Ok after → after.descriptors ≡ h.descriptors
+kept_descriptors k from [] h after is =
+    let e : h ≡ after = cc in ap (λ (x : Host). x.descriptors) (sym e)
+kept_descriptors k from (b ∷ bytes) h after is =
+    written_by (roomy h k (size_after (bytes_of_node h.files k) from (b ∷ bytes)))
+    (host_written k from (b ∷ bytes) h) after h is refl
+
+pub still_open : (k from fd : ℕ) (bytes : Bytes) (h after : Host)
+    → file_written k from bytes h ≡ Ok after → open_descriptor after fd ≡ open_descriptor h fd
+still_open k from fd bytes h after is =
+    ap (λ (ds : List (Option Descriptor)). some_or Badf (flat (slice_get ds fd)))
+    (kept_descriptors k from bytes h after is)
+
+pub target_done : (fd k from n : ℕ) (d : Descriptor) (bytes : Bytes) (h after last : Host)
+    → d.target ≡ Node k → from ≡ write_offset h k d → n ≡ length bytes
+    → file_written k from bytes h ≡ Ok after → last ≡ moved_behind fd from d n after
+    → target_written d.target fd d bytes h ≡ Ok last
+target_done fd k from n d bytes h after last named at size done moved =
+    ap (λ (t : Target). target_written t fd d bytes h) named
+    ∙ ap (λ (o : ℕ). file_written k o bytes h >>= λ x. Ok (offset_after fd o d bytes x)) (sym at)
+    ∙ ap (λ (r : Result Host Halt). r >>= λ x. Ok (offset_after fd from d bytes x)) done
+    ∙ ap (λ (x : Host). Ok x) (offset_behind_is fd from d bytes after
+    ∙ ap (λ (i : ℕ). moved_behind fd from d i after) (sym size) ∙ sym moved)

@@ -1,5 +1,7 @@
 pub mod Fronts
 pub mod WrittenFiles
+pub mod InputRows
+pub mod MovedRows
 pub mod FileRows
 pub mod Pieces
 pub mod Cuts

@@ -3,7 +3,7 @@ use Rattle.std.proofs.Common.{◌≡◌, ℕ, ◌+◌, ◌-◌, ◌<◌, ◌≤�
 use Rattle.std.specs.Prelude.{Bool, true, false, ◌&&◌, ◌==◌, not}
 use Rattle.std.specs.List.{AllByRecursion, list_all}
 use Rattle.std.proofs.lemmas.Bool.{cases_lt}
-use Rattle.std.proofs.lemmas.List.{append-nil, take_all, take-take, drop_more, drop_all, drop-drop, drop-take}
+use Rattle.std.proofs.lemmas.List.{append-nil, take_all, take-take, drop_more, drop_all, drop-drop, drop-take, drop-append-le, take-append-drop}
 use Rattle.guest_memory.specs.rules.Bytes.{part, with_part}
 use Rattle.guest_memory.proofs.Ranges.{length-with_part}
 use Rattle.wasi_calls_rules.specs.Hosts.{Line}
@@ -159,3 +159,34 @@ moved_all old now bs source moved all =
       all.puts ∙ sym (scattered_total old bs source),
       omega (arith, counts),
     )
+
+pub moved_few : (n total most : ℕ) (source : Bytes) → n ≡ length (take total source) → total ≤ most
+    → n ≤ most
+moved_few n total most source is few = omega (arith, is, few, length-take total source)
+
+-- ---- a piece of a range that was lent
+
+pub lent_piece : (m : Bytes) (from len : ℕ) (piece : Bytes) → from + len ≤ length m
+    → length piece ≤ len
+    → take (length m) (with_part m from (piece ++ drop (length piece) (part m from len)))
+    ≡ with_part m from piece
+lent_piece m from len piece inside few =
+    let k : ℕ = length piece in
+    let ys : Bytes = drop from m in
+    let back : Bytes = drop k (take len ys) in
+    let left = length-drop from m in
+    let taken = length-take len ys in
+    let size : length (piece ++ back) ≡ len =
+    omega (arith, length-append piece back, length-drop k (take len ys), taken, left, inside, few) in
+    let after : back ++ drop (from + length (piece ++ back)) m ≡ drop (from + k) m =
+    ap (λ (n : ℕ). back ++ drop (from + n) m) size
+    ∙ ap (λ (x : Bytes). back ++ x) (sym (drop-drop len from m))
+    ∙ sym (drop-append-le k (take len ys) (drop len ys) (omega (arith, taken, left, inside, few)))
+    ∙ ap (drop k) (take-append-drop len ys) ∙ drop-drop k from m in
+    let is : with_part m from (piece ++ back) ≡ with_part m from piece =
+    ap (λ (x : Bytes). take from m ++ x)
+    (append_assoc piece back (drop (from + length (piece ++ back)) m)
+    ∙ ap (λ (x : Bytes). piece ++ x) after) in
+    ap (take (length m)) is
+    ∙ take_all (length m) (with_part m from piece)
+    (omega (arith, length-with_part m from piece (omega (arith, inside, few))))

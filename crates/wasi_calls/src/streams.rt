@@ -191,7 +191,8 @@ fn put(
 {
     if ends_no_line(unfinished, memory, buffers) {
         waiting.reserve(2)?;
-        return append(unfinished, memory, buffers);
+        append(unfinished, memory, buffers)?;
+        return Ok(());
     }
     let (lines, rest) = Cut::of(alloc, stream, unfinished, memory, buffers)?.into_parts();
     emit(waiting, lines)?;

@@ -12,6 +12,7 @@ ghost use Rattle.wasi_calls_rules.specs.Checks.{gathered, scattered, open_descri
 ghost use Rattle.wasi_calls_rules.specs.Checks.{names_directory};
 ghost use Rattle.wasi_calls_rules.specs.Moving.{file_read, file_written, write_offset};
 ghost use Rattle.wasi_calls_rules.specs.Moving.{target_written, target_read, input_read};
+ghost use Rattle.wasi_calls_rules.specs.declared.limits.TheConstants.{MOVED_BYTES};
 ghost use Rattle.wasi_calls.specs.Moves.{total_len, AreInside, supplied};
 ghost use Rattle.wasi_calls.specs.Moves.{Reads, line_taken, moved_behind};
 ghost use Rattle.wasi_calls.specs.Steps.{StopsStep};
@@ -154,6 +155,7 @@ impl Host {
             (file_read self.now.host node from (total_len buffers.now)) }
         ensures count { result
             ≡ length (file_read self.now.host node from (total_len buffers.now)) }
+        ensures few { result ≤ MOVED_BYTES }
         ensures large { IsAsLarge memory.old memory.new }
     {
         read_pieces(&self.tree, node, from, memory, buffers)
@@ -174,7 +176,7 @@ impl Host {
             → Reads n memory.old.bytes memory.new.bytes buffers.now self.new.host
             (target_read d.target fd d (total_len buffers.now) (option_copied answer.entry)
             self.old.host)) }
-        ensures few { IfOk result (λ n. n ≤ total_len buffers.now) }
+        ensures few { IfOk result (λ n. n ≤ MOVED_BYTES) }
         ensures stopped { IfErr result (λ why. (d : Opened)
             → open_descriptor self.old.host fd ≡ Ok d → StopsStep why (target_read d.target fd d
             (total_len buffers.now) (option_copied answer.entry) self.old.host)) }
@@ -206,6 +208,7 @@ impl Host {
         ensures done { IfOk result (λ n. Reads n memory.old.bytes memory.new.bytes buffers.now
             self.new.host (input_read (total_len buffers.now) (option_copied answer.entry)
             self.old.host)) }
+        ensures few { IfOk result (λ n. n ≤ MOVED_BYTES) }
         ensures stopped { IfErr result (λ why. StopsStep why (input_read (total_len buffers.now)
             (option_copied answer.entry) self.old.host)) }
         ensures memory_kept { IfErr result (λ _. memory.new ≡ memory.old) }
@@ -281,6 +284,7 @@ impl Host {
         ensures put { memory.new.bytes ≡ scattered memory.old.bytes buffers.now
             (take (total_len buffers.now) self.old.host.unread) }
         ensures count { result ≡ length (take (total_len buffers.now) self.old.host.unread) }
+        ensures few { result ≤ MOVED_BYTES }
         ensures left { self.new ≡ record self.old { host = record self.old.host {
             unread = drop (total_len buffers.now) self.old.host.unread } } }
         ensures large { IsAsLarge memory.old memory.new }
@@ -297,6 +301,7 @@ fn scatter(memory: &mut Memory, buffers: &Buffers, bytes: &[u8]) -> usize
     ensures put { memory.new.bytes ≡ scattered memory.old.bytes buffers.now
         (take (total_len buffers.now) bytes.now) }
     ensures count { result ≡ length (take (total_len buffers.now) bytes.now) }
+    ensures few { result ≤ MOVED_BYTES }
     ensures large { IsAsLarge memory.old memory.new }
 {
     let mut moved = 0;
@@ -352,6 +357,7 @@ fn read_pieces(
         (take (total_len buffers.now) (drop from (bytes_of_node tree.now node))) }
     ensures count { result
         ≡ length (take (total_len buffers.now) (drop from (bytes_of_node tree.now node))) }
+    ensures few { result ≤ MOVED_BYTES }
     ensures large { IsAsLarge memory.old memory.new }
 {
     let mut moved = 0;

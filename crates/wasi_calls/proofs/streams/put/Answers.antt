@@ -10,7 +10,18 @@ use Rattle.wasi_calls.proofs.Fronts.{length_gathered}
 use Rattle.wasi_calls.proofs.streams.put.Goals as goal
 
 pub returns-then-ends_no_line-clause-written : goal.returns-then-ends_no_line-clause-written
-returns-then-ends_no_line-clause-written c = ?
+returns-then-ends_no_line-clause-written c =
+    let text = c.args.unfinished.now.items in
+    let bs = c.args.buffers.now in
+    let bytes = gathered c.args.memory.now.bytes bs in
+    let test : (nat_le (length text + total_len bs) LINE_BYTES && has_no_newline bytes) ≡ true =
+    sym (rw c.deref.ensures.value at c.ends_no_line.ensures) ∙ c.if-ends_no_line.true in
+    let both = both_true (nat_le (length text + total_len bs) LINE_BYTES) (has_no_newline bytes)
+    test in
+    let few = leb-true (length text + total_len bs) LINE_BYTES both.0 in
+    let size = length_gathered c.args.memory.now.bytes bs c.requires in
+    rw (c.in_ok-reserve.ensures.items, c.in_ok-append.ensures.appended)
+    (cut_onto c.args.stream c.args.waiting.now.items text bytes (omega (arith, few, size)) both.1)
 
 pub returns-clause-written : goal.returns-clause-written
 returns-clause-written c =

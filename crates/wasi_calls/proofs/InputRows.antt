@@ -1,0 +1,30 @@
+-- What the rules say of input, once it is known whether a line is there to read.
+use Rattle.std.proofs.Common.{◌≡◌, ℕ, ◌+◌, ◌<◌, ◌≤◌, List, [], ◌∷◌, length, take, drop, refl, sym, ap, ◌∙◌, arith}
+use Rattle.std.specs.Prelude.{◌≢◌, Bool, true, false, ◌==◌, if◌then◌else◌, Option, Some, None, Result, Ok, Err}
+use Rattle.std.proofs.lemmas.Bool.{ne_eqb}
+use Rattle.wasi_abi.specs.declared.answer.Kind.TheVariants as kind
+use Rattle.wasi_abi.specs.declared.answer.Answer.{Answer}
+use Rattle.wasi_abi.specs.rules.Answers.{Fits}
+use Rattle.wasi_calls_rules.specs.Hosts.{Host}
+use Rattle.wasi_calls_rules.specs.Checks.{Bytes, Halt, Asks, ◌>>=◌, asked, does_fit, answered_by}
+use Rattle.wasi_calls_rules.proofs.Fitting.{tests_tell}
+use Rattle.wasi_calls.specs.Moves.{supplied, line_taken}
+
+fit_test : (limit : ℕ) (a : Answer) → Fits limit kind.Request a
+    → does_fit limit kind.Request a ≡ true
+fit_test limit a fits = (tests_tell limit kind.Request a).1 fits
+
+no_fit_test : (limit : ℕ) (a : Answer) → (Fits limit kind.Request a → ⊥)
+    → does_fit limit kind.Request a ≡ false
+no_fit_test limit a none = by_test (does_fit limit kind.Request a) refl where
+  by_test : (p : Bool) → does_fit limit kind.Request a ≡ p → p ≡ false
+  by_test true e = absurd (none ((tests_tell limit kind.Request a).0 e))
+  by_test false e = refl
+
+module _ (h : Host) (a : Answer) (none : h.unread ≡ []) (open_still : h.input_ended ≡ false) where
+  pub asks_again : (Fits h.limit kind.Request a → ⊥) → supplied (Some a) h ≡ Err (Asks kind.Request)
+  asks_again no_fit = rw (none, open_still, no_fit_test h.limit a no_fit) refl
+
+  pub takes_line : (r : Result Host Halt) → Fits h.limit kind.Request a → line_taken a h ≡ r
+      → supplied (Some a) h ≡ r
+  takes_line r fits is = rw (none, open_still, fit_test h.limit a fits) is

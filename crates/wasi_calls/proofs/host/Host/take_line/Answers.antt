@@ -1,0 +1,22 @@
+use Rattle.std.proofs.Common.{◌≡◌, ◌++◌, [], ◌∷◌, ◌∙◌, ap, arith}
+use Rattle.guest_memory.specs.rules.Bytes.{IsByte}
+use Rattle.guest_memory.proofs.Lists.{all_both}
+use Rattle.wasi_abi.specs.rules.Answers.{AreBytes, newline}
+use Rattle.wasi_abi.proofs.ByteLemmas.{all_bytes}
+use Rattle.wasi_calls_rules.specs.Checks.{Bytes}
+use Rattle.wasi_calls_rules.proofs.KeepsHosts.{unread_stands}
+use Rattle.wasi_calls.specs.rules.Held.{held_host_of}
+use Rattle.wasi_calls.proofs.host.Host.take_line.Goals as goal
+
+pub invariant_of-self-2 : goal.invariant_of-self-2
+invariant_of-self-2 c =
+    let s = c.self.inside in
+    let h = (held_host_of s.config s.limit s.tree s.descriptors.items s.unread.items
+    s.input_ended s.last_monotonic s.streams).host in
+    let text = c.args.text.now in
+    let low : AreBytes text = all_bytes text (λ k. omega (arith, c.type_inv.text k)) in
+    let all : AreBytes (s.unread.items ++ (text ++ newline ∷ [])) =
+    all_both IsByte s.unread.items (text ++ newline ∷ []) c.self.invariant.unread
+    (all_both IsByte text (newline ∷ []) low (omega arith, tt)) in
+    let stood = unread_stands h (s.unread.items ++ (text ++ newline ∷ [])) c.self.invariant all in
+    ?

@@ -1,0 +1,30 @@
+use Rattle.std.proofs.Common.{◌≡◌, ◌+◌, ◌∙◌, sym, ap, arith, length}
+use Rattle.std.specs.Prelude.{Ok}
+use Rattle.std.proofs.lemmas.Result.{err_from_is_err_and}
+use Rattle.wasi_abi.specs.rules.Layouts.{u32_bytes}
+use Rattle.guest_memory.specs.rules.Bytes.{with_part}
+use Rattle.wasi_calls_rules.specs.Hosts.{Host}
+use Rattle.wasi_calls_rules.specs.Checks.{Bytes, Done, gathered, scattered}
+use Rattle.wasi_calls_rules.specs.Moving.{Got, file_written, file_read, target_written, target_read}
+use Rattle.wasi_calls.specs.Moves.{total_len}
+use Rattle.wasi_calls.proofs.MovedRows.{pread_is, cell_put}
+use Rattle.wasi_calls.proofs.read.read_at.Goals as goal
+
+pub returns-clause-done : goal.returns-clause-done
+returns-clause-done c =
+    let a = c.args.arguments in
+    let m = c.args.memory.now.bytes in
+    let h = c.args.host.now.host in
+    let bs = c.in_ok-checked.checked.buffers in
+    let passed = c.in_ok-checked.ensures.passed in
+    let named = c.in_ok-checked.ensures.file.named passed.descriptor passed.is_open in
+    let bytes : Bytes = file_read h c.in_ok-checked.checked.node a.offset (total_len bs) in
+    let stored = (rw c.unwrap.ensures at c.store_u32.ensures.stored) in
+    let put = cell_put c.read_file-moved.new.memory c.store_u32.new.self (a.ret + 0) a.ret
+    c.read_file-moved.result (length bytes) stored (omega arith) c.read_file-moved.ensures.count in
+    rw (pread_is a.fd a.iovecs a.count a.offset a.ret m h, passed.is, named)
+    (ap (λ (x : Bytes). Ok (record {
+      memory = with_part x a.ret (u32_bytes (length bytes));
+      host = h;
+    })) (sym c.read_file-moved.ensures.read)
+    ∙ ap (λ (x : Bytes). Ok (record { memory = x; host = h })) (sym put))
