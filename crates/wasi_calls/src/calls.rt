@@ -14,11 +14,20 @@ ghost use Rattle.wasi_calls.specs.rules.Calls.{IsBuilt, AreArguments, call_outco
 ghost use Rattle.wasi_calls.specs.rules.Calls.{told_of, ShowsRow, EndsNothing, IsAsLarge};
 ghost use Rattle.wasi_calls.specs.declared.outcome.CallOutcome.TheVariants.{Memory as WantOfMemory};
 
+use crate::arguments::{of_list, of_move, of_open, of_path_filestat, of_placed_move, of_rename};
 use crate::arguments::{of_seek, one, one_and_long, three, two};
+use crate::changes;
 use crate::host::Host;
+use crate::listing;
+use crate::offsets;
+use crate::opening;
 use crate::outcome::CallOutcome;
+use crate::paths::entries;
+use crate::read;
+use crate::renaming;
+use crate::status;
 use crate::stop::CallStop;
-use crate::{changes, offsets, status};
+use crate::write;
 use guest_memory::Memory;
 use std::alloc::Global;
 use wasi_abi::{Answer, Call, Errno, Rights};
