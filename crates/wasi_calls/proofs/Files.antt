@@ -25,8 +25,10 @@ rewritten_host h k bytes is there file few low room =
 pub resized_host : (h : Host) (k size : ℕ) → IsHost h → IsThere h.files (Node k)
     → is_directory h.files k ≡ false → size ≤ FILE_BYTES
     → used h.files + size ≤ h.room + length (bytes_of_node h.files k)
-    → IsHost (record h { files =
-        with_file_bytes k (resized (bytes_of_node h.files k) size) h.files })
+    → IsHost (record h {
+      files =
+          with_file_bytes k (resized (bytes_of_node h.files k) size) h.files;
+    })
 resized_host h k size is there file few room =
     let old = bytes_of_node h.files k in
     let small = small_resized old size (small_file h.files k is.files) few in

@@ -58,9 +58,13 @@ impl Host {
         requires limit { size ≤ FILE_BYTES }
         requires room { used self.old.host.files + size
             ≤ self.old.host.room + length (bytes_of_node self.old.host.files node) }
-        ensures resized { OnOk result (self.new ≡ record self.old { host = record self.old.host { files =
-            with_file_bytes node (resized (bytes_of_node self.old.host.files node) size)
-            self.old.host.files } }) }
+        ensures resized { OnOk result (self.new ≡ record self.old {
+          host = record self.old.host {
+            files =
+                with_file_bytes node (resized (bytes_of_node self.old.host.files node) size)
+                self.old.host.files;
+          };
+        }) }
         ensures unchanged { OnErr result (self.new ≡ self.old) }
     {
         self.tree.resize(node, size)?;
