@@ -15,13 +15,13 @@ use Rattle.wasi_calls.specs.Moves.{total_len, AreInside, moved_behind}
 use Rattle.wasi_calls.proofs.Fronts.{length_gathered}
 use Rattle.wasi_calls.proofs.WrittenFiles.{rewritten_again, bytes_now, written_resized}
 
-empty : (bytes : Bytes) → length bytes ≡ 0 → bytes ≡ []
-empty [] e = refl
-empty (b ∷ bytes) e = absurd (omega (arith, e))
+pub no_items : (bytes : Bytes) → length bytes ≡ 0 → bytes ≡ []
+no_items [] e = refl
+no_items (b ∷ bytes) e = absurd (omega (arith, e))
 
 pub no_bytes : (m : Bytes) (bs : List Buffer) → AreInside m bs → total_len bs ≡ 0
     → gathered m bs ≡ []
-no_bytes m bs inside none = empty (gathered m bs) (length_gathered m bs inside ∙ none)
+no_bytes m bs inside none = no_items (gathered m bs) (length_gathered m bs inside ∙ none)
 
 pub none_written : (k from : ℕ) (bytes : Bytes) (h : Host) → bytes ≡ []
     → file_written k from bytes h ≡ Ok h

@@ -166,8 +166,10 @@ module _ (m : Bytes) (iovs count i : ℕ) (lt : i < count) where
       → left ≡ room - (buffer_at m (iovs + 8 * i)).len
       → named_on m (iovs + 8 * i) (count - i) room front ≡ total
       → named_on m (iovs + 8 * (i + 1)) (count - (i + 1)) left
-      (front ++ record { from = (buffer_at m (iovs + 8 * i)).from;
-        len = min room (buffer_at m (iovs + 8 * i)).len } ∷ [])
+      (front ++ record {
+        from = (buffer_at m (iovs + 8 * i)).from;
+        len = min room (buffer_at m (iovs + 8 * i)).len;
+      } ∷ [])
       ≡ total
   named_next room left front total u fine counts so_far =
       let b : Buffer = buffer_at m (iovs + 8 * i) in

@@ -7,6 +7,7 @@ use Rattle.wasi_abi.specs.declared.answer.Answer.{Answer}
 use Rattle.wasi_abi.specs.rules.Answers.{Fits}
 use Rattle.wasi_calls_rules.specs.Hosts.{Host}
 use Rattle.wasi_calls_rules.specs.Checks.{Bytes, Halt, Asks, ◌>>=◌, asked, does_fit, answered_by}
+use Rattle.wasi_calls_rules.specs.Moving.{has_bytes}
 use Rattle.wasi_calls_rules.proofs.Fitting.{tests_tell}
 use Rattle.wasi_calls.specs.Moves.{supplied, line_taken}
 
@@ -22,9 +23,19 @@ no_fit_test limit a none = by_test (does_fit limit kind.Request a) refl where
   by_test false e = refl
 
 module _ (h : Host) (a : Answer) (none : h.unread ≡ []) (open_still : h.input_ended ≡ false) where
+  -- what is done with an answer, by whether it fits
+  abbrev by_fit : Bool → Result Host Halt
+  by_fit p = asked kind.Request (if p then Some a else None) >>= λ x. line_taken x h
+
+  supplied_is : supplied (Some a) h ≡ by_fit (does_fit h.limit kind.Request a)
+  supplied_is =
+      ap (λ (x : Bytes). if has_bytes x then Ok h else if h.input_ended then Ok h
+      else by_fit (does_fit h.limit kind.Request a)) none
+      ∙ ap (λ (p : Bool). if p then Ok h else by_fit (does_fit h.limit kind.Request a)) open_still
+
   pub asks_again : (Fits h.limit kind.Request a → ⊥) → supplied (Some a) h ≡ Err (Asks kind.Request)
-  asks_again no_fit = rw (none, open_still, no_fit_test h.limit a no_fit) refl
+  asks_again no_fit = supplied_is ∙ ap by_fit (no_fit_test h.limit a no_fit)
 
   pub takes_line : (r : Result Host Halt) → Fits h.limit kind.Request a → line_taken a h ≡ r
       → supplied (Some a) h ≡ r
-  takes_line r fits is = rw (none, open_still, fit_test h.limit a fits) is
+  takes_line r fits is = supplied_is ∙ ap by_fit (fit_test h.limit a fits) ∙ is

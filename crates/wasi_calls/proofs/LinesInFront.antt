@@ -1,17 +1,20 @@
 -- Rules don't look at the lines that were emitted before: with other lines in front a call does the same.
 use Rattle.std.proofs.Common.{◌≡◌, ℕ, List, [], ◌∷◌, ◌++◌, take, length, refl, sym, ap, ◌∙◌, inl, inr}
-use Rattle.std.specs.Prelude.{Result, Ok, Err, Some, None, OnOk, IfErr}
+use Rattle.std.specs.Prelude.{Bool, true, false, ◌==◌, if◌then◌else◌, Option, Result, Ok, Err, Some, None, OnOk, IfErr}
 use Rattle.std.proofs.lemmas.Bool.Decides.{eqb_tells}
 use Rattle.guest_memory.specs.rules.Bytes.{with_part}
 use Rattle.guest_memory.specs.rules.Memories.{LinearMemory}
 use Rattle.file_tree.specs.rules.Files.{bytes_of_node}
 use Rattle.wasi_abi.specs.rules.Layouts.{u32_bytes}
-use Rattle.wasi_abi.specs.rules.Numbers.{fd_write_right}
+use Rattle.wasi_abi.specs.rules.Numbers.{fd_read_right, fd_seek_right, fd_write_right}
+use Rattle.wasi_abi.specs.declared.answer.Kind.TheVariants as kind
+use Rattle.wasi_abi.specs.declared.answer.Answer.{Answer}
+use Rattle.wasi_abi.specs.declared.answer.Answer.TheVariants as answer
 use Rattle.wasi_calls_rules.specs.Hosts.{Line, Target, Stream, Node, Descriptor, Host}
-use Rattle.wasi_calls_rules.specs.Checks.{Bytes, Halt, Ruling, ◌>>=◌, open_descriptor, no_directory, with_right, in_memory, buffers, few_buffers, movable, gathered}
+use Rattle.wasi_calls_rules.specs.Checks.{Bytes, Halt, Ruling, ◌>>=◌, open_descriptor, no_directory, a_file, with_right, in_memory, Buffer, buffers, few_buffers, movable, gathered, scattered, node_named, answered_by}
 use Rattle.wasi_calls_rules.specs.Lines.{cut_all, stream_written}
 use Rattle.wasi_calls_rules.specs.Small.{call_done, roomy}
-use Rattle.wasi_calls_rules.specs.Moving.{size_after, file_written, write_offset, offset_after, target_written, fd_write}
+use Rattle.wasi_calls_rules.specs.Moving.{Got, input_taken, has_bytes, input_read, target_read, size_after, file_written, write_offset, offset_after, target_written, fd_read, fd_pread, fd_write, fd_pwrite}
 use Rattle.wasi_calls_rules.specs.Rows.{IsNoRefusal, Told, IsDone, IsAsk, IsExit, NoMemory, TellsRow}
 use Rattle.wasi_calls.specs.rules.Held.{HeldHost, ShowsHost, behind_lines, behind_lines_of_row}
 use Rattle.wasi_calls.specs.declared.stop.CallStop.{CallStop}
@@ -71,6 +74,60 @@ module _ (before : List Line) where
       next (buffers m iovs count) _ _ (λ bs. next (in_memory m ret 4) _ _ (λ _.
       let bytes : Bytes = take (movable bs) (gathered m bs) in
       host_next (target_written d.target fd d bytes (behind_lines before h)) (target_written d.target fd d bytes h) (with_part m ret (u32_bytes (length bytes))) (target_behind d.target fd d bytes h)))))))
+
+  pub pwrite_behind : (fd iovs count offset ret : ℕ) (m : Bytes) (h : Host) → fd_pwrite fd iovs count offset ret m (behind_lines before h) ≡ behind_lines_of_row before (fd_pwrite fd iovs count offset ret m h)
+  pwrite_behind fd iovs count offset ret m h =
+      next (open_descriptor h fd) _ _ (λ d. next (a_file h d) _ _ (λ _. next (with_right fd_write_right d) _ _ (λ _. next (with_right fd_seek_right d) _ _ (λ _. next (few_buffers count) _ _ (λ _.
+      next (buffers m iovs count) _ _ (λ bs. next (in_memory m ret 4) _ _ (λ _.
+      let bytes : Bytes = take (movable bs) (gathered m bs) in
+      host_next (file_written (node_named d.target) offset bytes (behind_lines before h)) (file_written (node_named d.target) offset bytes h) (with_part m ret (u32_bytes (length bytes)))
+      (file_behind (node_named d.target) offset bytes h))))))))
+
+  -- a step that gives bytes that were read, the same
+  abbrev behind_got : Result Got Halt → Result Got Halt
+  behind_got (Ok got) = Ok (record { bytes = got.bytes; host = behind_lines before got.host })
+  behind_got (Err halt) = Err halt
+
+  got_next : (s r : Result Got Halt) (m : Bytes) (bs : List Buffer) (ret : ℕ) → s ≡ behind_got r
+      → (s >>= λ got. call_done (with_part (scattered m bs got.bytes) ret (u32_bytes (length got.bytes))) got.host)
+      ≡ behind_lines_of_row before (r >>= λ got. call_done (with_part (scattered m bs got.bytes) ret (u32_bytes (length got.bytes))) got.host)
+  got_next s (Ok got) m bs ret e = rw e refl
+  got_next s (Err halt) m bs ret e = rw e refl
+
+  got_after : {A : Type 0} (r : Result A Halt) (f g : A → Result Got Halt) → ((x : A) → f x ≡ behind_got (g x)) → (r >>= f) ≡ behind_got (r >>= g)
+  got_after (Ok x) f g e = e x
+  got_after (Err halt) f g e = refl
+
+  got_either : (p : Bool) (a b c d : Result Got Halt) → a ≡ behind_got c → b ≡ behind_got d → (if p then a else b) ≡ behind_got (if p then c else d)
+  got_either true a b c d e f = e
+  got_either false a b c d e f = f
+
+  line_behind : (n : ℕ) (a : Answer) (h : Host) → input_taken n a (behind_lines before h) ≡ behind_got (input_taken n a h)
+  line_behind n (answer.Request text) h = refl
+  line_behind n answer.End h = refl
+  line_behind n (answer.Realtime t) h = refl
+  line_behind n (answer.Monotonic t) h = refl
+  line_behind n (answer.Random bytes) h = refl
+
+  input_behind : (n : ℕ) (given : Option Answer) (h : Host) → input_read n given (behind_lines before h) ≡ behind_got (input_read n given h)
+  input_behind n given h =
+      got_either (n == 0) _ _ _ _ refl (got_either (has_bytes h.unread) _ _ _ _ refl (got_either h.input_ended _ _ _ _ refl
+      (got_after (answered_by h kind.Request given) _ _ (λ a. line_behind n a h))))
+
+  target_read_behind : (t : Target) (fd : ℕ) (d : Descriptor) (n : ℕ) (given : Option Answer) (h : Host) → target_read t fd d n given (behind_lines before h) ≡ behind_got (target_read t fd d n given h)
+  target_read_behind (Stream s) fd d n given h = input_behind n given h
+  target_read_behind (Node k) fd d n given h = refl
+
+  pub read_behind : (fd iovs count ret : ℕ) (given : Option Answer) (m : Bytes) (h : Host) → fd_read fd iovs count ret given m (behind_lines before h) ≡ behind_lines_of_row before (fd_read fd iovs count ret given m h)
+  read_behind fd iovs count ret given m h =
+      next (open_descriptor h fd) _ _ (λ d. next (no_directory h d) _ _ (λ _. next (with_right fd_read_right d) _ _ (λ _. next (few_buffers count) _ _ (λ _.
+      next (buffers m iovs count) _ _ (λ bs. next (in_memory m ret 4) _ _ (λ _.
+      got_next (target_read d.target fd d (movable bs) given (behind_lines before h)) (target_read d.target fd d (movable bs) given h) m bs ret (target_read_behind d.target fd d (movable bs) given h)))))))
+
+  pub pread_behind : (fd iovs count offset ret : ℕ) (m : Bytes) (h : Host) → fd_pread fd iovs count offset ret m (behind_lines before h) ≡ behind_lines_of_row before (fd_pread fd iovs count offset ret m h)
+  pread_behind fd iovs count offset ret m h =
+      next (open_descriptor h fd) _ _ (λ d. next (a_file h d) _ _ (λ _. next (with_right fd_read_right d) _ _ (λ _. next (with_right fd_seek_right d) _ _ (λ _. next (few_buffers count) _ _ (λ _.
+      next (buffers m iovs count) _ _ (λ bs. next (in_memory m ret 4) _ _ (λ _. refl)))))))
 
 -- ---- what is told, of every host that is shown
 

@@ -172,7 +172,7 @@ read_rest fd ret given m h w =
 abbrev pub pread_rest : ℕ → ℕ → Bytes → Host → Wanted → Ruling
 pread_rest offset ret m h w =
     let bytes : Bytes = file_read h (node_named w.descriptor.target) offset
-        (total_len w.buffers) in
+    (total_len w.buffers) in
     call_done (with_part (scattered m w.buffers bytes) ret (u32_bytes (length bytes))) h
 
 abbrev got_put : Bytes → ℕ → List Buffer → Bytes → Host → Ruling

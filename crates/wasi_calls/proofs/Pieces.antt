@@ -190,3 +190,16 @@ lent_piece m from len piece inside few =
     ap (take (length m)) is
     ∙ take_all (length m) (with_part m from piece)
     (omega (arith, length-with_part m from piece (omega (arith, inside, few))))
+
+-- no bytes change nothing
+pub scattered_none : (m : Bytes) (bs : List Buffer) → scattered m bs [] ≡ m
+scattered_none m [] = refl
+scattered_none m (b ∷ bs) =
+    let front : take {A = ℕ} b.len [] ≡ [] = take_all b.len [] (omega arith) in
+    let back : drop {A = ℕ} b.len [] ≡ [] = drop_all b.len [] (omega arith) in
+    let at : b.from + 0 ≡ b.from = omega arith in
+    ap (λ (x : Bytes). scattered (with_part m b.from x) bs (drop b.len [])) front
+    ∙ ap (scattered (with_part m b.from []) bs) back
+    ∙ ap (λ (x : Bytes). scattered x bs []) (ap (λ (n : ℕ). take b.from m ++ drop n m) at
+    ∙ take-append-drop b.from m)
+    ∙ scattered_none m bs

@@ -74,7 +74,7 @@ pub record PassesChecks (m : Bytes) (h : Host) (fd ret : ℕ) (r : Result Wanted
 -- ---- what was read
 
 -- So many bytes were read: the rule gives them and the host after it, and they stand in the buffers.
-pub record Reads (n : ℕ) (old new : Bytes) (bs : List Buffer) (after : Host) (r : Result Got Halt)
+pub record ReadsInto (n : ℕ) (old new : Bytes) (bs : List Buffer) (after : Host) (r : Result Got Halt)
     : Type 0 where
   pub bytes : Bytes
   pub is : r ≡ Ok (record { bytes = bytes; host = after })

@@ -40,11 +40,13 @@ impl Buffer {
         requires within { iovecs + (offset + 8) ≤ length memory.now.bytes }
         requires small { offset < 65536 }
         ensures gives { GivesValue (λ _. tt) result (check_or (is_inside memory.now.bytes (record {
-            from = u32_at memory.now.bytes (iovecs + offset);
-            len = u32_at memory.now.bytes ((iovecs + offset) + 4) })) Fault) }
+          from = u32_at memory.now.bytes (iovecs + offset);
+          len = u32_at memory.now.bytes ((iovecs + offset) + 4);
+        })) Fault) }
         ensures is { IfOk result (λ b. b ≡ record {
-            from = u32_at memory.now.bytes (iovecs + offset);
-            len = u32_at memory.now.bytes ((iovecs + offset) + 4) }) }
+          from = u32_at memory.now.bytes (iovecs + offset);
+          len = u32_at memory.now.bytes ((iovecs + offset) + 4);
+        }) }
         ensures inside { IfOk result (λ b. b.from + b.len ≤ length memory.now.bytes) }
     {
         let from = memory.load_u32(iovecs, offset).unwrap();

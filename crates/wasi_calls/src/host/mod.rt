@@ -90,8 +90,10 @@ impl Host {
         buffers: &Buffers,
     ) -> Result<(), AllocError>
         requires { AreInside memory.now.bytes buffers.now }
-        ensures written { OnOk result (self.new ≡ record self.old { host =
-            stream_written stream (gathered memory.now.bytes buffers.now) self.old.host }) }
+        ensures written { OnOk result (self.new ≡ record self.old {
+          host =
+              stream_written stream (gathered memory.now.bytes buffers.now) self.old.host;
+        }) }
         ensures unchanged { OnErr result (self.new ≡ self.old) }
     {
         are_bytes(memory.bytes());

@@ -14,7 +14,7 @@ ghost use Rattle.wasi_calls_rules.specs.Moving.{file_read, file_written, write_o
 ghost use Rattle.wasi_calls_rules.specs.Moving.{target_written, target_read, input_read};
 ghost use Rattle.wasi_calls_rules.specs.declared.limits.TheConstants.{MOVED_BYTES};
 ghost use Rattle.wasi_calls.specs.Moves.{total_len, AreInside, supplied};
-ghost use Rattle.wasi_calls.specs.Moves.{Reads, line_taken, moved_behind};
+ghost use Rattle.wasi_calls.specs.Moves.{ReadsInto, line_taken, moved_behind};
 ghost use Rattle.wasi_calls.specs.Steps.{StopsStep};
 ghost use Rattle.wasi_calls.specs.rules.Calls.{IsAsLarge};
 
@@ -83,9 +83,13 @@ impl Host {
         requires inside { AreInside memory.now.bytes buffers.now }
         requires within { from + total_len buffers.now
             ≤ length (bytes_of_node self.old.host.files node) }
-        ensures { self.new ≡ record self.old { host = record self.old.host { files =
-            with_file_bytes node (written (bytes_of_node self.old.host.files node) from
-            (gathered memory.now.bytes buffers.now)) self.old.host.files } } }
+        ensures { self.new ≡ record self.old {
+          host = record self.old.host {
+            files =
+                with_file_bytes node (written (bytes_of_node self.old.host.files node) from
+                (gathered memory.now.bytes buffers.now)) self.old.host.files;
+          };
+        } }
     {
         are_bytes(memory.bytes());
         put_pieces(&mut self.tree, node, from, memory, buffers);
@@ -142,7 +146,7 @@ impl Host {
         self.move_to(fd, from + len);
     }
 
-    /// Reads a file from a place on into buffers, and says how many bytes it gave.
+    /// ReadsInto a file from a place on into buffers, and says how many bytes it gave.
     pub(crate) fn read_file(
         &self,
         node: u64,
@@ -156,12 +160,13 @@ impl Host {
         ensures count { result
             ≡ length (file_read self.now.host node from (total_len buffers.now)) }
         ensures few { result ≤ MOVED_BYTES }
+        ensures end { from < 2 ^ 63 → from + result < 2 ^ 63 }
         ensures large { IsAsLarge memory.old memory.new }
     {
         read_pieces(&self.tree, node, from, memory, buffers)
     }
 
-    /// Reads what is open under a number into buffers, and says how many bytes it gave. `answer` is a
+    /// ReadsInto what is open under a number into buffers, and says how many bytes it gave. `answer` is a
     /// line that was asked for before, where one is there.
     pub(crate) fn take(
         &mut self,
@@ -173,7 +178,7 @@ impl Host {
         requires open { (d : Opened) × (open_descriptor self.old.host fd ≡ Ok d) }
         requires inside { AreInside memory.old.bytes buffers.now }
         ensures done { IfOk result (λ n. (d : Opened) → open_descriptor self.old.host fd ≡ Ok d
-            → Reads n memory.old.bytes memory.new.bytes buffers.now self.new.host
+            → ReadsInto n memory.old.bytes memory.new.bytes buffers.now self.new.host
             (target_read d.target fd d (total_len buffers.now) (option_copied answer.entry)
             self.old.host)) }
         ensures few { IfOk result (λ n. n ≤ MOVED_BYTES) }
@@ -197,7 +202,7 @@ impl Host {
         }
     }
 
-    /// Reads input into buffers. It asks for a line where none is there to read.
+    /// ReadsInto input into buffers. It asks for a line where none is there to read.
     fn read_input(
         &mut self,
         memory: &mut Memory,
@@ -205,7 +210,7 @@ impl Host {
         answer: Option<&Answer>,
     ) -> Result<u64, CallStop>
         requires inside { AreInside memory.old.bytes buffers.now }
-        ensures done { IfOk result (λ n. Reads n memory.old.bytes memory.new.bytes buffers.now
+        ensures done { IfOk result (λ n. ReadsInto n memory.old.bytes memory.new.bytes buffers.now
             self.new.host (input_read (total_len buffers.now) (option_copied answer.entry)
             self.old.host)) }
         ensures few { IfOk result (λ n. n ≤ MOVED_BYTES) }
@@ -268,8 +273,11 @@ impl Host {
     /// Puts a line and a newline behind what is there to read. It fails for want of memory alone, and
     /// changes nothing then.
     fn take_line(&mut self, text: &[u8]) -> Result<(), AllocError>
-        ensures taken { OnOk result (self.new ≡ record self.old { host = record self.old.host {
-            unread = self.old.host.unread ++ (text.now ++ newline ∷ []) } }) }
+        ensures taken { OnOk result (self.new ≡ record self.old {
+          host = record self.old.host {
+            unread = self.old.host.unread ++ (text.now ++ newline ∷ []);
+          };
+        }) }
         ensures kept { OnErr result (self.new ≡ self.old) }
     {
         self.unread.reserve(text.len() + 1)?;
@@ -285,8 +293,11 @@ impl Host {
             (take (total_len buffers.now) self.old.host.unread) }
         ensures count { result ≡ length (take (total_len buffers.now) self.old.host.unread) }
         ensures few { result ≤ MOVED_BYTES }
-        ensures left { self.new ≡ record self.old { host = record self.old.host {
-            unread = drop (total_len buffers.now) self.old.host.unread } } }
+        ensures left { self.new ≡ record self.old {
+          host = record self.old.host {
+            unread = drop (total_len buffers.now) self.old.host.unread;
+          };
+        } }
         ensures large { IsAsLarge memory.old memory.new }
     {
         let moved = scatter(memory, buffers, &self.unread);
@@ -343,14 +354,8 @@ fn put_pieces(tree: &mut Tree, node: u64, from: u64, memory: &Memory, buffers: &
     }
 }
 
-/// Reads a file from a place on into buffers, one after another, and says how many bytes it gave.
-fn read_pieces(
-    tree: &Tree,
-    node: u64,
-    from: u64,
-    memory: &mut Memory,
-    buffers: &Buffers,
-) -> u64
+/// ReadsInto a file from a place on into buffers, one after another, and says how many bytes it gave.
+fn read_pieces(tree: &Tree, node: u64, from: u64, memory: &mut Memory, buffers: &Buffers) -> u64
     requires inside { AreInside memory.old.bytes buffers.now }
     requires small { length (bytes_of_node tree.now node) ≤ FILE_BYTES }
     ensures read { memory.new.bytes ≡ scattered memory.old.bytes buffers.now

@@ -39,6 +39,9 @@ returns-clause-done c =
     let stored = (rw c.unwrap.ensures at c.store_u32.ensures.stored) in
     let put = cell_put c.args.memory.now c.store_u32.new.self (a.ret + 0) a.ret c.len.result
     (total_len bs) stored (omega arith) c.len.ensures.value in
-    rw (write_is a.fd a.iovecs a.count a.ret m h, passed.is,
-    c.in_ok-put.ensures.done d passed.is_open)
+    rw (
+      write_is a.fd a.iovecs a.count a.ret m h,
+      passed.is,
+      c.in_ok-put.ensures.done d passed.is_open,
+    )
     (ap (λ (x : Bytes). Ok (record { memory = x; host = c.put.new.self.host })) (sym put))

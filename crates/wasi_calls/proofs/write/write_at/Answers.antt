@@ -41,6 +41,10 @@ returns-clause-done c =
     let stored = (rw c.unwrap.ensures at c.store_u32.ensures.stored) in
     let put = cell_put c.args.memory.now c.store_u32.new.self (a.ret + 0) a.ret c.len.result
     (total_len bs) stored (omega arith) len in
-    rw (pwrite_is a.fd a.iovecs a.count a.offset a.ret m h, passed.is, named,
-    c.in_ok-write_file.ensures.done)
+    rw (
+      pwrite_is a.fd a.iovecs a.count a.offset a.ret m h,
+      passed.is,
+      named,
+      c.in_ok-write_file.ensures.done,
+    )
     (ap (λ (x : Bytes). Ok (record { memory = x; host = c.write_file.new.self.host })) (sym put))

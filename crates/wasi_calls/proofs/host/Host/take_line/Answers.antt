@@ -1,4 +1,4 @@
-use Rattle.std.proofs.Common.{◌≡◌, ◌++◌, [], ◌∷◌, ◌∙◌, ap, arith}
+use Rattle.std.proofs.Common.{◌≡◌, ◌++◌, [], ◌∷◌, ◌∙◌, ap, append_assoc, arith}
 use Rattle.guest_memory.specs.rules.Bytes.{IsByte}
 use Rattle.guest_memory.proofs.Lists.{all_both}
 use Rattle.wasi_abi.specs.rules.Answers.{AreBytes, newline}
@@ -19,4 +19,10 @@ invariant_of-self-2 c =
     all_both IsByte s.unread.items (text ++ newline ∷ []) c.self.invariant.unread
     (all_both IsByte text (newline ∷ []) low (omega arith, tt)) in
     let stood = unread_stands h (s.unread.items ++ (text ++ newline ∷ [])) c.self.invariant all in
-    ?
+    let put = (rw c.unwrap.ensures at c.extend_from_slice.ensures.items) in
+    let ended = (rw c.unwrap-2.ensures at c.push.ensures.items) in
+    let is : c.push.new.self.items ≡ s.unread.items ++ (text ++ newline ∷ []) =
+    ended ∙ ap (λ (x : Bytes). x ++ newline ∷ [])
+    (put ∙ ap (λ (x : Bytes). x ++ text) c.in_ok-reserve.ensures.items)
+    ∙ append_assoc s.unread.items text (newline ∷ []) in
+    rw is stood
