@@ -8,7 +8,7 @@ ghost use Rattle.wasi_calls_rules.specs.Hosts.{IsHost};
 ghost use Rattle.wasi_calls_rules.specs.Entries.{a_free_node, is_directory_empty, whole_path};
 ghost use Rattle.wasi_calls_rules.specs.Entries.{without};
 ghost use Rattle.wasi_calls_rules.specs.Paths.{directory_entered, node_at};
-ghost use Rattle.wasi_calls.specs.Places.{place_of};
+ghost use Rattle.wasi_calls.specs.Places.{walk_end_of};
 ghost use Rattle.wasi_calls.specs.Steps.{GivesValue};
 
 use crate::descriptor::Names;
@@ -30,7 +30,7 @@ impl Host {
 
     /// The node at a place.
     pub(crate) fn node_at(&self, place: Place<'_>) -> Option<u64>
-        ensures { result ≡ node_at self.now.host.files (place_of place.entry) }
+        ensures { result ≡ node_at self.now.host.files (walk_end_of place.entry) }
     {
         match place {
             Place::Directory(directory) => Some(directory),
@@ -96,7 +96,8 @@ impl Host {
     }
 
     /// Makes a node under a free name in a directory, and gives its number. It fails for want of
-    /// memory or of a number alone, and changes nothing then.
+    /// memory alone, and changes nothing then. A process that has used up all numbers below 2^64 has
+    /// none either: no process lives that long.
     pub(crate) fn create(
         &mut self,
         alloc: Global,
