@@ -1,6 +1,7 @@
 //! Nodes of a host's files: those that paths lead to, new ones and removed ones.
 
-ghost use Rattle.std.specs.Prelude.{◌≡◌, ◌<◌, ◌++◌, ◌∷◌, [], Some, length, IfOk, OnOk, OnErr, ℕ, true, is_some};
+ghost use Rattle.std.specs.Prelude.{◌≡◌, ◌<◌, ◌++◌, ◌∷◌, [], Some, length, ℕ, true, is_some};
+ghost use Rattle.std.specs.Prelude.{IfOk, OnOk, OnErr};
 ghost use Rattle.file_tree.specs.rules.Files.{Name, child, is_directory, path_of, created};
 ghost use Rattle.file_tree.specs.rules.Changes.{IsFree, empty, path_at};
 ghost use Rattle.file_tree.specs.declared.limits.TheConstants.{NODES};
@@ -96,8 +97,8 @@ impl Host {
     }
 
     /// Makes a node under a free name in a directory, and gives its number. It fails for want of
-    /// memory alone, and changes nothing then. A process that has used up all numbers below 2^64 has
-    /// none either: no process lives that long.
+    /// memory alone, and changes nothing then. So it does where all numbers below 2^64 were given,
+    /// though no process lives that long.
     pub(crate) fn create(
         &mut self,
         alloc: Global,
