@@ -7,9 +7,9 @@ use Rattle.wasi_calls.specs.declared.paths.walk.Place.{Place}
 use Rattle.wasi_calls.specs.declared.paths.walk.Place.TheVariants as place
 
 -- where the code's walk ends
-abbrev pub place_of : Place → WalkEnd
-place_of (place.Directory k) = Self k
-place_of (place.Leaf d name) = Leaf d name.now
+abbrev pub walk_end_of : Place → WalkEnd
+walk_end_of (place.Directory k) = Self k
+walk_end_of (place.Leaf d name) = Leaf d name.now
 
 -- `..`, or names that a node may have
 abbrev pub AreWalked : List Name → Type 0

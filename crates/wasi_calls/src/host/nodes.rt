@@ -1,6 +1,7 @@
 //! Nodes of a host's files: those that paths lead to, new ones and removed ones.
 
-ghost use Rattle.std.specs.Prelude.{◌≡◌, ◌<◌, ◌++◌, ◌∷◌, [], Some, length, IfOk, OnOk, OnErr, ℕ, true, is_some};
+ghost use Rattle.std.specs.Prelude.{◌≡◌, ◌<◌, ◌++◌, ◌∷◌, [], Some, length, ℕ, true, is_some};
+ghost use Rattle.std.specs.Prelude.{IfOk, OnOk, OnErr};
 ghost use Rattle.file_tree.specs.rules.Files.{Name, child, is_directory, path_of, created};
 ghost use Rattle.file_tree.specs.rules.Changes.{IsFree, empty, path_at};
 ghost use Rattle.file_tree.specs.declared.limits.TheConstants.{NODES};
@@ -8,7 +9,7 @@ ghost use Rattle.wasi_calls_rules.specs.Hosts.{IsHost};
 ghost use Rattle.wasi_calls_rules.specs.Entries.{a_free_node, is_directory_empty, whole_path};
 ghost use Rattle.wasi_calls_rules.specs.Entries.{without};
 ghost use Rattle.wasi_calls_rules.specs.Paths.{directory_entered, node_at};
-ghost use Rattle.wasi_calls.specs.Places.{place_of};
+ghost use Rattle.wasi_calls.specs.Places.{walk_end_of};
 ghost use Rattle.wasi_calls.specs.Steps.{GivesValue};
 
 use crate::descriptor::Names;
@@ -30,7 +31,7 @@ impl Host {
 
     /// The node at a place.
     pub(crate) fn node_at(&self, place: Place<'_>) -> Option<u64>
-        ensures { result ≡ node_at self.now.host.files (place_of place.entry) }
+        ensures { result ≡ node_at self.now.host.files (walk_end_of place.entry) }
     {
         match place {
             Place::Directory(directory) => Some(directory),
@@ -96,7 +97,8 @@ impl Host {
     }
 
     /// Makes a node under a free name in a directory, and gives its number. It fails for want of
-    /// memory or of a number alone, and changes nothing then.
+    /// memory alone, and changes nothing then. So it does where all numbers below 2^64 were given,
+    /// though no process lives that long.
     pub(crate) fn create(
         &mut self,
         alloc: Global,

@@ -10,7 +10,7 @@ use file_tree::limits::{NAME_BYTES, PATH_BYTES};
 use std::marker::Model;
 use wasi_abi::Errno;
 
-/// The names of a path that are left to walk. Empty parts and `.` are none of them, and `..` is one.
+/// The names of a path that are left to walk. Empty parts and `.` are none of them, but `..` is.
 #[derive(Drop)]
 pub struct PathNames<'a> {
     rest: &'a [u8],
@@ -27,7 +27,8 @@ impl<'a> Model for PathNames<'a> {
 }
 
 impl<'a> PathNames<'a> {
-    ghost use Rattle.std.specs.Prelude.{◌≡◌, ◌↔◌, [], IfOk, IsTrue, option_map, not, nat_le, length};
+    ghost use Rattle.std.specs.Prelude.{◌≡◌, ◌↔◌, [], IfOk, IsTrue, option_map};
+    ghost use Rattle.std.specs.Prelude.{not, nat_le, length};
     ghost use Rattle.std.specs.List.{list_all};
     ghost use Rattle.file_tree.specs.rules.Files.{Name};
     ghost use Rattle.file_tree.specs.declared.limits.TheConstants.{NAME_BYTES};
@@ -85,7 +86,8 @@ impl<'a> PathNames<'a> {
 
     /// Whether a name is too long.
     fn has_long(&self) -> bool
-        ensures { not result ≡ list_all (λ (name : Name). nat_le (length name) NAME_BYTES) self.now }
+        ensures { not result
+            ≡ list_all (λ (name : Name). nat_le (length name) NAME_BYTES) self.now }
     {
         let mut names = PathNames { rest: self.rest };
         while let Some(name) = names.next() {

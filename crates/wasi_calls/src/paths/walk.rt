@@ -5,7 +5,7 @@ ghost use Rattle.file_tree.specs.rules.Files.{is_directory};
 ghost use Rattle.wasi_calls_rules.specs.Checks.{names_directory};
 ghost use Rattle.wasi_calls_rules.specs.Entries.{placed};
 ghost use Rattle.wasi_calls_rules.specs.Paths.{is_back, walk};
-ghost use Rattle.wasi_calls.specs.Places.{AreWalked, IsWellPlaced, place_of};
+ghost use Rattle.wasi_calls.specs.Places.{AreWalked, IsWellPlaced, walk_end_of};
 ghost use Rattle.wasi_calls.specs.Steps.{GivesValue};
 
 use crate::descriptor::{Descriptor, Names};
@@ -29,9 +29,9 @@ pub fn placed<'a>(
 ) -> Result<Place<'a>, Errno>
     requires directory { names_directory host.now.host descriptor.now.target ≡ true }
     requires walked { AreWalked names }
-    ensures gives { GivesValue place_of result
+    ensures gives { GivesValue walk_end_of result
         (placed host.now.host descriptor.now names.entry) }
-    ensures well { IfOk result (λ place. IsWellPlaced host.now.host.files (place_of place)) }
+    ensures well { IfOk result (λ place. IsWellPlaced host.now.host.files (walk_end_of place)) }
 {
     match descriptor.names() {
         Names::Node(directory) => walk(host, directory, names),
@@ -43,8 +43,8 @@ pub fn placed<'a>(
 fn walk<'a>(host: &Host, start: u64, names: PathNames<'a>) -> Result<Place<'a>, Errno>
     requires directory { is_directory host.now.host.files start ≡ true }
     requires walked { AreWalked names }
-    ensures gives { GivesValue place_of result (walk host.now.host.files start [] names.entry) }
-    ensures well { IfOk result (λ place. IsWellPlaced host.now.host.files (place_of place)) }
+    ensures gives { GivesValue walk_end_of result (walk host.now.host.files start [] names.entry) }
+    ensures well { IfOk result (λ place. IsWellPlaced host.now.host.files (walk_end_of place)) }
 {
     let mut names = names;
     let mut directory = start;
