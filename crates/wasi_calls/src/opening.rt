@@ -1,15 +1,16 @@
 //! Opening a path: `path_open`.
 
-ghost use Rattle.std.specs.Prelude.{◌≡◌, ◌&&◌, ◌||◌, ◌<◌, ◌≤◌, ◌^◌, ℕ, None, OnOk, IfOk, IfErr, Ok, Err};
+ghost use Rattle.std.specs.Prelude.{◌≡◌, ◌&&◌, ◌||◌, ◌<◌, ◌≤◌, ◌^◌, ℕ, true, false, None, Ok};
+ghost use Rattle.std.specs.Prelude.{OnOk, OnErr, IfOk, IfErr};
 ghost use Rattle.guest_memory.specs.rules.Bytes.{with_part};
 ghost use Rattle.wasi_abi.specs.Bits.{bit_of};
 ghost use Rattle.wasi_abi.specs.rules.Layouts.{u32_bytes};
 ghost use Rattle.wasi_abi.specs.rules.Numbers.{rights_number, has_flag, has_right, fd_write_right};
 ghost use Rattle.wasi_abi.specs.rules.Numbers.{create_flag, exclusive_flag, truncate_flag};
 ghost use Rattle.wasi_calls_rules.specs.Hosts.{Node, IsThere, IsDescriptor};
-ghost use Rattle.file_tree.specs.rules.Files.{Files};
+ghost use Rattle.file_tree.specs.rules.Files.{Files, is_directory};
 ghost use Rattle.wasi_calls_rules.specs.Checks.{Bytes, needs, within_rights};
-ghost use Rattle.wasi_calls_rules.specs.Entries.{new_descriptor, path_open};
+ghost use Rattle.wasi_calls_rules.specs.Entries.{new_descriptor, path_open, cut_if};
 ghost use Rattle.wasi_calls_rules.specs.Entries.{opened_there, opened_new, opened_at};
 ghost use Rattle.wasi_calls_rules.specs.Paths.{node_at};
 ghost use Rattle.wasi_calls.specs.Openings.{asked_for, wish_of, may_open, right_flags, may_be_opened};
@@ -24,7 +25,7 @@ use crate::paths::{PathNames, Place, path_bytes, placed};
 use crate::stop::CallStop;
 use file_tree::NodeKind;
 use guest_memory::Memory;
-use std::alloc::Global;
+use std::alloc::{AllocError, Global};
 use wasi_abi::{DescriptorFlags, Errno, OpenFlags, Rights};
 
 /// The most that `dirflags` may be: one flag.
@@ -208,13 +209,25 @@ fn open_there(host: &mut Host, node: u64, wish: CheckedWish) -> Result<u32, Call
     let is_directory = host.is_directory(Names::Node(node));
     check_there(is_directory, wish)?;
     let number = host.free_number()?;
-    if wish.flags.has(OpenFlags::TRUNCATE) {
-        host.truncate(node)?;
-        host.open(number, opened(node, is_directory, wish));
-        return Ok(number);
-    }
+    cut_if(host, node, wish.flags.has(OpenFlags::TRUNCATE))?;
     host.open(number, opened(node, is_directory, wish));
     Ok(number)
+}
+
+/// Cuts a file to nothing, where that is asked for. It fails for want of memory alone, and changes
+/// nothing then.
+fn cut_if(host: &mut Host, node: u64, is_cut: bool) -> Result<(), AllocError>
+    requires there { IsThere host.old.host.files (Node node) }
+    requires file { is_cut ≡ true → is_directory host.old.host.files node ≡ false }
+    ensures cut { OnOk result (host.new ≡ record host.old { host = record host.old.host {
+        files = cut_if is_cut node host.old.host.files } }) }
+    ensures there { OnOk result (IsThere host.new.host.files (Node node)) }
+    ensures unchanged { OnErr result (host.new ≡ host.old) }
+{
+    if is_cut {
+        return host.truncate(node);
+    }
+    Ok(())
 }
 
 /// Makes a file at a place and opens it, and gives the number of its descriptor.
