@@ -13,7 +13,8 @@ ghost use Rattle.wasi_calls_rules.specs.Checks.{Bytes, needs, within_rights};
 ghost use Rattle.wasi_calls_rules.specs.Entries.{new_descriptor, path_open, cut_if};
 ghost use Rattle.wasi_calls_rules.specs.Entries.{opened_there, opened_new, opened_at};
 ghost use Rattle.wasi_calls_rules.specs.Paths.{node_at};
-ghost use Rattle.wasi_calls.specs.Openings.{asked_for, wish_of, may_open, right_flags, may_be_opened};
+ghost use Rattle.wasi_calls.specs.Openings.{asked_for, wish_of, may_open, right_flags};
+ghost use Rattle.wasi_calls.specs.Openings.{may_be_opened};
 ghost use Rattle.wasi_calls.specs.Places.{IsWellPlaced, place_of};
 ghost use Rattle.wasi_calls.specs.Steps.{GivesValue, StopsStep};
 ghost use Rattle.wasi_calls.specs.rules.Calls.{IsAsLarge};
@@ -89,7 +90,8 @@ fn check_need(descriptor: &Descriptor, is_asked: bool, right: Rights) -> Result<
 
 /// Nothing where these rights are among all those, else `Notcapable`.
 fn check_within(rights: Rights, all: Rights) -> Result<(), Errno>
-    ensures { GivesValue (λ x. x) result (within_rights (rights_number rights) (rights_number all)) }
+    ensures { GivesValue (λ x. x) result
+        (within_rights (rights_number rights) (rights_number all)) }
 {
     if rights.is_within(all) {
         Ok(())
@@ -219,8 +221,11 @@ fn open_there(host: &mut Host, node: u64, wish: CheckedWish) -> Result<u32, Call
 fn cut_if(host: &mut Host, node: u64, is_cut: bool) -> Result<(), AllocError>
     requires there { IsThere host.old.host.files (Node node) }
     requires file { is_cut ≡ true → is_directory host.old.host.files node ≡ false }
-    ensures cut { OnOk result (host.new ≡ record host.old { host = record host.old.host {
-        files = cut_if is_cut node host.old.host.files } }) }
+    ensures cut { OnOk result (host.new ≡ record host.old {
+      host = record host.old.host {
+        files = cut_if is_cut node host.old.host.files;
+      };
+    }) }
     ensures there { OnOk result (IsThere host.new.host.files (Node node)) }
     ensures unchanged { OnErr result (host.new ≡ host.old) }
 {

@@ -1,6 +1,6 @@
 //! Nodes of a host that are opened: free numbers, and what is put under them.
 
-ghost use Rattle.std.specs.Prelude.{◌≡◌, ◌<◌, length, [], Some, Ok, IfOk, IfSome, OnOk, OnErr, false};
+ghost use Rattle.std.specs.Prelude.{◌≡◌, ◌<◌, length, [], Ok, IfSome, OnOk, OnErr, false};
 ghost use Rattle.file_tree.specs.rules.Files.{is_directory, with_file_bytes};
 ghost use Rattle.wasi_calls_rules.specs.Hosts.{Node, IsThere, IsDescriptor, IsHost};
 ghost use Rattle.wasi_calls_rules.specs.Checks.{node_named};
@@ -28,6 +28,7 @@ impl Host {
         ensures there { IfSome result (λ k. IsThere self.now.host.files (Node k)) }
         ensures shape { IsHost self.now.host }
     {
+        // The tree is read, so that what it is is known.
         let _nodes = self.tree.len();
         self.node_at(place)
     }
