@@ -10,6 +10,8 @@ use Rattle.wasi_calls_rules.specs.Checks.{Bytes}
 use Rattle.wasi_calls_rules.specs.Rows.{row}
 use Rattle.wasi_calls.specs.rules.Held.{behind_lines, behind_lines_of_row}
 use Rattle.wasi_calls.proofs.LinesInFront.{write_behind}
+use Rattle.wasi_calls.proofs.OpeningInFront.{fd_readdir_behind, path_open_behind}
+use Rattle.wasi_calls.proofs.OpeningInFront.{path_rename_behind}
 use Rattle.wasi_calls.proofs.SmallInFront.{IsBehind, texts_get_behind, texts_sizes_get_behind}
 use Rattle.wasi_calls.proofs.SmallInFront.{clock_res_get_behind, clock_time_get_behind}
 use Rattle.wasi_calls.proofs.SmallInFront.{close_behind, sync_behind, fdstat_behind}
@@ -56,11 +58,15 @@ row_behind before call.RandomGet (buf ∷ len ∷ []) given m h =
 row_behind before call.FdPread (fd ∷ iovs ∷ count ∷ offset ∷ ret ∷ []) given m h = ?
 row_behind before call.FdPwrite (fd ∷ iovs ∷ count ∷ offset ∷ ret ∷ []) given m h = ?
 row_behind before call.FdRead (fd ∷ iovs ∷ count ∷ ret ∷ []) given m h = ?
-row_behind before call.FdReaddir (fd ∷ buf ∷ len ∷ cookie ∷ ret ∷ []) given m h = ?
+row_behind before call.FdReaddir (fd ∷ buf ∷ len ∷ cookie ∷ ret ∷ []) given m h =
+    fd_readdir_behind before m h fd buf len cookie ret
 row_behind before call.PathCreateDirectory (fd ∷ path ∷ len ∷ []) given m h = ?
 row_behind before call.PathFilestatGet (fd ∷ flags ∷ path ∷ len ∷ ret ∷ []) given m h = ?
-row_behind before call.PathOpen (fd ∷ dirflags ∷ path ∷ len ∷ oflags ∷ base ∷ inheriting ∷ fdflags ∷ ret ∷ []) given m h = ?
+row_behind before call.PathOpen (fd ∷ dirflags ∷ path ∷ len ∷ oflags ∷ base ∷ inheriting ∷ fdflags ∷ ret ∷ []) given m h =
+    path_open_behind before m h fd dirflags path len
+    (record { oflags = oflags; base = base; inheriting = inheriting; fdflags = fdflags }) ret
 row_behind before call.PathRemoveDirectory (fd ∷ path ∷ len ∷ []) given m h = ?
-row_behind before call.PathRename (old_fd ∷ old_path ∷ old_len ∷ new_fd ∷ new_path ∷ new_len ∷ []) given m h = ?
+row_behind before call.PathRename (old_fd ∷ old_path ∷ old_len ∷ new_fd ∷ new_path ∷ new_len ∷ []) given m h =
+    path_rename_behind before m h old_fd old_path old_len new_fd new_path new_len
 row_behind before call.PathUnlinkFile (fd ∷ path ∷ len ∷ []) given m h = ?
 row_behind before _ _ given m h = refl
