@@ -1,9 +1,9 @@
 -- Entries of a directory, and bytes that are put one after another.
-use Rattle.std.proofs.Common.{◌≡◌, ◌≢◌, ◌⊎◌, inl, inr, ℕ, zero, suc, ◌+◌, ◌-◌, ◌≤◌, ◌<◌, Bool, true, false, List, [], ◌∷◌, ◌++◌, length, take, drop, refl, sym, ap, ◌∙◌, arith, append_assoc, add-one, length-append, length-take, length-drop}
+use Rattle.std.proofs.Common.{◌≡◌, ◌⊎◌, inl, inr, ℕ, zero, suc, ◌+◌, ◌-◌, ◌≤◌, Bool, true, false, List, [], ◌∷◌, ◌++◌, length, take, drop, refl, sym, ap, ◌∙◌, arith, append_assoc, add-one, length-append, length-take, length-drop}
 use Rattle.std.specs.Prelude.{Option, Some, None, IfSome, option_map, slice_get, if◌then◌else◌}
 use Rattle.std.specs.Option.{option_and_then}
 use Rattle.std.specs.List.{AllByRecursion}
-use Rattle.std.proofs.lemmas.List.{take_at, drop_at, take_all, drop_all, drop-drop, drop-append-le, take-append-drop, same_from_push}
+use Rattle.std.proofs.lemmas.List.{take_at, drop_at, drop_all, drop-drop, drop-append-le, take-append-drop, same_from_push}
 use Rattle.guest_memory.specs.rules.Bytes.{part, with_part}
 use Rattle.guest_memory.specs.rules.Memories.{LinearMemory, with_bytes, with_lent}
 use Rattle.guest_memory.proofs.Ranges.{length-with_part, with_lent-with_bytes}

@@ -1,6 +1,6 @@
 -- Nodes that are opened, and the numbers of their descriptors.
-use Rattle.std.proofs.Common.{◌≡◌, ℕ, zero, suc, ◌+◌, ◌<◌, ◌≤◌, List, [], ◌∷◌, ◌++◌, length, refl, sym, ap, subst, ◌∙◌, arith}
-use Rattle.std.specs.Prelude.{Bool, true, false, Option, Some, None, Ok, IfSome, slice_get, slice_set}
+use Rattle.std.proofs.Common.{◌≡◌, ℕ, zero, suc, ◌+◌, ◌<◌, List, [], ◌∷◌, ◌++◌, length, sym, subst, arith}
+use Rattle.std.specs.Prelude.{true, Option, Some, None, Ok, IfSome, slice_get, slice_set}
 use Rattle.file_tree.specs.rules.Files.{Path, File, Files, IsFiles, is_directory, created}
 use Rattle.wasi_calls_rules.specs.Hosts.{Node, Descriptor, Host, IsThere, IsDescriptor, IsHost}
 use Rattle.wasi_calls_rules.specs.Checks.{node_named}

@@ -10,6 +10,8 @@ use Rattle.wasi_calls_rules.specs.Checks.{Bytes}
 use Rattle.wasi_calls_rules.specs.Rows.{row}
 use Rattle.wasi_calls.specs.rules.Held.{behind_lines, behind_lines_of_row}
 use Rattle.wasi_calls.proofs.LinesInFront.{write_behind}
+use Rattle.wasi_calls.proofs.OpeningInFront.{fd_readdir_behind, path_open_behind}
+use Rattle.wasi_calls.proofs.OpeningInFront.{path_rename_behind}
 use Rattle.wasi_calls.proofs.SmallInFront.{IsBehind, texts_get_behind, texts_sizes_get_behind}
 use Rattle.wasi_calls.proofs.SmallInFront.{clock_res_get_behind, clock_time_get_behind}
 use Rattle.wasi_calls.proofs.SmallInFront.{close_behind, sync_behind, fdstat_behind}

@@ -1,8 +1,8 @@
 -- The rule of `path_open` in the pieces that the code is made of (this project's own).
-use Rattle.std.specs.Prelude.{ℕ, not, ◌&&◌, ◌||◌, nat_le, Bool, false, Option, Some, None, Result, Ok}
+use Rattle.std.specs.Prelude.{ℕ, not, ◌&&◌, ◌||◌, nat_le, Bool, false, Option, Some, None, Result}
 use Rattle.wasi_abi.specs.declared.errno.Errno.TheVariants.{Exist, Inval, Isdir, Notdir}
 use Rattle.wasi_abi.specs.rules.Numbers.{path_create_file_right, path_open_right, path_filestat_set_size_right, create_flag, directory_flag, exclusive_flag, truncate_flag, has_flag, open_flags_number, descriptor_flags_number, rights_number}
-use Rattle.wasi_calls_rules.specs.Hosts.{Descriptor, Host}
+use Rattle.wasi_calls_rules.specs.Hosts.{Descriptor}
 use Rattle.wasi_calls_rules.specs.Checks.{Halt, ◌>>=◌, check_or, with_right, needs, within_rights}
 use Rattle.wasi_calls_rules.specs.Entries.{Wish}
 use Rattle.wasi_calls.specs.declared.opening.CheckedWish.{CheckedWish}

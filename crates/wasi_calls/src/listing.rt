@@ -1,6 +1,7 @@
 //! Entries of a directory: `fd_readdir`.
 
-ghost use Rattle.std.specs.Prelude.{◌≡◌, ◌+◌, ◌-◌, ◌≤◌, ◌++◌, take, drop, length, OnOk, IfErr, Ok, Err};
+ghost use Rattle.std.specs.Prelude.{◌≡◌, ◌+◌, ◌-◌, ◌≤◌, ◌++◌, take, drop, length};
+ghost use Rattle.std.specs.Prelude.{OnOk, IfErr, Ok, Err};
 ghost use Rattle.guest_memory.specs.rules.Bytes.{with_part};
 ghost use Rattle.guest_memory.specs.rules.Memories.{with_bytes};
 ghost use Rattle.wasi_abi.specs.rules.Layouts.{dirent_layout};
@@ -48,8 +49,8 @@ fn put(into: &mut [u8], done: usize, bytes: &[u8]) -> usize
 /// Puts an entry and its name there in the same way.
 fn put_entry(into: &mut [u8], done: usize, entry: Dirent, name: &[u8]) -> usize
     requires { done ≤ length into.old }
-    ensures put { into.new
-        ≡ with_part into.old done (take (length into.old - done) (dirent_layout entry ++ name.now)) }
+    ensures put { into.new ≡ with_part into.old done
+        (take (length into.old - done) (dirent_layout entry ++ name.now)) }
     ensures count { result
         ≡ done + length (take (length into.old - done) (dirent_layout entry ++ name.now)) }
     ensures within { result ≤ length into.old }

@@ -1,19 +1,21 @@
 //! Opening a path: `path_open`.
 
-ghost use Rattle.std.specs.Prelude.{◌≡◌, ◌&&◌, ◌||◌, ◌<◌, ◌≤◌, ◌^◌, ℕ, None, OnOk, IfOk, IfErr, Ok, Err};
+ghost use Rattle.std.specs.Prelude.{◌≡◌, ◌&&◌, ◌||◌, ◌<◌, ◌≤◌, ◌^◌, ℕ, true, false, None, Ok};
+ghost use Rattle.std.specs.Prelude.{OnOk, OnErr, IfOk, IfErr};
 ghost use Rattle.guest_memory.specs.rules.Bytes.{with_part};
 ghost use Rattle.wasi_abi.specs.Bits.{bit_of};
 ghost use Rattle.wasi_abi.specs.rules.Layouts.{u32_bytes};
 ghost use Rattle.wasi_abi.specs.rules.Numbers.{rights_number, has_flag, has_right, fd_write_right};
 ghost use Rattle.wasi_abi.specs.rules.Numbers.{create_flag, exclusive_flag, truncate_flag};
 ghost use Rattle.wasi_calls_rules.specs.Hosts.{Node, IsThere, IsDescriptor};
-ghost use Rattle.file_tree.specs.rules.Files.{Files};
+ghost use Rattle.file_tree.specs.rules.Files.{Files, is_directory};
 ghost use Rattle.wasi_calls_rules.specs.Checks.{Bytes, needs, within_rights};
-ghost use Rattle.wasi_calls_rules.specs.Entries.{new_descriptor, path_open};
+ghost use Rattle.wasi_calls_rules.specs.Entries.{new_descriptor, path_open, cut_if};
 ghost use Rattle.wasi_calls_rules.specs.Entries.{opened_there, opened_new, opened_at};
 ghost use Rattle.wasi_calls_rules.specs.Paths.{node_at};
-ghost use Rattle.wasi_calls.specs.Openings.{asked_for, checked_wish, may_open, right_flags, may_be_opened};
-ghost use Rattle.wasi_calls.specs.Places.{IsWellPlaced, place_of};
+ghost use Rattle.wasi_calls.specs.Openings.{asked_for, checked_wish, may_open, right_flags};
+ghost use Rattle.wasi_calls.specs.Openings.{may_be_opened};
+ghost use Rattle.wasi_calls.specs.Places.{IsWellPlaced, walk_end_of};
 ghost use Rattle.wasi_calls.specs.Steps.{GivesValue, StopsStep};
 ghost use Rattle.wasi_calls.specs.rules.Calls.{IsAsLarge};
 
@@ -24,7 +26,7 @@ use crate::paths::{PathNames, Place, path_bytes, placed};
 use crate::stop::CallStop;
 use file_tree::NodeKind;
 use guest_memory::Memory;
-use std::alloc::Global;
+use std::alloc::{AllocError, Global};
 use wasi_abi::{DescriptorFlags, Errno, OpenFlags, Rights};
 
 /// The most that `dirflags` may be: one flag.
@@ -88,7 +90,8 @@ fn check_need(descriptor: &Descriptor, is_asked: bool, right: Rights) -> Result<
 
 /// Nothing where these rights are among all those, else `Notcapable`.
 fn check_within(rights: Rights, all: Rights) -> Result<(), Errno>
-    ensures { GivesValue (λ x. x) result (within_rights (rights_number rights) (rights_number all)) }
+    ensures { GivesValue (λ x. x) result
+        (within_rights (rights_number rights) (rights_number all)) }
 {
     if rights.is_within(all) {
         Ok(())
@@ -208,13 +211,28 @@ fn open_there(host: &mut Host, node: u64, wish: CheckedWish) -> Result<u32, Call
     let is_directory = host.is_directory(Names::Node(node));
     check_there(is_directory, wish)?;
     let number = host.free_number()?;
-    if wish.flags.has(OpenFlags::TRUNCATE) {
-        host.truncate(node)?;
-        host.open(number, opened(node, is_directory, wish));
-        return Ok(number);
-    }
+    cut_if(host, node, wish.flags.has(OpenFlags::TRUNCATE))?;
     host.open(number, opened(node, is_directory, wish));
     Ok(number)
+}
+
+/// Cuts a file to nothing, where that is asked for. It fails for want of memory alone, and changes
+/// nothing then.
+fn cut_if(host: &mut Host, node: u64, is_cut: bool) -> Result<(), AllocError>
+    requires there { IsThere host.old.host.files (Node node) }
+    requires file { is_cut ≡ true → is_directory host.old.host.files node ≡ false }
+    ensures cut { OnOk result (host.new ≡ record host.old {
+      host = record host.old.host {
+        files = cut_if is_cut node host.old.host.files;
+      };
+    }) }
+    ensures there { OnOk result (IsThere host.new.host.files (Node node)) }
+    ensures unchanged { OnErr result (host.new ≡ host.old) }
+{
+    if is_cut {
+        return host.truncate(node);
+    }
+    Ok(())
 }
 
 /// Makes a file at a place and opens it, and gives the number of its descriptor.
@@ -224,14 +242,14 @@ fn open_new(
     place: Place<'_>,
     wish: CheckedWish,
 ) -> Result<u32, CallStop>
-    requires well { IsWellPlaced host.old.host.files (place_of place) }
-    requires free { node_at host.old.host.files (place_of place) ≡ None }
+    requires well { IsWellPlaced host.old.host.files (walk_end_of place) }
+    requires free { node_at host.old.host.files (walk_end_of place) ≡ None }
     requires few { (checked_wish wish).fdflags ≤ 31 }
     ensures done { (ret : ℕ) (m : Bytes) → IfOk result (λ n.
-        opened_new (place_of place.entry) (checked_wish wish) ret m host.old.host
+        opened_new (walk_end_of place.entry) (checked_wish wish) ret m host.old.host
         ≡ Ok (record { memory = with_part m ret (u32_bytes n); host = host.new.host })) }
     ensures stopped { (ret : ℕ) (m : Bytes) → IfErr result (λ why.
-        StopsStep why (opened_new (place_of place.entry) (checked_wish wish) ret m host.old.host)) }
+        StopsStep why (opened_new (walk_end_of place.entry) (checked_wish wish) ret m host.old.host)) }
     ensures kept { IfErr result (λ _. host.new ≡ host.old) }
     ensures released { host.new.released ≡ host.old.released }
 {
@@ -256,14 +274,14 @@ fn open_at(
     place: Place<'_>,
     wish: CheckedWish,
 ) -> Result<u32, CallStop>
-    requires well { IsWellPlaced host.old.host.files (place_of place) }
+    requires well { IsWellPlaced host.old.host.files (walk_end_of place) }
     requires few { (checked_wish wish).fdflags ≤ 31 }
     ensures done { (ret : ℕ) (m : Bytes) → IfOk result (λ n.
-        opened_at (node_at host.old.host.files (place_of place.entry)) (place_of place.entry)
+        opened_at (node_at host.old.host.files (walk_end_of place.entry)) (walk_end_of place.entry)
         (checked_wish wish) ret m host.old.host
         ≡ Ok (record { memory = with_part m ret (u32_bytes n); host = host.new.host })) }
     ensures stopped { (ret : ℕ) (m : Bytes) → IfErr result (λ why. StopsStep why
-        (opened_at (node_at host.old.host.files (place_of place.entry)) (place_of place.entry)
+        (opened_at (node_at host.old.host.files (walk_end_of place.entry)) (walk_end_of place.entry)
         (checked_wish wish) ret m host.old.host)) }
     ensures kept { IfErr result (λ _. host.new ≡ host.old) }
     ensures released { host.new.released ≡ host.old.released }

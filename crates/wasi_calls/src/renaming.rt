@@ -6,7 +6,7 @@ ghost use Rattle.wasi_calls_rules.specs.Hosts.{IsHost};
 ghost use Rattle.wasi_calls_rules.specs.Checks.{Bytes};
 ghost use Rattle.wasi_calls_rules.specs.Entries.{gives_way, is_same_node, renamed_over};
 ghost use Rattle.wasi_calls_rules.specs.Entries.{path_rename};
-ghost use Rattle.wasi_calls.specs.Places.{IsWellPlaced, place_of};
+ghost use Rattle.wasi_calls.specs.Places.{IsWellPlaced, walk_end_of};
 ghost use Rattle.wasi_calls.specs.Renamings.{MayTake, place_renamed};
 ghost use Rattle.wasi_calls.specs.Steps.{GivesValue, StopsStep};
 
@@ -91,13 +91,13 @@ fn rename_place(
     source: Place<'_>,
     target: Place<'_>,
 ) -> Result<(), CallStop>
-    requires source { IsWellPlaced host.old.host.files (place_of source) }
-    requires target { IsWellPlaced host.old.host.files (place_of target) }
-    ensures done { (m : Bytes) → OnOk result (place_renamed (place_of source.entry)
-        (place_of target.entry) m host.old.host
+    requires source { IsWellPlaced host.old.host.files (walk_end_of source) }
+    requires target { IsWellPlaced host.old.host.files (walk_end_of target) }
+    ensures done { (m : Bytes) → OnOk result (place_renamed (walk_end_of source.entry)
+        (walk_end_of target.entry) m host.old.host
         ≡ Ok (record { memory = m; host = host.new.host })) }
     ensures stopped { (m : Bytes) → IfErr result (λ why. StopsStep why
-        (place_renamed (place_of source.entry) (place_of target.entry) m host.old.host)) }
+        (place_renamed (walk_end_of source.entry) (walk_end_of target.entry) m host.old.host)) }
     ensures kept { IfErr result (λ _. host.new ≡ host.old) }
     ensures released { host.new.released ≡ host.old.released }
 {

@@ -16,7 +16,6 @@ impl Host {
         ensures entry { result ≡ number_at_place self.now.host.files directory place }
         ensures shape { IsFiles self.now.host.files }
     {
-        let _nodes = self.tree.len();
         self.tree.entry(directory, place as usize)
     }
 

@@ -1,6 +1,6 @@
 //! Nodes of a host that are opened: free numbers, and what is put under them.
 
-ghost use Rattle.std.specs.Prelude.{◌≡◌, ◌<◌, length, [], Some, Ok, IfOk, IfSome, OnOk, OnErr, false};
+ghost use Rattle.std.specs.Prelude.{◌≡◌, ◌<◌, length, [], Ok, IfSome, OnOk, OnErr, false};
 ghost use Rattle.file_tree.specs.rules.Files.{is_directory, with_file_bytes};
 ghost use Rattle.wasi_calls_rules.specs.Hosts.{Node, IsThere, IsDescriptor, IsHost};
 ghost use Rattle.wasi_calls_rules.specs.Checks.{node_named};
@@ -8,7 +8,7 @@ ghost use Rattle.wasi_calls_rules.specs.Entries.{free_from, free_number};
 ghost use Rattle.wasi_calls_rules.specs.Paths.{node_at};
 ghost use Rattle.wasi_calls_rules.specs.Small.{with_descriptor};
 ghost use Rattle.wasi_calls.specs.Openings.{is_free};
-ghost use Rattle.wasi_calls.specs.Places.{IsWellPlaced, place_of};
+ghost use Rattle.wasi_calls.specs.Places.{IsWellPlaced, walk_end_of};
 ghost use Rattle.wasi_calls.specs.Steps.{GivesValue};
 
 use crate::descriptor::Descriptor;
@@ -23,11 +23,12 @@ const FIRST_FREE: usize = 3;
 impl Host {
     /// The node at a place, which is there.
     pub(crate) fn node_there(&self, place: Place<'_>) -> Option<u64>
-        requires well { IsWellPlaced self.now.host.files (place_of place) }
-        ensures node { result ≡ node_at self.now.host.files (place_of place.entry) }
+        requires well { IsWellPlaced self.now.host.files (walk_end_of place) }
+        ensures node { result ≡ node_at self.now.host.files (walk_end_of place.entry) }
         ensures there { IfSome result (λ k. IsThere self.now.host.files (Node k)) }
         ensures shape { IsHost self.now.host }
     {
+        // The tree is read, so that what it is is known.
         let _nodes = self.tree.len();
         self.node_at(place)
     }

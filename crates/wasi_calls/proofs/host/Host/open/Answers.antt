@@ -1,6 +1,4 @@
-use Rattle.std.proofs.Common.{◌≡◌, ◌<◌, length, ap, arith}
-use Rattle.std.specs.Prelude.{Ok}
-use Rattle.wasi_calls_rules.specs.Entries.{free_number}
+use Rattle.std.proofs.Common.{arith}
 use Rattle.wasi_calls.specs.rules.Held.{held_host_of}
 use Rattle.wasi_calls.proofs.Openings.{free_within, opened_host}
 use Rattle.wasi_calls.proofs.host.Host.open.Goals as goal

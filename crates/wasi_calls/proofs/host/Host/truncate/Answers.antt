@@ -1,5 +1,4 @@
-use Rattle.std.proofs.Common.{◌≤◌, [], arith}
-use Rattle.file_tree.specs.rules.Files.{bytes_of_node}
+use Rattle.std.proofs.Common.{[], arith}
 use Rattle.wasi_calls.specs.rules.Held.{held_host_of}
 use Rattle.wasi_calls_rules.proofs.NodesAfter.{rewritten_there}
 use Rattle.wasi_calls.proofs.Files.{resized_host}
