@@ -37,11 +37,9 @@ reads_alone_ask _ built other may = may
 pub wish_after : {A B : Type 0} (r : Result A Halt) (go : A → B)
     → wish_of (r >>= λ x. Ok (go x)) ≡ wish_of r
 wish_after (Ok x) go = refl
-wish_after (Err halt) go = by_halt halt where
-  by_halt : (h : Halt) → wish_of {A = B} (Err h) ≡ wish_of {A = A} (Err h)
-  by_halt (Refuses e) = refl
-  by_halt (Asks kind) = refl
-  by_halt (Ends code) = refl
+wish_after (Err (Refuses e)) go = refl
+wish_after (Err (Asks kind)) go = refl
+wish_after (Err (Ends code)) go = refl
 
 -- with lines in front a call asks for the same
 wish_behind : (before : List Line) (r : Ruling) → wish_of (behind_lines_of_row before r) ≡ wish_of r

@@ -1,12 +1,19 @@
-use Rattle.std.proofs.Common.{sym, ◌∙◌}
+use Rattle.std.proofs.Common.{refl, sym, ◌∙◌}
+use Rattle.std.specs.Prelude.{None}
+use Rattle.wasi_abi.specs.declared.call.Call.TheVariants as call
+use Rattle.wasi_calls_rules.specs.Rows.{row}
+use Rattle.wasi_calls.specs.rules.Calls.{wish_of}
 use Rattle.wasi_calls.proofs.Wishes.{wants_none, reads_alone_ask, wish_shown}
 use Rattle.wasi_calls.proofs.wish.wanted_answer.Goals as goal
 
 pub returns-in-FdRead : goal.returns-in-FdRead
-returns-in-FdRead c = λ h s. ?
+returns-in-FdRead c = λ h s.
+    rw (c.in-FdRead.is, c.of_move.ensures)
+    (c.wanted_by_read.ensures ∙ sym (rw c.of_move.ensures at (wish_shown call.FdRead
+    c.args.arguments.now c.args.memory.now.bytes c.args.host.now h s)))
 
 pub returns-in_default : goal.returns-in_default
 returns-in_default c = λ h s.
     wants_none c.args.call
-    (reads_alone_ask c.args.call c.requires.built (λ same. ?))
+    (reads_alone_ask c.args.call c.requires.built c.in_default.not-FdRead)
     c.args.arguments.now c.args.memory.now.bytes h

@@ -9,5 +9,18 @@ use Rattle.wasi_calls.proofs.MovedRows.{read_is}
 use Rattle.wasi_calls.proofs.Wishes.{wish_after}
 use Rattle.wasi_calls.proofs.wish.wanted_by_read.Goals as goal
 
-pub returns-2 : goal.returns-2
-returns-2 c = ?
+pub returns : goal.returns
+returns c =
+    let a = c.args.arguments in
+    let m = c.args.memory.now.bytes in
+    let h = c.args.host.now.host in
+    let bs = c.in-Ok.buffers in
+    let passed = c.in-Ok.ensures.passed in
+    let d = passed.descriptor in
+    let asked = (rw c.len.ensures.value at (c.wanted_input.ensures d passed.is_open)) in
+    rw (read_is a.fd a.iovecs a.count a.ret None m h, passed.is)
+    (asked ∙ sym (wish_after (target_read d.target a.fd d (total_len bs) None h)
+    (λ (got : Got). record {
+      memory = with_part (scattered m bs got.bytes) a.ret (u32_bytes (length got.bytes));
+      host = got.host;
+    })))
