@@ -17,7 +17,7 @@ use Rattle.wasi_calls_rules.specs.Rows.{row}
 use Rattle.wasi_calls.specs.declared.outcome.CallOutcome.{CallOutcome}
 use Rattle.wasi_calls.specs.declared.outcome.CallOutcome.TheVariants as outcome
 use Rattle.wasi_calls.specs.rules.Held.{HeldHost, ShowsHost, held_ended}
-use Rattle.wasi_calls.specs.rules.Calls.{IsBuilt, AreArguments, ShowsRow, told_of}
+use Rattle.wasi_calls.specs.rules.Calls.{AreArguments, ShowsRow, told_of}
 use Rattle.machine.specs.rules.Answers.{call_results}
 use Rattle.machine.specs.rules.Values.{MachineValue, ShowsIn, IsSameMachine}
 use Rattle.machine.specs.rules.Runs.{Stops, WaitsFor}

@@ -20,7 +20,7 @@ use Rattle.wasi_calls_rules.specs.Lines.{lines_ended}
 use Rattle.wasi_calls_rules.specs.Rows.{row, IsSync, IsDone}
 use Rattle.wasi_calls.specs.declared.outcome.CallOutcome.{CallOutcome}
 use Rattle.wasi_calls.specs.rules.Held.{HeldHost, ShowsHost}
-use Rattle.wasi_calls.specs.rules.Calls.{IsBuilt, AreArguments, ShowsRow, EndsNothing}
+use Rattle.wasi_calls.specs.rules.Calls.{AreArguments, ShowsRow, EndsNothing}
 use Rattle.machine.specs.rules.Answers.{call_results}
 use Rattle.machine.specs.rules.Values.{MachineValue, ShowsIn, memory_of, with_memory}
 use Rattle.machine.specs.laws.Laws.{with_memory_bytes}

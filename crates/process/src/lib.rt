@@ -9,8 +9,10 @@
 //! - `advance`: whichever process it showed, it takes steps after which nothing is owed, and then
 //!   at most one after which something is. Each stop and each error is true of the process that it
 //!   then shows (`advances`).
-//! - `give` takes an answer only where that is wanted and no line waits (`gives`). No call that is
-//!   built wants one, so today it refuses every answer.
+//! - `give` takes an answer only where that is wanted and no line waits (`gives`). It makes the
+//!   waiting call with it, as one step, and runs nothing else. After an error nothing has changed.
+//!   This holds whichever calls are built. None of these wants an answer, so today it refuses every
+//!   one.
 //! - `released` takes the first lines off that wait, and changes nothing else.
 //! - `steps`, `answers`, `requests`, `lines`, `waiting` and `memory` say what it holds. Steps are
 //!   below 2^63, and lines below 2^63 - 2, unfinished ones counted. `P3 StepsSpent` is told where

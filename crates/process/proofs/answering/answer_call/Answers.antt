@@ -1,14 +1,13 @@
-use Rattle.std.proofs.Common.{◌≡◌, ℕ, List, Option, Some, None, refl, sym, ap, ◌∙◌, subst}
-use Rattle.std.specs.Prelude.{IsTrue, Result, Ok, Err}
+use Rattle.std.proofs.Common.{ℕ, List, Option, Some, refl, sym, subst}
+use Rattle.std.specs.Prelude.{Ok}
 use Rattle.std.proofs.lemmas.Result.{err_from_is_err_and}
 use Rattle.machine.specs.declared.turns.pause.HostCall.{HostCall}
-use Rattle.machine.specs.rules.Runs.{AsksFor, TellsCall}
+use Rattle.machine.specs.rules.Runs.{TellsCall}
 use Rattle.process.specs.declared.calling.Called.{Called}
-use Rattle.process.specs.declared.fault.ProcessFault.{ProcessFault}
 use Rattle.wasi_calls.specs.rules.Calls.{AreArguments}
 use Rattle.wasi_abi.specs.rules.Calls.{parameters_of}
 use Rattle.process.specs.Parts.{IsAtCall, WaitsAtCall}
-use Rattle.process.specs.Callings.{MakesCall, AnswersFor}
+use Rattle.process.specs.Callings.{MakesCall}
 use Rattle.process.proofs.Waiting.{at_call, is_built, are_typed, wants_once, nothing_wanted}
 use Rattle.process.proofs.Giving.{not_made, is_made}
 use Rattle.process.proofs.answering.answer_call.Goals as goal
@@ -51,7 +50,8 @@ returns-then-not-wants-clause-answers c = λ guest p shows running.
     (c.waits.ensures guest.program p.configuration shows.configuration) in
     let P : List ℕ → Type 0 =
     λ ns. IsAtCall guest p.configuration c.in-Some.asked.call ns in
-    let at = subst P (sym c.as_slice-arguments.ensures) (at_call c.args.machine.now guest shows.calls p.configuration c.in-Some.asked.call
+    let at = subst P (sym c.as_slice-arguments.ensures)
+    (at_call c.args.machine.now guest shows.calls p.configuration c.in-Some.asked.call
     c.in-Some.asked.arguments asks) in (
       refl,
       refl,
@@ -97,7 +97,9 @@ make-requires-clause-waits c =
       process = r.process;
       shows = r.shows;
       running = r.running;
-      at = at_call c.args.machine.now r.guest r.shows.calls r.process.configuration c.in-Some.asked.call
+      at =
+          at_call c.args.machine.now r.guest r.shows.calls r.process.configuration
+          c.in-Some.asked.call
           c.in-Some.asked.arguments asks;
     })
 
@@ -109,7 +111,8 @@ returns-in_err-ended-clause-answers c = λ guest p shows running.
     (c.waits.ensures guest.program p.configuration shows.configuration) in
     let P : List ℕ → Type 0 =
     λ ns. IsAtCall guest p.configuration c.in-Some.asked.call ns in
-    let at = subst P (sym c.as_slice-arguments.ensures) (at_call c.args.machine.now guest shows.calls p.configuration c.in-Some.asked.call
+    let at = subst P (sym c.as_slice-arguments.ensures)
+    (at_call c.args.machine.now guest shows.calls p.configuration c.in-Some.asked.call
     c.in-Some.asked.arguments asks) in
     let q = err_from_is_err_and c.from_residual.result c.from_residual.ensures.1 in
     rw (q.1, q.2)
@@ -126,7 +129,9 @@ unreachable-requires c =
     (c.waits.ensures r.guest.program r.process.configuration r.shows.configuration) in
     let P : List ℕ → Type 0 =
     λ ns. IsAtCall r.guest r.process.configuration c.in-Some.asked.call ns in
-    let at = subst P (sym c.as_slice-arguments.ensures) (at_call c.args.machine.now r.guest r.shows.calls r.process.configuration c.in-Some.asked.call
+    let at = subst P (sym c.as_slice-arguments.ensures)
+    (at_call c.args.machine.now r.guest r.shows.calls r.process.configuration
+    c.in-Some.asked.call
     c.in-Some.asked.arguments asks) in
     let wanted = (c.wants.ensures r.guest r.process r.shows at).0 c.if-not-wants.false in
     let M : Called → Type 0 =
@@ -146,7 +151,8 @@ returns-clause-answers c = λ guest p shows running.
     (c.waits.ensures guest.program p.configuration shows.configuration) in
     let P : List ℕ → Type 0 =
     λ ns. IsAtCall guest p.configuration c.in-Some.asked.call ns in
-    let at = subst P (sym c.as_slice-arguments.ensures) (at_call c.args.machine.now guest shows.calls p.configuration c.in-Some.asked.call
+    let at = subst P (sym c.as_slice-arguments.ensures)
+    (at_call c.args.machine.now guest shows.calls p.configuration c.in-Some.asked.call
     c.in-Some.asked.arguments asks) in
     let M : Called → Type 0 =
     λ k. MakesCall c.args.machine.now c.args.host.now c.in-Some.asked.call
