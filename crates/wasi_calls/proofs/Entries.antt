@@ -17,8 +17,10 @@ use Rattle.wasi_calls_rules.proofs.NodesAfter.{child_path, child_parent}
 -- a node is made under a free name
 made_host : (h : Host) (d : ℕ) (name : Name) (kind : NodeKind) → IsHost h
     → IsFree h.files d name → length h.files.nodes < NODES
-    → IsHost (record h { files =
-        created (path_at h.files d ++ name ∷ []) (empty kind) h.files })
+    → IsHost (record h {
+      files =
+          created (path_at h.files d ++ name ∷ []) (empty kind) h.files;
+    })
 made_host h d name kind is free few =
     standing h (created (path_at h.files d ++ name ∷ []) (empty kind) h.files) h.descriptors is
     (created_stands h.files h.descriptors h.room d name (path_at h.files d ++ name ∷ []) kind

@@ -1,6 +1,7 @@
 //! The buffers of a guest that bytes are moved from or to.
 
-ghost use Rattle.std.specs.Prelude.{◌≡◌, ◌≤◌, ◌+◌, ◌-◌, ◌*◌, ◌<◌, ◌^◌, min, [], ◌∷◌, ◌++◌, length, IfOk, Ok};
+ghost use Rattle.std.specs.Prelude.{◌≡◌, ◌≤◌, ◌+◌, ◌-◌, ◌*◌, ◌<◌, ◌^◌};
+ghost use Rattle.std.specs.Prelude.{min, [], ◌∷◌, ◌++◌, length, IfOk, Ok};
 ghost use Rattle.guest_memory.specs.rules.Bytes.{part};
 ghost use Rattle.wasi_abi.specs.rules.Layouts.{u32_at};
 ghost use Rattle.wasi_calls_rules.specs.Checks.{Buffer as GuestRange, buffers_at, is_inside};
@@ -35,7 +36,8 @@ impl Model for Buffer {
 }
 
 impl Buffer {
-    /// The one that the iovec at `iovecs + offset` names, or `Fault` where it reaches beyond memory.
+    /// The one that the iovec at `iovecs + offset` names, or `Fault` where it reaches beyond
+    /// memory.
     fn named(memory: &Memory, iovecs: u32, offset: u32) -> Result<Buffer, Errno>
         requires within { iovecs + (offset + 8) ≤ length memory.now.bytes }
         requires small { offset < 65536 }
@@ -116,7 +118,10 @@ impl Buffers {
     fn push(&mut self, buffer: Buffer)
         requires { length self.old < IOVECS }
         ensures { self.new ≡ self.old
-            ++ record { from = buffer.from; len = min (MOVED_BYTES - total_len self.old) buffer.len } ∷ [] }
+            ++ record {
+              from = buffer.from;
+              len = min (MOVED_BYTES - total_len self.old) buffer.len;
+            } ∷ [] }
     {
         let len = at_most(buffer.len, MOVED_BYTES - self.len);
         self.len += len as usize;
@@ -126,7 +131,8 @@ impl Buffers {
         });
     }
 
-    /// Those that so many iovecs name. `Inval` where they are too many, and `Fault` where their array or
+    /// Those that so many iovecs name. `Inval` where they are too many, and `Fault` where their
+    /// array or
     /// a buffer reaches beyond memory.
     pub fn named(memory: &Memory, iovecs: u32, count: u32) -> Result<Buffers, Errno>
         ensures gives { GivesValue (λ b. b) result (moved_buffers memory.now.bytes iovecs count) }

@@ -14,28 +14,24 @@ ghost use Rattle.wasi_calls.specs.rules.Calls.{IsBuilt, AreArguments, call_outco
 ghost use Rattle.wasi_calls.specs.rules.Calls.{told_of, ShowsRow, EndsNothing, IsAsLarge};
 ghost use Rattle.wasi_calls.specs.declared.outcome.CallOutcome.TheVariants.{Memory as WantOfMemory};
 
-use crate::arguments::{of_list, of_move, of_open, of_path_filestat, of_placed_move, of_rename};
-use crate::arguments::{of_seek, one, one_and_long, three, two};
-use crate::changes;
+use crate::arguments::{
+    of_list, of_move, of_open, of_path_filestat, of_placed_move, of_rename, of_seek, one,
+    one_and_long, three, two,
+};
 use crate::host::Host;
-use crate::listing;
-use crate::offsets;
-use crate::opening;
 use crate::outcome::CallOutcome;
 use crate::paths::entries;
-use crate::read;
-use crate::renaming;
-use crate::status;
 use crate::stop::CallStop;
-use crate::write;
+use crate::{changes, listing, offsets, opening, read, renaming, status, write};
 use guest_memory::Memory;
 use std::alloc::Global;
 use wasi_abi::{Answer, Call, Errno, Rights};
 
 /// Makes a call that is built, with its arguments in order and, where it asked for one, an answer
 /// from outside. What it tells is what the rules say; all but a call that is done leave memory and
-/// host as they were. It may say that there is no memory for it where an allocation was refused. A
-/// call that is refused, or ends the process, takes none.
+/// host as they were. It may say that there is no memory for it where an allocation was refused, or
+/// where no number is left for a new node. A call that is refused, asks for an answer or ends the
+/// process takes none.
 pub fn call(
     alloc: Global,
     host: &mut Host,

@@ -35,9 +35,9 @@
 //! `wasi_calls_rules`, `file_tree`, `wasi_abi` and `guest_memory`.
 //!
 //! Memory is taken by `Host::new`, and by a call once all of its checks have passed: for lines, for
-//! the bytes of files, for new nodes and their names, and for the rest of a request that was read in
-//! part. Without it nothing changes. Bytes go straight from the guest's buffers into lines and
-//! files, and back: none are joined first.
+//! the bytes of files, for new nodes and their names, and for a request's line. Without it nothing
+//! changes. Bytes go straight from the guest's buffers into lines and files, and back: none are
+//! joined first.
 #![tactic(auto)]
 
 mod arguments;

@@ -69,7 +69,8 @@ pub fn check(
     Ok(buffers)
 }
 
-/// Makes all checks of `fd_pread` or `fd_pwrite`, which needs this right beside `fd_seek`. It takes no
+/// Makes all checks of `fd_pread` or `fd_pwrite`, which needs this right beside `fd_seek`. It
+/// takes no
 /// memory.
 pub fn check_placed(
     host: &Host,

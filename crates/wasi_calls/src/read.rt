@@ -12,7 +12,8 @@ use crate::stop::CallStop;
 use guest_memory::Memory;
 use wasi_abi::{Answer, Errno, Rights};
 
-/// `fd_read`, with the line that it asked for before, where one is there. Where it is refused, asks or
+/// `fd_read`, with the line that it asked for before, where one is there. Where it is refused,
+/// asks or
 /// lacks memory, nothing has changed.
 pub fn read(
     host: &mut Host,

@@ -1,6 +1,7 @@
 //! The output streams, and the lines that wait to be released.
 
-ghost use Rattle.std.specs.Prelude.{◌≡◌, ◌+◌, ◌<◌, ◌≤◌, ◌^◌, ◌++◌, ◌==◌, ◌&&◌, nat_le, if◌then◌else◌, length, drop, OnOk, OnErr, vec_len, vec_capacity};
+ghost use Rattle.std.specs.Prelude.{◌≡◌, ◌+◌, ◌<◌, ◌≤◌, ◌^◌, ◌++◌, ◌==◌, ◌&&◌};
+ghost use Rattle.std.specs.Prelude.{nat_le, if◌then◌else◌, length, drop, OnOk, OnErr, vec_len, vec_capacity};
 ghost use Rattle.wasi_calls_rules.specs.Checks.{gathered, has_no_newline};
 ghost use Rattle.wasi_calls_rules.specs.Lines.{cut_all, rest_of};
 ghost use Rattle.wasi_calls_rules.specs.declared.limits.TheConstants.{LINE_BYTES};
@@ -51,7 +52,8 @@ impl Streams {
         }
     }
 
-    /// Writes the bytes of buffers to stream 1, or else to 2. It fails for want of memory alone, and
+    /// Writes the bytes of buffers to stream 1, or else to 2. It fails for want of memory alone,
+    /// and
     /// changes nothing then.
     pub fn write(
         &mut self,
@@ -248,7 +250,8 @@ fn append(bytes: &mut Vec<u8>, memory: &Memory, buffers: &Buffers) -> Result<(),
     Ok(())
 }
 
-/// Puts lines behind the others, with room for two more. After a failure the lines are as they were.
+/// Puts lines behind the others, with room for two more. After a failure the lines are as they
+/// were.
 fn emit(waiting: &mut Vec<Line>, mut lines: Vec<Line>) -> Result<(), AllocError>
     ensures emitted { OnOk result (waiting.new.items ≡ waiting.old.items ++ lines.items) }
     ensures room { OnOk result (vec_len waiting.new + 2 ≤ vec_capacity waiting.new) }

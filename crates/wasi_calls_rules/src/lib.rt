@@ -15,6 +15,8 @@
 //! - `calls_make_one_node_at_most`: a call that is done makes one node at most.
 //! - `calls_keep_configurations`: it leaves room, limit, arguments and environment as they were.
 //! - `answers_are_taken_that_fit`: the rules take an answer exactly where it fits what is asked.
+//! - `few_calls_ask_and_once`: three calls may want an answer, and none once it has one that fits.
+//! - `one_call_ends`: no call but `proc_exit` ends the process.
 //! - `worked_examples`: openings, moves, writes, small calls and directories on examples.
 //! - `limits` has five numbers that definitions and code share, as `LINE_BYTES` and `TEXT_BYTES`.
 //!

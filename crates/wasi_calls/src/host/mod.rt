@@ -11,7 +11,8 @@ mod renaming;
 
 ghost use Rattle.std.specs.Prelude.{◌≡◌, ◌+◌, ◌*◌, ◌<◌, ◌≤◌, ◌^◌, ◌++◌, length, IfOk, OnOk, OnErr};
 ghost use Rattle.file_tree.specs.declared.limits.TheConstants.{UNIT_BYTES};
-ghost use Rattle.wasi_calls_rules.specs.Hosts.{Host as TheHost, IsHost, first_descriptors, first_host};
+ghost use Rattle.wasi_calls_rules.specs.Hosts.{Host as TheHost, IsHost};
+ghost use Rattle.wasi_calls_rules.specs.Hosts.{first_descriptors, first_host};
 ghost use Rattle.wasi_calls_rules.specs.Checks.{gathered};
 ghost use Rattle.wasi_calls_rules.specs.Lines.{stream_written, rest_of, lines_ended};
 ghost use Rattle.wasi_calls.specs.Moves.{AreInside};
@@ -63,7 +64,8 @@ impl Model for Host {
 impl Host {
     ghost use Rattle.wasi_calls.specs.rules.Held.{HeldHost, ShowsHost, held_ended, held_released};
 
-    /// The host of a process that begins. `limit` is that of a request's text and of random bytes. It
+    /// The host of a process that begins. `limit` is that of a request's text and of random
+    /// bytes. It
     /// fails for want of memory alone.
     pub fn new(alloc: Global, config: Config, limit: usize) -> Result<Host, AllocError>
         ensures { IfOk result (λ h. h ≡ record { released = 0; host = first_host (config.files * UNIT_BYTES) limit config.arguments config.environment }) }
@@ -80,7 +82,8 @@ impl Host {
         })
     }
 
-    /// Writes the bytes of buffers to stream 1, or else to 2. It fails for want of memory alone, and
+    /// Writes the bytes of buffers to stream 1, or else to 2. It fails for want of memory alone,
+    /// and
     /// changes nothing then.
     pub(crate) fn write(
         &mut self,
@@ -132,7 +135,8 @@ impl Host {
         self.streams.waiting_lines()
     }
 
-    /// How many lines were released: the first one that waits has the next number, and numbers begin at 1.
+    /// How many lines were released: the first one that waits has the next number, and numbers
+    /// begin at 1.
     pub fn released_count(&self) -> u64
         ensures { result ≡ self.now.released }
     {

@@ -1,6 +1,7 @@
 //! Bytes that are moved between a guest's memory and the files, the input and the output of a host.
 
-ghost use Rattle.std.specs.Prelude.{◌≡◌, ◌≤◌, ◌<◌, ◌+◌, ◌^◌, ◌==◌, false, length, min, take, drop, option_copied, Ok};
+ghost use Rattle.std.specs.Prelude.{◌≡◌, ◌≤◌, ◌<◌, ◌+◌, ◌^◌, ◌==◌, false};
+ghost use Rattle.std.specs.Prelude.{length, min, take, drop, option_copied, Ok};
 ghost use Rattle.std.specs.Prelude.{[], ◌∷◌, ◌++◌, OnOk, OnErr, IfOk, IfErr};
 ghost use Rattle.wasi_abi.specs.rules.Answers.{newline, Fits};
 ghost use Rattle.file_tree.specs.rules.Bytes.{written};
@@ -41,7 +42,8 @@ impl Host {
         }
     }
 
-    /// Writes the bytes of buffers to a file from a place on, with zeros in a gap before them. No bytes
+    /// Writes the bytes of buffers to a file from a place on, with zeros in a gap before them.
+    /// No bytes
     /// change nothing.
     pub(crate) fn write_file(
         &mut self,
@@ -130,7 +132,8 @@ impl Host {
         }
     }
 
-    /// Moves an open file's next read or write behind the bytes of buffers that were written from an
+    /// Moves an open file's next read or write behind the bytes of buffers that were written
+    /// from an
     /// offset on. It stays where there are none.
     fn move_behind(&mut self, fd: u32, from: u64, buffers: &Buffers)
         requires open { (d : Opened) × (open_descriptor self.old.host fd ≡ Ok d) }
@@ -146,7 +149,7 @@ impl Host {
         self.move_to(fd, from + len);
     }
 
-    /// ReadsInto a file from a place on into buffers, and says how many bytes it gave.
+    /// Reads a file from a place on into buffers, and says how many bytes it gave.
     pub(crate) fn read_file(
         &self,
         node: u64,
@@ -166,7 +169,8 @@ impl Host {
         read_pieces(&self.tree, node, from, memory, buffers)
     }
 
-    /// ReadsInto what is open under a number into buffers, and says how many bytes it gave. `answer` is a
+    /// Reads what is open under a number into buffers, and says how many bytes it gave. `answer`
+    /// is a
     /// line that was asked for before, where one is there.
     pub(crate) fn take(
         &mut self,
@@ -202,7 +206,7 @@ impl Host {
         }
     }
 
-    /// ReadsInto input into buffers. It asks for a line where none is there to read.
+    /// Reads input into buffers. It asks for a line where none is there to read.
     fn read_input(
         &mut self,
         memory: &mut Memory,
@@ -228,7 +232,8 @@ impl Host {
         Ok(self.take_unread(memory, buffers))
     }
 
-    /// Takes a line where none is there to read and input hasn't ended. It asks for one where none is
+    /// Takes a line where none is there to read and input hasn't ended. It asks for one where
+    /// none is
     /// given that fits.
     fn supply(&mut self, answer: Option<&Answer>) -> Result<(), CallStop>
         ensures done { OnOk result (supplied (option_copied answer.entry) self.old.host
@@ -251,7 +256,8 @@ impl Host {
         Ok(())
     }
 
-    /// Takes an answer to a wish for a line, where none is there to read. It fails for want of memory
+    /// Takes an answer to a wish for a line, where none is there to read. It fails for want of
+    /// memory
     /// alone, and changes nothing then.
     fn take_answer(&mut self, answer: &Answer) -> Result<(), AllocError>
         requires fits { Fits self.old.host.limit Request answer.now }
@@ -270,7 +276,8 @@ impl Host {
         }
     }
 
-    /// Puts a line and a newline behind what is there to read. It fails for want of memory alone, and
+    /// Puts a line and a newline behind what is there to read. It fails for want of memory
+    /// alone, and
     /// changes nothing then.
     fn take_line(&mut self, text: &[u8]) -> Result<(), AllocError>
         ensures taken { OnOk result (self.new ≡ record self.old {
@@ -354,7 +361,7 @@ fn put_pieces(tree: &mut Tree, node: u64, from: u64, memory: &Memory, buffers: &
     }
 }
 
-/// ReadsInto a file from a place on into buffers, one after another, and says how many bytes it gave.
+/// Reads a file from a place on into buffers, one after another, and says how many bytes it gave.
 fn read_pieces(tree: &Tree, node: u64, from: u64, memory: &mut Memory, buffers: &Buffers) -> u64
     requires inside { AreInside memory.old.bytes buffers.now }
     requires small { length (bytes_of_node tree.now node) ≤ FILE_BYTES }
