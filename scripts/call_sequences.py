@@ -17,7 +17,7 @@ CELLS, PRINTER, COUNTER = (0, 512), (512, 8192), 544
 TEXTS, ARRAYS, BUFFERS = (8192, 24576), (24576, 40960), (40960, 65536)
 
 WEIGHTS = {
-    "path_open": 20, "fd_write": 9, "fd_read": 8, "fd_pread": 7, "fd_pwrite": 8, "fd_seek": 8, "fd_close": 7,
+    "path_open": 20, "fd_write": 12, "fd_read": 10, "fd_pread": 9, "fd_pwrite": 10, "fd_seek": 8, "fd_close": 6,
     "path_rename": 10, "path_create_directory": 8, "path_unlink_file": 6, "path_remove_directory": 6,
     "path_filestat_get": 5, "fd_readdir": 5, "fd_filestat_get": 4, "fd_filestat_set_size": 4, "fd_tell": 3,
     "fd_fdstat_get": 3, "fd_fdstat_set_flags": 4, "fd_sync": 1, "fd_datasync": 1, "fd_prestat_get": 2,
@@ -93,7 +93,7 @@ class Player:
 
     def __init__(self, seed, file_units, without=(), has_requests=False, is_plain=False):
         self.random = random.Random(seed)
-        self.is_plain, self.has_requests, self.is_wild = is_plain, has_requests, False
+        self.is_plain, self.has_requests, self.is_wild, self.is_calm = is_plain, has_requests, False, False
         self.calls = {name: weight for name, weight in WEIGHTS.items() if name not in without}
         requests = [b"hello", b"", b"x" * 300, b"\xff\0", None] if has_requests else []
         reporter = 2 if self.odd(8) else 1
@@ -110,9 +110,9 @@ class Player:
         self.host.put(at, data)
 
     def odd(self, one_in):
-        """Whether to choose something odd. A wild call has several odd arguments."""
+        """Whether to choose something odd. A wild call has several odd arguments, a calm one none."""
         share = max(2, one_in // 4) if self.is_wild else one_in
-        return self.random.randrange(share) == 0 and not self.is_plain
+        return self.random.randrange(share) == 0 and not self.is_plain and not self.is_calm
 
     def take(self, step):
         """Adds a step, and makes its calls."""
@@ -126,17 +126,24 @@ class Player:
         """A sequence of about so many calls, and some behind them that look at everything."""
         if self.odd(6):
             self.fill(self.fill_directory)
+        self.is_calm = True
+        for name in self.random.choices(["path_create_directory", "path_open", "path_open", "fd_write"], k=12):
+            self.play(name)
+        self.is_calm = False
         while len(self.sequence.steps) < count:
-            if self.odd(80):
+            if self.odd(60):
                 self.fill(self.random.choice([self.fill_directory, self.fill_descriptors, self.fill_file]))
-            name = self.random.choices(list(self.calls), list(self.calls.values()))[0]
-            self.shown, self.is_wild = [], self.odd(6)
-            arguments = getattr(self, name)()
-            self.is_wild = False
-            if not self.is_left_out(name, arguments):
-                self.take(Step(name, arguments, shown=self.shown))
+            self.play(self.random.choices(list(self.calls), list(self.calls.values()))[0])
         self.look()
         return self.sequence
+
+    def play(self, name):
+        """Makes a call, unless it is left out."""
+        self.shown, self.is_wild = [], self.odd(6)
+        arguments = getattr(self, name)()
+        self.is_wild = False
+        if name in self.calls and not self.is_left_out(name, arguments):
+            self.take(Step(name, arguments, shown=self.shown))
 
     def is_left_out(self, name, arguments):
         """Closing the printer's stream, reading requests where there are none, and what isn't plain."""
@@ -181,7 +188,7 @@ class Player:
     def fill_file(self):
         iovs = self.lay_array([(0, MOVED)])
         fd, times = self.descriptor(REGULAR_FILE), self.random.choice([2, 8, 15, 16, 17])
-        return Step("fd_write", [fd, iovs, 1, 0], times)
+        return Step("fd_write", [fd, iovs, 1, 0], times if fd > PREOPENED else 2)
 
     def look(self):
         """Looks at all descriptors, and at some of what paths lead to."""
@@ -312,8 +319,8 @@ class Player:
             return self.lay_array([(self.random.randrange(50000, 60000), self.random.randrange(1, 200))]), 1
         if self.odd(12):
             return self.odd_iovecs()
-        most = self.random.choice([0, 1, 5, 100, 100, 1000, 5000])
-        count = self.random.choice([0, 1, 1, 1, 2, 3, 6])
+        most = self.random.choice([0, 1, 5, 20, 100, 1000, 5000])
+        count = self.random.choice([0, 1, 1, 2, 2, 3, 6])
         pairs = [(self.random.randrange(*BUFFERS), self.random.randint(0, most)) for _ in range(count)]
         if pairs and self.odd(6):
             pairs[self.random.randrange(len(pairs))] = self.odd_pair()
@@ -334,11 +341,11 @@ class Player:
         """A place in a file, most often near its end or a limit."""
         it = self.host.descriptors.get(fd)
         size = len(it.node.content) if it and it.node else 0
-        if not self.odd(4):
+        if not self.odd(3):
             inside = max(0, size - self.random.randrange(10))
             return self.random.choice([0, 0, self.random.randrange(40), inside, size, size + 5])
         left = self.host.room - sum(len(node.content) for node in self.host.nodes.values())
-        at = self.random.choice([FILE_SIZE, size + left, size + left, 1 << 32, 1 << 63, 1 << 64])
+        at = self.random.choice([FILE_SIZE] + 4 * [size + left] + [1 << 32, 1 << 63, 1 << 64])
         return min(max(0, at + self.random.choice([-100, -2, -1, 0, 1])), LONG)
 
     # The arguments of each call.
@@ -460,7 +467,7 @@ class Player:
 
     def path_open(self):
         fd, kind = self.descriptor(DIRECTORY), self.random.choice([REGULAR_FILE, REGULAR_FILE, DIRECTORY])
-        oflags = self.random.choice([0, 0, 1, 1, 1, 5, 9, 8, 4, 13, 12])
+        oflags = self.random.choice([0, 0, 0, 1, 1, 1, 5, 9, 8, 4, 13])
         if kind == DIRECTORY:
             oflags = self.random.choice([0, 2, 2])
         if self.odd(8):
@@ -488,7 +495,8 @@ class Player:
         both = [self.descriptor(DIRECTORY), self.descriptor(DIRECTORY)]
         if self.random.randrange(2):
             both[1] = both[0]
-        source, target = self.path(both[0], kind), self.path(both[1], kind, self.random.randrange(2) == 0)
+        source, is_new = self.path(both[0], kind), self.random.randrange(2) == 0
+        target = self.path(both[1], REGULAR_FILE + DIRECTORY - kind if self.odd(4) else kind, is_new)
         if self.odd(6):
             text = bytes(self.host.memory[source[0] : sum(source)])[:600]
             target = self.lay_text(text + self.random.choice([b"", b"/", b"/a", b"/b/c"]))
