@@ -20,7 +20,7 @@ WEIGHTS = {
     "path_open": 20, "fd_write": 12, "fd_read": 10, "fd_pread": 9, "fd_pwrite": 10, "fd_seek": 8, "fd_close": 6,
     "path_rename": 10, "path_create_directory": 8, "path_unlink_file": 6, "path_remove_directory": 6,
     "path_filestat_get": 5, "fd_readdir": 5, "fd_filestat_get": 4, "fd_filestat_set_size": 4, "fd_tell": 3,
-    "fd_fdstat_get": 3, "fd_fdstat_set_flags": 4, "fd_sync": 1, "fd_datasync": 1, "fd_prestat_get": 2,
+    "fd_fdstat_get": 3, "fd_fdstat_set_flags": 4, "fd_sync": 3, "fd_datasync": 3, "fd_prestat_get": 2,
     "fd_prestat_dir_name": 3, "sched_yield": 1}
 
 NAMES = [b"a", b"b", b"c", b"d", b"ab", b"a.b", b"..a", b"...", b"B", b" ", b"\xc3\xa9", b"\xf0\x9f\x8e\xb2"]
@@ -242,6 +242,9 @@ class Player:
             closed = self.random.randrange(4, DESCRIPTORS)
             among = list(self.host.descriptors) if self.odd(2) else [0, 1, 2, closed, 63, 64, 1 << 31, WORD]
             return PREOPENED if self.is_plain else self.random.choice(among)
+        removed = [number for number in fitting if number > 2 and not self.host.descriptors[number].node.is_named]
+        if removed and self.odd(4):
+            return self.random.choice(removed)
         return PREOPENED if kind == DIRECTORY and self.random.randrange(2) else self.random.choice(fitting)
 
     def known(self, start):
@@ -271,12 +274,16 @@ class Player:
             text + b"/", text + b"/.", b"./" + text, text.replace(b"/", b"//"), text + b"/..", text + b"/../" + text,
             text + b"/x", b"a/../" + text, text + b"/../.."])
 
-    def path(self, fd, kind, is_new=False):
-        """Address and length of a path for a descriptor: to a node of a kind, or to none yet."""
+    def path(self, fd, kind, is_new=False, is_open=False):
+        """Address and length of a path for a descriptor: to a node of a kind, to one that some descriptor
+        stands for, or to none yet."""
         it = self.host.descriptors.get(fd)
         start = it.node if it and it.kind() == DIRECTORY else self.host.root
         known = self.known(start)
         fitting = [text for text, node in known if node.kind() == kind or self.odd(10)]
+        if is_open:
+            nodes = [it.node for it in self.host.descriptors.values()]
+            fitting = [text for text, node in known if node in nodes and not node.entries] or fitting
         if self.odd(10):
             return self.odd_path()
         if fitting and self.random.random() < (0.2 if is_new else 0.85):
@@ -319,6 +326,8 @@ class Player:
             return self.lay_array([(self.random.randrange(50000, 60000), self.random.randrange(1, 200))]), 1
         if self.odd(12):
             return self.odd_iovecs()
+        if self.odd(30):
+            return self.lay_array([(BUFFERS[0], 24000)] * 3), 3
         most = self.random.choice([0, 1, 5, 20, 100, 1000, 5000])
         count = self.random.choice([0, 1, 1, 2, 2, 3, 6])
         pairs = [(self.random.randrange(*BUFFERS), self.random.randint(0, most)) for _ in range(count)]
@@ -484,11 +493,11 @@ class Player:
 
     def path_remove_directory(self):
         fd = self.descriptor(DIRECTORY)
-        return [fd, *self.path(fd, DIRECTORY)]
+        return [fd, *self.path(fd, DIRECTORY, is_open=self.odd(3))]
 
     def path_unlink_file(self):
         fd = self.descriptor(DIRECTORY)
-        return [fd, *self.path(fd, REGULAR_FILE)]
+        return [fd, *self.path(fd, REGULAR_FILE, is_open=self.odd(3))]
 
     def path_rename(self):
         kind = self.random.choice([REGULAR_FILE, DIRECTORY])
