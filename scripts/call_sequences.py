@@ -17,11 +17,11 @@ CELLS, PRINTER, COUNTER = (0, 512), (512, 8192), 544
 TEXTS, ARRAYS, BUFFERS = (8192, 24576), (24576, 40960), (40960, 65536)
 
 WEIGHTS = {
-    "path_open": 20, "fd_write": 9, "fd_read": 8, "fd_pread": 7, "fd_pwrite": 8, "fd_seek": 8, "fd_close": 7,
+    "path_open": 20, "fd_write": 12, "fd_read": 10, "fd_pread": 9, "fd_pwrite": 10, "fd_seek": 8, "fd_close": 6,
     "path_rename": 10, "path_create_directory": 8, "path_unlink_file": 6, "path_remove_directory": 6,
     "path_filestat_get": 5, "fd_readdir": 5, "fd_filestat_get": 4, "fd_filestat_set_size": 4, "fd_tell": 3,
-    "fd_fdstat_get": 3, "fd_fdstat_set_flags": 4, "fd_sync": 1, "fd_datasync": 1, "fd_prestat_get": 1,
-    "fd_prestat_dir_name": 1, "sched_yield": 1}
+    "fd_fdstat_get": 3, "fd_fdstat_set_flags": 4, "fd_sync": 3, "fd_datasync": 3, "fd_prestat_get": 2,
+    "fd_prestat_dir_name": 3, "sched_yield": 1}
 
 NAMES = [b"a", b"b", b"c", b"d", b"ab", b"a.b", b"..a", b"...", b"B", b" ", b"\xc3\xa9", b"\xf0\x9f\x8e\xb2"]
 PLAIN_NAMES = [b"a", b"b", b"c", b"d", b"ab", b"long name"]
@@ -29,9 +29,9 @@ LONGEST, TOO_LONG = b"n" * 255, b"n" * 256
 
 ODD_PATHS = [
     b"", b"/", b"/a", b"//a/b", b".", b"./", b"..", b"../a", b"a/..", b"a/../..", b"./../a", b"a/./../b/", b"a//",
-    b"\xff", b"a/\xff", b"/\xff", b"\xff\0", b"\xc0\x80", b"\xed\xa0\x80", b"\xe2\x82", b"\xf4\x90\x80\x80", b"\xef\xbf\xbf",
-    b"a\0", b"\0", b"/\0", b"a/\0/b", LONGEST, TOO_LONG, b"a/" + TOO_LONG, b"/" + TOO_LONG, TOO_LONG + b"/..",
-    LONGEST + b"/" + LONGEST, b"missing/..", b"missing/../..", b"a/b/c/d/e"]
+    b"\xff", b"a/\xff", b"/\xff", b"\xff\0", b"\xc0\x80", b"\xed\xa0\x80", b"\xe2\x82", b"\xf4\x90\x80\x80",
+    b"\xef\xbf\xbf", b"a\0", b"\0", b"/\0", b"a/\0/b", LONGEST, TOO_LONG, b"a/" + TOO_LONG, b"/" + TOO_LONG,
+    TOO_LONG + b"/..", LONGEST + b"/" + LONGEST, b"missing/..", b"missing/../..", b"a/b/c/d/e"]
 LONG_PATHS = [
     b"./" * 2048, b"./" * 2048 + b"/", b"./" * 2047 + b"/a", b"./" * 2048 + b"a", b"/" * 4097, b"\xff" * 4097,
     (LONGEST + b"/") * 16, TOO_LONG * 16, b"\xff" + b"\0" * 4095]
@@ -93,7 +93,7 @@ class Player:
 
     def __init__(self, seed, file_units, without=(), has_requests=False, is_plain=False):
         self.random = random.Random(seed)
-        self.is_plain, self.has_requests = is_plain, has_requests
+        self.is_plain, self.has_requests, self.is_wild, self.is_calm = is_plain, has_requests, False, False
         self.calls = {name: weight for name, weight in WEIGHTS.items() if name not in without}
         requests = [b"hello", b"", b"x" * 300, b"\xff\0", None] if has_requests else []
         reporter = 2 if self.odd(8) else 1
@@ -110,8 +110,9 @@ class Player:
         self.host.put(at, data)
 
     def odd(self, one_in):
-        """Whether to choose something odd."""
-        return self.random.randrange(one_in) == 0 and not self.is_plain
+        """Whether to choose something odd. A wild call has several odd arguments, a calm one none."""
+        share = max(2, one_in // 4) if self.is_wild else one_in
+        return self.random.randrange(share) == 0 and not self.is_plain and not self.is_calm
 
     def take(self, step):
         """Adds a step, and makes its calls."""
@@ -125,16 +126,24 @@ class Player:
         """A sequence of about so many calls, and some behind them that look at everything."""
         if self.odd(6):
             self.fill(self.fill_directory)
+        self.is_calm = True
+        for name in self.random.choices(["path_create_directory", "path_open", "path_open", "fd_write"], k=12):
+            self.play(name)
+        self.is_calm = False
         while len(self.sequence.steps) < count:
-            if self.odd(80):
+            if self.odd(60):
                 self.fill(self.random.choice([self.fill_directory, self.fill_descriptors, self.fill_file]))
-            name = self.random.choices(list(self.calls), list(self.calls.values()))[0]
-            self.shown = []
-            arguments = getattr(self, name)()
-            if not self.is_left_out(name, arguments):
-                self.take(Step(name, arguments, shown=self.shown))
+            self.play(self.random.choices(list(self.calls), list(self.calls.values()))[0])
         self.look()
         return self.sequence
+
+    def play(self, name):
+        """Makes a call, unless it is left out."""
+        self.shown, self.is_wild = [], self.odd(6)
+        arguments = getattr(self, name)()
+        self.is_wild = False
+        if name in self.calls and not self.is_left_out(name, arguments):
+            self.take(Step(name, arguments, shown=self.shown))
 
     def is_left_out(self, name, arguments):
         """Closing the printer's stream, reading requests where there are none, and what isn't plain."""
@@ -179,7 +188,7 @@ class Player:
     def fill_file(self):
         iovs = self.lay_array([(0, MOVED)])
         fd, times = self.descriptor(REGULAR_FILE), self.random.choice([2, 8, 15, 16, 17])
-        return Step("fd_write", [fd, iovs, 1, 0], times)
+        return Step("fd_write", [fd, iovs, 1, 0], times if fd > PREOPENED else 2)
 
     def look(self):
         """Looks at all descriptors, and at some of what paths lead to."""
@@ -233,7 +242,10 @@ class Player:
             closed = self.random.randrange(4, DESCRIPTORS)
             among = list(self.host.descriptors) if self.odd(2) else [0, 1, 2, closed, 63, 64, 1 << 31, WORD]
             return PREOPENED if self.is_plain else self.random.choice(among)
-        return PREOPENED if kind == DIRECTORY and self.random.randrange(3) else self.random.choice(fitting)
+        removed = [number for number in fitting if number > 2 and not self.host.descriptors[number].node.is_named]
+        if removed and self.odd(4):
+            return self.random.choice(removed)
+        return PREOPENED if kind == DIRECTORY and self.random.randrange(2) else self.random.choice(fitting)
 
     def known(self, start):
         """The paths below a directory, with their nodes."""
@@ -258,16 +270,20 @@ class Player:
 
     def detour(self, text):
         """Another spelling of a path, or of one near it."""
-        forms = [text + b"/", text + b"/.", b"./" + text, text.replace(b"/", b"//"), text + b"/..", text + b"/../" + text,
-                 text + b"/x", b"a/../" + text, text + b"/../.."]
-        return self.random.choice(forms)
+        return self.random.choice([
+            text + b"/", text + b"/.", b"./" + text, text.replace(b"/", b"//"), text + b"/..", text + b"/../" + text,
+            text + b"/x", b"a/../" + text, text + b"/../.."])
 
-    def path(self, fd, kind, is_new=False):
-        """Address and length of a path for a descriptor: to a node of a kind, or to none yet."""
+    def path(self, fd, kind, is_new=False, is_open=False):
+        """Address and length of a path for a descriptor: to a node of a kind, to one that some descriptor
+        stands for, or to none yet."""
         it = self.host.descriptors.get(fd)
         start = it.node if it and it.kind() == DIRECTORY else self.host.root
         known = self.known(start)
         fitting = [text for text, node in known if node.kind() == kind or self.odd(10)]
+        if is_open:
+            nodes = [it.node for it in self.host.descriptors.values()]
+            fitting = [text for text, node in known if node in nodes and not node.entries] or fitting
         if self.odd(10):
             return self.odd_path()
         if fitting and self.random.random() < (0.2 if is_new else 0.85):
@@ -285,12 +301,15 @@ class Player:
 
     def rights(self, fd, kind):
         """A set of rights, mostly one that a descriptor may hand on."""
-        usual = FILE_RIGHTS if kind == REGULAR_FILE else DIRECTORY_RIGHTS & ~1 if self.is_plain else DIRECTORY_RIGHTS
+        usual = FILE_RIGHTS if kind == REGULAR_FILE else DIRECTORY_RIGHTS & ~self.is_plain
         it = self.host.descriptors.get(fd)
         own = it.inheriting if it else ALL_RIGHTS
         if self.odd(10):
-            return self.random.choice([0, own, ALL_RIGHTS, LONG, usual | 1 << 7, usual | 1 << 29, 1 << 63, FILE_RIGHTS])
-        return usual & own & ~(bit(self.random.randrange(29)) if self.odd(4) else 0)
+            odd_bit = bit(self.random.choice([7, 28, 29, 63]))
+            return self.random.choice([0, own, ALL_RIGHTS, LONG, usual | odd_bit, odd_bit, FILE_RIGHTS])
+        if self.odd(3):
+            return usual & own & self.random.choice([~bit(self.random.randrange(27)), self.random.getrandbits(27)])
+        return usual & own
 
     def lay_array(self, pairs):
         """The address of an iovec array."""
@@ -307,8 +326,11 @@ class Player:
             return self.lay_array([(self.random.randrange(50000, 60000), self.random.randrange(1, 200))]), 1
         if self.odd(12):
             return self.odd_iovecs()
-        most = self.random.choice([0, 1, 5, 100, 100, 1000, 5000])
-        pairs = [(self.random.randrange(*BUFFERS), self.random.randint(0, most)) for _ in range(self.random.choice([0, 1, 1, 1, 2, 3, 6]))]
+        if self.odd(30):
+            return self.lay_array([(BUFFERS[0], 24000)] * 3), 3
+        most = self.random.choice([0, 1, 5, 20, 100, 1000, 5000])
+        count = self.random.choice([0, 1, 1, 2, 2, 3, 6])
+        pairs = [(self.random.randrange(*BUFFERS), self.random.randint(0, most)) for _ in range(count)]
         if pairs and self.odd(6):
             pairs[self.random.randrange(len(pairs))] = self.odd_pair()
         return self.lay_array(pairs), len(pairs)
@@ -328,16 +350,18 @@ class Player:
         """A place in a file, most often near its end or a limit."""
         it = self.host.descriptors.get(fd)
         size = len(it.node.content) if it and it.node else 0
-        if not self.odd(4):
-            return self.random.choice([0, 0, self.random.randrange(40), max(0, size - self.random.randrange(10)), size, size + 5])
+        if not self.odd(3):
+            inside = max(0, size - self.random.randrange(10))
+            return self.random.choice([0, 0, self.random.randrange(40), inside, size, size + 5])
         left = self.host.room - sum(len(node.content) for node in self.host.nodes.values())
-        at = self.random.choice([FILE_SIZE, size + left, size + left, 1 << 32, 1 << 63, 1 << 64])
+        at = self.random.choice([FILE_SIZE] + 4 * [size + left] + [1 << 32, 1 << 63, 1 << 64])
         return min(max(0, at + self.random.choice([-100, -2, -1, 0, 1])), LONG)
 
     # The arguments of each call.
 
     def fd_close(self):
-        number = self.descriptor(self.random.choice([REGULAR_FILE, REGULAR_FILE, DIRECTORY, DIRECTORY, CHARACTER_DEVICE]))
+        kinds = [REGULAR_FILE, DIRECTORY, CHARACTER_DEVICE]
+        number = self.descriptor(self.random.choices(kinds, [2, 2, 1])[0])
         return [4 if self.is_plain and number <= PREOPENED else number]
 
     def any_descriptor(self):
@@ -353,7 +377,8 @@ class Player:
         return [fd, self.show(ret, 1)]
 
     def fd_fdstat_set_flags(self):
-        flags = self.random.choice([32, 33, 1 << 16, WORD]) if self.odd(6) else self.random.choice([0, 0, 1, 1, 4, 30, 31])
+        flags = self.random.choice([0, 0, 1, 1, 4, 30, 31])
+        flags = self.random.choice([32, 33, 1 << 16, WORD]) if self.odd(6) else flags
         return [self.descriptor(REGULAR_FILE), flags & 5 if self.is_plain else flags]
 
     def shown_stat(self, node, ret):
@@ -373,10 +398,14 @@ class Player:
         return [fd, self.offset(fd)]
 
     def shown_buffers(self, iovs, count, ret):
-        """Notes the buffers and the count of a read."""
+        """Notes the buffers and the count of a read. The count may lie over the first buffer."""
+        inside = min(count, 8, max(0, self.size - iovs) // 8)
+        pairs = list(struct.iter_unpack("<II", self.host.memory[iovs : iovs + 8 * inside]))
         if self.is_plain:
-            for at, length in struct.iter_unpack("<II", self.host.memory[iovs : iovs + 8 * count]):
-                self.show(at, length)
+            for pair in pairs:
+                self.show(*pair)
+        if pairs and self.odd(12):
+            ret = pairs[0][0] + self.random.randrange(-3, 3) & WORD
         return [iovs, count], self.show(ret, 4)
 
     def fd_pread(self):
@@ -415,14 +444,16 @@ class Player:
             length = self.random.choice([0, 1, 23, 24, 25, 30, 60, 300, self.size - buffer, self.random.randrange(200)])
             buffer, length = (self.place(length), length) if self.odd(12) else (buffer, min(length, self.size - buffer))
             cookie = self.random.choice([0, 0, 0, 1, 2, 3, 5, 1023, 1 << 32, 1 << 63, LONG])
-        return [fd, self.show(buffer, length), length, cookie, self.show(self.cell(4), 4)]
+        ret = buffer + self.random.randrange(-3, 30) & WORD if self.odd(12) else self.cell(4)
+        return [fd, self.show(buffer, length), length, cookie, self.show(ret, 4)]
 
     def fd_seek(self):
         fd, whence = self.descriptor(REGULAR_FILE), self.random.randrange(3)
         it, delta = self.host.descriptors.get(fd), self.random.choice([0, 1, 3, 10, -1, -2, -10, 1000])
-        now = it.offset if it else 0
+        now = [0, it.offset, len(it.node.content)][whence] if it and it.node else 0
         if self.odd(4):
-            delta = self.random.choice([-now, -now - 1, (1 << 63) - 1, (1 << 63) - 1 - now, -(1 << 63), 1 << 40, 1 << 63, -1])
+            near = self.random.choice([-1, 0, 1])
+            delta = self.random.choice([near - now, (1 << 63) - 1 + near - now, (1 << 63) - 1, -(1 << 63), 1 << 40])
         whence = self.random.choice([3, 4, 256, 258, WORD]) if self.odd(12) else whence
         return [fd, delta & LONG, whence, self.show(self.cell(8), 8)]
 
@@ -434,7 +465,8 @@ class Player:
         return [fd, *self.path(fd, DIRECTORY, True)]
 
     def path_filestat_get(self):
-        fd, flags = self.descriptor(DIRECTORY), self.random.choice([2, 3, WORD]) if self.odd(10) else self.random.randrange(2)
+        fd = self.descriptor(DIRECTORY)
+        flags = self.random.choice([2, 3, WORD]) if self.odd(10) else self.random.randrange(2)
         at, length = self.path(fd, self.random.choice([REGULAR_FILE, DIRECTORY]))
         ret = self.cell(64)
         if self.is_plain:
@@ -444,33 +476,39 @@ class Player:
 
     def path_open(self):
         fd, kind = self.descriptor(DIRECTORY), self.random.choice([REGULAR_FILE, REGULAR_FILE, DIRECTORY])
-        oflags = self.random.choice([0, 0, 1, 1, 1, 5, 9, 8, 4, 13, 12])
+        oflags = self.random.choice([0, 0, 0, 1, 1, 1, 5, 9, 8, 4, 13])
         if kind == DIRECTORY:
             oflags = self.random.choice([0, 2, 2])
         if self.odd(8):
             oflags = self.random.choice([*range(16), 16, 17, 24, 1 << 16, WORD])
         dirflags = self.random.choice([2, 3, 1 << 31]) if self.odd(20) else self.random.randrange(2)
-        fdflags = self.random.choice([2, 8, 31, 32, 33, 1 << 16, WORD]) if self.odd(12) else self.random.choice([0, 0, 0, 1, 4])
+        fdflags = self.random.choice([0, 0, 0, 1, 4])
+        fdflags = self.random.choice([2, 8, 31, 32, 33, 1 << 16, WORD]) if self.odd(12) else fdflags
         base = self.rights(fd, kind)
-        inheriting = 0 if kind == REGULAR_FILE and not self.odd(8) else self.rights(fd, DIRECTORY) | self.rights(fd, REGULAR_FILE)
-        path = self.path(fd, kind, bool(oflags & CREATE))
+        inheriting = 0
+        if kind == DIRECTORY or self.odd(8):
+            inheriting = self.rights(fd, DIRECTORY) | self.rights(fd, REGULAR_FILE)
+        path = self.path(fd, DIRECTORY if self.odd(12) else kind, bool(oflags & CREATE))
         return [fd, dirflags, *path, oflags, base, inheriting, fdflags, self.show(self.cell(4), 4)]
 
     def path_remove_directory(self):
         fd = self.descriptor(DIRECTORY)
-        return [fd, *self.path(fd, DIRECTORY)]
+        return [fd, *self.path(fd, DIRECTORY, is_open=self.odd(3))]
 
     def path_unlink_file(self):
         fd = self.descriptor(DIRECTORY)
-        return [fd, *self.path(fd, REGULAR_FILE)]
+        return [fd, *self.path(fd, REGULAR_FILE, is_open=self.odd(3))]
 
     def path_rename(self):
-        kind, both = self.random.choice([REGULAR_FILE, DIRECTORY]), [self.descriptor(DIRECTORY), self.descriptor(DIRECTORY)]
+        kind = self.random.choice([REGULAR_FILE, DIRECTORY])
+        both = [self.descriptor(DIRECTORY), self.descriptor(DIRECTORY)]
         if self.random.randrange(2):
             both[1] = both[0]
-        source, target = self.path(both[0], kind), self.path(both[1], kind, self.random.randrange(2) == 0)
+        source, is_new = self.path(both[0], kind), self.random.randrange(2) == 0
+        target = self.path(both[1], REGULAR_FILE + DIRECTORY - kind if self.odd(4) else kind, is_new)
         if self.odd(6):
-            target = self.lay_text(bytes(self.host.memory[source[0] : sum(source)])[:600] + self.random.choice([b"", b"/", b"/a", b"/b/c"]))
+            text = bytes(self.host.memory[source[0] : sum(source)])[:600]
+            target = self.lay_text(text + self.random.choice([b"", b"/", b"/a", b"/b/c"]))
         return [both[0], *source, both[1], *target]
 
     def sched_yield(self):
