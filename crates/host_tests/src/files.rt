@@ -1,4 +1,5 @@
-//! Calls on files, descriptors and directories: tables of calls in turn, each call once with ample memory.
+//! Calls on files, descriptors and directories: tables of calls in turn, each call once with ample
+//! memory.
 
 ghost use Rattle.wasi_abi.specs.rules.Calls.{parameters_of};
 ghost use Rattle.wasi_calls.specs.rules.Calls.{IsBuilt, AreArguments};
