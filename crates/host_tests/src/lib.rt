@@ -10,8 +10,6 @@ mod abi;
 #[cfg(test)]
 mod calls;
 #[cfg(test)]
-mod files;
-#[cfg(test)]
 mod processes;
 #[cfg(test)]
 mod sources;
