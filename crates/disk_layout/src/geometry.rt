@@ -9,6 +9,12 @@ use sector_disk::SECTOR_SIZE;
 use wasi_abi::Config;
 use wasm_syntax::Row;
 
+/// Sectors of an area for all but memory and files.
+const AREA_REST_SECTORS: u32 = 2048;
+
+/// Sectors of an area for a page of memory, or for a unit of files.
+const UNIT_SECTORS: u32 = 128;
+
 /// The first sector of configuration and module. Before it stand the super and the two heads.
 pub const MODULE_PLACE: u64 = 3;
 
@@ -35,7 +41,7 @@ impl Geometry {
             config: config_len as u32,
             wasm: module_len,
             module_sectors: sectors_of(config_len + u64::from(module_len)) as u32,
-            area_sectors: 2048 + 128 * (config.pages() + config.files()),
+            area_sectors: AREA_REST_SECTORS + UNIT_SECTORS * (config.pages() + config.files()),
             journal_sectors: config.journal(),
         }
     }

@@ -2,11 +2,9 @@
 use Rattle.std.proofs.Common.{◌≡◌, inr, ℕ, ◌+◌, ◌<◌, ◌≤◌, ◌^◌, Bool, false, List, [], Option, Some, None, refl, sym, ap, ◌∙◌, arith}
 use Rattle.std.specs.Prelude.{is_some, Ok, Err}
 use Rattle.std.specs.Option.{option_map}
-use Rattle.std.specs.List.{AllByRecursion}
 use Rattle.wasi_abi.specs.declared.answer.Answer.{Answer}
 use Rattle.wasi_abi.specs.declared.answer.Answer.TheVariants as answer
 use Rattle.wasi_abi.specs.declared.call.Call.{Call}
-use Rattle.wasi_calls.specs.rules.Calls.{IsBuilt}
 use Rattle.wasi_calls.specs.rules.Held.{HeldHost}
 use Rattle.machine.specs.rules.Values.{MachineValue}
 use Rattle.process_rules.specs.Processes.{ProcessState, Guest}
@@ -123,16 +121,15 @@ module _ (m new : MachineValue) (h held : HeldHost) (steps answers requests : �
           };
         }
 
-    pub is_process_given : AllByRecursion IsBuilt guest.calls → steps + 1 < 2 ^ 63
+    pub is_process_given : steps + 1 < 2 ^ 63
         → answers ≤ steps → requests ≤ answers → HasFewLines held → IsProcess given
-    is_process_given built few_steps few_answers few_requests few_lines =
+    is_process_given few_steps few_answers few_requests few_lines =
         let t = takes_answer in
         let one : request_taken (Some answer) ≤ 1 = one_request answer in
         record {
           guest = guest;
           process = t.process;
           shows = t.shows;
-          built = built;
           few_steps = few_steps;
           few_answers = omega (arith, few_answers);
           few_requests = omega (arith, few_requests, counts, one);

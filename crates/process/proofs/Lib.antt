@@ -1,8 +1,8 @@
-pub mod Built
 pub mod Lines
 pub mod Making
 pub mod Made
 pub mod Beyond
+pub mod Named
 pub mod NumberLaws
 pub mod Stretching
 pub mod Counting

@@ -1,7 +1,6 @@
 -- The process of a module that begins.
 use Rattle.std.proofs.Common.{◌≡◌, ℕ, List, [], Option, Some, None, refl, sym, ap, ◌∙◌, subst, arith}
 use Rattle.std.specs.Prelude.{codes}
-use Rattle.std.specs.List.{AllByRecursion}
 use Rattle.wasm_syntax.specs.declared.module.Module.{Module}
 use Rattle.wasm_syntax.specs.declared.module.ExportItem.TheVariants as export
 use Rattle.wasm_syntax_rules.specs.Validity.{IsValid}
@@ -9,7 +8,6 @@ use Rattle.wasm_syntax_rules.specs.Configuration.{Program, Configuration}
 use Rattle.wasm_syntax_rules.specs.Instantiation.{Begins}
 use Rattle.wasi_abi.specs.declared.call.Call.{Call}
 use Rattle.wasi_abi.specs.rules.Configs.{Settings}
-use Rattle.wasi_calls.specs.rules.Calls.{IsBuilt}
 use Rattle.wasi_calls_rules.specs.Hosts.{Host}
 use Rattle.wasi_calls.specs.rules.Held.{HeldHost, ShowsHost, held_ended}
 use Rattle.machine.specs.rules.Values.{MachineValue, ShowsIn}
@@ -21,7 +19,7 @@ use Rattle.process.specs.declared.stop.ProcessEnd.{ProcessEnd}
 use Rattle.process.specs.rules.Values.{ShowsProcess, IsProcess, HasStarted, ending_of, process_of}
 use Rattle.process.specs.Parts.{HasFewLines}
 use Rattle.process.specs.Callings.{EndsAt, IsEndedBy}
-use Rattle.process.proofs.Built.{some_calls}
+use Rattle.process.proofs.Named.{some_calls}
 use Rattle.process.proofs.Making.{closed_over}
 
 -- the process before its first rule
@@ -84,7 +82,7 @@ module _ (m : Module) (config : Settings) (valid : IsValid m) (machine : Machine
     shows_start : (guest : Guest) (p : ProcessState) → IsStart m config guest p → ShowsProcess (process_of machine last 0 0 0 ended) guest p
     shows_start guest p s = at_start guest p s ended (ends guest.program s.first (host_of config) (begun_at guest p s) first_shown)
 
-    calls : (calls : List Call) × AreCalls m.imports calls × AllByRecursion IsBuilt calls
+    calls : (calls : List Call) × AreCalls m.imports calls
     calls = some_calls m.types m.imports begun.linkable.imports
 
     guest_of : Guest
@@ -122,7 +120,6 @@ module _ (m : Module) (config : Settings) (valid : IsValid m) (machine : Machine
           guest = guest_of;
           process = first_of;
           shows = shows_start guest_of first_of is_first;
-          built = calls.2;
           few_steps = omega arith;
           few_answers = omega arith;
           few_requests = omega arith;

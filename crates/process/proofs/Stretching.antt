@@ -11,7 +11,7 @@ use Rattle.wasi_abi.specs.rules.Calls.{parameters_of}
 use Rattle.wasi_calls_rules.specs.Hosts.{Host, Line}
 use Rattle.wasi_calls_rules.specs.Lines.{lines_ended}
 use Rattle.wasi_calls.specs.rules.Held.{HeldHost, ShowsHost, held_ended}
-use Rattle.wasi_calls.specs.rules.Calls.{IsBuilt, AreArguments}
+use Rattle.wasi_calls.specs.rules.Calls.{AreArguments}
 use Rattle.machine.specs.declared.turns.pause.Pause.{Pause}
 use Rattle.machine.specs.declared.turns.pause.Pause.TheVariants as pause
 use Rattle.machine.specs.rules.Values.{MachineValue, ShowsIn, IsSameMachine}
@@ -33,7 +33,7 @@ use Rattle.process.specs.declared.turn.Stretch.{Stretch}
 use Rattle.process.specs.rules.Values.{ending_of}
 use Rattle.process.specs.Parts.{ShowsParts, IsAtCall, WaitsAtCall}
 use Rattle.process.specs.Stretches.{ComesOn, ComesBy, ComesToShown, StepsAt, stop_after}
-use Rattle.process.proofs.Waiting.{at_call, is_built, are_typed}
+use Rattle.process.proofs.Waiting.{at_call, are_typed}
 use Rattle.process.proofs.Lines.{same_lines, other_lines}
 
 -- ---- joining
@@ -147,9 +147,6 @@ module _ (old new : MachineValue) (held : HeldHost) (same : IsSameMachine old ne
 
       pub is_at : IsAtCall guest a.configuration c arguments
       is_at = at_call new guest calls_still a.configuration c arguments h.1
-
-      pub call_is_built : IsBuilt c
-      call_is_built = is_built new guest calls_still a.configuration c arguments h.1
 
       pub call_is_typed : AreArguments (parameters_of c) arguments
       call_is_typed = are_typed new guest calls_still a.configuration c arguments h.1

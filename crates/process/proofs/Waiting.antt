@@ -14,13 +14,13 @@ use Rattle.wasi_calls_rules.specs.Checks.{Bytes, Ruling, Refuses, Ends, Asks as 
 use Rattle.wasi_calls_rules.specs.Rows.{row}
 use Rattle.wasi_calls_rules.proofs.AskingOnce.{rows_ask_once}
 use Rattle.wasi_calls.specs.rules.Held.{HeldHost, ShowsHost}
-use Rattle.wasi_calls.specs.rules.Calls.{IsBuilt, AreArguments, wish_of}
+use Rattle.wasi_calls.specs.rules.Calls.{AreArguments, wish_of}
 use Rattle.machine.specs.rules.Values.{MachineValue}
 use Rattle.machine.specs.rules.Runs.{AsksFor, AsksNothing}
 use Rattle.process_rules.specs.Processes.{ProcessState, Guest, AreCalls}
 use Rattle.process_rules.specs.Runs.{Wants, after_row, after_rule, next_of, IsWanted}
 use Rattle.process.specs.Parts.{ShowsParts, IsAtCall}
-use Rattle.process.proofs.Built.{same_calls, call_built, arguments_typed}
+use Rattle.process.proofs.Named.{same_calls, arguments_typed}
 use Rattle.process.proofs.Making.{next_is}
 
 -- ---- what the machine tells of it
@@ -42,9 +42,6 @@ module _ (m : MachineValue) (guest : Guest) (calls : AreCalls m.guest.imports gu
         is_host = asks.is_host;
         are = asks.are;
       }
-
-  pub is_built : IsBuilt c
-  is_built = call_built m.guest.imports asks.calls asks.function c asks.are_calls asks.is_call
 
   pub are_typed : AreArguments (parameters_of c) arguments
   are_typed =

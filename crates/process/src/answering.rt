@@ -2,7 +2,7 @@
 
 ghost use Rattle.std.specs.Prelude.{◌≡◌, ◌↔◌, IsTrue, Some};
 ghost use Rattle.wasi_abi.specs.rules.Calls.{parameters_of};
-ghost use Rattle.wasi_calls.specs.rules.Calls.{IsBuilt, AreArguments};
+ghost use Rattle.wasi_calls.specs.rules.Calls.{AreArguments};
 ghost use Rattle.machine.specs.rules.Values.{HoldsMemory};
 ghost use Rattle.process_rules.specs.Processes.{Guest, ProcessState};
 ghost use Rattle.process_rules.specs.Runs.{IsWanted, request_taken};
@@ -29,7 +29,6 @@ pub fn count_requests(answer: &Answer) -> u64
 
 /// Whether a call that waits wants this answer.
 fn wants(machine: &Machine, host: &Host, call: Call, arguments: &[u64], answer: &Answer) -> bool
-    requires built { IsBuilt call }
     requires typed { AreArguments (parameters_of call) arguments.now }
     ensures { (guest : Guest) (p : ProcessState) → ShowsParts machine.now host.now guest p
         → IsAtCall guest p.configuration call arguments.now

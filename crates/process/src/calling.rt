@@ -6,7 +6,7 @@ ghost use Rattle.wasi_abi.specs.rules.Calls.{parameters_of};
 ghost use Rattle.wasi_calls_rules.specs.Rows.{IsSync};
 ghost use Rattle.wasi_calls_rules.specs.Hosts.{Host as TheHost};
 ghost use Rattle.wasi_calls.specs.rules.Held.{ShowsHost};
-ghost use Rattle.wasi_calls.specs.rules.Calls.{IsBuilt, AreArguments};
+ghost use Rattle.wasi_calls.specs.rules.Calls.{AreArguments};
 ghost use Rattle.machine.specs.rules.Answers.{call_results};
 ghost use Rattle.machine.specs.rules.Values.{HoldsMemory, IsSameMachine, ShowsIn};
 ghost use Rattle.machine.specs.rules.Runs.{WaitsFor};
@@ -18,7 +18,7 @@ use crate::stop::ProcessEnd;
 use guest_memory::laws::are_bytes;
 use machine::Machine;
 use std::alloc::Global;
-use wasi_abi::{Answer, Call, Errno, Kind};
+use wasi_abi::{Answer, Call, Errno, Kind, NUMBERS_END};
 use wasi_calls::{CallOutcome, Host, lines_begun};
 use wasi_calls_rules::limits::MOVED_BYTES;
 
@@ -33,9 +33,6 @@ pub enum Called {
     /// It wants this answer.
     Asks(Kind),
 }
-
-/// Numbers of steps are below this one.
-pub const NUMBERS_END: u64 = 1 << 63;
 
 /// Numbers of lines are below this one, unfinished lines counted.
 const LINES_END: u64 = NUMBERS_END - 2;
@@ -72,7 +69,6 @@ fn has_synced(call: Call, error: Option<Errno>) -> bool
 /// Whether the lines that there are after this call can be numbered, unfinished ones counted. An
 /// end adds none to these.
 fn has_numbers(machine: &Machine, host: &Host, call: Call, arguments: &[u64]) -> bool
-    requires built { IsBuilt call }
     requires typed { AreArguments (parameters_of call) arguments.now }
     requires few { HasFewLines host.now }
     ensures few { result ≡ true → HasNumbers machine.now host.now call arguments.now }
@@ -96,7 +92,6 @@ fn call_host(
     arguments: &[u64],
     answer: Option<&Answer>,
 ) -> CallOutcome
-    requires built { IsBuilt call }
     requires typed { AreArguments (parameters_of call) arguments.now }
     ensures made { HasCalled machine.old host.old call arguments.now (option_copied answer.entry) result machine.new host.new }
 {
@@ -140,7 +135,6 @@ pub fn make(
     arguments: &[u64],
     answer: Option<&Answer>,
 ) -> Result<Called, ProcessFault>
-    requires built { IsBuilt call }
     requires typed { AreArguments (parameters_of call) arguments.now }
     requires holds { HoldsMemory machine.old }
     requires waits { WaitsAtCall machine.old host.old call arguments.now }

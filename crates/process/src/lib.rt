@@ -11,8 +11,6 @@
 //!   then shows (`advances`).
 //! - `give` takes an answer only where that is wanted and no line waits (`gives`). It makes the
 //!   waiting call with it, as one step, and runs nothing else. After an error nothing has changed.
-//!   This holds whichever calls are built. None of these wants an answer, so today it refuses every
-//!   one.
 //! - `released` takes the first lines off that wait, and changes nothing else.
 //! - `steps`, `answers`, `requests`, `lines`, `waiting` and `memory` say what it holds. Steps are
 //!   below 2^63, and lines below 2^63 - 2, unfinished ones counted. `P3 StepsSpent` is told where

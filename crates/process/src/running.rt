@@ -4,12 +4,11 @@ ghost use Rattle.std.specs.Prelude.{◌≡◌, ◌+◌, ◌<◌, ◌≤◌, ◌^
 ghost use Rattle.process.specs.rules.Stops.{is_spent, told};
 
 use crate::answering::{answer_call, count_requests};
-use crate::calling::NUMBERS_END;
 use crate::fault::ProcessFault;
 use crate::process::Process;
 use crate::stop::Stop;
 use crate::turn::take_steps;
-use wasi_abi::Answer;
+use wasi_abi::{Answer, NUMBERS_END};
 
 /// As much of the fuel as can be counted after so many steps.
 fn cap_fuel(fuel: u64, steps: u64) -> u64

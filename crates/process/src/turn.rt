@@ -1,7 +1,7 @@
 //! Turns of a process: the machine runs, and then the host is called, or the process ends.
 
 ghost use Rattle.std.specs.Prelude.{◌≡◌, [], false};
-ghost use Rattle.wasi_calls.specs.rules.Calls.{IsBuilt, AreArguments};
+ghost use Rattle.wasi_calls.specs.rules.Calls.{AreArguments};
 ghost use Rattle.wasi_abi.specs.rules.Calls.{parameters_of};
 ghost use Rattle.wasi_calls_rules.specs.Hosts.{Host as TheHost};
 ghost use Rattle.wasi_calls_rules.specs.Lines.{lines_ended};
@@ -98,7 +98,6 @@ fn step(
     call: Call,
     arguments: &[u64],
 ) -> Stretch
-    requires built { IsBuilt call }
     requires typed { AreArguments (parameters_of call) arguments.now }
     requires holds { HoldsMemory machine.old }
     requires waits { WaitsAtCall machine.old host.old call arguments.now }

@@ -16,7 +16,8 @@ const LEAST_JOURNAL: u64 = 64;
 
 const MOST_JOURNAL: u64 = 65_536;
 
-const MOST_TEXTS: usize = 64;
+/// The most arguments, and the most entries of an environment.
+pub const MOST_TEXTS: usize = 64;
 
 const LONGEST_TEXT: usize = 1024;
 

@@ -44,7 +44,7 @@ mod rights;
 
 pub use answer::{Answer, Kind, fits};
 pub use call::{Call, MODULE_NAME};
-pub use config::{Config, ConfigFault};
+pub use config::{Config, ConfigFault, MOST_TEXTS};
 pub use errno::Errno;
 pub use file_type::FileType;
 pub use flags::{DescriptorFlags, OpenFlags, Whence};

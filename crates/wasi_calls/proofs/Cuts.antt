@@ -2,12 +2,10 @@
 use Rattle.std.proofs.Common.{◌≡◌, ℕ, suc, ◌+◌, ◌<◌, ◌≤◌, List, [], ◌∷◌, ◌++◌, length, drop, get_or, refl, sym, ap, ◌∙◌, arith, append_assoc, drop-cons, add-one, length-append}
 use Rattle.std.specs.Prelude.{Bool, true, false, if◌then◌else◌, ◌==◌, ◌&&◌, not, nat_lt}
 use Rattle.wasi_calls_rules.specs.Checks.{has_no_newline}
-use Rattle.std.specs.List.{AllByRecursion}
-use Rattle.std.proofs.lemmas.Bool.{ltb-true, lt-ltb, eqb-false}
+use Rattle.std.proofs.lemmas.Bool.{lt-ltb}
 use Rattle.std.proofs.lemmas.List.{append-nil}
-use Rattle.guest_memory.specs.rules.Bytes.{IsByte}
-use Rattle.wasi_abi.specs.rules.Answers.{newline, IsNoNewline, AreBytes}
-use Rattle.wasi_calls_rules.specs.Hosts.{Line, IsUnfinished}
+use Rattle.wasi_abi.specs.rules.Answers.{newline}
+use Rattle.wasi_calls_rules.specs.Hosts.{Line}
 use Rattle.wasi_calls_rules.specs.Lines.{Cut, cut_byte, cut_all}
 use Rattle.wasi_calls_rules.specs.declared.limits.TheConstants.{LINE_BYTES}
 

@@ -1,16 +1,13 @@
 -- Descriptors: those that a process begins with, and one that is open.
-use Rattle.std.proofs.Common.{◌≡◌, ℕ, zero, suc, ◌+◌, ◌-◌, ◌≤◌, List, [], ◌∷◌, ◌++◌, refl, sym, ap, ◌∙◌, arith, append_assoc, replicate, inl, inr}
-use Rattle.std.specs.Prelude.{Bool, true, false, ◌==◌, Option, Some, None, Ok, IfSome, slice_get}
-use Rattle.std.specs.List.{AllByRecursion}
-use Rattle.std.proofs.lemmas.Bool.Decides.{eqb_tells}
+use Rattle.std.proofs.Common.{◌≡◌, ℕ, ◌+◌, ◌-◌, ◌≤◌, List, [], ◌∷◌, ◌++◌, refl, sym, ap, ◌∙◌, arith, append_assoc, replicate}
+use Rattle.std.specs.Prelude.{Option, Some, None, Ok, slice_get}
 use Rattle.std.proofs.lemmas.List.{replicate-append-replicate}
-use Rattle.file_tree.specs.rules.Files.{Files}
-use Rattle.wasi_abi.specs.rules.Numbers.{has_right, fd_write_right, input_rights, output_rights, directory_rights, all_rights}
-use Rattle.wasi_abi.specs.declared.errno.Errno.TheVariants.{Badf, Notcapable}
-use Rattle.wasi_calls_rules.specs.Hosts.{Target, Stream, Node, Descriptor, Host, stream, first_descriptors, IsThere, IsDescriptor, IsHost}
-use Rattle.wasi_calls_rules.specs.Checks.{◌>>=◌, check_or, some_or, flat, is_stream, open_descriptor, names_directory}
+use Rattle.wasi_abi.specs.rules.Numbers.{input_rights, output_rights, directory_rights, all_rights}
+use Rattle.wasi_abi.specs.declared.errno.Errno.TheVariants.{Badf}
+use Rattle.wasi_calls_rules.specs.Hosts.{Node, Descriptor, Host, stream, first_descriptors, IsDescriptor, IsHost}
+use Rattle.wasi_calls_rules.specs.Checks.{some_or, flat, open_descriptor}
 use Rattle.wasi_calls_rules.specs.Small.{with_descriptor}
-use Rattle.wasi_calls_rules.proofs.Tables.{is_descriptor, IsLike}
+use Rattle.wasi_calls_rules.proofs.Tables.{is_descriptor}
 use Rattle.wasi_calls_rules.proofs.KeepsHosts.{stands, like_host}
 
 -- one more that is not open

@@ -1,7 +1,7 @@
 -- A call adds no more lines than it moves bytes, unfinished ones counted.
-use Rattle.std.proofs.Common.{◌≡◌, ℕ, ◌+◌, ◌≤◌, List, ◌++◌, length, refl, arith}
+use Rattle.std.proofs.Common.{◌≡◌, ◌+◌, ◌≤◌, length, refl, arith}
 use Rattle.wasi_calls_rules.specs.Hosts.{Host}
-use Rattle.wasi_calls_rules.specs.Lines.{rest_of, lines_ended}
+use Rattle.wasi_calls_rules.specs.Lines.{lines_ended}
 use Rattle.wasi_calls_rules.specs.declared.limits.TheConstants.{MOVED_BYTES}
 use Rattle.wasi_calls_rules.proofs.EmitsLines.{KeepsLines, WritesFew, keeps, writes, rows_write_few}
 use Rattle.wasi_calls.specs.laws.Laws.{CallsBeginFew}
@@ -25,5 +25,5 @@ few before after (writes s bytes short is) =
     ))
 
 pub calls_begin_few : CallsBeginFew
-calls_begin_few c built arguments given m h done e =
+calls_begin_few c arguments given m h done e =
     few h done.host (rows_write_few c arguments given m h done e)

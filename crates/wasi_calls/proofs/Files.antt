@@ -1,9 +1,8 @@
 -- Files of a host that are cut or made longer.
-use Rattle.std.proofs.Common.{◌≡◌, ℕ, ◌+◌, ◌≤◌, ◌<◌, List, [], ◌∷◌, ◌++◌, length, take, replicate, refl, subst, arith, length-take, length-append}
+use Rattle.std.proofs.Common.{◌≡◌, ℕ, ◌+◌, ◌≤◌, List, length}
 use Rattle.std.specs.Prelude.{false}
-use Rattle.guest_memory.specs.rules.Bytes.{IsByte}
 use Rattle.file_tree.specs.rules.Bytes.{resized}
-use Rattle.file_tree.specs.rules.Files.{Files, is_directory, bytes_of_node, used, with_file_bytes}
+use Rattle.file_tree.specs.rules.Files.{is_directory, bytes_of_node, used, with_file_bytes}
 use Rattle.file_tree.specs.declared.limits.TheConstants.{FILE_BYTES}
 use Rattle.wasi_abi.specs.rules.Answers.{AreBytes}
 use Rattle.wasi_calls_rules.specs.Hosts.{Host, Node, IsThere, IsHost}

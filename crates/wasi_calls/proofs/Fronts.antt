@@ -1,8 +1,8 @@
 -- The buffers that a call moves bytes of: how they are read, and what the rules' buffers have to do with them.
-use Rattle.std.proofs.Common.{◌≡◌, ℕ, zero, suc, ◌+◌, ◌-◌, ◌*◌, ◌<◌, ◌≤◌, min, inl, inr, List, [], ◌∷◌, ◌++◌, length, take, drop, refl, sym, ap, ◌∙◌, append_assoc, arith, length-take, length-drop, length-append}
+use Rattle.std.proofs.Common.{◌≡◌, ℕ, zero, suc, ◌+◌, ◌-◌, ◌*◌, ◌<◌, ◌≤◌, min, inl, inr, List, [], ◌∷◌, ◌++◌, length, take, drop, refl, sym, ap, ◌∙◌, append_assoc, arith, length-drop, length-append}
 use Rattle.std.specs.Prelude.{Bool, true, false, ◌&&◌, nat_le, sum_by, Result, Ok, Err}
-use Rattle.std.specs.List.{AllByRecursion, list_all}
-use Rattle.std.proofs.lemmas.Bool.{cases_lt, le-leb, leb-true}
+use Rattle.std.specs.List.{list_all}
+use Rattle.std.proofs.lemmas.Bool.{cases_lt, le-leb}
 use Rattle.std.proofs.lemmas.List.Sums.{sum_by-cons}
 use Rattle.std.proofs.lemmas.List.{append-nil, take-append-le, take_all, take-take, drop_all}
 use Rattle.std.proofs.Math.Seq.{take-append-add}
@@ -13,9 +13,8 @@ use Rattle.guest_memory.proofs.Lists.{all_both, all_take, all_drop}
 use Rattle.wasi_abi.specs.rules.Answers.{AreBytes}
 use Rattle.wasi_abi.specs.declared.errno.Errno.TheVariants.{Fault}
 use Rattle.wasi_abi.specs.rules.Layouts.{u32_at}
-use Rattle.wasi_calls_rules.specs.Checks.{Bytes, Halt, Refuses, ◌>>=◌, check_or, in_memory, Buffer, buffers, buffers_at, is_inside, few_buffers, movable, gathered, scattered}
+use Rattle.wasi_calls_rules.specs.Checks.{Bytes, Halt, Refuses, ◌>>=◌, check_or, in_memory, Buffer, buffers_at, is_inside, few_buffers, gathered, scattered}
 use Rattle.wasi_calls_rules.specs.declared.limits.TheConstants.{IOVECS, MOVED_BYTES}
-use Rattle.wasi_calls_rules.proofs.Puts.{all_lie}
 use Rattle.wasi_calls.specs.Moves.{total_len, fronts, AreInside, moved_buffers}
 
 -- ---- lengths

@@ -1,5 +1,5 @@
 -- A host after something was written is one.
-use Rattle.std.proofs.Common.{ℕ, List, arith, inl, inr}
+use Rattle.std.proofs.Common.{ℕ, List, inl, inr}
 use Rattle.std.proofs.lemmas.Bool.Decides.{eqb_tells}
 use Rattle.wasi_calls_rules.specs.Hosts.{Line, Host, IsUnfinished, IsHost}
 use Rattle.wasi_calls.specs.rules.Outputs.{Output, output_written}

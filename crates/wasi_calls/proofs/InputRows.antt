@@ -1,7 +1,7 @@
 -- What the rules say of input, once it is known whether a line is there to read.
-use Rattle.std.proofs.Common.{◌≡◌, ℕ, ◌+◌, ◌<◌, ◌≤◌, List, [], ◌∷◌, length, take, drop, refl, sym, ap, ◌∙◌, arith}
-use Rattle.std.specs.Prelude.{◌≢◌, Bool, true, false, ◌==◌, if◌then◌else◌, Option, Some, None, Result, Ok, Err}
-use Rattle.std.proofs.lemmas.Bool.{ne_eqb}
+use Rattle.std.proofs.Common.{◌≡◌, ℕ, [], refl, ap, ◌∙◌}
+use Rattle.std.specs.Prelude.{Bool, true, false, if◌then◌else◌, Some, None, Result, Ok, Err}
+use Rattle.wasi_abi.specs.declared.answer.Kind.{Kind}
 use Rattle.wasi_abi.specs.declared.answer.Kind.TheVariants as kind
 use Rattle.wasi_abi.specs.declared.answer.Answer.{Answer}
 use Rattle.wasi_abi.specs.rules.Answers.{Fits}
@@ -11,16 +11,27 @@ use Rattle.wasi_calls_rules.specs.Moving.{has_bytes}
 use Rattle.wasi_calls_rules.proofs.Fitting.{tests_tell}
 use Rattle.wasi_calls.specs.Moves.{supplied, line_taken}
 
-fit_test : (limit : ℕ) (a : Answer) → Fits limit kind.Request a
-    → does_fit limit kind.Request a ≡ true
-fit_test limit a fits = (tests_tell limit kind.Request a).1 fits
+fit_test : (limit : ℕ) (k : Kind) (a : Answer) → Fits limit k a → does_fit limit k a ≡ true
+fit_test limit k a fits = (tests_tell limit k a).1 fits
 
-no_fit_test : (limit : ℕ) (a : Answer) → (Fits limit kind.Request a → ⊥)
-    → does_fit limit kind.Request a ≡ false
-no_fit_test limit a none = by_test (does_fit limit kind.Request a) refl where
-  by_test : (p : Bool) → does_fit limit kind.Request a ≡ p → p ≡ false
-  by_test true e = absurd (none ((tests_tell limit kind.Request a).0 e))
+no_fit_test : (limit : ℕ) (k : Kind) (a : Answer) → (Fits limit k a → ⊥)
+    → does_fit limit k a ≡ false
+no_fit_test limit k a none = by_test (does_fit limit k a) refl where
+  by_test : (p : Bool) → does_fit limit k a ≡ p → p ≡ false
+  by_test true e = absurd (none ((tests_tell limit k a).0 e))
   by_test false e = refl
+
+-- an answer that fits is taken
+pub takes_answer : (h : Host) (k : Kind) (a : Answer) → Fits h.limit k a
+    → answered_by h k (Some a) ≡ Ok a
+takes_answer h k a fits =
+    ap (λ (p : Bool). asked k (if p then Some a else None)) (fit_test h.limit k a fits)
+
+-- one that doesn't fit is asked for again
+pub asks_for_another : (h : Host) (k : Kind) (a : Answer) → (Fits h.limit k a → ⊥)
+    → answered_by h k (Some a) ≡ Err (Asks k)
+asks_for_another h k a no_fit =
+    ap (λ (p : Bool). asked k (if p then Some a else None)) (no_fit_test h.limit k a no_fit)
 
 module _ (h : Host) (a : Answer) (none : h.unread ≡ []) (open_still : h.input_ended ≡ false) where
   -- what is done with an answer, by whether it fits
@@ -34,8 +45,8 @@ module _ (h : Host) (a : Answer) (none : h.unread ≡ []) (open_still : h.input_
       ∙ ap (λ (p : Bool). if p then Ok h else by_fit (does_fit h.limit kind.Request a)) open_still
 
   pub asks_again : (Fits h.limit kind.Request a → ⊥) → supplied (Some a) h ≡ Err (Asks kind.Request)
-  asks_again no_fit = supplied_is ∙ ap by_fit (no_fit_test h.limit a no_fit)
+  asks_again no_fit = supplied_is ∙ ap by_fit (no_fit_test h.limit kind.Request a no_fit)
 
   pub takes_line : (r : Result Host Halt) → Fits h.limit kind.Request a → line_taken a h ≡ r
       → supplied (Some a) h ≡ r
-  takes_line r fits is = supplied_is ∙ ap by_fit (fit_test h.limit a fits) ∙ is
+  takes_line r fits is = supplied_is ∙ ap by_fit (fit_test h.limit kind.Request a fits) ∙ is

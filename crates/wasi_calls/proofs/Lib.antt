@@ -12,6 +12,7 @@ pub mod LinesInFront
 pub mod FewLines
 pub mod Emitted
 pub mod Listings
+pub mod TextLemmas
 pub mod Openings
 pub mod Renamings
 pub mod Files

@@ -30,7 +30,7 @@ front_of (suc n) (x ∷ xs) ys =
     ap (λ (zs : List ℕ). x ∷ zs) (front_of n xs ys)
     ∙ ap (λ (k : ℕ). x ∷ (take n xs ++ take k ys)) left
 
-part_twice : (m x y : List ℕ) (a : ℕ) → a + length x ≤ length m
+pub part_twice : (m x y : List ℕ) (a : ℕ) → a + length x ≤ length m
     → with_part (with_part m a x) (a + length x) y ≡ with_part m a (x ++ y)
 part_twice m x y a h =
     let p : List ℕ = take a m ++ x in
@@ -104,7 +104,7 @@ put_both into after last done now piece other h e f g =
     g ∙ (put_more (with_part into done all) (done + length all) into done piece other after now
     (record { within = h; bytes = refl; many = refl }) e f).bytes
 
-put_none : (into : List ℕ) (done : ℕ) (piece : List ℕ) → done ≤ length into → piece ≡ []
+pub put_none : (into : List ℕ) (done : ℕ) (piece : List ℕ) → done ≤ length into → piece ≡ []
     → (with_part into done piece ≡ into) × (done + length piece ≡ done)
 put_none into done piece h e =
     let same : done + 0 ≡ done = omega arith in (

@@ -1,5 +1,5 @@
 -- The rules of reads, and of writes at a place, don't look at the lines that were emitted before.
-use Rattle.std.proofs.Common.{◌≡◌, ℕ, ◌+◌, List, [], ◌∷◌, ◌++◌, length, take, drop, refl}
+use Rattle.std.proofs.Common.{◌≡◌, ℕ, List, length, take, refl}
 use Rattle.std.specs.Prelude.{Bool, true, false, ◌==◌, if◌then◌else◌, Option, Result, Ok, Err}
 use Rattle.guest_memory.specs.rules.Bytes.{with_part}
 use Rattle.wasi_abi.specs.declared.answer.Answer.{Answer}
@@ -14,7 +14,7 @@ use Rattle.wasi_calls_rules.specs.Checks.{in_memory, movable, gathered, scattere
 use Rattle.wasi_calls_rules.specs.Checks.{answered_by}
 use Rattle.wasi_calls_rules.specs.Small.{call_done}
 use Rattle.wasi_calls_rules.specs.Moving.{Got, input_taken, has_bytes, input_read, target_read}
-use Rattle.wasi_calls_rules.specs.Moving.{file_read, fd_read, fd_pread, file_written, fd_pwrite}
+use Rattle.wasi_calls_rules.specs.Moving.{fd_read, fd_pread, file_written, fd_pwrite}
 use Rattle.wasi_calls.specs.rules.Held.{behind_lines, behind_lines_of_row}
 use Rattle.wasi_calls.proofs.LinesInFront.{next, host_next, file_behind}
 use Rattle.wasi_calls.proofs.SmallInFront.{IsBehind}

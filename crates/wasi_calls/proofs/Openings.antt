@@ -1,5 +1,5 @@
 -- Nodes that are opened, and the numbers of their descriptors.
-use Rattle.std.proofs.Common.{◌≡◌, ℕ, zero, suc, ◌+◌, ◌<◌, List, [], ◌∷◌, ◌++◌, length, sym, subst, arith}
+use Rattle.std.proofs.Common.{◌≡◌, ℕ, zero, suc, ◌<◌, List, [], ◌∷◌, ◌++◌, length, sym, subst, arith}
 use Rattle.std.specs.Prelude.{true, Option, Some, None, Ok, IfSome, slice_get, slice_set}
 use Rattle.file_tree.specs.rules.Files.{Path, File, Files, IsFiles, is_directory, created}
 use Rattle.wasi_calls_rules.specs.Hosts.{Node, Descriptor, Host, IsThere, IsDescriptor, IsHost}

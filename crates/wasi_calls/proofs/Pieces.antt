@@ -1,15 +1,12 @@
 -- Buffers gone through one after another: what is left of their bytes, and what was put into them.
-use Rattle.std.proofs.Common.{◌≡◌, ℕ, ◌+◌, ◌-◌, ◌<◌, ◌≤◌, min, inl, inr, List, [], ◌∷◌, ◌++◌, length, take, drop, get_or, refl, sym, ap, ◌∙◌, append_assoc, arith, length-take, length-drop, length-append}
+use Rattle.std.proofs.Common.{◌≡◌, ℕ, ◌+◌, ◌<◌, ◌≤◌, inl, inr, List, [], ◌∷◌, ◌++◌, length, take, drop, get_or, refl, sym, ap, ◌∙◌, append_assoc, arith, length-take, length-drop, length-append}
 use Rattle.std.specs.Prelude.{Bool, true, false, ◌&&◌, ◌==◌, not}
-use Rattle.std.specs.List.{AllByRecursion, list_all}
 use Rattle.std.proofs.lemmas.Bool.{cases_lt}
-use Rattle.std.proofs.lemmas.List.{append-nil, take_all, take-take, drop_more, drop_all, drop-drop, drop-take, drop-append-le, take-append-drop}
+use Rattle.std.proofs.lemmas.List.{take_all, take-take, drop_more, drop_all, drop-drop, drop-take, drop-append-le, take-append-drop}
 use Rattle.guest_memory.specs.rules.Bytes.{part, with_part}
 use Rattle.guest_memory.proofs.Ranges.{length-with_part}
-use Rattle.wasi_calls_rules.specs.Hosts.{Line}
 use Rattle.wasi_calls_rules.specs.Checks.{Bytes, Buffer, gathered, scattered, has_no_newline}
 use Rattle.wasi_calls_rules.specs.Lines.{Cut, cut_byte, cut_all}
-use Rattle.wasi_calls_rules.proofs.Puts.{IsKept}
 use Rattle.wasi_calls.specs.Moves.{total_len, AreInside}
 
 -- ---- one buffer more

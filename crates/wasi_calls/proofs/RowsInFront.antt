@@ -1,5 +1,5 @@
 -- With other lines in front each call does the same.
-use Rattle.std.proofs.Common.{◌≡◌, ℕ, List, [], ◌∷◌, refl}
+use Rattle.std.proofs.Common.{ℕ, List, [], ◌∷◌, refl}
 use Rattle.std.specs.Prelude.{Option}
 use Rattle.wasi_abi.specs.declared.answer.Answer.{Answer}
 use Rattle.wasi_abi.specs.declared.call.Call.{Call}
@@ -8,7 +8,6 @@ use Rattle.wasi_abi.specs.rules.Numbers.{fd_datasync_right, fd_sync_right}
 use Rattle.wasi_calls_rules.specs.Hosts.{Line, Host}
 use Rattle.wasi_calls_rules.specs.Checks.{Bytes}
 use Rattle.wasi_calls_rules.specs.Rows.{row}
-use Rattle.wasi_calls.specs.rules.Held.{behind_lines, behind_lines_of_row}
 use Rattle.wasi_calls.proofs.LinesInFront.{write_behind}
 use Rattle.wasi_calls.proofs.OpeningInFront.{fd_readdir_behind, path_open_behind}
 use Rattle.wasi_calls.proofs.OpeningInFront.{path_rename_behind}

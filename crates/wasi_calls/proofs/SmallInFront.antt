@@ -1,8 +1,8 @@
 -- The rules of small calls don't look at the lines that were emitted before: with other lines in
 -- front each does the same.
-use Rattle.std.proofs.Common.{◌≡◌, ℕ, ◌+◌, ◌*◌, List, length, refl, ap}
+use Rattle.std.proofs.Common.{◌≡◌, ℕ, ◌*◌, List, length, refl, ap}
 use Rattle.std.specs.Prelude.{Bool, true, false, not, nat_le, ◌==◌, if◌then◌else◌, Option}
-use Rattle.std.specs.Prelude.{Result, Ok, Err, pos, ◌+ℤ◌}
+use Rattle.std.specs.Prelude.{pos, ◌+ℤ◌}
 use Rattle.std.specs.Int.{w64, cast_signed}
 use Rattle.guest_memory.specs.rules.Bytes.{with_part}
 use Rattle.wasi_abi.specs.declared.answer.Answer.{Answer}
@@ -12,7 +12,7 @@ use Rattle.wasi_abi.specs.declared.errno.Errno.TheVariants.{Badf, Inval, Nametoo
 use Rattle.wasi_abi.specs.rules.Layouts.{fdstat_bytes}
 use Rattle.wasi_abi.specs.rules.Numbers.{fd_fdstat_set_flags_right, fd_filestat_get_right}
 use Rattle.wasi_abi.specs.rules.Numbers.{fd_filestat_set_size_right, fd_seek_right, fd_tell_right}
-use Rattle.wasi_calls_rules.specs.Hosts.{Line, Target, Stream, Node, Descriptor, Host}
+use Rattle.wasi_calls_rules.specs.Hosts.{Line, Target, Stream, Node, Host}
 use Rattle.wasi_calls_rules.specs.Checks.{Bytes, Ruling, check_or, open_descriptor, a_file}
 use Rattle.wasi_calls_rules.specs.Checks.{with_right, in_memory, node_named, answered_by}
 use Rattle.wasi_calls_rules.specs.Small.{with_zeros, texts_get, texts_sizes_get, clock_res_get}

@@ -1,16 +1,12 @@
 -- What is told of calls of every host that is shown.
-use Rattle.std.proofs.Common.{◌≡◌, ℕ, List, [], ◌∷◌, refl, sym, ap}
-use Rattle.std.specs.Prelude.{Option, Some, None, Result, Ok, Err, OnOk, IfErr}
+use Rattle.std.proofs.Common.{◌≡◌, refl, ap}
+use Rattle.std.specs.Prelude.{Result, Ok, Err, OnOk, IfErr}
 use Rattle.guest_memory.specs.rules.Memories.{LinearMemory}
-use Rattle.wasi_abi.specs.declared.answer.Answer.{Answer}
-use Rattle.wasi_abi.specs.declared.call.Call.{Call}
-use Rattle.wasi_abi.specs.declared.call.Call.TheVariants as call
 use Rattle.wasi_abi.specs.declared.errno.Errno.{Errno}
-use Rattle.wasi_abi.specs.rules.Numbers.{fd_datasync_right, fd_sync_right}
-use Rattle.wasi_calls_rules.specs.Hosts.{Line, Host}
-use Rattle.wasi_calls_rules.specs.Checks.{Bytes, Halt, Refuses, Asks, Ends, Ruling}
-use Rattle.wasi_calls_rules.specs.Rows.{row, TellsRow, IsNoRefusal}
-use Rattle.wasi_calls.specs.rules.Held.{HeldHost, behind_lines, behind_lines_of_row}
+use Rattle.wasi_calls_rules.specs.Hosts.{Host}
+use Rattle.wasi_calls_rules.specs.Checks.{Bytes, Refuses, Ruling}
+use Rattle.wasi_calls_rules.specs.Rows.{TellsRow}
+use Rattle.wasi_calls.specs.rules.Held.{HeldHost}
 use Rattle.wasi_calls.specs.rules.Calls.{told_of, check_outcome, call_outcome}
 use Rattle.wasi_calls.specs.declared.stop.CallStop.{CallStop}
 use Rattle.wasi_calls.specs.declared.stop.CallStop.TheVariants as stop
@@ -35,6 +31,15 @@ pub unchanged_told : (r : Result (Unit {0}) Errno) (held : HeldHost) (rule : Byt
     → (m : Bytes) → TellsRow (told_of (check_outcome r)) m held.host m held.host (rule m)
 unchanged_told (Ok x) held rule done refused m = done m
 unchanged_told (Err e) held rule done refused m = (refused m, refl, refl)
+
+-- a call that changes memory alone
+pub memory_told : (r : Result (Unit {0}) Errno) (m old : LinearMemory) (host : Host) (rule : Ruling)
+    → OnOk r (rule ≡ Ok (record { memory = m.bytes; host = host }))
+    → IfErr r (λ e. rule ≡ Err (Refuses e)) → IfErr r (λ _. m ≡ old)
+    → TellsRow (told_of (check_outcome r)) m.bytes host old.bytes host rule
+memory_told (Ok x) m old host rule done refused kept = done
+memory_told (Err e) m old host rule done refused kept =
+    (refused, ap (λ (x : LinearMemory). x.bytes) kept, refl)
 
 -- a call that may want memory, and whatever memory holds
 pub stopped_told : (r : Result (Unit {0}) CallStop) (held old : HeldHost) (rule : Bytes → Ruling)

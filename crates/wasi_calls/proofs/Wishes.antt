@@ -1,5 +1,5 @@
 -- Calls that want no answer from outside.
-use Rattle.std.proofs.Common.{◌≡◌, ◌≢◌, ℕ, List, Some, None, refl, ap, ◌∙◌}
+use Rattle.std.proofs.Common.{◌≡◌, ◌≢◌, ℕ, List, None, refl, ap, ◌∙◌}
 use Rattle.std.specs.Prelude.{Result, Ok, Err}
 use Rattle.wasi_abi.specs.declared.answer.Kind.{Kind}
 use Rattle.wasi_abi.specs.declared.call.Call.{Call}
@@ -10,7 +10,7 @@ use Rattle.wasi_calls_rules.specs.Rows.{row}
 use Rattle.wasi_calls_rules.specs.laws.Laws.{MayAsk}
 use Rattle.wasi_calls_rules.proofs.Halting.{few_rows_ask}
 use Rattle.wasi_calls.specs.rules.Held.{HeldHost, ShowsHost, behind_lines_of_row}
-use Rattle.wasi_calls.specs.rules.Calls.{IsBuilt, wish_of}
+use Rattle.wasi_calls.specs.rules.Calls.{wish_of}
 use Rattle.wasi_calls.proofs.RowsInFront.{row_behind}
 
 no_wish_in : (r : Ruling) → ((kind : Kind) → r ≢ Err (Asks kind)) → None ≡ wish_of r
@@ -26,12 +26,13 @@ wants_none c may_not arguments m h =
     no_wish_in (row c arguments None m h)
     (λ kind e. may_not (few_rows_ask c arguments None m h kind e))
 
--- a call that is built and no read may not ask
-pub reads_alone_ask : (c : Call) → IsBuilt c → (c ≡ call.FdRead → ⊥) → MayAsk c → ⊥
-reads_alone_ask call.ClockTimeGet built other may = cc
-reads_alone_ask call.FdRead built other may = other refl
-reads_alone_ask call.RandomGet built other may = cc
-reads_alone_ask _ built other may = may
+-- no call but these three may ask
+pub few_may_ask : (c : Call) → (c ≡ call.ClockTimeGet → ⊥) → (c ≡ call.FdRead → ⊥)
+    → (c ≡ call.RandomGet → ⊥) → MayAsk c → ⊥
+few_may_ask call.ClockTimeGet no_clock no_read no_random may = no_clock refl
+few_may_ask call.FdRead no_clock no_read no_random may = no_read refl
+few_may_ask call.RandomGet no_clock no_read no_random may = no_random refl
+few_may_ask _ no_clock no_read no_random may = may
 
 -- what is behind a step that gives something asks for nothing
 pub wish_after : {A B : Type 0} (r : Result A Halt) (go : A → B)

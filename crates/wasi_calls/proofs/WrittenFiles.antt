@@ -1,8 +1,8 @@
 -- Bytes put into a file one piece after another, and the file that they make.
-use Rattle.std.proofs.Common.{◌≡◌, ◌≢◌, ℕ, zero, suc, ◌+◌, ◌-◌, ◌<◌, ◌≤◌, max, inl, inr, List, [], ◌∷◌, ◌++◌, length, take, drop, refl, sym, ap, ◌∙◌, append_assoc, arith, length-take, length-drop, length-append}
-use Rattle.std.specs.Prelude.{Bool, true, false, ◌==◌, if◌then◌else◌, replicate, map, find, Option, Some, None, option_map}
+use Rattle.std.proofs.Common.{◌≡◌, ◌≢◌, ℕ, zero, suc, ◌+◌, ◌<◌, ◌≤◌, max, inl, inr, List, [], ◌∷◌, ◌++◌, length, take, drop, refl, sym, ap, ◌∙◌, append_assoc, arith, length-take, length-drop, length-append}
+use Rattle.std.specs.Prelude.{Bool, true, false, ◌==◌, if◌then◌else◌, replicate, map, find, Some, option_map}
 use Rattle.std.proofs.lemmas.Bool.{cases_lt, eqb-true, eqb-false}
-use Rattle.std.proofs.lemmas.List.{append-nil, take_all, take-take, take-append-drop, take-append-le, drop_all, drop-drop, length-replicate}
+use Rattle.std.proofs.lemmas.List.{append-nil, take-take, take-append-drop, take-append-le, drop_all, drop-drop, length-replicate}
 use Rattle.std.proofs.Math.Seq.{take-append_seam, drop-append-add}
 use Rattle.file_tree.specs.rules.Bytes.{written, resized}
 use Rattle.file_tree.specs.rules.Files.{Files, FileNode, File, Content, is_directory, holds_directory, bytes_of_node, bytes_held, node_of, changed_at, with_file_bytes, AreRising, IsFiles}

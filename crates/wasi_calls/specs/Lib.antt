@@ -1,6 +1,8 @@
 pub mod Views
 pub mod Places
 pub mod Steps
+pub mod FewTexts
+pub mod Times
 pub mod Writes
 pub mod Listings
 pub mod Openings

@@ -4,6 +4,7 @@ ghost use Rattle.std.specs.Prelude.{◌≡◌, ◌∷◌, []};
 ghost use Rattle.wasm_syntax.specs.declared.types.ValueType.TheVariants.{I32, I64};
 ghost use Rattle.wasi_calls.specs.rules.Calls.{AreArguments};
 
+use crate::clocks::TimeArguments;
 use crate::listing::ListArguments;
 use crate::moves::{MoveArguments, PlacedArguments};
 use crate::offsets::SeekArguments;
@@ -45,6 +46,18 @@ pub fn one_and_long(arguments: &[u64]) -> (u32, u64)
     ensures { arguments.now ≡ result.0 ∷ result.1 ∷ [] }
 {
     (arguments[0] as u32, arguments[1])
+}
+
+/// Those of `clock_time_get`.
+pub fn of_time(arguments: &[u64]) -> TimeArguments
+    requires { AreArguments (I32 ∷ I64 ∷ I32 ∷ []) arguments.now }
+    ensures { arguments.now ≡ result.clock ∷ result.precision ∷ result.ret ∷ [] }
+{
+    TimeArguments {
+        clock: arguments[0] as u32,
+        precision: arguments[1],
+        ret: arguments[2] as u32,
+    }
 }
 
 /// Those of `fd_seek`.

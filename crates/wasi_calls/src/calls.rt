@@ -10,25 +10,26 @@ ghost use Rattle.wasi_calls_rules.specs.Rows.{row, TellsRow};
 ghost use Rattle.wasi_calls_rules.specs.declared.limits.TheConstants.{MOVED_BYTES};
 ghost use Rattle.wasi_abi.specs.declared.call.Call.TheVariants.{ProcExit};
 ghost use Rattle.wasi_calls.specs.rules.Held.{ShowsHost};
-ghost use Rattle.wasi_calls.specs.rules.Calls.{IsBuilt, AreArguments, call_outcome, check_outcome};
+ghost use Rattle.wasi_calls.specs.rules.Calls.{AreArguments, call_outcome, check_outcome};
 ghost use Rattle.wasi_calls.specs.rules.Calls.{told_of, ShowsRow, EndsNothing, IsAsLarge};
 ghost use Rattle.wasi_calls.specs.declared.outcome.CallOutcome.TheVariants.{Memory as WantOfMemory};
 
 use crate::arguments::{
-    of_list, of_move, of_open, of_path_filestat, of_placed_move, of_rename, of_seek, one,
+    of_list, of_move, of_open, of_path_filestat, of_placed_move, of_rename, of_seek, of_time, one,
     one_and_long, three, two,
 };
 use crate::host::Host;
 use crate::outcome::CallOutcome;
 use crate::paths::entries;
 use crate::stop::CallStop;
-use crate::{changes, listing, offsets, opening, read, renaming, status, write};
+use crate::{
+    changes, clocks, listing, offsets, opening, random, read, renaming, status, texts, write,
+};
 use guest_memory::Memory;
 use std::alloc::Global;
 use wasi_abi::{Answer, Call, Errno, Rights};
 
-/// Makes a call that is built, with its arguments in order and, where it asked for one, an answer
-/// from outside. What it tells is what the rules say; all but a call that is done leave memory and
+/// Makes a call, with its arguments in order and, where it asked for one, an answer from outside. What it tells is what the rules say; all but a call that is done leave memory and
 /// host as they were. It may say that there is no memory for it where an allocation was refused, or
 /// where no number is left for a new node. A call that is refused, asks for an answer or ends the
 /// process takes none.
@@ -40,7 +41,6 @@ pub fn call(
     arguments: &[u64],
     answer: Option<&Answer>,
 ) -> CallOutcome
-    requires built { IsBuilt call }
     requires typed { AreArguments (parameters_of call) arguments.now }
     ensures told { TellsRow (told_of result) memory.new.bytes host.new.host memory.old.bytes host.old.host
         (row call arguments.now (option_copied answer.entry) memory.old.bytes host.old.host) }
@@ -63,7 +63,6 @@ fn make(
     arguments: &[u64],
     answer: Option<&Answer>,
 ) -> CallOutcome
-    requires built { IsBuilt call }
     requires typed { AreArguments (parameters_of call) arguments.now }
     ensures told { TellsRow (told_of result) memory.new.bytes host.new.host memory.old.bytes host.old.host
         (row call arguments.now (option_copied answer.entry) memory.old.bytes host.old.host) }
@@ -72,6 +71,27 @@ fn make(
     ensures large { IsAsLarge memory.old memory.new }
 {
     match call {
+        Call::ArgsGet => {
+            let (array, buffer) = two(arguments);
+            checked(texts::get(host.arguments(), memory, array, buffer))
+        }
+        Call::ArgsSizesGet => {
+            let (count, size) = two(arguments);
+            checked(texts::get_sizes(host.arguments(), memory, count, size))
+        }
+        Call::EnvironGet => {
+            let (array, buffer) = two(arguments);
+            checked(texts::get(host.environment(), memory, array, buffer))
+        }
+        Call::EnvironSizesGet => {
+            let (count, size) = two(arguments);
+            checked(texts::get_sizes(host.environment(), memory, count, size))
+        }
+        Call::ClockResGet => {
+            let (clock, ret) = two(arguments);
+            checked(clocks::get_resolution(memory, clock, ret))
+        }
+        Call::ClockTimeGet => stopped(clocks::get_time(host, memory, of_time(arguments), answer)),
         Call::FdClose => checked(changes::close(host, one(arguments))),
         Call::FdDatasync => checked(changes::sync(host, one(arguments), Rights::FD_DATASYNC)),
         Call::FdFilestatSetSize => {
@@ -128,14 +148,16 @@ fn make(
             let (fd, ret) = two(arguments);
             checked(offsets::tell(host, memory, fd, ret))
         }
-        _ => unreachable!(),
+        Call::RandomGet => {
+            let (buffer, len) = two(arguments);
+            stopped(random::get(host, memory, buffer, len, answer))
+        }
     }
 }
 
 /// How many lines such a call would add, an unfinished one counted as a line: none, if it is not
 /// done. It changes nothing, and takes no memory.
 pub fn lines_begun(host: &Host, memory: &Memory, call: Call, arguments: &[u64]) -> usize
-    requires built { IsBuilt call }
     requires typed { AreArguments (parameters_of call) arguments.now }
     ensures count { (given : Option Answer) (h : TheHost) (done : Done) → ShowsHost host.now h
         → row call arguments.now given memory.now.bytes h ≡ Ok done

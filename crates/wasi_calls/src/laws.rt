@@ -1,4 +1,4 @@
-//! Laws of the calls that are built. The functions do nothing: what they ensure is the law.
+//! Laws of the calls. The functions do nothing: what they ensure is the law.
 
 ghost use Rattle.wasi_calls.specs.laws.Laws.{CallsBeginFew};
 

@@ -1,6 +1,5 @@
 //! The calls of WASI preview 1 under this project's profile, and the host's side of a process that
-//! they change. Built are 24 of the 31 calls: all on files, descriptors and streams, `proc_exit` and
-//! `sched_yield`.
+//! they change.
 //!
 //! # Promises
 //!
@@ -9,8 +8,7 @@
 //!   nothing has changed. It releases no line (`released`), and memory is as large as before
 //!   (`large`).
 //! - `call` has no want of memory for a call that ends the process (`wants`), is refused, or asks
-//!   for an answer (`told`, `shown`). It asks for a built call with arguments of its types
-//!   (`built`, `typed`).
+//!   for an answer (`told`, `shown`). It asks for arguments of the call's types (`typed`).
 //! - `lines_begun`: how many lines such a call adds if it is done, unfinished ones counted
 //!   (`count`), and else none (`none`). They are at most `MOVED_BYTES` (`few`).
 //! - `wanted_answer`: the answer from outside that a call wants before it can be made. That is the one
@@ -20,11 +18,11 @@
 //! - `Host::release` takes lines off, and `Host::end` emits what is not finished (`changed`). Both
 //!   go on showing the rules' host (`shown`).
 //! - `Host::unfinished_lines`: how many lines an end would emit beside those that wait.
-//! - `laws::calls_begin_few_lines`: a built call adds no more lines than it may move bytes.
+//! - `laws::calls_begin_few_lines`: a call adds no more lines than it may move bytes.
 //!
 //! # Definitions to read
 //!
-//! `specs/rules/Calls.antt`: `IsBuilt`, `AreArguments`, `ShowsRow`, `wish_of`, `EndsNothing`.
+//! `specs/rules/Calls.antt`: `AreArguments`, `ShowsRow`, `wish_of`, `EndsNothing`.
 //! `specs/rules/Held.antt`: `HeldHost` and `ShowsHost`, which say which hosts of the rules the code's
 //! host is. The rules themselves are `row` and `Host` of `wasi_calls_rules`.
 //!
@@ -44,6 +42,7 @@ mod arguments;
 mod buffers;
 mod calls;
 mod changes;
+mod clocks;
 mod count;
 mod cut;
 mod descriptor;
@@ -57,11 +56,13 @@ mod offsets;
 mod opening;
 mod outcome;
 mod paths;
+mod random;
 mod read;
 mod renaming;
 mod status;
 mod stop;
 mod streams;
+mod texts;
 mod wish;
 mod write;
 

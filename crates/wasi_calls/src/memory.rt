@@ -1,6 +1,6 @@
 //! Reading a guest's memory.
 
-ghost use Rattle.std.specs.Prelude.{◌≡◌, ◌≤◌, ◌+◌, IfOk, length, take};
+ghost use Rattle.std.specs.Prelude.{◌≡◌, ◌≤◌, ◌+◌, ◌^◌, IfOk, length, take};
 ghost use Rattle.wasi_calls_rules.specs.Checks.{in_memory};
 ghost use Rattle.wasi_calls.specs.Steps.{GivesValue};
 
@@ -11,8 +11,9 @@ use wasi_abi::Errno;
 pub fn in_range(memory: &Memory, from: u32, len: u32) -> Result<(), Errno>
     ensures gives { GivesValue (λ x. x) result (in_memory memory.now.bytes from len) }
     ensures room { IfOk result (λ _. from + len ≤ length memory.now.bytes) }
+    ensures small { length memory.now.bytes ≤ 2 ^ 32 }
 {
-    if memory.has(from, len) {
+    if from as usize + len as usize <= memory.len() {
         Ok(())
     } else {
         Err(Errno::Fault)

@@ -4,12 +4,15 @@ ghost use Rattle.std.specs.Prelude.{◌≡◌, None};
 ghost use Rattle.wasi_abi.specs.rules.Calls.{parameters_of};
 ghost use Rattle.wasi_calls_rules.specs.Hosts.{Host as TheHost};
 ghost use Rattle.wasi_calls_rules.specs.Moving.{fd_read};
+ghost use Rattle.wasi_calls_rules.specs.Small.{clock_time_get, random_get};
 ghost use Rattle.wasi_calls_rules.specs.Rows.{row};
 ghost use Rattle.wasi_calls.specs.rules.Held.{ShowsHost};
-ghost use Rattle.wasi_calls.specs.rules.Calls.{IsBuilt, AreArguments, wish_of};
+ghost use Rattle.wasi_calls.specs.rules.Calls.{AreArguments, wish_of};
 
-use crate::arguments::of_move;
+use crate::arguments::{of_move, of_time, two};
+use crate::clocks::{TimeArguments, kind_of};
 use crate::host::Host;
+use crate::memory::in_range;
 use crate::moves::{MoveArguments, check};
 use guest_memory::Memory;
 use wasi_abi::{Call, Kind, Rights};
@@ -17,14 +20,45 @@ use wasi_abi::{Call, Kind, Rights};
 /// The answer from outside that such a call wants before it can be made, if it wants one. It changes
 /// nothing, and takes no memory.
 pub fn wanted_answer(host: &Host, memory: &Memory, call: Call, arguments: &[u64]) -> Option<Kind>
-    requires built { IsBuilt call }
     requires typed { AreArguments (parameters_of call) arguments.now }
     ensures { (h : TheHost) → ShowsHost host.now h
         → result ≡ wish_of (row call arguments.now None memory.now.bytes h) }
 {
     match call {
+        Call::ClockTimeGet => wanted_by_clock(memory, of_time(arguments)),
         Call::FdRead => wanted_by_read(host, memory, of_move(arguments)),
+        Call::RandomGet => {
+            let (buffer, len) = two(arguments);
+            wanted_by_random(host, memory, buffer, len)
+        }
         _ => None,
+    }
+}
+
+/// What a call of a clock wants that has passed its checks: its time.
+fn wanted_by_clock(memory: &Memory, arguments: TimeArguments) -> Option<Kind>
+    ensures { (h : TheHost) → result ≡ wish_of (clock_time_get arguments.clock arguments.ret None
+        memory.now.bytes h) }
+{
+    let Ok(kind) = kind_of(arguments.clock) else {
+        return None;
+    };
+    match in_range(memory, arguments.ret, 8) {
+        Ok(()) => Some(kind),
+        Err(_) => None,
+    }
+}
+
+/// What a call for random bytes wants that has passed its checks: so many, where any are wanted.
+fn wanted_by_random(host: &Host, memory: &Memory, buffer: u32, len: u32) -> Option<Kind>
+    ensures { result ≡ wish_of (random_get buffer len None memory.now.bytes host.now.host) }
+{
+    if len as usize > host.limit() || len == 0 {
+        return None;
+    }
+    match in_range(memory, buffer, len) {
+        Ok(()) => Some(Kind::Random { length: len }),
+        Err(_) => None,
     }
 }
 

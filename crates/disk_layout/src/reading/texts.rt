@@ -5,10 +5,8 @@ ghost use Rattle.disk_layout.specs.rules.Spelled.{TextFirst, NoTextFirst, TextsF
 
 use crate::{u16_from, u32_from};
 use std::alloc::{AllocError, Global};
+use wasi_abi::MOST_TEXTS;
 use wasm_syntax::Row;
-
-/// The most texts that a configuration has of a kind.
-const MOST_TEXTS: u32 = 64;
 
 /// The texts at the front, behind their number, and what stands behind them.
 pub(crate) fn texts_from(
@@ -21,7 +19,7 @@ pub(crate) fn texts_from(
         return Ok(None);
     }
     let count = u32_from(bytes, 0);
-    if count > MOST_TEXTS {
+    if count as usize > MOST_TEXTS {
         return Ok(None);
     }
     let mut texts = Vec::new(alloc);

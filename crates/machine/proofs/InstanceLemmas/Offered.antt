@@ -12,14 +12,14 @@ use Rattle.wasm_syntax.specs.declared.module.ImportItem.{ImportItem}
 use Rattle.wasm_syntax.specs.declared.module.ImportItem.TheVariants as import
 use Rattle.wasi_abi.specs.declared.call.Call.{Call}
 use Rattle.wasi_abi.specs.declared.call.Call.TheVariants as call
-use Rattle.wasi_abi.specs.rules.Calls.{module_name, name_of, parameters_of, result_types, call_type_of}
+use Rattle.wasi_abi.specs.rules.Calls.{module_name, all_calls, name_of, parameters_of, result_types, call_type_of}
 use Rattle.wasm_syntax_rules.specs.Types.{imported_tables, imported_memories, imported_globals}
 use Rattle.wasm_syntax_rules.specs.Linking.{IsItemOffered, IsOffered}
 use Rattle.wasm_syntax_rules.specs.Typed.{OffersNoEntry}
 use Rattle.wasm_validate.proofs.PartLemmas.Loops.{next}
 use Rattle.machine.specs.declared.instance.fault.LinkFault.{LinkFault}
 use Rattle.machine.specs.declared.instance.fault.LinkFault.TheVariants.{UnknownImport, ImportType}
-use Rattle.machine.specs.rules.Offers.{built_calls, offered_call, offer, imported_call}
+use Rattle.machine.specs.rules.Offers.{offered_call, offer, imported_call}
 use Rattle.machine.specs.rules.Refusals.{AreImportsRefused, IsImportRefused}
 
 -- ---- look-ups
@@ -104,31 +104,31 @@ refused_here types imports i x e h is r = let P : List Import → Type 0 = λ xs
 pub refused_further : (types : List FunctionType) (imports : List Import) (i : ℕ) (x : Import) (e : LinkFault) → i < length imports → x ≡ get_or imports i x → IsOffered offer types x → AreImportsRefused types (drop (i + 1) imports) e → AreImportsRefused types (drop i imports) e
 refused_further types imports i x e h is o r = let P : List Import → Type 0 = λ xs. AreImportsRefused types xs e in subst P (sym (next imports i x h is)) (inr (o, r))
 
--- ---- the loop over the built calls
+-- ---- the loop over the calls
 
 abbrev pub found_among : List Call → List ℕ → Option Call
 found_among calls name = find (λ (c : Call). bytes_eq (name_of c) name) calls
 
 pub another_module : (from name : List ℕ) → bytes_eq from module_name ≡ false → None ≡ offered_call from name
 unfolding offered_call
-another_module from name e = sym (ap (λ b. cond b (found_among built_calls name) None) e)
+another_module from name e = sym (ap (λ b. cond b (found_among all_calls name) None) e)
 
-pub their_module : (from name : List ℕ) → bytes_eq from module_name ≡ true → offered_call from name ≡ found_among built_calls name
+pub their_module : (from name : List ℕ) → bytes_eq from module_name ≡ true → offered_call from name ≡ found_among all_calls name
 unfolding offered_call
-their_module from name e = ap (λ b. cond b (found_among built_calls name) None) e
+their_module from name e = ap (λ b. cond b (found_among all_calls name) None) e
 
-pub call_found : (name seen : List ℕ) (i : ℕ) → i < length built_calls → seen ≡ name_of (get_or built_calls i call.ArgsGet) → bytes_eq seen name ≡ true → found_among (drop i built_calls) name ≡ found_among built_calls name → Some (get_or built_calls i call.ArgsGet) ≡ found_among built_calls name
+pub call_found : (name seen : List ℕ) (i : ℕ) → i < length all_calls → seen ≡ name_of (get_or all_calls i call.ArgsGet) → bytes_eq seen name ≡ true → found_among (drop i all_calls) name ≡ found_among all_calls name → Some (get_or all_calls i call.ArgsGet) ≡ found_among all_calls name
 call_found name seen i lt is same so_far =
-    let x = get_or built_calls i call.ArgsGet in
-    sym (find_here (λ (c : Call). bytes_eq (name_of c) name) built_calls i x lt (get_or_default built_calls i call.ArgsGet x lt) (ap (λ n. bytes_eq n name) (sym is) ∙ same)) ∙ so_far
+    let x = get_or all_calls i call.ArgsGet in
+    sym (find_here (λ (c : Call). bytes_eq (name_of c) name) all_calls i x lt (get_or_default all_calls i call.ArgsGet x lt) (ap (λ n. bytes_eq n name) (sym is) ∙ same)) ∙ so_far
 
-pub call_passed : (name seen : List ℕ) (i : ℕ) → i < length built_calls → seen ≡ name_of (get_or built_calls i call.ArgsGet) → bytes_eq seen name ≡ false → found_among (drop i built_calls) name ≡ found_among built_calls name → found_among (drop (i + 1) built_calls) name ≡ found_among built_calls name
+pub call_passed : (name seen : List ℕ) (i : ℕ) → i < length all_calls → seen ≡ name_of (get_or all_calls i call.ArgsGet) → bytes_eq seen name ≡ false → found_among (drop i all_calls) name ≡ found_among all_calls name → found_among (drop (i + 1) all_calls) name ≡ found_among all_calls name
 call_passed name seen i lt is differs so_far =
-    let x = get_or built_calls i call.ArgsGet in
-    sym (find_next (λ (c : Call). bytes_eq (name_of c) name) built_calls i x lt (get_or_default built_calls i call.ArgsGet x lt) (ap (λ n. bytes_eq n name) (sym is) ∙ differs)) ∙ so_far
+    let x = get_or all_calls i call.ArgsGet in
+    sym (find_next (λ (c : Call). bytes_eq (name_of c) name) all_calls i x lt (get_or_default all_calls i call.ArgsGet x lt) (ap (λ n. bytes_eq n name) (sym is) ∙ differs)) ∙ so_far
 
-pub no_call : (name : List ℕ) (i : ℕ) → length built_calls ≤ i → found_among (drop i built_calls) name ≡ found_among built_calls name → None ≡ found_among built_calls name
-no_call name i h so_far = sym (at_drop_all (λ calls. found_among calls name) built_calls i h) ∙ so_far
+pub no_call : (name : List ℕ) (i : ℕ) → length all_calls ≤ i → found_among (drop i all_calls) name ≡ found_among all_calls name → None ≡ found_among all_calls name
+no_call name i h so_far = sym (at_drop_all (λ calls. found_among calls name) all_calls i h) ∙ so_far
 
 -- ---- the type of a call
 

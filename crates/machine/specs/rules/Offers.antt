@@ -1,22 +1,18 @@
--- What the host offers to a module: the calls that are built, by their names and with their types.
-use Rattle.std.specs.Prelude.{◌≡◌, ℕ, List, map, filter, Option, Some, None, if◌then◌else◌}
+-- What the host offers to a module: all calls, by their names and with their types.
+use Rattle.std.specs.Prelude.{◌≡◌, ℕ, List, map, Option, Some, None, if◌then◌else◌}
 use Rattle.std.specs.Option.{option_map}
 use Rattle.std.specs.List.{find}
 use Rattle.std.specs.Str.{bytes_eq}
 use Rattle.wasm_syntax.specs.declared.module.Import.{Import}
 use Rattle.wasi_abi.specs.declared.call.Call.{Call}
-use Rattle.wasi_abi.specs.rules.Calls.{module_name, all_calls, is_built, name_of, call_type_of}
+use Rattle.wasi_abi.specs.rules.Calls.{module_name, all_calls, name_of, call_type_of}
 use Rattle.wasm_syntax_rules.specs.Linking.{Offer}
 
--- the calls that are built, in their order
-abbrev pub built_calls : List Call
-built_calls = filter is_built all_calls
-
--- the built call with this name, under the name of their module
+-- the call with this name, under the name of their module
 unfoldable pub offered_call : List ℕ → List ℕ → Option Call
-offered_call from name = if bytes_eq from module_name then find (λ c. bytes_eq (name_of c) name) built_calls else None
+offered_call from name = if bytes_eq from module_name then find (λ c. bytes_eq (name_of c) name) all_calls else None
 
--- the host's functions: the built calls with their types
+-- the host's functions: the calls with their types
 unfoldable pub offer : Offer
 offer from name = option_map call_type_of (offered_call from name)
 

@@ -14,34 +14,6 @@ use std::alloc::{AllocError, Global};
 use wasi_abi::{Call, MODULE_NAME};
 use wasm_syntax::{FunctionType, Import, ImportItem};
 
-/// The calls that are built.
-const BUILT: [Call; 24] = [
-    Call::FdClose,
-    Call::FdDatasync,
-    Call::FdFdstatGet,
-    Call::FdFdstatSetFlags,
-    Call::FdFilestatGet,
-    Call::FdFilestatSetSize,
-    Call::FdPread,
-    Call::FdPrestatGet,
-    Call::FdPrestatDirName,
-    Call::FdPwrite,
-    Call::FdRead,
-    Call::FdReaddir,
-    Call::FdSeek,
-    Call::FdSync,
-    Call::FdTell,
-    Call::FdWrite,
-    Call::PathCreateDirectory,
-    Call::PathFilestatGet,
-    Call::PathOpen,
-    Call::PathRemoveDirectory,
-    Call::PathRename,
-    Call::PathUnlinkFile,
-    Call::ProcExit,
-    Call::SchedYield,
-];
-
 /// The call that the host offers to an import.
 fn call_of(import: &Import) -> Option<Call>
     ensures { result ≡ imported_call import.now }
@@ -50,7 +22,7 @@ fn call_of(import: &Import) -> Option<Call>
         return None;
     }
     let name = import.name.as_slice();
-    for call in BUILT {
+    for call in Call::ALL {
         if call.name().as_bytes() == name {
             return Some(call);
         }

@@ -1,6 +1,5 @@
 -- What contracts see of a process: its machine, its host, how far it has come, and how it ended; and which process of the rules that is.
 use Rattle.std.specs.Prelude.{◌≡◌, ℕ, ◌+◌, ◌<◌, ◌≤◌, ◌^◌, List, [], length, Option, None, option_map}
-use Rattle.std.specs.List.{AllByRecursion}
 use Rattle.wasm_syntax.specs.declared.module.Module.{Module}
 use Rattle.wasm_syntax_rules.specs.Steps.{IsEnded}
 use Rattle.wasm_syntax_rules.specs.Linking.{IsLinkable}
@@ -8,7 +7,6 @@ use Rattle.wasi_abi.specs.rules.Configs.{Settings}
 use Rattle.wasi_calls_rules.specs.Hosts.{Line}
 use Rattle.wasi_calls_rules.specs.Lines.{lines_ended}
 use Rattle.wasi_calls.specs.rules.Held.{HeldHost, ShowsHost, held_released}
-use Rattle.wasi_calls.specs.rules.Calls.{IsBuilt}
 use Rattle.machine.specs.rules.Offers.{offer}
 use Rattle.machine.specs.rules.Values.{MachineValue, ShowsIn}
 use Rattle.process_rules.specs.Processes.{Ending, Exited, Trapped, ProcessState, Guest, AreCalls, IsStart}
@@ -58,13 +56,12 @@ pub record ShowsProcess (v : ProcessValue) (guest : Guest) (p : ProcessState) : 
   pub ended : v.ended ≡ p.ended
   pub closed : p.ended ≡ None → IsEnded p.configuration → ⊥
 
--- It shows some process, whose calls are built, and its numbers can be counted. Lines are numbered
+-- It shows some process, and its numbers can be counted. Lines are numbered
 -- below 2 ^ 63 - 2, and those that its end would emit are counted among them.
 pub record IsProcess (v : ProcessValue) : Type 0 where
   pub guest : Guest
   pub process : ProcessState
   pub shows : ShowsProcess v guest process
-  pub built : AllByRecursion IsBuilt guest.calls
   pub few_steps : v.steps < 2 ^ 63
   pub few_answers : v.answers ≤ v.steps
   pub few_requests : v.requests ≤ v.answers

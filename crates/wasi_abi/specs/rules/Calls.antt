@@ -1,5 +1,5 @@
 -- The names and types of the calls (the functions of the witx files of `wasi_snapshot_preview1`).
-use Rattle.std.specs.Prelude.{ℕ, Bool, true, false, List, [], ◌∷◌, codes}
+use Rattle.std.specs.Prelude.{ℕ, List, [], ◌∷◌, codes}
 use Rattle.wasm_syntax.specs.declared.types.ValueType.{ValueType}
 use Rattle.wasm_syntax.specs.declared.types.ValueType.TheVariants.{I32, I64}
 use Rattle.wasm_syntax.specs.declared.types.FunctionType.{FunctionType}
@@ -18,17 +18,6 @@ all_calls =
     call.FdPwrite ∷ call.FdRead ∷ call.FdReaddir ∷ call.FdSeek ∷ call.FdSync ∷ call.FdTell ∷ call.FdWrite ∷
     call.PathCreateDirectory ∷ call.PathFilestatGet ∷ call.PathOpen ∷ call.PathRemoveDirectory ∷
     call.PathRename ∷ call.PathUnlinkFile ∷ call.ProcExit ∷ call.SchedYield ∷ call.RandomGet ∷ []
-
--- the calls that are built
-abbrev pub is_built : Call → Bool
-is_built call.ArgsGet = false
-is_built call.ArgsSizesGet = false
-is_built call.EnvironGet = false
-is_built call.EnvironSizesGet = false
-is_built call.ClockResGet = false
-is_built call.ClockTimeGet = false
-is_built call.RandomGet = false
-is_built _ = true
 
 abbrev pub name_of : Call → List ℕ
 name_of call.ArgsGet = codes "args_get"

@@ -1,4 +1,4 @@
--- What holds of the calls that are built.
+-- What holds of all calls.
 use Rattle.std.specs.Prelude.{◌≡◌, ℕ, ◌+◌, ◌≤◌, List, length, Option, Ok}
 use Rattle.wasi_abi.specs.declared.answer.Answer.{Answer}
 use Rattle.wasi_abi.specs.declared.call.Call.{Call}
@@ -7,10 +7,9 @@ use Rattle.wasi_calls_rules.specs.Checks.{Bytes, Done}
 use Rattle.wasi_calls_rules.specs.Lines.{lines_ended}
 use Rattle.wasi_calls_rules.specs.Rows.{row}
 use Rattle.wasi_calls_rules.specs.declared.limits.TheConstants.{MOVED_BYTES}
-use Rattle.wasi_calls.specs.rules.Calls.{IsBuilt}
 
 -- one call adds no more lines than it moves bytes, unfinished ones counted
 abbrev pub CallsBeginFew : Type 0
-CallsBeginFew = (c : Call) → IsBuilt c → (arguments : List ℕ) (given : Option Answer) (m : Bytes)
+CallsBeginFew = (c : Call) (arguments : List ℕ) (given : Option Answer) (m : Bytes)
     (h : Host) (done : Done) → row c arguments given m h ≡ Ok done
     → length (lines_ended done.host).lines ≤ length (lines_ended h).lines + MOVED_BYTES

@@ -1,5 +1,5 @@
 -- What is told of a call, and of which calls (this project's own).
-use Rattle.std.specs.Prelude.{◌≡◌, ◌≢◌, IsTrue, ℕ, ◌<◌, ◌^◌, List, [], ◌∷◌, length, Option, Some, None, Result, Ok, Err}
+use Rattle.std.specs.Prelude.{◌≡◌, ◌≢◌, ℕ, ◌<◌, ◌^◌, List, [], ◌∷◌, length, Option, Some, None, Result, Ok, Err}
 use Rattle.wasm_syntax.specs.declared.types.ValueType.{ValueType}
 use Rattle.wasm_syntax.specs.declared.types.ValueType.TheVariants.{I32, I64}
 use Rattle.guest_memory.specs.rules.Memories.{LinearMemory}
@@ -7,7 +7,6 @@ use Rattle.wasi_abi.specs.declared.answer.Answer.{Answer}
 use Rattle.wasi_abi.specs.declared.errno.Errno.{Errno}
 use Rattle.wasi_abi.specs.declared.answer.Kind.{Kind}
 use Rattle.wasi_abi.specs.declared.call.Call.{Call}
-use Rattle.wasi_abi.specs.rules.Calls.{is_built}
 use Rattle.wasi_calls_rules.specs.Hosts.{Host}
 use Rattle.wasi_calls_rules.specs.Checks.{Bytes, Done, Halt, Ruling, Refuses, Asks, Ends}
 use Rattle.wasi_calls_rules.specs.Rows.{row, IsNoRefusal, Told, IsDone, IsAsk, IsExit, NoMemory}
@@ -16,10 +15,6 @@ use Rattle.wasi_calls.specs.declared.outcome.CallOutcome.TheVariants as outcome
 use Rattle.wasi_calls.specs.declared.stop.CallStop.{CallStop}
 use Rattle.wasi_calls.specs.declared.stop.CallStop.TheVariants as stop
 use Rattle.wasi_calls.specs.rules.Held.{HeldHost, ShowsHost}
-
--- the call is one of those that are built
-abbrev pub IsBuilt : Call → Type 0
-IsBuilt c = IsTrue (is_built c)
 
 -- one number a parameter, each of its type
 abbrev pub AreArguments : List ValueType → List ℕ → Type 0

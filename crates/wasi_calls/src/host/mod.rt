@@ -1,5 +1,6 @@
 //! The host's side of a process.
 
+mod answers;
 mod descriptors;
 mod entries;
 mod files;
@@ -8,6 +9,7 @@ mod moving;
 mod nodes;
 mod opening;
 mod renaming;
+mod texts;
 
 ghost use Rattle.std.specs.Prelude.{◌≡◌, ◌+◌, ◌*◌, ◌<◌, ◌≤◌, ◌^◌, ◌++◌, length, IfOk, OnOk, OnErr};
 ghost use Rattle.file_tree.specs.declared.limits.TheConstants.{UNIT_BYTES};

@@ -8,7 +8,7 @@ use Rattle.wasi_calls.specs.rules.Calls.{AreArguments}
 use Rattle.wasi_abi.specs.rules.Calls.{parameters_of}
 use Rattle.process.specs.Parts.{IsAtCall, WaitsAtCall}
 use Rattle.process.specs.Callings.{MakesCall}
-use Rattle.process.proofs.Waiting.{at_call, is_built, are_typed, wants_once, nothing_wanted}
+use Rattle.process.proofs.Waiting.{at_call, are_typed, wants_once, nothing_wanted}
 use Rattle.process.proofs.Giving.{not_made, is_made}
 use Rattle.process.proofs.answering.answer_call.Goals as goal
 
@@ -19,16 +19,6 @@ returns-in_default-clause-answers c = λ guest p shows running.
     let none = subst P c.in_default.is
     (c.waits.ensures guest.program p.configuration shows.configuration) in
     (refl, refl, nothing_wanted guest p none c.args.answer.now)
-
-pub wants-requires-clause-built : goal.wants-requires-clause-built
-wants-requires-clause-built c =
-    let r = c.requires.runs in
-    let T : Option HostCall → Type 0 =
-    λ o. TellsCall c.args.machine.now.guest r.guest.program r.process.configuration o in
-    let asks = subst T c.in-Some.is
-    (c.waits.ensures r.guest.program r.process.configuration r.shows.configuration) in
-    is_built c.args.machine.now r.guest r.shows.calls r.process.configuration c.in-Some.asked.call
-    c.in-Some.asked.arguments asks
 
 pub wants-requires-clause-typed : goal.wants-requires-clause-typed
 wants-requires-clause-typed c =
@@ -60,16 +50,6 @@ returns-then-not-wants-clause-answers c = λ guest p shows running.
           let not = c.if-not-wants.true in
           absurd (cc),
     )
-
-pub make-requires-clause-built : goal.make-requires-clause-built
-make-requires-clause-built c =
-    let r = c.requires.runs in
-    let T : Option HostCall → Type 0 =
-    λ o. TellsCall c.args.machine.now.guest r.guest.program r.process.configuration o in
-    let asks = subst T c.in-Some.is
-    (c.waits.ensures r.guest.program r.process.configuration r.shows.configuration) in
-    is_built c.args.machine.now r.guest r.shows.calls r.process.configuration c.in-Some.asked.call
-    c.in-Some.asked.arguments asks
 
 pub make-requires-clause-typed : goal.make-requires-clause-typed
 make-requires-clause-typed c =

@@ -10,7 +10,7 @@ use Rattle.process.proofs.calling.has_numbers.Goals as goal
 pub returns-then-lines-clause-few : goal.returns-then-lines-clause-few
 returns-then-lines-clause-few c = λ e given h done s row.
     let few : length (lines_ended done.host).lines ≤ length (lines_ended h).lines + 65536 =
-    calls_begin_few c.args.call c.requires.built c.args.arguments.now given
+    calls_begin_few c.args.call c.args.arguments.now given
     c.args.machine.now.state.memory h done row in
     let lines = all_shown c.args.host.now h s in
     let waits = ap (λ (ls : List Line). length ls) c.waiting_lines.ensures.lines in

@@ -7,20 +7,13 @@ use Rattle.process.specs.Parts.{WaitsAtCall}
 use Rattle.process.specs.declared.turn.Stretch.{Stretch}
 use Rattle.process.specs.Stretches.{StepsAt, ComesToShown}
 use Rattle.process.proofs.Counting.{comes_within}
-use Rattle.process.proofs.Stretching.{left_within, spent, call_is_built, call_is_typed, waits_at, stepped_on, returned, trapped}
+use Rattle.process.proofs.Stretching.{left_within, spent, call_is_typed, waits_at, stepped_on, returned, trapped}
 use Rattle.process.proofs.turn.turn.Goals as goal
 
 pub overflow_sub-ran : goal.overflow_sub-ran
 overflow_sub-ran c =
     let r = c.requires.runs in
     left_within c.run-why.new.self r.guest.program r.process.configuration c.args.fuel c.run-why.result.left c.run-why.result.why (c.run-why.ensures.runs r.guest.program r.process.configuration r.shows.configuration)
-
-pub step-next-requires-clause-built : goal.step-next-requires-clause-built
-step-next-requires-clause-built c =
-    let r = c.requires.runs in
-    let P : Pause → Type 0 = λ why. RunsFor c.run-why.new.self r.guest.program r.process.configuration c.args.fuel c.run-why.result.left why in
-    let h = subst P c.in-Host.is (c.run-why.ensures.runs r.guest.program r.process.configuration r.shows.configuration) in
-    call_is_built c.args.machine.now c.run-why.new.self c.args.host.now c.run-why.ensures.same r.guest r.process r.shows r.running c.args.fuel c.run-why.result.left c.in-Host.asked.call c.in-Host.asked.arguments h
 
 pub step-next-requires-clause-typed : goal.step-next-requires-clause-typed
 step-next-requires-clause-typed c =

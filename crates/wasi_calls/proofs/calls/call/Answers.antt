@@ -1,6 +1,4 @@
-use Rattle.std.proofs.Common.{◌≡◌}
 use Rattle.std.specs.Prelude.{option_copied}
-use Rattle.wasi_abi.specs.declared.call.Call.TheVariants as call
 use Rattle.wasi_calls_rules.specs.Rows.{row}
 use Rattle.wasi_calls_rules.proofs.Halting.{exit_alone_ends}
 use Rattle.wasi_calls.specs.rules.Calls.{told_of}

@@ -1,4 +1,4 @@
-use Rattle.std.proofs.Common.{◌≡◌, ◌+◌, length, arith}
+use Rattle.std.proofs.Common.{arith}
 use Rattle.wasi_calls_rules.proofs.EmitsLines.{rows_keep_lines}
 use Rattle.wasi_calls.proofs.FewLines.{ended_kept}
 use Rattle.wasi_calls.proofs.calls.lines_begun.Goals as goal

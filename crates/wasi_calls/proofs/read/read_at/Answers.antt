@@ -1,11 +1,9 @@
-use Rattle.std.proofs.Common.{◌≡◌, ◌+◌, ◌∙◌, sym, ap, arith, length}
+use Rattle.std.proofs.Common.{◌+◌, ◌∙◌, sym, ap, arith, length}
 use Rattle.std.specs.Prelude.{Ok}
-use Rattle.std.proofs.lemmas.Result.{err_from_is_err_and}
 use Rattle.wasi_abi.specs.rules.Layouts.{u32_bytes}
 use Rattle.guest_memory.specs.rules.Bytes.{with_part}
-use Rattle.wasi_calls_rules.specs.Hosts.{Host}
-use Rattle.wasi_calls_rules.specs.Checks.{Bytes, Done, gathered, scattered}
-use Rattle.wasi_calls_rules.specs.Moving.{Got, file_written, file_read, target_written, target_read}
+use Rattle.wasi_calls_rules.specs.Checks.{Bytes}
+use Rattle.wasi_calls_rules.specs.Moving.{file_read}
 use Rattle.wasi_calls.specs.Moves.{total_len}
 use Rattle.wasi_calls.proofs.MovedRows.{pread_is, cell_put}
 use Rattle.wasi_calls.proofs.read.read_at.Goals as goal

@@ -1,8 +1,8 @@
-use Rattle.std.proofs.Common.{◌≡◌, ◌+◌, ◌≤◌, [], ◌∙◌, sym, length, arith}
+use Rattle.std.proofs.Common.{◌≡◌, ◌+◌, [], ◌∙◌, sym, length, arith}
 use Rattle.std.specs.Prelude.{true, nat_le, ◌&&◌}
 use Rattle.std.proofs.lemmas.Bool.{leb-true}
 use Rattle.wasi_calls_rules.specs.Checks.{gathered, has_no_newline}
-use Rattle.wasi_calls_rules.specs.Lines.{Cut, cut_all}
+use Rattle.wasi_calls_rules.specs.Lines.{cut_all}
 use Rattle.wasi_calls_rules.specs.declared.limits.TheConstants.{LINE_BYTES}
 use Rattle.wasi_calls.specs.Moves.{total_len}
 use Rattle.wasi_calls.proofs.Cuts.{written_cut, cut_onto, both_true}

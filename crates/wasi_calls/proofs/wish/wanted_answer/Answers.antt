@@ -1,9 +1,6 @@
-use Rattle.std.proofs.Common.{refl, sym, ◌∙◌}
-use Rattle.std.specs.Prelude.{None}
+use Rattle.std.proofs.Common.{sym, ◌∙◌}
 use Rattle.wasi_abi.specs.declared.call.Call.TheVariants as call
-use Rattle.wasi_calls_rules.specs.Rows.{row}
-use Rattle.wasi_calls.specs.rules.Calls.{wish_of}
-use Rattle.wasi_calls.proofs.Wishes.{wants_none, reads_alone_ask, wish_shown}
+use Rattle.wasi_calls.proofs.Wishes.{wants_none, few_may_ask, wish_shown}
 use Rattle.wasi_calls.proofs.wish.wanted_answer.Goals as goal
 
 pub returns-in-FdRead : goal.returns-in-FdRead
@@ -15,5 +12,6 @@ returns-in-FdRead c = λ h s.
 pub returns-in_default : goal.returns-in_default
 returns-in_default c = λ h s.
     wants_none c.args.call
-    (reads_alone_ask c.args.call c.requires.built c.in_default.not-FdRead)
+    (few_may_ask c.args.call c.in_default.not-ClockTimeGet c.in_default.not-FdRead
+    c.in_default.not-RandomGet)
     c.args.arguments.now c.args.memory.now.bytes h

@@ -1,5 +1,5 @@
-use Rattle.std.proofs.Common.{◌≡◌, length, refl, sym, ◌∙◌}
-use Rattle.std.specs.Prelude.{Option, None, Ok}
+use Rattle.std.proofs.Common.{length, sym, ◌∙◌}
+use Rattle.std.specs.Prelude.{None}
 use Rattle.guest_memory.specs.rules.Bytes.{with_part}
 use Rattle.wasi_abi.specs.rules.Layouts.{u32_bytes}
 use Rattle.wasi_calls_rules.specs.Checks.{scattered}

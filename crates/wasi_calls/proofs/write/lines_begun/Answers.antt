@@ -5,7 +5,7 @@ use Rattle.wasi_calls_rules.specs.Checks.{Bytes, gathered, open_descriptor}
 use Rattle.wasi_calls.specs.Moves.{Wanted}
 use Rattle.wasi_calls.specs.Views.{target_of}
 use Rattle.wasi_calls.specs.rules.Outputs.{count_begun}
-use Rattle.wasi_calls.proofs.Emitted.{write_adds, write_done, begun_on}
+use Rattle.wasi_calls.proofs.Emitted.{write_adds, begun_on}
 use Rattle.wasi_calls.proofs.write.lines_begun.Goals as goal
 
 pub returns-in-Stream-clause-count : goal.returns-in-Stream-clause-count

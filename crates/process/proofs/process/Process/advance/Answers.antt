@@ -40,7 +40,6 @@ invariant_of-self c =
     record {
       guest = i.guest;
       process = come.process;
-      built = i.built;
       shows = shows_after (process_of c.self.inside.machine c.self.inside.host c.self.inside.steps c.self.inside.answers c.self.inside.requests c.self.inside.ended) c.take_steps-stretch.new.machine c.take_steps-stretch.new.host i.guest i.process i.shows c.cap_fuel-most.result c.take_steps-stretch.result.steps c.take_steps-stretch.result.ended c.take_steps-stretch.result.stop come;
       few_steps = omega (arith, within, counted);
       few_answers = omega (arith, few);

@@ -59,7 +59,7 @@ invariant_of-self-2 c =
     is_process_given v.machine c.answer_call.new.machine v.host c.answer_call.new.host v.steps
     v.answers v.requests v.ended c.args.answer i.guest i.process
     c.in_ok-self-inside.field-0 i.shows running c.count_requests.result c.count_requests.ensures
-    made i.built few_steps i.few_answers i.few_requests c.answer_call.ensures.few
+    made few_steps i.few_answers i.few_requests c.answer_call.ensures.few
 
 pub returns-clause-gives : goal.returns-clause-gives
 returns-clause-gives c = λ guest p shows.

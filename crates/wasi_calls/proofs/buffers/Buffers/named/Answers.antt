@@ -1,9 +1,9 @@
-use Rattle.std.proofs.Common.{◌≡◌, ◌+◌, ◌-◌, ◌*◌, min, [], ◌∷◌, ◌++◌, length, ap, ◌∙◌, sym, arith, length-append}
+use Rattle.std.proofs.Common.{◌≡◌, ◌+◌, ◌-◌, ◌*◌, min, [], ◌∷◌, ◌++◌, arith, length-append}
 use Rattle.wasi_calls_rules.specs.Checks.{Buffer}
 use Rattle.wasi_calls_rules.specs.declared.limits.TheConstants.{MOVED_BYTES}
 use Rattle.guest_memory.proofs.Lists.{all_both}
-use Rattle.wasi_calls.specs.Moves.{total_len, AreInside}
-use Rattle.wasi_calls.proofs.Fronts.{named_on, buffer_at, total_both, named_next, named_fails, named_done, moved_is, few_is}
+use Rattle.wasi_calls.specs.Moves.{total_len}
+use Rattle.wasi_calls.proofs.Fronts.{named_on, buffer_at, total_both, named_next}
 use Rattle.wasi_calls.proofs.buffers.Buffers.named.Goals as goal
 
 pub loop-place-preserved : goal.loop-place-preserved

@@ -1,4 +1,4 @@
-use Rattle.std.proofs.Common.{◌≡◌, ◌+◌, ◌++◌, ◌∙◌, drop, sym, ap}
+use Rattle.std.proofs.Common.{◌≡◌, ◌+◌, ◌∙◌, drop, sym, ap}
 use Rattle.guest_memory.specs.rules.Bytes.{part}
 use Rattle.wasi_calls_rules.specs.Checks.{Bytes, gathered}
 use Rattle.wasi_calls_rules.specs.Lines.{Cut, cut_all}

@@ -1,4 +1,3 @@
-use Rattle.std.proofs.Common.{◌≡◌}
 use Rattle.std.specs.Prelude.{None, slice_set}
 use Rattle.wasi_calls_rules.proofs.KeepsHosts.{stands, standing}
 use Rattle.wasi_calls_rules.proofs.Standing.{closed_stands}

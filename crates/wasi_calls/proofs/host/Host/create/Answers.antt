@@ -1,6 +1,3 @@
-use Rattle.std.proofs.Common.{◌<◌, length}
-use Rattle.file_tree.specs.declared.limits.TheConstants.{NODES}
-use Rattle.file_tree.specs.rules.Changes.{IsFree}
 use Rattle.wasi_calls.specs.rules.Held.{held_host_of}
 use Rattle.wasi_calls.proofs.Entries.{made_or_same}
 use Rattle.wasi_calls.proofs.host.Host.create.Goals as goal

@@ -1,4 +1,4 @@
-use Rattle.std.proofs.Common.{◌≡◌, ◌+◌, ◌≤◌, max, length, arith}
+use Rattle.std.proofs.Common.{◌+◌, ◌≤◌, length, arith}
 use Rattle.file_tree.specs.rules.Bytes.{written}
 use Rattle.file_tree.specs.rules.Files.{bytes_of_node}
 use Rattle.file_tree.proofs.Sizes.{length-written, small_written}

@@ -1,8 +1,3 @@
-use Rattle.std.proofs.Common.{◌≡◌, ◌+◌, ◌≤◌, length, arith}
-use Rattle.std.specs.Prelude.{false}
-use Rattle.file_tree.specs.rules.Bytes.{resized}
-use Rattle.file_tree.specs.rules.Files.{is_directory, bytes_of_node, used, with_file_bytes}
-use Rattle.wasi_calls_rules.specs.Hosts.{Node, IsThere}
 use Rattle.wasi_calls.specs.rules.Held.{held_host_of}
 use Rattle.wasi_calls.proofs.Files.{resized_host}
 use Rattle.wasi_calls.proofs.host.Host.resize.Goals as goal

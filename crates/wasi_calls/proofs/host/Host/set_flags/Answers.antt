@@ -1,7 +1,4 @@
-use Rattle.std.proofs.Common.{◌≡◌}
-use Rattle.std.specs.Prelude.{Some, slice_get}
 use Rattle.wasi_abi.specs.rules.Numbers.{descriptor_flags_number}
-use Rattle.wasi_calls_rules.proofs.KeepsHosts.{moved_host}
 use Rattle.wasi_calls.specs.rules.Held.{held_host_of}
 use Rattle.wasi_calls.proofs.Descriptors.{flagged_host}
 use Rattle.wasi_calls.proofs.host.Host.set_flags.Goals as goal

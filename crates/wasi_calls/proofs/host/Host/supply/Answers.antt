@@ -1,5 +1,5 @@
-use Rattle.std.proofs.Common.{rules, ◌≡◌, [], sym, ◌∙◌}
-use Rattle.std.specs.Prelude.{false, true, Ok, vec_len}
+use Rattle.std.proofs.Common.{sym, ◌∙◌}
+use Rattle.std.specs.Prelude.{Ok, vec_len}
 use Rattle.std.proofs.lemmas.Bool.{eqb-true}
 use Rattle.wasi_calls.specs.rules.Held.{held_host_of}
 use Rattle.wasi_calls.proofs.FileRows.{no_items}

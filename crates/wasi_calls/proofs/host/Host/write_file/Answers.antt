@@ -2,7 +2,7 @@ use Rattle.std.proofs.Common.{◌≡◌, ◌+◌, ◌<◌, max, length, ap, ◌�
 use Rattle.std.specs.Prelude.{Ok}
 use Rattle.std.proofs.lemmas.Result.{err_from_is_err_and}
 use Rattle.file_tree.specs.rules.Bytes.{resized}
-use Rattle.file_tree.specs.rules.Files.{Files, bytes_of_node, with_file_bytes}
+use Rattle.file_tree.specs.rules.Files.{Files, bytes_of_node}
 use Rattle.file_tree.proofs.Sizes.{length-resized}
 use Rattle.wasi_calls_rules.specs.Hosts.{Host}
 use Rattle.wasi_calls_rules.specs.Checks.{Bytes, Refuses, gathered}

@@ -1,8 +1,7 @@
-use Rattle.std.proofs.Common.{◌≡◌, ◌+◌, ◌∙◌, [], drop, length, ap, sym, refl, arith}
+use Rattle.std.proofs.Common.{◌≡◌, ◌+◌, [], drop, length, refl, arith}
 use Rattle.std.proofs.lemmas.List.{drop_all}
-use Rattle.wasi_calls_rules.specs.Checks.{Buffer}
 use Rattle.wasi_calls.proofs.Pieces.{next_one, next_total}
-use Rattle.wasi_calls.proofs.WrittenFiles.{IsPut, put_none, put_next, put_all}
+use Rattle.wasi_calls.proofs.WrittenFiles.{put_next, put_all}
 use Rattle.wasi_calls.proofs.host.moving.put_pieces.Goals as goal
 
 pub overflow_add-place : goal.overflow_add-place

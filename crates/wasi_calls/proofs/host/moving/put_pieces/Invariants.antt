@@ -1,4 +1,4 @@
-use Rattle.std.proofs.Common.{◌≡◌, drop}
+use Rattle.std.proofs.Common.{drop}
 use Rattle.wasi_calls.proofs.WrittenFiles.{IsPut}
 use Rattle.wasi_calls.proofs.host.moving.put_pieces.Given as goal
 
