@@ -6,7 +6,7 @@
 // Each draw takes two random numbers, each of four bytes with the lowest first. The first one,
 // modulo the number of words that are left, is the place of the word among these, counted from 0.
 // The second one, modulo the number of persons that are left, is the place of the person. Both are
-// then taken out, and the others keep their order. Drawing ends where no word or no person is left.
+// then taken out, and the others keep their order. It ends where no word or no person is left.
 //
 // The first line has the seconds of the real time, each other one those that passed since then by
 // the monotonic clock. README.md has the line that builds it.

@@ -11,7 +11,7 @@ NAMETOOLONG, NOENT, NOSPC, NOTDIR, NOTEMPTY, SPIPE, NOTCAPABLE = 37, 44, 51, 54,
 
 # The rights of a file, of a directory, and of both together; and single ones.
 FILE, FOLDER, ALL = 0x0060007F, 0x062F6611, 0x066F667F
-READ, WRITE, PATH_OPEN, READDIR, FILE_STATUS = 1 << 1, 1 << 6, 1 << 13, 1 << 14, 1 << 21
+READ, WRITE, PATH_OPEN, READDIR = 1 << 1, 1 << 6, 1 << 13, 1 << 14
 
 STREAM, DIRECTORY, REGULAR = 2, 3, 4
 CREATE, ONLY_DIRECTORY, EXCLUSIVE, TRUNCATE = 1, 2, 4, 8
@@ -51,8 +51,8 @@ class From:
 
 
 @dataclass
-class Beyond:
-    """Iovecs of a text, and of a buffer at any address. Address and count are arguments."""
+class TextAndRange:
+    """Iovecs of a text, and of any range of memory. Address and count are arguments."""
 
     text: bytes
     address: int
@@ -63,9 +63,9 @@ class Beyond:
 class Row:
     """A call, the error number that it answers, and the results that it puts.
 
-    Bytes as an argument are a path: address and length. `gives` has one text for each cell, room and
-    iovec. What is shorter than those leaves their rest as it was, and a refused call leaves all.
-    `says` has the lines that the call itself ends, each with its stream.
+    Bytes as an argument are a path: address and length. `gives` has one text for each cell, room
+    and iovec. What is shorter than those leaves their rest as it was, and a refused call leaves
+    all. `says` has the lines that the call itself ends, each with its stream.
     """
 
     call: str
@@ -79,7 +79,8 @@ class Row:
 class Scene:
     """Rows in one process. The results are told on the stream `reporter`.
 
-    `requests` are the texts of request lines, and `left` the lines that the end of the process emits.
+    `requests` are the texts of request lines, and `left` the lines that the end of the process
+    emits.
     """
 
     name: str
@@ -125,7 +126,8 @@ def opens(path, number=None, *, flags=0, base=FILE, inheriting=0, fdflags=0, fd=
 
 def opens_directory(path, number=None, **given):
     """Opens a directory with all rights of one, which may hand on all."""
-    return opens(path, number, **{"base": FOLDER, "inheriting": ALL, "flags": ONLY_DIRECTORY, **given})
+    usual = {"base": FOLDER, "inheriting": ALL, "flags": ONLY_DIRECTORY}
+    return opens(path, number, **{**usual, **given})
 
 
 def closes(fd, error=0):
@@ -267,7 +269,7 @@ UNLINKED = Scene("a removed file is read through its descriptor", [
 
 
 def filled():
-    """Sixteen files that take all room: 15 of a unit and a byte, and one of a unit less 15 bytes."""
+    """Sixteen files that take all room: 15 of a unit and a byte, one of a unit less 15 bytes."""
     for number in range(16):
         yield opens(b"file %d" % number, 4 + number, flags=CREATE)
         yield resizes(4 + number, 65_521 if number == 15 else 65_537)
@@ -356,9 +358,9 @@ EACH = Scene("each call", [
 ], requests=[b"hello", b"one", None], left=[(2, b"half")])
 
 LINES = Scene("no byte of a refused write comes to a line", [
-    Row("fd_write", [1, Beyond(b"lost\n", 65_536, 1), Cell(4)], FAULT),
-    Row("fd_write", [1, Beyond(b"hi\n", 65_536, 0), Cell(4)], 0, [u32(3)], [(1, b"hi")]),
-    Row("fd_write", [1, Beyond(b"hi\n", 65_535, 2), Cell(4)], FAULT),
+    Row("fd_write", [1, TextAndRange(b"lost\n", 65_536, 1), Cell(4)], FAULT),
+    Row("fd_write", [1, TextAndRange(b"hi\n", 65_536, 0), Cell(4)], 0, [u32(3)], [(1, b"hi")]),
+    Row("fd_write", [1, TextAndRange(b"hi\n", 65_535, 2), Cell(4)], FAULT),
     writes(1, b"", b"\n", says=[(1, b"")]),
     writes(1, b"a" * 4_097 + b"\n", says=[(1, b"a" * 4_096), (1, b"a")]),
     writes(1, b"b" * 4_096 + b"\n", says=[(1, b"b" * 4_096)]),
@@ -454,6 +456,17 @@ OFFSETS = Scene("offsets and the size of one file have their bounds", [
     seeks(3, 0, SET, error=ISDIR),
     reads(3, 9, b"", ISDIR),
     Row("fd_write", [3, From([b"x"]), Cell(4)], ISDIR),
+])
+
+WIDE = Scene("one call moves 65,536 bytes at most, from 1,024 iovecs at most", [
+    opens(b"a", 4, flags=CREATE),
+    Row("fd_write", [4, TextAndRange(b"x", 0, 65_536), Cell(4)], 0, [u32(65_536)]),
+    tells(4, 65_536),
+    reads_at(4, 0, 1, b"x"),
+    writes(4, *[b"y"] * 1_024),
+    writes(4, *[b"y"] * 1_025, error=INVAL),
+    is_status(4, 2, REGULAR, 1, 66_560),
+    reads_at(4, 66_558, 9, b"yy"),
 ])
 
 RIGHTS = Scene("a descriptor does what its rights allow, and hands on no others", [
@@ -566,5 +579,5 @@ LOWEST = Scene("a new descriptor is the lowest free number up to 63", [
 ], reporter=2)
 
 SCENES = [
-    RENAMED, REMOVED, UNLINKED, FULL, RESIZED, EACH, LINES, PATHS, ORDERED, OFFSETS, RIGHTS, APPENDED,
-    MOVED, LOWEST]
+    RENAMED, REMOVED, UNLINKED, FULL, RESIZED, EACH, LINES, PATHS, ORDERED, OFFSETS, WIDE, RIGHTS,
+    APPENDED, MOVED, LOWEST]
