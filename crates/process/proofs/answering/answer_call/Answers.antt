@@ -20,17 +20,19 @@ returns-in_default-clause-answers c = λ guest p shows running.
     (c.waits.ensures guest.program p.configuration shows.configuration) in
     (refl, refl, nothing_wanted guest p none c.args.answer.now)
 
-pub wants-requires-clause-typed : goal.wants-requires-clause-typed
-wants-requires-clause-typed c =
+pub wants-requires : goal.wants-requires
+wants-requires c =
     let r = c.requires.runs in
     let T : Option HostCall → Type 0 =
     λ o. TellsCall c.args.machine.now.guest r.guest.program r.process.configuration o in
     let asks = subst T c.in-Some.is
     (c.waits.ensures r.guest.program r.process.configuration r.shows.configuration) in
     let P : List ℕ → Type 0 = λ ns. AreArguments (parameters_of c.in-Some.asked.call) ns in
-    subst P (sym c.as_slice-arguments.ensures)
-    (are_typed c.args.machine.now r.guest r.shows.calls r.process.configuration c.in-Some.asked.call
-    c.in-Some.asked.arguments asks)
+    record {
+      typed = subst P (sym c.as_slice-arguments.ensures)
+          (are_typed c.args.machine.now r.guest r.shows.calls r.process.configuration c.in-Some.asked.call
+          c.in-Some.asked.arguments asks);
+    }
 
 pub returns-then-not-wants-clause-answers : goal.returns-then-not-wants-clause-answers
 returns-then-not-wants-clause-answers c = λ guest p shows running.
