@@ -34,9 +34,10 @@ use std::io::{self, BufReader, ErrorKind, Input, Write};
 use std::num::NonZeroU64;
 use std::process::ExitCode;
 use std::rt::{Env, Files};
+use std::time::Clock;
 use wasmhost_serve::{
-    BufferedLines, LineOutlet, Obstacle, Options, Order, RequestSource, check_bytes, obstacle_of,
-    read_module, read_words, report, report_words, serve,
+    BufferedLines, LineOutlet, Obstacle, Options, Order, Outside, RequestSource, check_bytes,
+    obstacle_of, read_module, read_words, report, report_words, serve,
 };
 
 /// The first bytes of a file.
@@ -60,7 +61,7 @@ fn check<R: Files, W: Write, E: Write>(
 }
 
 /// Runs a worker of a file's module on the lines of the standard input.
-fn run<R: Files + Input, W: Write, E: Write>(
+fn run<R: Files + Input + Clock, W: Write, E: Write>(
     rt: &R,
     alloc: Global,
     path: &str,
@@ -78,14 +79,22 @@ fn run<R: Files + Input, W: Write, E: Write>(
         Ok(reader) => reader,
         Err(error) => return report(err, obstacle_of(&error)),
     };
-    let mut source = RequestSource::new(alloc, BufferedLines::new(reader), 0);
+    let outside = Outside {
+        seed: [0; 32],
+        clock: None,
+    };
+    let mut source = RequestSource::new(alloc, BufferedLines::new(reader), rt, outside, 0);
     let Ok(mut outlet) = LineOutlet::new(alloc, out) else {
         return report(err, Obstacle::Memory);
     };
     serve(
         alloc,
         wasm.as_slice(),
-        Options { fuel },
+        Options {
+            fuel,
+            arguments: &[],
+            environment: &[],
+        },
         &mut source,
         &mut outlet,
         err,
@@ -95,7 +104,7 @@ fn run<R: Files + Input, W: Write, E: Write>(
 /// Runs the command line, and answers the exit status.
 fn status_of<R, W: Write, E: Write>(rt: &R, out: &mut W, err: &mut E) -> u8
 where
-    R: AllocGlobal + Env + Files + Input,
+    R: AllocGlobal + Clock + Env + Files + Input,
     ensures { result ≤ 7 }
 {
     let alloc = rt.alloc();

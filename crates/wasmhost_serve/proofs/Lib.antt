@@ -1,4 +1,5 @@
 pub mod Told
+pub mod SeedLemmas
 pub mod Serving
 pub mod Starting
 pub mod LineLemmas

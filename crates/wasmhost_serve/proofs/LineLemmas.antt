@@ -3,4 +3,5 @@ pub mod Requests
 pub mod Fitting
 pub mod Passing
 pub mod Refusals
+pub mod Drawing
 pub mod Asking

@@ -20,10 +20,13 @@ use Rattle.wasmhost_serve.specs.declared.lines.fault.LineFault.{LineFault}
 use Rattle.wasmhost_serve.specs.declared.lines.fault.LineFault.TheVariants as line
 use Rattle.wasmhost_serve.specs.declared.run.RunFault.{RunFault}
 use Rattle.wasmhost_serve.specs.declared.run.RunFault.TheVariants as run
-use Rattle.wasmhost_serve.specs.rules.Statuses.{status_of}
+use Rattle.wasmhost_serve.specs.declared.configuring.Unconfigured.{Unconfigured}
+use Rattle.wasmhost_serve.specs.declared.configuring.Unconfigured.TheVariants as unconfigured
+use Rattle.wasmhost_serve.specs.rules.Statuses.{IsUnconfigured, status_of}
 use Rattle.wasmhost_serve.specs.rules.Requests.{BeginsWithOther, BeginsWithLater, BeginsWithNumber}
-use Rattle.wasmhost_serve.specs.rules.Served.{WantsAnswer, MeetsBadLine, LacksAnswer, HasPrinted, IsRefusal, Serves, last_words, usual}
-use Rattle.wasmhost_serve.specs.Lines.Answers.{IsRefusedFor}
+use Rattle.wasmhost_serve.specs.rules.Served.{Job, WantsAnswer, MeetsBadLine, LacksAnswer, HasPrinted, IsRefusal, Serves, last_words}
+use Rattle.wasmhost_serve.specs.rules.Outside.{requests_in, words_of}
+use Rattle.wasmhost_serve.specs.Lines.Answers.{IsRefusedFor, MissesNext, IsClockless, IsWordless}
 use Rattle.wasmhost_serve.specs.Runs.{Prints, IsWorkerRun, IsRunInVain, FailsAs, ended_by}
 use Rattle.wasmhost_serve.proofs.LineLemmas.Passing.{up_to_map}
 
@@ -55,30 +58,30 @@ too_small : (n m : ℕ) → n ≡ m → (n ≡ 0) ⊎ (n ≡ 7) → (m ≡ 0 →
 too_small n m e (inl k) no_zero no_seven = no_zero (sym e ∙ k)
 too_small n m e (inr k) no_zero no_seven = no_seven (sym e ∙ k)
 
-module _ (bytes : List ℕ) (w : WorkerValue) (lines : Option (List ℕ)) (failed failed' : Bool)
-    (old new : Option (List ℕ)) (created : IsCreated bytes usual w) where
+module _ (given : Job) (w : WorkerValue) (failed failed' : Bool) (old new : Option (List ℕ))
+    (created : IsCreated given.bytes given.config w) where
   start_shows : ShowsProcess w.process created.started.first_guest created.started.first
   start_shows = created.started.shows created.started.first_guest created.started.first
       created.started.is_first
 
   none_told : created.started.first.host.lines ≡ []
-  none_told = start_tells_nothing created.spelled usual created.started.first_guest
+  none_told = start_tells_nothing created.spelled given.config created.started.first_guest
       created.started.first created.started.is_first
 
-  has_printed : Prints created.started.first_guest created.started.first lines old new
-      → HasPrinted bytes lines old new
+  has_printed : Prints created.started.first_guest created.started.first given.outside given.lines
+      old new → HasPrinted given old new
   has_printed prints = record {
     spelled = created.spelled;
     accepted = created.accepted;
     kept = prints.kept;
     requests = prints.requests;
+    others = prints.others;
     steps = prints.steps;
     process = prints.process;
     reached = record {
       guest = created.started.first_guest;
       start = created.started.first;
-      begins =
-          created.started.is_first;
+      begins = created.started.is_first;
       runs = prints.runs;
     };
     printed = prints.printed;
@@ -87,9 +90,10 @@ module _ (bytes : List ℕ) (w : WorkerValue) (lines : Option (List ℕ)) (faile
   -- ---- a worker that is over
 
   pub serves_done : (why : Now) (err err' : Option (List ℕ)) (status : ℕ)
-      → IsWorkerRun w why lines failed failed' old new → (status ≡ 0) ⊎ (status ≡ 7)
+      → IsWorkerRun w why given.outside given.lines failed failed' old new
+      → (status ≡ 0) ⊎ (status ≡ 7)
       → (status ≡ 0 → Appends err err' (last_words (ended_by why)))
-      → Serves bytes lines failed failed' old new err err' status
+      → Serves given failed failed' old new err err' status
   unfolding has_printed
   serves_done why err err' status did known told =
       let done = did created.started.first_guest created.started.first start_shows none_told in
@@ -97,8 +101,7 @@ module _ (bytes : List ℕ) (w : WorkerValue) (lines : Option (List ℕ)) (faile
         served = λ e. record {
           has = has_printed done.0;
           over = done.1;
-          told =
-              subst (λ z. Appends err err' (last_words z)) (sym done.2) (told e);
+          told = subst (λ z. Appends err err' (last_words z)) (sym done.2) (told e);
         };
         refused = λ e. absurd (too_small status 3 e known (λ z. omega (arith, z))
             (λ z. omega (arith, z)));
@@ -114,10 +117,12 @@ module _ (bytes : List ℕ) (w : WorkerValue) (lines : Option (List ℕ)) (faile
 
 -- ---- one that fails
 
-module _ (bytes : List ℕ) (lines : Option (List ℕ)) (failed failed' : Bool)
-    (old new err err' : Option (List ℕ)) where
+module _ (given : Job) (failed failed' : Bool) (old new err err' : Option (List ℕ)) where
+  abbrev Says : ℕ → Type 0
+  Says status = Serves given failed failed' old new err err' status
+
   -- a status that no fault has but this one
-  seven : Serves bytes lines failed failed' old new err err' 7
+  seven : Says 7
   seven = record {
     served = λ e. absurd (omega (arith, e));
     refused = λ e. absurd (omega (arith, e));
@@ -128,8 +133,7 @@ module _ (bytes : List ℕ) (lines : Option (List ℕ)) (failed failed' : Bool)
     known = inr (omega arith, omega arith);
   }
 
-  three : IsRefusal bytes lines old new → failed' ≡ failed
-      → Serves bytes lines failed failed' old new err err' 3
+  three : IsRefusal given old new → failed' ≡ failed → Says 3
   three h steady = record {
     served = λ e. absurd (omega (arith, e));
     refused = λ e. h;
@@ -140,8 +144,8 @@ module _ (bytes : List ℕ) (lines : Option (List ℕ)) (failed failed' : Bool)
     known = inr (omega arith, omega arith);
   }
 
-  four : (has : HasPrinted bytes lines old new) → LacksAnswer has.reached.guest has.process failed'
-      → Serves bytes lines failed failed' old new err err' 4
+  four : (has : HasPrinted given old new)
+      → LacksAnswer has.reached.guest given.outside has.kept has.process failed' → Says 4
   four has lacks = record {
     served = λ e. absurd (omega (arith, e));
     refused = λ e. absurd (omega (arith, e));
@@ -152,8 +156,7 @@ module _ (bytes : List ℕ) (lines : Option (List ℕ)) (failed failed' : Bool)
     known = inr (omega arith, omega arith);
   }
 
-  five : Appends old new [] ⊎ HasPrinted bytes lines old new
-      → Serves bytes lines failed failed' old new err err' 5
+  five : Appends old new [] ⊎ HasPrinted given old new → Says 5
   five h = record {
     served = λ e. absurd (omega (arith, e));
     refused = λ e. absurd (omega (arith, e));
@@ -164,9 +167,8 @@ module _ (bytes : List ℕ) (lines : Option (List ℕ)) (failed failed' : Bool)
     known = inr (omega arith, omega arith);
   }
 
-  six : (has : HasPrinted bytes lines old new)
-      → MeetsBadLine has.reached.guest lines has.kept has.process → failed' ≡ failed
-      → Serves bytes lines failed failed' old new err err' 6
+  six : (has : HasPrinted given old new)
+      → MeetsBadLine has.reached.guest given.lines has.kept has.process → failed' ≡ failed → Says 6
   six has meets steady = record {
     served = λ e. absurd (omega (arith, e));
     refused = λ e. absurd (omega (arith, e));
@@ -178,94 +180,128 @@ module _ (bytes : List ℕ) (lines : Option (List ℕ)) (failed failed' : Bool)
   }
 
   -- a process that wants an answer, and why there is none
-  module _ (has : HasPrinted bytes lines old new) (kind : Kind)
-      (wants : WantsAnswer has.reached.guest has.process kind) where
-    wants_request : kind ≡ kinds.Request → WantsAnswer has.reached.guest has.process kinds.Request
-    wants_request e = subst (WantsAnswer has.reached.guest has.process) e wants
+  module _ (has : HasPrinted given old new) where
+    abbrev Wants : Kind → Type 0
+    Wants kind = WantsAnswer has.reached.guest has.process kind
 
-    by_line : (why : LineFault) → IsRefusedFor kind 0 lines has.kept failed failed' why
-        → Serves bytes lines failed failed' old new err err' (status_of (run.Line why))
-    by_line line.Read (inl k) = let e = k.1 in absurd (cc)
-    by_line line.Read (inr k) = four has (inl (wants_request k.0, k.1))
-    by_line line.Kind (inl k) = four has (inr (inl (kind, k.0, wants)))
-    by_line line.Kind (inr k) = absurd k.1
-    by_line line.Memory (inl k) = let e = k.1 in absurd (cc)
-    by_line line.Memory (inr k) = five (inr has)
-    by_line (line.Number given wanted) (inl k) = let e = k.1 in absurd (cc)
-    by_line (line.Number given wanted) (inr k) =
-        let next = k.1.0 in
-        let beyond = k.1.1 in
-        let later : length has.kept + 1 < given = omega (arith, next, beyond) in
+    by_request : (why : LineFault) → Wants kinds.Request
+        → MissesNext 0 given.lines (requests_in has.kept) failed failed' why
+        → Says (status_of (run.Line why))
+    by_request line.Read wants k = four has (inl (wants, k))
+    by_request line.Clock wants k = absurd k
+    by_request line.Words wants k = absurd k
+    by_request line.Memory wants k = five (inr has)
+    by_request (line.Number given_number wanted) wants k =
+        let next = k.0 in
+        let beyond = k.1 in
+        let later : length (requests_in has.kept) + 1 < given_number = omega (arith, next, beyond)
+        in
         six has (
-          wants_request k.0,
-          up_to_map 0 lines has.kept (BeginsWithNumber given) (λ rest. BeginsWithOther rest
-              ⊎ BeginsWithLater (length has.kept) rest)
-              (λ rest is. inr (given, later, is)) k.1.2,
-        ) k.1.3
-    by_line line.Form (inl k) = let e = k.1 in absurd (cc)
-    by_line line.Form (inr k) =
+          wants,
+          up_to_map 0 given.lines (requests_in has.kept) (BeginsWithNumber given_number)
+              (λ rest. BeginsWithOther rest ⊎ BeginsWithLater (length (requests_in has.kept)) rest)
+              (λ rest is. inr (given_number, later, is)) k.2,
+        ) k.3
+    by_request line.Form wants k =
         six has (
-          wants_request k.0,
-          up_to_map 0 lines has.kept BeginsWithOther
-              (λ rest. BeginsWithOther rest ⊎ BeginsWithLater (length has.kept) rest)
-              (λ rest is. inl is) k.1.0,
-        ) k.1.1
+          wants,
+          up_to_map 0 given.lines (requests_in has.kept) BeginsWithOther
+              (λ rest. BeginsWithOther rest ⊎ BeginsWithLater (length (requests_in has.kept)) rest)
+              (λ rest is. inl is) k.0,
+        ) k.1
 
-  told_by : (s : ℕ) (why : RunFault) → Serves bytes lines failed failed' old new err err'
-      (status_of why) → (s ≡ status_of why) ⊎ (s ≡ 7)
-      → Serves bytes lines failed failed' old new err err' s
-  told_by s why serves (inl e) = subst (Serves bytes lines failed failed' old new err err') (sym e)
-      serves
-  told_by s why serves (inr e) = subst (Serves bytes lines failed failed' old new err err') (sym e)
-      seven
+    by_clock : (why : LineFault) → Wants kinds.Realtime ⊎ Wants kinds.Monotonic
+        → IsClockless given.outside why → Says (status_of (run.Line why))
+    by_clock line.Clock wants k = four has (inr (inl (wants, k)))
+    by_clock line.Read wants k = absurd k
+    by_clock line.Words wants k = absurd k
+    by_clock line.Memory wants k = absurd k
+    by_clock line.Form wants k = absurd k
+    by_clock (line.Number given_number wanted) wants k = absurd k
+
+    by_words : (n : ℕ) (why : LineFault) → Wants (kinds.Random n)
+        → IsWordless (words_of has.kept) n why → Says (status_of (run.Line why))
+    by_words n line.Words wants k = four has (inr (inr (inl (n, wants, k))))
+    by_words n line.Memory wants k = five (inr has)
+    by_words n line.Clock wants k = absurd k
+    by_words n line.Read wants k = absurd k
+    by_words n line.Form wants k = absurd k
+    by_words n (line.Number given_number wanted) wants k = absurd k
+
+    by_line : (kind : Kind) (why : LineFault) → Wants kind
+        → IsRefusedFor kind given.outside (words_of has.kept) 0 given.lines (requests_in has.kept)
+        failed failed' why → Says (status_of (run.Line why))
+    by_line kinds.Request why wants k = by_request why wants k
+    by_line kinds.Realtime why wants k = by_clock why (inl wants) k.0
+    by_line kinds.Monotonic why wants k = by_clock why (inr wants) k.0
+    by_line (kinds.Random n) why wants k = by_words n why wants k.0
+
+  told_by : (s : ℕ) (why : RunFault) → Says (status_of why) → (s ≡ status_of why) ⊎ (s ≡ 7)
+      → Says s
+  told_by s why serves (inl e) = subst Says (sym e) serves
+  told_by s why serves (inr e) = subst Says (sym e) seven
 
   -- one that ran
-  pub serves_failed : (w : WorkerValue) (why : RunFault) (status : ℕ) → IsCreated bytes usual w
-      → IsRunInVain w why lines failed failed' old new → (status ≡ status_of why) ⊎ (status ≡ 7)
-      → Serves bytes lines failed failed' old new err err' status
+  pub serves_failed : (w : WorkerValue) (why : RunFault) (status : ℕ)
+      → IsCreated given.bytes given.config w
+      → IsRunInVain w why given.outside given.lines failed failed' old new
+      → (status ≡ status_of why) ⊎ (status ≡ 7) → Says status
   unfolding has_printed
   serves_failed w why status created did known =
       told_by status why (by_fault why (did created.unfailed created.started.first_guest
-      created.started.first (start_shows bytes w lines failed failed' old new created)
-      (none_told bytes w lines failed failed' old new created))) known
+      created.started.first (start_shows given w failed failed' old new created)
+      (none_told given w failed failed' old new created))) known
     where
       by_fault : (why : RunFault) → FailsAs created.started.first_guest created.started.first why
-          lines failed failed' old new → Serves bytes lines failed failed' old new err err'
-          (status_of why)
+          given.outside given.lines failed failed' old new → Says (status_of why)
       by_fault (run.Line why) h = by_line
-          (has_printed bytes w lines failed failed' old new created h.0) h.1 h.2 why h.3
+          (has_printed given w failed failed' old new created h.0) h.1 why h.2 h.3
+      by_fault (run.Config why) h = absurd h
       by_fault (run.Work fault.Source) h =
-          four (has_printed bytes w lines failed failed' old new created h.0) (inr (inr h.1))
+          four (has_printed given w failed failed' old new created h.0) (inr (inr (inr h.1)))
       by_fault (run.Work fault.Outlet) h = seven
       by_fault (run.Work fault.Memory) h =
-          five (inr (has_printed bytes w lines failed failed' old new created h))
+          five (inr (has_printed given w failed failed' old new created h))
       by_fault (run.Work fault.Failed) h = absurd h
       by_fault (run.Work (fault.Refused (refusal.Front why))) h = absurd h
       by_fault (run.Work (fault.Refused refusal.StepsSpent)) h =
-          three (inr (has_printed bytes w lines failed failed' old new created h.0, h.1)) h.2
+          three (inr (inr (has_printed given w failed failed' old new created h.0, h.1))) h.2
 
 -- one that wasn't created
-pub serves_nothing : (bytes : List ℕ) (lines : Option (List ℕ)) (failed : Bool)
-    (old err err' : Option (List ℕ)) (why : WorkFault) (status : ℕ)
-    → IsRefusedByWorker usual.pages bytes why → (status ≡ status_of (run.Work why)) ⊎ (status ≡ 7)
-    → Serves bytes lines failed failed old old err err' status
-serves_nothing bytes lines failed old err err' why status refused known =
-    told_by bytes lines failed failed old old err err' status (run.Work why)
-    (by_refusal why refused) known
-  where
-    by_refusal : (why : WorkFault) → IsRefusedByWorker usual.pages bytes why
-        → Serves bytes lines failed failed old old err err' (status_of (run.Work why))
-    by_refusal fault.Source h = absurd h
-    by_refusal fault.Outlet h = absurd h
-    by_refusal fault.Memory h = five bytes lines failed failed old old err err'
-        (inl (Appends-nil old))
-    by_refusal fault.Failed h = absurd h
-    by_refusal (fault.Refused (refusal.Front why)) h =
-        three bytes lines failed failed old old err err' (inl (h.2, Appends-nil old)) refl
-    by_refusal (fault.Refused refusal.StepsSpent) h = absurd h
+module _ (given : Job) (failed : Bool) (old err err' : Option (List ℕ)) where
+  pub serves_nothing : (why : WorkFault) (status : ℕ)
+      → IsRefusedByWorker given.config.pages given.bytes why
+      → (status ≡ status_of (run.Work why)) ⊎ (status ≡ 7)
+      → Serves given failed failed old old err err' status
+  serves_nothing why status refused known =
+      told_by given failed failed old old err err' status (run.Work why)
+      (by_refusal why refused) known
+    where
+      by_refusal : (why : WorkFault) → IsRefusedByWorker given.config.pages given.bytes why
+          → Serves given failed failed old old err err' (status_of (run.Work why))
+      by_refusal fault.Source h = absurd h
+      by_refusal fault.Outlet h = absurd h
+      by_refusal fault.Memory h = five given failed failed old old err err' (inl (Appends-nil old))
+      by_refusal fault.Failed h = absurd h
+      by_refusal (fault.Refused (refusal.Front why)) h =
+          three given failed failed old old err err' (inr (inl (h.2, Appends-nil old))) refl
+      by_refusal (fault.Refused refusal.StepsSpent) h = absurd h
 
-pub few_statuses : (bytes : List ℕ) (lines : Option (List ℕ)) (failed failed' : Bool)
-    (old new err err' : Option (List ℕ)) (status : ℕ)
-    → Serves bytes lines failed failed' old new err err' status → status ≤ 7
-few_statuses bytes lines failed failed' old new err err' status serves =
+  -- one that wasn't configured
+  pub serves_unconfigured : (why : Unconfigured) (status : ℕ) → IsUnconfigured given.config why
+      → (status ≡ status_of (run.Config why)) ⊎ (status ≡ 7)
+      → Serves given failed failed old old err err' status
+  serves_unconfigured why status refused known =
+      told_by given failed failed old old err err' status (run.Config why)
+      (by_refusal why refused) known
+    where
+      by_refusal : (why : Unconfigured) → IsUnconfigured given.config why
+          → Serves given failed failed old old err err' (status_of (run.Config why))
+      by_refusal (unconfigured.Limits why) h =
+          three given failed failed old old err err' (inl (h, Appends-nil old)) refl
+      by_refusal unconfigured.Memory h = five given failed failed old old err err' (inl (Appends-nil old))
+
+pub few_statuses : (given : Job) (failed failed' : Bool) (old new err err' : Option (List ℕ))
+    (status : ℕ) → Serves given failed failed' old new err err' status → status ≤ 7
+few_statuses given failed failed' old new err err' status serves =
     elim serves.known [ inl k ↦ omega (arith, k) | inr k ↦ k.1 ]

@@ -1,9 +1,11 @@
 pub mod Commands
 pub mod Numbers
+pub mod Outside
 pub mod Printed
 pub mod Prints
 pub mod Reports
 pub mod Requests
+pub mod Seeds
 pub mod Served
 pub mod Statuses
 pub mod Texts

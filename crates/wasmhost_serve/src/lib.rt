@@ -40,20 +40,23 @@
 #![tactic(auto)]
 
 mod check;
+mod configuring;
 pub mod laws;
 mod lines;
 mod module_bytes;
 mod run;
+mod seed;
 pub mod status;
 mod telling;
 mod words;
 
 pub use check::check_bytes;
 pub use lines::{
-    BufferedLines, LineFault, LineOutlet, LineReader, Request, RequestSource, read_request,
-    trap_name,
+    BufferedLines, LineFault, LineOutlet, LineReader, Outside, Request, RequestSource,
+    read_request, trap_name,
 };
 pub use module_bytes::read_module;
 pub use run::{Options, serve};
+pub use seed::{read_seed, seeded};
 pub use telling::{Obstacle, obstacle_of, report, report_words, say_line};
 pub use words::{Order, WordsFault, read_words};

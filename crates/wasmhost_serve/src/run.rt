@@ -3,44 +3,39 @@
 ghost use Rattle.std.specs.Prelude.{◌≡◌, ◌≢◌, ◌⊎◌, ◌≤◌, IfOk, IfErr, OnOk};
 ghost use Rattle.std.specs.Io.KnownBytes.{Appends};
 ghost use Rattle.process.specs.rules.Values.{IsProcess};
-ghost use Rattle.worker.specs.rules.Values.{IsCreated};
-ghost use Rattle.worker.specs.rules.Faults.{IsRefusedByWorker};
 ghost use Rattle.worker.specs.declared.now.Now.TheVariants.{Spent};
-ghost use Rattle.wasmhost_serve.specs.rules.Served.{Serves, usual, last_words};
+ghost use Rattle.wasmhost_serve.specs.rules.Served.{Serves, config_of, job, last_words, texts_in};
 ghost use Rattle.wasmhost_serve.specs.Runs.{SlicesSome, SlicesSomeInVain, IsWorkerRun, IsRunInVain, IsToldAs, ended_by};
 ghost use Rattle.wasmhost_serve.specs.rules.Statuses.{status_of};
 
+use crate::configuring::{Unconfigured, configure};
 use crate::lines::{LineFault, LineOutlet, LineReader, RequestSource, trap_name};
 use crate::status::{BAD_LINE, NO_MEMORY, REFUSED, UNREAD, UNWRITTEN};
 use process::ProcessEnd;
 use record_replay::{Outlet, Source};
-use std::alloc::{AllocError, Global};
+use std::alloc::Global;
 use std::io::{self, Write};
 use std::num::NonZeroU64;
+use std::time::Clock;
 use thiserror::Error;
-use wasi_abi::Config;
-use wasm_syntax::Row;
 use worker::{Now, WorkFault, Worker};
 
-/// How a worker is driven.
-#[derive(Clone, Copy, Debug, PartialEq, Eq)]
-pub struct Options {
+/// How a worker is configured and driven.
+#[derive(Clone, Copy, Debug)]
+pub struct Options<'a> {
     /// Steps of a slice.
     pub fuel: NonZeroU64,
+    /// The guest's arguments behind the worker's name.
+    pub arguments: &'a [&'a str],
+    /// Entries of the guest's environment, each `NAME=VALUE`.
+    pub environment: &'a [&'a str],
 }
-
-/// Pages of 65,536 bytes that the guest's memory may have.
-const PAGES: u64 = 16;
-
-/// Units of 65,536 bytes that all files may have.
-const FILES: u64 = 16;
-
-/// Sectors of the journal.
-const JOURNAL: u64 = 256;
 
 /// Why a worker doesn't run to its end.
 #[derive(Clone, Copy, Debug, PartialEq, Eq, Error)]
 enum RunFault {
+    #[error("failed {0}")]
+    Config(Unconfigured),
     #[error("failed {0}")]
     Work(WorkFault),
     /// What is wrong with a request line, or with its reader.
@@ -54,37 +49,16 @@ impl RunFault {
         ensures { result ≡ status_of self }
     {
         match self {
+            RunFault::Config(Unconfigured::Limits(_)) => REFUSED,
+            RunFault::Config(Unconfigured::Memory) => NO_MEMORY,
             RunFault::Work(WorkFault::Refused(_)) => REFUSED,
             RunFault::Work(WorkFault::Source | WorkFault::Failed) => UNREAD,
-            RunFault::Line(LineFault::Read | LineFault::Kind) => UNREAD,
+            RunFault::Line(LineFault::Read | LineFault::Clock | LineFault::Words) => UNREAD,
             RunFault::Work(WorkFault::Memory) | RunFault::Line(LineFault::Memory) => NO_MEMORY,
             RunFault::Line(LineFault::Number { .. } | LineFault::Form) => BAD_LINE,
             RunFault::Work(WorkFault::Outlet) => UNWRITTEN,
         }
     }
-}
-
-/// The configuration of a worker for which nothing else is asked: its name is its only argument.
-pub(crate) fn usual_config(alloc: Global) -> Result<Config, AllocError>
-    ensures { IfOk result (λ config. config ≡ usual) }
-{
-    let name = Row::from_vec(Vec::from_slice(alloc, b"worker")?);
-    let mut arguments = Row::new(alloc);
-    arguments.push(name)?;
-    match Config::new(PAGES, FILES, JOURNAL, arguments, Row::new(alloc)) {
-        Ok(config) => Ok(config),
-        Err(_) => unreachable!(),
-    }
-}
-
-fn create(alloc: Global, wasm: &[u8]) -> Result<Worker, WorkFault>
-    ensures created { IfOk result (IsCreated wasm.now usual) }
-    ensures refused { IfErr result (IsRefusedByWorker usual.pages wasm.now) }
-{
-    let Ok(config) = usual_config(alloc) else {
-        return Err(WorkFault::Memory);
-    };
-    Worker::create(alloc, wasm, config)
 }
 
 /// What holds of a worker's process by its type.
@@ -128,19 +102,20 @@ fn run_fault_of(fault: WorkFault, line: Option<LineFault>) -> RunFault
     }
 }
 
-/// Runs a worker on the request lines of a source, and prints its own lines.
-fn run<R: LineReader + Drop, W: Write + Drop>(
+/// Runs a worker on the answers of a source, and prints its lines.
+fn run<R: LineReader + Drop, C: Clock + Drop, W: Write + Drop>(
     worker: &mut Worker,
     fuel: NonZeroU64,
-    source: &mut RequestSource<R>,
+    source: &mut RequestSource<R, C>,
     outlet: &mut LineOutlet<W>,
 ) -> Result<Now, RunFault>
-    ensures done { IfOk result (λ now. IsWorkerRun worker.old now (R.unread source.old.reader)
-        (R.has_failed source.old.reader) (R.has_failed source.new.reader)
+    ensures done { IfOk result (λ now. IsWorkerRun worker.old now source.old.outside
+        (R.unread source.old.requests.reader)
+        (R.has_failed source.old.requests.reader) (R.has_failed source.new.requests.reader)
         (W.contents outlet.old.out) (W.contents outlet.new.out)) }
-    ensures failed { IfErr result (λ fault. IsRunInVain worker.old fault
-        (R.unread source.old.reader)
-        (R.has_failed source.old.reader) (R.has_failed source.new.reader)
+    ensures failed { IfErr result (λ fault. IsRunInVain worker.old fault source.old.outside
+        (R.unread source.old.requests.reader)
+        (R.has_failed source.old.requests.reader) (R.has_failed source.new.requests.reader)
         (W.contents outlet.old.out) (W.contents outlet.new.out)) }
 {
     source.begin_again();
@@ -187,27 +162,33 @@ fn say_fault<E: Write>(err: &mut E, fault: RunFault) -> u8
     }
 }
 
-/// Runs a fresh worker of the module that the bytes spell: request lines of the source in, its
-/// lines to the outlet, last words to `err`. Requests are numbered from 1 on, whatever the source
-/// took before. Answers the exit status: 0 where it has ended, trapped or waits at the end of the
-/// lines, 3 for a refused module and where steps or lines can't be counted further, 4 where the
-/// reader fails, 5 for want of memory, 6 for a refused request line, 7 where nothing can be
-/// printed.
-pub fn serve<R: LineReader + Drop, W: Write + Drop, E: Write>(
+/// Runs a fresh worker of the module that the bytes spell: answers of the source in, its lines to
+/// the outlet, last words to `err`. Requests are numbered from 1 on, and random bytes begin at the
+/// first word of the seed, whatever the source took before. Answers the exit status: 0 where the
+/// worker has ended, trapped or waits at the end of the lines, 3 for a refused configuration or
+/// module and where steps or lines can't be counted further, 4 where the reader or the clock
+/// fails, 5 for want of memory, 6 for a refused request line, 7 where nothing can be printed.
+pub fn serve<R: LineReader + Drop, C: Clock + Drop, W: Write + Drop, E: Write>(
     alloc: Global,
     wasm: &[u8],
-    options: Options,
-    source: &mut RequestSource<R>,
+    options: Options<'_>,
+    source: &mut RequestSource<R, C>,
     outlet: &mut LineOutlet<W>,
     err: &mut E,
 ) -> u8
-    ensures serves { Serves wasm.now (R.unread source.old.reader)
-        (R.has_failed source.old.reader) (R.has_failed source.new.reader)
+    ensures serves { Serves (job wasm.now
+        (config_of (texts_in options.entry.arguments.now) (texts_in options.entry.environment.now))
+        (R.unread source.old.requests.reader) source.old.outside)
+        (R.has_failed source.old.requests.reader) (R.has_failed source.new.requests.reader)
         (W.contents outlet.old.out) (W.contents outlet.new.out)
         (E.contents err.old) (E.contents err.new) result }
     ensures known { result ≤ 7 }
 {
-    let mut worker = match create(alloc, wasm) {
+    let config = match configure(alloc, options.arguments, options.environment) {
+        Ok(config) => config,
+        Err(fault) => return say_fault(err, RunFault::Config(fault)),
+    };
+    let mut worker = match Worker::create(alloc, wasm, config) {
         Ok(worker) => worker,
         Err(fault) => return say_fault(err, RunFault::Work(fault)),
     };

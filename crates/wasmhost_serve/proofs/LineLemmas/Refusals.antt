@@ -158,7 +158,8 @@ fails_reading limit a b line failed now failed' fault.Memory most read free e (i
     inl fails
 fails_reading limit a b line failed now failed' fault.Memory most read free e (inr fails) =
     inr (some_read a b line read fails.0, fails.1 ∙ e)
-fails_reading limit a b line failed now failed' fault.Kind most read free e fails = absurd fails
+fails_reading limit a b line failed now failed' fault.Clock most read free e fails = absurd fails
+fails_reading limit a b line failed now failed' fault.Words most read free e fails = absurd fails
 fails_reading limit a b line failed now failed' (fault.Number given wanted) most read free e fails
     = absurd fails
 
@@ -195,7 +196,8 @@ module _ (before : ℕ) (a b : Option (List ℕ))
   misses_line failed now failed' fault.Memory e (inl fails) = inl fails
   misses_line failed now failed' fault.Memory e (inr fails) =
       inr (holds_behind AreSome fails.0, fails.1 ∙ e)
-  misses_line failed now failed' fault.Kind e fails = absurd fails
+  misses_line failed now failed' fault.Clock e fails = absurd fails
+  misses_line failed now failed' fault.Words e fails = absurd fails
   misses_line failed now failed' (fault.Number given wanted) e fails = absurd fails
 
 -- a line that is there is no request line

@@ -1,5 +1,5 @@
--- What a source of request lines hands over.
-use Rattle.std.specs.Prelude.{◌≡◌, ◌≢◌, ◌⊎◌, ℕ, ◌+◌, ◌<◌, ◌^◌, Bool, List, [], ◌∷◌, length, Option, Some, None, Result, Ok, Err}
+-- What a source hands over.
+use Rattle.std.specs.Prelude.{◌≡◌, ℕ, ◌+◌, ◌<◌, ◌≤◌, ◌^◌, ⊤, Bool, List, [], ◌∷◌, length, Option, Some, None, Result, Ok, Err}
 use Rattle.std.specs.Option.{IsSomeAnd}
 use Rattle.wasi_abi.specs.declared.answer.Answer.{Answer}
 use Rattle.wasi_abi.specs.declared.answer.Kind.{Kind}
@@ -10,7 +10,10 @@ use Rattle.process_rules.specs.Runs.{Kept, Given}
 use Rattle.record_replay.specs.declared.fault.SourceFault.{SourceFault}
 use Rattle.wasmhost_serve.specs.declared.lines.fault.LineFault.{LineFault}
 use Rattle.wasmhost_serve.specs.declared.lines.fault.LineFault.TheVariants as fault
+use Rattle.wasmhost_serve.specs.declared.lines.outside.Outside.{Outside}
 use Rattle.wasmhost_serve.specs.rules.Requests.{GiveUpTo, BeginsWithOther, BeginsWithNumber}
+use Rattle.wasmhost_serve.specs.rules.Outside.{ComesFrom, request_in, words_in}
+use Rattle.wasmhost_serve.specs.rules.Seeds.{words_for}
 use Rattle.wasmhost_serve.specs.Lines.Reads.{AreSome, IsFaultOfReading}
 
 -- The answer is that of the next request, which is taken. Its text isn't too long.
@@ -37,35 +40,89 @@ MissesNext before lines kept failed failed' why =
     IsFaultOfReading (GiveUpTo before lines kept BeginsWithOther)
     (GiveUpTo before lines kept AreSome) failed failed' why
 
--- why a question is refused: it asks for something else than a request, or the next request isn't
--- to be had
-abbrev pub IsRefusedFor : Kind → ℕ → Option (List ℕ) → List Kept → Bool → Bool → LineFault → Type 0
-IsRefusedFor kind before lines kept failed failed' why =
-    ((kind ≢ kinds.Request) × (why ≡ fault.Kind) × (failed' ≡ failed))
-    ⊎ ((kind ≡ kinds.Request) × MissesNext before lines kept failed failed' why)
+-- ---- all that is asked for
+
+-- Where a source stands: how many requests it took, how many words of the seed, the bytes that are
+-- still to come, whether a read of them has failed, and why it refuses, if it does.
+pub record Standing : Type 0 where
+  pub outside : Outside
+  pub taken : ℕ
+  pub place : ℕ
+  pub unread : Option (List ℕ)
+  pub failed : Bool
+  pub fault : Option LineFault
+
+abbrev pub standing : Outside → ℕ → ℕ → Option (List ℕ) → Bool → Option LineFault → Standing
+standing outside taken place unread failed fault = record {
+  outside = outside;
+  taken = taken;
+  place = place;
+  unread = unread;
+  failed = failed;
+  fault = fault;
+}
+
+-- the machine's clock can't be read, and no time is fixed
+abbrev pub IsClockless : Outside → LineFault → Type 0
+IsClockless outside fault.Clock = outside.clock ≡ None
+IsClockless outside why = ⊥
+
+-- there is no room for so many bytes, or their words can't be counted
+abbrev pub IsWordless : ℕ → ℕ → LineFault → Type 0
+IsWordless place n fault.Memory = ⊤
+IsWordless place n fault.Words = 2 ^ 64 ≤ place + words_for n
+IsWordless place n why = ⊥
+
+-- Why a question is refused, where these requests and so many words were taken: the next request
+-- isn't to be had, or there is no clock, or there are no random bytes.
+abbrev pub IsRefusedFor : Kind → Outside → ℕ → ℕ → Option (List ℕ) → List Kept → Bool → Bool
+    → LineFault → Type 0
+IsRefusedFor kinds.Request outside place before lines kept failed failed' why =
+    MissesNext before lines kept failed failed' why
+IsRefusedFor kinds.Realtime outside place before lines kept failed failed' why =
+    IsClockless outside why × (failed' ≡ failed)
+IsRefusedFor kinds.Monotonic outside place before lines kept failed failed' why =
+    IsClockless outside why × (failed' ≡ failed)
+IsRefusedFor (kinds.Random n) outside place before lines kept failed failed' why =
+    IsWordless place n why × (failed' ≡ failed)
+
+-- why one that stands there refuses
+abbrev pub IsRefusedAt : Kind → Standing → Bool → LineFault → Type 0
+IsRefusedAt kind old failed' why =
+    IsRefusedFor kind old.outside old.place old.taken old.unread [] old.failed failed' why
 
 -- the first fault stays, and where there was none there is one now
-abbrev pub LeavesFault : Kind → ℕ → Option (List ℕ) → Bool → Bool → Option LineFault
-    → Option LineFault → Type 0
-LeavesFault kind taken old failed failed' (Some first) left = (left ≡ Some first)
-    × (failed' ≡ failed)
-LeavesFault kind taken old failed failed' None left =
-    IsSomeAnd left (IsRefusedFor kind taken old [] failed failed')
+abbrev pub LeavesFault : Kind → Standing → Standing → Option LineFault → Type 0
+LeavesFault kind old new (Some first) = (new.fault ≡ Some first) × (new.failed ≡ old.failed)
+LeavesFault kind old new None = IsSomeAnd new.fault (IsRefusedAt kind old new.failed)
 
--- Requests are answered one by one, in the order of their numbers. A refusal takes nothing, and
--- leaves its fault; then all is refused.
-pub record HandsAnswer (kind : Kind) (taken : ℕ) (old : Option (List ℕ)) (failed : Bool)
-    (found : Option LineFault) (answered : Option Answer) (taken' : ℕ)
-    (new : Option (List ℕ)) (failed' : Bool) (left : Option LineFault) : Type 0 where
-  pub asked : kind ≡ kinds.Request
-  pub unfailed : found ≡ None
-  pub unspoilt : left ≡ None
-  pub steady : failed' ≡ failed
-  pub found_next : FindsNext taken old answered taken' new
+-- An answer that no request line gives. It fits, and takes its words of the seed.
+pub record TakesOther (kind : Kind) (old : Standing) (a : Answer) (new : Standing) : Type 0 where
+  pub comes : ComesFrom old.outside old.place a
+  pub other : request_in a ≡ []
+  pub fits : (limit : ℕ) → Fits limit kind a
+  pub place : new.place ≡ old.place + words_in a
+  pub taken : new.taken ≡ old.taken
+  pub unread : new.unread ≡ old.unread
 
-abbrev pub HandsNext : Kind → ℕ → Option (List ℕ) → Bool → Option LineFault
-    → Result (Option Answer) SourceFault → ℕ → Option (List ℕ) → Bool → Option LineFault → Type 0
-HandsNext kind taken old failed found (Ok answered) taken' new failed' left =
-    HandsAnswer kind taken old failed found answered taken' new failed' left
-HandsNext kind taken old failed found (Err e) taken' new failed' left = (taken' ≡ taken)
-    × LeavesFault kind taken old failed failed' found left
+-- Requests are answered one by one, in the order of their numbers. There is always an answer to
+-- another question.
+abbrev pub Finds : Kind → Standing → Option Answer → Standing → Type 0
+Finds kinds.Request old found new =
+    (new.place ≡ old.place) × FindsNext old.taken old.unread found new.taken new.unread
+Finds kind old (Some a) new = TakesOther kind old a new
+Finds kind old None new = ⊥
+
+pub record HandsAnswer (kind : Kind) (old : Standing) (answered : Option Answer) (new : Standing) :
+    Type 0 where
+  pub same : new.outside ≡ old.outside
+  pub unfailed : old.fault ≡ None
+  pub unspoilt : new.fault ≡ None
+  pub steady : new.failed ≡ old.failed
+  pub finds : Finds kind old answered new
+
+-- A refusal takes nothing, and leaves its fault. Then all is refused.
+abbrev pub HandsNext : Kind → Standing → Result (Option Answer) SourceFault → Standing → Type 0
+HandsNext kind old (Ok answered) new = HandsAnswer kind old answered new
+HandsNext kind old (Err e) new = (new.outside ≡ old.outside) × (new.taken ≡ old.taken)
+    × (new.place ≡ old.place) × LeavesFault kind old new old.fault

@@ -42,7 +42,8 @@ IsFaultOfReading bad some failed failed' fault.Form = bad × (failed' ≡ failed
 IsFaultOfReading bad some failed failed' fault.Read = failed' ≡ true
 IsFaultOfReading bad some failed failed' fault.Memory = (failed' ≡ true)
     ⊎ (some × (failed' ≡ failed))
-IsFaultOfReading bad some failed failed' fault.Kind = ⊥
+IsFaultOfReading bad some failed failed' fault.Clock = ⊥
+IsFaultOfReading bad some failed failed' fault.Words = ⊥
 IsFaultOfReading bad some failed failed' (fault.Number given wanted) = ⊥
 
 -- Bytes in front of these, with no newline but at their end, bring a line to the limit, behind

@@ -4,6 +4,9 @@ use Rattle.machine_loader.specs.declared.fault.FrontFault.{FrontFault}
 use Rattle.machine_loader.specs.rules.Acceptance.{HasAcceptedModule, HasNoAcceptedModule, FrontDenies, is_want}
 use Rattle.worker.specs.declared.fault.WorkFault.TheVariants as fault
 use Rattle.wasmhost_serve.specs.declared.lines.fault.LineFault.TheVariants as line
+use Rattle.wasi_abi.specs.rules.Configs.{Settings, AreSettingsWithinLimits}
+use Rattle.wasmhost_serve.specs.declared.configuring.Unconfigured.{Unconfigured}
+use Rattle.wasmhost_serve.specs.declared.configuring.Unconfigured.TheVariants as unconfigured
 use Rattle.wasmhost_serve.specs.declared.run.RunFault.{RunFault}
 use Rattle.wasmhost_serve.specs.declared.run.RunFault.TheVariants as run
 
@@ -12,6 +15,11 @@ abbrev pub IsRight : ℕ → List ℕ → Result ⊤ FrontFault → Type 0
 IsRight pages bytes (Ok done) = HasAcceptedModule pages bytes
 IsRight pages bytes (Err fault) = FrontDenies fault (HasNoAcceptedModule pages bytes)
 
+-- The settings aren't within the limits. Want of memory says nothing of them.
+abbrev pub IsUnconfigured : Settings → Unconfigured → Type 0
+IsUnconfigured settings (unconfigured.Limits why) = AreSettingsWithinLimits settings → ⊥
+IsUnconfigured settings unconfigured.Memory = ⊤
+
 -- the exit status of a verdict whose line is printed
 abbrev pub status_by : Result ⊤ FrontFault → ℕ
 status_by (Ok done) = 0
@@ -19,13 +27,16 @@ status_by (Err fault) = if is_want fault then 5 else 3
 
 -- the exit status of a worker that doesn't run to its end, where that is printed
 abbrev pub status_of : RunFault → ℕ
+status_of (run.Config (unconfigured.Limits why)) = 3
+status_of (run.Config unconfigured.Memory) = 5
 status_of (run.Work fault.Source) = 4
 status_of (run.Work fault.Outlet) = 7
 status_of (run.Work fault.Memory) = 5
 status_of (run.Work fault.Failed) = 4
 status_of (run.Work (fault.Refused why)) = 3
 status_of (run.Line line.Read) = 4
-status_of (run.Line line.Kind) = 4
+status_of (run.Line line.Clock) = 4
+status_of (run.Line line.Words) = 4
 status_of (run.Line line.Memory) = 5
 status_of (run.Line (line.Number given wanted)) = 6
 status_of (run.Line line.Form) = 6

@@ -1,4 +1,4 @@
-//! Why there is no answer from request lines.
+//! Why there is no answer.
 
 use thiserror::Error;
 
@@ -15,7 +15,10 @@ pub enum LineFault {
     Read,
     #[error("failed N4 Memory")]
     Memory,
-    /// Request lines answer nothing but requests.
+    /// The machine's clock can't be read.
     #[error("failed N2 Source")]
-    Kind,
+    Clock,
+    /// The words of the seed can't be counted further.
+    #[error("failed N2 Source")]
+    Words,
 }

@@ -1,10 +1,12 @@
-//! The lines of a worker that is run by a program: request lines of a reader in, released lines to
-//! a writer, and the names that last words give to traps.
+//! The outside of a worker that is run by a program: request lines of a reader, times and random
+//! bytes in, released lines to a writer, and the names that last words give to traps.
 
 mod buffered;
 mod fault;
 mod line;
+mod numbered;
 mod outlet;
+mod outside;
 mod printing;
 mod reader;
 pub mod request;
@@ -14,6 +16,7 @@ mod words;
 pub use buffered::BufferedLines;
 pub use fault::LineFault;
 pub use outlet::LineOutlet;
+pub use outside::Outside;
 pub use reader::LineReader;
 pub use request::{Request, read_request};
 pub use source::RequestSource;

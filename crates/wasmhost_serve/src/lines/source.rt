@@ -1,74 +1,66 @@
-//! A source of answers over request lines.
+//! A source of answers: request lines, clocks and the words of a seed.
 
-ghost use Rattle.std.specs.Prelude.{◌≡◌, [], None, IfOk, IfErr, OnOk, OnErr};
-ghost use Rattle.std.specs.List.{AllByRecursion};
+ghost use Rattle.std.specs.Prelude.{◌≡◌, ◌+◌, None, IfOk, IfErr, OnOk, OnErr};
 ghost use Rattle.wasi_abi.specs.declared.answer.Kind.TheVariants as kinds;
 ghost use Rattle.wasi_abi.specs.declared.answer.Answer.TheVariants as answers;
-ghost use Rattle.wasi_abi.specs.rules.Answers.{AreBytes, Fits, IsNoNewline};
-ghost use Rattle.wasi_calls_rules.specs.declared.limits.TheConstants.{TEXT_BYTES};
-ghost use Rattle.wasmhost_serve.specs.declared.lines.fault.LineFault.TheVariants.{Memory};
-ghost use Rattle.wasmhost_serve.specs.Lines.Answers.{FindsNext, MissesNext};
-ghost use Rattle.wasmhost_serve.specs.rules.Requests.{answer_in};
-ghost use Rattle.wasmhost_serve.specs.rules.Texts.{IsShortRequest, request_line};
+ghost use Rattle.wasmhost_serve.specs.Lines.Answers.{Finds, IsRefusedAt, IsWordless, standing};
+ghost use Rattle.wasmhost_serve.specs.rules.Outside.{stream};
+ghost use Rattle.wasmhost_serve.specs.rules.Seeds.{seeded_bytes, words_for};
 
 use crate::lines::fault::LineFault;
-use crate::lines::line::read_line;
+use crate::lines::numbered::NumberedRequests;
+use crate::lines::outside::{Outside, random_answer, time_of};
 use crate::lines::reader::LineReader;
-use crate::lines::request::{Request, read_request};
 use record_replay::{Source, SourceFault};
 use std::alloc::Global;
+use std::time::Clock;
 use wasi_abi::{Answer, Kind};
-use wasm_syntax::Row;
 
-/// Answers requests with the lines of a reader: the next number's text or end. A line with a number
-/// that was taken is passed over, and a later one is refused. No answer is there where the lines
-/// have come to their end. After a fault all is refused, since the reader may stand within a line.
+/// Answers requests with the lines of a reader, clocks with a fixed time or the machine's, and
+/// wishes for random bytes with the next words of a seed. No answer is there where a request is
+/// asked for and the lines have come to their end. After a fault all is refused, since the reader
+/// may stand within a line.
 #[derive(Drop)]
-pub struct RequestSource<R: LineReader + Drop> {
+pub struct RequestSource<R: LineReader + Drop, C: Clock + Drop> {
     alloc: Global,
-    reader: R,
-    /// How many requests were answered.
-    taken: u64,
-    line: Vec<u8>,
+    requests: NumberedRequests<R>,
+    /// The machine's clock.
+    clock: C,
+    outside: Outside,
+    /// How many words of the seed were taken.
+    place: u64,
     fault: Option<LineFault>,
 }
 
-/// The answer with this text.
-fn text_answer(alloc: Global, text: &[u8]) -> Result<Answer, LineFault>
-    ensures is { IfOk result (λ answer. answer ≡ answers.Request text.now) }
-    ensures bytes { AreBytes text.now }
-    ensures failed { IfErr result (λ fault. fault ≡ Memory) }
-{
-    let Ok(text) = text.to_vec(alloc) else {
-        return Err(LineFault::Memory);
-    };
-    let text = Row::from_vec(text);
-    Ok(Answer::Request { text })
-}
-
-impl<R: LineReader + Drop> RequestSource<R> {
-    /// Behind so many requests.
-    pub fn new(alloc: Global, reader: R, taken: u64) -> Self
-        ensures reader { result.reader ≡ reader }
-        ensures taken { result.taken ≡ taken }
+impl<R: LineReader + Drop, C: Clock + Drop> RequestSource<R, C> {
+    /// Behind so many requests, and at the first word of the seed.
+    pub fn new(alloc: Global, reader: R, clock: C, outside: Outside, taken: u64) -> Self
+        ensures reader { result.requests.reader ≡ reader }
+        ensures taken { result.requests.taken ≡ taken }
+        ensures outside { result.outside ≡ outside }
+        ensures place { result.place ≡ 0 }
         ensures unfailed { result.fault ≡ None }
     {
         RequestSource {
             alloc,
-            reader,
-            taken,
-            line: Vec::new(alloc),
+            requests: NumberedRequests::new(alloc, reader, taken),
+            clock,
+            outside,
+            place: 0,
             fault: None,
         }
     }
 
-    /// As for a fresh worker: no request is taken, and there is no fault. It reads on where it is.
+    /// As for a fresh worker: nothing is taken, and there is no fault. It reads on where it is.
     pub(crate) fn begin_again(&mut self)
-        ensures reader { self.new.reader ≡ self.old.reader }
-        ensures taken { self.new.taken ≡ 0 }
+        ensures reader { self.new.requests.reader ≡ self.old.requests.reader }
+        ensures taken { self.new.requests.taken ≡ 0 }
+        ensures outside { self.new.outside ≡ self.old.outside }
+        ensures place { self.new.place ≡ 0 }
         ensures unfailed { self.new.fault ≡ None }
     {
-        self.taken = 0;
+        self.requests.begin_again();
+        self.place = 0;
         self.fault = None;
     }
 
@@ -79,67 +71,76 @@ impl<R: LineReader + Drop> RequestSource<R> {
         self.fault
     }
 
-    /// The answer of a request.
-    fn answer_of(&self, request: Request<'_>) -> Result<Answer, LineFault>
-        ensures is { IfOk result (λ answer. answer ≡ answer_in request.entry) }
-        ensures fits { IsShortRequest request.entry
-            → AllByRecursion IsNoNewline (request_line request.entry)
-            → IfOk result (Fits TEXT_BYTES kinds.Request) }
-        ensures failed { IfErr result (λ fault. fault ≡ Memory) }
+    /// The next random bytes.
+    fn draw(&mut self, length: u32) -> Result<Answer, LineFault>
+        ensures is { IfOk result (λ answer. answer ≡ answers.Random
+            (seeded_bytes self.old.outside.seed stream self.old.place length)) }
+        ensures drawn { OnOk result (self.new ≡ record self.old {
+          place = self.old.place + words_for length;
+        }) }
+        ensures failed { IfErr result (IsWordless self.old.place length) }
+        ensures kept { OnErr result (self.new ≡ self.old) }
     {
-        let Request::Text { text, .. } = request else {
-            return Ok(Answer::End);
+        let Some(place) = self.place.checked_add(u64::from(length).div_ceil(4)) else {
+            return Err(LineFault::Words);
         };
-        text_answer(self.alloc, text)
+        let answer = random_answer(self.alloc, self.outside.seed, self.place, length)?;
+        self.place = place;
+        Ok(answer)
     }
 
-    /// The next request, or none at the end of the lines.
-    fn next_request(&mut self) -> Result<Option<Answer>, LineFault>
-        ensures found { IfOk result (λ found. FindsNext self.old.taken (R.unread self.old.reader)
-            found self.new.taken (R.unread self.new.reader)) }
-        ensures steady { OnOk result (R.has_failed self.new.reader ≡ R.has_failed self.old.reader) }
-        ensures failed { IfErr result (MissesNext self.old.taken (R.unread self.old.reader) []
-            (R.has_failed self.old.reader) (R.has_failed self.new.reader)) }
-        ensures kept { OnErr result (self.new.taken ≡ self.old.taken) }
+    /// The answer to a question, or none where the lines have come to their end.
+    fn find(&mut self, kind: Kind) -> Result<Option<Answer>, LineFault>
+        ensures found { IfOk result (λ found. Finds kind
+            (standing self.old.outside self.old.requests.taken self.old.place
+            (R.unread self.old.requests.reader) (R.has_failed self.old.requests.reader) None)
+            found
+            (standing self.new.outside self.new.requests.taken self.new.place
+            (R.unread self.new.requests.reader) (R.has_failed self.new.requests.reader) None)) }
+        ensures steady { OnOk result
+            (R.has_failed self.new.requests.reader ≡ R.has_failed self.old.requests.reader) }
+        ensures failed { IfErr result (IsRefusedAt kind
+            (standing self.old.outside self.old.requests.taken self.old.place
+            (R.unread self.old.requests.reader) (R.has_failed self.old.requests.reader) None)
+            (R.has_failed self.new.requests.reader)) }
+        ensures taken { OnErr result (self.new.requests.taken ≡ self.old.requests.taken) }
+        ensures place { OnErr result (self.new.place ≡ self.old.place) }
+        ensures outside { self.new.outside ≡ self.old.outside }
         ensures fault { self.new.fault ≡ self.old.fault }
     {
-        let wanted = self.taken.saturating_add(1);
-        loop {
-            if !read_line(&mut self.reader, &mut self.line)? {
-                return Ok(None);
+        match kind {
+            Kind::Request => self.requests.next_request(),
+            Kind::Realtime => {
+                let nanoseconds = time_of(self.outside, &self.clock)?;
+                Ok(Some(Answer::Realtime { nanoseconds }))
             }
-            let Some(request) = read_request(self.line.as_slice()) else {
-                return Err(LineFault::Form);
-            };
-            let given = request.number();
-            if given > wanted {
-                return Err(LineFault::Number { given, wanted });
+            Kind::Monotonic => {
+                let nanoseconds = time_of(self.outside, &self.clock)?;
+                Ok(Some(Answer::Monotonic { nanoseconds }))
             }
-            if given == wanted {
-                let answer = self.answer_of(request)?;
-                self.taken = wanted;
-                return Ok(Some(answer));
+            Kind::Random { length } => {
+                let answer = self.draw(length)?;
+                Ok(Some(answer))
             }
         }
     }
 }
 
-impl<R: LineReader + Drop> Source for RequestSource<R> {
-    ghost use Rattle.wasmhost_serve.specs.Lines.Answers.{HandsNext};
+impl<R: LineReader + Drop, C: Clock + Drop> Source for RequestSource<R, C> {
+    ghost use Rattle.wasmhost_serve.specs.Lines.Answers.{HandsNext, standing};
 
     ghost gives = { λ old kind said new. HandsNext kind
-        old.taken (R.unread old.reader) (R.has_failed old.reader) old.fault said
-        new.taken (R.unread new.reader) (R.has_failed new.reader) new.fault };
+        (standing old.outside old.requests.taken old.place (R.unread old.requests.reader)
+        (R.has_failed old.requests.reader) old.fault)
+        said
+        (standing new.outside new.requests.taken new.place (R.unread new.requests.reader)
+        (R.has_failed new.requests.reader) new.fault) };
 
     fn answer(&mut self, kind: Kind) -> Result<Option<Answer>, SourceFault> {
         if self.fault.is_some() {
             return Err(SourceFault);
         }
-        let found = match kind {
-            Kind::Request => self.next_request(),
-            _ => Err(LineFault::Kind),
-        };
-        match found {
+        match self.find(kind) {
             Ok(answer) => Ok(answer),
             Err(fault) => {
                 self.fault = Some(fault);

@@ -1,10 +1,10 @@
 use Rattle.std.proofs.Common.{◌≡◌, [], Some}
 use Rattle.wasmhost_serve.specs.rules.Requests.{GiveUpTo}
-use Rattle.wasmhost_serve.proofs.lines.source.RequestSource.next_request.Given as goal
+use Rattle.wasmhost_serve.proofs.lines.numbered.NumberedRequests.next_request.Given as goal
 
 -- taken requests alone were read so far
 abbrev pub invariant-loop-request : goal.invariant-loop-request
-invariant-loop-request g l = (l.self.taken ≡ l.fn.self.taken) × (l.self.fault ≡ l.fn.self.fault)
+invariant-loop-request g l = (l.self.taken ≡ l.fn.self.taken)
     × (g.R.LineReader.has_failed l.self.reader ≡ g.R.LineReader.has_failed l.fn.self.reader)
     × GiveUpTo l.fn.self.taken (g.R.LineReader.unread l.fn.self.reader) []
     (λ rest. g.R.LineReader.unread l.self.reader ≡ Some rest)

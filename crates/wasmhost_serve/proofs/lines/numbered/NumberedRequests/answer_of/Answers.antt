@@ -1,6 +1,6 @@
 use Rattle.std.proofs.Common.{rules}
 use Rattle.wasmhost_serve.proofs.LineLemmas.Fitting.{told_fits}
-use Rattle.wasmhost_serve.proofs.lines.source.RequestSource.answer_of.Goals as goal
+use Rattle.wasmhost_serve.proofs.lines.numbered.NumberedRequests.answer_of.Goals as goal
 
 pub returns-clause-fits : goal.returns-clause-fits
 returns-clause-fits g c = λ short free.

@@ -1,0 +1,51 @@
+-- Times and random bytes, which no request line gives (this project's own).
+use Rattle.std.specs.Prelude.{◌≡◌, ℕ, ◌+◌, ⊤, List, [], ◌∷◌, ◌++◌, length, IfSome}
+use Rattle.wasi_abi.specs.declared.answer.Answer.{Answer}
+use Rattle.wasi_abi.specs.declared.answer.Answer.TheVariants as answer
+use Rattle.process_rules.specs.Runs.{Kept, Given}
+use Rattle.wasmhost_serve.specs.declared.lines.outside.Outside.{Outside}
+use Rattle.wasmhost_serve.specs.rules.Seeds.{seeded_bytes, words_for}
+
+-- the stream of a seed's words
+abbrev pub stream : ℕ
+stream = 1
+
+-- A clock that is fixed shows that time. Of the machine's clock nothing is known.
+abbrev pub IsTimeOf : Outside → ℕ → Type 0
+IsTimeOf outside n = IfSome outside.clock (λ fixed. n ≡ fixed)
+
+-- how many words of the seed an answer takes
+abbrev pub words_in : Answer → ℕ
+words_in (answer.Random bytes) = words_for (length bytes)
+words_in _ = 0
+
+-- how many words these answers take
+abbrev pub words_of : List Kept → ℕ
+words_of [] = 0
+words_of (Given a ∷ kept) = words_in a + words_of kept
+
+-- A time is one of the clock, and random bytes are those of the next words of the seed's stream,
+-- where so many were taken before.
+abbrev pub ComesFrom : Outside → ℕ → Answer → Type 0
+ComesFrom outside place (answer.Realtime n) = IsTimeOf outside n
+ComesFrom outside place (answer.Monotonic n) = IsTimeOf outside n
+ComesFrom outside place (answer.Random bytes) =
+    bytes ≡ seeded_bytes outside.seed stream place (length bytes)
+ComesFrom outside place _ = ⊤
+
+-- so does each of these answers, in their order
+abbrev pub ComeFrom : Outside → ℕ → List Kept → Type 0
+ComeFrom outside place [] = ⊤
+ComeFrom outside place (Given a ∷ kept) =
+    ComesFrom outside place a × ComeFrom outside (place + words_in a) kept
+
+-- an answer that a request line gives
+abbrev pub request_in : Answer → List Kept
+request_in (answer.Request text) = Given (answer.Request text) ∷ []
+request_in answer.End = Given answer.End ∷ []
+request_in _ = []
+
+-- those of these answers that request lines give
+abbrev pub requests_in : List Kept → List Kept
+requests_in [] = []
+requests_in (Given a ∷ kept) = request_in a ++ requests_in kept

@@ -1,0 +1,80 @@
+//! What a worker is configured with.
+
+ghost use Rattle.std.specs.Prelude.{◌≡◌, ◌∷◌, ◌++◌, [], map, codes, IfOk, IfErr, OnOk};
+ghost use Rattle.wasmhost_serve.specs.rules.Served.{config_of, texts_in};
+ghost use Rattle.wasmhost_serve.specs.rules.Statuses.{IsUnconfigured};
+
+use std::alloc::{AllocError, Global};
+use thiserror::Error;
+use wasi_abi::{Config, ConfigFault};
+use wasm_syntax::Row;
+
+/// Pages of 65,536 bytes that the guest's memory may have.
+const PAGES: u64 = 16;
+
+/// Units of 65,536 bytes that all files may have.
+const FILES: u64 = 16;
+
+/// Sectors of the journal.
+const JOURNAL: u64 = 256;
+
+/// Why a worker isn't configured.
+#[derive(Clone, Copy, Debug, PartialEq, Eq, Error)]
+pub(crate) enum Unconfigured {
+    /// A text, or the count of texts, is out of the limits.
+    #[error("{0}")]
+    Limits(ConfigFault),
+    #[error("N4 Memory")]
+    Memory,
+}
+
+impl From<AllocError> for Unconfigured {
+    ghost use Rattle.wasmhost_serve.specs.declared.configuring.Unconfigured.TheVariants.{Memory};
+
+    ghost from_gives = { λ _ fault. fault ≡ Memory };
+
+    fn from(_refused: AllocError) -> Unconfigured {
+        Unconfigured::Memory
+    }
+}
+
+/// Copies texts behind those of a list.
+fn push_texts(alloc: Global, list: &mut Row<Row<u8>>, texts: &[&str]) -> Result<(), AllocError>
+    ensures { OnOk result (list.new ≡ list.old ++ texts_in texts.now) }
+{
+    for text in texts {
+        let copy = Row::from_vec(Vec::from_slice(alloc, text.as_bytes())?);
+        list.push(copy)?;
+    }
+    Ok(())
+}
+
+/// The guest's arguments behind the worker's name.
+fn arguments_of(alloc: Global, arguments: &[&str]) -> Result<Row<Row<u8>>, AllocError>
+    ensures { IfOk result (λ list. list ≡ codes "worker" ∷ texts_in arguments.now) }
+{
+    let mut list = Row::new(alloc);
+    push_texts(alloc, &mut list, &["worker"])?;
+    push_texts(alloc, &mut list, arguments)?;
+    Ok(list)
+}
+
+/// The configuration of a worker with these arguments and this environment.
+pub(crate) fn configure(
+    alloc: Global,
+    arguments: &[&str],
+    environment: &[&str],
+) -> Result<Config, Unconfigured>
+    ensures made { IfOk result (λ config. config
+        ≡ config_of (texts_in arguments.now) (texts_in environment.now)) }
+    ensures failed { IfErr result (IsUnconfigured
+        (config_of (texts_in arguments.now) (texts_in environment.now))) }
+{
+    let arguments = arguments_of(alloc, arguments)?;
+    let mut entries = Row::new(alloc);
+    push_texts(alloc, &mut entries, environment)?;
+    match Config::new(PAGES, FILES, JOURNAL, arguments, entries) {
+        Ok(config) => Ok(config),
+        Err(fault) => Err(Unconfigured::Limits(fault)),
+    }
+}
