@@ -2,6 +2,7 @@
 //! may be refused.
 
 use crate::check::{BEFORE_CODE, EMPTY_BODY, HELLO, bytes_of};
+use crate::lines::STILL;
 use record_replay::{AnswerList, LineList};
 use std::alloc::Global;
 use std::num::NonZeroU64;
@@ -52,6 +53,21 @@ enum Refused {
 /// Texts of a module, steps of a slice, and what is printed: lines, last words, and the status.
 type Case<'a> = (&'a [&'a str], u64, &'a str, &'a str, u8);
 
+/// No request lines.
+fn no_lines(rt: &HostRuntime) -> RequestSource<BufferedLines<&[u8]>, &HostRuntime> {
+    let reader = BufferedLines::new(b"".as_slice());
+    RequestSource::new(rt.alloc(), reader, rt, STILL, 0)
+}
+
+/// Slices of so many steps, no arguments and no environment.
+fn options_of(fuel: NonZeroU64) -> Options<'static> {
+    Options {
+        fuel,
+        arguments: &[],
+        environment: &[],
+    }
+}
+
 #[test]
 fn workers_print(rt: HostRuntime) -> Result<(), Fail> {
     let alloc = rt.alloc();
@@ -74,11 +90,11 @@ fn workers_print(rt: HostRuntime) -> Result<(), Fail> {
     ];
     for (texts, fuel, lines, words, status) in rows {
         let wasm = bytes_of(alloc, texts)?;
-        let mut source = RequestSource::new(alloc, BufferedLines::new(b"".as_slice()), 0);
+        let mut source = no_lines(&rt);
         let mut outlet = LineOutlet::new(alloc, Vec::new(alloc))?;
         let mut err = Vec::new(alloc);
         let fuel = NonZeroU64::try_from(fuel)?;
-        let options = Options { fuel };
+        let options = options_of(fuel);
         let answered = serve(
             alloc,
             wasm.as_slice(),
@@ -145,8 +161,9 @@ fn workers_take_steps(rt: HostRuntime) -> Result<(), Fail> {
 }
 
 /// Runs `hello`, in rooms for its line and its last words that take no memory.
-fn run_hello(alloc: Global) -> Result<(), Refused> {
-    let mut source = RequestSource::new(alloc, BufferedLines::new(b"".as_slice()), 0);
+fn run_hello(rt: &HostRuntime) -> Result<(), Refused> {
+    let alloc = rt.alloc();
+    let mut source = no_lines(rt);
     let mut lines = [0u8; 32];
     let mut words = [0u8; 32];
     let Ok(mut outlet) = LineOutlet::new(alloc, lines.as_mut_slice()) else {
@@ -156,7 +173,7 @@ fn run_hello(alloc: Global) -> Result<(), Refused> {
     let Some(fuel) = NonZeroU64::new(100_000) else {
         return Err(Refused::Otherwise);
     };
-    let options = Options { fuel };
+    let options = options_of(fuel);
     let status = serve(
         alloc,
         &HELLO_BYTES,
@@ -179,15 +196,15 @@ fn run_hello(alloc: Global) -> Result<(), Refused> {
 /// ends in the named want of memory.
 #[test]
 fn whole_run(rt: HostRuntime) -> Result<(), Refused> {
-    run_hello(rt.alloc())
+    run_hello(&rt)
 }
 
 /// Lines that can't be printed, and last words that can't.
 #[test]
 fn output_without_room(rt: HostRuntime) -> Result<(), Fail> {
     let fuel = NonZeroU64::try_from(100)?;
-    let options = Options { fuel };
-    let mut source = RequestSource::new(rt.alloc(), BufferedLines::new(b"".as_slice()), 0);
+    let options = options_of(fuel);
+    let mut source = no_lines(&rt);
     for (room, left, status) in [(4, 32, 7), (32, 4, 7), (32, 32, 0)] {
         let mut lines = [0u8; 32];
         let mut words = [0u8; 32];
