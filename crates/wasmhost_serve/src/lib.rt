@@ -59,4 +59,4 @@ pub use module_bytes::read_module;
 pub use run::{Options, serve};
 pub use seed::{read_seed, seeded};
 pub use telling::{Obstacle, obstacle_of, report, report_words, say_line};
-pub use words::{Order, WordsFault, read_words};
+pub use words::{Order, RunOrder, WordsFault, read_words};

@@ -11,6 +11,11 @@ order_examples = record {
   runs_with_fuel = (refl, refl, refl);
   runs_with_the_most_fuel = (refl, refl, refl);
   option_first = (refl, refl, refl);
+  seed = (refl, refl, refl);
+  clock = (refl, refl, refl);
+  environment = (refl, refl, refl);
+  arguments = (refl, refl, refl);
+  no_arguments = (refl, refl, refl);
   path_like_an_option = (refl, refl, refl);
 }
 
@@ -25,6 +30,9 @@ mistake_examples = record {
   zero_fuel = refl;
   too_much_fuel = refl;
   fuel_twice = refl;
+  clock_below_zero = refl;
+  seed_twice = refl;
+  path_behind_dashes = refl;
   fuel_of_a_check = refl;
 }
 

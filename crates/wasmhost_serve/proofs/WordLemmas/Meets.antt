@@ -1,18 +1,18 @@
 -- From what `clap` says of its matches to what the words mean.
 use Rattle.std.proofs.Common.{◌≡◌, ◌<◌, ℕ, true, false, arith, refl, ap, ap₂, sym, ◌∙◌, subst, List, [], Option, Some, None, Result, Ok, Err, codes, true≢false, inl, inr}
 use Rattle.std.specs.Option.{IsSomeAnd, is_some, option_map, option_map_or, unwrap_or}
-use Rattle.std.specs.Prelude.{Box, IfSome}
+use Rattle.std.specs.Prelude.{Box, IfSome, option_and_then}
 use Rattle.std.specs.Str.Parse.{ParsesUnsigned, digits_value, without_leading_plus}
 use Rattle.std.specs.Box.{box_value}
-use Rattle.clap.specs.Words.{App, ReadsOne, Row, Text, fault_of, first_value, has_subcommand, is_simple_and_free, kind_of, one_text, rows_of, subcommand_name_of, subcommand_of, subcommand_rows, subcommand_rows_of, takes, HasKind, IsAmong}
+use Rattle.clap.specs.Words.{App, ReadsOne, Row, Text, fault_of, first_value, has_subcommand, is_simple_and_free, kind_of, matched_of, one_text, raw_values, rows_of, subcommand_name_of, subcommand_of, subcommand_rows, subcommand_rows_of, takes, HasKind, IsAmong}
 use Rattle.clap.specs.declared.error.Error.{Error}
 use Rattle.clap.specs.declared.error.ErrorKind.TheVariants as kind
 use Rattle.clap.specs.declared.parser.matches.ArgMatches.{ArgMatches}
 use Rattle.clap.specs.declared.parser.matches.ArgMatches.TheViews.{out-ArgMatches, out-SubCommand}
 use Rattle.clap.specs.declared.parser.matches.SubCommand.{SubCommand}
 use Rattle.clap.specs.declared.parser.matches.Found.{Found}
-use Rattle.clap.proofs.WalkLemmas.{first_value-rows, one_text-rows}
-use Rattle.wasmhost_serve.specs.rules.Commands.{IsFaultOf, IsFuelText, IsTaken, IsWordsFault, TakesFuel, check, fuel_in, fuel_text_in, meaning_below, path_in, run, wasmhost}
+use Rattle.clap.proofs.WalkLemmas.{first_value-rows, one_text-rows, raw_values-rows}
+use Rattle.wasmhost_serve.specs.rules.Commands.{IsClockText, IsFaultOf, IsFuelText, IsTaken, IsWordsFault, Meaning, RunMeaning, TakesClock, TakesFuel, check, clock_in, clock_text_in, environment_in, faults_of, fuel_in, fuel_text_in, guest_words, meaning_below, meaning_in, number_in, own_words, path_in, run, run_in, wasmhost}
 use Rattle.wasmhost_serve.specs.declared.words.WordsFault.{WordsFault}
 use Rattle.wasmhost_serve.specs.declared.words.WordsFault.TheVariants as fault
 use Rattle.wasmhost_serve.proofs.WordLemmas.Lines.{words_taken}
@@ -38,18 +38,54 @@ fuel_is_read E Gives found given parses none some fits = go (fuel_text_in (rows_
     go None is fits = let absent : given ≡ None = none is in rw absent (refl, omega arith)
     go (Some text) is fits = number text given fits (some text is)
 
+-- ---- the clock
+
+-- what `get_one` gives of `--clock` is the clock
+pub clock_is_read : (E : Type 0) (Gives : Text → Result ℕ E → Type 0) (found : Found)
+    (given : Option ℕ) → ((text : Text) (r : Result ℕ E) → Gives text r
+    → ParsesUnsigned 64 10 text r) → (one_text found (codes "clock") ≡ None → given ≡ None)
+    → ((text : Text) → one_text found (codes "clock") ≡ Some text → ReadsOne Gives text given)
+    → TakesClock (rows_of found) → given ≡ clock_in (rows_of found)
+clock_is_read E Gives found given parses none some fits =
+    go (clock_text_in (rows_of found)) (one_text-rows found (codes "clock")) fits
+  where
+    number : (text : Text) (given : Option ℕ) → IsClockText text → ReadsOne Gives text given
+        → given ≡ Some (number_in text)
+    number text (Some n) fits read = ap Some (parses text (Ok n) read).1
+    number text None fits read = absurd (parses text (Err read.0) read.1 (fits.0, fits.1))
+
+    go : (text : Option Text) → one_text found (codes "clock") ≡ text → IfSome text IsClockText
+        → given ≡ option_map number_in text
+    go None is fits = none is
+    go (Some text) is fits = number text given fits (some text is)
+
+-- ---- the environment
+
+-- the entries that `get_strs` gives
+pub entries_are_read : (found : Found) (given : Option (List Text))
+    → given ≡ option_map raw_values (matched_of found (codes "env"))
+    → unwrap_or given [] ≡ environment_in (rows_of found)
+entries_are_read found given is =
+    ap (λ o. unwrap_or o []) (is ∙ raw_values-rows found (codes "env"))
+
 -- ---- orders
 
 pub path_is_some : (found : Found) (path : Option Text) → path ≡ first_value found (codes "MODULE") → path_in (rows_of found) ≡ path
 path_is_some found path is = sym (is ∙ first_value-rows found (codes "MODULE"))
 
-pub means_check : (name path : Text) (rows : List Row) → name ≡ codes "check" → path_in rows ≡ Some path → meaning_below (name, rows) ≡ Some (check path)
-means_check name path rows is found = subst (λ (t : Text). meaning_below (t, rows) ≡ Some (check path)) (sym is) (ap (option_map check) found)
+pub means_check : (arguments : List Text) (name path : Text) (rows : List Row)
+    → name ≡ codes "check" → path_in rows ≡ Some path
+    → meaning_below arguments (name, rows) ≡ Some (check path)
+means_check arguments name path rows is found =
+    subst (λ (t : Text). meaning_below arguments (t, rows) ≡ Some (check path)) (sym is)
+    (ap (option_map check) found)
 
-pub means_run : (name path : Text) (fuel : ℕ) (rows : List Row) → name ≡ codes "run" → path_in rows ≡ Some path → fuel ≡ fuel_in rows
-    → meaning_below (name, rows) ≡ Some (run path fuel)
-means_run name path fuel rows is found spent =
-    subst (λ (t : Text). meaning_below (t, rows) ≡ Some (run path fuel)) (sym is) (ap (option_map (λ p. run p (fuel_in rows))) found ∙ ap (λ n. Some (run path n)) (sym spent))
+pub means_run : (arguments : List Text) (name path : Text) (said : RunMeaning) (rows : List Row)
+    → name ≡ codes "run" → path_in rows ≡ Some path → said ≡ run_in rows arguments path
+    → meaning_below arguments (name, rows) ≡ Some (run said)
+means_run arguments name path said rows is found same =
+    subst (λ (t : Text). meaning_below arguments (t, rows) ≡ Some (run said)) (sym is)
+    (ap (option_map (λ p. run (run_in rows arguments p))) found ∙ ap (λ m. Some (run m)) (sym same))
 
 -- ---- the subcommand
 
@@ -79,6 +115,22 @@ module _ (words : List Text) (m : ArgMatches) (faultless : fault_of wasmhost wor
   pub met_is_named : (name : Text) (rows : List Row) → Some name ≡ subcommand_name_of m → Some rows ≡ option_map (λ p. p.1) (subcommand_rows_of m)
       → subcommand_of wasmhost words ≡ Some (name, rows)
   met_is_named name rows is met = sym parsed ∙ named_and_met m name rows is met
+
+-- ---- the whole line
+
+-- what the words mean, of which these are the command's own, and these its guest's
+pub reads_so : (words own guest arguments : List Text) (name : Text) (rows : List Row)
+    (meaning : Meaning) → own ≡ own_words words → guest ≡ guest_words words → arguments ≡ guest
+    → fault_of wasmhost own ≡ [] → subcommand_of wasmhost own ≡ Some (name, rows)
+    → meaning_below arguments (name, rows) ≡ Some meaning
+    → (faults_of words ≡ []) × (meaning_in words ≡ Some meaning)
+reads_so words own guest arguments name rows meaning own-is guest-is same faultless met means = (
+  ap (fault_of wasmhost) (sym own-is) ∙ faultless,
+  ap (λ a. option_and_then (meaning_below a) (subcommand_of wasmhost (own_words words)))
+      (sym (same ∙ guest-is))
+      ∙ ap (λ o. option_and_then (meaning_below arguments) (subcommand_of wasmhost o)) (sym own-is)
+      ∙ ap (option_and_then (meaning_below arguments)) met ∙ means,
+)
 
 -- ---- faults
 
