@@ -1,3 +1,5 @@
 pub mod Changes
 pub mod Chunked
+pub mod Cuts
+pub mod Kept
 pub mod Stored

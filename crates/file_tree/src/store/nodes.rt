@@ -1,10 +1,12 @@
 //! Nodes in a slab, in the order in which they were pushed.
 
 ghost use Rattle.std.specs.Prelude.{◌≡◌, ◌+◌, ◌<◌, ◌≤◌, ◌++◌, ◌∷◌, [], length, OnOk, OnErr, slice_index_or};
-ghost use Rattle.std.specs.List.{remove};
+ghost use Rattle.std.specs.List.{AllByRecursion, remove};
 ghost use Rattle.file_tree.specs.declared.limits.TheConstants.{FILE_BYTES};
 ghost use Rattle.file_tree.specs.Store.Stored.{changed};
 ghost use Rattle.file_tree.specs.Store.Changes.{with_hook, node_written, node_resized};
+ghost use Rattle.file_tree.specs.Store.Cuts.{AreOrdered};
+ghost use Rattle.file_tree.specs.Store.Kept.{IsLower};
 
 use crate::store::node::{Hook, Node};
 use slab::Slab;
@@ -24,11 +26,12 @@ impl Model for Nodes {
 
     ghost Value = { List TheNode };
 
-    ghost use Rattle.file_tree.specs.Store.Stored.{stored, AreStored};
+    ghost use Rattle.file_tree.specs.Store.Stored.{stored};
+    ghost use Rattle.file_tree.specs.Store.Kept.{AreKept};
 
     ghost view = { λ a. stored a.slab a.order.items };
 
-    ghost invariant = { λ a. AreStored a.slab a.order.items };
+    ghost invariant = { λ a. AreKept a.slab a.order.items };
 }
 
 impl Nodes {
@@ -45,15 +48,18 @@ impl Nodes {
         }
     }
 
-    /// How many nodes there are.
+    /// How many nodes there are. Their numbers rise.
     pub fn len(&self) -> usize
-        ensures { result ≡ length self.now }
+        ensures count { result ≡ length self.now }
+        ensures rising { AreOrdered IsLower self.now }
     {
         self.order.len()
     }
 
-    /// Puts a node behind the others. Only want of memory makes it fail, and then nothing is changed.
+    /// Puts a node behind the others, whose numbers are lower. Only want of memory makes it fail, and
+    /// then nothing is changed.
     pub fn push(&mut self, node: Node) -> Result<(), AllocError>
+        requires number { AllByRecursion (λ (n : TheNode). n.number < node.number) self.old }
         ensures pushed { OnOk result (self.new ≡ self.old ++ node ∷ []) }
         ensures unchanged { OnErr result (self.new ≡ self.old) }
     {

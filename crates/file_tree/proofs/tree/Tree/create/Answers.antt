@@ -2,7 +2,11 @@ use Rattle.std.proofs.Common.{sym, ap, ◌∙◌, refl}
 use Rattle.file_tree.specs.declared.store.node.Node.{Node}
 use Rattle.file_tree.specs.declared.store.node.Hook.TheVariants.{In}
 use Rattle.file_tree.proofs.Grows.{is_made}
+use Rattle.file_tree.proofs.Lists.{numbers_below}
 use Rattle.file_tree.proofs.tree.Tree.create.Goals as goal
+
+pub push-requires : goal.push-requires
+push-requires c = record { number = (numbers_below 1 c.self.inside.nodes c.self.inside.next c.self.invariant.0.rising).1 }
 
 pub invariant_of-self-2 : goal.invariant_of-self-2
 invariant_of-self-2 c =
