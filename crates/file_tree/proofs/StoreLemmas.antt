@@ -1,7 +1,9 @@
 pub mod Cuts
 pub mod Keys
 pub mod KeptNodes
+pub mod NamedKeys
 pub mod Numbers
 pub mod Overs
 pub mod Padded
+pub mod Places
 pub mod Sized

@@ -1,8 +1,13 @@
 -- Lists in order, and where they are cut.
-use Rattle.std.specs.Prelude.{ℕ, zero, suc, List, [], ◌∷◌}
+use Rattle.std.specs.Prelude.{◌≡◌, ◌⊎◌, ℕ, zero, suc, List, [], ◌∷◌}
 use Rattle.std.specs.List.{AllByRecursion}
 
 module _ {T : Type 0} where
+  -- it is one of these
+  abbrev pub Holds : List T → T → Type 0
+  Holds [] y = ⊥
+  Holds (x ∷ xs) y = (x ≡ y) ⊎ Holds xs y
+
   -- each stands so to all behind it
   abbrev pub AreOrdered : (T → T → Type 0) → List T → Type 0
   AreOrdered Before [] = Unit {0}
