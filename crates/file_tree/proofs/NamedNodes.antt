@@ -100,20 +100,20 @@ one_child : (d : ℕ) (name : Name) (ns : List Node) (n : Node) → Holds ns n �
 one_child d name [] n at is one = absurd at
 one_child d name (m ∷ ns) n at is one =
     by (is_hooked d name m.hook) refl (λ later. one_child d name ns n later is (λ x w. one x (inr w))) at where
-  by : (b : Bool) → is_hooked d name m.hook ≡ b → (Holds ns n → child_in ns d name ≡ Some n.number)
-      → (m ≡ n) ⊎ Holds ns n → cond b (Some m.number) (child_in ns d name) ≡ Some n.number
-  by true test go w = ap (λ (x : Node). Some x.number) (one m (inl refl) test)
-  by false test go (inl e) = absurd (let t : true ≡ false = sym is ∙ (ap (λ (x : Node). is_hooked d name x.hook) (sym e) ∙ test) in cc)
-  by false test go (inr later) = go later
+      by : (b : Bool) → is_hooked d name m.hook ≡ b → (Holds ns n → child_in ns d name ≡ Some n.number)
+          → (m ≡ n) ⊎ Holds ns n → cond b (Some m.number) (child_in ns d name) ≡ Some n.number
+      by true test go w = ap (λ (x : Node). Some x.number) (one m (inl refl) test)
+      by false test go (inl e) = absurd (let t : true ≡ false = sym is ∙ (ap (λ (x : Node). is_hooked d name x.hook) (sym e) ∙ test) in cc)
+      by false test go (inr later) = go later
 
 no_child : (d : ℕ) (name : Name) (ns : List Node)
     → ((m : Node) → Holds ns m → is_hooked d name m.hook ≡ true → ⊥) → child_in ns d name ≡ None
 no_child d name [] never = refl
 no_child d name (m ∷ ns) never =
     by (is_hooked d name m.hook) refl (no_child d name ns (λ x w. never x (inr w))) where
-  by : (b : Bool) → is_hooked d name m.hook ≡ b → child_in ns d name ≡ None → cond b (Some m.number) (child_in ns d name) ≡ None
-  by true test go = absurd (never m (inl refl) test)
-  by false test go = go
+      by : (b : Bool) → is_hooked d name m.hook ≡ b → child_in ns d name ≡ None → cond b (Some m.number) (child_in ns d name) ≡ None
+      by true test go = absurd (never m (inl refl) test)
+      by false test go = go
 
 -- no node hangs so
 pub none_hangs : (d : ℕ) (name : Name) (ns : List Node) (m : Node) → child_in ns d name ≡ None → Holds ns m
@@ -121,11 +121,11 @@ pub none_hangs : (d : ℕ) (name : Name) (ns : List Node) (m : Node) → child_i
 none_hangs d name [] m none at is = at
 none_hangs d name (n ∷ ns) m none at is =
     by (is_hooked d name n.hook) refl (λ e later. none_hangs d name ns m e later is) none at where
-  by : (b : Bool) → is_hooked d name n.hook ≡ b → (child_in ns d name ≡ None → Holds ns m → ⊥)
-      → cond b (Some n.number) (child_in ns d name) ≡ None → (n ≡ m) ⊎ Holds ns m → ⊥
-  by true test go none w = absurd cc
-  by false test go none (inl e) = absurd (let t : true ≡ false = sym (hooked_if d name m.hook is) ∙ (ap (λ (x : Node). is_hooked d name x.hook) (sym e) ∙ test) in cc)
-  by false test go none (inr later) = go none later
+      by : (b : Bool) → is_hooked d name n.hook ≡ b → (child_in ns d name ≡ None → Holds ns m → ⊥)
+          → cond b (Some n.number) (child_in ns d name) ≡ None → (n ≡ m) ⊎ Holds ns m → ⊥
+      by true test go none w = absurd cc
+      by false test go none (inl e) = absurd (let t : true ≡ false = sym (hooked_if d name m.hook is) ∙ (ap (λ (x : Node). is_hooked d name x.hook) (sym e) ∙ test) in cc)
+      by false test go none (inr later) = go none later
 
 hooked_listed : (d : ℕ) (name : Name) (ns ms : List Node) (m : Node) → AreListed ns ms → Holds ns m
     → address_of m.hook ≡ d ∷ name → Holds ms m
@@ -142,7 +142,7 @@ only_last d name ns ms q n m are cut is at hooked =
     elim (last_before (NodeUpTo (d ∷ name)) (NodeBehind (d ∷ name)) Follows ms q n m are.ordered cut is (hooked_listed d name ns ms m are at address) (same_not_behind d name m address)) [
       | inl e ↦ e
       | inr b ↦ absurd (not_behind_if (d ∷ name) (address_of n.hook) (front_at (NodeUpTo (d ∷ name)) (NodeBehind (d ∷ name)) ms q n cut is)
-      (subst (λ (x : List ℕ). Before x (address_of n.hook)) address (behind_if (address_of m.hook) (address_of n.hook) b)))
+          (subst (λ (x : List ℕ). Before x (address_of n.hook)) address (behind_if (address_of m.hook) (address_of n.hook) b)))
     ]
 
 pub child_there : (d : ℕ) (name : Name) (ns ms : List Node) (q : ℕ) (n : Node) → AreListed ns ms → IsCutAt (d ∷ name) ms (suc q)
@@ -159,12 +159,12 @@ pub child_before_all : (d : ℕ) (name : Name) (ns ms : List Node) → AreListed
     → child_in ns d name ≡ None
 child_before_all d name ns ms are cut =
     no_child d name ns (λ m at h.
-      let address = address_if d name m.hook h in
-      same_not_behind d name m address (all_behind ms m cut (hooked_listed d name ns ms m are at address))) where
-        all_behind : (ms : List Node) (m : Node) → AllByRecursion (NodeBehind (d ∷ name)) ms → Holds ms m → NodeBehind (d ∷ name) m
-        all_behind [] m h at = absurd at
-        all_behind (x ∷ ms) m h (inl e) = subst (NodeBehind (d ∷ name)) e h.0
-        all_behind (x ∷ ms) m h (inr at) = all_behind ms m h.1 at
+    let address = address_if d name m.hook h in
+    same_not_behind d name m address (all_behind ms m cut (hooked_listed d name ns ms m are at address))) where
+      all_behind : (ms : List Node) (m : Node) → AllByRecursion (NodeBehind (d ∷ name)) ms → Holds ms m → NodeBehind (d ∷ name) m
+      all_behind [] m h at = absurd at
+      all_behind (x ∷ ms) m h (inl e) = subst (NodeBehind (d ∷ name)) e h.0
+      all_behind (x ∷ ms) m h (inr at) = all_behind ms m h.1 at
 
 -- ---- the nearest one after a name
 
@@ -194,12 +194,12 @@ stays : (d : ℕ) (name x : Name) (n : Node) (ns : List Node) → n.hook ≡ In 
 stays d name x n [] is near = refl
 stays d name x n (m ∷ ns) is near =
     by (comes_after d name m.hook) refl (stays d name x n ns is (λ w at. near w (inr at))) where
-  by : (b : Bool) → comes_after d name m.hook ≡ b → nearest_node d name (Some n) ns ≡ Some n
-      → nearest_node d name (cond (b && comes_before d (name_of_hook n.hook) m.hook) (Some m) (Some n)) ns ≡ Some n
-  by false test later = later
-  by true test later =
-      ap (λ (h : Hook). nearest_node d name (cond (comes_before d (name_of_hook h) m.hook) (Some m) (Some n)) ns) is
-      ∙ ap (λ (t : Bool). nearest_node d name (cond t (Some m) (Some n)) ns) (not_before d x n m is (near m (inl refl) test)) ∙ later
+      by : (b : Bool) → comes_after d name m.hook ≡ b → nearest_node d name (Some n) ns ≡ Some n
+          → nearest_node d name (cond (b && comes_before d (name_of_hook n.hook) m.hook) (Some m) (Some n)) ns ≡ Some n
+      by false test later = later
+      by true test later =
+          ap (λ (h : Hook). nearest_node d name (cond (comes_before d (name_of_hook h) m.hook) (Some m) (Some n)) ns) is
+          ∙ ap (λ (t : Bool). nearest_node d name (cond t (Some m) (Some n)) ns) (not_before d x n m is (near m (inl refl) test)) ∙ later
 
 -- the nearest one so far is none, or this one, or one under a later name
 abbrev IsNearestSoFar : ℕ → Name → Node → Option Node → Type 0
@@ -263,10 +263,10 @@ none_nearest : (d : ℕ) (name : Name) (ns : List Node) → ((m : Node) → Hold
 none_nearest d name [] never = refl
 none_nearest d name (m ∷ ns) never =
     by (comes_after d name m.hook) refl (none_nearest d name ns (λ w k. never w (inr k))) where
-  by : (b : Bool) → comes_after d name m.hook ≡ b → nearest_node d name None ns ≡ None
-      → nearest_node d name (cond b (Some m) None) ns ≡ None
-  by true test later = absurd (never m (inl refl) test)
-  by false test later = later
+      by : (b : Bool) → comes_after d name m.hook ≡ b → nearest_node d name None ns ≡ None
+          → nearest_node d name (cond b (Some m) None) ns ≡ None
+      by true test later = absurd (never m (inl refl) test)
+      by false test later = later
 
 -- ---- it is the first one behind the cut, if that hangs in the directory
 
@@ -283,8 +283,8 @@ pub nearest_none : (d : ℕ) (name : Name) (ns ms : List Node) (p : ℕ) → Are
     → slice_get ms p ≡ None → nearest_node d name None ns ≡ None
 nearest_none d name ns ms p are cut is =
     none_nearest d name ns (λ m at test.
-      let a = after_behind d name ns ms m are at test in
-      a.3 (all_in_front (NodeUpTo (d ∷ name)) (NodeBehind (d ∷ name)) ms p m cut is a.2))
+    let a = after_behind d name ns ms m are at test in
+    a.3 (all_in_front (NodeUpTo (d ∷ name)) (NodeBehind (d ∷ name)) ms p m cut is a.2))
 
 nearest_in : (d : ℕ) (name x : Name) (ns ms : List Node) (p : ℕ) (n : Node) → AreListed ns ms → IsCutAt (d ∷ name) ms p
     → slice_get ms p ≡ Some n → n.hook ≡ In d x → nearest_node d name None ns ≡ Some n
@@ -293,12 +293,12 @@ nearest_in d name x ns ms p n are cut is hook =
     let address : address_of n.hook ≡ d ∷ x = ap address_of hook in
     let later : Before name x = in_one d name x (subst (Before (d ∷ name)) address (behind_if (d ∷ name) (address_of n.hook) back)) in
     one_nearest d name x n None ns hook later tt (are.among n (held_at ms p n is)) (λ m at test.
-      let a = after_behind d name ns ms m are at test in
-      elim (first_behind (NodeUpTo (d ∷ name)) (NodeBehind (d ∷ name)) Follows ms p n m are.ordered cut is a.2 a.3) [
-        | inl e ↦ inl e
-        | inr b ↦ inr (subst (λ (h : Hook). Before x (name_of_hook h)) (sym a.1)
-        (in_one d x a.0 (subst (Before (d ∷ x)) (ap address_of a.1) (subst (λ (y : List ℕ). Before y (address_of m.hook)) address (behind_if (address_of n.hook) (address_of m.hook) b)))))
-      ])
+    let a = after_behind d name ns ms m are at test in
+    elim (first_behind (NodeUpTo (d ∷ name)) (NodeBehind (d ∷ name)) Follows ms p n m are.ordered cut is a.2 a.3) [
+      | inl e ↦ inl e
+      | inr b ↦ inr (subst (λ (h : Hook). Before x (name_of_hook h)) (sym a.1)
+          (in_one d x a.0 (subst (Before (d ∷ x)) (ap address_of a.1) (subst (λ (y : List ℕ). Before y (address_of m.hook)) address (behind_if (address_of n.hook) (address_of m.hook) b)))))
+    ])
 
 nearest_elsewhere : (d e : ℕ) (name x : Name) (ns ms : List Node) (p : ℕ) (n : Node) → AreListed ns ms → IsCutAt (d ∷ name) ms p
     → slice_get ms p ≡ Some n → n.hook ≡ In e x → d ≢ e → nearest_node d name None ns ≡ None
@@ -307,15 +307,15 @@ nearest_elsewhere d e name x ns ms p n are cut is hook ne =
     let address : address_of n.hook ≡ e ∷ x = ap address_of hook in
     let lt : d < e = later_directory d e name x ne (subst (Before (d ∷ name)) address (behind_if (d ∷ name) (address_of n.hook) back)) in
     none_nearest d name ns (λ m at test.
-      let a = after_behind d name ns ms m are at test in
-      elim (first_behind (NodeUpTo (d ∷ name)) (NodeBehind (d ∷ name)) Follows ms p n m are.ordered cut is a.2 a.3) [
-        | inl s ↦ absurd (let t : In d a.0 ≡ In e x = sym a.1 ∙ ap (λ (w : Node). w.hook) s ∙ hook in ne (ap (λ (h : Hook). directory_in h) t))
-        | inr b ↦ no_earlier d e a.0 x lt (subst (Before (e ∷ x)) (ap address_of a.1) (subst (λ (y : List ℕ). Before y (address_of m.hook)) address (behind_if (address_of n.hook) (address_of m.hook) b)))
-      ]) where
-        directory_in : Hook → ℕ
-        directory_in Root = 0
-        directory_in Removed = 0
-        directory_in (In x name) = x
+    let a = after_behind d name ns ms m are at test in
+    elim (first_behind (NodeUpTo (d ∷ name)) (NodeBehind (d ∷ name)) Follows ms p n m are.ordered cut is a.2 a.3) [
+      | inl s ↦ absurd (let t : In d a.0 ≡ In e x = sym a.1 ∙ ap (λ (w : Node). w.hook) s ∙ hook in ne (ap (λ (h : Hook). directory_in h) t))
+      | inr b ↦ no_earlier d e a.0 x lt (subst (Before (e ∷ x)) (ap address_of a.1) (subst (λ (y : List ℕ). Before y (address_of m.hook)) address (behind_if (address_of n.hook) (address_of m.hook) b)))
+    ]) where
+      directory_in : Hook → ℕ
+      directory_in Root = 0
+      directory_in Removed = 0
+      directory_in (In x name) = x
 
 in_this : (d : ℕ) (x : Name) (n : Node) → n.hook ≡ In d x → in_directory d (Some n) ≡ Some n
 in_this d x n is = ap (λ (h : Hook). cond (is_in d h) (Some n) None) is ∙ (rw (eq-eqb d d refl) refl)

@@ -2,6 +2,9 @@ pub mod Cuts
 pub mod Keys
 pub mod KeptNodes
 pub mod NamedKeys
+pub mod NamedLookups
+pub mod NamedSearch
+pub mod NamedStored
 pub mod Numbers
 pub mod Overs
 pub mod Padded

@@ -62,7 +62,7 @@ held_there [] (suc i) k = inl refl
 held_there (x ∷ xs) zero k = inl refl
 held_there (x ∷ xs) (suc i) k = inr (held_there xs i k)
 
-all_of_held : (P : ℕ → Type 0) (xs : List ℕ) → ((y : ℕ) → Holds xs y → P y) → AllByRecursion P xs
+pub all_of_held : (P : ℕ → Type 0) (xs : List ℕ) → ((y : ℕ) → Holds xs y → P y) → AllByRecursion P xs
 all_of_held P [] h = tt
 all_of_held P (x ∷ xs) h = (h x (inl refl), all_of_held P xs (λ y at. h y (inr at)))
 
@@ -90,8 +90,7 @@ module _ (address : ℕ → List ℕ) where
   ordered_put key [] (suc p) order cut other = absurd cut
   ordered_put key (x ∷ xs) zero order cut other = (cut, order)
   ordered_put key (x ∷ xs) (suc p) order cut other =
-      let first : After x key = stands_before key x (other x (inl refl)) cut.0 in
-      (
+      let first : After x key = stands_before key x (other x (inl refl)) cut.0 in (
         all_of_held (After x) (insert xs p key) (λ y at. elim (held_put xs p key y at) [
           | inl h ↦ held_by_all (After x) xs y order.0 h
           | inr e ↦ subst (After x) (sym e) first
@@ -208,12 +207,12 @@ address_changed old new order names key same are =
 pub key_new : (old new : ℕ → List ℕ) (order names : List ℕ) (key : ℕ) → ((k : ℕ) → k ≢ key → new k ≡ old k) → (Holds order key → ⊥)
     → AreNamed NoKey old order names → AreNamed (OnlyKey key) new (order ++ key ∷ []) names
 key_new old new order names key same fresh are = address_changed old new (order ++ key ∷ []) names key same (record {
-    ordered = are.ordered;
-    among = λ k at. held_still order key k (are.among k at);
-    hung = are.hung;
-    without = λ k at out. fresh (subst (Holds order) out (are.among k at));
-    all = λ k at some out. elim (held_added order key k at) [ inl h ↦ are.all k h some (λ none. none) | inr e ↦ absurd (out e) ];
-  })
+  ordered = are.ordered;
+  among = λ k at. held_still order key k (are.among k at);
+  hung = are.hung;
+  without = λ k at out. fresh (subst (Holds order) out (are.among k at));
+  all = λ k at some out. elim (held_added order key k at) [ inl h ↦ are.all k h some (λ none. none) | inr e ↦ absurd (out e) ];
+})
 
 -- nothing is named where there is nothing
 pub none_named : (address : ℕ → List ℕ) (order names : List ℕ) → order ≡ [] → names ≡ [] → AreNamed NoKey address order names
