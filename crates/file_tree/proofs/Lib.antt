@@ -21,6 +21,7 @@ pub mod Order
 pub mod DistinctNames
 pub mod Closest
 pub mod NearestNodes
+pub mod NamedNodes
 pub mod StoreLemmas
 pub mod Rebuilt
 pub mod KeptFiles

@@ -1,9 +1,8 @@
 -- The node with a number, in a list and in the files that it shows.
-use Rattle.std.proofs.Common.{◌≡◌, ◌≢◌, ℕ, zero, suc, ◌+◌, ◌<◌, ◌≤◌, Bool, true, false, cond, eqb, List, [], ◌∷◌, length, map, reverse, get_or, take, Option, Some, None, refl, sym, ap, subst, ◌∙◌, arith}
+use Rattle.std.proofs.Common.{◌≡◌, ◌≢◌, ℕ, zero, suc, ◌+◌, Bool, true, false, cond, eqb, List, [], ◌∷◌, length, map, reverse, get_or, Option, Some, None, refl, sym, ap, ◌∙◌}
 use Rattle.std.specs.Prelude.{option_map, find, is_some}
 use Rattle.std.specs.Option.{option_and_then}
 use Rattle.std.proofs.lemmas.Bool.{eq-eqb, ne_eqb}
-use Rattle.std.proofs.lemmas.List.{take_all}
 use Rattle.std.proofs.lemmas.List.Sums.{sum_by-cons}
 use Rattle.file_tree.specs.declared.store.node.Hook.{Hook}
 use Rattle.file_tree.specs.declared.store.node.Hook.TheVariants.{Root, Removed, In}
@@ -15,22 +14,6 @@ use Rattle.file_tree.proofs.Climbs.{path_is, no_path}
 use Rattle.file_tree.proofs.Lists.{number_in}
 
 -- ---- places
-
-nowhere_next : (ns : List Node) (k i : ℕ) (n : Node) → i < length ns → IsNowhere (take i ns) k → n ≡ get_or ns i n → n.number ≢ k → IsNowhere (take (suc i) ns) k
-nowhere_next [] k i n lt h is ne = absurd (omega arith)
-nowhere_next (m ∷ ns) k zero n lt h is ne = (λ e. ne (ap (λ (x : Node). x.number) is ∙ e), tt)
-nowhere_next (m ∷ ns) k (suc i) n lt h is ne = (h.0, nowhere_next ns k i n (omega arith) h.1 is ne)
-
-pub nowhere_before : (ns : List Node) (k i : ℕ) (n : Node) → i < length ns → IsNowhere (take i ns) k → n ≡ get_or ns i n → n.number ≢ k → IsNowhere (take (i + 1) ns) k
-nowhere_before ns k i n lt h is ne = (let e : suc i ≡ i + 1 = omega arith in subst (λ (j : ℕ). IsNowhere (take j ns) k) e (nowhere_next ns k i n lt h is ne))
-
-pub found_place : (ns : List Node) (k i : ℕ) (n : Node) → i < length ns → IsNowhere (take i ns) k → n ≡ get_or ns i n → n.number ≡ k → IsPlace ns k i
-found_place [] k i n lt h is e = absurd (omega arith)
-found_place (m ∷ ns) k zero n lt h is e = ap (λ (x : Node). x.number) (sym is) ∙ e
-found_place (m ∷ ns) k (suc i) n lt h is e = (h.0, found_place ns k i n (omega arith) h.1 is e)
-
-pub nowhere_at_all : (ns : List Node) (k i : ℕ) → length ns ≤ i → IsNowhere (take i ns) k → IsNowhere ns k
-nowhere_at_all ns k i le h = rw (take_all i ns le) at h
 
 pub node_at_place : (ns : List Node) (k i : ℕ) (d : Node) → IsPlace ns k i → node_in ns k ≡ Some (get_or ns i d)
 node_at_place [] k i d h = absurd h

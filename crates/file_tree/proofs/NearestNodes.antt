@@ -1,7 +1,7 @@
 -- The nearest node after a name is the one of the first entry after it.
 use Rattle.std.proofs.Common.{◌≡◌, ◌≢◌, ℕ, zero, suc, ◌+◌, ◌-◌, ◌≤◌, ◌⊎◌, inl, inr, Bool, true, false}
-use Rattle.std.proofs.Common.{cond, eqb, List, [], ◌∷◌, Option, Some, None, refl, sym, ap, subst, ◌∙◌, arith}
-use Rattle.std.specs.Prelude.{slice_get, option_map, find, ◌&&◌}
+use Rattle.std.proofs.Common.{cond, eqb, not, length, Bor, List, [], ◌∷◌, Option, Some, None, refl, sym, ap, subst, ◌∙◌, arith}
+use Rattle.std.specs.Prelude.{slice_get, option_map, option_copied, is_some, find, ◌&&◌}
 use Rattle.std.specs.List.{AllByRecursion}
 use Rattle.std.proofs.lemmas.Bool.{cases_eq, eq-eqb, ne_eqb}
 use Rattle.file_tree.specs.declared.store.node.Hook.{Hook}
@@ -202,6 +202,36 @@ first_of ns next d are =
 pub first_shown : (ns : List Node) (next d : ℕ) → AreNodes ns next
     → number_after (files ns next) d [] ≡ number_at_place (files ns next) d 0
 first_shown ns next d are = ap number_of (first_of ns next d are)
+
+-- ---- whether there is any
+
+some_mapped : {A B : Type 0} (f : A → B) (o : Option A) → is_some (option_map f o) ≡ is_some o
+some_mapped f None = refl
+some_mapped f (Some a) = refl
+
+some_first : (es : List Entry) → is_some (slice_get es 0) ≡ not (eqb (length es) 0)
+some_first [] = refl
+some_first (e ∷ es) = ap not (sym (ne_eqb (suc (length es)) 0 (λ e. absurd (omega (arith, e)))))
+
+same_if_not : (a b : Bool) → not a ≡ not b → a ≡ b
+same_if_not true true e = refl
+same_if_not true false e = absurd cc
+same_if_not false true e = absurd cc
+same_if_not false false e = refl
+
+copied_some : (o : Option (Bor Node)) → is_some o ≡ is_some (option_copied o)
+copied_some None = refl
+copied_some (Some n) = refl
+
+pub none_nearest : (ns : List Node) (next d : ℕ) (o : Option (Bor Node)) (none : Bool) → AreNodes ns next
+    → option_copied o ≡ nearest_node d [] None ns → is_some o ≡ not none
+    → none ≡ eqb (length (entries_of (files ns next) d)) 0
+none_nearest ns next d o none are is some =
+    let es = entries_of (files ns next) d in
+    same_if_not none (eqb (length es) 0)
+    (sym some ∙ copied_some o ∙ ap is_some is ∙ sym (some_mapped (λ (n : Node). n.number) (nearest_node d [] None ns))
+    ∙ ap is_some (nearest_shown ns next d [] are ∙ first_shown ns next d are)
+    ∙ some_mapped (λ (e : Entry). e.number) (slice_get es 0) ∙ some_first es)
 
 -- ---- the one at a place
 

@@ -131,6 +131,12 @@ in_front x y h = elim (before_or_not x y) [ inl b ↦ b.0 | inr n ↦ absurd (n.
 pub not_in_front : (x y : Name) → (Before x y → ⊥) → is_before x y ≡ false
 not_in_front x y h = elim (before_or_not x y) [ inl b ↦ absurd (h b.1) | inr n ↦ n.0 ]
 
+pub behind_if : (x y : Name) → is_before x y ≡ true → Before x y
+behind_if x y is = elim (before_or_not x y) [ inl b ↦ b.1 | inr n ↦ absurd (let t : true ≡ false = sym is ∙ n.0 in cc) ]
+
+pub not_behind_if : (x y : Name) → is_before x y ≡ false → Before x y → ⊥
+not_behind_if x y is = elim (before_or_not x y) [ inl b ↦ absurd (let t : true ≡ false = sym b.0 ∙ is in cc) | inr n ↦ n.1 ]
+
 pub all_at : (P : Entry → Type 0) (es : List Entry) (i : ℕ) (e : Entry) → AllByRecursion P es → slice_get es i ≡ Some e → P e
 all_at P [] i e h is = absurd cc
 all_at P (f ∷ es) zero e h is = (let same : f ≡ e = cc in subst P same h.0)

@@ -1,4 +1,12 @@
+pub mod Cuts
 pub mod Keys
+pub mod KeptNodes
+pub mod NamedKeys
+pub mod NamedLookups
+pub mod NamedSearch
+pub mod NamedStored
+pub mod Numbers
 pub mod Overs
 pub mod Padded
+pub mod Places
 pub mod Sized

@@ -1,3 +1,6 @@
 pub mod Changes
 pub mod Chunked
+pub mod Cuts
+pub mod Kept
+pub mod Named
 pub mod Stored

@@ -29,15 +29,15 @@
 //!
 //! # Who may touch what
 //!
-//! Only this crate knows that nodes lie in a slab, that each names its directory by number, and
-//! that a file's bytes lie in chunks, which the file owns.
+//! Only this crate knows that nodes lie in a slab with two orders beside it, by number and by name,
+//! that each names its directory by number, and that a file's bytes lie in chunks, which the file
+//! owns.
 //! `wasi_calls_rules`, `wasi_calls`, `process_rules` and `state_image` use its definitions. No
 //! crate of this repository calls the code yet, and it stands on none. `new`, `create`,
 //! `resize` and `ByteList::copy_of` take memory, and want of it is the only error.
 #![tactic(auto)]
 
 mod children;
-mod entries;
 mod kind;
 pub mod laws;
 pub mod limits;

@@ -1,8 +1,10 @@
 //! Nodes by their numbers, and what they hold.
 
-ghost use Rattle.std.specs.Prelude.{◌≡◌, ◌<◌, ◌++◌, take, drop, length, IfSome, IfNone, option_copied, option_map};
+ghost use Rattle.std.specs.Prelude.{◌≡◌, ◌<◌, ◌≤◌, ◌++◌, take, drop, length, IfSome, IfNone, option_copied, option_map};
 ghost use Rattle.file_tree.specs.declared.store.node.Node.{Node as StoredNode};
 ghost use Rattle.std.specs.List.{remove};
+ghost use Rattle.file_tree.specs.Store.Cuts.{AreOrdered, IsCut};
+ghost use Rattle.file_tree.specs.Store.Kept.{IsLower, HasLower, HasNoLower};
 ghost use Rattle.file_tree.specs.Links.{IsPlace, IsNowhere, node_in, hook_held, content_held, holds_directory_node, bytes_held_in, is_hung, name_of_hook, content_shown};
 ghost use Rattle.file_tree.specs.rules.Changes.{empty};
 ghost use Rattle.file_tree.specs.rules.Chunks.{chunks_for};
@@ -11,16 +13,38 @@ use crate::kind::NodeKind;
 use crate::store::{FileBytes, Hook, Node, NodeContent, Nodes};
 use std::alloc::Global;
 
+// How many nodes have a lower number than this one. Each step halves those that are left, since
+// numbers rise.
+fn count_below(nodes: &Nodes, number: u64) -> usize
+    ensures cut { IsCut (HasLower number) (HasNoLower number) nodes.now result }
+    ensures within { result ≤ length nodes.now }
+    ensures rising { AreOrdered IsLower nodes.now }
+{
+    let mut low = 0;
+    let mut high = nodes.len();
+    while low < high {
+        let middle = low + (high - low) / 2;
+        if nodes.get(middle).number < number {
+            low = middle + 1;
+        } else {
+            high = middle;
+        }
+    }
+    low
+}
+
 /// The place of the node with this number.
 pub fn place_of(nodes: &Nodes, number: u64) -> Option<usize>
     ensures there { IfSome result (λ place. IsPlace nodes.now number place) }
     ensures within { IfSome result (λ place. place < length nodes.now) }
     ensures nowhere { IfNone result (IsNowhere nodes.now number) }
 {
-    for place in 0..nodes.len() {
-        if nodes.get(place).number == number {
-            return Some(place);
-        }
+    let place = count_below(nodes, number);
+    if place >= nodes.len() {
+        return None;
+    }
+    if nodes.get(place).number == number {
+        return Some(place);
     }
     None
 }

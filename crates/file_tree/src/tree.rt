@@ -8,8 +8,7 @@ ghost use Rattle.file_tree.specs.rules.Listings.{number_at_place, number_after, 
 ghost use Rattle.file_tree.specs.rules.Changes.{IsFree, CanLose, CanMove, IsParent, is_within, empty, path_at, read_from};
 ghost use Rattle.file_tree.specs.declared.limits.TheConstants.{NODES, FILE_BYTES};
 
-use crate::children::{child_of, has_children, leads_to, parent_of};
-use crate::entries::{entry_at, nearest_after};
+use crate::children::{leads_to, parent_of};
 use crate::kind::NodeKind;
 use crate::lookup::{
     chunks_held, drop_node, holds_directory, holds_path, name_held, new_content, node_of,
@@ -114,33 +113,33 @@ impl Tree {
     pub fn child(&self, directory: u64, name: &[u8]) -> Option<u64>
         ensures { result ≡ child self.now directory name.now }
     {
-        child_of(&self.nodes, directory, name)
+        self.nodes.child(directory, name)
     }
 
     /// Whether a directory has no entries. A removed one has none, nor has a file.
     pub fn is_empty(&self, directory: u64) -> bool
         ensures { result ≡ (length (entries_of self.now directory) == 0) }
     {
-        !has_children(&self.nodes, directory)
+        self.nodes.nearest_after(directory, b"").is_none()
     }
 
     /// The number of the node at a place, from 0 on, among a directory's entries in the order of
-    /// their names. It takes no memory, and goes over the nodes once for each entry up to the place.
+    /// their names. It takes no memory.
     pub fn entry(&self, directory: u64, place: usize) -> Option<u64>
         ensures { result ≡ number_at_place self.now directory place }
     {
-        entry_at(&self.nodes, directory, place)
+        number_held(self.nodes.listed(directory, place))
     }
 
     /// The number of the node of a directory with the least name after this one, by the order of
     /// names: what stands right behind the entry of this name. No bytes come before any name, so
-    /// they lead to the first entry. It takes no memory, and goes over the nodes once.
+    /// they lead to the first entry. It takes no memory.
     pub fn entry_after(&self, directory: u64, name: &[u8]) -> Option<u64>
         ensures after { result ≡ number_after self.now directory name.now }
         ensures next { (i : ℕ) → HasNameAtPlace self.now directory i name.now → result ≡ number_at_place self.now directory (i + 1) }
         ensures first { name.now ≡ [] → result ≡ number_at_place self.now directory 0 }
     {
-        number_held(nearest_after(&self.nodes, directory, name))
+        number_held(self.nodes.nearest_after(directory, name))
     }
 
     /// Puts a file's bytes from one of them on into `into`, as many as there are and fit, and gives how many. What is
@@ -245,7 +244,7 @@ impl Tree {
         ensures { self.new ≡ removed number self.old }
     {
         if let Some(place) = place_of(&self.nodes, number) {
-            self.nodes.hang(place, Hook::Removed);
+            self.nodes.unhang(place);
         }
     }
 
@@ -271,7 +270,7 @@ impl Tree {
         ensures { self.new ≡ renamed (path_at self.old number) (path_at self.old directory ++ name ∷ []) self.old }
     {
         if let Some(place) = place_of(&self.nodes, number) {
-            self.nodes.hang(place, Hook::In(directory, name));
+            self.nodes.move_to(place, directory, name);
         }
     }
 }

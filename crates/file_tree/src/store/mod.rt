@@ -4,6 +4,7 @@
 mod bytes;
 mod chunks;
 mod file;
+mod named;
 mod node;
 mod nodes;
 

@@ -1,11 +1,21 @@
-//! Nodes in a slab, in the order in which they were pushed.
+//! Nodes in a slab, in the order in which they were pushed, and in that of their directories and
+//! names.
 
-ghost use Rattle.std.specs.Prelude.{◌≡◌, ◌+◌, ◌<◌, ◌≤◌, ◌++◌, ◌∷◌, [], length, OnOk, OnErr, slice_index_or};
-ghost use Rattle.std.specs.List.{remove};
+ghost use Rattle.std.specs.Prelude.{◌≡◌, ◌≢◌, ℕ, ◌+◌, ◌<◌, ◌≤◌, ◌++◌, ◌∷◌, [], length, None, option_copied, OnOk, OnErr, slice_index_or};
+ghost use Rattle.std.specs.List.{AllByRecursion, remove};
 ghost use Rattle.file_tree.specs.declared.limits.TheConstants.{FILE_BYTES};
 ghost use Rattle.file_tree.specs.Store.Stored.{changed};
 ghost use Rattle.file_tree.specs.Store.Changes.{with_hook, node_written, node_resized};
+ghost use Rattle.file_tree.specs.Store.Cuts.{AreOrdered};
+ghost use Rattle.file_tree.specs.Store.Kept.{IsLower};
+ghost use Rattle.file_tree.specs.Store.Named.{address_of, IsFreeHook};
+ghost use Rattle.file_tree.specs.Links.{child_in, is_hooked};
+ghost use Rattle.file_tree.specs.rules.Files.{is_same_name};
+ghost use Rattle.file_tree.specs.Nearest.{nearest_node, node_listed};
+ghost use Rattle.file_tree.specs.declared.store.node.Hook.TheVariants.{Removed, In};
 
+use crate::store::bytes::ByteList;
+use crate::store::named::{count_up_to, node_named, put_key, take_key};
 use crate::store::node::{Hook, Node};
 use slab::Slab;
 use std::alloc::{AllocError, Global};
@@ -15,7 +25,10 @@ use std::marker::Model;
 #[derive(Drop)]
 pub struct Nodes {
     slab: Slab<Node>,
+    // the keys of all nodes, by their numbers
     order: Vec<usize>,
+    // the keys of those that hang in directories, by these and their names
+    names: Vec<usize>,
 }
 
 impl Model for Nodes {
@@ -24,11 +37,15 @@ impl Model for Nodes {
 
     ghost Value = { List TheNode };
 
-    ghost use Rattle.file_tree.specs.Store.Stored.{stored, AreStored};
+    ghost use Rattle.file_tree.specs.Store.Stored.{stored};
+    ghost use Rattle.file_tree.specs.Store.Kept.{AreKept};
 
     ghost view = { λ a. stored a.slab a.order.items };
 
-    ghost invariant = { λ a. AreStored a.slab a.order.items };
+    ghost use Rattle.std.specs.Prelude.{◌≤◌};
+    ghost use Rattle.std.specs.Vec.{vec_len, vec_capacity};
+
+    ghost invariant = { λ a. AreKept a.slab a.order.items a.names.items × (vec_len a.names ≤ vec_capacity a.names) };
 }
 
 impl Nodes {
@@ -42,26 +59,70 @@ impl Nodes {
         Nodes {
             slab: Slab::new(alloc),
             order: Vec::new(alloc),
+            names: Vec::new(alloc),
         }
     }
 
-    /// How many nodes there are.
+    /// How many nodes there are. Their numbers rise.
     pub fn len(&self) -> usize
-        ensures { result ≡ length self.now }
+        ensures count { result ≡ length self.now }
+        ensures rising { AreOrdered IsLower self.now }
     {
         self.order.len()
     }
 
-    /// Puts a node behind the others. Only want of memory makes it fail, and then nothing is changed.
+    /// Puts a node behind the others, whose numbers are lower. Nothing hangs where it does. Only want of
+    /// memory makes it fail, and then nothing is changed.
     pub fn push(&mut self, node: Node) -> Result<(), AllocError>
+        requires number { AllByRecursion (λ (n : TheNode). n.number < node.number) self.old }
+        requires free { IsFreeHook node.hook self.old }
         ensures pushed { OnOk result (self.new ≡ self.old ++ node ∷ []) }
         ensures unchanged { OnErr result (self.new ≡ self.old) }
     {
         self.slab.reserve(1)?;
+        self.names.reserve(1)?;
         let key = self.slab.vacant_key();
         self.order.push(key)?;
         self.slab.insert_reserved(node);
+        put_key(&self.slab, &mut self.names, key);
         Ok(())
+    }
+
+    /// The number of the node that hangs in a directory under a name.
+    pub fn child(&self, directory: u64, name: &[u8]) -> Option<u64>
+        ensures { result ≡ child_in self.now directory name.now }
+    {
+        let names = self.names.as_slice();
+        let behind = count_up_to(&self.slab, names, directory, name);
+        if behind == 0 {
+            return None;
+        }
+        let node = &self.slab[names[behind - 1]];
+        if hangs_under(&node.hook, directory, name) {
+            return Some(node.number);
+        }
+        None
+    }
+
+    /// The node that hangs in a directory under the least name after this one.
+    pub fn nearest_after(&self, directory: u64, name: &[u8]) -> Option<&Node>
+        ensures { option_copied result ≡ nearest_node directory name.now None self.now }
+    {
+        let names = self.names.as_slice();
+        let place = count_up_to(&self.slab, names, directory, name);
+        node_named(&self.slab, names, place, directory)
+    }
+
+    /// The node at a place in a directory, by the order of names.
+    pub fn listed(&self, directory: u64, place: usize) -> Option<&Node>
+        ensures { option_copied result ≡ node_listed self.now directory place }
+    {
+        let names = self.names.as_slice();
+        let first = count_up_to(&self.slab, names, directory, b"");
+        if place >= names.len() - first {
+            return None;
+        }
+        node_named(&self.slab, names, place + first, directory)
     }
 
     /// The node at a place.
@@ -75,16 +136,28 @@ impl Nodes {
         }
     }
 
-    /// Hangs the node at a place elsewhere.
-    pub fn hang(&mut self, place: usize, hook: Hook)
+    /// Takes the node at a place off its hook.
+    pub fn unhang(&mut self, place: usize)
         requires { place < length self.old }
-        ensures { self.new ≡ changed (with_hook hook) place self.old }
+        ensures { self.new ≡ changed (with_hook Removed) place self.old }
     {
         let key = self.order[place];
-        match self.slab.get_mut(key) {
-            Some(node) => node.hook = hook,
-            None => unreachable!(),
-        }
+        take_key(&self.slab, &mut self.names, key);
+        self.slab[key].hook = Hook::Removed;
+    }
+
+    /// Hangs the node at a place, which hangs in a directory, in another one or under another name.
+    /// Nothing hangs there. It takes no memory.
+    pub fn move_to(&mut self, place: usize, directory: u64, name: ByteList)
+        requires place { place < length self.old }
+        requires hung { (n : TheNode) → n ≡ slice_index_or self.old place n → address_of n.hook ≢ [] }
+        requires free { child_in self.old directory name ≡ None }
+        ensures { self.new ≡ changed (with_hook (In directory name)) place self.old }
+    {
+        let key = self.order[place];
+        take_key(&self.slab, &mut self.names, key);
+        self.slab[key].hook = Hook::In(directory, name);
+        put_key(&self.slab, &mut self.names, key);
     }
 
     /// Puts bytes in the place of others of the file at a place; a directory stays.
@@ -122,9 +195,28 @@ impl Nodes {
         ensures others { self.new ≡ remove self.old place }
     {
         let key = self.order.remove(place);
+        take_key(&self.slab, &mut self.names, key);
         match self.slab.try_remove(key) {
             Some(node) => node,
             None => unreachable!(),
         }
     }
+}
+
+// Whether a node with this hook hangs in a directory under a name.
+fn hangs_under(hook: &Hook, directory: u64, name: &[u8]) -> bool
+    ensures { result ≡ is_hooked directory name.now hook.now }
+{
+    match hook {
+        Hook::Root => false,
+        Hook::Removed => false,
+        Hook::In(parent, other) => *parent == directory && is_same(other.as_slice(), name),
+    }
+}
+
+// Whether two names are the same.
+fn is_same(name: &[u8], other: &[u8]) -> bool
+    ensures { result ≡ is_same_name name.now other.now }
+{
+    name == other
 }

@@ -1,7 +1,21 @@
-use Rattle.std.proofs.Common.{arith}
-use Rattle.file_tree.proofs.Lookups.{found_place}
+use Rattle.std.proofs.Common.{sym, ap, subst, get_or, arith, ◌≡◌, ◌∙◌}
+use Rattle.file_tree.specs.declared.store.node.Node.{Node}
+use Rattle.file_tree.proofs.StoreLemmas.Numbers.{place_at_cut, nowhere_at_cut, nowhere_at_end}
 use Rattle.file_tree.proofs.lookup.place_of.Goals as goal
+
+pub returns-then-place-len-clause-nowhere : goal.returns-then-place-len-clause-nowhere
+returns-then-place-len-clause-nowhere c =
+    nowhere_at_end c.args.number c.args.nodes.now c.count_below-place.result
+    c.count_below-place.ensures.cut (omega (arith, c.if-place-len.true, c.len.ensures.count))
 
 pub returns-then-get-number-clause-there : goal.returns-then-get-number-clause-there
 returns-then-get-number-clause-there c =
-    found_place c.args.nodes.now c.args.number c.loop-place.place c.get.result.now (omega (arith, c.loop-place-test.true, c.len-place-end.ensures)) c.loop-place.invariant c.get.ensures c.if-get-number.true
+    let n = c.get.result.now in
+    place_at_cut c.args.number c.args.nodes.now c.count_below-place.result n (omega (arith, c.if-place-len.false, c.len.ensures.count))
+    c.count_below-place.ensures.cut (sym (ap (λ (m : Node). m.number) c.get.ensures) ∙ c.if-get-number.true)
+
+pub returns-clause-nowhere : goal.returns-clause-nowhere
+returns-clause-nowhere c =
+    let n = c.get.result.now in
+    nowhere_at_cut c.args.number c.args.nodes.now c.count_below-place.result n c.count_below-place.ensures.rising
+    c.count_below-place.ensures.cut (λ lt e. c.if-get-number.false (ap (λ (m : Node). m.number) c.get.ensures ∙ e))

@@ -1,7 +1,7 @@
 use Rattle.std.proofs.Common.{arith}
 use Rattle.file_tree.specs.rules.Files.{is_before}
 use Rattle.file_tree.proofs.Order.{other_ends, name_ends}
-use Rattle.file_tree.proofs.entries.is_before.Goals as goal
+use Rattle.file_tree.proofs.store.named.is_before.Goals as goal
 
 pub returns-then-index-other : goal.returns-then-index-other
 returns-then-index-other c =
