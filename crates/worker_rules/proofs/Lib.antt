@@ -1,7 +1,5 @@
 pub mod Fronts
 pub mod Promised
 pub mod ForGood
+pub mod NextLives
 pub mod Disks
-pub mod Refusals
-pub mod HelloLives
-pub mod EchoLives

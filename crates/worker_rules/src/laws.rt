@@ -1,12 +1,15 @@
-//! Laws of the promises and of the disks that stand for a worker, and worked examples of lives.
+//! Laws of the promises, of the disk between lives and of the disks that stand for a worker.
 
 ghost use Rattle.wasm_syntax.specs.declared.module.Module.{Module};
 ghost use Rattle.wasi_abi.specs.rules.Configs.{Settings};
-ghost use Rattle.worker_rules.specs.laws.Laws.{PromisesAreOfKept, NoNumberHasTwoTexts, OpeningsAreForGood, CheckpointsAreForGood, SyncsAreForGood};
+ghost use Rattle.worker_rules.specs.laws.Laws.{PromisesAreOfKept, NoNumberHasTwoTexts, CallsJoin};
+ghost use Rattle.worker_rules.specs.laws.Laws.{OpeningsAreForGood, CheckpointsAreForGood, SyncsAreForGood};
+ghost use Rattle.worker_rules.specs.laws.Laws.{OpenedLinesAreToldNoMore, SavedLinesAreToldNoMore};
+ghost use Rattle.worker_rules.specs.laws.Found.{FoundWasLeft, FoundIsAsLong, FoundIsSettled, NoWorkerComes};
+ghost use Rattle.worker_rules.specs.laws.Found.{NextLifeFindsIt, LivesGoOn};
 ghost use Rattle.worker_rules.specs.laws.Disks.{StandsForWhatIsReached, RecordsAscend, StandsByItsParts, BlankStandsForNone, NoLaterImage, NoLaterPayload, OneGeneration, DiskExamples};
-ghost use Rattle.worker_rules.specs.laws.Examples.{LivesExamples, PromiseExamples};
-ghost use Rattle.worker_rules.specs.laws.Refusals.{RefusedLives, RefusedLists, LifeForms};
-ghost use Rattle.worker_rules.specs.laws.WholeLives.{HelloLives, EchoLives};
+
+use sector_disk::Disk;
 
 /// The answers that a promise speaks of are the kept ones.
 pub fn promises_are_of_kept_answers()
@@ -26,6 +29,31 @@ pub fn promises_are_for_good()
     ensures syncs { SyncsAreForGood }
 {}
 
+/// Where it holds, no line is told again behind which a life has opened or a checkpoint was done.
+pub fn passed_lines_are_told_no_more()
+    ensures openings { OpenedLinesAreToldNoMore }
+    ensures checkpoints { SavedLinesAreToldNoMore }
+{}
+
+/// What calls keep one after another they keep together.
+pub fn calls_join()
+    ensures { CallsJoin }
+{}
+
+/// The next life finds what the last one left, with what was promised on it.
+pub fn next_life_finds_it<D: Disk>()
+    ensures keeps { NextLifeFindsIt D.medium }
+    ensures was_left { FoundWasLeft D.medium }
+    ensures as_long { FoundIsAsLong D.medium }
+    ensures settled { FoundIsSettled D.medium }
+    ensures no_worker { NoWorkerComes D.medium }
+{}
+
+/// Lives that do what the calls of a worker are proved to do go on as one that was never stopped.
+pub fn lives_go_on<D: Disk>()
+    ensures { LivesGoOn D.medium }
+{}
+
 /// A disk stands for what the module reaches, by an image and by records in the order of their steps.
 pub fn disks_stand_for_what_is_reached()
     ensures reached { StandsForWhatIsReached }
@@ -40,27 +68,4 @@ pub fn disks_stand_by_one_generation()
     ensures payload { NoLaterPayload }
     ensures one { OneGeneration }
     ensures examples { DiskExamples }
-{}
-
-/// Two lives with a cut between them, other forms of lives, and what events promise.
-pub fn worked_examples()
-    ensures lives { LivesExamples }
-    ensures promises { PromiseExamples }
-    ensures forms { LifeForms }
-{}
-
-/// Events that break a promise, and lives that don't go on, of any module.
-pub fn broken_promises_are_refused()
-    ensures events { (m : Module) (config : Settings) → RefusedLives m config }
-    ensures lives { (m : Module) (config : Settings) → RefusedLists m config }
-{}
-
-/// Lives of a module that writes a line go on, from its beginning to its end. Others don't.
-pub fn hello_goes_on()
-    ensures { (config : Settings) → HelloLives config }
-{}
-
-/// So do lives of a module that tells what it is asked, with a cut before its answer is told.
-pub fn echo_goes_on()
-    ensures { (config : Settings) → EchoLives config }
 {}
