@@ -3,3 +3,4 @@ pub mod Promised
 pub mod ForGood
 pub mod NextLives
 pub mod Disks
+pub mod Refusing

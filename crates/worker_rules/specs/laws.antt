@@ -1,3 +1,4 @@
 pub mod Disks
 pub mod Found
 pub mod Laws
+pub mod Refused

@@ -8,6 +8,9 @@ ghost use Rattle.worker_rules.specs.laws.Laws.{OpenedLinesAreToldNoMore, SavedLi
 ghost use Rattle.worker_rules.specs.laws.Found.{FoundWasLeft, FoundIsAsLong, FoundIsSettled, NoWorkerComes};
 ghost use Rattle.worker_rules.specs.laws.Found.{NextLifeFindsIt, LivesGoOn};
 ghost use Rattle.worker_rules.specs.laws.Disks.{StandsForWhatIsReached, RecordsAscend, StandsByItsParts, BlankStandsForNone, NoLaterImage, NoLaterPayload, OneGeneration, DiskExamples};
+ghost use Rattle.worker_rules.specs.laws.Refused.{RefusedEvents, RefusedWorkers};
+ghost use Rattle.worker_rules.specs.Promises.{Promise};
+ghost use Rattle.worker_rules.specs.Courses.{Stage};
 
 use sector_disk::Disk;
 
@@ -68,4 +71,14 @@ pub fn disks_stand_by_one_generation()
     ensures payload { NoLaterPayload }
     ensures one { OneGeneration }
     ensures examples { DiskExamples }
+{}
+
+/// Events that break a promise are refused, whatever was promised and wherever a life stands.
+pub fn refused_events()
+    ensures { (m : Module) (config : Settings) (so_far : Promise) (stage : Stage) → RefusedEvents m config so_far stage }
+{}
+
+/// Workers that nobody wants are refused.
+pub fn refused_workers()
+    ensures { (m : Module) (config : Settings) → RefusedWorkers m config }
 {}
