@@ -4,3 +4,5 @@ pub mod ForGood
 pub mod NextLives
 pub mod Disks
 pub mod Refusing
+pub mod Honesty
+pub mod Examples

@@ -8,6 +8,8 @@ ghost use Rattle.worker_rules.specs.laws.Laws.{OpenedLinesAreToldNoMore, SavedLi
 ghost use Rattle.worker_rules.specs.laws.Found.{FoundWasLeft, FoundIsAsLong, FoundIsSettled, NoWorkerComes};
 ghost use Rattle.worker_rules.specs.laws.Found.{NextLifeFindsIt, LivesGoOn};
 ghost use Rattle.worker_rules.specs.laws.Disks.{StandsForWhatIsReached, RecordsAscend, StandsByItsParts, BlankStandsForNone, NoLaterImage, NoLaterPayload, OneGeneration, DiskExamples};
+ghost use Rattle.worker_rules.specs.laws.Examples.{LivesExamples, PromiseExamples, CourseExamples};
+ghost use Rattle.worker_rules.specs.laws.Honest.{Teller, HonestStories};
 ghost use Rattle.worker_rules.specs.laws.Refused.{RefusedEvents, RefusedWorkers};
 ghost use Rattle.worker_rules.specs.Promises.{Promise};
 ghost use Rattle.worker_rules.specs.Courses.{Stage};
@@ -81,4 +83,17 @@ pub fn refused_events()
 /// Workers that nobody wants are refused.
 pub fn refused_workers()
     ensures { (m : Module) (config : Settings) → RefusedWorkers m config }
+{}
+
+/// Honest stories are satisfied: a restart from the journal, one behind a checkpoint, one behind a
+/// recovery that was cut, and a refused line told again.
+pub fn honest_stories()
+    ensures { (m : Module) (config : Settings) (t : Teller m config) → HonestStories t }
+{}
+
+/// Two lives with a cut between them, what events promise, and where a life stands behind them.
+pub fn worked_examples()
+    ensures lives { LivesExamples }
+    ensures promises { PromiseExamples }
+    ensures courses { CourseExamples }
 {}
