@@ -7,7 +7,7 @@ use Rattle.wasm_syntax.specs.declared.module.Module.{Module}
 use Rattle.wasi_abi.specs.rules.Configs.{Settings}
 use Rattle.process_rules.specs.Runs.{Kept, Runs}
 use Rattle.process_rules.specs.Behind.{AnswersBehindSync}
-use Rattle.worker_rules.specs.Lives.{Checkpoint, CallOutcome, Spent, Waits, Over, Done, Fails}
+use Rattle.worker_rules.specs.Lives.{Checkpoint, Reply, Spent, Waits, Over, Done, Fails}
 use Rattle.worker_rules.specs.Lives.{Event, Told, Asked, Opened, Ended, kept_of_said}
 use Rattle.worker_rules.specs.Promises.{Promise, nothing_yet, after, promised, synced_by}
 use Rattle.worker_rules.specs.laws.Laws.{OpenWith, OpeningsAreForGood, CheckpointsAreForGood}
@@ -33,8 +33,8 @@ opens_with m config so_far a n (Opened held shown ∷ events) kept h k =
       opens_with m config (after so_far (Opened held shown)) a n events kept.1
           (omega (arith, h)) (omega (arith, k)),
     )
-opens_with m config so_far a n (Ended act outcome held shown ∷ events) kept h k =
-    opens_with m config (after so_far (Ended act outcome held shown)) a n events kept.1
+opens_with m config so_far a n (Ended act reply held shown ∷ events) kept h k =
+    opens_with m config (after so_far (Ended act reply held shown)) a n events kept.1
     (omega (arith, h)) (omega (arith, k))
 
 -- ---- lines
@@ -51,8 +51,8 @@ tells_beyond m config so_far n (Asked steps kind said fits ∷ events) kept h =
     tells_beyond m config (after so_far (Asked steps kind said fits)) n events kept.1 h
 tells_beyond m config so_far n (Opened held shown ∷ events) kept h =
     tells_beyond m config (after so_far (Opened held shown)) n events kept.1 (omega (arith, h))
-tells_beyond m config so_far n (Ended act outcome held shown ∷ events) kept h =
-    tells_beyond m config (after so_far (Ended act outcome held shown)) n events kept.1
+tells_beyond m config so_far n (Ended act reply held shown ∷ events) kept h =
+    tells_beyond m config (after so_far (Ended act reply held shown)) n events kept.1
     (omega (arith, h))
 
 -- ---- syncs
@@ -111,12 +111,12 @@ syncs_held m config so_far k a (Asked n kind said fits ∷ events) kept (inl hel
     ))
 syncs_held m config so_far k a (Asked n kind said fits ∷ events) kept (inr held) =
     syncs_held m config (after so_far (Asked n kind said fits)) k a events kept.1 (inr held)
-syncs_held m config so_far k a (Ended act outcome count shown ∷ events) kept (inl held) =
+syncs_held m config so_far k a (Ended act reply count shown ∷ events) kept (inl held) =
     let before : k ≤ so_far.synced = held.0 in
-    syncs_held m config (after so_far (Ended act outcome count shown)) k a events kept.1
+    syncs_held m config (after so_far (Ended act reply count shown)) k a events kept.1
     (inl (omega (arith, before), held.1))
-syncs_held m config so_far k a (Ended act outcome count shown ∷ events) kept (inr held) =
-    syncs_held m config (after so_far (Ended act outcome count shown)) k a events kept.1
+syncs_held m config so_far k a (Ended act reply count shown ∷ events) kept (inr held) =
+    syncs_held m config (after so_far (Ended act reply count shown)) k a events kept.1
     (inr (omega (arith, held)))
 
 -- ---- in the middle of the lives
@@ -165,8 +165,8 @@ saved_lines m config inputs lives earlier later held shown goes split =
     (all_kept m config inputs lives goes)))
     (omega arith)
 
-returned_by : (outcome : CallOutcome) (k steps synced : ℕ) → HasReturned outcome k steps
-    → k ≤ max (synced_by outcome steps) synced
+returned_by : (reply : Reply) (k steps synced : ℕ) → HasReturned reply k steps
+    → k ≤ max (synced_by reply steps) synced
 returned_by Spent k steps synced h = omega (arith, h)
 returned_by Waits k steps synced h = omega (arith, h)
 returned_by (Over why) k steps synced h = omega (arith, h)
@@ -174,14 +174,14 @@ returned_by Done k steps synced h = omega (arith, h)
 returned_by (Fails cause) k steps synced h = omega (arith, h)
 
 pub syncs_for_good : SyncsAreForGood
-syncs_for_good m config inputs lives earlier later act outcome held shown k a goes split returned
+syncs_for_good m config inputs lives earlier later act reply held shown k a goes split returned
     behind =
     let so_far : Promise = promised nothing_yet earlier in
     let there : AnswersBehindSync m config so_far.kept k a =
     subst (λ z. AnswersBehindSync m config z k a)
     (sym (kept_of_promised nothing_yet earlier)) behind in
-    syncs_held m config (after so_far (Ended act outcome held shown)) k a later
-    (later_kept m config nothing_yet earlier (Ended act outcome held shown) later
+    syncs_held m config (after so_far (Ended act reply held shown)) k a later
+    (later_kept m config nothing_yet earlier (Ended act reply held shown) later
     (subst (λ z. AreKeptSomewhere m config nothing_yet z) split
     (all_kept m config inputs lives goes)))
-    (inl (returned_by outcome k shown.steps so_far.synced returned, there))
+    (inl (returned_by reply k shown.steps so_far.synced returned, there))

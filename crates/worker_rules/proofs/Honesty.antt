@@ -191,7 +191,7 @@ module _ {m : Module} {config : Settings} (t : Teller m config) where
           within = omega arith;
           at = t.later.at;
           onward = omega (arith, e, f);
-          outcome = (
+          reply = (
             refl,
             omega (arith, e, f),
             t.later.running,
@@ -378,7 +378,7 @@ module _ {m : Module} {config : Settings} (t : Teller m config) where
     within = omega arith;
     at = t.later.at;
     onward = omega arith;
-    outcome = (
+    reply = (
       refl,
       refl,
       record { all_taken = refl; all_told = some (sym t.later.lines_are) },
@@ -450,7 +450,7 @@ module _ {m : Module} {config : Settings} (t : Teller m config) where
         within = omega arith;
         at = t.emitted.at;
         onward = omega (arith, e, f);
-        outcome = (refl, omega (arith, e, f));
+        reply = (refl, omega (arith, e, f));
         bound = tt;
       }
 
@@ -553,7 +553,7 @@ module _ {m : Module} {config : Settings} (t : Teller m config) where
         within = omega arith;
         at = t.asking.at;
         onward = omega (arith, e, f);
-        outcome = (
+        reply = (
           ap (λ (n : ℕ). NoneThere n) (sym f),
           omega (arith, e, f),
           t.asking.running,

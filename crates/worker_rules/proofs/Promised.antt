@@ -21,8 +21,8 @@ kept_of_promised so_far (Asked n k said fits ∷ events) =
     kept_of_promised (after so_far (Asked n k said fits)) events
 kept_of_promised so_far (Opened held shown ∷ events) =
     kept_of_promised (after so_far (Opened held shown)) events
-kept_of_promised so_far (Ended act outcome held shown ∷ events) =
-    kept_of_promised (after so_far (Ended act outcome held shown)) events
+kept_of_promised so_far (Ended act reply held shown ∷ events) =
+    kept_of_promised (after so_far (Ended act reply held shown)) events
 
 pub promises_of_kept : PromisesAreOfKept
 promises_of_kept lives = kept_of_promised nothing_yet (events_of lives)
@@ -59,8 +59,8 @@ but_for_count so_far n (Asked steps k said fits ∷ events) =
     but_for_count (after so_far (Asked steps k said fits)) (n + 1) events
 but_for_count so_far n (Opened held shown ∷ events) =
     but_for_count (after so_far (Opened held shown)) (n + 1) events
-but_for_count so_far n (Ended act outcome held shown ∷ events) =
-    but_for_count (after so_far (Ended act outcome held shown)) (n + 1) events
+but_for_count so_far n (Ended act reply held shown ∷ events) =
+    but_for_count (after so_far (Ended act reply held shown)) (n + 1) events
 
 module _ (m : Module) (config : Settings) where
   kept_somewhere : (so_far : Promise) (n : ℕ) (stage : Stage) (events rest : List Event)
@@ -83,10 +83,10 @@ module _ (m : Module) (config : Settings) where
     kept_somewhere (after so_far (Opened held shown)) (n + 1)
         (next_stage stage (Opened held shown)) events rest kept.1 later,
   )
-  kept_somewhere so_far n stage (Ended act outcome held shown ∷ events) rest kept later = (
+  kept_somewhere so_far n stage (Ended act reply held shown ∷ events) rest kept later = (
     record { events = n; stage = stage; kept = kept.0 },
-    kept_somewhere (after so_far (Ended act outcome held shown)) (n + 1)
-        (next_stage stage (Ended act outcome held shown)) events rest kept.1 later,
+    kept_somewhere (after so_far (Ended act reply held shown)) (n + 1)
+        (next_stage stage (Ended act reply held shown)) events rest kept.1 later,
   )
 
   lives_kept : (so_far : Promise) (n : ℕ) (inputs : List Inputs) (lives : List Life)
@@ -128,8 +128,8 @@ module _ (m : Module) (config : Settings) where
       let enough = kept.0.kept.holds.lines r.number was in
       agrees (after so_far (Opened held shown)) events r valid kept.1 was
       (line_of_front m config so_far.kept r.number held enough.0 r.line valid is enough.1 enough.2)
-  agrees so_far (Ended act outcome held shown ∷ events) r valid kept was is =
-      agrees (after so_far (Ended act outcome held shown)) events r valid kept.1 was is
+  agrees so_far (Ended act reply held shown ∷ events) r valid kept was is =
+      agrees (after so_far (Ended act reply held shown)) events r valid kept.1 was is
 
   one_text : (so_far : Promise) (events : List Event) → IsValid m
       → AreKeptSomewhere m config so_far events → HaveOneText (told_in events)
@@ -142,8 +142,8 @@ module _ (m : Module) (config : Settings) where
       one_text (after so_far (Asked n k said fits)) events valid kept.1
   one_text so_far (Opened held shown ∷ events) valid kept =
       one_text (after so_far (Opened held shown)) events valid kept.1
-  one_text so_far (Ended act outcome held shown ∷ events) valid kept =
-      one_text (after so_far (Ended act outcome held shown)) events valid kept.1
+  one_text so_far (Ended act reply held shown ∷ events) valid kept =
+      one_text (after so_far (Ended act reply held shown)) events valid kept.1
 
 pub no_two_texts : NoNumberHasTwoTexts
 no_two_texts m config inputs lives valid goes =

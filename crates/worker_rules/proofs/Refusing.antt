@@ -9,14 +9,14 @@ use Rattle.process_rules.specs.Runs.{Kept, Reaches}
 use Rattle.process_rules.proofs.OneProcess.{one_process}
 use Rattle.state_image.specs.rules.Image.{Saved}
 use Rattle.worker_rules.specs.Lives.{Act, Slice, Checkpoint, SourceSaid, Cause, OfDisk, OfSource}
-use Rattle.worker_rules.specs.Lives.{OfAnswer, OfOutlet, OfMemory, OfBounds, CallOutcome, Spent}
+use Rattle.worker_rules.specs.Lives.{OfAnswer, OfOutlet, OfMemory, OfBounds, Reply, Spent}
 use Rattle.worker_rules.specs.Lives.{Waits, Over, Done, Fails, Event, Told, Asked, Opened, Ended}
 use Rattle.worker_rules.specs.Lives.{End, Finished, Stopped, Failed, Life, told_lines}
 use Rattle.worker_rules.specs.Courses.{Phase, Shut, Open, NoneThere, Closed, Stage, at_first}
 use Rattle.worker_rules.specs.Courses.{next_stage, stage_after, ComesAfter, IsLast, IsToldIn, IsAskedIn}
 use Rattle.worker_rules.specs.Courses.{MayFail, MayEnd}
 use Rattle.worker_rules.specs.Promises.{Promise, after, nothing_yet, fuel_of, IsKept, IsAt}
-use Rattle.worker_rules.specs.Promises.{promised, IsOutcome}
+use Rattle.worker_rules.specs.Promises.{promised, IsReply}
 use Rattle.worker_rules.specs.laws.Laws.{HaveOneText}
 use Rattle.worker_rules.specs.laws.Refused.{in_peace, created_life, recovered_life, first_line}
 use Rattle.worker_rules.specs.laws.Refused.{IsFromOutside, source, answer, outlet, RefusedEvents}
@@ -76,10 +76,10 @@ module _ (m : Module) (config : Settings) (so_far : Promise) (stage : Stage) whe
   closed cause (Asked steps kind said fits) is kept =
       subst (λ (q : Phase). IsAskedIn q stage.acts stage.step steps) is kept.in_time
   closed cause (Opened held shown) is kept = shut_is (sym is ∙ kept.shut)
-  closed cause (Ended act outcome held shown) is kept = no_end act outcome held shown kept.outcome
+  closed cause (Ended act reply held shown) is kept = no_end act reply held shown kept.reply
     where
-      no_end : (act : Act) (outcome : CallOutcome) (held : ℕ) (shown : Saved)
-          → IsOutcome so_far stage held shown act outcome → ⊥
+      no_end : (act : Act) (reply : Reply) (held : ℕ) (shown : Saved)
+          → IsReply so_far stage held shown act reply → ⊥
       no_end (Slice fuel) Spent held shown ends = open_is (sym is ∙ ends.0)
       no_end (Slice fuel) Waits held shown ends = none_is (sym is ∙ ends.0)
       no_end (Slice fuel) (Over why) held shown ends = open_is (sym is ∙ ends.0)
@@ -93,8 +93,8 @@ module _ (m : Module) (config : Settings) (so_far : Promise) (stage : Stage) whe
       no_end Checkpoint (Fails other) held shown ends =
           subst (λ (q : Phase). MayFail q other) is ends.0
 
-  within_fuel : (act : Act) (outcome : CallOutcome) (held : ℕ) (shown : Saved)
-      → IsOutcome so_far stage held shown act outcome → shown.steps ≤ stage.step + fuel_of act
+  within_fuel : (act : Act) (reply : Reply) (held : ℕ) (shown : Saved)
+      → IsReply so_far stage held shown act reply → shown.steps ≤ stage.step + fuel_of act
   within_fuel (Slice fuel) Spent held shown ends = let e = ends.1 in omega (arith, e)
   within_fuel (Slice fuel) Waits held shown ends = let e = ends.1 in omega (arith, e)
   within_fuel (Slice fuel) (Over why) held shown ends = ends.1
@@ -143,24 +143,24 @@ module _ (m : Module) (config : Settings) (so_far : Promise) (stage : Stage) whe
         (let none = kept.none_skipped in omega (arith, none, h));
     tells_a_saved_line = λ r t h kept.
         (let passed = kept.not_passed in omega (arith, passed, h));
-    ends_with_more_than_was_kept = λ act outcome held shown h kept.
+    ends_with_more_than_was_kept = λ act reply held shown h kept.
         (let within = kept.within in omega (arith, within, h));
-    takes_back_a_step = λ act outcome held shown h kept.
+    takes_back_a_step = λ act reply held shown h kept.
         (let onward = kept.onward in omega (arith, onward, h));
-    runs_past_its_fuel = λ act outcome held shown h kept.
-        (let few = within_fuel act outcome held shown kept.outcome in omega (arith, few, h));
+    runs_past_its_fuel = λ act reply held shown h kept.
+        (let few = within_fuel act reply held shown kept.reply in omega (arith, few, h));
     leaves_an_answer_behind = λ fuel held shown h kept.
-        (let all = kept.outcome.3.all_taken in omega (arith, all, h));
+        (let all = kept.reply.3.all_taken in omega (arith, all, h));
     leaves_a_line_untold = λ fuel last held shown is h kept.
-        (let all : last ≡ shown.lines = in_some (sym is ∙ kept.outcome.3.all_told) in
+        (let all : last ≡ shown.lines = in_some (sym is ∙ kept.reply.3.all_told) in
         omega (arith, all, h));
     fails_without_a_cause = λ act cause held shown is outside kept.
         no_cause cause outside
-        (subst (λ (q : Phase). MayFail q cause) is (fails act cause held shown kept.outcome));
+        (subst (λ (q : Phase). MayFail q cause) is (fails act cause held shown kept.reply));
   }
     where
       fails : (act : Act) (cause : Cause) (held : ℕ) (shown : Saved)
-          → IsOutcome so_far stage held shown act (Fails cause) → MayFail stage.phase cause
+          → IsReply so_far stage held shown act (Fails cause) → MayFail stage.phase cause
       fails (Slice fuel) cause held shown ends = ends.0
       fails Checkpoint cause held shown ends = ends.0
 
@@ -227,8 +227,8 @@ module _ (m : Module) (config : Settings) where
         (stage_after (at_first (in_peace says acts)) life.events) life.ends is goes.0.ends;
     silent = λ inputs goes. goes;
     idle = λ inputs fuel calls ends first last some same goes.
-        (let e = goes.0.kept.1.0.outcome.1 in omega (arith, e, same, some));
-    unasked = λ inputs fuel calls ends first last goes. none_is goes.0.kept.1.0.outcome.0;
+        (let e = goes.0.kept.1.0.reply.1 in omega (arith, e, same, some));
+    unasked = λ inputs fuel calls ends first last goes. none_is goes.0.kept.1.0.reply.0;
     deaf = λ answer says acts steps calls kind events ends first goes.
         subst SaysSome (sym goes.0.kept.1.0.heard) tt;
     undone = λ act acts says calls ends first goes.

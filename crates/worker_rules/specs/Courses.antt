@@ -4,7 +4,7 @@ use Rattle.std.specs.Prelude.{Option, Some, None, Ok, Err}
 use Rattle.wasi_abi.specs.declared.numbers.TheConstants.{NUMBERS_END}
 use Rattle.worker_rules.specs.Lives.{Act, Slice, Checkpoint, SourceSaid, Inputs}
 use Rattle.worker_rules.specs.Lives.{Cause, OfDisk, OfSource, OfAnswer, OfOutlet, OfMemory, OfBounds}
-use Rattle.worker_rules.specs.Lives.{CallOutcome, Fails, Event, Told, Asked, Opened, Ended}
+use Rattle.worker_rules.specs.Lives.{Reply, Fails, Event, Told, Asked, Opened, Ended}
 use Rattle.worker_rules.specs.Lives.{End, Finished, Stopped, Failed}
 
 -- what a life is doing
@@ -79,7 +79,7 @@ phase_asked steps (Ok None) fits = NoneThere steps
 phase_asked steps (Err e) fits = Broken OfSource
 
 -- after the end of a call
-abbrev pub phase_ended : CallOutcome → Phase
+abbrev pub phase_ended : Reply → Phase
 phase_ended (Fails cause) = Closed cause
 phase_ended _ = Open
 
@@ -99,8 +99,8 @@ next_stage stage (Opened held shown) = record stage {
   step = shown.steps;
   line = Some shown.lines;
 }
-next_stage stage (Ended act outcome held shown) = record stage {
-  phase = phase_ended outcome;
+next_stage stage (Ended act reply held shown) = record stage {
+  phase = phase_ended reply;
   acts = without_first stage.acts;
   step = shown.steps;
 }

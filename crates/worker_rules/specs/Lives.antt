@@ -53,12 +53,12 @@ pub data Cause : Type 0 where
 
 -- What a call answers. A slice says that its steps are taken, that an answer isn't there, or that
 -- the process has ended. A checkpoint says that it is done.
-pub data CallOutcome : Type 0 where
-  Spent : CallOutcome
-  Waits : CallOutcome
-  Over : (why : Ending) → CallOutcome
-  Done : CallOutcome
-  Fails : (cause : Cause) → CallOutcome
+pub data Reply : Type 0 where
+  Spent : Reply
+  Waits : Reply
+  Over : (why : Ending) → Reply
+  Done : Reply
+  Fails : (cause : Cause) → Reply
 
 -- What happens in a life, in order. In `held` is how many of the kept answers the process shown
 -- has taken.
@@ -70,7 +70,7 @@ pub data Event : Type 0 where
   -- the life opened with this process
   Opened : (held : ℕ) (shown : Saved) → Event
   -- a call ended, by Ok or not, with this process
-  Ended : (act : Act) (outcome : CallOutcome) (held : ℕ) (shown : Saved) → Event
+  Ended : (act : Act) (reply : Reply) (held : ℕ) (shown : Saved) → Event
 
 -- how a life begins: by a recovery, or, where that found no worker, by a creation
 pub data Beginning : Type 0 where
@@ -112,7 +112,7 @@ kept_after kept (Told r is_taken ∷ events) = kept_after kept events
 kept_after kept (Asked steps kind said fits ∷ events) =
     kept_after (kept ++ kept_of_said said fits) events
 kept_after kept (Opened held shown ∷ events) = kept_after (take held kept) events
-kept_after kept (Ended act outcome held shown ∷ events) = kept_after kept events
+kept_after kept (Ended act reply held shown ∷ events) = kept_after kept events
 
 -- the kept answers: those that the lives so far stand on
 abbrev pub kept_answers : List Life → List Kept
@@ -124,7 +124,7 @@ told_in [] = []
 told_in (Told r is_taken ∷ events) = r ∷ told_in events
 told_in (Asked steps kind said fits ∷ events) = told_in events
 told_in (Opened held shown ∷ events) = told_in events
-told_in (Ended act outcome held shown ∷ events) = told_in events
+told_in (Ended act reply held shown ∷ events) = told_in events
 
 -- all lines that were told, over all lives
 abbrev pub told_lines : List Life → List Release

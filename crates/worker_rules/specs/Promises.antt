@@ -14,7 +14,7 @@ use Rattle.process_rules.specs.Runs.{Kept, Wants, next_of, Moves, Reaches}
 use Rattle.process_rules.specs.Behind.{AnswersBehindLine, AnswersBehindSync, IsLine}
 use Rattle.state_image.specs.rules.Image.{Saved, SavedShowsProcess}
 use Rattle.worker_rules.specs.Lives.{Act, Slice, Checkpoint, SourceSaid, Inputs, Release}
-use Rattle.worker_rules.specs.Lives.{OfBounds, CallOutcome, Spent, Waits, Over, Done, Fails}
+use Rattle.worker_rules.specs.Lives.{OfBounds, Reply, Spent, Waits, Over, Done, Fails}
 use Rattle.worker_rules.specs.Lives.{Event, Told, Asked, Opened, Ended, Creates, Life, kept_of_said}
 use Rattle.worker_rules.specs.Courses.{Stage, Shut, Open, NoneThere, at_first, next_stage}
 use Rattle.worker_rules.specs.Courses.{stage_after, first_said, first_taken, IsToldIn, IsAskedIn}
@@ -56,14 +56,14 @@ nothing_yet = record {
 
 -- Up to which step the guest's syncs have returned: all steps where a call has said so, else all
 -- but the last.
-abbrev pub synced_by : CallOutcome → ℕ → ℕ
+abbrev pub synced_by : Reply → ℕ → ℕ
 synced_by (Fails cause) steps = steps - 1
 synced_by _ steps = steps
 
 -- how much of this count a call makes sure of for good: a checkpoint that is done all of it
-abbrev pub saved_by : Act → CallOutcome → ℕ → ℕ
+abbrev pub saved_by : Act → Reply → ℕ → ℕ
 saved_by Checkpoint Done count = count
-saved_by _ outcome count = 0
+saved_by _ reply count = 0
 
 -- the number of a line that the outlet took
 abbrev pub heard_by : Bool → ℕ → ℕ
@@ -93,11 +93,11 @@ after so_far (Opened held shown) = record so_far {
   has_opened = true;
   events = so_far.events + 1;
 }
-after so_far (Ended act outcome held shown) = record so_far {
-  answers = max (saved_by act outcome held) so_far.answers;
-  steps = max (saved_by act outcome shown.steps) so_far.steps;
-  passed = max (saved_by act outcome shown.lines) so_far.passed;
-  synced = max (synced_by outcome shown.steps) so_far.synced;
+after so_far (Ended act reply held shown) = record so_far {
+  answers = max (saved_by act reply held) so_far.answers;
+  steps = max (saved_by act reply shown.steps) so_far.steps;
+  passed = max (saved_by act reply shown.lines) so_far.passed;
+  synced = max (synced_by reply shown.steps) so_far.synced;
   events = so_far.events + 1;
 }
 
@@ -201,21 +201,21 @@ fuel_of Checkpoint = 0
 -- A slice says that its steps are taken after exactly its fuel; that an answer isn't there where
 -- the source has just said so; that the process has ended where it has. A checkpoint takes no step.
 -- An error has a cause.
-abbrev pub IsOutcome : Promise → Stage → ℕ → Saved → Act → CallOutcome → Type 0
-IsOutcome so_far stage held shown (Slice fuel) Spent =
+abbrev pub IsReply : Promise → Stage → ℕ → Saved → Act → Reply → Type 0
+IsReply so_far stage held shown (Slice fuel) Spent =
     (stage.phase ≡ Open) × (shown.steps ≡ stage.step + fuel) × (shown.ended ≡ None)
     × IsCaughtUp so_far stage held shown
-IsOutcome so_far stage held shown (Slice fuel) Waits =
+IsReply so_far stage held shown (Slice fuel) Waits =
     (stage.phase ≡ NoneThere shown.steps) × (shown.steps < stage.step + fuel)
     × (shown.ended ≡ None) × IsCaughtUp so_far stage held shown
-IsOutcome so_far stage held shown (Slice fuel) (Over why) =
+IsReply so_far stage held shown (Slice fuel) (Over why) =
     (stage.phase ≡ Open) × (shown.steps ≤ stage.step + fuel) × (shown.ended ≡ Some why)
     × IsCaughtUp so_far stage held shown
-IsOutcome so_far stage held shown Checkpoint Done =
+IsReply so_far stage held shown Checkpoint Done =
     (stage.phase ≡ Open) × (shown.steps ≡ stage.step) × IsCaughtUp so_far stage held shown
-IsOutcome so_far stage held shown act (Fails cause) =
+IsReply so_far stage held shown act (Fails cause) =
     MayFail stage.phase cause × (shown.steps ≤ stage.step + fuel_of act)
-IsOutcome so_far stage held shown _ _ = ⊥
+IsReply so_far stage held shown _ _ = ⊥
 
 -- the next step of this process emits lines whose numbers are at their end
 pub record HasLastLines {m : Module} {config : Settings} {kept : List Kept} {steps : ℕ}
@@ -228,7 +228,7 @@ pub record HasLastLines {m : Module} {config : Settings} {kept : List Kept} {ste
 -- Where a call says that a number is at its end, it is that of the next step, or of its lines, or
 -- so much has happened that it may be that of a generation.
 abbrev pub IsAtBound : {m : Module} {config : Settings} {kept : List Kept} {steps : ℕ}
-    {saved : Saved} → Promise → IsAt m config kept steps saved → CallOutcome → Type 0
+    {saved : Saved} → Promise → IsAt m config kept steps saved → Reply → Type 0
 IsAtBound so_far at (Fails OfBounds) = (NUMBERS_END ≤ at.process.steps + 1)
     ⊎ (NUMBERS_END ≤ so_far.events + 1) ⊎ HasLastLines at
 IsAtBound so_far at _ = Unit {0}
@@ -236,7 +236,7 @@ IsAtBound so_far at _ = Unit {0}
 -- a call that ends
 pub record CallEnd : Type 0 where
   pub act : Act
-  pub outcome : CallOutcome
+  pub reply : Reply
   pub held : ℕ
   pub shown : Saved
 
@@ -248,8 +248,8 @@ pub record IsEnding (m : Module) (config : Settings) (so_far : Promise) (stage :
   pub within : end.held ≤ length so_far.kept
   pub at : IsAt m config (take end.held so_far.kept) end.shown.steps end.shown
   pub onward : stage.step ≤ end.shown.steps
-  pub outcome : IsOutcome so_far stage end.held end.shown end.act end.outcome
-  pub bound : IsAtBound so_far at end.outcome
+  pub reply : IsReply so_far stage end.held end.shown end.act end.reply
+  pub bound : IsAtBound so_far at end.reply
 
 -- ---- lives
 
@@ -259,8 +259,8 @@ IsKept m config so_far stage (Told r is_taken) = IsTelling m config so_far stage
 IsKept m config so_far stage (Asked steps kind said fits) = IsInquiring m config so_far stage
     (record { steps = steps; kind = kind; said = said; fits = fits })
 IsKept m config so_far stage (Opened held shown) = IsOpening m config so_far stage held shown
-IsKept m config so_far stage (Ended act outcome held shown) = IsEnding m config so_far stage
-    (record { act = act; outcome = outcome; held = held; shown = shown })
+IsKept m config so_far stage (Ended act reply held shown) = IsEnding m config so_far stage
+    (record { act = act; reply = reply; held = held; shown = shown })
 
 -- every event of a life keeps what was promised before it
 abbrev pub AreKept : Module → Settings → Promise → Stage → List Event → Type 0

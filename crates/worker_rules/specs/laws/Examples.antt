@@ -18,8 +18,8 @@ use Rattle.worker_rules.specs.Promises.{Promise, nothing_yet, promised}
 -- ---- events
 
 -- what a process shows that has come to so many steps and lines; the rest counts for nothing here
-abbrev pub shown_at : ℕ → ℕ → Saved
-shown_at steps lines = record {
+abbrev pub saved_at : ℕ → ℕ → Saved
+saved_at steps lines = record {
   machine = record { frames = []; globals = []; memory = []; later = [] };
   files = record { nodes = []; next = 2 };
   descriptors = [];
@@ -48,8 +48,8 @@ hello_request = hands_over (answer.Request (codes "hello"))
 abbrev pub first_life : Life
 first_life = record {
   begins = Creates;
-  events = Opened 0 (shown_at 0 0) ∷ hello_request ∷ Told hello_line true
-      ∷ Ended (Slice 20) Spent 1 (shown_at 20 1) ∷ [];
+  events = Opened 0 (saved_at 0 0) ∷ hello_request ∷ Told hello_line true
+      ∷ Ended (Slice 20) Spent 1 (saved_at 20 1) ∷ [];
   calls = 9;
   ends = Finished;
 }
@@ -57,20 +57,20 @@ first_life = record {
 abbrev pub second_life : Life
 second_life = record {
   begins = Recovers;
-  events = Opened 1 (shown_at 6 0) ∷ Told hello_line true
-      ∷ Ended (Slice 14) Spent 1 (shown_at 20 1) ∷ [];
+  events = Opened 1 (saved_at 6 0) ∷ Told hello_line true
+      ∷ Ended (Slice 14) Spent 1 (saved_at 20 1) ∷ [];
   calls = 9;
   ends = Finished;
 }
 
 -- the answers that are left where a life opens without its last one
 abbrev pub lost_life : Life
-lost_life = record second_life { events = Opened 0 (shown_at 5 0) ∷ [] }
+lost_life = record second_life { events = Opened 0 (saved_at 5 0) ∷ [] }
 
 -- three answers were handed in, of which the next life has taken two
 abbrev pub shortened : List Event
 shortened = hands_over (answer.Realtime 7) ∷ hands_over (answer.Realtime 8)
-    ∷ hands_over (answer.Realtime 9) ∷ Opened 2 (shown_at 5 0) ∷ []
+    ∷ hands_over (answer.Realtime 9) ∷ Opened 2 (saved_at 5 0) ∷ []
 
 pub record LivesExamples : Type 0 where
   pub kept : kept_answers (first_life ∷ second_life ∷ [])
@@ -90,7 +90,7 @@ promised_to events = promised nothing_yet events
 
 -- an opening, and the request handed in
 abbrev pub once_asked : List Event → List Event
-once_asked later = Opened 0 (shown_at 0 0) ∷ hello_request ∷ later
+once_asked later = Opened 0 (saved_at 0 0) ∷ hello_request ∷ later
 
 -- what is promised once the request was taken: so many answers, steps and lines for good, and the
 -- step of the last sync
@@ -110,35 +110,35 @@ promise_of answers steps passed synced events = record nothing_yet {
 -- opening. What a later life has not taken again is not synced in it.
 pub record PromiseExamples : Type 0 where
   pub after_a_question : promised_to (once_asked []) ≡ promise_of 0 0 0 5 2
-  pub after_a_slice : promised_to (once_asked (Ended (Slice 20) Spent 1 (shown_at 20 1) ∷ []))
+  pub after_a_slice : promised_to (once_asked (Ended (Slice 20) Spent 1 (saved_at 20 1) ∷ []))
       ≡ promise_of 0 0 0 20 3
   pub after_a_failed_slice : promised_to
-      (once_asked (Ended (Slice 20) (Fails OfDisk) 1 (shown_at 20 1) ∷ []))
+      (once_asked (Ended (Slice 20) (Fails OfDisk) 1 (saved_at 20 1) ∷ []))
       ≡ promise_of 0 0 0 19 3
   pub after_a_failed_checkpoint : promised_to
-      (once_asked (Ended Checkpoint (Fails OfDisk) 1 (shown_at 20 1) ∷ []))
+      (once_asked (Ended Checkpoint (Fails OfDisk) 1 (saved_at 20 1) ∷ []))
       ≡ promise_of 0 0 0 19 3
   pub after_a_checkpoint : promised_to
-      (once_asked (Ended Checkpoint Done 1 (shown_at 20 1) ∷ [])) ≡ promise_of 1 20 1 20 3
+      (once_asked (Ended Checkpoint Done 1 (saved_at 20 1) ∷ [])) ≡ promise_of 1 20 1 20 3
   pub after_another_slice : promised_to
-      (once_asked (Ended Checkpoint Done 1 (shown_at 20 1)
-      ∷ Ended (Slice 10) Spent 1 (shown_at 30 2) ∷ [])) ≡ promise_of 1 20 1 30 4
+      (once_asked (Ended Checkpoint Done 1 (saved_at 20 1)
+      ∷ Ended (Slice 10) Spent 1 (saved_at 30 2) ∷ [])) ≡ promise_of 1 20 1 30 4
   pub after_opening : promised_to
-      (once_asked (Ended (Slice 20) Spent 1 (shown_at 20 1) ∷ Opened 1 (shown_at 6 0) ∷ []))
+      (once_asked (Ended (Slice 20) Spent 1 (saved_at 20 1) ∷ Opened 1 (saved_at 6 0) ∷ []))
       ≡ promise_of 1 6 0 6 4
   pub after_opening_further : promised_to
-      (once_asked (Ended Checkpoint Done 1 (shown_at 20 1) ∷ Opened 1 (shown_at 25 1) ∷ []))
+      (once_asked (Ended Checkpoint Done 1 (saved_at 20 1) ∷ Opened 1 (saved_at 25 1) ∷ []))
       ≡ promise_of 1 25 1 25 4
   -- a call that fails in its first step has not undone a sync, nor an opening what is for good
   pub after_no_step : promised_to
-      (once_asked (Opened 1 (shown_at 6 0) ∷ Ended (Slice 9) (Fails OfDisk) 1 (shown_at 6 0) ∷ []))
+      (once_asked (Opened 1 (saved_at 6 0) ∷ Ended (Slice 9) (Fails OfDisk) 1 (saved_at 6 0) ∷ []))
       ≡ promise_of 1 6 0 6 4
   pub after_less : (promised_to (once_asked
-      (Ended Checkpoint Done 1 (shown_at 20 1) ∷ Opened 0 (shown_at 6 0) ∷ []))).answers ≡ 1
+      (Ended Checkpoint Done 1 (saved_at 20 1) ∷ Opened 0 (saved_at 6 0) ∷ []))).answers ≡ 1
   pub after_fewer_steps : (promised_to (once_asked
-      (Ended Checkpoint Done 1 (shown_at 20 1) ∷ Opened 1 (shown_at 6 0) ∷ []))).steps ≡ 20
+      (Ended Checkpoint Done 1 (saved_at 20 1) ∷ Opened 1 (saved_at 6 0) ∷ []))).steps ≡ 20
   pub after_fewer_lines : (promised_to (once_asked
-      (Ended Checkpoint Done 1 (shown_at 20 1) ∷ Opened 1 (shown_at 6 0) ∷ []))).passed ≡ 1
+      (Ended Checkpoint Done 1 (saved_at 20 1) ∷ Opened 1 (saved_at 6 0) ∷ []))).passed ≡ 1
   -- a line that was begun counts, whoever took it
   pub after_telling : promised_to (once_asked (Told hello_line true ∷ []))
       ≡ record (promise_of 0 0 0 5 3) { begun = 1; heard = 1 }
@@ -163,16 +163,16 @@ stage_behind events = stage_after (at_first some_inputs) events
 pub record CourseExamples : Type 0 where
   pub at_first_shut : (stage_behind []).phase ≡ Shut
   pub refused_in_a_recovery : (stage_behind (Told hello_line false ∷ [])).phase ≡ Unheard
-  pub opened : stage_behind (Opened 0 (shown_at 3 2) ∷ [])
+  pub opened : stage_behind (Opened 0 (saved_at 3 2) ∷ [])
       ≡ record (at_first some_inputs) { phase = Open; step = 3; line = Some 2 }
   pub none_there : (stage_behind
-      (Opened 0 (shown_at 0 0) ∷ Asked 5 kind.Request (Ok None) true ∷ [])).phase ≡ NoneThere 5
-  pub refused : (stage_behind (Opened 0 (shown_at 0 0) ∷ Told hello_line false ∷ [])).phase
+      (Opened 0 (saved_at 0 0) ∷ Asked 5 kind.Request (Ok None) true ∷ [])).phase ≡ NoneThere 5
+  pub refused : (stage_behind (Opened 0 (saved_at 0 0) ∷ Told hello_line false ∷ [])).phase
       ≡ Broken OfOutlet
-  pub failed : (stage_behind (Opened 0 (shown_at 0 0)
-      ∷ Ended (Slice 20) (Fails OfDisk) 0 (shown_at 4 0) ∷ [])).phase ≡ Closed OfDisk
-  pub used_up : stage_behind (Opened 0 (shown_at 0 0) ∷ Told hello_line true
-      ∷ hands_over (answer.Realtime 7) ∷ Ended (Slice 20) Spent 1 (shown_at 20 1) ∷ [])
+  pub failed : (stage_behind (Opened 0 (saved_at 0 0)
+      ∷ Ended (Slice 20) (Fails OfDisk) 0 (saved_at 4 0) ∷ [])).phase ≡ Closed OfDisk
+  pub used_up : stage_behind (Opened 0 (saved_at 0 0) ∷ Told hello_line true
+      ∷ hands_over (answer.Realtime 7) ∷ Ended (Slice 20) Spent 1 (saved_at 20 1) ∷ [])
       ≡ record {
         phase = Open;
         says = [];

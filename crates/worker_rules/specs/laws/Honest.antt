@@ -21,7 +21,7 @@ use Rattle.worker_rules.specs.laws.Refused.{in_peace, created_life, recovered_li
 -- ---- a module that tells two requests again
 
 -- a process that has told so many lines asks for this answer
-pub record AsksWith (m : Module) (config : Settings) (kept : List Kept) (steps : ℕ) (kind : Kind)
+pub record AsksThis (m : Module) (config : Settings) (kept : List Kept) (steps : ℕ) (kind : Kind)
     (answer : Answer) (lines : ℕ) : Type 0 where
   pub process : ProcessState
   pub reached : Reaches m config kept steps process
@@ -57,12 +57,12 @@ pub record Teller (m : Module) (config : Settings) : Type 0 where
   pub first : Line
   pub second : Line
   pub fresh : ShowsAt m config [] 0 0
-  pub asks_first : AsksWith m config [] 5 kind hello 0
+  pub asks_first : AsksThis m config [] 5 kind hello 0
   -- behind the first answer; behind its line; and where it asks again
   pub answered : ShowsAt m config (Given hello ∷ []) 6 0
   pub has_first : HasLine m config (Given hello ∷ []) 0 6 27 first
   pub emitted : ShowsAt m config (Given hello ∷ []) 17 1
-  pub asks_second : AsksWith m config (Given hello ∷ []) 27 kind world 1
+  pub asks_second : AsksThis m config (Given hello ∷ []) 27 kind world 1
   pub asking : ShowsAt m config (Given hello ∷ []) 27 1
   -- behind the second answer, and behind its line
   pub replayed : ShowsAt m config (Given hello ∷ Given world ∷ []) 28 1

@@ -5,7 +5,7 @@ use Rattle.wasm_syntax_rules.specs.Validity.{IsValid}
 use Rattle.wasi_abi.specs.rules.Configs.{Settings}
 use Rattle.process_rules.specs.Behind.{AnswersBehindSync}
 use Rattle.state_image.specs.rules.Image.{Saved}
-use Rattle.worker_rules.specs.Lives.{Act, Checkpoint, Inputs, Release, CallOutcome, Done, Fails}
+use Rattle.worker_rules.specs.Lives.{Act, Checkpoint, Inputs, Release, Reply, Done, Fails}
 use Rattle.worker_rules.specs.Lives.{Event, Told, Asked, Opened, Ended, Life}
 use Rattle.worker_rules.specs.Lives.{events_of, kept_after, kept_answers, told_lines}
 use Rattle.worker_rules.specs.Courses.{Stage, stage_after}
@@ -51,7 +51,7 @@ OpenWith a n (Told r is_taken ∷ events) = OpenWith a n events
 OpenWith a n (Asked steps kind said fits ∷ events) = OpenWith a n events
 OpenWith a n (Opened held shown ∷ events) =
     (a ≤ held) × (n ≤ shown.steps) × OpenWith a n events
-OpenWith a n (Ended act outcome held shown ∷ events) = OpenWith a n events
+OpenWith a n (Ended act reply held shown ∷ events) = OpenWith a n events
 
 -- what a life has opened with, each later one opens with
 abbrev pub OpeningsAreForGood : Type 0
@@ -69,7 +69,7 @@ CheckpointsAreForGood =
     → OpenWith held shown.steps later
 
 -- step k has returned where a call ends: each one where it answers Ok, else each but the last
-abbrev pub HasReturned : CallOutcome → ℕ → ℕ → Type 0
+abbrev pub HasReturned : Reply → ℕ → ℕ → Type 0
 HasReturned (Fails cause) k steps = k < steps
 HasReturned _ k steps = k ≤ steps
 
@@ -77,10 +77,10 @@ HasReturned _ k steps = k ≤ steps
 abbrev pub SyncsAreForGood : Type 0
 SyncsAreForGood =
     (m : Module) (config : Settings) (inputs : List Inputs) (lives : List Life)
-    (earlier later : List Event) (act : Act) (outcome : CallOutcome) (held : ℕ) (shown : Saved)
+    (earlier later : List Event) (act : Act) (reply : Reply) (held : ℕ) (shown : Saved)
     (k a : ℕ) → GoesOn m config inputs lives
-    → events_of lives ≡ earlier ++ Ended act outcome held shown ∷ later
-    → HasReturned outcome k shown.steps
+    → events_of lives ≡ earlier ++ Ended act reply held shown ∷ later
+    → HasReturned reply k shown.steps
     → AnswersBehindSync m config (kept_after [] earlier) k a → OpenWith a 0 later
 
 -- each line that is told here has a greater number
@@ -89,7 +89,7 @@ TellBeyond n [] = Unit {0}
 TellBeyond n (Told r is_taken ∷ events) = (n < r.number) × TellBeyond n events
 TellBeyond n (Asked steps kind said fits ∷ events) = TellBeyond n events
 TellBeyond n (Opened held shown ∷ events) = TellBeyond n events
-TellBeyond n (Ended act outcome held shown ∷ events) = TellBeyond n events
+TellBeyond n (Ended act reply held shown ∷ events) = TellBeyond n events
 
 -- the lines that a life has opened with are told no more
 abbrev pub OpenedLinesAreToldNoMore : Type 0

@@ -12,7 +12,7 @@ use Rattle.process_rules.specs.Runs.{Given, Reaches}
 use Rattle.process_rules.specs.Behind.{AnswersBehindSync}
 use Rattle.state_image.specs.rules.Image.{Saved}
 use Rattle.worker_rules.specs.Lives.{Act, Slice, Checkpoint, SourceSaid, Inputs, Release, Cause}
-use Rattle.worker_rules.specs.Lives.{OfDisk, OfSource, OfAnswer, OfOutlet, OfMemory, CallOutcome}
+use Rattle.worker_rules.specs.Lives.{OfDisk, OfSource, OfAnswer, OfOutlet, OfMemory, Reply}
 use Rattle.worker_rules.specs.Lives.{Spent, Waits, Done, Fails, Event, Told, Asked, Opened, Ended}
 use Rattle.worker_rules.specs.Lives.{Beginning, Recovers, Creates, End, Stopped, Failed, Life}
 use Rattle.worker_rules.specs.Courses.{Stage, Shut, Open, Closed}
@@ -73,15 +73,15 @@ pub record RefusedEvents (m : Module) (config : Settings) (so_far : Promise) (st
       → IsKept m config so_far stage (Told r is_taken) → ⊥
   pub tells_a_saved_line : (r : Release) (is_taken : Bool) → r.number ≤ so_far.passed
       → IsKept m config so_far stage (Told r is_taken) → ⊥
-  pub ends_with_more_than_was_kept : (act : Act) (outcome : CallOutcome) (held : ℕ) (shown : Saved)
+  pub ends_with_more_than_was_kept : (act : Act) (reply : Reply) (held : ℕ) (shown : Saved)
       → length so_far.kept < held
-      → IsKept m config so_far stage (Ended act outcome held shown) → ⊥
-  pub takes_back_a_step : (act : Act) (outcome : CallOutcome) (held : ℕ) (shown : Saved)
+      → IsKept m config so_far stage (Ended act reply held shown) → ⊥
+  pub takes_back_a_step : (act : Act) (reply : Reply) (held : ℕ) (shown : Saved)
       → shown.steps < stage.step
-      → IsKept m config so_far stage (Ended act outcome held shown) → ⊥
-  pub runs_past_its_fuel : (act : Act) (outcome : CallOutcome) (held : ℕ) (shown : Saved)
+      → IsKept m config so_far stage (Ended act reply held shown) → ⊥
+  pub runs_past_its_fuel : (act : Act) (reply : Reply) (held : ℕ) (shown : Saved)
       → stage.step + fuel_of act < shown.steps
-      → IsKept m config so_far stage (Ended act outcome held shown) → ⊥
+      → IsKept m config so_far stage (Ended act reply held shown) → ⊥
   pub leaves_an_answer_behind : (fuel held : ℕ) (shown : Saved) → held < length so_far.kept
       → IsKept m config so_far stage (Ended (Slice fuel) Spent held shown) → ⊥
   pub leaves_a_line_untold : (fuel last held : ℕ) (shown : Saved)
