@@ -1,11 +1,11 @@
 -- What the images of a disk hold of a promise (this project's own).
-use Rattle.std.specs.Prelude.{◌≡◌, ◌⊎◌, ℕ, ◌≤◌, false, take}
+use Rattle.std.specs.Prelude.{◌≡◌, ◌⊎◌, ℕ, ◌≤◌, take}
 use Rattle.wasm_syntax.specs.declared.module.Module.{Module}
 use Rattle.wasi_abi.specs.rules.Configs.{Settings}
 use Rattle.sector_disk.specs.rules.Image.{Image}
 use Rattle.sector_disk.specs.rules.Medium.{Medium, LeavesOnly}
 use Rattle.worker_rules.specs.Stands.{StandsFor, IsBlank}
-use Rattle.worker_rules.specs.Promises.{Promise, HoldsAll}
+use Rattle.worker_rules.specs.Promises.{Promise, nothing_yet, HoldsAll}
 
 -- The image stands for a front of the answers kept now that holds all that was promised then. An
 -- outlet has taken the lines of its snapshot, and those that are told no more are among them.
@@ -18,9 +18,13 @@ pub record HoldsPromise (m : Module) (config : Settings) (then now : Promise) (d
   pub snapshot_heard : stands.saved.lines ≤ now.heard
   pub snapshot_passed : then.passed ≤ stands.saved.lines
 
--- until a life has opened there may be no worker on it
+-- nothing has been promised yet, however much has happened
+abbrev pub IsNothingYet : Promise → Type 0
+IsNothingYet promise = promise ≡ record nothing_yet { events = promise.events }
+
+-- until something is promised there may be no worker on it
 abbrev pub IsUnopened : Promise → Image → Type 0
-IsUnopened promise disk = (promise.has_opened ≡ false) × IsBlank disk
+IsUnopened promise disk = IsNothingYet promise × IsBlank disk
 
 -- The one predicate that joins promise and disk: an image that a cut may leave within a call holds
 -- all that was promised when the call began. The answers and the lines of a snapshot may be those of
