@@ -9,7 +9,8 @@ use Rattle.worker_rules.specs.Promises.{Promise, nothing_yet, promised_by, GoOn}
 use Rattle.worker_rules.specs.Holds.{KeepsPromise}
 use Rattle.worker_rules.specs.Between.{IsFoundAfterCut, AreLivedOn, more}
 use Rattle.worker_rules.specs.laws.Found.{FoundWasLeft, FoundIsAsLong, IsSettledAfterCut}
-use Rattle.worker_rules.specs.laws.Found.{FoundIsSettled, NoWorkerComes, NextLifeFindsIt, LivesGoOn}
+use Rattle.worker_rules.specs.laws.Found.{FoundIsSettled, NoWorkerComes, NextLifeFindsIt}
+use Rattle.worker_rules.specs.laws.Found.{LivesGoOn}
 
 cut_was_left : (left found : Medium) (image : Image) → IsFoundAfterCut left found
     → found.may_leave image → left.may_leave image

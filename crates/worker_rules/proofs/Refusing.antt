@@ -1,5 +1,6 @@
 -- Why the restart theorem refuses workers that nobody wants.
-use Rattle.std.proofs.Common.{◌≡◌, ◌≤◌, ℕ, ◌+◌, ◌^◌, Bool, true, false, List, [], ◌∷◌, length, Option}
+use Rattle.std.proofs.Common.{◌≡◌, ◌≤◌, ℕ, ◌+◌, ◌^◌, Bool, true, false, List, [], ◌∷◌, length}
+use Rattle.std.proofs.Common.{Option}
 use Rattle.std.proofs.Common.{Some, None, Ok, Err, refl, sym, ap, ◌∙◌, subst, arith}
 use Rattle.wasm_syntax.specs.declared.module.Module.{Module}
 use Rattle.wasm_syntax_rules.specs.Validity.{IsValid}
@@ -13,7 +14,8 @@ use Rattle.worker_rules.specs.Lives.{OfAnswer, OfOutlet, OfMemory, OfBounds, Rep
 use Rattle.worker_rules.specs.Lives.{Waits, Over, Done, Fails, Event, Told, Asked, Opened, Ended}
 use Rattle.worker_rules.specs.Lives.{End, Finished, Stopped, Failed, Life, told_lines}
 use Rattle.worker_rules.specs.Courses.{Phase, Shut, Open, NoneThere, Closed, Stage, at_first}
-use Rattle.worker_rules.specs.Courses.{next_stage, stage_after, ComesAfter, IsLast, IsToldIn, IsAskedIn}
+use Rattle.worker_rules.specs.Courses.{next_stage, stage_after, ComesAfter, IsLast, IsToldIn}
+use Rattle.worker_rules.specs.Courses.{IsAskedIn}
 use Rattle.worker_rules.specs.Courses.{MayFail, MayEnd}
 use Rattle.worker_rules.specs.Promises.{Promise, after, nothing_yet, fuel_of, IsKept, IsAt}
 use Rattle.worker_rules.specs.Promises.{promised, IsReply}

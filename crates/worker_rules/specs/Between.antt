@@ -32,16 +32,16 @@ NextFinds medium (Failed cause) left found = found ≡ left
 abbrev pub FindsNoWorker : Medium → Type 0
 FindsNoWorker disk = (image : Image) → disk.may_leave image → IsBlank image
 
--- What the calls of one life are proved to do, from its recovery or creation to its end: where the
--- disk that it found keeps the promise, its events are those of a worker that goes on, and the disk
--- that it leaves keeps what is promised then.
+-- What the calls of one life are proved to do, from its recovery or creation to its end: where
+-- the disk that it found keeps the promise, its events are those of a worker that goes on, and
+-- the disk that it leaves keeps what is promised then.
 abbrev pub IsLivedOn : Module → Settings → Promise → Inputs → Life → Medium → Medium → Type 0
 IsLivedOn m config so_far inputs life found left =
     KeepsPromise m config so_far found
     → IsLived m config so_far inputs life × KeepsPromise m config (promised_by so_far life) left
 
--- Lives on a disk, one after another, each of which finds what the one before it left. Nothing else
--- links them.
+-- Lives on a disk, one after another, each of which finds what the one before it left. Nothing
+-- else links them.
 pub data AreLivedOn {D : Type 0} (medium : D → Medium) (m : Module) (config : Settings)
     : Promise → List Inputs → List Life → D → Type 0 where
   none : {so_far : Promise} {disk : D} → AreLivedOn medium m config so_far [] [] disk

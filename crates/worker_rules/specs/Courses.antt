@@ -3,7 +3,8 @@ use Rattle.std.specs.Prelude.{◌≡◌, ℕ, ◌+◌, ◌<◌, ◌≤◌, Bool,
 use Rattle.std.specs.Prelude.{Option, Some, None, Ok, Err}
 use Rattle.wasi_abi.specs.declared.numbers.TheConstants.{NUMBERS_END}
 use Rattle.worker_rules.specs.Lives.{Act, Slice, Checkpoint, SourceSaid, Inputs}
-use Rattle.worker_rules.specs.Lives.{Cause, OfDisk, OfSource, OfAnswer, OfOutlet, OfMemory, OfBounds}
+use Rattle.worker_rules.specs.Lives.{Cause, OfDisk, OfSource, OfAnswer, OfOutlet, OfMemory}
+use Rattle.worker_rules.specs.Lives.{OfBounds}
 use Rattle.worker_rules.specs.Lives.{Reply, Fails, Event, Told, Asked, Opened, Ended}
 use Rattle.worker_rules.specs.Lives.{End, Finished, Stopped, Failed}
 

@@ -26,9 +26,9 @@ IsNothingYet promise = promise ≡ record nothing_yet { events = promise.events 
 abbrev pub IsUnopened : Promise → Image → Type 0
 IsUnopened promise disk = IsNothingYet promise × IsBlank disk
 
--- The one predicate that joins promise and disk: an image that a cut may leave within a call holds
--- all that was promised when the call began. The answers and the lines of a snapshot may be those of
--- the call itself.
+-- The one predicate that joins promise and disk: an image that a cut may leave within a call
+-- holds all that was promised when the call began. The answers and the lines of a snapshot may be
+-- those of the call itself.
 abbrev pub ImageHolds : Module → Settings → Promise → Promise → Image → Type 0
 ImageHolds m config then now disk = IsUnopened then disk ⊎ HoldsPromise m config then now disk
 

@@ -1,4 +1,5 @@
--- The lives of a worker: what is put into each, and what then happens, in order (this project's own).
+-- The lives of a worker: what is put into each, and what then happens, in order (this project's
+-- own).
 use Rattle.std.specs.Prelude.{ℕ, Bool, true, false, List, [], ◌∷◌, ◌++◌, take}
 use Rattle.std.specs.Prelude.{Option, Some, None, Result, Ok, Err}
 use Rattle.wasi_abi.specs.declared.answer.Kind.{Kind}
@@ -77,8 +78,8 @@ pub data Beginning : Type 0 where
   Recovers : Beginning
   Creates : Beginning
 
--- How a life ends: all that it was told to do is done, and then the power is cut; the stop that was
--- put into it came; or a call answered another error.
+-- How a life ends: all that it was told to do is done, and then the power is cut; the stop that
+-- was put into it came; or a call answered another error.
 pub data End : Type 0 where
   Finished : End
   Stopped : End

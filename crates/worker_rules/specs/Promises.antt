@@ -15,7 +15,8 @@ use Rattle.process_rules.specs.Behind.{AnswersBehindLine, AnswersBehindSync, IsL
 use Rattle.state_image.specs.rules.Image.{Saved, SavedShowsProcess}
 use Rattle.worker_rules.specs.Lives.{Act, Slice, Checkpoint, SourceSaid, Inputs, Release}
 use Rattle.worker_rules.specs.Lives.{OfBounds, Reply, Spent, Waits, Over, Done, Fails}
-use Rattle.worker_rules.specs.Lives.{Event, Told, Asked, Opened, Ended, Creates, Life, kept_of_said}
+use Rattle.worker_rules.specs.Lives.{Event, Told, Asked, Opened, Ended, Creates, Life}
+use Rattle.worker_rules.specs.Lives.{kept_of_said}
 use Rattle.worker_rules.specs.Courses.{Stage, Shut, Open, NoneThere, at_first, next_stage}
 use Rattle.worker_rules.specs.Courses.{stage_after, first_said, first_taken, IsToldIn, IsAskedIn}
 use Rattle.worker_rules.specs.Courses.{ComesAfter, IsLast, IsNextAct, MayFail, MayEnd}
@@ -126,9 +127,9 @@ pub record IsAt (m : Module) (config : Settings) (kept : List Kept) (steps : ℕ
   pub shown : SavedShowsProcess (module_context m functions) reached.guest.program table saved
       process
 
--- A line that is told is the line of its number on the kept answers, and this slice has come to it.
--- In a life numbers follow one another. Over lives none is left out that no outlet has taken, and
--- none is told again behind which something was saved.
+-- A line that is told is the line of its number on the kept answers, and this slice has come to
+-- it. In a life numbers follow one another. Over lives none is left out that no outlet has taken,
+-- and none is told again behind which something was saved.
 pub record IsTelling (m : Module) (config : Settings) (so_far : Promise) (stage : Stage)
     (r : Release) (is_taken : Bool) : Type 0 where
   pub is_line : IsLine m config so_far.kept r.number r.line
@@ -164,9 +165,9 @@ pub record IsInquiring (m : Module) (config : Settings) (so_far : Promise) (stag
   pub fitting : IsFitting process.host.limit question.kind question.said question.fits
   pub heard : question.said ≡ first_said stage.says
 
--- A front of so many kept answers, with a process of so many steps, holds all that was promised: as
--- many answers and steps, the answers behind each line whose release was begun, and those behind
--- each sync of the guest that returned.
+-- A front of so many kept answers, with a process of so many steps, holds all that was promised:
+-- as many answers and steps, the answers behind each line whose release was begun, and those
+-- behind each sync of the guest that returned.
 pub record HoldsAll (m : Module) (config : Settings) (kept : List Kept) (so_far : Promise)
     (held steps : ℕ) : Type 0 where
   pub within : held ≤ length kept
@@ -176,8 +177,8 @@ pub record HoldsAll (m : Module) (config : Settings) (kept : List Kept) (so_far 
       → (a : ℕ) × (a ≤ held) × AnswersBehindLine m config kept i a
   pub syncs : (k a : ℕ) → k ≤ so_far.synced → AnswersBehindSync m config kept k a → a ≤ held
 
--- A life opens exactly where a front of the kept answers leads that holds all that was promised. An
--- outlet has taken every line up to there, and this recovery has told none beyond it.
+-- A life opens exactly where a front of the kept answers leads that holds all that was promised.
+-- An outlet has taken every line up to there, and this recovery has told none beyond it.
 pub record IsOpening (m : Module) (config : Settings) (so_far : Promise) (stage : Stage) (held : ℕ)
     (shown : Saved) : Type 0 where
   pub shut : stage.phase ≡ Shut
@@ -199,8 +200,8 @@ fuel_of (Slice fuel) = fuel
 fuel_of Checkpoint = 0
 
 -- A slice says that its steps are taken after exactly its fuel; that an answer isn't there where
--- the source has just said so; that the process has ended where it has. A checkpoint takes no step.
--- An error has a cause.
+-- the source has just said so; that the process has ended where it has. A checkpoint takes no
+-- step. An error has a cause.
 abbrev pub IsReply : Promise → Stage → ℕ → Saved → Act → Reply → Type 0
 IsReply so_far stage held shown (Slice fuel) Spent =
     (stage.phase ≡ Open) × (shown.steps ≡ stage.step + fuel) × (shown.ended ≡ None)
@@ -291,7 +292,7 @@ GoOn m config so_far (inputs ∷ others) (life ∷ lives) = IsLived m config so_
 GoOn m config so_far [] (life ∷ lives) = ⊥
 GoOn m config so_far (inputs ∷ others) [] = ⊥
 
--- The restart theorem of a list of lives, and of what was put into each: restart after restart, the
--- worker goes on as one that was never stopped.
+-- The restart theorem of a list of lives, and of what was put into each: restart after restart,
+-- the worker goes on as one that was never stopped.
 abbrev pub GoesOn : Module → Settings → List Inputs → List Life → Type 0
 GoesOn m config inputs lives = GoOn m config nothing_yet inputs lives

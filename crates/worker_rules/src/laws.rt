@@ -3,11 +3,16 @@
 ghost use Rattle.wasm_syntax.specs.declared.module.Module.{Module};
 ghost use Rattle.wasi_abi.specs.rules.Configs.{Settings};
 ghost use Rattle.worker_rules.specs.laws.Laws.{PromisesAreOfKept, NoNumberHasTwoTexts, CallsJoin};
-ghost use Rattle.worker_rules.specs.laws.Laws.{OpeningsAreForGood, CheckpointsAreForGood, SyncsAreForGood};
+ghost use Rattle.worker_rules.specs.laws.Laws.{OpeningsAreForGood, CheckpointsAreForGood};
+ghost use Rattle.worker_rules.specs.laws.Laws.{SyncsAreForGood};
 ghost use Rattle.worker_rules.specs.laws.Laws.{OpenedLinesAreToldNoMore, SavedLinesAreToldNoMore};
-ghost use Rattle.worker_rules.specs.laws.Found.{FoundWasLeft, FoundIsAsLong, FoundIsSettled, NoWorkerComes};
+ghost use Rattle.worker_rules.specs.laws.Found.{FoundWasLeft, FoundIsAsLong, FoundIsSettled};
+ghost use Rattle.worker_rules.specs.laws.Found.{NoWorkerComes};
 ghost use Rattle.worker_rules.specs.laws.Found.{NextLifeFindsIt, LivesGoOn};
-ghost use Rattle.worker_rules.specs.laws.Disks.{StandsForWhatIsReached, RecordsAscend, StandsByItsParts, BlankStandsForNone, NoLaterImage, NoLaterPayload, OneGeneration, DiskExamples};
+ghost use Rattle.worker_rules.specs.laws.Disks.{StandsForWhatIsReached, RecordsAscend};
+ghost use Rattle.worker_rules.specs.laws.Disks.{StandsByItsParts, BlankStandsForNone};
+ghost use Rattle.worker_rules.specs.laws.Disks.{NoLaterImage, NoLaterPayload, OneGeneration};
+ghost use Rattle.worker_rules.specs.laws.Disks.{DiskExamples};
 ghost use Rattle.worker_rules.specs.laws.Examples.{LivesExamples, PromiseExamples, CourseExamples};
 ghost use Rattle.worker_rules.specs.laws.Honest.{Teller, HonestStories};
 ghost use Rattle.worker_rules.specs.laws.Refused.{RefusedEvents, RefusedWorkers};
@@ -59,7 +64,8 @@ pub fn lives_go_on<D: Disk>()
     ensures { LivesGoOn D.medium }
 {}
 
-/// A disk stands for what the module reaches, by an image and by records in the order of their steps.
+/// A disk stands for what the module reaches, by an image and by records in the order of their
+/// steps.
 pub fn disks_stand_for_what_is_reached()
     ensures reached { StandsForWhatIsReached }
     ensures in_order { RecordsAscend }
@@ -77,7 +83,8 @@ pub fn disks_stand_by_one_generation()
 
 /// Events that break a promise are refused, whatever was promised and wherever a life stands.
 pub fn refused_events()
-    ensures { (m : Module) (config : Settings) (so_far : Promise) (stage : Stage) → RefusedEvents m config so_far stage }
+    ensures { (m : Module) (config : Settings) (so_far : Promise) (stage : Stage)
+        → RefusedEvents m config so_far stage }
 {}
 
 /// Workers that nobody wants are refused.

@@ -7,8 +7,10 @@ use Rattle.wasi_abi.specs.declared.answer.Answer.{Answer}
 use Rattle.wasi_abi.specs.declared.answer.Answer.TheVariants as answer
 use Rattle.process_rules.specs.Runs.{Given}
 use Rattle.state_image.specs.rules.Image.{Saved}
-use Rattle.worker_rules.specs.Lives.{Slice, Checkpoint, Inputs, Release, OfDisk, OfOutlet, OfMemory}
-use Rattle.worker_rules.specs.Lives.{OfSource, Spent, Done, Fails, Event, Told, Asked, Opened, Ended}
+use Rattle.worker_rules.specs.Lives.{Slice, Checkpoint, Inputs, Release, OfDisk, OfOutlet}
+use Rattle.worker_rules.specs.Lives.{OfMemory}
+use Rattle.worker_rules.specs.Lives.{OfSource, Spent, Done, Fails, Event, Told, Asked, Opened}
+use Rattle.worker_rules.specs.Lives.{Ended}
 use Rattle.worker_rules.specs.Lives.{Recovers, Creates, Finished, Stopped, Failed, Life}
 use Rattle.worker_rules.specs.Lives.{kept_after, kept_answers, told_lines}
 use Rattle.worker_rules.specs.Courses.{Stage, Shut, Unheard, Open, NoneThere, Broken, Closed}

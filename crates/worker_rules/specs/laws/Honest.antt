@@ -13,7 +13,8 @@ use Rattle.process_rules.specs.Processes.{ProcessState}
 use Rattle.process_rules.specs.Runs.{Kept, Given, Wants, next_of, Reaches}
 use Rattle.state_image.specs.rules.Image.{Saved}
 use Rattle.worker_rules.specs.Lives.{Slice, Checkpoint, SourceSaid, Inputs, Release, OfOutlet}
-use Rattle.worker_rules.specs.Lives.{OfMemory, Spent, Waits, Done, Fails, Event, Told, Asked, Opened}
+use Rattle.worker_rules.specs.Lives.{OfMemory, Spent, Waits, Done, Fails, Event, Told, Asked}
+use Rattle.worker_rules.specs.Lives.{Opened}
 use Rattle.worker_rules.specs.Lives.{Ended, Finished, Stopped, Failed, Life}
 use Rattle.worker_rules.specs.Promises.{IsAt, GoesOn}
 use Rattle.worker_rules.specs.laws.Refused.{in_peace, created_life, recovered_life}
