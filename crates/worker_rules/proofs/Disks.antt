@@ -1,5 +1,7 @@
 -- What disk images stand for.
-use Rattle.std.proofs.Common.{◌≡◌, ℕ, zero, suc, ◌+◌, ◌-◌, ◌%◌, ◌<◌, ◌≤◌, Bool, false, List, [], ◌∷◌, ◌++◌, Some, if◌then◌else◌, refl, sym, ap, ◌∙◌, subst, arith, lit≤, get_or}
+use Rattle.std.proofs.Common.{◌≡◌, ℕ, zero, suc, ◌+◌, ◌-◌, ◌%◌, ◌<◌, ◌≤◌, Bool, false, List, []}
+use Rattle.std.proofs.Common.{◌∷◌, ◌++◌, Some, if◌then◌else◌, refl, sym, ap, ◌∙◌, subst, arith}
+use Rattle.std.proofs.Common.{lit≤, get_or}
 use Rattle.std.specs.Prelude.{map, length, take}
 use Rattle.std.proofs.lemmas.Bool.{eq-eqb}
 use Rattle.sha2.specs.Sha256.{sha256}
@@ -13,14 +15,17 @@ use Rattle.process_rules.specs.Runs.{Kept, Given, Runs, none, take as takes}
 use Rattle.process_rules.proofs.Growing.{move_counts, runs_count}
 use Rattle.process_rules.proofs.Quiet.{runs_join}
 use Rattle.sector_disk.specs.rules.Image.{Image, sector_at}
-use Rattle.disk_layout.specs.rules.Places.{Geometry, geometry_of, config_bytes, head_place, journal_place}
+use Rattle.disk_layout.specs.rules.Places.{Geometry, geometry_of, config_bytes, head_place}
+use Rattle.disk_layout.specs.rules.Places.{journal_place}
 use Rattle.disk_layout.specs.declared.superblock.TheConstants.{SUPER_END_MARK}
 use Rattle.disk_layout.specs.rules.Sectors.{IsMarked, super_bytes, stamp_of, shown_generation}
 use Rattle.disk_layout.specs.rules.Journal.{Record, is_of, payloads_from}
 use Rattle.disk_layout.proofs.FieldLemmas.{drop_over}
 use Rattle.disk_layout.proofs.JournalLemmas.{is_of_other}
 use Rattle.worker_rules.specs.Stands.{Recorded, none as no_record, more, given_in, ShowsNoneLater}
-use Rattle.worker_rules.specs.laws.Disks.{StandsForWhatIsReached, RecordsAscend, StandsByItsParts, BlankStandsForNone, NoLaterImage, NoLaterPayload, OneGeneration, tiny, tiny_disk, DiskExamples}
+use Rattle.worker_rules.specs.laws.Disks.{StandsForWhatIsReached, RecordsAscend, StandsByItsParts}
+use Rattle.worker_rules.specs.laws.Disks.{BlankStandsForNone, NoLaterImage, NoLaterPayload}
+use Rattle.worker_rules.specs.laws.Disks.{OneGeneration, tiny, tiny_disk, DiskExamples}
 
 -- ---- what is reached
 

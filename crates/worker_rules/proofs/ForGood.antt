@@ -1,36 +1,59 @@
 -- What a restart has at least stays so in all later lives.
-use Rattle.std.proofs.Common.{◌⊎◌, inl, inr, ℕ, ◌≤◌, Bool, true, false, List, [], ◌∷◌, ◌++◌, sym, subst, arith, length-append}
+use Rattle.std.proofs.Common.{◌⊎◌, inl, inr, ℕ, ◌<◌, ◌≤◌, List, [], ◌∷◌, ◌++◌, sym, subst, arith}
+use Rattle.std.proofs.Common.{length-append}
 use Rattle.std.specs.Prelude.{length, max}
 use Rattle.std.proofs.lemmas.List.{take-append-le}
 use Rattle.wasm_syntax.specs.declared.module.Module.{Module}
 use Rattle.wasi_abi.specs.rules.Configs.{Settings}
-use Rattle.process_rules.specs.Runs.{Kept, Given, Runs}
+use Rattle.process_rules.specs.Runs.{Kept, Runs}
 use Rattle.process_rules.specs.Behind.{AnswersBehindSync}
-use Rattle.worker_rules.specs.Lives.{Checkpoint, Event, Told, Opened, Handed, Ended}
-use Rattle.worker_rules.specs.Promises.{Promise, nothing_yet, after, promised, synced_by, IsKept, AreKept}
-use Rattle.worker_rules.specs.laws.Laws.{OpenWith, OpeningsAreForGood, CheckpointsAreForGood, HasReturned, SyncsAreForGood}
-use Rattle.worker_rules.proofs.Promised.{kept_of_promised}
+use Rattle.worker_rules.specs.Lives.{Checkpoint, Reply, Spent, Waits, Over, Done, Fails}
+use Rattle.worker_rules.specs.Lives.{Event, Told, Asked, Opened, Ended, kept_of_said}
+use Rattle.worker_rules.specs.Promises.{Promise, nothing_yet, after, promised, synced_by}
+use Rattle.worker_rules.specs.laws.Laws.{OpenWith, OpeningsAreForGood, CheckpointsAreForGood}
+use Rattle.worker_rules.specs.laws.Laws.{HasReturned, SyncsAreForGood, TellBeyond}
+use Rattle.worker_rules.specs.laws.Laws.{OpenedLinesAreToldNoMore, SavedLinesAreToldNoMore}
+use Rattle.worker_rules.proofs.Promised.{kept_of_promised, AreKeptSomewhere, all_kept}
 
 -- ---- answers and steps
 
 opens_with : (m : Module) (config : Settings) (so_far : Promise) (a n : ℕ) (events : List Event)
-    → AreKept m config so_far events → a ≤ so_far.answers → n ≤ so_far.steps → OpenWith a n events
+    → AreKeptSomewhere m config so_far events → a ≤ so_far.answers → n ≤ so_far.steps
+    → OpenWith a n events
 opens_with m config so_far a n [] kept h k = tt
-opens_with m config so_far a n (Told r ∷ events) kept h k =
-    opens_with m config (after so_far (Told r)) a n events kept.1 h k
-opens_with m config so_far a n (Opened answers steps ∷ events) kept h k =
-    let more_answers : so_far.answers ≤ answers = kept.0.answers_held in
-    let more_steps : so_far.steps ≤ steps = kept.0.steps_held in (
+opens_with m config so_far a n (Told r t ∷ events) kept h k =
+    opens_with m config (after so_far (Told r t)) a n events kept.1 h k
+opens_with m config so_far a n (Asked steps kind said fits ∷ events) kept h k =
+    opens_with m config (after so_far (Asked steps kind said fits)) a n events kept.1 h k
+opens_with m config so_far a n (Opened held shown ∷ events) kept h k =
+    let more_answers : so_far.answers ≤ held = kept.0.kept.holds.answers in
+    let more_steps : so_far.steps ≤ shown.steps = kept.0.kept.holds.steps_held in (
       omega (arith, h, more_answers),
       omega (arith, k, more_steps),
-      opens_with m config (after so_far (Opened answers steps)) a n events kept.1
+      opens_with m config (after so_far (Opened held shown)) a n events kept.1
           (omega (arith, h)) (omega (arith, k)),
     )
-opens_with m config so_far a n (Handed b ∷ events) kept h k =
-    opens_with m config (after so_far (Handed b)) a n events kept.1 h k
-opens_with m config so_far a n (Ended act is_ok answers steps ∷ events) kept h k =
-    opens_with m config (after so_far (Ended act is_ok answers steps)) a n events kept.1
+opens_with m config so_far a n (Ended act reply held shown ∷ events) kept h k =
+    opens_with m config (after so_far (Ended act reply held shown)) a n events kept.1
     (omega (arith, h)) (omega (arith, k))
+
+-- ---- lines
+
+tells_beyond : (m : Module) (config : Settings) (so_far : Promise) (n : ℕ) (events : List Event)
+    → AreKeptSomewhere m config so_far events → n ≤ so_far.passed → TellBeyond n events
+tells_beyond m config so_far n [] kept h = tt
+tells_beyond m config so_far n (Told r t ∷ events) kept h =
+    let beyond : so_far.passed < r.number = kept.0.kept.not_passed in (
+      omega (arith, h, beyond),
+      tells_beyond m config (after so_far (Told r t)) n events kept.1 h,
+    )
+tells_beyond m config so_far n (Asked steps kind said fits ∷ events) kept h =
+    tells_beyond m config (after so_far (Asked steps kind said fits)) n events kept.1 h
+tells_beyond m config so_far n (Opened held shown ∷ events) kept h =
+    tells_beyond m config (after so_far (Opened held shown)) n events kept.1 (omega (arith, h))
+tells_beyond m config so_far n (Ended act reply held shown ∷ events) kept h =
+    tells_beyond m config (after so_far (Ended act reply held shown)) n events kept.1
+    (omega (arith, h))
 
 -- ---- syncs
 
@@ -61,80 +84,104 @@ behind_more m config kept more k a behind = record {
     longer a xs ys h = rw (length-append xs ys) (omega (arith, h))
 
 syncs_held : (m : Module) (config : Settings) (so_far : Promise) (k a : ℕ) (events : List Event)
-    → AreKept m config so_far events → IsHeld m config so_far k a → OpenWith a 0 events
+    → AreKeptSomewhere m config so_far events → IsHeld m config so_far k a → OpenWith a 0 events
 syncs_held m config so_far k a [] kept held = tt
-syncs_held m config so_far k a (Told r ∷ events) kept held =
-    syncs_held m config (after so_far (Told r)) k a events kept.1 held
-syncs_held m config so_far k a (Opened answers steps ∷ events) kept (inl held) =
-    let there : a ≤ answers = kept.0.syncs_held k a held.0 held.1 in (
+syncs_held m config so_far k a (Told r t ∷ events) kept held =
+    syncs_held m config (after so_far (Told r t)) k a events kept.1 held
+syncs_held m config so_far k a (Opened count shown ∷ events) kept (inl held) =
+    let there : a ≤ count = kept.0.kept.holds.syncs k a held.0 held.1 in (
       there,
       omega arith,
-      syncs_held m config
-          (after so_far (Opened answers steps)) k a events kept.1 (inr (omega (arith, there))),
+      syncs_held m config (after so_far (Opened count shown)) k a events kept.1
+          (inr (omega (arith, there))),
     )
-syncs_held m config so_far k a (Opened answers steps ∷ events) kept (inr held) =
-    let there : so_far.answers ≤ answers = kept.0.answers_held in (
+syncs_held m config so_far k a (Opened count shown ∷ events) kept (inr held) =
+    let there : so_far.answers ≤ count = kept.0.kept.holds.answers in (
       omega (arith, there, held),
       omega arith,
-      syncs_held m config
-          (after so_far (Opened answers steps)) k a events kept.1 (inr (omega (arith, held))),
+      syncs_held m config (after so_far (Opened count shown)) k a events kept.1
+          (inr (omega (arith, held))),
     )
-syncs_held m config so_far k a (Handed b ∷ events) kept (inl held) =
-    syncs_held m config (after so_far (Handed b)) k a events kept.1
-    (inl (held.0, behind_more m config so_far.kept (Given b ∷ []) k a held.1))
-syncs_held m config so_far k a (Handed b ∷ events) kept (inr held) =
-    syncs_held m config (after so_far (Handed b)) k a events kept.1 (inr held)
-syncs_held m config so_far k a (Ended act is_ok answers steps ∷ events) kept (inl held) =
+syncs_held m config so_far k a (Asked n kind said fits ∷ events) kept (inl held) =
     let before : k ≤ so_far.synced = held.0 in
-    syncs_held m config (after so_far (Ended act is_ok answers steps)) k a events kept.1
+    syncs_held m config (after so_far (Asked n kind said fits)) k a events kept.1
+    (inl (
+      omega (arith, before),
+      behind_more m config so_far.kept (kept_of_said said fits) k a held.1,
+    ))
+syncs_held m config so_far k a (Asked n kind said fits ∷ events) kept (inr held) =
+    syncs_held m config (after so_far (Asked n kind said fits)) k a events kept.1 (inr held)
+syncs_held m config so_far k a (Ended act reply count shown ∷ events) kept (inl held) =
+    let before : k ≤ so_far.synced = held.0 in
+    syncs_held m config (after so_far (Ended act reply count shown)) k a events kept.1
     (inl (omega (arith, before), held.1))
-syncs_held m config so_far k a (Ended act is_ok answers steps ∷ events) kept (inr held) =
-    syncs_held m config (after so_far (Ended act is_ok answers steps)) k a events kept.1
+syncs_held m config so_far k a (Ended act reply count shown ∷ events) kept (inr held) =
+    syncs_held m config (after so_far (Ended act reply count shown)) k a events kept.1
     (inr (omega (arith, held)))
 
 -- ---- in the middle of the lives
 
--- what is promised before an event, and that this event and the later ones keep it
-record KeptFrom (m : Module) (config : Settings) (so_far : Promise) (e : Event)
-    (later : List Event) : Type 0 where
-  this : IsKept m config so_far e
-  others : AreKept m config (after so_far e) later
-
-kept_from : (m : Module) (config : Settings) (so_far : Promise) (earlier : List Event) (e : Event)
-    (later : List Event)
-    → AreKept m config so_far (earlier ++ e ∷ later)
-    → KeptFrom m config (promised so_far earlier) e later
-kept_from m config so_far [] e later kept = record { this = kept.0; others = kept.1 }
-kept_from m config so_far (d ∷ earlier) e later kept =
-    kept_from m config (after so_far d) earlier e later kept.1
+-- that the later events keep what is promised after this one
+later_kept : (m : Module) (config : Settings) (so_far : Promise) (earlier : List Event) (e : Event)
+    (later : List Event) → AreKeptSomewhere m config so_far (earlier ++ e ∷ later)
+    → AreKeptSomewhere m config (after (promised so_far earlier) e) later
+later_kept m config so_far [] e later kept = kept.1
+later_kept m config so_far (d ∷ earlier) e later kept =
+    later_kept m config (after so_far d) earlier e later kept.1
 
 pub openings_for_good : OpeningsAreForGood
-openings_for_good m config lives earlier later answers steps goes split =
-    let from = kept_from m config nothing_yet earlier (Opened answers steps) later
-    (subst (λ z. AreKept m config nothing_yet z) split goes.kept) in
-    opens_with m config (after (promised nothing_yet earlier) (Opened answers steps)) answers steps
-    later from.others (omega arith) (omega arith)
+openings_for_good m config inputs lives earlier later held shown goes split =
+    opens_with m config (after (promised nothing_yet earlier) (Opened held shown)) held shown.steps
+    later
+    (later_kept m config nothing_yet earlier (Opened held shown) later
+    (subst (λ z. AreKeptSomewhere m config nothing_yet z) split
+    (all_kept m config inputs lives goes)))
+    (omega arith) (omega arith)
 
 pub checkpoints_for_good : CheckpointsAreForGood
-checkpoints_for_good m config lives earlier later answers steps goes split =
-    let from = kept_from m config nothing_yet earlier (Ended Checkpoint true answers steps) later
-    (subst (λ z. AreKept m config nothing_yet z) split goes.kept) in
-    opens_with m config (after (promised nothing_yet earlier)
-    (Ended Checkpoint true answers steps)) answers steps later from.others (omega arith)
+checkpoints_for_good m config inputs lives earlier later held shown goes split =
+    opens_with m config (after (promised nothing_yet earlier) (Ended Checkpoint Done held shown))
+    held shown.steps later
+    (later_kept m config nothing_yet earlier (Ended Checkpoint Done held shown) later
+    (subst (λ z. AreKeptSomewhere m config nothing_yet z) split
+    (all_kept m config inputs lives goes)))
+    (omega arith) (omega arith)
+
+pub opened_lines : OpenedLinesAreToldNoMore
+opened_lines m config inputs lives earlier later held shown goes split =
+    tells_beyond m config (after (promised nothing_yet earlier) (Opened held shown)) shown.lines
+    later
+    (later_kept m config nothing_yet earlier (Opened held shown) later
+    (subst (λ z. AreKeptSomewhere m config nothing_yet z) split
+    (all_kept m config inputs lives goes)))
     (omega arith)
 
-returned_by : (is_ok : Bool) (k steps synced : ℕ) → HasReturned is_ok k steps
-    → k ≤ max synced (synced_by is_ok steps)
-returned_by true k steps synced h = omega (arith, h)
-returned_by false k steps synced h = omega (arith, h)
+pub saved_lines : SavedLinesAreToldNoMore
+saved_lines m config inputs lives earlier later held shown goes split =
+    tells_beyond m config (after (promised nothing_yet earlier) (Ended Checkpoint Done held shown))
+    shown.lines later
+    (later_kept m config nothing_yet earlier (Ended Checkpoint Done held shown) later
+    (subst (λ z. AreKeptSomewhere m config nothing_yet z) split
+    (all_kept m config inputs lives goes)))
+    (omega arith)
+
+returned_by : (reply : Reply) (k steps synced : ℕ) → HasReturned reply k steps
+    → k ≤ max (synced_by reply steps) synced
+returned_by Spent k steps synced h = omega (arith, h)
+returned_by Waits k steps synced h = omega (arith, h)
+returned_by (Over why) k steps synced h = omega (arith, h)
+returned_by Done k steps synced h = omega (arith, h)
+returned_by (Fails cause) k steps synced h = omega (arith, h)
 
 pub syncs_for_good : SyncsAreForGood
-syncs_for_good m config lives earlier later act is_ok answers steps k a goes split returned behind =
+syncs_for_good m config inputs lives earlier later act reply held shown k a goes split returned
+    behind =
     let so_far : Promise = promised nothing_yet earlier in
-    let from = kept_from m config nothing_yet earlier (Ended act is_ok answers steps) later
-    (subst (λ z. AreKept m config nothing_yet z) split goes.kept) in
     let there : AnswersBehindSync m config so_far.kept k a =
     subst (λ z. AnswersBehindSync m config z k a)
     (sym (kept_of_promised nothing_yet earlier)) behind in
-    syncs_held m config (after so_far (Ended act is_ok answers steps)) k a later from.others
-    (inl (returned_by is_ok k steps so_far.synced returned, there))
+    syncs_held m config (after so_far (Ended act reply held shown)) k a later
+    (later_kept m config nothing_yet earlier (Ended act reply held shown) later
+    (subst (λ z. AreKeptSomewhere m config nothing_yet z) split
+    (all_kept m config inputs lives goes)))
+    (inl (returned_by reply k shown.steps so_far.synced returned, there))

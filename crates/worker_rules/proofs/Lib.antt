@@ -1,7 +1,8 @@
 pub mod Fronts
 pub mod Promised
 pub mod ForGood
+pub mod NextLives
 pub mod Disks
-pub mod Refusals
-pub mod HelloLives
-pub mod EchoLives
+pub mod Refusing
+pub mod Honesty
+pub mod Examples

@@ -1,121 +1,150 @@
 -- What events promise, read off their list.
-use Rattle.std.proofs.Common.{◌≡◌, ◌⊎◌, inl, inr, List, [], ◌∷◌, refl, subst, arith}
+use Rattle.std.proofs.Common.{◌≡◌, ℕ, ◌+◌, ◌≤◌, List, [], ◌∷◌, ◌++◌, refl, ap, subst, arith}
 use Rattle.wasm_syntax.specs.declared.module.Module.{Module}
 use Rattle.wasm_syntax_rules.specs.Validity.{IsValid}
 use Rattle.wasi_abi.specs.rules.Configs.{Settings}
-use Rattle.worker_rules.specs.Lives.{Release, Event, Told, Opened, Handed, Ended, Beginning, Recovers, Creates, events_of, kept_after, told_in}
-use Rattle.process_rules.specs.Runs.{Given}
 use Rattle.process_rules.specs.Behind.{IsLine}
-use Rattle.worker_rules.specs.Promises.{Promise, nothing_yet, after, promised, WasTold, AreKept}
-use Rattle.worker_rules.specs.laws.Laws.{HasOneText, HaveOneText, PromisesAreOfKept, NoNumberHasTwoTexts}
-use Rattle.worker_rules.specs.laws.Examples.{LivesExamples, PromiseExamples}
+use Rattle.worker_rules.specs.Lives.{Inputs, Life, Release, Event, Told, Asked, Opened, Ended}
+use Rattle.worker_rules.specs.Lives.{events_of, kept_after, told_in, kept_of_said}
+use Rattle.worker_rules.specs.Courses.{Stage, at_first, next_stage}
+use Rattle.worker_rules.specs.Promises.{Promise, nothing_yet, after, promised, promised_by, IsKept}
+use Rattle.worker_rules.specs.Promises.{AreKept, GoOn}
+use Rattle.worker_rules.specs.laws.Laws.{HasOneText, HaveOneText, PromisesAreOfKept}
+use Rattle.worker_rules.specs.laws.Laws.{NoNumberHasTwoTexts, CallsJoin}
 use Rattle.worker_rules.proofs.Fronts.{one_line, line_of_front, line_of_more}
 
 pub kept_of_promised : (so_far : Promise) (events : List Event)
     → (promised so_far events).kept ≡ kept_after so_far.kept events
 kept_of_promised so_far [] = refl
-kept_of_promised so_far (Told r ∷ events) = kept_of_promised (after so_far (Told r)) events
-kept_of_promised so_far (Opened answers steps ∷ events) = kept_of_promised (after so_far (Opened answers steps)) events
-kept_of_promised so_far (Handed a ∷ events) = kept_of_promised (after so_far (Handed a)) events
-kept_of_promised so_far (Ended act is_ok answers steps ∷ events) = kept_of_promised (after so_far (Ended act is_ok answers steps)) events
+kept_of_promised so_far (Told r t ∷ events) = kept_of_promised (after so_far (Told r t)) events
+kept_of_promised so_far (Asked n k said fits ∷ events) =
+    kept_of_promised (after so_far (Asked n k said fits)) events
+kept_of_promised so_far (Opened held shown ∷ events) =
+    kept_of_promised (after so_far (Opened held shown)) events
+kept_of_promised so_far (Ended act reply held shown ∷ events) =
+    kept_of_promised (after so_far (Ended act reply held shown)) events
 
 pub promises_of_kept : PromisesAreOfKept
 promises_of_kept lives = kept_of_promised nothing_yet (events_of lives)
 
--- ---- one text for each number
+pub calls_join : CallsJoin
+calls_join m config so_far stage [] then kept further = (further, refl, refl)
+calls_join m config so_far stage (e ∷ first) then kept further =
+    let rest = calls_join m config (after so_far e) (next_stage stage e) first then kept.1 further in
+    ((kept.0, rest.0), rest.1, rest.2)
 
--- what was told before agrees with all that is told after
-agrees : (m : Module) (config : Settings) (so_far : Promise) (events : List Event) (r : Release)
-    → IsValid m → AreKept m config so_far events → WasTold so_far.told r.number
-    → IsLine m config so_far.kept r.number r.line → HasOneText (told_in events) r
-agrees m config so_far [] r valid kept was is = tt
-agrees m config so_far (Told s ∷ events) r valid kept was is = (
-  λ same. one_line m config so_far.kept r.number s.line r.line valid
-      (subst (λ i. IsLine m config so_far.kept i s.line) same kept.0.is_line) is,
-  agrees m config (after so_far (Told s)) events r valid kept.1 (inr was) is,
-)
-agrees m config so_far (Opened answers steps ∷ events) r valid kept was is =
-    let held = kept.0.lines_held r.number was in
-    agrees m config (after so_far (Opened answers steps)) events r valid kept.1 was
-    (line_of_front m config so_far.kept r.number answers held.0 r.line valid is held.1 held.2)
-agrees m config so_far (Handed a ∷ events) r valid kept was is =
-    agrees m config (after so_far (Handed a)) events r valid kept.1 was
-    (line_of_more m config so_far.kept (Given a ∷ []) r.number r.line is)
-agrees m config so_far (Ended act is_ok answers steps ∷ events) r valid kept was is =
-    agrees m config (after so_far (Ended act is_ok answers steps)) events r valid kept.1 was is
+-- ---- the events of all lives, in one list
 
-one_text : (m : Module) (config : Settings) (so_far : Promise) (events : List Event) → IsValid m
-    → AreKept m config so_far events → HaveOneText (told_in events)
-one_text m config so_far [] valid kept = tt
-one_text m config so_far (Told r ∷ events) valid kept = (
-  agrees m config (after so_far (Told r)) events r valid kept.1
-      (inl refl) kept.0.is_line,
-  one_text m config (after so_far (Told r)) events valid kept.1,
-)
-one_text m config so_far (Opened answers steps ∷ events) valid kept =
-    one_text m config (after so_far (Opened answers steps)) events valid kept.1
-one_text m config so_far (Handed a ∷ events) valid kept =
-    one_text m config (after so_far (Handed a)) events valid kept.1
-one_text m config so_far (Ended act is_ok answers steps ∷ events) valid kept =
-    one_text m config (after so_far (Ended act is_ok answers steps)) events valid kept.1
+-- an event keeps what was promised before it, wherever a life stands and however much has happened
+pub record IsKeptSomewhere (m : Module) (config : Settings) (so_far : Promise) (e : Event)
+    : Type 0 where
+  pub events : ℕ
+  pub stage : Stage
+  pub kept : IsKept m config (record so_far { events = events }) stage e
+
+abbrev pub AreKeptSomewhere : Module → Settings → Promise → List Event → Type 0
+AreKeptSomewhere m config so_far [] = Unit {0}
+AreKeptSomewhere m config so_far (e ∷ events) =
+    IsKeptSomewhere m config so_far e × AreKeptSomewhere m config (after so_far e) events
+
+-- what is promised but for the count of what has happened
+but_for_count : (so_far : Promise) (n : ℕ) (events : List Event)
+    → promised (record so_far { events = n }) events
+    ≡ record (promised so_far events) {
+      events = (promised (record so_far { events = n }) events).events;
+    }
+but_for_count so_far n [] = refl
+but_for_count so_far n (Told r t ∷ events) = but_for_count (after so_far (Told r t)) (n + 1) events
+but_for_count so_far n (Asked steps k said fits ∷ events) =
+    but_for_count (after so_far (Asked steps k said fits)) (n + 1) events
+but_for_count so_far n (Opened held shown ∷ events) =
+    but_for_count (after so_far (Opened held shown)) (n + 1) events
+but_for_count so_far n (Ended act reply held shown ∷ events) =
+    but_for_count (after so_far (Ended act reply held shown)) (n + 1) events
+
+module _ (m : Module) (config : Settings) where
+  kept_somewhere : (so_far : Promise) (n : ℕ) (stage : Stage) (events rest : List Event)
+      → AreKept m config (record so_far { events = n }) stage events
+      → AreKeptSomewhere m config (promised so_far events) rest
+      → AreKeptSomewhere m config so_far (events ++ rest)
+  kept_somewhere so_far n stage [] rest kept later = later
+  kept_somewhere so_far n stage (Told r t ∷ events) rest kept later = (
+    record { events = n; stage = stage; kept = kept.0 },
+    kept_somewhere (after so_far (Told r t)) (n + 1) (next_stage stage (Told r t)) events rest
+        kept.1 later,
+  )
+  kept_somewhere so_far n stage (Asked steps k said fits ∷ events) rest kept later = (
+    record { events = n; stage = stage; kept = kept.0 },
+    kept_somewhere (after so_far (Asked steps k said fits)) (n + 1)
+        (next_stage stage (Asked steps k said fits)) events rest kept.1 later,
+  )
+  kept_somewhere so_far n stage (Opened held shown ∷ events) rest kept later = (
+    record { events = n; stage = stage; kept = kept.0 },
+    kept_somewhere (after so_far (Opened held shown)) (n + 1)
+        (next_stage stage (Opened held shown)) events rest kept.1 later,
+  )
+  kept_somewhere so_far n stage (Ended act reply held shown ∷ events) rest kept later = (
+    record { events = n; stage = stage; kept = kept.0 },
+    kept_somewhere (after so_far (Ended act reply held shown)) (n + 1)
+        (next_stage stage (Ended act reply held shown)) events rest kept.1 later,
+  )
+
+  lives_kept : (so_far : Promise) (n : ℕ) (inputs : List Inputs) (lives : List Life)
+      → GoOn m config (record so_far { events = n }) inputs lives
+      → AreKeptSomewhere m config so_far (events_of lives)
+  lives_kept so_far n [] [] goes = tt
+  lives_kept so_far n [] (life ∷ lives) goes = absurd goes
+  lives_kept so_far n (i ∷ inputs) [] goes = absurd goes
+  lives_kept so_far n (i ∷ inputs) (life ∷ lives) goes =
+      let then : Promise = promised (record so_far { events = n }) life.events in
+      let same : promised_by (record so_far { events = n }) life
+      ≡ record (promised so_far life.events) { events = then.events + 1 } =
+      ap (λ (z : Promise). record z { events = z.events + 1 })
+      (but_for_count so_far n life.events) in
+      kept_somewhere so_far n (at_first i) life.events (events_of lives) goes.0.kept
+      (lives_kept (promised so_far life.events) (then.events + 1) inputs lives
+      (subst (λ z. GoOn m config z inputs lives) same goes.1))
+
+  pub all_kept : (inputs : List Inputs) (lives : List Life) → GoOn m config nothing_yet inputs lives
+      → AreKeptSomewhere m config nothing_yet (events_of lives)
+  all_kept inputs lives goes = lives_kept nothing_yet 0 inputs lives goes
+
+  -- ---- one text for each number
+
+  -- what was told before agrees with all that is told after
+  agrees : (so_far : Promise) (events : List Event) (r : Release) → IsValid m
+      → AreKeptSomewhere m config so_far events → r.number ≤ so_far.begun
+      → IsLine m config so_far.kept r.number r.line → HasOneText (told_in events) r
+  agrees so_far [] r valid kept was is = tt
+  agrees so_far (Told s t ∷ events) r valid kept was is = (
+    λ same. one_line m config so_far.kept r.number s.line r.line valid
+        (subst (λ i. IsLine m config so_far.kept i s.line) same kept.0.kept.is_line) is,
+    agrees (after so_far (Told s t)) events r valid kept.1 (omega (arith, was)) is,
+  )
+  agrees so_far (Asked n k said fits ∷ events) r valid kept was is =
+      agrees (after so_far (Asked n k said fits)) events r valid kept.1 was
+      (line_of_more m config so_far.kept (kept_of_said said fits) r.number r.line is)
+  agrees so_far (Opened held shown ∷ events) r valid kept was is =
+      let enough = kept.0.kept.holds.lines r.number was in
+      agrees (after so_far (Opened held shown)) events r valid kept.1 was
+      (line_of_front m config so_far.kept r.number held enough.0 r.line valid is enough.1 enough.2)
+  agrees so_far (Ended act reply held shown ∷ events) r valid kept was is =
+      agrees (after so_far (Ended act reply held shown)) events r valid kept.1 was is
+
+  one_text : (so_far : Promise) (events : List Event) → IsValid m
+      → AreKeptSomewhere m config so_far events → HaveOneText (told_in events)
+  one_text so_far [] valid kept = tt
+  one_text so_far (Told r t ∷ events) valid kept = (
+    agrees (after so_far (Told r t)) events r valid kept.1 (omega arith) kept.0.kept.is_line,
+    one_text (after so_far (Told r t)) events valid kept.1,
+  )
+  one_text so_far (Asked n k said fits ∷ events) valid kept =
+      one_text (after so_far (Asked n k said fits)) events valid kept.1
+  one_text so_far (Opened held shown ∷ events) valid kept =
+      one_text (after so_far (Opened held shown)) events valid kept.1
+  one_text so_far (Ended act reply held shown ∷ events) valid kept =
+      one_text (after so_far (Ended act reply held shown)) events valid kept.1
 
 pub no_two_texts : NoNumberHasTwoTexts
-no_two_texts m config lives valid goes =
-    one_text m config nothing_yet (events_of lives) valid goes.kept
-
--- ---- the examples
-
-abbrev IsRecovery : Beginning → Type 0
-IsRecovery Recovers = Unit {0}
-IsRecovery Creates = ⊥
-
-recovery_creates_nothing : Recovers ≡ Creates → ⊥
-recovery_creates_nothing same = subst IsRecovery same tt
-
-pub lives_examples : LivesExamples
-lives_examples = record {
-  kept = refl;
-  told = refl;
-  lost = refl;
-  first_two = refl;
-  greatest = refl;
-  is_whole = (record { form = tt; in_order = tt; opens = inl tt }, record { form = tt; in_order = tt; opens = inl tt });
-  begun = ((λ creates. ((λ opened. opened), (refl, refl))), ((λ creates. absurd (recovery_creates_nothing creates)), tt));
-  created_once = λ begun. (begun.1.0 refl).0 tt;
-  created_later = (
-    (λ creates. absurd (recovery_creates_nothing creates)),
-    ((λ creates. ((λ opened. opened), (refl, refl))), tt),
-  );
-  created_with_an_answer = λ begun. (let e : 1 ≡ 0 = (begun.0 refl).1.0 in omega (arith, e));
-  created_with_a_step = λ begun. (let e : 1 ≡ 0 = (begun.0 refl).1.1 in omega (arith, e));
-  leaves_a_line_out = λ whole.
-      (let in_order = whole.in_order in let e : 3 ≡ 2 = in_order.0 in omega (arith, e));
-  opens_twice = λ whole. whole.form;
-  shut = (
-    record { form = tt; in_order = tt; opens = inr tt },
-    record { form = tt; in_order = tt; opens = inr tt },
-    record { form = tt; in_order = tt; opens = inr tt },
-    record { form = tt; in_order = tt; opens = inr tt },
-  );
-  shut_by_a_source = λ whole. either_none whole.opens;
-  shut_by_an_answer = λ whole. either_none whole.opens;
-}
-  where
-    either_none : ⊥ ⊎ ⊥ → ⊥
-    either_none (inl h) = h
-    either_none (inr h) = h
-
-pub promise_examples : PromiseExamples
-promise_examples = record {
-  after_a_slice = refl;
-  after_a_failed_slice = refl;
-  after_a_failed_checkpoint = refl;
-  after_a_checkpoint = refl;
-  after_another_slice = refl;
-  after_opening = refl;
-  after_opening_further = refl;
-  after_no_step = refl;
-  after_less = refl;
-  after_fewer_steps = refl;
-  after_telling = refl;
-}
+no_two_texts m config inputs lives valid goes =
+    one_text m config nothing_yet (events_of lives) valid (all_kept m config inputs lives goes)

@@ -1,21 +1,53 @@
 -- The disk that a life finds (this project's own).
-use Rattle.std.specs.Prelude.{◌≡◌}
+use Rattle.std.specs.Prelude.{◌≡◌, List, [], ◌∷◌}
+use Rattle.wasm_syntax.specs.declared.module.Module.{Module}
+use Rattle.wasi_abi.specs.rules.Configs.{Settings}
 use Rattle.sector_disk.specs.rules.Image.{Image}
 use Rattle.sector_disk.specs.rules.Medium.{Medium}
 use Rattle.worker_rules.specs.Stands.{IsBlank}
-use Rattle.worker_rules.specs.Lives.{Cause, End, Cut, Failed}
+use Rattle.worker_rules.specs.Lives.{Inputs, Life, End, Finished, Stopped, Failed}
+use Rattle.worker_rules.specs.Promises.{Promise, promised_by, IsLived}
+use Rattle.worker_rules.specs.Holds.{KeepsPromise}
 
 -- a disk that holds this image, with no write since
 pub record IsFresh (image : Image) (disk : Medium) : Type 0 where
   pub only : (shown left : Image) → disk.may shown left → (shown ≡ image) × (left ≡ image)
   pub unsynced : disk.unsynced ≡ 0
 
--- The disk that a life leaves, and the one that the next life finds: after a cut one of the images that it may leave, after
--- an error the same disk, with what was written and never settled.
-pub data NextFinds : End → Medium → Medium → Type 1 where
-  after_cut : {left found : Medium} (image : Image) → left.may_leave image → IsFresh image found → found.sectors ≡ left.sectors → NextFinds Cut left found
-  after_error : {cause : Cause} {disk : Medium} → NextFinds (Failed cause) disk disk
+-- one of the images that a cut may leave is what is found
+pub record IsFoundAfterCut (left found : Medium) : Type 0 where
+  pub image : Image
+  pub was : left.may_leave image
+  pub fresh : IsFresh image found
+  pub sectors : found.sectors ≡ left.sectors
+
+-- The disk that a life leaves, and the one that the next life finds: after a cut one of the images
+-- that it may leave, after an error the same disk, with what was written and never settled.
+abbrev pub NextFinds : {D : Type 0} → (D → Medium) → End → D → D → Type 0
+NextFinds medium Finished left found = IsFoundAfterCut (medium left) (medium found)
+NextFinds medium Stopped left found = IsFoundAfterCut (medium left) (medium found)
+NextFinds medium (Failed cause) left found = found ≡ left
 
 -- the first life finds a disk that holds no worker, whatever a cut leaves of it
 abbrev pub FindsNoWorker : Medium → Type 0
 FindsNoWorker disk = (image : Image) → disk.may_leave image → IsBlank image
+
+-- What the calls of one life are proved to do, from its recovery or creation to its end: where
+-- the disk that it found keeps the promise, its events are those of a worker that goes on, and
+-- the disk that it leaves keeps what is promised then.
+abbrev pub IsLivedOn : Module → Settings → Promise → Inputs → Life → Medium → Medium → Type 0
+IsLivedOn m config so_far inputs life found left =
+    KeepsPromise m config so_far found
+    → IsLived m config so_far inputs life × KeepsPromise m config (promised_by so_far life) left
+
+-- Lives on a disk, one after another, each of which finds what the one before it left. Nothing
+-- else links them.
+pub data AreLivedOn {D : Type 0} (medium : D → Medium) (m : Module) (config : Settings)
+    : Promise → List Inputs → List Life → D → Type 0 where
+  none : {so_far : Promise} {disk : D} → AreLivedOn medium m config so_far [] [] disk
+  more : {so_far : Promise} {inputs : Inputs} {life : Life} {others : List Inputs}
+      {lives : List Life} {found left next : D}
+      → IsLivedOn m config so_far inputs life (medium found) (medium left)
+      → NextFinds medium life.ends left next
+      → AreLivedOn medium m config (promised_by so_far life) others lives next
+      → AreLivedOn medium m config so_far (inputs ∷ others) (life ∷ lives) found

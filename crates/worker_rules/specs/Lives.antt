@@ -1,36 +1,47 @@
--- The lives of a worker, as the outside sees them: what was handed in and told, in order (this project's own).
-use Rattle.std.specs.Prelude.{ℕ, Bool, List, [], ◌∷◌, ◌++◌, take}
+-- The lives of a worker: what is put into each, and what then happens, in order (this project's
+-- own).
+use Rattle.std.specs.Prelude.{ℕ, Bool, true, false, List, [], ◌∷◌, ◌++◌, take}
+use Rattle.std.specs.Prelude.{Option, Some, None, Result, Ok, Err}
+use Rattle.wasi_abi.specs.declared.answer.Kind.{Kind}
 use Rattle.wasi_abi.specs.declared.answer.Answer.{Answer}
 use Rattle.wasi_calls_rules.specs.Hosts.{Line}
+use Rattle.process_rules.specs.Processes.{Ending}
 use Rattle.process_rules.specs.Runs.{Kept, Given}
+use Rattle.record_replay.specs.declared.fault.SourceFault.{SourceFault}
+use Rattle.state_image.specs.rules.Image.{Saved}
+
+-- ---- what is put into a life
+
+-- the calls of a worker that is open
+pub data Act : Type 0 where
+  Slice : (fuel : ℕ) → Act
+  Checkpoint : Act
+
+-- what a source says to a question: an answer, that it has none now, or a fault
+abbrev pub SourceSaid : Type 0
+SourceSaid = Result (Option Answer) SourceFault
+
+-- Any source and any outlet are covered: what they did in one life is such a list.
+pub record Inputs : Type 0 where
+  -- what the source says to the questions, one after another; from then on it has none
+  pub says : List SourceSaid
+  -- whether the outlet takes each release; from then on it takes all
+  pub takes : List Bool
+  -- what the worker is told to do
+  pub acts : List Act
+  -- the call of the disk, from 1 on, at which the power is cut
+  pub stop : Option ℕ
+  -- the first call of the disk, from 1 on, that answers an error while there is power
+  pub fails : Option ℕ
+
+-- ---- what happens in a life
 
 -- a line that was released, or whose release was begun, with its number from 1 on
 pub record Release : Type 0 where
   pub number : ℕ
   pub line : Line
 
--- the calls of a worker that is open
-pub data Act : Type 0 where
-  Slice : Act
-  Checkpoint : Act
-
--- What happens in a life, in order.
-pub data Event : Type 0 where
-  -- a release was begun, whatever the outlet answered
-  Told : (release : Release) → Event
-  -- the life opened with a process that has taken so many answers in so many steps
-  Opened : (answers steps : ℕ) → Event
-  -- the source handed over an answer that fits
-  Handed : (answer : Answer) → Event
-  -- a call ended, by Ok or not, with a process that has taken so many answers in so many steps
-  Ended : (act : Act) (is_ok : Bool) (answers steps : ℕ) → Event
-
--- how a life begins: by a recovery, or, where that found no worker, by a creation
-pub data Beginning : Type 0 where
-  Recovers : Beginning
-  Creates : Beginning
-
--- why a call of a life answered an error
+-- why a call of a life answers an error
 pub data Cause : Type 0 where
   OfDisk : Cause
   OfSource : Cause
@@ -38,66 +49,84 @@ pub data Cause : Type 0 where
   OfAnswer : Cause
   OfOutlet : Cause
   OfMemory : Cause
+  -- a number would reach its end
+  OfBounds : Cause
 
--- how a life ends: the power is cut, at any moment, or a call answers another error
+-- What a call answers. A slice says that its steps are taken, that an answer isn't there, or that
+-- the process has ended. A checkpoint says that it is done.
+pub data Reply : Type 0 where
+  Spent : Reply
+  Waits : Reply
+  Over : (why : Ending) → Reply
+  Done : Reply
+  Fails : (cause : Cause) → Reply
+
+-- What happens in a life, in order. In `held` is how many of the kept answers the process shown
+-- has taken.
+pub data Event : Type 0 where
+  -- a release was begun, and whether the outlet took it
+  Told : (release : Release) (is_taken : Bool) → Event
+  -- a process of so many steps has asked, and what the source said: an answer fits or it doesn't
+  Asked : (steps : ℕ) (kind : Kind) (said : SourceSaid) (fits : Bool) → Event
+  -- the life opened with this process
+  Opened : (held : ℕ) (shown : Saved) → Event
+  -- a call ended, by Ok or not, with this process
+  Ended : (act : Act) (reply : Reply) (held : ℕ) (shown : Saved) → Event
+
+-- how a life begins: by a recovery, or, where that found no worker, by a creation
+pub data Beginning : Type 0 where
+  Recovers : Beginning
+  Creates : Beginning
+
+-- How a life ends: all that it was told to do is done, and then the power is cut; the stop that
+-- was put into it came; or a call answered another error.
 pub data End : Type 0 where
-  Cut : End
+  Finished : End
+  Stopped : End
   Failed : (cause : Cause) → End
 
+-- a life, with the number of calls of the disk that were begun in it
 pub record Life : Type 0 where
   pub begins : Beginning
   pub events : List Event
+  pub calls : ℕ
   pub ends : End
 
--- ---- the form of a life
+-- ---- what is read off events
 
--- once it has opened, a life doesn't open again
-abbrev pub IsOpenLife : List Event → Type 0
-IsOpenLife [] = Unit {0}
-IsOpenLife (Opened answers steps ∷ events) = ⊥
-IsOpenLife (Told r ∷ events) = IsOpenLife events
-IsOpenLife (Handed a ∷ events) = IsOpenLife events
-IsOpenLife (Ended act is_ok answers steps ∷ events) = IsOpenLife events
-
--- before it has opened, nothing happens but releases, those of its recovery
-abbrev pub IsLife : List Event → Type 0
-IsLife [] = Unit {0}
-IsLife (Told r ∷ events) = IsLife events
-IsLife (Opened answers steps ∷ events) = IsOpenLife events
-IsLife (Handed a ∷ events) = ⊥
-IsLife (Ended act is_ok answers steps ∷ events) = ⊥
-
-abbrev pub HasOpened : List Event → Type 0
-HasOpened [] = ⊥
-HasOpened (Opened answers steps ∷ events) = Unit {0}
-HasOpened (Told r ∷ events) = HasOpened events
-HasOpened (Handed a ∷ events) = HasOpened events
-HasOpened (Ended act is_ok answers steps ∷ events) = HasOpened events
-
+-- the events of all lives, in order
 abbrev pub events_of : List Life → List Event
 events_of [] = []
 events_of (life ∷ lives) = life.events ++ events_of lives
 
--- ---- the kept answers: those that the lives so far stand on
+-- what a question adds to what is kept: an answer that fits
+abbrev pub kept_of_said : SourceSaid → Bool → List Kept
+kept_of_said (Ok (Some a)) true = Given a ∷ []
+kept_of_said (Ok (Some a)) false = []
+kept_of_said (Ok None) fits = []
+kept_of_said (Err e) fits = []
 
+-- what is kept after these events; a life that opens goes on from those that it holds
 abbrev pub kept_after : List Kept → List Event → List Kept
 kept_after kept [] = kept
-kept_after kept (Told r ∷ events) = kept_after kept events
-kept_after kept (Opened answers steps ∷ events) = kept_after (take answers kept) events
-kept_after kept (Handed a ∷ events) = kept_after (kept ++ Given a ∷ []) events
-kept_after kept (Ended act is_ok answers steps ∷ events) = kept_after kept events
+kept_after kept (Told r is_taken ∷ events) = kept_after kept events
+kept_after kept (Asked steps kind said fits ∷ events) =
+    kept_after (kept ++ kept_of_said said fits) events
+kept_after kept (Opened held shown ∷ events) = kept_after (take held kept) events
+kept_after kept (Ended act reply held shown ∷ events) = kept_after kept events
 
+-- the kept answers: those that the lives so far stand on
 abbrev pub kept_answers : List Life → List Kept
 kept_answers lives = kept_after [] (events_of lives)
 
--- ---- the told lines
-
+-- the releases among the events
 abbrev pub told_in : List Event → List Release
 told_in [] = []
-told_in (Told r ∷ events) = r ∷ told_in events
-told_in (Opened answers steps ∷ events) = told_in events
-told_in (Handed a ∷ events) = told_in events
-told_in (Ended act is_ok answers steps ∷ events) = told_in events
+told_in (Told r is_taken ∷ events) = r ∷ told_in events
+told_in (Asked steps kind said fits ∷ events) = told_in events
+told_in (Opened held shown ∷ events) = told_in events
+told_in (Ended act reply held shown ∷ events) = told_in events
 
+-- all lines that were told, over all lives
 abbrev pub told_lines : List Life → List Release
 told_lines lives = told_in (events_of lives)

@@ -1,152 +1,298 @@
 -- What is promised over lives: the restart theorem in the subject's words (this project's own).
-use Rattle.std.specs.Prelude.{◌≡◌, ◌⊎◌, ℕ, ◌+◌, ◌-◌, ◌≤◌, max, Bool, true, false, List, [], ◌∷◌, ◌++◌, length, take, Some}
-use Rattle.std.specs.List.{AllByRecursion}
+use Rattle.std.specs.Prelude.{◌≡◌, ◌⊎◌, ℕ, ◌+◌, ◌-◌, ◌≤◌, ◌<◌, max, Bool, true, false}
+use Rattle.std.specs.Prelude.{List, [], ◌∷◌, ◌++◌, length, take, Option, Some, None, Ok}
 use Rattle.wasm_syntax.specs.declared.module.Module.{Module}
+use Rattle.wasm_syntax.specs.declared.types.FunctionType.{FunctionType}
+use Rattle.wasm_syntax_rules.specs.Validity.{module_context, AreFunctionTypes}
+use Rattle.wasi_abi.specs.declared.numbers.TheConstants.{NUMBERS_END}
+use Rattle.wasi_abi.specs.declared.answer.Kind.{Kind}
 use Rattle.wasi_abi.specs.declared.answer.Answer.{Answer}
+use Rattle.wasi_abi.specs.rules.Answers.{Fits}
 use Rattle.wasi_abi.specs.rules.Configs.{Settings}
 use Rattle.process_rules.specs.Processes.{ProcessState}
-use Rattle.process_rules.specs.Runs.{Kept, Given, IsWanted, Reaches}
+use Rattle.process_rules.specs.Runs.{Kept, Wants, next_of, Moves, Reaches}
 use Rattle.process_rules.specs.Behind.{AnswersBehindLine, AnswersBehindSync, IsLine}
-use Rattle.worker_rules.specs.Lives.{Release, Act, Slice, Checkpoint, Event, Told, Opened, Handed, Ended, OfDisk, OfSource, OfAnswer, OfOutlet, OfMemory, End, Cut, Failed, Creates, Life, IsLife, HasOpened, events_of, told_in}
+use Rattle.state_image.specs.rules.Image.{Saved, SavedShowsProcess}
+use Rattle.worker_rules.specs.Lives.{Act, Slice, Checkpoint, SourceSaid, Inputs, Release}
+use Rattle.worker_rules.specs.Lives.{OfBounds, Reply, Spent, Waits, Over, Done, Fails}
+use Rattle.worker_rules.specs.Lives.{Event, Told, Asked, Opened, Ended, Creates, Life}
+use Rattle.worker_rules.specs.Lives.{kept_of_said}
+use Rattle.worker_rules.specs.Courses.{Stage, Shut, Open, NoneThere, at_first, next_stage}
+use Rattle.worker_rules.specs.Courses.{stage_after, first_said, first_taken, IsToldIn, IsAskedIn}
+use Rattle.worker_rules.specs.Courses.{ComesAfter, IsLast, IsNextAct, MayFail, MayEnd}
 
--- What has been promised so far: the answers kept, how many answers and steps a restart has at least, the lines that were
--- told, the last step up to which a guest sync has returned, and the step that this life has come to.
+-- ---- the promise
+
+-- what has been promised so far
 pub record Promise : Type 0 where
+  -- the answers kept
   pub kept : List Kept
+  -- how many of them, and how many steps, each later life has at least
   pub answers : ℕ
   pub steps : ℕ
-  pub told : List Release
+  -- no line up to this one is told again
+  pub passed : ℕ
+  -- the last line whose release was begun, and the last one that an outlet took
+  pub begun : ℕ
+  pub heard : ℕ
+  -- the guest's syncs up to this step have returned
   pub synced : ℕ
-  pub step : ℕ
+  pub has_opened : Bool
+  -- how much has happened
+  pub events : ℕ
 
+-- before the first life
 abbrev pub nothing_yet : Promise
-nothing_yet = record { kept = []; answers = 0; steps = 0; told = []; synced = 0; step = 0 }
-
--- the greatest number told
-abbrev pub last_told : List Release → ℕ
-last_told [] = 0
-last_told (r ∷ told) = max r.number (last_told told)
-
--- a line with this number was told
-abbrev pub WasTold : List Release → ℕ → Type 0
-WasTold [] i = ⊥
-WasTold (r ∷ told) i = (r.number ≡ i) ⊎ WasTold told i
-
--- up to which step the guest's syncs have returned: all steps where a call has said so, else all but the last
-abbrev pub synced_by : Bool → ℕ → ℕ
-synced_by true steps = steps
-synced_by false steps = steps - 1
-
--- how much of this count a call makes sure of for good: a checkpoint that answers Ok all of it
-abbrev pub saved_by : Act → Bool → ℕ → ℕ
-saved_by Checkpoint true count = count
-saved_by Checkpoint false count = 0
-saved_by Slice is_ok count = 0
-
--- A life that opens stands where it opened: what an earlier one did beyond that is undone, the guest syncs there included,
--- and their answers are among those that every later life opens with.
-abbrev pub after : Promise → Event → Promise
-after so_far (Told r) = record so_far { told = r ∷ so_far.told }
-after so_far (Opened answers steps) = record so_far { kept = take answers so_far.kept; answers = max answers so_far.answers; steps = max steps so_far.steps; synced = steps; step = steps }
-after so_far (Handed a) = record so_far { kept = so_far.kept ++ Given a ∷ [] }
-after so_far (Ended act is_ok answers steps) = record so_far {
-  answers = max (saved_by act is_ok answers) so_far.answers;
-  steps = max (saved_by act is_ok steps) so_far.steps;
-  synced = max so_far.synced (synced_by is_ok steps);
-  step = steps;
+nothing_yet = record {
+  kept = [];
+  answers = 0;
+  steps = 0;
+  passed = 0;
+  begun = 0;
+  heard = 0;
+  synced = 0;
+  has_opened = false;
+  events = 0;
 }
 
+-- Up to which step the guest's syncs have returned: all steps where a call has said so, else all
+-- but the last.
+abbrev pub synced_by : Reply → ℕ → ℕ
+synced_by (Fails cause) steps = steps - 1
+synced_by _ steps = steps
+
+-- how much of this count a call makes sure of for good: a checkpoint that is done all of it
+abbrev pub saved_by : Act → Reply → ℕ → ℕ
+saved_by Checkpoint Done count = count
+saved_by _ reply count = 0
+
+-- the number of a line that the outlet took
+abbrev pub heard_by : Bool → ℕ → ℕ
+heard_by true number = number
+heard_by false number = 0
+
+-- What is promised after an event. A life that opens stands where it opened: what an earlier one
+-- did beyond that is undone, the guest's syncs there included, and their answers are among those
+-- that every later life opens with. A process that asks has all its syncs behind it.
+abbrev pub after : Promise → Event → Promise
+after so_far (Told r is_taken) = record so_far {
+  begun = max r.number so_far.begun;
+  heard = max (heard_by is_taken r.number) so_far.heard;
+  events = so_far.events + 1;
+}
+after so_far (Asked steps kind said fits) = record so_far {
+  kept = so_far.kept ++ kept_of_said said fits;
+  synced = max steps so_far.synced;
+  events = so_far.events + 1;
+}
+after so_far (Opened held shown) = record so_far {
+  kept = take held so_far.kept;
+  answers = max held so_far.answers;
+  steps = max shown.steps so_far.steps;
+  passed = max shown.lines so_far.passed;
+  synced = shown.steps;
+  has_opened = true;
+  events = so_far.events + 1;
+}
+after so_far (Ended act reply held shown) = record so_far {
+  answers = max (saved_by act reply held) so_far.answers;
+  steps = max (saved_by act reply shown.steps) so_far.steps;
+  passed = max (saved_by act reply shown.lines) so_far.passed;
+  synced = max (synced_by reply shown.steps) so_far.synced;
+  events = so_far.events + 1;
+}
+
+-- what is promised after these events
 abbrev pub promised : Promise → List Event → Promise
 promised so_far [] = so_far
 promised so_far (e ∷ events) = promised (after so_far e) events
 
--- A line that is told is the line of its number on the kept answers, and no number is left out
--- before it.
-pub record IsTelling (m : Module) (config : Settings) (so_far : Promise) (r : Release) : Type 0 where
-  pub from_one : 1 ≤ r.number
-  pub none_skipped : r.number ≤ last_told so_far.told + 1
+-- what is promised after a life, which counts also where nothing happens in it
+abbrev pub promised_by : Promise → Life → Promise
+promised_by so_far life = record (promised so_far life.events) {
+  events = (promised so_far life.events).events + 1;
+}
+
+-- ---- what each event keeps
+
+-- After so many steps on these answers, all of them, the module has come to this process. It is
+-- shown whole: memory, globals, frames, files, descriptors, unfinished lines and counts.
+pub record IsAt (m : Module) (config : Settings) (kept : List Kept) (steps : ℕ) (saved : Saved)
+    : Type 0 where
+  pub process : ProcessState
+  pub reached : Reaches m config kept steps process
+  pub functions : List FunctionType
+  pub function_types : AreFunctionTypes m functions
+  pub table : List (Option ℕ)
+  pub shown : SavedShowsProcess (module_context m functions) reached.guest.program table saved
+      process
+
+-- A line that is told is the line of its number on the kept answers, and this slice has come to
+-- it. In a life numbers follow one another. Over lives none is left out that no outlet has taken,
+-- and none is told again behind which something was saved.
+pub record IsTelling (m : Module) (config : Settings) (so_far : Promise) (stage : Stage)
+    (r : Release) (is_taken : Bool) : Type 0 where
   pub is_line : IsLine m config so_far.kept r.number r.line
+  pub in_time : IsToldIn stage.phase stage.acts stage.step is_line.steps
+  pub follows : ComesAfter stage.line r.number
+  pub none_skipped : r.number ≤ so_far.heard + 1
+  pub not_passed : so_far.passed < r.number
+  pub heard : is_taken ≡ first_taken stage.takes
 
--- every line that this process has emitted was told
-abbrev pub AllTold : List Release → ProcessState → Type 0
-AllTold told p = (i : ℕ) → 1 ≤ i → i ≤ length p.host.lines → WasTold told i
+-- what is said of an answer is so
+abbrev pub IsFitting : ℕ → Kind → SourceSaid → Bool → Type 0
+IsFitting limit kind (Ok (Some a)) true = Fits limit kind a
+IsFitting limit kind (Ok (Some a)) false = Fits limit kind a → ⊥
+IsFitting limit kind _ fits = Unit {0}
 
--- A life opens exactly where a front of the kept answers leads. That front holds all that was promised, and the answers
--- behind each line told and behind each guest sync that returned. Every line up to there has been told.
-pub record IsOpening (m : Module) (config : Settings) (so_far : Promise) (answers steps : ℕ) : Type 0 where
-  pub within : answers ≤ length so_far.kept
-  pub process : ProcessState
-  pub reached : Reaches m config (take answers so_far.kept) steps process
-  pub answers_held : so_far.answers ≤ answers
-  pub steps_held : so_far.steps ≤ steps
-  pub lines_held : (i : ℕ) → WasTold so_far.told i → (a : ℕ) × (a ≤ answers) × AnswersBehindLine m config so_far.kept i a
-  pub syncs_held : (k a : ℕ) → k ≤ so_far.synced → AnswersBehindSync m config so_far.kept k a → a ≤ answers
-  pub all_told : AllTold so_far.told process
-
--- the process that all kept answers lead to asks for this one
-pub record IsHanding (m : Module) (config : Settings) (so_far : Promise) (a : Answer) : Type 0 where
+-- a question of a process of so many steps, and what the source says to it
+pub record Question : Type 0 where
   pub steps : ℕ
+  pub kind : Kind
+  pub said : SourceSaid
+  pub fits : Bool
+
+-- The process that all kept answers lead to asks for this; each of its lines was told. The source
+-- says what it was to say next.
+pub record IsInquiring (m : Module) (config : Settings) (so_far : Promise) (stage : Stage)
+    (question : Question) : Type 0 where
   pub process : ProcessState
-  pub reached : Reaches m config so_far.kept steps process
-  pub wanted : IsWanted reached.guest process (Some a)
+  pub reached : Reaches m config so_far.kept question.steps process
+  pub running : process.ended ≡ None
+  pub wants : next_of reached.guest process None ≡ Wants question.kind
+  pub in_time : IsAskedIn stage.phase stage.acts stage.step question.steps
+  pub all_told : stage.line ≡ Some (length process.host.lines)
+  pub fitting : IsFitting process.host.limit question.kind question.said question.fits
+  pub heard : question.said ≡ first_said stage.says
 
--- A call ends with a process that a front of the kept answers leads to, and takes no step back. Where it answers Ok, all answers
--- were taken, and every line was told.
-pub record IsEnding (m : Module) (config : Settings) (so_far : Promise) (is_ok : Bool) (answers steps : ℕ) : Type 0 where
-  pub within : answers ≤ length so_far.kept
+-- A front of so many kept answers, with a process of so many steps, holds all that was promised:
+-- as many answers and steps, the answers behind each line whose release was begun, and those
+-- behind each sync of the guest that returned.
+pub record HoldsAll (m : Module) (config : Settings) (kept : List Kept) (so_far : Promise)
+    (held steps : ℕ) : Type 0 where
+  pub within : held ≤ length kept
+  pub answers : so_far.answers ≤ held
+  pub steps_held : so_far.steps ≤ steps
+  pub lines : (i : ℕ) → i ≤ so_far.begun
+      → (a : ℕ) × (a ≤ held) × AnswersBehindLine m config kept i a
+  pub syncs : (k a : ℕ) → k ≤ so_far.synced → AnswersBehindSync m config kept k a → a ≤ held
+
+-- A life opens exactly where a front of the kept answers leads that holds all that was promised.
+-- An outlet has taken every line up to there, and this recovery has told none beyond it.
+pub record IsOpening (m : Module) (config : Settings) (so_far : Promise) (stage : Stage) (held : ℕ)
+    (shown : Saved) : Type 0 where
+  pub shut : stage.phase ≡ Shut
+  pub at : IsAt m config (take held so_far.kept) shown.steps shown
+  pub holds : HoldsAll m config so_far.kept so_far held shown.steps
+  pub all_heard : shown.lines ≤ so_far.heard
+  pub none_beyond : IsLast stage.line shown.lines
+
+-- ---- ends of calls
+
+-- all kept answers were taken, and each line was told, once in this life and none beyond
+pub record IsCaughtUp (so_far : Promise) (stage : Stage) (held : ℕ) (shown : Saved) : Type 0 where
+  pub all_taken : held ≡ length so_far.kept
+  pub all_told : stage.line ≡ Some shown.lines
+
+-- how many steps an act may take
+abbrev pub fuel_of : Act → ℕ
+fuel_of (Slice fuel) = fuel
+fuel_of Checkpoint = 0
+
+-- A slice says that its steps are taken after exactly its fuel; that an answer isn't there where
+-- the source has just said so; that the process has ended where it has. A checkpoint takes no
+-- step. An error has a cause.
+abbrev pub IsReply : Promise → Stage → ℕ → Saved → Act → Reply → Type 0
+IsReply so_far stage held shown (Slice fuel) Spent =
+    (stage.phase ≡ Open) × (shown.steps ≡ stage.step + fuel) × (shown.ended ≡ None)
+    × IsCaughtUp so_far stage held shown
+IsReply so_far stage held shown (Slice fuel) Waits =
+    (stage.phase ≡ NoneThere shown.steps) × (shown.steps < stage.step + fuel)
+    × (shown.ended ≡ None) × IsCaughtUp so_far stage held shown
+IsReply so_far stage held shown (Slice fuel) (Over why) =
+    (stage.phase ≡ Open) × (shown.steps ≤ stage.step + fuel) × (shown.ended ≡ Some why)
+    × IsCaughtUp so_far stage held shown
+IsReply so_far stage held shown Checkpoint Done =
+    (stage.phase ≡ Open) × (shown.steps ≡ stage.step) × IsCaughtUp so_far stage held shown
+IsReply so_far stage held shown act (Fails cause) =
+    MayFail stage.phase cause × (shown.steps ≤ stage.step + fuel_of act)
+IsReply so_far stage held shown _ _ = ⊥
+
+-- the next step of this process emits lines whose numbers are at their end
+pub record HasLastLines {m : Module} {config : Settings} {kept : List Kept} {steps : ℕ}
+    {saved : Saved} (at : IsAt m config kept steps saved) : Type 0 where
+  pub given : Option Answer
   pub process : ProcessState
-  pub reached : Reaches m config (take answers so_far.kept) steps process
-  pub onward : so_far.step ≤ steps
-  pub all_taken : is_ok ≡ true → answers ≡ length so_far.kept
-  pub all_told : is_ok ≡ true → AllTold so_far.told process
+  pub moves : Moves at.reached.guest at.process given process
+  pub lines : NUMBERS_END ≤ length process.host.lines + 2
 
-abbrev pub IsKept : Module → Settings → Promise → Event → Type 0
-IsKept m config so_far (Told r) = IsTelling m config so_far r
-IsKept m config so_far (Opened answers steps) = IsOpening m config so_far answers steps
-IsKept m config so_far (Handed a) = IsHanding m config so_far a
-IsKept m config so_far (Ended act is_ok answers steps) = IsEnding m config so_far is_ok answers steps
+-- Where a call says that a number is at its end, it is that of the next step, or of its lines, or
+-- so much has happened that it may be that of a generation.
+abbrev pub IsAtBound : {m : Module} {config : Settings} {kept : List Kept} {steps : ℕ}
+    {saved : Saved} → Promise → IsAt m config kept steps saved → Reply → Type 0
+IsAtBound so_far at (Fails OfBounds) = (NUMBERS_END ≤ at.process.steps + 1)
+    ⊎ (NUMBERS_END ≤ so_far.events + 1) ⊎ HasLastLines at
+IsAtBound so_far at _ = Unit {0}
 
--- every event keeps what was promised before it
-abbrev pub AreKept : Module → Settings → Promise → List Event → Type 0
-AreKept m config so_far [] = Unit {0}
-AreKept m config so_far (e ∷ events) = IsKept m config so_far e × AreKept m config (after so_far e) events
+-- a call that ends
+pub record CallEnd : Type 0 where
+  pub act : Act
+  pub reply : Reply
+  pub held : ℕ
+  pub shown : Saved
 
--- within a life the numbers of the releases follow one another
-abbrev pub AreConsecutive : List Release → Type 0
-AreConsecutive [] = Unit {0}
-AreConsecutive (r ∷ []) = Unit {0}
-AreConsecutive (r ∷ next ∷ told) = (next.number ≡ r.number + 1) × AreConsecutive (next ∷ told)
+-- The next act ends with a process that a front of the kept answers leads to, and takes no step
+-- back.
+pub record IsEnding (m : Module) (config : Settings) (so_far : Promise) (stage : Stage)
+    (end : CallEnd) : Type 0 where
+  pub is_next : IsNextAct end.act stage.acts
+  pub within : end.held ≤ length so_far.kept
+  pub at : IsAt m config (take end.held so_far.kept) end.shown.steps end.shown
+  pub onward : stage.step ≤ end.shown.steps
+  pub reply : IsReply so_far stage end.held end.shown end.act end.reply
+  pub bound : IsAtBound so_far at end.reply
 
--- A life that doesn't open was cut, or the disk, the outlet or memory failed it.
-abbrev pub MayStayShut : End → Type 0
-MayStayShut Cut = Unit {0}
-MayStayShut (Failed OfDisk) = Unit {0}
-MayStayShut (Failed OfOutlet) = Unit {0}
-MayStayShut (Failed OfMemory) = Unit {0}
-MayStayShut (Failed OfSource) = ⊥
-MayStayShut (Failed OfAnswer) = ⊥
+-- ---- lives
 
-pub record IsWhole (life : Life) : Type 0 where
-  pub form : IsLife life.events
-  pub in_order : AreConsecutive (told_in life.events)
-  pub opens : HasOpened life.events ⊎ MayStayShut life.ends
+-- an event keeps what was promised before it, where a life stands so
+abbrev pub IsKept : Module → Settings → Promise → Stage → Event → Type 0
+IsKept m config so_far stage (Told r is_taken) = IsTelling m config so_far stage r is_taken
+IsKept m config so_far stage (Asked steps kind said fits) = IsInquiring m config so_far stage
+    (record { steps = steps; kind = kind; said = said; fits = fits })
+IsKept m config so_far stage (Opened held shown) = IsOpening m config so_far stage held shown
+IsKept m config so_far stage (Ended act reply held shown) = IsEnding m config so_far stage
+    (record { act = act; reply = reply; held = held; shown = shown })
 
--- what opens has taken nothing yet
+-- every event of a life keeps what was promised before it
+abbrev pub AreKept : Module → Settings → Promise → Stage → List Event → Type 0
+AreKept m config so_far stage [] = Unit {0}
+AreKept m config so_far stage (e ∷ events) = IsKept m config so_far stage e
+    × AreKept m config (after so_far e) (next_stage stage e) events
+
+-- what a creation opens has taken nothing yet, and told nothing
 abbrev pub OpensAnew : List Event → Type 0
 OpensAnew [] = Unit {0}
-OpensAnew (Opened answers steps ∷ events) = (answers ≡ 0) × (steps ≡ 0)
-OpensAnew (e ∷ events) = OpensAnew events
+OpensAnew (Opened held shown ∷ events) = (held ≡ 0) × (shown.steps ≡ 0)
+OpensAnew (e ∷ events) = ⊥
 
--- A life that begins with a creation comes before any that has opened, and opens with a new worker.
-abbrev pub MayBegin : List Event → Life → Type 0
-MayBegin earlier life = life.begins ≡ Creates → (HasOpened earlier → ⊥) × OpensAnew life.events
+-- A life, with what was put into it, keeps what was promised before it. What has opened isn't
+-- created again.
+pub record IsLived (m : Module) (config : Settings) (so_far : Promise) (inputs : Inputs)
+    (life : Life) : Type 0 where
+  pub kept : AreKept m config so_far (at_first inputs) life.events
+  pub ends : MayEnd inputs (promised so_far life.events).events life.calls
+      (stage_after (at_first inputs) life.events) life.ends
+  pub begins : life.begins ≡ Creates → (so_far.has_opened ≡ false) × OpensAnew life.events
 
-abbrev pub AreBegun : List Event → List Life → Type 0
-AreBegun earlier [] = Unit {0}
-AreBegun earlier (life ∷ lives) = MayBegin earlier life × AreBegun (earlier ++ life.events) lives
+-- Lives, one for each that was put in, keep what was promised so far.
+abbrev pub GoOn : Module → Settings → Promise → List Inputs → List Life → Type 0
+GoOn m config so_far [] [] = Unit {0}
+GoOn m config so_far (inputs ∷ others) (life ∷ lives) = IsLived m config so_far inputs life
+    × GoOn m config (promised_by so_far life) others lives
+GoOn m config so_far [] (life ∷ lives) = ⊥
+GoOn m config so_far (inputs ∷ others) [] = ⊥
 
--- The restart theorem of a list of lives: restart after restart, the worker goes on as one that was never stopped.
-pub record GoesOn (m : Module) (config : Settings) (lives : List Life) : Type 0 where
-  pub kept : AreKept m config nothing_yet (events_of lives)
-  pub whole : AllByRecursion IsWhole lives
-  pub begun : AreBegun [] lives
+-- The restart theorem of a list of lives, and of what was put into each: restart after restart,
+-- the worker goes on as one that was never stopped.
+abbrev pub GoesOn : Module → Settings → List Inputs → List Life → Type 0
+GoesOn m config inputs lives = GoOn m config nothing_yet inputs lives

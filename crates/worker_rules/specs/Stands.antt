@@ -1,5 +1,6 @@
 -- A disk image that stands for a worker (this project's own).
-use Rattle.std.specs.Prelude.{◌≡◌, ℕ, ◌+◌, ◌<◌, ◌≤◌, List, [], ◌∷◌, ◌++◌, length, map, Option, Some}
+use Rattle.std.specs.Prelude.{◌≡◌, ℕ, ◌+◌, ◌<◌, ◌≤◌, List, [], ◌∷◌, ◌++◌, length, map, Option}
+use Rattle.std.specs.Prelude.{Some}
 use Rattle.wasm_syntax.specs.declared.module.Module.{Module}
 use Rattle.wasm_syntax.specs.rules.Modules.{IsModule}
 use Rattle.wasm_syntax.specs.declared.types.FunctionType.{FunctionType}
@@ -16,11 +17,15 @@ use Rattle.disk_layout.specs.rules.Sectors.{HasMarks, HasWorker, HoldsImage, sho
 use Rattle.disk_layout.specs.rules.Journal.{Record, scan}
 use Rattle.disk_layout.specs.declared.head.TheConstants.{IMAGE_VERSION, HEAD_STAMP_PLACE}
 
--- From one process to another by steps of which each that takes an answer is on record, in order, with its count.
+-- From one process to another by steps of which each that takes an answer is on record, in order,
+-- with its count.
 pub data Recorded (guest : Guest) : ProcessState → List Record → ProcessState → Type 0 where
   none : {p : ProcessState} → Recorded guest p [] p
-  more : {p q r s : ProcessState} {a : Answer} {n : ℕ} {records : List Record} → Runs guest p [] n q → Moves guest q (Some a) r → Recorded guest r records s → Recorded guest p (record { step = r.steps; answer = a } ∷ records) s
+  more : {p q r s : ProcessState} {a : Answer} {n : ℕ} {records : List Record}
+      → Runs guest p [] n q → Moves guest q (Some a) r → Recorded guest r records s
+      → Recorded guest p (record { step = r.steps; answer = a } ∷ records) s
 
+-- the answer of a record, as it is kept
 abbrev pub given_in : Record → Kept
 given_in r = Given r.answer
 
@@ -28,18 +33,22 @@ given_in r = Given r.answer
 pub record ShowsNoneLater (geometry : Geometry) (disk : Image) (g : ℕ) : Type 0 where
   pub first_head : shown_generation HEAD_STAMP_PLACE (sector_at disk 1) ≤ g
   pub second_head : shown_generation HEAD_STAMP_PLACE (sector_at disk 2) ≤ g
-  pub journal : (k : ℕ) → k < geometry.journal_sectors → shown_generation (k + 1) (sector_at disk (journal_place geometry + k)) ≤ g
+  pub journal : (k : ℕ) → k < geometry.journal_sectors
+      → shown_generation (k + 1) (sector_at disk (journal_place geometry + k)) ≤ g
 
--- On the disk stand the configuration, the module, and an image that the newest complete head names, of a process to which the module
--- comes on the first of the kept answers. All others are the records of the journal of that generation, one by one, each at its step. Step n
--- is that of the last record, or, if there are no records, of the image.
-pub record StandsFor (disk : Image) (m : Module) (config : Settings) (kept : List Kept) (n : ℕ) : Type 0 where
+-- On the disk stand the configuration, the module, and an image that the newest complete head
+-- names, of a process to which the module comes on the first of the kept answers. All others are
+-- the records of the journal of that generation, one by one, each at its step. Step n is that of
+-- the last record, or, if there are no records, of the image.
+pub record StandsFor (disk : Image) (m : Module) (config : Settings) (kept : List Kept) (n : ℕ)
+    : Type 0 where
   pub wasm : List ℕ
   pub spelled : IsModule wasm m
   pub worker : HasWorker config wasm disk
   pub generation : ℕ
   pub saved : Saved
-  pub holds : HoldsImage (geometry_of config (length wasm)) disk generation IMAGE_VERSION (image saved)
+  pub holds : HoldsImage (geometry_of config (length wasm)) disk generation IMAGE_VERSION
+      (image saved)
   pub front : List Kept
   pub steps : ℕ
   pub process : ProcessState

@@ -1,6 +1,6 @@
 pub mod Disks
 pub mod Examples
 pub mod Found
+pub mod Honest
 pub mod Laws
-pub mod Refusals
-pub mod WholeLives
+pub mod Refused

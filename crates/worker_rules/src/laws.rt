@@ -1,12 +1,25 @@
-//! Laws of the promises and of the disks that stand for a worker, and worked examples of lives.
+//! Laws of the promises, of the disk between lives and of the disks that stand for a worker.
 
 ghost use Rattle.wasm_syntax.specs.declared.module.Module.{Module};
 ghost use Rattle.wasi_abi.specs.rules.Configs.{Settings};
-ghost use Rattle.worker_rules.specs.laws.Laws.{PromisesAreOfKept, NoNumberHasTwoTexts, OpeningsAreForGood, CheckpointsAreForGood, SyncsAreForGood};
-ghost use Rattle.worker_rules.specs.laws.Disks.{StandsForWhatIsReached, RecordsAscend, StandsByItsParts, BlankStandsForNone, NoLaterImage, NoLaterPayload, OneGeneration, DiskExamples};
-ghost use Rattle.worker_rules.specs.laws.Examples.{LivesExamples, PromiseExamples};
-ghost use Rattle.worker_rules.specs.laws.Refusals.{RefusedLives, RefusedLists, LifeForms};
-ghost use Rattle.worker_rules.specs.laws.WholeLives.{HelloLives, EchoLives};
+ghost use Rattle.worker_rules.specs.laws.Laws.{PromisesAreOfKept, NoNumberHasTwoTexts, CallsJoin};
+ghost use Rattle.worker_rules.specs.laws.Laws.{OpeningsAreForGood, CheckpointsAreForGood};
+ghost use Rattle.worker_rules.specs.laws.Laws.{SyncsAreForGood};
+ghost use Rattle.worker_rules.specs.laws.Laws.{OpenedLinesAreToldNoMore, SavedLinesAreToldNoMore};
+ghost use Rattle.worker_rules.specs.laws.Found.{FoundWasLeft, FoundIsAsLong, FoundIsSettled};
+ghost use Rattle.worker_rules.specs.laws.Found.{NoWorkerComes};
+ghost use Rattle.worker_rules.specs.laws.Found.{NextLifeFindsIt, LivesGoOn};
+ghost use Rattle.worker_rules.specs.laws.Disks.{StandsForWhatIsReached, RecordsAscend};
+ghost use Rattle.worker_rules.specs.laws.Disks.{StandsByItsParts, BlankStandsForNone};
+ghost use Rattle.worker_rules.specs.laws.Disks.{NoLaterImage, NoLaterPayload, OneGeneration};
+ghost use Rattle.worker_rules.specs.laws.Disks.{DiskExamples};
+ghost use Rattle.worker_rules.specs.laws.Examples.{LivesExamples, PromiseExamples, CourseExamples};
+ghost use Rattle.worker_rules.specs.laws.Honest.{Teller, HonestStories};
+ghost use Rattle.worker_rules.specs.laws.Refused.{RefusedEvents, RefusedWorkers};
+ghost use Rattle.worker_rules.specs.Promises.{Promise};
+ghost use Rattle.worker_rules.specs.Courses.{Stage};
+
+use sector_disk::Disk;
 
 /// The answers that a promise speaks of are the kept ones.
 pub fn promises_are_of_kept_answers()
@@ -26,7 +39,33 @@ pub fn promises_are_for_good()
     ensures syncs { SyncsAreForGood }
 {}
 
-/// A disk stands for what the module reaches, by an image and by records in the order of their steps.
+/// Where it holds, no line is told again behind which a life has opened or a checkpoint was done.
+pub fn passed_lines_are_told_no_more()
+    ensures openings { OpenedLinesAreToldNoMore }
+    ensures checkpoints { SavedLinesAreToldNoMore }
+{}
+
+/// What calls keep one after another they keep together.
+pub fn calls_join()
+    ensures { CallsJoin }
+{}
+
+/// The next life finds what the last one left, with what was promised on it.
+pub fn next_life_finds_it<D: Disk>()
+    ensures keeps { NextLifeFindsIt D.medium }
+    ensures was_left { FoundWasLeft D.medium }
+    ensures as_long { FoundIsAsLong D.medium }
+    ensures settled { FoundIsSettled D.medium }
+    ensures no_worker { NoWorkerComes D.medium }
+{}
+
+/// Lives that do what the calls of a worker are proved to do go on as one that was never stopped.
+pub fn lives_go_on<D: Disk>()
+    ensures { LivesGoOn D.medium }
+{}
+
+/// A disk stands for what the module reaches, by an image and by records in the order of their
+/// steps.
 pub fn disks_stand_for_what_is_reached()
     ensures reached { StandsForWhatIsReached }
     ensures in_order { RecordsAscend }
@@ -42,25 +81,26 @@ pub fn disks_stand_by_one_generation()
     ensures examples { DiskExamples }
 {}
 
-/// Two lives with a cut between them, other forms of lives, and what events promise.
+/// Events that break a promise are refused, whatever was promised and wherever a life stands.
+pub fn refused_events()
+    ensures { (m : Module) (config : Settings) (so_far : Promise) (stage : Stage)
+        → RefusedEvents m config so_far stage }
+{}
+
+/// Workers that nobody wants are refused.
+pub fn refused_workers()
+    ensures { (m : Module) (config : Settings) → RefusedWorkers m config }
+{}
+
+/// Honest stories are satisfied: a restart from the journal, one behind a checkpoint, one behind a
+/// recovery that was cut, and a refused line told again.
+pub fn honest_stories()
+    ensures { (m : Module) (config : Settings) (t : Teller m config) → HonestStories t }
+{}
+
+/// Two lives with a cut between them, what events promise, and where a life stands behind them.
 pub fn worked_examples()
     ensures lives { LivesExamples }
     ensures promises { PromiseExamples }
-    ensures forms { LifeForms }
-{}
-
-/// Events that break a promise, and lives that don't go on, of any module.
-pub fn broken_promises_are_refused()
-    ensures events { (m : Module) (config : Settings) → RefusedLives m config }
-    ensures lives { (m : Module) (config : Settings) → RefusedLists m config }
-{}
-
-/// Lives of a module that writes a line go on, from its beginning to its end. Others don't.
-pub fn hello_goes_on()
-    ensures { (config : Settings) → HelloLives config }
-{}
-
-/// So do lives of a module that tells what it is asked, with a cut before its answer is told.
-pub fn echo_goes_on()
-    ensures { (config : Settings) → EchoLives config }
+    ensures courses { CourseExamples }
 {}

@@ -1,116 +1,200 @@
--- Two lives of a worker that tells each request again: the power is cut after the first line was told, and before its record
--- of the steps behind it.
-use Rattle.std.specs.Prelude.{◌≡◌, ℕ, true, false, List, [], ◌∷◌, codes}
+-- Two lives of a worker that tells each request again, and what is promised after each kind of
+-- event. The power is cut after the first line was told, and before its record of the steps behind
+-- it.
+use Rattle.std.specs.Prelude.{◌≡◌, ℕ, true, false, List, [], ◌∷◌, codes, Some, None, Ok}
+use Rattle.wasi_abi.specs.declared.answer.Kind.TheVariants as kind
+use Rattle.wasi_abi.specs.declared.answer.Answer.{Answer}
 use Rattle.wasi_abi.specs.declared.answer.Answer.TheVariants as answer
 use Rattle.process_rules.specs.Runs.{Given}
-use Rattle.worker_rules.specs.Lives.{Release, Slice, Checkpoint, Event, Told, Opened, Handed, Ended, Recovers, Creates, OfDisk, OfSource, OfAnswer, OfOutlet, OfMemory, End, Cut, Failed, Life, kept_after, kept_answers, told_lines}
-use Rattle.worker_rules.specs.Promises.{Promise, nothing_yet, promised, last_told, IsWhole, AreBegun}
+use Rattle.state_image.specs.rules.Image.{Saved}
+use Rattle.worker_rules.specs.Lives.{Slice, Checkpoint, Inputs, Release, OfDisk, OfOutlet}
+use Rattle.worker_rules.specs.Lives.{OfMemory}
+use Rattle.worker_rules.specs.Lives.{OfSource, Spent, Done, Fails, Event, Told, Asked, Opened}
+use Rattle.worker_rules.specs.Lives.{Ended}
+use Rattle.worker_rules.specs.Lives.{Recovers, Creates, Finished, Stopped, Failed, Life}
+use Rattle.worker_rules.specs.Lives.{kept_after, kept_answers, told_lines}
+use Rattle.worker_rules.specs.Courses.{Stage, Shut, Unheard, Open, NoneThere, Broken, Closed}
+use Rattle.worker_rules.specs.Courses.{at_first, stage_after, IsToldIn, IsAskedIn, MayEnd}
+use Rattle.worker_rules.specs.Promises.{Promise, nothing_yet, promised}
+
+-- ---- events
+
+-- what a process shows that has come to so many steps and lines; the rest counts for nothing here
+abbrev pub saved_at : ℕ → ℕ → Saved
+saved_at steps lines = record {
+  machine = record { frames = []; globals = []; memory = []; later = [] };
+  files = record { nodes = []; next = 2 };
+  descriptors = [];
+  unread = [];
+  input_ended = false;
+  last_monotonic = 0;
+  first = [];
+  second = [];
+  steps = steps;
+  answers = 0;
+  requests = 0;
+  lines = lines;
+  ended = None;
+}
 
 abbrev pub hello_line : Release
 hello_line = record { number = 1; line = record { stream = 1; text = codes "hello" } }
 
+-- a process of five steps asks for a request, and this is the answer
+abbrev pub hands_over : Answer → Event
+hands_over a = Asked 5 kind.Request (Ok (Some a)) true
+
 abbrev pub hello_request : Event
-hello_request = Handed (answer.Request (codes "hello"))
+hello_request = hands_over (answer.Request (codes "hello"))
 
 abbrev pub first_life : Life
-first_life = record { begins = Creates; events = Opened 0 0 ∷ hello_request ∷ Told hello_line ∷ Ended Slice true 1 20 ∷ []; ends = Cut }
+first_life = record {
+  begins = Creates;
+  events = Opened 0 (saved_at 0 0) ∷ hello_request ∷ Told hello_line true
+      ∷ Ended (Slice 20) Spent 1 (saved_at 20 1) ∷ [];
+  calls = 9;
+  ends = Finished;
+}
 
 abbrev pub second_life : Life
-second_life = record { begins = Recovers; events = Opened 1 6 ∷ Told hello_line ∷ Ended Slice true 1 20 ∷ []; ends = Cut }
-
-abbrev pub both_lives : List Life
-both_lives = first_life ∷ second_life ∷ []
+second_life = record {
+  begins = Recovers;
+  events = Opened 1 (saved_at 6 0) ∷ Told hello_line true
+      ∷ Ended (Slice 14) Spent 1 (saved_at 20 1) ∷ [];
+  calls = 9;
+  ends = Finished;
+}
 
 -- the answers that are left where a life opens without its last one
 abbrev pub lost_life : Life
-lost_life = record second_life { events = Opened 0 0 ∷ [] }
+lost_life = record second_life { events = Opened 0 (saved_at 5 0) ∷ [] }
+
+-- three answers were handed in, of which the next life has taken two
+abbrev pub shortened : List Event
+shortened = hands_over (answer.Realtime 7) ∷ hands_over (answer.Realtime 8)
+    ∷ hands_over (answer.Realtime 9) ∷ Opened 2 (saved_at 5 0) ∷ []
+
+pub record LivesExamples : Type 0 where
+  pub kept : kept_answers (first_life ∷ second_life ∷ [])
+      ≡ Given (answer.Request (codes "hello")) ∷ []
+  pub told : told_lines (first_life ∷ second_life ∷ []) ≡ hello_line ∷ hello_line ∷ []
+  pub lost : kept_answers (first_life ∷ lost_life ∷ []) ≡ []
+  pub first_two : kept_after [] shortened
+      ≡ Given (answer.Realtime 7) ∷ Given (answer.Realtime 8) ∷ []
+  -- an answer that doesn't fit isn't kept, and none and a fault are nothing to keep
+  pub misfit : kept_after [] (Asked 5 kind.Request (Ok (Some (answer.Realtime 7))) false ∷ []) ≡ []
+  pub none_there : kept_after [] (Asked 5 kind.Request (Ok None) true ∷ []) ≡ []
+
+-- ---- promises
 
 abbrev pub promised_to : List Event → Promise
 promised_to events = promised nothing_yet events
 
 -- an opening, and the request handed in
 abbrev pub once_asked : List Event → List Event
-once_asked later = Opened 0 0 ∷ hello_request ∷ later
+once_asked later = Opened 0 (saved_at 0 0) ∷ hello_request ∷ later
 
--- what is promised once the request was taken: so many answers and steps for good, and the step of
--- the last sync
-abbrev pub promise_of : ℕ → ℕ → ℕ → ℕ → Promise
-promise_of answers steps synced step = record {
+-- what is promised once the request was taken: so many answers, steps and lines for good, and the
+-- step of the last sync
+abbrev pub promise_of : ℕ → ℕ → ℕ → ℕ → ℕ → Promise
+promise_of answers steps passed synced events = record nothing_yet {
   kept = Given (answer.Request (codes "hello")) ∷ [];
   answers = answers;
   steps = steps;
-  told = [];
+  passed = passed;
   synced = synced;
-  step = step;
+  has_opened = true;
+  events = events;
 }
 
-abbrev pub at_hour : ℕ → Event
-at_hour n = Handed (answer.Realtime n)
-
--- three answers were handed in, of which the next life has taken two
-abbrev pub shortened : List Event
-shortened = Opened 0 0 ∷ at_hour 7 ∷ at_hour 8 ∷ at_hour 9 ∷ Opened 2 5 ∷ []
-
-abbrev pub shut_by : End → Life
-shut_by end = record { begins = Recovers; events = Told hello_line ∷ []; ends = end }
-
-abbrev pub told_numbers : List ℕ → List Release
-told_numbers [] = []
-told_numbers (i ∷ numbers) = record hello_line { number = i } ∷ told_numbers numbers
-
-abbrev pub created_with : List Event → List Life
-created_with events = record { begins = Creates; events = events; ends = Cut } ∷ []
-
-abbrev pub cut_short : Life
-cut_short = record { begins = Recovers; events = []; ends = Cut }
-
-pub record LivesExamples : Type 0 where
-  pub kept : kept_answers both_lives ≡ Given (answer.Request (codes "hello")) ∷ []
-  pub told : told_lines both_lives ≡ hello_line ∷ hello_line ∷ []
-  pub lost : kept_answers (first_life ∷ lost_life ∷ []) ≡ []
-  pub first_two : kept_after [] shortened
-      ≡ Given (answer.Realtime 7) ∷ Given (answer.Realtime 8) ∷ []
-  pub greatest : last_told (told_numbers (2 ∷ 5 ∷ 3 ∷ [])) ≡ 5
-  pub is_whole : IsWhole first_life × IsWhole second_life
-  pub begun : AreBegun [] both_lives
-  -- what has opened isn't created again, but what has not yet opened is
-  pub created_once : AreBegun [] (first_life ∷ first_life ∷ []) → ⊥
-  pub created_later : AreBegun [] (shut_by (Failed OfDisk) ∷ first_life ∷ [])
-  pub created_with_an_answer : AreBegun [] (created_with (Told hello_line ∷ Opened 1 0 ∷ [])) → ⊥
-  pub created_with_a_step : AreBegun [] (created_with (Opened 0 1 ∷ [])) → ⊥
-  -- no life leaves a line out, and none opens twice
-  pub leaves_a_line_out : IsWhole (record cut_short {
-    events = Told hello_line ∷ Told (record hello_line { number = 3 }) ∷ [];
-  }) → ⊥
-  pub opens_twice : IsWhole (record cut_short { events = Opened 0 0 ∷ Opened 0 0 ∷ [] }) → ⊥
-  -- why a life may not have opened
-  pub shut : IsWhole (shut_by Cut) × IsWhole (shut_by (Failed OfDisk))
-      × IsWhole (shut_by (Failed OfOutlet)) × IsWhole (shut_by (Failed OfMemory))
-  pub shut_by_a_source : IsWhole (shut_by (Failed OfSource)) → ⊥
-  pub shut_by_an_answer : IsWhole (shut_by (Failed OfAnswer)) → ⊥
-
--- A call that answers Ok has brought back the guest syncs of all its steps, else of all but the
--- last. Only a checkpoint that answers
--- Ok holds answers and steps for good, and so does an opening. What a later life has not taken
--- again is not synced in it.
+-- A call that answers Ok has brought back the guest's syncs of all its steps, else of all but the
+-- last. Only a checkpoint that is done holds answers, steps and lines for good, and so does an
+-- opening. What a later life has not taken again is not synced in it.
 pub record PromiseExamples : Type 0 where
-  pub after_a_slice : promised_to (once_asked (Ended Slice true 1 20 ∷ [])) ≡ promise_of 0 0 20 20
-  pub after_a_failed_slice : promised_to (once_asked (Ended Slice false 1 20 ∷ []))
-      ≡ promise_of 0 0 19 20
-  pub after_a_failed_checkpoint : promised_to (once_asked (Ended Checkpoint false 1 20 ∷ []))
-      ≡ promise_of 0 0 19 20
-  pub after_a_checkpoint : promised_to (once_asked (Ended Checkpoint true 1 20 ∷ []))
-      ≡ promise_of 1 20 20 20
+  pub after_a_question : promised_to (once_asked []) ≡ promise_of 0 0 0 5 2
+  pub after_a_slice : promised_to (once_asked (Ended (Slice 20) Spent 1 (saved_at 20 1) ∷ []))
+      ≡ promise_of 0 0 0 20 3
+  pub after_a_failed_slice : promised_to
+      (once_asked (Ended (Slice 20) (Fails OfDisk) 1 (saved_at 20 1) ∷ []))
+      ≡ promise_of 0 0 0 19 3
+  pub after_a_failed_checkpoint : promised_to
+      (once_asked (Ended Checkpoint (Fails OfDisk) 1 (saved_at 20 1) ∷ []))
+      ≡ promise_of 0 0 0 19 3
+  pub after_a_checkpoint : promised_to
+      (once_asked (Ended Checkpoint Done 1 (saved_at 20 1) ∷ [])) ≡ promise_of 1 20 1 20 3
   pub after_another_slice : promised_to
-      (once_asked (Ended Checkpoint true 1 20 ∷ Ended Slice true 1 30 ∷ [])) ≡ promise_of 1 20 30 30
-  pub after_opening : promised_to (once_asked (Ended Slice true 1 20 ∷ Opened 1 6 ∷ []))
-      ≡ promise_of 1 6 6 6
-  pub after_opening_further : promised_to (once_asked (Ended Checkpoint true 1 20 ∷ Opened 1 25 ∷ []))
-      ≡ promise_of 1 25 25 25
+      (once_asked (Ended Checkpoint Done 1 (saved_at 20 1)
+      ∷ Ended (Slice 10) Spent 1 (saved_at 30 2) ∷ [])) ≡ promise_of 1 20 1 30 4
+  pub after_opening : promised_to
+      (once_asked (Ended (Slice 20) Spent 1 (saved_at 20 1) ∷ Opened 1 (saved_at 6 0) ∷ []))
+      ≡ promise_of 1 6 0 6 4
+  pub after_opening_further : promised_to
+      (once_asked (Ended Checkpoint Done 1 (saved_at 20 1) ∷ Opened 1 (saved_at 25 1) ∷ []))
+      ≡ promise_of 1 25 1 25 4
   -- a call that fails in its first step has not undone a sync, nor an opening what is for good
-  pub after_no_step : promised_to (once_asked (Opened 1 6 ∷ Ended Slice false 1 6 ∷ []))
-      ≡ promise_of 1 6 6 6
-  pub after_less : (promised_to (once_asked (Ended Checkpoint true 1 20 ∷ Opened 0 6 ∷ []))).answers ≡ 1
+  pub after_no_step : promised_to
+      (once_asked (Opened 1 (saved_at 6 0) ∷ Ended (Slice 9) (Fails OfDisk) 1 (saved_at 6 0) ∷ []))
+      ≡ promise_of 1 6 0 6 4
+  pub after_less : (promised_to (once_asked
+      (Ended Checkpoint Done 1 (saved_at 20 1) ∷ Opened 0 (saved_at 6 0) ∷ []))).answers ≡ 1
   pub after_fewer_steps : (promised_to (once_asked
-      (Ended Checkpoint true 1 20 ∷ Opened 1 6 ∷ []))).steps ≡ 20
-  pub after_telling : (promised_to first_life.events).told ≡ hello_line ∷ []
+      (Ended Checkpoint Done 1 (saved_at 20 1) ∷ Opened 1 (saved_at 6 0) ∷ []))).steps ≡ 20
+  pub after_fewer_lines : (promised_to (once_asked
+      (Ended Checkpoint Done 1 (saved_at 20 1) ∷ Opened 1 (saved_at 6 0) ∷ []))).passed ≡ 1
+  -- a line that was begun counts, whoever took it
+  pub after_telling : promised_to (once_asked (Told hello_line true ∷ []))
+      ≡ record (promise_of 0 0 0 5 3) { begun = 1; heard = 1 }
+  pub after_a_refusal : promised_to (once_asked (Told hello_line false ∷ []))
+      ≡ record (promise_of 0 0 0 5 3) { begun = 1 }
+
+-- ---- where a life stands
+
+-- one slice of 20 steps; the source has one answer, and the outlet refuses the second line
+abbrev pub some_inputs : Inputs
+some_inputs = record {
+  says = Ok (Some (answer.Realtime 7)) ∷ [];
+  takes = true ∷ false ∷ [];
+  acts = Slice 20 ∷ [];
+  stop = Some 8;
+  fails = None;
+}
+
+abbrev pub stage_behind : List Event → Stage
+stage_behind events = stage_after (at_first some_inputs) events
+
+pub record CourseExamples : Type 0 where
+  pub at_first_shut : (stage_behind []).phase ≡ Shut
+  pub refused_in_a_recovery : (stage_behind (Told hello_line false ∷ [])).phase ≡ Unheard
+  pub opened : stage_behind (Opened 0 (saved_at 3 2) ∷ [])
+      ≡ record (at_first some_inputs) { phase = Open; step = 3; line = Some 2 }
+  pub none_there : (stage_behind
+      (Opened 0 (saved_at 0 0) ∷ Asked 5 kind.Request (Ok None) true ∷ [])).phase ≡ NoneThere 5
+  pub refused : (stage_behind (Opened 0 (saved_at 0 0) ∷ Told hello_line false ∷ [])).phase
+      ≡ Broken OfOutlet
+  pub failed : (stage_behind (Opened 0 (saved_at 0 0)
+      ∷ Ended (Slice 20) (Fails OfDisk) 0 (saved_at 4 0) ∷ [])).phase ≡ Closed OfDisk
+  pub used_up : stage_behind (Opened 0 (saved_at 0 0) ∷ Told hello_line true
+      ∷ hands_over (answer.Realtime 7) ∷ Ended (Slice 20) Spent 1 (saved_at 20 1) ∷ [])
+      ≡ record {
+        phase = Open;
+        says = [];
+        takes = false ∷ [];
+        acts = [];
+        step = 20;
+        line = Some 1;
+      }
+  -- lines of a slice from step 3 on, with fuel for 20 steps, and questions of it
+  pub told_within : IsToldIn Open (Slice 20 ∷ []) 3 23
+  pub told_beyond : IsToldIn Open (Slice 20 ∷ []) 3 24 → ⊥
+  pub told_before : IsToldIn Open (Slice 20 ∷ []) 3 2 → ⊥
+  pub told_by_a_checkpoint : IsToldIn Open (Checkpoint ∷ []) 3 3 → ⊥
+  pub asked_within : IsAskedIn Open (Slice 20 ∷ []) 3 22
+  pub asked_without_fuel : IsAskedIn Open (Slice 20 ∷ []) 3 23 → ⊥
+  -- how lives end, whose stop was to come at their eighth call of the disk
+  pub stopped : MayEnd some_inputs 0 8 (at_first some_inputs) Stopped
+  pub stopped_too_early : MayEnd some_inputs 0 7 (at_first some_inputs) Stopped → ⊥
+  pub failed_too_late : MayEnd some_inputs 0 8 (at_first some_inputs) (Failed OfMemory) → ⊥
+  pub failed_by_no_fault : MayEnd some_inputs 0 7 (at_first some_inputs) (Failed OfDisk) → ⊥
+  pub failed_by_memory : MayEnd some_inputs 0 7 (at_first some_inputs) (Failed OfMemory)
+  pub shut_by_a_source : MayEnd some_inputs 0 7 (at_first some_inputs) (Failed OfSource) → ⊥
+  pub shut_by_nothing : MayEnd some_inputs 0 7 (at_first some_inputs) Finished → ⊥

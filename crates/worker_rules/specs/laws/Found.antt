@@ -1,47 +1,62 @@
--- Laws of the disk that a life finds. They stand here with their proofs: they speak of any disk's
--- images, as no contract can.
-use Rattle.std.specs.Prelude.{◌≡◌}
-use Rattle.std.proofs.Common.{refl, sym, subst}
+-- Laws of the disk that a life finds, and the restart theorem from what the calls of lives do.
+use Rattle.std.specs.Prelude.{◌≡◌, List}
+use Rattle.wasm_syntax.specs.declared.module.Module.{Module}
+use Rattle.wasi_abi.specs.rules.Configs.{Settings}
 use Rattle.sector_disk.specs.rules.Image.{Image}
 use Rattle.sector_disk.specs.rules.Medium.{Medium}
-use Rattle.worker_rules.specs.Lives.{End, Cut, Failed}
-use Rattle.worker_rules.specs.Between.{NextFinds, after_cut, after_error, FindsNoWorker}
+use Rattle.worker_rules.specs.Lives.{Inputs, Life, End, Finished, Stopped, Failed}
+use Rattle.worker_rules.specs.Promises.{Promise, nothing_yet, GoesOn}
+use Rattle.worker_rules.specs.Holds.{KeepsPromise}
+use Rattle.worker_rules.specs.Between.{NextFinds, FindsNoWorker, AreLivedOn}
 
 -- what a cut of the found disk may leave, one of the disk before may have left
-pub found_was_left : (end : End) (left found : Medium) (image : Image)
-    → NextFinds end left found → found.may_leave image → left.may_leave image
-found_was_left end left found image (after_cut {left = l} {found = f} kept may fresh same) leaves =
-    let pair = f.of_left image leaves in
-    subst l.may_leave (sym (fresh.only pair.0 image pair.1).1) may
-found_was_left end left found image (after_error {cause = c} {disk = d}) leaves = leaves
+abbrev pub FoundWasLeft : {D : Type 0} → (D → Medium) → Type 0
+FoundWasLeft {D} medium = (ends : End) (left found : D) (image : Image)
+    → NextFinds medium ends left found → (medium found).may_leave image
+    → (medium left).may_leave image
 
 -- the disk has as many sectors as before
-pub found_is_as_long : (end : End) (left found : Medium) → NextFinds end left found
-    → found.sectors ≡ left.sectors
-found_is_as_long end left found (after_cut {left = l} {found = f} kept may fresh same) = same
-found_is_as_long end left found (after_error {cause = c} {disk = d}) = refl
+abbrev pub FoundIsAsLong : {D : Type 0} → (D → Medium) → Type 0
+FoundIsAsLong {D} medium = (ends : End) (left found : D)
+    → NextFinds medium ends left found → (medium found).sectors ≡ (medium left).sectors
 
--- After a cut, reads give what the cut left, of which nothing is unsynced. After an error the disk
--- is as it was.
-abbrev pub IsSettledAfter : End → Medium → Medium → Type 0
-IsSettledAfter Cut left found = ((image : Image) → found.shows image → left.may_leave image)
-    × (found.unsynced ≡ 0)
-IsSettledAfter (Failed cause) left found =
+-- reads give what the cut left, of which nothing is unsynced
+abbrev pub IsSettledAfterCut : Medium → Medium → Type 0
+IsSettledAfterCut left found =
+    ((image : Image) → found.shows image → left.may_leave image) × (found.unsynced ≡ 0)
+
+-- nothing was settled, and reads give what they gave
+abbrev pub IsAsItWas : Medium → Medium → Type 0
+IsAsItWas left found =
     (found.unsynced ≡ left.unsynced) × ((image : Image) → left.shows image → found.shows image)
 
-pub found_is_settled : (end : End) (left found : Medium) → NextFinds end left found
-    → IsSettledAfter end left found
-found_is_settled end left found (after_cut {left = l} {found = f} kept may fresh same) = (
-  (λ image shows.
-      let pair = f.of_shows image shows in
-      subst l.may_leave (sym (fresh.only image pair.0 pair.1).0) may),
-  fresh.unsynced,
-)
-found_is_settled end left found (after_error {cause = c} {disk = d}) =
-    (refl, (λ image shows. shows))
+-- after a cut the disk is settled, and after an error it is as it was
+abbrev pub IsSettledAfter : End → Medium → Medium → Type 0
+IsSettledAfter Finished left found = IsSettledAfterCut left found
+IsSettledAfter Stopped left found = IsSettledAfterCut left found
+IsSettledAfter (Failed cause) left found = IsAsItWas left found
+
+-- so it is with what the next life finds
+abbrev pub FoundIsSettled : {D : Type 0} → (D → Medium) → Type 0
+FoundIsSettled {D} medium = (ends : End) (left found : D)
+    → NextFinds medium ends left found → IsSettledAfter ends (medium left) (medium found)
 
 -- where there was no worker, whatever a cut leaves, the next life finds none
-pub no_worker_comes : (end : End) (left found : Medium) → FindsNoWorker left
-    → NextFinds end left found → FindsNoWorker found
-no_worker_comes end left found blank next image leaves =
-    blank image (found_was_left end left found image next leaves)
+abbrev pub NoWorkerComes : {D : Type 0} → (D → Medium) → Type 0
+NoWorkerComes {D} medium = (ends : End) (left found : D) → FindsNoWorker (medium left)
+    → NextFinds medium ends left found → FindsNoWorker (medium found)
+
+-- what a disk keeps of a promise it keeps for the next life, after a cut and after an error
+abbrev pub NextLifeFindsIt : {D : Type 0} → (D → Medium) → Type 0
+NextLifeFindsIt {D} medium =
+    (m : Module) (config : Settings) (promise : Promise) (ends : End) (left found : D)
+    → KeepsPromise m config promise (medium left) → NextFinds medium ends left found
+    → KeepsPromise m config promise (medium found)
+
+-- The restart theorem from the contracts of calls: lives that do what the calls are proved to do,
+-- one after another on a disk that held no worker, go on.
+abbrev pub LivesGoOn : {D : Type 0} → (D → Medium) → Type 0
+LivesGoOn {D} medium =
+    (m : Module) (config : Settings) (inputs : List Inputs) (lives : List Life) (disk : D)
+    → FindsNoWorker (medium disk) → AreLivedOn medium m config nothing_yet inputs lives disk
+    → GoesOn m config inputs lives

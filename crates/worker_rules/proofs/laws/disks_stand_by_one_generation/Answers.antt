@@ -1,4 +1,5 @@
-use Rattle.worker_rules.proofs.Disks.{blank_stands_for_none, no_later_image, no_later_payload, one_generation, disk_examples}
+use Rattle.worker_rules.proofs.Disks.{blank_stands_for_none, no_later_image, no_later_payload}
+use Rattle.worker_rules.proofs.Disks.{one_generation, disk_examples}
 use Rattle.worker_rules.proofs.laws.disks_stand_by_one_generation.Goals as goal
 
 pub returns-clause-blank : goal.returns-clause-blank

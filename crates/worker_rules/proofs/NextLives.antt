@@ -1,0 +1,75 @@
+-- What the next life finds, and that lives go on.
+use Rattle.std.proofs.Common.{inl, List, [], ◌∷◌, refl, sym, ap, subst}
+use Rattle.wasm_syntax.specs.declared.module.Module.{Module}
+use Rattle.wasi_abi.specs.rules.Configs.{Settings}
+use Rattle.sector_disk.specs.rules.Image.{Image}
+use Rattle.sector_disk.specs.rules.Medium.{Medium}
+use Rattle.worker_rules.specs.Lives.{Inputs, Life, Finished, Stopped, Failed}
+use Rattle.worker_rules.specs.Promises.{Promise, nothing_yet, promised_by, GoOn}
+use Rattle.worker_rules.specs.Holds.{KeepsPromise}
+use Rattle.worker_rules.specs.Between.{IsFoundAfterCut, AreLivedOn, more}
+use Rattle.worker_rules.specs.laws.Found.{FoundWasLeft, FoundIsAsLong, IsSettledAfterCut}
+use Rattle.worker_rules.specs.laws.Found.{FoundIsSettled, NoWorkerComes, NextLifeFindsIt}
+use Rattle.worker_rules.specs.laws.Found.{LivesGoOn}
+
+cut_was_left : (left found : Medium) (image : Image) → IsFoundAfterCut left found
+    → found.may_leave image → left.may_leave image
+cut_was_left left found image cut leaves =
+    let both = found.of_left image leaves in
+    subst left.may_leave (sym (cut.fresh.only both.0 image both.1).1) cut.was
+
+cut_is_settled : (left found : Medium) → IsFoundAfterCut left found → IsSettledAfterCut left found
+cut_is_settled left found cut = (
+  (λ image shows.
+      let both = found.of_shows image shows in
+      subst left.may_leave (sym (cut.fresh.only image both.0 both.1).0) cut.was),
+  cut.fresh.unsynced,
+)
+
+module _ {D : Type 0} (medium : D → Medium) where
+  pub found_was_left : FoundWasLeft medium
+  found_was_left Finished left found image cut leaves =
+      cut_was_left (medium left) (medium found) image cut leaves
+  found_was_left Stopped left found image cut leaves =
+      cut_was_left (medium left) (medium found) image cut leaves
+  found_was_left (Failed cause) left found image same leaves =
+      subst (λ (d : D). (medium d).may_leave image) same leaves
+
+  pub found_is_as_long : FoundIsAsLong medium
+  found_is_as_long Finished left found cut = cut.sectors
+  found_is_as_long Stopped left found cut = cut.sectors
+  found_is_as_long (Failed cause) left found same = ap (λ (d : D). (medium d).sectors) same
+
+  pub found_is_settled : FoundIsSettled medium
+  found_is_settled Finished left found cut = cut_is_settled (medium left) (medium found) cut
+  found_is_settled Stopped left found cut = cut_is_settled (medium left) (medium found) cut
+  found_is_settled (Failed cause) left found same = (
+    ap (λ (d : D). (medium d).unsynced) same,
+    (λ image shows. subst (λ (d : D). (medium d).shows image) (sym same) shows),
+  )
+
+  pub no_worker_comes : NoWorkerComes medium
+  no_worker_comes ends left found blank finds image leaves =
+      blank image (found_was_left ends left found image finds leaves)
+
+  pub next_life_finds_it : NextLifeFindsIt medium
+  next_life_finds_it m config promise ends left found keeps finds image leaves =
+      keeps image (found_was_left ends left found image finds leaves)
+
+  lives_on : (m : Module) (config : Settings) (so_far : Promise) (inputs : List Inputs)
+      (lives : List Life) (disk : D) → KeepsPromise m config so_far (medium disk)
+      → AreLivedOn medium m config so_far inputs lives disk → GoOn m config so_far inputs lives
+  lives_on m config so_far [] [] disk keeps lived = tt
+  lives_on m config so_far [] (life ∷ lives) disk keeps lived = elim lived [ ]
+  lives_on m config so_far (inputs ∷ others) [] disk keeps lived = elim lived [ ]
+  lives_on m config so_far (inputs ∷ others) (life ∷ lives) disk keeps
+      (more {left = left} {next = next} lived finds rest) =
+      let both = lived keeps in
+      let found = next_life_finds_it m config (promised_by so_far life) life.ends left next both.1
+      finds in
+      (both.0, lives_on m config (promised_by so_far life) others lives next found rest)
+
+  pub lives_go_on : LivesGoOn medium
+  lives_go_on m config inputs lives disk blank lived =
+      lives_on m config nothing_yet inputs lives disk
+      (λ image leaves. inl (refl, blank image leaves)) lived
