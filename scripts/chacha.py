@@ -30,7 +30,8 @@ def quarter_round(words, a, b, c, d):
 
 def block(key, stream, number):
     """The 16 words of a block. Its number and its stream have two words each, the low one first."""
-    begin = [*CONSTANTS, *struct.unpack("<8I", key), *struct.unpack("<4I", struct.pack("<QQ", number, stream))]
+    places = struct.unpack("<4I", struct.pack("<QQ", number, stream))
+    begin = [*CONSTANTS, *struct.unpack("<8I", key), *places]
     words = list(begin)
     for _ in range(10):
         for quarter in QUARTERS:
@@ -47,4 +48,5 @@ def taken(key, stream, place, length):
 
 
 for known, text in KNOWN.items():
-    assert taken(bytes(32), known, 0, len(text) // 2).hex() == text, f"wrong words of stream {known}"
+    found = taken(bytes(32), known, 0, len(text) // 2).hex()
+    assert found == text, f"stream {known} begins with {found}"

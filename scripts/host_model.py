@@ -342,8 +342,8 @@ class Host:
         data = b"".join(text + b"\0" for text in texts)
         self.demand_range(argv, 4 * len(texts))
         self.demand_range(buf, len(data))
-        places = [buf + sum(len(text) + 1 for text in texts[:number]) for number in range(len(texts))]
-        self.put(argv, b"".join(struct.pack("<I", place) for place in places))
+        for number, text in enumerate(texts):
+            self.put_u32(argv + 4 * number, buf + sum(len(it) + 1 for it in texts[:number]))
         self.put(buf, data)
 
     def put_sizes(self, texts, count, size):
