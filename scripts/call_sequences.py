@@ -10,7 +10,7 @@ from dataclasses import dataclass, field
 
 from host_model import (
     ALL_RIGHTS, APPEND, CHARACTER_DEVICE, CREATE, DIRECTORY, DIRECTORY_RIGHTS, DESCRIPTORS, FILE_RIGHTS, FILE_SIZE,
-    IOVECS, MOVED, NODES, PREOPENED, REGULAR_FILE, UNIT, WRITE, Host, Parked, bit)
+    IOVECS, MOVED, NODES, PREOPENED, REGULAR_FILE, UNIT, WRITE, Host, Outside, Parked, bit)
 
 # Where a sequence keeps what. The printer's part is used behind the last call.
 CELLS, PRINTER, COUNTER = (0, 512), (512, 8192), 544
@@ -62,13 +62,14 @@ class Sequence:
     steps: list
     reporter: int
     requests: list
+    outside: Outside | None = None
 
     def fresh(self, file_units):
         """The host of a process that begins."""
         memory = bytearray(self.pages * UNIT)
         for at, data in self.data:
             memory[at : at + len(data)] = data
-        return Host(memory, file_units, self.requests)
+        return Host(memory, file_units, self.requests, self.outside)
 
 
 def letters(turn):

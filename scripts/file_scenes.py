@@ -1,10 +1,14 @@
 """Worked rows of the calls on files, for `file-rows`: what a guest asks, and what it is answered.
 
+`outside_scenes.py` has those of the other calls.
+
 Each number here was worked out by hand from the numbers and layouts of WASI preview 1 and from the
 rules of this project's profile. None was taken from an output of the program or of the model.
 """
 import struct
 from dataclasses import dataclass, field
+
+from host_model import Outside
 
 BADF, EXIST, FAULT, FBIG, ILSEQ, INVAL, ISDIR, MFILE = 8, 20, 21, 22, 25, 28, 31, 33
 NAMETOOLONG, NOENT, NOSPC, NOTDIR, NOTEMPTY, SPIPE, NOTCAPABLE = 37, 44, 51, 54, 55, 70, 76
@@ -26,6 +30,14 @@ MEBIBYTE = 1_048_576
 class Cell:
     """Room for so many bytes of a result. Its address is the argument."""
 
+    length: int
+
+
+@dataclass
+class At:
+    """Room for so many bytes of a result at an address, which is the argument."""
+
+    address: int
     length: int
 
 
@@ -80,7 +92,7 @@ class Scene:
     """Rows in one process. The results are told on the stream `reporter`.
 
     `requests` are the texts of request lines, and `left` the lines that the end of the process
-    emits.
+    emits. Where nothing is given from outside, the clocks are the machine's.
     """
 
     name: str
@@ -88,6 +100,7 @@ class Scene:
     reporter: int = 1
     requests: list = field(default_factory=list)
     left: list = field(default_factory=list)
+    outside: Outside | None = None
 
 
 def u32(value):

@@ -1,4 +1,4 @@
-"""A model of the host's side of the file calls, for `compare-calls`.
+"""A model of the host's side of all calls but `proc_exit`, for `compare-calls` and `file-rows`.
 
 It was written from the table of the profile and from no code: which error a call answers, in which
 order it looks for faults, and what it changes where there is none. Numbers are those of WASI
@@ -6,12 +6,21 @@ preview 1. Each call is a method of `Host` with the call's name and parameters, 
 numbers here: a signed one is turned where it is used.
 """
 import struct
+from dataclasses import dataclass, field
+
+from chacha import taken
 
 BADF, EXIST, FAULT, FBIG, ILSEQ, INVAL, ISDIR, MFILE = 8, 20, 21, 22, 25, 28, 31, 33
 NAMETOOLONG, NOENT, NOSPC, NOTDIR, NOTEMPTY, SPIPE, NOTCAPABLE = 37, 44, 51, 54, 55, 70, 76
 
 # The parameters of each call. Those with `:l` are of type i64, all others of type i32.
 PARAMETERS = {
+    "args_get": "argv buf",
+    "args_sizes_get": "count size",
+    "environ_get": "argv buf",
+    "environ_sizes_get": "count size",
+    "clock_res_get": "id ret",
+    "clock_time_get": "id precision:l ret",
     "fd_close": "fd",
     "fd_datasync": "fd",
     "fd_sync": "fd",
@@ -34,6 +43,7 @@ PARAMETERS = {
     "path_remove_directory": "fd path len",
     "path_rename": "fd path len fd2 path2 len2",
     "path_unlink_file": "fd path len",
+    "random_get": "buf len",
     "sched_yield": "",
 }
 
@@ -52,6 +62,17 @@ UNIT = 65536
 MOVED, IOVECS, LINE, PATH, NAME = 65536, 1024, 4096, 4096, 255
 FILE_SIZE, NODES, DESCRIPTORS = 1 << 20, 1024, 64
 PREOPENED, ROOT = 3, 1
+LAST_CLOCK, RESOLUTION, RANDOM, STREAM = 1, 1, 4096, 1
+
+
+@dataclass
+class Outside:
+    """What a process is given beside its requests: texts, the time of both clocks, and a seed."""
+
+    arguments: list = field(default_factory=list)
+    environment: list = field(default_factory=list)
+    clock: int = 0
+    seed: bytes = bytes(32)
 
 
 class Refusal(Exception):
@@ -162,8 +183,9 @@ def leaf_of(start, parts):
 class Host:
     """Memory, descriptors, files and lines of one process."""
 
-    def __init__(self, memory, file_units, requests=()):
+    def __init__(self, memory, file_units, requests=(), outside=None):
         self.memory, self.room = memory, file_units * UNIT
+        self.outside, self.words = outside or Outside(), 0
         self.root = Node(ROOT, True)
         self.nodes, self.next_number = {ROOT: self.root}, ROOT + 1
         self.descriptors = {0: Descriptor(None, INPUT_RIGHTS, 0)}
@@ -312,6 +334,56 @@ class Host:
                 self.unread = self.requests.pop(0) + b"\n"
         heard, self.unread = self.unread[:most], self.unread[most:]
         return heard
+
+    # The calls on texts, clocks and random bytes.
+
+    def put_texts(self, texts, argv, buf):
+        """Puts texts, each with a zero byte, and their addresses."""
+        data = b"".join(text + b"\0" for text in texts)
+        self.demand_range(argv, 4 * len(texts))
+        self.demand_range(buf, len(data))
+        for number, text in enumerate(texts):
+            self.put_u32(argv + 4 * number, buf + sum(len(it) + 1 for it in texts[:number]))
+        self.put(buf, data)
+
+    def put_sizes(self, texts, count, size):
+        """Puts how many texts there are, and how many bytes they have with their zero bytes."""
+        self.demand_range(count, 4)
+        self.demand_range(size, 4)
+        self.put_u32(count, len(texts))
+        self.put_u32(size, sum(len(text) + 1 for text in texts))
+
+    def arguments(self):
+        """The name of the program, and its arguments."""
+        return [b"worker", *self.outside.arguments]
+
+    def args_get(self, argv, buf):
+        self.put_texts(self.arguments(), argv, buf)
+
+    def args_sizes_get(self, count, size):
+        self.put_sizes(self.arguments(), count, size)
+
+    def environ_get(self, argv, buf):
+        self.put_texts(self.outside.environment, argv, buf)
+
+    def environ_sizes_get(self, count, size):
+        self.put_sizes(self.outside.environment, count, size)
+
+    def clock_res_get(self, clock, ret):
+        demand(clock <= LAST_CLOCK, INVAL)
+        self.demand_range(ret, 8)
+        self.put_u64(ret, RESOLUTION)
+
+    def clock_time_get(self, clock, _precision, ret):
+        demand(clock <= LAST_CLOCK, INVAL)
+        self.demand_range(ret, 8)
+        self.put_u64(ret, self.outside.clock)
+
+    def random_get(self, buf, length):
+        demand(length <= RANDOM, INVAL)
+        self.demand_range(buf, length)
+        self.put(buf, taken(self.outside.seed, STREAM, self.words, length))
+        self.words += (length + 3) // 4
 
     # The calls on descriptors.
 

@@ -1,0 +1,122 @@
+"""Worked rows of texts, clocks and random bytes, for `file-rows`.
+
+Each number here was worked out by hand from the numbers and layouts of WASI preview 1 and from the
+rules of this project's profile. None was taken from an output of the program or of the model.
+"""
+from file_scenes import (
+    ALL, CREATE, DIRECTORY, FAULT, FILE, FOLDER, INVAL, REGULAR, At, Cell, Room, Row, Scene,
+    descriptor_status, opens, reads_at, tells, u32, u64, writes)
+
+# The bytes of a memory of one page, and one more than an argument can say.
+MEMORY, WORD = 65_536, 1 << 32
+
+# The most random bytes that one call gives.
+MOST = 4_096
+
+# The first 64 bytes that ChaCha20 gives for the key of zeros, in stream 1, as they were published.
+ZEROS = bytes.fromhex(
+    "ef3fdfd6c61578fb f5cf35bd3dd33b80 09631634d21e42ac 33960bd138e50d32"
+    "111e4caf237ee53c a8ad6426194a8854 5ddc497a0b466e7d 6bbdb0041b2f586b")
+
+
+def sizes(call, count, size):
+    """Asks how many texts there are, and how many bytes these have."""
+    return Row(f"{call}_sizes_get", [Cell(4), Cell(4)], 0, [u32(count), u32(size)])
+
+
+def draws(length, data):
+    """Asks for random bytes."""
+    return Row("random_get", [Room(length)], 0, [data])
+
+
+def is_out_of_memory(call, *arguments):
+    """A range ends behind the end of memory."""
+    return Row(call, list(arguments), FAULT)
+
+
+def resolves(clock, error=0):
+    """Asks how fine a clock is: each counts single nanoseconds."""
+    return Row("clock_res_get", [clock, Cell(8)], error, [] if error else [u64(1)])
+
+
+UNTOLD = Scene("one argument, and no environment", [
+    sizes("args", 1, 7),
+    Row("args_get", [At(60_000, 5), At(60_010, 8)], 0, [u32(60_010), b"worker\0"]),
+    sizes("environ", 0, 0),
+    Row("environ_get", [Cell(4), Cell(1)], 0, [b"", b""]),
+    Row("environ_get", [MEMORY, MEMORY], 0),
+    is_out_of_memory("args_sizes_get", At(MEMORY - 3, 3), Cell(4)),
+    is_out_of_memory("args_sizes_get", Cell(4), At(MEMORY - 3, 3)),
+    is_out_of_memory("environ_sizes_get", At(MEMORY - 3, 3), Cell(4)),
+    is_out_of_memory("environ_sizes_get", Cell(4), At(MEMORY - 3, 3)),
+    is_out_of_memory("environ_sizes_get", WORD - 1, Cell(4)),
+    is_out_of_memory("args_get", At(MEMORY - 3, 3), Cell(7)),
+    is_out_of_memory("args_get", Cell(4), At(MEMORY - 6, 6)),
+    is_out_of_memory("args_get", WORD - 1, WORD - 1),
+    Row("args_get", [At(61_000, 4), At(MEMORY - 7, 7)], 0, [u32(MEMORY - 7), b"worker\0"]),
+    Row("args_sizes_get", [At(61_010, 4), At(61_014, 4)], 0, [u32(1), u32(7)]),
+    Row("environ_sizes_get", [At(61_020, 4), MEMORY - 4], 0, [u32(0)]),
+])
+
+OVERLAID = Scene("the later of two results stands where they overlap", [
+    Row("args_get", [60_000, At(60_000, 7)], 0, [b"worker\0"]),
+    Row("args_sizes_get", [60_020, At(60_020, 4)], 0, [u32(7)]),
+    Row("args_get", [At(60_040, 4), 60_042], 0, [u32(60_042)[:2] + b"wo"]),
+])
+
+FINE = Scene("two clocks, of single nanoseconds", [
+    resolves(0),
+    resolves(1),
+    resolves(2, INVAL),
+    resolves(WORD - 1, INVAL),
+    Row("clock_res_get", [2, MEMORY], INVAL),
+    is_out_of_memory("clock_res_get", 0, At(MEMORY - 7, 7)),
+    is_out_of_memory("clock_res_get", 1, WORD - 1),
+    Row("clock_res_get", [1, At(MEMORY - 8, 8)], 0, [u64(1)]),
+    Row("clock_time_get", [0, 0, 60_000]),
+    Row("clock_time_get", [1, (1 << 64) - 1, 60_000]),
+    Row("clock_time_get", [2, 0, Cell(8)], INVAL),
+    Row("clock_time_get", [3, 0, Cell(8)], INVAL),
+    Row("clock_time_get", [WORD - 1, 0, MEMORY], INVAL),
+    is_out_of_memory("clock_time_get", 0, 0, MEMORY - 7),
+    is_out_of_memory("clock_time_get", 1, 0, MEMORY),
+])
+
+DRAWN = Scene("random bytes come from words, of which a refused call takes none", [
+    draws(0, b""),
+    Row("random_get", [MEMORY, 0]),
+    Row("random_get", [Cell(9), MOST + 1], INVAL),
+    Row("random_get", [MEMORY, MOST + 1], INVAL),
+    Row("random_get", [MEMORY, WORD - 1], INVAL),
+    is_out_of_memory("random_get", MEMORY, 1),
+    is_out_of_memory("random_get", At(MEMORY - 4, 4), 5),
+    is_out_of_memory("random_get", MEMORY - MOST + 1, MOST),
+    draws(5, ZEROS[:5]),
+    draws(3, ZEROS[8:11]),
+    draws(0, b""),
+    draws(1, ZEROS[12:13]),
+    draws(48, ZEROS[16:]),
+    Row("random_get", [MEMORY - MOST, MOST]),
+])
+
+PLAIN = Scene("calls with ranges inside of memory", [
+    Row("args_get", [60_000, 60_010]),
+    Row("args_sizes_get", [60_020, 60_024]),
+    Row("environ_get", [60_030, 60_040]),
+    Row("environ_sizes_get", [60_050, 60_054]),
+    resolves(0),
+    Row("fd_datasync", [3]),
+    Row("fd_fdstat_get", [3, Cell(24)], 0, [descriptor_status(DIRECTORY, 0, FOLDER, ALL)]),
+    Row("fd_prestat_get", [3, Cell(8)], 0, [u32(0) + u32(1)]),
+    Row("fd_prestat_dir_name", [3, Room(1)], 0, [b"/"]),
+    Row("sched_yield", []),
+    opens(b"a", 4, flags=CREATE),
+    Row("fd_fdstat_get", [4, Cell(24)], 0, [descriptor_status(REGULAR, 0, FILE, 0)]),
+    Row("fd_fdstat_set_flags", [4, 0]),
+    writes(4, b"text"),
+    reads_at(4, 1, 9, b"ext"),
+    tells(4, 4),
+    draws(5, ZEROS[:5]),
+])
+
+SCENES = [UNTOLD, OVERLAID, FINE, DRAWN, PLAIN]
