@@ -4,13 +4,13 @@ use Rattle.std.proofs.lemmas.List.{append-nil, append_assoc, take-append-drop, t
 use Rattle.std.proofs.Math.ListN.{drop_of_length-le}
 use Rattle.std.specs.Str.{bytes_eq}
 use Rattle.clap.specs.Words.{Text}
-use Rattle.wasmhost_serve.specs.rules.Commands.{back_of, front_of}
+use Rattle.wasmhost_serve.specs.rules.Commands.{behind_dashes, before_dashes}
 
 -- none of the first words is `--`
 pub record HasPassed (words : List Text) (at : ℕ) : Type 0 where
   pub within : at ≤ length words
-  pub front : front_of words ≡ take at words ++ front_of (drop at words)
-  pub back : back_of words ≡ back_of (drop at words)
+  pub front : before_dashes words ≡ take at words ++ before_dashes (drop at words)
+  pub back : behind_dashes words ≡ behind_dashes (drop at words)
 
 pub passed_none : (words : List Text) → HasPassed words 0
 passed_none words = record { within = omega arith; front = refl; back = refl }
@@ -26,57 +26,57 @@ module _ (words : List Text) (at : ℕ) (passed : HasPassed words at) where
     within = omega (arith, more);
     front =
         let word = get_or words at d in
-        passed.front ∙ ap (λ z. take at words ++ front_of z) (next d more)
+        passed.front ∙ ap (λ z. take at words ++ before_dashes z) (next d more)
         ∙ ap (λ z. take at words ++ z) (front_step word (drop (at + 1) words) other)
-        ∙ sym (append_assoc (take at words) (word ∷ []) (front_of (drop (at + 1) words)))
-        ∙ ap (λ z. z ++ front_of (drop (at + 1) words)) (sym (take_more words at d more));
-    back = passed.back ∙ ap back_of (next d more)
+        ∙ sym (append_assoc (take at words) (word ∷ []) (before_dashes (drop (at + 1) words)))
+        ∙ ap (λ z. z ++ before_dashes (drop (at + 1) words)) (sym (take_more words at d more));
+    back = passed.back ∙ ap behind_dashes (next d more)
         ∙ back_step (get_or words at d) (drop (at + 1) words) other;
   }
     where
       front_step : (word : Text) (rest : List Text) → bytes_eq word (codes "--") ≡ false
-          → front_of (word ∷ rest) ≡ word ∷ front_of rest
+          → before_dashes (word ∷ rest) ≡ word ∷ before_dashes rest
       front_step word rest e = rw e refl
 
       back_step : (word : Text) (rest : List Text) → bytes_eq word (codes "--") ≡ false
-          → back_of (word ∷ rest) ≡ back_of rest
+          → behind_dashes (word ∷ rest) ≡ behind_dashes rest
       back_step word rest e = rw e refl
 
   -- the next word is `--`
   pub cut_front : (d : Text) → at < length words → bytes_eq (get_or words at d) (codes "--") ≡ true
-      → take at words ≡ front_of words
+      → take at words ≡ before_dashes words
   cut_front d more here =
-      sym (passed.front ∙ ap (λ z. take at words ++ front_of z) (next d more)
+      sym (passed.front ∙ ap (λ z. take at words ++ before_dashes z) (next d more)
       ∙ ap (λ z. take at words ++ z) (ends (get_or words at d) (drop (at + 1) words) here)
       ∙ append-nil (take at words))
     where
       ends : (word : Text) (rest : List Text) → bytes_eq word (codes "--") ≡ true
-          → front_of (word ∷ rest) ≡ []
+          → before_dashes (word ∷ rest) ≡ []
       ends word rest e = rw e refl
 
   pub cut_back : (d : Text) → at < length words → bytes_eq (get_or words at d) (codes "--") ≡ true
-      → drop (at + 1) words ≡ back_of words
+      → drop (at + 1) words ≡ behind_dashes words
   cut_back d more here =
-      sym (passed.back ∙ ap back_of (next d more)
+      sym (passed.back ∙ ap behind_dashes (next d more)
       ∙ begins (get_or words at d) (drop (at + 1) words) here)
     where
       begins : (word : Text) (rest : List Text) → bytes_eq word (codes "--") ≡ true
-          → back_of (word ∷ rest) ≡ rest
+          → behind_dashes (word ∷ rest) ≡ rest
       begins word rest e = rw e refl
 
   -- there is none
-  pub uncut_front : length words ≤ at → words ≡ front_of words
+  pub uncut_front : length words ≤ at → words ≡ before_dashes words
   uncut_front end =
       let none : drop at words ≡ [] = drop_of_length-le words end in
       let all : take at words ≡ words = sym (append-nil (take at words))
-          ∙ ap (λ z. take at words ++ z) (sym none) ∙ take-append-drop at words in
-      sym (passed.front ∙ ap (λ z. take at words ++ front_of z) none
+      ∙ ap (λ z. take at words ++ z) (sym none) ∙ take-append-drop at words in
+      sym (passed.front ∙ ap (λ z. take at words ++ before_dashes z) none
       ∙ append-nil (take at words) ∙ all)
 
-  pub uncut_back : length words ≤ at → drop at words ≡ back_of words
+  pub uncut_back : length words ≤ at → drop at words ≡ behind_dashes words
   uncut_back end =
       let none : drop at words ≡ [] = drop_of_length-le words end in
-      none ∙ sym (passed.back ∙ ap back_of none)
+      none ∙ sym (passed.back ∙ ap behind_dashes none)
 
 -- ---- words as the code has them
 
@@ -98,12 +98,12 @@ module _ {S : Type 0} (text : S → Text) (words : List S) (at : ℕ) (word : S)
       (dashes_at false other)
 
   pub cuts_front : bytes_eq (text word) (codes "--") ≡ true
-      → map text (take at words) ≡ front_of (map text words)
+      → map text (take at words) ≡ before_dashes (map text words)
   cuts_front here = sym (take-map text at words)
       ∙ cut_front (map text words) at passed (text word) more_texts (dashes_at true here)
 
   pub cuts_back : bytes_eq (text word) (codes "--") ≡ true
       → map text (take (length words - (at + 1)) (drop (at + 1) words))
-      ≡ back_of (map text words)
+      ≡ behind_dashes (map text words)
   cuts_back here = ap (map text) (take_rest words (at + 1)) ∙ sym (drop-map text (at + 1) words)
       ∙ cut_back (map text words) at passed (text word) more_texts (dashes_at true here)

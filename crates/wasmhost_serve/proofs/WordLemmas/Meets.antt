@@ -12,7 +12,7 @@ use Rattle.clap.specs.declared.parser.matches.ArgMatches.TheViews.{out-ArgMatche
 use Rattle.clap.specs.declared.parser.matches.SubCommand.{SubCommand}
 use Rattle.clap.specs.declared.parser.matches.Found.{Found}
 use Rattle.clap.proofs.WalkLemmas.{first_value-rows, one_text-rows, raw_values-rows}
-use Rattle.wasmhost_serve.specs.rules.Commands.{IsClockText, IsFaultOf, IsFuelText, IsTaken, IsWordsFault, Meaning, RunMeaning, TakesClock, TakesFuel, check, clock_in, clock_text_in, environment_in, faults_of, fuel_in, fuel_text_in, guest_words, meaning_below, meaning_in, number_in, own_words, path_in, run, run_in, wasmhost}
+use Rattle.wasmhost_serve.specs.rules.Commands.{IsClockText, IsFaultOf, IsFuelText, IsTaken, IsWordsFault, Meaning, RunMeaning, TakesClock, TakesFuel, check, clock_in, clock_text_in, environment_in, faults_in_words, fuel_in, fuel_text_in, guest_words, meaning_below, meaning_in, spelled_number, own_words, path_in, run, run_in, wasmhost}
 use Rattle.wasmhost_serve.specs.declared.words.WordsFault.{WordsFault}
 use Rattle.wasmhost_serve.specs.declared.words.WordsFault.TheVariants as fault
 use Rattle.wasmhost_serve.proofs.WordLemmas.Lines.{words_taken}
@@ -50,12 +50,12 @@ clock_is_read E Gives found given parses none some fits =
     go (clock_text_in (rows_of found)) (one_text-rows found (codes "clock")) fits
   where
     number : (text : Text) (given : Option ℕ) → IsClockText text → ReadsOne Gives text given
-        → given ≡ Some (number_in text)
+        → given ≡ Some (spelled_number text)
     number text (Some n) fits read = ap Some (parses text (Ok n) read).1
     number text None fits read = absurd (parses text (Err read.0) read.1 (fits.0, fits.1))
 
     go : (text : Option Text) → one_text found (codes "clock") ≡ text → IfSome text IsClockText
-        → given ≡ option_map number_in text
+        → given ≡ option_map spelled_number text
     go None is fits = none is
     go (Some text) is fits = number text given fits (some text is)
 
@@ -123,7 +123,7 @@ pub reads_so : (words own guest arguments : List Text) (name : Text) (rows : Lis
     (meaning : Meaning) → own ≡ own_words words → guest ≡ guest_words words → arguments ≡ guest
     → fault_of wasmhost own ≡ [] → subcommand_of wasmhost own ≡ Some (name, rows)
     → meaning_below arguments (name, rows) ≡ Some meaning
-    → (faults_of words ≡ []) × (meaning_in words ≡ Some meaning)
+    → (faults_in_words words ≡ []) × (meaning_in words ≡ Some meaning)
 reads_so words own guest arguments name rows meaning own-is guest-is same faultless met means = (
   ap (fault_of wasmhost) (sym own-is) ∙ faultless,
   ap (λ a. option_and_then (meaning_below a) (subcommand_of wasmhost (own_words words)))

@@ -3,7 +3,7 @@ use Rattle.std.specs.Prelude.{◌≡◌, ◌-◌, ◌^◌, ℕ, true, List, [], 
 use Rattle.clap.specs.Words.{Text, takes}
 use Rattle.clap.specs.Kinds.{Kinds}
 use Rattle.clap.specs.declared.error.ErrorKind.TheVariants as kind
-use Rattle.wasmhost_serve.specs.rules.Commands.{Meaning, RunMeaning, check, faults_of, meaning_in, own_words, run, wasmhost}
+use Rattle.wasmhost_serve.specs.rules.Commands.{Meaning, RunMeaning, check, faults_in_words, meaning_in, own_words, run, wasmhost}
 
 -- the program's name, and words behind it
 abbrev pub line : List Text → List Text
@@ -32,7 +32,7 @@ fuelled_run fuel = record plain_run { fuel = fuel }
 
 -- no fault is listed for the words, and they mean this
 abbrev pub Means : List Text → Meaning → Type 0
-Means words meaning = (faults_of words ≡ []) × (takes wasmhost (own_words words) ≡ true)
+Means words meaning = (faults_in_words words ≡ []) × (takes wasmhost (own_words words) ≡ true)
     × (meaning_in words ≡ Some meaning)
 
 pub record OrderExamples : Type 0 where
@@ -55,7 +55,7 @@ pub record OrderExamples : Type 0 where
 
 -- the kinds of fault that are listed for the words
 abbrev pub WordsFail : List Text → Kinds → Type 0
-WordsFail words kinds = faults_of words ≡ kinds
+WordsFail words kinds = faults_in_words words ≡ kinds
 
 pub record MistakeExamples : Type 0 where
   pub no_command : WordsFail (line []) (kind.MissingSubcommand ∷ [])

@@ -86,26 +86,26 @@ abbrev pub is_run : List Text → Bool
 is_run words = option_map_or (λ word. bytes_eq word (codes "run")) (slice_get words 1) false
 
 -- the words in front of the first `--`
-abbrev pub front_of : List Text → List Text
-front_of [] = []
-front_of (word ∷ words) = if bytes_eq word (codes "--") then [] else word ∷ front_of words
+abbrev pub before_dashes : List Text → List Text
+before_dashes [] = []
+before_dashes (word ∷ words) = if bytes_eq word (codes "--") then [] else word ∷ before_dashes words
 
 -- and those behind it
-abbrev pub back_of : List Text → List Text
-back_of [] = []
-back_of (word ∷ words) = if bytes_eq word (codes "--") then words else back_of words
+abbrev pub behind_dashes : List Text → List Text
+behind_dashes [] = []
+behind_dashes (word ∷ words) = if bytes_eq word (codes "--") then words else behind_dashes words
 
 -- the words that the command reads
 abbrev pub own_words : List Text → List Text
-own_words words = if is_run words then front_of words else words
+own_words words = if is_run words then before_dashes words else words
 
 -- the words that a run hands to its guest
 abbrev pub guest_words : List Text → List Text
-guest_words words = if is_run words then back_of words else []
+guest_words words = if is_run words then behind_dashes words else []
 
 -- the kinds of fault that are listed for the words of a line
-abbrev pub faults_of : List Text → Kinds
-faults_of words = fault_of wasmhost (own_words words)
+abbrev pub faults_in_words : List Text → Kinds
+faults_in_words words = fault_of wasmhost (own_words words)
 
 -- ---- orders
 
@@ -138,8 +138,8 @@ abbrev pub meaning_of : Order → Meaning
 meaning_of (Check path) = check path.now
 meaning_of (Run order) = run (run_said order)
 
-abbrev pub number_in : Text → ℕ
-number_in text = digits_value 10 (without_leading_plus text)
+abbrev pub spelled_number : Text → ℕ
+spelled_number text = digits_value 10 (without_leading_plus text)
 
 abbrev pub path_in : List Row → Option Text
 path_in = first_of (codes "MODULE")
@@ -149,14 +149,14 @@ fuel_text_in = one_of (codes "fuel")
 
 -- the number that `--fuel` gives, or 100,000
 abbrev pub fuel_in : List Row → ℕ
-fuel_in rows = option_map_or number_in (fuel_text_in rows) 100000
+fuel_in rows = option_map_or spelled_number (fuel_text_in rows) 100000
 
 abbrev pub clock_text_in : List Row → Option Text
 clock_text_in = one_of (codes "clock")
 
 -- the number that `--clock` gives, if it is there
 abbrev pub clock_in : List Row → Option ℕ
-clock_in rows = option_map number_in (clock_text_in rows)
+clock_in rows = option_map spelled_number (clock_text_in rows)
 
 -- the texts that `--env` gives, in their order
 abbrev pub environment_in : List Row → List Text
@@ -195,7 +195,7 @@ IsFaultOf words fault.Memory = ⊤
 -- what may be answered to the words: the order that they mean, where no kind of fault is listed for them, or a fault of theirs
 abbrev pub IsReading : List Text → Result Order WordsFault → Type 0
 IsReading words result = MatchResult result
-    (λ order. (faults_of words ≡ []) × (meaning_in words ≡ Some (meaning_of order)))
+    (λ order. (faults_in_words words ≡ []) × (meaning_in words ≡ Some (meaning_of order)))
     (IsFaultOf (own_words words))
 
 -- ---- steps of reading

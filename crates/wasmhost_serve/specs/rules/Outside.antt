@@ -7,8 +7,8 @@ use Rattle.wasmhost_serve.specs.declared.lines.outside.Outside.{Outside}
 use Rattle.wasmhost_serve.specs.rules.Seeds.{seeded_bytes, words_for}
 
 -- the stream of a seed's words
-abbrev pub stream : ℕ
-stream = 1
+abbrev pub random_stream : ℕ
+random_stream = 1
 
 -- A clock that is fixed shows that time. Of the machine's clock nothing is known.
 abbrev pub IsTimeOf : Outside → ℕ → Type 0
@@ -30,7 +30,7 @@ abbrev pub ComesFrom : Outside → ℕ → Answer → Type 0
 ComesFrom outside place (answer.Realtime n) = IsTimeOf outside n
 ComesFrom outside place (answer.Monotonic n) = IsTimeOf outside n
 ComesFrom outside place (answer.Random bytes) =
-    bytes ≡ seeded_bytes outside.seed stream place (length bytes)
+    bytes ≡ seeded_bytes outside.seed random_stream place (length bytes)
 ComesFrom outside place _ = ⊤
 
 -- so does each of these answers, in their order

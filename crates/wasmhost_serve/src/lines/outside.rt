@@ -3,7 +3,7 @@
 ghost use Rattle.std.specs.Prelude.{◌≡◌, IfOk, IfErr, IfSome};
 ghost use Rattle.wasi_abi.specs.declared.answer.Answer.TheVariants as answers;
 ghost use Rattle.wasi_abi.specs.rules.Answers.{IsTime};
-ghost use Rattle.wasmhost_serve.specs.rules.Outside.{IsTimeOf, stream};
+ghost use Rattle.wasmhost_serve.specs.rules.Outside.{IsTimeOf, random_stream};
 ghost use Rattle.wasmhost_serve.specs.rules.Seeds.{seeded_bytes};
 ghost use Rattle.wasmhost_serve.specs.Lines.Answers.{IsClockless};
 ghost use Rattle.wasmhost_serve.specs.declared.lines.fault.LineFault.TheVariants.{Memory};
@@ -60,7 +60,7 @@ pub(crate) fn random_answer(
     length: u32,
 ) -> Result<Answer, LineFault>
     ensures is { IfOk result (λ answer. answer
-        ≡ answers.Random (seeded_bytes seed stream place length)) }
+        ≡ answers.Random (seeded_bytes seed random_stream place length)) }
     ensures failed { IfErr result (λ fault. fault ≡ Memory) }
 {
     let Ok(bytes) = seeded(alloc, seed, STREAM, place, length as usize) else {

@@ -4,7 +4,7 @@ ghost use Rattle.std.specs.Prelude.{◌≡◌, ◌+◌, None, IfOk, IfErr, OnOk,
 ghost use Rattle.wasi_abi.specs.declared.answer.Kind.TheVariants as kinds;
 ghost use Rattle.wasi_abi.specs.declared.answer.Answer.TheVariants as answers;
 ghost use Rattle.wasmhost_serve.specs.Lines.Answers.{Finds, IsRefusedAt, IsWordless, standing};
-ghost use Rattle.wasmhost_serve.specs.rules.Outside.{stream};
+ghost use Rattle.wasmhost_serve.specs.rules.Outside.{random_stream};
 ghost use Rattle.wasmhost_serve.specs.rules.Seeds.{seeded_bytes, words_for};
 
 use crate::lines::fault::LineFault;
@@ -74,7 +74,7 @@ impl<R: LineReader + Drop, C: Clock + Drop> RequestSource<R, C> {
     /// The next random bytes.
     fn draw(&mut self, length: u32) -> Result<Answer, LineFault>
         ensures is { IfOk result (λ answer. answer ≡ answers.Random
-            (seeded_bytes self.old.outside.seed stream self.old.place length)) }
+            (seeded_bytes self.old.outside.seed random_stream self.old.place length)) }
         ensures drawn { OnOk result (self.new ≡ record self.old {
           place = self.old.place + words_for length;
         }) }

@@ -2,7 +2,7 @@
 
 ghost use Rattle.std.specs.Prelude.{◌≡◌, IfOk, codes, map};
 ghost use Rattle.std.specs.Str.{bytes_eq};
-ghost use Rattle.wasmhost_serve.specs.rules.Commands.{back_of, front_of, guest_words, is_run, own_words};
+ghost use Rattle.wasmhost_serve.specs.rules.Commands.{behind_dashes, before_dashes, guest_words, is_run, own_words};
 ghost use Rattle.wasmhost_serve.specs.rules.Served.{texts_in};
 
 use std::alloc::{AllocError, Global};
@@ -27,8 +27,8 @@ fn is_dashes<S: AsStr>(word: &S) -> bool
 
 /// What stands in front of the first `--`, and what behind it.
 fn cut_at_dashes<'a, S: AsStr>(words: &'a [S]) -> (&'a [S], &'a [S])
-    ensures front { map S.text result.0.now ≡ front_of (map S.text words.entry.now) }
-    ensures back { map S.text result.1.now ≡ back_of (map S.text words.entry.now) }
+    ensures front { map S.text result.0.now ≡ before_dashes (map S.text words.entry.now) }
+    ensures back { map S.text result.1.now ≡ behind_dashes (map S.text words.entry.now) }
 {
     let mut at = 0;
     while at < words.len() {
