@@ -9,7 +9,7 @@ use Rattle.file_tree.specs.declared.store.node.Node.{Node}
 use Rattle.file_tree.specs.rules.Files.{Name, is_before, is_same_name}
 use Rattle.file_tree.specs.Links.{is_hooked, child_in, is_in, name_of_hook}
 use Rattle.file_tree.specs.Nearest.{comes_after, comes_before, is_nearer, nearest_node, next_node, node_listed}
-use Rattle.file_tree.specs.Store.Cuts.{Holds, AreOrdered, IsCut}
+use Rattle.file_tree.specs.Store.Cuts.{HasElement, AreOrdered, IsCut}
 use Rattle.file_tree.specs.Store.Named.{address_of, IsBehind, IsUpTo, in_directory}
 use Rattle.file_tree.proofs.Order.{Before, before_or_not, not_itself, before_both, in_front, not_in_front, behind_if, not_behind_if}
 use Rattle.file_tree.proofs.SameNames.{name_or_not}
@@ -86,28 +86,28 @@ NodeUpTo from n = IsUpTo from (address_of n.hook)
 
 pub record AreListed (ns ms : List Node) : Type 0 where
   pub ordered : AreOrdered (λ (n m : Node). IsBehind (address_of n.hook) (address_of m.hook)) ms
-  pub among : (n : Node) → Holds ms n → Holds ns n
-  pub hung : (n : Node) → Holds ms n → address_of n.hook ≢ []
-  pub all : (n : Node) → Holds ns n → address_of n.hook ≢ [] → Holds ms n
+  pub among : (n : Node) → HasElement ms n → HasElement ns n
+  pub hung : (n : Node) → HasElement ms n → address_of n.hook ≢ []
+  pub all : (n : Node) → HasElement ns n → address_of n.hook ≢ [] → HasElement ms n
 
 abbrev IsCutAt : List ℕ → List Node → ℕ → Type 0
 IsCutAt from ms p = IsCut (NodeUpTo from) (NodeBehind from) ms p
 
 -- ---- the node under a name
 
-one_child : (d : ℕ) (name : Name) (ns : List Node) (n : Node) → Holds ns n → is_hooked d name n.hook ≡ true
-    → ((m : Node) → Holds ns m → is_hooked d name m.hook ≡ true → m ≡ n) → child_in ns d name ≡ Some n.number
+one_child : (d : ℕ) (name : Name) (ns : List Node) (n : Node) → HasElement ns n → is_hooked d name n.hook ≡ true
+    → ((m : Node) → HasElement ns m → is_hooked d name m.hook ≡ true → m ≡ n) → child_in ns d name ≡ Some n.number
 one_child d name [] n at is one = absurd at
 one_child d name (m ∷ ns) n at is one =
     by (is_hooked d name m.hook) refl (λ later. one_child d name ns n later is (λ x w. one x (inr w))) at where
-      by : (b : Bool) → is_hooked d name m.hook ≡ b → (Holds ns n → child_in ns d name ≡ Some n.number)
-          → (m ≡ n) ⊎ Holds ns n → cond b (Some m.number) (child_in ns d name) ≡ Some n.number
+      by : (b : Bool) → is_hooked d name m.hook ≡ b → (HasElement ns n → child_in ns d name ≡ Some n.number)
+          → (m ≡ n) ⊎ HasElement ns n → cond b (Some m.number) (child_in ns d name) ≡ Some n.number
       by true test go w = ap (λ (x : Node). Some x.number) (one m (inl refl) test)
       by false test go (inl e) = absurd (let t : true ≡ false = sym is ∙ (ap (λ (x : Node). is_hooked d name x.hook) (sym e) ∙ test) in cc)
       by false test go (inr later) = go later
 
 no_child : (d : ℕ) (name : Name) (ns : List Node)
-    → ((m : Node) → Holds ns m → is_hooked d name m.hook ≡ true → ⊥) → child_in ns d name ≡ None
+    → ((m : Node) → HasElement ns m → is_hooked d name m.hook ≡ true → ⊥) → child_in ns d name ≡ None
 no_child d name [] never = refl
 no_child d name (m ∷ ns) never =
     by (is_hooked d name m.hook) refl (no_child d name ns (λ x w. never x (inr w))) where
@@ -116,19 +116,19 @@ no_child d name (m ∷ ns) never =
       by false test go = go
 
 -- no node hangs so
-pub none_hangs : (d : ℕ) (name : Name) (ns : List Node) (m : Node) → child_in ns d name ≡ None → Holds ns m
+pub none_hangs : (d : ℕ) (name : Name) (ns : List Node) (m : Node) → child_in ns d name ≡ None → HasElement ns m
     → address_of m.hook ≢ d ∷ name
 none_hangs d name [] m none at is = at
 none_hangs d name (n ∷ ns) m none at is =
     by (is_hooked d name n.hook) refl (λ e later. none_hangs d name ns m e later is) none at where
-      by : (b : Bool) → is_hooked d name n.hook ≡ b → (child_in ns d name ≡ None → Holds ns m → ⊥)
-          → cond b (Some n.number) (child_in ns d name) ≡ None → (n ≡ m) ⊎ Holds ns m → ⊥
+      by : (b : Bool) → is_hooked d name n.hook ≡ b → (child_in ns d name ≡ None → HasElement ns m → ⊥)
+          → cond b (Some n.number) (child_in ns d name) ≡ None → (n ≡ m) ⊎ HasElement ns m → ⊥
       by true test go none w = absurd cc
       by false test go none (inl e) = absurd (let t : true ≡ false = sym (hooked_if d name m.hook is) ∙ (ap (λ (x : Node). is_hooked d name x.hook) (sym e) ∙ test) in cc)
       by false test go none (inr later) = go none later
 
-hooked_listed : (d : ℕ) (name : Name) (ns ms : List Node) (m : Node) → AreListed ns ms → Holds ns m
-    → address_of m.hook ≡ d ∷ name → Holds ms m
+hooked_listed : (d : ℕ) (name : Name) (ns ms : List Node) (m : Node) → AreListed ns ms → HasElement ns m
+    → address_of m.hook ≡ d ∷ name → HasElement ms m
 hooked_listed d name ns ms m are at is = are.all m at (λ e. absurd (let t : d ∷ name ≡ [] = sym is ∙ e in cc))
 
 same_not_behind : (d : ℕ) (name : Name) (m : Node) → address_of m.hook ≡ d ∷ name → NodeBehind (d ∷ name) m → ⊥
@@ -136,7 +136,7 @@ same_not_behind d name m is b = not_itself (d ∷ name) (subst (Before (d ∷ na
 
 -- the last one up to this address is the only one that can have it
 only_last : (d : ℕ) (name : Name) (ns ms : List Node) (q : ℕ) (n m : Node) → AreListed ns ms → IsCutAt (d ∷ name) ms (suc q)
-    → slice_get ms q ≡ Some n → Holds ns m → is_hooked d name m.hook ≡ true → m ≡ n
+    → slice_get ms q ≡ Some n → HasElement ns m → is_hooked d name m.hook ≡ true → m ≡ n
 only_last d name ns ms q n m are cut is at hooked =
     let address = address_if d name m.hook hooked in
     elim (last_before (NodeUpTo (d ∷ name)) (NodeBehind (d ∷ name)) Follows ms q n m are.ordered cut is (hooked_listed d name ns ms m are at address) (same_not_behind d name m address)) [
@@ -161,7 +161,7 @@ child_before_all d name ns ms are cut =
     no_child d name ns (λ m at h.
     let address = address_if d name m.hook h in
     same_not_behind d name m address (all_behind ms m cut (hooked_listed d name ns ms m are at address))) where
-      all_behind : (ms : List Node) (m : Node) → AllByRecursion (NodeBehind (d ∷ name)) ms → Holds ms m → NodeBehind (d ∷ name) m
+      all_behind : (ms : List Node) (m : Node) → AllByRecursion (NodeBehind (d ∷ name)) ms → HasElement ms m → NodeBehind (d ∷ name) m
       all_behind [] m h at = absurd at
       all_behind (x ∷ ms) m h (inl e) = subst (NodeBehind (d ∷ name)) e h.0
       all_behind (x ∷ ms) m h (inr at) = all_behind ms m h.1 at
@@ -171,7 +171,7 @@ child_before_all d name ns ms are cut =
 -- among nodes under later names none is before this one
 abbrev AreNotNearer : ℕ → Name → Name → Node → List Node → Type 0
 AreNotNearer d name x n ns =
-    (m : Node) → Holds ns m → comes_after d name m.hook ≡ true → (m ≡ n) ⊎ Before x (name_of_hook m.hook)
+    (m : Node) → HasElement ns m → comes_after d name m.hook ≡ true → (m ≡ n) ⊎ Before x (name_of_hook m.hook)
 
 not_before : (d : ℕ) (x : Name) (n m : Node) → n.hook ≡ In d x → (m ≡ n) ⊎ Before x (name_of_hook m.hook)
     → comes_before d x m.hook ≡ false
@@ -226,13 +226,13 @@ takes_over d name x n (Some m) ns is b near far =
           absurd (let t : true ≡ false = sym front ∙ test in cc)
 
 one_nearest : (d : ℕ) (name x : Name) (n : Node) (so_far : Option Node) (ns : List Node) → n.hook ≡ In d x → Before name x
-    → IsNearestSoFar d x n so_far → Holds ns n → AreNotNearer d name x n ns
+    → IsNearestSoFar d x n so_far → HasElement ns n → AreNotNearer d name x n ns
     → nearest_node d name so_far ns ≡ Some n
 one_nearest d name x n so_far [] is b near at far = absurd at
 one_nearest d name x n so_far (m ∷ ns) is b near at far =
     by at (λ o h later. one_nearest d name x n o ns is b h later (λ w k. far w (inr k))) where
       Later : Type 0
-      Later = (o : Option Node) → IsNearestSoFar d x n o → Holds ns n → nearest_node d name o ns ≡ Some n
+      Later = (o : Option Node) → IsNearestSoFar d x n o → HasElement ns n → nearest_node d name o ns ≡ Some n
 
       after_so : comes_after d name m.hook ≡ true → IsNearestSoFar d x n (Some m)
       after_so test = elim (far m (inl refl) test) [
@@ -248,17 +248,17 @@ one_nearest d name x n so_far (m ∷ ns) is b near at far =
       after_near None e = e
       after_near (Some w) e = both (comes_after d name m.hook) (comes_before d (name_of_hook w.hook) m.hook) e
 
-      step : (t : Bool) → is_nearer d name so_far m.hook ≡ t → Later → Holds ns n → nearest_node d name (cond t (Some m) so_far) ns ≡ Some n
+      step : (t : Bool) → is_nearer d name so_far m.hook ≡ t → Later → HasElement ns n → nearest_node d name (cond t (Some m) so_far) ns ≡ Some n
       step true test go later = go (Some m) (after_so (after_near so_far test)) later
       step false test go later = go so_far near later
 
-      by : (m ≡ n) ⊎ Holds ns n → Later → nearest_node d name so_far (m ∷ ns) ≡ Some n
+      by : (m ≡ n) ⊎ HasElement ns n → Later → nearest_node d name so_far (m ∷ ns) ≡ Some n
       by (inl e) go =
           ap (λ (w : Node). nearest_node d name (cond (is_nearer d name so_far w.hook) (Some w) so_far) ns) e
           ∙ takes_over d name x n so_far ns is b near (λ w k. far w (inr k))
       by (inr later) go = step (is_nearer d name so_far m.hook) refl go later
 
-none_nearest : (d : ℕ) (name : Name) (ns : List Node) → ((m : Node) → Holds ns m → comes_after d name m.hook ≡ true → ⊥)
+none_nearest : (d : ℕ) (name : Name) (ns : List Node) → ((m : Node) → HasElement ns m → comes_after d name m.hook ≡ true → ⊥)
     → nearest_node d name None ns ≡ None
 none_nearest d name [] never = refl
 none_nearest d name (m ∷ ns) never =
@@ -271,8 +271,8 @@ none_nearest d name (m ∷ ns) never =
 -- ---- it is the first one behind the cut, if that hangs in the directory
 
 -- what comes after a name stands behind the cut
-after_behind : (d : ℕ) (name : Name) (ns ms : List Node) (m : Node) → AreListed ns ms → Holds ns m → comes_after d name m.hook ≡ true
-    → (y : Name) × (m.hook ≡ In d y) × Holds ms m × (NodeUpTo (d ∷ name) m → ⊥)
+after_behind : (d : ℕ) (name : Name) (ns ms : List Node) (m : Node) → AreListed ns ms → HasElement ns m → comes_after d name m.hook ≡ true
+    → (y : Name) × (m.hook ≡ In d y) × HasElement ms m × (NodeUpTo (d ∷ name) m → ⊥)
 after_behind d name ns ms m are at test =
     let a = after_hook d name m.hook test in
     let address : address_of m.hook ≡ d ∷ a.0 = ap address_of a.1 in

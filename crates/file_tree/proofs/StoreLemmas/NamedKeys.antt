@@ -3,7 +3,7 @@ use Rattle.std.proofs.Common.{◌≡◌, ◌≢◌, ℕ, zero, suc, ◌+◌, ◌
 use Rattle.std.specs.List.{AllByRecursion, IsDistinct, insert, remove}
 use Rattle.std.proofs.lemmas.Bool.{cases_eq, eq-eqb}
 use Rattle.file_tree.specs.rules.Files.{is_before}
-use Rattle.file_tree.specs.Store.Cuts.{Holds, AreOrdered, IsCut}
+use Rattle.file_tree.specs.Store.Cuts.{HasElement, AreOrdered, IsCut}
 use Rattle.file_tree.specs.Store.Named.{IsBehind, IsUpTo, AreNamed, NoKey, OnlyKey}
 use Rattle.file_tree.proofs.Order.{Before, before_or_not, not_itself, before_both, one_before, in_front, behind_if, not_behind_if}
 use Rattle.file_tree.proofs.StoreLemmas.Cuts.{ordered_but}
@@ -11,36 +11,36 @@ use Rattle.file_tree.proofs.StoreLemmas.Places.{held_by_all}
 
 -- ---- what a list holds
 
-pub held_added : (xs : List ℕ) (k y : ℕ) → Holds (xs ++ k ∷ []) y → Holds xs y ⊎ (y ≡ k)
+pub held_added : (xs : List ℕ) (k y : ℕ) → HasElement (xs ++ k ∷ []) y → HasElement xs y ⊎ (y ≡ k)
 held_added [] k y (inl e) = inr (sym e)
 held_added [] k y (inr at) = absurd at
 held_added (x ∷ xs) k y (inl e) = inl (inl e)
 held_added (x ∷ xs) k y (inr at) = elim (held_added xs k y at) [ inl h ↦ inl (inr h) | inr e ↦ inr e ]
 
-pub held_still : (xs : List ℕ) (k y : ℕ) → Holds xs y → Holds (xs ++ k ∷ []) y
+pub held_still : (xs : List ℕ) (k y : ℕ) → HasElement xs y → HasElement (xs ++ k ∷ []) y
 held_still [] k y at = absurd at
 held_still (x ∷ xs) k y (inl e) = inl e
 held_still (x ∷ xs) k y (inr at) = inr (held_still xs k y at)
 
-pub held_last : (xs : List ℕ) (k : ℕ) → Holds (xs ++ k ∷ []) k
+pub held_last : (xs : List ℕ) (k : ℕ) → HasElement (xs ++ k ∷ []) k
 held_last [] k = inl refl
 held_last (x ∷ xs) k = inr (held_last xs k)
 
-pub held_without : (xs : List ℕ) (i y : ℕ) → Holds (remove xs i) y → Holds xs y
+pub held_without : (xs : List ℕ) (i y : ℕ) → HasElement (remove xs i) y → HasElement xs y
 held_without [] zero y at = absurd at
 held_without [] (suc i) y at = absurd at
 held_without (x ∷ xs) zero y at = inr at
 held_without (x ∷ xs) (suc i) y (inl e) = inl e
 held_without (x ∷ xs) (suc i) y (inr at) = inr (held_without xs i y at)
 
-pub held_but : (xs : List ℕ) (i d y : ℕ) → Holds xs y → y ≢ get_or xs i d → Holds (remove xs i) y
+pub held_but : (xs : List ℕ) (i d y : ℕ) → HasElement xs y → y ≢ get_or xs i d → HasElement (remove xs i) y
 held_but [] i d y at ne = absurd at
 held_but (x ∷ xs) zero d y (inl e) ne = absurd (ne (sym e))
 held_but (x ∷ xs) zero d y (inr at) ne = at
 held_but (x ∷ xs) (suc i) d y (inl e) ne = inl e
 held_but (x ∷ xs) (suc i) d y (inr at) ne = inr (held_but xs i d y at ne)
 
-held_put : (xs : List ℕ) (i k y : ℕ) → Holds (insert xs i k) y → Holds xs y ⊎ (y ≡ k)
+held_put : (xs : List ℕ) (i k y : ℕ) → HasElement (insert xs i k) y → HasElement xs y ⊎ (y ≡ k)
 held_put [] zero k y (inl e) = inr (sym e)
 held_put [] zero k y (inr at) = absurd at
 held_put [] (suc i) k y (inl e) = inr (sym e)
@@ -50,19 +50,19 @@ held_put (x ∷ xs) zero k y (inr at) = inl at
 held_put (x ∷ xs) (suc i) k y (inl e) = inl (inl e)
 held_put (x ∷ xs) (suc i) k y (inr at) = elim (held_put xs i k y at) [ inl h ↦ inl (inr h) | inr e ↦ inr e ]
 
-held_beside : (xs : List ℕ) (i k y : ℕ) → Holds xs y → Holds (insert xs i k) y
+held_beside : (xs : List ℕ) (i k y : ℕ) → HasElement xs y → HasElement (insert xs i k) y
 held_beside [] i k y at = absurd at
 held_beside (x ∷ xs) zero k y at = inr at
 held_beside (x ∷ xs) (suc i) k y (inl e) = inl e
 held_beside (x ∷ xs) (suc i) k y (inr at) = inr (held_beside xs i k y at)
 
-held_there : (xs : List ℕ) (i k : ℕ) → Holds (insert xs i k) k
+held_there : (xs : List ℕ) (i k : ℕ) → HasElement (insert xs i k) k
 held_there [] zero k = inl refl
 held_there [] (suc i) k = inl refl
 held_there (x ∷ xs) zero k = inl refl
 held_there (x ∷ xs) (suc i) k = inr (held_there xs i k)
 
-pub all_of_held : (P : ℕ → Type 0) (xs : List ℕ) → ((y : ℕ) → Holds xs y → P y) → AllByRecursion P xs
+pub all_of_held : (P : ℕ → Type 0) (xs : List ℕ) → ((y : ℕ) → HasElement xs y → P y) → AllByRecursion P xs
 all_of_held P [] h = tt
 all_of_held P (x ∷ xs) h = (h x (inl refl), all_of_held P xs (λ y at. h y (inr at)))
 
@@ -85,7 +85,7 @@ module _ (address : ℕ → List ℕ) where
 
   ordered_put : (key : ℕ) (xs : List ℕ) (p : ℕ) → AreOrdered After xs
       → IsCut (λ k. IsUpTo (address key) (address k)) (λ k. After key k) xs p
-      → ((k : ℕ) → Holds xs k → address k ≢ address key) → AreOrdered After (insert xs p key)
+      → ((k : ℕ) → HasElement xs k → address k ≢ address key) → AreOrdered After (insert xs p key)
   ordered_put key [] zero order cut other = (tt, tt)
   ordered_put key [] (suc p) order cut other = absurd cut
   ordered_put key (x ∷ xs) zero order cut other = (cut, order)
@@ -99,7 +99,7 @@ module _ (address : ℕ → List ℕ) where
       )
 
   -- two keys of one address are one
-  one_key : (xs : List ℕ) (j k : ℕ) → AreOrdered After xs → Holds xs j → Holds xs k
+  one_key : (xs : List ℕ) (j k : ℕ) → AreOrdered After xs → HasElement xs j → HasElement xs k
       → address j ≡ address k → j ≡ k
   one_key [] j k order h g e = absurd h
   one_key (x ∷ xs) j k order (inl a) (inl b) e = sym a ∙ b
@@ -110,7 +110,7 @@ module _ (address : ℕ → List ℕ) where
   one_key (x ∷ xs) j k order (inr a) (inr b) e = one_key xs j k order.1 a b e
 
   -- a key at a place isn't there once it is taken out
-  not_left : (xs : List ℕ) (i d : ℕ) → AreOrdered After xs → i < length xs → Holds (remove xs i) (get_or xs i d) → ⊥
+  not_left : (xs : List ℕ) (i d : ℕ) → AreOrdered After xs → i < length xs → HasElement (remove xs i) (get_or xs i d) → ⊥
   not_left [] i d order lt at = absurd (omega (arith, lt))
   not_left (x ∷ xs) zero d order lt at = not_itself (address x) (behind_if (address x) (address x) (held_by_all (After x) xs x order.0 at))
   not_left (x ∷ xs) (suc i) d order lt (inl e) = not_itself (address x) (behind_if (address x) (address x) (subst (After x) (sym e) (all_at xs i d order.0 (omega (arith, lt))))) where
@@ -122,17 +122,17 @@ module _ (address : ℕ → List ℕ) where
 
   -- ---- the index and a key
 
-  pub key_put : (order names : List ℕ) (key p : ℕ) → AreNamed (OnlyKey key) address order names → Holds order key → address key ≢ []
+  pub key_put : (order names : List ℕ) (key p : ℕ) → AreNamed (OnlyKey key) address order names → HasElement order key → address key ≢ []
       → IsCut (λ k. IsUpTo (address key) (address k)) (λ k. IsBehind (address key) (address k)) names p
-      → ((k : ℕ) → Holds names k → address k ≢ address key) → AreNamed NoKey address order (insert names p key)
+      → ((k : ℕ) → HasElement names k → address k ≢ address key) → AreNamed NoKey address order (insert names p key)
   key_put order names key p are there hung cut free =
       record {
         ordered = ordered_put key names p are.ordered cut free;
-        among = λ k at. elim (held_put names p key k at) [ inl h ↦ are.among k h | inr e ↦ subst (Holds order) (sym e) there ];
+        among = λ k at. elim (held_put names p key k at) [ inl h ↦ are.among k h | inr e ↦ subst (HasElement order) (sym e) there ];
         hung = λ k at. elim (held_put names p key k at) [ inl h ↦ are.hung k h | inr e ↦ subst (λ (j : ℕ). address j ≢ []) (sym e) hung ];
         without = λ k at out. out;
         all = λ k at some out. elim (cases_eq k key) [
-          | inl e ↦ subst (Holds (insert names p key)) (sym e) (held_there names p key)
+          | inl e ↦ subst (HasElement (insert names p key)) (sym e) (held_there names p key)
           | inr ne ↦ held_beside names p key k (are.all k at some ne)
         ];
       }
@@ -144,7 +144,7 @@ module _ (address : ℕ → List ℕ) where
         ordered = ordered_but After names i are.ordered;
         among = λ k at. are.among k (held_without names i k at);
         hung = λ k at. are.hung k (held_without names i k at);
-        without = λ k at out. not_left names i d are.ordered lt (subst (Holds (remove names i)) (out ∙ sym is) at);
+        without = λ k at out. not_left names i d are.ordered lt (subst (HasElement (remove names i)) (out ∙ sym is) at);
         all = λ k at some out. held_but names i d k (are.all k at some (λ none. none)) (λ e. out (e ∙ is));
       }
 
@@ -172,14 +172,14 @@ module _ (address : ℕ → List ℕ) where
 
   -- the key leaves the tree
   pub key_forgotten : (order names : List ℕ) (key i d : ℕ) → AreNamed (OnlyKey key) address order names
-      → (Holds (remove order i) key → ⊥) → get_or order i d ≡ key → AreNamed NoKey address (remove order i) names
+      → (HasElement (remove order i) key → ⊥) → get_or order i d ≡ key → AreNamed NoKey address (remove order i) names
   key_forgotten order names key i d are gone is =
       record {
         ordered = are.ordered;
         among = λ k at. held_but order i d k (are.among k at) (λ e. are.without k at (e ∙ is));
         hung = are.hung;
         without = λ k at out. out;
-        all = λ k at some out. are.all k (held_without order i k at) some (λ e. gone (subst (Holds (remove order i)) e at));
+        all = λ k at some out. are.all k (held_without order i k at) some (λ e. gone (subst (HasElement (remove order i)) e at));
       }
 
 -- the address of a key that is left out changes
@@ -193,24 +193,24 @@ address_changed old new order names key same are =
       without = are.without;
       all = λ k at some out. are.all k at (λ e. some (same k out ∙ e)) out;
     } where
-      all_so : (x : ℕ) (ks : List ℕ) → x ≢ key → ((k : ℕ) → Holds ks k → k ≢ key) → AllByRecursion (λ k. IsBehind (old x) (old k)) ks → AllByRecursion (λ k. IsBehind (new x) (new k)) ks
+      all_so : (x : ℕ) (ks : List ℕ) → x ≢ key → ((k : ℕ) → HasElement ks k → k ≢ key) → AllByRecursion (λ k. IsBehind (old x) (old k)) ks → AllByRecursion (λ k. IsBehind (new x) (new k)) ks
       all_so x [] ne others h = tt
       all_so x (k ∷ ks) ne others h =
           (ap (λ (a : List ℕ). is_before a (new k)) (same x ne) ∙ ap (is_before (old x)) (same k (others k (inl refl))) ∙ h.0, all_so x ks ne (λ j at. others j (inr at)) h.1)
 
-      ordered_so : (ks : List ℕ) → AreOrdered (λ j k. IsBehind (old j) (old k)) ks → ((k : ℕ) → Holds ks k → k ≢ key) → AreOrdered (λ j k. IsBehind (new j) (new k)) ks
+      ordered_so : (ks : List ℕ) → AreOrdered (λ j k. IsBehind (old j) (old k)) ks → ((k : ℕ) → HasElement ks k → k ≢ key) → AreOrdered (λ j k. IsBehind (new j) (new k)) ks
       ordered_so [] h others = tt
       ordered_so (k ∷ ks) h others =
           (all_so k ks (others k (inl refl)) (λ j at. others j (inr at)) h.0, ordered_so ks h.1 (λ j at. others j (inr at)))
 
 -- a key that is new
-pub key_new : (old new : ℕ → List ℕ) (order names : List ℕ) (key : ℕ) → ((k : ℕ) → k ≢ key → new k ≡ old k) → (Holds order key → ⊥)
+pub key_new : (old new : ℕ → List ℕ) (order names : List ℕ) (key : ℕ) → ((k : ℕ) → k ≢ key → new k ≡ old k) → (HasElement order key → ⊥)
     → AreNamed NoKey old order names → AreNamed (OnlyKey key) new (order ++ key ∷ []) names
 key_new old new order names key same fresh are = address_changed old new (order ++ key ∷ []) names key same (record {
   ordered = are.ordered;
   among = λ k at. held_still order key k (are.among k at);
   hung = are.hung;
-  without = λ k at out. fresh (subst (Holds order) out (are.among k at));
+  without = λ k at out. fresh (subst (HasElement order) out (are.among k at));
   all = λ k at some out. elim (held_added order key k at) [ inl h ↦ are.all k h some (λ none. none) | inr e ↦ absurd (out e) ];
 })
 

@@ -8,25 +8,25 @@ use Rattle.file_tree.specs.rules.Files.{Name}
 use Rattle.file_tree.specs.Links.{is_hooked, child_in}
 use Rattle.file_tree.specs.Nearest.{nearest_node, node_listed}
 use Rattle.file_tree.specs.Store.Stored.{stored}
-use Rattle.file_tree.specs.Store.Cuts.{Holds, IsCut}
-use Rattle.file_tree.specs.Store.Named.{KeyBehind, KeyUpTo, AreInOrder, NoKey, in_directory}
-use Rattle.file_tree.specs.Store.Kept.{AreKept}
+use Rattle.file_tree.specs.Store.Cuts.{HasElement, IsCut}
+use Rattle.file_tree.specs.Store.Named.{KeyBehind, KeyUpTo, AreByAddress, NoKey, in_directory}
+use Rattle.file_tree.specs.Store.Kept.{AreStoredNodes}
 use Rattle.file_tree.proofs.NamedNodes.{NodeBehind, NodeUpTo, AreListed, child_there, child_not_there, child_before_all, nearest_found, listed_found}
 use Rattle.file_tree.proofs.StoreLemmas.Cuts.{behind_all}
 use Rattle.file_tree.proofs.StoreLemmas.Keys.{length-stored}
 use Rattle.file_tree.proofs.StoreLemmas.NamedStored.{cut_stored, in_order, are_listed, node_at}
 use Rattle.file_tree.proofs.StoreLemmas.Places.{none_at}
 
-pub keys_in_order : (slab : Slab Node) (order names keys : List ℕ) → AreKept slab order names → keys ≡ names → AreInOrder slab keys
+pub keys_in_order : (slab : Slab Node) (order names keys : List ℕ) → AreStoredNodes slab order names → keys ≡ names → AreByAddress slab keys
 keys_in_order slab order names keys kept same =
-    subst (AreInOrder slab) (sym same) (in_order NoKey slab order names kept.are.present kept.named)
+    subst (AreByAddress slab) (sym same) (in_order NoKey slab order names kept.are.present kept.named)
 
-pub key_before : (slab : Slab Node) (keys : List ℕ) (p : ℕ) → AreInOrder slab keys → p ≢ 0 → p ≤ length keys
+pub key_before : (slab : Slab Node) (keys : List ℕ) (p : ℕ) → AreByAddress slab keys → p ≢ 0 → p ≤ length keys
     → ContainsKey slab (get_or keys (p - 1) 0)
 key_before slab keys p order some within =
     behind_all (ContainsKey slab) keys (p - 1) 0 order.present (omega (arith, some, within))
 
-module _ (slab : Slab Node) (order names keys : List ℕ) (ns : List Node) (kept : AreKept slab order names) (same : keys ≡ names)
+module _ (slab : Slab Node) (order names keys : List ℕ) (ns : List Node) (kept : AreStoredNodes slab order names) (same : keys ≡ names)
     (shown : stored slab order ≡ ns) where
   keys_listed : AreListed ns (stored slab keys)
   keys_listed =

@@ -6,8 +6,8 @@ use Rattle.file_tree.specs.declared.store.node.Hook.{Hook}
 use Rattle.file_tree.specs.declared.store.node.Hook.TheVariants.{In}
 use Rattle.file_tree.specs.declared.store.node.Node.{Node}
 use Rattle.file_tree.specs.rules.Files.{Name, is_before}
-use Rattle.file_tree.specs.Store.Cuts.{Holds, AreOrdered, IsCut}
-use Rattle.file_tree.specs.Store.Named.{address_of, address_at, IsBehind, IsUpTo, KeyBehind, KeyUpTo, AreInOrder}
+use Rattle.file_tree.specs.Store.Cuts.{HasElement, AreOrdered, IsCut}
+use Rattle.file_tree.specs.Store.Named.{address_of, address_at, IsBehind, IsUpTo, KeyBehind, KeyUpTo, AreByAddress}
 use Rattle.file_tree.proofs.Order.{before_both, not_itself, in_front, not_in_front, behind_if, not_behind_if}
 use Rattle.file_tree.proofs.StoreLemmas.NamedStored.{address_of_node}
 use Rattle.file_tree.proofs.StoreLemmas.Places.{held_by_all, front_at, last_before, some_at}
@@ -40,7 +40,7 @@ module _ {T : Type 0} (Front Back : T → Type 0) where
 -- ---- the place of a key that is there
 
 own_place : (address : ℕ → List ℕ) (xs : List ℕ) (p key d : ℕ) → AreOrdered (λ j k. IsBehind (address j) (address k)) xs
-    → IsCut (λ k. IsUpTo (address key) (address k)) (λ k. IsBehind (address key) (address k)) xs p → Holds xs key
+    → IsCut (λ k. IsUpTo (address key) (address k)) (λ k. IsBehind (address key) (address k)) xs p → HasElement xs key
     → (1 ≤ p) × (get_or xs (p - 1) d ≡ key)
 own_place address xs zero key d order cut at =
     absurd (not_itself (address key) (behind_if (address key) (address key) (held_by_all (λ k. IsBehind (address key) (address k)) xs key cut at)))
@@ -73,9 +73,9 @@ read_cut slab key from keys names p e f cut =
     subst (λ (ks : List ℕ). IsCut (λ k. IsUpTo (address_at slab key) (address_at slab k)) (λ k. IsBehind (address_at slab key) (address_at slab k)) ks p) f
     (subst (λ (a : List ℕ). IsCut (λ k. IsUpTo a (address_at slab k)) (λ k. IsBehind a (address_at slab k)) keys p) e cut)
 
-pub own_key : (slab : Slab Node) (key : ℕ) (from : List ℕ) (keys names : List ℕ) (p d : ℕ) → AreInOrder slab names
+pub own_key : (slab : Slab Node) (key : ℕ) (from : List ℕ) (keys names : List ℕ) (p d : ℕ) → AreByAddress slab names
     → from ≡ address_at slab key → keys ≡ names
-    → IsCut (KeyUpTo from slab) (KeyBehind from slab) keys p → Holds names key
+    → IsCut (KeyUpTo from slab) (KeyBehind from slab) keys p → HasElement names key
     → (1 ≤ p) × (get_or names (p - 1) d ≡ key)
 own_key slab key from keys names p d order e f cut at =
     own_place (address_at slab) names p key d order.ordered (read_cut slab key from keys names p e f cut) at

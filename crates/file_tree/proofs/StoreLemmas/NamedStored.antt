@@ -6,8 +6,8 @@ use Rattle.slab.specs.Slab.{Slab, get, ContainsKey}
 use Rattle.file_tree.specs.declared.store.node.Node.{Node}
 use Rattle.file_tree.specs.Links.{hook_held}
 use Rattle.file_tree.specs.Store.Stored.{put, stored, AreStored}
-use Rattle.file_tree.specs.Store.Cuts.{Holds, AreOrdered, IsCut}
-use Rattle.file_tree.specs.Store.Named.{address_of, address_at, IsBehind, IsUpTo, KeyBehind, KeyUpTo, AreInOrder, AreNamed, NoKey}
+use Rattle.file_tree.specs.Store.Cuts.{HasElement, AreOrdered, IsCut}
+use Rattle.file_tree.specs.Store.Named.{address_of, address_at, IsBehind, IsUpTo, KeyBehind, KeyUpTo, AreByAddress, AreNamed, NoKey}
 use Rattle.file_tree.proofs.NamedNodes.{NodeBehind, NodeUpTo, AreListed}
 use Rattle.file_tree.proofs.StoreLemmas.Keys.{is_value, stored_at, length-stored}
 use Rattle.file_tree.proofs.StoreLemmas.NamedKeys.{all_of_held}
@@ -18,7 +18,7 @@ pub address_of_node : (slab : Slab Node) (key : ℕ) (n : Node) → get slab key
 address_of_node slab key n is = ap (λ (o : Option Node). address_of (hook_held o)) is
 
 pub stored_holds : (slab : Slab Node) (keys : List ℕ) (key : ℕ) (n : Node) → AllByRecursion (ContainsKey slab) keys
-    → Holds keys key → get slab key ≡ Some n → Holds (stored slab keys) n
+    → HasElement keys key → get slab key ≡ Some n → HasElement (stored slab keys) n
 stored_holds slab [] key n present at is = absurd at
 stored_holds slab (k ∷ keys) key n present (inl e) is =
     let here : get slab k ≡ Some n = ap (get slab) e ∙ is in
@@ -28,13 +28,13 @@ stored_holds slab (k ∷ keys) key n present (inr at) is =
     rw v.1 (inr (stored_holds slab keys key n present.1 at is))
 
 pub key_of_stored : (slab : Slab Node) (keys : List ℕ) (n : Node) → AllByRecursion (ContainsKey slab) keys
-    → Holds (stored slab keys) n → (key : ℕ) × Holds keys key × (get slab key ≡ Some n)
+    → HasElement (stored slab keys) n → (key : ℕ) × HasElement keys key × (get slab key ≡ Some n)
 key_of_stored slab [] n present at = absurd at
 key_of_stored slab (k ∷ keys) n present at =
     let v = is_value (get slab k) present.0 in
-    by v.0 v.1 (key_of_stored slab keys n present.1) (subst (λ (o : Option Node). Holds (put o (stored slab keys)) n) v.1 at) where
-      by : (m : Node) → get slab k ≡ Some m → (Holds (stored slab keys) n → (key : ℕ) × Holds keys key × (get slab key ≡ Some n))
-          → (m ≡ n) ⊎ Holds (stored slab keys) n → (key : ℕ) × Holds (k ∷ keys) key × (get slab key ≡ Some n)
+    by v.0 v.1 (key_of_stored slab keys n present.1) (subst (λ (o : Option Node). HasElement (put o (stored slab keys)) n) v.1 at) where
+      by : (m : Node) → get slab k ≡ Some m → (HasElement (stored slab keys) n → (key : ℕ) × HasElement keys key × (get slab key ≡ Some n))
+          → (m ≡ n) ⊎ HasElement (stored slab keys) n → (key : ℕ) × HasElement (k ∷ keys) key × (get slab key ≡ Some n)
       by m is go (inl e) = (k, inl refl, is ∙ ap (λ (w : Node). Some w) e)
       by m is go (inr later) = (let r = go later in (r.0, inr r.1, r.2))
 
@@ -72,7 +72,7 @@ named_present Out slab order names present are =
     all_of_held (ContainsKey slab) names (λ k at. held_by_all (ContainsKey slab) order k present (are.among k at))
 
 pub in_order : (Out : ℕ → Type 0) (slab : Slab Node) (order names : List ℕ) → AllByRecursion (ContainsKey slab) order
-    → AreNamed Out (address_at slab) order names → AreInOrder slab names
+    → AreNamed Out (address_at slab) order names → AreByAddress slab names
 in_order Out slab order names present are =
     record { present = named_present Out slab order names present are; ordered = are.ordered }
 

@@ -2,18 +2,18 @@
 use Rattle.std.proofs.Common.{◌≡◌, ◌≢◌, ℕ, zero, suc, ◌+◌, ◌<◌, ◌≤◌, ◌⊎◌, inl, inr, List, [], ◌∷◌, length, get_or, Option, Some, None, refl, sym, ap, subst, ◌∙◌, arith}
 use Rattle.std.specs.Prelude.{slice_get}
 use Rattle.std.specs.List.{AllByRecursion}
-use Rattle.file_tree.specs.Store.Cuts.{Holds, AreOrdered, IsCut}
+use Rattle.file_tree.specs.Store.Cuts.{HasElement, AreOrdered, IsCut}
 
 module _ {T : Type 0} where
   pub some_same : (x y : T) → Some x ≡ Some y → x ≡ y
   some_same x y e = cc
 
-  pub held_by_all : (P : T → Type 0) (xs : List T) (y : T) → AllByRecursion P xs → Holds xs y → P y
+  pub held_by_all : (P : T → Type 0) (xs : List T) (y : T) → AllByRecursion P xs → HasElement xs y → P y
   held_by_all P [] y h at = absurd at
   held_by_all P (x ∷ xs) y h (inl e) = subst P e h.0
   held_by_all P (x ∷ xs) y h (inr at) = held_by_all P xs y h.1 at
 
-  pub held_at : (xs : List T) (i : ℕ) (y : T) → slice_get xs i ≡ Some y → Holds xs y
+  pub held_at : (xs : List T) (i : ℕ) (y : T) → slice_get xs i ≡ Some y → HasElement xs y
   held_at [] i y is = absurd cc
   held_at (x ∷ xs) zero y is = inl (some_same x y is)
   held_at (x ∷ xs) (suc i) y is = inr (held_at xs i y is)
@@ -42,7 +42,7 @@ module _ {T : Type 0} where
     front_at (x ∷ xs) (suc p) y cut is = front_at xs p y cut.1 is
 
     pub all_in_front : (xs : List T) (p : ℕ) (y : T)
-        → IsCut Front Back xs p → slice_get xs p ≡ None → Holds xs y → Front y
+        → IsCut Front Back xs p → slice_get xs p ≡ None → HasElement xs y → Front y
     all_in_front [] p y cut none at = absurd at
     all_in_front (x ∷ xs) zero y cut none at = absurd cc
     all_in_front (x ∷ xs) (suc p) y cut none (inl e) = subst Front e cut.0
@@ -51,7 +51,7 @@ module _ {T : Type 0} where
     module _ (Before : T → T → Type 0) where
       -- what stands from the cut on is the first one there, or stands behind it
       pub first_behind : (xs : List T) (p : ℕ) (y z : T) → AreOrdered Before xs
-          → IsCut Front Back xs p → slice_get xs p ≡ Some y → Holds xs z → (Front z → ⊥)
+          → IsCut Front Back xs p → slice_get xs p ≡ Some y → HasElement xs z → (Front z → ⊥)
           → (z ≡ y) ⊎ Before y z
       first_behind [] p y z order cut is at never = absurd at
       first_behind (x ∷ xs) zero y z order cut is (inl e) never = inl (sym e ∙ some_same x y is)
@@ -64,7 +64,7 @@ module _ {T : Type 0} where
 
       -- what stands before the cut is the last one there, or stands before it
       pub last_before : (xs : List T) (p : ℕ) (y z : T) → AreOrdered Before xs
-          → IsCut Front Back xs (suc p) → slice_get xs p ≡ Some y → Holds xs z → (Back z → ⊥)
+          → IsCut Front Back xs (suc p) → slice_get xs p ≡ Some y → HasElement xs z → (Back z → ⊥)
           → (z ≡ y) ⊎ Before z y
       last_before [] p y z order cut is at never = absurd at
       last_before (x ∷ xs) zero y z order cut is (inl e) never = inl (sym e ∙ some_same x y is)

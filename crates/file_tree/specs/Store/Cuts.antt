@@ -4,9 +4,9 @@ use Rattle.std.specs.List.{AllByRecursion}
 
 module _ {T : Type 0} where
   -- it is one of these
-  abbrev pub Holds : List T → T → Type 0
-  Holds [] y = ⊥
-  Holds (x ∷ xs) y = (x ≡ y) ⊎ Holds xs y
+  abbrev pub HasElement : List T → T → Type 0
+  HasElement [] y = ⊥
+  HasElement (x ∷ xs) y = (x ≡ y) ⊎ HasElement xs y
 
   -- each stands so to all behind it
   abbrev pub AreOrdered : (T → T → Type 0) → List T → Type 0

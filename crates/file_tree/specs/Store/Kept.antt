@@ -19,7 +19,7 @@ abbrev pub HasNoLower : ℕ → Node → Type 0
 HasNoLower k n = k ≤ n.number
 
 -- nodes at these keys, by rising numbers, and once more by their addresses
-pub record AreKept (slab : Slab Node) (order names : List ℕ) : Type 0 where
+pub record AreStoredNodes (slab : Slab Node) (order names : List ℕ) : Type 0 where
   pub are : AreStored slab order
   pub rising : AreOrdered IsLower (stored slab order)
   pub named : AreNamed NoKey (address_at slab) order names

@@ -8,7 +8,7 @@ use Rattle.file_tree.specs.declared.store.node.Node.{Node}
 use Rattle.file_tree.specs.rules.Files.{is_before}
 use Rattle.file_tree.specs.Links.{hook_held, child_in, is_in}
 use Rattle.file_tree.specs.Store.Stored.{stored}
-use Rattle.file_tree.specs.Store.Cuts.{Holds, AreOrdered, IsCut}
+use Rattle.file_tree.specs.Store.Cuts.{HasElement, AreOrdered, IsCut}
 
 -- The number of a directory and a name in it, as one list. In the order of these lists nodes of one
 -- directory stand together, by their names. What has no name has no address.
@@ -37,17 +37,17 @@ abbrev pub KeyUpTo : List ℕ → Slab Node → ℕ → Type 0
 KeyUpTo from slab key = IsUpTo from (address_at slab key)
 
 -- each key has a node, and they are in the order of addresses
-pub record AreInOrder (slab : Slab Node) (keys : List ℕ) : Type 0 where
+pub record AreByAddress (slab : Slab Node) (keys : List ℕ) : Type 0 where
   pub present : AllByRecursion (ContainsKey slab) keys
   pub ordered : AreOrdered (λ j k. IsBehind (address_at slab j) (address_at slab k)) keys
 
 -- The keys of all nodes that have an address, in their order; but none of those left out.
 pub record AreNamed (Out : ℕ → Type 0) (address : ℕ → List ℕ) (order names : List ℕ) : Type 0 where
   pub ordered : AreOrdered (λ j k. IsBehind (address j) (address k)) names
-  pub among : (k : ℕ) → Holds names k → Holds order k
-  pub hung : (k : ℕ) → Holds names k → address k ≢ []
-  pub without : (k : ℕ) → Holds names k → Out k → ⊥
-  pub all : (k : ℕ) → Holds order k → address k ≢ [] → (Out k → ⊥) → Holds names k
+  pub among : (k : ℕ) → HasElement names k → HasElement order k
+  pub hung : (k : ℕ) → HasElement names k → address k ≢ []
+  pub without : (k : ℕ) → HasElement names k → Out k → ⊥
+  pub all : (k : ℕ) → HasElement order k → address k ≢ [] → (Out k → ⊥) → HasElement names k
 
 -- no key is left out
 abbrev pub NoKey : ℕ → Type 0
@@ -64,12 +64,12 @@ IsCutBehind from slab keys place = IsCut (KeyUpTo from slab) (KeyBehind from sla
 -- no other key has its address
 abbrev pub IsFreeKey : Slab Node → List ℕ → ℕ → Type 0
 IsFreeKey slab keys key =
-    (k : ℕ) → Holds keys k → address_at slab k ≢ address_at slab key
+    (k : ℕ) → HasElement keys k → address_at slab k ≢ address_at slab key
 
 -- a key that was left out is named too
 abbrev pub GetsKey : Slab Node → ℕ → List ℕ → List ℕ → Type 0
 GetsKey slab key old new =
-    (order : List ℕ) → Holds order key → AreNamed (OnlyKey key) (address_at slab) order old
+    (order : List ℕ) → HasElement order key → AreNamed (OnlyKey key) (address_at slab) order old
     → AreNamed NoKey (address_at slab) order new
 
 -- a key is left out
@@ -90,5 +90,5 @@ in_directory d None = None
 in_directory d (Some n) = if is_in d n.hook then Some n else None
 
 -- the node of the key at a place
-abbrev pub node_at : Slab Node → List ℕ → ℕ → Option Node
-node_at slab keys place = slice_get (stored slab keys) place
+abbrev pub node_named_at : Slab Node → List ℕ → ℕ → Option Node
+node_named_at slab keys place = slice_get (stored slab keys) place

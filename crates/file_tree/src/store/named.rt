@@ -5,10 +5,10 @@ ghost use Rattle.std.specs.Vec.{vec_len, vec_capacity};
 ghost use Rattle.slab.specs.Slab.{ContainsKey};
 ghost use Rattle.file_tree.specs.rules.Files.{is_before as is_name_before};
 ghost use Rattle.file_tree.specs.Links.{is_in};
-ghost use Rattle.file_tree.specs.Store.Cuts.{Holds};
-ghost use Rattle.file_tree.specs.Store.Named.{address_of, address_at, AreInOrder, IsCutBehind};
+ghost use Rattle.file_tree.specs.Store.Cuts.{HasElement};
+ghost use Rattle.file_tree.specs.Store.Named.{address_of, address_at, AreByAddress, IsCutBehind};
 ghost use Rattle.file_tree.specs.Store.Named.{IsFreeKey, GetsKey, LosesKey};
-ghost use Rattle.file_tree.specs.Store.Named.{in_directory, node_at};
+ghost use Rattle.file_tree.specs.Store.Named.{in_directory, node_named_at};
 
 use crate::store::node::{Hook, Node};
 use slab::Slab;
@@ -61,7 +61,7 @@ fn hangs_in(hook: &Hook, directory: u64) -> bool
 
 /// How many nodes don't hang behind a name of a directory. Each step halves those that are left.
 pub fn count_up_to(slab: &Slab<Node>, keys: &[usize], directory: u64, name: &[u8]) -> usize
-    requires { AreInOrder slab.now keys.now }
+    requires { AreByAddress slab.now keys.now }
     ensures cut { IsCutBehind (directory ∷ name.now) slab.now keys.now result }
     ensures within { result ≤ length keys.now }
 {
@@ -85,8 +85,8 @@ pub fn node_named<'a>(
     place: usize,
     directory: u64,
 ) -> Option<&'a Node>
-    requires { AreInOrder slab.now keys.now }
-    ensures { option_copied result ≡ in_directory directory (node_at slab.now keys.now place) }
+    requires { AreByAddress slab.now keys.now }
+    ensures { option_copied result ≡ in_directory directory (node_named_at slab.now keys.now place) }
 {
     if place >= keys.len() {
         return None;
@@ -100,7 +100,7 @@ pub fn node_named<'a>(
 
 /// Puts a key in its place, if its node has an address. There is room for it.
 pub fn put_key(slab: &Slab<Node>, names: &mut Vec<usize>, key: usize)
-    requires order { AreInOrder slab.now names.old.items }
+    requires order { AreByAddress slab.now names.old.items }
     requires there { ContainsKey slab.now key }
     requires free { IsFreeKey slab.now names.old.items key }
     requires room { address_at slab.now key ≢ [] → vec_len names.old < vec_capacity names.old }
@@ -119,9 +119,9 @@ pub fn put_key(slab: &Slab<Node>, names: &mut Vec<usize>, key: usize)
 
 /// Takes a key out, if its node has an address. There is room for another one then.
 pub fn take_key(slab: &Slab<Node>, names: &mut Vec<usize>, key: usize)
-    requires order { AreInOrder slab.now names.old.items }
+    requires order { AreByAddress slab.now names.old.items }
     requires there { ContainsKey slab.now key }
-    requires listed { address_at slab.now key ≢ [] → Holds names.old.items key }
+    requires listed { address_at slab.now key ≢ [] → HasElement names.old.items key }
     requires fits { vec_len names.old ≤ vec_capacity names.old }
     ensures named { LosesKey slab.now key names.old.items names.new.items }
     ensures room { address_at slab.now key ≢ [] → vec_len names.new < vec_capacity names.new }

@@ -38,14 +38,14 @@ impl Model for Nodes {
     ghost Value = { List TheNode };
 
     ghost use Rattle.file_tree.specs.Store.Stored.{stored};
-    ghost use Rattle.file_tree.specs.Store.Kept.{AreKept};
+    ghost use Rattle.file_tree.specs.Store.Kept.{AreStoredNodes};
 
     ghost view = { λ a. stored a.slab a.order.items };
 
     ghost use Rattle.std.specs.Prelude.{◌≤◌};
     ghost use Rattle.std.specs.Vec.{vec_len, vec_capacity};
 
-    ghost invariant = { λ a. AreKept a.slab a.order.items a.names.items × (vec_len a.names ≤ vec_capacity a.names) };
+    ghost invariant = { λ a. AreStoredNodes a.slab a.order.items a.names.items × (vec_len a.names ≤ vec_capacity a.names) };
 }
 
 impl Nodes {

@@ -1,7 +1,7 @@
 use Rattle.std.proofs.Common.{◌≡◌, sym, ap, subst, ◌∙◌, ◌++◌, ◌∷◌, [], ℕ, List, arith}
 use Rattle.file_tree.specs.declared.store.node.Node.{Node}
 use Rattle.file_tree.specs.Store.Named.{OnlyKey}
-use Rattle.file_tree.specs.Store.Kept.{AreKept}
+use Rattle.file_tree.specs.Store.Kept.{AreStoredNodes}
 use Rattle.file_tree.proofs.StoreLemmas.Keys.{stored-with_room, stored_push, keys_push}
 use Rattle.file_tree.proofs.StoreLemmas.KeptNodes.{room_kept, reserved_kept, adds_there, push_kept, key_pushed, free_pushed}
 use Rattle.file_tree.proofs.StoreLemmas.NamedKeys.{held_last}
@@ -20,7 +20,7 @@ invariant_of-self-in_err-reserve-2 c = (
 
 pub invariant_of-self-in_err-push : goal.invariant_of-self-in_err-push
 invariant_of-self-in_err-push c = (
-  subst (λ (order : List ℕ). AreKept c.reserve.new.self order c.reserve-2.new.self.items) (sym c.in_err-push.ensures.items)
+  subst (λ (order : List ℕ). AreStoredNodes c.reserve.new.self order c.reserve-2.new.self.items) (sym c.in_err-push.ensures.items)
       (reserved_kept c.self.inside.slab c.reserve.new.self c.self.inside.order.items c.self.inside.names.items c.reserve-2.new.self.items c.reserve.ensures.rest_kept c.reserve-2.ensures.items c.self.invariant.0),
   omega (arith, c.reserve-2.ensures.len, c.reserve-2.ensures.capacity, c.self.invariant.1),
 )
@@ -58,7 +58,7 @@ invariant_of-self-2 c =
     let key = c.vacant_key-key.result in
     let pushed = key_pushed c.reserve.new.self c.insert_reserved.new.self c.vacant_key-key.result c.args.node order c.reserve-2.new.self.items adds before in
     let named = c.put_key.ensures.named (order ++ key ∷ []) (held_last order key) pushed in (
-      subst (λ (keys : List ℕ). AreKept c.insert_reserved.new.self keys c.put_key.new.names.items) (sym c.in_ok-push.ensures.items)
+      subst (λ (keys : List ℕ). AreStoredNodes c.insert_reserved.new.self keys c.put_key.new.names.items) (sym c.in_ok-push.ensures.items)
           (push_kept c.reserve.new.self c.insert_reserved.new.self c.vacant_key-key.result c.args.node order c.reserve-2.new.self.items c.put_key.new.names.items c.args.self.now adds before shown c.requires.number named),
       c.put_key.ensures.fits,
     )
