@@ -84,7 +84,8 @@ module _ {T : Type 0} where
     ordered_added (x ∷ xs) y order h =
         (all_added (Before x) xs y order.0 h.0, ordered_added xs y order.1 h.1)
 
-    pub ordered_but : (xs : List T) (i : ℕ) → AreOrdered Before xs → AreOrdered Before (remove xs i)
+    pub ordered_but : (xs : List T) (i : ℕ) → AreOrdered Before xs
+        → AreOrdered Before (remove xs i)
     ordered_but [] zero order = tt
     ordered_but [] (suc i) order = tt
     ordered_but (x ∷ xs) zero order = order.1

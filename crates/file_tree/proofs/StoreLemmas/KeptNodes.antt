@@ -22,7 +22,8 @@ use Rattle.file_tree.proofs.NamedNodes.{none_hangs}
 use Rattle.file_tree.proofs.StoreLemmas.Numbers.{ordered_changed}
 use Rattle.file_tree.proofs.StoreLemmas.Places.{held_by_all, held_at, some_at}
 
-pub none_kept : (slab : Slab Node) (order names : List ℕ) → order ≡ [] → names ≡ [] → AreStoredNodes slab order names
+pub none_kept : (slab : Slab Node) (order names : List ℕ) → order ≡ [] → names ≡ []
+    → AreStoredNodes slab order names
 none_kept slab order names e f =
     record {
       are = no_keys slab order e;
@@ -32,7 +33,8 @@ none_kept slab order names e f =
 
 -- ---- what is written into a node
 
-same_addresses : (old new : Slab Node) (order names : List ℕ) → ((k : ℕ) → address_at old k ≡ address_at new k)
+same_addresses : (old new : Slab Node) (order names : List ℕ)
+    → ((k : ℕ) → address_at old k ≡ address_at new k)
     → AreNamed NoKey (address_at old) order names → AreNamed NoKey (address_at new) order names
 same_addresses old new order names same are =
     let functions : address_at old ≡ address_at new = (λ i k. same k i) in
@@ -80,7 +82,8 @@ hook_kept slab order before names ns place key n hook kept at is named =
       named = named;
     }
 
-pub hook_changed : (slab : Slab Node) (order names : List ℕ) (key : ℕ) (n : Node) (hook : Hook) → get slab key ≡ Some n
+pub hook_changed : (slab : Slab Node) (order names : List ℕ) (key : ℕ) (n : Node) (hook : Hook)
+    → get slab key ≡ Some n
     → AreNamed (OnlyKey key) (address_at slab) order names
     → AreNamed (OnlyKey key) (address_at (with_value slab key (with_hook hook n))) order names
 hook_changed slab order names key n hook is =
@@ -94,7 +97,8 @@ new_address slab key n hook is =
 
 -- ---- a node more or less
 
-pub room_kept : (old new : Slab Node) (capacity : ℕ) (order names : List ℕ) → new ≡ record old { capacity = capacity }
+pub room_kept : (old new : Slab Node) (capacity : ℕ) (order names : List ℕ)
+    → new ≡ record old { capacity = capacity }
     → AreStoredNodes old order names → AreStoredNodes new order names
 room_kept old new capacity order names e kept =
     record {
@@ -103,9 +107,12 @@ room_kept old new capacity order names e kept =
       named = same_addresses old new order names (λ k. ap (λ (s : Slab Node). address_at s k) (sym e)) kept.named;
     }
 
-pub push_kept : (old new : Slab Node) (key : ℕ) (n : Node) (order before names : List ℕ) (ns : List Node) → Adds old new key n
-    → AreStoredNodes old order before → stored old order ≡ ns → AllByRecursion (λ (m : Node). m.number < n.number) ns
-    → AreNamed NoKey (address_at new) (order ++ key ∷ []) names → AreStoredNodes new (order ++ key ∷ []) names
+pub push_kept : (old new : Slab Node) (key : ℕ) (n : Node) (order before names : List ℕ) (ns : List Node)
+    → Adds old new key n
+    → AreStoredNodes old order before → stored old order ≡ ns
+    → AllByRecursion (λ (m : Node). m.number < n.number) ns
+    → AreNamed NoKey (address_at new) (order ++ key ∷ []) names
+    → AreStoredNodes new (order ++ key ∷ []) names
 push_kept old new key n order before names ns adds kept shown lower named =
     let after : stored new (order ++ key ∷ []) ≡ ns ++ n ∷ [] =
     stored_push old new key n order adds kept.are.present ∙ ap (λ (ms : List Node). ms ++ n ∷ []) shown in
@@ -116,10 +123,12 @@ push_kept old new key n order before names ns adds kept shown lower named =
       named = named;
     }
 
-not_vacant_key : (slab : Slab Node) (order : List ℕ) (key : ℕ) → AllByRecursion (ContainsKey slab) order → get slab key ≡ None → HasElement order key → ⊥
+not_vacant_key : (slab : Slab Node) (order : List ℕ) (key : ℕ)
+    → AllByRecursion (ContainsKey slab) order → get slab key ≡ None → HasElement order key → ⊥
 not_vacant_key slab order key present vacant at = not_both (get slab key) (held_by_all (ContainsKey slab) order key present at) vacant
 
-pub key_pushed : (old new : Slab Node) (key : ℕ) (n : Node) (order names : List ℕ) → Adds old new key n → AreStoredNodes old order names
+pub key_pushed : (old new : Slab Node) (key : ℕ) (n : Node) (order names : List ℕ)
+    → Adds old new key n → AreStoredNodes old order names
     → AreNamed (OnlyKey key) (address_at new) (order ++ key ∷ []) names
 key_pushed old new key n order names adds kept =
     key_new (address_at old) (address_at new) order names key
@@ -128,7 +137,8 @@ key_pushed old new key n order names adds kept =
 
 pub without_kept : (old new : Slab Node) (order before names : List ℕ) (ns : List Node) (place key : ℕ)
     → AreStoredNodes old order before → IsKeyAt old order ns place key → Updates old new key None
-    → AreNamed (OnlyKey key) (address_at old) order names → AreStoredNodes new (remove order place) names
+    → AreNamed (OnlyKey key) (address_at old) order names
+    → AreStoredNodes new (remove order place) names
 without_kept old new order before names ns place key kept at up named =
     let after : stored new (remove order place) ≡ remove ns place = removed_value old new order ns place key at up in
     let rising : AreOrdered IsLower ns = subst (AreOrdered IsLower) at.shown kept.rising in
@@ -148,19 +158,23 @@ without_kept old new order before names ns place key kept at up named =
 held_get : (xs : List ℕ) (i d : ℕ) → i < length xs → HasElement xs (get_or xs i d)
 held_get xs i d lt = held_at xs i (get_or xs i d) (some_at xs i d lt)
 
-pub key_held : (slab : Slab Node) (order : List ℕ) (ns : List Node) (place key : ℕ) → IsKeyAt slab order ns place key → HasElement order key
+pub key_held : (slab : Slab Node) (order : List ℕ) (ns : List Node) (place key : ℕ)
+    → IsKeyAt slab order ns place key → HasElement order key
 key_held slab order ns place key at = subst (HasElement order) at.is (held_get order place key at.within)
 
-pub key_there : (slab : Slab Node) (order : List ℕ) (ns : List Node) (place key : ℕ) → IsKeyAt slab order ns place key → ContainsKey slab key
+pub key_there : (slab : Slab Node) (order : List ℕ) (ns : List Node) (place key : ℕ)
+    → IsKeyAt slab order ns place key → ContainsKey slab key
 key_there slab order ns place key at = held_by_all (ContainsKey slab) order key at.are.present (key_held slab order ns place key at)
 
-pub key_listed : (slab : Slab Node) (order names : List ℕ) (ns : List Node) (place key : ℕ) → AreStoredNodes slab order names
+pub key_listed : (slab : Slab Node) (order names : List ℕ) (ns : List Node) (place key : ℕ)
+    → AreStoredNodes slab order names
     → IsKeyAt slab order ns place key → address_at slab key ≢ [] → HasElement names key
 key_listed slab order names ns place key kept at some = kept.named.all key (key_held slab order ns place key at) some (λ none. none)
 
 -- no node hangs where another one is put
 none_there : (slab : Slab Node) (order names : List ℕ) (ns : List Node) (d : ℕ) (name : Name) (k : ℕ)
-    → AllByRecursion (ContainsKey slab) order → stored slab order ≡ ns → child_in ns d name ≡ None → HasElement order k
+    → AllByRecursion (ContainsKey slab) order → stored slab order ≡ ns → child_in ns d name ≡ None
+    → HasElement order k
     → address_at slab k ≢ d ∷ name
 none_there slab order names ns d name k present shown none at e =
     let v = is_value (get slab k) (held_by_all (ContainsKey slab) order k present at) in
@@ -168,7 +182,8 @@ none_there slab order names ns d name k present shown none at e =
     (sym (address_of_node slab k v.0 v.1) ∙ e)
 
 pub free_moved : (slab : Slab Node) (order names : List ℕ) (ns : List Node) (place key : ℕ) (n : Node) (d : ℕ) (name : Name)
-    → IsKeyAt slab order ns place key → get slab key ≡ Some n → AreNamed (OnlyKey key) (address_at slab) order names
+    → IsKeyAt slab order ns place key → get slab key ≡ Some n
+    → AreNamed (OnlyKey key) (address_at slab) order names
     → child_in ns d name ≡ None → (k : ℕ) → HasElement names k
     → address_at (with_value slab key (with_hook (In d name) n)) k ≢ address_at (with_value slab key (with_hook (In d name) n)) key
 free_moved slab order names ns place key n d name at is named none k held e =
@@ -177,8 +192,10 @@ free_moved slab order names ns place key n d name at is named none k held e =
     ap (λ (o : Option Node). address_of (hook_held o)) ((replaced slab key (with_hook (In d name) n) n is).others k (λ out. named.without k held out)) in
     none_there slab order names ns d name k at.are.present at.shown none (named.among k held) (sym kept ∙ e ∙ new_address slab key n (In d name) is)
 
-pub free_pushed : (old new : Slab Node) (order names : List ℕ) (ns : List Node) (key : ℕ) (n : Node) → Adds old new key n
-    → AreStoredNodes old order names → stored old order ≡ ns → IsFreeHook n.hook ns → (k : ℕ) → HasElement names k → address_at new k ≢ address_at new key
+pub free_pushed : (old new : Slab Node) (order names : List ℕ) (ns : List Node) (key : ℕ) (n : Node)
+    → Adds old new key n
+    → AreStoredNodes old order names → stored old order ≡ ns → IsFreeHook n.hook ns → (k : ℕ)
+    → HasElement names k → address_at new k ≢ address_at new key
 free_pushed old new order names ns key n adds kept shown free k held e = by n.hook refl free where
   fresh : k ≢ key
   fresh same = not_vacant_key old order key kept.are.present adds.was_vacant (subst (HasElement order) same (kept.named.among k held))
@@ -201,12 +218,14 @@ pub hook_present : (slab : Slab Node) (order : List ℕ) (ns : List Node) (place
 hook_present slab order ns place key n hook at is = (changed_keys slab order ns place key n (with_hook hook n) at is).present
 
 -- a node that the slab has taken at the key that it gave before
-pub adds_there : (old new : Slab Node) (key taken : ℕ) (n : Node) → key ≡ old.vacant_key → taken ≡ old.vacant_key → get old taken ≡ None
+pub adds_there : (old new : Slab Node) (key taken : ℕ) (n : Node) → key ≡ old.vacant_key
+    → taken ≡ old.vacant_key → get old taken ≡ None
     → Updates old new taken (Some n) → Adds old new key n
 adds_there old new key taken n e f vacant up =
     subst (λ (k : ℕ). Adds old new k n) (f ∙ sym e) (record { was_vacant = vacant; updates = up })
 
-pub reserved_kept : (old new : Slab Node) (order names reserved : List ℕ) → new ≡ record old { capacity = new.capacity } → reserved ≡ names
+pub reserved_kept : (old new : Slab Node) (order names reserved : List ℕ)
+    → new ≡ record old { capacity = new.capacity } → reserved ≡ names
     → AreStoredNodes old order names → AreStoredNodes new order reserved
 reserved_kept old new order names reserved e f kept =
     subst (AreStoredNodes new order) (sym f) (room_kept old new new.capacity order names e kept)

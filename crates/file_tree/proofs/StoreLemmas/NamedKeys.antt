@@ -33,7 +33,8 @@ held_without (x ∷ xs) zero y at = inr at
 held_without (x ∷ xs) (suc i) y (inl e) = inl e
 held_without (x ∷ xs) (suc i) y (inr at) = inr (held_without xs i y at)
 
-pub held_but : (xs : List ℕ) (i d y : ℕ) → HasElement xs y → y ≢ get_or xs i d → HasElement (remove xs i) y
+pub held_but : (xs : List ℕ) (i d y : ℕ) → HasElement xs y → y ≢ get_or xs i d
+    → HasElement (remove xs i) y
 held_but [] i d y at ne = absurd at
 held_but (x ∷ xs) zero d y (inl e) ne = absurd (ne (sym e))
 held_but (x ∷ xs) zero d y (inr at) ne = at
@@ -62,7 +63,8 @@ held_there [] (suc i) k = inl refl
 held_there (x ∷ xs) zero k = inl refl
 held_there (x ∷ xs) (suc i) k = inr (held_there xs i k)
 
-pub all_of_held : (P : ℕ → Type 0) (xs : List ℕ) → ((y : ℕ) → HasElement xs y → P y) → AllByRecursion P xs
+pub all_of_held : (P : ℕ → Type 0) (xs : List ℕ) → ((y : ℕ) → HasElement xs y → P y)
+    → AllByRecursion P xs
 all_of_held P [] h = tt
 all_of_held P (x ∷ xs) h = (h x (inl refl), all_of_held P xs (λ y at. h y (inr at)))
 
@@ -78,7 +80,8 @@ module _ (address : ℕ → List ℕ) where
       (before_both (address i) (address j) (address k) (behind_if (address i) (address j) h) (behind_if (address j) (address k) g))
 
   -- a key at or before the cut stands before the new one
-  stands_before : (key k : ℕ) → address k ≢ address key → IsUpTo (address key) (address k) → After k key
+  stands_before : (key k : ℕ) → address k ≢ address key → IsUpTo (address key) (address k)
+      → After k key
   stands_before key k ne up =
       in_front (address k) (address key)
       (one_before (address key) (address k) (λ e. ne (sym e)) (not_behind_if (address key) (address k) up))
@@ -110,11 +113,13 @@ module _ (address : ℕ → List ℕ) where
   one_key (x ∷ xs) j k order (inr a) (inr b) e = one_key xs j k order.1 a b e
 
   -- a key at a place isn't there once it is taken out
-  not_left : (xs : List ℕ) (i d : ℕ) → AreOrdered After xs → i < length xs → HasElement (remove xs i) (get_or xs i d) → ⊥
+  not_left : (xs : List ℕ) (i d : ℕ) → AreOrdered After xs → i < length xs
+      → HasElement (remove xs i) (get_or xs i d) → ⊥
   not_left [] i d order lt at = absurd (omega (arith, lt))
   not_left (x ∷ xs) zero d order lt at = not_itself (address x) (behind_if (address x) (address x) (held_by_all (After x) xs x order.0 at))
   not_left (x ∷ xs) (suc i) d order lt (inl e) = not_itself (address x) (behind_if (address x) (address x) (subst (After x) (sym e) (all_at xs i d order.0 (omega (arith, lt))))) where
-    all_at : (ys : List ℕ) (i d : ℕ) → AllByRecursion (After x) ys → i < length ys → After x (get_or ys i d)
+    all_at : (ys : List ℕ) (i d : ℕ) → AllByRecursion (After x) ys → i < length ys
+        → After x (get_or ys i d)
     all_at [] i d h lt = absurd (omega (arith, lt))
     all_at (y ∷ ys) zero d h lt = h.0
     all_at (y ∷ ys) (suc i) d h lt = all_at ys i d h.1 (omega (arith, lt))
@@ -122,9 +127,11 @@ module _ (address : ℕ → List ℕ) where
 
   -- ---- the index and a key
 
-  pub key_put : (order names : List ℕ) (key p : ℕ) → AreNamed (OnlyKey key) address order names → HasElement order key → address key ≢ []
+  pub key_put : (order names : List ℕ) (key p : ℕ) → AreNamed (OnlyKey key) address order names
+      → HasElement order key → address key ≢ []
       → IsCut (λ k. IsUpTo (address key) (address k)) (λ k. IsBehind (address key) (address k)) names p
-      → ((k : ℕ) → HasElement names k → address k ≢ address key) → AreNamed NoKey address order (insert names p key)
+      → ((k : ℕ) → HasElement names k → address k ≢ address key)
+      → AreNamed NoKey address order (insert names p key)
   key_put order names key p are there hung cut free =
       record {
         ordered = ordered_put key names p are.ordered cut free;
@@ -137,7 +144,8 @@ module _ (address : ℕ → List ℕ) where
         ];
       }
 
-  pub key_taken : (order names : List ℕ) (key i d : ℕ) → AreNamed NoKey address order names → i < length names → get_or names i d ≡ key
+  pub key_taken : (order names : List ℕ) (key i d : ℕ) → AreNamed NoKey address order names
+      → i < length names → get_or names i d ≡ key
       → AreNamed (OnlyKey key) address order (remove names i)
   key_taken order names key i d are lt is =
       record {
@@ -148,7 +156,8 @@ module _ (address : ℕ → List ℕ) where
         all = λ k at some out. held_but names i d k (are.all k at some (λ none. none)) (λ e. out (e ∙ is));
       }
 
-  pub key_not_hung : (order names : List ℕ) (key : ℕ) → AreNamed NoKey address order names → address key ≡ []
+  pub key_not_hung : (order names : List ℕ) (key : ℕ) → AreNamed NoKey address order names
+      → address key ≡ []
       → AreNamed (OnlyKey key) address order names
   key_not_hung order names key are none =
       record {
@@ -159,7 +168,8 @@ module _ (address : ℕ → List ℕ) where
         all = λ k at some out. are.all k at some (λ none. none);
       }
 
-  pub key_left : (order names : List ℕ) (key : ℕ) → AreNamed (OnlyKey key) address order names → address key ≡ []
+  pub key_left : (order names : List ℕ) (key : ℕ) → AreNamed (OnlyKey key) address order names
+      → address key ≡ []
       → AreNamed NoKey address order names
   key_left order names key are none =
       record {
@@ -171,8 +181,10 @@ module _ (address : ℕ → List ℕ) where
       }
 
   -- the key leaves the tree
-  pub key_forgotten : (order names : List ℕ) (key i d : ℕ) → AreNamed (OnlyKey key) address order names
-      → (HasElement (remove order i) key → ⊥) → get_or order i d ≡ key → AreNamed NoKey address (remove order i) names
+  pub key_forgotten : (order names : List ℕ) (key i d : ℕ)
+      → AreNamed (OnlyKey key) address order names
+      → (HasElement (remove order i) key → ⊥) → get_or order i d ≡ key
+      → AreNamed NoKey address (remove order i) names
   key_forgotten order names key i d are gone is =
       record {
         ordered = are.ordered;
@@ -183,7 +195,8 @@ module _ (address : ℕ → List ℕ) where
       }
 
 -- the address of a key that is left out changes
-pub address_changed : (old new : ℕ → List ℕ) (order names : List ℕ) (key : ℕ) → ((k : ℕ) → k ≢ key → new k ≡ old k)
+pub address_changed : (old new : ℕ → List ℕ) (order names : List ℕ) (key : ℕ)
+    → ((k : ℕ) → k ≢ key → new k ≡ old k)
     → AreNamed (OnlyKey key) old order names → AreNamed (OnlyKey key) new order names
 address_changed old new order names key same are =
     record {
@@ -193,18 +206,22 @@ address_changed old new order names key same are =
       without = are.without;
       all = λ k at some out. are.all k at (λ e. some (same k out ∙ e)) out;
     } where
-      all_so : (x : ℕ) (ks : List ℕ) → x ≢ key → ((k : ℕ) → HasElement ks k → k ≢ key) → AllByRecursion (λ k. IsBehind (old x) (old k)) ks → AllByRecursion (λ k. IsBehind (new x) (new k)) ks
+      all_so : (x : ℕ) (ks : List ℕ) → x ≢ key → ((k : ℕ) → HasElement ks k → k ≢ key)
+          → AllByRecursion (λ k. IsBehind (old x) (old k)) ks
+          → AllByRecursion (λ k. IsBehind (new x) (new k)) ks
       all_so x [] ne others h = tt
       all_so x (k ∷ ks) ne others h =
           (ap (λ (a : List ℕ). is_before a (new k)) (same x ne) ∙ ap (is_before (old x)) (same k (others k (inl refl))) ∙ h.0, all_so x ks ne (λ j at. others j (inr at)) h.1)
 
-      ordered_so : (ks : List ℕ) → AreOrdered (λ j k. IsBehind (old j) (old k)) ks → ((k : ℕ) → HasElement ks k → k ≢ key) → AreOrdered (λ j k. IsBehind (new j) (new k)) ks
+      ordered_so : (ks : List ℕ) → AreOrdered (λ j k. IsBehind (old j) (old k)) ks
+          → ((k : ℕ) → HasElement ks k → k ≢ key) → AreOrdered (λ j k. IsBehind (new j) (new k)) ks
       ordered_so [] h others = tt
       ordered_so (k ∷ ks) h others =
           (all_so k ks (others k (inl refl)) (λ j at. others j (inr at)) h.0, ordered_so ks h.1 (λ j at. others j (inr at)))
 
 -- a key that is new
-pub key_new : (old new : ℕ → List ℕ) (order names : List ℕ) (key : ℕ) → ((k : ℕ) → k ≢ key → new k ≡ old k) → (HasElement order key → ⊥)
+pub key_new : (old new : ℕ → List ℕ) (order names : List ℕ) (key : ℕ)
+    → ((k : ℕ) → k ≢ key → new k ≡ old k) → (HasElement order key → ⊥)
     → AreNamed NoKey old order names → AreNamed (OnlyKey key) new (order ++ key ∷ []) names
 key_new old new order names key same fresh are = address_changed old new (order ++ key ∷ []) names key same (record {
   ordered = are.ordered;
@@ -215,6 +232,7 @@ key_new old new order names key same fresh are = address_changed old new (order 
 })
 
 -- nothing is named where there is nothing
-pub none_named : (address : ℕ → List ℕ) (order names : List ℕ) → order ≡ [] → names ≡ [] → AreNamed NoKey address order names
+pub none_named : (address : ℕ → List ℕ) (order names : List ℕ) → order ≡ [] → names ≡ []
+    → AreNamed NoKey address order names
 none_named address order names e f =
     rw (e, f) (record { ordered = tt; among = λ k at. at; hung = λ k at g. at; without = λ k at out. at; all = λ k at some out. at })

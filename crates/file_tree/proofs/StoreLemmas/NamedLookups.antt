@@ -17,11 +17,13 @@ use Rattle.file_tree.proofs.StoreLemmas.Keys.{length-stored}
 use Rattle.file_tree.proofs.StoreLemmas.NamedStored.{cut_stored, in_order, are_listed, node_at}
 use Rattle.file_tree.proofs.StoreLemmas.Places.{none_at}
 
-pub keys_in_order : (slab : Slab Node) (order names keys : List ℕ) → AreStoredNodes slab order names → keys ≡ names → AreByAddress slab keys
+pub keys_in_order : (slab : Slab Node) (order names keys : List ℕ)
+    → AreStoredNodes slab order names → keys ≡ names → AreByAddress slab keys
 keys_in_order slab order names keys kept same =
     subst (AreByAddress slab) (sym same) (in_order NoKey slab order names kept.are.present kept.named)
 
-pub key_before : (slab : Slab Node) (keys : List ℕ) (p : ℕ) → AreByAddress slab keys → p ≢ 0 → p ≤ length keys
+pub key_before : (slab : Slab Node) (keys : List ℕ) (p : ℕ) → AreByAddress slab keys → p ≢ 0
+    → p ≤ length keys
     → ContainsKey slab (get_or keys (p - 1) 0)
 key_before slab keys p order some within =
     behind_all (ContainsKey slab) keys (p - 1) 0 order.present (omega (arith, some, within))
@@ -64,10 +66,12 @@ module _ (slab : Slab Node) (order names keys : List ℕ) (ns : List Node) (kept
       not_hooked_before test = child_not_there d name ns (stored slab keys) (p - 1) n keys_listed last_cut last_node test
 
   module _ (d p : ℕ) (cut : IsCut (KeyUpTo (d ∷ []) slab) (KeyBehind (d ∷ []) slab) keys p) where
-    pub listed_at : (i : ℕ) → node_listed ns d i ≡ in_directory d (slice_get (stored slab keys) (i + p))
+    pub listed_at : (i : ℕ)
+        → node_listed ns d i ≡ in_directory d (slice_get (stored slab keys) (i + p))
     listed_at i = listed_found d ns (stored slab keys) p i keys_listed (node_cut d [] p cut)
 
-    pub none_listed_at : (i : ℕ) → p ≤ length keys → length keys - p ≤ i → node_listed ns d i ≡ None
+    pub none_listed_at : (i : ℕ) → p ≤ length keys → length keys - p ≤ i
+        → node_listed ns d i ≡ None
     none_listed_at i within past =
         let far : length (stored slab keys) ≤ i + p = omega (arith, within, past, length-stored slab keys keys_present) in
         listed_at i ∙ ap (in_directory d) (none_at (stored slab keys) (i + p) far)

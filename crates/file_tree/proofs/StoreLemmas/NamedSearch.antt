@@ -12,19 +12,22 @@ use Rattle.file_tree.proofs.Order.{before_both, not_itself, in_front, not_in_fro
 use Rattle.file_tree.proofs.StoreLemmas.NamedStored.{address_of_node}
 use Rattle.file_tree.proofs.StoreLemmas.Places.{held_by_all, front_at, last_before, some_at}
 
-pub seen_at_key : (from : List ℕ) (slab : Slab Node) (key : ℕ) (n : Node) (b : Bool) → get slab key ≡ Some n
+pub seen_at_key : (from : List ℕ) (slab : Slab Node) (key : ℕ) (n : Node) (b : Bool)
+    → get slab key ≡ Some n
     → is_before from (address_of n.hook) ≡ b → is_before from (address_at slab key) ≡ b
 seen_at_key from slab key n b is e = ap (is_before from) (address_of_node slab key n is) ∙ e
 
 -- what comes before a key up to an address is so itself, and what comes behind one behind it too
-pub up_to_down : (from : List ℕ) (slab : Slab Node) (j k : ℕ) → IsBehind (address_at slab j) (address_at slab k)
+pub up_to_down : (from : List ℕ) (slab : Slab Node) (j k : ℕ)
+    → IsBehind (address_at slab j) (address_at slab k)
     → KeyUpTo from slab k → KeyUpTo from slab j
 up_to_down from slab j k after up =
     let x = address_at slab j in
     let y = address_at slab k in
     not_in_front from x (λ b. not_behind_if from y up (before_both from x y b (behind_if x y after)))
 
-pub behind_up : (from : List ℕ) (slab : Slab Node) (j k : ℕ) → IsBehind (address_at slab j) (address_at slab k)
+pub behind_up : (from : List ℕ) (slab : Slab Node) (j k : ℕ)
+    → IsBehind (address_at slab j) (address_at slab k)
     → KeyBehind from slab j → KeyBehind from slab k
 behind_up from slab j k after behind =
     let x = address_at slab j in
@@ -39,8 +42,10 @@ module _ {T : Type 0} (Front Back : T → Type 0) where
 
 -- ---- the place of a key that is there
 
-own_place : (address : ℕ → List ℕ) (xs : List ℕ) (p key d : ℕ) → AreOrdered (λ j k. IsBehind (address j) (address k)) xs
-    → IsCut (λ k. IsUpTo (address key) (address k)) (λ k. IsBehind (address key) (address k)) xs p → HasElement xs key
+own_place : (address : ℕ → List ℕ) (xs : List ℕ) (p key d : ℕ)
+    → AreOrdered (λ j k. IsBehind (address j) (address k)) xs
+    → IsCut (λ k. IsUpTo (address key) (address k)) (λ k. IsBehind (address key) (address k)) xs p
+    → HasElement xs key
     → (1 ≤ p) × (get_or xs (p - 1) d ≡ key)
 own_place address xs zero key d order cut at =
     absurd (not_itself (address key) (behind_if (address key) (address key) (held_by_all (λ k. IsBehind (address key) (address k)) xs key cut at)))
@@ -61,19 +66,22 @@ own_place address xs (suc q) key d order cut at =
     )
 
 -- the address that the code has read
-pub read_address : (slab : Slab Node) (key : ℕ) (n : Node) (d : ℕ) (name bytes : Name) → get slab key ≡ Some n
+pub read_address : (slab : Slab Node) (key : ℕ) (n : Node) (d : ℕ) (name bytes : Name)
+    → get slab key ≡ Some n
     → n.hook ≡ In d name → bytes ≡ name → d ∷ bytes ≡ address_at slab key
 read_address slab key n d name bytes is hook same =
     ap (λ (y : Name). d ∷ y) same ∙ sym (address_of_node slab key n is ∙ ap address_of hook)
 
-pub read_cut : (slab : Slab Node) (key : ℕ) (from : List ℕ) (keys names : List ℕ) (p : ℕ) → from ≡ address_at slab key → keys ≡ names
+pub read_cut : (slab : Slab Node) (key : ℕ) (from : List ℕ) (keys names : List ℕ) (p : ℕ)
+    → from ≡ address_at slab key → keys ≡ names
     → IsCut (KeyUpTo from slab) (KeyBehind from slab) keys p
     → IsCut (λ k. IsUpTo (address_at slab key) (address_at slab k)) (λ k. IsBehind (address_at slab key) (address_at slab k)) names p
 read_cut slab key from keys names p e f cut =
     subst (λ (ks : List ℕ). IsCut (λ k. IsUpTo (address_at slab key) (address_at slab k)) (λ k. IsBehind (address_at slab key) (address_at slab k)) ks p) f
     (subst (λ (a : List ℕ). IsCut (λ k. IsUpTo a (address_at slab k)) (λ k. IsBehind a (address_at slab k)) keys p) e cut)
 
-pub own_key : (slab : Slab Node) (key : ℕ) (from : List ℕ) (keys names : List ℕ) (p d : ℕ) → AreByAddress slab names
+pub own_key : (slab : Slab Node) (key : ℕ) (from : List ℕ) (keys names : List ℕ) (p d : ℕ)
+    → AreByAddress slab names
     → from ≡ address_at slab key → keys ≡ names
     → IsCut (KeyUpTo from slab) (KeyBehind from slab) keys p → HasElement names key
     → (1 ≤ p) × (get_or names (p - 1) d ≡ key)

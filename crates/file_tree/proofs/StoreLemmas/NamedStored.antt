@@ -14,10 +14,12 @@ use Rattle.file_tree.proofs.StoreLemmas.NamedKeys.{all_of_held}
 use Rattle.file_tree.proofs.StoreLemmas.Places.{some_same, held_by_all, some_at}
 
 -- the address of a node at a key
-pub address_of_node : (slab : Slab Node) (key : ℕ) (n : Node) → get slab key ≡ Some n → address_at slab key ≡ address_of n.hook
+pub address_of_node : (slab : Slab Node) (key : ℕ) (n : Node) → get slab key ≡ Some n
+    → address_at slab key ≡ address_of n.hook
 address_of_node slab key n is = ap (λ (o : Option Node). address_of (hook_held o)) is
 
-pub stored_holds : (slab : Slab Node) (keys : List ℕ) (key : ℕ) (n : Node) → AllByRecursion (ContainsKey slab) keys
+pub stored_holds : (slab : Slab Node) (keys : List ℕ) (key : ℕ) (n : Node)
+    → AllByRecursion (ContainsKey slab) keys
     → HasElement keys key → get slab key ≡ Some n → HasElement (stored slab keys) n
 stored_holds slab [] key n present at is = absurd at
 stored_holds slab (k ∷ keys) key n present (inl e) is =
@@ -27,19 +29,24 @@ stored_holds slab (k ∷ keys) key n present (inr at) is =
     let v = is_value (get slab k) present.0 in
     rw v.1 (inr (stored_holds slab keys key n present.1 at is))
 
-pub key_of_stored : (slab : Slab Node) (keys : List ℕ) (n : Node) → AllByRecursion (ContainsKey slab) keys
+pub key_of_stored : (slab : Slab Node) (keys : List ℕ) (n : Node)
+    → AllByRecursion (ContainsKey slab) keys
     → HasElement (stored slab keys) n → (key : ℕ) × HasElement keys key × (get slab key ≡ Some n)
 key_of_stored slab [] n present at = absurd at
 key_of_stored slab (k ∷ keys) n present at =
     let v = is_value (get slab k) present.0 in
     by v.0 v.1 (key_of_stored slab keys n present.1) (subst (λ (o : Option Node). HasElement (put o (stored slab keys)) n) v.1 at) where
-      by : (m : Node) → get slab k ≡ Some m → (HasElement (stored slab keys) n → (key : ℕ) × HasElement keys key × (get slab key ≡ Some n))
-          → (m ≡ n) ⊎ HasElement (stored slab keys) n → (key : ℕ) × HasElement (k ∷ keys) key × (get slab key ≡ Some n)
+      by : (m : Node) → get slab k ≡ Some m
+          → (HasElement (stored slab keys) n → (key : ℕ) × HasElement keys key × (get slab key ≡ Some n))
+          → (m ≡ n) ⊎ HasElement (stored slab keys) n
+          → (key : ℕ) × HasElement (k ∷ keys) key × (get slab key ≡ Some n)
       by m is go (inl e) = (k, inl refl, is ∙ ap (λ (w : Node). Some w) e)
       by m is go (inr later) = (let r = go later in (r.0, inr r.1, r.2))
 
-all_stored : (P : List ℕ → Type 0) (slab : Slab Node) (keys : List ℕ) → AllByRecursion (ContainsKey slab) keys
-    → AllByRecursion (λ k. P (address_at slab k)) keys → AllByRecursion (λ (n : Node). P (address_of n.hook)) (stored slab keys)
+all_stored : (P : List ℕ → Type 0) (slab : Slab Node) (keys : List ℕ)
+    → AllByRecursion (ContainsKey slab) keys
+    → AllByRecursion (λ k. P (address_at slab k)) keys
+    → AllByRecursion (λ (n : Node). P (address_of n.hook)) (stored slab keys)
 all_stored P slab [] present h = tt
 all_stored P slab (k ∷ keys) present h =
     let v = is_value (get slab k) present.0 in
@@ -55,8 +62,10 @@ ordered_stored slab (k ∷ keys) present h =
     let first = address_of_node slab k v.0 v.1 in
     rw v.1 (subst (λ (a : List ℕ). AllByRecursion (λ (n : Node). IsBehind a (address_of n.hook)) (stored slab keys)) first others, ordered_stored slab keys present.1 h.1)
 
-pub cut_stored : (from : List ℕ) (slab : Slab Node) (keys : List ℕ) (p : ℕ) → AllByRecursion (ContainsKey slab) keys
-    → IsCut (KeyUpTo from slab) (KeyBehind from slab) keys p → IsCut (NodeUpTo from) (NodeBehind from) (stored slab keys) p
+pub cut_stored : (from : List ℕ) (slab : Slab Node) (keys : List ℕ) (p : ℕ)
+    → AllByRecursion (ContainsKey slab) keys
+    → IsCut (KeyUpTo from slab) (KeyBehind from slab) keys p
+    → IsCut (NodeUpTo from) (NodeBehind from) (stored slab keys) p
 cut_stored from slab keys zero present cut = all_stored (IsBehind from) slab keys present cut
 cut_stored from slab [] (suc p) present cut = cut
 cut_stored from slab (k ∷ keys) (suc p) present cut =
@@ -66,18 +75,22 @@ cut_stored from slab (k ∷ keys) (suc p) present cut =
 
 -- ---- what is kept
 
-pub named_present : (Out : ℕ → Type 0) (slab : Slab Node) (order names : List ℕ) → AllByRecursion (ContainsKey slab) order
+pub named_present : (Out : ℕ → Type 0) (slab : Slab Node) (order names : List ℕ)
+    → AllByRecursion (ContainsKey slab) order
     → AreNamed Out (address_at slab) order names → AllByRecursion (ContainsKey slab) names
 named_present Out slab order names present are =
     all_of_held (ContainsKey slab) names (λ k at. held_by_all (ContainsKey slab) order k present (are.among k at))
 
-pub in_order : (Out : ℕ → Type 0) (slab : Slab Node) (order names : List ℕ) → AllByRecursion (ContainsKey slab) order
+pub in_order : (Out : ℕ → Type 0) (slab : Slab Node) (order names : List ℕ)
+    → AllByRecursion (ContainsKey slab) order
     → AreNamed Out (address_at slab) order names → AreByAddress slab names
 in_order Out slab order names present are =
     record { present = named_present Out slab order names present are; ordered = are.ordered }
 
-pub are_listed : (slab : Slab Node) (order names : List ℕ) → AllByRecursion (ContainsKey slab) order
-    → AreNamed NoKey (address_at slab) order names → AreListed (stored slab order) (stored slab names)
+pub are_listed : (slab : Slab Node) (order names : List ℕ)
+    → AllByRecursion (ContainsKey slab) order
+    → AreNamed NoKey (address_at slab) order names
+    → AreListed (stored slab order) (stored slab names)
 are_listed slab order names present are =
     let named = named_present NoKey slab order names present are in
     record {
@@ -90,7 +103,8 @@ are_listed slab order names present are =
     }
 
 -- the node at a place
-pub node_at : (slab : Slab Node) (keys : List ℕ) (i d : ℕ) (n : Node) → AllByRecursion (ContainsKey slab) keys → i < length keys
+pub node_at : (slab : Slab Node) (keys : List ℕ) (i d : ℕ) (n : Node)
+    → AllByRecursion (ContainsKey slab) keys → i < length keys
     → get slab (get_or keys i d) ≡ Some n → slice_get (stored slab keys) i ≡ Some n
 node_at slab keys i d n present lt is =
     some_at (stored slab keys) i n (omega (arith, lt, length-stored slab keys present))

@@ -48,7 +48,8 @@ place_at_cut k (n ∷ ns) zero d lt cut e = e
 place_at_cut k (n ∷ ns) (suc i) d lt cut e =
     ((λ s. absurd (omega (arith, s, cut.0))), place_at_cut k ns i d (omega arith) cut.1 e)
 
-all_other : (k : ℕ) (ns : List Node) → AllByRecursion (λ (n : Node). k < n.number) ns → IsNowhere ns k
+all_other : (k : ℕ) (ns : List Node) → AllByRecursion (λ (n : Node). k < n.number) ns
+    → IsNowhere ns k
 all_other k [] h = tt
 all_other k (n ∷ ns) h = ((λ s. absurd (omega (arith, s, h.0))), all_other k ns h.1)
 

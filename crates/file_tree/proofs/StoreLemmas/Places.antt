@@ -8,7 +8,8 @@ module _ {T : Type 0} where
   pub some_same : (x y : T) → Some x ≡ Some y → x ≡ y
   some_same x y e = cc
 
-  pub held_by_all : (P : T → Type 0) (xs : List T) (y : T) → AllByRecursion P xs → HasElement xs y → P y
+  pub held_by_all : (P : T → Type 0) (xs : List T) (y : T) → AllByRecursion P xs → HasElement xs y
+      → P y
   held_by_all P [] y h at = absurd at
   held_by_all P (x ∷ xs) y h (inl e) = subst P e h.0
   held_by_all P (x ∷ xs) y h (inr at) = held_by_all P xs y h.1 at
@@ -76,7 +77,8 @@ module _ {T : Type 0} where
           last_before xs p y z order.1 cut.1 is at never
 
   -- one stands behind the one before it
-  pub next_behind : (Before : T → T → Type 0) (xs : List T) (i : ℕ) (y z : T) → AreOrdered Before xs
+  pub next_behind : (Before : T → T → Type 0) (xs : List T) (i : ℕ) (y z : T)
+      → AreOrdered Before xs
       → slice_get xs i ≡ Some y → slice_get xs (suc i) ≡ Some z → Before y z
   next_behind Before [] i y z order is next = absurd cc
   next_behind Before (x ∷ xs) zero y z order is next =
@@ -94,7 +96,8 @@ module _ {T : Type 0} where
   none_at (x ∷ xs) zero le = absurd (omega (arith, le))
   none_at (x ∷ xs) (suc i) le = none_at xs i (omega (arith, le))
 
-  pub some_at : (xs : List T) (i : ℕ) (d : T) → i < length xs → slice_get xs i ≡ Some (get_or xs i d)
+  pub some_at : (xs : List T) (i : ℕ) (d : T) → i < length xs
+      → slice_get xs i ≡ Some (get_or xs i d)
   some_at [] i d lt = absurd (omega (arith, lt))
   some_at (x ∷ xs) zero d lt = refl
   some_at (x ∷ xs) (suc i) d lt = some_at xs i d (omega (arith, lt))

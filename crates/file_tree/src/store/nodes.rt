@@ -1,14 +1,15 @@
 //! Nodes in a slab, in the order in which they were pushed, and in that of their directories and
 //! names.
 
-ghost use Rattle.std.specs.Prelude.{◌≡◌, ◌≢◌, ℕ, ◌+◌, ◌<◌, ◌≤◌, ◌++◌, ◌∷◌, [], length, None, option_copied, OnOk, OnErr, slice_index_or};
+ghost use Rattle.std.specs.Prelude.{◌≡◌, ◌+◌, ◌<◌, ◌≤◌, ◌++◌, ◌∷◌, [], length, slice_index_or};
+ghost use Rattle.std.specs.Prelude.{None, option_copied, OnOk, OnErr};
 ghost use Rattle.std.specs.List.{AllByRecursion, remove};
 ghost use Rattle.file_tree.specs.declared.limits.TheConstants.{FILE_BYTES};
 ghost use Rattle.file_tree.specs.Store.Stored.{changed};
 ghost use Rattle.file_tree.specs.Store.Changes.{with_hook, node_written, node_resized};
 ghost use Rattle.file_tree.specs.Store.Cuts.{AreOrdered};
 ghost use Rattle.file_tree.specs.Store.Kept.{IsLower};
-ghost use Rattle.file_tree.specs.Store.Named.{address_of, IsFreeHook};
+ghost use Rattle.file_tree.specs.Store.Named.{HangsAt, IsFreeHook};
 ghost use Rattle.file_tree.specs.Links.{child_in, is_hooked};
 ghost use Rattle.file_tree.specs.rules.Files.{is_same_name};
 ghost use Rattle.file_tree.specs.Nearest.{nearest_node, node_listed};
@@ -21,7 +22,8 @@ use slab::Slab;
 use std::alloc::{AllocError, Global};
 use std::marker::Model;
 
-/// Nodes, which contracts see as a list. A node stays where it is in memory, whatever is removed before it.
+/// Nodes, which contracts see as a list. A node stays where it is in memory, whatever is removed
+/// before it.
 #[derive(Drop)]
 pub struct Nodes {
     slab: Slab<Node>,
@@ -45,7 +47,8 @@ impl Model for Nodes {
     ghost use Rattle.std.specs.Prelude.{◌≤◌};
     ghost use Rattle.std.specs.Vec.{vec_len, vec_capacity};
 
-    ghost invariant = { λ a. AreStoredNodes a.slab a.order.items a.names.items × (vec_len a.names ≤ vec_capacity a.names) };
+    ghost invariant = { λ a. AreStoredNodes a.slab a.order.items a.names.items
+        × (vec_len a.names ≤ vec_capacity a.names) };
 }
 
 impl Nodes {
@@ -71,8 +74,8 @@ impl Nodes {
         self.order.len()
     }
 
-    /// Puts a node behind the others, whose numbers are lower. Nothing hangs where it does. Only want of
-    /// memory makes it fail, and then nothing is changed.
+    /// Puts a node behind the others, whose numbers are lower. Nothing hangs where it does. Only want
+    /// of memory makes it fail, and then nothing is changed.
     pub fn push(&mut self, node: Node) -> Result<(), AllocError>
         requires number { AllByRecursion (λ (n : TheNode). n.number < node.number) self.old }
         requires free { IsFreeHook node.hook self.old }
@@ -146,11 +149,11 @@ impl Nodes {
         self.slab[key].hook = Hook::Removed;
     }
 
-    /// Hangs the node at a place, which hangs in a directory, in another one or under another name.
-    /// Nothing hangs there. It takes no memory.
+    /// Hangs the node at a place, which hangs in a directory, in another one or under another
+    /// name. Nothing hangs there. It takes no memory.
     pub fn move_to(&mut self, place: usize, directory: u64, name: ByteList)
         requires place { place < length self.old }
-        requires hung { (n : TheNode) → n ≡ slice_index_or self.old place n → address_of n.hook ≢ [] }
+        requires hung { HangsAt self.old place }
         requires free { child_in self.old directory name ≡ None }
         ensures { self.new ≡ changed (with_hook (In directory name)) place self.old }
     {
