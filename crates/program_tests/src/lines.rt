@@ -4,8 +4,11 @@ use record_replay::{Outlet, OutletFault, Source, SourceFault};
 use std::alloc::{AllocError, Global};
 use std::io::{self, BufRead, ErrorKind, Read, Write};
 use std::test::Fail;
+use std::time::{Clock, Duration};
 use wasi_abi::{Answer, Kind};
-use wasmhost_serve::{BufferedLines, LineFault, LineOutlet, Request, RequestSource, read_request};
+use wasmhost_serve::{
+    BufferedLines, LineFault, LineOutlet, Outside, Request, RequestSource, read_request, seeded,
+};
 
 #[test]
 fn reads_both_forms(rt: HostRuntime) -> Result<(), Fail> {
@@ -123,18 +126,38 @@ fn letters(said: &Result<Option<Answer>, SourceFault>) -> (u8, Option<u8>) {
     }
 }
 
+/// A clock that can't be read.
+#[derive(Clone, Copy)]
+pub struct NoClock;
+
+impl Clock for NoClock {
+    fn monotonic(&self) -> io::Result<Duration> {
+        Err(io::Error::from(ErrorKind::Unsupported))
+    }
+
+    fn since_1970(&self) -> io::Result<Duration> {
+        Err(io::Error::from(ErrorKind::Unsupported))
+    }
+}
+
+/// A seed of zeros, and the time 5.
+pub const OUTSIDE: Outside = Outside {
+    seed: [0; 32],
+    clock: Some(5),
+};
+
 /// A source over the lines of a reader, behind so many requests.
 fn source_over<R: BufRead + Drop>(
     alloc: Global,
     reader: R,
     taken: u64,
-) -> RequestSource<BufferedLines<R>> {
-    RequestSource::new(alloc, BufferedLines::new(reader), taken)
+) -> RequestSource<BufferedLines<R>, NoClock> {
+    RequestSource::new(alloc, BufferedLines::new(reader), NoClock, OUTSIDE, taken)
 }
 
 /// What a source says of request after request.
 fn collect_answers<R: BufRead + Drop>(
-    source: &mut RequestSource<BufferedLines<R>>,
+    source: &mut RequestSource<BufferedLines<R>, NoClock>,
     times: usize,
     out: &mut Vec<u8>,
 ) -> Result<(), AllocError> {
@@ -278,10 +301,69 @@ fn no_part_of_a_line_is_read(rt: HostRuntime) -> Result<(), Fail> {
     Ok(())
 }
 
+/// The bytes that a source gives for a wish of so many, or none.
+fn drawn(
+    source: &mut RequestSource<BufferedLines<&[u8]>, NoClock>,
+    length: u32,
+) -> Option<Vec<u8>> {
+    match source.answer(Kind::Random { length }) {
+        Ok(Some(Answer::Random { bytes })) => Some(bytes.into_vec()),
+        _ => None,
+    }
+}
+
+/// A word is four bytes, of which a wish drops those that it doesn't want. The expected bytes are
+/// those of stream 1.
 #[test]
-fn answers_nothing_else(rt: HostRuntime) -> Result<(), Fail> {
-    let mut source = source_over(rt.alloc(), b"1 e".as_slice(), 0);
-    assert!(rt; source.answer(Kind::Realtime).is_err());
-    assert_eq!(rt; source.fault(), Some(LineFault::Kind));
+fn draws_word_after_word(rt: HostRuntime) -> Result<(), Fail> {
+    let alloc = rt.alloc();
+    let whole = seeded(alloc, [0; 32], 1, 0, 16)?;
+    let mut source = source_over(alloc, b"".as_slice(), 0);
+    for (length, at) in [(5, 0), (0, 8), (4, 8), (1, 12)] {
+        let bytes = drawn(&mut source, length);
+        let end = at + length as usize;
+        assert_eq!(rt; bytes.as_deref(), Some(&whole[at..end]));
+    }
+    Ok(())
+}
+
+/// The first words of the seed of zeros, as they are published for ChaCha20.
+#[test]
+fn gives_the_words_of_a_seed(rt: HostRuntime) -> Result<(), Fail> {
+    let bytes = seeded(rt.alloc(), [0; 32], 0, 0, 5)?;
+    assert_eq!(rt; bytes.as_slice(), [0x76, 0xb8, 0xe0, 0xad, 0xa0].as_slice());
+    Ok(())
+}
+
+/// The time that a source gives, or none.
+fn time_of(source: &mut RequestSource<BufferedLines<&[u8]>, NoClock>, kind: Kind) -> Option<u64> {
+    match source.answer(kind) {
+        Ok(Some(Answer::Realtime { nanoseconds } | Answer::Monotonic { nanoseconds })) => {
+            Some(nanoseconds)
+        }
+        _ => None,
+    }
+}
+
+#[test]
+fn shows_the_fixed_time(rt: HostRuntime) -> Result<(), Fail> {
+    let mut source = source_over(rt.alloc(), b"".as_slice(), 0);
+    for kind in [Kind::Realtime, Kind::Monotonic, Kind::Realtime] {
+        assert_eq!(rt; time_of(&mut source, kind), Some(5));
+    }
+    Ok(())
+}
+
+#[test]
+fn a_failed_clock_is_a_fault(rt: HostRuntime) -> Result<(), Fail> {
+    let reader = BufferedLines::new(b"1 e".as_slice());
+    let outside = Outside {
+        clock: None,
+        ..OUTSIDE
+    };
+    let mut source = RequestSource::new(rt.alloc(), reader, NoClock, outside, 0);
+    assert_eq!(rt; time_of(&mut source, Kind::Realtime), None);
+    assert_eq!(rt; source.fault(), Some(LineFault::Clock));
+    assert!(rt; source.answer(Kind::Request).is_err());
     Ok(())
 }

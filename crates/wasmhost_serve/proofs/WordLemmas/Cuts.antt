@@ -69,7 +69,7 @@ module _ (words : List Text) (at : ℕ) (passed : HasPassed words at) where
   uncut_front end =
       let none : drop at words ≡ [] = drop_of_length-le words end in
       let all : take at words ≡ words = sym (append-nil (take at words))
-          ∙ ap (λ z. take at words ++ z) (sym none) ∙ take-append-drop at words in
+      ∙ ap (λ z. take at words ++ z) (sym none) ∙ take-append-drop at words in
       sym (passed.front ∙ ap (λ z. take at words ++ front_of z) none
       ∙ append-nil (take at words) ∙ all)
 

@@ -19,7 +19,6 @@ use Rattle.clap.specs.declared.builder.value_parser.ValueParser.TheVariants.{Uns
 use Rattle.clap.specs.declared.parser.matches.ValueSource.TheVariants.{CommandLine}
 use Rattle.clap.specs.declared.error.kind.ErrorKind.TheVariants as kind
 use Rattle.clap.proofs.ValueTestLemmas.{accepts-Accepts}
-use Rattle.std.specs.Str.Parse.{digits_value, without_leading_plus}
 use Rattle.wasmhost_serve.specs.rules.Commands.{IsClockText, IsFuelText, IsTaken, Meaning, TakesClock, TakesFuel, check, clock_rule, env_rule, fuel_rule, fuel_text_in, guest_words, meaning_below, module_rule, number_in, own_words, path_in, run, run_in, seed_rule, wasmhost}
 use Rattle.wasmhost_serve.specs.laws.Words.{FaultlessWordsMean, HasFuel}
 use Rattle.wasmhost_serve.proofs.WordLemmas.Walks.{Keeps, each_append, found_each, no_first, no_second, settled_good, some_kind, walk_good}
@@ -53,8 +52,7 @@ first_stays (v ∷ vs) more e = refl
 more_good : (values : List Text) (r : Row) → IsGood r → Each IsGood (more_values CommandLine values r)
 more_good values r good =
     let stays : slice_get (r.values ++ values) 0 ≡ slice_get r.values 0 =
-    first_stays r.values values good.some in
-    (
+    first_stays r.values values good.some in (
       record {
         some = ap is_some stays ∙ good.some;
         passes = subst (λ o. IfSome (option_map (read_as r.reading) o) (Passes r.id)) (sym stays)
@@ -238,8 +236,7 @@ below_taken s words named keeps plain asks e =
     let checks = no_second (defaults_fault (settled s.rules end).rows s.rules) _ (no_second (settle_fault s.rules s.args_override_self end) _ after) in
     let good : Each IsGood (settled s.rules end).rows =
     settled_good IsGood s.rules s.args_override_self keeps end settles (walk_good IsGood s [] keeps (walk_from nothing_held) words walks tt) in
-    let finished_good : Each IsGood (finished s.rules end) = subst (Each IsGood) (sym (undefaulted s.rules (settled s.rules end).rows plain)) good in
-    (
+    let finished_good : Each IsGood (finished s.rules end) = subst (Each IsGood) (sym (undefaulted s.rules (settled s.rules end).rows plain)) good in (
       named,
       path_is_there (finished s.rules end) finished_good (asks (finished s.rules end) checks),
       fuel_is_taken (finished s.rules end) finished_good,

@@ -221,10 +221,7 @@ fn seed_text_of<'a>(matches: &ArgMatches<'a>) -> Option<&'a str>
 }
 
 /// What `--env` says each time, in order.
-fn environment_of<'a>(
-    alloc: Global,
-    matches: &ArgMatches<'a>,
-) -> Result<Vec<&'a str>, AllocError>
+fn environment_of<'a>(alloc: Global, matches: &ArgMatches<'a>) -> Result<Vec<&'a str>, AllocError>
     ensures { IfOk result (λ entries. texts_in entries.items
         ≡ environment_in (rows_of (found_of matches.now))) }
 {
