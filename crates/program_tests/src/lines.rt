@@ -4,10 +4,10 @@ use record_replay::{Outlet, OutletFault, Source, SourceFault};
 use std::alloc::{AllocError, Global};
 use std::io::{self, BufRead, ErrorKind, Read, Write};
 use std::test::Fail;
+use std::time::{Clock, Duration};
 use wasi_abi::{Answer, Kind};
 use wasmhost_serve::{
-    BufferedLines, LineFault, LineOutlet, Outside, Request, RequestSource, read_request, read_seed,
-    seeded,
+    BufferedLines, LineFault, LineOutlet, Outside, Request, RequestSource, read_request, seeded,
 };
 
 #[test]
@@ -126,24 +126,38 @@ fn letters(said: &Result<Option<Answer>, SourceFault>) -> (u8, Option<u8>) {
     }
 }
 
-/// The seed of zeros, and a clock that stands.
-pub(crate) const STILL: Outside = Outside {
+/// A clock that can't be read.
+#[derive(Clone, Copy)]
+pub struct NoClock;
+
+impl Clock for NoClock {
+    fn monotonic(&self) -> io::Result<Duration> {
+        Err(io::Error::from(ErrorKind::Unsupported))
+    }
+
+    fn since_1970(&self) -> io::Result<Duration> {
+        Err(io::Error::from(ErrorKind::Unsupported))
+    }
+}
+
+/// A seed of zeros, and the time 5.
+pub const OUTSIDE: Outside = Outside {
     seed: [0; 32],
-    clock: Some(7),
+    clock: Some(5),
 };
 
 /// A source over the lines of a reader, behind so many requests.
 fn source_over<R: BufRead + Drop>(
-    rt: &HostRuntime,
+    alloc: Global,
     reader: R,
     taken: u64,
-) -> RequestSource<BufferedLines<R>, &HostRuntime> {
-    RequestSource::new(rt.alloc(), BufferedLines::new(reader), rt, STILL, taken)
+) -> RequestSource<BufferedLines<R>, NoClock> {
+    RequestSource::new(alloc, BufferedLines::new(reader), NoClock, OUTSIDE, taken)
 }
 
 /// What a source says of request after request.
 fn collect_answers<R: BufRead + Drop>(
-    source: &mut RequestSource<BufferedLines<R>, &HostRuntime>,
+    source: &mut RequestSource<BufferedLines<R>, NoClock>,
     times: usize,
     out: &mut Vec<u8>,
 ) -> Result<(), AllocError> {
@@ -172,7 +186,7 @@ fn answers_the_next_request(rt: HostRuntime) -> Result<(), Fail> {
         (0, b"", 1, b"-", None),
     ];
     for (taken, input, times, wanted, fault) in rows {
-        let mut source = source_over(&rt, input, taken);
+        let mut source = source_over(rt.alloc(), input, taken);
         let mut out = Vec::new(rt.alloc());
         collect_answers(&mut source, times, &mut out)?;
         assert_eq!(rt; out.as_slice(), wanted);
@@ -203,7 +217,7 @@ impl BufRead for Broken {
 #[test]
 fn a_failed_read_is_a_fault(rt: HostRuntime) -> Result<(), Fail> {
     let reader = b"1 r a\n2 r b".as_slice().chain(Broken);
-    let mut source = source_over(&rt, reader, 0);
+    let mut source = source_over(rt.alloc(), reader, 0);
     let mut out = Vec::new(rt.alloc());
     collect_answers(&mut source, 2, &mut out)?;
     assert_eq!(rt; out.as_slice(), b"ta!".as_slice());
@@ -212,8 +226,8 @@ fn a_failed_read_is_a_fault(rt: HostRuntime) -> Result<(), Fail> {
 }
 
 /// The fault of the first request of `1 r hi`, if there is one.
-fn fault_of_hi(rt: &HostRuntime) -> Option<LineFault> {
-    let mut source = source_over(rt, b"1 r hi\n".as_slice(), 0);
+fn fault_of_hi(alloc: Global) -> Option<LineFault> {
+    let mut source = source_over(alloc, b"1 r hi\n".as_slice(), 0);
     match source.answer(Kind::Request) {
         Ok(_answer) => None,
         Err(_) => source.fault(),
@@ -224,7 +238,7 @@ fn fault_of_hi(rt: &HostRuntime) -> Option<LineFault> {
 /// of memory.
 #[test]
 fn answers_with_memory(rt: HostRuntime) -> Result<(), LineFault> {
-    match fault_of_hi(&rt) {
+    match fault_of_hi(rt.alloc()) {
         None => Ok(()),
         Some(fault) => Err(fault),
     }
@@ -253,7 +267,7 @@ fn refuses_a_longer_text(rt: HostRuntime) -> Result<(), Fail> {
         (5000, Some(LineFault::Form)),
     ] {
         let line = long_input(rt.alloc(), b"1 r ", length, b"")?;
-        let mut source = source_over(&rt, line.as_slice(), 0);
+        let mut source = source_over(rt.alloc(), line.as_slice(), 0);
         let answer = source.answer(Kind::Request);
         assert_eq!(rt; answer.is_ok(), fault.is_none());
         assert_eq!(rt; source.fault(), fault);
@@ -278,7 +292,7 @@ fn no_part_of_a_line_is_read(rt: HostRuntime) -> Result<(), Fail> {
     ];
     for (taken, front, length, back, wanted, fault) in rows {
         let input = long_input(rt.alloc(), front, length, back)?;
-        let mut source = source_over(&rt, input.as_slice(), taken);
+        let mut source = source_over(rt.alloc(), input.as_slice(), taken);
         let mut out = Vec::new(rt.alloc());
         collect_answers(&mut source, 3, &mut out)?;
         assert_eq!(rt; out.as_slice(), wanted);
@@ -287,65 +301,71 @@ fn no_part_of_a_line_is_read(rt: HostRuntime) -> Result<(), Fail> {
     Ok(())
 }
 
-/// What is said of a clock: its time.
-fn time_in(said: &Result<Option<Answer>, SourceFault>) -> Option<u64> {
-    let Ok(Some(answer)) = said else {
-        return None;
-    };
-    match answer {
-        Answer::Realtime { nanoseconds } => Some(*nanoseconds),
-        Answer::Monotonic { nanoseconds } => Some(*nanoseconds),
+/// The bytes that a source gives for a wish of so many, or none.
+fn drawn(
+    source: &mut RequestSource<BufferedLines<&[u8]>, NoClock>,
+    length: u32,
+) -> Option<Vec<u8>> {
+    match source.answer(Kind::Random { length }) {
+        Ok(Some(Answer::Random { bytes })) => Some(bytes.into_vec()),
         _ => None,
     }
 }
 
-/// Whether these random bytes were said.
-fn are_bytes(said: &Result<Option<Answer>, SourceFault>, wanted: &[u8]) -> bool {
-    let Ok(Some(Answer::Random { bytes })) = said else {
-        return false;
-    };
-    bytes.as_slice() == wanted
-}
+/// The first words of stream 1 of the seed of zeros, as they are published for ChaCha20.
+const WORDS: [u8; 16] = [
+    0xef, 0x3f, 0xdf, 0xd6, 0xc6, 0x15, 0x78, 0xfb, 0xf5, 0xcf, 0x35, 0xbd, 0x3d, 0xd3, 0x3b, 0x80,
+];
 
-/// Both clocks stand. Random bytes are those of stream 1, and begin with a word each time.
+/// A word is four bytes, of which a wish drops those that it doesn't want.
 #[test]
-fn answers_clocks_and_random_bytes(rt: HostRuntime) -> Result<(), Fail> {
-    let mut source = source_over(&rt, b"1 e".as_slice(), 0);
-    assert_eq!(rt; time_in(&source.answer(Kind::Realtime)), Some(7));
-    assert_eq!(rt; time_in(&source.answer(Kind::Monotonic)), Some(7));
-    let five = [0xef, 0x3f, 0xdf, 0xd6, 0xc6];
-    assert!(rt; are_bytes(&source.answer(Kind::Random { length: 5 }), &five));
-    let one = [0xf5];
-    assert!(rt; are_bytes(&source.answer(Kind::Random { length: 1 }), &one));
-    let two = [0x3d, 0xd3];
-    assert!(rt; are_bytes(&source.answer(Kind::Random { length: 2 }), &two));
-    assert_eq!(rt; letters(&source.answer(Kind::Request)), (b'e', None));
+fn draws_word_after_word(rt: HostRuntime) -> Result<(), Fail> {
+    let mut source = source_over(rt.alloc(), b"".as_slice(), 0);
+    for (length, at) in [(5, 0), (0, 8), (4, 8), (1, 12)] {
+        let bytes = drawn(&mut source, length);
+        let end = at + length as usize;
+        assert_eq!(rt; bytes.as_deref(), Some(&WORDS[at..end]));
+    }
     Ok(())
 }
 
-/// The first bytes of stream 0 of the seed of zeros.
+/// The first words of the seed of zeros, as they are published for ChaCha20.
 #[test]
-fn a_seed_has_its_bytes(rt: HostRuntime) -> Result<(), Fail> {
+fn gives_the_words_of_a_seed(rt: HostRuntime) -> Result<(), Fail> {
     let bytes = seeded(rt.alloc(), [0; 32], 0, 0, 5)?;
     assert_eq!(rt; bytes.as_slice(), [0x76, 0xb8, 0xe0, 0xad, 0xa0].as_slice());
     Ok(())
 }
 
-/// 64 digits of either case spell a seed, one digit more or less spells none.
+/// The time that a source gives, or none.
+fn time_of(source: &mut RequestSource<BufferedLines<&[u8]>, NoClock>, kind: Kind) -> Option<u64> {
+    match source.answer(kind) {
+        Ok(Some(Answer::Realtime { nanoseconds } | Answer::Monotonic { nanoseconds })) => {
+            Some(nanoseconds)
+        }
+        _ => None,
+    }
+}
+
 #[test]
-fn reads_seeds(rt: HostRuntime) -> Result<(), Fail> {
-    let digits = "00112233445566778899aabbccddeeff00112233445566778899AABBCCDDEEFF";
-    let sixteen = [
-        0x00, 0x11, 0x22, 0x33, 0x44, 0x55, 0x66, 0x77, 0x88, 0x99, 0xaa, 0xbb, 0xcc, 0xdd, 0xee,
-        0xff,
-    ];
-    let seed = read_seed(digits).ok_or(LineFault::Form)?;
-    assert_eq!(rt; &seed[..16], sixteen.as_slice());
-    assert_eq!(rt; &seed[16..], sixteen.as_slice());
-    assert_eq!(rt; read_seed(&digits[1..]), None);
-    assert_eq!(rt;
-        read_seed("g0112233445566778899aabbccddeeff00112233445566778899aabbccddeeff"),
-        None
-    );
+fn shows_the_fixed_time(rt: HostRuntime) -> Result<(), Fail> {
+    let mut source = source_over(rt.alloc(), b"".as_slice(), 0);
+    for kind in [Kind::Realtime, Kind::Monotonic, Kind::Realtime] {
+        assert_eq!(rt; time_of(&mut source, kind), Some(5));
+    }
+    Ok(())
+}
+
+#[test]
+fn a_failed_clock_is_a_fault(rt: HostRuntime) -> Result<(), Fail> {
+    let reader = BufferedLines::new(b"1 e".as_slice());
+    let outside = Outside {
+        clock: None,
+        ..OUTSIDE
+    };
+    let mut source = RequestSource::new(rt.alloc(), reader, NoClock, outside, 0);
+    assert_eq!(rt; time_of(&mut source, Kind::Realtime), None);
+    assert_eq!(rt; source.fault(), Some(LineFault::Clock));
+    assert!(rt; source.answer(Kind::Request).is_err());
     Ok(())
 }

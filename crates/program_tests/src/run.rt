@@ -2,7 +2,7 @@
 //! may be refused.
 
 use crate::check::{BEFORE_CODE, EMPTY_BODY, HELLO, bytes_of};
-use crate::lines::STILL;
+use crate::lines::{NoClock, OUTSIDE};
 use record_replay::{AnswerList, LineList};
 use std::alloc::Global;
 use std::num::NonZeroU64;
@@ -50,23 +50,23 @@ enum Refused {
     Otherwise,
 }
 
-/// Texts of a module, steps of a slice, and what is printed: lines, last words, and the status.
-type Case<'a> = (&'a [&'a str], u64, &'a str, &'a str, u8);
-
-/// No request lines.
-fn no_lines(rt: &HostRuntime) -> RequestSource<BufferedLines<&[u8]>, &HostRuntime> {
+/// A source without lines.
+fn empty_source(alloc: Global) -> RequestSource<BufferedLines<&'static [u8]>, NoClock> {
     let reader = BufferedLines::new(b"".as_slice());
-    RequestSource::new(rt.alloc(), reader, rt, STILL, 0)
+    RequestSource::new(alloc, reader, NoClock, OUTSIDE, 0)
 }
 
-/// Slices of so many steps, no arguments and no environment.
-fn options_of(fuel: NonZeroU64) -> Options<'static> {
+/// So many steps a slice, no further argument and no environment.
+fn plain_options(fuel: NonZeroU64) -> Options<'static> {
     Options {
         fuel,
         arguments: &[],
         environment: &[],
     }
 }
+
+/// Texts of a module, steps of a slice, and what is printed: lines, last words, and the status.
+type Case<'a> = (&'a [&'a str], u64, &'a str, &'a str, u8);
 
 #[test]
 fn workers_print(rt: HostRuntime) -> Result<(), Fail> {
@@ -90,11 +90,11 @@ fn workers_print(rt: HostRuntime) -> Result<(), Fail> {
     ];
     for (texts, fuel, lines, words, status) in rows {
         let wasm = bytes_of(alloc, texts)?;
-        let mut source = no_lines(&rt);
+        let mut source = empty_source(alloc);
         let mut outlet = LineOutlet::new(alloc, Vec::new(alloc))?;
         let mut err = Vec::new(alloc);
         let fuel = NonZeroU64::try_from(fuel)?;
-        let options = options_of(fuel);
+        let options = plain_options(fuel);
         let answered = serve(
             alloc,
             wasm.as_slice(),
@@ -161,9 +161,8 @@ fn workers_take_steps(rt: HostRuntime) -> Result<(), Fail> {
 }
 
 /// Runs `hello`, in rooms for its line and its last words that take no memory.
-fn run_hello(rt: &HostRuntime) -> Result<(), Refused> {
-    let alloc = rt.alloc();
-    let mut source = no_lines(rt);
+fn run_hello(alloc: Global) -> Result<(), Refused> {
+    let mut source = empty_source(alloc);
     let mut lines = [0u8; 32];
     let mut words = [0u8; 32];
     let Ok(mut outlet) = LineOutlet::new(alloc, lines.as_mut_slice()) else {
@@ -173,7 +172,7 @@ fn run_hello(rt: &HostRuntime) -> Result<(), Refused> {
     let Some(fuel) = NonZeroU64::new(100_000) else {
         return Err(Refused::Otherwise);
     };
-    let options = options_of(fuel);
+    let options = plain_options(fuel);
     let status = serve(
         alloc,
         &HELLO_BYTES,
@@ -196,15 +195,15 @@ fn run_hello(rt: &HostRuntime) -> Result<(), Refused> {
 /// ends in the named want of memory.
 #[test]
 fn whole_run(rt: HostRuntime) -> Result<(), Refused> {
-    run_hello(&rt)
+    run_hello(rt.alloc())
 }
 
 /// Lines that can't be printed, and last words that can't.
 #[test]
 fn output_without_room(rt: HostRuntime) -> Result<(), Fail> {
     let fuel = NonZeroU64::try_from(100)?;
-    let options = options_of(fuel);
-    let mut source = no_lines(&rt);
+    let options = plain_options(fuel);
+    let mut source = empty_source(rt.alloc());
     for (room, left, status) in [(4, 32, 7), (32, 4, 7), (32, 32, 0)] {
         let mut lines = [0u8; 32];
         let mut words = [0u8; 32];

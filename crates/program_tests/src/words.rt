@@ -7,7 +7,7 @@ use wasmhost_serve::{Order, WordsFault, read_words};
 fn reads_check(rt: HostRuntime) -> Result<(), Fail> {
     match read_words(rt.alloc(), &["wasmhost", "check", "/dev/null"])? {
         Order::Check { path } => assert_eq!(rt; path, "/dev/null"),
-        Order::Run { .. } => assert!(rt; false),
+        Order::Run(_) => assert!(rt; false),
     }
     Ok(())
 }
@@ -15,7 +15,7 @@ fn reads_check(rt: HostRuntime) -> Result<(), Fail> {
 #[test]
 fn reads_run(rt: HostRuntime) -> Result<(), Fail> {
     match read_words(rt.alloc(), &["wasmhost", "run", "a.wasm", "--fuel", "1"])? {
-        Order::Run { path, fuel } => assert_eq!(rt; (path, fuel.get()), ("a.wasm", 1)),
+        Order::Run(order) => assert_eq!(rt; (order.path, order.fuel.get()), ("a.wasm", 1)),
         Order::Check { .. } => assert!(rt; false),
     }
     Ok(())

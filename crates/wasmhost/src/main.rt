@@ -10,7 +10,8 @@
 //! brings these to them:
 //!
 //! - It reads the command line, and opens a module's file (`read_module`).
-//! - `check` hands over the file's bytes, and `run` also the lines of the standard input.
+//! - `check` hands over the file's bytes, and `run` also the lines of the standard input, the
+//!   machine's clock, and what the words say of seed, clock, environment and arguments.
 //! - What keeps a command from beginning is told by `report`, and a fault of the words by
 //!   `report_words`.
 //!
@@ -21,7 +22,7 @@
 //! # Who may touch what
 //!
 //! Of the crates here only this one has the runtime's handle: the words of the command line,
-//! files, standard streams and the allocator. All else is lent to `wasmhost_serve`, the only crate
+//! files, standard streams, the clock and the allocator. All else is lent to `wasmhost_serve`, the only crate
 //! that it stands on. It takes memory for the words, the file, the reader's buffer and a line.
 #![tactic(auto)]
 
@@ -31,13 +32,12 @@ use std::alloc::Global;
 use std::env;
 use std::fs::File;
 use std::io::{self, BufReader, ErrorKind, Input, Write};
-use std::num::NonZeroU64;
 use std::process::ExitCode;
 use std::rt::{Env, Files};
 use std::time::Clock;
 use wasmhost_serve::{
-    BufferedLines, LineOutlet, Obstacle, Options, Order, Outside, RequestSource, check_bytes,
-    obstacle_of, read_module, read_words, report, report_words, serve,
+    BufferedLines, LineOutlet, Obstacle, Options, Order, Outside, RequestSource, RunOrder,
+    check_bytes, obstacle_of, read_module, read_seed, read_words, report, report_words, serve,
 };
 
 /// The first bytes of a file.
@@ -60,18 +60,28 @@ fn check<R: Files, W: Write, E: Write>(
     }
 }
 
-/// Runs a worker of a file's module on the lines of the standard input.
+/// The seed that the words give, or zeros, which anyone can foresee.
+fn seed_of(order: &RunOrder<'_>) -> Option<[u8; 32]> {
+    match order.seed {
+        Some(digits) => read_seed(digits),
+        None => Some([0; 32]),
+    }
+}
+
+/// Runs a worker of a file's module on the lines of the standard input and the machine's clock.
 fn run<R: Files + Input + Clock, W: Write, E: Write>(
     rt: &R,
     alloc: Global,
-    path: &str,
-    fuel: NonZeroU64,
+    order: &RunOrder<'_>,
     out: &mut W,
     err: &mut E,
 ) -> u8
     ensures { result ≤ 7 }
 {
-    let wasm = match read_file(rt, alloc, path) {
+    let Some(seed) = seed_of(order) else {
+        return report(err, Obstacle::NoSeed);
+    };
+    let wasm = match read_file(rt, alloc, order.path) {
         Ok(wasm) => wasm,
         Err(error) => return report(err, obstacle_of(&error)),
     };
@@ -80,21 +90,22 @@ fn run<R: Files + Input + Clock, W: Write, E: Write>(
         Err(error) => return report(err, obstacle_of(&error)),
     };
     let outside = Outside {
-        seed: [0; 32],
-        clock: None,
+        seed,
+        clock: order.clock,
     };
     let mut source = RequestSource::new(alloc, BufferedLines::new(reader), rt, outside, 0);
     let Ok(mut outlet) = LineOutlet::new(alloc, out) else {
         return report(err, Obstacle::Memory);
     };
+    let options = Options {
+        fuel: order.fuel,
+        arguments: order.arguments.as_slice(),
+        environment: order.environment.as_slice(),
+    };
     serve(
         alloc,
         wasm.as_slice(),
-        Options {
-            fuel,
-            arguments: &[],
-            environment: &[],
-        },
+        options,
         &mut source,
         &mut outlet,
         err,
@@ -120,7 +131,7 @@ where
     };
     match read_words(alloc, words.as_slice()) {
         Ok(Order::Check { path }) => check(rt, alloc, path, out, err),
-        Ok(Order::Run { path, fuel }) => run(rt, alloc, path, fuel, out, err),
+        Ok(Order::Run(order)) => run(rt, alloc, &order, out, err),
         Err(fault) => report_words(&fault, out, err),
     }
 }

@@ -6,11 +6,13 @@
 //! - `check_bytes`: status 0 says that the bytes spell an accepted module (`accepted`), and that
 //!   `accepted` was printed (`printed`). 3 says that they spell none (`refused`). All others are 5
 //!   and 7 (`known`).
-//! - `serve`: what each status of a run says of the module, the request lines, the lines that were
-//!   printed, and the last words (`serves`). Up to any status but 7 whatever was printed is true.
+//! - `serve`: what each status of a run says of the module, its configuration, the answers from
+//!   outside, the lines that were printed, and the last words (`serves`). Up to any status but 7 whatever was printed is true.
 //!   No status is above 7 (`known`).
-//! - `RequestSource` hands over the answers that the lines of its reader give, in their order, and
-//!   says why it refuses (`HandsNext`). A failed read it tells only of a reader that has failed.
+//! - `RequestSource` answers requests as the lines of its reader say, in their order, clocks with
+//!   the fixed time, and wishes for random bytes with the next words of its seed. It says why it
+//!   refuses (`HandsNext`). A failed read it tells only of a reader that has failed.
+//! - `read_seed`, `seeded`: which texts are seeds, and which bytes a seed gives (`seeded_bytes`).
 //! - `LineReader` is what request lines are read from. `BufferedLines` is one over any `BufRead`.
 //! - `LineOutlet` prints each line that it takes, with its number and the letter of its stream
 //!   (`PrintsOneLine`). `laws::taken_lines_are_printed`: the lines that it took are printed, and
@@ -19,15 +21,16 @@
 //!   module has. `say_line`, `report`: the line was written and the status is the one given, or it
 //!   is 7 (`SaysLine`). `report_words`: help leaves the error output as it was, and a mistake the
 //!   output.
-//! - `words::read_words`: an order is exactly what the words mean. A fault is one that the rules
+//! - `read_words`: an order is exactly what the words mean. A fault is one that the rules
 //!   of the command line list for them, or want of memory (`IsReading`).
 //! - `laws::faultless_words_mean`, `laws::worked_examples`: words without a fault mean an order;
-//!   seventeen command lines.
+//!   twenty-five command lines.
 //!
 //! # Definitions to read
 //!
-//! In `specs/rules/`: `Serves`, `HasPrinted`, `usual`, `last_words` (`Served.antt`);
-//! `GivesAnswers`, `GiveUpTo` (`Requests.antt`); `printed`, `request_line` (`Texts.antt`);
+//! In `specs/rules/`: `Serves`, `HasPrinted`, `config_of`, `last_words` (`Served.antt`);
+//! `GivesAnswers`, `GiveUpTo` (`Requests.antt`); `ComeFrom`, `requests_in` (`Outside.antt`);
+//! `seeded_bytes` (`Seeds.antt`); `printed`, `request_line` (`Texts.antt`);
 //! `wasmhost`, `meaning_in`, `IsReading`, `IsStatusOf` (`Commands.antt`). Beside these:
 //! `all_printed` (`specs/rules/Printed.antt`), and `PrintsOneLine` (`specs/rules/Prints.antt`).
 //!

@@ -17,6 +17,8 @@ pub enum Obstacle {
     Unread,
     /// An argument is no text.
     NoText,
+    /// A text spells no seed.
+    NoSeed,
 }
 
 /// Writes a line. Answers the status, or 7 where the line can't be written.
@@ -50,6 +52,7 @@ pub fn report<E: Write>(err: &mut E, obstacle: Obstacle) -> u8
         Obstacle::Memory => say_line(err, NO_MEMORY, "failed N4 Memory"),
         Obstacle::Unread => say_line(err, UNREAD, "failed K2 Io"),
         Obstacle::NoText => say_line(err, USAGE, "error: an argument is no text"),
+        Obstacle::NoSeed => say_line(err, USAGE, "error: a seed is 64 hexadecimal digits"),
     }
 }
 

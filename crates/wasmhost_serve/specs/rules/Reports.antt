@@ -17,12 +17,14 @@ abbrev pub status_told : Obstacle → ℕ
 status_told obstacle.Memory = 5
 status_told obstacle.Unread = 4
 status_told obstacle.NoText = 2
+status_told obstacle.NoSeed = 2
 
 -- the line that says why
 abbrev pub words_told : Obstacle → List ℕ
 words_told obstacle.Memory = codes "failed N4 Memory"
 words_told obstacle.Unread = codes "failed K2 Io"
 words_told obstacle.NoText = codes "error: an argument is no text"
+words_told obstacle.NoSeed = codes "error: a seed is 64 hexadecimal digits"
 
 -- want of memory is told as that, and any other error of a file as a file that can't be read
 abbrev pub IsFileFault : ErrorKind → Obstacle → Type 0
