@@ -1,11 +1,11 @@
 -- Keys in the order of their nodes' addresses, and what a change leaves of that.
-use Rattle.std.proofs.Common.{◌≡◌, ◌≢◌, ℕ, zero, suc, ◌+◌, ◌<◌, ◌≤◌, ◌⊎◌, inl, inr, eqb, true, false, List, [], ◌∷◌, ◌++◌, length, get_or, take, drop, refl, sym, ap, subst, ◌∙◌, arith}
-use Rattle.std.specs.List.{AllByRecursion, IsDistinct, insert, remove}
-use Rattle.std.proofs.lemmas.Bool.{cases_eq, eq-eqb}
+use Rattle.std.proofs.Common.{◌≡◌, ◌≢◌, ℕ, zero, suc, ◌<◌, ◌⊎◌, inl, inr, List, [], ◌∷◌, ◌++◌, length, get_or, refl, sym, ap, subst, ◌∙◌, arith}
+use Rattle.std.specs.List.{AllByRecursion, insert, remove}
+use Rattle.std.proofs.lemmas.Bool.{cases_eq}
 use Rattle.file_tree.specs.rules.Files.{is_before}
 use Rattle.file_tree.specs.Store.Cuts.{HasElement, AreOrdered, IsCut}
 use Rattle.file_tree.specs.Store.Named.{IsBehind, IsUpTo, AreNamed, NoKey, OnlyKey}
-use Rattle.file_tree.proofs.Order.{Before, before_or_not, not_itself, before_both, one_before, in_front, behind_if, not_behind_if}
+use Rattle.file_tree.proofs.Order.{Before, not_itself, before_both, one_before, in_front, behind_if, not_behind_if}
 use Rattle.file_tree.proofs.StoreLemmas.Cuts.{ordered_but}
 use Rattle.file_tree.proofs.StoreLemmas.Places.{held_by_all}
 

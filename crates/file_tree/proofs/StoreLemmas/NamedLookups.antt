@@ -1,5 +1,5 @@
 -- What a search among keys by their nodes' addresses finds in the list of all nodes.
-use Rattle.std.proofs.Common.{◌≡◌, ◌≢◌, ℕ, zero, suc, ◌+◌, ◌-◌, ◌<◌, ◌≤◌, Bool, true, false, cond, List, [], ◌∷◌, length, get_or, Option, Some, None, refl, sym, ap, subst, ◌∙◌, arith}
+use Rattle.std.proofs.Common.{◌≡◌, ◌≢◌, ℕ, suc, ◌+◌, ◌-◌, ◌≤◌, true, false, List, [], ◌∷◌, length, get_or, Some, None, sym, ap, subst, ◌∙◌, arith}
 use Rattle.std.specs.Prelude.{slice_get}
 use Rattle.std.specs.List.{AllByRecursion}
 use Rattle.slab.specs.Slab.{Slab, ContainsKey, get}
@@ -8,7 +8,7 @@ use Rattle.file_tree.specs.rules.Files.{Name}
 use Rattle.file_tree.specs.Links.{is_hooked, child_in}
 use Rattle.file_tree.specs.Nearest.{nearest_node, node_listed}
 use Rattle.file_tree.specs.Store.Stored.{stored}
-use Rattle.file_tree.specs.Store.Cuts.{HasElement, IsCut}
+use Rattle.file_tree.specs.Store.Cuts.{IsCut}
 use Rattle.file_tree.specs.Store.Named.{KeyBehind, KeyUpTo, AreByAddress, NoKey, in_directory}
 use Rattle.file_tree.specs.Store.Kept.{AreStoredNodes}
 use Rattle.file_tree.proofs.NamedNodes.{NodeBehind, NodeUpTo, AreListed, child_there, child_not_there, child_before_all, nearest_found, listed_found}

@@ -1,17 +1,17 @@
 -- Nodes in a slab by their addresses, as lists of nodes.
-use Rattle.std.proofs.Common.{◌≡◌, ◌≢◌, ℕ, zero, suc, ◌+◌, ◌-◌, ◌<◌, ◌≤◌, ◌⊎◌, inl, inr, List, [], ◌∷◌, length, get_or, Option, Some, None, refl, sym, ap, subst, ◌∙◌, arith}
-use Rattle.std.specs.Prelude.{slice_get, IsSome}
+use Rattle.std.proofs.Common.{◌≡◌, ℕ, zero, suc, ◌<◌, ◌⊎◌, inl, inr, List, [], ◌∷◌, length, get_or, Option, Some, refl, sym, ap, subst, ◌∙◌, arith}
+use Rattle.std.specs.Prelude.{slice_get}
 use Rattle.std.specs.List.{AllByRecursion}
 use Rattle.slab.specs.Slab.{Slab, get, ContainsKey}
 use Rattle.file_tree.specs.declared.store.node.Node.{Node}
 use Rattle.file_tree.specs.Links.{hook_held}
-use Rattle.file_tree.specs.Store.Stored.{put, stored, AreStored}
+use Rattle.file_tree.specs.Store.Stored.{put, stored}
 use Rattle.file_tree.specs.Store.Cuts.{HasElement, AreOrdered, IsCut}
 use Rattle.file_tree.specs.Store.Named.{address_of, address_at, IsBehind, IsUpTo, KeyBehind, KeyUpTo, AreByAddress, AreNamed, NoKey}
 use Rattle.file_tree.proofs.NamedNodes.{NodeBehind, NodeUpTo, AreListed}
 use Rattle.file_tree.proofs.StoreLemmas.Keys.{is_value, stored_at, length-stored}
 use Rattle.file_tree.proofs.StoreLemmas.NamedKeys.{all_of_held}
-use Rattle.file_tree.proofs.StoreLemmas.Places.{some_same, held_by_all, some_at}
+use Rattle.file_tree.proofs.StoreLemmas.Places.{held_by_all, some_at}
 
 -- the address of a node at a key
 pub address_of_node : (slab : Slab Node) (key : ℕ) (n : Node) → get slab key ≡ Some n

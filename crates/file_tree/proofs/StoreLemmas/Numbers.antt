@@ -1,12 +1,12 @@
 -- Nodes by rising numbers.
-use Rattle.std.proofs.Common.{◌≡◌, ◌≢◌, ℕ, zero, suc, ◌+◌, ◌<◌, ◌≤◌, List, [], ◌∷◌, length, get_or, refl, sym, ap, subst, ◌∙◌, arith}
+use Rattle.std.proofs.Common.{◌≡◌, ◌≢◌, ℕ, zero, suc, ◌+◌, ◌<◌, ◌≤◌, List, [], ◌∷◌, length, get_or, arith}
 use Rattle.std.specs.List.{AllByRecursion}
 use Rattle.file_tree.specs.declared.store.node.Node.{Node}
 use Rattle.file_tree.specs.Store.Stored.{changed}
 use Rattle.file_tree.specs.Store.Cuts.{AreOrdered, IsCut}
 use Rattle.file_tree.specs.Store.Kept.{IsLower, HasLower, HasNoLower}
 use Rattle.file_tree.specs.Links.{AreRisingNodes, IsPlace, IsNowhere}
-use Rattle.file_tree.proofs.Lists.{numbers_from, nowhere_above}
+use Rattle.file_tree.proofs.Lists.{numbers_from}
 
 -- a change that keeps numbers
 module _ (f : Node → Node) (keeps : (n : Node) → (f n).number ≡ n.number) where

@@ -1,5 +1,5 @@
 -- Nodes in the order of their directories and names.
-use Rattle.std.specs.Prelude.{◌≡◌, ◌≢◌, ℕ, Bool, true, false, if◌then◌else◌, List, [], ◌∷◌}
+use Rattle.std.specs.Prelude.{◌≡◌, ◌≢◌, ℕ, true, false, if◌then◌else◌, List, [], ◌∷◌}
 use Rattle.std.specs.Prelude.{Option, Some, None, slice_get, slice_index_or}
 use Rattle.std.specs.List.{AllByRecursion}
 use Rattle.slab.specs.Slab.{Slab, ContainsKey, get}
@@ -95,5 +95,5 @@ in_directory d None = None
 in_directory d (Some n) = if is_in d n.hook then Some n else None
 
 -- the node of the key at a place
-abbrev pub node_named_at : Slab Node → List ℕ → ℕ → Option Node
-node_named_at slab keys place = slice_get (stored slab keys) place
+abbrev pub named_node : Slab Node → List ℕ → ℕ → Option Node
+named_node slab keys place = slice_get (stored slab keys) place

@@ -8,7 +8,7 @@ ghost use Rattle.file_tree.specs.Links.{is_in};
 ghost use Rattle.file_tree.specs.Store.Cuts.{HasElement};
 ghost use Rattle.file_tree.specs.Store.Named.{address_of, address_at, AreByAddress, IsCutBehind};
 ghost use Rattle.file_tree.specs.Store.Named.{IsFreeKey, GetsKey, LosesKey};
-ghost use Rattle.file_tree.specs.Store.Named.{in_directory, node_named_at};
+ghost use Rattle.file_tree.specs.Store.Named.{in_directory, named_node};
 
 use crate::store::node::{Hook, Node};
 use slab::Slab;
@@ -86,7 +86,7 @@ pub fn node_named<'a>(
     directory: u64,
 ) -> Option<&'a Node>
     requires { AreByAddress slab.now keys.now }
-    ensures { option_copied result ≡ in_directory directory (node_named_at slab.now keys.now place) }
+    ensures { option_copied result ≡ in_directory directory (named_node slab.now keys.now place) }
 {
     if place >= keys.len() {
         return None;

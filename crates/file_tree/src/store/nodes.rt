@@ -74,8 +74,8 @@ impl Nodes {
         self.order.len()
     }
 
-    /// Puts a node behind the others, whose numbers are lower. Nothing hangs where it does. Only want
-    /// of memory makes it fail, and then nothing is changed.
+    /// Puts a node behind the others, whose numbers are lower. Nothing hangs where it does. Only
+    /// want of memory makes it fail, and then nothing is changed.
     pub fn push(&mut self, node: Node) -> Result<(), AllocError>
         requires number { AllByRecursion (λ (n : TheNode). n.number < node.number) self.old }
         requires free { IsFreeHook node.hook self.old }

@@ -1,5 +1,4 @@
 use Rattle.std.proofs.Common.{◌≡◌, ◌+◌, ◌-◌, ◌/◌, ◌≤◌, sym, subst, get_or, arith}
-use Rattle.file_tree.specs.declared.store.node.Node.{Node}
 use Rattle.file_tree.specs.Store.Cuts.{IsCut}
 use Rattle.file_tree.specs.Store.Kept.{IsLower, HasLower, HasNoLower}
 use Rattle.file_tree.proofs.StoreLemmas.Cuts.{Whatever, no_front, no_back, whole_cut, front_up_to, back_from}

@@ -1,4 +1,4 @@
-use Rattle.std.proofs.Common.{◌-◌, ◌≤◌, length, ℕ}
+use Rattle.std.proofs.Common.{◌-◌, ◌≤◌, length}
 use Rattle.file_tree.specs.Store.Cuts.{IsCut}
 use Rattle.file_tree.specs.Store.Kept.{HasLower, HasNoLower}
 use Rattle.file_tree.proofs.StoreLemmas.Cuts.{Whatever}

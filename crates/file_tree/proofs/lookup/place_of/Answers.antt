@@ -1,4 +1,4 @@
-use Rattle.std.proofs.Common.{sym, ap, subst, get_or, arith, ◌≡◌, ◌∙◌}
+use Rattle.std.proofs.Common.{sym, ap, arith, ◌∙◌}
 use Rattle.file_tree.specs.declared.store.node.Node.{Node}
 use Rattle.file_tree.proofs.StoreLemmas.Numbers.{place_at_cut, nowhere_at_cut, nowhere_at_end}
 use Rattle.file_tree.proofs.lookup.place_of.Goals as goal

@@ -1,5 +1,4 @@
-use Rattle.std.proofs.Common.{◌≡◌, ◌+◌, ◌-◌, ◌*◌, ◌/◌, ◌≤◌, ◌<◌, ◌∷◌, ℕ, List, true, false, length, sym, subst, ◌∙◌, get_or, arith}
-use Rattle.std.specs.Prelude.{slice_index_or}
+use Rattle.std.proofs.Common.{◌≡◌, ◌+◌, ◌-◌, ◌/◌, ◌∷◌, true, false, sym, subst, ◌∙◌, get_or, arith}
 use Rattle.slab.specs.Slab.{ContainsKey}
 use Rattle.file_tree.specs.Store.Cuts.{IsCut}
 use Rattle.file_tree.specs.Store.Named.{IsBehind, address_at, KeyUpTo, KeyBehind}

@@ -1,5 +1,4 @@
-use Rattle.std.proofs.Common.{◌≡◌, ◌<◌, Bool, Option, Some, None, cond, sym, ap, ◌∙◌, length, get_or, arith}
-use Rattle.file_tree.specs.declared.store.node.Node.{Node}
+use Rattle.std.proofs.Common.{Bool, Some, None, cond, sym, ap, ◌∙◌, arith}
 use Rattle.file_tree.specs.Store.Stored.{stored}
 use Rattle.file_tree.specs.Store.Named.{in_directory}
 use Rattle.file_tree.proofs.StoreLemmas.Keys.{length-stored}
