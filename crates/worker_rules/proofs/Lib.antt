@@ -6,3 +6,5 @@ pub mod Disks
 pub mod Refusing
 pub mod Honesty
 pub mod Examples
+pub mod HelloShown
+pub mod HelloLives
