@@ -8,3 +8,4 @@ pub mod Honesty
 pub mod Examples
 pub mod HelloShown
 pub mod HelloLives
+pub mod EchoLives

@@ -1,18 +1,22 @@
 -- Whole lives of modules, which the restart theorem allows, and events that are none of theirs.
 use Rattle.std.specs.Prelude.{◌≡◌, ℕ, ◌≤◌, ◌^◌, Bool, true, false, List, [], ◌∷◌, codes}
 use Rattle.std.specs.Prelude.{Some, None, Ok}
-use Rattle.wasm_syntax.specs.laws.Examples.{hello}
+use Rattle.wasm_syntax.specs.laws.Examples.{hello, echo}
 use Rattle.wasi_abi.specs.declared.answer.Kind.{Kind}
+use Rattle.wasi_abi.specs.declared.answer.Kind.TheVariants as kind
+use Rattle.wasi_abi.specs.declared.answer.Answer.TheVariants as answer
 use Rattle.wasi_abi.specs.rules.Configs.{Settings}
 use Rattle.process_rules.specs.Processes.{Exited}
 use Rattle.process_rules.specs.laws.Examples.{hello_memory}
+use Rattle.process_rules.specs.Runs.{Kept, Given}
 use Rattle.state_image.specs.rules.Image.{Saved}
 use Rattle.state_image.specs.laws.Examples.{fresh_process}
 use Rattle.state_image.specs.laws.WellTypedExamples.{hello_first_memory}
 use Rattle.worker_rules.specs.Lives.{Slice, Checkpoint, SourceSaid, Inputs, Release, Over, Done}
 use Rattle.worker_rules.specs.Lives.{Event, Told, Asked, Opened, Ended, Finished, Stopped, Life}
 use Rattle.worker_rules.specs.Courses.{Stage, at_first}
-use Rattle.worker_rules.specs.Promises.{Promise, nothing_yet, IsKept, AreKept, GoesOn}
+use Rattle.worker_rules.specs.Promises.{Promise, nothing_yet, IsAt, IsKept, AreKept}
+use Rattle.worker_rules.specs.Promises.{GoesOn}
 use Rattle.worker_rules.specs.laws.Refused.{in_peace, created_life, recovered_life}
 
 -- ---- a module that writes a line and exits
@@ -83,6 +87,26 @@ pub record HelloLives (config : Settings) : Type 0 where
       → so_far.kept ≡ []
       → IsKept hello config so_far stage (Told (record hi_told { number = 2 }) is_taken) → ⊥
   -- it asks for nothing
-  pub asks : (so_far : Promise) (stage : Stage) (steps : ℕ) (kind : Kind) (said : SourceSaid)
+  pub asks : (so_far : Promise) (stage : Stage) (steps : ℕ) (wish : Kind) (said : SourceSaid)
       (fits : Bool) → so_far.kept ≡ []
-      → IsKept hello config so_far stage (Asked steps kind said fits) → ⊥
+      → IsKept hello config so_far stage (Asked steps wish said fits) → ⊥
+
+-- ---- a module that tells what it is asked
+
+-- a request with the text `abc`
+abbrev pub abc_kept : List Kept
+abc_kept = Given (answer.Request (codes "abc")) ∷ []
+
+-- Events that are none of `echo`.
+pub record EchoRefusals (config : Settings) : Type 0 where
+  -- where its line was told, no life opens without the request behind it
+  pub loses_a_line : (so_far : Promise) (stage : Stage) (shown : Saved)
+      → so_far.kept ≡ abc_kept → 1 ≤ so_far.begun
+      → IsKept echo config so_far stage (Opened 0 shown) → ⊥
+  -- it tells nothing before it was asked
+  pub tells_unasked : (so_far : Promise) (stage : Stage) (r : Release) (is_taken : Bool)
+      → so_far.kept ≡ [] → IsKept echo config so_far stage (Told r is_taken) → ⊥
+  -- what it asks for is a request
+  pub asks_for_another : (so_far : Promise) (stage : Stage) (steps : ℕ) (wish : Kind)
+      (said : SourceSaid) (fits : Bool) → so_far.kept ≡ []
+      → IsKept echo config so_far stage (Asked steps wish said fits) → wish ≡ kind.Request
