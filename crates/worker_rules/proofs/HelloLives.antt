@@ -1,5 +1,5 @@
 -- The lives of `hello` go on, and what is no life of it.
-use Rattle.std.proofs.Common.{◌≡◌, ◌⊎◌, inl, inr, ℕ, ◌+◌, ◌≤◌, ◌^◌, Bool, true, List, [], ◌∷◌, length}
+use Rattle.std.proofs.Common.{◌≡◌, inl, inr, ℕ, ◌+◌, ◌≤◌, ◌^◌, true, List, [], ◌∷◌, length}
 use Rattle.std.proofs.Common.{Option, Some, None, refl, sym, ap, ◌∙◌, subst, arith, length-append}
 use Rattle.std.specs.Prelude.{slice_get, codes, take as firsts}
 use Rattle.std.proofs.lemmas.Option.{slice_get_within}
@@ -8,7 +8,7 @@ use Rattle.wasm_syntax_rules.specs.Steps.{IsEnded}
 use Rattle.wasi_abi.specs.rules.Configs.{Settings}
 use Rattle.wasi_abi.specs.declared.answer.Kind.{Kind}
 use Rattle.wasi_calls_rules.specs.Hosts.{Line}
-use Rattle.process_rules.specs.Processes.{ProcessState, Guest, Ending, Exited}
+use Rattle.process_rules.specs.Processes.{ProcessState, Guest, Exited}
 use Rattle.process_rules.specs.Runs.{Kept, Wants, Runs, Reaches, next_of, LeadsTo, none, step, take}
 use Rattle.process_rules.specs.Behind.{AnswersBehindLine, IsLine}
 use Rattle.process_rules.specs.laws.Examples.{hello_end}
@@ -16,8 +16,8 @@ use Rattle.process_rules.proofs.ExamplesValid.{hello_is_valid}
 use Rattle.process_rules.proofs.ExamplesHold.{hello_ends}
 use Rattle.process_rules.proofs.Quiet.{no_rule}
 use Rattle.process_rules.proofs.Growing.{runs_emit}
-use Rattle.worker_rules.specs.Lives.{Act, Slice, Checkpoint, Inputs, Over, Done, Event, Told, Opened}
-use Rattle.worker_rules.specs.Lives.{Ended, Life}
+use Rattle.worker_rules.specs.Lives.{Act, Slice, Checkpoint, Inputs, Over, Event, Told, Opened}
+use Rattle.worker_rules.specs.Lives.{Ended}
 use Rattle.worker_rules.specs.Courses.{Stage, Open, at_first, next_stage, IsNextAct}
 use Rattle.worker_rules.specs.Promises.{Promise, nothing_yet, after, promised_by, HoldsAll}
 use Rattle.worker_rules.specs.Promises.{IsKept, IsLived}

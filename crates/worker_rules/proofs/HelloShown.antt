@@ -1,5 +1,5 @@
 -- What `hello` shows where it begins and where it has ended.
-use Rattle.std.proofs.Common.{◌≡◌, inl, ℕ, zero, suc, ◌^◌, ◌≤◌, List, [], ◌∷◌, ◌++◌, length}
+use Rattle.std.proofs.Common.{◌≡◌, inl, ℕ, zero, suc, ◌^◌, ◌≤◌, List, [], ◌∷◌, length}
 use Rattle.std.proofs.Common.{replicate, Some, None, refl, sym, subst, lit≤, arith}
 use Rattle.std.proofs.lemmas.List.{length-replicate}
 use Rattle.wasm_syntax.specs.declared.types.FunctionType.{FunctionType}

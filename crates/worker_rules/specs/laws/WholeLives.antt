@@ -1,6 +1,6 @@
 -- Whole lives of modules, which the restart theorem allows, and events that are none of theirs.
-use Rattle.std.specs.Prelude.{◌≡◌, ℕ, ◌≤◌, ◌^◌, Bool, true, false, List, [], ◌∷◌, codes}
-use Rattle.std.specs.Prelude.{Some, None, Ok}
+use Rattle.std.specs.Prelude.{◌≡◌, ℕ, ◌≤◌, ◌^◌, Bool, true, List, [], ◌∷◌, codes}
+use Rattle.std.specs.Prelude.{Some}
 use Rattle.wasm_syntax.specs.laws.Examples.{hello, echo}
 use Rattle.wasi_abi.specs.declared.answer.Kind.{Kind}
 use Rattle.wasi_abi.specs.declared.answer.Kind.TheVariants as kind
@@ -13,9 +13,9 @@ use Rattle.state_image.specs.rules.Image.{Saved}
 use Rattle.state_image.specs.laws.Examples.{fresh_process}
 use Rattle.state_image.specs.laws.WellTypedExamples.{hello_first_memory}
 use Rattle.worker_rules.specs.Lives.{Slice, Checkpoint, SourceSaid, Inputs, Release, Over, Done}
-use Rattle.worker_rules.specs.Lives.{Event, Told, Asked, Opened, Ended, Finished, Stopped, Life}
+use Rattle.worker_rules.specs.Lives.{Told, Asked, Opened, Ended, Finished, Stopped, Life}
 use Rattle.worker_rules.specs.Courses.{Stage, at_first}
-use Rattle.worker_rules.specs.Promises.{Promise, nothing_yet, IsAt, IsKept, AreKept}
+use Rattle.worker_rules.specs.Promises.{Promise, nothing_yet, IsKept, AreKept}
 use Rattle.worker_rules.specs.Promises.{GoesOn}
 use Rattle.worker_rules.specs.laws.Refused.{in_peace, created_life, recovered_life}
 
