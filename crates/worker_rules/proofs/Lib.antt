@@ -6,3 +6,6 @@ pub mod Disks
 pub mod Refusing
 pub mod Honesty
 pub mod Examples
+pub mod HelloShown
+pub mod HelloLives
+pub mod EchoLives

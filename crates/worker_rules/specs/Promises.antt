@@ -9,8 +9,10 @@ use Rattle.wasi_abi.specs.declared.answer.Kind.{Kind}
 use Rattle.wasi_abi.specs.declared.answer.Answer.{Answer}
 use Rattle.wasi_abi.specs.rules.Answers.{Fits}
 use Rattle.wasi_abi.specs.rules.Configs.{Settings}
-use Rattle.process_rules.specs.Processes.{ProcessState}
-use Rattle.process_rules.specs.Runs.{Kept, Wants, next_of, Moves, Reaches}
+use Rattle.wasm_syntax_rules.specs.Configuration.{Configuration}
+use Rattle.wasi_calls_rules.specs.Hosts.{Host}
+use Rattle.process_rules.specs.Processes.{ProcessState, HasLineNumbers}
+use Rattle.process_rules.specs.Runs.{Kept, On, Wants, next_of, Reaches}
 use Rattle.process_rules.specs.Behind.{AnswersBehindLine, AnswersBehindSync, IsLine}
 use Rattle.state_image.specs.rules.Image.{Saved, SavedShowsProcess}
 use Rattle.worker_rules.specs.Lives.{Act, Slice, Checkpoint, SourceSaid, Inputs, Release}
@@ -218,13 +220,14 @@ IsReply so_far stage held shown act (Fails cause) =
     MayFail stage.phase cause × (shown.steps ≤ stage.step + fuel_of act)
 IsReply so_far stage held shown _ _ = ⊥
 
--- the next step of this process emits lines whose numbers are at their end
+-- the next step of this process leads to a host whose lines have no numbers below their end
 pub record HasLastLines {m : Module} {config : Settings} {kept : List Kept} {steps : ℕ}
     {saved : Saved} (at : IsAt m config kept steps saved) : Type 0 where
   pub given : Option Answer
-  pub process : ProcessState
-  pub moves : Moves at.reached.guest at.process given process
-  pub lines : NUMBERS_END ≤ length process.host.lines + 2
+  pub configuration : Configuration
+  pub host : Host
+  pub leads : next_of at.reached.guest at.process given ≡ On configuration host
+  pub no_numbers : HasLineNumbers host → ⊥
 
 -- Where a call says that a number is at its end, it is that of the next step, or of its lines, or
 -- so much has happened that it may be that of a generation.

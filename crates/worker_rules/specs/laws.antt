@@ -4,3 +4,4 @@ pub mod Found
 pub mod Honest
 pub mod Laws
 pub mod Refused
+pub mod WholeLives

@@ -16,6 +16,7 @@ ghost use Rattle.worker_rules.specs.laws.Disks.{DiskExamples};
 ghost use Rattle.worker_rules.specs.laws.Examples.{LivesExamples, PromiseExamples, CourseExamples};
 ghost use Rattle.worker_rules.specs.laws.Honest.{Teller, HonestStories};
 ghost use Rattle.worker_rules.specs.laws.Refused.{RefusedEvents, RefusedWorkers};
+ghost use Rattle.worker_rules.specs.laws.WholeLives.{HelloLives, EchoRefusals};
 ghost use Rattle.worker_rules.specs.Promises.{Promise};
 ghost use Rattle.worker_rules.specs.Courses.{Stage};
 
@@ -103,4 +104,14 @@ pub fn worked_examples()
     ensures lives { LivesExamples }
     ensures promises { PromiseExamples }
     ensures courses { CourseExamples }
+{}
+
+/// Lives of a module that writes a line go on, from its beginning to its end. Others don't.
+pub fn hello_goes_on()
+    ensures { (config : Settings) → HelloLives config }
+{}
+
+/// Events that are none of a module that tells what it is asked.
+pub fn echo_is_held_to_its_answers()
+    ensures { (config : Settings) → EchoRefusals config }
 {}
