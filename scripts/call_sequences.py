@@ -1,4 +1,4 @@
-"""Random sequences of file calls with constant arguments, for `compare-calls`.
+"""Random sequences of calls with constant arguments, for `compare-calls`.
 
 A player makes the calls on a model while it chooses them, so that it knows which descriptors are
 open and which paths lead somewhere. What it lays into memory for a later call is there from the
@@ -23,6 +23,11 @@ WEIGHTS = {
     "fd_fdstat_get": 3, "fd_fdstat_set_flags": 4, "fd_sync": 3, "fd_datasync": 3, "fd_prestat_get": 2,
     "fd_prestat_dir_name": 3, "sched_yield": 1}
 
+# What these calls answer hangs on the words that a run is given.
+OUTSIDE_WEIGHTS = {
+    "args_get": 2, "args_sizes_get": 2, "environ_get": 2, "environ_sizes_get": 2, "clock_res_get": 2,
+    "clock_time_get": 3, "random_get": 6}
+
 NAMES = [b"a", b"b", b"c", b"d", b"ab", b"a.b", b"..a", b"...", b"B", b" ", b"\xc3\xa9", b"\xf0\x9f\x8e\xb2"]
 PLAIN_NAMES = [b"a", b"b", b"c", b"d", b"ab", b"long name"]
 LONGEST, TOO_LONG = b"n" * 255, b"n" * 256
@@ -37,6 +42,10 @@ LONG_PATHS = [
     (LONGEST + b"/") * 16, TOO_LONG * 16, b"\xff" + b"\0" * 4095]
 
 WORD, LONG = (1 << 32) - 1, (1 << 64) - 1
+
+# How many texts a process has at most, its name among them, and how long each may be.
+TEXT_COUNT, TEXT_LENGTH = 64, 1024
+SOME_TEXTS = [b"", b"-", b"--", b"--seed", b"a", b"red", b"two words", b"=", b"\n", b"\xf0\x9f\x8e\xb2"]
 
 
 @dataclass
@@ -90,20 +99,35 @@ def make(host, step):
 
 
 class Player:
-    """Chooses a sequence. A plain one has no arguments that only this profile gives a meaning."""
+    """Chooses a sequence. A plain one has no arguments that only this profile gives a meaning. One that
+    is closed asks for no texts, clocks and random bytes."""
 
-    def __init__(self, seed, file_units, without=(), has_requests=False, is_plain=False):
+    def __init__(self, seed, file_units, without=(), has_requests=False, is_plain=False, is_closed=False):
         self.random = random.Random(seed)
         self.is_plain, self.has_requests, self.is_wild, self.is_calm = is_plain, has_requests, False, False
-        self.calls = {name: weight for name, weight in WEIGHTS.items() if name not in without}
+        weights = WEIGHTS if is_closed else WEIGHTS | OUTSIDE_WEIGHTS
+        self.calls = {name: weight for name, weight in weights.items() if name not in without}
         requests = [b"hello", b"", b"x" * 300, b"\xff\0", None] if has_requests else []
         reporter = 2 if self.odd(8) else 1
-        self.sequence = Sequence(self.random.choice([1, 1, 1, 2]), [], [], reporter, requests)
+        outside = None if is_closed else self.outside()
+        self.sequence = Sequence(self.random.choice([1, 1, 1, 2]), [], [], reporter, requests, outside)
         self.host = self.sequence.fresh(file_units)
         self.size, self.texts = self.sequence.pages * UNIT, {}
         self.next_text, self.next_array, self.shown = TEXTS[0], ARRAYS[0], []
         for at in range(*BUFFERS, 4096):
             self.lay(at, self.random.choice([self.random.randbytes(64), b"some words\n" * 9, b"x" * 64]))
+
+    def some_texts(self, most, prefix):
+        """At most so many texts behind a prefix, and seldom the longest that may be."""
+        count = most if self.odd(8) else self.random.randrange(5)
+        longest = b"x" * (TEXT_LENGTH - len(prefix))
+        return [prefix + self.random.choice([*SOME_TEXTS, longest]) for _ in range(count)]
+
+    def outside(self):
+        """What a run is given by its words."""
+        arguments, environment = self.some_texts(TEXT_COUNT - 1, b""), self.some_texts(TEXT_COUNT, b"NAME=")
+        clock = self.random.choice([0, 1, (1 << 63) - 1, 1 << 63, LONG, self.random.getrandbits(61)])
+        return Outside(arguments, environment, clock, self.random.randbytes(32))
 
     def lay(self, at, data):
         """Puts bytes where a run finds them from its start."""
@@ -514,3 +538,31 @@ class Player:
 
     def sched_yield(self):
         return []
+
+    def args_sizes_get(self):
+        return [self.cell(4), self.cell(4)]
+
+    environ_sizes_get = args_sizes_get
+
+    def args_get(self):
+        buffer = self.random.randrange(*BUFFERS)
+        return [self.cell(256), self.place(9) if self.odd(12) else buffer]
+
+    environ_get = args_get
+
+    def clock(self):
+        """The number of a clock."""
+        return self.random.choice([2, 3, 256, 1 << 31, WORD]) if self.odd(6) else self.random.randrange(2)
+
+    def clock_res_get(self):
+        return [self.clock(), self.cell(8)]
+
+    def clock_time_get(self):
+        return [self.clock(), self.random.choice([0, 1, LONG]), self.cell(8)]
+
+    def random_get(self):
+        length = self.random.choice([0, 1, 3, 4, 5, 60, 64, 65, 256, 1000, 4096])
+        if self.odd(8):
+            length = self.random.choice([4097, 4100, 1 << 16, 1 << 31, WORD])
+        buffer = self.random.randrange(*BUFFERS)
+        return [self.place(length) if self.odd(12) else buffer, length]

@@ -6,6 +6,7 @@ rules of this project's profile. None was taken from an output of the program or
 from file_scenes import (
     ALL, CREATE, DIRECTORY, FAULT, FILE, FOLDER, INVAL, REGULAR, At, Cell, Room, Row, Scene,
     descriptor_status, opens, reads_at, tells, u32, u64, writes)
+from host_model import Outside
 
 # The bytes of a memory of one page, and one more than an argument can say.
 MEMORY, WORD = 65_536, 1 << 32
@@ -18,6 +19,11 @@ ZEROS = bytes.fromhex(
     "ef3fdfd6c61578fb f5cf35bd3dd33b80 09631634d21e42ac 33960bd138e50d32"
     "111e4caf237ee53c a8ad6426194a8854 5ddc497a0b466e7d 6bbdb0041b2f586b")
 
+# The same of the key of the bytes 0 to 31, as `openssl enc -chacha20` has it.
+RISING = bytes.fromhex(
+    "2fa4f10250808e89 a25231e50fdf6ee0 71c65f21ef9eee78 4c3f2d89061ae895"
+    "1eebde59042784fa 271fb5de37896daf 0004e4f47d05fe33 bc141d746f04fa09")
+
 
 def sizes(call, count, size):
     """Asks how many texts there are, and how many bytes these have."""
@@ -27,6 +33,11 @@ def sizes(call, count, size):
 def draws(length, data):
     """Asks for random bytes."""
     return Row("random_get", [Room(length)], 0, [data])
+
+
+def tells_time(clock, nanoseconds, precision=0):
+    """Asks a clock for its time."""
+    return Row("clock_time_get", [clock, precision, Cell(8)], 0, [u64(nanoseconds)])
 
 
 def is_out_of_memory(call, *arguments):
@@ -119,4 +130,33 @@ PLAIN = Scene("calls with ranges inside of memory", [
     draws(5, ZEROS[:5]),
 ])
 
-SCENES = [UNTOLD, OVERLAID, FINE, DRAWN, PLAIN]
+TOLD = Scene("texts, a time and a seed that a run is given", [
+    sizes("args", 4, 15),
+    Row("args_get", [At(60_000, 16), At(60_016, 16)], 0, [
+        u32(60_016) + u32(60_023) + u32(60_027) + u32(60_028), b"worker\0red\0\0\xc3\xa9\0"]),
+    sizes("environ", 3, 17),
+    Row("environ_get", [At(60_100, 12), At(60_200, 18)], 0, [
+        u32(60_200) + u32(60_209) + u32(60_212), b"NAME=Ada\0A=\0B==x\0"]),
+    is_out_of_memory("args_get", At(MEMORY - 15, 15), Cell(15)),
+    is_out_of_memory("environ_get", Cell(12), At(MEMORY - 16, 16)),
+    tells_time(0, 5_000_000_007),
+    tells_time(1, 5_000_000_007, (1 << 64) - 1),
+    Row("clock_time_get", [1, 0, At(MEMORY - 8, 8)], 0, [u64(5_000_000_007)]),
+    draws(7, RISING[:7]),
+    draws(4, RISING[8:12]),
+    draws(52, RISING[12:]),
+], outside=Outside(
+    [b"red", b"", b"\xc3\xa9"], [b"NAME=Ada", b"A=", b"B==x"], 5_000_000_007, bytes(range(32))))
+
+LONGEST = Scene("the longest texts and the latest time", [
+    sizes("args", 2, 1_032),
+    Row("args_get", [At(50_000, 8), At(50_008, 1_033)], 0, [
+        u32(50_008) + u32(50_015), b"worker\0" + b"x" * 1_024 + b"\0"]),
+    sizes("environ", 1, 1_025),
+    Row("environ_get", [At(52_000, 4), At(52_004, 1_026)], 0, [
+        u32(52_004), b"N=" + b"y" * 1_022 + b"\0"]),
+    tells_time(0, (1 << 64) - 1),
+    tells_time(1, (1 << 64) - 1),
+], outside=Outside([b"x" * 1_024], [b"N=" + b"y" * 1_022], (1 << 64) - 1))
+
+SCENES = [UNTOLD, OVERLAID, FINE, DRAWN, PLAIN, TOLD, LONGEST]
