@@ -22,8 +22,9 @@
 //! # Who may touch what
 //!
 //! Of the crates here only this one has the runtime's handle: the words of the command line,
-//! files, standard streams, the clock and the allocator. All else is lent to `wasmhost_serve`, the only crate
-//! that it stands on. It takes memory for the words, the file, the reader's buffer and a line.
+//! files, standard streams, the clock and the allocator. All else is lent to `wasmhost_serve`, the
+//! only crate that it stands on. It takes memory for the words, the file, the reader's buffer and a
+//! line.
 #![tactic(auto)]
 
 ghost use Rattle.std.specs.Prelude.{◌≤◌};

@@ -213,8 +213,8 @@ module _ {S O : Type 0} (stands : S → Standing) (contents : O → Option (List
     abbrev Printed : Type 0
     Printed = Prints guest p outside lines (contents o) (contents o')
 
-    -- All lines on the way to a process were printed, where none had been emitted before. This holds
-    -- of the answers and the process.
+    -- All lines on the way to a process were printed, where none had been emitted before. This
+    -- holds of the answers and the process.
     leads_print : (q : ProcessState) (exchanges : List Exchange) (n : ℕ) (t : S)
         (Q : List Kept → ProcessState → Type 0)
         → SliceLeadsTo guest p exchanges n q → Handed t (handed (asks_of exchanges))

@@ -7,8 +7,8 @@
 //!   `accepted` was printed (`printed`). 3 says that they spell none (`refused`). All others are 5
 //!   and 7 (`known`).
 //! - `serve`: what each status of a run says of the module, its configuration, the answers from
-//!   outside, the lines that were printed, and the last words (`serves`). Up to any status but 7 whatever was printed is true.
-//!   No status is above 7 (`known`).
+//!   outside, the lines that were printed, and the last words (`serves`). Up to any status but 7
+//!   whatever was printed is true. No status is above 7 (`known`).
 //! - `RequestSource` answers requests as the lines of its reader say, in their order, clocks with
 //!   the fixed time, and wishes for random bytes with the next words of its seed. It says why it
 //!   refuses (`HandsNext`). A failed read it tells only of a reader that has failed.

@@ -109,8 +109,8 @@ faults_in_words words = fault_of wasmhost (own_words words)
 
 -- ---- orders
 
--- What a run says: the path, the seed, the environment and the arguments as texts, and the others as
--- numbers.
+-- What a run says: the path, the seed, the environment and the arguments as texts, and the others
+-- as numbers.
 pub record RunMeaning : Type 0 where
   pub path : Text
   pub fuel : ℕ

@@ -275,8 +275,8 @@ fn order_of<'a>(
 }
 
 /// Reads the words of a command line, of which the first is the program's name. Words behind the
-/// first `--` of a run are its guest's. Fails with `Words` where they are a mistake or ask for help,
-/// and with `Memory` where memory runs out.
+/// first `--` of a run are its guest's. Fails with `Words` where they are a mistake or ask for
+/// help, and with `Memory` where memory runs out.
 pub fn read_words<'a, S: AsStr>(alloc: Global, words: &'a [S]) -> Result<Order<'a>, WordsFault>
     ensures { IsReading (map S.text words.entry.now) result }
 {
