@@ -1,6 +1,6 @@
 -- A call that is done keeps what the host was configured with, and makes one node at most.
 use Rattle.std.proofs.Common.{◌≡◌, ℕ, ◌+◌, List, refl, arith}
-use Rattle.std.specs.Prelude.{Bool, true, false, if◌then◌else◌, ◌==◌, Option, Some, None}
+use Rattle.std.specs.Prelude.{Bool, true, false, if◌then◌else◌, Option, Some, None}
 use Rattle.std.specs.List.{list_any}
 use Rattle.file_tree.specs.rules.Files.{Files, Path, forgotten}
 use Rattle.wasi_calls_rules.specs.Hosts.{Target, Stream, Node, Descriptor, Host}

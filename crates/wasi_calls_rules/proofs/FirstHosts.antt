@@ -1,5 +1,5 @@
 -- What a process begins with is a host.
-use Rattle.std.proofs.Common.{◌≡◌, ℕ, zero, suc, ◌≤◌, List, [], refl, sym, ap, ◌∙◌, arith}
+use Rattle.std.proofs.Common.{◌≡◌, ℕ, zero, suc, ◌≤◌, List, [], refl, ap, ◌∙◌, arith}
 use Rattle.std.proofs.Common.{replicate, inl, inr, true}
 use Rattle.std.specs.Prelude.{Option, Some, None, IfSome, slice_get}
 use Rattle.std.specs.List.{AllByRecursion}
@@ -7,9 +7,9 @@ use Rattle.std.proofs.lemmas.Bool.Decides.{eqb_tells}
 use Rattle.file_tree.specs.rules.Files.{FileNode, Directory, IsFiles, fresh}
 use Rattle.wasi_abi.specs.rules.Numbers.{directory_rights, all_rights, input_rights}
 use Rattle.wasi_abi.specs.rules.Numbers.{output_rights, are_within}
-use Rattle.wasi_calls_rules.specs.Hosts.{Stream, Node, Descriptor, Host, stream, stream_rights}
+use Rattle.wasi_calls_rules.specs.Hosts.{Stream, Node, Descriptor, stream, stream_rights}
 use Rattle.wasi_calls_rules.specs.Hosts.{first_descriptors, first_host, IsDescriptor, IsStreamAt}
-use Rattle.wasi_calls_rules.specs.Hosts.{IsUnfinished, IsRemoved, IsHost}
+use Rattle.wasi_calls_rules.specs.Hosts.{IsRemoved, IsHost}
 use Rattle.wasi_calls_rules.proofs.KeptLines.{nothing_unfinished}
 
 fresh_is_files : IsFiles fresh

@@ -29,6 +29,7 @@ ghost use Rattle.wasi_calls_rules.specs.laws.Laws.{RowsKeepMemory, RowsKeepBytes
 ghost use Rattle.wasi_calls_rules.specs.laws.Laws.{RowsKeepConfigurations, RowsKeepHostsOfBytes};
 ghost use Rattle.wasi_calls_rules.specs.laws.Laws.{FirstHostsAreHosts, RowsKeepHosts};
 ghost use Rattle.wasi_calls_rules.specs.laws.Laws.{RowsMakeOneNodeAtMost};
+ghost use Rattle.wasi_calls_rules.specs.laws.Laws.{RowsKeepTimes, LastTimesAreTold};
 ghost use Rattle.wasi_calls_rules.specs.laws.Laws.{TestsTellWhatFits};
 ghost use Rattle.wasi_calls_rules.specs.laws.Laws.{FewRowsAsk, RowsAskOnce, ExitAloneEnds};
 
@@ -133,6 +134,13 @@ pub fn calls_emit_lines()
 /// A call that is done makes one node at most, and gives no number twice.
 pub fn calls_make_one_node_at_most()
     ensures { RowsMakeOneNodeAtMost }
+{}
+
+/// A guest never sees a monotonic clock fall: it is told the last time that was seen, and no call
+/// lowers that.
+pub fn monotonic_clocks_never_fall()
+    ensures kept { RowsKeepTimes }
+    ensures told { LastTimesAreTold }
 {}
 
 /// A process begins with a host. What a call that is done leaves of a host is one, where memory holds

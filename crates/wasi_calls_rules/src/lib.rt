@@ -13,6 +13,8 @@
 //!   whatever its arguments are: files, room, descriptors, streams, times and unfinished lines.
 //! - `calls_keep_hosts_of_bytes`: whatever the host can copy into memory stays bytes.
 //! - `calls_make_one_node_at_most`: a call that is done makes one node at most.
+//! - `monotonic_clocks_never_fall`: a guest is told the last monotonic time that was seen, and no
+//!   call lowers that.
 //! - `calls_keep_configurations`: it leaves room, limit, arguments and environment as they were.
 //! - `answers_are_taken_that_fit`: the rules take an answer exactly where it fits what is asked.
 //! - `few_calls_ask_and_once`: three calls may want an answer, and none once it has one that fits.
@@ -31,7 +33,7 @@
 //! # Who may touch what
 //!
 //! There is no code here but limits and the empty functions of `laws`. `wasi_calls` has the code
-//! of the calls that are built; `process_rules`, `record_replay`, `state_image` and `worker_rules`
+//! of all 31 calls; `process_rules`, `record_replay`, `state_image` and `worker_rules`
 //! cite the definitions. They stand on those of `file_tree`, `wasi_abi` and `guest_memory`. The
 //! crate takes no memory, and has no errors.
 #![tactic(auto)]

@@ -1,11 +1,14 @@
 -- Laws of the rows: what a call that is done keeps, and which answers the rows take.
-use Rattle.std.specs.Prelude.{◌≡◌, ◌≢◌, ◌↔◌, ℕ, ◌+◌, ◌≤◌, List, ◌++◌, length, IsTrue, Option, Some, None, Ok, Err}
+use Rattle.std.specs.Prelude.{◌≡◌, ◌≢◌, ◌↔◌, ℕ, ◌+◌, ◌≤◌, List, [], ◌∷◌, ◌++◌, length}
+use Rattle.std.specs.Prelude.{IsTrue, Option, Some, None, Ok, Err}
 use Rattle.std.specs.List.{AllByRecursion}
 use Rattle.wasi_abi.specs.declared.answer.Kind.{Kind}
 use Rattle.wasi_abi.specs.declared.answer.Answer.{Answer}
 use Rattle.wasi_abi.specs.declared.call.Call.{Call}
 use Rattle.wasi_abi.specs.declared.call.Call.TheVariants as call
+use Rattle.guest_memory.specs.rules.Bytes.{with_part}
 use Rattle.wasi_abi.specs.rules.Answers.{Fits, AreBytes}
+use Rattle.wasi_abi.specs.rules.Layouts.{u64_bytes}
 use Rattle.file_tree.specs.rules.Files.{Path, Content, Directory, File, FileNode}
 use Rattle.wasi_calls_rules.specs.Hosts.{Line, Host, first_host, IsHost}
 use Rattle.wasi_calls_rules.specs.Checks.{Bytes, Done, Asks, Ends, does_fit}
@@ -95,6 +98,20 @@ abbrev pub RowsMakeOneNodeAtMost : Type 0
 RowsMakeOneNodeAtMost = (c : Call) (arguments : List ℕ) (given : Option Answer) (m : Bytes)
     (h : Host) (done : Done) → row c arguments given m h ≡ Ok done
     → MakesOneNodeAtMost h done.host
+
+-- ---- times
+
+-- a call that is done never lowers the last monotonic time that was seen
+abbrev pub RowsKeepTimes : Type 0
+RowsKeepTimes = (c : Call) (arguments : List ℕ) (given : Option Answer) (m : Bytes) (h : Host)
+    (done : Done) → row c arguments given m h ≡ Ok done
+    → h.last_monotonic ≤ done.host.last_monotonic
+
+-- what a guest is told of clock 1 is the last monotonic time that was then seen
+abbrev pub LastTimesAreTold : Type 0
+LastTimesAreTold = (precision ret : ℕ) (given : Option Answer) (m : Bytes) (h : Host)
+    (done : Done) → row call.ClockTimeGet (1 ∷ precision ∷ ret ∷ []) given m h ≡ Ok done
+    → done.memory ≡ with_part m ret (u64_bytes done.host.last_monotonic)
 
 -- ---- answers
 
