@@ -1,5 +1,5 @@
 -- A new node in a tree.
-use Rattle.std.proofs.Common.{◌≡◌, ◌≢◌, ℕ, ◌+◌, ◌<◌, ◌⊎◌, inl, inr, Bool, true, false, cond, eqb, List, [], ◌∷◌, ◌++◌, length, map, reverse, Option, Some, None, refl, sym, ap, subst, ◌∙◌, arith}
+use Rattle.std.proofs.Common.{◌≡◌, ◌≢◌, ℕ, ◌+◌, ◌<◌, ◌≤◌, ◌⊎◌, inl, inr, Bool, true, false, cond, eqb, List, [], ◌∷◌, ◌++◌, length, map, reverse, Option, Some, None, refl, sym, ap, subst, ◌∙◌, arith}
 use Rattle.std.specs.Prelude.{option_map, find, unwrap_or, is_some}
 use Rattle.std.specs.Option.{option_and_then}
 use Rattle.std.specs.List.{AllByRecursion}
@@ -27,41 +27,43 @@ removed_or_not Root = inr (λ e. absurd cc)
 removed_or_not Removed = inl refl
 removed_or_not (In d n) = inr (λ e. absurd cc)
 
--- a tree before and after a node is put under a number that had none
-pub record Grows (hook after : ℕ → Hook) (next d : ℕ) (name : Name) (up : Path) : Type 0 where
+-- a tree before and after a node is put under a number that hung nowhere
+pub record Grows (hook after : ℕ → Hook) (next most new d : ℕ) (name : Name) (up : Path) : Type 0 where
   pub tree : IsTree hook next
-  pub vacant : hook next ≡ Removed
-  pub put : after next ≡ In d name
-  pub others : (q : ℕ) → q ≢ next → after q ≡ hook q
+  pub more : next ≤ most
+  pub low : new < most
+  pub vacant : hook new ≡ Removed
+  pub put : after new ≡ In d name
+  pub others : (q : ℕ) → q ≢ new → after q ≡ hook q
   pub under : Up hook d up
   pub free : (k : ℕ) → hook k ≡ In d name → ⊥
 
-kept : (hook after : ℕ → Hook) (next d : ℕ) (name : Name) (up : Path) → Grows hook after next d name up → (k : ℕ) (a : Path) → Up hook k a → Up after k a
-kept hook after next d name up g k [] h = g.others k (λ e. absurd (let t : Root ≡ Removed = sym h ∙ ap hook e ∙ g.vacant in cc)) ∙ h
-kept hook after next d name up g k (n ∷ a) h =
-    (h.0, g.others k (λ e. absurd (let t : In h.0 n ≡ Removed = sym h.1 ∙ ap hook e ∙ g.vacant in cc)) ∙ h.1, kept hook after next d name up g h.0 a h.2)
+kept : (hook after : ℕ → Hook) (next most new d : ℕ) (name : Name) (up : Path) → Grows hook after next most new d name up → (k : ℕ) (a : Path) → Up hook k a → Up after k a
+kept hook after next most new d name up g k [] h = g.others k (λ e. absurd (let t : Root ≡ Removed = sym h ∙ ap hook e ∙ g.vacant in cc)) ∙ h
+kept hook after next most new d name up g k (n ∷ a) h =
+    (h.0, g.others k (λ e. absurd (let t : In h.0 n ≡ Removed = sym h.1 ∙ ap hook e ∙ g.vacant in cc)) ∙ h.1, kept hook after next most new d name up g h.0 a h.2)
 
-pub grown_tree : (hook after : ℕ → Hook) (next d : ℕ) (name : Name) (up : Path) → Grows hook after next d name up → IsTree after (next + 1)
-grown_tree hook after next d name up g = record {
-  root = (let ne : 1 ≢ next = λ e. absurd (let t : Root ≡ Removed = sym g.tree.root ∙ ap hook e ∙ g.vacant in cc) in g.others 1 ne ∙ g.tree.root);
-  one_root = λ k e. elim (cases_eq k next) [
+pub grown_tree : (hook after : ℕ → Hook) (next most new d : ℕ) (name : Name) (up : Path) → Grows hook after next most new d name up → IsTree after most
+grown_tree hook after next most new d name up g = record {
+  root = (let ne : 1 ≢ new = λ e. absurd (let t : Root ≡ Removed = sym g.tree.root ∙ ap hook e ∙ g.vacant in cc) in g.others 1 ne ∙ g.tree.root);
+  one_root = λ k e. elim (cases_eq k new) [
     | inl same ↦ absurd (let t : Root ≡ In d name = sym e ∙ ap after same ∙ g.put in cc)
     | inr ne ↦ g.tree.one_root k (sym (g.others k ne) ∙ e)
   ];
-  below = λ k h. elim (cases_eq k next) [
-    | inl same ↦ omega (arith, same)
-    | inr ne ↦ omega (arith, g.tree.below k (λ e. h (g.others k ne ∙ e)))
+  below = λ k h. elim (cases_eq k new) [
+    | inl same ↦ omega (arith, same, g.low)
+    | inr ne ↦ omega (arith, g.more, g.tree.below k (λ e. h (g.others k ne ∙ e)))
   ];
-  reached = λ k h. elim (cases_eq k next) [
-    | inl same ↦ rw same (name ∷ up, (d, g.put, kept hook after next d name up g d up g.under))
-    | inr ne ↦ (let r = g.tree.reached k (λ e. h (g.others k ne ∙ e)) in (r.0, kept hook after next d name up g k r.0 r.1))
+  reached = λ k h. elim (cases_eq k new) [
+    | inl same ↦ rw same (name ∷ up, (d, g.put, kept hook after next most new d name up g d up g.under))
+    | inr ne ↦ (let r = g.tree.reached k (λ e. h (g.others k ne ∙ e)) in (r.0, kept hook after next most new d name up g k r.0 r.1))
   ];
-  one_each = λ j k e m hj hk. elim (cases_eq j next) [
-    | inl j_same ↦ elim (cases_eq k next) [
+  one_each = λ j k e m hj hk. elim (cases_eq j new) [
+    | inl j_same ↦ elim (cases_eq k new) [
       | inl k_same ↦ j_same ∙ sym k_same
       | inr k_ne ↦ absurd (clash e m (sym g.put ∙ ap after (sym j_same) ∙ hj) k (sym (g.others k k_ne) ∙ hk))
     ]
-    | inr j_ne ↦ elim (cases_eq k next) [
+    | inr j_ne ↦ elim (cases_eq k new) [
       | inl k_same ↦ absurd (clash e m (sym g.put ∙ ap after (sym k_same) ∙ hk) j (sym (g.others j j_ne) ∙ hj))
       | inr k_ne ↦ g.tree.one_each j k e m (sym (g.others j j_ne) ∙ hj) (sym (g.others k k_ne) ∙ hk)
     ]
@@ -71,17 +73,17 @@ grown_tree hook after next d name up g = record {
   clash e m same j h = g.free j (h ∙ sym same)
 
 -- each other node keeps its path
-pub same_climb : (hook after : ℕ → Hook) (next d : ℕ) (name : Name) (up : Path) → Grows hook after next d name up → (k : ℕ) → k ≢ next → climb (next + 1) after k ≡ climb next hook k
-same_climb hook after next d name up g k ne =
+pub same_climb : (hook after : ℕ → Hook) (next most new d : ℕ) (name : Name) (up : Path) → Grows hook after next most new d name up → (k : ℕ) → k ≢ new → climb most after k ≡ climb next hook k
+same_climb hook after next most new d name up g k ne =
     elim (removed_or_not (hook k)) [
-      | inl gone ↦ no_path (next + 1) after k (g.others k ne ∙ gone) ∙ sym (no_path next hook k gone)
+      | inl gone ↦ no_path most after k (g.others k ne ∙ gone) ∙ sym (no_path next hook k gone)
       | inr here ↦
           let r = g.tree.reached k here in
-          path_is after (next + 1) (grown_tree hook after next d name up g) k r.0 (kept hook after next d name up g k r.0 r.1) ∙ sym (path_is hook next g.tree k r.0 r.1)
+          path_is after most (grown_tree hook after next most new d name up g) k r.0 (kept hook after next most new d name up g k r.0 r.1) ∙ sym (path_is hook next g.tree k r.0 r.1)
     ]
 
-pub new_climb : (hook after : ℕ → Hook) (next d : ℕ) (name : Name) (up : Path) → Grows hook after next d name up → climb (next + 1) after next ≡ Some (name ∷ up)
-new_climb hook after next d name up g = path_is after (next + 1) (grown_tree hook after next d name up g) next (name ∷ up) (d, g.put, kept hook after next d name up g d up g.under)
+pub new_climb : (hook after : ℕ → Hook) (next most new d : ℕ) (name : Name) (up : Path) → Grows hook after next most new d name up → climb most after new ≡ Some (name ∷ up)
+new_climb hook after next most new d name up g = path_is after most (grown_tree hook after next most new d name up g) new (name ∷ up) (d, g.put, kept hook after next most new d name up g d up g.under)
 
 map_same : {X Y : Type 0} (f g : Y → X) (P : Y → Type 0) (ys : List Y) → ((y : Y) → P y → f y ≡ g y) → AllByRecursion P ys → map f ys ≡ map g ys
 map_same {X} f g P [] same h = refl
@@ -178,9 +180,11 @@ module _ (ns : List Node) (next d : ℕ) (name : Name) (p up : Path) (c : Conten
   pushed_old : (k : ℕ) → k ≢ next → node_in (ns ++ n ∷ []) k ≡ node_in ns k
   pushed_old k ne = in_pushed_other ns n k (λ e. ne (e ∙ m.number))
 
-  grows : Grows (hook_of ns) (hook_of (ns ++ n ∷ [])) next d name up
+  grows : Grows (hook_of ns) (hook_of (ns ++ n ∷ [])) next (next + 1) next d name up
   grows = record {
     tree = m.nodes.tree;
+    more = omega arith;
+    low = omega arith;
     vacant = ap hook_held vacant;
     put = ap hook_held pushed_new ∙ m.hook;
     others = λ q ne. ap hook_held (pushed_old q ne);
@@ -202,7 +206,7 @@ module _ (ns : List Node) (next d : ℕ) (name : Name) (p up : Path) (c : Conten
 
   pub made_nodes : length ns < NODES → IsSmallContent c → AreNodes (ns ++ n ∷ []) (next + 1)
   made_nodes room small = record {
-    tree = grown_tree (hook_of ns) (hook_of (ns ++ n ∷ [])) next d name up grows;
+    tree = grown_tree (hook_of ns) (hook_of (ns ++ n ∷ [])) next (next + 1) next d name up grows;
     rising = rising_pushed 1 ns n next m.number m.nodes.rising;
     named = λ k e other h. elim (old_hook k e other h) [ inl same ↦ subst IsNodeName (sym same.1) m.named | inr before ↦ m.nodes.named k e other before ];
     placed = λ k e other h. elim (old_hook k e other h) [ inl same ↦ directory_stays e (subst (λ (x : ℕ). is_directory_in ns x ≡ true) (sym same.0) m.free.directory) | inr before ↦ directory_stays e (m.nodes.placed k e other before) ];
@@ -215,9 +219,9 @@ module _ (ns : List Node) (next d : ℕ) (name : Name) (p up : Path) (c : Conten
   made_files =
       let hook = hook_of ns in
       let after = hook_of (ns ++ n ∷ []) in
-      let old : map (shown_node (next + 1) after) ns ≡ map (shown_node next hook) ns = map_same (shown_node (next + 1) after) (shown_node next hook) (λ (k : Node). k.number < next) ns (λ k lt. ap (λ (o : Option Path). record { number = k.number; path = option_map reverse o; content = content_shown k.content }) (same_climb hook after next d name up grows k.number (λ e. absurd (omega (arith, lt, e))))) (numbers_below 1 ns next m.nodes.rising).1 in
+      let old : map (shown_node (next + 1) after) ns ≡ map (shown_node next hook) ns = map_same (shown_node (next + 1) after) (shown_node next hook) (λ (k : Node). k.number < next) ns (λ k lt. ap (λ (o : Option Path). record { number = k.number; path = option_map reverse o; content = content_shown k.content }) (same_climb hook after next (next + 1) next d name up grows k.number (λ e. absurd (omega (arith, lt, e))))) (numbers_below 1 ns next m.nodes.rising).1 in
       let whole : reverse (name ∷ up) ≡ p ++ name ∷ [] = reverse-cons name up ∙ ap (λ (q : Path). q ++ name ∷ []) m.free.up_is in
-      let new_path : option_map reverse (climb (next + 1) after n.number) ≡ Some (p ++ name ∷ []) = ap (λ (j : ℕ). option_map reverse (climb (next + 1) after j)) m.number ∙ ap (option_map reverse) (new_climb hook after next d name up grows) ∙ ap (λ (q : Path). Some q) whole in
+      let new_path : option_map reverse (climb (next + 1) after n.number) ≡ Some (p ++ name ∷ []) = ap (λ (j : ℕ). option_map reverse (climb (next + 1) after j)) m.number ∙ ap (option_map reverse) (new_climb hook after next (next + 1) next d name up grows) ∙ ap (λ (q : Path). Some q) whole in
       let last : FileNode = record { number = next; path = Some (p ++ name ∷ []); content = c } in
       let new : shown_node (next + 1) after n ≡ last = ap (λ (o : Option Path). record { number = n.number; path = o; content = content_shown n.content }) new_path ∙ ap (λ (j : ℕ). record { number = j; path = Some (p ++ name ∷ []); content = content_shown n.content }) m.number ∙ ap (λ (x : Content). record { number = next; path = Some (p ++ name ∷ []); content = x }) m.content in
       let nodes : map (shown_node (next + 1) after) (ns ++ n ∷ []) ≡ map (shown_node next hook) ns ++ last ∷ [] = map_push (shown_node (next + 1) after) ns n ∙ ap (λ (xs : List FileNode). xs ++ shown_node (next + 1) after n ∷ []) old ∙ ap (λ (x : FileNode). map (shown_node next hook) ns ++ x ∷ []) new in

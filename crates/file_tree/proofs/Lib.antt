@@ -5,6 +5,8 @@ pub mod Lookups
 pub mod Fresh
 pub mod Lists
 pub mod Grows
+pub mod Rises
+pub mod Returns
 pub mod Sizes
 pub mod Contents
 pub mod Seen

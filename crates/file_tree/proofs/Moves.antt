@@ -11,12 +11,11 @@ use Rattle.file_tree.specs.Store.Stored.{changed}
 use Rattle.file_tree.specs.Store.Changes.{with_hook}
 use Rattle.file_tree.specs.rules.Files.{Name, IsNodeName, Path, FileNode, Files, path_of, path_behind, path_moved, renamed, child}
 use Rattle.file_tree.specs.rules.Changes.{path_at, IsFree, CanMove, within_path}
-use Rattle.file_tree.specs.Links.{Up, climb, IsTree, node_in, hook_held, hook_of, content_shown, is_directory_in, used_in, chunks_in, AreNodes, shown_node, files, IsPlace, IsNowhere, is_hung, child_in}
-use Rattle.file_tree.specs.Store.Named.{address_of}
+use Rattle.file_tree.specs.Links.{Up, climb, IsTree, node_in, hook_held, hook_of, content_shown, is_directory_in, used_in, chunks_in, AreNodes, shown_node, files, IsPlace, IsNowhere, child_in}
 use Rattle.file_tree.proofs.Climbs.{one_path, path_is, no_path, there, in_is}
 use Rattle.file_tree.proofs.Renames.{behind_front}
 use Rattle.file_tree.proofs.Ends.{moved_up, renamed_path, reverse-moved_up}
-use Rattle.file_tree.proofs.Lookups.{node_at_place, node_nowhere, path_shown, hung_has_path}
+use Rattle.file_tree.proofs.Lookups.{node_at_place, node_nowhere, path_shown}
 use Rattle.file_tree.proofs.Seen.{child_shown}
 use Rattle.file_tree.proofs.Lists.{shown_changed}
 use Rattle.file_tree.proofs.Grows.{removed_or_not, way_up, some_path, IsFreeIn, free_in}
@@ -181,23 +180,6 @@ pub not_nowhere : (ns : List Node) (next k d : ℕ) (name : Name) (fs : Files) �
 not_nowhere ns next k d name fs e can none =
     let path : path_of fs k ≡ None = sym (ap (λ (x : Files). path_of x k) e) ∙ path_shown ns next k ∙ ap (option_map reverse) (no_path next (hook_of ns) k (ap hook_held (node_nowhere ns k none))) in
     absurd (let t : false ≡ true = sym (ap is_some path) ∙ can.there in cc)
-
--- ---- what moving a node asks of where nodes are kept
-
--- it hangs in a directory
-pub hangs_in_one : (ns : List Node) (next k i d : ℕ) (name : Name) (fs : Files) → files ns next ≡ fs → AreNodes ns next → IsPlace ns k i
-    → CanMove fs k d name → (n : Node) → n ≡ get_or ns i n → address_of n.hook ≢ []
-hangs_in_one ns next k i d name fs e are at can n is = by n.hook own where
-  own : hook_of ns k ≡ n.hook
-  own = ap hook_held (node_at_place ns k i n at) ∙ ap (λ (m : Node). m.hook) (sym is)
-
-  hung : is_hung (hook_of ns k) ≡ true
-  hung = sym (hung_has_path ns next k are) ∙ ap (λ (x : Files). is_some (path_of x k)) e ∙ can.there
-
-  by : (h : Hook) → hook_of ns k ≡ h → address_of h ≢ []
-  by Root o none = can.not_root (are.tree.one_root k o)
-  by Removed o none = absurd (let t : true ≡ false = sym hung ∙ ap is_hung o in cc)
-  by (In e name) o none = absurd cc
 
 -- nothing hangs where a name is free
 pub nothing_hangs : (ns : List Node) (next d : ℕ) (name : Name) (fs : Files) → files ns next ≡ fs → AreNodes ns next → IsFree fs d name

@@ -3,6 +3,7 @@ pub mod Keys
 pub mod KeptNodes
 pub mod NamedKeys
 pub mod NamedLookups
+pub mod NamedRoom
 pub mod NamedSearch
 pub mod NamedStored
 pub mod Numbers

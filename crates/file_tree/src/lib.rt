@@ -12,10 +12,12 @@
 //! - `parent` gives the directory above a node (`above`), or says that there is none (`none`).
 //!   `name` gives the last name of its path (`last`). `read` copies as many bytes as there are and
 //!   fit (`bytes`).
-//! - `create`, `resize` make the change of the definitions where they answer Ok (`created`,
-//!   `resized`). After an error nothing has changed (`unchanged`).
-//! - `write`, `remove`, `forget`, `rename` make the change of the definitions. They can't fail.
-//!   `write` puts bytes in the place of others: `resize` makes room first.
+//! - `create`, `create_removed`, `resize` make the change of the definitions where they answer Ok
+//!   (`created`, `resized`). After an error nothing has changed (`unchanged`).
+//! - `write`, `remove`, `forget`, `rename`, `hang`, `raise_next` make the change of the
+//!   definitions. They can't fail. `write` puts bytes in the place of others: `resize` makes room
+//!   first.
+//! - By `create_removed`, `hang` and `raise_next` a tree is built anew from what was told of it.
 //! - Files lie in chunks of 4,096 bytes, as many as their bytes need. `chunks` counts them.
 //! - Whoever changes a tree has tested first what the `requires` clauses ask, as `free` and
 //!   `room`.
@@ -24,10 +26,11 @@
 //! # Definitions to read
 //!
 //! In `specs/rules/`: `Files`, `IsFiles`, `child`, `entries_of`, `created`, `removed`,
-//! `forgotten`, `renamed` (`Files.antt`); `written`, `resized` (`Bytes.antt`); `chunks_of`,
-//! `chunk_of` (`Chunks.antt`); `number_at`, `number_at_place` (`Listings.antt`); `IsFree`,
-//! `CanLose`, `CanMove`, `IsParent`, `read_from` (`Changes.antt`). All other files of `specs/` say
-//! how the code keeps nodes and bytes.
+//! `forgotten`, `renamed`, `created_removed`, `hung`, `with_next` (`Files.antt`); `written`,
+//! `resized` (`Bytes.antt`); `chunks_of`, `chunk_of` (`Chunks.antt`); `number_at`,
+//! `number_at_place` (`Listings.antt`); `IsFree`, `CanHang`, `CanLose`, `CanMove`, `IsParent`,
+//! `read_from` (`Changes.antt`). All other files of `specs/` say how the code keeps nodes and
+//! bytes.
 //!
 //! # Who may touch what
 //!
@@ -36,7 +39,7 @@
 //! owns.
 //! `wasi_calls_rules`, `wasi_calls`, `process_rules` and `state_image` use its definitions. No
 //! crate of this repository calls the code yet, and it stands on none. `new`, `create`,
-//! `resize` and `ByteList::copy_of` take memory, and want of it is the only error.
+//! `create_removed`, `resize` and `ByteList::copy_of` take memory, and want of it is the only error.
 #![tactic(auto)]
 
 mod children;

@@ -2,10 +2,12 @@
 
 ghost use Rattle.std.specs.Prelude.{◌≡◌, ◌<◌, ◌^◌, ◌++◌, ◌∷◌, [], length, ℕ, ◌+◌, ◌≢◌, Some, slice_get, option_map, IfSome, IfNone, ◌≤◌, ◌==◌, drop, false, IfOk, OnOk, OnErr, is_some};
 ghost use Rattle.file_tree.specs.rules.Bytes.{written, resized};
-ghost use Rattle.file_tree.specs.rules.Files.{Name, Path, Entry, IsFiles, fresh, is_directory, bytes_of_node, used, path_of, child, entries_of, created, with_file_bytes, removed, forgotten, renamed};
+ghost use Rattle.file_tree.specs.rules.Files.{Name, Path, Entry, IsFiles, fresh, is_directory, bytes_of_node, used, path_of, child, entries_of, created};
+ghost use Rattle.file_tree.specs.rules.Files.{created_removed, hung, with_next};
+ghost use Rattle.file_tree.specs.rules.Files.{with_file_bytes, removed, forgotten, renamed};
 ghost use Rattle.file_tree.specs.rules.Chunks.{chunks_of, chunk_of};
 ghost use Rattle.file_tree.specs.rules.Listings.{number_at, number_at_place, number_after, HasNameAtPlace};
-ghost use Rattle.file_tree.specs.rules.Changes.{IsFree, CanLose, CanMove, IsParent, is_within, empty, path_at, read_from};
+ghost use Rattle.file_tree.specs.rules.Changes.{IsFree, CanHang, CanLose, CanMove, IsParent, is_within, empty, path_at, read_from};
 ghost use Rattle.file_tree.specs.declared.limits.TheConstants.{NODES, FILE_BYTES};
 
 use crate::children::{leads_to, parent_of};
@@ -114,7 +116,7 @@ impl Tree {
     pub fn number_at(&self, place: usize) -> Option<u64>
         ensures { result ≡ number_at self.now place }
     {
-        if place >= self.nodes.len() {
+        if place >= self.len() {
             return None;
         }
         Some(self.nodes.get(place).number)
@@ -289,6 +291,51 @@ impl Tree {
             self.used -= bytes;
             self.chunks -= chunks;
         }
+    }
+
+    /// Makes a node without a path, like one that was removed, under a number that is no less than
+    /// that of the next new node. The next one then comes behind it. The caller has tested that
+    /// there is room (`len`, `next`). With `hang` and `raise_next` any file system is built from a
+    /// fresh one. Only want of memory makes it fail, and then nothing is changed.
+    pub fn create_removed(
+        &mut self,
+        alloc: Global,
+        number: u64,
+        kind: NodeKind,
+    ) -> Result<(), AllocError>
+        requires next { self.old.next ≤ number }
+        requires room { length self.old.nodes < NODES }
+        requires number { number + 1 < 2 ^ 64 }
+        ensures created { OnOk result (self.new ≡ created_removed number (empty kind) self.old) }
+        ensures unchanged { OnErr result (self.new ≡ self.old) }
+    {
+        self.nodes.push(Node {
+            number,
+            hook: Hook::Removed,
+            content: new_content(alloc, kind),
+        })?;
+        self.next = number + 1;
+        Ok(())
+    }
+
+    /// Gives a node without a path one: a name in a directory. The caller has tested that it has
+    /// none (`has_path`), and that the name is free as for a new node. It takes no memory. Where no
+    /// node has the number nothing is changed.
+    pub fn hang(&mut self, number: u64, directory: u64, name: ByteList)
+        requires { CanHang self.old number directory name }
+        ensures { self.new ≡ hung number (path_at self.old directory ++ name ∷ []) self.old }
+    {
+        if let Some(at) = place_of(&self.nodes, number) {
+            self.nodes.move_to(at, directory, name);
+        }
+    }
+
+    /// Raises the number of the next new node. Those below it that no node has aren't used again.
+    pub fn raise_next(&mut self, next: u64)
+        requires { self.old.next ≤ next }
+        ensures { self.new ≡ with_next next self.old }
+    {
+        self.next = next;
     }
 
     /// Moves a node, with all that lies below it, to a name in a directory. The caller has tested that it isn't the root and has

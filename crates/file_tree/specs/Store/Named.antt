@@ -1,6 +1,6 @@
 -- Nodes in the order of their directories and names.
 use Rattle.std.specs.Prelude.{◌≡◌, ◌≢◌, ℕ, true, false, if◌then◌else◌, List, [], ◌∷◌}
-use Rattle.std.specs.Prelude.{Option, Some, None, slice_get, slice_index_or}
+use Rattle.std.specs.Prelude.{Option, Some, None, slice_get}
 use Rattle.std.specs.List.{AllByRecursion}
 use Rattle.slab.specs.Slab.{Slab, ContainsKey, get}
 use Rattle.file_tree.specs.declared.store.node.Hook.{Hook}
@@ -84,10 +84,6 @@ abbrev pub IsFreeHook : Hook → List Node → Type 0
 IsFreeHook Root ns = Unit {0}
 IsFreeHook Removed ns = Unit {0}
 IsFreeHook (In d name) ns = child_in ns d name ≡ None
-
--- the node at this place hangs in a directory
-abbrev pub HangsAt : List Node → ℕ → Type 0
-HangsAt ns place = (n : Node) → n ≡ slice_index_or ns place n → address_of n.hook ≢ []
 
 -- a node that is there, if it hangs in this directory
 abbrev pub in_directory : ℕ → Option Node → Option Node

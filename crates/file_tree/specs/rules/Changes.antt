@@ -29,6 +29,11 @@ pub record CanLose (fs : Files) (k : ℕ) : Type 0 where
   pub not_root : k ≢ 1
   pub empty : is_directory fs k ≡ true → (length (entries_of fs k) == 0) ≡ true
 
+-- a node without a path can get one: a name in a directory
+pub record CanHang (fs : Files) (k d : ℕ) (name : Name) : Type 0 where
+  pub no_path : is_some (path_of fs k) ≡ false
+  pub free : IsFree fs d name
+
 abbrev pub within_path : Option Path → Option Path → Bool
 within_path None d = false
 within_path (Some above) None = false

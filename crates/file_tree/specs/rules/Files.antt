@@ -178,6 +178,19 @@ with_file_bytes k bytes fs = with_node k (λ (n : FileNode). record n { content 
 abbrev pub removed : ℕ → Files → Files
 removed k fs = with_node k (λ (n : FileNode). record n { path = None }) fs
 
+-- a new node without a path, under a number that is no less than the next one
+abbrev pub created_removed : ℕ → Content → Files → Files
+created_removed k c fs =
+    record { nodes = fs.nodes ++ record { number = k; path = None; content = c } ∷ []; next = k + 1 }
+
+-- a node that has got a path
+abbrev pub hung : ℕ → Path → Files → Files
+hung k p fs = with_node k (λ (n : FileNode). record n { path = Some p }) fs
+
+-- another number for the next new node
+abbrev pub with_next : ℕ → Files → Files
+with_next next fs = record { nodes = fs.nodes; next = next }
+
 -- a node that is gone
 abbrev pub forgotten : ℕ → Files → Files
 forgotten k fs = record { nodes = filter (λ (n : FileNode). not (n.number == k)) fs.nodes; next = fs.next }

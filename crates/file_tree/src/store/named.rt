@@ -107,6 +107,7 @@ pub fn put_key(slab: &Slab<Node>, names: &mut Vec<usize>, key: usize)
     requires fits { vec_len names.old ≤ vec_capacity names.old }
     ensures named { GetsKey slab.now key names.old.items names.new.items }
     ensures fits { vec_len names.new ≤ vec_capacity names.new }
+    ensures kept { vec_capacity names.new ≡ vec_capacity names.old }
 {
     if let Hook::In(directory, name) = &slab[key].hook {
         let place = count_up_to(slab, names.as_slice(), *directory, name.as_slice());
@@ -117,15 +118,15 @@ pub fn put_key(slab: &Slab<Node>, names: &mut Vec<usize>, key: usize)
     }
 }
 
-/// Takes a key out, if its node has an address. There is room for another one then.
+/// Takes a key out, if its node has an address.
 pub fn take_key(slab: &Slab<Node>, names: &mut Vec<usize>, key: usize)
     requires order { AreByAddress slab.now names.old.items }
     requires there { ContainsKey slab.now key }
     requires listed { address_at slab.now key ≢ [] → HasElement names.old.items key }
     requires fits { vec_len names.old ≤ vec_capacity names.old }
     ensures named { LosesKey slab.now key names.old.items names.new.items }
-    ensures room { address_at slab.now key ≢ [] → vec_len names.new < vec_capacity names.new }
     ensures fits { vec_len names.new ≤ vec_capacity names.new }
+    ensures kept { vec_capacity names.new ≡ vec_capacity names.old }
 {
     if let Hook::In(directory, name) = &slab[key].hook {
         let behind = count_up_to(slab, names.as_slice(), *directory, name.as_slice());

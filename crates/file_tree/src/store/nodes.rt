@@ -9,7 +9,7 @@ ghost use Rattle.file_tree.specs.Store.Stored.{changed};
 ghost use Rattle.file_tree.specs.Store.Changes.{with_hook, node_written, node_resized};
 ghost use Rattle.file_tree.specs.Store.Cuts.{AreOrdered};
 ghost use Rattle.file_tree.specs.Store.Kept.{IsLower};
-ghost use Rattle.file_tree.specs.Store.Named.{HangsAt, IsFreeHook};
+ghost use Rattle.file_tree.specs.Store.Named.{IsFreeHook};
 ghost use Rattle.file_tree.specs.Links.{child_in, is_hooked};
 ghost use Rattle.file_tree.specs.rules.Files.{is_same_name};
 ghost use Rattle.file_tree.specs.Nearest.{nearest_node, node_listed, IsCountListed};
@@ -47,8 +47,9 @@ impl Model for Nodes {
     ghost use Rattle.std.specs.Prelude.{◌≤◌};
     ghost use Rattle.std.specs.Vec.{vec_len, vec_capacity};
 
+    // there is room for the keys of all nodes
     ghost invariant = { λ a. AreStoredNodes a.slab a.order.items a.names.items
-        × (vec_len a.names ≤ vec_capacity a.names) };
+        × (vec_len a.names ≤ vec_capacity a.names) × (vec_len a.order ≤ vec_capacity a.names) };
 }
 
 impl Nodes {
@@ -74,8 +75,9 @@ impl Nodes {
         self.order.len()
     }
 
-    /// Puts a node behind the others, whose numbers are lower. Nothing hangs where it does. Only
-    /// want of memory makes it fail, and then nothing is changed.
+    /// Puts a node behind the others, whose numbers are lower. Nothing hangs where it does. The
+    /// room to hang it is taken too, wherever it hangs now. Only want of memory makes it fail, and
+    /// then nothing is changed.
     pub fn push(&mut self, node: Node) -> Result<(), AllocError>
         requires number { AllByRecursion (λ (n : TheNode). n.number < node.number) self.old }
         requires free { IsFreeHook node.hook self.old }
@@ -83,7 +85,7 @@ impl Nodes {
         ensures unchanged { OnErr result (self.new ≡ self.old) }
     {
         self.slab.reserve(1)?;
-        self.names.reserve(1)?;
+        self.names.reserve(self.order.len() + 1 - self.names.len())?;
         let key = self.slab.vacant_key();
         self.order.push(key)?;
         self.slab.insert_reserved(node);
@@ -132,13 +134,13 @@ impl Nodes {
     pub fn count_in(&self, directory: u64) -> usize
         ensures { IsCountListed self.now directory result }
     {
-        let names = self.names.as_slice();
-        let first = count_up_to(&self.slab, names, directory, b"");
+        let keys = self.names.as_slice();
+        let first = count_up_to(&self.slab, keys, directory, b"");
         let mut low = first;
-        let mut high = names.len();
+        let mut high = keys.len();
         while low < high {
             let middle = low + (high - low) / 2;
-            if node_named(&self.slab, names, middle, directory).is_some() {
+            if node_named(&self.slab, keys, middle, directory).is_some() {
                 low = middle + 1;
             } else {
                 high = middle;
@@ -168,11 +170,10 @@ impl Nodes {
         self.slab[key].hook = Hook::Removed;
     }
 
-    /// Hangs the node at a place, which hangs in a directory, in another one or under another
-    /// name. Nothing hangs there. It takes no memory.
+    /// Hangs the node at a place in a directory under a name, wherever it hung before. Nothing
+    /// hangs there. It takes no memory.
     pub fn move_to(&mut self, place: usize, directory: u64, name: ByteList)
         requires place { place < length self.old }
-        requires hung { HangsAt self.old place }
         requires free { child_in self.old directory name ≡ None }
         ensures { self.new ≡ changed (with_hook (In directory name)) place self.old }
     {

@@ -1,10 +1,6 @@
 use Rattle.std.proofs.Common.{sym, ◌∙◌}
-use Rattle.file_tree.proofs.Moves.{is_moved, hangs_in_one, nothing_hangs, not_nowhere}
+use Rattle.file_tree.proofs.Moves.{is_moved, nothing_hangs, not_nowhere}
 use Rattle.file_tree.proofs.tree.Tree.rename.Goals as goal
-
-pub move_to-requires-clause-hung : goal.move_to-requires-clause-hung
-move_to-requires-clause-hung c =
-    hangs_in_one c.self.inside.nodes c.self.inside.next c.args.number c.in-Some.place c.args.directory c.args.name c.args.self.now c.self.view_is c.self.invariant.0 c.in-Some.ensures.there c.requires
 
 pub move_to-requires-clause-free : goal.move_to-requires-clause-free
 move_to-requires-clause-free c = nothing_hangs c.self.inside.nodes c.self.inside.next c.args.directory c.args.name c.args.self.now c.self.view_is c.self.invariant.0 c.requires.free

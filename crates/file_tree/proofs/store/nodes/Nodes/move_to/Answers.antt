@@ -1,11 +1,12 @@
-use Rattle.std.proofs.Common.{refl, sym, ◌∙◌, arith}
+use Rattle.std.proofs.Common.{refl, arith}
 use Rattle.file_tree.specs.declared.store.node.Hook.TheVariants.{In}
 use Rattle.file_tree.specs.Store.Changes.{with_hook}
-use Rattle.file_tree.specs.Store.Named.{NoKey, OnlyKey}
+use Rattle.file_tree.specs.Store.Named.{address_at, NoKey, OnlyKey}
 use Rattle.slab.specs.Slab.{with_value}
-use Rattle.file_tree.proofs.StoreLemmas.Keys.{within_keys, key_at, changed_value, value_at}
+use Rattle.file_tree.proofs.StoreLemmas.Keys.{within_keys, key_at, changed_value}
 use Rattle.file_tree.proofs.StoreLemmas.KeptNodes.{key_there, key_held, key_listed, hook_kept, hook_changed, hook_present, free_moved}
-use Rattle.file_tree.proofs.StoreLemmas.NamedStored.{in_order, address_of_node}
+use Rattle.file_tree.proofs.StoreLemmas.NamedRoom.{fewer_named}
+use Rattle.file_tree.proofs.StoreLemmas.NamedStored.{in_order}
 use Rattle.file_tree.proofs.store.nodes.Nodes.move_to.Goals as goal
 
 pub index-key-requires : goal.index-key-requires
@@ -54,11 +55,13 @@ put_key-requires-clause-free c =
 
 pub put_key-requires-clause-room : goal.put_key-requires-clause-room
 put_key-requires-clause-room c = λ some.
+    let a = c.self.inside in
     let key = c.index-key.result.now in
-    let at = key_at c.self.inside.slab c.self.inside.order.items c.args.self.now c.args.place key c.self.invariant.0.are c.self.view_is c.requires.place c.index-key.ensures in
-    let n = c.index_mut.result.now in
-    let same = value_at c.self.inside.slab c.self.inside.order.items c.args.self.now c.args.place key n n at c.index_mut.ensures.value in
-    c.take_key.ensures.room (λ none. c.requires.hung n same (sym (address_of_node c.self.inside.slab key n c.index_mut.ensures.value) ∙ none))
+    let at = key_at a.slab a.order.items c.args.self.now c.args.place key c.self.invariant.0.are c.self.view_is c.requires.place c.index-key.ensures in
+    let named = c.take_key.ensures.named a.order.items c.self.invariant.0.named in
+    let held = key_held a.slab a.order.items c.args.self.now c.args.place key at in
+    let fewer = fewer_named (address_at a.slab) a.order.items c.take_key.new.names.items key named held in
+    omega (arith, fewer, a.order.ok.0, c.take_key.new.names.ok.0, c.self.invariant.2, c.take_key.ensures.kept)
 
 pub invariant_of-self : goal.invariant_of-self
 invariant_of-self c =
@@ -70,7 +73,7 @@ invariant_of-self c =
     let named = c.take_key.ensures.named order c.self.invariant.0.named in
     let after = hook_changed c.self.inside.slab c.self.inside.order.items c.take_key.new.names.items key n hook c.index_mut.ensures.value named in
     let put = c.put_key.ensures.named order (key_held c.self.inside.slab c.self.inside.order.items c.args.self.now c.args.place key at) after in
-    (hook_kept c.self.inside.slab c.self.inside.order.items c.self.inside.names.items c.put_key.new.names.items c.args.self.now c.args.place key n hook c.self.invariant.0 at c.index_mut.ensures.value put, c.put_key.ensures.fits)
+    (hook_kept c.self.inside.slab c.self.inside.order.items c.self.inside.names.items c.put_key.new.names.items c.args.self.now c.args.place key n hook c.self.invariant.0 at c.index_mut.ensures.value put, c.put_key.ensures.fits, omega (arith, c.self.invariant.2, c.take_key.ensures.kept, c.put_key.ensures.kept))
 
 pub returns : goal.returns
 returns c =

@@ -25,6 +25,7 @@ invariant_of-self c =
     rw c.remove-key.ensures.items (
       without_kept c.self.inside.slab c.try_remove.new.self c.self.inside.order.items c.self.inside.names.items c.take_key.new.names.items c.args.self.now c.args.place key c.self.invariant.0 at c.try_remove.ensures.updates named,
       c.take_key.ensures.fits,
+      omega (arith, c.self.invariant.2, c.take_key.ensures.kept, c.remove-key.ensures.len),
     )
 
 pub returns-clause-node : goal.returns-clause-node

@@ -19,7 +19,7 @@ invariant_of-self c =
     let key = c.index-key.result.now in
     let n = c.in-Some.node.now in
     let at = key_at c.self.inside.slab c.self.inside.order.items c.args.self.now c.args.place key c.self.invariant.0.are c.self.view_is c.requires.place c.index-key.ensures in
-    (content_kept c.self.inside.slab c.self.inside.order.items c.self.inside.names.items c.args.self.now c.args.place key n c.write.new.self c.self.invariant.0 at (sym c.in-Some.ensures.value), c.self.invariant.1)
+    (content_kept c.self.inside.slab c.self.inside.order.items c.self.inside.names.items c.args.self.now c.args.place key n c.write.new.self c.self.invariant.0 at (sym c.in-Some.ensures.value), c.self.invariant.1, c.self.invariant.2)
 
 pub write-requires : goal.write-requires
 write-requires c =
