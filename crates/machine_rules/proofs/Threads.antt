@@ -8,3 +8,4 @@ pub mod Calling
 pub mod Hosting
 pub mod Showing
 pub mod Placing
+pub mod Fitting

@@ -2,6 +2,7 @@
 
 ghost use Rattle.machine_rules.specs.Walks.{WalksAreSteps, WalksSettle, WalksCompose, WalksAreTyped};
 ghost use Rattle.machine_rules.specs.laws.Standing.{OpcodesRemain, StandsSomewhere, LabelsEnd, OperandsAreFew, EntryStands, EffectsLeadOn, BlocksLeadIn, LoopsLeadIn, IfsLeadIn, ChoicesLeadIn, BranchesLead, ConditionsLead, TablesLead, EndsLeadOut, PartsLeadOut};
+ghost use Rattle.machine_rules.specs.laws.Fitting.{ShownFits, FitsIsShown};
 ghost use Rattle.machine_rules.specs.laws.Threads.{SettledIsShown, ShownStands, FramesRun, RunsStand, CallsLead, IndirectCallsLead, ReturnsLead, BodiesEnd, HostCalls, AnswersLead};
 
 /// Walks, and the steps that they are.
@@ -49,6 +50,12 @@ pub fn ends_lead_out()
 pub fn machines_show()
     ensures settled { SettledIsShown }
     ensures shown { ShownStands }
+{}
+
+/// What fits a program shows some configuration of it, and nothing else shows one.
+pub fn fitting_is_showing()
+    ensures fits { ShownFits }
+    ensures shown { FitsIsShown }
 {}
 
 /// The running frame apart, and the whole after it has run.

@@ -14,6 +14,8 @@
 //!   frame leads, which the branch table says.
 //! - `laws::machines_show`: what stands for a settled configuration shows it, and the other way
 //!   round (`settled`, `shown`).
+//! - `laws::fitting_is_showing`: what a state has to be so that it shows some configuration of its
+//!   program, and that nothing else shows one (`fits`, `shown`).
 //! - `laws::frames_run`: the running frame apart, and the whole after it has run (`apart`,
 //!   `whole`).
 //! - `laws::calls_lead`, `returns_lead`, `hosts_lead`: what calls, returns, ends, and the host's
@@ -23,13 +25,14 @@
 //!
 //! In `specs/`: `Walks` (`Walks.antt`); `IsRoutine`, `StandsAt`, `Around`, `FrameShows`
 //! (`Standing.antt`); `AreFrames`, `IsReadyProgram`, `MachineParts`, `PartsStandFor`,
-//! `machine_state_of` (`Threads.antt`). What each law says is in `specs/laws/`.
+//! `machine_state_of` (`Threads.antt`); `FitsProgram` (`Fitting.antt`); `AreStacked`
+//! (`Stacked.antt`). What each law says is in `specs/laws/`.
 //!
 //! # Who may touch what
 //!
 //! `frame::StackFrame` is plain data: a function, a position and the place of its first local.
 //! `machine` alone uses it, and proves its turns by these laws. The crate stands on
-//! `machine_slots` and `machine_jumps`. It takes no memory, and has no errors.
+//! `wasm_validate`, `machine_slots` and `machine_jumps`. It takes no memory, and has no errors.
 #![tactic(auto)]
 
 mod frame;

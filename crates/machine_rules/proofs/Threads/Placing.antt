@@ -9,7 +9,7 @@ use Rattle.machine_slots.specs.rules.Places.{ShownFrame}
 use Rattle.machine_rules.specs.declared.frame.StackFrame.{StackFrame}
 use Rattle.machine_rules.specs.Stacked.{AreStacked, end_of, slots_end}
 use Rattle.machine_rules.specs.Threads.{places_of}
-use Rattle.machine_rules.proofs.Threads.Showing.{Parts, parts_of, places_count}
+use Rattle.machine_rules.proofs.Threads.Showing.{parts_of, places_count}
 
 -- ---- lists from their end
 
