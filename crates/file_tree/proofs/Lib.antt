@@ -26,4 +26,7 @@ pub mod NearestNodes
 pub mod NamedNodes
 pub mod StoreLemmas
 pub mod Rebuilt
+pub mod EntriesTell
+pub mod FilesTold
 pub mod KeptFiles
+pub mod OneEntryMore

@@ -130,7 +130,7 @@ ordered_entries ns next d are =
     (ordered_sorted (hooked_entries d ns) (distinct_in ns next d are))
 
 -- hung in this directory, under its name
-abbrev IsHung : ℕ → (ℕ → Hook) → Entry → Type 0
+abbrev pub IsHung : ℕ → (ℕ → Hook) → Entry → Type 0
 IsHung d hook e = hook e.number ≡ In d e.name
 
 hung_so : (d : ℕ) (hook : ℕ → Hook) (ns : List Node)
@@ -153,7 +153,7 @@ hung_so d hook (n ∷ ns) own = by n.hook refl (hung_so d hook ns own.1) where
   by Removed e later = rw e later
   by (In x other) e later = rw e (by_test x other e (cases_eq x d) later)
 
-all_hung : (ns : List Node) (next d : ℕ) → AreNodes ns next
+pub all_hung : (ns : List Node) (next d : ℕ) → AreNodes ns next
     → AllByRecursion (IsHung d (hook_of ns)) (entries_of (files ns next) d)
 all_hung ns next d are =
     subst (AllByRecursion (IsHung d (hook_of ns))) (sym (entries_shown ns next d are))

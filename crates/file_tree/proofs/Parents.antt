@@ -21,7 +21,7 @@ use Rattle.file_tree.proofs.Seen.{own_hooks, child_shown, some_path, not_nil}
 some_number : (j k : ℕ) → Some j ≡ Some k → j ≡ k
 some_number j k e = cc
 
-path_at_way : (ns : List Node) (next k : ℕ) (a : Path) → AreNodes ns next → Up (hook_of ns) k a → path_of (files ns next) k ≡ Some (reverse a)
+pub path_at_way : (ns : List Node) (next k : ℕ) (a : Path) → AreNodes ns next → Up (hook_of ns) k a → path_of (files ns next) k ≡ Some (reverse a)
 path_at_way ns next k a are h = path_shown ns next k ∙ ap (option_map reverse) (path_is (hook_of ns) next are.tree k a h)
 
 -- what a directory above is, by the hook

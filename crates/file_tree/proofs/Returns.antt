@@ -30,7 +30,7 @@ pub record IsReturned (ns : List Node) (next k i d : ℕ) (name : Name) (fs : Fi
   pub chunks : chunks_in (changed (with_hook (In d name)) i ns) ≡ chunks_in ns
 
 -- a node without a path hangs nowhere
-not_hung : (ns : List Node) (next k : ℕ) → AreNodes ns next
+pub not_hung : (ns : List Node) (next k : ℕ) → AreNodes ns next
     → is_some (path_of (files ns next) k) ≡ false → hook_of ns k ≡ Removed
 not_hung ns next k are none = by (hook_of ns k) (sym (hung_has_path ns next k are) ∙ none) where
   by : (h : Hook) → is_hung h ≡ false → h ≡ Removed

@@ -1,2 +1,3 @@
 pub mod FileLimits
 pub mod Laws
+pub mod Rebuilding

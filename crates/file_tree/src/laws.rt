@@ -2,6 +2,8 @@
 
 ghost use Rattle.file_tree.specs.laws.FileLimits.{FileLimitNumbers};
 ghost use Rattle.file_tree.specs.laws.Laws.{RenameMovesASubtree};
+ghost use Rattle.file_tree.specs.laws.Rebuilding.{EntriesTellPaths, EntriesTellFiles};
+ghost use Rattle.file_tree.specs.laws.Rebuilding.{HangingAddsAnEntry};
 
 /// Renaming moves a whole subtree and nothing else.
 pub fn renaming_moves_a_subtree()
@@ -11,4 +13,20 @@ pub fn renaming_moves_a_subtree()
 /// What each limit of the file system is.
 pub fn file_limits_are()
     ensures { FileLimitNumbers }
+{}
+
+/// Each node but the root that has a path is an entry of one directory, and its path is that of the
+/// directory with the name behind it.
+pub fn entries_tell_paths()
+    ensures { EntriesTellPaths }
+{}
+
+/// Two file systems of the same numbers, contents and entries are the same.
+pub fn entries_tell_files()
+    ensures { EntriesTellFiles }
+{}
+
+/// A node that is hung is one entry more of its directory, and all others stay.
+pub fn hanging_adds_an_entry()
+    ensures { HangingAddsAnEntry }
 {}

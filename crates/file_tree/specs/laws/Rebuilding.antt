@@ -1,0 +1,61 @@
+-- Laws of a file system that is built anew from what is told of it.
+use Rattle.std.specs.Prelude.{◌≡◌, ◌≢◌, ℕ, [], ◌∷◌, ◌++◌, map, slice_get, true, Some, is_some}
+use Rattle.file_tree.specs.rules.Files.{Name, Files, Entry, IsNodeName, IsFiles, inserted}
+use Rattle.file_tree.specs.rules.Files.{node_of, path_of, is_directory, entries_of, hung}
+use Rattle.file_tree.specs.rules.Changes.{path_at, CanHang}
+use Rattle.file_tree.specs.laws.Laws.{node_number, content_of}
+
+-- the entry of a node under a name
+abbrev pub entry_under : Name → ℕ → Entry
+entry_under name k = record { name = name; number = k }
+
+-- a directory has an entry of this number and name
+pub record HasEntry (fs : Files) (d k : ℕ) (name : Name) : Type 0 where
+  pub place : ℕ
+  pub is : slice_get (entries_of fs d) place ≡ Some (entry_under name k)
+
+-- An entry's path is that of its directory and the name behind it. Each node but the root that has
+-- a path is an entry of exactly one directory.
+pub record EntriesTellPaths : Type 0 where
+  pub path : (fs : Files) (d k : ℕ) (name : Name) → IsFiles fs → HasEntry fs d k name
+      → path_of fs k ≡ Some (path_at fs d ++ name ∷ [])
+  pub above : (fs : Files) (d k : ℕ) (name : Name) → IsFiles fs → HasEntry fs d k name
+      → (is_directory fs d ≡ true) × (is_some (path_of fs d) ≡ true)
+  pub below : (fs : Files) (d k : ℕ) (name : Name) → IsFiles fs → HasEntry fs d k name
+      → (k ≢ 1) × IsNodeName name
+  pub there : (fs : Files) (k : ℕ) → IsFiles fs → k ≢ 1 → is_some (path_of fs k) ≡ true
+      → (d : ℕ) × (name : Name) × HasEntry fs d k name
+  pub one : (fs : Files) (d e k : ℕ) (name other : Name) → IsFiles fs → HasEntry fs d k name
+      → HasEntry fs e k other → (d ≡ e) × (name ≡ other)
+
+-- the same nodes, but for their paths
+pub record HaveSameNodes (fs gs : Files) : Type 0 where
+  pub next : fs.next ≡ gs.next
+  pub numbers : map node_number fs.nodes ≡ map node_number gs.nodes
+  pub contents : map content_of fs.nodes ≡ map content_of gs.nodes
+
+-- what is told of a file system is told of another one too
+pub record AreToldAlike (fs gs : Files) : Type 0 where
+  pub nodes : HaveSameNodes fs gs
+  pub entries : (d : ℕ) → is_directory fs d ≡ true → entries_of fs d ≡ entries_of gs d
+
+-- Only one file system has these nodes and entries: paths follow from the entries.
+abbrev pub EntriesTellFiles : Type 0
+EntriesTellFiles =
+    (fs gs : Files) → IsFiles fs → IsFiles gs → AreToldAlike fs gs → fs ≡ gs
+
+-- what it makes of a file system that a node is hung in a directory under a name
+pub record HasHung (fs gs : Files) (k d : ℕ) (name : Name) : Type 0 where
+  pub are : IsFiles gs
+  pub nodes : HaveSameNodes fs gs
+  pub here : entries_of gs d ≡ inserted (entry_under name k) (entries_of fs d)
+  pub others : (e : ℕ) → e ≢ d → entries_of gs e ≡ entries_of fs e
+  pub own : entries_of gs k ≡ []
+  pub path : path_of gs k ≡ Some (path_at fs d ++ name ∷ [])
+  pub paths : (j : ℕ) → j ≢ k → path_of gs j ≡ path_of fs j
+
+-- A node that is hung is one entry more of its directory, and all others stay.
+abbrev pub HangingAddsAnEntry : Type 0
+HangingAddsAnEntry =
+    (fs : Files) (k d : ℕ) (name : Name) → IsFiles fs → is_some (node_of fs k) ≡ true
+    → CanHang fs k d name → HasHung fs (hung k (path_at fs d ++ name ∷ []) fs) k d name
