@@ -11,6 +11,7 @@ pub mod Written
 pub mod Finished
 pub mod Stopped
 pub mod Telling
+pub mod Placed
 pub mod FrameLemmas
 pub mod RoutineLemmas
 pub mod TurnLemmas

@@ -2,6 +2,7 @@ pub mod Answers
 pub mod Initial
 pub mod Instances
 pub mod Lends
+pub mod LentFrames
 pub mod Offers
 pub mod Refusals
 pub mod Runs

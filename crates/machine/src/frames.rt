@@ -95,6 +95,14 @@ impl Frames {
         self.frames[self.height - 1]
     }
 
+    /// The frame with this number, counted from the outermost one.
+    pub fn get(&self, index: usize) -> StackFrame
+        requires { index < length self.now }
+        ensures { slice_get (reverse self.now) index ≡ Some result }
+    {
+        self.frames[index]
+    }
+
     /// Puts the innermost frame at this position.
     #[inline(always)]
     pub fn set_position(&mut self, position: usize)

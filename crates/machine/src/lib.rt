@@ -14,6 +14,9 @@
 //!   asks for, or that it asks for nothing. `has_ended` tells whether the program is over. Neither
 //!   runs anything.
 //! - `stop` drops the thread. What was shown is shown without it (`stops`).
+//! - `globals`, `frame_count`, `place` and `is_starting` tell what a machine shows beside memory:
+//!   the numbers of the globals, the frames from the outermost one in, and whether `_start` is
+//!   still to be called. None of them runs anything or takes memory.
 //! - `memory` is the guest's memory. `memory_mut` lends it, and nothing else changes
 //!   (`writes_back`). `unlink` gives the module back.
 //! - `laws`: a machine shows one configuration at most (`shows_one`). Two machines that show one
@@ -25,15 +28,17 @@
 //!
 //! In `specs/rules/`: `MachineValue`, `ShowsIn` (`Values.antt`); `HasBegun`, `RunsOnFuel`,
 //! `TellsWaiting`, `TellsEnd`, `WaitsFor`, `Answers`, `Stops` (`Runs.antt`); `IsRefused`,
-//! `LinkDenies` (`Refusals.antt`); `offer` (`Offers.antt`). Beside these: `CanStart`, `CanBegin` (`specs/rules/Initial.antt`),
-//! `call_results` (`specs/rules/Answers.antt`), and `Shows` of `machine_slots`.
+//! `LinkDenies` (`Refusals.antt`); `offer` (`Offers.antt`); `lent_frame` (`LentFrames.antt`).
+//! Beside these: `CanStart`, `CanBegin` (`specs/rules/Initial.antt`), `call_results`
+//! (`specs/rules/Answers.antt`), and `Shows` of `machine_slots`.
 //!
 //! # Who may touch what
 //!
-//! No code but this crate's and that of `machine_slots`, `machine_jumps` and `machine_rules` looks
-//! at frames, slots or positions. Callers have `Machine`, `Pause`, and `HostCall` with its
-//! `Arguments`. `machine_loader`, `process` and `worker` use it. `link` takes all memory that running needs;
-//! where it fails the module is gone. The other calls take none and have no errors.
+//! No code but this crate's and that of `machine_slots`, `machine_jumps` and `machine_rules`
+//! changes frames, slots or positions. Callers have `Machine`, `Pause`, `HostCall` with its
+//! `Arguments`, and `FramePlace`, which lends a frame. `machine_loader`, `process` and `worker` use
+//! it. `link` takes all memory that running needs; where it fails the module is gone. The other
+//! calls take none and have no errors.
 #![tactic(auto)]
 
 mod frame;
@@ -42,11 +47,13 @@ mod hosting;
 mod instance;
 pub mod laws;
 mod linking;
+mod places;
 mod routines;
 mod running;
 mod turns;
 
 pub use instance::LinkFault;
 pub use linking::link;
+pub use places::FramePlace;
 pub use running::Machine;
 pub use turns::{Arguments, HostCall, Pause, Paused};

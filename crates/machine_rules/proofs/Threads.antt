@@ -7,3 +7,4 @@ pub mod Entering
 pub mod Calling
 pub mod Hosting
 pub mod Showing
+pub mod Placing

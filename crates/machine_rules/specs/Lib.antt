@@ -1,3 +1,4 @@
+pub mod Stacked
 pub mod Standing
 pub mod Threads
 pub mod Walks

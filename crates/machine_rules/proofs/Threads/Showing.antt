@@ -14,6 +14,7 @@ use Rattle.machine_slots.specs.rules.Places.{all_below, slots_of, ShowsCallers, 
 use Rattle.machine_slots.specs.Frames.{frame_words}
 use Rattle.machine_slots.proofs.TypedFrames.{slots_words, words_slots}
 use Rattle.machine_rules.specs.declared.frame.StackFrame.{StackFrame}
+use Rattle.machine_rules.specs.Stacked.{AreStacked}
 use Rattle.machine_rules.specs.Threads.{AreWaiting, AreFrames, places_of}
 use Rattle.machine_rules.specs.laws.Threads.{SettledIsShown, ShownStands}
 
@@ -36,11 +37,11 @@ own_are : (ls : List Value) (labels : List Label) (vs : List Value) (own : List 
 own_are ls labels vs own e = sym (reverse-reverse own) ∙ ap reverse e ∙ slots_words ls labels vs []
 
 -- the place of a frame has its own words
-record Parts (words own callers : List ℕ) (base : ℕ) : Type 0 where
-  front : take (length words - base) words ≡ own
-  back : drop (length words - base) words ≡ callers
+pub record Parts (words own callers : List ℕ) (base : ℕ) : Type 0 where
+  pub front : take (length words - base) words ≡ own
+  pub back : drop (length words - base) words ≡ callers
 
-parts_of : (words own callers : List ℕ) (base : ℕ) → words ≡ own ++ callers → base ≡ length callers → Parts words own callers base
+pub parts_of : (words own callers : List ℕ) (base : ℕ) → words ≡ own ++ callers → base ≡ length callers → Parts words own callers base
 parts_of words own callers base e at =
     let count : length words - base ≡ length own = omega (arith, ap length e, length-append own callers) in
     record {
@@ -122,11 +123,6 @@ settled_is_shown c program opcodes tables table held d ready stands settled =
 
 -- ---- what stands
 
--- each frame's words above those of the frames that wait
-abbrev AreStacked : List StackFrame → List ℕ → Type 0
-AreStacked [] words = words ≡ []
-AreStacked (frame ∷ frames) words = (own : List ℕ) × (callers : List ℕ) × (words ≡ own ++ callers) × (frame.base ≡ length callers) × AreStacked frames callers
-
 waiting_stacked : (c : Context) (program : Program) (kind : FunctionType) (frames : List StackFrame) (words : List ℕ) (thread : Thread) → AreWaiting c program kind frames words thread → AreStacked frames words
 waiting_stacked c program kind [] words [] h = h
 waiting_stacked c program kind [] words (other ∷ thread) h = absurd h
@@ -134,7 +130,7 @@ waiting_stacked c program kind (frame ∷ frames) words [] h = absurd h
 waiting_stacked c program kind (frame ∷ frames) words (FrameOf f ls labels vs rest ∷ thread) h =
     (own_words ls labels vs, h.3, h.4.words_are ∙ words_part ls labels vs h.3, h.4.base_is, waiting_stacked c program h.0.kind frames h.3 thread h.5)
 
-frames_stacked : (c : Context) (program : Program) (frames : List StackFrame) (words : List ℕ) (thread : Thread) → AreFrames c program frames words thread → AreStacked frames words
+pub frames_stacked : (c : Context) (program : Program) (frames : List StackFrame) (words : List ℕ) (thread : Thread) → AreFrames c program frames words thread → AreStacked frames words
 frames_stacked c program [] words [] h = h
 frames_stacked c program [] words (other ∷ thread) h = absurd h
 frames_stacked c program (frame ∷ frames) words [] h = absurd h

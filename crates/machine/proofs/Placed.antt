@@ -1,0 +1,39 @@
+-- Where the words of a machine's frames lie.
+use Rattle.std.proofs.Common.{ℕ, ◌≤◌, ◌^◌, min, List, [], ◌∷◌, Option, Some, None, refl, sym, ◌∙◌, arith}
+use Rattle.std.specs.Option.{option_map_or}
+use Rattle.wasm_syntax.specs.declared.types.MemoryType.{MemoryType}
+use Rattle.guest_memory.specs.rules.Memories.{LinearMemory}
+use Rattle.wasm_syntax_rules.specs.Instantiation.{most_pages_of}
+use Rattle.wasm_syntax_rules.specs.Validity.{module_context, memories_of}
+use Rattle.machine_rules.specs.Stacked.{AreStacked}
+use Rattle.machine_rules.proofs.Threads.Showing.{frames_stacked}
+use Rattle.machine.specs.declared.turns.code.Executable.{Executable}
+use Rattle.machine.specs.declared.turns.state.State.{State}
+use Rattle.machine.specs.Insides.{IsMemoryFor, IsMachine}
+
+most_below : (memories : List MemoryType) (pages : ℕ) → pages ≤ 2 ^ 16
+    → most_pages_of memories pages ≤ 2 ^ 16
+most_below [] pages h = omega arith
+most_below (t ∷ memories) pages h = limited t.limits.maximum
+  where
+    limited : (most : Option ℕ) → option_map_or (λ most. min most pages) most pages ≤ 2 ^ 16
+    limited None = h
+    limited (Some most) = omega arith
+
+-- With no bytes in memory, it stands for some configuration.
+pub stacked : (code : Executable) (s : State) (most : ℕ) → IsMachine code s most
+    → AreStacked s.frames s.slots
+stacked code s most machine =
+    let is = machine.is in
+    let memories = memories_of code.«module» in
+    let below = most_below memories is.pages is.few in
+    let limit = sym is.most ∙ is.is_program.most_pages in
+    let none : LinearMemory = record { bytes = []; limit = most } in
+    let is_memory : IsMemoryFor most none = record {
+      limit = refl;
+      shape = record { whole = refl; within = omega arith; limited = omega (arith, below, limit) };
+      bytes = tt;
+    } in
+    let some = machine.settled none machine.functions machine.program is_memory is in
+    frames_stacked (module_context code.«module» machine.functions) machine.program s.frames
+    s.slots some.configuration.thread some.stands.stands.frames

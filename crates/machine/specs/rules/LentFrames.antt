@@ -1,0 +1,7 @@
+-- What contracts see of a frame that a machine lends.
+use Rattle.machine_slots.specs.rules.Places.{ShownFrame}
+use Rattle.machine.specs.declared.places.FramePlace.{FramePlace}
+
+-- with the words that are lent as its slots
+abbrev pub lent_frame : FramePlace → ShownFrame
+lent_frame p = record { function = p.function; position = p.position; slots = p.slots.now }
