@@ -1,9 +1,9 @@
 -- The nearest node after a name is the one of the first entry after it.
-use Rattle.std.proofs.Common.{◌≡◌, ◌≢◌, ℕ, zero, suc, ◌+◌, ◌-◌, ◌≤◌, ◌⊎◌, inl, inr, Bool, true, false}
+use Rattle.std.proofs.Common.{◌≡◌, ◌≢◌, ℕ, zero, suc, ◌+◌, ◌-◌, ◌<◌, ◌≤◌, ◌⊎◌, inl, inr, Bool, true, false}
 use Rattle.std.proofs.Common.{cond, eqb, not, length, Bor, List, [], ◌∷◌, Option, Some, None, refl, sym, ap, subst, ◌∙◌, arith}
 use Rattle.std.specs.Prelude.{slice_get, option_map, option_copied, is_some, find, ◌&&◌}
 use Rattle.std.specs.List.{AllByRecursion}
-use Rattle.std.proofs.lemmas.Bool.{cases_eq, eq-eqb, ne_eqb}
+use Rattle.std.proofs.lemmas.Bool.{cases_eq, cases_lt, eq-eqb, ne_eqb}
 use Rattle.file_tree.specs.declared.store.node.Hook.{Hook}
 use Rattle.file_tree.specs.declared.store.node.Hook.TheVariants.{Root, Removed, In}
 use Rattle.file_tree.specs.declared.store.node.Node.{Node}
@@ -11,7 +11,8 @@ use Rattle.file_tree.specs.rules.Files.{Name, Entry, is_before, sorted, entries_
 use Rattle.file_tree.specs.rules.Listings.{number_at_place, number_after, HasNameAtPlace}
 use Rattle.file_tree.specs.Links.{hook_of, AreNodes, files, name_of_hook}
 use Rattle.file_tree.specs.Links.{hooked_name, hooked_entries, with_entry}
-use Rattle.file_tree.specs.Nearest.{comes_after, is_nearer, nearest_node, next_node, node_listed}
+use Rattle.file_tree.specs.Nearest.{comes_after, is_nearer, nearest_node, next_node}
+use Rattle.file_tree.specs.Nearest.{node_listed, IsCountListed}
 use Rattle.file_tree.proofs.Order.{Ordered, HaveDistinctNames, ordered_sorted, all_sorted, all_at}
 use Rattle.file_tree.proofs.Closest.{is_closer, closest, closest_sorted, closest_ordered}
 use Rattle.file_tree.proofs.Closest.{found_behind, found_first}
@@ -280,6 +281,39 @@ pub none_listed : (ns : List Node) (d i place : ℕ) → i ≤ place
 none_listed ns d i place le none =
     let same : (place - i) + i ≡ place = omega arith in
     subst (λ (k : ℕ). node_listed ns d k ≡ None) same (listed_more ns d i (place - i) none)
+
+-- ---- how many there are
+
+no_fewer : (es : List Entry) (n : ℕ) → slice_get es n ≡ None → length es ≤ n
+no_fewer [] n is = omega arith
+no_fewer (e ∷ es) zero is = absurd cc
+no_fewer (e ∷ es) (suc n) is = omega (arith, no_fewer es n is)
+
+none_past : (es : List Entry) (n : ℕ) → length es ≡ n → slice_get es n ≡ None
+none_past [] n is = refl
+none_past (e ∷ es) zero is = absurd (omega (arith, is))
+none_past (e ∷ es) (suc n) is = none_past es n (omega (arith, is))
+
+none_with : (o : Option Node) → option_map entry_with o ≡ None → o ≡ None
+none_with None is = refl
+none_with (Some n) is = absurd cc
+
+pub count_shown : (ns : List Node) (next d count : ℕ) → AreNodes ns next
+    → IsCountListed ns d count → count ≡ length (entries_of (files ns next) d)
+count_shown ns next d count are counted = by (cases_lt (length es) count) where
+  es : List Entry
+  es = entries_of (files ns next) d
+
+  most : length es ≤ count
+  most =
+      no_fewer es count
+      (sym (listed_entry ns next d count are) ∙ ap (option_map entry_with) counted.no_more)
+
+  by : (length es < count) ⊎ (count ≤ length es) → count ≡ length es
+  by (inl lt) =
+      let past = listed_entry ns next d (length es) are ∙ none_past es (length es) refl in
+      absurd (counted.some (length es) lt (none_with (node_listed ns d (length es)) past))
+  by (inr le) = omega (arith, le, most)
 
 -- ---- the name of the one at a place
 

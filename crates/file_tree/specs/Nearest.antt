@@ -1,5 +1,5 @@
 -- The nodes of a directory in the order of their names.
-use Rattle.std.specs.Prelude.{ℕ, zero, suc, ◌==◌, ◌&&◌, if◌then◌else◌, Bool, false, List, [], ◌∷◌, Option, Some, None}
+use Rattle.std.specs.Prelude.{◌≡◌, ◌≢◌, ℕ, zero, suc, ◌<◌, ◌==◌, ◌&&◌, if◌then◌else◌, Bool, false, List, [], ◌∷◌, Option, Some, None}
 use Rattle.file_tree.specs.declared.store.node.Hook.{Hook}
 use Rattle.file_tree.specs.declared.store.node.Hook.TheVariants.{Root, Removed, In}
 use Rattle.file_tree.specs.declared.store.node.Node.{Node}
@@ -38,3 +38,8 @@ next_node ns d (Some n) = nearest_node d (name_of_hook n.hook) None ns
 abbrev pub node_listed : List Node → ℕ → ℕ → Option Node
 node_listed ns d zero = nearest_node d [] None ns
 node_listed ns d (suc place) = next_node ns d (node_listed ns d place)
+
+-- there are nodes of this directory at so many places, and none behind them
+pub record IsCountListed (ns : List Node) (d count : ℕ) : Type 0 where
+  pub some : (i : ℕ) → i < count → node_listed ns d i ≢ None
+  pub no_more : node_listed ns d count ≡ None

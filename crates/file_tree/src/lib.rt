@@ -5,9 +5,10 @@
 //! - `is_name` is true exactly of the names that a node may have (`IsNodeName`).
 //! - `Tree::new` is the fresh tree, an empty root. `Tree` is a file system at any time (`len`:
 //!   `shape`).
-//! - `is_directory`, `size`, `used_bytes`, `chunks`, `has_path`, `child`, `entry`, `is_empty`,
-//!   `is_within`, `next` and `len` answer what the definitions do. `entry` goes by the order of
-//!   names.
+//! - `is_directory`, `size`, `used_bytes`, `chunks`, `has_path`, `child`, `entry`, `entry_count`,
+//!   `is_empty`, `is_within`, `number_at`, `next` and `len` answer what the definitions do. `entry`
+//!   goes by the order of names, `number_at` by rising numbers.
+//! - `chunk` lends the bytes of a file that lie in one of its chunks.
 //! - `parent` gives the directory above a node (`above`), or says that there is none (`none`).
 //!   `name` gives the last name of its path (`last`). `read` copies as many bytes as there are and
 //!   fit (`bytes`).
@@ -23,9 +24,10 @@
 //! # Definitions to read
 //!
 //! In `specs/rules/`: `Files`, `IsFiles`, `child`, `entries_of`, `created`, `removed`,
-//! `forgotten`, `renamed` (`Files.antt`); `written`, `resized` (`Bytes.antt`); `chunks_of`
-//! (`Chunks.antt`); `IsFree`, `CanLose`, `CanMove`, `IsParent`, `read_from` (`Changes.antt`). All
-//! other files of `specs/` say how the code keeps nodes and bytes.
+//! `forgotten`, `renamed` (`Files.antt`); `written`, `resized` (`Bytes.antt`); `chunks_of`,
+//! `chunk_of` (`Chunks.antt`); `number_at`, `number_at_place` (`Listings.antt`); `IsFree`,
+//! `CanLose`, `CanMove`, `IsParent`, `read_from` (`Changes.antt`). All other files of `specs/` say
+//! how the code keeps nodes and bytes.
 //!
 //! # Who may touch what
 //!

@@ -7,7 +7,7 @@ ghost use Rattle.file_tree.specs.Store.Cuts.{AreOrdered, IsCut};
 ghost use Rattle.file_tree.specs.Store.Kept.{IsLower, HasLower, HasNoLower};
 ghost use Rattle.file_tree.specs.Links.{IsPlace, IsNowhere, node_in, hook_held, content_held, holds_directory_node, bytes_held_in, is_hung, name_of_hook, content_shown};
 ghost use Rattle.file_tree.specs.rules.Changes.{empty};
-ghost use Rattle.file_tree.specs.rules.Chunks.{chunks_for};
+ghost use Rattle.file_tree.specs.rules.Chunks.{chunks_for, chunk_of};
 
 use crate::kind::NodeKind;
 use crate::store::{FileBytes, Hook, Node, NodeContent, Nodes};
@@ -95,6 +95,19 @@ pub fn chunks_held(node: Option<&Node>) -> usize
             NodeContent::File(file) => file.chunks(),
         },
         None => 0,
+    }
+}
+
+/// The bytes of a file in its chunk at a place, where the file is there.
+pub fn chunk_held(node: Option<&Node>, index: usize) -> &[u8]
+    ensures { result.now ≡ chunk_of (bytes_held_in (option_copied node.entry)) index }
+{
+    match node {
+        Some(node) => match &node.content {
+            NodeContent::Directory => b"",
+            NodeContent::File(file) => file.chunk(index),
+        },
+        None => b"",
     }
 }
 

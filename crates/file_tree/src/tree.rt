@@ -3,16 +3,16 @@
 ghost use Rattle.std.specs.Prelude.{◌≡◌, ◌<◌, ◌^◌, ◌++◌, ◌∷◌, [], length, ℕ, ◌+◌, ◌≢◌, Some, slice_get, option_map, IfSome, IfNone, ◌≤◌, ◌==◌, drop, false, IfOk, OnOk, OnErr, is_some};
 ghost use Rattle.file_tree.specs.rules.Bytes.{written, resized};
 ghost use Rattle.file_tree.specs.rules.Files.{Name, Path, Entry, IsFiles, fresh, is_directory, bytes_of_node, used, path_of, child, entries_of, created, with_file_bytes, removed, forgotten, renamed};
-ghost use Rattle.file_tree.specs.rules.Chunks.{chunks_of};
-ghost use Rattle.file_tree.specs.rules.Listings.{number_at_place, number_after, HasNameAtPlace};
+ghost use Rattle.file_tree.specs.rules.Chunks.{chunks_of, chunk_of};
+ghost use Rattle.file_tree.specs.rules.Listings.{number_at, number_at_place, number_after, HasNameAtPlace};
 ghost use Rattle.file_tree.specs.rules.Changes.{IsFree, CanLose, CanMove, IsParent, is_within, empty, path_at, read_from};
 ghost use Rattle.file_tree.specs.declared.limits.TheConstants.{NODES, FILE_BYTES};
 
 use crate::children::{leads_to, parent_of};
 use crate::kind::NodeKind;
 use crate::lookup::{
-    chunks_held, drop_node, holds_directory, holds_path, name_held, new_content, node_of,
-    number_held, place_of, read_held, size_held,
+    chunk_held, chunks_held, drop_node, holds_directory, holds_path, name_held, new_content,
+    node_of, number_held, place_of, read_held, size_held,
 };
 use crate::store::{ByteList, Hook, Node, NodeContent, Nodes, chunks_of_size};
 use std::alloc::{AllocError, Global};
@@ -109,6 +109,17 @@ impl Tree {
         self.nodes.len()
     }
 
+    /// The number of the node at a place, from 0 on, by rising numbers. Its cost doesn't grow with
+    /// the number of nodes.
+    pub fn number_at(&self, place: usize) -> Option<u64>
+        ensures { result ≡ number_at self.now place }
+    {
+        if place >= self.nodes.len() {
+            return None;
+        }
+        Some(self.nodes.get(place).number)
+    }
+
     /// The number of the node under a name in a directory. A removed directory has none.
     pub fn child(&self, directory: u64, name: &[u8]) -> Option<u64>
         ensures { result ≡ child self.now directory name.now }
@@ -123,8 +134,17 @@ impl Tree {
         self.nodes.nearest_after(directory, b"").is_none()
     }
 
+    /// How many entries a directory has. A removed one has none, nor has a file. It halves the
+    /// nodes that are left until it has found the first and the last one.
+    pub fn entry_count(&self, directory: u64) -> usize
+        ensures { result ≡ length (entries_of self.now directory) }
+    {
+        self.nodes.count_in(directory)
+    }
+
     /// The number of the node at a place, from 0 on, among a directory's entries in the order of
-    /// their names. It takes no memory.
+    /// their names. It takes no memory. It halves the nodes that are left until it has found the
+    /// first entry, and goes to the place at once.
     pub fn entry(&self, directory: u64, place: usize) -> Option<u64>
         ensures { result ≡ number_at_place self.now directory place }
     {
@@ -149,6 +169,14 @@ impl Tree {
         ensures bytes { into.new ≡ read_from self.now number from (length into.old) ++ drop result into.old }
     {
         read_held(node_of(&self.nodes, number), from as usize, into)
+    }
+
+    /// The bytes of a file in its chunk at a place, from 0 on. The last one may have fewer. Where
+    /// there is no such chunk, nor such a file, there are none. They are lent as they lie.
+    pub fn chunk(&self, number: u64, index: usize) -> &[u8]
+        ensures { result.now ≡ chunk_of (bytes_of_node self.now number) index }
+    {
+        chunk_held(node_of(&self.nodes, number), index)
     }
 
     /// The directory above a node: none above the root, a removed node, or one that isn't there.

@@ -6,12 +6,13 @@ use Rattle.slab.specs.Slab.{Slab, ContainsKey, get}
 use Rattle.file_tree.specs.declared.store.node.Node.{Node}
 use Rattle.file_tree.specs.rules.Files.{Name}
 use Rattle.file_tree.specs.Links.{is_hooked, child_in}
-use Rattle.file_tree.specs.Nearest.{nearest_node, node_listed}
+use Rattle.file_tree.specs.Nearest.{nearest_node, node_listed, IsCountListed}
 use Rattle.file_tree.specs.Store.Stored.{stored}
 use Rattle.file_tree.specs.Store.Cuts.{IsCut}
-use Rattle.file_tree.specs.Store.Named.{KeyBehind, KeyUpTo, AreByAddress, NoKey, in_directory}
+use Rattle.file_tree.specs.Store.Named.{KeyBehind, KeyUpTo, AreByAddress, NoKey, in_directory, named_node}
 use Rattle.file_tree.specs.Store.Kept.{AreStoredNodes}
 use Rattle.file_tree.proofs.NamedNodes.{NodeBehind, NodeUpTo, AreListed, child_there, child_not_there, child_before_all, nearest_found, listed_found}
+use Rattle.file_tree.proofs.NearestNodes.{none_listed}
 use Rattle.file_tree.proofs.StoreLemmas.Cuts.{behind_all}
 use Rattle.file_tree.proofs.StoreLemmas.Keys.{length-stored}
 use Rattle.file_tree.proofs.StoreLemmas.NamedStored.{cut_stored, in_order, are_listed, node_at}
@@ -27,6 +28,11 @@ pub key_before : (slab : Slab Node) (keys : List ℕ) (p : ℕ) → AreByAddress
     → ContainsKey slab (get_or keys (p - 1) 0)
 key_before slab keys p order some within =
     behind_all (ContainsKey slab) keys (p - 1) 0 order.present (omega (arith, some, within))
+
+-- the key before this place has a node that hangs in a directory, where it isn't the first
+abbrev pub IsLastBelow : Slab Node → List ℕ → ℕ → ℕ → ℕ → Type 0
+IsLastBelow slab keys d first low =
+    (i : ℕ) → first ≤ i → suc i ≡ low → in_directory d (named_node slab keys i) ≢ None
 
 module _ (slab : Slab Node) (order names keys : List ℕ) (ns : List Node) (kept : AreStoredNodes slab order names) (same : keys ≡ names)
     (shown : stored slab order ≡ ns) where
@@ -75,3 +81,27 @@ module _ (slab : Slab Node) (order names keys : List ℕ) (ns : List Node) (kept
     none_listed_at i within past =
         let far : length (stored slab keys) ≤ i + p = omega (arith, within, past, length-stored slab keys keys_present) in
         listed_at i ∙ ap (in_directory d) (none_at (stored slab keys) (i + p) far)
+
+    -- where a search for the last one of a directory ends
+    pub counted_at : (low : ℕ) → p ≤ low → IsLastBelow slab keys d p low
+        → in_directory d (named_node slab keys low) ≡ None → IsCountListed ns d (low - p)
+    counted_at low le last none = record {
+      some = λ i lt gone.
+          (let q = (low - p) - 1 in
+          let same : q + p ≡ low - 1 = omega (arith, lt) in
+          let end : node_listed ns d q ≡ None = none_listed ns d i q (omega (arith, lt)) gone in
+          last (low - 1) (omega (arith, lt)) (omega (arith, lt))
+          (ap (λ (k : ℕ). in_directory d (named_node slab keys k)) (sym same)
+          ∙ sym (listed_at q) ∙ end));
+      no_more =
+          (let same : (low - p) + p ≡ low = omega (arith, le) in
+          listed_at (low - p)
+          ∙ ap (λ (k : ℕ). in_directory d (named_node slab keys k)) same ∙ none);
+    }
+
+    -- it begins with all keys
+    pub none_past : in_directory d (named_node slab keys (length keys)) ≡ None
+    none_past =
+        let far : length (stored slab keys) ≤ length keys =
+        omega (arith, length-stored slab keys keys_present) in
+        ap (in_directory d) (none_at (stored slab keys) (length keys) far)

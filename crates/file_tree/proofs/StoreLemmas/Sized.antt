@@ -1,15 +1,15 @@
 -- Chunks of a file of a size, and what a change makes of them.
-use Rattle.std.proofs.Common.{◌≡◌, ℕ, zero, suc, ◌+◌, ◌*◌, ◌-◌, ◌<◌, ◌≤◌, min, max, List, [], ◌∷◌, ◌++◌, length, take, drop, refl, sym, ap, subst, ◌∙◌, arith, length-append, length-take, length-drop}
+use Rattle.std.proofs.Common.{◌≡◌, ℕ, zero, suc, ◌+◌, ◌*◌, ◌-◌, ◌<◌, ◌≤◌, min, max, List, [], ◌∷◌, ◌++◌, length, take, drop, refl, sym, ap, subst, ◌∙◌, get_or, arith, length-append, length-take, length-drop}
 use Rattle.std.specs.Prelude.{replicate}
 use Rattle.std.specs.List.{concat}
 use Rattle.std.proofs.lemmas.List.{append-nil, take_all, take-take, take_at, drop_at, take-append-drop, replicate-append-replicate, length-replicate, take_min}
 use Rattle.std.proofs.lemmas.Nat.{div-add-mod', mod_below}
 use Rattle.file_tree.specs.declared.limits.TheConstants.{CHUNK_BYTES}
 use Rattle.file_tree.specs.rules.Bytes.{written, resized}
-use Rattle.file_tree.specs.rules.Chunks.{chunks_for}
+use Rattle.file_tree.specs.rules.Chunks.{chunks_for, chunk_of}
 use Rattle.file_tree.specs.Store.Chunked.{overlaid, AreFull, AreChunks}
 use Rattle.file_tree.proofs.StoreLemmas.Padded.{is_resized}
-use Rattle.file_tree.proofs.StoreLemmas.Overs.{append_assoc, full_append, length-joined, joined_append, joined_take, take-overlaid, drop-overlaid, over_written}
+use Rattle.file_tree.proofs.StoreLemmas.Overs.{append_assoc, full_append, length-joined, joined_append, joined_take, piece_joined, take-overlaid, drop-overlaid, over_written}
 
 -- ---- how many chunks there are
 
@@ -155,3 +155,13 @@ module _ (cs : List (List ℕ)) (len : ℕ) (are : AreChunks cs len) where
     omega (arith, count),
     omega (arith, fits),
   )
+
+  -- the bytes in the chunk at a place
+  pub is_piece : (now : List ℕ) (i n : ℕ) (c : List ℕ) → take len (concat cs) ≡ now
+      → i < length cs → c ≡ get_or cs i c → n ≡ min CHUNK_BYTES (len - i * CHUNK_BYTES)
+      → take n c ≡ chunk_of now i
+  is_piece now i n c e within is count =
+      let at = i * CHUNK_BYTES in
+      ap (take n) is
+      ∙ piece_joined cs i 0 n c at are.full within (omega (arith, count)) (omega arith)
+      ∙ is_read now at CHUNK_BYTES n e count

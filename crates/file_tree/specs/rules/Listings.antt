@@ -1,6 +1,10 @@
--- The entries of a directory, one after the other in the order of their names.
+-- The nodes by rising numbers, and the entries of a directory by the order of their names.
 use Rattle.std.specs.Prelude.{◌≡◌, ℕ, find, Option, Some, option_map, slice_get}
-use Rattle.file_tree.specs.rules.Files.{Name, Files, Entry, is_before, entries_of}
+use Rattle.file_tree.specs.rules.Files.{Name, FileNode, Files, Entry, is_before, entries_of}
+
+-- the number of the node at a place, from 0 on
+abbrev pub number_at : Files → ℕ → Option ℕ
+number_at fs place = option_map (λ (n : FileNode). n.number) (slice_get fs.nodes place)
 
 -- the number of the entry at a place of a directory, from 0 on
 abbrev pub number_at_place : Files → ℕ → ℕ → Option ℕ

@@ -3,8 +3,9 @@
 ghost use Rattle.std.specs.Prelude.{◌≡◌, ◌+◌, ◌-◌, ◌<◌, ◌≤◌, ◌^◌, ◌++◌, [], min, length, take, drop, OnOk, OnErr};
 ghost use Rattle.file_tree.specs.declared.limits.TheConstants.{FILE_BYTES};
 ghost use Rattle.file_tree.specs.rules.Bytes.{written, resized};
-ghost use Rattle.file_tree.specs.rules.Chunks.{chunks_for};
+ghost use Rattle.file_tree.specs.rules.Chunks.{chunks_for, chunk_of};
 
+use crate::limits::CHUNK_BYTES;
 use crate::store::chunks::{
     Chunk, chunks_of_size, clear_chunk, read_chunks, write_chunks, zero_chunks,
 };
@@ -56,6 +57,23 @@ impl FileBytes {
         ensures { result ≡ chunks_for (length self.now) }
     {
         self.chunks.as_slice().len()
+    }
+
+    /// The bytes in the chunk at a place. The last chunk may have fewer, and behind it there are
+    /// none.
+    pub fn chunk(&self, index: usize) -> &[u8]
+        ensures { result.now ≡ chunk_of self.now index }
+    {
+        if index >= self.chunks.as_slice().len() {
+            return b"";
+        }
+        let bytes = self.chunks[index].as_slice();
+        let rest = self.len - index * CHUNK_BYTES;
+        if rest < CHUNK_BYTES {
+            &bytes[..rest]
+        } else {
+            bytes
+        }
     }
 
     /// Puts the bytes from one of them on into `into`, as many as there are and fit, and gives how many. What is behind

@@ -12,7 +12,7 @@ ghost use Rattle.file_tree.specs.Store.Kept.{IsLower};
 ghost use Rattle.file_tree.specs.Store.Named.{HangsAt, IsFreeHook};
 ghost use Rattle.file_tree.specs.Links.{child_in, is_hooked};
 ghost use Rattle.file_tree.specs.rules.Files.{is_same_name};
-ghost use Rattle.file_tree.specs.Nearest.{nearest_node, node_listed};
+ghost use Rattle.file_tree.specs.Nearest.{nearest_node, node_listed, IsCountListed};
 ghost use Rattle.file_tree.specs.declared.store.node.Hook.TheVariants.{Removed, In};
 
 use crate::store::bytes::ByteList;
@@ -126,6 +126,25 @@ impl Nodes {
             return None;
         }
         node_named(&self.slab, names, place + first, directory)
+    }
+
+    /// How many nodes hang in a directory. Each step halves those that are left.
+    pub fn count_in(&self, directory: u64) -> usize
+        ensures { IsCountListed self.now directory result }
+    {
+        let names = self.names.as_slice();
+        let first = count_up_to(&self.slab, names, directory, b"");
+        let mut low = first;
+        let mut high = names.len();
+        while low < high {
+            let middle = low + (high - low) / 2;
+            if node_named(&self.slab, names, middle, directory).is_some() {
+                low = middle + 1;
+            } else {
+                high = middle;
+            }
+        }
+        low - first
     }
 
     /// The node at a place.

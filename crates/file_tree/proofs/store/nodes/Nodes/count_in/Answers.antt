@@ -1,0 +1,42 @@
+use Rattle.std.proofs.Common.{arith, subst}
+use Rattle.std.proofs.Common.{◌≡◌, None, ℕ}
+use Rattle.file_tree.specs.Store.Named.{in_directory, named_node}
+use Rattle.file_tree.proofs.StoreLemmas.NamedLookups.{keys_in_order, counted_at, none_past}
+use Rattle.file_tree.proofs.store.nodes.Nodes.count_in.Goals as goal
+
+pub count_up_to-first-requires : goal.count_up_to-first-requires
+count_up_to-first-requires c =
+    let a = c.self.inside in
+    keys_in_order a.slab a.order.items a.names.items c.as_slice-names.result.now c.self.invariant.0
+    c.as_slice-names.ensures.value
+
+pub loop-low-init : goal.loop-low-init
+loop-low-init c =
+    let a = c.self.inside in
+    let first = c.count_up_to-first in (
+      omega arith,
+      first.ensures.within,
+      omega arith,
+      λ i le lt. absurd (omega (arith, le, lt)),
+      none_past a.slab a.order.items a.names.items c.as_slice-names.result.now c.args.self.now
+          c.self.invariant.0 c.as_slice-names.ensures.value c.self.view_is c.args.directory
+          first.result first.ensures.cut,
+    )
+
+pub node_named-requires : goal.node_named-requires
+node_named-requires c =
+    let a = c.self.inside in
+    keys_in_order a.slab a.order.items a.names.items c.as_slice-names.result.now c.self.invariant.0
+    c.as_slice-names.ensures.value
+
+pub returns : goal.returns
+returns c =
+    let a = c.self.inside in
+    let first = c.count_up_to-first in
+    let loop = c.loop-low.invariant in
+    let met : c.loop-low.high ≡ c.loop-low.low =
+    omega (arith, c.loop-low-test.false, loop.1) in
+    counted_at a.slab a.order.items a.names.items c.as_slice-names.result.now c.args.self.now
+    c.self.invariant.0 c.as_slice-names.ensures.value c.self.view_is c.args.directory
+    first.result first.ensures.cut c.loop-low.low loop.0 loop.3
+    (subst (λ (k : ℕ). in_directory c.args.directory (named_node a.slab c.as_slice-names.result.now k) ≡ None) met loop.4)
