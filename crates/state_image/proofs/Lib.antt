@@ -1,3 +1,8 @@
+pub mod Pushing
+pub mod PushedItems
+mod Opened
+mod Shown
+mod NodesAt
 mod Fields
 mod Counts
 mod Machines

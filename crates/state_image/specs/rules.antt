@@ -1,2 +1,4 @@
 pub mod Image
+pub mod Saving
+pub mod Sinks
 pub mod WellTyped

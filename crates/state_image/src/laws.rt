@@ -1,4 +1,4 @@
-//! Laws of the image.
+//! Laws of the image. The functions do nothing: what they ensure is the law.
 
 ghost use Rattle.state_image.specs.laws.Examples.{FreshImageSize};
 ghost use Rattle.state_image.specs.laws.ImageExamples.{ImagesOnExamples};
@@ -7,7 +7,7 @@ ghost use Rattle.state_image.specs.laws.Refusals.{RefusesCounts, RefusesStreams,
 ghost use Rattle.state_image.specs.laws.Refusals.{RefusesFiles, RefusesDescriptors};
 ghost use Rattle.state_image.specs.laws.WellTypedExamples.{HelloBeginsWellTyped};
 ghost use Rattle.state_image.specs.laws.Laws.{ImagesTellProcessesApart};
-ghost use Rattle.state_image.specs.laws.Laws.{ImagesHaveRoom, ImagesAreBytes};
+ghost use Rattle.state_image.specs.laws.Laws.{ImagesHaveRoom, ImagesAreBytes, SavesWhatIsShown};
 
 /// The image of a well-typed process is that of no other one.
 pub fn images_tell_processes_apart()
@@ -42,4 +42,9 @@ pub fn others_are_refused()
     ensures machines { (config : Settings) → RefusesMachines config }
     ensures files { (config : Settings) → RefusesFiles config }
     ensures descriptors { (config : Settings) → RefusesDescriptors config }
+{}
+
+/// What is saved of a process shows what the process shows.
+pub fn saves_what_is_shown()
+    ensures { SavesWhatIsShown }
 {}

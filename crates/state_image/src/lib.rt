@@ -1,15 +1,22 @@
 //! The image of a process as bytes, version 1, and which images are accepted (this project's own).
-//! It is definitions alone: no code writes or reads an image yet.
+//! The code writes images. None is read back yet.
 //!
 //! # Promises
 //!
+//! - `write_image_to` pushes exactly the bytes of `image` into a sink, in some pieces. Where a piece
+//!   is refused, a front of the bytes was taken, nothing is pushed after it, and its fault is the one
+//!   that is given (`Pushes`). It takes no memory, and copies none of the guest's.
+//! - `write_image` gives these bytes in a vector.
+//! - `Sink` is a trait. What one push does is known by one relation, `takes`, which each
+//!   implementation names. `ByteSink` keeps the bytes that it takes, in order (`KeepsBytes`).
+//! - `laws::saves_what_is_shown`: what is saved of a process shows every process of the rules that
+//!   it shows.
 //! - `laws::images_tell_processes_apart`: the image of a well-typed process is that of no other
 //!   one.
 //! - `laws::images_have_room`: it has a mebibyte at most, and what the configuration gives to
 //!   memory and files. That is what an area of the worker's disk has. It is of bytes.
 //! - `laws::a_fresh_image_has_its_size`: the image of a process that has just begun, with one page
 //!   of memory and an empty file system, has 65,811 bytes.
-//!
 //! - `laws::images_on_examples`: the whole image of a small process, byte by byte, and phases and
 //!   codes of others.
 //! - `laws::hello_begins_well_typed`: the process that `hello` begins as is well typed, under any
@@ -26,13 +33,24 @@
 //! - `Image.antt`: `Saved` is a process as its image has it, with positions in the place of
 //!   sequences. `SavedShowsProcess` says which process of the rules that is. `image` is its bytes,
 //!   field by field.
+//! - `Saving.antt`: `saved_of` is what is saved of the code's process.
+//! - `Sinks.antt`: `Pushes` says what was done to a sink, push by push.
 //! - `WellTyped.antt`: `IsWellTyped` says which of these processes have images that are accepted.
 //!
 //! # Who may touch what
 //!
-//! Only these definitions say which byte of an image means what. `worker_rules` cites them, for
-//! the disk that stands for a worker. They stand on those of `process_rules`, `machine_slots` and
-//! `wasi_calls_rules`. The crate takes no memory, and has no errors.
+//! Only these definitions and this code say which byte of an image means what. `worker_rules` cites
+//! the definitions, for the disk that stands for a worker. No crate calls the code yet. It reads a
+//! process by the questions of `process`, `machine`, `wasi_calls` and `file_tree`, and changes
+//! nothing of it. The image has no lines that wait: whoever writes one has released them. Only
+//! `write_image` and `ByteSink` take memory, and want of it is their only error.
 #![tactic(auto)]
 
+mod byte_sink;
 pub mod laws;
+mod sink;
+mod writing;
+
+pub use byte_sink::ByteSink;
+pub use sink::Sink;
+pub use writing::{IMAGE_MARK, write_image, write_image_to};

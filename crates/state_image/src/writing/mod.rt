@@ -1,0 +1,49 @@
+//! The image of a process, pushed into a sink.
+
+mod counts;
+mod descriptors;
+mod files;
+mod machine_state;
+mod numbers;
+
+ghost use Rattle.std.specs.Prelude.{◌≡◌, IfOk};
+ghost use Rattle.state_image.specs.rules.Image.{image};
+ghost use Rattle.state_image.specs.rules.Saving.{saved_of};
+ghost use Rattle.state_image.specs.rules.Sinks.{Pushes};
+
+use crate::byte_sink::ByteSink;
+use crate::sink::Sink;
+use crate::writing::counts::{push_counts, push_phase, push_streams};
+use crate::writing::descriptors::push_descriptors;
+use crate::writing::files::push_files;
+use crate::writing::machine_state::push_machine;
+use crate::writing::numbers::push_bytes;
+use process::Process;
+use std::alloc::{AllocError, Global};
+
+/// With it an image begins.
+pub const IMAGE_MARK: [u8; 8] = *b"DWIMAGE1";
+
+/// Pushes the image of a process, piece by piece. Memory is one piece, and each chunk of a file.
+/// No memory is taken. Where the sink refuses a piece, nothing is pushed after it, and its fault is
+/// the one that is given.
+pub fn write_image_to<S: Sink>(process: &Process, sink: &mut S) -> Result<(), S::Fault>
+    ensures { Pushes S.takes sink.old (image (saved_of process.now)) result sink.new }
+{
+    push_bytes(&IMAGE_MARK, sink)?;
+    push_counts(process, sink)?;
+    push_phase(process, sink)?;
+    push_streams(process, sink)?;
+    push_machine(process.machine(), sink)?;
+    push_files(process.host().tree(), sink)?;
+    push_descriptors(process.host(), sink)
+}
+
+/// The image of a process, whole. Only want of memory makes it fail.
+pub fn write_image(alloc: Global, process: &Process) -> Result<Vec<u8>, AllocError>
+    ensures { IfOk result (λ bytes. bytes.items ≡ image (saved_of process.now)) }
+{
+    let mut sink = ByteSink::new(alloc);
+    write_image_to(process, &mut sink)?;
+    Ok(sink.into_bytes())
+}
