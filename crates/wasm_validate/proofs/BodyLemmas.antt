@@ -1,8 +1,11 @@
-pub mod LevelViews
-pub mod Fails
-pub mod Steps
 pub mod Bodies
+pub mod Fails
 pub mod FaultKinds
-pub mod Untyped
-pub mod Tables
+pub mod KnownTypes
+pub mod LevelViews
 pub mod NoFault
+pub mod Positions
+pub mod ReachedViews
+pub mod Steps
+pub mod Tables
+pub mod Untyped

@@ -40,5 +40,6 @@ mod parts;
 mod valid;
 
 pub use body::stack::Stack;
+pub use body::{BodyChecker, OperandTypes};
 pub use parts::{ModuleContext, ValidFault, function_type_indices};
 pub use valid::{ValidModule, validate};

@@ -24,7 +24,7 @@ fits_empty reached [] f = refl
 fits_empty reached (k ∷ ks) f = absurd f
 
 -- a sequence whose operands are what it gives can be closed
-closed_on : (l : Level) → FitsLevel l (results_of l.gives) → (l' : Level) × (level_closed l ≡ Some l')
+pub closed_on : (l : Level) → FitsLevel l (results_of l.gives) → (l' : Level) × (level_closed l ≡ Some l')
 closed_on l f =
     let r = all_taken_on (results_of l.gives) l [] (subst (λ z. FitsLevel l z) (sym (append-nil (results_of l.gives))) f) in
     let e = fits_empty r.0.is_reached r.0.operands r.2 in
@@ -79,7 +79,7 @@ passes_as c i j opcodes rest levels e h =
     subst (λ z. Passes c z opcodes levels) head (subst (λ z. Passes c j z levels) tail h)
 
 module _ (c : Context) (l : Level) (levels : List Level) where
-  after_plain : (i : Instruction) → IsPlain i → levels_after c i (l ∷ levels) ≡ (applied (arrow_of c (labels_of (l ∷ levels)) i) l >>= λ l'. Some (l' ∷ levels))
+  pub after_plain : (i : Instruction) → IsPlain i → levels_after c i (l ∷ levels) ≡ (applied (arrow_of c (labels_of (l ∷ levels)) i) l >>= λ l'. Some (l' ∷ levels))
   after_plain (instr.Block t) h = absurd h
   after_plain (instr.Loop t) h = absurd h
   after_plain (instr.If t) h = absurd h

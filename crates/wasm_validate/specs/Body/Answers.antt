@@ -1,13 +1,16 @@
 -- What the steps of a check answer.
-use Rattle.std.specs.Prelude.{◌≡◌, ℕ, Bool, true, false, List, Option, Some, None, Result, Ok, Err, slice_get}
+use Rattle.std.specs.Prelude.{◌≡◌, ℕ, Bool, true, false, List, ◌++◌, map, Option, Some, None, Result, Ok, Err, slice_get}
 use Rattle.wasm_syntax.specs.declared.types.ValueType.{ValueType}
 use Rattle.wasm_syntax.specs.declared.instruction.Instruction.{Instruction}
 use Rattle.wasm_syntax_rules.specs.Types.{results_of}
 use Rattle.wasm_syntax_rules.specs.Typing.{Context}
+use Rattle.wasm_syntax_rules.specs.Shapes.{Shape}
 use Rattle.wasm_validate.specs.declared.parts.fault.ValidFault.{ValidFault}
 use Rattle.wasm_validate.specs.declared.parts.fault.ValidFault.TheVariants.{Typing, Index, Limits, Memory}
 use Rattle.wasm_validate.specs.laws.Checking.{Known, Level, arrow_of, labels_of}
 use Rattle.wasm_validate.specs.laws.FirstFault.{fault_of}
+use Rattle.wasm_validate.specs.laws.Reached.{all_operands}
+use Rattle.wasm_validate.specs.rules.Operands.{types_below}
 use Rattle.wasm_validate.specs.Body.Tops.{top_applied}
 
 -- A fault comes only where there is nothing, and is of this kind. Want of memory says nothing of
@@ -50,3 +53,16 @@ OnlyMemory (Err e) = e ≡ Memory
 abbrev pub Tests : {X : Type 0} → Result X ValidFault → Bool → ValidFault → Type 0
 Tests (Ok x) b kind = b ≡ true
 Tests (Err e) b kind = (b ≡ false) × (e ≡ kind)
+
+-- whether typing reaches a position, whose operands are then in these levels
+abbrev pub IsReached : Bool → List Level → Option Shape → Type 0
+IsReached true levels (Some s) =
+    all_operands levels ≡ map (λ t. Some t) (s.operands ++ types_below s.labels)
+IsReached false levels None = Unit {0}
+IsReached true levels None = ⊥
+IsReached false levels (Some s) = ⊥
+
+-- the same of a walk to the position, which fails for nothing but want of memory
+abbrev pub LeadsTo : Result Bool ValidFault → List Level → Option Shape → Type 0
+LeadsTo (Ok reached) levels o = IsReached reached levels o
+LeadsTo (Err e) levels o = e ≡ Memory

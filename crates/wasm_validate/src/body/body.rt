@@ -1,20 +1,24 @@
 //! The body of a function.
 
-ghost use Rattle.std.specs.Prelude.{◌≡◌, ◌≤◌, length, IfErr};
+ghost use Rattle.std.specs.Prelude.{◌≡◌, ◌≢◌, ◌≤◌, ◌∷◌, [], false, length, IfErr, IfOk, MatchResult, OnOk};
 ghost use Rattle.wasm_syntax_rules.specs.Types.{gives_of, results_of};
-ghost use Rattle.wasm_syntax_rules.specs.Typing.{Context as Typing};
+ghost use Rattle.wasm_syntax_rules.specs.Typing.{Context as Typing, body_context};
+ghost use Rattle.wasm_syntax_rules.specs.Shapes.{body_shape};
+ghost use Rattle.wasm_validate.specs.declared.parts.fault.ValidFault.TheVariants.{Memory as WantOfMemory};
 ghost use Rattle.wasm_validate.specs.rules.Answers.{Judges};
+ghost use Rattle.wasm_validate.specs.rules.Operands.{types_at};
 ghost use Rattle.wasm_validate.specs.Parts.Contexts.{IsContextOf};
-ghost use Rattle.wasm_validate.specs.Body.Answers.{LevelsFollow};
+ghost use Rattle.wasm_validate.specs.Body.Answers.{IsReached, LeadsTo, LevelsFollow, OnlyMemory};
 ghost use Rattle.wasm_validate.specs.Body.Bodies.{HasBody, IsFaultOfBody};
-ghost use Rattle.wasm_validate.specs.laws.Checking.{checked};
+ghost use Rattle.wasm_validate.specs.laws.Checking.{checked, new_level};
 ghost use Rattle.wasm_validate.specs.laws.FirstFault.{fault_in};
 ghost use Rattle.wasm_validate.specs.Body.Scopes.{IsScopeOf};
 
 use crate::body::levels::Levels;
 use crate::body::scope::Scope;
+use crate::body::types::OperandTypes;
 use crate::parts::{ModuleContext, ValidFault};
-use std::alloc::Global;
+use std::alloc::{AllocError, Global};
 use wasm_syntax::{Code, FunctionType, Instruction, ValueType};
 
 impl Levels {
@@ -37,6 +41,34 @@ fn result_of(function_type: &FunctionType) -> Option<ValueType>
     ensures { results_of result ≡ gives_of function_type.now }
 {
     function_type.results.get(0).copied()
+}
+
+/// What the body of a function looks up.
+fn scope_of<'a, 'm>(
+    context: &'a ModuleContext<'m>,
+    function_type: &'a FunctionType,
+    code: &'a Code,
+) -> Scope<'a, 'm>
+    ensures { (c : Typing) → IsContextOf c context.now
+        → IsScopeOf (body_context c function_type.now code.now.locals) result }
+{
+    Scope {
+        context,
+        parameters: function_type.parameters.as_slice(),
+        declared: code.locals.as_slice(),
+        returns: function_type.results.as_slice(),
+    }
+}
+
+/// Want of memory. Any other fault is that of a body without a type, which no position reaches.
+fn only_memory(fault: ValidFault) -> Result<bool, AllocError>
+    ensures { MatchResult result (λ reached. (reached ≡ false) × (fault ≢ WantOfMemory))
+        (λ _. fault ≡ WantOfMemory) }
+{
+    match fault {
+        ValidFault::Memory => Err(AllocError),
+        _ => Ok(false),
+    }
 }
 
 /// Checks bodies one after another, over the same memory.
@@ -84,5 +116,86 @@ impl BodyChecker {
         } else {
             Err(ValidFault::Typing)
         }
+    }
+
+    /// Opens the sequence of a function, and no other.
+    fn begin(&mut self, result_type: Option<ValueType>) -> Result<(), ValidFault>
+        ensures opened { OnOk result
+            (self.new.levels ≡ new_level result_type result_type false ∷ []) }
+        ensures memory { OnlyMemory result }
+    {
+        self.levels.clear();
+        self.levels.open(result_type, result_type, false)
+    }
+
+    /// Goes over the opcodes before a position. Whether typing reaches it, if the body has its function's type.
+    fn go_to(
+        &mut self,
+        context: &ModuleContext,
+        function_type: &FunctionType,
+        code: &Code,
+        position: usize,
+    ) -> Result<bool, ValidFault>
+        requires { length function_type.now.results ≤ 1 }
+        ensures { (c : Typing) → IsContextOf c context.now
+            → (has : HasBody c function_type.now code.now) → LeadsTo result self.new.levels
+            (body_shape (body_context c function_type.now code.now.locals) has.sequence position) }
+    {
+        let result_type = result_of(function_type);
+        self.begin(result_type)?;
+        let body = code.body.as_slice();
+        if position == body.len() {
+            self.levels.push_results(result_type)?;
+            return Ok(true);
+        }
+        if position > body.len() {
+            return Ok(false);
+        }
+        let scope = scope_of(context, function_type, code);
+        self.levels.steps(&scope, &body[..position])?;
+        Ok(self.levels.are_reached())
+    }
+
+    /// Whether typing reaches a position, to which the checker goes. Fails only where memory is refused.
+    fn reaches(
+        &mut self,
+        context: &ModuleContext,
+        function_type: &FunctionType,
+        code: &Code,
+        position: usize,
+    ) -> Result<bool, AllocError>
+        requires { length function_type.now.results ≤ 1 }
+        ensures { (c : Typing) → IsContextOf c context.now
+            → (has : HasBody c function_type.now code.now) → IfOk result
+            (λ reached. IsReached reached self.new.levels
+            (body_shape (body_context c function_type.now code.now.locals) has.sequence position)) }
+    {
+        match self.go_to(context, function_type, code, position) {
+            Ok(reached) => Ok(reached),
+            Err(fault) => only_memory(fault),
+        }
+    }
+
+    /// The types of all operands of the function at a position of its body, which is the number of an opcode from 0.
+    /// `None` where typing does not reach the position, as behind a jump. Behind the last `end` they are the
+    /// function's results. Nothing is said of a body that does not have its function's type. It takes time linear in
+    /// the position, and memory as a check does. Fails only where memory is refused.
+    pub fn operand_types(
+        &mut self,
+        context: &ModuleContext,
+        function_type: &FunctionType,
+        code: &Code,
+        position: usize,
+    ) -> Result<Option<OperandTypes<'_>>, AllocError>
+        requires { length function_type.now.results ≤ 1 }
+        ensures { (c : Typing) → IsContextOf c context.now
+            → (has : HasBody c function_type.now code.now) → IfOk result (λ found. found
+            ≡ types_at (body_context c function_type.now code.now.locals) has.sequence position) }
+    {
+        let reached = self.reaches(context, function_type, code, position)?;
+        if !reached {
+            return Ok(None);
+        }
+        Ok(OperandTypes::of(self.levels.all_operands()))
     }
 }

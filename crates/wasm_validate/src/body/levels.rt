@@ -1,10 +1,11 @@
 //! The open sequences of a body and their operands.
 
-ghost use Rattle.std.specs.Prelude.{◌≡◌, ◌∷◌, [], slice_get, OnOk, OnErr, IsTrue, ◌↔◌, Some, option_map};
+ghost use Rattle.std.specs.Prelude.{◌≡◌, ◌∷◌, [], reverse, slice_get, OnOk, OnErr, IsTrue, ◌↔◌, Some, option_map};
 ghost use Rattle.wasm_validate.specs.declared.parts.fault.ValidFault.TheVariants as fault;
 ghost use Rattle.wasm_validate.specs.Body.Answers.{Pops, FindsLabel, LevelsFollow, OnlyMemory};
 ghost use Rattle.wasm_validate.specs.Body.Tops.{top_popped, top_pushed, top_left, top_closed};
 ghost use Rattle.wasm_validate.specs.laws.Checking.{new_level, labels_of};
+ghost use Rattle.wasm_validate.specs.laws.Reached.{are_reached, all_operands};
 ghost use Rattle.wasm_validate.specs.Body.Views.{IsInnermost};
 
 use crate::body::stack::Stack;
@@ -160,5 +161,29 @@ impl Levels {
             is_reached: false,
             ..control
         });
+    }
+
+    /// Whether a jump stands before in no open sequence.
+    pub fn are_reached(&self) -> bool
+        ensures { result ≡ are_reached self.now }
+    {
+        for control in self.controls.as_slice() {
+            if !control.is_reached {
+                return false;
+            }
+        }
+        true
+    }
+
+    /// The operands of all open sequences, the first one first.
+    pub fn all_operands(&self) -> &[Option<ValueType>]
+        ensures { result.now ≡ reverse (all_operands self.now) }
+    {
+        let Some(outermost) = self.controls.bottom() else {
+            return &[];
+        };
+        let operands = self.operands.as_slice();
+        prove!(outermost.height <= operands.len());
+        &operands[outermost.height..]
     }
 }

@@ -9,5 +9,7 @@ mod operators;
 mod scope;
 pub mod stack;
 mod step;
+mod types;
 
 pub use body::BodyChecker;
+pub use types::OperandTypes;

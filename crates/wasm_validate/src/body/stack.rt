@@ -1,6 +1,6 @@
 //! A stack.
 
-ghost use Rattle.std.specs.Prelude.{◌≡◌, ◌≢◌, ◌-◌, ◌∷◌, [], length, drop, slice_get, OnOk, OnErr};
+ghost use Rattle.std.specs.Prelude.{◌≡◌, ◌≢◌, ◌-◌, ◌∷◌, [], length, drop, reverse, slice_get, OnOk, OnErr};
 
 use std::alloc::{AllocFailed, Global};
 use std::marker::Model;
@@ -69,6 +69,20 @@ impl<T: Copy> Stack<T> {
         let last = self.len().checked_sub(1)?;
         let index = last.checked_sub(number)?;
         self.items.get(index).copied()
+    }
+
+    /// The items from the bottom up.
+    pub fn as_slice(&self) -> &[T]
+        ensures { result.now ≡ reverse self.now }
+    {
+        self.items.as_slice()
+    }
+
+    /// The lowest item.
+    pub fn bottom(&self) -> Option<T>
+        ensures { result ≡ slice_get (reverse self.now) 0 }
+    {
+        self.as_slice().get(0).copied()
     }
 
     /// Puts an item in the place of that on top.
