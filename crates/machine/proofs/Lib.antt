@@ -12,6 +12,8 @@ pub mod Finished
 pub mod Stopped
 pub mod Telling
 pub mod Placed
+pub mod Loads
+pub mod Loaded
 pub mod FrameLemmas
 pub mod RoutineLemmas
 pub mod TurnLemmas

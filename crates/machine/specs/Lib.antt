@@ -1,4 +1,5 @@
 pub mod Insides
+pub mod Loading
 pub mod Frame
 pub mod Routines
 pub mod Turns

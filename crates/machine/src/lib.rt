@@ -47,6 +47,7 @@ mod hosting;
 mod instance;
 pub mod laws;
 mod linking;
+mod loading;
 mod places;
 mod routines;
 mod running;
@@ -54,6 +55,7 @@ mod turns;
 
 pub use instance::LinkFault;
 pub use linking::link;
+pub use loading::{LoadFault, Loading};
 pub use places::FramePlace;
 pub use running::Machine;
 pub use turns::{Arguments, HostCall, Pause, Paused};

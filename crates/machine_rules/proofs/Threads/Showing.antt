@@ -168,7 +168,7 @@ shown_waits c program kind (frame ∷ frames) words (FrameOf f ls labels vs rest
       shown_waits c program h.0.kind frames k.1 thread k.4 more,
     )
 
-shown_frames : (c : Context) (program : Program) (frames : List StackFrame) (words : List ℕ) (thread : Thread) → AreStacked frames words → ShowsThread c program (places_of frames words) thread → AreFrames c program frames words thread
+pub shown_frames : (c : Context) (program : Program) (frames : List StackFrame) (words : List ℕ) (thread : Thread) → AreStacked frames words → ShowsThread c program (places_of frames words) thread → AreFrames c program frames words thread
 shown_frames c program [] words [] k h = k
 shown_frames c program [] words (other ∷ thread) k h = absurd h
 shown_frames c program (frame ∷ frames) words [] k h = absurd h
