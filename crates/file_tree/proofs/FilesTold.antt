@@ -1,7 +1,7 @@
 -- One file system has these nodes and these entries.
-use Rattle.std.proofs.Common.{◌≡◌, ℕ, Bool, true, false, cond, eqb, List, [], ◌∷◌, map}
+use Rattle.std.proofs.Common.{◌≡◌, ◌≢◌, ℕ, Bool, true, false, cond, eqb, List, [], ◌∷◌, map}
 use Rattle.std.proofs.Common.{reverse, Option, Some, refl, sym, ap, subst, ◌∙◌}
-use Rattle.std.specs.Prelude.{option_map, find, slice_get}
+use Rattle.std.specs.Prelude.{option_map, find, slice_get, is_some}
 use Rattle.std.specs.Option.{option_and_then}
 use Rattle.std.specs.List.{AllByRecursion}
 use Rattle.file_tree.specs.declared.store.node.Hook.{Hook}
@@ -11,12 +11,14 @@ use Rattle.file_tree.specs.rules.Files.{Name, Path, FileNode, Files, Content, En
 use Rattle.file_tree.specs.rules.Files.{path_of, holds_directory}
 use Rattle.file_tree.specs.rules.Files.{is_directory_content}
 use Rattle.file_tree.specs.laws.Laws.{node_number, content_of}
-use Rattle.file_tree.specs.laws.Rebuilding.{AreToldAlike}
-use Rattle.file_tree.specs.laws.Rebuilding.{EntriesTellFiles}
-use Rattle.file_tree.specs.Links.{climb, hook_of, AreNodes, files}
-use Rattle.file_tree.proofs.Lookups.{path_shown}
+use Rattle.file_tree.specs.laws.Rebuilding.{IsBuiltLike}
+use Rattle.file_tree.specs.laws.Rebuilding.{HasEntry, EntriesTellFiles}
+use Rattle.file_tree.specs.Links.{Up, climb, hook_of, is_hung, AreNodes, files}
+use Rattle.file_tree.proofs.Climbs.{there}
+use Rattle.file_tree.proofs.Lookups.{path_shown, hung_has_path}
 use Rattle.file_tree.proofs.EntriesTell.{entry_of_hook, hook_of_entry, all_told}
 use Rattle.file_tree.proofs.Rebuilt.{rebuilt, rebuilt_are, rebuilt_show, own_nodes, IsFoundIn}
+use Rattle.file_tree.specs.rules.Files.{entries_of, is_directory}
 
 -- ---- lists of nodes with the same numbers and contents
 
@@ -80,65 +82,82 @@ own_paths fs are = go fs.nodes (own_nodes 1 fs.nodes fs.next are.rising) where
 
 -- ---- where nodes hang
 
-turned : (fs gs : Files) → AreToldAlike fs gs → AreToldAlike gs fs
-turned fs gs alike = record {
-  nodes = record {
-    next = sym alike.nodes.next;
-    numbers = sym alike.nodes.numbers;
-    contents = sym alike.nodes.contents;
-  };
-  entries = λ d is.
-      sym (alike.entries d
-      (same_directory fs.nodes gs.nodes d alike.nodes.numbers alike.nodes.contents ∙ is));
+moved_entry : (fs gs : Files) (d k : ℕ) (name : Name) → entries_of fs d ≡ entries_of gs d
+    → HasEntry fs d k name → HasEntry gs d k name
+moved_entry fs gs d k name same h = record {
+  place = h.place;
+  is = ap (λ (es : List Entry). slice_get es h.place) (sym same) ∙ h.is;
 }
 
--- what hangs in a directory of one hangs there in the other one
-hangs_too : (ns ms : List Node) (next most : ℕ) → AreNodes ns next → AreNodes ms most
-    → AreToldAlike (files ns next) (files ms most) → (k d : ℕ) (name : Name)
-    → hook_of ns k ≡ In d name → hook_of ms k ≡ In d name
-hangs_too ns ms next most are its alike k d name e =
-    let mine = entry_of_hook ns next are d k name e in
-    let directory = (all_told ns next are d k name mine).1.0 in
-    hook_of_entry ms most its d k name
-    (record {
-      place = mine.place;
-      is =
-          ap (λ (es : List Entry). slice_get es mine.place) (sym (alike.entries d directory))
-          ∙ mine.is;
-    })
+hung_so : (h : Hook) → h ≢ Removed → is_hung h ≡ true
+hung_so Root some = refl
+hung_so Removed some = absurd (some refl)
+hung_so (In d name) some = refl
 
-same_hook : (ns ms : List Node) (next most : ℕ) → AreNodes ns next → AreNodes ms most
-    → AreToldAlike (files ns next) (files ms most) → (k : ℕ) → hook_of ns k ≡ hook_of ms k
-same_hook ns ms next most are its alike k = by (hook_of ns k) refl (hook_of ms k) refl where
-  by : (h : Hook) → hook_of ns k ≡ h → (g : Hook) → hook_of ms k ≡ g → hook_of ns k ≡ hook_of ms k
-  by (In d name) e g f = e ∙ sym (hangs_too ns ms next most are its alike k d name e)
-  by Root e g f =
-      e ∙ sym (ap (hook_of ms) (are.tree.one_root k e) ∙ its.tree.root)
-  by Removed e Removed f = e ∙ sym f
-  by Removed e Root f = ap (hook_of ns) (its.tree.one_root k f) ∙ are.tree.root ∙ sym f
-  by Removed e (In d name) f =
-      hangs_too ms ns most next its are (turned (files ns next) (files ms most) alike) k d name f
-      ∙ sym f
+module _ (ns ms : List Node) (next most : ℕ) (are : AreNodes ns next) (its : AreNodes ms most)
+    (alike : IsBuiltLike (files ns next) (files ms most)) where
+  abbrev fs : Files
+  fs = files ns next
 
-same_path : (ns ms : List Node) (next most : ℕ) → AreNodes ns next → AreNodes ms most
-    → AreToldAlike (files ns next) (files ms most) → (k : ℕ)
-    → path_of (files ns next) k ≡ path_of (files ms most) k
-same_path ns ms next most are its alike k =
-    let hooks : hook_of ns ≡ hook_of ms = λ i j. same_hook ns ms next most are its alike j i in
-    path_shown ns next k
-    ∙ ap (λ (h : ℕ → Hook). option_map reverse (climb next h k)) hooks
-    ∙ ap (λ (n : ℕ). option_map reverse (climb n (hook_of ms) k)) alike.nodes.next
-    ∙ sym (path_shown ms most k)
+  abbrev gs : Files
+  gs = files ms most
+
+  -- what hangs in the first one hangs so in the second one
+  hangs_too : (k : ℕ) (a : Path) → Up (hook_of ns) k a → hook_of ms k ≡ hook_of ns k
+  hangs_too k [] h = ap (hook_of ms) (are.tree.one_root k h) ∙ its.tree.root ∙ sym h
+  hangs_too k (name ∷ a) h =
+      let d = h.0 in
+      let above : hook_of ms d ≡ hook_of ns d = hangs_too d a h.2 in
+      let hung : is_some (path_of gs d) ≡ true =
+      hung_has_path ms most d its
+      ∙ hung_so (hook_of ms d) (λ gone. there (hook_of ns) d a h.2 (sym above ∙ gone)) in
+      let mine = entry_of_hook ns next are d k name h.1 in
+      let directory : is_directory gs d ≡ true =
+      sym (same_directory fs.nodes gs.nodes d alike.nodes.numbers alike.nodes.contents)
+      ∙ (all_told ns next are d k name mine).1.0 in
+      hook_of_entry ms most its d k name
+      (moved_entry fs gs d k name (alike.entries d directory hung) mine)
+      ∙ sym h.1
+
+  -- and the other way round
+  hung_before : (k d : ℕ) (name : Name) → hook_of ms k ≡ In d name → hook_of ns k ≡ In d name
+  hung_before k d name e =
+      let mine = entry_of_hook ms most its d k name e in
+      let above = (all_told ms most its d k name mine).1 in
+      hook_of_entry ns next are d k name
+      (moved_entry gs fs d k name (sym (alike.entries d above.0 above.1)) mine)
+
+  same_hook : (k : ℕ) → hook_of ns k ≡ hook_of ms k
+  same_hook k = by (hook_of ns k) refl (hook_of ms k) refl where
+    hung : hook_of ns k ≢ Removed → hook_of ns k ≡ hook_of ms k
+    hung some = (let r = are.tree.reached k some in sym (hangs_too k r.0 r.1))
+
+    by : (h : Hook) → hook_of ns k ≡ h → (g : Hook) → hook_of ms k ≡ g
+        → hook_of ns k ≡ hook_of ms k
+    by (In d name) e g f =
+        hung (λ gone. absurd (let t : In d name ≡ Removed = sym e ∙ gone in cc))
+    by Root e g f = hung (λ gone. absurd (let t : Root ≡ Removed = sym e ∙ gone in cc))
+    by Removed e Removed f = e ∙ sym f
+    by Removed e Root f = ap (hook_of ns) (its.tree.one_root k f) ∙ are.tree.root ∙ sym f
+    by Removed e (In d name) f = hung_before k d name f ∙ sym f
+
+  same_path : (k : ℕ) → path_of fs k ≡ path_of gs k
+  same_path k =
+      let hooks : hook_of ns ≡ hook_of ms = λ i j. same_hook j i in
+      path_shown ns next k
+      ∙ ap (λ (h : ℕ → Hook). option_map reverse (climb next h k)) hooks
+      ∙ ap (λ (n : ℕ). option_map reverse (climb n (hook_of ms) k)) alike.nodes.next
+      ∙ sym (path_shown ms most k)
 
 files_with : List FileNode → ℕ → Files
 files_with nodes next = record { nodes = nodes; next = next }
 
-paths_alike : (fs gs : Files) → IsFiles fs → IsFiles gs → AreToldAlike fs gs → (k : ℕ)
+paths_alike : (fs gs : Files) → IsFiles fs → IsFiles gs → IsBuiltLike fs gs → (k : ℕ)
     → path_of fs k ≡ path_of gs k
 paths_alike fs gs a b alike k =
-    subst (λ (x : Files). AreToldAlike x gs → path_of x k ≡ path_of gs k) (rebuilt_show fs a)
+    subst (λ (x : Files). IsBuiltLike x gs → path_of x k ≡ path_of gs k) (rebuilt_show fs a)
     (subst (λ (y : Files).
-    AreToldAlike (files ns fs.next) y → path_of (files ns fs.next) k ≡ path_of y k)
+    IsBuiltLike (files ns fs.next) y → path_of (files ns fs.next) k ≡ path_of y k)
     (rebuilt_show gs b)
     (λ alike.
     same_path ns ms fs.next gs.next (rebuilt_are fs a) (rebuilt_are gs b) alike k))

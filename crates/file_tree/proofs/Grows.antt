@@ -28,7 +28,8 @@ removed_or_not Removed = inl refl
 removed_or_not (In d n) = inr (λ e. absurd cc)
 
 -- a tree before and after a node is put under a number that hung nowhere
-pub record Grows (hook after : ℕ → Hook) (next most new d : ℕ) (name : Name) (up : Path) : Type 0 where
+pub record Grows (hook after : ℕ → Hook) (next most new d : ℕ) (name : Name) (up : Path)
+    : Type 0 where
   pub tree : IsTree hook next
   pub more : next ≤ most
   pub low : new < most

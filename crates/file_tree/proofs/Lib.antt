@@ -30,3 +30,4 @@ pub mod EntriesTell
 pub mod FilesTold
 pub mod KeptFiles
 pub mod OneEntryMore
+pub mod KeptEntries

@@ -123,7 +123,7 @@ distinct_in ns next d are =
     distinct_names (hook_of ns) next d are.tree 1 ns next are.rising
     (own_hooks 1 ns next are.rising)
 
-ordered_entries : (ns : List Node) (next d : ℕ) → AreNodes ns next
+pub ordered_entries : (ns : List Node) (next d : ℕ) → AreNodes ns next
     → Ordered (entries_of (files ns next) d)
 ordered_entries ns next d are =
     subst Ordered (sym (entries_shown ns next d are))

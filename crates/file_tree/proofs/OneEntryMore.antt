@@ -96,7 +96,8 @@ no_entry d n gone = rw gone refl
 
 entry_name : (other : Name) (k : ℕ) (f : Entry) → Some (entry_under other k) ≡ Some f
     → other ≡ f.name
-entry_name other k f e = (let same : entry_under other k ≡ f = cc in ap (λ (x : Entry). x.name) same)
+entry_name other k f e =
+    (let same : entry_under other k ≡ f = cc in ap (λ (x : Entry). x.name) same)
 
 -- a node with an entry hangs there under its name
 entry_hook : (d : ℕ) (n : Node) (f : Entry) → hooked_entry d n ≡ Some f → n.hook ≡ In d f.name
@@ -125,7 +126,8 @@ first_removed n ns k e gone =
 later_removed : (n : Node) (ns : List Node) (k : ℕ) → n.number ≢ k → hook_of (n ∷ ns) k ≡ Removed
     → hook_of ns k ≡ Removed
 later_removed n ns k ne gone =
-    sym (ap (λ (b : Bool). hook_held (cond b (Some n) (node_in ns k))) (ne_eqb n.number k ne)) ∙ gone
+    sym (ap (λ (b : Bool). hook_held (cond b (Some n) (node_in ns k))) (ne_eqb n.number k ne))
+    ∙ gone
 
 others_same : (d e k : ℕ) (name : Name) → e ≢ d → (ns : List Node) (i : ℕ) → IsPlace ns k i
     → hook_of ns k ≡ Removed
@@ -181,7 +183,8 @@ module _ (k : ℕ) (p : Path) where
   abbrev put_at : FileNode → FileNode
   put_at n = record n { path = Some p }
 
-  numbers_kept : (ns : List FileNode) → map node_number ns ≡ map node_number (map (changed_at k put_at) ns)
+  numbers_kept : (ns : List FileNode)
+      → map node_number ns ≡ map node_number (map (changed_at k put_at) ns)
   numbers_kept [] = refl
   numbers_kept (n ∷ ns) = by (eqb n.number k) (numbers_kept ns) where
     by : (b : Bool) → map node_number ns ≡ map node_number (map (changed_at k put_at) ns)
@@ -190,7 +193,8 @@ module _ (k : ℕ) (p : Path) where
     by true later = ap (λ (xs : List ℕ). n.number ∷ xs) later
     by false later = ap (λ (xs : List ℕ). n.number ∷ xs) later
 
-  contents_kept : (ns : List FileNode) → map content_of ns ≡ map content_of (map (changed_at k put_at) ns)
+  contents_kept : (ns : List FileNode)
+      → map content_of ns ≡ map content_of (map (changed_at k put_at) ns)
   contents_kept [] = refl
   contents_kept (n ∷ ns) = by (eqb n.number k) (contents_kept ns) where
     by : (b : Bool) → map content_of ns ≡ map content_of (map (changed_at k put_at) ns)
@@ -293,7 +297,9 @@ module _ (ns : List Node) (next k i d : ℕ) (name : Name) (are : AreNodes ns ne
       ∙ ap (entries_under before) (no_path_at (path_of before k) can.no_path)
 
   pub files_after : IsFiles after
-  files_after = subst IsFiles all.files_are (are_files (changed (with_hook (In d name)) i ns) next all.nodes)
+  files_after =
+      subst IsFiles all.files_are
+      (are_files (changed (with_hook (In d name)) i ns) next all.nodes)
 
 hanging : (ns : List Node) (next k d : ℕ) (name : Name) (x : Node) → AreNodes ns next
     → node_in ns k ≡ Some x → (n : FileNode) → node_of (files ns next) k ≡ Some n

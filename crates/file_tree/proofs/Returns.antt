@@ -61,7 +61,8 @@ module _ (ns : List Node) (next k i d : ℕ) (name : Name) (are : AreNodes ns ne
   low : k < next
   low =
       let below =
-      all_in (λ (m : Node). m.number < next) ns k n is_there (numbers_below 1 ns next are.rising).1 in
+      all_in (λ (m : Node). m.number < next) ns k n is_there
+      (numbers_below 1 ns next are.rising).1 in
       omega (arith, below, number_in ns k n is_there)
 
   grows : Grows (hook_of ns) after next next k d name free.0
@@ -79,8 +80,14 @@ module _ (ns : List Node) (next k i d : ℕ) (name : Name) (are : AreNodes ns ne
   placed : (j e : ℕ) (other : Name) → after j ≡ In e other
       → IsNodeName other × (is_directory_in ns e ≡ true)
   placed j e other h = elim (cases_eq j k) [
-    | inl same ↦ (let t = in_is d e name other (sym grows.put ∙ ap after (sym same) ∙ h) in (subst IsNodeName t.1 can.free.named, subst (λ (x : ℕ). is_directory_in ns x ≡ true) t.0 free.1.directory))
-    | inr ne ↦ (let before = sym (grows.others j ne) ∙ h in (are.named j e other before, are.placed j e other before))
+    | inl same ↦
+        let t = in_is d e name other (sym grows.put ∙ ap after (sym same) ∙ h) in (
+          subst IsNodeName t.1 can.free.named,
+          subst (λ (x : ℕ). is_directory_in ns x ≡ true) t.0 free.1.directory,
+        )
+    | inr ne ↦
+        let before = sym (grows.others j ne) ∙ h in
+        (are.named j e other before, are.placed j e other before)
   ]
 
   abbrev whole : Path

@@ -41,7 +41,9 @@ module _ (hook : ℕ → Hook) (next most : ℕ) (tree : IsTree hook next) (le :
   risen_climb : (k : ℕ) → climb most hook k ≡ climb next hook k
   risen_climb k = elim (removed_or_not (hook k)) [
     | inl gone ↦ no_path most hook k gone ∙ sym (no_path next hook k gone)
-    | inr here ↦ (let r = tree.reached k here in path_is hook most risen_tree k r.0 r.1 ∙ sym (path_is hook next tree k r.0 r.1))
+    | inr here ↦
+        let r = tree.reached k here in
+        path_is hook most risen_tree k r.0 r.1 ∙ sym (path_is hook next tree k r.0 r.1)
   ]
 
   pub risen_shown : (ns : List Node)
@@ -102,7 +104,9 @@ module _ (ns : List Node) (next : ℕ) (c : Content) (n : Node) (a : Adds ns nex
 
   same_hook : (k : ℕ) → hook_of pushed k ≡ hook_of ns k
   same_hook k = elim (cases_eq k n.number) [
-    | inl same ↦ ap (hook_of pushed) same ∙ own_hook ∙ sym (ap (hook_of ns) same ∙ ap hook_held (node_nowhere ns n.number nowhere))
+    | inl same ↦
+        ap (hook_of pushed) same ∙ own_hook
+        ∙ sym (ap (hook_of ns) same ∙ ap hook_held (node_nowhere ns n.number nowhere))
     | inr ne ↦ ap hook_held (in_pushed_other ns n k ne)
   ]
 
@@ -182,7 +186,8 @@ is_added ns next kind n fs e are most room hook content =
     let a : Adds ns next (empty kind) n =
     record { are = are; most = most; hook = hook; content = content } in
     let few : length ns < NODES =
-    omega (arith, room, ap (λ (x : Files). length x.nodes) e, length-map ns (shown_node next (hook_of ns))) in
+    let as_many = ap (λ (x : Files). length x.nodes) e in
+    omega (arith, room, as_many, length-map ns (shown_node next (hook_of ns))) in
     let none = empty_is_small kind in
     record {
       nodes = added_nodes ns next (empty kind) n a few none.0;

@@ -3,7 +3,8 @@
 ghost use Rattle.file_tree.specs.laws.FileLimits.{FileLimitNumbers};
 ghost use Rattle.file_tree.specs.laws.Laws.{RenameMovesASubtree};
 ghost use Rattle.file_tree.specs.laws.Rebuilding.{EntriesTellPaths, EntriesTellFiles};
-ghost use Rattle.file_tree.specs.laws.Rebuilding.{HangingAddsAnEntry};
+ghost use Rattle.file_tree.specs.laws.Rebuilding.{HangingAddsAnEntry, OthersKeepEntries};
+ghost use Rattle.file_tree.specs.laws.Rebuilding.{EntriesComeInOrder};
 
 /// Renaming moves a whole subtree and nothing else.
 pub fn renaming_moves_a_subtree()
@@ -21,7 +22,8 @@ pub fn entries_tell_paths()
     ensures { EntriesTellPaths }
 {}
 
-/// Two file systems of the same numbers, contents and entries are the same.
+/// A file system is another one if it has the same nodes, and those of its directories that have a
+/// path have the same entries.
 pub fn entries_tell_files()
     ensures { EntriesTellFiles }
 {}
@@ -29,4 +31,14 @@ pub fn entries_tell_files()
 /// A node that is hung is one entry more of its directory, and all others stay.
 pub fn hanging_adds_an_entry()
     ensures { HangingAddsAnEntry }
+{}
+
+/// A new node without a path, a higher next number and other bytes leave all entries.
+pub fn others_keep_entries()
+    ensures { OthersKeepEntries }
+{}
+
+/// Entries that are put in one after the other by their names stand behind each other.
+pub fn entries_come_in_order()
+    ensures { EntriesComeInOrder }
 {}

@@ -18,6 +18,10 @@
 //!   definitions. They can't fail. `write` puts bytes in the place of others: `resize` makes room
 //!   first.
 //! - By `create_removed`, `hang` and `raise_next` a tree is built anew from what was told of it.
+//!   Laws say what each leaves of the entries (`laws::hanging_adds_an_entry`,
+//!   `laws::others_keep_entries`, `laws::entries_come_in_order`), that entries tell paths
+//!   (`laws::entries_tell_paths`), and that a tree of the same nodes and entries is the same one
+//!   (`laws::entries_tell_files`).
 //! - Files lie in chunks of 4,096 bytes, as many as their bytes need. `chunks` counts them.
 //! - Whoever changes a tree has tested first what the `requires` clauses ask, as `free` and
 //!   `room`.
@@ -29,8 +33,8 @@
 //! `forgotten`, `renamed`, `created_removed`, `hung`, `with_next` (`Files.antt`); `written`,
 //! `resized` (`Bytes.antt`); `chunks_of`, `chunk_of` (`Chunks.antt`); `number_at`,
 //! `number_at_place` (`Listings.antt`); `IsFree`, `CanHang`, `CanLose`, `CanMove`, `IsParent`,
-//! `read_from` (`Changes.antt`). All other files of `specs/` say how the code keeps nodes and
-//! bytes.
+//! `read_from` (`Changes.antt`). What laws say stands in `specs/laws/`. All other files of
+//! `specs/` say how the code keeps nodes and bytes.
 //!
 //! # Who may touch what
 //!
@@ -39,7 +43,8 @@
 //! owns.
 //! `wasi_calls_rules`, `wasi_calls`, `process_rules` and `state_image` use its definitions. No
 //! crate of this repository calls the code yet, and it stands on none. `new`, `create`,
-//! `create_removed`, `resize` and `ByteList::copy_of` take memory, and want of it is the only error.
+//! `create_removed`, `resize` and `ByteList::copy_of` take memory, and want of it is the only
+//! error.
 #![tactic(auto)]
 
 mod children;

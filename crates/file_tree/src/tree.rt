@@ -6,7 +6,8 @@ ghost use Rattle.file_tree.specs.rules.Files.{Name, Path, Entry, IsFiles, fresh,
 ghost use Rattle.file_tree.specs.rules.Files.{created_removed, hung, with_next};
 ghost use Rattle.file_tree.specs.rules.Files.{with_file_bytes, removed, forgotten, renamed};
 ghost use Rattle.file_tree.specs.rules.Chunks.{chunks_of, chunk_of};
-ghost use Rattle.file_tree.specs.rules.Listings.{number_at, number_at_place, number_after, HasNameAtPlace};
+ghost use Rattle.file_tree.specs.rules.Listings.{number_at, number_at_place, number_after};
+ghost use Rattle.file_tree.specs.rules.Listings.{HasNameAtPlace};
 ghost use Rattle.file_tree.specs.rules.Changes.{IsFree, CanHang, CanLose, CanMove, IsParent, is_within, empty, path_at, read_from};
 ghost use Rattle.file_tree.specs.declared.limits.TheConstants.{NODES, FILE_BYTES};
 

@@ -9,7 +9,8 @@ use Rattle.file_tree.specs.Links.{is_hooked, child_in}
 use Rattle.file_tree.specs.Nearest.{nearest_node, node_listed, IsCountListed}
 use Rattle.file_tree.specs.Store.Stored.{stored}
 use Rattle.file_tree.specs.Store.Cuts.{IsCut}
-use Rattle.file_tree.specs.Store.Named.{KeyBehind, KeyUpTo, AreByAddress, NoKey, in_directory, named_node}
+use Rattle.file_tree.specs.Store.Named.{KeyBehind, KeyUpTo, AreByAddress, NoKey}
+use Rattle.file_tree.specs.Store.Named.{in_directory, named_node}
 use Rattle.file_tree.specs.Store.Kept.{AreStoredNodes}
 use Rattle.file_tree.proofs.NamedNodes.{NodeBehind, NodeUpTo, AreListed, child_there, child_not_there, child_before_all, nearest_found, listed_found}
 use Rattle.file_tree.proofs.NearestNodes.{none_listed}

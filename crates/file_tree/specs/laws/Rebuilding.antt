@@ -1,8 +1,13 @@
 -- Laws of a file system that is built anew from what is told of it.
-use Rattle.std.specs.Prelude.{◌≡◌, ◌≢◌, ℕ, [], ◌∷◌, ◌++◌, map, slice_get, true, Some, is_some}
-use Rattle.file_tree.specs.rules.Files.{Name, Files, Entry, IsNodeName, IsFiles, inserted}
-use Rattle.file_tree.specs.rules.Files.{node_of, path_of, is_directory, entries_of, hung}
-use Rattle.file_tree.specs.rules.Changes.{path_at, CanHang}
+use Rattle.std.specs.Prelude.{◌≡◌, ◌≢◌, ℕ, ◌+◌, ◌<◌, ◌≤◌, List, [], ◌∷◌, ◌++◌, length, map, take}
+use Rattle.std.specs.Prelude.{slice_get, true, false, Some, is_some}
+use Rattle.file_tree.specs.rules.Files.{Name, Files, File, Entry, IsNodeName, IsFiles}
+use Rattle.file_tree.specs.rules.Files.{IsSmallContent, inserted, node_of, path_of, is_directory}
+use Rattle.file_tree.specs.rules.Files.{entries_of, created_removed, hung, with_next}
+use Rattle.file_tree.specs.rules.Files.{with_file_bytes}
+use Rattle.file_tree.specs.rules.Changes.{path_at, empty, CanHang}
+use Rattle.file_tree.specs.declared.kind.NodeKind.{NodeKind}
+use Rattle.file_tree.specs.declared.limits.TheConstants.{NODES}
 use Rattle.file_tree.specs.laws.Laws.{node_number, content_of}
 
 -- the entry of a node under a name
@@ -34,15 +39,17 @@ pub record HaveSameNodes (fs gs : Files) : Type 0 where
   pub numbers : map node_number fs.nodes ≡ map node_number gs.nodes
   pub contents : map content_of fs.nodes ≡ map content_of gs.nodes
 
--- what is told of a file system is told of another one too
-pub record AreToldAlike (fs gs : Files) : Type 0 where
+-- The second one has the nodes of the first one, and each of its directories that has a path has
+-- the entries that it has in the first one.
+pub record IsBuiltLike (fs gs : Files) : Type 0 where
   pub nodes : HaveSameNodes fs gs
-  pub entries : (d : ℕ) → is_directory fs d ≡ true → entries_of fs d ≡ entries_of gs d
+  pub entries : (d : ℕ) → is_directory gs d ≡ true → is_some (path_of gs d) ≡ true
+      → entries_of fs d ≡ entries_of gs d
 
--- Only one file system has these nodes and entries: paths follow from the entries.
+-- Then it is the first one: paths follow from the entries, from the root on.
 abbrev pub EntriesTellFiles : Type 0
 EntriesTellFiles =
-    (fs gs : Files) → IsFiles fs → IsFiles gs → AreToldAlike fs gs → fs ≡ gs
+    (fs gs : Files) → IsFiles fs → IsFiles gs → IsBuiltLike fs gs → fs ≡ gs
 
 -- what it makes of a file system that a node is hung in a directory under a name
 pub record HasHung (fs gs : Files) (k d : ℕ) (name : Name) : Type 0 where
@@ -59,3 +66,26 @@ abbrev pub HangingAddsAnEntry : Type 0
 HangingAddsAnEntry =
     (fs : Files) (k d : ℕ) (name : Name) → IsFiles fs → is_some (node_of fs k) ≡ true
     → CanHang fs k d name → HasHung fs (hung k (path_at fs d ++ name ∷ []) fs) k d name
+
+-- the same entries and paths
+pub record HaveSameEntries (fs gs : Files) : Type 0 where
+  pub are : IsFiles gs
+  pub entries : (d : ℕ) → entries_of gs d ≡ entries_of fs d
+  pub paths : (k : ℕ) → path_of gs k ≡ path_of fs k
+
+-- A new node without a path, a higher next number and other bytes leave entries and paths.
+pub record OthersKeepEntries : Type 0 where
+  pub created : (fs : Files) (k : ℕ) (kind : NodeKind) → IsFiles fs → fs.next ≤ k
+      → length fs.nodes < NODES → HaveSameEntries fs (created_removed k (empty kind) fs)
+  pub next : (fs : Files) (most : ℕ) → IsFiles fs → fs.next ≤ most
+      → HaveSameEntries fs (with_next most fs)
+  pub bytes : (fs : Files) (k : ℕ) (bytes : List ℕ) → IsFiles fs → is_some (node_of fs k) ≡ true
+      → is_directory fs k ≡ false → IsSmallContent (File bytes)
+      → HaveSameEntries fs (with_file_bytes k bytes fs)
+
+-- The entry at a place stands behind those before it, if it is put among them.
+abbrev pub EntriesComeInOrder : Type 0
+EntriesComeInOrder =
+    (fs : Files) (d place : ℕ) (e : Entry) → IsFiles fs
+    → slice_get (entries_of fs d) place ≡ Some e
+    → inserted e (take place (entries_of fs d)) ≡ take (place + 1) (entries_of fs d)

@@ -181,7 +181,10 @@ removed k fs = with_node k (λ (n : FileNode). record n { path = None }) fs
 -- a new node without a path, under a number that is no less than the next one
 abbrev pub created_removed : ℕ → Content → Files → Files
 created_removed k c fs =
-    record { nodes = fs.nodes ++ record { number = k; path = None; content = c } ∷ []; next = k + 1 }
+    record {
+      nodes = fs.nodes ++ record { number = k; path = None; content = c } ∷ [];
+      next = k + 1;
+    }
 
 -- a node that has got a path
 abbrev pub hung : ℕ → Path → Files → Files

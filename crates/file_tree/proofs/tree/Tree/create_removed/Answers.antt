@@ -23,7 +23,8 @@ invariant_of-self-2 c =
     c.self.invariant.0
     (omega (arith, c.requires.next, ap (λ (fs : Files). fs.next) c.self.view_is))
     c.requires.room refl c.new_content.ensures in
-    rw c.in_ok-push.ensures.pushed (all.nodes, c.self.invariant.1 ∙ sym all.used, c.self.invariant.2 ∙ sym all.chunks)
+    rw c.in_ok-push.ensures.pushed
+    (all.nodes, c.self.invariant.1 ∙ sym all.used, c.self.invariant.2 ∙ sym all.chunks)
 
 pub returns-clause-created : goal.returns-clause-created
 returns-clause-created c =

@@ -15,7 +15,8 @@ invariant_of-self c =
     is_returned c.self.inside.nodes c.self.inside.next c.args.number c.in-Some.at
     c.args.directory c.args.name c.args.self.now c.self.view_is c.self.invariant.0
     c.in-Some.ensures.there c.requires in
-    rw c.move_to.ensures (all.nodes, c.self.invariant.1 ∙ sym all.used, c.self.invariant.2 ∙ sym all.chunks)
+    rw c.move_to.ensures
+    (all.nodes, c.self.invariant.1 ∙ sym all.used, c.self.invariant.2 ∙ sym all.chunks)
 
 pub returns-in-Some : goal.returns-in-Some
 returns-in-Some c =

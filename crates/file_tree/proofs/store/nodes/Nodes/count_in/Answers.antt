@@ -39,4 +39,6 @@ returns c =
     counted_at a.slab a.order.items a.names.items c.as_slice-keys.result.now c.args.self.now
     c.self.invariant.0 c.as_slice-keys.ensures.value c.self.view_is c.args.directory
     first.result first.ensures.cut c.loop-low.low loop.0 loop.3
-    (subst (λ (k : ℕ). in_directory c.args.directory (named_node a.slab c.as_slice-keys.result.now k) ≡ None) met loop.4)
+    (subst (λ (k : ℕ).
+    in_directory c.args.directory (named_node a.slab c.as_slice-keys.result.now k) ≡ None)
+    met loop.4)

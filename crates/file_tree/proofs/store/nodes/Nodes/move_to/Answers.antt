@@ -57,11 +57,15 @@ pub put_key-requires-clause-room : goal.put_key-requires-clause-room
 put_key-requires-clause-room c = λ some.
     let a = c.self.inside in
     let key = c.index-key.result.now in
-    let at = key_at a.slab a.order.items c.args.self.now c.args.place key c.self.invariant.0.are c.self.view_is c.requires.place c.index-key.ensures in
+    let names = c.take_key.new.names in
+    let at =
+    key_at a.slab a.order.items c.args.self.now c.args.place key c.self.invariant.0.are
+    c.self.view_is c.requires.place c.index-key.ensures in
     let named = c.take_key.ensures.named a.order.items c.self.invariant.0.named in
     let held = key_held a.slab a.order.items c.args.self.now c.args.place key at in
-    let fewer = fewer_named (address_at a.slab) a.order.items c.take_key.new.names.items key named held in
-    omega (arith, fewer, a.order.ok.0, c.take_key.new.names.ok.0, c.self.invariant.2, c.take_key.ensures.kept)
+    let fewer = fewer_named (address_at a.slab) a.order.items names.items key named held in
+    let room = c.self.invariant.2 in
+    omega (arith, fewer, a.order.ok.0, names.ok.0, room, c.take_key.ensures.kept)
 
 pub invariant_of-self : goal.invariant_of-self
 invariant_of-self c =

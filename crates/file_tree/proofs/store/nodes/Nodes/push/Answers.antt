@@ -12,7 +12,9 @@ use Rattle.file_tree.proofs.store.nodes.Nodes.push.Goals as goal
 pub overflow_sub-len : goal.overflow_sub-len
 overflow_sub-len c =
     let a = c.self.inside in
-    omega (arith, no_more_named (address_at a.slab) a.order.items a.names.items c.self.invariant.0.named, a.order.ok.0, a.names.ok.0)
+    let no_more =
+    no_more_named (address_at a.slab) a.order.items a.names.items c.self.invariant.0.named in
+    omega (arith, no_more, a.order.ok.0, a.names.ok.0)
 
 pub invariant_of-self : goal.invariant_of-self
 invariant_of-self c =
@@ -58,7 +60,10 @@ put_key-requires-clause-free c =
 pub put_key-requires-clause-room : goal.put_key-requires-clause-room
 put_key-requires-clause-room c = λ some.
     let a = c.self.inside in
-    omega (arith, no_more_named (address_at a.slab) a.order.items a.names.items c.self.invariant.0.named, a.order.ok.0, a.names.ok.0, c.reserve-2.ensures.len, c.in_ok-reserve-2.ensures.ok)
+    let no_more =
+    no_more_named (address_at a.slab) a.order.items a.names.items c.self.invariant.0.named in
+    let reserved = c.in_ok-reserve-2.ensures.ok in
+    omega (arith, no_more, a.order.ok.0, a.names.ok.0, c.reserve-2.ensures.len, reserved)
 
 pub invariant_of-self-2 : goal.invariant_of-self-2
 invariant_of-self-2 c =
