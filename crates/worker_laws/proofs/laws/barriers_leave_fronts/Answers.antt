@@ -1,0 +1,15 @@
+use Rattle.worker_laws.proofs.Fronts.{recorded_once, barrier_leaves_front, barrier_leaves_all}
+use Rattle.worker_laws.proofs.Fronts.{front_stands}
+use Rattle.worker_laws.proofs.laws.barriers_leave_fronts.Goals as goal
+
+pub returns-clause-recorded : goal.returns-clause-recorded
+returns-clause-recorded c = recorded_once
+
+pub returns-clause-front : goal.returns-clause-front
+returns-clause-front c = barrier_leaves_front
+
+pub returns-clause-all : goal.returns-clause-all
+returns-clause-all c = barrier_leaves_all
+
+pub returns-clause-stands : goal.returns-clause-stands
+returns-clause-stands c = front_stands

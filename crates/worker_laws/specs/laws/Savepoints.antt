@@ -1,0 +1,97 @@
+-- What a disk image stands by, apart from the image itself: a savepoint, and records behind it.
+use Rattle.std.specs.Prelude.{◌≡◌, ℕ, List, [], ◌++◌, length, map, Option}
+use Rattle.wasm_syntax.specs.declared.module.Module.{Module}
+use Rattle.wasm_syntax.specs.rules.Modules.{IsModule}
+use Rattle.wasm_syntax.specs.declared.types.FunctionType.{FunctionType}
+use Rattle.wasm_syntax_rules.specs.Validity.{AreFunctionTypes, module_context}
+use Rattle.wasi_abi.specs.rules.Configs.{Settings}
+use Rattle.wasi_calls_rules.specs.declared.limits.TheConstants.{TEXT_BYTES}
+use Rattle.process_rules.specs.Processes.{ProcessState}
+use Rattle.process_rules.specs.Runs.{Kept, Reaches}
+use Rattle.state_image.specs.rules.Image.{Saved, SavedShowsProcess, image}
+use Rattle.sector_disk.specs.rules.Image.{Image}
+use Rattle.disk_layout.specs.rules.Places.{Geometry, geometry_of}
+use Rattle.disk_layout.specs.rules.Sectors.{HasWorker, HoldsImage}
+use Rattle.disk_layout.specs.rules.Journal.{Record, scan}
+use Rattle.disk_layout.specs.declared.head.TheConstants.{IMAGE_VERSION}
+use Rattle.worker_rules.specs.Stands.{Recorded, given_in, ShowsNoneLater, StandsFor}
+
+-- The bytes of a module, and a process to which it comes on these answers, as it is saved in a
+-- generation.
+pub record Savepoint (m : Module) (config : Settings) : Type 0 where
+  pub wasm : List ℕ
+  pub spelled : IsModule wasm m
+  pub generation : ℕ
+  pub saved : Saved
+  pub front : List Kept
+  pub steps : ℕ
+  pub process : ProcessState
+  pub reached : Reaches m config front steps process
+  pub functions : List FunctionType
+  pub function_types : AreFunctionTypes m functions
+  pub table : List (Option ℕ)
+  pub shown : SavedShowsProcess (module_context m functions) reached.guest.program table saved
+      process
+
+-- where things lie on a disk with this savepoint
+abbrev pub places : {m : Module} {config : Settings} → Savepoint m config → Geometry
+places {config = config} point = geometry_of config (length point.wasm)
+
+-- The savepoint is on the disk, and these are the records of its journal, which lead from its
+-- process to this one.
+pub record StandsAtPoint {m : Module} {config : Settings} (point : Savepoint m config)
+    (records : List Record) (last : ProcessState) (disk : Image) : Type 0 where
+  pub worker : HasWorker config point.wasm disk
+  pub holds : HoldsImage (places point) disk point.generation IMAGE_VERSION (image point.saved)
+  pub scanned : scan (places point) TEXT_BYTES disk point.generation ≡ records
+  pub recorded : Recorded point.reached.guest point.process records last
+  pub none_later : ShowsNoneLater (places point) disk point.generation
+
+-- what an image stands by
+abbrev pub point_of : {disk : Image} {m : Module} {config : Settings} {kept : List Kept} {n : ℕ}
+    → StandsFor disk m config kept n → Savepoint m config
+point_of stands = record {
+  wasm = stands.wasm;
+  spelled = stands.spelled;
+  generation = stands.generation;
+  saved = stands.saved;
+  front = stands.front;
+  steps = stands.steps;
+  process = stands.process;
+  reached = stands.reached;
+  functions = stands.functions;
+  function_types = stands.function_types;
+  table = stands.table;
+  shown = stands.shown;
+}
+
+-- An image that stands for a worker stands at the savepoint that it has.
+abbrev pub StandsAtItsPoint : Type 0
+StandsAtItsPoint =
+    (disk : Image) (m : Module) (config : Settings) (kept : List Kept) (n : ℕ)
+    → (stands : StandsFor disk m config kept n)
+    → StandsAtPoint (point_of stands) stands.records stands.last disk
+
+-- It stands for these answers, by this savepoint.
+pub record StandsBySaved {m : Module} {config : Settings} (point : Savepoint m config)
+    (kept : List Kept) (n : ℕ) (disk : Image) : Type 0 where
+  pub stands : StandsFor disk m config kept n
+  pub saved : stands.saved ≡ point.saved
+  pub generation : stands.generation ≡ point.generation
+  pub wasm : stands.wasm ≡ point.wasm
+
+-- An image that stands at a savepoint stands for the answers of the savepoint and of the records
+-- behind it, at the step of the process to which these lead.
+abbrev pub PointStands : Type 0
+PointStands =
+    (m : Module) (config : Settings) (point : Savepoint m config) (records : List Record)
+    (last : ProcessState) (disk : Image) (kept : List Kept)
+    → StandsAtPoint point records last disk → kept ≡ point.front ++ map given_in records
+    → StandsBySaved point kept last.steps disk
+
+-- Without records that is the step of the savepoint.
+abbrev pub PointStandsAlone : Type 0
+PointStandsAlone =
+    (m : Module) (config : Settings) (point : Savepoint m config) (disk : Image)
+    → StandsAtPoint point [] point.process disk
+    → StandsBySaved point point.front point.steps disk

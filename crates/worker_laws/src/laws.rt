@@ -1,0 +1,98 @@
+//! Laws of what the steps of journal and snapshots leave of a disk that stands for a worker.
+
+ghost use Rattle.worker_laws.specs.laws.Savepoints.{StandsAtItsPoint, PointStands};
+ghost use Rattle.worker_laws.specs.laws.Savepoints.{PointStandsAlone};
+ghost use Rattle.worker_laws.specs.laws.Barriers.{RecordedOnce, BarrierLeavesFront};
+ghost use Rattle.worker_laws.specs.laws.Barriers.{BarrierLeavesAll, FrontStands};
+ghost use Rattle.worker_laws.specs.laws.Commits.{NewPointBegins, PointIsReady};
+ghost use Rattle.worker_laws.specs.laws.Commits.{FillingKeepsPoint, CommitLeavesOneOfTwo};
+ghost use Rattle.worker_laws.specs.laws.Commits.{CommitBeginsNext};
+ghost use Rattle.worker_laws.specs.laws.Creations.{NoSuperIsBlank, ZerosKeepBlank};
+ghost use Rattle.worker_laws.specs.laws.Creations.{ZerosTakeSuper, RunsKeepNoSuper};
+ghost use Rattle.worker_laws.specs.laws.Creations.{ZerosAwaitHead, ZeroRunsAwaitHead};
+ghost use Rattle.worker_laws.specs.laws.Creations.{FillingAwaitsHead, FirstCommitKeepsNoSuper};
+ghost use Rattle.worker_laws.specs.laws.Creations.{FirstCommitAwaitsSuper, SuperBegins};
+ghost use Rattle.worker_laws.specs.laws.Creations.{WholeSuperBegins, FreshStandsForNone};
+ghost use Rattle.worker_laws.specs.laws.Journaled.{BarrierAtAnyMoment, BarrierInTheEnd};
+ghost use Rattle.worker_laws.specs.laws.Journaled.{AppendGoesOn, StaysJournaled, BeginsJournaled};
+ghost use Rattle.worker_laws.specs.laws.Moments.{FillAtAnyMoment, CommitAtAnyMoment};
+ghost use Rattle.worker_laws.specs.laws.Moments.{CommitInTheEnd, ZerosAtAnyMoment, ZerosInTheEnd};
+ghost use Rattle.worker_laws.specs.laws.Moments.{RunAtAnyMoment, FirstFillAtAnyMoment};
+ghost use Rattle.worker_laws.specs.laws.Moments.{FirstCommitAtAnyMoment, FirstCommitInTheEnd};
+ghost use Rattle.worker_laws.specs.laws.Moments.{SuperAtAnyMoment, SuperInTheEnd};
+
+use sector_disk::Disk;
+
+/// What a disk stands by, apart from the disk, says what it stands for.
+pub fn disks_stand_at_savepoints()
+    ensures point { StandsAtItsPoint }
+    ensures stands { PointStands }
+    ensures alone { PointStandsAlone }
+{}
+
+/// Whatever a barrier has left, the disk stands for a front of the pending records. After Ok it
+/// stands for all of them. One answer more is one record more.
+pub fn barriers_leave_fronts()
+    ensures recorded { RecordedOnce }
+    ensures front { BarrierLeavesFront }
+    ensures all { BarrierLeavesAll }
+    ensures stands { FrontStands }
+{}
+
+/// While an area is filled the disk stands for the same. Whatever a commit has left, it stands for
+/// that or begins at the new snapshot, without records.
+pub fn commits_leave_one_of_two()
+    ensures begins { NewPointBegins }
+    ensures ready { PointIsReady }
+    ensures filled { FillingKeepsPoint }
+    ensures committed { CommitLeavesOneOfTwo }
+    ensures replaced { CommitBeginsNext }
+{}
+
+/// Until its super is whole, a disk on which a worker is created is blank.
+pub fn creations_begin_blank()
+    ensures blank { NoSuperIsBlank }
+    ensures torn { ZerosKeepBlank }
+    ensures zeros { ZerosTakeSuper }
+    ensures behind { RunsKeepNoSuper }
+    ensures awaits { ZerosAwaitHead }
+    ensures runs { ZeroRunsAwaitHead }
+    ensures filled { FillingAwaitsHead }
+    ensures committed { FirstCommitKeepsNoSuper }
+{}
+
+/// Once the super is whole, over all else, it stands for no answers at step 0.
+pub fn creations_end_fresh()
+    ensures awaits { FirstCommitAwaitsSuper }
+    ensures torn { SuperBegins }
+    ensures whole { WholeSuperBegins }
+    ensures fresh { FreshStandsForNone }
+{}
+
+/// The calls of a journal, on a disk of which each cut leaves what stands for the worker.
+pub fn journals_carry_workers<D: Disk>()
+    ensures barrier { BarrierAtAnyMoment D.medium }
+    ensures settled { BarrierInTheEnd D.medium }
+    ensures appended { AppendGoesOn D.medium }
+    ensures stays { StaysJournaled D.medium }
+    ensures begins { BeginsJournaled D.medium }
+{}
+
+/// The calls of a commit, on such a disk.
+pub fn commits_carry_workers<D: Disk>()
+    ensures filled { FillAtAnyMoment D.medium }
+    ensures committed { CommitAtAnyMoment D.medium }
+    ensures replaced { CommitInTheEnd D.medium }
+{}
+
+/// The calls of a creation, on a disk without a worker.
+pub fn creations_carry_none<D: Disk>()
+    ensures torn { ZerosAtAnyMoment D.medium }
+    ensures zeros { ZerosInTheEnd D.medium }
+    ensures behind { RunAtAnyMoment D.medium }
+    ensures filled { FirstFillAtAnyMoment D.medium }
+    ensures committed { FirstCommitAtAnyMoment D.medium }
+    ensures awaits { FirstCommitInTheEnd D.medium }
+    ensures super_torn { SuperAtAnyMoment D.medium }
+    ensures super_whole { SuperInTheEnd D.medium }
+{}

@@ -1,0 +1,34 @@
+//! Laws of a disk that stands for a worker, while journal and snapshots change it (this project's
+//! own). The code of a worker and of its recovery is to be proved by them.
+//!
+//! # Promises
+//!
+//! The calls of `laws` do nothing; what they ensure is proved of the definitions.
+//!
+//! - `disks_stand_at_savepoints`: what a disk stands by, apart from the disk, says what it stands
+//!   for.
+//! - `barriers_leave_fronts`: whatever a barrier has left, the disk stands for a front of the
+//!   pending records, and after Ok for all.
+//! - `commits_leave_one_of_two`: while an area is filled the disk stands for the same. Whatever a
+//!   commit has left, it stands for that or begins at the new snapshot.
+//! - `creations_begin_blank`, `creations_end_fresh`: until its super is whole, a disk on which a
+//!   worker is created is blank. Then it stands for no answers at step 0.
+//! - `journals_carry_workers`, `commits_carry_workers`, `creations_carry_none`: the same of all
+//!   that a cut may leave of a disk, in the form of the clauses of `journal`, `snapshot` and
+//!   `disk_layout`.
+//!
+//! # Definitions to read
+//!
+//! None: those of `worker_rules`, `journal`, `snapshot` and `disk_layout` are enough. In
+//! `specs/laws/` stand second forms of them, which nobody has to believe: `Savepoint`,
+//! `StandsAtPoint` (`Savepoints.antt`), `StandsAtFront` (`Barriers.antt`), `BeginsAtPoint`
+//! (`Commits.antt`), `AwaitsHead`, `AwaitsSuper` (`Creations.antt`) and `IsJournaled`
+//! (`Journaled.antt`).
+//!
+//! # Who may touch what
+//!
+//! There is no code here but the empty functions of `laws`, and no crate uses it yet. The crate
+//! takes no memory, and has no errors.
+#![tactic(auto)]
+
+pub mod laws;
