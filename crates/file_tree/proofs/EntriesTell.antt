@@ -12,7 +12,7 @@ use Rattle.file_tree.specs.rules.Files.{Name, Path, Files, Entry, IsNodeName}
 use Rattle.file_tree.specs.rules.Files.{IsFiles, path_of, is_directory}
 use Rattle.file_tree.specs.rules.Files.{entries_of, inserted, sorted, is_before}
 use Rattle.file_tree.specs.rules.Changes.{path_at}
-use Rattle.file_tree.specs.laws.Rebuilding.{entry_under, HasEntry, EntriesTellPaths}
+use Rattle.file_tree.specs.laws.Rebuilding.{entry_under, ListsNode, EntriesTellPaths}
 use Rattle.file_tree.specs.Links.{Up, node_in, hook_held, hook_of, is_hung, AreNodes, files}
 use Rattle.file_tree.specs.Links.{hooked_entry, hooked_entries, with_entry}
 use Rattle.file_tree.specs.Store.Cuts.{HasElement}
@@ -82,7 +82,7 @@ module _ (ns : List Node) (next : ℕ) (are : AreNodes ns next) where
   abbrev fs : Files
   fs = files ns next
 
-  pub entry_of_hook : (d k : ℕ) (name : Name) → hook_of ns k ≡ In d name → HasEntry fs d k name
+  pub entry_of_hook : (d k : ℕ) (name : Name) → hook_of ns k ≡ In d name → ListsNode fs d k name
   entry_of_hook d k name e =
       let at : HasElement (entries_of fs d) (entry_under name k) =
       subst (λ (es : List Entry). HasElement es (entry_under name k))
@@ -91,7 +91,7 @@ module _ (ns : List Node) (next : ℕ) (are : AreNodes ns next) where
       let r = place_among (entries_of fs d) (entry_under name k) at in
       record { place = r.0; is = r.1 }
 
-  pub hook_of_entry : (d k : ℕ) (name : Name) → HasEntry fs d k name → hook_of ns k ≡ In d name
+  pub hook_of_entry : (d k : ℕ) (name : Name) → ListsNode fs d k name → hook_of ns k ≡ In d name
   hook_of_entry d k name h =
       all_at (IsHung d (hook_of ns)) (entries_of fs d) h.place (entry_under name k)
       (all_hung ns next d are) h.is
@@ -135,16 +135,16 @@ module _ (ns : List Node) (next : ℕ) (are : AreNodes ns next) where
       absurd (let t : Root ≡ In d name = sym are.tree.root ∙ sym (ap (hook_of ns) one) ∙ e in cc)
 
   entry_there : (k : ℕ) → k ≢ 1 → is_some (path_of fs k) ≡ true
-      → (d : ℕ) × (name : Name) × HasEntry fs d k name
+      → (d : ℕ) × (name : Name) × ListsNode fs d k name
   entry_there k ne some =
       by (hook_of ns k) refl (sym (hung_has_path ns next k are) ∙ some) where
         by : (h : Hook) → hook_of ns k ≡ h → is_hung h ≡ true
-            → (d : ℕ) × (name : Name) × HasEntry fs d k name
+            → (d : ℕ) × (name : Name) × ListsNode fs d k name
         by Root is hung = absurd (ne (are.tree.one_root k is))
         by Removed is hung = absurd cc
         by (In d name) is hung = (d, name, entry_of_hook d k name is)
 
-  pub all_told : (d k : ℕ) (name : Name) → HasEntry fs d k name
+  pub all_told : (d k : ℕ) (name : Name) → ListsNode fs d k name
       → (path_of fs k ≡ Some (path_at fs d ++ name ∷ []))
       × ((is_directory fs d ≡ true) × (is_some (path_of fs d) ≡ true))
       × ((k ≢ 1) × IsNodeName name)
@@ -152,7 +152,7 @@ module _ (ns : List Node) (next : ℕ) (are : AreNodes ns next) where
       let e = hook_of_entry d k name h in
       (path_told d k name e, above_told d k name e, (not_root d k name e, are.named k d name e))
 
-  one_told : (d e k : ℕ) (name other : Name) → HasEntry fs d k name → HasEntry fs e k other
+  one_told : (d e k : ℕ) (name other : Name) → ListsNode fs d k name → ListsNode fs e k other
       → (d ≡ e) × (name ≡ other)
   one_told d e k name other h g =
       in_is d e name other (sym (hook_of_entry d k name h) ∙ hook_of_entry e k other g)
@@ -164,27 +164,27 @@ module _ (fs : Files) (are : IsFiles fs) where
   shown_so : (P : Files → Type 0) → P (files ns fs.next) → P fs
   shown_so P p = subst P (rebuilt_show fs are) p
 
-  told_of : (d k : ℕ) (name : Name) → HasEntry fs d k name
+  told_of : (d k : ℕ) (name : Name) → ListsNode fs d k name
       → (path_of fs k ≡ Some (path_at fs d ++ name ∷ []))
       × ((is_directory fs d ≡ true) × (is_some (path_of fs d) ≡ true))
       × ((k ≢ 1) × IsNodeName name)
   told_of d k name =
-      shown_so (λ (x : Files). HasEntry x d k name
+      shown_so (λ (x : Files). ListsNode x d k name
       → (path_of x k ≡ Some (path_at x d ++ name ∷ []))
       × ((is_directory x d ≡ true) × (is_some (path_of x d) ≡ true))
       × ((k ≢ 1) × IsNodeName name)) (all_told ns fs.next (rebuilt_are fs are) d k name)
 
   there_of : (k : ℕ) → k ≢ 1 → is_some (path_of fs k) ≡ true
-      → (d : ℕ) × (name : Name) × HasEntry fs d k name
+      → (d : ℕ) × (name : Name) × ListsNode fs d k name
   there_of k ne =
       shown_so (λ (x : Files). is_some (path_of x k) ≡ true
-      → (d : ℕ) × (name : Name) × HasEntry x d k name)
+      → (d : ℕ) × (name : Name) × ListsNode x d k name)
       (entry_there ns fs.next (rebuilt_are fs are) k ne)
 
-  one_of : (d e k : ℕ) (name other : Name) → HasEntry fs d k name → HasEntry fs e k other
+  one_of : (d e k : ℕ) (name other : Name) → ListsNode fs d k name → ListsNode fs e k other
       → (d ≡ e) × (name ≡ other)
   one_of d e k name other =
-      shown_so (λ (x : Files). HasEntry x d k name → HasEntry x e k other
+      shown_so (λ (x : Files). ListsNode x d k name → ListsNode x e k other
       → (d ≡ e) × (name ≡ other)) (one_told ns fs.next (rebuilt_are fs are) d e k name other)
 
 pub entries_tell_paths : EntriesTellPaths

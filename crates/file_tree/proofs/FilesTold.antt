@@ -12,7 +12,7 @@ use Rattle.file_tree.specs.rules.Files.{path_of, holds_directory}
 use Rattle.file_tree.specs.rules.Files.{is_directory_content}
 use Rattle.file_tree.specs.laws.Laws.{node_number, content_of}
 use Rattle.file_tree.specs.laws.Rebuilding.{IsBuiltLike}
-use Rattle.file_tree.specs.laws.Rebuilding.{HasEntry, EntriesTellFiles}
+use Rattle.file_tree.specs.laws.Rebuilding.{ListsNode, EntriesTellFiles}
 use Rattle.file_tree.specs.Links.{Up, climb, hook_of, is_hung, AreNodes, files}
 use Rattle.file_tree.proofs.Climbs.{there}
 use Rattle.file_tree.proofs.Lookups.{path_shown, hung_has_path}
@@ -83,7 +83,7 @@ own_paths fs are = go fs.nodes (own_nodes 1 fs.nodes fs.next are.rising) where
 -- ---- where nodes hang
 
 moved_entry : (fs gs : Files) (d k : ℕ) (name : Name) → entries_of fs d ≡ entries_of gs d
-    → HasEntry fs d k name → HasEntry gs d k name
+    → ListsNode fs d k name → ListsNode gs d k name
 moved_entry fs gs d k name same h = record {
   place = h.place;
   is = ap (λ (es : List Entry). slice_get es h.place) (sym same) ∙ h.is;

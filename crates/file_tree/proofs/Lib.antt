@@ -31,3 +31,4 @@ pub mod FilesTold
 pub mod KeptFiles
 pub mod OneEntryMore
 pub mod KeptEntries
+pub mod Filled

@@ -82,7 +82,7 @@ one_number (x ∷ ns) j k a b p distinct ea eb pa pb =
       by_tests false false s t later ea eb = later ea eb pa pb
 
 -- numbers of nodes are below the next one
-below : (least : ℕ) (ns : List FileNode) (next : ℕ) → AreRising least ns next
+pub below : (least : ℕ) (ns : List FileNode) (next : ℕ) → AreRising least ns next
     → (least ≤ next) × AllByRecursion (λ (n : FileNode). n.number < next) ns
 below least [] next h = (h, tt)
 below least (n ∷ ns) next h =

@@ -4,7 +4,7 @@ ghost use Rattle.file_tree.specs.laws.FileLimits.{FileLimitNumbers};
 ghost use Rattle.file_tree.specs.laws.Laws.{RenameMovesASubtree};
 ghost use Rattle.file_tree.specs.laws.Rebuilding.{EntriesTellPaths, EntriesTellFiles};
 ghost use Rattle.file_tree.specs.laws.Rebuilding.{HangingAddsAnEntry, OthersKeepEntries};
-ghost use Rattle.file_tree.specs.laws.Rebuilding.{EntriesComeInOrder};
+ghost use Rattle.file_tree.specs.laws.Rebuilding.{EntriesComeInOrder, FilledFiles};
 
 /// Renaming moves a whole subtree and nothing else.
 pub fn renaming_moves_a_subtree()
@@ -41,4 +41,9 @@ pub fn others_keep_entries()
 /// Entries that are put in one after the other by their names stand behind each other.
 pub fn entries_come_in_order()
     ensures { EntriesComeInOrder }
+{}
+
+/// A new file that is filled with bytes is a new file of these bytes.
+pub fn filled_files()
+    ensures { FilledFiles }
 {}

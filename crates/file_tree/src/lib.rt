@@ -18,10 +18,10 @@
 //!   definitions. They can't fail. `write` puts bytes in the place of others: `resize` makes room
 //!   first.
 //! - By `create_removed`, `hang` and `raise_next` a tree is built anew from what was told of it.
-//!   Laws say what each leaves of the entries (`laws::hanging_adds_an_entry`,
-//!   `laws::others_keep_entries`, `laws::entries_come_in_order`), that entries tell paths
-//!   (`laws::entries_tell_paths`), and that a tree of the same nodes and entries is the same one
-//!   (`laws::entries_tell_files`).
+//!   Laws say what each leaves of entries and bytes (`laws::hanging_adds_an_entry`,
+//!   `laws::others_keep_entries`, `laws::entries_come_in_order`, `laws::filled_files`), that
+//!   entries tell paths (`laws::entries_tell_paths`), and that a tree of the same nodes and entries
+//!   is the same one (`laws::entries_tell_files`).
 //! - Files lie in chunks of 4,096 bytes, as many as their bytes need. `chunks` counts them.
 //! - Whoever changes a tree has tested first what the `requires` clauses ask, as `free` and
 //!   `room`.

@@ -4,7 +4,7 @@ use Rattle.std.specs.Prelude.{slice_get, true, false, Some, is_some}
 use Rattle.file_tree.specs.rules.Files.{Name, Files, File, Entry, IsNodeName, IsFiles}
 use Rattle.file_tree.specs.rules.Files.{IsSmallContent, inserted, node_of, path_of, is_directory}
 use Rattle.file_tree.specs.rules.Files.{entries_of, created_removed, hung, with_next}
-use Rattle.file_tree.specs.rules.Files.{with_file_bytes}
+use Rattle.file_tree.specs.rules.Files.{with_file_bytes, bytes_of_node}
 use Rattle.file_tree.specs.rules.Changes.{path_at, empty, CanHang}
 use Rattle.file_tree.specs.declared.kind.NodeKind.{NodeKind}
 use Rattle.file_tree.specs.declared.limits.TheConstants.{NODES}
@@ -15,23 +15,23 @@ abbrev pub entry_under : Name → ℕ → Entry
 entry_under name k = record { name = name; number = k }
 
 -- a directory has an entry of this number and name
-pub record HasEntry (fs : Files) (d k : ℕ) (name : Name) : Type 0 where
+pub record ListsNode (fs : Files) (d k : ℕ) (name : Name) : Type 0 where
   pub place : ℕ
   pub is : slice_get (entries_of fs d) place ≡ Some (entry_under name k)
 
 -- An entry's path is that of its directory and the name behind it. Each node but the root that has
 -- a path is an entry of exactly one directory.
 pub record EntriesTellPaths : Type 0 where
-  pub path : (fs : Files) (d k : ℕ) (name : Name) → IsFiles fs → HasEntry fs d k name
+  pub path : (fs : Files) (d k : ℕ) (name : Name) → IsFiles fs → ListsNode fs d k name
       → path_of fs k ≡ Some (path_at fs d ++ name ∷ [])
-  pub above : (fs : Files) (d k : ℕ) (name : Name) → IsFiles fs → HasEntry fs d k name
+  pub above : (fs : Files) (d k : ℕ) (name : Name) → IsFiles fs → ListsNode fs d k name
       → (is_directory fs d ≡ true) × (is_some (path_of fs d) ≡ true)
-  pub below : (fs : Files) (d k : ℕ) (name : Name) → IsFiles fs → HasEntry fs d k name
+  pub below : (fs : Files) (d k : ℕ) (name : Name) → IsFiles fs → ListsNode fs d k name
       → (k ≢ 1) × IsNodeName name
   pub there : (fs : Files) (k : ℕ) → IsFiles fs → k ≢ 1 → is_some (path_of fs k) ≡ true
-      → (d : ℕ) × (name : Name) × HasEntry fs d k name
-  pub one : (fs : Files) (d e k : ℕ) (name other : Name) → IsFiles fs → HasEntry fs d k name
-      → HasEntry fs e k other → (d ≡ e) × (name ≡ other)
+      → (d : ℕ) × (name : Name) × ListsNode fs d k name
+  pub one : (fs : Files) (d e k : ℕ) (name other : Name) → IsFiles fs → ListsNode fs d k name
+      → ListsNode fs e k other → (d ≡ e) × (name ≡ other)
 
 -- the same nodes, but for their paths
 pub record HaveSameNodes (fs gs : Files) : Type 0 where
@@ -89,3 +89,13 @@ EntriesComeInOrder =
     (fs : Files) (d place : ℕ) (e : Entry) → IsFiles fs
     → slice_get (entries_of fs d) place ≡ Some e
     → inserted e (take place (entries_of fs d)) ≡ take (place + 1) (entries_of fs d)
+
+-- A new file that is filled is a new file of these bytes. Of bytes that are put in twice the second
+-- ones stay, and a file then has them.
+pub record FilledFiles : Type 0 where
+  pub new : (fs : Files) (k : ℕ) (old bytes : List ℕ) → IsFiles fs → fs.next ≤ k
+      → with_file_bytes k bytes (created_removed k (File old) fs) ≡ created_removed k (File bytes) fs
+  pub again : (fs : Files) (k : ℕ) (old bytes : List ℕ)
+      → with_file_bytes k bytes (with_file_bytes k old fs) ≡ with_file_bytes k bytes fs
+  pub bytes : (fs : Files) (k : ℕ) (bytes : List ℕ) → is_some (node_of fs k) ≡ true
+      → bytes_of_node (with_file_bytes k bytes fs) k ≡ bytes
