@@ -2,6 +2,7 @@
 use Rattle.std.proofs.Common.{◌≡◌, ℕ, zero, suc, ◌+◌, ◌<◌, List, [], ◌∷◌, ◌++◌, refl, sym, ap}
 use Rattle.std.proofs.Common.{◌∙◌, arith}
 use Rattle.std.specs.Prelude.{map, length, take}
+use Rattle.std.proofs.Common.{append_assoc}
 use Rattle.std.proofs.lemmas.List.{append-nil, map-append}
 use Rattle.std.proofs.Math.Seq.{take-append-add}
 use Rattle.wasm_syntax.specs.declared.module.Module.{Module}
@@ -17,12 +18,13 @@ use Rattle.journal.specs.rules.Steps.{SameOthers, ShowsNoneAfter}
 use Rattle.journal.proofs.RunLemmas.{all_bytes}
 use Rattle.journal.proofs.RecordLemmas.{scan_of}
 use Rattle.worker_rules.specs.Stands.{Recorded, none, more, given_in}
-use Rattle.worker_laws.specs.laws.Savepoints.{Savepoint, places, StandsAtPoint}
+use Rattle.worker_laws.specs.laws.Savepoints.{Savepoint, places, point_of, StandsAtPoint}
 use Rattle.worker_laws.specs.laws.Barriers.{RecordedOnce, BarrierLeavesFront, BarrierLeavesAll}
-use Rattle.worker_laws.specs.laws.Barriers.{FrontStands}
+use Rattle.worker_laws.specs.laws.Barriers.{FrontStands, BarrierStands}
 use Rattle.worker_laws.proofs.Sectors.{worker_stays, image_below, contents_below, some_below}
 use Rattle.worker_laws.proofs.Sectors.{SameSector, none_later_of, head_stays}
 use Rattle.worker_laws.proofs.Points.{recorded_join, recorded_front, point_stands}
+use Rattle.worker_laws.proofs.Points.{stands_at_its_point}
 
 -- ---- records
 
@@ -152,3 +154,29 @@ front_stands m config point records pending last disk kept all at =
     (take (length point.front + length records + at.count) kept) at.at
     (ap (λ l. take (length point.front + length records + at.count) l) all
     ∙ front_kept point.front records pending at.count)
+
+-- with the answers of more records behind those of some
+kept_further : (front kept : List Kept) (records others : List Record)
+    → kept ≡ front ++ map given_in records
+    → kept ++ map given_in others ≡ front ++ map given_in (records ++ others)
+kept_further front kept records others rest =
+    ap (λ l. l ++ map given_in others) rest
+    ∙ append_assoc front (map given_in records) (map given_in others)
+    ∙ ap (λ l. front ++ l) (sym (map-append given_in records others))
+
+pub barrier_stands : BarrierStands
+barrier_stands m config kept n old new stands pending q used recorded appends =
+    let point : Savepoint m config = point_of stands in
+    let at = stands_at_its_point old m config kept n stands in
+    let front = recorded_front stands.reached.guest stands.last q pending appends.count recorded in
+    let more : List Record = take appends.count pending in
+    let all = recorded_join stands.reached.guest stands.process stands.last front.0 stands.records
+    more stands.recorded front.1 in
+    let now = with_journal m config point stands.records (stands.records ++ more) stands.last
+    front.0 used old new at appends.others appends.none_later appends.scanned all in (
+      front.0,
+      front.1,
+      point_stands m config point (stands.records ++ more) front.0 new
+          (kept ++ map given_in more) now
+          (kept_further stands.front kept stands.records more stands.rest),
+    )

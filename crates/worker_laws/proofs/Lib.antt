@@ -3,5 +3,7 @@ pub mod Points
 pub mod Fronts
 pub mod Replacing
 pub mod Creating
+pub mod Before
 pub mod Passing
 pub mod Keeping
+pub mod Reading

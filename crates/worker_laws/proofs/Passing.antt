@@ -3,13 +3,19 @@ use Rattle.sector_disk.specs.rules.Image.{Image}
 use Rattle.sector_disk.specs.rules.Medium.{Medium, After, Follows, LeavesOnly}
 use Rattle.sector_disk.proofs.Moments.{leaves_weaker, shows_left}
 use Rattle.worker_laws.specs.laws.Moments.{LeavesAll, FillAtAnyMoment, CommitAtAnyMoment}
+use Rattle.worker_laws.specs.laws.Moments.{FillKeepsAtAnyMoment, CommitKeepsAtAnyMoment}
+use Rattle.worker_laws.specs.laws.Moments.{CommitKeepsInTheEnd}
 use Rattle.worker_laws.specs.laws.Moments.{CommitInTheEnd, ZerosAtAnyMoment, ZerosInTheEnd}
+use Rattle.worker_laws.specs.laws.Moments.{ZeroRunsInTheEnd}
 use Rattle.worker_laws.specs.laws.Moments.{RunAtAnyMoment, FirstFillAtAnyMoment}
 use Rattle.worker_laws.specs.laws.Moments.{FirstCommitAtAnyMoment, FirstCommitInTheEnd}
 use Rattle.worker_laws.specs.laws.Moments.{SuperAtAnyMoment, SuperInTheEnd}
 use Rattle.worker_laws.proofs.Replacing.{filling_keeps_point, commit_leaves_one_of_two}
 use Rattle.worker_laws.proofs.Replacing.{commit_begins_next}
+use Rattle.worker_laws.proofs.Before.{filling_keeps_standing, commit_keeps_standing}
+use Rattle.worker_laws.proofs.Before.{replacing_begins}
 use Rattle.worker_laws.proofs.Creating.{zeros_keep_blank, zeros_take_super, runs_keep_no_super}
+use Rattle.worker_laws.proofs.Creating.{zero_runs_await_head}
 use Rattle.worker_laws.proofs.Creating.{filling_awaits_head, first_commit_keeps_no_super}
 use Rattle.worker_laws.proofs.Creating.{first_commit_awaits_super, super_begins}
 use Rattle.worker_laws.proofs.Creating.{whole_super_begins}
@@ -65,6 +71,23 @@ module _ {D : Type 0} (medium : D → Medium) where
       (λ a b at replaces.
       commit_begins_next m config point next records last a b at is_next replaces) follows
 
+  pub fill_keeps_at_any_moment : FillKeepsAtAnyMoment medium
+  fill_keeps_at_any_moment m config next kept n old new all leaves =
+      step_at_any_moment (medium old) (medium new) _ _ _ all
+      (λ a b before fills. filling_keeps_standing m config next kept n a b before fills) leaves
+
+  pub commit_keeps_at_any_moment : CommitKeepsAtAnyMoment medium
+  commit_keeps_at_any_moment m config next kept n old new all leaves =
+      step_at_any_moment (medium old) (medium new) _ _ _ all
+      (λ a b before commits.
+      commit_keeps_standing m config next kept n a b before commits) leaves
+
+  pub commit_keeps_in_the_end : CommitKeepsInTheEnd medium
+  commit_keeps_in_the_end m config next kept n old new all follows =
+      step_in_the_end (medium old) (medium new) _ _ _ all
+      (λ a b before replaces. replacing_begins m config next kept n a b before replaces)
+      follows
+
   pub zeros_at_any_moment : ZerosAtAnyMoment medium
   zeros_at_any_moment old new all leaves =
       step_at_any_moment (medium old) (medium new) _ _ _ all
@@ -79,6 +102,13 @@ module _ {D : Type 0} (medium : D → Medium) where
   run_at_any_moment at n sectors old new from all leaves =
       step_at_any_moment (medium old) (medium new) _ _ _ all
       (λ a b none run. runs_keep_no_super at n sectors a b from none run) leaves
+
+  pub zero_runs_in_the_end : ZeroRunsInTheEnd medium
+  zero_runs_in_the_end config wasm first second third settled begun heads journal left disk now =
+      let behind = journal disk (left disk now) in
+      let before = heads behind.0 behind.1 in
+      let there = begun before.0 before.1 in
+      zero_runs_await_head config wasm before.0 behind.0 disk there.0 there.1 before.2 behind.2
 
   pub first_fill_at_any_moment : FirstFillAtAnyMoment medium
   first_fill_at_any_moment config wasm old new all leaves =

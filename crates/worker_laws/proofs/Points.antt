@@ -73,8 +73,8 @@ stands_at_its_point disk m config kept n stands = record {
   none_later = stands.none_later;
 }
 
-by_point : (m : Module) (config : Settings) (point : Savepoint m config) (records : List Record)
-    (last : ProcessState) (disk : Image) (kept : List Kept) (n : ℕ)
+pub by_point : (m : Module) (config : Settings) (point : Savepoint m config)
+    (records : List Record) (last : ProcessState) (disk : Image) (kept : List Kept) (n : ℕ)
     → StandsAtPoint point records last disk → kept ≡ point.front ++ map given_in records
     → n ≡ last.steps → StandsBySaved point kept n disk
 by_point m config point records last disk kept n at rest step = record {

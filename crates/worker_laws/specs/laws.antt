@@ -4,3 +4,4 @@ pub mod Commits
 pub mod Creations
 pub mod Journaled
 pub mod Moments
+pub mod Readings

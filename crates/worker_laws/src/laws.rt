@@ -3,7 +3,7 @@
 ghost use Rattle.worker_laws.specs.laws.Savepoints.{StandsAtItsPoint, PointStands};
 ghost use Rattle.worker_laws.specs.laws.Savepoints.{PointStandsAlone};
 ghost use Rattle.worker_laws.specs.laws.Barriers.{RecordedOnce, BarrierLeavesFront};
-ghost use Rattle.worker_laws.specs.laws.Barriers.{BarrierLeavesAll, FrontStands};
+ghost use Rattle.worker_laws.specs.laws.Barriers.{BarrierLeavesAll, FrontStands, BarrierStands};
 ghost use Rattle.worker_laws.specs.laws.Commits.{NewPointBegins, PointIsReady};
 ghost use Rattle.worker_laws.specs.laws.Commits.{FillingKeepsPoint, CommitLeavesOneOfTwo};
 ghost use Rattle.worker_laws.specs.laws.Commits.{CommitBeginsNext};
@@ -19,7 +19,15 @@ ghost use Rattle.worker_laws.specs.laws.Moments.{FillAtAnyMoment, CommitAtAnyMom
 ghost use Rattle.worker_laws.specs.laws.Moments.{CommitInTheEnd, ZerosAtAnyMoment, ZerosInTheEnd};
 ghost use Rattle.worker_laws.specs.laws.Moments.{RunAtAnyMoment, FirstFillAtAnyMoment};
 ghost use Rattle.worker_laws.specs.laws.Moments.{FirstCommitAtAnyMoment, FirstCommitInTheEnd};
-ghost use Rattle.worker_laws.specs.laws.Moments.{SuperAtAnyMoment, SuperInTheEnd};
+ghost use Rattle.worker_laws.specs.laws.Moments.{ZeroRunsInTheEnd, SuperAtAnyMoment};
+ghost use Rattle.worker_laws.specs.laws.Moments.{SuperInTheEnd};
+ghost use Rattle.worker_laws.specs.laws.Moments.{FillKeepsAtAnyMoment, CommitKeepsAtAnyMoment};
+ghost use Rattle.worker_laws.specs.laws.Moments.{CommitKeepsInTheEnd};
+ghost use Rattle.worker_laws.specs.laws.Commits.{FillingKeepsStanding, CommitKeepsStanding};
+ghost use Rattle.worker_laws.specs.laws.Commits.{ReplacingBegins};
+ghost use Rattle.worker_laws.specs.laws.Readings.{ReadsTheModule, FindsThePoint, ReadsThePoint};
+ghost use Rattle.worker_laws.specs.laws.Readings.{ReadsUndamaged, FindsNewestPoint};
+ghost use Rattle.worker_laws.specs.laws.Readings.{ScansTheRecords};
 
 use sector_disk::Disk;
 
@@ -37,6 +45,7 @@ pub fn barriers_leave_fronts()
     ensures front { BarrierLeavesFront }
     ensures all { BarrierLeavesAll }
     ensures stands { FrontStands }
+    ensures answers { BarrierStands }
 {}
 
 /// While an area is filled the disk stands for the same. Whatever a commit has left, it stands for
@@ -90,9 +99,34 @@ pub fn creations_carry_none<D: Disk>()
     ensures torn { ZerosAtAnyMoment D.medium }
     ensures zeros { ZerosInTheEnd D.medium }
     ensures behind { RunAtAnyMoment D.medium }
+    ensures runs { ZeroRunsInTheEnd D.medium }
     ensures filled { FirstFillAtAnyMoment D.medium }
     ensures committed { FirstCommitAtAnyMoment D.medium }
     ensures awaits { FirstCommitInTheEnd D.medium }
     ensures super_torn { SuperAtAnyMoment D.medium }
     ensures super_whole { SuperInTheEnd D.medium }
+{}
+
+/// The same of a commit of the next generation, by whatever the disk stands for a worker.
+pub fn commits_keep_what_stands()
+    ensures filled { FillingKeepsStanding }
+    ensures committed { CommitKeepsStanding }
+    ensures replaced { ReplacingBegins }
+{}
+
+/// So it is with all that a cut may leave.
+pub fn recoveries_carry_workers<D: Disk>()
+    ensures filled { FillKeepsAtAnyMoment D.medium }
+    ensures committed { CommitKeepsAtAnyMoment D.medium }
+    ensures replaced { CommitKeepsInTheEnd D.medium }
+{}
+
+/// What is read of a disk that stands for a worker is what it stands by.
+pub fn disks_give_what_they_stand_by()
+    ensures module_read { ReadsTheModule }
+    ensures head { FindsThePoint }
+    ensures bytes { ReadsThePoint }
+    ensures undamaged { ReadsUndamaged }
+    ensures newest { FindsNewestPoint }
+    ensures records { ScansTheRecords }
 {}

@@ -11,19 +11,22 @@
 //!   pending records, and after Ok for all.
 //! - `commits_leave_one_of_two`: while an area is filled the disk stands for the same. Whatever a
 //!   commit has left, it stands for that or begins at the new snapshot.
+//! - `commits_keep_what_stands`: so it is by whatever generation the disk stands.
 //! - `creations_begin_blank`, `creations_end_fresh`: until its super is whole, a disk on which a
 //!   worker is created is blank. Then it stands for no answers at step 0.
-//! - `journals_carry_workers`, `commits_carry_workers`, `creations_carry_none`: the same of all
-//!   that a cut may leave of a disk, in the form of the clauses of `journal`, `snapshot` and
-//!   `disk_layout`.
+//! - `journals_carry_workers`, `commits_carry_workers`, `recoveries_carry_workers`,
+//!   `creations_carry_none`: the same of all that a cut may leave of a disk, in the form of the
+//!   clauses of `journal`, `snapshot` and `disk_layout`.
+//! - `disks_give_what_they_stand_by`: what is read of a disk that stands for a worker is what it
+//!   stands by.
 //!
 //! # Definitions to read
 //!
 //! None: those of `worker_rules`, `journal`, `snapshot` and `disk_layout` are enough. In
 //! `specs/laws/` stand second forms of them, which nobody has to believe: `Savepoint`,
 //! `StandsAtPoint` (`Savepoints.antt`), `StandsAtFront` (`Barriers.antt`), `BeginsAtPoint`
-//! (`Commits.antt`), `AwaitsHead`, `AwaitsSuper` (`Creations.antt`) and `IsJournaled`
-//! (`Journaled.antt`).
+//! and `StandsBefore` (`Commits.antt`), `AwaitsHead` and `AwaitsSuper` (`Creations.antt`), and
+//! `IsJournaled` (`Journaled.antt`).
 //!
 //! # Who may touch what
 //!

@@ -6,10 +6,12 @@ use Rattle.wasi_abi.specs.rules.Configs.{Settings}
 use Rattle.process_rules.specs.Processes.{ProcessState, Guest}
 use Rattle.process_rules.specs.Runs.{Kept, Runs, Moves}
 use Rattle.sector_disk.specs.rules.Image.{Image}
+use Rattle.disk_layout.specs.rules.Places.{geometry_of}
 use Rattle.disk_layout.specs.rules.Journal.{Record}
 use Rattle.journal.specs.rules.Steps.{AppendsFront, RecordsStand, AllRecordsFit}
-use Rattle.worker_rules.specs.Stands.{Recorded, given_in}
-use Rattle.worker_laws.specs.laws.Savepoints.{Savepoint, places, StandsAtPoint, StandsBySaved}
+use Rattle.worker_rules.specs.Stands.{Recorded, given_in, StandsFor}
+use Rattle.worker_laws.specs.laws.Savepoints.{Savepoint, places, point_of, StandsAtPoint}
+use Rattle.worker_laws.specs.laws.Savepoints.{StandsBySaved}
 
 -- ---- records
 
@@ -61,3 +63,17 @@ FrontStands =
     → (at : StandsAtFront point records last pending disk)
     → StandsBySaved point (take (length point.front + length records + at.count) kept)
     at.process.steps disk
+
+-- So where it stood for some answers, it stands for these and for those of the front, by the same
+-- savepoint, at the step of the process behind them.
+abbrev pub BarrierStands : Type 0
+BarrierStands =
+    (m : Module) (config : Settings) (kept : List Kept) (n : ℕ) (old new : Image)
+    (stands : StandsFor old m config kept n) (pending : List Record) (q : ProcessState) (used : ℕ)
+    → Recorded stands.reached.guest stands.last pending q
+    → (appends : AppendsFront (geometry_of config (length stands.wasm)) stands.generation used
+    stands.records pending old new)
+    → (r : ProcessState)
+    × Recorded stands.reached.guest stands.last (take appends.count pending) r
+    × StandsBySaved (point_of stands) (kept ++ map given_in (take appends.count pending)) r.steps
+    new

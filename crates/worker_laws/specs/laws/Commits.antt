@@ -1,8 +1,9 @@
 -- What a commit leaves of an image that stands for a worker.
-use Rattle.std.specs.Prelude.{◌≡◌, ◌⊎◌, ◌+◌, List, []}
+use Rattle.std.specs.Prelude.{◌≡◌, ◌⊎◌, ℕ, ◌+◌, List, []}
 use Rattle.wasm_syntax.specs.declared.module.Module.{Module}
 use Rattle.wasi_abi.specs.rules.Configs.{Settings}
 use Rattle.process_rules.specs.Processes.{ProcessState}
+use Rattle.process_rules.specs.Runs.{Kept}
 use Rattle.state_image.specs.rules.Image.{image}
 use Rattle.sector_disk.specs.rules.Image.{Image}
 use Rattle.disk_layout.specs.rules.Sectors.{HasWorker}
@@ -11,6 +12,7 @@ use Rattle.disk_layout.specs.declared.head.TheConstants.{IMAGE_VERSION}
 use Rattle.journal.specs.laws.Laws.{ShowsEarlierThan}
 use Rattle.snapshot.specs.rules.Heads.{IsReadyForHead}
 use Rattle.snapshot.specs.rules.Steps.{HasNew, Fills, Commits, Replaces}
+use Rattle.worker_rules.specs.Stands.{StandsFor}
 use Rattle.worker_laws.specs.laws.Savepoints.{Savepoint, places, StandsAtPoint}
 
 -- It stands at this savepoint without records, and no sector of the journal shows the generation.
@@ -65,4 +67,34 @@ CommitBeginsNext =
     (last : ProcessState) (old new : Image) → StandsAtPoint point records last old
     → IsNextPoint point next
     → Replaces (places point) next.generation IMAGE_VERSION (image next.saved) old new
+    → BeginsAtPoint next new
+
+-- ---- whatever it stands by
+
+-- It stands for these answers at this step, by the generation before that of the savepoint.
+pub record StandsBefore {m : Module} {config : Settings} (next : Savepoint m config)
+    (kept : List Kept) (n : ℕ) (disk : Image) : Type 0 where
+  pub stands : StandsFor disk m config kept n
+  pub wasm : next.wasm ≡ stands.wasm
+  pub generation : next.generation ≡ stands.generation + 1
+
+-- Until the savepoint is there, it stands for the same.
+abbrev pub FillingKeepsStanding : Type 0
+FillingKeepsStanding =
+    (m : Module) (config : Settings) (next : Savepoint m config) (kept : List Kept) (n : ℕ)
+    (old new : Image) → StandsBefore next kept n old
+    → Fills (places next) next.generation old new → StandsBefore next kept n new
+
+abbrev pub CommitKeepsStanding : Type 0
+CommitKeepsStanding =
+    (m : Module) (config : Settings) (next : Savepoint m config) (kept : List Kept) (n : ℕ)
+    (old new : Image) → StandsBefore next kept n old
+    → Commits (places next) next.generation IMAGE_VERSION (image next.saved) old new
+    → StandsBefore next kept n new ⊎ BeginsAtPoint next new
+
+abbrev pub ReplacingBegins : Type 0
+ReplacingBegins =
+    (m : Module) (config : Settings) (next : Savepoint m config) (kept : List Kept) (n : ℕ)
+    (old new : Image) → StandsBefore next kept n old
+    → Replaces (places next) next.generation IMAGE_VERSION (image next.saved) old new
     → BeginsAtPoint next new

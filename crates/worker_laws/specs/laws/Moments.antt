@@ -1,20 +1,24 @@
 -- What the calls of a commit and of a creation leave of a disk, whatever a cut leaves.
-use Rattle.std.specs.Prelude.{◌≡◌, ◌⊎◌, ℕ, ◌+◌, ◌≤◌, List, [], ◌∷◌, length}
+use Rattle.std.specs.Prelude.{◌≡◌, ◌⊎◌, ℕ, ◌+◌, ◌≤◌, List, [], ◌∷◌, ◌++◌, length}
+use Rattle.std.specs.Prelude.{replicate}
 use Rattle.wasm_syntax.specs.declared.module.Module.{Module}
 use Rattle.wasi_abi.specs.rules.Configs.{Settings}
 use Rattle.process_rules.specs.Processes.{ProcessState}
+use Rattle.process_rules.specs.Runs.{Kept}
 use Rattle.state_image.specs.rules.Image.{image}
 use Rattle.sector_disk.specs.rules.Image.{Image}
 use Rattle.sector_disk.specs.rules.Medium.{Medium, After, Follows, LeavesOnly}
 use Rattle.sector_disk.specs.rules.Run.{IsTornRun, IsWrittenRun}
-use Rattle.disk_layout.specs.rules.Places.{geometry_of}
+use Rattle.disk_layout.specs.rules.Places.{geometry_of, config_bytes, journal_place}
+use Rattle.disk_layout.specs.rules.Sectors.{SectorsHold}
 use Rattle.disk_layout.specs.rules.Journal.{Record}
 use Rattle.disk_layout.specs.declared.geometry.Geometry.{Geometry}
+use Rattle.disk_layout.specs.declared.geometry.TheConstants.{MODULE_PLACE}
 use Rattle.disk_layout.specs.declared.head.TheConstants.{IMAGE_VERSION}
 use Rattle.snapshot.specs.rules.Steps.{Fills, Commits, Replaces}
 use Rattle.worker_rules.specs.Stands.{IsBlank}
 use Rattle.worker_laws.specs.laws.Savepoints.{Savepoint, places, StandsAtPoint}
-use Rattle.worker_laws.specs.laws.Commits.{BeginsAtPoint, IsNextPoint}
+use Rattle.worker_laws.specs.laws.Commits.{BeginsAtPoint, IsNextPoint, StandsBefore}
 use Rattle.worker_laws.specs.laws.Creations.{zero_sector, HasNoSuper, AwaitsHead, AwaitsSuper}
 use Rattle.worker_laws.specs.laws.Creations.{super_of_point}
 
@@ -56,6 +60,34 @@ CommitInTheEnd {D} medium =
     (medium old).may_leave (medium new).may_leave
     → LeavesAll (medium new) (BeginsAtPoint next)
 
+-- ---- a commit of the next generation, by whatever the disk stands
+
+abbrev pub FillKeepsAtAnyMoment : {D : Type 0} → (D → Medium) → Type 0
+FillKeepsAtAnyMoment {D} medium =
+    (m : Module) (config : Settings) (next : Savepoint m config) (kept : List Kept) (n : ℕ)
+    (old new : D) → LeavesAll (medium old) (StandsBefore next kept n)
+    → LeavesOnly (medium old) (medium new)
+    (After (Fills (places next) next.generation) (medium old).may_leave)
+    → LeavesOnly (medium old) (medium new) (StandsBefore next kept n)
+
+abbrev pub CommitKeepsAtAnyMoment : {D : Type 0} → (D → Medium) → Type 0
+CommitKeepsAtAnyMoment {D} medium =
+    (m : Module) (config : Settings) (next : Savepoint m config) (kept : List Kept) (n : ℕ)
+    (old new : D) → LeavesAll (medium old) (StandsBefore next kept n)
+    → LeavesOnly (medium old) (medium new)
+    (After (Commits (places next) next.generation IMAGE_VERSION (image next.saved))
+    (medium old).may_leave)
+    → LeavesOnly (medium old) (medium new)
+    (λ disk. StandsBefore next kept n disk ⊎ BeginsAtPoint next disk)
+
+abbrev pub CommitKeepsInTheEnd : {D : Type 0} → (D → Medium) → Type 0
+CommitKeepsInTheEnd {D} medium =
+    (m : Module) (config : Settings) (next : Savepoint m config) (kept : List Kept) (n : ℕ)
+    (old new : D) → LeavesAll (medium old) (StandsBefore next kept n)
+    → Follows (Replaces (places next) next.generation IMAGE_VERSION (image next.saved))
+    (medium old).may_leave (medium new).may_leave
+    → LeavesAll (medium new) (BeginsAtPoint next)
+
 -- ---- a creation
 
 -- while zeros are written over the super
@@ -80,6 +112,21 @@ RunAtAnyMoment {D} medium =
     → LeavesOnly (medium old) (medium new)
     (After (IsTornRun at sectors n) (medium old).may_leave)
     → LeavesOnly (medium old) (medium new) HasNoSuper
+
+-- once zeros stand in heads and journal too, and all is settled
+abbrev pub ZeroRunsInTheEnd : {D : Type 0} → (D → Medium) → Type 0
+ZeroRunsInTheEnd {D} medium =
+    (config : Settings) (wasm : List ℕ) (first second third settled : D)
+    → (let geometry : Geometry = geometry_of config (length wasm) in
+    ((disk : Image) → (medium first).shows disk → HasNoSuper disk
+    × SectorsHold disk MODULE_PLACE geometry.module_sectors (config_bytes config ++ wasm))
+    → Follows (IsWrittenRun 1 (zero_sector ∷ zero_sector ∷ []) 2) (medium first).shows
+    (medium second).shows
+    → Follows (IsWrittenRun (journal_place geometry)
+    (replicate geometry.journal_sectors zero_sector) geometry.journal_sectors)
+    (medium second).shows (medium third).shows
+    → ((disk : Image) → (medium settled).may_leave disk → (medium third).shows disk)
+    → LeavesAll (medium settled) (AwaitsHead config wasm))
 
 -- while the area of the first generation is filled
 abbrev pub FirstFillAtAnyMoment : {D : Type 0} → (D → Medium) → Type 0

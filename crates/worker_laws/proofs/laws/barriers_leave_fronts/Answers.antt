@@ -1,5 +1,5 @@
 use Rattle.worker_laws.proofs.Fronts.{recorded_once, barrier_leaves_front, barrier_leaves_all}
-use Rattle.worker_laws.proofs.Fronts.{front_stands}
+use Rattle.worker_laws.proofs.Fronts.{front_stands, barrier_stands}
 use Rattle.worker_laws.proofs.laws.barriers_leave_fronts.Goals as goal
 
 pub returns-clause-recorded : goal.returns-clause-recorded
@@ -13,3 +13,6 @@ returns-clause-all c = barrier_leaves_all
 
 pub returns-clause-stands : goal.returns-clause-stands
 returns-clause-stands c = front_stands
+
+pub returns-clause-answers : goal.returns-clause-answers
+returns-clause-answers c = barrier_stands

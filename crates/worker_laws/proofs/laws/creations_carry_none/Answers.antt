@@ -1,7 +1,7 @@
 use Rattle.worker_laws.proofs.Passing.{zeros_at_any_moment, zeros_in_the_end, run_at_any_moment}
-use Rattle.worker_laws.proofs.Passing.{first_fill_at_any_moment, first_commit_at_any_moment}
-use Rattle.worker_laws.proofs.Passing.{first_commit_in_the_end, super_at_any_moment}
-use Rattle.worker_laws.proofs.Passing.{super_in_the_end}
+use Rattle.worker_laws.proofs.Passing.{zero_runs_in_the_end, first_fill_at_any_moment}
+use Rattle.worker_laws.proofs.Passing.{first_commit_at_any_moment, first_commit_in_the_end}
+use Rattle.worker_laws.proofs.Passing.{super_at_any_moment, super_in_the_end}
 use Rattle.worker_laws.proofs.laws.creations_carry_none.Goals as goal
 
 pub returns-clause-torn : goal.returns-clause-torn
@@ -12,6 +12,9 @@ returns-clause-zeros g c = zeros_in_the_end g.D.Disk.medium
 
 pub returns-clause-behind : goal.returns-clause-behind
 returns-clause-behind g c = run_at_any_moment g.D.Disk.medium
+
+pub returns-clause-runs : goal.returns-clause-runs
+returns-clause-runs g c = zero_runs_in_the_end g.D.Disk.medium
 
 pub returns-clause-filled : goal.returns-clause-filled
 returns-clause-filled g c = first_fill_at_any_moment g.D.Disk.medium
