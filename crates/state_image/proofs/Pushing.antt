@@ -99,7 +99,8 @@ module _ {S F : Type 0} {takes : Taking S F} where
       → Pushes takes a (front ++ back) r z
   pushes_exit {a} {z} {front} back {fault} r is_err first =
       let p = err_from_is_err_and r is_err in
-      subst (λ s. Pushes takes a (front ++ back) s z) (sym (p.1 ∙ ap (λ y. Err y) p.2)) (pushes_no_more back first)
+      subst (λ s. Pushes takes a (front ++ back) s z) (sym (p.1 ∙ ap (λ y. Err y) p.2))
+      (pushes_no_more back first)
 
 -- what a sink of bytes has, once all pieces were taken
 kept_all : (F : Type 0) (old new : List ℕ) (pieces : List (List ℕ))
