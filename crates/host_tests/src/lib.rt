@@ -1,5 +1,6 @@
 //! What tests alone can show of the host's side: numbers, layouts and configurations of WASI, calls
-//! on memory and streams, answers from outside, the tree of files, sources and outlets, and processes step after step.
+//! on memory and streams, answers from outside, the tree of files, sources and outlets, processes
+//! step after step, and an image.
 //!
 //! Each test is a table of rows whose expected values come from outside. Those that take memory
 //! return their error, so that `scripts/refused-allocations` can refuse each allocation in turn.
@@ -11,6 +12,8 @@ mod abi;
 mod answers;
 #[cfg(test)]
 mod calls;
+#[cfg(test)]
+mod images;
 #[cfg(test)]
 mod processes;
 #[cfg(test)]

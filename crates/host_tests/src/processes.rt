@@ -22,7 +22,7 @@ const HELLO: [u8; 168] = [
     0x00, 0x03, 0x00, 0x00, 0x00, 0x68, 0x69, 0x0a,
 ];
 
-fn hello(alloc: Global) -> Result<Process, Fail> {
+pub(crate) fn hello(alloc: Global) -> Result<Process, Fail> {
     let config = Config::new(1, 1, 64, Row::new(alloc), Row::new(alloc))?;
     let module = read(alloc, &HELLO)?;
     Ok(Process::start(alloc, module, config)?)

@@ -1,4 +1,5 @@
 pub mod Pushing
+pub mod Keeping
 pub mod PushedItems
 mod Opened
 mod Shown

@@ -1,11 +1,12 @@
 -- Nodes and entries at their places, and what they hold.
-use Rattle.std.proofs.Common.{◌≡◌, inl, ℕ, zero, suc, ◌<◌, ◌++◌, Bool, true, false, List, [], ◌∷◌, length}
-use Rattle.std.proofs.Common.{inr, Option, Some, None, refl, sym, ap, subst, ◌∙◌}
+use Rattle.std.proofs.Common.{◌≡◌, inl, inr, ℕ, zero, suc, ◌<◌, ◌++◌, true, false, List, [], ◌∷◌}
+use Rattle.std.proofs.Common.{length, Option, Some, None, refl, sym, ap, subst, ◌∙◌}
 use Rattle.std.specs.Prelude.{Result, IsSome, slice_get, option_map}
 use Rattle.wasi_abi.specs.rules.Layouts.{u16_bytes, u64_bytes}
-use Rattle.file_tree.specs.rules.Files.{Name, Files, FileNode, Content, Directory, File, Entry, IsFiles}
-use Rattle.file_tree.specs.rules.Files.{node_of, is_directory, holds_directory, is_directory_content}
-use Rattle.file_tree.specs.rules.Files.{bytes_of_node, bytes_held, bytes_of_content, entries_of}
+use Rattle.file_tree.specs.rules.Files.{Name, Files, FileNode, Content, Directory, File, Entry}
+use Rattle.file_tree.specs.rules.Files.{IsFiles, node_of, is_directory, holds_directory}
+use Rattle.file_tree.specs.rules.Files.{is_directory_content, bytes_of_node, bytes_held}
+use Rattle.file_tree.specs.rules.Files.{bytes_of_content, entries_of}
 use Rattle.file_tree.specs.rules.Listings.{number_at, number_at_place, HasNameAtPlace}
 use Rattle.state_image.specs.rules.Image.{entry_bytes}
 use Rattle.state_image.specs.rules.Sinks.{Taking, Pushes}
@@ -88,4 +89,5 @@ entry_pushed {S} {F} {takes} {a} {z} {said} fs d i e at k name numbered named pu
     let called : name ≡ e.name = some_is name e.name
     (sym named ∙ ap (option_map (λ (x : Entry). x.name)) at) in
     subst (λ x. Pushes takes a (u16_bytes (length x) ++ (x ++ u64_bytes e.number)) said z) called
-    (subst (λ j. Pushes takes a (u16_bytes (length name) ++ (name ++ u64_bytes j)) said z) same pushed)
+    (subst (λ j. Pushes takes a (u16_bytes (length name) ++ (name ++ u64_bytes j)) said z) same
+    pushed)

@@ -1,7 +1,7 @@
 -- Open descriptors, counted and numbered.
-use Rattle.std.proofs.Common.{◌≡◌, ℕ, ◌+◌, ◌≤◌, List, [], ◌∷◌, ◌++◌, length, take, drop, refl, sym, ap}
-use Rattle.std.proofs.Common.{subst, ◌∙◌, append_assoc, length-append, arith}
-use Rattle.std.specs.Prelude.{Option, Some, None, is_some, Result, Ok, Err, slice_get}
+use Rattle.std.proofs.Common.{◌≡◌, ℕ, ◌+◌, ◌≤◌, List, [], ◌∷◌, ◌++◌, length, take, drop, refl}
+use Rattle.std.proofs.Common.{sym, ap, subst, ◌∙◌, append_assoc, length-append, arith}
+use Rattle.std.specs.Prelude.{Option, Some, None, Result, Ok, Err, slice_get}
 use Rattle.std.specs.List.{flat_map}
 use Rattle.std.specs.Result.{IsErrAnd}
 use Rattle.std.proofs.lemmas.List.{take-append-drop, take_all, length-take-le}
@@ -62,7 +62,8 @@ module _ {S F : Type 0} {takes : Taking S F} where
       let one = ap (λ ns. flat_map f ns) (open_more ds i o is)
       ∙ flat_map-append f (open_from 0 (take i ds)) (open_from i (o ∷ [])) in
       let all = ap (λ ys. front ++ ys) one
-      ∙ sym (append_assoc front (flat_map f (open_from 0 (take i ds))) (flat_map f (open_from i (o ∷ [])))) in
+      ∙ sym (append_assoc front (flat_map f (open_from 0 (take i ds)))
+      (flat_map f (open_from i (o ∷ [])))) in
       subst (λ bytes. Pushes takes a bytes said z) (sym all) (pushes_on before item)
 
   -- a descriptor that was refused
@@ -93,5 +94,5 @@ module _ {S F : Type 0} {takes : Taking S F} where
       → Pushes takes a (front ++ flat_map f (open_from 0 (take i ds))) said z
       → Pushes takes a (front ++ flat_map f (open_from 0 ds)) said z
   pushes_all_opened {a} {z} front f ds i {said} all pushed =
-      subst (λ es. Pushes takes a (front ++ flat_map f (open_from 0 es)) said z) (take_all i ds all)
-      pushed
+      subst (λ es. Pushes takes a (front ++ flat_map f (open_from 0 es)) said z)
+      (take_all i ds all) pushed

@@ -1,6 +1,7 @@
 -- Items that are pushed one after the other.
-use Rattle.std.proofs.Common.{◌≡◌, ℕ, zero, suc, ◌+◌, ◌<◌, ◌≤◌, List, [], ◌∷◌, ◌++◌, length, get_or, take, drop, refl, sym, ap, ◌∙◌, subst, append_assoc, arith}
-use Rattle.std.specs.Prelude.{Result, Ok, Err, Option, Some, slice_get}
+use Rattle.std.proofs.Common.{◌≡◌, ℕ, zero, suc, ◌+◌, ◌<◌, ◌≤◌, List, [], ◌∷◌, ◌++◌, length}
+use Rattle.std.proofs.Common.{get_or, take, drop, refl, sym, ap, ◌∙◌, subst, append_assoc, arith}
+use Rattle.std.specs.Prelude.{Result, Ok, Err, Some, slice_get}
 use Rattle.std.specs.List.{flat_map}
 use Rattle.std.specs.Result.{IsErrAnd}
 use Rattle.std.proofs.lemmas.List.{append-nil, take-append-drop, take_more, take_all}
@@ -13,7 +14,8 @@ use Rattle.state_image.proofs.Pushing.{pushes_on, pushes_exit}
 pub front_more : {X : Type 0} (xs : List X) (i : ℕ) (x : X) → slice_get xs i ≡ Some x
     → take (i + 1) xs ≡ take i xs ++ x ∷ []
 front_more xs i x is =
-    let more : take (i + 1) xs ≡ take i xs ++ get_or xs i x ∷ [] = take_more xs i x (slice_get_within xs i x is) in
+    let more : take (i + 1) xs ≡ take i xs ++ get_or xs i x ∷ [] =
+    take_more xs i x (slice_get_within xs i x is) in
     more ∙ ap (λ y. take i xs ++ y ∷ []) (get_or_from_slice_get xs i x x is)
 
 -- what stands at a place
@@ -43,18 +45,20 @@ bytes_more : {X : Type 0} (f : X → List ℕ) (xs : List X) (i : ℕ) (x : X)
     → flat_map f (take (i + 1) xs) ≡ flat_map f (take i xs) ++ f x
 bytes_more f xs i x more =
     ap (λ ys. flat_map f ys) more
-    ∙ (flat_map-append f (take i xs) (x ∷ []) ∙ ap (λ ys. flat_map f (take i xs) ++ ys) (append-nil (f x)))
+    ∙ (flat_map-append f (take i xs) (x ∷ [])
+    ∙ ap (λ ys. flat_map f (take i xs) ++ ys) (append-nil (f x)))
 
 -- the bytes of a front, and those of the rest
 bytes_split : {X : Type 0} (f : X → List ℕ) (xs : List X) (i : ℕ)
     → flat_map f (take i xs) ++ flat_map f (drop i xs) ≡ flat_map f xs
 bytes_split f xs i =
-    sym (flat_map-append f (take i xs) (drop i xs)) ∙ ap (λ ys. flat_map f ys) (take-append-drop i xs)
+    sym (flat_map-append f (take i xs) (drop i xs))
+    ∙ ap (λ ys. flat_map f ys) (take-append-drop i xs)
 
 module _ {S F : Type 0} {takes : Taking S F} where
   -- one item more
-  pub pushes_item : {a m z : S} {X : Type 0} (front : List ℕ) (f : X → List ℕ) (xs : List X) (i : ℕ)
-      (x : X) {said : Result (Unit {0}) F} → take (i + 1) xs ≡ take i xs ++ x ∷ []
+  pub pushes_item : {a m z : S} {X : Type 0} (front : List ℕ) (f : X → List ℕ) (xs : List X)
+      (i : ℕ) (x : X) {said : Result (Unit {0}) F} → take (i + 1) xs ≡ take i xs ++ x ∷ []
       → Pushes takes a (front ++ flat_map f (take i xs)) (Ok tt) m → Pushes takes m (f x) said z
       → Pushes takes a (front ++ flat_map f (take (i + 1) xs)) said z
   pushes_item {a} {m} {z} front f xs i x {said} more before item =
@@ -72,7 +76,8 @@ module _ {S F : Type 0} {takes : Taking S F} where
       let e = append_assoc front (flat_map f (take (i + 1) xs)) (flat_map f (drop (i + 1) xs))
       ∙ ap (λ ys. front ++ ys) (bytes_split f xs (i + 1)) in
       subst (λ bytes. Pushes takes a bytes r z) e
-      (pushes_exit (flat_map f (drop (i + 1) xs)) r is_err (pushes_item front f xs i x more before item))
+      (pushes_exit (flat_map f (drop (i + 1) xs)) r is_err
+      (pushes_item front f xs i x more before item))
 
   -- all items
   pub pushes_items : {a z : S} {X : Type 0} (front : List ℕ) (f : X → List ℕ) (xs : List X) (i : ℕ)
@@ -100,7 +105,8 @@ module _ {S F : Type 0} {takes : Taking S F} where
       → Pushes takes a bytes r z
   pushes_part_exit {a} {m} {z} bytes from more {fault} r before is_err part =
       subst (λ b. Pushes takes a b r z) (take-append-drop (from + more) bytes)
-      (pushes_exit (drop (from + more) bytes) r is_err (pushes_part bytes from more (from + more) refl before part))
+      (pushes_exit (drop (from + more) bytes) r is_err
+      (pushes_part bytes from more (from + more) refl before part))
 
   -- all bytes of a list
   pub pushes_parts : {a z : S} (bytes : List ℕ) (to : ℕ) {said : Result (Unit {0}) F}

@@ -4,7 +4,7 @@ use Rattle.std.specs.Prelude.{Result, Ok, Err}
 use Rattle.std.specs.Result.{IsErrAnd}
 use Rattle.std.proofs.lemmas.Result.{err_from_is_err_and}
 use Rattle.std.proofs.lemmas.List.{append-nil}
-use Rattle.state_image.specs.rules.Sinks.{Taking, joined, TakesAll, Pushes, KeepsBytes}
+use Rattle.state_image.specs.rules.Sinks.{Taking, joined, TakesAll, Pushes}
 
 joined_on : (pieces more : List (List ℕ)) → joined (pieces ++ more) ≡ joined pieces ++ joined more
 joined_on [] more = refl
@@ -99,25 +99,5 @@ module _ {S F : Type 0} {takes : Taking S F} where
       → Pushes takes a (front ++ back) r z
   pushes_exit {a} {z} {front} back {fault} r is_err first =
       let p = err_from_is_err_and r is_err in
-      subst (λ s. Pushes takes a (front ++ back) s z) (sym (p.1 ∙ ap (λ y. Err y) p.2)) (pushes_no_more back first)
-
--- what a sink of bytes has, once all pieces were taken
-kept_all : (F : Type 0) (old new : List ℕ) (pieces : List (List ℕ))
-    → TakesAll {F = F} (λ a piece said z. KeepsBytes a piece said z) old pieces new
-    → new ≡ old ++ joined pieces
-kept_all F old new [] same = same ∙ sym (append-nil old)
-kept_all F old new (piece ∷ pieces) all =
-    kept_all F all.0 new pieces all.2
-    ∙ (ap (λ x. x ++ joined pieces) all.1 ∙ append_assoc old piece (joined pieces))
-
-pub kept : (F : Type 0) (old new bytes : List ℕ)
-    → Pushes {F = F} (λ a piece said z. KeepsBytes a piece said z) old bytes (Ok tt) new
-    → new ≡ old ++ bytes
-kept F old new bytes pushed =
-    let all : TakesAll {F = F} (λ a piece said z. KeepsBytes a piece said z) old pushed.taken new =
-    subst (λ s. TakesAll {F = F} (λ a piece said z. KeepsBytes a piece said z) old pushed.taken s)
-    (sym pushed.stops.1) pushed.all in
-    let is : bytes ≡ joined pushed.taken =
-    pushed.is
-    ∙ (ap (λ x. joined pushed.taken ++ x) pushed.stops.0 ∙ append-nil (joined pushed.taken)) in
-    kept_all F old new pushed.taken all ∙ ap (λ x. old ++ x) (sym is)
+      subst (λ s. Pushes takes a (front ++ back) s z) (sym (p.1 ∙ ap (λ y. Err y) p.2))
+      (pushes_no_more back first)

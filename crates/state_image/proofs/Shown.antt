@@ -1,5 +1,5 @@
 -- What is saved of a process shows what the process shows.
-use Rattle.std.proofs.Common.{◌≡◌, ◌+◌, ◌++◌, length, sym, ap, ◌∙◌, length-append}
+use Rattle.std.proofs.Common.{◌≡◌, ◌+◌, length, sym, ap, ◌∙◌, length-append}
 use Rattle.wasi_calls_rules.specs.Hosts.{Host}
 use Rattle.state_image.specs.laws.Laws.{SavesWhatIsShown}
 

@@ -3,9 +3,9 @@
 //!
 //! # Promises
 //!
-//! - `write_image_to` pushes exactly the bytes of `image` into a sink, in some pieces. Where a piece
-//!   is refused, a front of the bytes was taken, nothing is pushed after it, and its fault is the one
-//!   that is given (`Pushes`). It takes no memory, and copies none of the guest's.
+//! - `write_image_to` pushes exactly the bytes of `image` into a sink, in some pieces. Where a
+//!   piece is refused, a front of the bytes was taken, nothing is pushed after it, and its fault
+//!   is the one that is given (`Pushes`). It takes no memory, and copies none of the guest's.
 //! - `write_image` gives these bytes in a vector.
 //! - `Sink` is a trait. What one push does is known by one relation, `takes`, which each
 //!   implementation names. `ByteSink` keeps the bytes that it takes, in order (`KeepsBytes`).
@@ -39,11 +39,11 @@
 //!
 //! # Who may touch what
 //!
-//! Only these definitions and this code say which byte of an image means what. `worker_rules` cites
-//! the definitions, for the disk that stands for a worker. No crate calls the code yet. It reads a
-//! process by the questions of `process`, `machine`, `wasi_calls` and `file_tree`, and changes
-//! nothing of it. The image has no lines that wait: whoever writes one has released them. Only
-//! `write_image` and `ByteSink` take memory, and want of it is their only error.
+//! Only these definitions and this code say which byte of an image means what. `worker_rules`
+//! cites the definitions, for the disk that stands for a worker. No crate calls the code yet. It
+//! reads a process by the questions of `process`, `machine`, `wasi_calls` and `file_tree`, and
+//! changes nothing of it. The image has no lines that wait: whoever writes one has released them.
+//! Only `write_image` and `ByteSink` take memory, and want of it is their only error.
 #![tactic(auto)]
 
 mod byte_sink;

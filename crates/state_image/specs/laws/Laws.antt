@@ -37,4 +37,4 @@ SavesWhatIsShown =
     (v : ProcessValue) (guest : Guest) (p : ProcessState) → ShowsProcess v guest p
     → (functions : List FunctionType) × AreFunctionTypes v.machine.guest functions
     × SavedShowsProcess (module_context v.machine.guest functions) guest.program v.machine.table
-        (saved_of v) p
+    (saved_of v) p

@@ -1,5 +1,5 @@
--- What was done to a sink, push by push (this project's own). No value stores a history: pushes lead from a sink before to a
--- sink after, by the relation of one push.
+-- What was done to a sink, push by push (this project's own). No value stores a history: pushes
+-- lead from a sink before to a sink after, by the relation of one push.
 use Rattle.std.specs.Prelude.{◌≡◌, ℕ, List, [], ◌∷◌, ◌++◌, Result, Ok, Err}
 
 -- what a sink takes: the sink before, the bytes, what it said, the sink after

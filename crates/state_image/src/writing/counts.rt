@@ -15,8 +15,11 @@ use wasm_syntax::Trap;
 
 /// The phases: in the start function, in `_start`, exited and trapped.
 const STARTING: u8 = 0;
+
 const RUNNING: u8 = 1;
+
 const EXITED: u8 = 2;
+
 const TRAPPED: u8 = 3;
 
 /// Steps, answers, requests, lines, and the last monotonic time.

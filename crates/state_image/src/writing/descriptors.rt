@@ -4,7 +4,8 @@ ghost use Rattle.std.specs.Prelude.{◌≡◌, ◌≤◌, [], ◌∷◌, length}
 ghost use Rattle.std.specs.List.{flat_map};
 ghost use Rattle.wasi_abi.specs.rules.Layouts.{u64_bytes};
 ghost use Rattle.wasi_calls.specs.Views.{target_of};
-ghost use Rattle.state_image.specs.rules.Image.{items_bytes, open_from, target_bytes, descriptor_bytes};
+ghost use Rattle.state_image.specs.rules.Image.{items_bytes, open_from, target_bytes};
+ghost use Rattle.state_image.specs.rules.Image.{descriptor_bytes};
 ghost use Rattle.state_image.specs.rules.Sinks.{Pushes};
 
 use crate::sink::Sink;
@@ -15,7 +16,9 @@ use wasi_calls::{Descriptor, Host, Names};
 
 /// How many descriptors are open, and each of them, by rising number.
 pub(crate) fn push_descriptors<S: Sink>(host: &Host, sink: &mut S) -> Result<(), S::Fault>
-    ensures { Pushes S.takes sink.old (items_bytes (descriptor_bytes host.now.host.files) (open_from 0 host.now.host.descriptors)) result sink.new }
+    ensures { Pushes S.takes sink.old
+        (items_bytes (descriptor_bytes host.now.host.files)
+        (open_from 0 host.now.host.descriptors)) result sink.new }
 {
     let descriptors = host.descriptors();
     push_count(count_open(descriptors), sink)?;
@@ -54,7 +57,9 @@ fn push_opened<S: Sink>(
     opened: &Option<Descriptor>,
     sink: &mut S,
 ) -> Result<(), S::Fault>
-    ensures { Pushes S.takes sink.old (flat_map (descriptor_bytes tree.now) (open_from number (opened.now ∷ []))) result sink.new }
+    ensures { Pushes S.takes sink.old
+        (flat_map (descriptor_bytes tree.now) (open_from number (opened.now ∷ [])))
+        result sink.new }
 {
     match opened {
         Some(descriptor) => push_descriptor(tree, number, descriptor, sink),
@@ -68,7 +73,9 @@ fn push_descriptor<S: Sink>(
     descriptor: &Descriptor,
     sink: &mut S,
 ) -> Result<(), S::Fault>
-    ensures { Pushes S.takes sink.old (descriptor_bytes tree.now (record { number = number; descriptor = descriptor.now })) result sink.new }
+    ensures { Pushes S.takes sink.old
+        (descriptor_bytes tree.now (record { number = number; descriptor = descriptor.now }))
+        result sink.new }
 {
     push_count(number, sink)?;
     push_target(tree, descriptor.names(), sink)?;

@@ -1,6 +1,6 @@
 //! The files of a process.
 
-ghost use Rattle.std.specs.Prelude.{◌≡◌, ◌+◌, ◌-◌, ◌/◌, ◌<◌, ◌∷◌, ◌++◌, Some, length, slice_get};
+ghost use Rattle.std.specs.Prelude.{◌≡◌, ◌<◌, ◌∷◌, ◌++◌, Some, length, slice_get};
 ghost use Rattle.std.specs.Prelude.{if◌then◌else◌};
 ghost use Rattle.wasi_abi.specs.rules.Layouts.{u64_bytes};
 ghost use Rattle.wasi_abi.specs.rules.Numbers.{directory_type, regular_file};
@@ -37,7 +37,8 @@ pub(crate) fn kind_of(tree: &Tree, number: u64) -> u8
 }
 
 fn push_nodes<S: Sink>(tree: &Tree, sink: &mut S) -> Result<(), S::Fault>
-    ensures { Pushes S.takes sink.old (items_bytes (node_bytes tree.now) tree.now.nodes) result sink.new }
+    ensures { Pushes S.takes sink.old (items_bytes (node_bytes tree.now) tree.now.nodes)
+        result sink.new }
 {
     let count = tree.len();
     push_count(count, sink)?;
@@ -69,7 +70,8 @@ fn push_content<S: Sink>(tree: &Tree, number: u64, sink: &mut S) -> Result<(), S
 }
 
 fn push_directory<S: Sink>(tree: &Tree, number: u64, sink: &mut S) -> Result<(), S::Fault>
-    ensures { Pushes S.takes sink.old (directory_type ∷ items_bytes entry_bytes (entries_of tree.now number)) result sink.new }
+    ensures { Pushes S.takes sink.old
+        (directory_type ∷ items_bytes entry_bytes (entries_of tree.now number)) result sink.new }
 {
     push_u8(FileType::Directory.number(), sink)?;
     push_entries(tree, number, sink)
@@ -77,7 +79,8 @@ fn push_directory<S: Sink>(tree: &Tree, number: u64, sink: &mut S) -> Result<(),
 
 /// How many entries a directory has, and each of them, by the order of their names.
 fn push_entries<S: Sink>(tree: &Tree, directory: u64, sink: &mut S) -> Result<(), S::Fault>
-    ensures { Pushes S.takes sink.old (items_bytes entry_bytes (entries_of tree.now directory)) result sink.new }
+    ensures { Pushes S.takes sink.old (items_bytes entry_bytes (entries_of tree.now directory))
+        result sink.new }
 {
     let count = tree.entry_count(directory);
     push_count(count, sink)?;
@@ -106,7 +109,9 @@ fn push_entry<S: Sink>(
 }
 
 fn push_file<S: Sink>(tree: &Tree, number: u64, sink: &mut S) -> Result<(), S::Fault>
-    ensures { Pushes S.takes sink.old (regular_file ∷ (u64_bytes (length (bytes_of_node tree.now number)) ++ bytes_of_node tree.now number)) result sink.new }
+    ensures { Pushes S.takes sink.old
+        (regular_file ∷ (u64_bytes (length (bytes_of_node tree.now number))
+        ++ bytes_of_node tree.now number)) result sink.new }
 {
     push_u8(FileType::RegularFile.number(), sink)?;
     push_u64(tree.size(number), sink)?;

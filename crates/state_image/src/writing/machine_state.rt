@@ -20,7 +20,8 @@ pub(crate) fn push_machine<S: Sink>(machine: &Machine, sink: &mut S) -> Result<(
 }
 
 fn push_frames<S: Sink>(machine: &Machine, sink: &mut S) -> Result<(), S::Fault>
-    ensures { Pushes S.takes sink.old (items_bytes place_bytes (reverse machine.now.state.frames)) result sink.new }
+    ensures { Pushes S.takes sink.old
+        (items_bytes place_bytes (reverse machine.now.state.frames)) result sink.new }
 {
     let count = machine.frame_count();
     push_count(count, sink)?;
@@ -37,7 +38,9 @@ fn push_place<S: Sink>(
     slots: &[u64],
     sink: &mut S,
 ) -> Result<(), S::Fault>
-    ensures { Pushes S.takes sink.old (place_bytes (record { function = function; position = position; slots = slots.now })) result sink.new }
+    ensures { Pushes S.takes sink.old
+        (place_bytes (record { function = function; position = position; slots = slots.now }))
+        result sink.new }
 {
     push_u32(function, sink)?;
     push_count(position, sink)?;

@@ -25,8 +25,9 @@ use std::alloc::{AllocError, Global};
 pub const IMAGE_MARK: [u8; 8] = *b"DWIMAGE1";
 
 /// Pushes the image of a process, piece by piece. Memory is one piece, and each chunk of a file.
-/// No memory is taken. Where the sink refuses a piece, nothing is pushed after it, and its fault is
-/// the one that is given.
+/// No memory is taken. Where the sink refuses a piece, nothing is pushed after it, and its fault
+/// is the one that is given. Lines that wait are told by their number alone: the caller has
+/// released them.
 pub fn write_image_to<S: Sink>(process: &Process, sink: &mut S) -> Result<(), S::Fault>
     ensures { Pushes S.takes sink.old (image (saved_of process.now)) result sink.new }
 {
@@ -39,7 +40,8 @@ pub fn write_image_to<S: Sink>(process: &Process, sink: &mut S) -> Result<(), S:
     push_descriptors(process.host(), sink)
 }
 
-/// The image of a process, whole. Only want of memory makes it fail.
+/// The image of a process, whole. Only want of memory makes it fail. As with `write_image_to`, the
+/// caller has released the lines that waited.
 pub fn write_image(alloc: Global, process: &Process) -> Result<Vec<u8>, AllocError>
     ensures { IfOk result (λ bytes. bytes.items ≡ image (saved_of process.now)) }
 {

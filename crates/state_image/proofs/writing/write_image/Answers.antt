@@ -1,7 +1,7 @@
 use Rattle.std.proofs.Common.{ℕ, List, ◌++◌, ap, ◌∙◌}
 use Rattle.state_image.specs.rules.Image.{image}
 use Rattle.state_image.specs.rules.Saving.{saved_of}
-use Rattle.state_image.proofs.Pushing.{kept}
+use Rattle.state_image.proofs.Keeping.{kept}
 use Rattle.state_image.proofs.writing.write_image.Goals as goal
 
 pub returns : goal.returns

@@ -1,4 +1,4 @@
-use Rattle.std.proofs.Common.{◌≡◌, ℕ, List, [], ◌∷◌, ap, ◌∙◌}
+use Rattle.std.proofs.Common.{ℕ, List, [], ◌∷◌, ap, ◌∙◌}
 use Rattle.wasi_abi.specs.rules.Layouts.{u32_bytes}
 use Rattle.state_image.specs.rules.Image.{ending_code, flag_of}
 use Rattle.wasi_calls.specs.rules.Held.{HeldHost}
@@ -9,10 +9,23 @@ abbrev one : ℕ → List ℕ
 one n = n ∷ []
 
 pub returns-in_err-push_u8 : goal.returns-in_err-push_u8
-returns-in_err-push_u8 g c = pushes_exit _ _ c.from_residual.ensures.1 (pushes_of one c.phase_of.ensures c.in_err-push_u8.ensures)
+returns-in_err-push_u8 g c =
+    pushes_exit _ _ c.from_residual.ensures.1
+    (pushes_of one c.phase_of.ensures c.in_err-push_u8.ensures)
 
 pub returns-in_err-push_u32 : goal.returns-in_err-push_u32
-returns-in_err-push_u32 g c = pushes_on (pushes_of one c.phase_of.ensures c.in_ok-push_u8.ensures) (pushes_exit _ _ c.from_residual-in_err-push_u32.ensures.1 (pushes_of u32_bytes (c.code_of.ensures ∙ ap ending_code c.ended.ensures) c.in_err-push_u32.ensures))
+returns-in_err-push_u32 g c =
+    let code = c.code_of.ensures ∙ ap ending_code c.ended.ensures in
+    pushes_on (pushes_of one c.phase_of.ensures c.in_ok-push_u8.ensures)
+    (pushes_exit _ _ c.from_residual-in_err-push_u32.ensures.1
+    (pushes_of u32_bytes code c.in_err-push_u32.ensures))
 
 pub returns : goal.returns
-returns g c = pushes_on (pushes_of one c.phase_of.ensures c.in_ok-push_u8.ensures) (pushes_on (pushes_of u32_bytes (c.code_of.ensures ∙ ap ending_code c.ended.ensures) c.in_ok-push_u32.ensures) (pushes_of one (c.flag_of.ensures ∙ ap flag_of (c.has_input_ended.ensures ∙ ap (λ (h : HeldHost). h.host.input_ended) c.host.ensures)) c.push_u8-2.ensures))
+returns g c =
+    let code = c.code_of.ensures ∙ ap ending_code c.ended.ensures in
+    let flag = c.flag_of.ensures
+    ∙ ap flag_of (c.has_input_ended.ensures ∙ ap (λ (h : HeldHost). h.host.input_ended)
+    c.host.ensures) in
+    pushes_on (pushes_of one c.phase_of.ensures c.in_ok-push_u8.ensures)
+    (pushes_on (pushes_of u32_bytes code c.in_ok-push_u32.ensures)
+    (pushes_of one flag c.push_u8-2.ensures))

@@ -10,4 +10,5 @@ invariant-loop-number g l =
     let h = l.fn.host.host in
     Pushes g.S.Sink.takes l.fn.sink
     (u32_bytes (length (open_from 0 h.descriptors))
-    ++ flat_map (descriptor_bytes h.files) (open_from 0 (take l.number h.descriptors))) (Ok tt) l.sink
+    ++ flat_map (descriptor_bytes h.files) (open_from 0 (take l.number h.descriptors))) (Ok tt)
+    l.sink

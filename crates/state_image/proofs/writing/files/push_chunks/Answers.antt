@@ -1,4 +1,4 @@
-use Rattle.std.proofs.Common.{◌≡◌, ℕ, ◌+◌, ◌*◌, ◌≤◌, List, length, arith}
+use Rattle.std.proofs.Common.{ℕ, ◌+◌, ◌*◌, ◌≤◌, List, length, arith}
 use Rattle.file_tree.specs.rules.Files.{bytes_of_node}
 use Rattle.state_image.proofs.Pushing.{pushes_of}
 use Rattle.state_image.proofs.PushedItems.{pushes_part, pushes_part_exit, pushes_parts}
@@ -6,7 +6,8 @@ use Rattle.state_image.proofs.writing.files.push_chunks.Goals as goal
 
 pub returns-in_err-push_bytes : goal.returns-in_err-push_bytes
 returns-in_err-push_bytes g c =
-    pushes_part_exit (bytes_of_node c.args.tree.now c.args.number) (c.loop-index.index * 4096) 4096 _
+    pushes_part_exit (bytes_of_node c.args.tree.now c.args.number) (c.loop-index.index * 4096)
+    4096 _
     c.loop-index.invariant c.from_residual.ensures.1
     (pushes_of (λ (bytes : List ℕ). bytes) c.chunk.ensures c.in_err-push_bytes.ensures)
 

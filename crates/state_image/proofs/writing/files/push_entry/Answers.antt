@@ -1,13 +1,13 @@
-use Rattle.std.proofs.Common.{◌++◌, length, sym, ◌∙◌}
+use Rattle.std.proofs.Common.{◌++◌, sym, ◌∙◌}
 use Rattle.wasi_abi.specs.rules.Layouts.{u64_bytes}
-use Rattle.file_tree.specs.rules.Files.{entries_of}
 use Rattle.state_image.proofs.Pushing.{pushes_on, pushes_exit}
 use Rattle.state_image.proofs.NodesAt.{has_entry, entry_pushed}
 use Rattle.state_image.proofs.writing.files.push_entry.Goals as goal
 
 pub unwrap-number-requires : goal.unwrap-number-requires
 unwrap-number-requires g c =
-    has_entry c.args.tree.now c.args.directory c.args.place c.entry.result c.entry.ensures c.requires
+    has_entry c.args.tree.now c.args.directory c.args.place c.entry.result c.entry.ensures
+    c.requires
 
 pub returns-in_err-push_short_length : goal.returns-in_err-push_short_length
 returns-in_err-push_short_length g c = λ e at.

@@ -7,10 +7,18 @@ abbrev one : ℕ → List ℕ
 one n = n ∷ []
 
 pub returns-in_err-push_u8 : goal.returns-in_err-push_u8
-returns-in_err-push_u8 g c = pushes_exit _ _ c.from_residual.ensures.1 (pushes_of one c.number.ensures c.in_err-push_u8.ensures)
+returns-in_err-push_u8 g c =
+    pushes_exit _ _ c.from_residual.ensures.1
+    (pushes_of one c.number.ensures c.in_err-push_u8.ensures)
 
 pub returns-in_err-push_u64 : goal.returns-in_err-push_u64
-returns-in_err-push_u64 g c = pushes_on (pushes_of one c.number.ensures c.in_ok-push_u8.ensures) (pushes_exit _ _ c.from_residual-in_err-push_u64.ensures.1 (pushes_of u64_bytes c.size.ensures c.in_err-push_u64.ensures))
+returns-in_err-push_u64 g c =
+    pushes_on (pushes_of one c.number.ensures c.in_ok-push_u8.ensures)
+    (pushes_exit _ _ c.from_residual-in_err-push_u64.ensures.1
+    (pushes_of u64_bytes c.size.ensures c.in_err-push_u64.ensures))
 
 pub returns : goal.returns
-returns g c = pushes_on (pushes_of one c.number.ensures c.in_ok-push_u8.ensures) (pushes_on (pushes_of u64_bytes c.size.ensures c.in_ok-push_u64.ensures) c.push_chunks.ensures)
+returns g c =
+    pushes_on (pushes_of one c.number.ensures c.in_ok-push_u8.ensures)
+    (pushes_on (pushes_of u64_bytes c.size.ensures c.in_ok-push_u64.ensures)
+    c.push_chunks.ensures)

@@ -1,4 +1,4 @@
-use Rattle.std.proofs.Common.{ℕ, ◌++◌, sym, subst}
+use Rattle.std.proofs.Common.{ℕ, ◌++◌, sym}
 use Rattle.wasi_abi.specs.rules.Layouts.{u64_bytes}
 use Rattle.state_image.specs.rules.Image.{content_bytes}
 use Rattle.state_image.proofs.Pushing.{pushes_on, pushes_exit, pushes_of}

@@ -1,4 +1,4 @@
-use Rattle.std.proofs.Common.{◌≡◌, ◌<◌, ◌≤◌, length, sym, ◌∙◌, arith}
+use Rattle.std.proofs.Common.{◌≤◌, length, sym, ◌∙◌, arith}
 use Rattle.wasi_abi.specs.rules.Layouts.{u32_bytes}
 use Rattle.state_image.specs.rules.Image.{node_bytes}
 use Rattle.state_image.proofs.Pushing.{pushes_exit, pushes_of}
@@ -24,7 +24,8 @@ returns-in_err-push_node g c =
     let fs = c.args.tree.now in
     let n = numbered fs.nodes c.loop-place.place c.unwrap-number.result
     (sym c.number_at.ensures ∙ c.unwrap-number.ensures) in
-    pushes_item_exit (u32_bytes (length fs.nodes)) (node_bytes fs) fs.nodes c.loop-place.place n.0 _
+    pushes_item_exit (u32_bytes (length fs.nodes)) (node_bytes fs) fs.nodes c.loop-place.place n.0
+    _
     (front_more fs.nodes _ _ n.1) c.loop-place.invariant
     c.from_residual-in_err-push_node.ensures.1
     (c.in_err-push_node.ensures n.0 (node_found fs c.len-count.ensures.shape _ _ _ n.1 n.2) n.2)

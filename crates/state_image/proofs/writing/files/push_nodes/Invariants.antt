@@ -9,4 +9,5 @@ abbrev pub invariant-loop-place : goal.invariant-loop-place
 invariant-loop-place g l =
     let fs = l.fn.tree in
     Pushes g.S.Sink.takes l.fn.sink
-    (u32_bytes (length fs.nodes) ++ flat_map (node_bytes fs) (take l.place fs.nodes)) (Ok tt) l.sink
+    (u32_bytes (length fs.nodes) ++ flat_map (node_bytes fs) (take l.place fs.nodes)) (Ok tt)
+    l.sink

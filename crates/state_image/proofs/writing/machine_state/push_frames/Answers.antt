@@ -1,4 +1,4 @@
-use Rattle.std.proofs.Common.{◌≡◌, ◌≤◌, length, reverse, sym, ◌∙◌, arith}
+use Rattle.std.proofs.Common.{◌≤◌, length, reverse, sym, ◌∙◌, arith}
 use Rattle.std.proofs.lemmas.List.{length-reverse}
 use Rattle.wasi_abi.specs.rules.Layouts.{u32_bytes}
 use Rattle.machine.specs.rules.LentFrames.{lent_frame}
@@ -24,14 +24,16 @@ pub returns-in_err-push_place : goal.returns-in_err-push_place
 returns-in_err-push_place g c =
     let frames = reverse c.args.machine.now.state.frames in
     pushes_item_exit (u32_bytes (length frames)) place_bytes frames c.loop-index.index
-    (lent_frame c.place-place.result) _ (front_more frames _ _ c.place-place.ensures) c.loop-index.invariant
+    (lent_frame c.place-place.result) _ (front_more frames _ _ c.place-place.ensures)
+    c.loop-index.invariant
     c.from_residual-in_err-push_place.ensures.1 c.in_err-push_place.ensures
 
 pub loop-index-preserved : goal.loop-index-preserved
 loop-index-preserved g c =
     let frames = reverse c.args.machine.now.state.frames in
     pushes_item (u32_bytes (length frames)) place_bytes frames c.loop-index.index
-    (lent_frame c.place-place.result) (front_more frames _ _ c.place-place.ensures) c.loop-index.invariant
+    (lent_frame c.place-place.result) (front_more frames _ _ c.place-place.ensures)
+    c.loop-index.invariant
     c.in_ok-push_place.ensures
 
 pub returns : goal.returns

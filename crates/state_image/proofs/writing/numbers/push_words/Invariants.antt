@@ -6,4 +6,5 @@ use Rattle.state_image.proofs.writing.numbers.push_words.Given as goal
 
 abbrev pub invariant-loop-word : goal.invariant-loop-word
 invariant-loop-word g l =
-    Pushes g.S.Sink.takes l.fn.sink (u32_bytes (length l.words) ++ flat_map u64_bytes (take l.word-index l.words)) (Ok tt) l.sink
+    Pushes g.S.Sink.takes l.fn.sink (u32_bytes (length l.words) ++ flat_map u64_bytes (take
+    l.word-index l.words)) (Ok tt) l.sink

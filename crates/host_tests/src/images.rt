@@ -1,0 +1,59 @@
+//! The image of `hello` at its start, and a sink that takes no more.
+
+use crate::processes::hello;
+use state_image::{Sink, write_image, write_image_to};
+use std::test::Fail;
+
+/// The mark; steps, answers, requests, lines and the last monotonic time; in `_start`; no input has
+/// ended, nothing is unread or unfinished; no globals; one frame, of function 2 at its first
+/// instruction, without slots; one page, and the bytes of its segment.
+const FRONT: [u8; 101] = [
+    0x44, 0x57, 0x49, 0x4d, 0x41, 0x47, 0x45, 0x31, 0, 0, 0, 0, 0, 0, 0, 0, 0, 0, 0, 0, 0, 0, 0, 0,
+    0, 0, 0, 0, 0, 0, 0, 0, 0, 0, 0, 0, 0, 0, 0, 0, 0, 0, 0, 0, 0, 0, 0, 0, 1, 0, 0, 0, 0, 0, 0, 0,
+    0, 0, 0, 0, 0, 0, 0, 0, 0, 0, 0, 0, 0, 0, 1, 0, 0, 0, 2, 0, 0, 0, 0, 0, 0, 0, 0, 0, 0, 0, 1, 0,
+    0, 0, 8, 0, 0, 0, 3, 0, 0, 0, 0x68, 0x69, 0x0a,
+];
+
+/// Takes so many pieces, and refuses every other one.
+#[derive(Drop)]
+struct Few {
+    left: u64,
+    asked: u64,
+}
+
+#[derive(Clone, Copy, Debug, PartialEq, Eq)]
+struct Refused;
+
+impl Sink for Few {
+    type Fault = Refused;
+
+    ghost takes = { λ _ _ _ _. Unit {0} };
+
+    fn push(&mut self, _bytes: &[u8]) -> Result<(), Refused> {
+        self.asked = self.asked.saturating_add(1);
+        if self.left == 0 {
+            return Err(Refused);
+        }
+        self.left -= 1;
+        Ok(())
+    }
+}
+
+#[test]
+fn image_of_hello(rt: HostRuntime) -> Result<(), Fail> {
+    let alloc = rt.alloc();
+    let process = hello(alloc)?;
+    let bytes = write_image(alloc, &process)?;
+    assert_eq!(rt; bytes.len(), 65_811);
+    assert!(rt; bytes.starts_with(&FRONT));
+    Ok(())
+}
+
+#[test]
+fn nothing_is_pushed_after_a_refusal(rt: HostRuntime) -> Result<(), Fail> {
+    let process = hello(rt.alloc())?;
+    let mut sink = Few { left: 3, asked: 0 };
+    assert_eq!(rt; write_image_to(&process, &mut sink), Err(Refused));
+    assert_eq!(rt; (sink.left, sink.asked), (0, 4));
+    Ok(())
+}
