@@ -12,8 +12,6 @@ pub mod Finished
 pub mod Stopped
 pub mod Telling
 pub mod Placed
-pub mod Loads
-pub mod Loaded
 pub mod FrameLemmas
 pub mod RoutineLemmas
 pub mod TurnLemmas

@@ -3,7 +3,6 @@ pub mod Initial
 pub mod Instances
 pub mod Lends
 pub mod LentFrames
-pub mod Loads
 pub mod Offers
 pub mod Refusals
 pub mod Runs

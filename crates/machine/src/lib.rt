@@ -47,7 +47,6 @@ mod hosting;
 mod instance;
 pub mod laws;
 mod linking;
-mod loading;
 mod places;
 mod routines;
 mod running;
@@ -55,7 +54,6 @@ mod turns;
 
 pub use instance::LinkFault;
 pub use linking::link;
-pub use loading::{LoadFault, Loading};
 pub use places::FramePlace;
 pub use running::Machine;
 pub use turns::{Arguments, HostCall, Pause, Paused};
