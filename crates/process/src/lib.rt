@@ -12,9 +12,9 @@
 //! - `give` takes an answer only where that is wanted and no line waits (`gives`). It makes the
 //!   waiting call with it, as one step, and runs nothing else. After an error nothing has changed.
 //! - `released` takes the first lines off that wait, and changes nothing else.
-//! - `steps`, `answers`, `requests`, `lines`, `waiting` and `memory` say what it holds. Steps are
-//!   below 2^63, and lines below 2^63 - 2, unfinished ones counted. `P3 StepsSpent` is told where
-//!   the next step would go beyond.
+//! - `steps`, `answers`, `requests`, `lines`, `waiting`, `memory`, `machine`, `host` and `ended` say
+//!   what it holds. Steps are below 2^63, and lines below 2^63 - 2, unfinished ones counted. `P3
+//!   StepsSpent` is told where the next step would go beyond.
 //! - `laws::lines_run_out_by_calls_alone`: of all steps, a call alone that is done may add a line
 //!   without a number.
 //!
@@ -28,7 +28,7 @@
 //! # Who may touch what
 //!
 //! Only this crate puts the machine and its host together, and lends the guest's memory to a call.
-//! `worker` uses it, and `wasmhost_serve` reads what it holds. It stands on `machine`,
+//! `worker` uses it, and `wasmhost_serve` and `state_image` read what it holds. It stands on `machine`,
 //! `wasi_calls` and `process_rules`. `start` takes all memory that the machine needs. Later only a
 //! step of the host's calls takes any. After an error the process is as it was after its last
 //! whole step.

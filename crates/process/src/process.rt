@@ -1,6 +1,6 @@
 //! A process, and what is known of it.
 
-ghost use Rattle.std.specs.Prelude.{◌≡◌, ◌+◌, ◌<◌, ◌≤◌, ◌^◌, IfOk, IfErr, length};
+ghost use Rattle.std.specs.Prelude.{◌≡◌, ◌+◌, ◌<◌, ◌≤◌, ◌^◌, IfOk, IfErr, length, option_map};
 ghost use Rattle.std.specs.List.{AllByRecursion};
 ghost use Rattle.wasm_syntax.specs.rules.Limits.{HasFewParameters, IsSmallFunction};
 ghost use Rattle.wasm_syntax_rules.specs.Validity.{IsValid};
@@ -50,7 +50,8 @@ impl Model for Process {
 
 impl Process {
     ghost use Rattle.machine.specs.rules.Values.{memory_of};
-    ghost use Rattle.process.specs.rules.Values.{IsProcess, HasStarted, HasReleased, lines_in, waiting_in};
+    ghost use Rattle.process.specs.rules.Values.{IsProcess, HasStarted, HasReleased};
+    ghost use Rattle.process.specs.rules.Values.{ending_of, lines_in, waiting_in};
 
     /// The process of a module that begins. All memory that its machine needs is taken here. The fault is the first in the order of
     /// `LinkFault`.
@@ -111,6 +112,27 @@ impl Process {
         ensures { result.now ≡ waiting_in self.now }
     {
         self.host.waiting_lines()
+    }
+
+    /// Its machine.
+    pub fn machine(&self) -> &Machine
+        ensures { result.now ≡ self.now.machine }
+    {
+        &self.machine
+    }
+
+    /// Its host.
+    pub fn host(&self) -> &Host
+        ensures { result.now ≡ self.now.host }
+    {
+        &self.host
+    }
+
+    /// How it has ended, if it has.
+    pub fn ended(&self) -> Option<ProcessEnd>
+        ensures { option_map ending_of result ≡ self.now.ended }
+    {
+        self.ended
     }
 
     /// The guest's memory.

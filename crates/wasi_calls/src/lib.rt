@@ -17,6 +17,8 @@
 //!   lines.
 //! - `Host::release` takes lines off, and `Host::end` emits what is not finished (`changed`). Both
 //!   go on showing the rules' host (`shown`).
+//! - `tree`, `descriptors`, `unread`, `has_input_ended`, `last_monotonic`, `first` and `second` of
+//!   `Host`, and the getters of `Descriptor`, are what the rules' host has.
 //! - `Host::unfinished_lines`: how many lines an end would emit beside those that wait.
 //! - `laws::calls_begin_few_lines`: a call adds no more lines than it may move bytes.
 //!
@@ -67,6 +69,7 @@ mod wish;
 mod write;
 
 pub use calls::{call, lines_begun};
+pub use descriptor::{Descriptor, Names};
 pub use host::Host;
 pub use line::Line;
 pub use outcome::CallOutcome;

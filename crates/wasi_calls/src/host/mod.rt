@@ -122,6 +122,55 @@ impl Host {
         self.streams.unfinished_lines()
     }
 
+    /// The files and directories.
+    pub fn tree(&self) -> &Tree
+        ensures { result.now ≡ self.now.host.files }
+    {
+        &self.tree
+    }
+
+    /// What is open under each number, from 0 on.
+    pub fn descriptors(&self) -> &[Option<Descriptor>]
+        ensures { result.now ≡ self.now.host.descriptors }
+    {
+        self.descriptors.as_slice()
+    }
+
+    /// Bytes of requests that were not read yet.
+    pub fn unread(&self) -> &[u8]
+        ensures { result.now ≡ self.now.host.unread }
+    {
+        self.unread.as_slice()
+    }
+
+    /// Whether input has ended: no more requests come.
+    pub fn has_input_ended(&self) -> bool
+        ensures { result ≡ self.now.host.input_ended }
+    {
+        self.input_ended
+    }
+
+    /// The last monotonic time that a guest saw, in nanoseconds, or 0 before the first one.
+    pub fn last_monotonic(&self) -> u64
+        ensures { result ≡ self.now.host.last_monotonic }
+    {
+        self.last_monotonic
+    }
+
+    /// The unfinished line of stream 1.
+    pub fn first(&self) -> &[u8]
+        ensures { result.now ≡ self.now.host.first }
+    {
+        self.streams.unfinished(1)
+    }
+
+    /// The unfinished line of stream 2.
+    pub fn second(&self) -> &[u8]
+        ensures { result.now ≡ self.now.host.second }
+    {
+        self.streams.unfinished(2)
+    }
+
     /// The most bytes of a request's text, and of the random bytes that a call may want.
     pub fn limit(&self) -> usize
         ensures { result ≡ self.now.host.limit }
