@@ -7,7 +7,7 @@ use Rattle.std.proofs.lemmas.List.Sums.{sum_by-cons}
 use Rattle.file_tree.specs.declared.store.node.Hook.{Hook}
 use Rattle.file_tree.specs.declared.store.node.Hook.TheVariants.{Root, Removed, In}
 use Rattle.file_tree.specs.declared.store.node.Node.{Node}
-use Rattle.file_tree.specs.rules.Files.{Path, FileNode, path_of, is_directory, holds_directory, bytes_of_node, bytes_held, bytes_of_content, used}
+use Rattle.file_tree.specs.rules.Files.{Path, FileNode, node_of, path_of, is_directory, holds_directory, bytes_of_node, bytes_held, bytes_of_content, used}
 use Rattle.file_tree.specs.rules.Chunks.{chunks_for, chunks_of}
 use Rattle.file_tree.specs.Links.{climb, node_in, hook_held, hook_of, content_held, is_directory_in, holds_directory_node, file_bytes_of, bytes_held_in, used_in, chunks_in, is_hung, AreNodes, shown_node, files, IsPlace, IsNowhere}
 use Rattle.file_tree.proofs.Climbs.{path_is, no_path}
@@ -43,6 +43,12 @@ directory_shown ns next k = ap holds_directory (node_shown next (hook_of ns) ns 
 pub bytes_shown : (ns : List Node) (next k : ℕ) → bytes_of_node (files ns next) k ≡ bytes_held_in (node_in ns k)
 bytes_shown ns next k = ap bytes_held (node_shown next (hook_of ns) ns k) ∙ of_node (node_in ns k) where
   of_node : (o : Option Node) → bytes_held (option_map (shown_node next (hook_of ns)) o) ≡ bytes_held_in o
+  of_node None = refl
+  of_node (Some n) = refl
+
+pub there_shown : (ns : List Node) (next k : ℕ) → is_some (node_of (files ns next) k) ≡ is_some (node_in ns k)
+there_shown ns next k = ap is_some (node_shown next (hook_of ns) ns k) ∙ of_node (node_in ns k) where
+  of_node : (o : Option Node) → is_some (option_map (shown_node next (hook_of ns)) o) ≡ is_some o
   of_node None = refl
   of_node (Some n) = refl
 

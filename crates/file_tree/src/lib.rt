@@ -5,9 +5,9 @@
 //! - `is_name` is true exactly of the names that a node may have (`IsNodeName`).
 //! - `Tree::new` is the fresh tree, an empty root. `Tree` is a file system at any time (`len`:
 //!   `shape`).
-//! - `is_directory`, `size`, `used_bytes`, `chunks`, `has_path`, `child`, `entry`, `entry_count`,
-//!   `is_empty`, `is_within`, `number_at`, `next` and `len` answer what the definitions do. `entry`
-//!   goes by the order of names, `number_at` by rising numbers.
+//! - `is_directory`, `size`, `used_bytes`, `chunks`, `has_node`, `has_path`, `child`, `entry`,
+//!   `entry_count`, `is_empty`, `is_within`, `number_at`, `next` and `len` answer what the
+//!   definitions do. `entry` goes by the order of names, `number_at` by rising numbers.
 //! - `chunk` lends the bytes of a file that lie in one of its chunks.
 //! - `parent` gives the directory above a node (`above`), or says that there is none (`none`).
 //!   `name` gives the last name of its path (`last`). `read` copies as many bytes as there are and

@@ -1,6 +1,6 @@
 //! Nodes by their numbers, and what they hold.
 
-ghost use Rattle.std.specs.Prelude.{◌≡◌, ◌<◌, ◌≤◌, ◌++◌, take, drop, length, IfSome, IfNone, option_copied, option_map};
+ghost use Rattle.std.specs.Prelude.{◌≡◌, ◌<◌, ◌≤◌, ◌++◌, take, drop, length, IfSome, IfNone, is_some, option_copied, option_map};
 ghost use Rattle.file_tree.specs.declared.store.node.Node.{Node as StoredNode};
 ghost use Rattle.std.specs.List.{remove};
 ghost use Rattle.file_tree.specs.Store.Cuts.{AreOrdered, IsCut};
@@ -147,6 +147,16 @@ pub fn number_held(node: Option<&Node>) -> Option<u64>
     match node {
         Some(node) => Some(node.number),
         None => None,
+    }
+}
+
+/// Whether a node is there.
+pub fn holds_node(node: Option<&Node>) -> bool
+    ensures { result ≡ is_some (option_copied node.entry) }
+{
+    match node {
+        Some(_) => true,
+        None => false,
     }
 }
 

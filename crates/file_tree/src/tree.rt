@@ -2,7 +2,7 @@
 
 ghost use Rattle.std.specs.Prelude.{◌≡◌, ◌<◌, ◌^◌, ◌++◌, ◌∷◌, [], length, ℕ, ◌+◌, ◌≢◌, Some, slice_get, option_map, IfSome, IfNone, ◌≤◌, ◌==◌, drop, false, IfOk, OnOk, OnErr, is_some};
 ghost use Rattle.file_tree.specs.rules.Bytes.{written, resized};
-ghost use Rattle.file_tree.specs.rules.Files.{Name, Path, Entry, IsFiles, fresh, is_directory, bytes_of_node, used, path_of, child, entries_of, created};
+ghost use Rattle.file_tree.specs.rules.Files.{Name, Path, Entry, IsFiles, fresh, node_of, is_directory, bytes_of_node, used, path_of, child, entries_of, created};
 ghost use Rattle.file_tree.specs.rules.Files.{created_removed, hung, with_next};
 ghost use Rattle.file_tree.specs.rules.Files.{with_file_bytes, removed, forgotten, renamed};
 ghost use Rattle.file_tree.specs.rules.Chunks.{chunks_of, chunk_of};
@@ -14,8 +14,8 @@ ghost use Rattle.file_tree.specs.declared.limits.TheConstants.{NODES, FILE_BYTES
 use crate::children::{leads_to, parent_of};
 use crate::kind::NodeKind;
 use crate::lookup::{
-    chunk_held, chunks_held, drop_node, holds_directory, holds_path, name_held, new_content,
-    node_of, number_held, place_of, read_held, size_held,
+    chunk_held, chunks_held, drop_node, holds_directory, holds_node, holds_path, name_held,
+    new_content, node_of, number_held, place_of, read_held, size_held,
 };
 use crate::store::{ByteList, Hook, Node, NodeContent, Nodes, chunks_of_size};
 use std::alloc::{AllocError, Global};
@@ -95,6 +95,13 @@ impl Tree {
         ensures { result ≡ is_some (path_of self.now number) }
     {
         holds_path(node_of(&self.nodes, number))
+    }
+
+    /// Whether a node has this number, a removed one that is still there included.
+    pub fn has_node(&self, number: u64) -> bool
+        ensures { result ≡ is_some (node_of self.now number) }
+    {
+        holds_node(node_of(&self.nodes, number))
     }
 
     /// The number of the next new node.

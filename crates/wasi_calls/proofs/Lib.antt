@@ -7,6 +7,7 @@ pub mod Pieces
 pub mod Cuts
 pub mod Begun
 pub mod Hosts
+pub mod Restored
 pub mod Descriptors
 pub mod LinesInFront
 pub mod FewLines

@@ -8,5 +8,6 @@ pub mod Listings
 pub mod Openings
 pub mod Renamings
 pub mod Moves
+pub mod Restoring
 pub mod laws
 pub mod rules

@@ -1,13 +1,25 @@
 //! What a process has opened.
 
-ghost use Rattle.std.specs.Prelude.{◌≡◌, ◌^◌};
+ghost use Rattle.std.specs.Prelude.{◌≡◌, ◌^◌, ◌↔◌, IsTrue, IsSome, IfSome};
 ghost use Rattle.wasi_abi.specs.rules.Numbers.{rights_number, descriptor_flags_number};
 ghost use Rattle.wasi_calls_rules.specs.Checks.{with_right};
 ghost use Rattle.wasi_abi.specs.Bits.{bit_of};
+ghost use Rattle.wasi_calls_rules.specs.Hosts.{stream_rights, IsStreamAt};
+ghost use Rattle.wasi_calls.specs.Restoring.{IsOwnStream};
 ghost use Rattle.wasi_calls.specs.Steps.{GivesValue};
+ghost use Rattle.wasi_calls.specs.rules.Restored.{IsBoundedDescriptor};
 
 use std::marker::Model;
 use wasi_abi::{DescriptorFlags, Errno, Rights};
+
+/// Offsets are below.
+const OFFSETS: u64 = 1 << 63;
+
+/// The number of all flags together.
+const FLAGS: u16 = 31;
+
+/// The number of the last stream.
+const LAST_STREAM: u8 = 2;
 
 /// What a descriptor names: a stream by its number, or a node of the file system by its number.
 #[derive(Clone, Copy, Debug, PartialEq, Eq)]
@@ -78,6 +90,76 @@ impl Descriptor {
             base,
             inheriting: Rights::from_number(0),
         }
+    }
+
+    /// What has these numbers, or nothing where one of them is out of its bounds: an offset from
+    /// 2^63 on, flags that there are not, or rights that the profile does not have.
+    pub fn from_numbers(
+        names: Names,
+        offset: u64,
+        flags: u16,
+        base: u64,
+        inheriting: u64,
+    ) -> Option<Descriptor>
+        ensures made { IfSome result (λ d. d ≡ record {
+          target = target_of names;
+          offset = offset;
+          flags = flags;
+          base = base;
+          inheriting = inheriting;
+        }) }
+        ensures there { IsSome result ↔ IsBoundedDescriptor (record {
+          target = target_of names;
+          offset = offset;
+          flags = flags;
+          base = base;
+          inheriting = inheriting;
+        }) }
+    {
+        let flags = DescriptorFlags::from_number(u32::from(flags))?;
+        let descriptor = Descriptor {
+            names,
+            offset,
+            flags,
+            base: Rights::from_number(base),
+            inheriting: Rights::from_number(inheriting),
+        };
+        if descriptor.is_bounded() {
+            Some(descriptor)
+        } else {
+            None
+        }
+    }
+
+    /// Whether its offset, flags and rights are within their bounds.
+    pub(crate) fn is_bounded(&self) -> bool
+        ensures { IsTrue result ↔ IsBoundedDescriptor self.now }
+    {
+        self.offset < OFFSETS
+            && self.flags.number() <= FLAGS
+            && self.base.is_within(Rights::ALL)
+            && self.inheriting.is_within(Rights::ALL)
+    }
+
+    /// Whether it may stand under this number, where it names a stream: it is the stream of that
+    /// number, with its rights, and hands none on.
+    pub(crate) fn is_own_stream(&self, number: usize) -> bool
+        ensures { IsTrue result ↔ IsOwnStream number self.now }
+    {
+        match self.names {
+            Names::Stream(stream) => self.is_stream(number, stream),
+            Names::Node(_) => true,
+        }
+    }
+
+    /// Whether it may stand under this number, where it names this stream.
+    fn is_stream(&self, number: usize, stream: u8) -> bool
+        ensures { IsTrue result ↔ IsStreamAt number stream self.now }
+    {
+        number == usize::from(stream)
+            && stream <= LAST_STREAM
+            && self.base.number() == stream_rights(stream)
+            && self.inheriting.number() == 0
     }
 
     /// What it names.
@@ -151,5 +233,16 @@ impl Descriptor {
         ensures { rights_number result ≡ self.now.inheriting }
     {
         self.inheriting
+    }
+}
+
+/// The number of the rights that a stream has.
+fn stream_rights(stream: u8) -> u64
+    ensures { result ≡ stream_rights stream }
+{
+    if stream == 0 {
+        Rights::INPUT.number()
+    } else {
+        Rights::OUTPUT.number()
     }
 }

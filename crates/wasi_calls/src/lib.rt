@@ -15,6 +15,10 @@
 //!   that its rule asks for, of every host that is shown.
 //! - `Host::new` is the first host of the rules. `waiting_lines` and `released_count` are its
 //!   lines.
+//! - `Host::from_parts` is the host of an image's parts (`made`). It answers one exactly where the
+//!   rules have a host with these parts (`is`, `refused`), or tells that there is no memory.
+//! - `Descriptor::from_numbers` is the descriptor of these numbers (`made`), exactly where each is
+//!   within its bounds (`there`).
 //! - `Host::release` takes lines off, and `Host::end` emits what is not finished (`changed`). Both
 //!   go on showing the rules' host (`shown`).
 //! - `tree`, `descriptors`, `unread`, `has_input_ended`, `last_monotonic`, `first` and `second` of
@@ -26,7 +30,8 @@
 //!
 //! `specs/rules/Calls.antt`: `AreArguments`, `ShowsRow`, `wish_of`, `EndsNothing`.
 //! `specs/rules/Held.antt`: `HeldHost` and `ShowsHost`, which say which hosts of the rules the code's
-//! host is. The rules themselves are `row` and `Host` of `wasi_calls_rules`.
+//! host is. `specs/rules/Restored.antt`: `held_host_from`, which says what parts hold, and
+//! `IsBoundedDescriptor`. The rules themselves are `row` and `Host` of `wasi_calls_rules`.
 //!
 //! # Who may touch what
 //!
@@ -34,8 +39,9 @@
 //! `Tree` of `file_tree`, which it alone changes. `process` uses it. It stands on
 //! `wasi_calls_rules`, `file_tree`, `wasi_abi` and `guest_memory`.
 //!
-//! Memory is taken by `Host::new`, and by a call once all of its checks have passed: for lines, for
-//! the bytes of files, for new nodes and their names, and for a request's line. Without it nothing
+//! Memory is taken by `Host::new`, by `Host::from_parts` once all tests have passed, for the two
+//! lines that an end may emit, and by a call once all of its checks have passed: for lines, for the
+//! bytes of files, for new nodes and their names, and for a request's line. Without it nothing
 //! changes. Bytes go straight from the guest's buffers into lines and files, and back: none are
 //! joined first.
 #![tactic(auto)]
@@ -70,7 +76,7 @@ mod write;
 
 pub use calls::{call, lines_begun};
 pub use descriptor::{Descriptor, Names};
-pub use host::Host;
+pub use host::{Host, HostParts, PartsFault};
 pub use line::Line;
 pub use outcome::CallOutcome;
 pub use wish::wanted_answer;

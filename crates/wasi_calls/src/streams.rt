@@ -1,7 +1,8 @@
 //! The output streams, and the lines that wait to be released.
 
 ghost use Rattle.std.specs.Prelude.{◌≡◌, ◌+◌, ◌<◌, ◌≤◌, ◌^◌, ◌++◌, ◌==◌, ◌&&◌};
-ghost use Rattle.std.specs.Prelude.{nat_le, if◌then◌else◌, length, drop, OnOk, OnErr, vec_len, vec_capacity};
+ghost use Rattle.std.specs.Prelude.{nat_le, if◌then◌else◌, [], length, drop, IfOk, OnOk, OnErr};
+ghost use Rattle.std.specs.Prelude.{vec_len, vec_capacity};
 ghost use Rattle.wasi_calls_rules.specs.Checks.{gathered, has_no_newline};
 ghost use Rattle.wasi_calls_rules.specs.Lines.{cut_all, rest_of};
 ghost use Rattle.wasi_calls_rules.specs.declared.limits.TheConstants.{LINE_BYTES};
@@ -15,6 +16,9 @@ use std::alloc::{AllocError, Global};
 use std::marker::Model;
 use std::mem;
 use wasi_calls_rules::limits::LINE_BYTES;
+
+/// How many streams are written: each may have an unfinished line.
+const STREAMS_WRITTEN: usize = 2;
 
 /// What was written to streams 1 and 2 and not released yet. There is always room for the lines
 /// that an end would emit.
@@ -50,6 +54,29 @@ impl Streams {
             waiting: Vec::new(alloc),
             released: 0,
         }
+    }
+
+    /// Lines that are not finished, behind so many that were released. It fails for want of memory
+    /// alone.
+    pub fn of_unfinished(
+        alloc: Global,
+        first: Vec<u8>,
+        second: Vec<u8>,
+        released: u64,
+    ) -> Result<Streams, AllocError>
+        ensures { IfOk result (λ s. s ≡ record {
+          first = first.items;
+          second = second.items;
+          waiting = [];
+          released = released;
+        }) }
+    {
+        Ok(Streams {
+            first,
+            second,
+            waiting: Vec::with_capacity(alloc, STREAMS_WRITTEN)?,
+            released,
+        })
     }
 
     /// Writes the bytes of buffers to stream 1, or else to 2. It fails for want of memory alone,
@@ -225,7 +252,7 @@ fn have_no_newline(memory: &Memory, buffers: &Buffers) -> bool
 }
 
 /// Whether no byte is a newline.
-fn is_without_newline(bytes: &[u8]) -> bool
+pub fn is_without_newline(bytes: &[u8]) -> bool
     ensures { result ≡ has_no_newline bytes.now }
 {
     for byte in bytes {

@@ -154,7 +154,7 @@ pub(crate) fn sweep(tree: &mut Tree, descriptors: &[Option<Descriptor>], names: 
 }
 
 /// Whether a descriptor names a node.
-fn is_named(descriptors: &[Option<Descriptor>], node: u64) -> bool
+pub(crate) fn is_named(descriptors: &[Option<Descriptor>], node: u64) -> bool
     ensures { result ≡ list_any (names node) descriptors.now }
 {
     for descriptor in descriptors {
@@ -166,7 +166,7 @@ fn is_named(descriptors: &[Option<Descriptor>], node: u64) -> bool
 }
 
 /// Whether it is open, and names a node.
-fn names_node(descriptor: &Option<Descriptor>, node: u64) -> bool
+pub(crate) fn names_node(descriptor: &Option<Descriptor>, node: u64) -> bool
     ensures { result ≡ names node descriptor.now }
 {
     match descriptor {

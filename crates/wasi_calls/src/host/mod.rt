@@ -9,6 +9,7 @@ mod moving;
 mod nodes;
 mod opening;
 mod renaming;
+mod restoring;
 mod texts;
 
 ghost use Rattle.std.specs.Prelude.{◌≡◌, ◌+◌, ◌*◌, ◌<◌, ◌≤◌, ◌^◌, ◌++◌, length, IfOk, OnOk, OnErr};
@@ -27,6 +28,7 @@ use crate::streams::Streams;
 use file_tree::Tree;
 use guest_memory::Memory;
 use guest_memory::laws::are_bytes;
+pub use restoring::{HostParts, PartsFault};
 use std::alloc::{AllocError, Global};
 use std::marker::Model;
 use wasi_abi::{Config, Rights};
