@@ -1,2 +1,5 @@
 pub mod Calls
 pub mod Lists
+pub mod Records
+pub mod Replays
+pub mod Waiting

@@ -1,5 +1,5 @@
-//! What stands outside a worker: where its answers come from, and where its lines go (this
-//! project's own). The replay of recorded answers isn't built yet.
+//! What stands outside a worker: where its answers come from, and where its lines go; and the
+//! replay of answers that are on record (this project's own).
 //!
 //! # Promises
 //!
@@ -11,22 +11,34 @@
 //! - `RefusingOutlet` hands each line on to the outlet inside, and answers one release by a fault
 //!   (`Refuses`).
 //! - `AnySource` and `AnyOutlet` mean what the source or outlet in the box means.
+//! - `release_waiting` releases the lines that wait, each once, in order, with its number
+//!   (`all`). After a refused one nothing was released, and all still wait (`some`).
+//! - `replay`: whichever process was shown, it comes to the one that the records lead to, and no
+//!   step further. Each line on the way, and each that waited, was released once, in order
+//!   (`replayed`). It counts the steps (`counted`). Where it is refused, all lines were released to
+//!   which it had come, up to one that the outlet refused. It says what the cause was (`stopped`).
 //! - `questions_follow_one_another`, `releases_follow_one_another`,
 //!   `exchanges_follow_one_another`: of any source and outlet, a list of calls leads where its
 //!   front leads, and then its rest.
+//! - `records_lead_to_one_process`: to one that is reached on their answers.
+//!   `refused_replays_are_on_the_way`: where records lead to a process, a replay that is refused
+//!   has told lines of that process alone, and no record is at fault.
 //!
 //! # Definitions to read
 //!
 //! In `specs/rules/`: `Giving`, `Taking`, `Leads`, `AnswersInOrder`, `Releases`, `all_taken`,
-//! `Exchange`, `Exchanges` (`Calls.antt`); `HandsOut`, `KeepsLine`, `Refuses` (`Lists.antt`). The
-//! laws are stated in `specs/laws/Laws.antt`.
+//! `last_refused`, `Exchange`, `Exchanges` (`Calls.antt`); `HandsOut`, `KeepsLine`, `Refuses`
+//! (`Lists.antt`); `ReleasesAll`, `ReleasesSome` (`Waiting.antt`); `Recorded` (`Records.antt`);
+//! `Replays`, `ReplaysInVain` (`Replays.antt`). The laws are stated in `specs/laws/Laws.antt`.
 //!
 //! # Who may touch what
 //!
 //! A source or an outlet keeps for its owner what it met; its fault says only that it failed. No
-//! value stores a history. `worker` asks and releases through the traits, and `wasmhost_serve`
-//! implements them. The crate stands on `wasi_abi`, and on definitions of `wasi_calls_rules`.
-//! `LineList` alone takes memory; where that is wanting, it keeps what it had.
+//! value stores a history. Only `release_waiting` releases lines of a process: in a replay, and in
+//! a slice of `worker`, which also asks through the traits. `wasmhost_serve` implements them. The
+//! crate stands on `process`, and on the records of `disk_layout`. `LineList` takes memory; where
+//! that is wanting, it keeps what it had. A replay takes some for a copy of each answer, and its
+//! process for calls of the host. After an error of a replay its process is dropped.
 #![tactic(auto)]
 
 mod answer_list;
@@ -36,15 +48,20 @@ mod laws;
 mod line_list;
 mod outlet;
 mod refusing;
+mod releasing;
+mod replaying;
 mod source;
 
 pub use answer_list::AnswerList;
 pub use boxed::{AnyOutlet, AnySource};
-pub use fault::{OutletFault, SourceFault};
+pub use fault::{OutletFault, ReplayFault, SourceFault};
 pub use laws::{
-    exchanges_follow_one_another, questions_follow_one_another, releases_follow_one_another,
+    exchanges_follow_one_another, questions_follow_one_another, records_lead_to_one_process,
+    refused_replays_are_on_the_way, releases_follow_one_another,
 };
 pub use line_list::{LineList, NumberedLine};
 pub use outlet::Outlet;
 pub use refusing::RefusingOutlet;
+pub use releasing::release_waiting;
+pub use replaying::replay;
 pub use source::Source;

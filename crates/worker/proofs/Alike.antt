@@ -1,11 +1,11 @@
 -- Two slices of the same fuel from the same process, on the same answers.
-use Rattle.std.proofs.Common.{◌≡◌, ◌⊎◌, inl, inr, ℕ, zero, suc, ◌+◌, ◌<◌, ◌≤◌, List, [], length, Some, None, refl, sym, ◌∙◌, ap, subst, arith}
+use Rattle.std.proofs.Common.{◌≡◌, ◌⊎◌, inl, inr, ℕ, zero, suc, ◌+◌, ◌<◌, ◌≤◌, List, length, None, refl, sym, ◌∙◌, ap, subst, arith}
 use Rattle.std.proofs.lemmas.List.{append_cancel_left}
 use Rattle.process_rules.specs.Processes.{ProcessState, Guest}
-use Rattle.process_rules.specs.Runs.{next_of, LeadsTo as Leads, Moves, Kept, Runs, none, step, take}
-use Rattle.process_rules.proofs.OneProcess.{runs_once, one_or_other}
-use Rattle.wasi_abi.specs.declared.answer.Answer.{Answer}
+use Rattle.process_rules.specs.Runs.{next_of, LeadsTo as Leads, Moves, Kept, Runs}
+use Rattle.process_rules.proofs.OneProcess.{runs_once}
 use Rattle.record_replay.specs.rules.Calls.{Exchange, asks_of, releases_of, all_taken}
+use Rattle.record_replay.proofs.OnTheWay.{goes_on, first_moves}
 use Rattle.process.specs.declared.stop.ProcessEnd.{ProcessEnd}
 use Rattle.process.specs.declared.stop.ProcessEnd.TheVariants as end
 use Rattle.process.specs.rules.Values.{ending_of}
@@ -13,29 +13,6 @@ use Rattle.worker.specs.declared.now.Now.{Now}
 use Rattle.worker.specs.declared.now.Now.TheVariants as now
 use Rattle.worker.specs.rules.Slices.{handed, SliceLeadsTo, IsNow}
 use Rattle.worker.specs.laws.Laws.{OneSlice}
-
--- ---- a longer run on the same answers
-
-one_move : (guest : Guest) (p q r : ProcessState) → Moves guest p None q → Moves guest p None r → q ≡ r
-one_move guest p q r a b = runs_once guest p q r [] 1 (step a none) (step b none)
-
-one_taken : (guest : Guest) (p q r : ProcessState) (a : Answer) → Moves guest p (Some a) q → Moves guest p (Some a) r → q ≡ r
-one_taken guest p q r a b c = runs_once guest p q r _ 1 (take b none) (take c none)
-
--- it goes on without an answer from where the shorter one has come
-goes_on : (guest : Guest) (p q r : ProcessState) (kept : List Kept) (n m k : ℕ) → Runs guest p kept n q → Runs guest p kept m r → m ≡ n + suc k → Runs guest q [] (suc k) r
-goes_on guest p q r kept n m k (none {p = p'}) b e =
-    let same : m ≡ suc k = omega (arith, e) in
-    subst (λ z. Runs guest p' [] z r) same b
-goes_on guest p q r kept n m k (step a rest) none e = absurd (omega (arith, e))
-goes_on guest p q r kept n m k (step {p = p'} {q = q'} {kept = kept'} {n = n'} a rest) (step {q = r'} {n = m'} b rest') e =
-    let same : r' ≡ q' = one_move guest p' r' q' b a in
-    goes_on guest q' q r kept' n' m' k rest (subst (λ z. Runs guest z kept' m' r) same rest') (omega (arith, e))
-goes_on guest p q r kept n m k (step {p = p'} {q = q'} a rest) (take {q = r'} {a = answer} b rest') e = absurd (one_or_other guest p' q' r' answer a b)
-goes_on guest p q r kept n m k (take {p = p'} {q = q'} {a = answer} a rest) (step {q = r'} b rest') e = absurd (one_or_other guest p' r' q' answer b a)
-goes_on guest p q r kept n m k (take {p = p'} {q = q'} {a = answer} {kept = kept'} {n = n'} a rest) (take {q = r'} {n = m'} b rest') e =
-    let same : r' ≡ q' = one_taken guest p' r' q' answer b a in
-    goes_on guest q' q r kept' n' m' k rest (subst (λ z. Runs guest z kept' m' r) same rest') (omega (arith, e))
 
 -- ---- as many steps
 
@@ -51,9 +28,6 @@ stands guest q r xs n fuel now.Waiting h less moves =
     let stopped : Leads guest (next_of guest q None) None q r = moves.leads in
     (rw h.3 at stopped)
 stands guest q r xs n fuel (now.Ended how) h less moves = let ended = h.1 in let running = moves.running in absurd (cc)
-
-first_moves : (guest : Guest) (q r : ProcessState) (k : ℕ) → Runs guest q [] (suc k) r → (to : ProcessState) × Moves guest q None to
-first_moves guest q r k (step {q = to} a rest) = (to, a)
 
 no_longer : (guest : Guest) (p q r : ProcessState) (kept : List Kept) (xs ys : List Exchange) (n m k fuel : ℕ) (why other : Now) → Runs guest p kept n q → Runs guest p kept m r
     → IsNow guest q xs n fuel why → IsNow guest r ys m fuel other → m ≡ n + suc k → ⊥

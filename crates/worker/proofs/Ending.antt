@@ -10,7 +10,7 @@ use Rattle.process_rules.specs.Processes.{ProcessState, Guest}
 use Rattle.process_rules.specs.Runs.{Wants, next_of}
 use Rattle.process_rules.proofs.Growing.{move_counts}
 use Rattle.record_replay.specs.declared.fault.SourceFault.{SourceFault}
-use Rattle.record_replay.specs.rules.Calls.{Giving, Taking, Ask, Begun, Exchange, Asks, Exchanges}
+use Rattle.record_replay.specs.rules.Calls.{Giving, Taking, Ask, Begun, Exchange, Asks, Exchanges, last_refused}
 use Rattle.process.specs.declared.fault.ProcessFault.{ProcessFault}
 use Rattle.process.specs.declared.fault.ProcessFault.TheVariants as stop
 use Rattle.process.specs.declared.stop.ProcessEnd.{ProcessEnd}
@@ -22,11 +22,14 @@ use Rattle.worker.specs.declared.fault.WorkFault.{WorkFault}
 use Rattle.worker.specs.declared.fault.WorkFault.TheVariants as fault
 use Rattle.worker.specs.declared.fault.Refusal.TheVariants as refusal
 use Rattle.worker.specs.rules.Slices.{handed_by, SliceLeadsTo, LeadsToWish, AreWanted, Slices}
-use Rattle.worker.specs.rules.Faults.{IsBadAnswer, LeadsUpTo, last_refused, Fails, IsCause, SlicesInVain}
+use Rattle.worker.specs.rules.Faults.{IsBadAnswer, LeadsUpTo, Fails, IsCause, SlicesInVain}
 use Rattle.worker.specs.rules.Refusals.{work_fault}
-use Rattle.worker.specs.Turns.{working, failing, first_waiting, taken_by, ReleasesAll, ReleasesSome, AnswersBy, AsksOnce}
+use Rattle.worker.specs.Turns.{working, failing, taken_by, AnswersBy, AsksOnce}
+use Rattle.record_replay.specs.rules.Waiting.{first_waiting, ReleasesAll, ReleasesSome}
+use Rattle.record_replay.proofs.Emitted.{released_count}
+use Rattle.record_replay.proofs.OnTheWay.{quiet_runs, owing_runs}
 use Rattle.worker.proofs.Joining.{tells, wanted_ask, asked_leads}
-use Rattle.worker.proofs.Going.{released_count, Goes, goes_none, leads, advance_on, owing_last, wish, asked_more, answer_on, told_wanted, told_more, release_on, quiet_runs, owing_runs}
+use Rattle.worker.proofs.Going.{Goes, goes_none, leads, advance_on, owing_last, wish, asked_more, answer_on, told_wanted, told_more, release_on}
 
 -- whether a line waits
 abbrev pub waits : List Line → ℕ

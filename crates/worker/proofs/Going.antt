@@ -1,73 +1,25 @@
 -- What a slice has done so far, and what one more turn adds.
-use Rattle.std.proofs.Common.{◌≡◌, ℕ, suc, ◌+◌, ◌≤◌, List, [], ◌∷◌, ◌++◌, length, Some, None, Ok, refl, sym, ◌∙◌, ap, subst, arith, append_assoc, length-append}
+use Rattle.std.proofs.Common.{◌≡◌, ℕ, suc, ◌+◌, ◌≤◌, List, [], ◌∷◌, ◌++◌, length, Some, None, Ok, refl, sym, ◌∙◌, ap, subst, arith, append_assoc}
 use Rattle.std.specs.Prelude.{◌≢◌}
-use Rattle.std.proofs.lemmas.List.{append-nil, drop_all}
+use Rattle.std.proofs.lemmas.List.{append-nil}
 use Rattle.wasi_abi.specs.declared.answer.Kind.{Kind}
 use Rattle.wasi_abi.specs.declared.answer.Kind.TheVariants as kind
 use Rattle.wasi_abi.specs.declared.answer.Answer.{Answer}
-use Rattle.wasi_calls_rules.specs.Hosts.{Line, Host}
-use Rattle.wasi_calls_rules.specs.laws.Laws.{Emits}
-use Rattle.wasi_calls.specs.rules.Held.{HeldHost, ShowsHost}
+use Rattle.wasi_calls_rules.specs.Hosts.{Line}
 use Rattle.process_rules.specs.Processes.{ProcessState, Guest}
-use Rattle.process_rules.specs.Runs.{Wants, next_of, Moves, Kept, Given, Runs, none, step, take}
+use Rattle.process_rules.specs.Runs.{Wants, next_of, Moves, Kept, Given, Runs, none, take}
 use Rattle.process_rules.proofs.Quiet.{runs_join, quiet_runs_are_runs}
 use Rattle.process_rules.proofs.Growing.{runs_count, runs_emit}
 use Rattle.record_replay.specs.rules.Calls.{Giving, Taking, Ask, Begun, Exchange, Asks, Exchanges, Releases, AnswersInOrder, asks_of, releases_of, all_taken}
 use Rattle.record_replay.proofs.Following.{exchanges_join, releases_of-append, lines_in_order}
 use Rattle.process.specs.rules.Values.{ProcessValue, ShowsProcess, waiting_in}
-use Rattle.process.specs.rules.Stops.{ComesQuietly, ComesOwing}
+use Rattle.process.specs.rules.Stops.{ComesOwing}
 use Rattle.worker.specs.rules.Slices.{handed, SliceLeadsTo, AreAnswered, LeadsToWish, AreWanted}
 use Rattle.worker.specs.rules.Faults.{EmitsLast}
-use Rattle.worker.specs.Turns.{first_waiting, ReleasesAll}
+use Rattle.record_replay.specs.rules.Waiting.{first_waiting, ReleasesAll}
+use Rattle.record_replay.proofs.Emitted.{lines_on, released_count, released_none}
+use Rattle.record_replay.proofs.OnTheWay.{owing_runs}
 use Rattle.worker.proofs.Joining.{handed_of_both, none_answered, answered_join, answered_tells, tells, tells_ask_nothing, releases_of_tells, none_wanted, wanted_ask, wanted_tells}
-
--- ---- lists
-
--- two lists of lines are one, cut at the same place
-same_cut : (a b c d : List Line) → a ++ b ≡ c ++ d → length a ≡ length c → b ≡ d
-same_cut [] b [] d e n = e
-same_cut [] b (y ∷ c) d e n = absurd (omega (arith, n))
-same_cut (x ∷ a) b [] d e n = absurd (omega (arith, n))
-same_cut (x ∷ a) b (y ∷ c) d e n =
-    let tails : a ++ b ≡ c ++ d = cc in
-    let sizes : length a ≡ length c = omega (arith, n) in
-    same_cut a b c d tails sizes
-
--- where no line waited, those that wait are those that were emitted
-pub lines_on : (old new : HeldHost) (g h : Host) → ShowsHost old g → ShowsHost new h → Emits g h → old.host.lines ≡ [] → new.released ≡ old.released → h.lines ≡ g.lines ++ new.host.lines
-lines_on old new g h s t emits empty same =
-    let lines_g : g.lines ≡ s.before ++ old.host.lines = ap (λ (z : Host). z.lines) s.is in
-    let before_g : g.lines ≡ s.before = lines_g ∙ ap (λ z. s.before ++ z) empty ∙ append-nil s.before in
-    let lines_h : h.lines ≡ t.before ++ new.host.lines = ap (λ (z : Host). z.lines) t.is in
-    let both : g.lines ++ emits.lines ≡ t.before ++ new.host.lines = sym emits.are ∙ lines_h in
-    let sizes : length g.lines ≡ length t.before = ap length before_g ∙ s.count ∙ sym same ∙ sym t.count in
-    emits.are ∙ ap (λ z. g.lines ++ z) (same_cut g.lines emits.lines t.before new.host.lines both sizes)
-
--- how many lines were released, where so many were and others wait
-pub released_count : (v : HeldHost) (h : Host) (front told : List Line) → ShowsHost v h → h.lines ≡ front ++ (told ++ v.host.lines) → v.released ≡ length front + length told
-released_count v h front told s e =
-    let lines : h.lines ≡ s.before ++ v.host.lines = ap (λ (z : Host). z.lines) s.is in
-    let one : length h.lines ≡ length s.before + length v.host.lines = ap length lines ∙ length-append s.before v.host.lines in
-    let two : length h.lines ≡ length front + length (told ++ v.host.lines) = ap length e ∙ length-append front (told ++ v.host.lines) in
-    let three : length (told ++ v.host.lines) ≡ length told + length v.host.lines = length-append told v.host.lines in
-    let count = s.count in
-    omega arith
-
--- after lines were released none waits
-pub released_none : {O : Type 0} (takes : Taking O) (now new : ProcessValue) (q r : O) → ReleasesAll takes now new q r → waiting_in new ≡ []
-released_none takes now new q r all = ap waiting_in all.released.is ∙ drop_all (length (waiting_in now)) (waiting_in now) (omega arith)
-
-pub released_steps : {O : Type 0} (takes : Taking O) (now new : ProcessValue) (q r : O) → ReleasesAll takes now new q r → new.steps ≡ now.steps
-released_steps takes now new q r all = ap (λ (z : ProcessValue). z.steps) all.released.is
-
--- ---- where the steps without answers lead
-
-pub quiet_runs : (new : ProcessValue) (guest : Guest) (p : ProcessState) (come : ComesQuietly new guest p) → Runs guest p [] come.steps come.process
-quiet_runs new guest p come = (quiet_runs_are_runs guest p come.process come.steps come.runs).0
-
-pub owing_runs : (new : ProcessValue) (guest : Guest) (p : ProcessState) (come : ComesOwing new guest p) → Runs guest p [] (come.steps + 1) come.process
-owing_runs new guest p come =
-    runs_join guest p come.before come.process [] [] come.steps 1 (quiet_runs_are_runs guest p come.before come.steps come.runs).0 (step come.moves none)
 
 -- ---- so far
 

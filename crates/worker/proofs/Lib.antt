@@ -4,5 +4,4 @@ pub mod Alike
 pub mod Failing
 pub mod Going
 pub mod Ending
-pub mod Releasing
 pub mod Worked

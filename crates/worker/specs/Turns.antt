@@ -1,16 +1,14 @@
--- What the calls of one turn do: lines that wait are released, and an answer is asked for and given.
-use Rattle.std.specs.Prelude.{◌≡◌, ℕ, suc, Bool, true, false, List, ◌∷◌, ◌++◌, length, Option, Some, None, Result, Ok, Err}
+-- What a worker is before and after a call has failed, and what asking for an answer does.
+use Rattle.std.specs.Prelude.{◌≡◌, Bool, true, false, Option, Some, None, Result, Ok, Err}
 use Rattle.wasi_abi.specs.declared.answer.Kind.{Kind}
 use Rattle.wasi_abi.specs.declared.answer.Answer.{Answer}
-use Rattle.wasi_calls_rules.specs.Hosts.{Line}
 use Rattle.record_replay.specs.declared.fault.SourceFault.{SourceFault}
-use Rattle.record_replay.specs.rules.Calls.{Giving, Taking, Releases, all_taken}
+use Rattle.record_replay.specs.rules.Calls.{Giving}
 use Rattle.process.specs.declared.fault.ProcessFault.{ProcessFault}
-use Rattle.process.specs.rules.Values.{ProcessValue, HasReleased, waiting_in}
+use Rattle.process.specs.rules.Values.{ProcessValue}
 use Rattle.process.specs.rules.Stops.{GivesAnswer}
 use Rattle.worker.specs.declared.fault.WorkFault.{WorkFault}
 use Rattle.worker.specs.declared.fault.WorkFault.TheVariants as fault
-use Rattle.worker.specs.rules.Faults.{last_refused}
 use Rattle.worker.specs.rules.Refusals.{work_fault}
 use Rattle.worker.specs.rules.Values.{WorkerValue}
 
@@ -20,26 +18,6 @@ working v = record { process = v; failed = false }
 
 abbrev pub failing : ProcessValue → WorkerValue
 failing v = record { process = v; failed = true }
-
--- ---- lines
-
--- the number of the first line that waits
-abbrev pub first_waiting : ProcessValue → ℕ
-first_waiting v = suc v.host.released
-
--- all lines that waited were released, and wait no more
-pub record ReleasesAll {O : Type 0} (takes : Taking O) (old new : ProcessValue) (outlet outlet' : O) : Type 0 where
-  pub told : Releases takes outlet (all_taken (first_waiting old) (waiting_in old)) outlet'
-  pub released : HasReleased (length (waiting_in old)) old new
-
--- some of them were released, and the next one was refused; they all still wait
-pub record ReleasesSome {O : Type 0} (takes : Taking O) (old new : ProcessValue) (outlet outlet' : O) : Type 0 where
-  pub told : List Line
-  pub line : Line
-  pub others : List Line
-  pub waiting : waiting_in old ≡ told ++ (line ∷ others)
-  pub refused : Releases takes outlet (last_refused (first_waiting old) told line) outlet'
-  pub same : new ≡ old
 
 -- ---- answers
 

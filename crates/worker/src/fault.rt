@@ -3,10 +3,12 @@
 ghost use Rattle.std.specs.Prelude.{◌≡◌};
 ghost use Rattle.machine_loader.specs.declared.fault.FrontFault.TheVariants as front;
 ghost use Rattle.worker.specs.rules.Refusals.{work_fault, refusal_of};
+ghost use Rattle.worker.specs.declared.fault.WorkFault.TheVariants as work;
 
 use machine::LinkFault;
 use machine_loader::FrontFault;
 use process::ProcessFault;
+use record_replay::OutletFault;
 use thiserror::Error;
 
 /// What is refused, under its own name.
@@ -45,6 +47,14 @@ impl From<ProcessFault> for WorkFault {
             ProcessFault::Memory => WorkFault::Memory,
             ProcessFault::StepsSpent => WorkFault::Refused(Refusal::StepsSpent),
         }
+    }
+}
+
+impl From<OutletFault> for WorkFault {
+    ghost from_gives = { λ _ e. e ≡ work.Outlet };
+
+    fn from(_fault: OutletFault) -> WorkFault {
+        WorkFault::Outlet
     }
 }
 

@@ -1,17 +1,16 @@
 //! The turns of a slice: steps up to where something is owed or asked, and what that wants of the outside.
 
-ghost use Rattle.std.specs.Prelude.{◌≡◌, [], IfOk, IfErr, OnOk, OnErr};
+ghost use Rattle.std.specs.Prelude.{◌≡◌, [], IfOk, IfErr};
 ghost use Rattle.wasi_abi.specs.declared.answer.Kind.{Kind};
 ghost use Rattle.process.specs.rules.Values.{waiting_in};
 ghost use Rattle.worker.specs.rules.Slices.{Slices};
 ghost use Rattle.worker.specs.rules.Faults.{SlicesInVain};
-ghost use Rattle.worker.specs.Turns.{working, failing, ReleasesAll, ReleasesSome, AsksOnce};
-ghost use Rattle.worker.specs.declared.fault.WorkFault.TheVariants.{Outlet as OutletFails};
+ghost use Rattle.worker.specs.Turns.{working, failing, AsksOnce};
 
 use crate::fault::WorkFault;
 use crate::now::Now;
 use process::{Process, Stop};
-use record_replay::{Outlet, Source};
+use record_replay::{Outlet, Source, release_waiting};
 use wasi_abi::Kind;
 
 /// Takes at most `fuel` steps. Each line is released, and each answer asked for, before the next step.
@@ -29,7 +28,7 @@ pub(crate) fn work<S: Source, O: Outlet>(
     loop {
         let left = fuel - (process.steps() - first);
         match process.advance(left)? {
-            Stop::Owes => release_all(process, outlet)?,
+            Stop::Owes => release_waiting(process, outlet)?,
             Stop::Ended(how) => return Ok(Now::Ended(how)),
             Stop::Spent => return Ok(Now::Spent),
             Stop::Asks(kind) => {
@@ -39,25 +38,6 @@ pub(crate) fn work<S: Source, O: Outlet>(
             }
         }
     }
-}
-
-/// Releases the lines that wait, in their order, each once, with their numbers.
-fn release_all<O: Outlet>(process: &mut Process, outlet: &mut O) -> Result<(), WorkFault>
-    ensures all { OnOk result (ReleasesAll O.takes process.old process.new outlet.old outlet.new) }
-    ensures some { OnErr result (ReleasesSome O.takes process.old process.new outlet.old outlet.new) }
-    ensures fault { IfErr result (λ fault. fault ≡ OutletFails) }
-{
-    let waiting = process.waiting();
-    let count = waiting.len();
-    let released = process.lines() - count as u64;
-    for (i, line) in waiting.iter().enumerate() {
-        let said = outlet.release(released + i as u64 + 1, line.stream(), line.text());
-        if said.is_err() {
-            return Err(WorkFault::Outlet);
-        }
-    }
-    process.released(count);
-    Ok(())
 }
 
 /// Asks the source once, and gives the process the answer, where there is one. Whether there was.

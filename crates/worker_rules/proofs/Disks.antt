@@ -11,7 +11,7 @@ use Rattle.wasm_syntax.specs.declared.module.Module.{Module}
 use Rattle.wasm_syntax_rules.specs.Configuration.{Thread}
 use Rattle.wasi_abi.specs.rules.Configs.{Settings}
 use Rattle.process_rules.specs.Processes.{ProcessState, Guest, IsStart, closed_at}
-use Rattle.process_rules.specs.Runs.{Kept, Given, Runs, none, take as takes}
+use Rattle.process_rules.specs.Runs.{Runs}
 use Rattle.process_rules.proofs.Growing.{move_counts, runs_count}
 use Rattle.process_rules.proofs.Quiet.{runs_join}
 use Rattle.sector_disk.specs.rules.Image.{Image, sector_at}
@@ -19,32 +19,17 @@ use Rattle.disk_layout.specs.rules.Places.{Geometry, geometry_of, config_bytes, 
 use Rattle.disk_layout.specs.rules.Places.{journal_place}
 use Rattle.disk_layout.specs.declared.superblock.TheConstants.{SUPER_END_MARK}
 use Rattle.disk_layout.specs.rules.Sectors.{IsMarked, super_bytes, stamp_of, shown_generation}
-use Rattle.disk_layout.specs.rules.Journal.{Record, is_of, payloads_from}
+use Rattle.disk_layout.specs.rules.Journal.{is_of, payloads_from}
 use Rattle.disk_layout.proofs.FieldLemmas.{drop_over}
 use Rattle.disk_layout.proofs.JournalLemmas.{is_of_other}
-use Rattle.worker_rules.specs.Stands.{Recorded, none as no_record, more, given_in, ShowsNoneLater}
+use Rattle.record_replay.specs.rules.Records.{none as no_record, more, given_in}
+use Rattle.record_replay.proofs.Recordings.{recorded_runs}
+use Rattle.worker_rules.specs.Stands.{ShowsNoneLater}
 use Rattle.worker_rules.specs.laws.Disks.{StandsForWhatIsReached, RecordsAscend, StandsByItsParts}
 use Rattle.worker_rules.specs.laws.Disks.{BlankStandsForNone, NoLaterImage, NoLaterPayload}
 use Rattle.worker_rules.specs.laws.Disks.{OneGeneration, tiny, tiny_disk, DiskExamples}
 
 -- ---- what is reached
-
-record RunsOn (guest : Guest) (p : ProcessState) (kept : List Kept)
-    (q : ProcessState) : Type 0 where
-  steps : ℕ
-  runs : Runs guest p kept steps q
-
-recorded_runs : (guest : Guest) (p q : ProcessState) (records : List Record)
-    → Recorded guest p records q → RunsOn guest p (map given_in records) q
-recorded_runs guest p q records (no_record {p = p'}) = record { steps = 0; runs = none }
-recorded_runs guest p q records (more {p = p'} {q = before} {r = after} {s = last} {a = a} {n =
-    n} {records = rest} first moves recorded) =
-    let on = recorded_runs guest after last rest recorded in
-    record {
-      steps = n + suc on.steps;
-      runs = runs_join guest p' before last [] (Given a ∷ map given_in rest) n (suc on.steps) first
-          (takes moves on.runs);
-    }
 
 closed_counts : (thread : Thread) (later : List ℕ) (p : ProcessState)
     → (closed_at thread later p).steps ≡ p.steps

@@ -1,33 +1,20 @@
 -- A disk image that stands for a worker (this project's own).
-use Rattle.std.specs.Prelude.{◌≡◌, ℕ, ◌+◌, ◌<◌, ◌≤◌, List, [], ◌∷◌, ◌++◌, length, map, Option}
-use Rattle.std.specs.Prelude.{Some}
+use Rattle.std.specs.Prelude.{◌≡◌, ℕ, ◌+◌, ◌<◌, ◌≤◌, List, ◌++◌, length, map, Option}
 use Rattle.wasm_syntax.specs.declared.module.Module.{Module}
 use Rattle.wasm_syntax.specs.rules.Modules.{IsModule}
 use Rattle.wasm_syntax.specs.declared.types.FunctionType.{FunctionType}
 use Rattle.wasm_syntax_rules.specs.Validity.{AreFunctionTypes, module_context}
-use Rattle.wasi_abi.specs.declared.answer.Answer.{Answer}
 use Rattle.wasi_abi.specs.rules.Configs.{Settings}
 use Rattle.wasi_calls_rules.specs.declared.limits.TheConstants.{TEXT_BYTES}
-use Rattle.process_rules.specs.Processes.{ProcessState, Guest}
-use Rattle.process_rules.specs.Runs.{Kept, Given, Moves, Runs, Reaches}
+use Rattle.process_rules.specs.Processes.{ProcessState}
+use Rattle.process_rules.specs.Runs.{Kept, Reaches}
 use Rattle.state_image.specs.rules.Image.{Saved, SavedShowsProcess, image}
 use Rattle.sector_disk.specs.rules.Image.{Image, sector_at}
 use Rattle.disk_layout.specs.rules.Places.{Geometry, geometry_of, journal_place}
 use Rattle.disk_layout.specs.rules.Sectors.{HasMarks, HasWorker, HoldsImage, shown_generation}
 use Rattle.disk_layout.specs.rules.Journal.{Record, scan}
+use Rattle.record_replay.specs.rules.Records.{Recorded, given_in}
 use Rattle.disk_layout.specs.declared.head.TheConstants.{IMAGE_VERSION, HEAD_STAMP_PLACE}
-
--- From one process to another by steps of which each that takes an answer is on record, in order,
--- with its count.
-pub data Recorded (guest : Guest) : ProcessState → List Record → ProcessState → Type 0 where
-  none : {p : ProcessState} → Recorded guest p [] p
-  more : {p q r s : ProcessState} {a : Answer} {n : ℕ} {records : List Record}
-      → Runs guest p [] n q → Moves guest q (Some a) r → Recorded guest r records s
-      → Recorded guest p (record { step = r.steps; answer = a } ∷ records) s
-
--- the answer of a record, as it is kept
-abbrev pub given_in : Record → Kept
-given_in r = Given r.answer
 
 -- no head and no journal sector shows a later generation
 pub record ShowsNoneLater (geometry : Geometry) (disk : Image) (g : ℕ) : Type 0 where

@@ -1,6 +1,6 @@
 -- What was done to a source and to an outlet, call by call (this project's own). No value stores a history: a list of calls
 -- leads from a value before to a value after, by the relation of one call.
-use Rattle.std.specs.Prelude.{◌≡◌, ℕ, ◌+◌, List, [], ◌∷◌, Option, Result, Ok}
+use Rattle.std.specs.Prelude.{◌≡◌, ℕ, ◌+◌, List, [], ◌∷◌, ◌++◌, length, Option, Result, Ok, Err}
 use Rattle.wasi_abi.specs.declared.answer.Kind.{Kind}
 use Rattle.wasi_abi.specs.declared.answer.Answer.{Answer}
 use Rattle.wasi_calls_rules.specs.Hosts.{Line}
@@ -53,6 +53,12 @@ Releases takes before releases after = Leads (Released takes) before releases af
 abbrev pub all_taken : ℕ → List Line → List Begun
 all_taken first [] = []
 all_taken first (line ∷ lines) = record { number = first; line = line; said = Ok tt } ∷ all_taken (first + 1) lines
+
+-- releases of these lines with the numbers from `first` on, each of which was taken, and of one
+-- more, which was refused
+abbrev pub last_refused : ℕ → List Line → Line → List Begun
+last_refused first told line = all_taken first told
+    ++ (record { number = first + length told; line = line; said = Err (record {}) } ∷ [])
 
 -- ---- both, in one order
 

@@ -1,5 +1,5 @@
 -- Why a worker fails, and what it has done until then.
-use Rattle.std.specs.Prelude.{◌≡◌, ℕ, suc, ◌+◌, ◌<◌, ◌≤◌, true, false, List, [], ◌∷◌, ◌++◌, length, map, Option, Some, None, Result, Ok, Err}
+use Rattle.std.specs.Prelude.{◌≡◌, ℕ, suc, ◌<◌, ◌≤◌, true, false, List, [], ◌∷◌, ◌++◌, length, map, Option, Some, None, Result, Ok, Err}
 use Rattle.wasi_abi.specs.declared.answer.Kind.{Kind}
 use Rattle.wasi_abi.specs.declared.answer.Answer.{Answer}
 use Rattle.wasi_abi.specs.rules.Answers.{Fits}
@@ -7,7 +7,7 @@ use Rattle.wasi_calls_rules.specs.Hosts.{Line}
 use Rattle.process_rules.specs.Processes.{ProcessState, Guest}
 use Rattle.process_rules.specs.Runs.{Moves}
 use Rattle.record_replay.specs.declared.fault.SourceFault.{SourceFault}
-use Rattle.record_replay.specs.rules.Calls.{Giving, Taking, Ask, Begun, Exchange, Asks, Tells, Exchanges, all_taken}
+use Rattle.record_replay.specs.rules.Calls.{Giving, Taking, Ask, Exchange, Asks, Tells, Exchanges, last_refused}
 use Rattle.machine_loader.specs.rules.Acceptance.{IsTold, HasNoAcceptedModule, is_want}
 use Rattle.process.specs.rules.Values.{ShowsProcess}
 use Rattle.process.specs.rules.Stops.{CallsHost, IsBeyond}
@@ -56,10 +56,6 @@ pub record EmitsLast (guest : Guest) (p : ProcessState) (exchanges : List Exchan
   pub leads : LeadsUpTo guest p exchanges steps before given
   pub moves : Moves guest before given q
   pub emitted : q.host.lines ≡ before.host.lines ++ lines
-
--- releases of these lines with the numbers from `first` on, each of which was taken, and of one more, which was refused
-abbrev pub last_refused : ℕ → List Line → Line → List Begun
-last_refused first told line = all_taken first told ++ (record { number = first + length told; line = line; said = Err (record {}) } ∷ [])
 
 -- of the lines that the last step emitted some were released, and the next one was refused
 pub record StopsAtLine (guest : Guest) (p : ProcessState) (exchanges : List Exchange) (n : ℕ) (q : ProcessState) : Type 0 where

@@ -12,7 +12,8 @@ use Rattle.sector_disk.specs.rules.Image.{Image}
 use Rattle.disk_layout.specs.rules.Places.{Geometry, geometry_of, journal_place}
 use Rattle.disk_layout.specs.rules.Sectors.{super_bytes, head_bytes, HasWorker, HoldsImage}
 use Rattle.disk_layout.specs.rules.Journal.{Record, journal_sector, payloads_from, scan}
-use Rattle.worker_rules.specs.Stands.{Recorded, given_in, ShowsNoneLater, StandsFor, IsBlank}
+use Rattle.record_replay.specs.rules.Records.{Recorded, given_in}
+use Rattle.worker_rules.specs.Stands.{ShowsNoneLater, StandsFor, IsBlank}
 use Rattle.sector_disk.specs.declared.sector.TheConstants.{SECTOR_SIZE}
 use Rattle.disk_layout.specs.declared.head.TheConstants.{IMAGE_VERSION}
 use Rattle.disk_layout.specs.declared.record.TheConstants.{LONGEST_PAYLOAD}

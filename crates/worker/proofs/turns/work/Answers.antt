@@ -1,7 +1,7 @@
 use Rattle.std.proofs.Common.{◌-◌, ap, arith}
 use Rattle.std.proofs.lemmas.Result.{err_from_is_err_and}
 use Rattle.worker.proofs.Ending.{turning_none, turning_counts, spent, over, owes, owes_less, asks, asks_counts, cannot_advance, released_all, released_some, waiting, given, given_less, vainly}
-use Rattle.worker.proofs.Going.{released_none, released_steps}
+use Rattle.record_replay.proofs.Emitted.{released_none, released_steps}
 use Rattle.worker.proofs.turns.work.Goals as goal
 
 pub loop-process-init : goal.loop-process-init
@@ -37,28 +37,28 @@ returns-in-Ended-clause-done g c =
     over _ _ _ _ c.advance.new.self _ _ _ _ _ _ _ c.loop-process.invariant (ap (λ z. c.args.fuel - (z - c.steps-first.result)) c.steps.ensures.value)
     c.in_ok-advance.ensures.released c.in-Ended.how (rw c.in-Ended.is at c.in_ok-advance.ensures.advances)
 
-pub loop-process-preserved-in_ok-release_all-in-Owes :
-    goal.loop-process-preserved-in_ok-release_all-in-Owes
-loop-process-preserved-in_ok-release_all-in-Owes g c =
+pub loop-process-preserved-in_ok-release_waiting-in-Owes :
+    goal.loop-process-preserved-in_ok-release_waiting-in-Owes
+loop-process-preserved-in_ok-release_waiting-in-Owes g c =
     let before = owes _ _ _ _ c.advance.new.self _ _ _ _ _ _ _ c.loop-process.invariant (ap (λ z. c.args.fuel - (z - c.steps-first.result)) c.steps.ensures.value)
     c.in_ok-advance.ensures.released (rw c.in-Owes.is at c.in_ok-advance.ensures.advances) in
-    released_all _ _ _ _ c.release_all.new.process _ _ _ _ _ _ _ before c.in_ok-release_all-in-Owes.ensures.all
+    released_all _ _ _ _ c.release_waiting.new.process _ _ _ _ _ _ _ before c.in_ok-release_waiting-in-Owes.ensures.all
 
-pub loop-process-smaller-in_ok-release_all-in-Owes :
-    goal.loop-process-smaller-in_ok-release_all-in-Owes
-loop-process-smaller-in_ok-release_all-in-Owes g c =
-    let all = c.in_ok-release_all-in-Owes.ensures.all in
+pub loop-process-smaller-in_ok-release_waiting-in-Owes :
+    goal.loop-process-smaller-in_ok-release_waiting-in-Owes
+loop-process-smaller-in_ok-release_waiting-in-Owes g c =
+    let all = c.in_ok-release_waiting-in-Owes.ensures.all in
     owes_less _ _ _ _ c.advance.new.self _ _ _ _ _ _ _ c.loop-process.invariant (ap (λ z. c.args.fuel - (z - c.steps-first.result)) c.steps.ensures.value)
-    c.in_ok-advance.ensures.released (rw c.in-Owes.is at c.in_ok-advance.ensures.advances) c.release_all.new.process
+    c.in_ok-advance.ensures.released (rw c.in-Owes.is at c.in_ok-advance.ensures.advances) c.release_waiting.new.process
     (released_none _ _ _ _ _ all) (released_steps _ _ _ _ _ all)
 
-pub returns-in_err-release_all-in-Owes-clause-failed :
-    goal.returns-in_err-release_all-in-Owes-clause-failed
-returns-in_err-release_all-in-Owes-clause-failed g c =
-    let p = err_from_is_err_and c.from_residual-in_err-release_all-in-Owes.result c.from_residual-in_err-release_all-in-Owes.ensures.1 in
+pub returns-in_err-release_waiting-in-Owes-clause-failed :
+    goal.returns-in_err-release_waiting-in-Owes-clause-failed
+returns-in_err-release_waiting-in-Owes-clause-failed g c =
+    let p = err_from_is_err_and c.from_residual-in_err-release_waiting-in-Owes.result c.from_residual-in_err-release_waiting-in-Owes.ensures.1 in
     let before = owes _ _ _ _ c.advance.new.self _ _ _ _ _ _ _ c.loop-process.invariant (ap (λ z. c.args.fuel - (z - c.steps-first.result)) c.steps.ensures.value)
     c.in_ok-advance.ensures.released (rw c.in-Owes.is at c.in_ok-advance.ensures.advances) in
-    rw (p.1, p.2, c.in_err-release_all-in-Owes.ensures.fault) (released_some _ _ _ _ c.release_all.new.process _ _ _ _ _ _ _ before c.in_err-release_all-in-Owes.ensures.some)
+    rw (p.1, p.2) (released_some _ _ _ _ c.release_waiting.new.process _ _ _ _ _ _ _ before c.in_err-release_waiting-in-Owes.ensures.some)
 
 pub returns-in_err-ask-in-Asks-clause-failed : goal.returns-in_err-ask-in-Asks-clause-failed
 returns-in_err-ask-in-Asks-clause-failed g c =

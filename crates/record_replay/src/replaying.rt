@@ -1,0 +1,122 @@
+//! A process takes the answers that are on record.
+
+ghost use Rattle.std.specs.Prelude.{◌≡◌, ◌+◌, [], ◌∷◌, IfOk, IfErr, OnOk};
+ghost use Rattle.process.specs.rules.Values.{waiting_in};
+ghost use Rattle.record_replay.specs.Plays.{RunsToStep};
+ghost use Rattle.record_replay.specs.rules.Replays.{Replays, ReplaysInVain};
+
+use crate::Outlet;
+use crate::fault::ReplayFault;
+use crate::releasing::release_waiting;
+use disk_layout::Record;
+use process::{Process, Stop};
+use std::alloc::{AllocError, Global};
+use wasi_abi::Answer;
+use wasm_syntax::Row;
+
+/// Runs a process to where its records lead, and releases each line that it emits on the way, or
+/// that waited. It takes the step of the last record, and none behind that. Gives the process, and
+/// how many steps were taken. After an error the process is dropped.
+pub fn replay<O: Outlet>(
+    alloc: Global,
+    mut process: Process,
+    records: &[Record],
+    outlet: &mut O,
+) -> Result<(Process, u64), ReplayFault>
+    ensures replayed { IfOk result
+        (λ r. Replays O.takes process records.now r.0 outlet.old outlet.new) }
+    ensures counted { IfOk result (λ r. r.0.steps ≡ process.steps + r.1) }
+    ensures stopped { IfErr result
+        (λ why. ReplaysInVain O.takes process records.now why outlet.old outlet.new) }
+{
+    let count = play_all(alloc, &mut process, records, outlet)?;
+    Ok((process, count))
+}
+
+/// Releases the lines that wait, and then takes the steps up to that of each record, and this one
+/// with its answer. Gives how many steps were taken.
+fn play_all<O: Outlet>(
+    alloc: Global,
+    process: &mut Process,
+    records: &[Record],
+    outlet: &mut O,
+) -> Result<u64, ReplayFault>
+    ensures played { OnOk result
+        (Replays O.takes process.old records.now process.new outlet.old outlet.new) }
+    ensures counted { IfOk result (λ count. process.new.steps ≡ process.old.steps + count) }
+    ensures stopped { IfErr result
+        (λ why. ReplaysInVain O.takes process.old records.now why outlet.old outlet.new) }
+{
+    let first = process.steps();
+    release_waiting(process, outlet)?;
+    for entry in records {
+        play(alloc, process, entry, outlet)?;
+    }
+    Ok(process.steps() - first)
+}
+
+/// Takes steps up to that of the record, and this one with its answer. Each line is released before
+/// the next step.
+fn play<O: Outlet>(
+    alloc: Global,
+    process: &mut Process,
+    entry: &Record,
+    outlet: &mut O,
+) -> Result<(), ReplayFault>
+    requires none_waits { waiting_in process.old ≡ [] }
+    ensures played { OnOk result
+        (Replays O.takes process.old (entry.now ∷ []) process.new outlet.old outlet.new) }
+    ensures stopped { IfErr result
+        (λ why. ReplaysInVain O.takes process.old (entry.now ∷ []) why outlet.old outlet.new) }
+{
+    run_to_step(process, entry, outlet)?;
+    let answer = copy_answer(alloc, &entry.answer)?;
+    process.give(answer)?;
+    release_waiting(process, outlet)?;
+    Ok(())
+}
+
+/// Takes the steps before that of the record. Each line is released before the next step.
+fn run_to_step<O: Outlet>(
+    process: &mut Process,
+    entry: &Record,
+    outlet: &mut O,
+) -> Result<(), ReplayFault>
+    requires none_waits { waiting_in process.old ≡ [] }
+    ensures done { OnOk result
+        (RunsToStep O.takes entry.now.step process.old process.new outlet.old outlet.new) }
+    ensures stopped { IfErr result
+        (λ why. ReplaysInVain O.takes process.old (entry.now ∷ []) why outlet.old outlet.new) }
+{
+    loop {
+        let Some(left) = entry.step.checked_sub(process.steps() + 1) else {
+            return Err(ReplayFault::Diverged);
+        };
+        match process.advance(left)? {
+            Stop::Owes => release_waiting(process, outlet)?,
+            Stop::Spent => return Ok(()),
+            Stop::Asks(_) | Stop::Ended(_) => return Err(ReplayFault::Diverged),
+        }
+    }
+}
+
+/// The same answer, in memory of its own.
+fn copy_answer(alloc: Global, answer: &Answer) -> Result<Answer, AllocError>
+    ensures { IfOk result (λ copy. copy ≡ answer.now) }
+{
+    Ok(match answer {
+        Answer::Request { text } => Answer::Request {
+            text: Row::from_vec(text.as_slice().to_vec(alloc)?),
+        },
+        Answer::End => Answer::End,
+        Answer::Realtime { nanoseconds } => Answer::Realtime {
+            nanoseconds: *nanoseconds,
+        },
+        Answer::Monotonic { nanoseconds } => Answer::Monotonic {
+            nanoseconds: *nanoseconds,
+        },
+        Answer::Random { bytes } => Answer::Random {
+            bytes: Row::from_vec(bytes.as_slice().to_vec(alloc)?),
+        },
+    })
+}
