@@ -2,18 +2,18 @@
 use Rattle.std.proofs.Common.{◌≡◌, ℕ, List, [], ◌∷◌, ◌++◌, sym, ap, ◌∙◌, subst, append_assoc}
 use Rattle.std.specs.Prelude.{Result, Ok, Err}
 use Rattle.std.proofs.lemmas.List.{append-nil}
-use Rattle.state_image.specs.rules.Sinks.{Taking, joined, TakesAll, Pushes, KeepsBytes}
+use Rattle.state_image.specs.rules.Sinks.{TakingPieces, joined, TakesPieces, Pushes, KeepsBytes}
 
 -- a piece that is taken behind these bytes keeps what holds of them and the sink
-abbrev pub IsKept : {S F : Type 0} → Taking S F → (List ℕ → S → Type 0) → Type 0
+abbrev pub IsKept : {S F : Type 0} → TakingPieces S F → (List ℕ → S → Type 0) → Type 0
 IsKept {S} takes P =
     (bytes : List ℕ) (s : S) (piece : List ℕ) (t : S) → P bytes s → takes s piece (Ok tt) t
     → P (bytes ++ piece) t
 
-module _ {S F : Type 0} (takes : Taking S F) (P : List ℕ → S → Type 0)
+module _ {S F : Type 0} (takes : TakingPieces S F) (P : List ℕ → S → Type 0)
     (is_kept : IsKept takes P) where
   kept_on : (front : List ℕ) (a z : S) (pieces : List (List ℕ)) → P front a
-      → TakesAll takes a pieces z → P (front ++ joined pieces) z
+      → TakesPieces takes a pieces z → P (front ++ joined pieces) z
   kept_on front a z [] holds same =
       subst (λ b. P b z) (sym (append-nil front)) (subst (λ s. P front s) (sym same) holds)
   kept_on front a z (piece ∷ pieces) holds all =
@@ -24,8 +24,8 @@ module _ {S F : Type 0} (takes : Taking S F) (P : List ℕ → S → Type 0)
   pub pushes_keep : (a z : S) (bytes : List ℕ) → P [] a → Pushes takes a bytes (Ok tt) z
       → P bytes z
   pushes_keep a z bytes holds pushed =
-      let all : TakesAll takes a pushed.taken z =
-      subst (λ s. TakesAll takes a pushed.taken s) (sym pushed.stops.1) pushed.all in
+      let all : TakesPieces takes a pushed.taken z =
+      subst (λ s. TakesPieces takes a pushed.taken s) (sym pushed.stops.1) pushed.all in
       let is : bytes ≡ joined pushed.taken =
       pushed.is
       ∙ (ap (λ x. joined pushed.taken ++ x) pushed.stops.0 ∙ append-nil (joined pushed.taken)) in

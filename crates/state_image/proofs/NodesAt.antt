@@ -9,7 +9,7 @@ use Rattle.file_tree.specs.rules.Files.{is_directory_content, bytes_of_node, byt
 use Rattle.file_tree.specs.rules.Files.{bytes_of_content, entries_of}
 use Rattle.file_tree.specs.rules.Listings.{number_at, number_at_place, HasNameAtPlace}
 use Rattle.state_image.specs.rules.Image.{entry_bytes}
-use Rattle.state_image.specs.rules.Sinks.{Taking, Pushes}
+use Rattle.state_image.specs.rules.Sinks.{TakingPieces, Pushes}
 use Rattle.state_image.proofs.Among.{IsAmong, found_own}
 use Rattle.state_image.proofs.PushedItems.{item_at}
 
@@ -78,7 +78,7 @@ has_entry fs d i o e inside =
     subst (λ x. IsSome x) (sym is) refl
 
 -- what is pushed of an entry that was read by its number and its name
-pub entry_pushed : {S F : Type 0} {takes : Taking S F} {a z : S} {said : Result (Unit {0}) F}
+pub entry_pushed : {S F : Type 0} {takes : TakingPieces S F} {a z : S} {said : Result (Unit {0}) F}
     (fs : Files) (d i : ℕ) (e : Entry) → slice_get (entries_of fs d) i ≡ Some e
     → (k : ℕ) (name : Name) → number_at_place fs d i ≡ Some k → HasNameAtPlace fs d i name
     → Pushes takes a (u16_bytes (length name) ++ (name ++ u64_bytes k)) said z

@@ -9,7 +9,7 @@ use Rattle.std.proofs.lemmas.Option.{slice_get_within}
 use Rattle.std.proofs.lemmas.Grind.{flat_map-append}
 use Rattle.wasi_calls_rules.specs.Hosts.{Descriptor}
 use Rattle.state_image.specs.rules.Image.{Numbered, open_from}
-use Rattle.state_image.specs.rules.Sinks.{Taking, Pushes}
+use Rattle.state_image.specs.rules.Sinks.{TakingPieces, Pushes}
 use Rattle.state_image.proofs.Pushing.{pushes_on, pushes_exit}
 use Rattle.state_image.proofs.PushedItems.{front_more}
 
@@ -50,7 +50,7 @@ count_more ds i o is =
     same None = refl
     same (Some d) = refl
 
-module _ {S F : Type 0} {takes : Taking S F} where
+module _ {S F : Type 0} {takes : TakingPieces S F} where
   -- one descriptor more
   pub pushes_opened : {a m z : S} (front : List ℕ) (f : Numbered → List ℕ)
       (ds : List (Option Descriptor)) (i : ℕ) (o : Option Descriptor) {said : Result (Unit {0}) F}

@@ -7,7 +7,7 @@ use Rattle.std.specs.Result.{IsErrAnd}
 use Rattle.std.proofs.lemmas.List.{append-nil, take-append-drop, take_more, take_all}
 use Rattle.std.proofs.lemmas.Option.{slice_get_within, get_or_from_slice_get}
 use Rattle.std.proofs.lemmas.Grind.{flat_map-append}
-use Rattle.state_image.specs.rules.Sinks.{Taking, Pushes}
+use Rattle.state_image.specs.rules.Sinks.{TakingPieces, Pushes}
 use Rattle.state_image.proofs.Pushing.{pushes_on, pushes_exit}
 
 -- the front of a list with one item more
@@ -55,7 +55,7 @@ bytes_split f xs i =
     sym (flat_map-append f (take i xs) (drop i xs))
     ∙ ap (λ ys. flat_map f ys) (take-append-drop i xs)
 
-module _ {S F : Type 0} {takes : Taking S F} where
+module _ {S F : Type 0} {takes : TakingPieces S F} where
   -- one item more
   pub pushes_item : {a m z : S} {X : Type 0} (front : List ℕ) (f : X → List ℕ) (xs : List X)
       (i : ℕ) (x : X) {said : Result (Unit {0}) F} → take (i + 1) xs ≡ take i xs ++ x ∷ []

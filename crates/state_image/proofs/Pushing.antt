@@ -4,19 +4,20 @@ use Rattle.std.specs.Prelude.{Result, Ok, Err}
 use Rattle.std.specs.Result.{IsErrAnd}
 use Rattle.std.proofs.lemmas.Result.{err_from_is_err_and}
 use Rattle.std.proofs.lemmas.List.{append-nil}
-use Rattle.state_image.specs.rules.Sinks.{Taking, joined, TakesAll, Pushes}
+use Rattle.state_image.specs.rules.Sinks.{TakingPieces, joined, TakesPieces, Pushes}
 
 joined_on : (pieces more : List (List ℕ)) → joined (pieces ++ more) ≡ joined pieces ++ joined more
 joined_on [] more = refl
 joined_on (piece ∷ pieces) more = rw (joined_on pieces more, append_assoc) refl
 
-takes_on : {S F : Type 0} (takes : Taking S F) (a m z : S) (pieces more : List (List ℕ))
-    → TakesAll takes a pieces m → TakesAll takes m more z → TakesAll takes a (pieces ++ more) z
-takes_on takes a m z [] more same all = subst (λ s. TakesAll takes s more z) same all
+takes_on : {S F : Type 0} (takes : TakingPieces S F) (a m z : S) (pieces more : List (List ℕ))
+    → TakesPieces takes a pieces m → TakesPieces takes m more z
+    → TakesPieces takes a (pieces ++ more) z
+takes_on takes a m z [] more same all = subst (λ s. TakesPieces takes s more z) same all
 takes_on takes a m z (piece ∷ pieces) more first all =
     (first.0, first.1, takes_on takes first.0 m z pieces more first.2 all)
 
-module _ {S F : Type 0} {takes : Taking S F} where
+module _ {S F : Type 0} {takes : TakingPieces S F} where
   -- one push
   pub pushes_once : (a z : S) (piece : List ℕ) (said : Result (Unit {0}) F) → takes a piece said z
       → Pushes takes a piece said z
@@ -61,8 +62,8 @@ module _ {S F : Type 0} {takes : Taking S F} where
     stops = second.stops;
   }
     where
-      first_all : TakesAll takes a first.taken m
-      first_all = subst (λ s. TakesAll takes a first.taken s) (sym first.stops.1) first.all
+      first_all : TakesPieces takes a first.taken m
+      first_all = subst (λ s. TakesPieces takes a first.taken s) (sym first.stops.1) first.all
 
       first_is : front ≡ joined first.taken
       first_is = first.is

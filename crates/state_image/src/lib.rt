@@ -40,7 +40,7 @@
 //! # Who may touch what
 //!
 //! Only these definitions and this code say which byte of an image means what. `worker_rules`
-//! cites the definitions, for the disk that stands for a worker. No crate calls the code yet. It
+//! cites the definitions, for the disk that stands for a worker. Only tests call the code yet. It
 //! reads a process by the questions of `process`, `machine`, `wasi_calls` and `file_tree`, and
 //! changes nothing of it. The image has no lines that wait: whoever writes one has released them.
 //! Only `write_image` and `ByteSink` take memory, and want of it is their only error.

@@ -3,8 +3,8 @@
 use Rattle.std.specs.Prelude.{◌≡◌, ℕ, List, [], ◌∷◌, ◌++◌, Result, Ok, Err}
 
 -- what a sink takes: the sink before, the bytes, what it said, the sink after
-abbrev pub Taking : Type 0 → Type 0 → Type 1
-Taking S F = S → List ℕ → Result (Unit {0}) F → S → Type 0
+abbrev pub TakingPieces : Type 0 → Type 0 → Type 1
+TakingPieces S F = S → List ℕ → Result (Unit {0}) F → S → Type 0
 
 -- the bytes of pieces, one piece after the other
 abbrev pub joined : List (List ℕ) → List ℕ
@@ -12,27 +12,28 @@ joined [] = []
 joined (piece ∷ pieces) = piece ++ joined pieces
 
 -- pushes of these pieces, in order, each of which was taken, lead from one sink to another
-abbrev pub TakesAll : {S F : Type 0} → Taking S F → S → List (List ℕ) → S → Type 0
-TakesAll takes before [] after = after ≡ before
-TakesAll {S} takes before (piece ∷ pieces) after =
-    (between : S) × takes before piece (Ok tt) between × TakesAll takes between pieces after
+abbrev pub TakesPieces : {S F : Type 0} → TakingPieces S F → S → List (List ℕ) → S → Type 0
+TakesPieces takes before [] after = after ≡ before
+TakesPieces {S} takes before (piece ∷ pieces) after =
+    (between : S) × takes before piece (Ok tt) between × TakesPieces takes between pieces after
 
 -- Nothing is left to be pushed; or a piece of what is left was refused with this fault, and
 -- nothing was pushed after it.
-abbrev pub StopsWith : {S F : Type 0} → Taking S F → S → List ℕ → Result (Unit {0}) F → S → Type 0
+abbrev pub StopsWith : {S F : Type 0} → TakingPieces S F → S → List ℕ → Result (Unit {0}) F → S
+    → Type 0
 StopsWith takes between left (Ok done) after = (left ≡ []) × (after ≡ between)
 StopsWith takes between left (Err fault) after =
     (piece : List ℕ) × (behind : List ℕ) × (left ≡ piece ++ behind)
     × takes between piece (Err fault) after
 
 -- These bytes were pushed, in some pieces, up to the first one that was refused.
-pub record Pushes {S F : Type 0} (takes : Taking S F) (before : S) (bytes : List ℕ)
+pub record Pushes {S F : Type 0} (takes : TakingPieces S F) (before : S) (bytes : List ℕ)
     (said : Result (Unit {0}) F) (after : S) : Type 0 where
   pub taken : List (List ℕ)
   pub left : List ℕ
   pub is : bytes ≡ joined taken ++ left
   pub between : S
-  pub all : TakesAll takes before taken between
+  pub all : TakesPieces takes before taken between
   pub stops : StopsWith takes between left said after
 
 -- what a sink of bytes has taken: these behind the others, or after a refusal what it had
