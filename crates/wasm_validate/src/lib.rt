@@ -9,11 +9,16 @@
 //! - `ValidModule` is a valid module by its type. `module` lends it (`same`, `valid`).
 //! - inside, `check_types`: of types and imports the first fault is told (`refused`).
 //!   `check_before_data` and `check_data` judge all other parts but bodies.
-//! - `ModuleContext` looks up what typing looks up, each in constant time. `body::BodyChecker`
-//!   judges one body after another.
+//! - `ModuleContext` looks up what typing looks up, each in constant time. `BodyChecker::check`
+//!   judges one body after another (`typed`, `fault`).
+//! - `BodyChecker::operand_types`: the types of a function's operands at a position of its typed
+//!   body, or `None` where typing doesn't reach the position (`types_at`). Want of memory is its
+//!   only error. It lends them: `OperandTypes::len`, and `get`, the first operand's being 0.
 //! - `laws::checking_is_typing`: checking opcodes from the front passes exactly what the rules
 //!   type (`only`, `all`). `laws::parts_are_validity`: the parts and the bodies are all of
-//!   validity. `laws::valid_modules_have_no_fault`: what `fault` says is never so of a valid module.
+//!   validity. `laws::valid_modules_have_no_fault`: what `fault` says is never so of a valid
+//!   module. `laws::checking_finds_shapes`: at each position of a typed body, checking comes to
+//!   what typing gives there.
 //!
 //! Which fault it is, where several kinds apply, no clause says but for types and imports.
 //!
@@ -21,8 +26,9 @@
 //!
 //! `IsValid` of `wasm_syntax_rules` (`specs/Validity.antt`) is all that `validate` speaks of, with
 //! `Denies` (`specs/rules/Answers.antt`) and `HasFault` (`specs/rules/Faults.antt`): what a module
-//! lacks where a fault is told. Other crates use `IsContextOf`
-//! (`specs/Parts/Contexts.antt`) and `HasBody` (`specs/Body/Bodies.antt`).
+//! lacks where a fault is told. `operand_types` speaks of `types_at`
+//! (`specs/rules/Operands.antt`), over `body_shape` of `wasm_syntax_rules`. Other crates use
+//! `IsContextOf` (`specs/Parts/Contexts.antt`) and `HasBody` (`specs/Body/Bodies.antt`).
 //! `specs/laws/Checking.antt` is a second form of typing. Nobody has to believe it.
 //!
 //! # Who may touch what

@@ -29,7 +29,8 @@ abbrev pub IsSure : Level → Type 0
 IsSure l = l.is_reached ≡ true → AreKnown l.operands
 
 -- known operands of these types are just these types
-pub known_types : (ks : List Known) (types : List ValueType) → AreKnown ks → FitsOperands true ks types → ks ≡ map (λ t. Some t) types
+pub known_types : (ks : List Known) (types : List ValueType) → AreKnown ks
+    → FitsOperands true ks types → ks ≡ map (λ t. Some t) types
 known_types [] [] a f = refl
 known_types [] (t ∷ types) a f = absurd f
 known_types (None ∷ ks) types a f = absurd a.0
@@ -59,25 +60,35 @@ operand k l = (k, l)
 abbrev IsSurely : Level → Known → Type 0
 IsSurely l k = IsSure l → l.is_reached ≡ true → IsKnown k
 
-popped_of_stays : (l : Level) (ks : List Known) → l.operands ≡ ks → (k : Known) (new : Level) → popped_of l ks ≡ Some (k, new) → Stays l new × IsSurely l k
+popped_of_stays : (l : Level) (ks : List Known) → l.operands ≡ ks → (k : Known) (new : Level)
+    → popped_of l ks ≡ Some (k, new) → Stays l new × IsSurely l k
 popped_of_stays l [] e k new h = empty l.is_reached refl h
   where
-    empty : (b : Bool) → l.is_reached ≡ b → (check (not b) >>= λ _. Some (unknown l)) ≡ Some (k, new) → Stays l new × IsSurely l k
+    empty : (b : Bool) → l.is_reached ≡ b → (check (not b) >>= λ _. Some (unknown l))
+        ≡ Some (k, new) → Stays l new × IsSurely l k
     empty true r h = absurd (cc)
     empty false r h =
         let pair : unknown l ≡ (k, new) = cc in
-        let same : l ≡ new = ap (λ (z : Known × Level). z.1) pair in
-        (subst (λ z. Stays l z) same (stays_same l), λ s t. absurd (let no : false ≡ true = sym r ∙ t in cc))
+        let same : l ≡ new = ap (λ (z : Known × Level). z.1) pair in (
+          subst (λ z. Stays l z) same (stays_same l),
+          λ s t. absurd (let no : false ≡ true = sym r
+              ∙ t in cc),
+        )
 popped_of_stays l (k0 ∷ ks) e k new h =
     let below : Level = record l { operands = ks } in
     let pair : operand k0 below ≡ operand k new = cc in
     let same : below ≡ new = ap (λ (z : Known × Level). z.1) pair in
     let top : k0 ≡ k = ap (λ (z : Known × Level). z.0) pair in (
-      subst (λ z. Stays l z) same (record { reached = refl; sure = λ s r. let a : AreKnown (k0 ∷ ks) = subst AreKnown e (s r) in a.1 }),
+      subst (λ z. Stays l z) same (record {
+        reached = refl;
+        sure = λ s r. let a : AreKnown
+            (k0 ∷ ks) = subst AreKnown e (s r) in a.1;
+      }),
       λ s r. let a : AreKnown (k0 ∷ ks) = subst AreKnown e (s r) in subst IsKnown top a.0,
     )
 
-popped_stays : (l : Level) (k : Known) (new : Level) → popped l ≡ Some (k, new) → Stays l new × IsSurely l k
+popped_stays : (l : Level) (k : Known) (new : Level) → popped l ≡ Some (k, new)
+    → Stays l new × IsSurely l k
 popped_stays l = popped_of_stays l l.operands refl
 
 pub taken_stays : (t : ValueType) (l new : Level) → operand_taken t l ≡ Some new → Stays l new
@@ -87,13 +98,15 @@ taken_stays t l new h =
     let same : o.0.1 ≡ new = let s = d.2 in cc in
     (popped_stays l o.0.0 new (o.1 ∙ ap (λ z. Some (o.0.0, z)) same)).0
 
-all_taken_stays : (ts : List ValueType) (l new : Level) → all_operands_taken ts l ≡ Some new → Stays l new
+all_taken_stays : (ts : List ValueType) (l new : Level) → all_operands_taken ts l ≡ Some new
+    → Stays l new
 all_taken_stays [] l new h = let same : l ≡ new = cc in subst (λ z. Stays l z) same (stays_same l)
 all_taken_stays (t ∷ ts) l new h =
     let o = bind_some (operand_taken t l) (λ m. all_operands_taken ts m) new h in
     stays_on l o.0 new (taken_stays t l o.0 o.1) (all_taken_stays ts o.0 new o.2)
 
-known_pushed : (ts : List ValueType) (ks : List Known) → AreKnown ks → AreKnown (map (λ t. Some t) ts ++ ks)
+known_pushed : (ts : List ValueType) (ks : List Known) → AreKnown ks
+    → AreKnown (map (λ t. Some t) ts ++ ks)
 known_pushed [] ks a = a
 known_pushed (t ∷ ts) ks a = (tt, known_pushed ts ks a)
 
@@ -120,7 +133,11 @@ selected_stays l new h =
     subst (λ z. Stays l z) same
     (record {
       reached = all.reached;
-      sure = λ s r. (met_known b.0.0 d.0.0 m.0 m.1 (second.1 (first.sure s) (sym (all.reached ∙ sym first.reached) ∙ r)), all.sure s r);
+      sure = λ s r. (
+        met_known b.0.0 d.0.0 m.0 m.1
+            (second.1 (first.sure s) (sym (all.reached ∙ sym first.reached) ∙ r)),
+        all.sure s r,
+      );
     })
 
 -- ---- instructions
@@ -137,7 +154,8 @@ drop_front : (xs ys : List ValueType) → drop (length xs) (xs ++ ys) ≡ ys
 drop_front [] ys = refl
 drop_front (x ∷ xs) ys = drop_front xs ys
 
-fixed_leads : (b : Bool) (takes gives ts : List ValueType) (o : Option (List ValueType)) → o ≡ Some ts → Leads (only b (Fixed takes gives)) o ts
+fixed_leads : (b : Bool) (takes gives ts : List ValueType) (o : Option (List ValueType))
+    → o ≡ Some ts → Leads (only b (Fixed takes gives)) o ts
 fixed_leads true takes gives ts o e = e
 fixed_leads false takes gives ts o e = tt
 
@@ -146,15 +164,20 @@ jump_leads true takes ts = refl
 jump_leads false takes ts = tt
 
 module _ (c : Context) (labels : List (List ValueType)) (p q below : List ValueType) where
-  pub rule_leads : (i : Instruction) → HasRule c labels i p q → Leads (arrow_of c labels i) (types_behind c i (p ++ below)) (q ++ below)
+  pub rule_leads : (i : Instruction) → HasRule c labels i p q
+      → Leads (arrow_of c labels i) (types_behind c i (p ++ below)) (q ++ below)
   rule_leads instr.Unreachable h = refl
   rule_leads instr.Nop h = rw (h.0, h.1) refl
   rule_leads (instr.Br l) h = rw h.2 refl
   rule_leads (instr.BrIf l) h = rw (h.1, h.2, h.3) refl
   rule_leads (instr.BrTable ls l) h = rw h.3 (jump_leads _ _ _)
   rule_leads instr.Return h = refl
-  rule_leads (instr.Call x) h = rw (h.1, h.2, h.3) (ap (λ z. Some (gives_of h.0 ++ z)) (drop_front (takes_of h.0) below))
-  rule_leads (instr.CallIndirect x) h = rw (h.1, h.3, h.4) (fixed_leads _ _ _ _ _ (ap (λ z. Some (gives_of h.0 ++ z)) (drop_front (takes_of h.0) below)))
+  rule_leads (instr.Call x) h =
+      rw (h.1, h.2, h.3) (ap (λ z. Some (gives_of h.0 ++ z)) (drop_front (takes_of h.0) below))
+  rule_leads (instr.CallIndirect x) h =
+      rw (h.1, h.3, h.4)
+      (fixed_leads _ _ _ _ _
+      (ap (λ z. Some (gives_of h.0 ++ z)) (drop_front (takes_of h.0) below)))
   rule_leads instr.Drop h = rw (h.1, h.2) refl
   rule_leads instr.Select h = rw (h.1, h.2) refl
   rule_leads (instr.LocalGet x) h = rw (h.1, h.2, h.3) refl
@@ -166,7 +189,9 @@ module _ (c : Context) (labels : List (List ValueType)) (p q below : List ValueT
   rule_leads (instr.Store o m) h = rw (h.2, h.3) (fixed_leads _ _ _ _ _ refl)
   rule_leads instr.MemorySize h = rw (h.1, h.2) (fixed_leads _ _ _ _ _ refl)
   rule_leads instr.MemoryGrow h = rw (h.1, h.2) (fixed_leads _ _ _ _ _ refl)
-  rule_leads (instr.Const v) h = rw (h.2, h.3) (fixed_leads _ _ _ _ _ (ap (λ t. Some (t ∷ below)) (value_type h.0 v h.1)))
+  rule_leads (instr.Const v) h =
+      rw (h.2, h.3)
+      (fixed_leads _ _ _ _ _ (ap (λ t. Some (t ∷ below)) (value_type h.0 v h.1)))
   rule_leads (instr.Eqz t) h = rw (h.0, h.1) refl
   rule_leads (instr.Compare t o) h = rw (h.0, h.1) refl
   rule_leads (instr.Unary t o) h = rw (h.0, h.1) refl
@@ -178,16 +203,20 @@ module _ (c : Context) (labels : List (List ValueType)) (p q below : List ValueT
   rule_leads instr.Else h = absurd h
   rule_leads instr.End h = absurd h
 
--- A level behind an instruction: typing goes on with these types, and the level is as reached as before. Or typing goes on
--- nowhere, and a jump stands before.
+-- A level behind an instruction: typing goes on with these types, and the level is as reached as
+-- before. Or typing goes on nowhere, and a jump stands before.
 abbrev pub IsBehind : Level → Level → Option (List ValueType) → List ValueType → Type 0
-IsBehind l new o ts = ((o ≡ Some ts) × (new.is_reached ≡ l.is_reached)) ⊎ ((o ≡ None) × (new.is_reached ≡ false))
+IsBehind l new o ts =
+    ((o ≡ Some ts) × (new.is_reached ≡ l.is_reached)) ⊎ ((o ≡ None) × (new.is_reached ≡ false))
 
-pub applied_leads : (a : Arrow) (l new : Level) (o : Option (List ValueType)) (ts : List ValueType) → applied a l ≡ Some new → Leads a o ts → IsBehind l new o ts × (IsSure l → IsSure new)
+pub applied_leads : (a : Arrow) (l new : Level) (o : Option (List ValueType))
+    (ts : List ValueType) → applied a l ≡ Some new → Leads a o ts
+    → IsBehind l new o ts × (IsSure l → IsSure new)
 applied_leads (Fixed takes gives) l new o ts h e =
     let d = bind_some (all_operands_taken takes l) (λ m. Some (all_pushed gives m)) new h in
     let same : all_pushed gives d.0 ≡ new = let s = d.2 in cc in
-    let r = subst (λ z. Stays l z) same (stays_on l d.0 (all_pushed gives d.0) (all_taken_stays takes l d.0 d.1) (all_pushed_stays gives d.0)) in
+    let r = subst (λ z. Stays l z) same (stays_on l d.0 (all_pushed gives d.0)
+    (all_taken_stays takes l d.0 d.1) (all_pushed_stays gives d.0)) in
     (inl (e, r.reached), r.sure)
 applied_leads (Jump takes) l new o ts h e =
     let d = bind_some (all_operands_taken takes l) (λ m. Some (level_left m)) new h in
@@ -198,5 +227,6 @@ applied_leads Dropping l new o ts h e =
     let same : d.0.1 ≡ new = let s = d.2 in cc in
     let r = (popped_stays l d.0.0 new (d.1 ∙ ap (λ z. Some (d.0.0, z)) same)).0 in
     (inl (e, r.reached), r.sure)
-applied_leads Selecting l new o ts h e = let r = selected_stays l new h in (inl (e, r.reached), r.sure)
+applied_leads Selecting l new o ts h e =
+    let r = selected_stays l new h in (inl (e, r.reached), r.sure)
 applied_leads Refused l new o ts h e = absurd (cc)

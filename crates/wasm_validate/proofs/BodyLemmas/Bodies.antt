@@ -1,6 +1,5 @@
 -- The check of a whole body.
 use Rattle.std.proofs.Common.{◌≡◌, inl, inr, false, [], ◌∷◌, ◌++◌, Option, Some, refl, sym, ap, ◌∙◌, subst}
-use Rattle.std.specs.Prelude.{reverse}
 use Rattle.wasm_syntax.specs.declared.types.ValueType.{ValueType}
 use Rattle.wasm_syntax.specs.declared.types.FunctionType.{FunctionType}
 use Rattle.wasm_syntax.specs.declared.module.Code.{Code}
@@ -8,9 +7,6 @@ use Rattle.wasm_syntax.specs.declared.instruction.Instruction.TheVariants as ins
 use Rattle.wasm_syntax.specs.rules.Sequence.{spelled}
 use Rattle.wasm_syntax_rules.specs.Types.{gives_of, results_of}
 use Rattle.wasm_syntax_rules.specs.Typing.{Context, HasType, body_context}
-use Rattle.wasm_validate.specs.Parts.Contexts.{IsContextOf}
-use Rattle.wasm_validate.specs.declared.body.scope.Scope.{Scope}
-use Rattle.wasm_validate.specs.Body.Scopes.{IsScopeOf}
 use Rattle.wasm_validate.specs.Body.Bodies.{HasBody}
 use Rattle.wasm_validate.specs.laws.Checking.{new_level, checked}
 use Rattle.wasm_validate.specs.laws.Remaining.{Closes, Ends, Remains}
@@ -42,17 +38,3 @@ module _ (c : Context) (kind : FunctionType) (code : Code) (r : Option ValueType
         closes = inl (record { next = []; is = h.spells.is; may = refl; follows = refl });
       } in
       complete (body_context c kind code.locals) code.body (new_level r r false ∷ []) ([], tt, ends)
-
--- a body looks up its parameters and locals, and all else as the module does
-pub scope_of : (c : Context) (kind : FunctionType) (code : Code) (s : Scope) → IsContextOf c s.context.now → s.parameters.now ≡ kind.parameters → s.declared.now ≡ code.locals → s.returns.now ≡ kind.results → IsScopeOf (body_context c kind code.locals) s
-scope_of c kind code s context parameters declared returns = record {
-  context = record {
-    types = context.types;
-    functions = context.functions;
-    globals = context.globals;
-    table = context.table;
-    memory = context.memory;
-  };
-  locals = ap (λ z. z ++ code.locals) (sym parameters) ∙ ap (λ z. s.parameters.now ++ z) (sym declared);
-  returns = ap reverse (sym returns);
-}

@@ -23,7 +23,8 @@ module _ (ks : List Known) (n : ℕ) (h : n < length ks) where
 
   pub one_known : is_some (get_or ks n None) ≡ true
       → are_known (drop n ks) ≡ are_known (drop (n + 1) ks)
-  one_known e = at_drop_more are_known ks n None h ∙ head_known (get_or ks n None) (drop (n + 1) ks) e
+  one_known e = at_drop_more are_known ks n None h
+      ∙ head_known (get_or ks n None) (drop (n + 1) ks) e
 
 -- ---- the types
 

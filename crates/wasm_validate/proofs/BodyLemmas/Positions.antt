@@ -17,7 +17,7 @@ use Rattle.wasm_validate.specs.declared.parts.fault.ValidFault.TheVariants.{Typi
 use Rattle.wasm_validate.specs.rules.Operands.{types_in, types_below}
 use Rattle.wasm_validate.specs.laws.Checking.{Level, all_pushed, new_level, checked}
 use Rattle.wasm_validate.specs.laws.Reached.{are_reached, all_operands, StandFor}
-use Rattle.wasm_validate.specs.Body.Answers.{FailsToCheck, IsReached, LeadsTo}
+use Rattle.wasm_validate.specs.Body.Answers.{FailsToCheck, IsReached, TellsReach}
 use Rattle.wasm_validate.specs.Body.Bodies.{HasBody}
 use Rattle.wasm_validate.specs.Body.Known.{types_if_known}
 use Rattle.wasm_validate.proofs.Algorithm.Reaching.{finds_shapes}
@@ -59,7 +59,7 @@ shape_beyond c n p x h = by_order (nat_le p n) refl
 -- ---- what is answered there
 
 stand_leads : (levels : List Level) (o : Option Shape) → StandFor levels o
-    → LeadsTo (Ok (are_reached levels)) levels o
+    → TellsReach (Ok (are_reached levels)) levels o
 stand_leads levels None h = rw h tt
 stand_leads levels (Some s) h = rw h.0 h.1
 
@@ -71,7 +71,8 @@ only_memory_fails Index Index o levels h f = absurd (cc)
 only_memory_fails Limits Limits o levels h f = absurd (cc)
 only_memory_fails e kind o levels h f = absurd f
 
-module _ (c : Context) (kind : FunctionType) (code : Code) (r : Option ValueType) (is : results_of r ≡ gives_of kind) (has : HasBody c kind code) where
+module _ (c : Context) (kind : FunctionType) (code : Code) (r : Option ValueType)
+    (is : results_of r ≡ gives_of kind) (has : HasBody c kind code) where
   abbrev in_body : Context
   in_body = body_context c kind code.locals
 
@@ -83,12 +84,14 @@ module _ (c : Context) (kind : FunctionType) (code : Code) (r : Option ValueType
 
   count : length code.body ≡ length (spelled has.sequence) + 1
   count =
-      let parts : length (spelled has.sequence ++ instr.End ∷ []) ≡ length (spelled has.sequence) + 1 =
+      let parts : length (spelled has.sequence ++ instr.End ∷ [])
+      ≡ length (spelled has.sequence) + 1 =
       length-append (spelled has.sequence) (instr.End ∷ []) in
       ap length has.spells.is ∙ parts
 
   pub behind_end : (p : ℕ) (levels : List Level) → p ≡ length code.body
-      → levels ≡ all_pushed (results_of r) (new_level r r false) ∷ [] → LeadsTo (Ok true) levels (shape p)
+      → levels ≡ all_pushed (results_of r) (new_level r r false) ∷ []
+      → TellsReach (Ok true) levels (shape p)
   behind_end p levels at e =
       let o : shape p ≡ Some (end_shape in_body) =
       shape_behind in_body (length (spelled has.sequence)) p _ (at ∙ count) in
@@ -98,35 +101,40 @@ module _ (c : Context) (kind : FunctionType) (code : Code) (r : Option ValueType
       ∙ append-nil (map (λ t. Some t) (results_of r) ++ [])
       ∙ append-nil (map (λ t. Some t) (results_of r))
       ∙ ap (λ z. map (λ t. Some t) z) (is ∙ sym (append-nil (gives_of kind))) in
-      subst (λ z. LeadsTo (Ok true) levels z) (sym o) operands
+      subst (λ z. TellsReach (Ok true) levels z) (sym o) operands
 
-  pub beyond_end : (p : ℕ) (levels : List Level) → length code.body < p → LeadsTo (Ok false) levels (shape p)
+  pub beyond_end : (p : ℕ) (levels : List Level) → length code.body < p
+      → TellsReach (Ok false) levels (shape p)
   beyond_end p levels h =
       let n : length code.body ≡ length (spelled has.sequence) + 1 = count in
       let o : shape p ≡ None =
       shape_beyond in_body (length (spelled has.sequence)) p _ (omega arith) in
-      subst (λ z. LeadsTo (Ok false) levels z) (sym o) tt
+      subst (λ z. TellsReach (Ok false) levels z) (sym o) tt
 
   module _ (p : ℕ) (h : p < length code.body) where
-    comes_there : (new : List Level) × (checked in_body (take p code.body) start ≡ Some new) × StandFor new (shape p)
+    comes_there : (new : List Level) × (checked in_body (take p code.body) start ≡ Some new)
+        × StandFor new (shape p)
     comes_there =
         let n : length code.body ≡ length (spelled has.sequence) + 1 = count in
         let low : p ≤ length (spelled has.sequence) = omega arith in
         let r = finds_shapes in_body has.sequence r p has.spells.nested has.typed is low in
         let front : take p code.body ≡ take p (spelled has.sequence) =
-        ap (λ z. take p z) has.spells.is ∙ take-append-le p (spelled has.sequence) (instr.End ∷ []) low in
+        ap (λ z. take p z) has.spells.is ∙ take-append-le p (spelled has.sequence)
+        (instr.End ∷ []) low in
         (r.new, ap (λ z. checked in_body z start) front ∙ r.is, r.stands)
 
     pub inside : (levels : List Level) → checked in_body (take p code.body) start ≡ Some levels
-        → LeadsTo (Ok (are_reached levels)) levels (shape p)
+        → TellsReach (Ok (are_reached levels)) levels (shape p)
     inside levels e =
         let there = comes_there in
         let is' = there.1 in
         let same : there.0 ≡ levels = cc in
         stand_leads levels (shape p) (subst (λ z. StandFor z (shape p)) same there.2)
 
-    pub fails_inside : (e kind' : ValidFault) → FailsToCheck e kind' (checked in_body (take p code.body) start) → e ≡ Memory
-    fails_inside e kind' f = only_memory_fails e kind' (checked in_body (take p code.body) start) comes_there.0 comes_there.1 f
+    pub fails_inside : (e kind' : ValidFault) → FailsToCheck e kind'
+        (checked in_body (take p code.body) start) → e ≡ Memory
+    fails_inside e kind' f = only_memory_fails e kind'
+        (checked in_body (take p code.body) start) comes_there.0 comes_there.1 f
 
 -- ---- the types that are found
 

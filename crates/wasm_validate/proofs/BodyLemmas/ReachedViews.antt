@@ -14,10 +14,12 @@ abbrev pub controls_reached : List Control → Bool
 controls_reached [] = true
 controls_reached (k ∷ controls) = k.is_reached && controls_reached controls
 
-pub reached_view : (controls : List Control) (operands : List Known) → are_reached (levels_of controls operands) ≡ controls_reached controls
+pub reached_view : (controls : List Control) (operands : List Known)
+    → are_reached (levels_of controls operands) ≡ controls_reached controls
 reached_view [] operands = refl
 reached_view (k ∷ controls) operands =
-    ap (λ z. k.is_reached && z) (reached_view controls (drop (length operands - k.height) operands))
+    ap (λ z. k.is_reached && z) (reached_view controls
+    (drop (length operands - k.height) operands))
 
 -- the tests in another order
 swapped : (a b : Bool) → (b && (a && true)) ≡ (a && b)
@@ -26,16 +28,19 @@ swapped true false = refl
 swapped false true = refl
 swapped false false = refl
 
-reached_on : (a b : List Control) → controls_reached (a ++ b) ≡ (controls_reached a && controls_reached b)
+reached_on : (a b : List Control) → controls_reached (a ++ b)
+    ≡ (controls_reached a && controls_reached b)
 reached_on [] b = refl
-reached_on (k ∷ a) b = ap (λ z. k.is_reached && z) (reached_on a b) ∙ sym (grouped k.is_reached (controls_reached a) (controls_reached b))
+reached_on (k ∷ a) b = ap (λ z. k.is_reached && z) (reached_on a b)
+    ∙ sym (grouped k.is_reached (controls_reached a) (controls_reached b))
   where
     grouped : (x y z : Bool) → ((x && y) && z) ≡ (x && (y && z))
     grouped true y z = refl
     grouped false y z = refl
 
 -- seen from below
-pub reached_turned : (controls : List Control) → controls_reached (reverse controls) ≡ controls_reached controls
+pub reached_turned : (controls : List Control)
+    → controls_reached (reverse controls) ≡ controls_reached controls
 reached_turned [] = refl
 reached_turned (k ∷ controls) =
     ap controls_reached (reverse-append (k ∷ []) controls)
@@ -44,7 +49,8 @@ reached_turned (k ∷ controls) =
     ∙ swapped k.is_reached (controls_reached controls)
 
 module _ (controls : List Control) (n : ℕ) (d : Control) (h : n < length controls) where
-  pub one_unreached : (get_or controls n d).is_reached ≡ false → controls_reached (drop n controls) ≡ false
+  pub one_unreached : (get_or controls n d).is_reached ≡ false
+      → controls_reached (drop n controls) ≡ false
   one_unreached e =
       at_drop_more controls_reached controls n d h
       ∙ ap (λ z. z && controls_reached (drop (n + 1) controls)) e
@@ -85,7 +91,8 @@ operands_view k (j ∷ controls) operands h =
     let deep : bottom_of (j ∷ controls) ≤ k.height = bottom_low j controls k.height h.1 in
     let count : length (drop (length operands - k.height) operands) ≡ k.height =
     length-drop (length operands - k.height) operands ∙ omega arith in
-    let heights : AreHeights (j ∷ controls) (length (drop (length operands - k.height) operands)) =
+    let heights : AreHeights (j ∷ controls) (length
+    (drop (length operands - k.height) operands)) =
     subst (λ z. AreHeights (j ∷ controls) z) (sym count) h.1 in
     let sum : m + (k.height - b) ≡ n - b = omega arith in
     ap (λ z. take m operands ++ z) (operands_view j controls (drop m operands) heights)
@@ -103,7 +110,8 @@ turned_front items n =
     ap reverse (sym (take-append-drop n items)) ∙ reverse-append (take n items) (drop n items) in
     let count : length (reverse (drop n items)) ≡ length items - n =
     length-reverse (drop n items) ∙ length-drop n items in
-    sym (ap (λ z. drop (length items - n) z) whole ∙ ap (λ z. drop z (behind ++ front)) (sym count)
+    sym (ap (λ z. drop (length items - n) z) whole
+    ∙ ap (λ z. drop z (behind ++ front)) (sym count)
     ∙ drop-append_seam behind front)
 
 -- ---- the outermost sequence

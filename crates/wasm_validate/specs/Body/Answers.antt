@@ -63,6 +63,6 @@ IsReached true levels None = ⊥
 IsReached false levels (Some s) = ⊥
 
 -- the same of a walk to the position, which fails for nothing but want of memory
-abbrev pub LeadsTo : Result Bool ValidFault → List Level → Option Shape → Type 0
-LeadsTo (Ok reached) levels o = IsReached reached levels o
-LeadsTo (Err e) levels o = e ≡ Memory
+abbrev pub TellsReach : Result Bool ValidFault → List Level → Option Shape → Type 0
+TellsReach (Ok reached) levels o = IsReached reached levels o
+TellsReach (Err e) levels o = e ≡ Memory

@@ -1,5 +1,5 @@
--- What checking from the front knows at a position of a body. Nothing here has to be believed: that
--- it is what typing gives to the position is proved.
+-- What checking from the front knows at a position of a body. Nothing here has to be believed:
+-- that it is what typing gives to the position is proved.
 use Rattle.std.specs.Prelude.{◌≡◌, ◌≤◌, ℕ, Bool, true, false, ◌&&◌, List, [], ◌∷◌, ◌++◌, length, map, take, Option, Some, None}
 use Rattle.wasm_syntax.specs.declared.types.ValueType.{ValueType}
 use Rattle.wasm_syntax.specs.declared.instruction.Instruction.{Instruction}
@@ -30,7 +30,8 @@ StandFor levels (Some s) =
 
 -- So many of the opcodes pass the check from these levels on. They lead to levels that stand for
 -- this shape.
-pub record ComesTo (c : Context) (opcodes : List Instruction) (n : ℕ) (levels : List Level) (o : Option Shape) : Type 0 where
+pub record PassesTo (c : Context) (opcodes : List Instruction) (n : ℕ) (levels : List Level)
+    (o : Option Shape) : Type 0 where
   pub new : List Level
   pub is : checked c (take n opcodes) levels ≡ Some new
   pub stands : StandFor new o
@@ -41,4 +42,4 @@ CheckingFindsShapes =
     (c : Context) (body : Sequence) (r : Option ValueType) (p : ℕ) → IsNested body
     → HasType c (c.returns ∷ []) body [] c.returns → results_of r ≡ c.returns
     → p ≤ length (spelled body)
-    → ComesTo c (spelled body) p (new_level r r false ∷ []) (body_shape c body p)
+    → PassesTo c (spelled body) p (new_level r r false ∷ []) (body_shape c body p)

@@ -8,7 +8,7 @@ ghost use Rattle.wasm_validate.specs.declared.parts.fault.ValidFault.TheVariants
 ghost use Rattle.wasm_validate.specs.rules.Answers.{Judges};
 ghost use Rattle.wasm_validate.specs.rules.Operands.{types_at};
 ghost use Rattle.wasm_validate.specs.Parts.Contexts.{IsContextOf};
-ghost use Rattle.wasm_validate.specs.Body.Answers.{IsReached, LeadsTo, LevelsFollow, OnlyMemory};
+ghost use Rattle.wasm_validate.specs.Body.Answers.{IsReached, TellsReach, LevelsFollow, OnlyMemory};
 ghost use Rattle.wasm_validate.specs.Body.Bodies.{HasBody, IsFaultOfBody};
 ghost use Rattle.wasm_validate.specs.laws.Checking.{checked, new_level};
 ghost use Rattle.wasm_validate.specs.laws.FirstFault.{fault_in};
@@ -101,15 +101,8 @@ impl BodyChecker {
         ensures fault { (c : Typing) → IsContextOf c context.now
             → IfErr result (IsFaultOfBody c function_type.now code.now) }
     {
-        let result_type = result_of(function_type);
-        self.levels.clear();
-        self.levels.open(result_type, result_type, false)?;
-        let scope = Scope {
-            context,
-            parameters: function_type.parameters.as_slice(),
-            declared: code.locals.as_slice(),
-            returns: function_type.results.as_slice(),
-        };
+        self.begin(result_of(function_type))?;
+        let scope = scope_of(context, function_type, code);
         self.levels.steps(&scope, code.body.as_slice())?;
         if self.levels.is_empty() {
             Ok(())
@@ -128,7 +121,8 @@ impl BodyChecker {
         self.levels.open(result_type, result_type, false)
     }
 
-    /// Goes over the opcodes before a position. Whether typing reaches it, if the body has its function's type.
+    /// Goes over the opcodes before a position. Whether typing reaches it, if the body has its
+    /// function's type.
     fn go_to(
         &mut self,
         context: &ModuleContext,
@@ -138,7 +132,7 @@ impl BodyChecker {
     ) -> Result<bool, ValidFault>
         requires { length function_type.now.results ≤ 1 }
         ensures { (c : Typing) → IsContextOf c context.now
-            → (has : HasBody c function_type.now code.now) → LeadsTo result self.new.levels
+            → (has : HasBody c function_type.now code.now) → TellsReach result self.new.levels
             (body_shape (body_context c function_type.now code.now.locals) has.sequence position) }
     {
         let result_type = result_of(function_type);
@@ -156,7 +150,8 @@ impl BodyChecker {
         Ok(self.levels.are_reached())
     }
 
-    /// Whether typing reaches a position, to which the checker goes. Fails only where memory is refused.
+    /// Whether typing reaches a position, to which the checker goes. Fails only where memory is
+    /// refused.
     fn reaches(
         &mut self,
         context: &ModuleContext,
@@ -166,9 +161,10 @@ impl BodyChecker {
     ) -> Result<bool, AllocError>
         requires { length function_type.now.results ≤ 1 }
         ensures { (c : Typing) → IsContextOf c context.now
-            → (has : HasBody c function_type.now code.now) → IfOk result
-            (λ reached. IsReached reached self.new.levels
-            (body_shape (body_context c function_type.now code.now.locals) has.sequence position)) }
+            → (has : HasBody c function_type.now code.now)
+            → IfOk result (λ reached. IsReached reached self.new.levels
+            (body_shape (body_context c function_type.now code.now.locals) has.sequence
+            position)) }
     {
         match self.go_to(context, function_type, code, position) {
             Ok(reached) => Ok(reached),
@@ -176,10 +172,13 @@ impl BodyChecker {
         }
     }
 
-    /// The types of all operands of the function at a position of its body, which is the number of an opcode from 0.
-    /// `None` where typing does not reach the position, as behind a jump. Behind the last `end` they are the
-    /// function's results. Nothing is said of a body that does not have its function's type. It takes time linear in
-    /// the position, and memory as a check does. Fails only where memory is refused.
+    /// The types of all operands of the function at a position of its body: the number of an
+    /// opcode, counted from 0 with each `else` and `end`. `None` where typing doesn't reach the
+    /// position: behind a jump, up to the `else` or `end` of its block, and beyond the body.
+    /// Behind the last `end` they are the function's results. Nothing is said of a body that
+    /// doesn't have its function's type. It takes time linear in the position, the labels of
+    /// tables and the parameters of calls, and memory as a check does. Fails only where memory is
+    /// refused.
     pub fn operand_types(
         &mut self,
         context: &ModuleContext,

@@ -7,14 +7,17 @@ use Rattle.wasm_validate.proofs.body.types.are_known.Goals as goal
 pub returns-then-is_none : goal.returns-then-is_none
 returns-then-is_none c =
     sym (c.loop-operand.invariant
-    ∙ one_unknown c.args.operands.now c.loop-operand.operand-index c.loop-operand-test.true c.if-is_none.ensures)
+    ∙ one_unknown c.args.operands.now c.loop-operand.operand-index c.loop-operand-test.true
+    c.if-is_none.ensures)
 
 pub loop-operand-preserved : goal.loop-operand-preserved
 loop-operand-preserved c =
     c.loop-operand.invariant
-    ∙ one_known c.args.operands.now c.loop-operand.operand-index c.loop-operand-test.true c.if-is_none.ensures
+    ∙ one_known c.args.operands.now c.loop-operand.operand-index c.loop-operand-test.true
+    c.if-is_none.ensures
 
 pub returns : goal.returns
 returns c =
     sym (c.loop-operand.invariant
-    ∙ at_drop_all are_known c.args.operands.now c.loop-operand.operand-index c.loop-operand-test.false)
+    ∙ at_drop_all are_known c.args.operands.now c.loop-operand.operand-index
+    c.loop-operand-test.false)

@@ -19,19 +19,25 @@ all_of levels controls items operands view is =
 pub returns-then-not-control : goal.returns-then-not-control
 returns-then-not-control c =
     let items = c.as_slice-control-items.result.now in
-    sym (all_of c.args.self.now c.self.inside.controls items c.self.inside.operands c.self.view_is c.as_slice-control-items.ensures
+    sym
+    (all_of c.args.self.now c.self.inside.controls items c.self.inside.operands c.self.view_is
+    c.as_slice-control-items.ensures
     ∙ c.loop-control.invariant
-    ∙ one_unreached items c.loop-control.control-index _ c.loop-control-test.true c.if-not-control.true)
+    ∙ one_unreached items c.loop-control.control-index _ c.loop-control-test.true
+    c.if-not-control.true)
 
 pub loop-control-preserved : goal.loop-control-preserved
 loop-control-preserved c =
     let items = c.as_slice-control-items.result.now in
     c.loop-control.invariant
-    ∙ one_reached items c.loop-control.control-index _ c.loop-control-test.true c.if-not-control.false
+    ∙ one_reached items c.loop-control.control-index _ c.loop-control-test.true
+    c.if-not-control.false
 
 pub returns : goal.returns
 returns c =
     let items = c.as_slice-control-items.result.now in
-    sym (all_of c.args.self.now c.self.inside.controls items c.self.inside.operands c.self.view_is c.as_slice-control-items.ensures
+    sym
+    (all_of c.args.self.now c.self.inside.controls items c.self.inside.operands c.self.view_is
+    c.as_slice-control-items.ensures
     ∙ c.loop-control.invariant
     ∙ at_drop_all controls_reached items c.loop-control.control-index c.loop-control-test.false)

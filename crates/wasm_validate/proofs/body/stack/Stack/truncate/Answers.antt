@@ -8,5 +8,6 @@ pub returns : goal.returns
 returns g c =
     ap reverse c.truncate.ensures.items
     ∙ turned_front c.self.inside.items.items c.args.len
-    ∙ ap (λ z. drop (z - c.args.len) (reverse c.self.inside.items.items)) (sym (length-reverse c.self.inside.items.items))
+    ∙ ap (λ z. drop (z - c.args.len) (reverse c.self.inside.items.items))
+    (sym (length-reverse c.self.inside.items.items))
     ∙ ap (λ z. drop (length z - c.args.len) z) c.self.view_is
