@@ -27,6 +27,7 @@ pub mod NamedNodes
 pub mod StoreLemmas
 pub mod Rebuilt
 pub mod EntriesTell
+pub mod EntriesDiffer
 pub mod FilesTold
 pub mod KeptFiles
 pub mod OneEntryMore

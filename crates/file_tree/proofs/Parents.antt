@@ -59,7 +59,7 @@ is_hooked_so d name (In x other) e = by (cases_eq x d) (name_or_not other name) 
   by (inr n) o e = absurd (let t : false ≡ true = sym (ap (λ (b : Bool). b && is_same_name other name) (ne_eqb x d n)) ∙ e in cc)
   by (inl s) (inr o) e = absurd (let t : false ≡ true = sym (ap (λ (b : Bool). b && is_same_name other name) (eq-eqb x d s) ∙ o.0) ∙ e in cc)
 
-child_hook : (hook : ℕ → Hook) (ns : List Node) (d : ℕ) (name : Name) (k : ℕ) → AllByRecursion (λ (n : Node). hook n.number ≡ n.hook) ns → child_in ns d name ≡ Some k → hook k ≡ In d name
+pub child_hook : (hook : ℕ → Hook) (ns : List Node) (d : ℕ) (name : Name) (k : ℕ) → AllByRecursion (λ (n : Node). hook n.number ≡ n.hook) ns → child_in ns d name ≡ Some k → hook k ≡ In d name
 child_hook hook [] d name k own e = absurd cc
 child_hook hook (n ∷ ns) d name k own e = by (is_hooked d name n.hook) refl (child_hook hook ns d name k own.1) e where
   by : (b : Bool) → is_hooked d name n.hook ≡ b → (child_in ns d name ≡ Some k → hook k ≡ In d name) → cond b (Some n.number) (child_in ns d name) ≡ Some k → hook k ≡ In d name

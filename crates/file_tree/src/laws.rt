@@ -4,7 +4,8 @@ ghost use Rattle.file_tree.specs.laws.FileLimits.{FileLimitNumbers};
 ghost use Rattle.file_tree.specs.laws.Laws.{RenameMovesASubtree};
 ghost use Rattle.file_tree.specs.laws.Rebuilding.{EntriesTellPaths, EntriesTellFiles};
 ghost use Rattle.file_tree.specs.laws.Rebuilding.{HangingAddsAnEntry, OthersKeepEntries};
-ghost use Rattle.file_tree.specs.laws.Rebuilding.{EntriesComeInOrder, FilledFiles};
+ghost use Rattle.file_tree.specs.laws.Rebuilding.{EntriesComeInOrder, EntriesDiffer};
+ghost use Rattle.file_tree.specs.laws.Rebuilding.{ChildrenAreListed, FilledFiles};
 
 /// Renaming moves a whole subtree and nothing else.
 pub fn renaming_moves_a_subtree()
@@ -46,4 +47,14 @@ pub fn entries_come_in_order()
 /// A new file that is filled with bytes is a new file of these bytes.
 pub fn filled_files()
     ensures { FilledFiles }
+{}
+
+/// A name leads to the node that its directory lists under it.
+pub fn children_are_listed()
+    ensures { ChildrenAreListed }
+{}
+
+/// No two entries of a directory have one name, nor are they of one node.
+pub fn entries_differ()
+    ensures { EntriesDiffer }
 {}

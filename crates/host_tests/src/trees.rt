@@ -79,6 +79,31 @@ fn put_bytes(tree: &mut Tree, number: u64, from: u64, bytes: &[u8]) {
     }
 }
 
+fn add_node(alloc: Global, tree: &mut Tree, number: u64, kind: NodeKind) -> Result<(), AllocError> {
+    if number < tree.next() || number >= 1_000 || tree.len() >= NODES {
+        return Ok(());
+    }
+    tree.create_removed(alloc, number, kind)
+}
+
+fn hang_node(
+    alloc: Global,
+    tree: &mut Tree,
+    number: u64,
+    directory: u64,
+    name: &[u8],
+) -> Result<(), AllocError> {
+    let bytes = ByteList::copy_of(alloc, name)?;
+    if tree.has_path(number) || !tree.is_directory(directory) || !tree.has_path(directory) {
+        return Ok(());
+    }
+    if tree.child(directory, name).is_some() || !is_name(name) {
+        return Ok(());
+    }
+    tree.hang(number, directory, bytes);
+    Ok(())
+}
+
 #[test]
 fn changes_with_memory(rt: HostRuntime) -> Result<(), AllocError> {
     let mut tree = Tree::new(rt.alloc())?;
@@ -130,5 +155,30 @@ fn bytes_that_were_cut_off_are_zeros(rt: HostRuntime) -> Result<(), AllocError> 
     assert_eq!(rt; bytes, [0; 6]);
     set_size(&mut tree, file, 4_096)?;
     assert_eq!(rt; tree.chunks(), 1);
+    Ok(())
+}
+
+#[test]
+fn a_tree_is_built_anew(rt: HostRuntime) -> Result<(), AllocError> {
+    let mut tree = Tree::new(rt.alloc())?;
+    add_node(rt.alloc(), &mut tree, 3, NodeKind::File)?;
+    add_node(rt.alloc(), &mut tree, 5, NodeKind::Directory)?;
+    if tree.next() <= 8 {
+        tree.raise_next(8);
+    }
+    assert_eq!(rt; tree.next(), 8);
+    assert!(rt; !tree.has_path(3));
+    hang_node(rt.alloc(), &mut tree, 5, 1, b"d")?;
+    hang_node(rt.alloc(), &mut tree, 3, 5, b"f")?;
+    assert_eq!(rt; tree.child(5, b"f"), Some(3));
+    assert_eq!(rt; tree.entry_count(5), 1);
+    assert_eq!(rt; tree.entry_count(3), 0);
+    assert_eq!(rt; tree.number_at(1), Some(3));
+    assert_eq!(rt; tree.number_at(3), None);
+    set_size(&mut tree, 3, 4_098)?;
+    put_bytes(&mut tree, 3, 4_096, b"ab");
+    assert_eq!(rt; tree.chunk(3, 0).len(), 4_096);
+    assert_eq!(rt; tree.chunk(3, 1), b"ab".as_slice());
+    assert_eq!(rt; tree.chunk(3, 2).len(), 0);
     Ok(())
 }

@@ -3,7 +3,7 @@ use Rattle.std.specs.Prelude.{◌≡◌, ◌≢◌, ℕ, ◌+◌, ◌<◌, ◌�
 use Rattle.std.specs.Prelude.{slice_get, true, false, Some, is_some}
 use Rattle.file_tree.specs.rules.Files.{Name, Files, File, Entry, IsNodeName, IsFiles}
 use Rattle.file_tree.specs.rules.Files.{IsSmallContent, inserted, node_of, path_of, is_directory}
-use Rattle.file_tree.specs.rules.Files.{entries_of, created_removed, hung, with_next}
+use Rattle.file_tree.specs.rules.Files.{child, entries_of, created_removed, hung, with_next}
 use Rattle.file_tree.specs.rules.Files.{with_file_bytes, bytes_of_node}
 use Rattle.file_tree.specs.rules.Changes.{path_at, empty, CanHang}
 use Rattle.file_tree.specs.declared.kind.NodeKind.{NodeKind}
@@ -32,6 +32,22 @@ pub record EntriesTellPaths : Type 0 where
       → (d : ℕ) × (name : Name) × ListsNode fs d k name
   pub one : (fs : Files) (d e k : ℕ) (name other : Name) → IsFiles fs → ListsNode fs d k name
       → ListsNode fs e k other → (d ≡ e) × (name ≡ other)
+
+-- A name leads to the node that its directory lists under it.
+pub record ChildrenAreListed : Type 0 where
+  pub listed : (fs : Files) (d k : ℕ) (name : Name) → IsFiles fs → child fs d name ≡ Some k
+      → ListsNode fs d k name
+  pub found : (fs : Files) (d k : ℕ) (name : Name) → IsFiles fs → ListsNode fs d k name
+      → child fs d name ≡ Some k
+
+-- No two entries of a directory have one name, nor are they of one node.
+pub record EntriesDiffer : Type 0 where
+  pub names : (fs : Files) (d i j : ℕ) (e f : Entry) → IsFiles fs
+      → slice_get (entries_of fs d) i ≡ Some e → slice_get (entries_of fs d) j ≡ Some f
+      → e.name ≡ f.name → i ≡ j
+  pub numbers : (fs : Files) (d i j : ℕ) (e f : Entry) → IsFiles fs
+      → slice_get (entries_of fs d) i ≡ Some e → slice_get (entries_of fs d) j ≡ Some f
+      → e.number ≡ f.number → i ≡ j
 
 -- the same nodes, but for their paths
 pub record HaveSameNodes (fs gs : Files) : Type 0 where
