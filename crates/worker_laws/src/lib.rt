@@ -30,7 +30,7 @@
 //!
 //! # Who may touch what
 //!
-//! There is no code here but the empty functions of `laws`, and no crate uses it yet. The crate
+//! There is no code here but the empty functions of `laws`, and no code uses it yet. The crate
 //! takes no memory, and has no errors.
 #![tactic(auto)]
 
