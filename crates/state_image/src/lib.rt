@@ -48,6 +48,7 @@
 
 mod byte_sink;
 pub mod laws;
+pub mod reading;
 mod sink;
 mod writing;
 
