@@ -22,3 +22,4 @@ mod Children
 mod Room
 mod Texts
 mod Spelled
+mod WordLemmas

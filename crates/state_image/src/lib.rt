@@ -1,5 +1,5 @@
 //! The image of a process as bytes, version 1, and which images are accepted (this project's own).
-//! The code writes images. None is read back yet.
+//! The code writes images, and reads their fields. No process is made of these yet.
 //!
 //! # Promises
 //!
@@ -7,6 +7,9 @@
 //!   piece is refused, a front of the bytes was taken, nothing is pushed after it, and its fault
 //!   is the one that is given (`Pushes`). It takes no memory, and copies none of the guest's.
 //! - `write_image` gives these bytes in a vector.
+//! - `reading` reads the fields of an image from the front of bytes, one by one. Each reader gives
+//!   what a function on lists gives, or nothing where that gives nothing. It takes no memory. That
+//!   these functions give the fields of `image` is not proved yet.
 //! - `Sink` is a trait. What one push does is known by one relation, `takes`, which each
 //!   implementation names. `ByteSink` keeps the bytes that it takes, in order (`KeepsBytes`).
 //! - `laws::saves_what_is_shown`: what is saved of a process shows every process of the rules that
@@ -37,6 +40,8 @@
 //! - `Sinks.antt`: `Pushes` says what was done to a sink, push by push.
 //! - `WellTyped.antt`: `IsWellTyped` says which of these processes have images that are accepted.
 //!
+//! In `specs/reading/` stand the functions on lists that `reading` follows.
+//!
 //! # Who may touch what
 //!
 //! Only these definitions and this code say which byte of an image means what. `worker_rules`
@@ -48,6 +53,7 @@
 
 mod byte_sink;
 pub mod laws;
+pub mod reading;
 mod sink;
 mod writing;
 

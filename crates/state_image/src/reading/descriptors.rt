@@ -1,0 +1,40 @@
+//! The open descriptors of a process.
+
+ghost use Rattle.state_image.specs.reading.Fields.{FindsField};
+ghost use Rattle.state_image.specs.reading.Descriptors.{descriptor_at};
+
+use crate::reading::cursor::ImageReader;
+
+/// An open descriptor: its number, the stream or the kind of its node, the node or 0, and the rest.
+#[derive(Clone, Copy, Debug, PartialEq, Eq)]
+pub struct ReadDescriptor {
+    pub number: u32,
+    pub kind: u8,
+    pub node: u64,
+    pub offset: u64,
+    pub flags: u16,
+    pub base: u64,
+    pub inheriting: u64,
+}
+
+#[tactic(auto, unfolding(crate::specs::reading::Descriptors::descriptor_at))]
+pub fn read_descriptor(reader: &mut ImageReader) -> Option<ReadDescriptor>
+    ensures { FindsField result reader.new (descriptor_at reader.old) }
+{
+    let number = reader.u32()?;
+    let kind = reader.u8()?;
+    let node = reader.u64()?;
+    let offset = reader.u64()?;
+    let flags = reader.u16()?;
+    let base = reader.u64()?;
+    let inheriting = reader.u64()?;
+    Some(ReadDescriptor {
+        number,
+        kind,
+        node,
+        offset,
+        flags,
+        base,
+        inheriting,
+    })
+}

@@ -1,0 +1,17 @@
+//! The fields of an image, read from the front of bytes. No memory is taken.
+
+mod cursor;
+mod descriptors;
+mod files;
+mod machine_state;
+mod progress;
+mod words;
+
+pub use cursor::ImageReader;
+pub use descriptors::{ReadDescriptor, read_descriptor};
+pub use files::{ReadContent, ReadEntry, ReadNode, read_entry, read_node};
+pub use machine_state::{ReadFrame, read_frame, read_memory};
+pub use progress::{
+    ReadCounts, ReadEnd, ReadPhase, ReadStreams, read_counts, read_end, read_streams,
+};
+pub use words::{Words, read_words};

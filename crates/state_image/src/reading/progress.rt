@@ -1,0 +1,116 @@
+//! How far a process has come, how it ended, and its streams.
+
+ghost use Rattle.std.specs.Prelude.{◌≡◌};
+ghost use Rattle.state_image.specs.reading.Fields.{FindsField, LendsField};
+ghost use Rattle.state_image.specs.reading.Progress.{counts_at, trap_from, phase_from, end_at};
+ghost use Rattle.state_image.specs.reading.Progress.{texts_of, streams_at};
+
+use crate::reading::cursor::ImageReader;
+use wasm_syntax::Trap;
+
+/// What an image counts, and the last monotonic time in it.
+#[derive(Clone, Copy, Debug, PartialEq, Eq)]
+pub struct ReadCounts {
+    pub steps: u64,
+    pub answers: u64,
+    pub requests: u64,
+    pub lines: u64,
+    pub last_monotonic: u64,
+}
+
+/// In the start function, in `_start`, exited with a code, or trapped.
+#[derive(Clone, Copy, Debug, PartialEq, Eq)]
+pub enum ReadPhase {
+    Starting,
+    Running,
+    Exited(u32),
+    Trapped(Trap),
+}
+
+/// A phase, and whether input has ended.
+#[derive(Clone, Copy, Debug, PartialEq, Eq)]
+pub struct ReadEnd {
+    pub phase: ReadPhase,
+    pub input_ended: bool,
+}
+
+/// The unread bytes, and the unfinished lines of streams 1 and 2.
+#[derive(Clone, Copy, Debug)]
+pub struct ReadStreams<'a> {
+    pub unread: &'a [u8],
+    pub first: &'a [u8],
+    pub second: &'a [u8],
+}
+
+#[tactic(auto, unfolding(crate::specs::reading::Progress::counts_at))]
+pub fn read_counts(reader: &mut ImageReader) -> Option<ReadCounts>
+    ensures { FindsField result reader.new (counts_at reader.old) }
+{
+    let steps = reader.u64()?;
+    let answers = reader.u64()?;
+    let requests = reader.u64()?;
+    let lines = reader.u64()?;
+    let last_monotonic = reader.u64()?;
+    Some(ReadCounts {
+        steps,
+        answers,
+        requests,
+        lines,
+        last_monotonic,
+    })
+}
+
+/// The phase with its code, and whether input has ended. A phase with no code has the code 0.
+#[tactic(auto, unfolding(crate::specs::reading::Progress::end_at))]
+pub fn read_end(reader: &mut ImageReader) -> Option<ReadEnd>
+    ensures { FindsField result reader.new (end_at reader.old) }
+{
+    let number = reader.u8()?;
+    let code = reader.u32()?;
+    let phase = phase_from(number, code)?;
+    let input_ended = reader.flag()?;
+    Some(ReadEnd { phase, input_ended })
+}
+
+fn phase_from(number: u8, code: u32) -> Option<ReadPhase>
+    ensures { result ≡ phase_from number code }
+{
+    match number {
+        0 if code == 0 => Some(ReadPhase::Starting),
+        1 if code == 0 => Some(ReadPhase::Running),
+        2 => Some(ReadPhase::Exited(code)),
+        3 => Some(ReadPhase::Trapped(trap_from(code)?)),
+        _ => None,
+    }
+}
+
+/// The trap of a number from 1 to 8.
+fn trap_from(number: u32) -> Option<Trap>
+    ensures { result ≡ trap_from number }
+{
+    match number {
+        1 => Some(Trap::Unreachable),
+        2 => Some(Trap::DivideByZero),
+        3 => Some(Trap::IntegerOverflow),
+        4 => Some(Trap::MemoryOutOfBounds),
+        5 => Some(Trap::UndefinedElement),
+        6 => Some(Trap::UninitializedElement),
+        7 => Some(Trap::IndirectCallTypeMismatch),
+        8 => Some(Trap::StackExhausted),
+        _ => None,
+    }
+}
+
+#[tactic(auto, unfolding(crate::specs::reading::Progress::streams_at))]
+pub fn read_streams<'a>(reader: &mut ImageReader<'a>) -> Option<ReadStreams<'a>>
+    ensures { LendsField texts_of result reader.new (streams_at reader.old) }
+{
+    let unread = reader.text()?;
+    let first = reader.text()?;
+    let second = reader.text()?;
+    Some(ReadStreams {
+        unread,
+        first,
+        second,
+    })
+}
