@@ -17,7 +17,7 @@ use Rattle.journal.specs.rules.Steps.{RecordsStand, AllRecordsFit, records_bytes
 use Rattle.journal.specs.rules.Steps.{SameOthers, ShowsNoneAfter}
 use Rattle.journal.proofs.RunLemmas.{all_bytes}
 use Rattle.journal.proofs.RecordLemmas.{scan_of}
-use Rattle.worker_rules.specs.Stands.{Recorded, none, more, given_in}
+use Rattle.record_replay.specs.rules.Records.{Recorded, none, more, given_in}
 use Rattle.worker_laws.specs.laws.Savepoints.{Savepoint, places, point_of, StandsAtPoint}
 use Rattle.worker_laws.specs.laws.Barriers.{RecordedOnce, BarrierLeavesFront, BarrierLeavesAll}
 use Rattle.worker_laws.specs.laws.Barriers.{FrontStands, BarrierStands}

@@ -8,7 +8,7 @@ use Rattle.disk_layout.specs.rules.Places.{Geometry}
 use Rattle.disk_layout.specs.rules.Journal.{Record, record_bytes}
 use Rattle.journal.specs.rules.State.{JournalState}
 use Rattle.journal.specs.rules.Steps.{AppendsFront, RecordsStand, RecordFits, records_bytes, IsOn}
-use Rattle.worker_rules.specs.Stands.{none}
+use Rattle.record_replay.specs.rules.Records.{none}
 use Rattle.worker_laws.specs.laws.Savepoints.{places}
 use Rattle.worker_laws.specs.laws.Journaled.{BarrierAtAnyMoment, BarrierInTheEnd}
 use Rattle.worker_laws.specs.laws.Journaled.{AppendGoesOn, StaysJournaled, BeginsJournaled}

@@ -11,7 +11,7 @@ use Rattle.process_rules.specs.Runs.{Kept}
 use Rattle.process_rules.proofs.Growing.{runs_count}
 use Rattle.sector_disk.specs.rules.Image.{Image}
 use Rattle.disk_layout.specs.rules.Journal.{Record}
-use Rattle.worker_rules.specs.Stands.{Recorded, none, more, given_in}
+use Rattle.record_replay.specs.rules.Records.{Recorded, none, more, given_in}
 use Rattle.worker_laws.specs.laws.Savepoints.{Savepoint, StandsAtPoint, StandsBySaved}
 use Rattle.worker_laws.specs.laws.Savepoints.{StandsAtItsPoint, PointStands, PointStandsAlone}
 

@@ -17,7 +17,7 @@ use Rattle.journal.specs.laws.Laws.{ShowsEarlierThan}
 use Rattle.snapshot.specs.rules.Heads.{heads_to, IsReadyForHead}
 use Rattle.snapshot.specs.rules.Steps.{KeepsNewest, HasNew, IsOutsideArea}
 use Rattle.snapshot.proofs.AreaLemmas.{parity}
-use Rattle.worker_rules.specs.Stands.{none}
+use Rattle.record_replay.specs.rules.Records.{none}
 use Rattle.worker_laws.specs.laws.Savepoints.{Savepoint, places, StandsAtPoint}
 use Rattle.worker_laws.specs.laws.Commits.{BeginsAtPoint, NewPointBegins, PointIsReady}
 use Rattle.worker_laws.specs.laws.Commits.{FillingKeepsPoint, IsNextPoint, CommitLeavesOneOfTwo}

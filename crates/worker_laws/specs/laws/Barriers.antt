@@ -9,7 +9,8 @@ use Rattle.sector_disk.specs.rules.Image.{Image}
 use Rattle.disk_layout.specs.rules.Places.{geometry_of}
 use Rattle.disk_layout.specs.rules.Journal.{Record}
 use Rattle.journal.specs.rules.Steps.{AppendsFront, RecordsStand, AllRecordsFit}
-use Rattle.worker_rules.specs.Stands.{Recorded, given_in, StandsFor}
+use Rattle.record_replay.specs.rules.Records.{Recorded, given_in}
+use Rattle.worker_rules.specs.Stands.{StandsFor}
 use Rattle.worker_laws.specs.laws.Savepoints.{Savepoint, places, point_of, StandsAtPoint}
 use Rattle.worker_laws.specs.laws.Savepoints.{StandsBySaved}
 

@@ -10,7 +10,7 @@ use Rattle.sector_disk.specs.rules.Medium.{Medium, After, LeavesOnly}
 use Rattle.disk_layout.specs.rules.Journal.{Record, record_bytes}
 use Rattle.journal.specs.rules.State.{JournalState, state}
 use Rattle.journal.specs.rules.Steps.{AppendsFront, RecordsStand, RecordFits, IsOn}
-use Rattle.worker_rules.specs.Stands.{Recorded}
+use Rattle.record_replay.specs.rules.Records.{Recorded}
 use Rattle.worker_laws.specs.laws.Savepoints.{Savepoint, places, StandsAtPoint}
 use Rattle.worker_laws.specs.laws.Barriers.{StandsAtFront}
 use Rattle.worker_laws.specs.laws.Commits.{BeginsAtPoint}

@@ -14,7 +14,8 @@ use Rattle.disk_layout.specs.rules.Places.{Geometry, geometry_of}
 use Rattle.disk_layout.specs.rules.Sectors.{HasWorker, HoldsImage}
 use Rattle.disk_layout.specs.rules.Journal.{Record, scan}
 use Rattle.disk_layout.specs.declared.head.TheConstants.{IMAGE_VERSION}
-use Rattle.worker_rules.specs.Stands.{Recorded, given_in, ShowsNoneLater, StandsFor}
+use Rattle.record_replay.specs.rules.Records.{Recorded, given_in}
+use Rattle.worker_rules.specs.Stands.{ShowsNoneLater, StandsFor}
 
 -- The bytes of a module, and a process to which it comes on these answers, as it is saved in a
 -- generation.
