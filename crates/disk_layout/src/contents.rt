@@ -2,7 +2,8 @@
 
 ghost use Rattle.std.specs.Prelude.{◌≡◌, ◌⊎◌, ◌<◌, ◌≤◌, ◌+◌, ◌*◌, ◌^◌, ◌++◌, length, OnOk, IsErr};
 ghost use Rattle.guest_memory.specs.rules.Bytes.{part};
-ghost use Rattle.sector_disk.specs.rules.Medium.{LeavesOnly, After, BothFollow, CountsUpTo, MakesCalls, FailsInside, spare};
+ghost use Rattle.sector_disk.specs.rules.Medium.{LeavesOnly, After, BothFollow, CountsUpTo};
+ghost use Rattle.sector_disk.specs.rules.Medium.{MakesCalls, FailsInside, spare};
 ghost use Rattle.sector_disk.specs.rules.Calls.{rising_writes};
 ghost use Rattle.sector_disk.specs.rules.Run.{IsTornRun, IsWrittenRun};
 ghost use Rattle.sector_disk.specs.declared.sector.TheConstants.{SECTOR_SIZE};
@@ -14,15 +15,17 @@ use crate::fields::put;
 use crate::geometry::{MODULE_PLACE, sectors_of};
 use sector_disk::{Disk, DiskFault, SECTOR_SIZE};
 
-/// Writes configuration and module behind the super and the heads, with zeros up to the end of their last
-/// sector. It makes no sync: nothing of it is durable before a later one.
+/// Writes configuration and module behind the super and the heads, with zeros up to the end of
+/// their last sector. It makes no sync: nothing of it is durable before a later one.
 pub fn write_contents<D: Disk>(disk: &mut D, config: &[u8], wasm: &[u8]) -> Result<(), DiskFault>
     requires few { length config.now + length wasm.now ≤ 2 ^ 62 }
-    requires room { MODULE_PLACE + rounded_up (length config.now + length wasm.now) ≤ (D.medium disk.old).sectors }
+    requires room { MODULE_PLACE + rounded_up (length config.now + length wasm.now)
+        ≤ (D.medium disk.old).sectors }
 
     // A cut at any moment leaves of each of the sectors some front, and all others as they were.
     ensures any_moment { let sectors = contents_sectors (config.now ++ wasm.now) in
-        LeavesOnly (D.medium disk.old) (D.medium disk.new) (After (IsTornRun MODULE_PLACE sectors (length sectors)) (D.medium disk.old).may_leave) }
+        LeavesOnly (D.medium disk.old) (D.medium disk.new)
+        (After (IsTornRun MODULE_PLACE sectors (length sectors)) (D.medium disk.old).may_leave) }
 
     // Once it has answered Ok, reads give all of them, and a cut leaves of each some front. After
     // an error reads, too, give of each some front.
@@ -46,7 +49,9 @@ pub fn write_contents<D: Disk>(disk: &mut D, config: &[u8], wasm: &[u8]) -> Resu
     ensures calls { MakesCalls
         (rising_writes MODULE_PLACE (rounded_up (length config.now + length wasm.now))) result
         (D.medium disk.old) (D.medium disk.new) }
-    ensures cause { IsErr result → (spare (D.medium disk.old) < rounded_up (length config.now + length wasm.now)) ⊎ ((D.medium disk.old).faults < (D.medium disk.new).faults) }
+    ensures cause { IsErr result
+        → (spare (D.medium disk.old) < rounded_up (length config.now + length wasm.now))
+        ⊎ ((D.medium disk.old).faults < (D.medium disk.new).faults) }
     ensures kind { FailsInside result }
 {
     let count = sectors_of((config.len() + wasm.len()) as u64);
@@ -57,7 +62,8 @@ pub fn write_contents<D: Disk>(disk: &mut D, config: &[u8], wasm: &[u8]) -> Resu
     Ok(())
 }
 
-/// The bytes from `start` on of configuration and module, one behind the other, with zeros behind them.
+/// The bytes from `start` on of configuration and module, one behind the other, with zeros behind
+/// them.
 fn sector_of(config: &[u8], wasm: &[u8], start: usize) -> [u8; SECTOR_SIZE]
     requires few { length config.now + length wasm.now ≤ 2 ^ 62 }
     requires start { start ≤ 2 ^ 62 }

@@ -2,7 +2,8 @@
 
 ghost use Rattle.std.specs.Prelude.{◌≡◌, ◌+◌, ◌≤◌, length};
 ghost use Rattle.guest_memory.specs.rules.Bytes.{part, with_part};
-ghost use Rattle.wasi_abi.specs.rules.Layouts.{u16_bytes, u32_bytes, u64_bytes, u16_at, u32_at, u64_at};
+ghost use Rattle.wasi_abi.specs.rules.Layouts.{u16_bytes, u32_bytes, u64_bytes, u16_at, u32_at};
+ghost use Rattle.wasi_abi.specs.rules.Layouts.{u64_at};
 
 use byteorder::{ByteOrder, LittleEndian};
 

@@ -3,7 +3,8 @@
 ghost use Rattle.std.specs.Prelude.{◌≡◌, ◌≤◌, ◌+◌, ◌*◌, ◌^◌, length};
 ghost use Rattle.std.specs.List.{AllByRecursion};
 ghost use Rattle.wasi_abi.specs.rules.Configs.{IsShortText};
-ghost use Rattle.disk_layout.specs.rules.Places.{geometry_of, texts_bytes, rounded_up, head_place, area_place, journal_place, total_sectors};
+ghost use Rattle.disk_layout.specs.rules.Places.{geometry_of, texts_bytes, rounded_up, head_place};
+ghost use Rattle.disk_layout.specs.rules.Places.{area_place, journal_place, total_sectors};
 
 use sector_disk::SECTOR_SIZE;
 use wasi_abi::Config;
@@ -18,8 +19,8 @@ const UNIT_SECTORS: u32 = 128;
 /// The first sector of configuration and module. Before it stand the super and the two heads.
 pub const MODULE_PLACE: u64 = 3;
 
-/// The lengths of configuration and module in bytes, and of their part of the disk, of an area and of
-/// the journal in sectors.
+/// The lengths of configuration and module in bytes, and of their part of the disk, of an area and
+/// of the journal in sectors.
 #[derive(Clone, Copy, Debug, PartialEq, Eq)]
 pub struct Geometry {
     pub config: u32,

@@ -34,8 +34,8 @@ pub fn used_length(sector: &[u8; SECTOR_SIZE]) -> usize
     usize::from(u16_from(sector, 0))
 }
 
-/// Whether a sector is one of the journal of this generation, at its place, with a payload of a byte
-/// at least.
+/// Whether a sector is one of the journal of this generation, at its place, with a payload of a
+/// byte at least.
 pub fn is_of(generation: u64, place: u64, sector: &[u8; SECTOR_SIZE]) -> bool
     ensures { result ≡ is_of generation place sector.now }
 {

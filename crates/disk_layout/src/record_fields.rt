@@ -8,7 +8,8 @@ ghost use Rattle.disk_layout.specs.rules.Journal.{payload_length};
 
 use crate::fields::{put_u16, put_u64, u16_from, u64_from};
 
-/// How many bytes of a record stand before its payload: its kind, its step and the payload's length.
+/// How many bytes of a record stand before its payload: its kind, its step and the payload's
+/// length.
 pub const RECORD_HEAD_BYTES: usize = 11;
 
 /// Where the step stands, behind the kind.

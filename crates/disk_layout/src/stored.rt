@@ -1,14 +1,17 @@
 // The super on a disk, and the configuration and the module that it leads to.
 
-ghost use Rattle.std.specs.Prelude.{◌≡◌, ◌⊎◌, ◌↔◌, ◌+◌, ◌*◌, ◌<◌, ◌≤◌, ◌++◌, ℕ, [], ◌∷◌, length, take, IsTrue, IfOk, IfErr, OnOk, IsErr};
+ghost use Rattle.std.specs.Prelude.{◌≡◌, ◌⊎◌, ◌↔◌, ◌+◌, ◌*◌, ◌<◌, ◌≤◌, ◌++◌, ℕ, [], ◌∷◌, length};
+ghost use Rattle.std.specs.Prelude.{take, IsTrue, IfOk, IfErr, OnOk, IsErr};
 ghost use Rattle.sha2.specs.Sha256.{sha256};
 ghost use Rattle.sector_disk.specs.declared.sector.TheConstants.{SECTOR_SIZE};
 ghost use Rattle.sector_disk.specs.rules.Image.{Image};
-ghost use Rattle.sector_disk.specs.rules.Medium.{LeavesOnly, After, Follows, IsAllSynced, CountsUpTo, MakesCalls, FailsInside, spare};
+ghost use Rattle.sector_disk.specs.rules.Medium.{LeavesOnly, After, Follows, IsAllSynced};
+ghost use Rattle.sector_disk.specs.rules.Medium.{CountsUpTo, MakesCalls, FailsInside, spare};
 ghost use Rattle.sector_disk.specs.rules.Calls.{synced_writes};
 ghost use Rattle.sector_disk.specs.rules.Run.{IsTornRun, IsWrittenRun};
 ghost use Rattle.disk_layout.specs.rules.Sectors.{bytes_from, super_bytes};
-ghost use Rattle.disk_layout.specs.rules.Stored.{OnlyReads, IsConsistent, Checks, SplitsContents, FindsStored};
+ghost use Rattle.disk_layout.specs.rules.Stored.{OnlyReads, IsConsistent, Checks, SplitsContents};
+ghost use Rattle.disk_layout.specs.rules.Stored.{FindsStored};
 
 use crate::fault::LayoutFault;
 use crate::geometry::{Geometry, MODULE_PLACE, sectors_of};
@@ -48,28 +51,33 @@ pub fn write_super<D: Disk>(disk: &mut D, contents: &Super) -> Result<(), DiskFa
 
     // A cut at any moment leaves some front of it, and all other sectors as they were.
     ensures any_moment { let sectors = super_bytes contents.now.geometry contents.now.digest ∷ [] in
-        LeavesOnly (D.medium disk.old) (D.medium disk.new) (After (IsTornRun 0 sectors 1) (D.medium disk.old).may_leave) }
+        LeavesOnly (D.medium disk.old) (D.medium disk.new)
+        (After (IsTornRun 0 sectors 1) (D.medium disk.old).may_leave) }
     ensures stored { let sectors = super_bytes contents.now.geometry contents.now.digest ∷ [] in
-        OnOk result (Follows (IsWrittenRun 0 sectors 1) (D.medium disk.old).shows (D.medium disk.new).may_leave) }
+        OnOk result (Follows (IsWrittenRun 0 sectors 1) (D.medium disk.old).shows
+        (D.medium disk.new).may_leave) }
     ensures settled { OnOk result (IsAllSynced (D.medium disk.new)) }
     ensures counts { CountsUpTo ((D.medium disk.old).unsynced + 1) (D.medium disk.old)
         (D.medium disk.new) }
     ensures calls { MakesCalls (synced_writes 0 1) result (D.medium disk.old)
         (D.medium disk.new) }
-    ensures cause { IsErr result → (spare (D.medium disk.old) < 1) ⊎ ((D.medium disk.old).faults < (D.medium disk.new).faults) }
+    ensures cause { IsErr result → (spare (D.medium disk.old) < 1)
+        ⊎ ((D.medium disk.old).faults < (D.medium disk.new).faults) }
     ensures kind { FailsInside result }
 {
     store_run(disk, 0, &[contents.sector()])
 }
 
-/// Reads the super, and the configuration and the module behind it. It fails where a mark of the super
-/// is missing (`NotAWorker`), where the layout is none that is known (`Version`), where the super's
-/// numbers disagree or the digest differs (`Damaged`), where the disk ends before the module does
-/// (`TooSmall`), and for want of memory.
+/// Reads the super, and the configuration and the module behind it. It fails where a mark of the
+/// super is missing (`NotAWorker`), where the layout is none that is known (`Version`), where the
+/// super's numbers disagree or the digest differs (`Damaged`), where the disk ends before the
+/// module does (`TooSmall`), and for want of memory.
 pub fn read_super<D: Disk>(alloc: Global, disk: &mut D) -> Result<Stored, LayoutFault>
     ensures reads { OnlyReads (D.medium disk.old) (D.medium disk.new) }
-    ensures finds { (image : Image) → (D.medium disk.new).shows image → FindsStored (D.medium disk.old).sectors image result }
-    ensures cause { (fault : DiskFault) → result ≡ Err (LayoutFault.Disk fault) → (D.medium disk.old).faults < (D.medium disk.new).faults }
+    ensures finds { (image : Image) → (D.medium disk.new).shows image
+        → FindsStored (D.medium disk.old).sectors image result }
+    ensures cause { (fault : DiskFault) → result ≡ Err (LayoutFault.Disk fault)
+        → (D.medium disk.old).faults < (D.medium disk.new).faults }
 {
     let sectors = disk.sectors();
     if sectors == 0 {
@@ -114,10 +122,13 @@ fn read_sectors<D: Disk>(
 ) -> Result<Vec<u8>, LayoutFault>
     requires { at + count ≤ (D.medium disk.old).sectors }
     ensures reads { OnlyReads (D.medium disk.old) (D.medium disk.new) }
-    ensures bytes { IfOk result (λ v. (image : Image) → (D.medium disk.new).shows image → v.items ≡ bytes_from image at count) }
+    ensures bytes { IfOk result (λ v. (image : Image) → (D.medium disk.new).shows image
+        → v.items ≡ bytes_from image at count) }
     ensures len { IfOk result (λ v. length v.items ≡ SECTOR_SIZE * count) }
-    ensures cause { (fault : DiskFault) → result ≡ Err (LayoutFault.Disk fault) → (D.medium disk.old).faults < (D.medium disk.new).faults }
-    ensures kind { IfErr result (λ e. e ≡ LayoutFault.Memory ⊎ ((fault : DiskFault) × (e ≡ LayoutFault.Disk fault))) }
+    ensures cause { (fault : DiskFault) → result ≡ Err (LayoutFault.Disk fault)
+        → (D.medium disk.old).faults < (D.medium disk.new).faults }
+    ensures kind { IfErr result (λ e. e ≡ LayoutFault.Memory
+        ⊎ ((fault : DiskFault) × (e ≡ LayoutFault.Disk fault))) }
 {
     let mut bytes = Vec::new(alloc);
     let mut sector = [0; SECTOR_SIZE];

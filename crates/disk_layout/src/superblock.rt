@@ -71,8 +71,8 @@ impl Super {
         sector
     }
 
-    /// The fields that a sector holds. It fails where a mark is missing (`NotAWorker`), and where the
-    /// layout is none that is known (`Version`). Zeros are not looked at.
+    /// The fields that a sector holds. It fails where a mark is missing (`NotAWorker`), and where
+    /// the layout is none that is known (`Version`). Zeros are not looked at.
     pub fn read(sector: &[u8; SECTOR_SIZE]) -> Result<Super, LayoutFault>
         ensures { ReadsSuper sector.now result }
     {

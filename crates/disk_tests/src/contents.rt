@@ -36,7 +36,8 @@ fn is_read_back(alloc: Global) -> Result<bool, LayoutFault> {
     Ok(is_the_worker(&contents) && is_spelled_again(alloc, &contents.config)?)
 }
 
-/// `scripts/refused-allocations` refuses each allocation in turn, and then this ends in want of memory.
+/// `scripts/refused-allocations` refuses each allocation in turn, and then this ends in want of
+/// memory.
 #[test]
 fn a_worker_is_read_back(rt: HostRuntime) -> Result<(), LayoutFault> {
     assert!(rt; is_read_back(rt.alloc())?);
@@ -131,15 +132,16 @@ fn is_environment(alloc: Global) -> Result<bool, AllocError> {
     }
 }
 
-/// `scripts/refused-allocations` refuses each allocation in turn, and then this ends in want of memory.
+/// `scripts/refused-allocations` refuses each allocation in turn, and then this ends in want of
+/// memory.
 #[test]
 fn bytes_of_a_configuration(rt: HostRuntime) -> Result<(), AllocError> {
     assert!(rt; is_environment(rt.alloc())?);
     Ok(())
 }
 
-/// The numbers of a super: configuration length and sectors of the module, an area and the journal. Then
-/// the sectors of the disk, and what is wrong.
+/// The numbers of a super: configuration length and sectors of the module, an area and the journal.
+/// Then the sectors of the disk, and what is wrong.
 type Numbers = (u32, u32, u32, u32, u64, Option<LayoutFault>);
 
 static NUMBERS: [Numbers; 11] = [

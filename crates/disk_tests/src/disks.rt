@@ -200,7 +200,8 @@ fn answer<D: Disk>(disk: &mut D, call: Call) -> Answer {
     }
 }
 
-/// Calls of a disk in memory, their answers, and how many writes there are then since the last sync.
+/// Calls of a disk in memory, their answers, and how many writes there are then since the last
+/// sync.
 static CALLS: [(Call, Answer, usize); 10] = [
     (Call::Read(3), Ok(()), 0),
     (Call::Read(4), Err(DiskFault::Range), 0),
@@ -488,7 +489,8 @@ fn is_run_so(alloc: Global, run: &Run) -> Result<bool, DiskFault> {
     Ok(counts == run.1 && cut_leaves(alloc, &disk.into_inner(), &[7, 0], &image)?)
 }
 
-/// `scripts/refused-allocations` refuses each allocation in turn, and then this ends in want of memory.
+/// `scripts/refused-allocations` refuses each allocation in turn, and then this ends in want of
+/// memory.
 #[test]
 fn a_run_is_settled_by_its_sync(rt: HostRuntime) -> Result<(), DiskFault> {
     for run in &RUNS {

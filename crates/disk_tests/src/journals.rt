@@ -1,5 +1,5 @@
-//! Records byte by byte, batches that are torn, stops and failures at each call of the disk, and how much
-//! is written.
+//! Records byte by byte, batches that are torn, stops and failures at each call of the disk, and
+//! how much is written.
 
 use crate::disks::prints;
 use crate::layouts::is_laid_out;
@@ -228,7 +228,8 @@ fn are_records_so(alloc: Global) -> Result<bool, JournalFault> {
     are_bytes_so(alloc, &mut empty(alloc)?)
 }
 
-/// `scripts/refused-allocations` refuses each allocation in turn, and then this ends in want of memory.
+/// `scripts/refused-allocations` refuses each allocation in turn, and then this ends in want of
+/// memory.
 #[test]
 fn records_of_two_barriers_byte_by_byte(rt: HostRuntime) -> Result<(), JournalFault> {
     assert!(rt; are_records_so(rt.alloc())?);
@@ -294,7 +295,8 @@ fn scanned_of_five(alloc: Global) -> Result<Option<usize>, JournalFault> {
     write_and_scan(alloc, &mut empty(alloc)?, 1, &[400; 5])
 }
 
-/// `scripts/refused-allocations` refuses each allocation in turn, and then this ends in want of memory.
+/// `scripts/refused-allocations` refuses each allocation in turn, and then this ends in want of
+/// memory.
 #[test]
 fn appended_and_scanned(rt: HostRuntime) -> Result<(), JournalFault> {
     assert!(rt; scanned_of_five(rt.alloc())? == Some(5));
@@ -374,8 +376,8 @@ fn run<D: Disk>(alloc: Global, journal: &mut Journal, disk: &mut D) -> Result<us
     Ok(10)
 }
 
-/// A call of the disk, how many records were acknowledged before it, and how many are kept where it leaves
-/// a front of at most 504 bytes, and of 505 and more: with 505 bytes a sector has its stamp.
+/// A call of the disk, how many records were acknowledged before it, and how many are kept where it
+/// leaves a front of at most 504 bytes, and of 505 and more: with 505 bytes a sector has its stamp.
 type Kept = (u64, usize, usize, usize);
 
 /// Each pair takes two writes and a sync. The second record begins in the first sector.
@@ -465,8 +467,8 @@ fn a_failed_call_keeps_what_was_acknowledged(rt: HostRuntime) -> Result<(), Jour
     Ok(())
 }
 
-/// Whether a barrier without a record calls the disk for nothing, and one with a request of this length for
-/// so many writes and one sync.
+/// Whether a barrier without a record calls the disk for nothing, and one with a request of this
+/// length for so many writes and one sync.
 fn is_written_by<D: Disk>(
     alloc: Global,
     journal: &mut Journal,

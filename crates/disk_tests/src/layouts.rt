@@ -17,7 +17,8 @@ pub(crate) fn layout_fault(fault: DiskFault) -> LayoutFault {
     }
 }
 
-/// Writes a sector of generation 255 at place 3 and settles it, and then writes one of generation 256.
+/// Writes a sector of generation 255 at place 3 and settles it, and then writes one of generation
+/// 256.
 fn write_stamps<D: Disk>(disk: &mut D) -> Result<(), DiskFault> {
     disk.write(0, &journal_sector(255, 3, b"old"))?;
     disk.sync()?;
@@ -75,8 +76,8 @@ pub(crate) const PLACES: Geometry = Geometry {
     journal_sectors: 64,
 };
 
-/// Writes these bytes behind the heads where there is room, and a super with these numbers and their
-/// digest.
+/// Writes these bytes behind the heads where there is room, and a super with these numbers and
+/// their digest.
 fn write_worker<D: Disk>(
     disk: &mut D,
     geometry: Geometry,
@@ -114,8 +115,8 @@ pub(crate) fn is_laid_out(sector: &[u8; 512], front: &[u8], end: &[u8]) -> bool 
     is_all(between, 0)
 }
 
-/// The mark, layout 1, 28 bytes of configuration and 193 of module in 1 sector, areas of 2304 sectors, a
-/// journal of 64, and the digest of configuration and module.
+/// The mark, layout 1, 28 bytes of configuration and 193 of module in 1 sector, areas of 2304
+/// sectors, a journal of 64, and the digest of configuration and module.
 static SUPER: [u8; 64] = *b"DWORKER!\
     \x01\0\0\0\
     \x1c\0\0\0\
@@ -174,7 +175,8 @@ fn is_full_read(alloc: Global) -> Result<bool, LayoutFault> {
     Ok(is_full(&read_super(alloc, &mut disk)?))
 }
 
-/// `scripts/refused-allocations` refuses each allocation in turn, and then this ends in want of memory.
+/// `scripts/refused-allocations` refuses each allocation in turn, and then this ends in want of
+/// memory.
 #[test]
 fn a_super_leads_to_what_stands_behind_it(rt: HostRuntime) -> Result<(), LayoutFault> {
     assert!(rt; is_full_read(rt.alloc())?);
@@ -203,8 +205,8 @@ fn one_text(alloc: Global, text: &[u8]) -> Result<Row<Row<u8>>, AllocError> {
     Ok(Row::from_vec(texts))
 }
 
-/// Whether the configuration of one page, two units of files, a journal of 64 sectors, the argument `a`
-/// and the environment `K=v` has these bytes.
+/// Whether the configuration of one page, two units of files, a journal of 64 sectors, the argument
+/// `a` and the environment `K=v` has these bytes.
 fn is_spelled(alloc: Global, want: &[u8]) -> Result<bool, AllocError> {
     let arguments = one_text(alloc, b"a")?;
     let environment = one_text(alloc, b"K=v")?;
@@ -214,7 +216,8 @@ fn is_spelled(alloc: Global, want: &[u8]) -> Result<bool, AllocError> {
     }
 }
 
-/// `scripts/refused-allocations` refuses each allocation in turn, and then this ends in want of memory.
+/// `scripts/refused-allocations` refuses each allocation in turn, and then this ends in want of
+/// memory.
 #[test]
 fn a_configuration_byte_by_byte(rt: HostRuntime) -> Result<(), AllocError> {
     let want = b"\x01\0\0\0\x02\0\0\0\x40\0\0\0\x01\0\0\0\x01\0a\x01\0\0\0\x03\0K=v".as_slice();

@@ -1,5 +1,5 @@
-//! Images in two areas: what a stop leaves, what is damaged, which sectors are written, and how heads are
-//! spelled.
+//! Images in two areas: what a stop leaves, what is damaged, which sectors are written, and how
+//! heads are spelled.
 
 use crate::disks::{is_all, prints};
 use crate::layouts::is_laid_out;
@@ -112,12 +112,13 @@ fn is_found<D: Disk>(alloc: Global, disk: &mut D, want: Newest) -> Result<bool, 
     }
 }
 
-/// A call at which a disk stops, which of the two commits are acknowledged, and the newest image where the
-/// call leaves a front of at most 504 bytes, and of 505 and more: with 505 bytes a head has its stamp.
+/// A call at which a disk stops, which of the two commits are acknowledged, and the newest image
+/// where the call leaves a front of at most 504 bytes, and of 505 and more: with 505 bytes a head
+/// has its stamp.
 type Stop = (u64, (bool, bool), Newest, Newest);
 
-/// The first commit reads and writes two sectors, syncs, writes a head and syncs; the second one does the
-/// same with three sectors.
+/// The first commit reads and writes two sectors, syncs, writes a head and syncs; the second one
+/// does the same with three sectors.
 static STOPS: [Stop; 17] = [
     (1, (false, false), Newest::Nothing, Newest::Nothing),
     (2, (false, false), Newest::Nothing, Newest::Nothing),
@@ -197,7 +198,8 @@ fn a_stop_leaves_the_old_snapshot_or_the_new_one(rt: HostRuntime) -> Result<(), 
     Ok(())
 }
 
-/// Whether a failed sync of a head fails the commit, and each call after it with no call of the disk.
+/// Whether a failed sync of a head fails the commit, and each call after it with no call of the
+/// disk.
 fn fails_what_follows<D: Disk>(snapshots: &mut Snapshots, disk: &mut FaultDisk<D>) -> bool {
     if commit(snapshots, disk, 1, &SHORT).is_err() {
         return false;
@@ -284,7 +286,8 @@ fn a_damaged_byte_is_told(rt: HostRuntime) -> Result<(), SnapshotFault> {
     Ok(())
 }
 
-/// Whether an empty disk with a head of generation 1 and this length is damaged after so many reads.
+/// Whether an empty disk with a head of generation 1 and this length is damaged after so many
+/// reads.
 fn is_damaged_after(
     alloc: Global,
     length_in_bytes: u64,
@@ -319,8 +322,8 @@ fn a_length_above_the_area_is_told_before_a_sector_is_read(
     Ok(())
 }
 
-/// How many bytes of LONG an image has, whether its byte 600 is another, and the calls of its commit over
-/// LONG itself.
+/// How many bytes of LONG an image has, whether its byte 600 is another, and the calls of its
+/// commit over LONG itself.
 type Rewrite = (usize, bool, (u64, u64, u64));
 
 static REWRITES: [Rewrite; 5] = [
@@ -432,7 +435,8 @@ fn pieces_are_the_image(rt: HostRuntime) -> Result<(), SnapshotFault> {
     Ok(())
 }
 
-/// Whether SHORT ends in zeros in its second sector, where LONG stood before, and the third one is LONG's.
+/// Whether SHORT ends in zeros in its second sector, where LONG stood before, and the third one is
+/// LONG's.
 fn ends_in_zeros<D: Disk>(snapshots: &mut Snapshots, disk: &mut D) -> Result<bool, SnapshotFault> {
     commit_two(snapshots, disk)?;
     commit(snapshots, disk, 3, &SHORT)?;
@@ -575,7 +579,8 @@ fn is_written_and_found<D: Disk>(alloc: Global, disk: &mut D) -> Result<bool, Sn
     Ok(leads_to_long(alloc, &mut Snapshots::new(), disk)? && is_found(alloc, disk, Newest::New)?)
 }
 
-/// `scripts/refused-allocations` refuses each allocation in turn, and then this ends in want of memory.
+/// `scripts/refused-allocations` refuses each allocation in turn, and then this ends in want of
+/// memory.
 #[test]
 fn the_newest_head_leads_to_its_image(rt: HostRuntime) -> Result<(), SnapshotFault> {
     let mut disk = empty(rt.alloc())?;

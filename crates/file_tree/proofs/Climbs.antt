@@ -1,5 +1,7 @@
 -- Paths in a tree of hooks, and how a new or a moved node changes them.
-use Rattle.std.proofs.Common.{◌≡◌, ◌≢◌, ℕ, zero, suc, ◌<◌, ◌≤◌, ◌⊎◌, inl, inr, Bool, true, false, ◌||◌, eqb, List, [], ◌∷◌, length, Option, Some, None, refl, sym, ap, subst, ◌∙◌, arith}
+use Rattle.std.proofs.Common.{◌≡◌, ◌≢◌, ℕ, zero, suc, ◌<◌, ◌≤◌, ◌⊎◌, inl, inr, Bool, true, false}
+use Rattle.std.proofs.Common.{◌||◌, eqb, List, [], ◌∷◌, length, Option, Some, None, refl, sym, ap}
+use Rattle.std.proofs.Common.{subst, ◌∙◌, arith}
 use Rattle.std.specs.Prelude.{option_map}
 use Rattle.std.specs.List.{IsDistinct, list_any, AllByRecursion}
 use Rattle.std.proofs.lemmas.Bool.{eqb-true, eq-eqb, ne_eqb}
@@ -21,25 +23,33 @@ root_is d name e = absurd cc
 pub in_is : (d e : ℕ) (m n : Name) → In d m ≡ In e n → (d ≡ e) × (m ≡ n)
 in_is d e m n p = (cc, cc)
 
-all_apart : {k : ℕ} (xs : List ℕ) → ((q : ℕ) → list_any (eqb q) xs ≡ true → k ≢ q) → AllByRecursion (λ y. eqb k y ≡ false) xs
+all_apart : {k : ℕ} (xs : List ℕ) → ((q : ℕ) → list_any (eqb q) xs ≡ true → k ≢ q)
+    → AllByRecursion (λ y. eqb k y ≡ false) xs
 all_apart {k} [] h = tt
-all_apart {k} (x ∷ xs) h = (ne_eqb k x (h x (first_any x xs)), all_apart {k = k} xs (λ q e. h q (later_any q x xs e))) where
+all_apart {k} (x ∷ xs) h = (
+  ne_eqb k x (h x (first_any x xs)),
+  all_apart {k = k} xs (λ q e. h q (later_any q x xs e)),
+) where
   first_any : (x : ℕ) (xs : List ℕ) → list_any (eqb x) (x ∷ xs) ≡ true
   first_any x xs = rw (eq-eqb x x refl) refl
 
-  later_any : (q x : ℕ) (xs : List ℕ) → list_any (eqb q) xs ≡ true → list_any (eqb q) (x ∷ xs) ≡ true
+  later_any : (q x : ℕ) (xs : List ℕ) → list_any (eqb q) xs ≡ true
+      → list_any (eqb q) (x ∷ xs) ≡ true
   later_any q x xs e = either (eqb q x) (list_any (eqb q) xs) e where
     either : (a b : Bool) → b ≡ true → (a || b) ≡ true
     either true b e = refl
     either false b e = e
 
 apart_first : (m k : ℕ) (xs : List ℕ) → list_any (eqb m) (k ∷ xs) ≡ false → k ≢ m
-apart_first m k xs off same = absurd (let t : true ≡ false = sym (both (eqb m k) (list_any (eqb m) xs) (eq-eqb m k (sym same))) ∙ off in cc) where
-  both : (a b : Bool) → a ≡ true → (a || b) ≡ true
-  both true b e = refl
-  both false b e = absurd cc
+apart_first m k xs off same =
+    absurd (let t : true
+    ≡ false = sym (both (eqb m k) (list_any (eqb m) xs) (eq-eqb m k (sym same))) ∙ off in cc) where
+      both : (a b : Bool) → a ≡ true → (a || b) ≡ true
+      both true b e = refl
+      both false b e = absurd cc
 
-apart_rest : (m k : ℕ) (xs : List ℕ) → list_any (eqb m) (k ∷ xs) ≡ false → list_any (eqb m) xs ≡ false
+apart_rest : (m k : ℕ) (xs : List ℕ) → list_any (eqb m) (k ∷ xs) ≡ false
+    → list_any (eqb m) xs ≡ false
 apart_rest m k xs off = second (eqb m k) (list_any (eqb m) xs) off where
   second : (a b : Bool) → (a || b) ≡ false → b ≡ false
   second true b e = absurd cc
@@ -56,7 +66,8 @@ one_path hook k (m ∷ a) (n ∷ b) g h =
     rw (p.1, same) refl
 
 -- a path has one node
-pub one_node : (hook : ℕ → Hook) (next : ℕ) → IsTree hook next → (j k : ℕ) (a : Path) → Up hook j a → Up hook k a → j ≡ k
+pub one_node : (hook : ℕ → Hook) (next : ℕ) → IsTree hook next → (j k : ℕ) (a : Path) → Up hook j a
+    → Up hook k a → j ≡ k
 one_node hook next tree j k [] g h = tree.one_root j g ∙ sym (tree.one_root k h)
 one_node hook next tree j k (n ∷ a) g h =
     let same : g.0 ≡ h.0 = one_node hook next tree g.0 h.0 a g.2 h.2 in
@@ -67,10 +78,12 @@ abbrev chain : (hook : ℕ → Hook) (k : ℕ) (a : Path) → Up hook k a → Li
 chain hook k [] h = k ∷ []
 chain hook k (n ∷ a) h = k ∷ chain hook h.0 a h.2
 
-pub climb_complete : (n : ℕ) (hook : ℕ → Hook) (k : ℕ) (a : Path) → Up hook k a → length a < n → climb n hook k ≡ Some a
+pub climb_complete : (n : ℕ) (hook : ℕ → Hook) (k : ℕ) (a : Path) → Up hook k a → length a < n
+    → climb n hook k ≡ Some a
 climb_complete zero hook k a h lt = absurd (omega arith)
 climb_complete (suc n) hook k [] h lt = rw h refl
-climb_complete (suc n) hook k (m ∷ a) h lt = rw (h.1, climb_complete n hook h.0 a h.2 (omega arith)) refl
+climb_complete (suc n) hook k (m ∷ a) h lt =
+    rw (h.1, climb_complete n hook h.0 a h.2 (omega arith)) refl
 
 abbrev just : Path → Option Path
 just a = Some a
@@ -78,20 +91,25 @@ just a = Some a
 pub some_is : (a b : Path) → just a ≡ just b → a ≡ b
 some_is a b e = cc
 
-any_cases : (q k : ℕ) (xs : List ℕ) → list_any (eqb q) (k ∷ xs) ≡ true → (q ≡ k) ⊎ (list_any (eqb q) xs ≡ true)
+any_cases : (q k : ℕ) (xs : List ℕ) → list_any (eqb q) (k ∷ xs) ≡ true
+    → (q ≡ k) ⊎ (list_any (eqb q) xs ≡ true)
 any_cases q k xs e = by_test (eqb q k) refl e where
-  by_test : (b : Bool) → eqb q k ≡ b → (b || list_any (eqb q) xs) ≡ true → (q ≡ k) ⊎ (list_any (eqb q) xs ≡ true)
+  by_test : (b : Bool) → eqb q k ≡ b → (b || list_any (eqb q) xs) ≡ true
+      → (q ≡ k) ⊎ (list_any (eqb q) xs ≡ true)
   by_test true is e = inl (eqb-true q k is)
   by_test false is e = inr e
 
-climb_some : (o : Option Path) (name : Name) (a : Path) → option_map (λ up. name ∷ up) o ≡ Some a → (up : Path) × (o ≡ Some up) × (name ∷ up ≡ a)
+climb_some : (o : Option Path) (name : Name) (a : Path) → option_map (λ up. name ∷ up) o ≡ Some a
+    → (up : Path) × (o ≡ Some up) × (name ∷ up ≡ a)
 climb_some None name a e = absurd cc
 climb_some (Some up) name a e = (up, refl, cc)
 
-pub climb_sound : (n : ℕ) (hook : ℕ → Hook) (k : ℕ) (a : Path) → climb n hook k ≡ Some a → Up hook k a
+pub climb_sound : (n : ℕ) (hook : ℕ → Hook) (k : ℕ) (a : Path) → climb n hook k ≡ Some a
+    → Up hook k a
 climb_sound zero hook k a e = absurd cc
 climb_sound (suc n) hook k a e = by_hook (λ d b. climb_sound n hook d b) (hook k) refl e where
-  by_hook : ((d : ℕ) (b : Path) → climb n hook d ≡ Some b → Up hook d b) → (h : Hook) → hook k ≡ h → climb_from (climb n hook) h ≡ Some a → Up hook k a
+  by_hook : ((d : ℕ) (b : Path) → climb n hook d ≡ Some b → Up hook d b) → (h : Hook) → hook k ≡ h
+      → climb_from (climb n hook) h ≡ Some a → Up hook k a
   by_hook above Root is e = subst (λ (x : Path). Up hook k x) (some_is [] a e) is
   by_hook above Removed is e = absurd cc
   by_hook above (In d name) is e =
@@ -99,24 +117,39 @@ climb_sound (suc n) hook k a e = by_hook (λ d b. climb_sound n hook d b) (hook 
       subst (λ (x : Path). Up hook k x) up.2 (d, is, above d up.0 up.1)
 
 -- each node on the way up has a path that is no longer
-on_chain : (hook : ℕ → Hook) (k : ℕ) (a : Path) (h : Up hook k a) (q : ℕ) → list_any (eqb q) (chain hook k a h) ≡ true → (b : Path) × Up hook q b × (length b ≤ length a)
-on_chain hook k [] h q e = elim (any_cases q k [] e) [ inl same ↦ (rw same ([], h, omega arith)) | inr none ↦ absurd cc none ]
+on_chain : (hook : ℕ → Hook) (k : ℕ) (a : Path) (h : Up hook k a) (q : ℕ)
+    → list_any (eqb q) (chain hook k a h) ≡ true → (b : Path) × Up hook q b × (length b ≤ length a)
+on_chain hook k [] h q e =
+    elim (any_cases q k [] e) [
+      | inl same ↦ (rw same (
+        [],
+        h,
+        omega arith,
+      ))
+      | inr none ↦ absurd cc none
+    ]
 on_chain hook k (n ∷ a) h q e =
     elim (any_cases q k (chain hook h.0 a h.2) e) [
       | inl same ↦ rw same (n ∷ a, h, omega arith)
-      | inr later ↦ let above = on_chain hook h.0 a h.2 q later in (above.0, above.1, omega (arith, above.2))
+      | inr later ↦ let above = on_chain hook h.0 a h.2 q later in
+          (above.0, above.1, omega (arith, above.2))
     ]
 
-chain_distinct : (hook : ℕ → Hook) (k : ℕ) (a : Path) (h : Up hook k a) → IsDistinct eqb (chain hook k a h)
+chain_distinct : (hook : ℕ → Hook) (k : ℕ) (a : Path) (h : Up hook k a)
+    → IsDistinct eqb (chain hook k a h)
 unfolding IsDistinct
 chain_distinct hook k [] h = (tt, tt)
-chain_distinct hook k (n ∷ a) h = (all_apart (chain hook h.0 a h.2) (λ q e. longer q (on_chain hook h.0 a h.2 q e)), chain_distinct hook h.0 a h.2) where
+chain_distinct hook k (n ∷ a) h = (
+  all_apart (chain hook h.0 a h.2) (λ q e. longer q (on_chain hook h.0 a h.2 q e)),
+  chain_distinct hook h.0 a h.2,
+) where
   longer : (q : ℕ) → (b : Path) × Up hook q b × (length b ≤ length a) → k ≢ q
   longer q up same =
       let one : n ∷ a ≡ up.0 = one_path hook k (n ∷ a) up.0 h (rw same up.1) in
       absurd (omega (arith, ap length one, up.2))
 
-chain_length : (hook : ℕ → Hook) (k : ℕ) (a : Path) (h : Up hook k a) → length (chain hook k a h) ≡ suc (length a)
+chain_length : (hook : ℕ → Hook) (k : ℕ) (a : Path) (h : Up hook k a)
+    → length (chain hook k a h) ≡ suc (length a)
 chain_length hook k [] h = refl
 chain_length hook k (n ∷ a) h = ap suc (chain_length hook h.0 a h.2)
 
@@ -125,13 +158,16 @@ there hook k [] h e = absurd (let t : Root ≡ Removed = sym h ∙ e in cc)
 there hook k (n ∷ a) h e = absurd (let t : In h.0 n ≡ Removed = sym h.1 ∙ e in cc)
 
 -- a path has fewer names than the next number
-pub short_path : (hook : ℕ → Hook) (next : ℕ) → IsTree hook next → (k : ℕ) (a : Path) → Up hook k a → length a < next
+pub short_path : (hook : ℕ → Hook) (next : ℕ) → IsTree hook next → (k : ℕ) (a : Path) → Up hook k a
+    → length a < next
 short_path hook next tree k a h =
-    let below = length-le_from_distinct_below (chain hook k a h) next (chain_distinct hook k a h) (λ q e. (let up = on_chain hook k a h q e in tree.below q (there hook q up.0 up.1))) in
+    let below = length-le_from_distinct_below (chain hook k a h) next (chain_distinct hook k a h)
+    (λ q e. (let up = on_chain hook k a h q e in tree.below q (there hook q up.0 up.1))) in
     omega (arith, below, chain_length hook k a h)
 
 -- what climbing finds is the path
-pub path_is : (hook : ℕ → Hook) (next : ℕ) → IsTree hook next → (k : ℕ) (a : Path) → Up hook k a → climb next hook k ≡ Some a
+pub path_is : (hook : ℕ → Hook) (next : ℕ) → IsTree hook next → (k : ℕ) (a : Path) → Up hook k a
+    → climb next hook k ≡ Some a
 path_is hook next tree k a h = climb_complete next hook k a h (short_path hook next tree k a h)
 
 -- a node without a hook has no path

@@ -1,9 +1,11 @@
 -- The first entry after a name, of a list in order and of a list before it is sorted.
-use Rattle.std.proofs.Common.{◌≡◌, ◌≢◌, ℕ, zero, suc, ◌⊎◌, inl, inr, Bool, true, false, cond, List, [], ◌∷◌, Option, Some, None, refl, ap, subst, ◌∙◌}
+use Rattle.std.proofs.Common.{◌≡◌, ◌≢◌, ℕ, zero, suc, ◌⊎◌, inl, inr, Bool, true, false, cond, List}
+use Rattle.std.proofs.Common.{[], ◌∷◌, Option, Some, None, refl, ap, subst, ◌∙◌}
 use Rattle.std.specs.Prelude.{slice_get, option_map, find, ◌&&◌}
 use Rattle.std.specs.List.{AllByRecursion}
 use Rattle.file_tree.specs.rules.Files.{Name, Entry, is_before, inserted, sorted}
-use Rattle.file_tree.proofs.Order.{Before, Ordered, HaveDistinctNames, before_or_not, not_itself, before_both, one_before, in_front, not_in_front, all_sorted}
+use Rattle.file_tree.proofs.Order.{Before, Ordered, HaveDistinctNames, before_or_not, not_itself}
+use Rattle.file_tree.proofs.Order.{before_both, one_before, in_front, not_in_front, all_sorted}
 
 -- ---- the closest of some entries, as a walk over them finds it
 
@@ -49,23 +51,31 @@ swapped name (Some m) e f ne =
     by (is_before name e.name) refl (is_before name f.name) refl
     (before_or_not e.name m.name) (before_or_not f.name m.name) (sides e.name f.name ne) where
       Side : Name → Name → Type 0
-      Side x y = ((is_before x y ≡ true) × Before x y) ⊎ ((is_before x y ≡ false) × (Before x y → ⊥))
+      Side x y = ((is_before x y ≡ true) × Before x y)
+          ⊎ ((is_before x y ≡ false) × (Before x y → ⊥))
 
       by : (a : Bool) → is_before name e.name ≡ a → (b : Bool) → is_before name f.name ≡ b
           → Side e.name m.name → Side f.name m.name → Sides e.name f.name
-          → closer_of name (closer_of name (Some m) f) e ≡ closer_of name (closer_of name (Some m) e) f
+          → closer_of name (closer_of name (Some m) f) e
+          ≡ closer_of name (closer_of name (Some m) e) f
       by false p false q u v s = simp (p, q)
       by false p true q u (inl v) s = (let v0 = v.0 in simp (p, q, v0))
       by false p true q u (inr v) s = (let v0 = v.0 in simp (p, q, v0))
       by true p false q (inl u) v s = (let u0 = u.0 in simp (p, q, u0))
       by true p false q (inr u) v s = (let u0 = u.0 in simp (p, q, u0))
-      by true p true q (inl u) (inl v) (inl s) = (let u0 = u.0 in let v0 = v.0 in let s0 = s.0 in let s1 = s.1 in simp (p, q, u0, v0, s0, s1))
-      by true p true q (inl u) (inl v) (inr s) = (let u0 = u.0 in let v0 = v.0 in let s0 = s.0 in let s1 = s.1 in simp (p, q, u0, v0, s0, s1))
+      by true p true q (inl u) (inl v) (inl s) = (let u0 = u.0 in let v0 = v.0 in let s0 = s.0 in
+          let s1 = s.1 in simp (p, q, u0, v0, s0, s1))
+      by true p true q (inl u) (inl v) (inr s) = (let u0 = u.0 in let v0 = v.0 in let s0 = s.0 in
+          let s1 = s.1 in simp (p, q, u0, v0, s0, s1))
       by true p true q (inr u) (inr v) s = (let u0 = u.0 in let v0 = v.0 in simp (p, q, u0, v0))
-      by true p true q (inl u) (inr v) (inl s) = (let u0 = u.0 in let v0 = v.0 in let s1 = s.1 in simp (p, q, u0, v0, s1))
-      by true p true q (inl u) (inr v) (inr s) = absurd (v.1 (before_both f.name e.name m.name s.2 u.1))
-      by true p true q (inr u) (inl v) (inl s) = absurd (u.1 (before_both e.name f.name m.name s.2 v.1))
-      by true p true q (inr u) (inl v) (inr s) = (let u0 = u.0 in let v0 = v.0 in let s0 = s.0 in simp (p, q, u0, v0, s0))
+      by true p true q (inl u) (inr v) (inl s) = (let u0 = u.0 in let v0 = v.0 in let s1 = s.1 in
+          simp (p, q, u0, v0, s1))
+      by true p true q (inl u) (inr v) (inr s) =
+          absurd (v.1 (before_both f.name e.name m.name s.2 u.1))
+      by true p true q (inr u) (inl v) (inl s) =
+          absurd (u.1 (before_both e.name f.name m.name s.2 v.1))
+      by true p true q (inr u) (inl v) (inr s) = (let u0 = u.0 in let v0 = v.0 in let s0 = s.0 in
+          simp (p, q, u0, v0, s0))
 
 -- ---- it is the same where they are sorted
 
@@ -78,9 +88,11 @@ closest_inserted name best e (f ∷ es) ne =
       by : (b : Bool)
           → closest name (closer_of name best f) (inserted e es)
           ≡ closest name (closer_of name (closer_of name best f) e) es
-          → closest name best (cond b (e ∷ f ∷ es) (f ∷ inserted e es)) ≡ closest name best (e ∷ f ∷ es)
+          → closest name best (cond b (e ∷ f ∷ es) (f ∷ inserted e es))
+          ≡ closest name best (e ∷ f ∷ es)
       by true later = refl
-      by false later = later ∙ ap (λ (o : Option Entry). closest name o es) (swapped name best e f ne.0)
+      by false later =
+          later ∙ ap (λ (o : Option Entry). closest name o es) (swapped name best e f ne.0)
 
 pub closest_sorted : (name : Name) (best : Option Entry) (es : List Entry) → HaveDistinctNames es
     → closest name best (sorted es) ≡ closest name best es
@@ -95,10 +107,12 @@ stays : (name : Name) (e : Entry) (es : List Entry)
     → AllByRecursion (λ (f : Entry). Before e.name f.name) es → closest name (Some e) es ≡ Some e
 stays name e [] h = refl
 stays name e (f ∷ es) h =
-    ap (λ (o : Option Entry). closest name o es) (by (is_before name f.name) (is_before f.name e.name) behind)
+    ap (λ (o : Option Entry). closest name o es)
+    (by (is_before name f.name) (is_before f.name e.name) behind)
     ∙ stays name e es h.1 where
       behind : is_before f.name e.name ≡ false
-      behind = not_in_front f.name e.name (λ k. not_itself e.name (before_both e.name f.name e.name h.0 k))
+      behind = not_in_front f.name e.name (λ k.
+          not_itself e.name (before_both e.name f.name e.name h.0 k))
 
       by : (a b : Bool) → b ≡ false → cond (a && b) (Some f) (Some e) ≡ Some e
       by true b is = ap (λ (t : Bool). cond t (Some f) (Some e)) is
@@ -129,15 +143,18 @@ before_named x name (f ∷ es) zero h is = subst (Before x) (some_name f.name na
 before_named x name (f ∷ es) (suc i) h is = before_named x name es i h.1 is
 
 skipped : (name : Name) (e : Entry) (es : List Entry) → (Before name e.name → ⊥)
-    → find (λ (f : Entry). is_before name f.name) (e ∷ es) ≡ find (λ (f : Entry). is_before name f.name) es
+    → find (λ (f : Entry). is_before name f.name) (e ∷ es)
+    ≡ find (λ (f : Entry). is_before name f.name) es
 skipped name e es never =
-    ap (λ (b : Bool). cond b (Some e) (find (λ (f : Entry). is_before name f.name) es)) (not_in_front name e.name never)
+    ap (λ (b : Bool). cond b (Some e) (find (λ (f : Entry). is_before name f.name) es))
+    (not_in_front name e.name never)
 
 at_head : (name : Name) (es : List Entry) → AllByRecursion (λ (f : Entry). Before name f.name) es
     → find (λ (f : Entry). is_before name f.name) es ≡ slice_get es 0
 at_head name [] h = refl
 at_head name (f ∷ es) h =
-    ap (λ (b : Bool). cond b (Some f) (find (λ (g : Entry). is_before name g.name) es)) (in_front name f.name h.0)
+    ap (λ (b : Bool). cond b (Some f) (find (λ (g : Entry). is_before name g.name) es))
+    (in_front name f.name h.0)
 
 pub found_behind : (name : Name) (es : List Entry) (i : ℕ) → Ordered es
     → option_map (λ (e : Entry). e.name) (slice_get es i) ≡ Some name
@@ -146,7 +163,8 @@ found_behind name [] i h is = absurd cc
 found_behind name (e ∷ es) zero h is =
     let same : e.name ≡ name = some_name e.name name is in
     skipped name e es (λ k. not_itself name (subst (Before name) same k))
-    ∙ at_head name es (subst (λ (x : Name). AllByRecursion (λ (f : Entry). Before x f.name) es) same h.0)
+    ∙ at_head name es (subst (λ (x : Name). AllByRecursion (λ (f : Entry). Before x f.name) es) same
+    h.0)
 found_behind name (e ∷ es) (suc i) h is =
     let front : Before e.name name = before_named e.name name es i h.0 is in
     skipped name e es (λ k. not_itself name (before_both name e.name name k front))
@@ -161,4 +179,6 @@ found_first (e ∷ es) h = by e.name refl where
   by : (name : Name) → e.name ≡ name
       → cond (is_before [] e.name) (Some e) (find (λ (f : Entry). is_before [] f.name) es) ≡ Some e
   by [] is = absurd (h.0 is)
-  by (b ∷ name) is = ap (λ (x : Name). cond (is_before [] x) (Some e) (find (λ (f : Entry). is_before [] f.name) es)) is
+  by (b ∷ name) is =
+      ap (λ (x : Name).
+      cond (is_before [] x) (Some e) (find (λ (f : Entry). is_before [] f.name) es)) is

@@ -59,7 +59,8 @@ twice_rewritten k old bytes (n ∷ ns) =
 
 bytes_rewritten : (k : ℕ) (bytes : List ℕ) (ns : List FileNode)
     → is_some (find (λ (n : FileNode). eqb n.number k) ns) ≡ true
-    → bytes_held (find (λ (n : FileNode). eqb n.number k) (map (changed_at k (with_bytes bytes)) ns))
+    → bytes_held (find (λ (n : FileNode). eqb n.number k)
+    (map (changed_at k (with_bytes bytes)) ns))
     ≡ bytes
 bytes_rewritten k bytes [] some = absurd cc
 bytes_rewritten k bytes (n ∷ ns) some =

@@ -1,5 +1,6 @@
 -- A node that is hung elsewhere: what stays.
-use Rattle.std.proofs.Common.{◌≡◌, ◌≢◌, ℕ, inl, inr, true, List, Option, Some, refl, sym, ap, subst, ◌∙◌, arith}
+use Rattle.std.proofs.Common.{◌≡◌, ◌≢◌, ℕ, inl, inr, true, List, Option, Some, refl, sym, ap, subst}
+use Rattle.std.proofs.Common.{◌∙◌, arith}
 use Rattle.std.proofs.lemmas.Bool.{cases_eq}
 use Rattle.file_tree.specs.declared.store.node.Hook.{Hook}
 use Rattle.file_tree.specs.declared.store.node.Hook.TheVariants.{In}
@@ -7,8 +8,12 @@ use Rattle.file_tree.specs.declared.store.node.Node.{Node}
 use Rattle.file_tree.specs.Store.Stored.{changed}
 use Rattle.file_tree.specs.Store.Changes.{with_hook}
 use Rattle.file_tree.specs.rules.Files.{Name, IsNodeName, IsSmallContent}
-use Rattle.file_tree.specs.Links.{IsTree, node_in, hook_held, hook_of, content_held, content_shown, holds_directory_node, is_directory_in, used_in, chunks_in, AreNodes, IsPlace}
-use Rattle.file_tree.proofs.Lists.{in_changed_same, in_changed_other, rising_changed, length-changed, all_changed, all_in, used_changed, chunks_changed}
+use Rattle.file_tree.specs.Links.{IsTree, node_in, hook_held, hook_of, content_held, content_shown}
+use Rattle.file_tree.specs.Links.{holds_directory_node, is_directory_in, used_in, chunks_in}
+use Rattle.file_tree.specs.Links.{AreNodes, IsPlace}
+use Rattle.file_tree.proofs.Lists.{in_changed_same, in_changed_other, rising_changed}
+use Rattle.file_tree.proofs.Lists.{length-changed, all_changed, all_in, used_changed}
+use Rattle.file_tree.proofs.Lists.{chunks_changed}
 
 pub record Hangs (ns : List Node) (next k i : ℕ) (n : Node) : Type 0 where
   pub are : AreNodes ns next
@@ -22,11 +27,16 @@ module _ (ns : List Node) (next k i : ℕ) (n : Node) (h : Hook) (r : Hangs ns n
   pub hung_others : (j : ℕ) → j ≢ k → hook_of (changed (with_hook h) i ns) j ≡ hook_of ns j
   hung_others j ne = ap hook_held (in_changed_other (with_hook h) (λ m. refl) ns k i j r.place ne)
 
-  pub hung_directory : (j : ℕ) → is_directory_in (changed (with_hook h) i ns) j ≡ is_directory_in ns j
+  pub hung_directory : (j : ℕ)
+      → is_directory_in (changed (with_hook h) i ns) j ≡ is_directory_in ns j
   hung_directory j = elim (cases_eq j k) [
-    | inl same ↦ subst (λ (x : ℕ). is_directory_in (changed (with_hook h) i ns) x ≡ is_directory_in ns x) (sym same)
-        (ap (λ (o : Option Node). holds_directory_node (content_held o)) (in_changed_same (with_hook h) (λ m. refl) ns k i n r.place r.there) ∙ sym (ap (λ (o : Option Node). holds_directory_node (content_held o)) r.there))
-    | inr ne ↦ ap (λ (o : Option Node). holds_directory_node (content_held o)) (in_changed_other (with_hook h) (λ m. refl) ns k i j r.place ne)
+    | inl same ↦ subst (λ (x : ℕ). is_directory_in (changed (with_hook h) i ns) x
+        ≡ is_directory_in ns x) (sym same)
+        (ap (λ (o : Option Node). holds_directory_node (content_held o))
+        (in_changed_same (with_hook h) (λ m. refl) ns k i n r.place r.there)
+        ∙ sym (ap (λ (o : Option Node). holds_directory_node (content_held o)) r.there))
+    | inr ne ↦ ap (λ (o : Option Node). holds_directory_node (content_held o))
+        (in_changed_other (with_hook h) (λ m. refl) ns k i j r.place ne)
   ]
 
   pub hung_chunks : chunks_in (changed (with_hook h) i ns) ≡ chunks_in ns
@@ -37,7 +47,8 @@ module _ (ns : List Node) (next k i : ℕ) (n : Node) (h : Hook) (r : Hangs ns n
 
   -- what of it isn't a question of hooks
   pub hung_nodes : IsTree (hook_of (changed (with_hook h) i ns)) next
-      → ((j d : ℕ) (name : Name) → hook_of (changed (with_hook h) i ns) j ≡ In d name → IsNodeName name × (is_directory_in ns d ≡ true))
+      → ((j d : ℕ) (name : Name) → hook_of (changed (with_hook h) i ns) j ≡ In d name
+      → IsNodeName name × (is_directory_in ns d ≡ true))
       → AreNodes (changed (with_hook h) i ns) next
   hung_nodes tree placed = record {
     tree = tree;
@@ -45,6 +56,9 @@ module _ (ns : List Node) (next k i : ℕ) (n : Node) (h : Hook) (r : Hangs ns n
     named = λ j d name e. (placed j d name e).0;
     placed = λ j d name e. hung_directory d ∙ (placed j d name e).1;
     root = hung_directory 1 ∙ r.are.root;
-    contents = all_changed (λ (x : Node). IsSmallContent (content_shown x.content)) (with_hook h) ns k i n r.place r.there (all_in (λ (x : Node). IsSmallContent (content_shown x.content)) ns k n r.there r.are.contents) r.are.contents;
+    contents = all_changed (λ (x : Node). IsSmallContent (content_shown x.content))
+        (with_hook h) ns k i n r.place r.there
+        (all_in (λ (x : Node). IsSmallContent (content_shown x.content)) ns k n r.there
+        r.are.contents) r.are.contents;
     few = omega (arith, length-changed (with_hook h) ns i, r.are.few);
   }

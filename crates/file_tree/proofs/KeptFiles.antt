@@ -28,7 +28,8 @@ use Rattle.file_tree.proofs.Rebuilt.{content_kept, content_same, rebuilt, rebuil
 use Rattle.file_tree.proofs.Rebuilt.{there}
 
 -- where a node stands that is found
-pub place_in : (ns : List Node) (k : ℕ) (n : Node) → node_in ns k ≡ Some n → (i : ℕ) × IsPlace ns k i
+pub place_in : (ns : List Node) (k : ℕ) (n : Node) → node_in ns k ≡ Some n
+    → (i : ℕ) × IsPlace ns k i
 place_in [] k n e = absurd (cc)
 place_in (m ∷ ns) k n e = by_test (eqb m.number k) refl (place_in ns k n) e where
   by_test : (b : Bool) → eqb m.number k ≡ b

@@ -1,6 +1,8 @@
 -- The nearest node after a name is the one of the first entry after it.
-use Rattle.std.proofs.Common.{◌≡◌, ◌≢◌, ℕ, zero, suc, ◌+◌, ◌-◌, ◌<◌, ◌≤◌, ◌⊎◌, inl, inr, Bool, true, false}
-use Rattle.std.proofs.Common.{cond, eqb, not, length, Bor, List, [], ◌∷◌, Option, Some, None, refl, sym, ap, subst, ◌∙◌, arith}
+use Rattle.std.proofs.Common.{◌≡◌, ◌≢◌, ℕ, zero, suc, ◌+◌, ◌-◌, ◌<◌, ◌≤◌, ◌⊎◌, inl, inr, Bool, true}
+use Rattle.std.proofs.Common.{false}
+use Rattle.std.proofs.Common.{cond, eqb, not, length, Bor, List, [], ◌∷◌, Option, Some, None, refl}
+use Rattle.std.proofs.Common.{sym, ap, subst, ◌∙◌, arith}
 use Rattle.std.specs.Prelude.{slice_get, option_map, option_copied, is_some, find, ◌&&◌}
 use Rattle.std.specs.List.{AllByRecursion}
 use Rattle.std.proofs.lemmas.Bool.{cases_eq, cases_lt, eq-eqb, ne_eqb}
@@ -75,7 +77,8 @@ nearest_is d name nearest (n ∷ ns) = by n.hook refl (λ o. nearest_is d name o
   passed : comes_after d name n.hook ≡ false → All → To es
   passed is later =
       let far : is_nearer d name nearest n.hook ≡ false = not_nearer d name nearest n.hook is in
-      ap (λ (b : Bool). option_map entry_with (nearest_node d name (cond b (Some n) nearest) ns)) far
+      ap (λ (b : Bool). option_map entry_with (nearest_node d name (cond b (Some n) nearest) ns))
+      far
       ∙ later nearest
 
   closer : Entry → Name → Option Entry
@@ -89,10 +92,12 @@ nearest_is d name nearest (n ∷ ns) = by n.hook refl (λ o. nearest_is d name o
   by_test : (x : ℕ) (other : Name) → n.hook ≡ In x other → (b : Bool) → eqb x d ≡ b → All
       → To (behind_hooked n.number es (cond b (Some other) None))
   by_test x other e false is later =
-      let out : eqb x d && is_before name other ≡ false = ap (λ (t : Bool). t && is_before name other) is in
+      let out : eqb x d && is_before name other ≡ false =
+      ap (λ (t : Bool). t && is_before name other) is in
       passed (ap (comes_after d name) e ∙ out) later
   by_test x other e true is later =
-      let nearer : is_nearer d name nearest n.hook ≡ is_closer name best (entry_named n.number other) =
+      let nearer : is_nearer d name nearest n.hook
+      ≡ is_closer name best (entry_named n.number other) =
       ap (is_nearer d name nearest) e ∙ nearer_in d x name other nearest n.number is in
       let same : entry_with n ≡ entry_named n.number other =
       ap (λ (h : Hook). entry_named n.number (name_of_hook h)) e in
@@ -103,7 +108,8 @@ nearest_is d name nearest (n ∷ ns) = by n.hook refl (λ o. nearest_is d name o
   seen_so : (h : Hook) → n.hook ≡ h
       → To (behind_hooked n.number es (hooked_name d h)) → IsNearestOf d name (n ∷ ns) nearest
   seen_so h e so =
-      so ∙ sym (ap (λ (g : Hook). closest name best (behind_hooked n.number es (hooked_name d g))) e)
+      so ∙ sym (ap (λ (g : Hook). closest name best (behind_hooked n.number es (hooked_name d g)))
+      e)
 
   by : (h : Hook) → n.hook ≡ h → All → IsNearestOf d name (n ∷ ns) nearest
   by Root e later = seen_so Root e (passed (ap (comes_after d name) e) later)
@@ -224,13 +230,15 @@ copied_some : (o : Option (Bor Node)) → is_some o ≡ is_some (option_copied o
 copied_some None = refl
 copied_some (Some n) = refl
 
-pub none_nearest : (ns : List Node) (next d : ℕ) (o : Option (Bor Node)) (none : Bool) → AreNodes ns next
+pub none_nearest : (ns : List Node) (next d : ℕ) (o : Option (Bor Node)) (none : Bool)
+    → AreNodes ns next
     → option_copied o ≡ nearest_node d [] None ns → is_some o ≡ not none
     → none ≡ eqb (length (entries_of (files ns next) d)) 0
 none_nearest ns next d o none are is some =
     let es = entries_of (files ns next) d in
     same_if_not none (eqb (length es) 0)
-    (sym some ∙ copied_some o ∙ ap is_some is ∙ sym (some_mapped (λ (n : Node). n.number) (nearest_node d [] None ns))
+    (sym some ∙ copied_some o ∙ ap is_some is
+    ∙ sym (some_mapped (λ (n : Node). n.number) (nearest_node d [] None ns))
     ∙ ap is_some (nearest_shown ns next d [] are ∙ first_shown ns next d are)
     ∙ some_mapped (λ (e : Entry). e.number) (slice_get es 0) ∙ some_first es)
 

@@ -19,7 +19,8 @@ use Rattle.file_tree.specs.rules.Changes.{path_at, CanHang}
 use Rattle.file_tree.specs.laws.Laws.{node_number, content_of}
 use Rattle.file_tree.specs.laws.Rebuilding.{entry_under, HasHung}
 use Rattle.file_tree.specs.laws.Rebuilding.{HangingAddsAnEntry}
-use Rattle.file_tree.specs.Links.{node_in, hook_held, hook_of, AreNodes, files, IsPlace, hooked_name}
+use Rattle.file_tree.specs.Links.{node_in, hook_held, hook_of, AreNodes, files, IsPlace}
+use Rattle.file_tree.specs.Links.{hooked_name}
 use Rattle.file_tree.specs.Links.{hooked_entry, hooked_entries, with_entry}
 use Rattle.file_tree.proofs.Order.{Before, before_or_not, before_both, not_itself, one_before}
 use Rattle.file_tree.proofs.Order.{in_front, not_in_front}

@@ -17,9 +17,11 @@ use Rattle.file_tree.specs.Links.{used_in, chunks_in, AreNodes, shown_node, file
 use Rattle.file_tree.specs.Links.{IsNowhere, is_hung}
 use Rattle.file_tree.proofs.Climbs.{in_is}
 use Rattle.file_tree.proofs.Lookups.{node_at_place, hung_has_path}
-use Rattle.file_tree.proofs.Lists.{numbers_below, all_in, number_in, shown_changed_one, none_changed}
+use Rattle.file_tree.proofs.Lists.{numbers_below, all_in, number_in, shown_changed_one}
+use Rattle.file_tree.proofs.Lists.{none_changed}
 use Rattle.file_tree.proofs.Grows.{Grows, grown_tree, same_climb, new_climb, IsFreeIn, free_in}
-use Rattle.file_tree.proofs.Hangs.{Hangs, hung_here, hung_others, hung_used, hung_chunks, hung_nodes}
+use Rattle.file_tree.proofs.Hangs.{Hangs, hung_here, hung_others, hung_used, hung_chunks}
+use Rattle.file_tree.proofs.Hangs.{hung_nodes}
 
 -- all of it, where files are what the nodes show
 pub record IsReturned (ns : List Node) (next k i d : ℕ) (name : Name) (fs : Files) : Type 0 where

@@ -1,5 +1,7 @@
 -- Bytes of a file that is written or cut.
-use Rattle.std.proofs.Common.{◌≡◌, ℕ, zero, suc, ◌+◌, ◌<◌, ◌≤◌, max, false, List, [], ◌∷◌, ◌++◌, length, take, drop, get_or, refl, arith, length-append, length-take, length-drop}
+use Rattle.std.proofs.Common.{◌≡◌, ℕ, zero, suc, ◌+◌, ◌<◌, ◌≤◌, max, false, List, [], ◌∷◌, ◌++◌}
+use Rattle.std.proofs.Common.{length, take, drop, get_or, refl, arith, length-append, length-take}
+use Rattle.std.proofs.Common.{length-drop}
 use Rattle.std.specs.Prelude.{replicate}
 use Rattle.std.specs.List.{AllByRecursion}
 use Rattle.std.proofs.lemmas.List.{length-replicate}
@@ -7,7 +9,8 @@ use Rattle.file_tree.specs.declared.store.node.NodeContent as store
 use Rattle.file_tree.specs.declared.store.node.NodeContent.TheVariants as content
 use Rattle.file_tree.specs.Store.Changes.{content_written, content_resized}
 use Rattle.file_tree.specs.rules.Bytes.{written, resized}
-use Rattle.file_tree.specs.rules.Files.{Content, Directory, File, bytes_of_content, is_directory_content, IsSmallContent}
+use Rattle.file_tree.specs.rules.Files.{Content, Directory, File, bytes_of_content}
+use Rattle.file_tree.specs.rules.Files.{is_directory_content, IsSmallContent}
 use Rattle.file_tree.specs.declared.limits.TheConstants.{FILE_BYTES}
 use Rattle.file_tree.specs.Links.{content_shown}
 
@@ -39,25 +42,48 @@ all_zeros (suc n) = (omega arith, all_zeros n)
 length-zeros : (n : ℕ) → length (replicate {A = ℕ} n 0) ≡ n
 length-zeros n = length-replicate n 0
 
-pub length-written : (old : List ℕ) (from : ℕ) (bytes : List ℕ) → length (written old from bytes) ≡ max (length old) (from + length bytes)
+pub length-written : (old : List ℕ) (from : ℕ) (bytes : List ℕ)
+    → length (written old from bytes) ≡ max (length old) (from + length bytes)
 length-written old from bytes =
     let front = take from (old ++ replicate from 0) in
     let back = drop (from + length bytes) old in
-    omega (arith, length-append front (bytes ++ back), length-append bytes back, length-take from (old ++ replicate from 0), length-append old (replicate from 0), length-zeros from, length-drop (from + length bytes) old)
+    omega (
+      arith,
+      length-append front (bytes ++ back),
+      length-append bytes back,
+      length-take from (old ++ replicate from 0),
+      length-append old (replicate from 0),
+      length-zeros from,
+      length-drop (from + length bytes) old,
+    )
 
 pub length-resized : (old : List ℕ) (size : ℕ) → length (resized old size) ≡ size
-length-resized old size = omega (arith, length-take size (old ++ replicate size 0), length-append old (replicate size 0), length-zeros size)
+length-resized old size =
+    omega (
+      arith,
+      length-take size (old ++ replicate size 0),
+      length-append old (replicate size 0),
+      length-zeros size,
+    )
 
-pub small_written : (old : List ℕ) (from : ℕ) (bytes : List ℕ) → IsSmallContent (File old) → AreBytes bytes → from + length bytes ≤ FILE_BYTES → IsSmallContent (File (written old from bytes))
+pub small_written : (old : List ℕ) (from : ℕ) (bytes : List ℕ) → IsSmallContent (File old)
+    → AreBytes bytes → from + length bytes ≤ FILE_BYTES
+    → IsSmallContent (File (written old from bytes))
 small_written old from bytes small b fits = (
   omega (arith, length-written old from bytes, small.0, fits),
-  all_append (take from (old ++ replicate from 0)) (bytes ++ drop (from + length bytes) old) (all_take from (old ++ replicate from 0) (all_append old (replicate from 0) small.1 (all_zeros from))) (all_append bytes (drop (from + length bytes) old) b (all_drop (from + length bytes) old small.1)),
+  all_append (take from (old ++ replicate from 0)) (bytes
+      ++ drop (from + length bytes) old) (all_take from (old
+      ++ replicate from 0) (all_append old (replicate from 0) small.1 (all_zeros from)))
+      (all_append bytes (drop (from + length bytes) old) b
+      (all_drop (from + length bytes) old small.1)),
 )
 
-pub small_resized : (old : List ℕ) (size : ℕ) → IsSmallContent (File old) → size ≤ FILE_BYTES → IsSmallContent (File (resized old size))
+pub small_resized : (old : List ℕ) (size : ℕ) → IsSmallContent (File old) → size ≤ FILE_BYTES
+    → IsSmallContent (File (resized old size))
 small_resized old size small fits = (
   omega (arith, length-resized old size, fits),
-  all_take size (old ++ replicate size 0) (all_append old (replicate size 0) small.1 (all_zeros size)),
+  all_take size (old
+      ++ replicate size 0) (all_append old (replicate size 0) small.1 (all_zeros size)),
 )
 
 -- what a file shows after a change
@@ -65,10 +91,16 @@ pub file_is : (c : Content) → is_directory_content c ≡ false → c ≡ File 
 file_is Directory e = absurd cc
 file_is (File bytes) e = refl
 
-pub shown_written : (from : ℕ) (bytes : List ℕ) (c : store.NodeContent) → is_directory_content (content_shown c) ≡ false → content_shown (content_written from bytes c) ≡ File (written (bytes_of_content (content_shown c)) from bytes)
+pub shown_written : (from : ℕ) (bytes : List ℕ) (c : store.NodeContent)
+    → is_directory_content (content_shown c) ≡ false
+    → content_shown (content_written from bytes c)
+    ≡ File (written (bytes_of_content (content_shown c)) from bytes)
 shown_written from bytes content.Directory e = absurd cc
 shown_written from bytes (content.File old) e = refl
 
-pub shown_resized : (size : ℕ) (c : store.NodeContent) → is_directory_content (content_shown c) ≡ false → content_shown (content_resized size c) ≡ File (resized (bytes_of_content (content_shown c)) size)
+pub shown_resized : (size : ℕ) (c : store.NodeContent)
+    → is_directory_content (content_shown c) ≡ false
+    → content_shown (content_resized size c)
+    ≡ File (resized (bytes_of_content (content_shown c)) size)
 shown_resized size content.Directory e = absurd cc
 shown_resized size (content.File old) e = refl

@@ -1,12 +1,16 @@
 -- How a tree keeps nodes: each names its directory, and paths follow from that.
-use Rattle.std.specs.Prelude.{◌≡◌, ◌≢◌, ℕ, zero, suc, ◌+◌, ◌<◌, ◌≤◌, ◌==◌, ◌&&◌, if◌then◌else◌, Bool, true, false, List, [], ◌∷◌, length, reverse, map, find, sum_by, Option, Some, None, option_map}
+use Rattle.std.specs.Prelude.{◌≡◌, ◌≢◌, ℕ, zero, suc, ◌+◌, ◌<◌, ◌≤◌, ◌==◌, ◌&&◌, if◌then◌else◌}
+use Rattle.std.specs.Prelude.{Bool, true, false, List, [], ◌∷◌, length, reverse, map, find, sum_by}
+use Rattle.std.specs.Prelude.{Option, Some, None, option_map}
 use Rattle.std.specs.List.{AllByRecursion}
 use Rattle.file_tree.specs.declared.store.node.Hook.{Hook}
 use Rattle.file_tree.specs.declared.store.node.Hook.TheVariants.{Root, Removed, In}
 use Rattle.file_tree.specs.declared.store.node.NodeContent as store
 use Rattle.file_tree.specs.declared.store.node.NodeContent.TheVariants as content
 use Rattle.file_tree.specs.declared.store.node.Node.{Node}
-use Rattle.file_tree.specs.rules.Files.{Name, Path, FileNode, Files, Content, Directory, File, IsNodeName, IsSmallContent, bytes_of_content, is_directory_content, is_same_name, Entry}
+use Rattle.file_tree.specs.rules.Files.{Name, Path, FileNode, Files, Content, Directory, File}
+use Rattle.file_tree.specs.rules.Files.{IsNodeName, IsSmallContent, bytes_of_content}
+use Rattle.file_tree.specs.rules.Files.{is_directory_content, is_same_name, Entry}
 use Rattle.file_tree.specs.rules.Chunks.{chunks_for}
 use Rattle.file_tree.specs.declared.limits.TheConstants.{NODES}
 
@@ -109,7 +113,12 @@ pub record AreNodes (ns : List Node) (next : ℕ) : Type 0 where
 -- ---- what nodes show
 
 abbrev pub shown_node : ℕ → (ℕ → Hook) → Node → FileNode
-shown_node next hook n = record { number = n.number; path = option_map reverse (climb next hook n.number); content = content_shown n.content }
+shown_node next hook n =
+    record {
+      number = n.number;
+      path = option_map reverse (climb next hook n.number);
+      content = content_shown n.content;
+    }
 
 abbrev pub files : List Node → ℕ → Files
 files ns next = record { nodes = map (shown_node next (hook_of ns)) ns; next = next }
@@ -157,7 +166,8 @@ hooked_name d Removed = None
 hooked_name d (In e other) = if e == d then Some other else None
 
 abbrev pub hooked_entry : ℕ → Node → Option Entry
-hooked_entry d n = option_map (λ (name : Name). record { name = name; number = n.number }) (hooked_name d n.hook)
+hooked_entry d n =
+    option_map (λ (name : Name). record { name = name; number = n.number }) (hooked_name d n.hook)
 
 abbrev pub with_entry : Option Entry → List Entry → List Entry
 with_entry None others = others

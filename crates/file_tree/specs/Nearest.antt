@@ -22,7 +22,8 @@ comes_after d name (In e other) = (e == d) && is_before name other
 -- hung so, and under a name before that of the nearest node so far, where there is one
 abbrev pub is_nearer : ℕ → Name → Option Node → Hook → Bool
 is_nearer d name None hook = comes_after d name hook
-is_nearer d name (Some n) hook = comes_after d name hook && comes_before d (name_of_hook n.hook) hook
+is_nearer d name (Some n) hook =
+    comes_after d name hook && comes_before d (name_of_hook n.hook) hook
 
 -- the nearest of some nodes and the nearest so far
 abbrev pub nearest_node : ℕ → Name → Option Node → List Node → Option Node

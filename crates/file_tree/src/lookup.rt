@@ -1,11 +1,14 @@
 //! Nodes by their numbers, and what they hold.
 
-ghost use Rattle.std.specs.Prelude.{◌≡◌, ◌<◌, ◌≤◌, ◌++◌, take, drop, length, IfSome, IfNone, is_some, option_copied, option_map};
+ghost use Rattle.std.specs.Prelude.{◌≡◌, ◌<◌, ◌≤◌, ◌++◌, take, drop, length, IfSome, IfNone};
+ghost use Rattle.std.specs.Prelude.{is_some, option_copied, option_map};
 ghost use Rattle.file_tree.specs.declared.store.node.Node.{Node as StoredNode};
 ghost use Rattle.std.specs.List.{remove};
 ghost use Rattle.file_tree.specs.Store.Cuts.{AreOrdered, IsCut};
 ghost use Rattle.file_tree.specs.Store.Kept.{IsLower, HasLower, HasNoLower};
-ghost use Rattle.file_tree.specs.Links.{IsPlace, IsNowhere, node_in, hook_held, content_held, holds_directory_node, bytes_held_in, is_hung, name_of_hook, content_shown};
+ghost use Rattle.file_tree.specs.Links.{IsPlace, IsNowhere, node_in, hook_held, content_held};
+ghost use Rattle.file_tree.specs.Links.{holds_directory_node, bytes_held_in, is_hung, name_of_hook};
+ghost use Rattle.file_tree.specs.Links.{content_shown};
 ghost use Rattle.file_tree.specs.rules.Changes.{empty};
 ghost use Rattle.file_tree.specs.rules.Chunks.{chunks_for, chunk_of};
 
@@ -111,11 +114,14 @@ pub fn chunk_held(node: Option<&Node>, index: usize) -> &[u8]
     }
 }
 
-/// Puts a file's bytes from one of them on into `into`, as many as there are and fit, and gives how many. Where no file is
-/// there, there are none.
+/// Puts a file's bytes from one of them on into `into`, as many as there are and fit, and gives how
+/// many. Where no file is there, there are none.
 pub fn read_held(node: Option<&Node>, from: usize, into: &mut [u8]) -> usize
-    ensures count { result ≡ length (take (length into.old) (drop from (bytes_held_in (option_copied node.entry)))) }
-    ensures copied { into.new ≡ take (length into.old) (drop from (bytes_held_in (option_copied node.entry))) ++ drop result into.old }
+    ensures count { result
+        ≡ length (take (length into.old) (drop from (bytes_held_in (option_copied node.entry)))) }
+    ensures copied { into.new
+        ≡ take (length into.old) (drop from (bytes_held_in (option_copied node.entry)))
+        ++ drop result into.old }
 {
     match node {
         Some(node) => match &node.content {

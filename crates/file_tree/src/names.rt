@@ -7,7 +7,8 @@ ghost use Rattle.file_tree.specs.rules.Files.{IsNodeName, IsNameByte, dot};
 
 use crate::limits::NAME_BYTES;
 
-/// Whether a node may have this name: 1 to 255 bytes of UTF-8, no zero byte and no slash, and neither `.` nor `..`.
+/// Whether a node may have this name: 1 to 255 bytes of UTF-8, no zero byte and no slash, and
+/// neither `.` nor `..`.
 pub fn is_name(name: &[u8]) -> bool
     ensures { IsTrue result ↔ IsNodeName name.now }
 {

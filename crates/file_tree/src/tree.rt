@@ -1,14 +1,19 @@
 //! A tree of files.
 
-ghost use Rattle.std.specs.Prelude.{◌≡◌, ◌<◌, ◌^◌, ◌++◌, ◌∷◌, [], length, ℕ, ◌+◌, ◌≢◌, Some, slice_get, option_map, IfSome, IfNone, ◌≤◌, ◌==◌, drop, false, IfOk, OnOk, OnErr, is_some};
+ghost use Rattle.std.specs.Prelude.{◌≡◌, ◌<◌, ◌^◌, ◌++◌, ◌∷◌, [], length, ℕ, ◌+◌, ◌≢◌, Some};
+ghost use Rattle.std.specs.Prelude.{slice_get, option_map, IfSome, IfNone, ◌≤◌, ◌==◌, drop, false};
+ghost use Rattle.std.specs.Prelude.{IfOk, OnOk, OnErr, is_some};
 ghost use Rattle.file_tree.specs.rules.Bytes.{written, resized};
-ghost use Rattle.file_tree.specs.rules.Files.{Name, Path, Entry, IsFiles, fresh, node_of, is_directory, bytes_of_node, used, path_of, child, entries_of, created};
+ghost use Rattle.file_tree.specs.rules.Files.{Name, Path, Entry, IsFiles, fresh, node_of};
+ghost use Rattle.file_tree.specs.rules.Files.{is_directory, bytes_of_node, used, path_of, child};
+ghost use Rattle.file_tree.specs.rules.Files.{entries_of, created};
 ghost use Rattle.file_tree.specs.rules.Files.{created_removed, hung, with_next};
 ghost use Rattle.file_tree.specs.rules.Files.{with_file_bytes, removed, forgotten, renamed};
 ghost use Rattle.file_tree.specs.rules.Chunks.{chunks_of, chunk_of};
 ghost use Rattle.file_tree.specs.rules.Listings.{number_at, number_at_place, number_after};
 ghost use Rattle.file_tree.specs.rules.Listings.{HasNameAtPlace};
-ghost use Rattle.file_tree.specs.rules.Changes.{IsFree, CanHang, CanLose, CanMove, IsParent, is_within, empty, path_at, read_from};
+ghost use Rattle.file_tree.specs.rules.Changes.{IsFree, CanHang, CanLose, CanMove, IsParent};
+ghost use Rattle.file_tree.specs.rules.Changes.{is_within, empty, path_at, read_from};
 ghost use Rattle.file_tree.specs.declared.limits.TheConstants.{NODES, FILE_BYTES};
 
 use crate::children::{leads_to, parent_of};
@@ -40,7 +45,8 @@ impl Model for Tree {
 
     ghost view = { λ t. files t.nodes t.next };
 
-    ghost invariant = { λ t. AreNodes t.nodes t.next × (t.used ≡ used_in t.nodes) × (t.chunks ≡ chunks_in t.nodes) };
+    ghost invariant = { λ t. AreNodes t.nodes t.next × (t.used ≡ used_in t.nodes)
+        × (t.chunks ≡ chunks_in t.nodes) };
 }
 
 impl Tree {
@@ -83,7 +89,8 @@ impl Tree {
         self.used
     }
 
-    /// How many chunks all files have, removed ones that are still there included: what they take of memory.
+    /// How many chunks all files have, removed ones that are still there included: what they take
+    /// of memory.
     pub fn chunks(&self) -> usize
         ensures { result ≡ chunks_of self.now }
     {
@@ -166,17 +173,19 @@ impl Tree {
     /// they lead to the first entry. It takes no memory.
     pub fn entry_after(&self, directory: u64, name: &[u8]) -> Option<u64>
         ensures after { result ≡ number_after self.now directory name.now }
-        ensures next { (i : ℕ) → HasNameAtPlace self.now directory i name.now → result ≡ number_at_place self.now directory (i + 1) }
+        ensures next { (i : ℕ) → HasNameAtPlace self.now directory i name.now
+            → result ≡ number_at_place self.now directory (i + 1) }
         ensures first { name.now ≡ [] → result ≡ number_at_place self.now directory 0 }
     {
         number_held(self.nodes.nearest_after(directory, name))
     }
 
-    /// Puts a file's bytes from one of them on into `into`, as many as there are and fit, and gives how many. What is
-    /// behind them in `into` stays.
+    /// Puts a file's bytes from one of them on into `into`, as many as there are and fit, and gives
+    /// how many. What is behind them in `into` stays.
     pub fn read(&self, number: u64, from: u64, into: &mut [u8]) -> usize
         ensures count { result ≡ length (read_from self.now number from (length into.old)) }
-        ensures bytes { into.new ≡ read_from self.now number from (length into.old) ++ drop result into.old }
+        ensures bytes { into.new ≡ read_from self.now number from (length into.old)
+            ++ drop result into.old }
     {
         read_held(node_of(&self.nodes, number), from as usize, into)
     }
@@ -192,17 +201,23 @@ impl Tree {
     /// The directory above a node: none above the root, a removed node, or one that isn't there.
     pub fn parent(&self, number: u64) -> Option<u64>
         ensures above { IfSome result (IsParent self.now number) }
-        ensures none { IfNone result ((path : Path) (name : Name) → path_of self.now number ≢ Some (path ++ name ∷ [])) }
-        ensures of_child { (d : ℕ) (name : Name) → child self.now d name ≡ Some number → result ≡ Some d }
+        ensures none { IfNone result ((path : Path) (name : Name)
+            → path_of self.now number ≢ Some (path ++ name ∷ [])) }
+        ensures of_child { (d : ℕ) (name : Name) → child self.now d name ≡ Some number
+            → result ≡ Some d }
     {
         parent_of(&self.nodes, number)
     }
 
-    /// The last name of a node's path: no bytes for the root, a removed node, or one that isn't there.
+    /// The last name of a node's path: no bytes for the root, a removed node, or one that isn't
+    /// there.
     pub fn name(&self, number: u64) -> &[u8]
-        ensures last { (path : Path) (name : Name) → path_of self.now number ≡ Some (path ++ name ∷ []) → result.now ≡ name }
-        ensures none { ((path : Path) (name : Name) → path_of self.now number ≢ Some (path ++ name ∷ [])) → result.now ≡ [] }
-        ensures of_entry { (d i : ℕ) → number_at_place self.now d i ≡ Some number → HasNameAtPlace self.now d i result.now }
+        ensures last { (path : Path) (name : Name)
+            → path_of self.now number ≡ Some (path ++ name ∷ []) → result.now ≡ name }
+        ensures none { ((path : Path) (name : Name)
+            → path_of self.now number ≢ Some (path ++ name ∷ [])) → result.now ≡ [] }
+        ensures of_entry { (d i : ℕ) → number_at_place self.now d i ≡ Some number
+            → HasNameAtPlace self.now d i result.now }
     {
         name_held(node_of(&self.nodes, number))
     }
@@ -214,9 +229,10 @@ impl Tree {
         leads_to(&self.nodes, self.next, number, directory)
     }
 
-    /// Makes a node under a name in a directory, and gives its number. The caller has tested that the directory is one
-    /// and has a path (`is_directory`, `has_path`), that the name is one (`is_name`) under which nothing is (`child`), and
-    /// that there is room (`len`, `next`). Only want of memory makes it fail, and then nothing is changed.
+    /// Makes a node under a name in a directory, and gives its number. The caller has tested that
+    /// the directory is one and has a path (`is_directory`, `has_path`), that the name is one
+    /// (`is_name`) under which nothing is (`child`), and that there is room (`len`, `next`). Only
+    /// want of memory makes it fail, and then nothing is changed.
     pub fn create(
         &mut self,
         alloc: Global,
@@ -228,7 +244,8 @@ impl Tree {
         requires room { length self.old.nodes < NODES }
         requires number { self.old.next + 1 < 2 ^ 64 }
         ensures number { IfOk result (λ number. number ≡ self.old.next) }
-        ensures created { OnOk result (self.new ≡ created (path_at self.old directory ++ name.now ∷ []) (empty kind) self.old) }
+        ensures created { OnOk result (self.new ≡ created (path_at self.old directory
+            ++ name.now ∷ []) (empty kind) self.old) }
         ensures unchanged { OnErr result (self.new ≡ self.old) }
     {
         let number = self.next;
@@ -242,26 +259,31 @@ impl Tree {
         Ok(number)
     }
 
-    /// Puts bytes in the place of others of a file. The caller has tested that it is no directory (`is_directory`), and that
-    /// all of them lie within its size (`size`): else he makes room first (`resize`). It takes no memory, and can't fail. Where
-    /// no node has the number there are no bytes to put, and nothing is changed.
+    /// Puts bytes in the place of others of a file. The caller has tested that it is no directory
+    /// (`is_directory`), and that all of them lie within its size (`size`): else he makes room
+    /// first (`resize`). It takes no memory, and can't fail. Where no node has the number there are
+    /// no bytes to put, and nothing is changed.
     pub fn write(&mut self, number: u64, from: u64, bytes: &[u8])
         requires file { is_directory self.old number ≡ false }
         requires within { from + length bytes.now ≤ length (bytes_of_node self.old number) }
-        ensures { self.new ≡ with_file_bytes number (written (bytes_of_node self.old number) from bytes.now) self.old }
+        ensures { self.new
+            ≡ with_file_bytes number (written (bytes_of_node self.old number) from bytes.now)
+            self.old }
     {
         if let Some(place) = place_of(&self.nodes, number) {
             self.nodes.write(place, from as usize, bytes);
         }
     }
 
-    /// Cuts a file to so many bytes, or puts zeros behind them. The caller has tested that it is no directory
-    /// (`is_directory`), and that the size is within its limit. Only want of memory makes it fail, and then nothing is
-    /// changed. Where no node has the number nothing is changed either.
+    /// Cuts a file to so many bytes, or puts zeros behind them. The caller has tested that it is no
+    /// directory (`is_directory`), and that the size is within its limit. Only want of memory makes
+    /// it fail, and then nothing is changed. Where no node has the number nothing is changed
+    /// either.
     pub fn resize(&mut self, number: u64, size: u64) -> Result<(), AllocError>
         requires file { is_directory self.old number ≡ false }
         requires size { size ≤ FILE_BYTES }
-        ensures resized { OnOk result (self.new ≡ with_file_bytes number (resized (bytes_of_node self.old number) size) self.old) }
+        ensures resized { OnOk result (self.new
+            ≡ with_file_bytes number (resized (bytes_of_node self.old number) size) self.old) }
         ensures unchanged { OnErr result (self.new ≡ self.old) }
     {
         let Some(place) = place_of(&self.nodes, number) else {
@@ -275,8 +297,9 @@ impl Tree {
         Ok(())
     }
 
-    /// Takes a node's path away; the node stays until it is forgotten. The caller has tested that it isn't the root, and that a
-    /// directory has no entries (`is_directory`, `is_empty`). Where no node has the number nothing is changed.
+    /// Takes a node's path away; the node stays until it is forgotten. The caller has tested that
+    /// it isn't the root, and that a directory has no entries (`is_directory`, `is_empty`). Where
+    /// no node has the number nothing is changed.
     pub fn remove(&mut self, number: u64)
         requires { CanLose self.old number }
         ensures { self.new ≡ removed number self.old }
@@ -286,8 +309,8 @@ impl Tree {
         }
     }
 
-    /// Drops a node that was removed, with its bytes. The caller has tested that it has no path (`has_path`). Where no node has
-    /// the number nothing is changed. Its number isn't used again.
+    /// Drops a node that was removed, with its bytes. The caller has tested that it has no path
+    /// (`has_path`). Where no node has the number nothing is changed. Its number isn't used again.
     pub fn forget(&mut self, number: u64)
         requires { is_some (path_of self.old number) ≡ false }
         ensures { self.new ≡ forgotten number self.old }
@@ -346,11 +369,13 @@ impl Tree {
         self.next = next;
     }
 
-    /// Moves a node, with all that lies below it, to a name in a directory. The caller has tested that it isn't the root and has
-    /// a path (`has_path`), that the name is free as for a new node, and that the directory isn't below the node (`is_within`).
+    /// Moves a node, with all that lies below it, to a name in a directory. The caller has tested
+    /// that it isn't the root and has a path (`has_path`), that the name is free as for a new node,
+    /// and that the directory isn't below the node (`is_within`).
     pub fn rename(&mut self, number: u64, directory: u64, name: ByteList)
         requires { CanMove self.old number directory name }
-        ensures { self.new ≡ renamed (path_at self.old number) (path_at self.old directory ++ name ∷ []) self.old }
+        ensures { self.new ≡ renamed (path_at self.old number) (path_at self.old directory
+            ++ name ∷ []) self.old }
     {
         if let Some(place) = place_of(&self.nodes, number) {
             self.nodes.move_to(place, directory, name);

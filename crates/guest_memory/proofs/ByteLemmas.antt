@@ -1,5 +1,6 @@
 -- A number and the bytes that spell it.
-use Rattle.std.proofs.Common.{◌≡◌, ℕ, zero, suc, ◌+◌, ◌*◌, ◌/◌, ◌%◌, ◌^◌, ◌<◌, List, [], ◌∷◌, length, refl, ap, ◌∙◌, arith}
+use Rattle.std.proofs.Common.{◌≡◌, ℕ, zero, suc, ◌+◌, ◌*◌, ◌/◌, ◌%◌, ◌^◌, ◌<◌, List, [], ◌∷◌}
+use Rattle.std.proofs.Common.{length, refl, ap, ◌∙◌, arith}
 use Rattle.std.proofs.Math.Nat.{pow-suc, div-lt_iff_lt-mul}
 use Rattle.std.specs.List.{AllByRecursion}
 use Rattle.guest_memory.specs.rules.Bytes.{IsByte, number_of, bytes_of}
@@ -19,12 +20,14 @@ number_of-bytes_of (suc n) x h =
     rw rest (omega arith)
 
 -- bytes are those of the number that they spell
-pub bytes_of-number_of : (bytes : List ℕ) → AllByRecursion IsByte bytes → bytes_of (length bytes) (number_of bytes) ≡ bytes
+pub bytes_of-number_of : (bytes : List ℕ) → AllByRecursion IsByte bytes
+    → bytes_of (length bytes) (number_of bytes) ≡ bytes
 bytes_of-number_of [] h = refl
 bytes_of-number_of (b ∷ bytes) h =
     let small : b < 256 = h.0 in
     let low : (b + 256 * number_of bytes) % 256 ≡ b = omega arith in
     let high : (b + 256 * number_of bytes) / 256 ≡ number_of bytes = omega arith in
     let rest : bytes_of (length bytes) (number_of bytes) ≡ bytes = bytes_of-number_of bytes h.1 in
-    let tail : bytes_of (length bytes) ((b + 256 * number_of bytes) / 256) ≡ bytes = ap (λ y. bytes_of (length bytes) y) high ∙ rest in
+    let tail : bytes_of (length bytes) ((b + 256 * number_of bytes) / 256) ≡ bytes =
+    ap (λ y. bytes_of (length bytes) y) high ∙ rest in
     cc

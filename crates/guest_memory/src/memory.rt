@@ -1,8 +1,10 @@
 //! The memory itself, seen as a list of bytes with a limit.
 
-ghost use Rattle.std.specs.Prelude.{◌≡◌, ◌+◌, ◌*◌, ◌≤◌, ◌<◌, ◌^◌, ◌↔◌, ◌==◌, length, IfOk, IsTrue, IsOk, IsSome, IfSome, OnSome, IfNone};
+ghost use Rattle.std.specs.Prelude.{◌≡◌, ◌+◌, ◌*◌, ◌≤◌, ◌<◌, ◌^◌, ◌↔◌, ◌==◌, length, IfOk, IsTrue};
+ghost use Rattle.std.specs.Prelude.{IsOk, IsSome, IfSome, OnSome, IfNone};
 ghost use Rattle.guest_memory.specs.rules.Bytes.{number_of, bytes_of, page_size, part};
-ghost use Rattle.guest_memory.specs.rules.Memories.{IsWithinLimit, grown_by, pages_in, with_bytes, zeroed};
+ghost use Rattle.guest_memory.specs.rules.Memories.{IsWithinLimit, grown_by, pages_in, with_bytes};
+ghost use Rattle.guest_memory.specs.rules.Memories.{zeroed};
 
 use crate::{MOST_PAGES, PAGE_SIZE};
 use byteorder::{ByteOrder, LittleEndian};
@@ -35,7 +37,8 @@ impl Model for Memory {
 
     ghost view = { λ m. record { bytes = m.bytes.items; limit = m.limit } };
 
-    ghost invariant = { λ m. IsWithinLimit (record { bytes = m.bytes.items; limit = m.limit }) × (m.limit * page_size ≤ vec_capacity m.bytes) };
+    ghost invariant = { λ m. IsWithinLimit (record { bytes = m.bytes.items; limit = m.limit })
+        × (m.limit * page_size ≤ vec_capacity m.bytes) };
 }
 
 impl Memory {
@@ -156,7 +159,8 @@ impl Memory {
     /// The byte at `address + offset`, or nothing where that is beyond the end.
     pub fn load_u8(&self, address: u32, offset: u32) -> Option<u8>
         ensures there { IsSome result ↔ (address + offset + 1 ≤ length self.now.bytes) }
-        ensures number { IfSome result (λ n. n ≡ number_of (part self.now.bytes (address + offset) 1)) }
+        ensures number { IfSome result (λ n. n
+            ≡ number_of (part self.now.bytes (address + offset) 1)) }
     {
         let bytes = self.range(address as usize + offset as usize, 1)?;
         Some(bytes[0])
@@ -165,7 +169,8 @@ impl Memory {
     /// The number in the 2 bytes at `address + offset`, or nothing where they reach beyond the end.
     pub fn load_u16(&self, address: u32, offset: u32) -> Option<u16>
         ensures there { IsSome result ↔ (address + offset + 2 ≤ length self.now.bytes) }
-        ensures number { IfSome result (λ n. n ≡ number_of (part self.now.bytes (address + offset) 2)) }
+        ensures number { IfSome result (λ n. n
+            ≡ number_of (part self.now.bytes (address + offset) 2)) }
     {
         let bytes = self.range(address as usize + offset as usize, 2)?;
         Some(LittleEndian::read_u16(bytes))
@@ -174,7 +179,8 @@ impl Memory {
     /// The number in the 4 bytes at `address + offset`, or nothing where they reach beyond the end.
     pub fn load_u32(&self, address: u32, offset: u32) -> Option<u32>
         ensures there { IsSome result ↔ (address + offset + 4 ≤ length self.now.bytes) }
-        ensures number { IfSome result (λ n. n ≡ number_of (part self.now.bytes (address + offset) 4)) }
+        ensures number { IfSome result (λ n. n
+            ≡ number_of (part self.now.bytes (address + offset) 4)) }
     {
         let bytes = self.range(address as usize + offset as usize, 4)?;
         Some(LittleEndian::read_u32(bytes))
@@ -183,7 +189,8 @@ impl Memory {
     /// The number in the 8 bytes at `address + offset`, or nothing where they reach beyond the end.
     pub fn load_u64(&self, address: u32, offset: u32) -> Option<u64>
         ensures there { IsSome result ↔ (address + offset + 8 ≤ length self.now.bytes) }
-        ensures number { IfSome result (λ n. n ≡ number_of (part self.now.bytes (address + offset) 8)) }
+        ensures number { IfSome result (λ n. n
+            ≡ number_of (part self.now.bytes (address + offset) 8)) }
     {
         let bytes = self.range(address as usize + offset as usize, 8)?;
         Some(LittleEndian::read_u64(bytes))
@@ -192,7 +199,8 @@ impl Memory {
     /// Puts a byte at `address + offset`, or changes nothing where that is beyond the end.
     pub fn store_u8(&mut self, address: u32, offset: u32, value: u8) -> Option<()>
         ensures there { IsSome result ↔ (address + offset + 1 ≤ length self.old.bytes) }
-        ensures stored { OnSome result (self.new ≡ with_bytes (address + offset) (bytes_of 1 value) self.old) }
+        ensures stored { OnSome result (self.new
+            ≡ with_bytes (address + offset) (bytes_of 1 value) self.old) }
         ensures refused { IfNone result (self.new ≡ self.old) }
     {
         let from = address as usize + offset as usize;
@@ -203,11 +211,12 @@ impl Memory {
         Some(())
     }
 
-    /// Puts a number into the 2 bytes at `address + offset`, or changes nothing where they reach beyond
-    /// the end.
+    /// Puts a number into the 2 bytes at `address + offset`, or changes nothing where they reach
+    /// beyond the end.
     pub fn store_u16(&mut self, address: u32, offset: u32, value: u16) -> Option<()>
         ensures there { IsSome result ↔ (address + offset + 2 ≤ length self.old.bytes) }
-        ensures stored { OnSome result (self.new ≡ with_bytes (address + offset) (bytes_of 2 value) self.old) }
+        ensures stored { OnSome result (self.new
+            ≡ with_bytes (address + offset) (bytes_of 2 value) self.old) }
         ensures refused { IfNone result (self.new ≡ self.old) }
     {
         let from = address as usize + offset as usize;
@@ -218,11 +227,12 @@ impl Memory {
         Some(())
     }
 
-    /// Puts a number into the 4 bytes at `address + offset`, or changes nothing where they reach beyond
-    /// the end.
+    /// Puts a number into the 4 bytes at `address + offset`, or changes nothing where they reach
+    /// beyond the end.
     pub fn store_u32(&mut self, address: u32, offset: u32, value: u32) -> Option<()>
         ensures there { IsSome result ↔ (address + offset + 4 ≤ length self.old.bytes) }
-        ensures stored { OnSome result (self.new ≡ with_bytes (address + offset) (bytes_of 4 value) self.old) }
+        ensures stored { OnSome result (self.new
+            ≡ with_bytes (address + offset) (bytes_of 4 value) self.old) }
         ensures refused { IfNone result (self.new ≡ self.old) }
     {
         let from = address as usize + offset as usize;
@@ -233,11 +243,12 @@ impl Memory {
         Some(())
     }
 
-    /// Puts a number into the 8 bytes at `address + offset`, or changes nothing where they reach beyond
-    /// the end.
+    /// Puts a number into the 8 bytes at `address + offset`, or changes nothing where they reach
+    /// beyond the end.
     pub fn store_u64(&mut self, address: u32, offset: u32, value: u64) -> Option<()>
         ensures there { IsSome result ↔ (address + offset + 8 ≤ length self.old.bytes) }
-        ensures stored { OnSome result (self.new ≡ with_bytes (address + offset) (bytes_of 8 value) self.old) }
+        ensures stored { OnSome result (self.new
+            ≡ with_bytes (address + offset) (bytes_of 8 value) self.old) }
         ensures refused { IfNone result (self.new ≡ self.old) }
     {
         let from = address as usize + offset as usize;

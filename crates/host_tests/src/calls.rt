@@ -124,8 +124,8 @@ fn end(alloc: Global, guest: &mut Guest) {
     guest.host.end(alloc);
 }
 
-/// Writes so many letters to stream 1, with a newline behind them. Then there are so many lines, and
-/// the first and the last of them are so long.
+/// Writes so many letters to stream 1, with a newline behind them. Then there are so many lines,
+/// and the first and the last of them are so long.
 fn cut(alloc: Global, letters: u32) -> Result<[usize; 3], CallStop> {
     let mut guest = fresh_guest(alloc)?;
     for place in 0..letters {

@@ -48,7 +48,11 @@ fn ask_twice<S: Source>(source: &mut S) -> Result<Option<Answer>, SourceFault>
 /// Releases these texts on stream 1, each once and in order, with the numbers from 1 on. At a fault
 /// it stops.
 fn tell_all<O: Outlet>(outlet: &mut O, texts: &[Row<u8>]) -> Result<(), OutletFault>
-    ensures { OnOk result (Releases O.takes outlet.old (all_taken 1 (map (λ text. record { stream = 1; text = text }) texts.now)) outlet.new) }
+    ensures { OnOk result
+        (Releases O.takes outlet.old (all_taken 1 (map (λ text. record {
+          stream = 1;
+          text = text;
+        }) texts.now)) outlet.new) }
 {
     for (i, text) in texts.iter().enumerate() {
         outlet.release(i as u64 + 1, 1, text.as_slice())?;

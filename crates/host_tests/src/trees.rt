@@ -1,4 +1,5 @@
-//! That a tree is made and changed where there is memory, and that a caller can test what is asked of it.
+//! That a tree is made and changed where there is memory, and that a caller can test what is asked
+//! of it.
 
 use file_tree::limits::NODES;
 use file_tree::{ByteList, NodeKind, Tree, is_name};

@@ -2,7 +2,8 @@
 
 ghost use Rattle.std.specs.Prelude.{◌≡◌, refl};
 ghost use Rattle.std.specs.Int.{w32};
-ghost use Rattle.int_ops.specs.rules.Integers.{unary_of, binary_of, compare_of, signed_quotient, signed_remainder};
+ghost use Rattle.int_ops.specs.rules.Integers.{unary_of, binary_of, compare_of, signed_quotient};
+ghost use Rattle.int_ops.specs.rules.Integers.{signed_remainder};
 
 use super::Integer;
 use wasm_syntax::{BinaryOperator, Comparison, Trap, UnaryOperator};

@@ -1,6 +1,7 @@
 //! Laws of the definitions that the contracts of the operators cite.
 
-ghost use Rattle.int_ops.specs.laws.Laws.{UnaryFits, BinaryFits, TruthFits, ConversionFits, ExtensionFits, IntegerExamples};
+ghost use Rattle.int_ops.specs.laws.Laws.{UnaryFits, BinaryFits, TruthFits, ConversionFits};
+ghost use Rattle.int_ops.specs.laws.Laws.{ExtensionFits, IntegerExamples};
 
 /// Every operator and every conversion gives an integer of its width.
 pub fn results_fit()

@@ -1,5 +1,6 @@
 -- A barrier, on what a cut may leave.
-use Rattle.std.proofs.Common.{◌≡◌, ◌≤◌, ◌<◌, ◌+◌, ◌^◌, ℕ, zero, suc, ◌-◌, List, [], ◌∷◌, ◌++◌, length, take, drop, refl, sym, ap, ◌∙◌, subst, arith}
+use Rattle.std.proofs.Common.{◌≡◌, ◌≤◌, ◌<◌, ◌+◌, ◌^◌, ℕ, zero, suc, ◌-◌, List, [], ◌∷◌, ◌++◌}
+use Rattle.std.proofs.Common.{length, take, drop, refl, sym, ap, ◌∙◌, subst, arith}
 use Rattle.std.proofs.lemmas.List.{append-nil, take_all, drop_all}
 use Rattle.std.proofs.lemmas.Grind.{flat_map-append}
 use Rattle.sector_disk.specs.rules.Image.{Image, sector_at}
@@ -13,16 +14,21 @@ use Rattle.journal.specs.rules.Packed.{packed, sectors_for}
 use Rattle.journal.specs.rules.Steps.{HoldsBytes, RecordsStand, AppendsFront, IsOn, records_bytes}
 use Rattle.journal.specs.laws.Laws.{FreshStands, ScansWhatStands, ScansNoneOfLater}
 use Rattle.journal.proofs.PackedLemmas.{packed_at}
-use Rattle.journal.proofs.RunLemmas.{IsRun, all_bytes, none_after, is_new, front_of_kept, none_later, others_same, holds_all}
+use Rattle.journal.proofs.RunLemmas.{IsRun, all_bytes, none_after, is_new, front_of_kept}
+use Rattle.journal.proofs.RunLemmas.{none_later, others_same, holds_all}
 use Rattle.journal.proofs.RecordLemmas.{scan_of}
 
-module _ (geometry : Geometry) (g used : ℕ) (bytes : List ℕ) (records kept : List Record) (old : Medium) (on : IsOn geometry g used bytes records kept old.may_leave) (size : total_sectors geometry ≤ old.sectors) where
+module _ (geometry : Geometry) (g used : ℕ) (bytes : List ℕ) (records kept : List Record)
+    (old : Medium) (on : IsOn geometry g used bytes records kept old.may_leave)
+    (size : total_sectors geometry ≤ old.sectors) where
   -- where nothing is written
-  stays_so : (image : Image) → old.may_leave image → AppendsFront geometry g used records kept image image
+  stays_so : (image : Image) → old.may_leave image
+      → AppendsFront geometry g used records kept image image
   stays_so image left =
       let holds = on.stands image left in
       let all = all_bytes geometry g used (records_bytes records) image holds in
-      let front = scan_of geometry image g 0 records kept on.fit on.fit_kept (all ∙ sym (append-nil (records_bytes records))) in
+      let front = scan_of geometry image g 0 records kept on.fit on.fit_kept (all
+      ∙ sym (append-nil (records_bytes records))) in
       record {
         count = front.0;
         within = front.1;
@@ -31,22 +37,30 @@ module _ (geometry : Geometry) (g used : ℕ) (bytes : List ℕ) (records kept :
         others = record { count = refl; below = λ k lt. refl; above = λ k le. refl };
       }
 
-  pub nothing_written : LeavesOnly old old (After (AppendsFront geometry g used records kept) old.may_leave)
-  nothing_written = leaves_only old old _ (started old _) (λ image left. (image, left, stays_so image left))
+  pub nothing_written : LeavesOnly old old
+      (After (AppendsFront geometry g used records kept) old.may_leave)
+  nothing_written =
+      leaves_only old old _ (started old _) (λ image left. (image, left, stays_so image left))
 
-  pub still_stands : length bytes ≡ 0 → (image : Image) → old.may_leave image → RecordsStand geometry g used (records ++ kept) image
+  pub still_stands : length bytes ≡ 0 → (image : Image) → old.may_leave image
+      → RecordsStand geometry g used (records ++ kept) image
   still_stands none image left =
       let holds = on.stands image left in
       let empty : records_bytes (records ++ kept) ≡ records_bytes records =
-      flat_map-append record_bytes records kept ∙ ap (λ l. records_bytes records ++ l) (sym on.spells) ∙ ap (λ l. records_bytes records ++ l) (nil bytes none) ∙ append-nil (records_bytes records) in
+      flat_map-append record_bytes records kept
+      ∙ ap (λ l. records_bytes records ++ l) (sym on.spells)
+      ∙ ap (λ l. records_bytes records ++ l) (nil bytes none)
+      ∙ append-nil (records_bytes records) in
       subst (λ (l : List ℕ). HoldsBytes geometry g used l image) (sym empty) holds
     where
       nil : (l : List ℕ) → length l ≡ 0 → l ≡ []
       nil [] e = refl
       nil (x ∷ l) e = absurd (omega arith)
 
-  module _ (room : used + sectors_for (length bytes) ≤ geometry.journal_sectors) (bound : geometry.journal_sectors < 2 ^ 32) where
-    run_of : (image : Image) → old.may_leave image → IsRun geometry g used (sectors_for (length bytes)) (records_bytes records) bytes image
+  module _ (room : used + sectors_for (length bytes) ≤ geometry.journal_sectors)
+      (bound : geometry.journal_sectors < 2 ^ 32) where
+    run_of : (image : Image) → old.may_leave image
+        → IsRun geometry g used (sectors_for (length bytes)) (records_bytes records) bytes image
     run_of image left =
         let is = old.is_image image left in
         let full = is.full in
@@ -59,27 +73,49 @@ module _ (geometry : Geometry) (g used : ℕ) (bytes : List ℕ) (records kept :
           places = omega arith;
         }
 
-    pub appends : (old_image new_image : Image) → old.may_leave old_image → IsTornRun (journal_place geometry + used) (packed g (used + 1) (sectors_for (length bytes)) bytes) (sectors_for (length bytes)) old_image new_image
+    pub appends : (old_image new_image : Image) → old.may_leave old_image
+        → IsTornRun (journal_place geometry + used)
+        (packed g (used + 1) (sectors_for (length bytes)) bytes)
+        (sectors_for (length bytes)) old_image new_image
         → AppendsFront geometry g used records kept old_image new_image
     appends old_image new_image left torn =
         let n = sectors_for (length bytes) in
         let run = run_of old_image left in
-        let front = front_of_kept geometry g used n (records_bytes records) bytes old_image new_image run torn in
-        let scanned = scan_of geometry new_image g front.0 records kept on.fit on.fit_kept (front.1 ∙ ap (λ l. records_bytes records ++ take front.0 l) on.spells) in
+        let front = front_of_kept geometry g used n (records_bytes records) bytes old_image
+        new_image run torn in
+        let scanned = scan_of geometry new_image g front.0 records kept on.fit on.fit_kept (front.1
+        ∙ ap (λ l. records_bytes records ++ take front.0 l) on.spells) in
         record {
           count = scanned.0;
           within = scanned.1;
           scanned = scanned.2;
-          none_later = none_later geometry g used n (records_bytes records) bytes old_image new_image run torn;
-          others = others_same geometry g used n (records_bytes records) bytes old_image new_image run torn;
+          none_later =
+              none_later geometry g used n (records_bytes records) bytes old_image new_image run
+              torn;
+          others = others_same geometry g used n (records_bytes records) bytes old_image new_image
+              run torn;
         }
 
-    pub any_moment : (new : Medium) → LeavesOnly old new (After (IsTornRun (journal_place geometry + used) (packed g (used + 1) (sectors_for (length bytes)) bytes) (sectors_for (length bytes))) old.may_leave)
+    pub any_moment : (new : Medium)
+        → LeavesOnly old new
+        (After (IsTornRun (journal_place geometry + used)
+        (packed g (used + 1) (sectors_for (length bytes)) bytes) (sectors_for (length bytes)))
+        old.may_leave)
         → LeavesOnly old new (After (AppendsFront geometry g used records kept) old.may_leave)
-    any_moment new leaves = leaves_weaker old new _ _ leaves (λ image was. (was.0, was.1, appends was.0 image was.1 was.2))
+    any_moment new leaves =
+        leaves_weaker old new _ _ leaves (λ image was. (
+          was.0,
+          was.1,
+          appends was.0 image was.1 was.2,
+        ))
 
-    torn_of_written : (old_image new_image : Image) → old.may_leave old_image → IsWrittenRun (journal_place geometry + used) (packed g (used + 1) (sectors_for (length bytes)) bytes) (sectors_for (length bytes)) old_image new_image
-        → IsTornRun (journal_place geometry + used) (packed g (used + 1) (sectors_for (length bytes)) bytes) (sectors_for (length bytes)) old_image new_image
+    torn_of_written : (old_image new_image : Image) → old.may_leave old_image
+        → IsWrittenRun (journal_place geometry + used)
+        (packed g (used + 1) (sectors_for (length bytes)) bytes)
+        (sectors_for (length bytes)) old_image new_image
+        → IsTornRun (journal_place geometry + used)
+        (packed g (used + 1) (sectors_for (length bytes)) bytes)
+        (sectors_for (length bytes)) old_image new_image
     torn_of_written old_image new_image left written =
         let n = sectors_for (length bytes) in
         let run = run_of old_image left in
@@ -90,18 +126,31 @@ module _ (geometry : Geometry) (g used : ℕ) (bytes : List ℕ) (records kept :
           below = written.below;
           above = written.above;
           each = λ i lt.
-              let new = is_new geometry g used n (records_bytes records) bytes old_image new_image run i lt in
-              let long : length (sector_at (packed g (used + 1) n bytes) i) ≡ 512 = ap length (packed_at g (used + 1) n bytes i lt) ∙ length-journal_sector g (used + 1 + i) _ new.most in
+              let new = is_new geometry g used n (records_bytes records) bytes old_image new_image
+              run i lt in
+              let long : length (sector_at (packed g (used + 1) n bytes) i) ≡ 512 =
+              ap length (packed_at g (used + 1) n bytes i lt)
+              ∙ length-journal_sector g (used + 1 + i) _ new.most in
               let old-long = full (journal_place geometry + used + i) (omega arith) in (
                 512,
                 omega arith,
-                written.each i lt ∙ sym (ap (λ l. l ++ drop 512 (sector_at old_image (journal_place geometry + used + i))) (take_all 512 (sector_at (packed g (used + 1) n bytes) i) (omega arith))
-                    ∙ ap (λ l. sector_at (packed g (used + 1) n bytes) i ++ l) (drop_all 512 (sector_at old_image (journal_place geometry + used + i)) (omega arith)) ∙ append-nil (sector_at (packed g (used + 1) n bytes) i)),
+                written.each i lt
+                    ∙ sym (ap (λ l. l
+                    ++ drop 512 (sector_at old_image (journal_place geometry + used + i)))
+                    (take_all 512 (sector_at (packed g (used + 1) n bytes) i) (omega arith))
+                    ∙ ap (λ l. sector_at (packed g (used + 1) n bytes) i
+                    ++ l) (drop_all 512 (sector_at old_image (journal_place geometry + used
+                    + i)) (omega arith))
+                    ∙ append-nil (sector_at (packed g (used + 1) n bytes) i)),
               );
         }
 
-    pub durable : (new : Medium) → Follows (IsWrittenRun (journal_place geometry + used) (packed g (used + 1) (sectors_for (length bytes)) bytes) (sectors_for (length bytes))) old.shows new.may_leave
-        → (image : Image) → new.may_leave image → RecordsStand geometry g (used + sectors_for (length bytes)) (records ++ kept) image
+    pub durable : (new : Medium)
+        → Follows (IsWrittenRun (journal_place geometry + used)
+        (packed g (used + 1) (sectors_for (length bytes)) bytes) (sectors_for (length bytes)))
+        old.shows new.may_leave
+        → (image : Image) → new.may_leave image
+        → RecordsStand geometry g (used + sectors_for (length bytes)) (records ++ kept) image
     durable new stored image left =
         let n = sectors_for (length bytes) in
         let was = stored image left in
@@ -109,44 +158,70 @@ module _ (geometry : Geometry) (g used : ℕ) (bytes : List ℕ) (records kept :
         let before = shows_left old was.0 was.1 in
         let run = run_of was.0 before in
         let torn = torn_of_written was.0 image before written in
-        let all = holds_all geometry g used n (records_bytes records) bytes was.0 image run torn written.each in
-        let spelled : records_bytes records ++ bytes ≡ records_bytes (records ++ kept) = ap (λ l. records_bytes records ++ l) on.spells ∙ sym (flat_map-append record_bytes records kept) in
+        let all = holds_all geometry g used n (records_bytes records) bytes was.0 image run torn
+        written.each in
+        let spelled : records_bytes records ++ bytes ≡ records_bytes (records ++ kept) =
+        ap (λ l. records_bytes records ++ l) on.spells
+        ∙ sym (flat_map-append record_bytes records kept) in
         subst (λ (l : List ℕ). HoldsBytes geometry g (used + n) l image) spelled all
 
 -- the same of values that are these
-pub any_moment_at : (geometry : Geometry) (g used : ℕ) (bytes : List ℕ) (records kept : List Record) (old new : Medium) (at h u : ℕ) (b : List ℕ) → at ≡ journal_place geometry → h ≡ g → u ≡ used → b ≡ bytes
-    → IsOn geometry g used bytes records kept old.may_leave → total_sectors geometry ≤ old.sectors → used + sectors_for (length bytes) ≤ geometry.journal_sectors → geometry.journal_sectors < 2 ^ 32
-    → LeavesOnly old new (After (IsTornRun (at + u) (packed h (u + 1) (sectors_for (length b)) b) (sectors_for (length b))) old.may_leave)
+pub any_moment_at : (geometry : Geometry) (g used : ℕ) (bytes : List ℕ) (records kept : List Record)
+    (old new : Medium) (at h u : ℕ) (b : List ℕ) → at ≡ journal_place geometry → h ≡ g → u ≡ used
+    → b ≡ bytes
+    → IsOn geometry g used bytes records kept old.may_leave → total_sectors geometry ≤ old.sectors
+    → used + sectors_for (length bytes) ≤ geometry.journal_sectors
+    → geometry.journal_sectors < 2 ^ 32
+    → LeavesOnly old new (After (IsTornRun (at + u) (packed h (u + 1) (sectors_for (length b)) b)
+    (sectors_for (length b))) old.may_leave)
     → LeavesOnly old new (After (AppendsFront geometry g used records kept) old.may_leave)
-any_moment_at geometry g used bytes records kept old new at h u b at-is h-is u-is b-is on size room bound leaves =
-    let P : ℕ → ℕ → ℕ → List ℕ → Type 0 = λ at h u b. LeavesOnly old new (After (IsTornRun (at + u) (packed h (u + 1) (sectors_for (length b)) b) (sectors_for (length b))) old.may_leave) in
+any_moment_at geometry g used bytes records kept old new at h u b at-is h-is u-is b-is on size room
+    bound leaves =
+    let P : ℕ → ℕ → ℕ → List ℕ → Type 0 =
+    λ at h u b. LeavesOnly old new
+    (After (IsTornRun (at + u) (packed h (u + 1) (sectors_for (length b)) b)
+    (sectors_for (length b))) old.may_leave) in
     let one = subst (λ (x : ℕ). P x h u b) at-is leaves in
     let two = subst (λ (x : ℕ). P (journal_place geometry) x u b) h-is one in
     let three = subst (λ (x : ℕ). P (journal_place geometry) g x b) u-is two in
     let four = subst (λ (x : List ℕ). P (journal_place geometry) g used x) b-is three in
     any_moment geometry g used bytes records kept old on size room bound new four
 
-pub durable_at : (geometry : Geometry) (g used : ℕ) (bytes : List ℕ) (records kept : List Record) (old new : Medium) (at h u n : ℕ) (b : List ℕ) → at ≡ journal_place geometry → h ≡ g → u ≡ used → b ≡ bytes → n ≡ sectors_for (length bytes)
-    → IsOn geometry g used bytes records kept old.may_leave → total_sectors geometry ≤ old.sectors → used + sectors_for (length bytes) ≤ geometry.journal_sectors → geometry.journal_sectors < 2 ^ 32
-    → Follows (IsWrittenRun (at + u) (packed h (u + 1) (sectors_for (length b)) b) (sectors_for (length b))) old.shows new.may_leave
-    → (image : Image) → new.may_leave image → RecordsStand geometry h (u + n) (records ++ kept) image
-durable_at geometry g used bytes records kept old new at h u n b at-is h-is u-is b-is n-is on size room bound stored image left =
-    let P : ℕ → ℕ → ℕ → List ℕ → Type 0 = λ at h u b. Follows (IsWrittenRun (at + u) (packed h (u + 1) (sectors_for (length b)) b) (sectors_for (length b))) old.shows new.may_leave in
+pub durable_at : (geometry : Geometry) (g used : ℕ) (bytes : List ℕ) (records kept : List Record)
+    (old new : Medium) (at h u n : ℕ) (b : List ℕ) → at ≡ journal_place geometry → h ≡ g → u ≡ used
+    → b ≡ bytes → n ≡ sectors_for (length bytes)
+    → IsOn geometry g used bytes records kept old.may_leave → total_sectors geometry ≤ old.sectors
+    → used + sectors_for (length bytes) ≤ geometry.journal_sectors
+    → geometry.journal_sectors < 2 ^ 32
+    → Follows (IsWrittenRun (at + u) (packed h (u + 1) (sectors_for (length b)) b)
+    (sectors_for (length b))) old.shows new.may_leave
+    → (image : Image) → new.may_leave image
+    → RecordsStand geometry h (u + n) (records ++ kept) image
+durable_at geometry g used bytes records kept old new at h u n b at-is h-is u-is b-is n-is on size
+    room bound stored image left =
+    let P : ℕ → ℕ → ℕ → List ℕ → Type 0 =
+    λ at h u b. Follows (IsWrittenRun (at + u) (packed h (u + 1) (sectors_for (length b)) b)
+    (sectors_for (length b))) old.shows new.may_leave in
     let one = subst (λ (x : ℕ). P x h u b) at-is stored in
     let two = subst (λ (x : ℕ). P (journal_place geometry) x u b) h-is one in
     let three = subst (λ (x : ℕ). P (journal_place geometry) g x b) u-is two in
     let four = subst (λ (x : List ℕ). P (journal_place geometry) g used x) b-is three in
-    let five = durable geometry g used bytes records kept old on size room bound new four image left in
-    let six = subst (λ (x : ℕ). RecordsStand geometry x (used + sectors_for (length bytes)) (records ++ kept) image) (sym h-is) five in
-    let seven = subst (λ (x : ℕ). RecordsStand geometry h (x + sectors_for (length bytes)) (records ++ kept) image) (sym u-is) six in
+    let five = durable geometry g used bytes records kept old on size room bound new four image left
+    in
+    let six = subst (λ (x : ℕ). RecordsStand geometry x (used + sectors_for (length bytes)) (records
+    ++ kept) image) (sym h-is) five in
+    let seven = subst (λ (x : ℕ). RecordsStand geometry h (x + sectors_for (length bytes)) (records
+    ++ kept) image) (sym u-is) six in
     subst (λ (x : ℕ). RecordsStand geometry h (u + x) (records ++ kept) image) (sym n-is) seven
 
 -- there is room for what was counted
-pub room_for : (used journal len counted : ℕ) → counted ≡ sectors_for len → (len ≡ 0 → ⊥) → counted ≤ journal - used → used + sectors_for len ≤ journal
+pub room_for : (used journal len counted : ℕ) → counted ≡ sectors_for len → (len ≡ 0 → ⊥)
+    → counted ≤ journal - used → used + sectors_for len ≤ journal
 room_for used journal len counted is some le = omega arith
 
 -- time and room go on
-pub goes : (old new : Medium) (P : Image → Type 0) → LeavesOnly old new P → Passes old new (λ _. Unit {0})
+pub goes : (old new : Medium) (P : Image → Type 0) → LeavesOnly old new P
+    → Passes old new (λ _. Unit {0})
 goes old new P leaves = weaker old new P (λ _. Unit {0}) leaves.passes (λ image here. tt)
 
 pub goes_not : (m : Medium) → Passes m m (λ _. Unit {0})
@@ -155,11 +230,19 @@ goes_not m = started m (λ _. Unit {0})
 -- ---- laws
 
 pub fresh_stands : FreshStands
-fresh_stands geometry g image earlier = record { within = omega arith; written = λ k lt. absurd (omega arith); holds = refl; clean = λ k le lt. earlier k lt }
+fresh_stands geometry g image earlier =
+    record {
+      within = omega arith;
+      written = λ k lt. absurd (omega arith);
+      holds = refl;
+      clean = λ k le lt. earlier k lt;
+    }
 
 pub scans_what_stands : ScansWhatStands
 scans_what_stands geometry g used records image holds fit =
-    let front = scan_of geometry image g 0 records [] fit tt (all_bytes geometry g used (records_bytes records) image holds ∙ sym (append-nil (records_bytes records))) in
+    let front = scan_of geometry image g 0 records [] fit tt
+    (all_bytes geometry g used (records_bytes records) image holds
+    ∙ sym (append-nil (records_bytes records))) in
     front.2 ∙ ap (λ l. records ++ l) (none front.0) ∙ append-nil records
   where
     none : (k : ℕ) → take k (let l : List Record = [] in l) ≡ []
@@ -167,4 +250,5 @@ scans_what_stands geometry g used records image holds fit =
     none (suc k) = refl
 
 pub scans_none_of_later : ScansNoneOfLater
-scans_none_of_later geometry g image earlier = scans_what_stands geometry g 0 [] image (fresh_stands geometry g image earlier) tt
+scans_none_of_later geometry g image earlier =
+    scans_what_stands geometry g 0 [] image (fresh_stands geometry g image earlier) tt

@@ -1,11 +1,15 @@
 -- Worked examples of journals.
-use Rattle.std.proofs.Common.{◌≡◌, ℕ, zero, suc, ◌+◌, ◌<◌, ◌≤◌, Bool, true, false, List, [], ◌∷◌, length, get_or, if◌then◌else◌, lit<, lit≤, refl, sym, ap, subst, arith}
+use Rattle.std.proofs.Common.{◌≡◌, ℕ, zero, suc, ◌+◌, ◌<◌, ◌≤◌, Bool, true, false, List, [], ◌∷◌}
+use Rattle.std.proofs.Common.{length, get_or, if◌then◌else◌, lit<, lit≤, refl, sym, ap, subst}
+use Rattle.std.proofs.Common.{arith}
 use Rattle.sector_disk.specs.rules.Image.{Image, sector_at}
 use Rattle.disk_layout.specs.rules.Journal.{is_of}
 use Rattle.disk_layout.specs.rules.Sectors.{shown_generation}
 use Rattle.disk_layout.specs.laws.RecordExamples.{bare, spread, two_records}
 use Rattle.journal.specs.rules.Steps.{SameOthers, ShowsNoneAfter}
-use Rattle.journal.specs.laws.Examples.{FittingExamples, StandingExamples, BarrierExamples, before_one_of, behind_hello, only_hello, whole_end, torn_end, with_end}
+use Rattle.journal.specs.laws.Examples.{FittingExamples, StandingExamples, BarrierExamples}
+use Rattle.journal.specs.laws.Examples.{before_one_of, behind_hello, only_hello, whole_end}
+use Rattle.journal.specs.laws.Examples.{torn_end, with_end}
 
 differ : (a b : ℕ) → a ≡ b → a < b → ⊥
 differ a b e less = omega (arith, e, less)

@@ -1,12 +1,15 @@
 -- Packed sectors, and the payloads that are read of sectors.
-use Rattle.std.proofs.Common.{◌≡◌, ◌⊎◌, ℕ, zero, suc, min, ◌+◌, ◌-◌, ◌*◌, ◌<◌, ◌≤◌, true, false, cond, List, [], ◌++◌, length, take, drop, refl, sym, ap, ◌∙◌, subst, ⊎_elim, arith, length-drop, append_assoc}
+use Rattle.std.proofs.Common.{◌≡◌, ◌⊎◌, ℕ, zero, suc, min, ◌+◌, ◌-◌, ◌*◌, ◌<◌, ◌≤◌, true, false}
+use Rattle.std.proofs.Common.{cond, List, [], ◌++◌, length, take, drop, refl, sym, ap, ◌∙◌, subst}
+use Rattle.std.proofs.Common.{⊎_elim, arith, length-drop, append_assoc}
 use Rattle.std.proofs.lemmas.Bool.{cases_lt, cond-true, cond-false}
 use Rattle.std.proofs.lemmas.List.{take-append-drop, drop-drop, take_all, nil_from_length}
 use Rattle.guest_memory.specs.rules.Bytes.{part}
 use Rattle.sector_disk.specs.rules.Image.{Image, sector_at}
 use Rattle.disk_layout.specs.rules.Sectors.{shown_generation}
 use Rattle.disk_layout.specs.rules.Journal.{journal_sector, is_of, payloads_from}
-use Rattle.disk_layout.proofs.JournalLemmas.{IsUsedSector, is_of_true, is_of_other, payload_of_sector}
+use Rattle.disk_layout.proofs.JournalLemmas.{IsUsedSector, is_of_true, is_of_other}
+use Rattle.disk_layout.proofs.JournalLemmas.{payload_of_sector}
 use Rattle.disk_layout.proofs.ReadLemmas.{parts_joined}
 use Rattle.journal.specs.rules.Packed.{packed}
 
@@ -16,107 +19,166 @@ pub length-packed : (g p n : ℕ) (bytes : List ℕ) → length (packed g p n by
 length-packed g p zero bytes = refl
 length-packed g p (suc n) bytes = let e = length-packed g (p + 1) n (drop 494 bytes) in omega arith
 
-part_next : (bytes : List ℕ) (i : ℕ) → part (drop 494 bytes) (494 * i) 494 ≡ part bytes (494 * suc i) 494
-part_next bytes i = ap (λ l. take 494 l) (drop-drop (494 * i) 494 bytes ∙ ap (λ n. drop n bytes) (let e : 494 + 494 * i ≡ 494 * suc i = omega arith in e))
+part_next : (bytes : List ℕ) (i : ℕ)
+    → part (drop 494 bytes) (494 * i) 494 ≡ part bytes (494 * suc i) 494
+part_next bytes i = ap (λ l. take 494 l) (drop-drop (494 * i) 494 bytes
+    ∙ ap (λ n. drop n bytes) (let e : 494 + 494 * i ≡ 494 * suc i = omega arith in e))
 
-pub packed_at : (g p n : ℕ) (bytes : List ℕ) (i : ℕ) → i < n → sector_at (packed g p n bytes) i ≡ journal_sector g (p + i) (part bytes (494 * i) 494)
+pub packed_at : (g p n : ℕ) (bytes : List ℕ) (i : ℕ) → i < n
+    → sector_at (packed g p n bytes) i ≡ journal_sector g (p + i) (part bytes (494 * i) 494)
 packed_at g p zero bytes i lt = absurd (omega arith)
-packed_at g p (suc n) bytes zero lt = ap (λ q. journal_sector g q (take 494 bytes)) (let e : p ≡ p + 0 = omega arith in e)
+packed_at g p (suc n) bytes zero lt =
+    ap (λ q. journal_sector g q (take 494 bytes)) (let e : p ≡ p + 0 = omega arith in e)
 packed_at g p (suc n) bytes (suc i) lt =
-    packed_at g (p + 1) n (drop 494 bytes) i (omega arith) ∙ ap (λ l. journal_sector g (p + 1 + i) l) (part_next bytes i)
-    ∙ ap (λ q. journal_sector g q (part bytes (494 * suc i) 494)) (let e : p + 1 + i ≡ p + suc i = omega arith in e)
+    packed_at g (p + 1) n (drop 494 bytes) i (omega arith)
+    ∙ ap (λ l. journal_sector g (p + 1 + i) l) (part_next bytes i)
+    ∙ ap (λ q. journal_sector g q (part bytes (494 * suc i) 494)) (let e : p + 1 + i
+    ≡ p + suc i = omega arith in e)
 
 -- ---- payloads
 
-pub pay_on : (image : Image) (g s p n : ℕ) → is_of g p (sector_at image s) ≡ true → payloads_from image g s p (suc n) ≡ payload_of_sector (sector_at image s) ++ payloads_from image g (s + 1) (p + 1) n
-pay_on image g s p n on = cond-true (is_of g p (sector_at image s)) (payload_of_sector (sector_at image s) ++ payloads_from image g (s + 1) (p + 1) n) [] on
+pub pay_on : (image : Image) (g s p n : ℕ) → is_of g p (sector_at image s) ≡ true
+    → payloads_from image g s p (suc n) ≡ payload_of_sector (sector_at image s)
+    ++ payloads_from image g (s + 1) (p + 1) n
+pay_on image g s p n on =
+    cond-true (is_of g p (sector_at image s)) (payload_of_sector (sector_at image s)
+    ++ payloads_from image g (s + 1) (p + 1) n) [] on
 
-pub pay_off : (image : Image) (g s p n : ℕ) → is_of g p (sector_at image s) ≡ false → payloads_from image g s p n ≡ []
+pub pay_off : (image : Image) (g s p n : ℕ) → is_of g p (sector_at image s) ≡ false
+    → payloads_from image g s p n ≡ []
 pay_off image g s p zero off = refl
-pay_off image g s p (suc n) off = cond-false (is_of g p (sector_at image s)) (payload_of_sector (sector_at image s) ++ payloads_from image g (s + 1) (p + 1) n) [] off
+pay_off image g s p (suc n) off =
+    cond-false (is_of g p (sector_at image s)) (payload_of_sector (sector_at image s)
+    ++ payloads_from image g (s + 1) (p + 1) n) [] off
 
 -- sectors whose places are told by an index
 abbrev At : (ℕ → List ℕ → Type 0) → Image → ℕ → ℕ → ℕ → Type 0
 At P image s p i = P (p + i) (sector_at image (s + i))
 
-at_next : (P : ℕ → List ℕ → Type 0) (image : Image) (s p i : ℕ) → At P image s p (suc i) → At P image (s + 1) (p + 1) i
+at_next : (P : ℕ → List ℕ → Type 0) (image : Image) (s p i : ℕ) → At P image s p (suc i)
+    → At P image (s + 1) (p + 1) i
 at_next P image s p i h =
     let e : s + suc i ≡ s + 1 + i = omega arith in
     let f : p + suc i ≡ p + 1 + i = omega arith in
-    subst (λ (q : ℕ). P q (sector_at image (s + 1 + i))) f (subst (λ (t : ℕ). P (p + suc i) (sector_at image t)) e h)
+    subst (λ (q : ℕ). P q (sector_at image (s + 1 + i))) f
+    (subst (λ (t : ℕ). P (p + suc i) (sector_at image t)) e h)
 
-at_first : (P : ℕ → List ℕ → Type 0) (image : Image) (s p : ℕ) → At P image s p 0 → P p (sector_at image s)
+at_first : (P : ℕ → List ℕ → Type 0) (image : Image) (s p : ℕ) → At P image s p 0
+    → P p (sector_at image s)
 at_first P image s p h =
     let e : s + 0 ≡ s = omega arith in
     let f : p + 0 ≡ p = omega arith in
-    subst (λ (q : ℕ). P q (sector_at image s)) f (subst (λ (t : ℕ). P (p + 0) (sector_at image t)) e h)
+    subst (λ (q : ℕ). P q (sector_at image s)) f
+    (subst (λ (t : ℕ). P (p + 0) (sector_at image t)) e h)
 
 abbrev IsOn : ℕ → ℕ → List ℕ → Type 0
 IsOn g p sector = is_of g p sector ≡ true
 
-pub payloads_split : (image : Image) (g s p n m : ℕ) → ((k : ℕ) → k < n → is_of g (p + k) (sector_at image (s + k)) ≡ true)
-    → payloads_from image g s p (n + m) ≡ payloads_from image g s p n ++ payloads_from image g (s + n) (p + n) m
+pub payloads_split : (image : Image) (g s p n m : ℕ)
+    → ((k : ℕ) → k < n → is_of g (p + k) (sector_at image (s + k)) ≡ true)
+    → payloads_from image g s p (n + m) ≡ payloads_from image g s p n
+    ++ payloads_from image g (s + n) (p + n) m
 payloads_split image g s p zero m on =
     ap (λ k. payloads_from image g s p k) (let e : 0 + m ≡ m = omega arith in e)
     ∙ ap (λ k. payloads_from image g k p m) (let e : s ≡ s + 0 = omega arith in e)
     ∙ ap (λ k. payloads_from image g (s + 0) k m) (let e : p ≡ p + 0 = omega arith in e)
 payloads_split image g s p (suc n) m on =
     let here = at_first (λ q t. IsOn g q t) image s p (on 0 (omega arith)) in
-    let rest = payloads_split image g (s + 1) (p + 1) n m (λ k lt. at_next (λ q t. IsOn g q t) image s p k (on (suc k) (omega arith))) in
+    let rest = payloads_split image g (s + 1) (p + 1) n m (λ k lt.
+    at_next (λ q t. IsOn g q t) image s p k (on (suc k) (omega arith))) in
     ap (λ k. payloads_from image g s p k) (let e : suc n + m ≡ suc (n + m) = omega arith in e)
     ∙ pay_on image g s p (n + m) here
     ∙ ap (λ l. payload_of_sector (sector_at image s) ++ l) rest
-    ∙ sym (append_assoc (payload_of_sector (sector_at image s)) (payloads_from image g (s + 1) (p + 1) n) (payloads_from image g (s + 1 + n) (p + 1 + n) m))
-    ∙ ap (λ l. l ++ payloads_from image g (s + 1 + n) (p + 1 + n) m) (sym (pay_on image g s p n here))
-    ∙ ap (λ k. payloads_from image g s p (suc n) ++ payloads_from image g k (p + 1 + n) m) (let e : s + 1 + n ≡ s + suc n = omega arith in e)
-    ∙ ap (λ k. payloads_from image g s p (suc n) ++ payloads_from image g (s + suc n) k m) (let e : p + 1 + n ≡ p + suc n = omega arith in e)
+    ∙ sym (append_assoc (payload_of_sector (sector_at image s)) (payloads_from image g (s + 1) (p
+    + 1) n) (payloads_from image g (s + 1 + n) (p + 1 + n) m))
+    ∙ ap (λ l. l ++ payloads_from image g (s + 1 + n) (p + 1 + n) m)
+    (sym (pay_on image g s p n here))
+    ∙ ap (λ k. payloads_from image g s p (suc n) ++ payloads_from image g k (p + 1 + n) m)
+    (let e : s + 1 + n ≡ s + suc n = omega arith in e)
+    ∙ ap (λ k. payloads_from image g s p (suc n) ++ payloads_from image g (s + suc n) k m)
+    (let e : p + 1 + n ≡ p + suc n = omega arith in e)
 
 abbrev payloads_step : ℕ → ℕ → List ℕ → List ℕ → List ℕ
 payloads_step g p t rest = cond (is_of g p t) (payload_of_sector t ++ rest) []
 
-pub payloads_same : (a b : Image) (g s p n : ℕ) → ((k : ℕ) → k < n → sector_at a (s + k) ≡ sector_at b (s + k)) → payloads_from a g s p n ≡ payloads_from b g s p n
+pub payloads_same : (a b : Image) (g s p n : ℕ)
+    → ((k : ℕ) → k < n → sector_at a (s + k) ≡ sector_at b (s + k))
+    → payloads_from a g s p n ≡ payloads_from b g s p n
 payloads_same a b g s p zero same = refl
 payloads_same a b g s p (suc n) same =
-    let here : sector_at a s ≡ sector_at b s = ap (λ k. sector_at a k) (let e : s ≡ s + 0 = omega arith in e) ∙ same 0 (omega arith) ∙ ap (λ k. sector_at b k) (let e : s + 0 ≡ s = omega arith in e) in
+    let here : sector_at a s ≡ sector_at b s =
+    ap (λ k. sector_at a k) (let e : s ≡ s + 0 = omega arith in e) ∙ same 0 (omega arith)
+    ∙ ap (λ k. sector_at b k) (let e : s + 0 ≡ s = omega arith in e) in
     let rest = payloads_same a b g (s + 1) (p + 1) n (λ k lt.
     let e : s + 1 + k ≡ s + suc k = omega arith in
     ap (λ i. sector_at a i) e ∙ same (suc k) (omega arith) ∙ ap (λ i. sector_at b i) (sym e)) in
-    ap (λ t. payloads_step g p t (payloads_from a g (s + 1) (p + 1) n)) here ∙ ap (λ l. payloads_step g p (sector_at b s) l) rest
+    ap (λ t. payloads_step g p t (payloads_from a g (s + 1) (p + 1) n)) here
+    ∙ ap (λ l. payloads_step g p (sector_at b s) l) rest
 
 -- ---- what torn sectors give
 
 pub torn_front : (image : Image) (g s p m : ℕ) (bytes : List ℕ)
-    → ((i : ℕ) → i < m → (shown_generation (p + i) (sector_at image (s + i)) < g) ⊎ (IsUsedSector g (p + i) (sector_at image (s + i)) × (payload_of_sector (sector_at image (s + i)) ≡ part bytes (494 * i) 494)))
+    → ((i : ℕ) → i < m → (shown_generation (p + i) (sector_at image (s + i)) < g)
+    ⊎ (IsUsedSector g (p + i) (sector_at image (s + i))
+    × (payload_of_sector (sector_at image (s + i)) ≡ part bytes (494 * i) 494)))
     → (c : ℕ) × (payloads_from image g s p m ≡ take c bytes)
 torn_front image g s p zero bytes each = (0, refl)
 torn_front image g s p (suc m) bytes each =
     ⊎_elim
-    (λ (earlier : shown_generation p (sector_at image s) < g). (0, pay_off image g s p (suc m) (is_of_other g p (sector_at image s) (λ e. absurd (omega arith)))))
-    (λ (meant : IsUsedSector g p (sector_at image s) × (payload_of_sector (sector_at image s) ≡ part bytes (494 * 0) 494)).
-    let rest = torn_front image g (s + 1) (p + 1) m (drop 494 bytes) (λ i lt.
-    let Q : ℕ → List ℕ → Type 0 = λ q t. (shown_generation q t < g) ⊎ (IsUsedSector g q t × (payload_of_sector t ≡ part (drop 494 bytes) (494 * i) 494)) in
-    at_next Q image s p i (subst (λ (l : List ℕ). (shown_generation (p + suc i) (sector_at image (s + suc i)) < g) ⊎ (IsUsedSector g (p + suc i) (sector_at image (s + suc i)) × (payload_of_sector (sector_at image (s + suc i)) ≡ l))) (sym (part_next bytes i)) (each (suc i) (omega arith)))) in (
-      494 + rest.0,
-      pay_on image g s p m (is_of_true g p (sector_at image s) meant.0) ∙ ap (λ l. l ++ payloads_from image g (s + 1) (p + 1) m) meant.1 ∙ ap (λ l. take 494 bytes ++ l) rest.1 ∙ parts_joined 494 rest.0 bytes,
+    (λ (earlier : shown_generation p (sector_at image s) < g). (
+      0,
+      pay_off image g s p (suc m) (is_of_other g p (sector_at image s) (λ e.
+          absurd (omega arith))),
     ))
-    (at_first (λ q t. (shown_generation q t < g) ⊎ (IsUsedSector g q t × (payload_of_sector t ≡ part bytes (494 * 0) 494))) image s p (each 0 (omega arith)))
+    (λ (meant : IsUsedSector g p (sector_at image s)
+    × (payload_of_sector (sector_at image s) ≡ part bytes (494 * 0) 494)).
+    let rest = torn_front image g (s + 1) (p + 1) m (drop 494 bytes) (λ i lt.
+    let Q : ℕ → List ℕ → Type 0 = λ q t. (shown_generation q t < g)
+    ⊎ (IsUsedSector g q t × (payload_of_sector t ≡ part (drop 494 bytes) (494 * i) 494)) in
+    at_next Q image s p i
+    (subst (λ (l : List ℕ). (shown_generation (p + suc i) (sector_at image (s + suc i)) < g)
+    ⊎ (IsUsedSector g (p + suc i) (sector_at image (s + suc i))
+    × (payload_of_sector (sector_at image (s + suc i)) ≡ l))) (sym (part_next bytes i))
+    (each (suc i) (omega arith)))) in (
+      494 + rest.0,
+      pay_on image g s p m (is_of_true g p (sector_at image s) meant.0)
+          ∙ ap (λ l. l ++ payloads_from image g (s + 1) (p + 1) m) meant.1
+          ∙ ap (λ l. take 494 bytes ++ l) rest.1 ∙ parts_joined 494 rest.0 bytes,
+    ))
+    (at_first (λ q t. (shown_generation q t < g)
+    ⊎ (IsUsedSector g q t × (payload_of_sector t ≡ part bytes (494 * 0) 494))) image s p
+    (each 0 (omega arith)))
 
 pub whole_run : (image : Image) (g s p n : ℕ) (bytes : List ℕ) → length bytes ≤ 494 * n
-    → ((i : ℕ) → i < n → IsUsedSector g (p + i) (sector_at image (s + i)) × (payload_of_sector (sector_at image (s + i)) ≡ part bytes (494 * i) 494))
+    → ((i : ℕ) → i < n → IsUsedSector g (p + i) (sector_at image (s + i))
+    × (payload_of_sector (sector_at image (s + i)) ≡ part bytes (494 * i) 494))
     → payloads_from image g s p n ≡ bytes
 whole_run image g s p zero bytes le each = sym (nil_from_length bytes (omega arith))
 whole_run image g s p (suc n) bytes le each =
-    let meant = at_first (λ q t. IsUsedSector g q t × (payload_of_sector t ≡ part bytes (494 * 0) 494)) image s p (each 0 (omega arith)) in
-    let rest = whole_run image g (s + 1) (p + 1) n (drop 494 bytes) (omega (arith, length-drop 494 bytes)) (λ i lt.
-    let Q : ℕ → List ℕ → Type 0 = λ q t. IsUsedSector g q t × (payload_of_sector t ≡ part (drop 494 bytes) (494 * i) 494) in
-    at_next Q image s p i (subst (λ (l : List ℕ). IsUsedSector g (p + suc i) (sector_at image (s + suc i)) × (payload_of_sector (sector_at image (s + suc i)) ≡ l)) (sym (part_next bytes i)) (each (suc i) (omega arith)))) in
-    pay_on image g s p n (is_of_true g p (sector_at image s) meant.0) ∙ ap (λ l. l ++ payloads_from image g (s + 1) (p + 1) n) meant.1 ∙ ap (λ l. take 494 bytes ++ l) rest ∙ take-append-drop 494 bytes
+    let meant = at_first (λ q t. IsUsedSector g q t
+    × (payload_of_sector t ≡ part bytes (494 * 0) 494)) image s p (each 0 (omega arith)) in
+    let rest = whole_run image g (s + 1) (p + 1) n (drop 494 bytes) (omega (
+      arith,
+      length-drop 494 bytes,
+    )) (λ i lt.
+    let Q : ℕ → List ℕ → Type 0 = λ q t. IsUsedSector g q t
+    × (payload_of_sector t ≡ part (drop 494 bytes) (494 * i) 494) in
+    at_next Q image s p i
+    (subst (λ (l : List ℕ). IsUsedSector g (p + suc i) (sector_at image (s + suc i))
+    × (payload_of_sector (sector_at image (s + suc i)) ≡ l)) (sym (part_next bytes i))
+    (each (suc i) (omega arith)))) in
+    pay_on image g s p n (is_of_true g p (sector_at image s) meant.0)
+    ∙ ap (λ l. l ++ payloads_from image g (s + 1) (p + 1) n) meant.1
+    ∙ ap (λ l. take 494 bytes ++ l) rest ∙ take-append-drop 494 bytes
 
 -- a part as it is lent, which ends with the bytes at the latest
-pub part_lent : (bytes : List ℕ) (start end : ℕ) → end ≡ min (length bytes) (start + 494) → take (end - start) (drop start bytes) ≡ part bytes start 494
+pub part_lent : (bytes : List ℕ) (start end : ℕ) → end ≡ min (length bytes) (start + 494)
+    → take (end - start) (drop start bytes) ≡ part bytes start 494
 part_lent bytes start end is =
     ⊎_elim
-    (λ (long : start + 494 < length bytes). ap (λ n. take n (drop start bytes)) (let e : end - start ≡ 494 = omega arith in e))
+    (λ (long : start + 494 < length bytes). ap (λ n. take n (drop start bytes)) (let e : end - start
+    ≡ 494 = omega arith in e))
     (λ (short : length bytes ≤ start + 494).
-    take_all (end - start) (drop start bytes) (omega (arith, length-drop start bytes)) ∙ sym (take_all 494 (drop start bytes) (omega (arith, length-drop start bytes))))
+    take_all (end - start) (drop start bytes) (omega (arith, length-drop start bytes))
+    ∙ sym (take_all 494 (drop start bytes) (omega (arith, length-drop start bytes))))
     (cases_lt (start + 494) (length bytes))

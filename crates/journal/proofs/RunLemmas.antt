@@ -1,5 +1,7 @@
 -- What a journal's sectors hold after a run of packed sectors, torn or whole.
-use Rattle.std.proofs.Common.{◌≡◌, ◌⊎◌, ℕ, ◌+◌, ◌-◌, ◌*◌, ◌^◌, ◌<◌, ◌≤◌, true, List, [], ◌++◌, length, take, drop, sym, ap, ◌∙◌, subst, inl, ⊎_elim, arith, length-drop}
+use Rattle.std.proofs.Common.{◌≡◌, ◌⊎◌, ℕ, ◌+◌, ◌-◌, ◌*◌, ◌^◌, ◌<◌, ◌≤◌, true, List, [], ◌++◌}
+use Rattle.std.proofs.Common.{length, take, drop, sym, ap, ◌∙◌, subst, inl, ⊎_elim, arith}
+use Rattle.std.proofs.Common.{length-drop}
 use Rattle.std.proofs.lemmas.Bool.{cases_lt}
 use Rattle.std.proofs.lemmas.List.{append-nil, length-take-le, take_all}
 use Rattle.guest_memory.specs.rules.Bytes.{part}
@@ -8,42 +10,57 @@ use Rattle.sector_disk.specs.rules.Run.{IsTornRun}
 use Rattle.disk_layout.specs.rules.Places.{Geometry, journal_place}
 use Rattle.disk_layout.specs.rules.Sectors.{shown_generation}
 use Rattle.disk_layout.specs.rules.Journal.{journal_sector, is_of, payloads_from}
-use Rattle.disk_layout.proofs.JournalLemmas.{IsUsedSector, is_of_true, is_of_other, is_of_means, payload_of_sector, IsNewSector, torn_sector, new_is_of, payload-journal_sector}
+use Rattle.disk_layout.proofs.JournalLemmas.{IsUsedSector, is_of_true, is_of_other, is_of_means}
+use Rattle.disk_layout.proofs.JournalLemmas.{payload_of_sector, IsNewSector, torn_sector, new_is_of}
+use Rattle.disk_layout.proofs.JournalLemmas.{payload-journal_sector}
 use Rattle.journal.specs.rules.Packed.{packed, sectors_for}
 use Rattle.journal.specs.rules.Steps.{HoldsBytes, ShowsNoneAfter, SameOthers}
-use Rattle.journal.proofs.PackedLemmas.{packed_at, pay_off, payloads_split, payloads_same, torn_front, whole_run}
+use Rattle.journal.proofs.PackedLemmas.{packed_at, pay_off, payloads_split, payloads_same}
+use Rattle.journal.proofs.PackedLemmas.{torn_front, whole_run}
 
 -- all that the journal holds is in the sectors that are written
-pub all_bytes : (geometry : Geometry) (g used : ℕ) (bytes : List ℕ) (image : Image) → HoldsBytes geometry g used bytes image → payloads_from image g (journal_place geometry) 1 geometry.journal_sectors ≡ bytes
+pub all_bytes : (geometry : Geometry) (g used : ℕ) (bytes : List ℕ) (image : Image)
+    → HoldsBytes geometry g used bytes image
+    → payloads_from image g (journal_place geometry) 1 geometry.journal_sectors ≡ bytes
 all_bytes geometry g used bytes image holds =
     let j = journal_place geometry in
     let rest = geometry.journal_sectors - used in
     let count : geometry.journal_sectors ≡ used + rest = let w = holds.within in omega arith in
     let behind : payloads_from image g (j + used) (1 + used) rest ≡ [] = ⊎_elim
-    (λ (some : used < geometry.journal_sectors). pay_off image g (j + used) (1 + used) rest (is_of_other g (1 + used) (sector_at image (j + used)) (λ e. let c = holds.clean used (omega arith) some in absurd (omega arith))))
-    (λ (none : geometry.journal_sectors ≤ used). ap (λ n. payloads_from image g (j + used) (1 + used) n) (let e : rest ≡ 0 = omega arith in e))
+    (λ (some : used < geometry.journal_sectors). pay_off image g (j + used) (1 + used) rest
+    (is_of_other g (1 + used) (sector_at image (j + used)) (λ e.
+    let c = holds.clean used (omega arith) some in absurd (omega arith))))
+    (λ (none : geometry.journal_sectors ≤ used).
+    ap (λ n. payloads_from image g (j + used) (1 + used) n) (let e : rest ≡ 0 = omega arith in
+    e))
     (cases_lt used geometry.journal_sectors) in
     ap (λ n. payloads_from image g j 1 n) count ∙ payloads_split image g j 1 used rest holds.written
-    ∙ ap (λ l. payloads_from image g j 1 used ++ l) behind ∙ append-nil (payloads_from image g j 1 used) ∙ holds.holds
+    ∙ ap (λ l. payloads_from image g j 1 used ++ l) behind
+    ∙ append-nil (payloads_from image g j 1 used) ∙ holds.holds
 
 -- sectors that are written, or to come
-pub none_after : (geometry : Geometry) (g used : ℕ) (bytes : List ℕ) (image : Image) → HoldsBytes geometry g used bytes image → ShowsNoneAfter geometry g image
+pub none_after : (geometry : Geometry) (g used : ℕ) (bytes : List ℕ) (image : Image)
+    → HoldsBytes geometry g used bytes image → ShowsNoneAfter geometry g image
 none_after geometry g used bytes image holds k lt =
     ⊎_elim
-    (λ (written : k < used). let is = is_of_means g (1 + k) (sector_at image (journal_place geometry + k)) (holds.written k written) in let s = is.shows in omega arith)
+    (λ (written : k < used). let is = is_of_means g (1 + k) (sector_at image (journal_place geometry
+    + k)) (holds.written k written) in let s = is.shows in omega arith)
     (λ (later : used ≤ k). let c = holds.clean k later lt in omega arith)
     (cases_lt k used)
 
 -- a run of packed sectors behind those that are written
-pub record IsRun (geometry : Geometry) (g used n : ℕ) (bytes kept : List ℕ) (old : Image) : Type 0 where
+pub record IsRun (geometry : Geometry) (g used n : ℕ) (bytes kept : List ℕ)
+    (old : Image) : Type 0 where
   pub stands : HoldsBytes geometry g used bytes old
   pub count : n ≡ sectors_for (length kept)
   pub room : used + n ≤ geometry.journal_sectors
-  pub full : (k : ℕ) → k < geometry.journal_sectors → length (sector_at old (journal_place geometry + k)) ≡ 512
+  pub full : (k : ℕ) → k < geometry.journal_sectors
+      → length (sector_at old (journal_place geometry + k)) ≡ 512
   pub generation : g < 2 ^ 64
   pub places : used + n + 1 < 2 ^ 64
 
-module _ (geometry : Geometry) (g used n : ℕ) (bytes kept : List ℕ) (old new : Image) (run : IsRun geometry g used n bytes kept old) where
+module _ (geometry : Geometry) (g used n : ℕ) (bytes kept : List ℕ) (old new : Image)
+    (run : IsRun geometry g used n bytes kept old) where
   pub is_new : (i : ℕ) → i < n → IsNewSector g (used + 1 + i) (part kept (494 * i) 494)
   is_new i lt =
       let count = run.count in
@@ -53,111 +70,166 @@ module _ (geometry : Geometry) (g used n : ℕ) (bytes kept : List ℕ) (old new
       ⊎_elim
       (λ (long : 494 < length (drop (494 * i) kept)).
       let l = length-take-le 494 (drop (494 * i) kept) (omega arith) in
-      record { some = omega (arith, l); most = omega (arith, l); generation = run.generation; fits = omega (arith, places) })
+      record {
+        some = omega (arith, l);
+        most = omega (arith, l);
+        generation = run.generation;
+        fits = omega (arith, places);
+      })
       (λ (short : length (drop (494 * i) kept) ≤ 494).
       let l = ap length (take_all 494 (drop (494 * i) kept) short) in
-      record { some = omega (arith, l, behind); most = omega (arith, l); generation = run.generation; fits = omega (arith, places) })
+      record {
+        some = omega (arith, l, behind);
+        most = omega (arith, l);
+        generation = run.generation;
+        fits = omega (arith, places);
+      })
       (cases_lt 494 (length (drop (494 * i) kept)))
 
-  module _ (torn : IsTornRun (journal_place geometry + used) (packed g (used + 1) n kept) n old new) where
-    -- each sector behind those that are written
-    pub behind_at : (i : ℕ) → i < geometry.journal_sectors - used
-        → (shown_generation (1 + used + i) (sector_at new (journal_place geometry + used + i)) < g)
-        ⊎ (IsUsedSector g (1 + used + i) (sector_at new (journal_place geometry + used + i)) × (payload_of_sector (sector_at new (journal_place geometry + used + i)) ≡ part kept (494 * i) 494))
-    behind_at i lt =
-        let holds = run.stands in
-        let at : journal_place geometry + used + i ≡ journal_place geometry + (used + i) = omega arith in
-        let p : 1 + used + i ≡ 1 + (used + i) = omega arith in
-        let clean = holds.clean (used + i) (omega arith) (omega arith) in
-        let was : shown_generation (1 + used + i) (sector_at old (journal_place geometry + used + i)) < g =
-        subst (λ (k : ℕ). shown_generation k (sector_at old (journal_place geometry + used + i)) < g) (sym p) (subst (λ (k : ℕ). shown_generation (1 + (used + i)) (sector_at old k) < g) (sym at) clean) in
-        ⊎_elim
-        (λ (made : i < n).
-        let each = torn.each i made in
-        let q : used + 1 + i ≡ 1 + used + i = omega arith in
-        let is = subst (λ (k : ℕ). IsNewSector g k (part kept (494 * i) 494)) q (is_new i made) in
-        let meant = packed_at g (used + 1) n kept i made ∙ ap (λ k. journal_sector g k (part kept (494 * i) 494)) q in
-        let full = ap (λ k. length (sector_at old k)) at ∙ run.full (used + i) (omega arith) in
-        torn_sector g (1 + used + i) each.0 (part kept (494 * i) 494) (sector_at old (journal_place geometry + used + i)) (sector_at new (journal_place geometry + used + i)) is full was each.1
-        (each.2 ∙ ap (λ s. front_over each.0 s (sector_at old (journal_place geometry + used + i))) meant))
-        (λ (other : n ≤ i).
-        let same = torn.above (journal_place geometry + used + i) (omega arith) in
-        inl (subst (λ (s : List ℕ). shown_generation (1 + used + i) s < g) (sym same) was))
-        (cases_lt i n)
-
-    -- the sectors that are written are as they were
-    written_same : (k : ℕ) → k < used → sector_at new (journal_place geometry + k) ≡ sector_at old (journal_place geometry + k)
-    written_same k lt = torn.below (journal_place geometry + k) (omega arith)
-
-    pub still_written : (k : ℕ) → k < used → is_of g (1 + k) (sector_at new (journal_place geometry + k)) ≡ true
-    still_written k lt = let holds = run.stands in ap (λ s. is_of g (1 + k) s) (written_same k lt) ∙ holds.written k lt
-
-    pub still_holds : payloads_from new g (journal_place geometry) 1 used ≡ bytes
-    still_holds = let holds = run.stands in payloads_same new old g (journal_place geometry) 1 used written_same ∙ holds.holds
-
-    -- a front of what was kept
-    pub front_of_kept : (c : ℕ) × (payloads_from new g (journal_place geometry) 1 geometry.journal_sectors ≡ bytes ++ take c kept)
-    front_of_kept =
-        let holds = run.stands in
-        let rest = geometry.journal_sectors - used in
-        let count : geometry.journal_sectors ≡ used + rest = let w = holds.within in omega arith in
-        let front = torn_front new g (journal_place geometry + used) (1 + used) rest kept behind_at in (
-          front.0,
-          ap (λ k. payloads_from new g (journal_place geometry) 1 k) count ∙ payloads_split new g (journal_place geometry) 1 used rest still_written
-              ∙ ap (λ l. l ++ payloads_from new g (journal_place geometry + used) (1 + used) rest) still_holds ∙ ap (λ l. bytes ++ l) front.1,
-        )
-
-    pub none_later : ShowsNoneAfter geometry g new
-    none_later k lt =
-        ⊎_elim
-        (λ (written : k < used). let is = is_of_means g (1 + k) (sector_at new (journal_place geometry + k)) (still_written k written) in let s = is.shows in omega arith)
-        (λ (later : used ≤ k).
-        let i = k - used in
-        let at : journal_place geometry + used + i ≡ journal_place geometry + k = omega arith in
-        let p : 1 + used + i ≡ 1 + k = omega arith in
-        let less : shown_generation (1 + used + i) (sector_at new (journal_place geometry + used + i)) ≤ g =
-        ⊎_elim (λ (earlier : shown_generation (1 + used + i) (sector_at new (journal_place geometry + used + i)) < g). omega arith) (λ meant. let is = meant.0 in let s = is.shows in omega arith) (behind_at i (omega arith)) in
-        subst (λ (t : ℕ). shown_generation (1 + k) (sector_at new t) ≤ g) at (subst (λ (q : ℕ). shown_generation q (sector_at new (journal_place geometry + used + i)) ≤ g) p less))
-        (cases_lt k used)
-
-    pub others_same : SameOthers geometry used old new
-    others_same = record {
-      count = torn.count;
-      below = λ k lt. torn.below k lt;
-      above = λ k le. torn.above k (let r = run.room in omega arith);
-    }
-
-    -- where each is whole
-    module _ (whole : (i : ℕ) → i < n → sector_at new (journal_place geometry + used + i) ≡ sector_at (packed g (used + 1) n kept) i) where
-      pub whole_at : (i : ℕ) → i < n
-          → IsUsedSector g (1 + used + i) (sector_at new (journal_place geometry + used + i)) × (payload_of_sector (sector_at new (journal_place geometry + used + i)) ≡ part kept (494 * i) 494)
-      whole_at i lt =
+  module _ (torn : IsTornRun (journal_place geometry + used) (packed g (used + 1) n kept) n old new)
+    where
+      -- each sector behind those that are written
+      pub behind_at : (i : ℕ) → i < geometry.journal_sectors - used
+          → (shown_generation (1 + used + i) (sector_at new (journal_place geometry + used + i)) < g)
+          ⊎ (IsUsedSector g (1 + used + i) (sector_at new (journal_place geometry + used + i))
+          × (payload_of_sector (sector_at new (journal_place geometry + used + i))
+          ≡ part kept (494 * i) 494))
+      behind_at i lt =
+          let holds = run.stands in
+          let at : journal_place geometry + used + i ≡ journal_place geometry + (used + i) =
+          omega arith in
+          let p : 1 + used + i ≡ 1 + (used + i) = omega arith in
+          let clean = holds.clean (used + i) (omega arith) (omega arith) in
+          let was : shown_generation (1 + used + i) (sector_at old (journal_place geometry + used
+          + i)) < g =
+          subst (λ (k : ℕ). shown_generation k (sector_at old (journal_place geometry + used + i))
+          < g) (sym p) (subst (λ (k : ℕ). shown_generation (1 + (used + i)) (sector_at old k)
+          < g) (sym at) clean) in
+          ⊎_elim
+          (λ (made : i < n).
+          let each = torn.each i made in
           let q : used + 1 + i ≡ 1 + used + i = omega arith in
-          let is = subst (λ (k : ℕ). IsNewSector g k (part kept (494 * i) 494)) q (is_new i lt) in
-          let e = whole i lt ∙ packed_at g (used + 1) n kept i lt ∙ ap (λ k. journal_sector g k (part kept (494 * i) 494)) q in
-          subst (λ (s : List ℕ). IsUsedSector g (1 + used + i) s × (payload_of_sector s ≡ part kept (494 * i) 494)) (sym e)
-          (new_is_of g (1 + used + i) (part kept (494 * i) 494) is, payload-journal_sector g (1 + used + i) (part kept (494 * i) 494) is.most)
+          let is = subst (λ (k : ℕ). IsNewSector g k (part kept (494 * i) 494)) q (is_new i made) in
+          let meant = packed_at g (used + 1) n kept i made
+          ∙ ap (λ k. journal_sector g k (part kept (494 * i) 494)) q in
+          let full = ap (λ k. length (sector_at old k)) at ∙ run.full (used + i) (omega arith) in
+          torn_sector g (1 + used + i) each.0 (part kept (494 * i) 494)
+          (sector_at old (journal_place geometry + used + i))
+          (sector_at new (journal_place geometry + used + i)) is full was each.1
+          (each.2 ∙ ap (λ s. front_over each.0 s (sector_at old (journal_place geometry + used + i)))
+          meant))
+          (λ (other : n ≤ i).
+          let same = torn.above (journal_place geometry + used + i) (omega arith) in
+          inl (subst (λ (s : List ℕ). shown_generation (1 + used + i) s < g) (sym same) was))
+          (cases_lt i n)
 
-      pub holds_all : HoldsBytes geometry g (used + n) (bytes ++ kept) new
-      holds_all =
-          let room = run.room in
-          let count = run.count in
-          record {
-            within = room;
-            written = λ k lt.
-                ⊎_elim (λ (before : k < used). still_written k before)
-                (λ (later : used ≤ k).
-                let i = k - used in
-                let at : journal_place geometry + used + i ≡ journal_place geometry + k = omega arith in
-                let p : 1 + used + i ≡ 1 + k = omega arith in
-                let here = whole_at i (omega arith) in
-                ap (λ t. is_of g (1 + k) (sector_at new t)) (sym at) ∙ ap (λ q. is_of g q (sector_at new (journal_place geometry + used + i))) (sym p)
-                ∙ is_of_true g (1 + used + i) (sector_at new (journal_place geometry + used + i)) here.0)
-                (cases_lt k used);
-            holds = payloads_split new g (journal_place geometry) 1 used n still_written ∙ ap (λ l. l ++ payloads_from new g (journal_place geometry + used) (1 + used) n) still_holds
-                ∙ ap (λ l. bytes ++ l) (whole_run new g (journal_place geometry + used) (1 + used) n kept (omega arith) whole_at);
-            clean = λ k le lt.
-                let holds = run.stands in
-                let same = torn.above (journal_place geometry + k) (omega arith) in
-                subst (λ (s : List ℕ). shown_generation (1 + k) s < g) (sym same) (holds.clean k (omega arith) lt);
-          }
+      -- the sectors that are written are as they were
+      written_same : (k : ℕ) → k < used
+          → sector_at new (journal_place geometry + k) ≡ sector_at old (journal_place geometry + k)
+      written_same k lt = torn.below (journal_place geometry + k) (omega arith)
+
+      pub still_written : (k : ℕ) → k < used
+          → is_of g (1 + k) (sector_at new (journal_place geometry + k)) ≡ true
+      still_written k lt = let holds = run.stands in ap (λ s. is_of g (1 + k) s) (written_same k lt)
+          ∙ holds.written k lt
+
+      pub still_holds : payloads_from new g (journal_place geometry) 1 used ≡ bytes
+      still_holds = let holds = run.stands in
+          payloads_same new old g (journal_place geometry) 1 used written_same ∙ holds.holds
+
+      -- a front of what was kept
+      pub front_of_kept : (c : ℕ)
+          × (payloads_from new g (journal_place geometry) 1 geometry.journal_sectors ≡ bytes
+          ++ take c kept)
+      front_of_kept =
+          let holds = run.stands in
+          let rest = geometry.journal_sectors - used in
+          let count : geometry.journal_sectors ≡ used + rest = let w = holds.within in omega arith in
+          let front = torn_front new g (journal_place geometry + used) (1 + used) rest kept behind_at
+          in (
+            front.0,
+            ap (λ k. payloads_from new g (journal_place geometry) 1 k) count
+                ∙ payloads_split new g (journal_place geometry) 1 used rest still_written
+                ∙ ap (λ l. l
+                ++ payloads_from new g (journal_place geometry + used) (1 + used) rest)
+                still_holds ∙ ap (λ l. bytes ++ l) front.1,
+          )
+
+      pub none_later : ShowsNoneAfter geometry g new
+      none_later k lt =
+          ⊎_elim
+          (λ (written : k < used).
+          let is = is_of_means g (1 + k) (sector_at new (journal_place geometry + k))
+          (still_written k written) in let s = is.shows in omega arith)
+          (λ (later : used ≤ k).
+          let i = k - used in
+          let at : journal_place geometry + used + i ≡ journal_place geometry + k = omega arith in
+          let p : 1 + used + i ≡ 1 + k = omega arith in
+          let less : shown_generation (1 + used + i) (sector_at new (journal_place geometry + used
+          + i)) ≤ g =
+          ⊎_elim (λ (earlier : shown_generation (1 + used + i) (sector_at new (journal_place geometry
+          + used + i)) < g). omega arith) (λ meant. let is = meant.0 in let s = is.shows in
+          omega arith) (behind_at i (omega arith)) in
+          subst (λ (t : ℕ). shown_generation (1 + k) (sector_at new t)
+          ≤ g) at (subst (λ (q : ℕ).
+          shown_generation q (sector_at new (journal_place geometry + used + i)) ≤ g) p less))
+          (cases_lt k used)
+
+      pub others_same : SameOthers geometry used old new
+      others_same = record {
+        count = torn.count;
+        below = λ k lt. torn.below k lt;
+        above = λ k le. torn.above k (let r = run.room in omega arith);
+      }
+
+      -- where each is whole
+      module _ (whole : (i : ℕ) → i < n
+          → sector_at new (journal_place geometry + used + i)
+          ≡ sector_at (packed g (used + 1) n kept) i) where
+        pub whole_at : (i : ℕ) → i < n
+            → IsUsedSector g (1 + used + i) (sector_at new (journal_place geometry + used + i))
+            × (payload_of_sector (sector_at new (journal_place geometry + used + i))
+            ≡ part kept (494 * i) 494)
+        whole_at i lt =
+            let q : used + 1 + i ≡ 1 + used + i = omega arith in
+            let is = subst (λ (k : ℕ). IsNewSector g k (part kept (494 * i) 494)) q (is_new i lt) in
+            let e = whole i lt ∙ packed_at g (used + 1) n kept i lt
+            ∙ ap (λ k. journal_sector g k (part kept (494 * i) 494)) q in
+            subst (λ (s : List ℕ). IsUsedSector g (1 + used + i) s
+            × (payload_of_sector s ≡ part kept (494 * i) 494)) (sym e) (
+              new_is_of g (1 + used + i) (part kept (494 * i) 494) is,
+              payload-journal_sector g (1 + used + i) (part kept (494 * i) 494) is.most,
+            )
+
+        pub holds_all : HoldsBytes geometry g (used + n) (bytes ++ kept) new
+        holds_all =
+            let room = run.room in
+            let count = run.count in
+            record {
+              within = room;
+              written = λ k lt.
+                  ⊎_elim (λ (before : k < used). still_written k before)
+                  (λ (later : used ≤ k).
+                  let i = k - used in
+                  let at : journal_place geometry + used + i ≡ journal_place geometry + k =
+                  omega arith in
+                  let p : 1 + used + i ≡ 1 + k = omega arith in
+                  let here = whole_at i (omega arith) in
+                  ap (λ t. is_of g (1 + k) (sector_at new t)) (sym at)
+                  ∙ ap (λ q. is_of g q (sector_at new (journal_place geometry + used + i)))
+                  (sym p)
+                  ∙ is_of_true g (1 + used + i) (sector_at new (journal_place geometry + used
+                  + i)) here.0)
+                  (cases_lt k used);
+              holds = payloads_split new g (journal_place geometry) 1 used n still_written
+                  ∙ ap (λ l. l
+                  ++ payloads_from new g (journal_place geometry + used) (1 + used) n) still_holds
+                  ∙ ap (λ l. bytes
+                  ++ l) (whole_run new g (journal_place geometry + used) (1 + used) n kept
+                  (omega arith) whole_at);
+              clean = λ k le lt.
+                  let holds = run.stands in
+                  let same = torn.above (journal_place geometry + k) (omega arith) in
+                  subst (λ (s : List ℕ). shown_generation (1 + k) s
+                  < g) (sym same) (holds.clean k (omega arith) lt);
+            }

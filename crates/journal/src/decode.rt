@@ -29,7 +29,8 @@ pub(crate) fn records_from(alloc: Global, bytes: &[u8]) -> Result<Vec<Record>, A
 /// The record at the front, if it is whole and well formed.
 fn record_from(alloc: Global, bytes: &[u8]) -> Result<Option<Record>, AllocError>
     ensures value { IfOk result (λ o. o ≡ record_at LONGEST_PAYLOAD bytes.now) }
-    ensures whole { IfOk result (λ o. IsSome o → RECORD_HEAD_BYTES + payload_length bytes.now ≤ length bytes.now) }
+    ensures whole { IfOk result (λ o. IsSome o
+        → RECORD_HEAD_BYTES + payload_length bytes.now ≤ length bytes.now) }
 {
     if bytes.len() < RECORD_HEAD_BYTES {
         return Ok(None);

@@ -1,13 +1,16 @@
 // The journal of a generation.
-ghost use Rattle.std.specs.Prelude.{◌≡◌, ◌↔◌, ◌⊎◌, ◌+◌, ◌<◌, ◌≤◌, ◌++◌, [], true, false, ℕ, List, length, OnOk, OnErr, IfOk, IfErr, IsErrOf};
+ghost use Rattle.std.specs.Prelude.{◌≡◌, ◌↔◌, ◌⊎◌, ◌+◌, ◌<◌, ◌≤◌, ◌++◌, [], true, false, ℕ, List};
+ghost use Rattle.std.specs.Prelude.{length, OnOk, OnErr, IfOk, IfErr, IsErrOf};
 ghost use Rattle.sector_disk.specs.rules.Image.{Image};
-ghost use Rattle.sector_disk.specs.rules.Medium.{LeavesOnly, After, Passes, IsAllSynced, MakesCalls, spare};
+ghost use Rattle.sector_disk.specs.rules.Medium.{LeavesOnly, After, Passes, IsAllSynced};
+ghost use Rattle.sector_disk.specs.rules.Medium.{MakesCalls, spare};
 ghost use Rattle.disk_layout.specs.rules.Places.{total_sectors};
 ghost use Rattle.disk_layout.specs.rules.Journal.{Record, record_bytes, payload_of, scan};
 ghost use Rattle.disk_layout.specs.rules.Stored.{OnlyReads};
 ghost use Rattle.journal.specs.rules.State.{state, room_of};
 ghost use Rattle.journal.specs.rules.Packed.{sectors_for};
-ghost use Rattle.journal.specs.rules.Steps.{AppendsFront, RecordsStand, IsOn, RecordFits, barrier_calls};
+ghost use Rattle.journal.specs.rules.Steps.{AppendsFront, RecordsStand, IsOn, RecordFits};
+ghost use Rattle.journal.specs.rules.Steps.{barrier_calls};
 ghost use Rattle.disk_layout.specs.declared.record.TheConstants.{LONGEST_PAYLOAD};
 
 use crate::decode::records_from;
@@ -20,8 +23,8 @@ use sector_disk::{Disk, DiskFault};
 use std::alloc::Global;
 use std::marker::Model;
 
-/// The records of one generation. Contracts see the generation, how many sectors are written in it, the
-/// bytes that only memory holds, and whether a call has failed.
+/// The records of one generation. Contracts see the generation, how many sectors are written in it,
+/// the bytes that only memory holds, and whether a call has failed.
 #[derive(Drop)]
 pub struct Journal {
     generation: u64,
@@ -51,8 +54,8 @@ impl Journal {
         }
     }
 
-    /// The records of a generation: those whose bytes are whole and well formed, from place 1 on. It reads
-    /// each sector once, up to the first that isn't one of the generation.
+    /// The records of a generation: those whose bytes are whole and well formed, from place 1 on.
+    /// It reads each sector once, up to the first that isn't one of the generation.
     pub fn scan<D: Disk>(
         alloc: Global,
         disk: &mut D,
@@ -61,9 +64,12 @@ impl Journal {
     ) -> Result<Vec<Record>, JournalFault>
         requires { total_sectors geometry.now ≤ (D.medium disk.old).sectors }
         ensures reads { OnlyReads (D.medium disk.old) (D.medium disk.new) }
-        ensures scans { IfOk result (λ v. (image : Image) → (D.medium disk.new).shows image → v.items ≡ scan geometry.now LONGEST_PAYLOAD image generation) }
-        ensures cause { (fault : DiskFault) → result ≡ Err (JournalFault.Disk fault) → (D.medium disk.old).faults < (D.medium disk.new).faults }
-        ensures kind { IfErr result (λ e. e ≡ JournalFault.Memory ⊎ ((fault : DiskFault) × (e ≡ JournalFault.Disk fault))) }
+        ensures scans { IfOk result (λ v. (image : Image) → (D.medium disk.new).shows image
+            → v.items ≡ scan geometry.now LONGEST_PAYLOAD image generation) }
+        ensures cause { (fault : DiskFault) → result ≡ Err (JournalFault.Disk fault)
+            → (D.medium disk.old).faults < (D.medium disk.new).faults }
+        ensures kind { IfErr result (λ e. e ≡ JournalFault.Memory
+            ⊎ ((fault : DiskFault) × (e ≡ JournalFault.Disk fault))) }
     {
         let bytes = read_payloads(alloc, disk, geometry, generation)?;
         match records_from(alloc, bytes.as_slice()) {
@@ -87,16 +93,22 @@ impl Journal {
         (PAYLOAD_SIZE * unwritten as usize).saturating_sub(self.kept.len())
     }
 
-    /// Keeps a record in memory, until the next barrier. A payload over `LONGEST_PAYLOAD` is `TooLong`; then a
-    /// record longer than the room that is left is `Full`. After an error nothing is kept any more.
+    /// Keeps a record in memory, until the next barrier. A payload over `LONGEST_PAYLOAD` is
+    /// `TooLong`; then a record longer than the room that is left is `Full`. After an error nothing
+    /// is kept any more.
     pub fn append(&mut self, geometry: &Geometry, entry: &Record) -> Result<(), JournalFault>
-        ensures ok { OnOk result (self.new ≡ state self.old.generation self.old.used (self.old.kept ++ record_bytes entry.now) false) }
+        ensures ok { OnOk result (self.new ≡ state self.old.generation self.old.used (self.old.kept
+            ++ record_bytes entry.now) false) }
         ensures fits { OnOk result (RecordFits entry.now) }
         ensures err { OnErr result (self.new.has_failed ≡ true) }
         ensures failed { (result ≡ Err JournalFault.Failed) ↔ (self.old.has_failed ≡ true) }
-        ensures too_long { (result ≡ Err JournalFault.TooLong) ↔ ((self.old.has_failed ≡ false) × (LONGEST_PAYLOAD < length (payload_of entry.now.answer))) }
+        ensures too_long { (result ≡ Err JournalFault.TooLong)
+            ↔ ((self.old.has_failed ≡ false)
+            × (LONGEST_PAYLOAD < length (payload_of entry.now.answer))) }
         ensures full { (result ≡ Err JournalFault.Full) ↔
-            ((self.old.has_failed ≡ false) × (length (payload_of entry.now.answer) ≤ LONGEST_PAYLOAD) × (room_of geometry.now self.old < length (record_bytes entry.now))) }
+            ((self.old.has_failed ≡ false)
+            × (length (payload_of entry.now.answer) ≤ LONGEST_PAYLOAD)
+            × (room_of geometry.now self.old < length (record_bytes entry.now))) }
         ensures no_disk { (fault : DiskFault) → result ≡ Err (JournalFault.Disk fault) → ⊥ }
     {
         if self.has_failed {
@@ -118,36 +130,54 @@ impl Journal {
         Ok(())
     }
 
-    /// Puts the records that only memory holds on the disk: into the next sectors, without gaps, one after
-    /// another, and then one sync. Without such records it leaves the disk alone.
+    /// Puts the records that only memory holds on the disk: into the next sectors, without gaps,
+    /// one after another, and then one sync. Without such records it leaves the disk alone.
     pub fn barrier<D: Disk>(
         &mut self,
         disk: &mut D,
         geometry: &Geometry,
     ) -> Result<(), JournalFault>
         requires { total_sectors geometry.now ≤ (D.medium disk.old).sectors }
-        ensures ok { OnOk result (self.new ≡ state self.old.generation (self.old.used + sectors_for (length self.old.kept)) [] false) }
-        ensures err { OnErr result (self.new ≡ state self.old.generation self.old.used self.old.kept true) }
+        ensures ok { OnOk result (self.new
+            ≡ state self.old.generation (self.old.used + sectors_for (length self.old.kept)) []
+            false) }
+        ensures err { OnErr result (self.new
+            ≡ state self.old.generation self.old.used self.old.kept true) }
 
         // When each error comes.
         ensures failed { (result ≡ Err JournalFault.Failed) ↔ (self.old.has_failed ≡ true) }
         ensures full { (result ≡ Err JournalFault.Full) ↔
-            ((self.old.has_failed ≡ false) × (0 < length self.old.kept) × (geometry.now.journal_sectors < self.old.used + sectors_for (length self.old.kept))) }
-        ensures cause { (fault : DiskFault) → result ≡ Err (JournalFault.Disk fault) → (spare (D.medium disk.old) < sectors_for (length self.old.kept)) ⊎ ((D.medium disk.old).faults < (D.medium disk.new).faults) }
+            ((self.old.has_failed ≡ false) × (0 < length self.old.kept)
+            × (geometry.now.journal_sectors
+            < self.old.used + sectors_for (length self.old.kept))) }
+        ensures cause { (fault : DiskFault) → result ≡ Err (JournalFault.Disk fault)
+            → (spare (D.medium disk.old) < sectors_for (length self.old.kept))
+            ⊎ ((D.medium disk.old).faults < (D.medium disk.new).faults) }
         ensures no_memory { IsErrOf result JournalFault.Memory → ⊥ }
         ensures not_too_long { IsErrOf result JournalFault.TooLong → ⊥ }
         ensures quiet { length self.old.kept ≡ 0 → disk.new ≡ disk.old }
 
-        // A cut at any moment leaves a front of the records that holds all that stood before, and nothing else is changed.
-        ensures any_moment { (records kept : List Record) → IsOn geometry.now self.old.generation self.old.used self.old.kept records kept (D.medium disk.old).may_leave →
-            LeavesOnly (D.medium disk.old) (D.medium disk.new) (After (AppendsFront geometry.now self.old.generation self.old.used records kept) (D.medium disk.old).may_leave) }
+        // A cut at any moment leaves a front of the records that holds all that stood before, and
+        // nothing else is changed.
+        ensures any_moment { (records kept : List Record)
+            → IsOn geometry.now self.old.generation self.old.used self.old.kept records kept
+            (D.medium disk.old).may_leave →
+            LeavesOnly (D.medium disk.old) (D.medium disk.new)
+            (After (AppendsFront geometry.now self.old.generation self.old.used records kept)
+            (D.medium disk.old).may_leave) }
 
         // Once it has answered Ok, each cut leaves all of them.
-        ensures durable { (records kept : List Record) → IsOn geometry.now self.old.generation self.old.used self.old.kept records kept (D.medium disk.old).may_leave →
-            OnOk result ((image : Image) → (D.medium disk.new).may_leave image → RecordsStand geometry.now self.new.generation self.new.used (records ++ kept) image) }
+        ensures durable { (records kept : List Record)
+            → IsOn geometry.now self.old.generation self.old.used self.old.kept records kept
+            (D.medium disk.old).may_leave →
+            OnOk result ((image : Image) → (D.medium disk.new).may_leave image
+            → RecordsStand geometry.now self.new.generation self.new.used (records
+            ++ kept) image) }
         ensures passes { Passes (D.medium disk.old) (D.medium disk.new) (λ _. Unit {0}) }
-        ensures settled { OnOk result ((length self.old.kept ≡ 0) ⊎ IsAllSynced (D.medium disk.new)) }
-        ensures unsynced { (D.medium disk.new).unsynced ≤ (D.medium disk.old).unsynced + sectors_for (length self.old.kept) }
+        ensures settled { OnOk result ((length self.old.kept ≡ 0)
+            ⊎ IsAllSynced (D.medium disk.new)) }
+        ensures unsynced { (D.medium disk.new).unsynced ≤ (D.medium disk.old).unsynced
+            + sectors_for (length self.old.kept) }
 
         // It writes each sector once, in rising order, and then syncs once. After an error these
         // calls are begun.
@@ -160,7 +190,8 @@ impl Journal {
             ((D.medium disk.old).unsynced + sectors_for (length self.old.kept))) }
 
         // Nor were there more writes that no sync had settled at any moment in between.
-        ensures at_once { (n : ℕ) → (D.medium disk.new).unsynced_since (D.medium disk.old).moment n → n ≤ (D.medium disk.old).unsynced + sectors_for (length self.old.kept) }
+        ensures at_once { (n : ℕ) → (D.medium disk.new).unsynced_since (D.medium disk.old).moment n
+            → n ≤ (D.medium disk.old).unsynced + sectors_for (length self.old.kept) }
     {
         if self.has_failed {
             return Err(JournalFault::Failed);

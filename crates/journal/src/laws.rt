@@ -1,6 +1,7 @@
 //! Laws of the journal.
 
-ghost use Rattle.journal.specs.laws.Examples.{PackingExamples, BarrierCallExamples, FittingExamples, StandingExamples, BarrierExamples};
+ghost use Rattle.journal.specs.laws.Examples.{PackingExamples, BarrierCallExamples};
+ghost use Rattle.journal.specs.laws.Examples.{FittingExamples, StandingExamples, BarrierExamples};
 ghost use Rattle.journal.specs.laws.Laws.{FreshStands, ScansWhatStands, ScansNoneOfLater};
 
 /// Worked examples: bytes in sectors, a barrier's calls, records that fit, what stands, and what a
@@ -13,8 +14,8 @@ pub fn worked_examples()
     ensures barriers { BarrierExamples }
 {}
 
-/// Where a journal begins, what a scan gives of what stands, and that it gives nothing of a generation
-/// that no sector shows.
+/// Where a journal begins, what a scan gives of what stands, and that it gives nothing of a
+/// generation that no sector shows.
 pub fn what_stands_is_scanned()
     ensures fresh { FreshStands }
     ensures scanned { ScansWhatStands }

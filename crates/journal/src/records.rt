@@ -57,7 +57,8 @@ pub(crate) fn put_record(bytes: &mut Vec<u8>, entry: &Record) -> Result<(), Allo
 fn put_parts(bytes: &mut Vec<u8>, kind: u8, step: u64, payload: &[u8]) -> Result<(), AllocError>
     requires { length payload.now < 2 ^ 16 }
     ensures step { step < 2 ^ 64 }
-    ensures put { OnOk result (bytes.new.items ≡ bytes.old.items ++ (kind ∷ (u64_bytes step ++ (u16_bytes (length payload.now) ++ payload.now)))) }
+    ensures put { OnOk result (bytes.new.items ≡ bytes.old.items
+        ++ (kind ∷ (u64_bytes step ++ (u16_bytes (length payload.now) ++ payload.now)))) }
 {
     bytes.extend_from_slice(&record_head(kind, step, payload.len() as u16))?;
     bytes.extend_from_slice(payload)?;

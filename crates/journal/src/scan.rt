@@ -10,8 +10,8 @@ use disk_layout::{Geometry, PAYLOAD_AT, is_of, used_length};
 use sector_disk::{Disk, DiskFault, SECTOR_SIZE};
 use std::alloc::Global;
 
-/// The payloads of a generation, one after another: from the first sector on, up to the first that isn't
-/// one of the generation at its place.
+/// The payloads of a generation, one after another: from the first sector on, up to the first that
+/// isn't one of the generation at its place.
 pub(crate) fn read_payloads<D: Disk>(
     alloc: Global,
     disk: &mut D,
@@ -20,9 +20,13 @@ pub(crate) fn read_payloads<D: Disk>(
 ) -> Result<Vec<u8>, JournalFault>
     requires { total_sectors geometry.now ≤ (D.medium disk.old).sectors }
     ensures reads { OnlyReads (D.medium disk.old) (D.medium disk.new) }
-    ensures payloads { IfOk result (λ v. (image : Image) → (D.medium disk.new).shows image → payloads_from image generation (journal_place geometry.now) 1 geometry.now.journal_sectors ≡ v.items) }
-    ensures cause { (fault : DiskFault) → result ≡ Err (JournalFault.Disk fault) → (D.medium disk.old).faults < (D.medium disk.new).faults }
-    ensures kind { IfErr result (λ e. e ≡ JournalFault.Memory ⊎ ((fault : DiskFault) × (e ≡ JournalFault.Disk fault))) }
+    ensures payloads { IfOk result (λ v. (image : Image) → (D.medium disk.new).shows image
+        → payloads_from image generation (journal_place geometry.now) 1 geometry.now.journal_sectors
+        ≡ v.items) }
+    ensures cause { (fault : DiskFault) → result ≡ Err (JournalFault.Disk fault)
+        → (D.medium disk.old).faults < (D.medium disk.new).faults }
+    ensures kind { IfErr result (λ e. e ≡ JournalFault.Memory
+        ⊎ ((fault : DiskFault) × (e ≡ JournalFault.Disk fault))) }
 {
     let at = geometry.journal_place();
     let mut bytes = Vec::new(alloc);

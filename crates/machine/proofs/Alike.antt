@@ -1,5 +1,6 @@
 -- Two machines that show one configuration go on alike.
-use Rattle.std.proofs.Common.{◌≡◌, ◌≢◌, ℕ, suc, ◌+◌, ◌-◌, ◌<◌, ◌≤◌, List, [], ◌∷◌, length, Option, Some, refl, sym, ap, ◌∙◌, subst, arith}
+use Rattle.std.proofs.Common.{◌≡◌, ◌≢◌, ℕ, suc, ◌+◌, ◌-◌, ◌<◌, ◌≤◌, List, [], ◌∷◌, length, Option}
+use Rattle.std.proofs.Common.{Some, refl, sym, ap, ◌∙◌, subst, arith}
 use Rattle.std.specs.Prelude.{map, reverse}
 use Rattle.wasm_syntax.specs.declared.types.FunctionType.{FunctionType}
 use Rattle.wasm_syntax.specs.declared.types.ValueType.{ValueType}
@@ -11,10 +12,13 @@ use Rattle.wasi_abi.specs.declared.call.Call.{Call}
 use Rattle.wasm_syntax_rules.specs.Types.{number_in}
 use Rattle.wasm_syntax_rules.specs.Typing.{Context, body_context}
 use Rattle.wasm_syntax_rules.specs.Validity.{module_context}
-use Rattle.wasm_syntax_rules.specs.Configuration.{Own, Program, Label, Thread, FrameOf, Configuration, Traps, Stuck}
-use Rattle.wasm_syntax_rules.specs.Steps.{rule, rule_of, stopped, answered, IsEnded, Settles, Advances, Steps, none, more}
+use Rattle.wasm_syntax_rules.specs.Configuration.{Own, Program, Label, Thread, FrameOf}
+use Rattle.wasm_syntax_rules.specs.Configuration.{Configuration, Traps, Stuck}
+use Rattle.wasm_syntax_rules.specs.Steps.{rule, rule_of, stopped, answered, IsEnded, Settles}
+use Rattle.wasm_syntax_rules.specs.Steps.{Advances, Steps, none, more}
 use Rattle.wasm_syntax_rules.proofs.OneRun.{one_run, settles_once}
-use Rattle.machine_slots.specs.rules.Places.{ShownFrame, IsCallOf, ShowsRunning, ShowsWaiting, IsFrameOf, ShowsCallers, ShowsThread}
+use Rattle.machine_slots.specs.rules.Places.{ShownFrame, IsCallOf, ShowsRunning, ShowsWaiting}
+use Rattle.machine_slots.specs.rules.Places.{IsFrameOf, ShowsCallers, ShowsThread}
 use Rattle.machine_slots.proofs.ShapePositions.{labels_tell}
 use Rattle.machine.specs.declared.turns.pause.HostCall.{HostCall}
 use Rattle.machine.specs.declared.turns.pause.Pause.{Pause}
@@ -29,32 +33,45 @@ use Rattle.machine.proofs.OneShown.{running_of, waiting_of}
 -- ---- one position
 
 -- a call, and what follows it
-call_length : (c : Context) (s : Sequence) (kind : FunctionType) (takes : List ValueType) (rest : Sequence) → IsCallOf c s kind takes rest → length (spelled s) ≡ suc (length (spelled rest))
-call_length c (Plain (instr.Call x) after) kind takes rest h = ap (λ z. suc (length (spelled z))) (sym h.2)
-call_length c (Plain (instr.CallIndirect x) after) kind takes rest h = ap (λ z. suc (length (spelled z))) (sym h.2)
+call_length : (c : Context) (s : Sequence) (kind : FunctionType) (takes : List ValueType)
+    (rest : Sequence) → IsCallOf c s kind takes rest
+    → length (spelled s) ≡ suc (length (spelled rest))
+call_length c (Plain (instr.Call x) after) kind takes rest h =
+    ap (λ z. suc (length (spelled z))) (sym h.2)
+call_length c (Plain (instr.CallIndirect x) after) kind takes rest h =
+    ap (λ z. suc (length (spelled z))) (sym h.2)
 call_length c _ kind takes rest h = absurd h
 
-module _ (c : Context) (body : Sequence) (a b : ShownFrame) (ls : List Value) (labels : List Label) (vs : List Value) (rest : Sequence) where
-  one_running_place : ShowsRunning c body a ls labels vs rest → ShowsRunning c body b ls labels vs rest → a.position ≡ b.position
+module _ (c : Context) (body : Sequence) (a b : ShownFrame) (ls : List Value) (labels : List Label)
+    (vs : List Value) (rest : Sequence) where
+  one_running_place : ShowsRunning c body a ls labels vs rest
+      → ShowsRunning c body b ls labels vs rest → a.position ≡ b.position
   one_running_place h k =
-      labels_tell c body a.position b.position h.shape k.shape labels h.reached k.reached h.labels_are k.labels_are
+      labels_tell c body a.position b.position h.shape k.shape labels h.reached k.reached
+      h.labels_are k.labels_are
       (ap (λ z. length (spelled z)) (sym h.remains ∙ k.remains))
 
-  one_waiting_place : (above other : FunctionType) → ShowsWaiting c body a above ls labels vs rest → ShowsWaiting c body b other ls labels vs rest → a.position ≡ b.position
+  one_waiting_place : (above other : FunctionType) → ShowsWaiting c body a above ls labels vs rest
+      → ShowsWaiting c body b other ls labels vs rest → a.position ≡ b.position
   one_waiting_place above other h k =
-      labels_tell c body a.position b.position h.shape k.shape labels h.reached k.reached h.labels_are k.labels_are
-      (call_length c h.shape.rest above h.takes rest h.calls ∙ sym (call_length c k.shape.rest other k.takes rest k.calls))
+      labels_tell c body a.position b.position h.shape k.shape labels h.reached k.reached
+      h.labels_are k.labels_are
+      (call_length c h.shape.rest above h.takes rest h.calls
+      ∙ sym (call_length c k.shape.rest other k.takes rest k.calls))
 
 abbrev frame_at : ℕ → ℕ → List ℕ → ShownFrame
 frame_at f position slots = record { function = f; position = position; slots = slots }
 
-one_frame : (a b : ShownFrame) → a.function ≡ b.function → a.position ≡ b.position → a.slots ≡ b.slots → a ≡ b
+one_frame : (a b : ShownFrame) → a.function ≡ b.function → a.position ≡ b.position
+    → a.slots ≡ b.slots → a ≡ b
 one_frame a b f p s =
-    let whole : frame_at a.function a.position a.slots ≡ frame_at b.function b.position b.slots = rw (f, p, s) refl in
+    let whole : frame_at a.function a.position a.slots ≡ frame_at b.function b.position b.slots =
+    rw (f, p, s) refl in
     whole
 
 -- the function of a frame has one type, one list of declared locals and one body
-module _ (c : Context) (program : Program) (a b : ShownFrame) (f : ℕ) (h : IsFrameOf c program a f) (k : IsFrameOf c program b f) where
+module _ (c : Context) (program : Program) (a b : ShownFrame) (f : ℕ) (h : IsFrameOf c program a f)
+    (k : IsFrameOf c program b f) where
   same_own : Own k.kind k.declared k.body ≡ Own h.kind h.declared h.body
   same_own = let x = h.is in let y = k.is in cc
 
@@ -68,30 +85,45 @@ module _ (c : Context) (program : Program) (a b : ShownFrame) (f : ℕ) (h : IsF
   same_body = let e = same_own in cc
 
   module _ (ls : List Value) (labels : List Label) (vs : List Value) (rest : Sequence) where
-    one_running : ShowsRunning (body_context c h.kind h.declared) h.body a ls labels vs rest → ShowsRunning (body_context c k.kind k.declared) k.body b ls labels vs rest → a ≡ b
+    one_running : ShowsRunning (body_context c h.kind h.declared) h.body a ls labels vs rest
+        → ShowsRunning (body_context c k.kind k.declared) k.body b ls labels vs rest → a ≡ b
     one_running x y =
         let there : ShowsRunning (body_context c h.kind h.declared) h.body b ls labels vs rest =
-        running_of c b ls labels vs rest k.kind h.kind k.declared h.declared k.body h.body same_kind same_declared same_body y in
-        one_frame a b (h.same ∙ sym k.same) (one_running_place (body_context c h.kind h.declared) h.body a b ls labels vs rest x there) (x.slots ∙ sym y.slots)
+        running_of c b ls labels vs rest k.kind h.kind k.declared h.declared k.body h.body same_kind
+        same_declared same_body y in
+        one_frame a b (h.same
+        ∙ sym k.same) (one_running_place (body_context c h.kind h.declared) h.body a b ls labels
+        vs rest x there) (x.slots ∙ sym y.slots)
 
-    one_waiting : (above other : FunctionType) → ShowsWaiting (body_context c h.kind h.declared) h.body a above ls labels vs rest → ShowsWaiting (body_context c k.kind k.declared) k.body b other ls labels vs rest → a ≡ b
+    one_waiting : (above other : FunctionType)
+        → ShowsWaiting (body_context c h.kind h.declared) h.body a above ls labels vs rest
+        → ShowsWaiting (body_context c k.kind k.declared) k.body b other ls labels vs rest → a ≡ b
     one_waiting above other x y =
-        let there : ShowsWaiting (body_context c h.kind h.declared) h.body b other ls labels vs rest =
-        waiting_of c b ls labels vs rest k.kind h.kind k.declared h.declared k.body h.body same_kind same_declared same_body other y in
-        one_frame a b (h.same ∙ sym k.same) (one_waiting_place (body_context c h.kind h.declared) h.body a b ls labels vs rest above other x there) (x.slots ∙ sym y.slots)
+        let there : ShowsWaiting (body_context c h.kind h.declared) h.body b other ls labels vs
+        rest =
+        waiting_of c b ls labels vs rest k.kind h.kind k.declared h.declared k.body h.body same_kind
+        same_declared same_body other y in
+        one_frame a b (h.same
+        ∙ sym k.same) (one_waiting_place (body_context c h.kind h.declared) h.body a b ls labels
+        vs rest above other x there) (x.slots ∙ sym y.slots)
 
 -- ---- one machine
 
-one_callers : (c : Context) (program : Program) (above other : FunctionType) (frames others : List ShownFrame) (thread : Thread)
-    → ShowsCallers c program above frames thread → ShowsCallers c program other others thread → frames ≡ others
+one_callers : (c : Context) (program : Program) (above other : FunctionType)
+    (frames others : List ShownFrame) (thread : Thread)
+    → ShowsCallers c program above frames thread → ShowsCallers c program other others thread
+    → frames ≡ others
 one_callers c program above other [] [] [] h k = refl
 one_callers c program above other [] (b ∷ others) [] h k = absurd k
 one_callers c program above other (a ∷ frames) others [] h k = absurd h
 one_callers c program above other [] others (FrameOf f ls labels vs rest ∷ thread) h k = absurd h
-one_callers c program above other (a ∷ frames) [] (FrameOf f ls labels vs rest ∷ thread) h k = absurd k
-one_callers c program above other (a ∷ frames) (b ∷ others) (FrameOf f ls labels vs rest ∷ thread) h k =
+one_callers c program above other (a ∷ frames) [] (FrameOf f ls labels vs rest ∷ thread) h k =
+    absurd k
+one_callers c program above other (a ∷ frames) (b ∷ others) (FrameOf f ls labels vs rest
+    ∷ thread) h k =
     let first : a ≡ b = one_waiting c program a b f h.0 k.0 ls labels vs rest above other h.1 k.1 in
-    let behind : frames ≡ others = one_callers c program h.0.kind k.0.kind frames others thread h.2 k.2 in
+    let behind : frames ≡ others =
+    one_callers c program h.0.kind k.0.kind frames others thread h.2 k.2 in
     cc
 
 one_frames : (c : Context) (program : Program) (frames others : List ShownFrame) (thread : Thread)
@@ -103,30 +135,52 @@ one_frames c program [] others (FrameOf f ls labels vs rest ∷ thread) h k = ab
 one_frames c program (a ∷ frames) [] (FrameOf f ls labels vs rest ∷ thread) h k = absurd k
 one_frames c program (a ∷ frames) (b ∷ others) (FrameOf f ls labels vs rest ∷ thread) h k =
     let first : a ≡ b = one_running c program a b f h.0 k.0 ls labels vs rest h.1 k.1 in
-    let behind : frames ≡ others = one_callers c program h.0.kind k.0.kind frames others thread h.2 k.2 in
+    let behind : frames ≡ others =
+    one_callers c program h.0.kind k.0.kind frames others thread h.2 k.2 in
     cc
 
-abbrev machine_with : Module → ℕ → List (Option ℕ) → List ShownFrame → List ℕ → List ℕ → List ℕ → ℕ → MachineValue
+abbrev machine_with : Module → ℕ → List (Option ℕ) → List ShownFrame → List ℕ → List ℕ → List ℕ → ℕ
+    → MachineValue
 machine_with m most_pages table frames globals memory later limit =
-    record { guest = m; most_pages = most_pages; table = table; state = record { frames = frames; globals = globals; memory = memory; later = later }; limit = limit }
+    record {
+      guest = m;
+      most_pages = most_pages;
+      table = table;
+      state = record {
+        frames = frames;
+        globals = globals;
+        memory = memory;
+        later = later;
+      };
+      limit = limit;
+    }
 
 pub one_machine : OneMachineShows
 one_machine v w program d guest h k =
     let pages : v.most_pages ≡ w.most_pages = sym h.is.most ∙ k.is.most in
     let is : IsProgramIn v.guest v.most_pages k.functions program =
-    subst (λ (m : Module). IsProgramIn m v.most_pages k.functions program) (sym guest) (subst (λ n. IsProgramIn w.guest n k.functions program) (sym pages) k.is) in
-    let functions : k.functions ≡ h.functions = one_list v.guest v.most_pages k.functions h.functions program program is h.is in
+    subst (λ (m : Module). IsProgramIn m v.most_pages k.functions program) (sym guest)
+    (subst (λ n. IsProgramIn w.guest n k.functions program) (sym pages) k.is) in
+    let functions : k.functions ≡ h.functions =
+    one_list v.guest v.most_pages k.functions h.functions program program is h.is in
     let there : ShowsThread (module_context v.guest h.functions) program w.state.frames d.thread =
-    subst (λ (z : List FunctionType). ShowsThread (module_context v.guest z) program w.state.frames d.thread) functions
-    (subst (λ (m : Module). ShowsThread (module_context m k.functions) program w.state.frames d.thread) (sym guest) k.shows.frames) in
-    let frames : v.state.frames ≡ w.state.frames = one_frames (module_context v.guest h.functions) program v.state.frames w.state.frames d.thread h.shows.frames there in
+    subst (λ (z : List FunctionType).
+    ShowsThread (module_context v.guest z) program w.state.frames d.thread) functions
+    (subst (λ (m : Module).
+    ShowsThread (module_context m k.functions) program w.state.frames d.thread)
+    (sym guest) k.shows.frames) in
+    let frames : v.state.frames ≡ w.state.frames =
+    one_frames (module_context v.guest h.functions) program v.state.frames w.state.frames
+    d.thread h.shows.frames there in
     let table : v.table ≡ w.table = sym h.shows.same_table ∙ k.shows.same_table in
     let globals : v.state.globals ≡ w.state.globals = h.shows.globals ∙ sym k.shows.globals in
     let memory : v.state.memory ≡ w.state.memory = h.shows.memory ∙ sym k.shows.memory in
     let later : v.state.later ≡ w.state.later = h.shows.later ∙ sym k.shows.later in
     let limit : v.limit ≡ w.limit = h.holds ∙ pages ∙ sym k.holds in
-    let whole : machine_with v.guest v.most_pages v.table v.state.frames v.state.globals v.state.memory v.state.later v.limit
-    ≡ machine_with w.guest w.most_pages w.table w.state.frames w.state.globals w.state.memory w.state.later w.limit =
+    let whole : machine_with v.guest v.most_pages v.table v.state.frames v.state.globals
+    v.state.memory v.state.later v.limit
+    ≡ machine_with w.guest w.most_pages w.table w.state.frames w.state.globals w.state.memory
+    w.state.later w.limit =
     rw (guest, pages, table, frames, globals, memory, later, limit) refl in
     whole
 
@@ -137,16 +191,20 @@ abbrev Stays : Program → Configuration → Type 0
 Stays program e = (f : Configuration) → Advances program e f → ⊥
 
 -- Two runs from one configuration that go on as far as the fuel allows are of one length.
-same_length : (program : Program) (m n fuel : ℕ) (d e f : Configuration) → Steps program m d e → Steps program n d f
+same_length : (program : Program) (m n fuel : ℕ) (d e f : Configuration) → Steps program m d e
+    → Steps program n d f
     → m ≤ fuel → n ≤ fuel → (m < fuel → Stays program e) → (n < fuel → Stays program f) → m ≡ n
 same_length program m n fuel d e f none none within within' stays stays' = refl
 same_length program m n fuel d e f none (more {n = k} {d = g} b rest) within within' stays stays' =
     absurd (stays (omega (arith, within')) g b)
 same_length program m n fuel d e f (more {n = k} {d = g} a rest) none within within' stays stays' =
     absurd (stays' (omega (arith, within)) g a)
-same_length program m n fuel d e f (more {n = j} {c = c} {d = g} a rest) (more {n = k} {d = h} b rest') within within' stays stays' =
+same_length program m n fuel d e f (more {n = j} {c = c} {d = g} a rest)
+    (more {n = k} {d = h} b rest') within within' stays stays' =
     let same : h ≡ g = one_run program 1 c h g (more b none) (more a none) in
-    let others = same_length program j k (fuel - 1) g e f rest (subst (λ z. Steps program k z f) same rest') (omega (arith, within)) (omega (arith, within'))
+    let others =
+    same_length program j k (fuel - 1) g e f rest (subst (λ z. Steps program k z f) same rest')
+    (omega (arith, within)) (omega (arith, within'))
     (λ less. stays (omega (arith, less))) (λ less. stays' (omega (arith, less))) in
     ap suc others
 
@@ -161,12 +219,16 @@ shown_after _ e = e
 
 -- why a machine pauses after so many steps, with so much of the fuel left
 abbrev IsPauseAt : Module → Program → Configuration → ℕ → ℕ → ℕ → Pause → Type 0
-IsPauseAt m program e steps fuel left pause.Spent = (e.thread ≢ []) × (left ≡ 0) × (steps + left ≡ fuel)
-IsPauseAt m program e steps fuel left (pause.Host asked) = AsksFor m program e asked.call asked.arguments × (0 < left) × (steps + left ≡ fuel)
+IsPauseAt m program e steps fuel left pause.Spent = (e.thread ≢ []) × (left ≡ 0)
+    × (steps + left ≡ fuel)
+IsPauseAt m program e steps fuel left (pause.Host asked) =
+    AsksFor m program e asked.call asked.arguments × (0 < left) × (steps + left ≡ fuel)
 IsPauseAt m program e steps fuel left pause.Returned = IsEnded e × (steps + left ≡ fuel)
-IsPauseAt m program e steps fuel left (pause.Trapped why) = (rule program e ≡ Traps why) × (suc steps + left ≡ fuel)
+IsPauseAt m program e steps fuel left (pause.Trapped why) = (rule program e ≡ Traps why)
+    × (suc steps + left ≡ fuel)
 
-record Halts (new : MachineValue) (program : Program) (d : Configuration) (fuel left : ℕ) (why : Pause) : Type 0 where
+record Halts (new : MachineValue) (program : Program) (d : Configuration) (fuel left : ℕ)
+    (why : Pause) : Type 0 where
   end : Configuration
   steps : ℕ
   ran : Steps program steps d end
@@ -175,19 +237,53 @@ record Halts (new : MachineValue) (program : Program) (d : Configuration) (fuel 
   is : IsPauseAt new.guest program end steps fuel left why
   shows : ShowsIn new program (shown_after why end)
 
-halts : (new : MachineValue) (program : Program) (d : Configuration) (fuel left : ℕ) (why : Pause) → RunsFor new program d fuel left why → Halts new program d fuel left why
+halts : (new : MachineValue) (program : Program) (d : Configuration) (fuel left : ℕ) (why : Pause)
+    → RunsFor new program d fuel left why → Halts new program d fuel left why
 halts new program d fuel left pause.Spent h =
     let a = h.0 in let used = a.used in let nothing = h.2 in
-    record { end = a.configuration; steps = a.steps; ran = a.ran; within = omega (arith, used); stays = λ less. absurd (omega (arith, used, nothing, less)); is = (h.1, h.2, used); shows = a.shows }
+    record {
+      end = a.configuration;
+      steps = a.steps;
+      ran = a.ran;
+      within = omega (arith, used);
+      stays = λ less. absurd (omega (arith, used, nothing, less));
+      is = (h.1, h.2, used);
+      shows = a.shows;
+    }
 halts new program d fuel left (pause.Host asked) h =
     let a = h.0 in let used = a.used in
-    record { end = a.configuration; steps = a.steps; ran = a.ran; within = omega (arith, used); stays = λ less f on. (let asks = h.1.asks in let goes = on.counted in cc); is = (h.1, h.2, used); shows = a.shows }
+    record {
+      end = a.configuration;
+      steps = a.steps;
+      ran = a.ran;
+      within = omega (arith, used);
+      stays = λ less f on. (let asks = h.1.asks in let goes = on.counted in cc);
+      is = (h.1, h.2, used);
+      shows = a.shows;
+    }
 halts new program d fuel left pause.Returned h =
     let a = h.0 in let used = a.used in
-    record { end = a.configuration; steps = a.steps; ran = a.ran; within = omega (arith, used); stays = λ less f on. (let none = stuck program a.configuration h.1 in let goes = on.counted in cc); is = (h.1, used); shows = a.shows }
+    record {
+      end = a.configuration;
+      steps = a.steps;
+      ran = a.ran;
+      within = omega (arith, used);
+      stays = λ less f on. (let none = stuck program a.configuration h.1 in let goes = on.counted
+          in cc);
+      is = (h.1, used);
+      shows = a.shows;
+    }
 halts new program d fuel left (pause.Trapped why) h =
     let used = h.used in
-    record { end = h.configuration; steps = h.steps; ran = h.ran; within = omega (arith, used); stays = λ less f on. (let traps = h.traps in let goes = on.counted in cc); is = (h.traps, used); shows = h.shows }
+    record {
+      end = h.configuration;
+      steps = h.steps;
+      ran = h.ran;
+      within = omega (arith, used);
+      stays = λ less f on. (let traps = h.traps in let goes = on.counted in cc);
+      is = (h.traps, used);
+      shows = h.shows;
+    }
 
 -- ---- one pause
 
@@ -201,7 +297,8 @@ abbrev call_of : Call → List ℕ → HostCall
 call_of call arguments = record { call = call; arguments = arguments }
 
 -- a rule asks for one call
-asks_once : (m : Module) (program : Program) (e : Configuration) (a b : HostCall) → AsksFor m program e a.call a.arguments → AsksFor m program e b.call b.arguments → a ≡ b
+asks_once : (m : Module) (program : Program) (e : Configuration) (a b : HostCall)
+    → AsksFor m program e a.call a.arguments → AsksFor m program e b.call b.arguments → a ≡ b
 asks_once m program e a b h k =
     let asks = h.asks in let asks' = k.asks in
     let function : h.function ≡ k.function = cc in
@@ -209,35 +306,52 @@ asks_once m program e a b h k =
     let calls : h.calls ≡ k.calls = some_once h.calls k.calls (sym h.are_calls ∙ k.are_calls) in
     let there = h.is_call in let there' = k.is_call in
     let call : a.call ≡ b.call = cc in
-    let arguments : a.arguments ≡ b.arguments = h.are ∙ ap (λ vs. reverse (map number_in vs)) operands ∙ sym k.are in
-    let whole : call_of a.call a.arguments ≡ call_of b.call b.arguments = rw (call, arguments) refl in
+    let arguments : a.arguments ≡ b.arguments =
+    h.are ∙ ap (λ vs. reverse (map number_in vs)) operands ∙ sym k.are in
+    let whole : call_of a.call a.arguments ≡ call_of b.call b.arguments = rw (call, arguments) refl
+    in
     whole
 
 module _ (m : Module) (program : Program) (e : Configuration) (steps fuel left left' : ℕ) where
   abbrev One : Pause → Pause → Type 0
   One x y = (x ≡ y) × (left ≡ left')
 
-  one_pause : (x y : Pause) → IsPauseAt m program e steps fuel left x → IsPauseAt m program e steps fuel left' y → One x y
+  one_pause : (x y : Pause) → IsPauseAt m program e steps fuel left x
+      → IsPauseAt m program e steps fuel left' y → One x y
   one_pause pause.Spent pause.Spent h k = let a = h.1 in let b = k.1 in (refl, omega (arith, a, b))
   one_pause (pause.Host asked) (pause.Host other) h k =
-      let used = h.2 in let used' = k.2 in (ap (λ (z : HostCall). pause.Host z) (asks_once m program e asked other h.0 k.0), omega (arith, used, used'))
-  one_pause pause.Returned pause.Returned h k = let used = h.1 in let used' = k.1 in (refl, omega (arith, used, used'))
+      let used = h.2 in let used' = k.2 in (
+        ap (λ (z : HostCall). pause.Host z) (asks_once m program e asked other h.0 k.0),
+        omega (arith, used, used'),
+      )
+  one_pause pause.Returned pause.Returned h k = let used = h.1 in let used' = k.1 in
+      (refl, omega (arith, used, used'))
   one_pause (pause.Trapped why) (pause.Trapped other) h k =
       let traps = h.0 in let traps' = k.0 in let used = h.1 in let used' = k.1 in
       let same : why ≡ other = cc in
       (ap (λ z. pause.Trapped z) same, omega (arith, used, used'))
-  one_pause pause.Spent (pause.Host other) h k = let a = h.1 in let used = h.2 in let some = k.1 in let used' = k.2 in absurd (omega (arith, a, used, some, used'))
-  one_pause (pause.Host asked) pause.Spent h k = let a = k.1 in let used = k.2 in let some = h.1 in let used' = h.2 in absurd (omega (arith, a, used, some, used'))
+  one_pause pause.Spent (pause.Host other) h k = let a = h.1 in let used = h.2 in let some = k.1 in
+      let used' = k.2 in absurd (omega (arith, a, used, some, used'))
+  one_pause (pause.Host asked) pause.Spent h k = let a = k.1 in let used = k.2 in let some = h.1 in
+      let used' = h.2 in absurd (omega (arith, a, used, some, used'))
   one_pause pause.Spent pause.Returned h k = absurd (h.0 k.0.returned)
   one_pause pause.Returned pause.Spent h k = absurd (k.0 h.0.returned)
-  one_pause pause.Spent (pause.Trapped why) h k = let a = h.1 in let used = h.2 in let used' = k.1 in absurd (omega (arith, a, used, used'))
-  one_pause (pause.Trapped why) pause.Spent h k = let a = k.1 in let used = k.2 in let used' = h.1 in absurd (omega (arith, a, used, used'))
-  one_pause (pause.Host asked) pause.Returned h k = let asks = h.0.asks in let none = stuck program e k.0 in absurd (cc)
-  one_pause pause.Returned (pause.Host other) h k = let asks = k.0.asks in let none = stuck program e h.0 in absurd (cc)
-  one_pause (pause.Host asked) (pause.Trapped why) h k = let asks = h.0.asks in let traps = k.0 in absurd (cc)
-  one_pause (pause.Trapped why) (pause.Host other) h k = let asks = k.0.asks in let traps = h.0 in absurd (cc)
-  one_pause pause.Returned (pause.Trapped why) h k = let traps = k.0 in let none = stuck program e h.0 in absurd (cc)
-  one_pause (pause.Trapped why) pause.Returned h k = let traps = h.0 in let none = stuck program e k.0 in absurd (cc)
+  one_pause pause.Spent (pause.Trapped why) h k = let a = h.1 in let used = h.2 in let used' = k.1
+      in absurd (omega (arith, a, used, used'))
+  one_pause (pause.Trapped why) pause.Spent h k = let a = k.1 in let used = k.2 in let used' = h.1
+      in absurd (omega (arith, a, used, used'))
+  one_pause (pause.Host asked) pause.Returned h k = let asks = h.0.asks in
+      let none = stuck program e k.0 in absurd (cc)
+  one_pause pause.Returned (pause.Host other) h k = let asks = k.0.asks in
+      let none = stuck program e h.0 in absurd (cc)
+  one_pause (pause.Host asked) (pause.Trapped why) h k = let asks = h.0.asks in let traps = k.0 in
+      absurd (cc)
+  one_pause (pause.Trapped why) (pause.Host other) h k = let asks = k.0.asks in let traps = h.0 in
+      absurd (cc)
+  one_pause pause.Returned (pause.Trapped why) h k = let traps = k.0 in
+      let none = stuck program e h.0 in absurd (cc)
+  one_pause (pause.Trapped why) pause.Returned h k = let traps = h.0 in
+      let none = stuck program e k.0 in absurd (cc)
 
 -- ---- two machines
 
@@ -248,8 +362,12 @@ pub run_alike : MachinesRunAlike
 run_alike v w v' w' program d fuel x y guest same same' shows shows' runs runs' =
     let a = halts v' program d fuel x.left x.why (runs program d shows) in
     let b = halts w' program d fuel y.left y.why (runs' program d shows') in
-    let length : a.steps ≡ b.steps = same_length program a.steps b.steps fuel d a.end b.end a.ran b.ran a.within b.within a.stays b.stays in
-    let end : a.end ≡ b.end = one_run program b.steps d a.end b.end (subst (λ n. Steps program n d a.end) length a.ran) b.ran in
+    let length : a.steps ≡ b.steps =
+    same_length program a.steps b.steps fuel d a.end b.end a.ran b.ran a.within b.within a.stays
+    b.stays in
+    let end : a.end ≡ b.end =
+    one_run program b.steps d a.end b.end (subst (λ n. Steps program n d a.end) length a.ran)
+    b.ran in
     let guests : v'.guest ≡ w'.guest = same.guest ∙ guest ∙ sym same'.guest in
     let here : IsPauseAt v'.guest program a.end a.steps fuel y.left y.why =
     subst (λ m. IsPauseAt m program a.end a.steps fuel y.left y.why) (sym guests)
@@ -260,15 +378,24 @@ run_alike v w v' w' program d fuel x y guest same same' shows shows' runs runs' 
     let left : x.left ≡ y.left = one.1 in
     let whole : paused_with x.why x.left ≡ paused_with y.why y.left = rw (why, left) refl in
     let shown : ShowsIn w' program (shown_after x.why a.end) =
-    subst (λ z. ShowsIn w' program (shown_after x.why z)) (sym end) (subst (λ z. ShowsIn w' program (shown_after z b.end)) (sym why) b.shows) in
+    subst (λ z. ShowsIn w' program (shown_after x.why z)) (sym end)
+    (subst (λ z. ShowsIn w' program (shown_after z b.end)) (sym why) b.shows) in
     (whole, one_machine v' w' program (shown_after x.why a.end) guests a.shows shown)
 
 pub answer_alike : MachinesAnswerAlike
-answer_alike v w v' w' program d results f arguments waits kind guest same same' shows shows' asks there gives answers answers' =
+answer_alike v w v' w' program d results f arguments waits kind guest same same' shows shows' asks
+    there gives answers answers' =
     let a = answers program d f arguments waits kind shows asks there gives in
     let b = answers' program d f arguments waits kind shows' asks there gives in
-    let memory : w.state.memory ≡ v.state.memory = ap (λ (z : MachineValue). z.state.memory) (sym (one_machine v w program d guest shows shows')) in
-    let settles = subst (λ bytes. Settles program (answered d bytes results waits) b.configuration) memory b.settles in
-    let one : b.configuration ≡ a.configuration = settles_once program (answered d v.state.memory results waits) b.configuration a.configuration settles a.settles in
+    let memory : w.state.memory ≡ v.state.memory =
+    ap (λ (z : MachineValue). z.state.memory)
+    (sym (one_machine v w program d guest shows shows')) in
+    let settles =
+    subst (λ bytes. Settles program (answered d bytes results waits) b.configuration) memory
+    b.settles in
+    let one : b.configuration ≡ a.configuration =
+    settles_once program (answered d v.state.memory results waits) b.configuration
+    a.configuration settles a.settles in
     let guests : v'.guest ≡ w'.guest = same.guest ∙ guest ∙ sym same'.guest in
-    one_machine v' w' program a.configuration guests a.shows (subst (λ z. ShowsIn w' program z) one b.shows)
+    one_machine v' w' program a.configuration guests a.shows
+    (subst (λ z. ShowsIn w' program z) one b.shows)

@@ -19,63 +19,88 @@ use Rattle.machine.proofs.Inside.{settled_with, shown, stood_for}
 use Rattle.machine.proofs.OneProgram.{one_program, one_list}
 use Rattle.machine.proofs.AtOnce.{SettlesIn, at_once}
 
-module _ (code : Executable) (old : State) (most : ℕ) (results : List Value) (machine : IsMachine code old most) (shape : IsWithinLimit old.memory) (bytes : AllByRecursion IsByte old.memory.bytes) (waits : WaitsFor results (seen code old most)) where
-  stands_old : Stands code old waits.shows.functions waits.program waits.configuration
-  stands_old = stood_for code old most machine shape bytes waits.program waits.configuration waits.shows
+module _ (code : Executable) (old : State) (most : ℕ) (results : List Value)
+    (machine : IsMachine code old most) (shape : IsWithinLimit old.memory)
+    (bytes : AllByRecursion IsByte old.memory.bytes) (waits : WaitsFor results (seen code old most))
+  where
+    stands_old : Stands code old waits.shows.functions waits.program waits.configuration
+    stands_old =
+        stood_for code old most machine shape bytes waits.program waits.configuration waits.shows
 
-  pub is_waiting : IsWaiting results code old
-  is_waiting = record {
-    functions = waits.shows.functions;
-    program = waits.program;
-    configuration = waits.configuration;
-    stands = stands_old;
-    function = waits.function;
-    arguments = waits.arguments;
-    waits = waits.waits;
-    kind = waits.kind;
-    asks = waits.asks;
-    is_host = waits.is_host;
-    gives = waits.gives;
-  }
+    pub is_waiting : IsWaiting results code old
+    is_waiting = record {
+      functions = waits.shows.functions;
+      program = waits.program;
+      configuration = waits.configuration;
+      stands = stands_old;
+      function = waits.function;
+      arguments = waits.arguments;
+      waits = waits.waits;
+      kind = waits.kind;
+      asks = waits.asks;
+      is_host = waits.is_host;
+      gives = waits.gives;
+    }
 
-  module _ (mid : State) (answers : IsAnswered results code old mid) where
-    abbrev there : Configuration
-    there = answered waits.configuration old.memory.bytes results waits.waits
+    module _ (mid : State) (answers : IsAnswered results code old mid) where
+      abbrev there : Configuration
+      there = answered waits.configuration old.memory.bytes results waits.waits
 
-    stands_there : Stands code mid waits.shows.functions waits.program there
-    stands_there = answers waits.shows.functions waits.program waits.configuration waits.function waits.arguments waits.waits waits.kind stands_old waits.asks waits.is_host waits.gives
+      stands_there : Stands code mid waits.shows.functions waits.program there
+      stands_there =
+          answers waits.shows.functions waits.program waits.configuration waits.function
+          waits.arguments waits.waits waits.kind stands_old waits.asks waits.is_host waits.gives
 
-    pub is_standing_there : IsStanding code mid
-    is_standing_there = record { functions = waits.shows.functions; program = waits.program; configuration = there; stands = stands_there }
-
-    module _ (new : State) (paused : Paused) (pauses : Pauses code mid 0 paused new) where
-      settles_from : (functions : List FunctionType) (program : Program) (d : Configuration) → Stands code mid functions program d → SettlesIn code new functions program d
-      settles_from functions program d stands = at_once code new functions program d paused.left paused.why (pauses functions program d stands)
-
-      after : SettlesIn code new waits.shows.functions waits.program there
-      after = settles_from waits.shows.functions waits.program there stands_there
-
-      pub machine_finished : IsMachine code new most
-      machine_finished = record {
-        functions = machine.functions;
-        program = machine.program;
-        is = machine.is;
-        settled = λ memory functions program is_memory is.
-            let programs : waits.program ≡ program = one_program code.«module» most waits.shows.functions functions waits.program program waits.shows.is is in
-            let lists : waits.shows.functions ≡ functions = one_list code.«module» most waits.shows.functions functions waits.program program waits.shows.is is in
-            let here = settled_with code new waits.shows.functions waits.program after.configuration after.stands memory after.settled (subst (λ z. IsMemoryFor z memory) (sym waits.shows.is.most) is_memory) in
-            subst (λ z. IsSettledIn code (with_memory_of new memory) functions z) programs (subst (λ z. IsSettledIn code (with_memory_of new memory) z waits.program) lists here);
+      pub is_standing_there : IsStanding code mid
+      is_standing_there = record {
+        functions = waits.shows.functions;
+        program = waits.program;
+        configuration = there;
+        stands = stands_there;
       }
 
-      pub holds_finished : new.memory.limit ≡ most
-      holds_finished = after.stands.stands.shown.limit_is ∙ waits.shows.is.most
+      module _ (new : State) (paused : Paused) (pauses : Pauses code mid 0 paused new) where
+        settles_from : (functions : List FunctionType) (program : Program) (d : Configuration)
+            → Stands code mid functions program d → SettlesIn code new functions program d
+        settles_from functions program d stands =
+            at_once code new functions program d paused.left paused.why
+            (pauses functions program d stands)
 
-      pub answers_finished : Answers results (seen code old most) (seen code new most)
-      answers_finished program d f arguments waiter kind shows asks there gives =
-          let stands = stood_for code old most machine shape bytes program d shows in
-          let end = settles_from shows.functions program (answered d old.memory.bytes results waiter) (answers shows.functions program d f arguments waiter kind stands asks there gives) in
-          record {
-            configuration = end.configuration;
-            settles = end.settles;
-            shows = shown code new shows.functions program end.configuration end.stands most shows.is end.settled;
-          }
+        after : SettlesIn code new waits.shows.functions waits.program there
+        after = settles_from waits.shows.functions waits.program there stands_there
+
+        pub machine_finished : IsMachine code new most
+        machine_finished = record {
+          functions = machine.functions;
+          program = machine.program;
+          is = machine.is;
+          settled = λ memory functions program is_memory is.
+              let programs : waits.program ≡ program =
+              one_program code.«module» most waits.shows.functions functions waits.program program
+              waits.shows.is is in
+              let lists : waits.shows.functions ≡ functions =
+              one_list code.«module» most waits.shows.functions functions waits.program program
+              waits.shows.is is in
+              let here = settled_with code new waits.shows.functions waits.program after.configuration
+              after.stands memory after.settled (subst (λ z. IsMemoryFor z memory)
+              (sym waits.shows.is.most) is_memory) in
+              subst (λ z. IsSettledIn code (with_memory_of new memory) functions z) programs
+              (subst (λ z. IsSettledIn code (with_memory_of new memory) z waits.program) lists
+              here);
+        }
+
+        pub holds_finished : new.memory.limit ≡ most
+        holds_finished = after.stands.stands.shown.limit_is ∙ waits.shows.is.most
+
+        pub answers_finished : Answers results (seen code old most) (seen code new most)
+        answers_finished program d f arguments waiter kind shows asks there gives =
+            let stands = stood_for code old most machine shape bytes program d shows in
+            let end = settles_from shows.functions program
+            (answered d old.memory.bytes results waiter)
+            (answers shows.functions program d f arguments waiter kind stands asks there gives) in
+            record {
+              configuration = end.configuration;
+              settles = end.settles;
+              shows = shown code new shows.functions program end.configuration end.stands most
+                  shows.is end.settled;
+            }

@@ -20,10 +20,12 @@ use Rattle.machine.specs.laws.Laws.{with_memory_bytes}
 use Rattle.machine.proofs.Settled.{another_store}
 
 -- a memory of this limit is one of such a program
-pub typed_memory : (program : Program) (memory : LinearMemory) → IsMemoryFor program.most_pages memory → IsTypedMemory program memory.bytes
+pub typed_memory : (program : Program) (memory : LinearMemory)
+    → IsMemoryFor program.most_pages memory → IsTypedMemory program memory.bytes
 typed_memory program memory h =
     let whole = h.shape.whole in
-    let within : length memory.bytes ≤ program.most_pages * page_size = subst (λ z. length memory.bytes ≤ z * page_size) h.limit h.shape.within in
+    let within : length memory.bytes ≤ program.most_pages * page_size =
+    subst (λ z. length memory.bytes ≤ z * page_size) h.limit h.shape.within in
     record {
       pages = length memory.bytes / page_size;
       whole = omega (arith, whole);
@@ -31,20 +33,30 @@ typed_memory program memory h =
       bytes = h.bytes;
     }
 
-module _ (code : Executable) (s : State) (functions : List FunctionType) (program : Program) (d : Configuration) (stands : Stands code s functions program d) where
-  pub with_another : (memory : LinearMemory) → IsMemoryFor program.most_pages memory → Stands code (with_memory_of s memory) functions program (with_memory_bytes d memory.bytes)
+module _ (code : Executable) (s : State) (functions : List FunctionType) (program : Program)
+    (d : Configuration) (stands : Stands code s functions program d) where
+  pub with_another : (memory : LinearMemory) → IsMemoryFor program.most_pages memory
+      → Stands code (with_memory_of s memory) functions program (with_memory_bytes d memory.bytes)
   with_another memory h =
       let k = stands.stands in
       record {
         is_code = stands.is_code;
         stands = record {
           typed = record {
-            store = record { memory = typed_memory program memory h; globals = k.typed.store.globals; table = k.typed.store.table };
+            store = record {
+              memory = typed_memory program memory h;
+              globals = k.typed.store.globals;
+              table = k.typed.store.table;
+            };
             thread = k.typed.thread;
             later = k.typed.later;
           };
           frames = k.frames;
-          shown = record { globals_are = k.shown.globals_are; bytes_are = refl; limit_is = h.limit };
+          shown = record {
+            globals_are = k.shown.globals_are;
+            bytes_are = refl;
+            limit_is = h.limit;
+          };
           same_table = k.same_table;
           later = k.later;
           few_frames = k.few_frames;
@@ -52,11 +64,14 @@ module _ (code : Executable) (s : State) (functions : List FunctionType) (progra
         };
       }
 
-  pub settled_with : (memory : LinearMemory) → IsSettled program d → IsMemoryFor program.most_pages memory → IsSettledIn code (with_memory_of s memory) functions program
+  pub settled_with : (memory : LinearMemory) → IsSettled program d
+      → IsMemoryFor program.most_pages memory
+      → IsSettledIn code (with_memory_of s memory) functions program
   settled_with memory e h = record {
     configuration = with_memory_bytes d memory.bytes;
     stands = with_another memory h;
-    settled = another_store program d.thread d.later d.store (record d.store { memory = memory.bytes }) e;
+    settled = another_store program d.thread d.later d.store
+        (record d.store { memory = memory.bytes }) e;
   }
 
   -- what it stands for is shown
@@ -66,19 +81,31 @@ module _ (code : Executable) (s : State) (functions : List FunctionType) (progra
       functions = functions;
       is = is;
       holds = stands.stands.shown.limit_is ∙ is.most;
-      shows = settled_is_shown (module_context code.«module» functions) program (opcodes_in code.«module») (tables_in code.«module» code.routines.items) code.table.items (parts_of_state s) d (ready code s functions program d stands) stands.stands e;
+      shows = settled_is_shown (module_context code.«module» functions) program
+          (opcodes_in code.«module») (tables_in code.«module» code.routines.items) code.table.items
+          (parts_of_state s) d (ready code s functions program d stands) stands.stands e;
     }
 
 -- and what is shown, it stands for
-pub shown_is_stood_for : (code : Executable) (s : State) (most : ℕ) (program : Program) (d e : Configuration) → (shows : ShowsIn (seen code s most) program d) → Stands code s shows.functions program e → Stands code s shows.functions program d
+pub shown_is_stood_for : (code : Executable) (s : State) (most : ℕ) (program : Program)
+    (d e : Configuration) → (shows : ShowsIn (seen code s most) program d)
+    → Stands code s shows.functions program e → Stands code s shows.functions program d
 shown_is_stood_for code s most program d e shows stands = record {
   is_code = stands.is_code;
-  stands = shown_stands (module_context code.«module» shows.functions) program code.table.items (parts_of_state s) e d (shows.holds ∙ sym shows.is.most) stands.stands shows.shows;
+  stands = shown_stands (module_context code.«module» shows.functions) program code.table.items
+      (parts_of_state s) e d (shows.holds ∙ sym shows.is.most) stands.stands shows.shows;
 }
 
 -- the memory that it holds is one of those that may be in its place
-pub stood_for : (code : Executable) (s : State) (most : ℕ) → IsMachine code s most → IsWithinLimit s.memory → AllByRecursion IsByte s.memory.bytes → (program : Program) (d : Configuration) → (shows : ShowsIn (seen code s most) program d) → Stands code s shows.functions program d
+pub stood_for : (code : Executable) (s : State) (most : ℕ) → IsMachine code s most
+    → IsWithinLimit s.memory → AllByRecursion IsByte s.memory.bytes
+    → (program : Program) (d : Configuration) → (shows : ShowsIn (seen code s most) program d)
+    → Stands code s shows.functions program d
 stood_for code s most machine shape bytes program d shows =
-    let memory : IsMemoryFor most s.memory = record { limit = shows.holds; shape = shape; bytes = bytes } in
+    let memory : IsMemoryFor most s.memory = record {
+      limit = shows.holds;
+      shape = shape;
+      bytes = bytes;
+    } in
     let some = machine.settled s.memory shows.functions program memory shows.is in
     shown_is_stood_for code s most program d some.configuration shows some.stands

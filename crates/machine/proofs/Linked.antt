@@ -20,7 +20,8 @@ use Rattle.machine.specs.Insides.{seen, IsMemoryFor, IsMachine}
 use Rattle.machine.proofs.Inside.{settled_with, shown}
 use Rattle.machine.proofs.AtOnce.{SettlesIn, at_once}
 
-module _ (pages : ℕ) (m : Module) (b : MachineStart) (few : pages ≤ 2 ^ 16) (h : HasStarted pages m b) where
+module _ (pages : ℕ) (m : Module) (b : MachineStart) (few : pages
+    ≤ 2 ^ 16) (h : HasStarted pages m b) where
   pub begin_stands : IsStanding b.code b.state
   begin_stands = record {
     functions = h.functions;
@@ -30,19 +31,36 @@ module _ (pages : ℕ) (m : Module) (b : MachineStart) (few : pages ≤ 2 ^ 16) 
   }
 
   module _ (state : State) (paused : Paused) (pauses : Pauses b.code b.state 0 paused state) where
-    settles : (functions : List FunctionType) (program : Program) → AreFunctionTypes m functions → IsProgram m pages program → SettlesIn b.code state functions program (first h.linkable.store (calls_of m.start h.linkable.entry))
+    settles : (functions : List FunctionType) (program : Program) → AreFunctionTypes m functions
+        → IsProgram m pages program
+        → SettlesIn b.code state functions program
+        (first h.linkable.store (calls_of m.start h.linkable.entry))
     settles functions program types is =
         let start = first h.linkable.store (calls_of m.start h.linkable.entry) in
-        at_once b.code state functions program start paused.left paused.why (pauses functions program start (h.stands functions program types is))
+        at_once b.code state functions program start paused.left paused.why
+        (pauses functions program start (h.stands functions program types is))
 
-    program_in : (functions : List FunctionType) (program : Program) → AreFunctionTypes m functions → IsProgram m pages program → IsProgramIn b.code.«module» b.state.memory.limit functions program
-    program_in functions program types is = record { pages = pages; few = few; is_program = rw h.guest is; most = is.most_pages ∙ sym h.limit; types = rw h.guest types }
+    program_in : (functions : List FunctionType) (program : Program) → AreFunctionTypes m functions
+        → IsProgram m pages program
+        → IsProgramIn b.code.«module» b.state.memory.limit functions program
+    program_in functions program types is = record {
+      pages = pages;
+      few = few;
+      is_program = rw h.guest is;
+      most = is.most_pages ∙ sym h.limit;
+      types = rw h.guest types;
+    }
 
     -- one of the limit of memory is one under so many pages
-    under_pages : (functions : List FunctionType) (program : Program) → IsProgramIn b.code.«module» b.state.memory.limit functions program → IsProgram m pages program × AreFunctionTypes m functions
+    under_pages : (functions : List FunctionType) (program : Program)
+        → IsProgramIn b.code.«module» b.state.memory.limit functions program
+        → IsProgram m pages program × AreFunctionTypes m functions
     under_pages functions program is =
-        let p : IsProgram m is.pages program = subst (λ z. IsProgram z is.pages program) h.guest is.is_program in
-        (record { types = p.types; functions = p.functions; most_pages = is.most ∙ h.limit }, subst (λ z. AreFunctionTypes z functions) h.guest is.types)
+        let p : IsProgram m is.pages program =
+        subst (λ z. IsProgram z is.pages program) h.guest is.is_program in (
+          record { types = p.types; functions = p.functions; most_pages = is.most ∙ h.limit },
+          subst (λ z. AreFunctionTypes z functions) h.guest is.types,
+        )
 
     pub linked_machine : IsMachine b.code state b.state.memory.limit
     linked_machine = record {
@@ -52,7 +70,8 @@ module _ (pages : ℕ) (m : Module) (b : MachineStart) (few : pages ≤ 2 ^ 16) 
       settled = λ memory functions program is_memory is.
           let under = under_pages functions program is in
           let after = settles functions program under.1 under.0 in
-          settled_with b.code state functions program after.configuration after.stands memory after.settled (subst (λ z. IsMemoryFor z memory) (sym is.most) is_memory);
+          settled_with b.code state functions program after.configuration after.stands memory
+          after.settled (subst (λ z. IsMemoryFor z memory) (sym is.most) is_memory);
     }
 
     same_limit : state.memory.limit ≡ b.state.memory.limit
@@ -61,19 +80,43 @@ module _ (pages : ℕ) (m : Module) (b : MachineStart) (few : pages ≤ 2 ^ 16) 
         after.stands.stands.shown.limit_is ∙ h.is_program.most_pages ∙ sym h.limit
 
     -- where the module begins is where the beginning settles
-    shows_begun : (program : Program) (d : Configuration) → Begins m pages h.linkable.entry program d → ShowsIn (seen b.code state b.state.memory.limit) program d
+    shows_begun : (program : Program) (d : Configuration)
+        → Begins m pages h.linkable.entry program d
+        → ShowsIn (seen b.code state b.state.memory.limit) program d
     shows_begun program d begins =
         let after = settles h.functions program h.types begins.is_program in
-        let stores : begins.store ≡ h.linkable.store = store_once m begins.store h.linkable.store begins.is_store h.linkable.segments in
-        let P : Store → Type 0 = λ z. Settles program (first z (calls_of m.start h.linkable.entry)) d in
-        let same : after.configuration ≡ d = settles_once program (first h.linkable.store (calls_of m.start h.linkable.entry)) after.configuration d after.settles (subst P stores begins.settles) in
-        let Q : Configuration → Type 0 = λ z. ShowsIn (seen b.code state b.state.memory.limit) program z in
-        subst Q same (shown b.code state h.functions program after.configuration after.stands b.state.memory.limit (program_in h.functions program h.types begins.is_program) after.settled)
+        let stores : begins.store ≡ h.linkable.store =
+        store_once m begins.store h.linkable.store begins.is_store h.linkable.segments in
+        let P : Store → Type 0 =
+        λ z. Settles program (first z (calls_of m.start h.linkable.entry)) d in
+        let same : after.configuration ≡ d =
+        settles_once program (first h.linkable.store (calls_of m.start h.linkable.entry))
+        after.configuration d after.settles (subst P stores begins.settles) in
+        let Q : Configuration → Type 0 =
+        λ z. ShowsIn (seen b.code state b.state.memory.limit) program z in
+        subst Q same (shown b.code state h.functions program after.configuration after.stands
+        b.state.memory.limit (program_in h.functions program h.types begins.is_program)
+        after.settled)
 
-    some_begins : (program : Program) × (d : Configuration) × Begins m pages h.linkable.entry program d
+    some_begins : (program : Program) × (d : Configuration)
+        × Begins m pages h.linkable.entry program d
     some_begins =
-        let after = settles h.functions h.program h.types h.is_program in
-        (h.program, after.configuration, record { is_program = h.is_program; store = h.linkable.store; is_store = h.linkable.segments; settles = after.settles })
+        let after = settles h.functions h.program h.types h.is_program in (
+          h.program,
+          after.configuration,
+          record {
+            is_program = h.is_program;
+            store = h.linkable.store;
+            is_store = h.linkable.segments;
+            settles = after.settles;
+          },
+        )
 
     pub linked_begun : HasBegun pages m (seen b.code state b.state.memory.limit)
-    linked_begun = record { guest = h.guest; linkable = h.linkable; holds = same_limit; shows = shows_begun; begins = some_begins }
+    linked_begun = record {
+      guest = h.guest;
+      linkable = h.linkable;
+      holds = same_limit;
+      shows = shows_begun;
+      begins = some_begins;
+    }

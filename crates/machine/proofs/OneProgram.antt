@@ -9,9 +9,12 @@ use Rattle.wasm_syntax_rules.specs.Configuration.{Program}
 use Rattle.wasm_syntax_rules.proofs.OneProgram as program
 use Rattle.machine.specs.rules.Values.{IsProgramIn}
 
-module _ (m : Module) (most : ℕ) (fs gs : List FunctionType) (p q : Program) (a : IsProgramIn m most fs p) (b : IsProgramIn m most gs q) where
+module _ (m : Module) (most : ℕ) (fs gs : List FunctionType) (p q : Program)
+    (a : IsProgramIn m most fs p) (b : IsProgramIn m most gs q) where
   pub one_program : p ≡ q
-  one_program = program.one_program m a.pages b.pages p q a.is_program b.is_program (a.most ∙ sym b.most)
+  one_program = program.one_program m a.pages b.pages p q a.is_program b.is_program (a.most
+      ∙ sym b.most)
 
   pub one_list : fs ≡ gs
-  one_list = program.one_list m.types (imported_functions m.imports ++ map function_type_of m.functions) fs gs a.types b.types
+  one_list = program.one_list m.types (imported_functions m.imports
+      ++ map function_type_of m.functions) fs gs a.types b.types

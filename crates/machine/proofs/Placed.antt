@@ -1,5 +1,6 @@
 -- Where the words of a machine's frames lie.
-use Rattle.std.proofs.Common.{ℕ, ◌≤◌, ◌^◌, min, List, [], ◌∷◌, Option, Some, None, refl, sym, ◌∙◌, arith}
+use Rattle.std.proofs.Common.{ℕ, ◌≤◌, ◌^◌, min, List, [], ◌∷◌, Option, Some, None, refl, sym, ◌∙◌}
+use Rattle.std.proofs.Common.{arith}
 use Rattle.std.specs.Option.{option_map_or}
 use Rattle.wasm_syntax.specs.declared.types.MemoryType.{MemoryType}
 use Rattle.guest_memory.specs.rules.Memories.{LinearMemory}

@@ -22,7 +22,9 @@ use Rattle.machine.proofs.Settled.{ended_settled, asking_settled, trapping_settl
 use Rattle.machine.proofs.Inside.{settled_with, shown, stood_for}
 
 -- what the code's rule asks for, the machine's does
-pub asks_for : (code : Executable) (s : State) (functions : List FunctionType) (program : Program) (e : Configuration) (call : Call) (arguments : List ℕ) → Stands code s functions program e → CodeAsksFor code program e call arguments → AsksFor code.«module» program e call arguments
+pub asks_for : (code : Executable) (s : State) (functions : List FunctionType) (program : Program)
+    (e : Configuration) (call : Call) (arguments : List ℕ) → Stands code s functions program e
+    → CodeAsksFor code program e call arguments → AsksFor code.«module» program e call arguments
 asks_for code s functions program e call arguments stands h = record {
   function = h.function;
   operands = h.operands;
@@ -36,16 +38,38 @@ asks_for code s functions program e call arguments stands h = record {
   are = h.are;
 }
 
-module _ (code : Executable) (new : State) (most : ℕ) (functions : List FunctionType) (program : Program) (d : Configuration) where
+module _ (code : Executable) (new : State) (most : ℕ) (functions : List FunctionType)
+    (program : Program) (d : Configuration) where
   -- a pause leaves something settled
-  pub pause_settles : (fuel left : ℕ) (why : Pause) → PausesFor code new functions program d fuel left why → IsSettledIn code new functions program
-  pause_settles fuel left pause.Spent h = record { configuration = h.0.configuration; stands = h.0.stands; settled = h.1 }
-  pause_settles fuel left (pause.Host asked) h = record { configuration = h.0.configuration; stands = h.0.stands; settled = asking_settled program h.0.configuration h.1.function h.1.operands h.1.waits h.1.asks }
-  pause_settles fuel left pause.Returned h = record { configuration = h.0.configuration; stands = h.0.stands; settled = ended_settled program h.0.configuration h.1 }
-  pause_settles fuel left (pause.Trapped why) h = record { configuration = stopped h.configuration; stands = h.stands; settled = refl }
+  pub pause_settles : (fuel left : ℕ) (why : Pause)
+      → PausesFor code new functions program d fuel left why
+      → IsSettledIn code new functions program
+  pause_settles fuel left pause.Spent h = record {
+    configuration = h.0.configuration;
+    stands = h.0.stands;
+    settled = h.1;
+  }
+  pause_settles fuel left (pause.Host asked) h = record {
+    configuration = h.0.configuration;
+    stands = h.0.stands;
+    settled = asking_settled program h.0.configuration h.1.function h.1.operands h.1.waits
+        h.1.asks;
+  }
+  pause_settles fuel left pause.Returned h = record {
+    configuration = h.0.configuration;
+    stands = h.0.stands;
+    settled = ended_settled program h.0.configuration h.1;
+  }
+  pause_settles fuel left (pause.Trapped why) h = record {
+    configuration = stopped h.configuration;
+    stands = h.stands;
+    settled = refl;
+  }
 
-  module _ (is : IsProgramIn code.«module» most functions program) (before : IsSettled program d) where
-    arrives : (fuel left : ℕ) (come : ComesToState code new functions program d fuel left) → IsSettled program come.configuration → Arrives (seen code new most) program d fuel left
+  module _ (is : IsProgramIn code.«module» most functions program)
+      (before : IsSettled program d) where
+    arrives : (fuel left : ℕ) (come : ComesToState code new functions program d fuel left)
+        → IsSettled program come.configuration → Arrives (seen code new most) program d fuel left
     arrives fuel left come e = record {
       configuration = come.configuration;
       steps = come.steps;
@@ -54,54 +78,78 @@ module _ (code : Executable) (new : State) (most : ℕ) (functions : List Functi
       shows = shown code new functions program come.configuration come.stands most is e;
     }
 
-    pub runs_for : (fuel left : ℕ) (why : Pause) → PausesFor code new functions program d fuel left why → RunsFor (seen code new most) program d fuel left why
+    pub runs_for : (fuel left : ℕ) (why : Pause)
+        → PausesFor code new functions program d fuel left why
+        → RunsFor (seen code new most) program d fuel left why
     unfolding arrives
     runs_for fuel left pause.Spent h = (arrives fuel left h.0 h.1, h.2, h.3)
     runs_for fuel left (pause.Host asked) h =
-        let e = h.0.configuration in
-        (arrives fuel left h.0 (asking_settled program e h.1.function h.1.operands h.1.waits h.1.asks), asks_for code new functions program e asked.call asked.arguments h.0.stands h.1, h.2)
-    runs_for fuel left pause.Returned h = (arrives fuel left h.0 (ended_settled program h.0.configuration h.1), h.1)
+        let e = h.0.configuration in (
+          arrives fuel left h.0
+              (asking_settled program e h.1.function h.1.operands h.1.waits h.1.asks),
+          asks_for code new functions program e asked.call asked.arguments h.0.stands h.1,
+          h.2,
+        )
+    runs_for fuel left pause.Returned h =
+        (arrives fuel left h.0 (ended_settled program h.0.configuration h.1), h.1)
     runs_for fuel left (pause.Trapped why) h = record {
       configuration = h.configuration;
       steps = h.steps;
       used = h.used;
-      ran = walks_are_steps program h.steps d h.configuration h.walks before (trapping_settled program h.configuration why h.traps);
+      ran = walks_are_steps program h.steps d h.configuration h.walks before
+          (trapping_settled program h.configuration why h.traps);
       traps = h.traps;
       shows = shown code new functions program (stopped h.configuration) h.stands most is refl;
     }
 
 -- ---- the whole
 
-module _ (code : Executable) (old new : State) (most : ℕ) (machine : IsMachine code old most) (holds : old.memory.limit ≡ most) (shape : IsWithinLimit old.memory) (bytes : AllByRecursion IsByte old.memory.bytes) where
+module _ (code : Executable) (old new : State) (most : ℕ) (machine : IsMachine code old most)
+    (holds : old.memory.limit ≡ most) (shape : IsWithinLimit old.memory)
+    (bytes : AllByRecursion IsByte old.memory.bytes) where
   old_memory : IsMemoryFor most old.memory
   old_memory = record { limit = holds; shape = shape; bytes = bytes }
 
-  settled_old : (functions : List FunctionType) (program : Program) → IsProgramIn code.«module» most functions program → IsSettledIn code old functions program
+  settled_old : (functions : List FunctionType) (program : Program)
+      → IsProgramIn code.«module» most functions program → IsSettledIn code old functions program
   settled_old functions program is = machine.settled old.memory functions program old_memory is
 
   pub is_standing : IsStanding code old
   is_standing =
       let some = settled_old machine.functions machine.program machine.is in
-      record { functions = machine.functions; program = machine.program; configuration = some.configuration; stands = some.stands }
+      record {
+        functions = machine.functions;
+        program = machine.program;
+        configuration = some.configuration;
+        stands = some.stands;
+      }
 
-  pub machine_again : (fuel : ℕ) (paused : Paused) → Pauses code old fuel paused new → IsMachine code new most
+  pub machine_again : (fuel : ℕ) (paused : Paused) → Pauses code old fuel paused new
+      → IsMachine code new most
   machine_again fuel paused pauses = record {
     functions = machine.functions;
     program = machine.program;
     is = machine.is;
     settled = λ memory functions program h is.
         let some = settled_old functions program is in
-        let after = pause_settles code new most functions program some.configuration fuel paused.left paused.why (pauses functions program some.configuration some.stands) in
-        settled_with code new functions program after.configuration after.stands memory after.settled (subst (λ z. IsMemoryFor z memory) (sym is.most) h);
+        let after = pause_settles code new most functions program some.configuration fuel
+        paused.left paused.why (pauses functions program some.configuration some.stands) in
+        settled_with code new functions program after.configuration after.stands memory
+        after.settled (subst (λ z. IsMemoryFor z memory) (sym is.most) h);
   }
 
-  pub holds_again : (fuel : ℕ) (paused : Paused) → Pauses code old fuel paused new → new.memory.limit ≡ most
+  pub holds_again : (fuel : ℕ) (paused : Paused) → Pauses code old fuel paused new
+      → new.memory.limit ≡ most
   holds_again fuel paused pauses =
       let some = settled_old machine.functions machine.program machine.is in
-      let after = pause_settles code new most machine.functions machine.program some.configuration fuel paused.left paused.why (pauses machine.functions machine.program some.configuration some.stands) in
+      let after = pause_settles code new most machine.functions machine.program some.configuration
+      fuel paused.left paused.why
+      (pauses machine.functions machine.program some.configuration some.stands) in
       after.stands.stands.shown.limit_is ∙ machine.is.most
 
-  pub runs : (fuel : ℕ) (paused : Paused) → Pauses code old fuel paused new → RunsOnFuel (seen code old most) fuel paused (seen code new most)
+  pub runs : (fuel : ℕ) (paused : Paused) → Pauses code old fuel paused new
+      → RunsOnFuel (seen code old most) fuel paused (seen code new most)
   runs fuel paused pauses program d shows =
       let stands = stood_for code old most machine shape bytes program d shows in
-      runs_for code new most shows.functions program d shows.is shows.shows.settled fuel paused.left paused.why (pauses shows.functions program d stands)
+      runs_for code new most shows.functions program d shows.is shows.shows.settled fuel paused.left
+      paused.why (pauses shows.functions program d stands)

@@ -17,19 +17,36 @@ use Rattle.machine.specs.rules.Runs.{Stops}
 use Rattle.machine.specs.Insides.{seen, IsMemoryFor, IsSettledIn, IsMachine, with_memory_of}
 
 module _ (code : Executable) (old new : State) (most : ℕ) (cleared : IsCleared old new) where
-  settled_with : IsMachine code old most → (memory : LinearMemory) (functions : List FunctionType) (program : Program) → IsMemoryFor most memory → IsProgramIn code.«module» most functions program → IsSettledIn code (with_memory_of new memory) functions program
+  settled_with : IsMachine code old most
+      → (memory : LinearMemory) (functions : List FunctionType) (program : Program)
+      → IsMemoryFor most memory → IsProgramIn code.«module» most functions program
+      → IsSettledIn code (with_memory_of new memory) functions program
   settled_with machine memory functions program h is =
       let some = machine.settled memory functions program h is in
-      let there : IsCleared (with_memory_of old memory) (with_memory_of new memory) = record { frames = cleared.frames; slots = cleared.slots; later = cleared.later; globals = cleared.globals; memory = refl } in
+      let there : IsCleared (with_memory_of old memory) (with_memory_of new memory) =
+      record {
+        frames = cleared.frames;
+        slots = cleared.slots;
+        later = cleared.later;
+        globals = cleared.globals;
+        memory = refl;
+      } in
       let k = some.stands.stands in
       record {
         configuration = stopped some.configuration;
-        stands = cleared_stands code functions program (with_memory_of old memory) (with_memory_of new memory) some.configuration some.stands.is_code k.typed k.shown k.same_table there;
+        stands = cleared_stands code functions program (with_memory_of old memory)
+            (with_memory_of new memory) some.configuration some.stands.is_code k.typed k.shown
+            k.same_table there;
         settled = refl;
       }
 
   pub machine_stopped : IsMachine code old most → IsMachine code new most
-  machine_stopped machine = record { functions = machine.functions; program = machine.program; is = machine.is; settled = settled_with machine }
+  machine_stopped machine = record {
+    functions = machine.functions;
+    program = machine.program;
+    is = machine.is;
+    settled = settled_with machine;
+  }
 
   no_places : places_of new.frames new.slots ≡ []
   no_places = rw cleared.frames refl
@@ -48,7 +65,9 @@ module _ (code : Executable) (old new : State) (most : ℕ) (cleared : IsCleared
           globals = ap (λ v. v.items) cleared.globals ∙ s.globals;
           same_table = s.same_table;
           later = ap reverse cleared.later;
-          frames = let P : List ShownFrame → Type 0 = λ places. ShowsThread (module_context code.«module» h.functions) program places [] in subst P (sym no_places) tt;
+          frames = let P : List ShownFrame → Type 0 =
+              λ places. ShowsThread (module_context code.«module» h.functions) program places [] in
+              subst P (sym no_places) tt;
           few_frames = rw no_places (omega arith);
           few_values = omega arith;
         };

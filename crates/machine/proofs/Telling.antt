@@ -1,5 +1,6 @@
 -- What a machine tells of the configuration that it shows.
-use Rattle.std.proofs.Common.{◌≡◌, ◌↔◌, ℕ, Bool, List, [], ◌∷◌, Option, Some, None, IsTrue, refl, subst}
+use Rattle.std.proofs.Common.{◌≡◌, ◌↔◌, ℕ, Bool, List, [], ◌∷◌, Option, Some, None, IsTrue, refl}
+use Rattle.std.proofs.Common.{subst}
 use Rattle.std.specs.List.{AllByRecursion}
 use Rattle.guest_memory.specs.rules.Bytes.{IsByte}
 use Rattle.guest_memory.specs.rules.Memories.{IsWithinLimit}

@@ -9,8 +9,14 @@ use Rattle.machine.specs.laws.Laws.{with_memory_bytes, ShowsWhatIsWritten, Waits
 use Rattle.machine.proofs.AskingAgain.{asks_again}
 use Rattle.machine.proofs.Settled.{another_store}
 
-as_many_bytes : (program : Program) (old new : List ℕ) → length new ≡ length old → AllByRecursion IsByte new → IsTypedMemory program old → IsTypedMemory program new
-as_many_bytes program old new e bytes h = record { pages = h.pages; whole = e ∙ h.whole; within = h.within; bytes = bytes }
+as_many_bytes : (program : Program) (old new : List ℕ) → length new ≡ length old
+    → AllByRecursion IsByte new → IsTypedMemory program old → IsTypedMemory program new
+as_many_bytes program old new e bytes h = record {
+  pages = h.pages;
+  whole = e ∙ h.whole;
+  within = h.within;
+  bytes = bytes;
+}
 
 pub shows_what_is_written : ShowsWhatIsWritten
 shows_what_is_written v memory program d count bytes limit h =
@@ -22,14 +28,16 @@ shows_what_is_written v memory program d count bytes limit h =
       shows = record {
         typed = record {
           store = record {
-            memory = as_many_bytes program d.store.memory memory.bytes (count ∙ ap length s.memory) bytes s.typed.store.memory;
+            memory = as_many_bytes program d.store.memory memory.bytes (count
+                ∙ ap length s.memory) bytes s.typed.store.memory;
             globals = s.typed.store.globals;
             table = s.typed.store.table;
           };
           thread = s.typed.thread;
           later = s.typed.later;
         };
-        settled = another_store program d.thread d.later d.store (record d.store { memory = memory.bytes }) s.settled;
+        settled = another_store program d.thread d.later d.store
+            (record d.store { memory = memory.bytes }) s.settled;
         memory = refl;
         globals = s.globals;
         same_table = s.same_table;
@@ -41,15 +49,16 @@ shows_what_is_written v memory program d count bytes limit h =
     }
 
 pub waits_for_the_call : WaitsForTheCall
-waits_for_the_call v memory program d call numbers results count bytes limit shows asks gives = record {
-  program = program;
-  configuration = with_memory_bytes d memory.bytes;
-  shows = shows_what_is_written v memory program d count bytes limit shows;
-  function = asks.function;
-  arguments = asks.operands;
-  waits = asks.waits;
-  kind = call_type_of call;
-  asks = asks_again asks.function asks.operands asks.waits program d memory.bytes asks.asks;
-  is_host = asks.is_host;
-  gives = gives;
-}
+waits_for_the_call v memory program d call numbers results count bytes limit shows asks gives =
+    record {
+      program = program;
+      configuration = with_memory_bytes d memory.bytes;
+      shows = shows_what_is_written v memory program d count bytes limit shows;
+      function = asks.function;
+      arguments = asks.operands;
+      waits = asks.waits;
+      kind = call_type_of call;
+      asks = asks_again asks.function asks.operands asks.waits program d memory.bytes asks.asks;
+      is_host = asks.is_host;
+      gives = gives;
+    }

@@ -14,7 +14,13 @@ use Rattle.machine.specs.rules.Values.{MachineValue, IsProgramIn}
 
 -- what is seen of them
 abbrev pub seen : Executable → State → ℕ → MachineValue
-seen code s most_pages = record { guest = code.«module»; most_pages = most_pages; table = code.table.items; state = machine_state_of (parts_of_state s); limit = s.memory.limit }
+seen code s most_pages = record {
+  guest = code.«module»;
+  most_pages = most_pages;
+  table = code.table.items;
+  state = machine_state_of (parts_of_state s);
+  limit = s.memory.limit;
+}
 
 -- whole pages of bytes, with this limit
 pub record IsMemoryFor (most_pages : ℕ) (memory : LinearMemory) : Type 0 where
@@ -23,7 +29,8 @@ pub record IsMemoryFor (most_pages : ℕ) (memory : LinearMemory) : Type 0 where
   pub bytes : AllByRecursion IsByte memory.bytes
 
 -- it stands for some settled configuration of the program
-pub record IsSettledIn (code : Executable) (s : State) (functions : List FunctionType) (program : Program) : Type 0 where
+pub record IsSettledIn (code : Executable) (s : State) (functions : List FunctionType)
+    (program : Program) : Type 0 where
   pub configuration : Configuration
   pub stands : Stands code s functions program configuration
   pub settled : IsSettled program configuration
@@ -31,11 +38,12 @@ pub record IsSettledIn (code : Executable) (s : State) (functions : List Functio
 abbrev pub with_memory_of : State → LinearMemory → State
 with_memory_of s memory = record s { memory = memory }
 
--- The code has a program. With each memory that may be in the place of the state's own, the state stands for some settled
--- configuration of each program.
+-- The code has a program. With each memory that may be in the place of the state's own, the state
+-- stands for some settled configuration of each program.
 pub record IsMachine (code : Executable) (s : State) (most_pages : ℕ) : Type 0 where
   pub functions : List FunctionType
   pub program : Program
   pub is : IsProgramIn code.«module» most_pages functions program
-  pub settled : (memory : LinearMemory) (functions : List FunctionType) (program : Program) → IsMemoryFor most_pages memory → IsProgramIn code.«module» most_pages functions program
+  pub settled : (memory : LinearMemory) (functions : List FunctionType) (program : Program)
+      → IsMemoryFor most_pages memory → IsProgramIn code.«module» most_pages functions program
       → IsSettledIn code (with_memory_of s memory) functions program

@@ -1,6 +1,7 @@
 //! All frames of a thread.
 
-ghost use Rattle.std.specs.Prelude.{◌≡◌, ◌<◌, ◌≤◌, ◌↔◌, List, [], ◌∷◌, length, reverse, slice_get, Some, IfOk, IsTrue};
+ghost use Rattle.std.specs.Prelude.{◌≡◌, ◌<◌, ◌≤◌, ◌↔◌, List, [], ◌∷◌, length, reverse, slice_get};
+ghost use Rattle.std.specs.Prelude.{Some, IfOk, IsTrue};
 ghost use Rattle.machine_rules.specs.declared.frame.StackFrame.{StackFrame as OneFrame};
 
 use machine_rules::StackFrame;
@@ -15,7 +16,8 @@ const NO_FRAME: StackFrame = StackFrame {
     base: 0,
 };
 
-/// Frames, which contracts see as a list from the innermost out. All of their memory is taken at once.
+/// Frames, which contracts see as a list from the innermost out. All of their memory is taken at
+/// once.
 #[derive(Debug, Drop)]
 pub struct Frames {
     frames: Vec<StackFrame>,
@@ -108,7 +110,8 @@ impl Frames {
     pub fn set_position(&mut self, position: usize)
         requires { 0 < length self.old }
         ensures len { length self.new ≡ length self.old }
-        ensures position { (frame : OneFrame) (frames : List OneFrame) → self.old ≡ frame ∷ frames → self.new ≡ record frame { position = position } ∷ frames }
+        ensures position { (frame : OneFrame) (frames : List OneFrame) → self.old ≡ frame ∷ frames
+            → self.new ≡ record frame { position = position } ∷ frames }
     {
         let top = self.height - 1;
         let frame = self.frames[top];

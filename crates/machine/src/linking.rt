@@ -16,8 +16,8 @@ use guest_memory::MOST_PAGES;
 use std::alloc::Global;
 use wasm_validate::ValidModule;
 
-/// Links a module to the host, where its memory may have so many pages, takes all memory that running needs, and begins. The fault
-/// is the first in the order of `LinkFault`.
+/// Links a module to the host, where its memory may have so many pages, takes all memory that
+/// running needs, and begins. The fault is the first in the order of `LinkFault`.
 pub fn link(alloc: Global, module: ValidModule, pages: u32) -> Result<Machine, LinkFault>
     requires pages { pages ≤ MOST_PAGES }
     requires types { AllByRecursion HasFewParameters «module».types }

@@ -1,7 +1,8 @@
 //! What a machine shows, part by part: its globals, its frames, and whether the start function
 //! runs.
 
-ghost use Rattle.std.specs.Prelude.{◌≡◌, ◌≢◌, ◌↔◌, ◌<◌, ◌≤◌, ◌-◌, IsTrue, Some, [], length, drop, reverse, slice_get, take};
+ghost use Rattle.std.specs.Prelude.{◌≡◌, ◌≢◌, ◌↔◌, ◌<◌, ◌≤◌, ◌-◌, IsTrue, Some, [], length, drop};
+ghost use Rattle.std.specs.Prelude.{reverse, slice_get, take};
 ghost use Rattle.machine_rules.specs.Stacked.{AreStacked, slots_end};
 ghost use Rattle.machine_rules.specs.Threads.{places_of};
 ghost use Rattle.machine.specs.rules.LentFrames.{lent_frame};

@@ -41,14 +41,16 @@ fn is_memory(memory: &Memory)
 }
 
 impl Machine {
-    ghost use Rattle.machine.specs.rules.Values.{HoldsMemory, IsSameMachine, memory_of, without_thread};
+    ghost use Rattle.machine.specs.rules.Values.{HoldsMemory, IsSameMachine, memory_of};
+    ghost use Rattle.machine.specs.rules.Values.{without_thread};
     ghost use Rattle.std.specs.Borrow.{sem};
     ghost use Rattle.machine.specs.rules.Answers.{call_results};
-    ghost use Rattle.machine.specs.rules.Runs.{RunsOnFuel, Stops, TellsEnd, TellsWaiting, WaitsFor, Answers};
+    ghost use Rattle.machine.specs.rules.Runs.{RunsOnFuel, Stops, TellsEnd, TellsWaiting, WaitsFor};
+    ghost use Rattle.machine.specs.rules.Runs.{Answers};
     ghost use Rattle.machine.specs.rules.Lends.{LendsMemory};
 
-    /// Applies rules until the program has ended or trapped, a call of the host waits, or so much fuel is spent: one unit for each
-    /// counted rule.
+    /// Applies rules until the program has ended or trapped, a call of the host waits, or so much
+    /// fuel is spent: one unit for each counted rule.
     pub fn run(&mut self, fuel: u64) -> Paused
         requires { HoldsMemory self.old }
         ensures same { IsSameMachine self.old self.new }
@@ -69,8 +71,8 @@ impl Machine {
         clear(&mut self.state);
     }
 
-    /// Answers the call of the host that waits: puts its result, if the call gives one, in the place of what the call took, and applies
-    /// the rules that aren't counted. Takes no memory.
+    /// Answers the call of the host that waits: puts its result, if the call gives one, in the
+    /// place of what the call took, and applies the rules that aren't counted. Takes no memory.
     pub fn finish(&mut self, answer: Option<u32>)
         requires waits { WaitsFor (call_results answer) self.old }
         ensures same { IsSameMachine self.old self.new }
@@ -106,8 +108,8 @@ impl Machine {
         &self.state.memory
     }
 
-    /// The guest's memory, to be written. Nothing else changes. A memory with another limit of pages may be put there, but `run`,
-    /// `finish` and `waits` ask that the limit is the machine's.
+    /// The guest's memory, to be written. Nothing else changes. A memory with another limit of
+    /// pages may be put there, but `run`, `finish` and `waits` ask that the limit is the machine's.
     pub fn memory_mut(&mut self) -> &mut Memory
         ensures* writes_back { sem 𝓛 (LendsMemory self.entry result) }
         ensures memory { result.now ≡ memory_of self.old }

@@ -19,31 +19,41 @@ use Rattle.machine.specs.rules.Refusals.{LinkDenies as DeniesLink}
 use Rattle.machine.specs.rules.Offers.{offer}
 use Rattle.machine_loader.specs.declared.fault.FrontFault.TheVariants.{Decode, Valid, Link}
 use Rattle.machine_loader.specs.declared.fault.FrontFault.{FrontFault}
-use Rattle.machine_loader.specs.rules.Acceptance.{FrontDenies, HasNoAcceptedModule, HasNoValidModule, IsTold, IsToldOfReading}
+use Rattle.machine_loader.specs.rules.Acceptance.{FrontDenies, HasNoAcceptedModule}
+use Rattle.machine_loader.specs.rules.Acceptance.{HasNoValidModule, IsTold, IsToldOfReading}
 
 one : BytesSpellAtMostOneModule
-one bytes m n is_m is_n = some_is m n (sym (module_complete bytes m is_m) ∙ module_complete bytes n is_n)
+one bytes m n is_m is_n =
+    some_is m n (sym (module_complete bytes m is_m) ∙ module_complete bytes n is_n)
 
 module _ (bytes : List ℕ) where
-  pub not_spelled : (e : DecodeFault) → (e ≢ decode.Memory → HasNoModule bytes) → FrontDenies (Decode e) (HasNoValidModule bytes)
+  pub not_spelled : (e : DecodeFault) → (e ≢ decode.Memory → HasNoModule bytes)
+      → FrontDenies (Decode e) (HasNoValidModule bytes)
   not_spelled decode.Memory h = tt
   not_spelled (decode.Malformed at) h = λ m a. h (λ e. absurd (cc)) m a.spelled a.limits
   not_spelled (decode.Float at) h = λ m a. h (λ e. absurd (cc)) m a.spelled a.limits
   not_spelled decode.Limit h = λ m a. h (λ e. absurd (cc)) m a.spelled a.limits
 
-  pub not_valid : (m : Module) → IsModule bytes m → (e : ValidFault) → DeniesValid e (IsValid m) → FrontDenies (Valid e) (HasNoValidModule bytes)
+  pub not_valid : (m : Module) → IsModule bytes m → (e : ValidFault) → DeniesValid e (IsValid m)
+      → FrontDenies (Valid e) (HasNoValidModule bytes)
   not_valid m spelled valid.Memory h = tt
-  not_valid m spelled valid.Typing h = λ n a. h (subst IsValid (one bytes n m a.spelled spelled) a.valid)
-  not_valid m spelled valid.Index h = λ n a. h (subst IsValid (one bytes n m a.spelled spelled) a.valid)
-  not_valid m spelled valid.Limits h = λ n a. h (subst IsValid (one bytes n m a.spelled spelled) a.valid)
-  not_valid m spelled valid.DuplicateExport h = λ n a. h (subst IsValid (one bytes n m a.spelled spelled) a.valid)
+  not_valid m spelled valid.Typing h =
+      λ n a. h (subst IsValid (one bytes n m a.spelled spelled) a.valid)
+  not_valid m spelled valid.Index h =
+      λ n a. h (subst IsValid (one bytes n m a.spelled spelled) a.valid)
+  not_valid m spelled valid.Limits h =
+      λ n a. h (subst IsValid (one bytes n m a.spelled spelled) a.valid)
+  not_valid m spelled valid.DuplicateExport h =
+      λ n a. h (subst IsValid (one bytes n m a.spelled spelled) a.valid)
 
 module _ (pages : ℕ) (bytes : List ℕ) where
   -- an accepted module is valid
   none_accepted : HasNoValidModule bytes → HasNoAcceptedModule pages bytes
-  none_accepted none m a = none m (record { spelled = a.spelled; limits = a.limits; valid = a.valid })
+  none_accepted none m a =
+      none m (record { spelled = a.spelled; limits = a.limits; valid = a.valid })
 
-  pub denied : (e : FrontFault) → FrontDenies e (HasNoValidModule bytes) → FrontDenies e (HasNoAcceptedModule pages bytes)
+  pub denied : (e : FrontFault) → FrontDenies e (HasNoValidModule bytes)
+      → FrontDenies e (HasNoAcceptedModule pages bytes)
   denied (Decode decode.Memory) h = tt
   denied (Decode (decode.Malformed at)) h = none_accepted h
   denied (Decode (decode.Float at)) h = none_accepted h
@@ -68,11 +78,24 @@ module _ (pages : ℕ) (bytes : List ℕ) where
   told (Link fault) h = absurd h
 
   module _ (m : Module) (spelled : IsModule bytes m) where
-    pub not_linkable : (e : LinkFault) → DeniesLink (IsLinkable offer pages m) e → FrontDenies (Link e) (HasNoAcceptedModule pages bytes)
+    pub not_linkable : (e : LinkFault) → DeniesLink (IsLinkable offer pages m) e
+        → FrontDenies (Link e) (HasNoAcceptedModule pages bytes)
     not_linkable link.Memory h = tt
-    not_linkable link.NoStart h = λ n a. h (subst (λ z. IsLinkable offer pages z) (one bytes n m a.spelled spelled) a.linkable)
-    not_linkable link.NoMemory h = λ n a. h (subst (λ z. IsLinkable offer pages z) (one bytes n m a.spelled spelled) a.linkable)
-    not_linkable link.UnknownImport h = λ n a. h (subst (λ z. IsLinkable offer pages z) (one bytes n m a.spelled spelled) a.linkable)
-    not_linkable link.ImportType h = λ n a. h (subst (λ z. IsLinkable offer pages z) (one bytes n m a.spelled spelled) a.linkable)
-    not_linkable link.InitRange h = λ n a. h (subst (λ z. IsLinkable offer pages z) (one bytes n m a.spelled spelled) a.linkable)
-    not_linkable link.TooManyPages h = λ n a. h (subst (λ z. IsLinkable offer pages z) (one bytes n m a.spelled spelled) a.linkable)
+    not_linkable link.NoStart h =
+        λ n a. h (subst (λ z. IsLinkable offer pages z)
+        (one bytes n m a.spelled spelled) a.linkable)
+    not_linkable link.NoMemory h =
+        λ n a. h (subst (λ z. IsLinkable offer pages z)
+        (one bytes n m a.spelled spelled) a.linkable)
+    not_linkable link.UnknownImport h =
+        λ n a. h (subst (λ z. IsLinkable offer pages z)
+        (one bytes n m a.spelled spelled) a.linkable)
+    not_linkable link.ImportType h =
+        λ n a. h (subst (λ z. IsLinkable offer pages z)
+        (one bytes n m a.spelled spelled) a.linkable)
+    not_linkable link.InitRange h =
+        λ n a. h (subst (λ z. IsLinkable offer pages z)
+        (one bytes n m a.spelled spelled) a.linkable)
+    not_linkable link.TooManyPages h =
+        λ n a. h (subst (λ z. IsLinkable offer pages z)
+        (one bytes n m a.spelled spelled) a.linkable)

@@ -9,7 +9,8 @@ use thiserror::Error;
 use wasm_decode::DecodeFault;
 use wasm_validate::ValidFault;
 
-/// The fault of the first of the three steps that refuses the module. It is printed as that step's fault.
+/// The fault of the first of the three steps that refuses the module. It is printed as that step's
+/// fault.
 #[derive(Clone, Copy, Debug, PartialEq, Eq, Error)]
 pub enum FrontFault {
     #[error("{0}")]

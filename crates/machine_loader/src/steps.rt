@@ -1,7 +1,9 @@
 //! Decoding, validation and linking, one after another.
 
 ghost use Rattle.std.specs.Prelude.{◌≤◌, IfOk, IfErr};
-ghost use Rattle.machine_loader.specs.rules.Acceptance.{Accepts, FrontDenies, HasNoAcceptedModule, HasNoValidModule, IsRead, IsTold, IsToldOfReading};
+ghost use Rattle.machine_loader.specs.rules.Acceptance.{Accepts, FrontDenies, HasNoAcceptedModule};
+ghost use Rattle.machine_loader.specs.rules.Acceptance.{HasNoValidModule, IsRead, IsTold};
+ghost use Rattle.machine_loader.specs.rules.Acceptance.{IsToldOfReading};
 
 use crate::fault::FrontFault;
 use guest_memory::MOST_PAGES;
@@ -10,8 +12,9 @@ use std::alloc::Global;
 use wasm_decode::decode;
 use wasm_validate::{ValidModule, validate};
 
-/// The valid module that the bytes spell, within the limits. A refusal is that of the first of the two steps that
-/// refuses. Other than for want of memory it says that the bytes spell no valid module.
+/// The valid module that the bytes spell, within the limits. A refusal is that of the first of the
+/// two steps that refuses. Other than for want of memory it says that the bytes spell no valid
+/// module.
 pub fn read(alloc: Global, bytes: &[u8]) -> Result<ValidModule, FrontFault>
     ensures read { IfOk result (IsRead bytes.now) }
     ensures told { IfErr result (IsToldOfReading bytes.now) }
@@ -21,9 +24,9 @@ pub fn read(alloc: Global, bytes: &[u8]) -> Result<ValidModule, FrontFault>
     Ok(validate(alloc, decoded)?)
 }
 
-/// The machine of the module that the bytes spell, where its memory may have so many pages. A refusal is that
-/// of the first step that refuses. Other than for want of memory it says that the bytes spell no module that is
-/// accepted.
+/// The machine of the module that the bytes spell, where its memory may have so many pages. A
+/// refusal is that of the first step that refuses. Other than for want of memory it says that the
+/// bytes spell no module that is accepted.
 pub fn accept(alloc: Global, bytes: &[u8], pages: u32) -> Result<Machine, FrontFault>
     requires { pages ≤ MOST_PAGES }
     ensures accepted { IfOk result (Accepts pages bytes.now) }

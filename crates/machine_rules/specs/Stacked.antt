@@ -1,5 +1,6 @@
 -- Where the words of each frame lie.
-use Rattle.std.specs.Prelude.{◌≡◌, ℕ, suc, List, [], ◌∷◌, ◌++◌, length, reverse, Option, Some, None, slice_get}
+use Rattle.std.specs.Prelude.{◌≡◌, ℕ, suc, List, [], ◌∷◌, ◌++◌, length, reverse, Option, Some, None}
+use Rattle.std.specs.Prelude.{slice_get}
 use Rattle.machine_rules.specs.declared.frame.StackFrame.{StackFrame}
 
 -- Each frame's words lie above those of the frames that wait, and its base is how many those are.

@@ -1,9 +1,17 @@
-//! Laws over all programs, bodies and frames. The functions do nothing: what they ensure is the law.
+//! Laws over all programs, bodies and frames. The functions do nothing: what they ensure is the
+//! law.
 
-ghost use Rattle.machine_rules.specs.Walks.{WalksAreSteps, WalksSettle, WalksCompose, WalksAreTyped};
-ghost use Rattle.machine_rules.specs.laws.Standing.{OpcodesRemain, StandsSomewhere, LabelsEnd, OperandsAreFew, EntryStands, EffectsLeadOn, BlocksLeadIn, LoopsLeadIn, IfsLeadIn, ChoicesLeadIn, BranchesLead, ConditionsLead, TablesLead, EndsLeadOut, PartsLeadOut};
+ghost use Rattle.machine_rules.specs.Walks.{WalksAreSteps, WalksSettle, WalksCompose};
+ghost use Rattle.machine_rules.specs.Walks.{WalksAreTyped};
+ghost use Rattle.machine_rules.specs.laws.Standing.{OpcodesRemain, StandsSomewhere, LabelsEnd};
+ghost use Rattle.machine_rules.specs.laws.Standing.{OperandsAreFew, EntryStands, EffectsLeadOn};
+ghost use Rattle.machine_rules.specs.laws.Standing.{BlocksLeadIn, LoopsLeadIn, IfsLeadIn};
+ghost use Rattle.machine_rules.specs.laws.Standing.{ChoicesLeadIn, BranchesLead, ConditionsLead};
+ghost use Rattle.machine_rules.specs.laws.Standing.{TablesLead, EndsLeadOut, PartsLeadOut};
 ghost use Rattle.machine_rules.specs.laws.Fitting.{ShownFits, FitsIsShown};
-ghost use Rattle.machine_rules.specs.laws.Threads.{SettledIsShown, ShownStands, FramesRun, RunsStand, CallsLead, IndirectCallsLead, ReturnsLead, BodiesEnd, HostCalls, AnswersLead};
+ghost use Rattle.machine_rules.specs.laws.Threads.{SettledIsShown, ShownStands, FramesRun};
+ghost use Rattle.machine_rules.specs.laws.Threads.{RunsStand, CallsLead, IndirectCallsLead};
+ghost use Rattle.machine_rules.specs.laws.Threads.{ReturnsLead, BodiesEnd, HostCalls, AnswersLead};
 
 /// Walks, and the steps that they are.
 pub fn walks_are_steps()
@@ -22,7 +30,8 @@ pub fn frames_stand_at_opcodes()
     ensures entry { EntryStands }
 {}
 
-/// An instruction that stays in its sequence, or begins one, leads to the next position, or where the table says.
+/// An instruction that stays in its sequence, or begins one, leads to the next position, or where
+/// the table says.
 pub fn frames_lead_on()
     ensures effects { EffectsLeadOn }
     ensures blocks { BlocksLeadIn }

@@ -12,9 +12,9 @@ use crate::variables::{global_get, global_set, local_get, local_set, local_tee};
 use guest_memory::Memory;
 use wasm_syntax::Instruction;
 
-/// Does what the instruction does to the frame whose first local is at `base`, counted from the bottom. At a trap globals
-/// and memory are as they were. Nothing is done for an instruction that leads elsewhere than to the next one, or nowhere:
-/// so one match decides of all of them.
+/// Does what the instruction does to the frame whose first local is at `base`, counted from the
+/// bottom. At a trap globals and memory are as they were. Nothing is done for an instruction that
+/// leads elsewhere than to the next one, or nowhere: so one match decides of all of them.
 #[inline(always)]
 pub fn operate(
     instruction: &Instruction,
@@ -25,7 +25,8 @@ pub fn operate(
 ) -> EffectOutcome
     requires room { length slots.old < SLOTS }
     requires ready { IsReadyFor instruction.now base slots.old globals.old memory.old }
-    ensures { HasEffect instruction.now base slots.old globals.old memory.old result slots.new globals.new memory.new }
+    ensures { HasEffect instruction.now base slots.old globals.old memory.old result slots.new
+        globals.new memory.new }
 {
     match instruction {
         Instruction::Nop => EffectOutcome::Done,

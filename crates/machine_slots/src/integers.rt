@@ -13,7 +13,8 @@ use wasm_syntax::{BinaryOperator, Comparison, Conversion, Trap, UnaryOperator, V
 #[inline(always)]
 pub fn eqz(slots: &mut Slots)
     requires { 0 < length slots.old }
-    ensures { (a : ℕ) (under : List ℕ) → slots.old ≡ a ∷ under → slots.new ≡ truth (a == 0) ∷ under }
+    ensures { (a : ℕ) (under : List ℕ) → slots.old ≡ a ∷ under
+        → slots.new ≡ truth (a == 0) ∷ under }
 {
     let a = slots.pop();
     slots.push((a == 0) as u64);
@@ -23,7 +24,8 @@ pub fn eqz(slots: &mut Slots)
 #[inline(always)]
 pub fn apply_comparison(slots: &mut Slots, value_type: ValueType, operator: Comparison)
     requires { HasTwo value_type value_type slots.old }
-    ensures { (b a : ℕ) (under : List ℕ) → slots.old ≡ b ∷ a ∷ under → slots.new ≡ truth (compare_of (width_of value_type) operator a b) ∷ under }
+    ensures { (b a : ℕ) (under : List ℕ) → slots.old ≡ b ∷ a ∷ under
+        → slots.new ≡ truth (compare_of (width_of value_type) operator a b) ∷ under }
 {
     let b = slots.pop();
     let a = slots.pop();
@@ -34,7 +36,8 @@ pub fn apply_comparison(slots: &mut Slots, value_type: ValueType, operator: Comp
 #[inline(always)]
 pub fn apply_unary(slots: &mut Slots, value_type: ValueType, operator: UnaryOperator)
     requires { HasOne value_type slots.old }
-    ensures { (a : ℕ) (under : List ℕ) → slots.old ≡ a ∷ under → slots.new ≡ unary_of (width_of value_type) operator a ∷ under }
+    ensures { (a : ℕ) (under : List ℕ) → slots.old ≡ a ∷ under
+        → slots.new ≡ unary_of (width_of value_type) operator a ∷ under }
 {
     let a = slots.pop();
     slots.push(unary_word(value_type, operator, a));
@@ -48,7 +51,8 @@ pub fn apply_binary(
     operator: BinaryOperator,
 ) -> Result<(), Trap>
     requires { HasTwo value_type value_type slots.old }
-    ensures { (b a : ℕ) (under : List ℕ) → slots.old ≡ b ∷ a ∷ under → LeavesWord (binary_of (width_of value_type) operator a b) result slots.new under }
+    ensures { (b a : ℕ) (under : List ℕ) → slots.old ≡ b ∷ a ∷ under
+        → LeavesWord (binary_of (width_of value_type) operator a b) result slots.new under }
 {
     let b = slots.pop();
     let a = slots.pop();
@@ -65,7 +69,8 @@ pub fn apply_binary(
 #[inline(always)]
 pub fn apply_conversion(slots: &mut Slots, operator: Conversion)
     requires { HasOne (conversion_takes operator) slots.old }
-    ensures { (a : ℕ) (under : List ℕ) → slots.old ≡ a ∷ under → slots.new ≡ convert_of operator a ∷ under }
+    ensures { (a : ℕ) (under : List ℕ) → slots.old ≡ a ∷ under
+        → slots.new ≡ convert_of operator a ∷ under }
 {
     let a = slots.pop();
     slots.push(convert_word(operator, a));

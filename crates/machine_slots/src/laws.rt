@@ -1,7 +1,10 @@
 //! Laws over all programs and frames. The functions do nothing: what they ensure is the law.
 
 ghost use Rattle.machine_slots.specs.laws.StackLimits.{StackLimitNumbers};
-ghost use Rattle.machine_slots.specs.laws.Laws.{BranchesFall, EntryPushesZeros, LabelsTellPositions, ReturnsFall, ShapesTellPositions, SlotsAreWords, TypedFramesAreReady, WordsAreSlots};
+ghost use Rattle.machine_slots.specs.laws.Laws.{BranchesFall, EntryPushesZeros};
+ghost use Rattle.machine_slots.specs.laws.Laws.{LabelsTellPositions, ReturnsFall};
+ghost use Rattle.machine_slots.specs.laws.Laws.{ShapesTellPositions, SlotsAreWords};
+ghost use Rattle.machine_slots.specs.laws.Laws.{TypedFramesAreReady, WordsAreSlots};
 
 /// Whoever shows a typed frame may operate on it.
 pub fn typed_frames_are_ready()
@@ -21,8 +24,8 @@ pub fn jumps_are_falls()
     ensures entries { EntryPushesZeros }
 {}
 
-/// The shape at a position of a body tells which position it is, and so do the labels of a frame there, with how many
-/// opcodes remain.
+/// The shape at a position of a body tells which position it is, and so do the labels of a frame
+/// there, with how many opcodes remain.
 pub fn shapes_tell_positions()
     ensures shapes { ShapesTellPositions }
     ensures labels { LabelsTellPositions }

@@ -32,7 +32,8 @@ pub fn drop_top(slots: &mut Slots)
 #[inline(always)]
 pub fn select(slots: &mut Slots)
     requires { 3 ≤ length slots.old }
-    ensures { (n b a : ℕ) (under : List ℕ) → slots.old ≡ n ∷ b ∷ a ∷ under → slots.new ≡ selected_word n a b ∷ under }
+    ensures { (n b a : ℕ) (under : List ℕ) → slots.old ≡ n ∷ b ∷ a ∷ under
+        → slots.new ≡ selected_word n a b ∷ under }
 {
     let condition = slots.pop();
     let second = slots.pop();

@@ -1,12 +1,13 @@
 //! The words of all frames.
 
-ghost use Rattle.std.specs.Prelude.{◌≡◌, ◌+◌, ◌<◌, ◌≤◌, ◌↔◌, ℕ, List, [], ◌∷◌, ◌++◌, length, reverse, replicate, slice_get, slice_set, Some, IfOk, IsTrue};
+ghost use Rattle.std.specs.Prelude.{◌≡◌, ◌+◌, ◌<◌, ◌≤◌, ◌↔◌, ℕ, List, [], ◌∷◌, ◌++◌, length};
+ghost use Rattle.std.specs.Prelude.{reverse, replicate, slice_get, slice_set, Some, IfOk, IsTrue};
 
 use std::alloc::{AllocError, Global};
 use std::marker::Model;
 
-/// How many words there is room for: the locals and operands that a thread may hold, and the operands of the running
-/// frame beside them, which its body's length bounds.
+/// How many words there is room for: the locals and operands that a thread may hold, and the
+/// operands of the running frame beside them, which its body's length bounds.
 pub const SLOTS: usize = 69_632;
 
 /// Words, which contracts see as a list from the top down. All of their memory is taken at once.
@@ -107,17 +108,20 @@ impl Slots {
     #[inline(always)]
     pub fn truncate(&mut self, height: usize)
         requires { height ≤ length self.old }
-        ensures { (between under : List ℕ) → height ≡ length under → self.old ≡ between ++ under → self.new ≡ under }
+        ensures { (between under : List ℕ) → height ≡ length under → self.old ≡ between ++ under
+            → self.new ≡ under }
     {
         self.height = height;
     }
 
-    /// Leaves this many words at the bottom, and above them none but the words on top that are kept.
+    /// Leaves this many words at the bottom, and above them none but the words on top that are
+    /// kept.
     #[inline(always)]
     pub fn fall(&mut self, keeps: usize, height: usize)
         requires few { keeps ≤ 1 }
         requires room { keeps + height ≤ length self.old }
-        ensures { (kept between under : List ℕ) → keeps ≡ length kept → height ≡ length under → self.old ≡ kept ++ (between ++ under) → self.new ≡ kept ++ under }
+        ensures { (kept between under : List ℕ) → keeps ≡ length kept → height ≡ length under
+            → self.old ≡ kept ++ (between ++ under) → self.new ≡ kept ++ under }
     {
         if keeps == 0 {
             self.height = height;

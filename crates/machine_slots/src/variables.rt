@@ -1,6 +1,7 @@
 //! Locals and globals (section 4.4.3).
 
-ghost use Rattle.std.specs.Prelude.{◌≡◌, ◌+◌, ◌<◌, ℕ, List, ◌∷◌, length, reverse, slice_get, slice_set, Some};
+ghost use Rattle.std.specs.Prelude.{◌≡◌, ◌+◌, ◌<◌, ℕ, List, ◌∷◌, length, reverse, slice_get};
+ghost use Rattle.std.specs.Prelude.{slice_set, Some};
 
 use crate::slots::{SLOTS, Slots};
 
@@ -9,7 +10,8 @@ use crate::slots::{SLOTS, Slots};
 pub fn local_get(slots: &mut Slots, place: usize)
     requires there { place < length slots.old }
     requires room { length slots.old < SLOTS }
-    ensures { (word : ℕ) → slice_get (reverse slots.old) place ≡ Some word → slots.new ≡ word ∷ slots.old }
+    ensures { (word : ℕ) → slice_get (reverse slots.old) place ≡ Some word
+        → slots.new ≡ word ∷ slots.old }
 {
     let word = slots.get(place);
     slots.push(word);
@@ -19,7 +21,8 @@ pub fn local_get(slots: &mut Slots, place: usize)
 #[inline(always)]
 pub fn local_set(slots: &mut Slots, place: usize)
     requires { place + 1 < length slots.old }
-    ensures { (word : ℕ) (under : List ℕ) → slots.old ≡ word ∷ under → slots.new ≡ reverse (slice_set (reverse under) place word) }
+    ensures { (word : ℕ) (under : List ℕ) → slots.old ≡ word ∷ under
+        → slots.new ≡ reverse (slice_set (reverse under) place word) }
 {
     let word = slots.pop();
     slots.set(place, word);
@@ -29,7 +32,8 @@ pub fn local_set(slots: &mut Slots, place: usize)
 #[inline(always)]
 pub fn local_tee(slots: &mut Slots, place: usize)
     requires { place + 1 < length slots.old }
-    ensures { (word : ℕ) (under : List ℕ) → slots.old ≡ word ∷ under → slots.new ≡ word ∷ reverse (slice_set (reverse under) place word) }
+    ensures { (word : ℕ) (under : List ℕ) → slots.old ≡ word ∷ under
+        → slots.new ≡ word ∷ reverse (slice_set (reverse under) place word) }
 {
     let word = slots.pop();
     slots.set(place, word);
@@ -52,7 +56,8 @@ pub fn global_set(slots: &mut Slots, globals: &mut [u64], global: u32)
     requires there { global < length globals.old }
     requires some { 0 < length slots.old }
     ensures slots { (word : ℕ) (under : List ℕ) → slots.old ≡ word ∷ under → slots.new ≡ under }
-    ensures globals { (word : ℕ) (under : List ℕ) → slots.old ≡ word ∷ under → globals.new ≡ slice_set globals.old global word }
+    ensures globals { (word : ℕ) (under : List ℕ) → slots.old ≡ word ∷ under
+        → globals.new ≡ slice_set globals.old global word }
 {
     globals[global as usize] = slots.pop();
 }

@@ -21,14 +21,17 @@ row_lacks : (p : ProcessState) (c : Call) (waits : Thread) (r : Ruling)
 row_lacks p c waits (Ok done) many not_stopped = many done refl
 row_lacks p c waits (Err halt) many not_stopped = absurd (not_stopped halt refl)
 
-pub beyond : (old : MachineValue) (held : HeldHost) (c : Call) (arguments : List ℕ) (given : Option Answer) → HasNoNumbers old held c arguments
-    → (guest : Guest) (p : ProcessState) → ShowsParts old held guest p → IsAtCall guest p.configuration c arguments
+pub beyond : (old : MachineValue) (held : HeldHost) (c : Call) (arguments : List ℕ)
+    (given : Option Answer) → HasNoNumbers old held c arguments
+    → (guest : Guest) (p : ProcessState) → ShowsParts old held guest p
+    → IsAtCall guest p.configuration c arguments
     → LacksNumbers (next_of guest p given)
 beyond old held c arguments given none guest p shows at =
     let m : Bytes = p.configuration.store.memory in
     let is : old.state.memory ≡ m = shows.configuration.shows.memory in
     let r : Ruling = row c arguments given m p.host in
-    let same : row c arguments given old.state.memory p.host ≡ r = ap (λ (z : Bytes). row c arguments given z p.host) is in
+    let same : row c arguments given old.state.memory p.host ≡ r =
+    ap (λ (z : Bytes). row c arguments given z p.host) is in
     subst LacksNumbers (sym (next_is guest p c arguments at given r refl))
     (row_lacks p c at.waits r
     (λ done e. none.done given p.host done shows.host (same ∙ e))

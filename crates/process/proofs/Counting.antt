@@ -1,5 +1,6 @@
 -- What stretches of steps count, and what a process then shows.
-use Rattle.std.proofs.Common.{◌≡◌, inl, inr, ℕ, suc, ◌+◌, ◌<◌, ◌≤◌, ◌^◌, Bool, true, false, List, [], ◌∷◌, Option, Some, None, refl, sym, ap, ◌∙◌, subst, arith}
+use Rattle.std.proofs.Common.{◌≡◌, inl, inr, ℕ, suc, ◌+◌, ◌<◌, ◌≤◌, ◌^◌, Bool, true, false, List}
+use Rattle.std.proofs.Common.{[], ◌∷◌, Option, Some, None, refl, sym, ap, ◌∙◌, subst, arith}
 use Rattle.std.specs.Prelude.{Result, Ok, Err}
 use Rattle.wasm_syntax_rules.specs.Configuration.{Thread}
 use Rattle.wasi_abi.specs.declared.answer.Answer.{Answer}
@@ -7,7 +8,8 @@ use Rattle.wasi_calls_rules.specs.Hosts.{Line}
 use Rattle.wasi_calls.specs.rules.Held.{HeldHost}
 use Rattle.machine.specs.rules.Values.{MachineValue}
 use Rattle.process_rules.specs.Processes.{ProcessState, Guest, closed_at}
-use Rattle.process_rules.specs.Runs.{Next, On, Over, Wants, Nowhere, next_of, taken, request_taken, stepped, LeadsTo, Moves}
+use Rattle.process_rules.specs.Runs.{Next, On, Over, Wants, Nowhere, next_of, taken, request_taken}
+use Rattle.process_rules.specs.Runs.{stepped, LeadsTo, Moves}
 use Rattle.process_rules.specs.Owing.{RunsQuietly, none, more}
 use Rattle.process_rules.proofs.Growing.{move_counts}
 use Rattle.process.specs.declared.stop.ProcessEnd.{ProcessEnd}
@@ -28,13 +30,15 @@ pub record Counted (p q : ProcessState) (n : ℕ) : Type 0 where
   pub answers : q.answers ≡ p.answers
   pub requests : q.requests ≡ p.requests
 
-closed_answers : (thread : Thread) (later : List ℕ) (p : ProcessState) → (closed_at thread later p).answers ≡ p.answers
+closed_answers : (thread : Thread) (later : List ℕ) (p : ProcessState)
+    → (closed_at thread later p).answers ≡ p.answers
 closed_answers [] [] p = refl
 closed_answers [] (f ∷ later) p = refl
 closed_answers (frame ∷ frames) [] p = refl
 closed_answers (frame ∷ frames) (f ∷ later) p = refl
 
-closed_requests : (thread : Thread) (later : List ℕ) (p : ProcessState) → (closed_at thread later p).requests ≡ p.requests
+closed_requests : (thread : Thread) (later : List ℕ) (p : ProcessState)
+    → (closed_at thread later p).requests ≡ p.requests
 closed_requests [] [] p = refl
 closed_requests [] (f ∷ later) p = refl
 closed_requests (frame ∷ frames) [] p = refl
@@ -87,12 +91,23 @@ counted_on : (p m q : ProcessState) (n k : ℕ) → Counted p m n → Counted m 
 counted_on p m q n k a b =
     let x = a.steps in
     let y = b.steps in
-    record { steps = omega (arith, x, y); answers = b.answers ∙ a.answers; requests = b.requests ∙ a.requests }
+    record {
+      steps = omega (arith, x, y);
+      answers = b.answers ∙ a.answers;
+      requests = b.requests
+          ∙ a.requests;
+    }
 
-runs_counted : (guest : Guest) (p q : ProcessState) (n : ℕ) → RunsQuietly guest p n q → Counted p q n
-runs_counted guest p q n (none {p = p'}) = record { steps = omega arith; answers = refl; requests = refl }
+runs_counted : (guest : Guest) (p q : ProcessState) (n : ℕ) → RunsQuietly guest p n q
+    → Counted p q n
+runs_counted guest p q n (none {p = p'}) = record {
+  steps = omega arith;
+  answers = refl;
+  requests = refl;
+}
 runs_counted guest p q n (more {n = k} {p = p'} {q = m} {r = q'} move rest) =
-    let all = counted_on p' m q 1 k (move_counted guest p' m move.moves) (runs_counted guest m q k rest) in
+    let all = counted_on p' m q 1 k (move_counted guest p' m move.moves)
+    (runs_counted guest m q k rest) in
     let e : 1 + k ≡ suc k = omega arith in
     let P : ℕ → Type 0 = λ n. Counted p' q n in
     subst P e all
@@ -101,12 +116,14 @@ module _ (guest : Guest) (p q : ProcessState) (fuel n : ℕ) (waiting : List Lin
   owes_counted : Owes guest p q fuel n → Counted p q n
   owes_counted h =
       let are = h.are in
-      let all = counted_on p h.before q h.quiet 1 (runs_counted guest p h.before h.quiet h.runs) (move_counted guest h.before q h.moves) in
+      let all = counted_on p h.before q h.quiet 1 (runs_counted guest p h.before h.quiet h.runs)
+      (move_counted guest h.before q h.moves) in
       let e : h.quiet + 1 ≡ n = omega (arith, are) in
       let P : ℕ → Type 0 = λ n. Counted p q n in
       subst P e all
 
-  pub comes_counted : (s : Result Stop ProcessFault) → ComesBy guest p q fuel n waiting (Some s) → Counted p q n
+  pub comes_counted : (s : Result Stop ProcessFault) → ComesBy guest p q fuel n waiting (Some s)
+      → Counted p q n
   comes_counted (Ok stop.Owes) h = owes_counted h
   comes_counted (Ok (stop.Ended how)) h = runs_counted guest p q n h.0.runs
   comes_counted (Ok stop.Spent) h = runs_counted guest p q n h.0.runs
@@ -115,9 +132,11 @@ module _ (guest : Guest) (p q : ProcessState) (fuel n : ℕ) (waiting : List Lin
   comes_counted (Err fault.StepsSpent) h = runs_counted guest p q n h.0.runs
   comes_counted (Err fault.WrongAnswer) h = absurd h
 
-  pub comes_within : (s : Option (Result Stop ProcessFault)) → ComesBy guest p q fuel n waiting s → n ≤ fuel
+  pub comes_within : (s : Option (Result Stop ProcessFault)) → ComesBy guest p q fuel n waiting s
+      → n ≤ fuel
   comes_within None h = h.3
-  comes_within (Some (Ok stop.Owes)) h = let are = h.are in let within = h.within in omega (arith, are, within)
+  comes_within (Some (Ok stop.Owes)) h = let are = h.are in let within = h.within in
+      omega (arith, are, within)
   comes_within (Some (Ok (stop.Ended how))) h = h.2
   comes_within (Some (Ok stop.Spent)) h = let e = h.2 in omega (arith, e)
   comes_within (Some (Ok (stop.Asks kind))) h = let e = h.2 in omega (arith, e)
@@ -127,11 +146,23 @@ module _ (guest : Guest) (p q : ProcessState) (fuel n : ℕ) (waiting : List Lin
 
 -- ---- what the process then shows
 
-pub parts_of : (v : ProcessValue) (guest : Guest) (p : ProcessState) → ShowsProcess v guest p → ShowsParts v.machine v.host guest p
-parts_of v guest p s = record { calls = s.calls; configuration = s.configuration; host = s.host; closed = s.closed }
+pub parts_of : (v : ProcessValue) (guest : Guest) (p : ProcessState) → ShowsProcess v guest p
+    → ShowsParts v.machine v.host guest p
+parts_of v guest p s = record {
+  calls = s.calls;
+  configuration = s.configuration;
+  host = s.host;
+  closed = s.closed;
+}
 
-module _ (old : ProcessValue) (machine : MachineValue) (held : HeldHost) (guest : Guest) (p : ProcessState) (shows : ShowsProcess old guest p) (fuel n : ℕ) (ended : Option ProcessEnd) (s : Result Stop ProcessFault)
-    (come : ComesToShown machine held guest p fuel (record { steps = n; ended = ended; stop = Some s })) where
+module _ (old : ProcessValue) (machine : MachineValue) (held : HeldHost) (guest : Guest)
+    (p : ProcessState) (shows : ShowsProcess old guest p) (fuel n : ℕ) (ended : Option ProcessEnd)
+    (s : Result Stop ProcessFault)
+    (come : ComesToShown machine held guest p fuel (record {
+      steps = n;
+      ended = ended;
+      stop = Some s;
+    })) where
   abbrev pub after : ProcessValue
   after = process_of machine held (old.steps + n) old.answers old.requests ended
 
@@ -151,23 +182,55 @@ module _ (old : ProcessValue) (machine : MachineValue) (held : HeldHost) (guest 
       }
 
   abbrev quiet : ComesOn guest p come.process n held.host.lines → ComesQuietly after guest p
-  quiet h = record { steps = n; process = come.process; runs = h.runs; shows = shows_after; none_waits = h.none_waits }
+  quiet h = record {
+    steps = n;
+    process = come.process;
+    runs = h.runs;
+    shows = shows_after;
+    none_waits = h.none_waits;
+  }
 
   module _ (none_waits : waiting_in old ≡ []) (most : ℕ) (within : fuel ≤ most) where
-    pub ends_for : (is_cut : Bool) → (is_cut ≡ true → (fuel < most) × (suc (old.steps + fuel) ≡ 2 ^ 63)) → (is_cut ≡ false → fuel ≡ most) → (r : Result Stop ProcessFault) → r ≡ s → ComesBy guest p come.process fuel n held.host.lines (Some r) → EndsFor old after guest p most (told r is_cut)
+    pub ends_for : (is_cut : Bool)
+        → (is_cut ≡ true → (fuel < most) × (suc (old.steps + fuel) ≡ 2 ^ 63))
+        → (is_cut ≡ false → fuel ≡ most) → (r : Result Stop ProcessFault) → r ≡ s
+        → ComesBy guest p come.process fuel n held.host.lines (Some r)
+        → EndsFor old after guest p most (told r is_cut)
     ends_for is_cut cut whole (Ok stop.Owes) e h =
-        inr (none_waits, record { steps = h.quiet; before = h.before; process = come.process; runs = h.runs; moves = h.moves; owing = h.owing; shows = shows_after }, (let w = h.within in omega (arith, w, within)))
-    ends_for is_cut cut whole (Ok (stop.Ended how)) e h = (none_waits, quiet h.0, (let w = h.2 in omega (arith, w, within)), h.1)
+        inr (
+          none_waits,
+          record {
+            steps = h.quiet;
+            before = h.before;
+            process = come.process;
+            runs = h.runs;
+            moves = h.moves;
+            owing = h.owing;
+            shows = shows_after;
+          },
+          (let w = h.within in omega (arith, w, within)),
+        )
+    ends_for is_cut cut whole (Ok (stop.Ended how)) e h =
+        (none_waits, quiet h.0, (let w = h.2 in omega (arith, w, within)), h.1)
     ends_for true cut whole (Ok stop.Spent) e h =
         let c = cut refl in
         let less = c.0 in
         let last = c.1 in
         let spent = h.2 in
-        let counts = (comes_counted guest p come.process fuel n held.host.lines (Ok stop.Spent) h).steps in
-        let steps = shows.steps in
-        (none_waits, quiet h.0, omega (arith, less, spent), h.1, inl (omega (arith, counts, steps, spent, last)))
+        let counts =
+        (comes_counted guest p come.process fuel n held.host.lines (Ok stop.Spent) h).steps in
+        let steps = shows.steps in (
+          none_waits,
+          quiet h.0,
+          omega (arith, less, spent),
+          h.1,
+          inl (omega (arith, counts, steps, spent, last)),
+        )
     ends_for false cut whole (Ok stop.Spent) e h = (none_waits, quiet h.0, h.2 ∙ whole refl, h.1)
-    ends_for is_cut cut whole (Ok (stop.Asks kind)) e h = (none_waits, quiet h.0, (let w = h.2 in omega (arith, w, within)), h.1, h.3)
-    ends_for is_cut cut whole (Err fault.Memory) e h = (none_waits, quiet h.0, (let w = h.2 in omega (arith, w, within)), h.1, h.3)
-    ends_for is_cut cut whole (Err fault.StepsSpent) e h = (none_waits, quiet h.0, (let w = h.2 in omega (arith, w, within)), h.1, h.3)
+    ends_for is_cut cut whole (Ok (stop.Asks kind)) e h =
+        (none_waits, quiet h.0, (let w = h.2 in omega (arith, w, within)), h.1, h.3)
+    ends_for is_cut cut whole (Err fault.Memory) e h =
+        (none_waits, quiet h.0, (let w = h.2 in omega (arith, w, within)), h.1, h.3)
+    ends_for is_cut cut whole (Err fault.StepsSpent) e h =
+        (none_waits, quiet h.0, (let w = h.2 in omega (arith, w, within)), h.1, h.3)
     ends_for is_cut cut whole (Err fault.WrongAnswer) e h = absurd h

@@ -1,5 +1,6 @@
 -- An answer that is given to the call that waits.
-use Rattle.std.proofs.Common.{◌≡◌, inr, ℕ, ◌+◌, ◌<◌, ◌≤◌, ◌^◌, Bool, false, List, [], Option, Some, None, refl, sym, ap, ◌∙◌, arith}
+use Rattle.std.proofs.Common.{◌≡◌, inr, ℕ, ◌+◌, ◌<◌, ◌≤◌, ◌^◌, Bool, false, List, [], Option, Some}
+use Rattle.std.proofs.Common.{None, refl, sym, ap, ◌∙◌, arith}
 use Rattle.std.specs.Prelude.{is_some, Ok, Err}
 use Rattle.std.specs.Option.{option_map}
 use Rattle.wasi_abi.specs.declared.answer.Answer.{Answer}
@@ -13,7 +14,8 @@ use Rattle.process.specs.declared.calling.Called.TheVariants as called
 use Rattle.process.specs.declared.fault.ProcessFault.{ProcessFault}
 use Rattle.process.specs.declared.fault.ProcessFault.TheVariants as fault
 use Rattle.process.specs.declared.stop.ProcessEnd.{ProcessEnd}
-use Rattle.process.specs.rules.Values.{ProcessValue, ShowsProcess, IsProcess, process_of, ending_of, waiting_in}
+use Rattle.process.specs.rules.Values.{ProcessValue, ShowsProcess, IsProcess, process_of, ending_of}
+use Rattle.process.specs.rules.Values.{waiting_in}
 use Rattle.process.specs.rules.Stops.{CallsHost, EndsNot, TakesAnswer, GivesFor}
 use Rattle.process.specs.Parts.{ShowsParts, IsAtCall, HasFewLines}
 use Rattle.process.specs.Callings.{MakesCall, AnswersFor}

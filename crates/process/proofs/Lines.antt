@@ -1,5 +1,6 @@
 -- How many lines there are.
-use Rattle.std.proofs.Common.{◌≡◌, ◌≢◌, ℕ, ◌+◌, ◌<◌, ◌≤◌, List, [], ◌∷◌, ◌++◌, length, refl, ap, ◌∙◌, arith, length-append, append-nil}
+use Rattle.std.proofs.Common.{◌≡◌, ◌≢◌, ℕ, ◌+◌, ◌<◌, ◌≤◌, List, [], ◌∷◌, ◌++◌, length, refl, ap}
+use Rattle.std.proofs.Common.{◌∙◌, arith, length-append, append-nil}
 use Rattle.std.specs.Prelude.{ltb, ◌==◌, true, false}
 use Rattle.std.proofs.lemmas.Bool.{ltb-true, eqb-true}
 use Rattle.std.proofs.lemmas.Bool.Decides.{nat_tests}
@@ -11,9 +12,11 @@ use Rattle.wasi_calls.proofs.Emitted.{in_front}
 use Rattle.process_rules.specs.Processes.{HasLineNumbers}
 use Rattle.process.specs.Parts.{HasFewLines}
 
-pub lines_shown : (held : HeldHost) (h : Host) → ShowsHost held h → length h.lines ≡ held.released + length held.host.lines
+pub lines_shown : (held : HeldHost) (h : Host) → ShowsHost held h
+    → length h.lines ≡ held.released + length held.host.lines
 lines_shown held h s =
-    let lines : length h.lines ≡ length (s.before ++ held.host.lines) = ap (λ (g : Host). length g.lines) s.is in
+    let lines : length h.lines ≡ length (s.before ++ held.host.lines) =
+    ap (λ (g : Host). length g.lines) s.is in
     let count : length s.before ≡ held.released = s.count in
     omega (arith, lines, count, length-append s.before held.host.lines)
 
@@ -36,23 +39,29 @@ no_more : (a b : List Line) → length (a ++ b) ≡ length a → b ≡ []
 no_more a [] e = refl
 no_more a (x ∷ b) e = absurd (omega (arith, e, length-append a (x ∷ b)))
 
-pub same_lines : (old new : HeldHost) (g h : Host) → ShowsHost old g → ShowsHost new h → new.released ≡ old.released → old.host.lines ≡ [] → new.host.lines ≡ [] → Emits g h → h.lines ≡ g.lines
+pub same_lines : (old new : HeldHost) (g h : Host) → ShowsHost old g → ShowsHost new h
+    → new.released ≡ old.released → old.host.lines ≡ [] → new.host.lines ≡ [] → Emits g h
+    → h.lines ≡ g.lines
 same_lines old new g h s t released before after emits =
     let x = lines_shown old g s in
     let y = lines_shown new h t in
     let none_before : length old.host.lines ≡ 0 = ap (λ (ls : List Line). length ls) before in
     let none_after : length new.host.lines ≡ 0 = ap (λ (ls : List Line). length ls) after in
-    let grown : length h.lines ≡ length (g.lines ++ emits.lines) = ap (λ (ls : List Line). length ls) emits.are in
+    let grown : length h.lines ≡ length (g.lines ++ emits.lines) =
+    ap (λ (ls : List Line). length ls) emits.are in
     let more : emits.lines ≡ [] = no_more g.lines emits.lines (omega arith) in
     emits.are ∙ (rw more (append-nil g.lines))
 
 -- where one waits after, they are not
-pub other_lines : (old new : HeldHost) (g h : Host) (line : Line) (rest : List Line) → ShowsHost old g → ShowsHost new h → new.released ≡ old.released → old.host.lines ≡ [] → new.host.lines ≡ line ∷ rest → h.lines ≢ g.lines
+pub other_lines : (old new : HeldHost) (g h : Host) (line : Line) (rest : List Line)
+    → ShowsHost old g → ShowsHost new h → new.released ≡ old.released → old.host.lines ≡ []
+    → new.host.lines ≡ line ∷ rest → h.lines ≢ g.lines
 other_lines old new g h line rest s t released before after same =
     let x = lines_shown old g s in
     let y = lines_shown new h t in
     let none_before : length old.host.lines ≡ 0 = ap (λ (ls : List Line). length ls) before in
-    let some_after : length new.host.lines ≡ length (line ∷ rest) = ap (λ (ls : List Line). length ls) after in
+    let some_after : length new.host.lines ≡ length (line ∷ rest) =
+    ap (λ (ls : List Line). length ls) after in
     let counts : length h.lines ≡ length g.lines = ap (λ (ls : List Line). length ls) same in
     omega arith
 
@@ -69,4 +78,6 @@ below_when a b within apart = grind arith
 
 pub empty_when : (lines : List Line) → (length lines == 0) ≡ true → lines ≡ []
 empty_when [] e = refl
-empty_when (line ∷ lines) e = let none : length (line ∷ lines) ≡ 0 = eqb-true (length (line ∷ lines)) 0 e in absurd (omega (arith, none))
+empty_when (line ∷ lines) e =
+    let none : length (line ∷ lines) ≡ 0 = eqb-true (length (line ∷ lines)) 0 e in
+    absurd (omega (arith, none))

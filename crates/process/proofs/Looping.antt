@@ -1,5 +1,6 @@
 -- The step of a call, and stretches in a loop.
-use Rattle.std.proofs.Common.{◌≡◌, inr, ℕ, ◌+◌, ◌-◌, ◌<◌, ◌≤◌, List, [], Option, Some, None, refl, sym, ap, ◌∙◌, subst, arith}
+use Rattle.std.proofs.Common.{◌≡◌, inr, ℕ, ◌+◌, ◌-◌, ◌<◌, ◌≤◌, List, [], Option, Some, None, refl}
+use Rattle.std.proofs.Common.{sym, ap, ◌∙◌, subst, arith}
 use Rattle.std.specs.Prelude.{Result, Ok, Err}
 use Rattle.wasi_abi.specs.declared.call.Call.{Call}
 use Rattle.wasi_calls.specs.rules.Held.{HeldHost}
@@ -22,8 +23,10 @@ use Rattle.process.proofs.Counting.{comes_within}
 
 -- ---- the step of a call
 
-module _ (old new : MachineValue) (old_held held : HeldHost) (c : Call) (arguments : List ℕ) (released : held.released ≡ old_held.released) (none_waits : old_held.host.lines ≡ []) where
-  as_before : new ≡ old → held ≡ old_held → (guest : Guest) (p : ProcessState) → ShowsParts old old_held guest p → ShowsParts new held guest p
+module _ (old new : MachineValue) (old_held held : HeldHost) (c : Call) (arguments : List ℕ)
+    (released : held.released ≡ old_held.released) (none_waits : old_held.host.lines ≡ []) where
+  as_before : new ≡ old → held ≡ old_held → (guest : Guest) (p : ProcessState)
+      → ShowsParts old old_held guest p → ShowsParts new held guest p
   as_before e f guest p shows =
       let P : MachineValue → Type 0 = λ m. ShowsParts m old_held guest p in
       let Q : HeldHost → Type 0 = λ h. ShowsParts new h guest p in
@@ -32,16 +35,23 @@ module _ (old new : MachineValue) (old_held held : HeldHost) (c : Call) (argumen
   still_none : held ≡ old_held → held.host.lines ≡ []
   still_none f = ap (λ (h : HeldHost). h.host.lines) f ∙ none_waits
 
-  pub steps_of : (r : Result Called ProcessFault) → MakesCall old old_held c arguments None r new held → StepsAt old old_held c arguments (stretch_of r held.host.lines) new held
+  pub steps_of : (r : Result Called ProcessFault)
+      → MakesCall old old_held c arguments None r new held
+      → StepsAt old old_held c arguments (stretch_of r held.host.lines) new held
   steps_of (Ok (called.Made synced ended)) calls guest p fuel shows running at some =
       let k = calls guest p shows running at in
       let l = k.0 in
-      let moves : Moves guest p None l.process = record { running = running; wanted = tt; leads = l.leads } in
+      let moves : Moves guest p None l.process = record {
+        running = running;
+        wanted = tt;
+        leads = l.leads;
+      } in
       record {
         process = l.process;
         shows = l.shows;
         ended = l.ended;
-        comes = after_step guest p p l.process 0 fuel no_run moves some old_held held shows.host l.shows.host released none_waits synced (k.1 refl) ended l.ended held.host.lines refl;
+        comes = after_step guest p p l.process 0 fuel no_run moves some old_held held shows.host
+            l.shows.host released none_waits synced (k.1 refl) ended l.ended held.host.lines refl;
       }
   steps_of (Ok (called.Asks kind)) calls guest p fuel shows running at some =
       let k = calls guest p shows running at in
@@ -57,7 +67,18 @@ module _ (old new : MachineValue) (old_held held : HeldHost) (c : Call) (argumen
         process = p;
         shows = as_before k.0 k.1 guest p shows;
         ended = running;
-        comes = (record { runs = no_run; none_waits = still_none k.1 }, running, some, record { function = at.function; operands = at.operands; waits = at.waits; asks = at.asks; ends_not = k.2 });
+        comes = (
+          record { runs = no_run; none_waits = still_none k.1 },
+          running,
+          some,
+          record {
+            function = at.function;
+            operands = at.operands;
+            waits = at.waits;
+            asks = at.asks;
+            ends_not = k.2;
+          },
+        );
       }
   steps_of (Err fault.StepsSpent) calls guest p fuel shows running at some =
       let k = calls guest p shows running at in
@@ -67,27 +88,33 @@ module _ (old new : MachineValue) (old_held held : HeldHost) (c : Call) (argumen
         ended = running;
         comes = (record { runs = no_run; none_waits = still_none k.1 }, running, some, inr k.2);
       }
-  steps_of (Err fault.WrongAnswer) calls guest p fuel shows running at some = absurd (calls guest p shows running at)
+  steps_of (Err fault.WrongAnswer) calls guest p fuel shows running at some =
+      absurd (calls guest p shows running at)
 
 -- ---- the loop
 
 -- so many steps after which nothing is owed have led to a process that is shown and runs on
-pub record Reached (machine : MachineValue) (held : HeldHost) (guest : Guest) (p : ProcessState) (steps : ℕ) : Type 0 where
+pub record Reached (machine : MachineValue) (held : HeldHost) (guest : Guest) (p : ProcessState)
+    (steps : ℕ) : Type 0 where
   pub process : ProcessState
   pub runs : RunsQuietly guest p steps process
   pub shows : ShowsParts machine held guest process
   pub running : process.ended ≡ None
 
-pub record IsOn (first : MachineValue) (first_held : HeldHost) (fuel : ℕ) (machine : MachineValue) (held : HeldHost) (steps : ℕ) : Type 0 where
+pub record IsOn (first : MachineValue) (first_held : HeldHost) (fuel : ℕ) (machine : MachineValue)
+    (held : HeldHost) (steps : ℕ) : Type 0 where
   pub holds : HoldsMemory machine
   pub few : HasFewLines held
   pub released : held.released ≡ first_held.released
   pub none_waits : held.host.lines ≡ []
   pub runs : IsRunning machine held
   pub within : steps ≤ fuel
-  pub on : (guest : Guest) (p : ProcessState) → ShowsParts first first_held guest p → p.ended ≡ None → Reached machine held guest p steps
+  pub on : (guest : Guest) (p : ProcessState) → ShowsParts first first_held guest p → p.ended ≡ None
+      → Reached machine held guest p steps
 
-pub begins : (machine : MachineValue) (held : HeldHost) (fuel : ℕ) → HoldsMemory machine → HasFewLines held → held.host.lines ≡ [] → IsRunning machine held → IsOn machine held fuel machine held 0
+pub begins : (machine : MachineValue) (held : HeldHost) (fuel : ℕ) → HoldsMemory machine
+    → HasFewLines held → held.host.lines ≡ [] → IsRunning machine held
+    → IsOn machine held fuel machine held 0
 begins machine held fuel holds few none_waits runs = record {
   holds = holds;
   few = few;
@@ -95,42 +122,79 @@ begins machine held fuel holds few none_waits runs = record {
   none_waits = none_waits;
   runs = runs;
   within = omega arith;
-  on = λ guest p shows running. record { process = p; runs = no_run; shows = shows; running = running };
+  on = λ guest p shows running. record {
+    process = p;
+    runs = no_run;
+    shows = shows;
+    running = running;
+  };
 }
 
-module _ (first : MachineValue) (first_held : HeldHost) (fuel : ℕ) (mid : MachineValue) (mid_held : HeldHost) (steps : ℕ) (is_on : IsOn first first_held fuel mid mid_held steps)
-    (new : MachineValue) (held : HeldHost) (next : Stretch) (stretches : Stretches mid mid_held (fuel - steps) next new held) where
+module _ (first : MachineValue) (first_held : HeldHost) (fuel : ℕ) (mid : MachineValue)
+    (mid_held : HeldHost) (steps : ℕ) (is_on : IsOn first first_held fuel mid mid_held steps)
+    (new : MachineValue) (held : HeldHost) (next : Stretch) (stretches : Stretches mid mid_held
+    (fuel - steps) next new held) where
   -- the next stretch, from where the loop has come to
-  onwards : (guest : Guest) (p : ProcessState) → ShowsParts first first_held guest p → p.ended ≡ None → ComesToShown new held guest p fuel (record { steps = steps + next.steps; ended = next.ended; stop = next.stop })
+  onwards : (guest : Guest) (p : ProcessState) → ShowsParts first first_held guest p
+      → p.ended ≡ None → ComesToShown new held guest p fuel (record {
+        steps = steps + next.steps;
+        ended = next.ended;
+        stop = next.stop;
+      })
   onwards guest p shows running =
       let here = is_on.on guest p shows running in
       let come = stretches guest here.process here.shows here.running in
-      let whole = joined guest p here.process come.process steps here.runs (fuel - steps) next.steps held.host.lines next.stop come.comes in
+      let whole = joined guest p here.process come.process steps here.runs (fuel
+      - steps) next.steps held.host.lines next.stop come.comes in
       let within = is_on.within in
       let all : steps + (fuel - steps) ≡ fuel = omega (arith, within) in
-      let P : ℕ → Type 0 = λ n. ComesBy guest p come.process n (steps + next.steps) held.host.lines next.stop in
-      record { process = come.process; shows = come.shows; ended = come.ended; comes = subst P all whole }
+      let P : ℕ → Type 0 =
+      λ n. ComesBy guest p come.process n (steps + next.steps) held.host.lines next.stop in
+      record {
+        process = come.process;
+        shows = come.shows;
+        ended = come.ended;
+        comes = subst P all whole;
+      }
 
   pub steps_within : steps + next.steps ≤ fuel
   steps_within =
       let r = is_on.runs in
       let come = stretches r.guest r.process r.shows r.running in
-      let within = comes_within r.guest r.process come.process (fuel - steps) next.steps held.host.lines next.stop come.comes in
+      let within =
+      comes_within r.guest r.process come.process (fuel
+      - steps) next.steps held.host.lines next.stop come.comes in
       let before = is_on.within in
       omega (arith, within, before)
 
-  pub stops_now : (s : Result Stop ProcessFault) → next.stop ≡ Some s → Stretches first first_held fuel (record { steps = steps + next.steps; ended = next.ended; stop = Some s }) new held
+  pub stops_now : (s : Result Stop ProcessFault) → next.stop ≡ Some s
+      → Stretches first first_held fuel (record {
+        steps = steps + next.steps;
+        ended = next.ended;
+        stop = Some s;
+      }) new held
   stops_now s e guest p shows running =
-      let P : Option (Result Stop ProcessFault) → Type 0 = λ o. ComesToShown new held guest p fuel (record { steps = steps + next.steps; ended = next.ended; stop = o }) in
+      let P : Option (Result Stop ProcessFault) → Type 0 =
+      λ o. ComesToShown new held guest p fuel (record {
+        steps = steps + next.steps;
+        ended = next.ended;
+        stop = o;
+      }) in
       subst P e (onwards guest p shows running)
 
   module _ (goes_on : next.stop ≡ None) where
-    some_more : (guest : Guest) (p : ProcessState) (s : ShowsParts mid mid_held guest p) (r : p.ended ≡ None) → ComesBy guest p (stretches guest p s r).process (fuel - steps) next.steps held.host.lines None
+    some_more : (guest : Guest) (p : ProcessState) (s : ShowsParts mid mid_held guest p)
+        (r : p.ended ≡ None)
+        → ComesBy guest p (stretches guest p s r).process (fuel
+        - steps) next.steps held.host.lines None
     some_more guest p s r =
-        let P : Option (Result Stop ProcessFault) → Type 0 = λ o. ComesBy guest p (stretches guest p s r).process (fuel - steps) next.steps held.host.lines o in
+        let P : Option (Result Stop ProcessFault) → Type 0 =
+        λ o. ComesBy guest p (stretches guest p s r).process (fuel
+        - steps) next.steps held.host.lines o in
         subst P goes_on (stretches guest p s r).comes
 
-    pub on_again : HoldsMemory new → HasFewLines held → held.released ≡ mid_held.released → IsOn first first_held fuel new held (steps + next.steps)
+    pub on_again : HoldsMemory new → HasFewLines held → held.released ≡ mid_held.released
+        → IsOn first first_held fuel new held (steps + next.steps)
     on_again holds few released =
         let r = is_on.runs in
         let come = stretches r.guest r.process r.shows r.running in
@@ -142,7 +206,12 @@ module _ (first : MachineValue) (first_held : HeldHost) (fuel : ℕ) (mid : Mach
           few = few;
           released = released ∙ is_on.released;
           none_waits = more.0.none_waits;
-          runs = record { guest = r.guest; process = come.process; shows = come.shows; running = more.1 };
+          runs = record {
+            guest = r.guest;
+            process = come.process;
+            shows = come.shows;
+            running = more.1;
+          };
           within = omega (arith, within, before);
           on = λ guest p shows running.
               let here = is_on.on guest p shows running in
@@ -150,7 +219,8 @@ module _ (first : MachineValue) (first_held : HeldHost) (fuel : ℕ) (mid : Mach
               let steps_on = some_more guest here.process here.shows here.running in
               record {
                 process = there.process;
-                runs = quiet_runs_join guest p here.process there.process steps next.steps here.runs steps_on.0.runs;
+                runs = quiet_runs_join guest p here.process there.process steps next.steps here.runs
+                    steps_on.0.runs;
                 shows = there.shows;
                 running = steps_on.1;
               };

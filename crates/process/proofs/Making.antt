@@ -1,5 +1,6 @@
 -- What a call of the guest comes to.
-use Rattle.std.proofs.Common.{◌≡◌, ◌≢◌, ℕ, ◌<◌, ◌^◌, List, [], ◌∷◌, Option, Some, None, refl, sym, ap, ◌∙◌, subst, arith}
+use Rattle.std.proofs.Common.{◌≡◌, ◌≢◌, ℕ, ◌<◌, ◌^◌, List, [], ◌∷◌, Option, Some, None, refl, sym}
+use Rattle.std.proofs.Common.{ap, ◌∙◌, subst, arith}
 use Rattle.std.specs.Prelude.{Ok, Err, slice_get, map, reverse}
 use Rattle.std.specs.Option.{option_map}
 use Rattle.wasm_syntax.specs.declared.value.Value.{Value}
@@ -25,8 +26,10 @@ use Rattle.machine.specs.rules.Answers.{call_results}
 use Rattle.machine.specs.rules.Values.{MachineValue, ShowsIn, memory_of, with_memory}
 use Rattle.machine.specs.laws.Laws.{with_memory_bytes}
 use Rattle.machine.proofs.Written.{shows_what_is_written}
-use Rattle.process_rules.specs.Processes.{Ending, Exited, ProcessState, Guest, AreCalls, over, closed}
-use Rattle.process_rules.specs.Runs.{Next, On, Over, given_by, after_row, after_call, after_rule, next_of, stepped, LeadsTo}
+use Rattle.process_rules.specs.Processes.{Ending, Exited, ProcessState, Guest, AreCalls, over}
+use Rattle.process_rules.specs.Processes.{closed}
+use Rattle.process_rules.specs.Runs.{Next, On, Over, given_by, after_row, after_call, after_rule}
+use Rattle.process_rules.specs.Runs.{next_of, stepped, LeadsTo}
 use Rattle.process_rules.specs.Behind.{Syncs}
 use Rattle.process_rules.proofs.Quiet.{open_still}
 use Rattle.process.specs.declared.stop.ProcessEnd.{ProcessEnd}
@@ -91,54 +94,88 @@ over_gives c arguments typed given m h r e over = gives_number c (λ is. not_exi
 pub closed_over : (q : ProcessState) → IsEnded q.configuration → closed q ≡ over (Exited 0) q
 closed_over q ends = rw (ends.returned, ends.nothing_later) refl
 
-module _ (guest : Guest) (p : ProcessState) (c : Call) (arguments : List ℕ) (at : IsAtCall guest p.configuration c arguments) (given : Option Answer) where
-  pub next_is : (r : Ruling) → row c arguments given p.configuration.store.memory p.host ≡ r → next_of guest p given ≡ after_row c r p.configuration p.host at.waits
+module _ (guest : Guest) (p : ProcessState) (c : Call) (arguments : List ℕ)
+    (at : IsAtCall guest p.configuration c arguments) (given : Option Answer) where
+  pub next_is : (r : Ruling) → row c arguments given p.configuration.store.memory p.host ≡ r
+      → next_of guest p given ≡ after_row c r p.configuration p.host at.waits
   next_is r e =
       ap (λ (o : Result). after_rule guest o given p.configuration p.host) at.asks
-      ∙ ap (λ (o : Option Call). after_call o at.operands given p.configuration p.host at.waits) at.is_call
-      ∙ ap (λ (ns : List ℕ). after_row c (row c ns given p.configuration.store.memory p.host) p.configuration p.host at.waits) (sym at.are)
+      ∙ ap (λ (o : Option Call). after_call o at.operands given p.configuration p.host at.waits)
+      at.is_call
+      ∙ ap (λ (ns : List ℕ).
+      after_row c (row c ns given p.configuration.store.memory p.host) p.configuration p.host
+      at.waits) (sym at.are)
       ∙ ap (λ (r : Ruling). after_row c r p.configuration p.host at.waits) e
 
   -- the process goes on with what the call gives
   pub record GoesOnGiven (m : Bytes) (held : HeldHost) (n : ℕ) : Type 0 where
     pub host : Host
-    pub next : next_of guest p given ≡ On (answered p.configuration m (call_results (Some n)) at.waits) host
+    pub next : next_of guest p given
+        ≡ On (answered p.configuration m (call_results (Some n)) at.waits) host
     pub shows : ShowsHost held host
     pub gives : GivesNumber c
 
   module _ (typed : AreArguments (parameters_of c) arguments) where
-    pub goes_on : (error : Option Errno) (m : Bytes) (held old : HeldHost) → ShowsHost old p.host → ShowsRow (IsDone error) m held p.configuration.store.memory old (row c arguments given p.configuration.store.memory p.host) → GoesOnGiven m held (error_number error)
+    pub goes_on : (error : Option Errno) (m : Bytes) (held old : HeldHost) → ShowsHost old p.host
+        → ShowsRow (IsDone error) m held p.configuration.store.memory old
+        (row c arguments given p.configuration.store.memory p.host)
+        → GoesOnGiven m held (error_number error)
     goes_on None m held old shows told =
-        let number = over_gives c arguments typed given p.configuration.store.memory p.host (Ok told.0) told.1 tt in
+        let number =
+        over_gives c arguments typed given p.configuration.store.memory p.host
+        (Ok told.0) told.1 tt in
         record {
           host = told.0.host;
           next = next_is (Ok told.0) told.1
-              ∙ ap (λ (z : Bytes). On (answered p.configuration z (given_by c 0) at.waits) told.0.host) (sym told.2)
-              ∙ ap (λ (z : List Value). On (answered p.configuration m z at.waits) told.0.host) (number.gives 0);
+              ∙ ap (λ (z : Bytes).
+              On (answered p.configuration z (given_by c 0) at.waits) told.0.host) (sym told.2)
+              ∙ ap (λ (z : List Value). On (answered p.configuration m z at.waits) told.0.host)
+              (number.gives 0);
           shows = told.3;
           gives = number;
         }
     goes_on (Some e) m held old shows told =
-        let number = over_gives c arguments typed given p.configuration.store.memory p.host (Err (Refuses e)) told.0 tt in
+        let number =
+        over_gives c arguments typed given p.configuration.store.memory p.host
+        (Err (Refuses e)) told.0 tt in
         record {
           host = p.host;
           next = next_is (Err (Refuses e)) told.0
-              ∙ ap (λ (z : Bytes). On (answered p.configuration z (given_by c (errno_number e)) at.waits) p.host) (sym told.1)
-              ∙ ap (λ (z : List Value). On (answered p.configuration m z at.waits) p.host) (number.gives (errno_number e));
-          shows = (let P : HeldHost → Type 0 = λ z. ShowsHost z p.host in subst P (sym told.2) shows);
+              ∙ ap (λ (z : Bytes).
+              On (answered p.configuration z (given_by c (errno_number e)) at.waits) p.host)
+              (sym told.1)
+              ∙ ap (λ (z : List Value). On (answered p.configuration m z at.waits) p.host)
+              (number.gives (errno_number e));
+          shows = (let P : HeldHost → Type 0 = λ z. ShowsHost z p.host in
+              subst P (sym told.2) shows);
           gives = number;
         }
 
   -- ---- where it leads
 
-  pub leads_on : (new : MachineValue) (held : HeldHost) (c' : Configuration) (h : Host) (e : Configuration) (ended : Option ProcessEnd) → AreCalls new.guest.imports guest.calls → next_of guest p given ≡ On c' h → Settles guest.program c' e → ShowsIn new guest.program e → EndsAt e held h ended → LeadsToProcess new held guest p given (option_map ending_of ended)
+  pub leads_on : (new : MachineValue) (held : HeldHost) (c' : Configuration) (h : Host)
+      (e : Configuration) (ended : Option ProcessEnd) → AreCalls new.guest.imports guest.calls
+      → next_of guest p given ≡ On c' h → Settles guest.program c' e → ShowsIn new guest.program e
+      → EndsAt e held h ended → LeadsToProcess new held guest p given (option_map ending_of ended)
   leads_on new held c' h e None calls next settles shows ends =
       let q : ProcessState = stepped given e h p in
       let P : Next → Type 0 = λ z. LeadsTo guest z given p q in
       record {
         process = q;
-        leads = subst P (sym next) (e, settles, sym (open_still e.thread e.later q (λ a b. ends.0 (record { returned = a; nothing_later = b }))));
-        shows = record { calls = calls; configuration = shows; host = ends.1; closed = λ _. ends.0 };
+        leads = subst P (sym next) (
+          e,
+          settles,
+          sym (open_still e.thread e.later q (λ a b. ends.0 (record {
+            returned = a;
+            nothing_later = b;
+          }))),
+        );
+        shows = record {
+          calls = calls;
+          configuration = shows;
+          host = ends.1;
+          closed = λ _. ends.0;
+        };
         ended = refl;
       }
   leads_on new held c' h e (Some how) calls next settles shows ends =
@@ -147,24 +184,40 @@ module _ (guest : Guest) (p : ProcessState) (c : Call) (arguments : List ℕ) (a
       record {
         process = q;
         leads = subst P (sym next) (e, settles, sym (closed_over (stepped given e h p) ends.0));
-        shows = record { calls = calls; configuration = shows; host = ends.2; closed = λ k. absurd (cc) };
+        shows = record {
+          calls = calls;
+          configuration = shows;
+          host = ends.2;
+          closed = λ k. absurd (cc);
+        };
         ended = (let same = ends.1 in cc);
       }
 
-  pub leads_out : (new : MachineValue) (held : HeldHost) (code : ℕ) → AreCalls new.guest.imports guest.calls → next_of guest p given ≡ Over (Exited code) (stopped p.configuration) p.host → ShowsIn new guest.program (stopped p.configuration) → ShowsHost held (lines_ended p.host) → LeadsToProcess new held guest p given (Some (Exited code))
+  pub leads_out : (new : MachineValue) (held : HeldHost) (code : ℕ)
+      → AreCalls new.guest.imports guest.calls
+      → next_of guest p given ≡ Over (Exited code) (stopped p.configuration) p.host
+      → ShowsIn new guest.program (stopped p.configuration) → ShowsHost held (lines_ended p.host)
+      → LeadsToProcess new held guest p given (Some (Exited code))
   leads_out new held code calls next shows host =
-      let q : ProcessState = over (Exited code) (stepped given (stopped p.configuration) p.host p) in
+      let q : ProcessState = over (Exited code) (stepped given (stopped p.configuration) p.host p)
+      in
       let P : Next → Type 0 = λ z. LeadsTo guest z given p q in
       record {
         process = q;
         leads = subst P (sym next) refl;
-        shows = record { calls = calls; configuration = shows; host = host; closed = λ k. absurd (cc) };
+        shows = record {
+          calls = calls;
+          configuration = shows;
+          host = host;
+          closed = λ k. absurd (cc);
+        };
         ended = refl;
       }
 
   -- ---- syncs
 
-  pub syncs_when : IsSync c → p.ended ≡ None → (done : Done) → row c arguments None p.configuration.store.memory p.host ≡ Ok done → Syncs guest p
+  pub syncs_when : IsSync c → p.ended ≡ None → (done : Done)
+      → row c arguments None p.configuration.store.memory p.host ≡ Ok done → Syncs guest p
   syncs_when sync running done e = record {
     function = at.function;
     arguments = at.operands;
@@ -175,7 +228,8 @@ module _ (guest : Guest) (p : ProcessState) (c : Call) (arguments : List ℕ) (a
     asks = at.asks;
     is_call = at.is_call;
     is_sync = sync;
-    answers_zero = ap (λ (ns : List ℕ). row c ns None p.configuration.store.memory p.host) (sym at.are) ∙ e;
+    answers_zero =
+        ap (λ (ns : List ℕ). row c ns None p.configuration.store.memory p.host) (sym at.are) ∙ e;
   }
 
   -- a sync of the guest is of this call, and done
@@ -192,39 +246,60 @@ module _ (guest : Guest) (p : ProcessState) (c : Call) (arguments : List ℕ) (a
       let was = s.is_call in
       let functions : s.function ≡ at.function = cc in
       let operands : s.arguments ≡ at.operands = cc in
-      let found : slice_get guest.calls at.function ≡ Some s.call = ap (slice_get guest.calls) (sym functions) ∙ was in
+      let found : slice_get guest.calls at.function ≡ Some s.call =
+      ap (slice_get guest.calls) (sym functions) ∙ was in
       let same : s.call ≡ c = cc in
       record {
         is_sync = subst IsSync same s.is_sync;
         done = s.done;
-        is_done = ap (λ (ns : List ℕ). row c ns None p.configuration.store.memory p.host) (at.are ∙ ap (λ (vs : List Value). reverse (map number_in vs)) (sym operands))
-            ∙ ap (λ (d : Call). row d (reverse (map number_in s.arguments)) None p.configuration.store.memory p.host) (sym same)
+        is_done = ap (λ (ns : List ℕ). row c ns None p.configuration.store.memory p.host) (at.are
+            ∙ ap (λ (vs : List Value). reverse (map number_in vs)) (sym operands))
+            ∙ ap (λ (d : Call).
+            row d (reverse (map number_in s.arguments)) None p.configuration.store.memory
+            p.host) (sym same)
             ∙ s.answers_zero;
       }
 
 -- ---- a call that doesn't end the process
 
-ends_not_after : (c : Call) (r : Ruling) (before : Configuration) (g : Host) (waits : Thread) (why : Ending) (d : Configuration) (h : Host) → ((code : ℕ) → r ≢ Err (Ends code)) → after_row c r before g waits ≢ Over why d h
+ends_not_after : (c : Call) (r : Ruling) (before : Configuration) (g : Host) (waits : Thread)
+    (why : Ending) (d : Configuration) (h : Host) → ((code : ℕ) → r ≢ Err (Ends code))
+    → after_row c r before g waits ≢ Over why d h
 ends_not_after c (Ok done) before g waits why d h nothing e = absurd (cc)
 ends_not_after c (Err (Refuses f)) before g waits why d h nothing e = absurd (cc)
 ends_not_after c (Err (Wishes kind)) before g waits why d h nothing e = absurd (cc)
 ends_not_after c (Err (Ends code)) before g waits why d h nothing e = nothing code refl
 
-pub ends_not : (guest : Guest) (p : ProcessState) (c : Call) (arguments : List ℕ) → IsAtCall guest p.configuration c arguments → EndsNothing c arguments → EndsNot guest p
+pub ends_not : (guest : Guest) (p : ProcessState) (c : Call) (arguments : List ℕ)
+    → IsAtCall guest p.configuration c arguments → EndsNothing c arguments → EndsNot guest p
 ends_not guest p c arguments at nothing given why d h e =
     let r : Ruling = row c arguments given p.configuration.store.memory p.host in
-    ends_not_after c r p.configuration p.host at.waits why d h (nothing given p.configuration.store.memory p.host) (sym (next_is guest p c arguments at given r refl) ∙ e)
+    ends_not_after c r p.configuration p.host at.waits why d h
+    (nothing given p.configuration.store.memory p.host)
+    (sym (next_is guest p c arguments at given r refl) ∙ e)
 
 -- ---- the host has made it
 
-module _ (old mid : MachineValue) (old_held mid_held : HeldHost) (c : Call) (arguments : List ℕ) (given : Option Answer) where
-  pub written : (o : CallOutcome) → HasCalled old old_held c arguments given o mid mid_held → (program : Program) (d : Configuration) → ShowsIn old program d → ShowsIn mid program (with_memory_bytes d mid.state.memory)
+module _ (old mid : MachineValue) (old_held mid_held : HeldHost) (c : Call) (arguments : List ℕ)
+    (given : Option Answer) where
+  pub written : (o : CallOutcome) → HasCalled old old_held c arguments given o mid mid_held
+      → (program : Program) (d : Configuration) → ShowsIn old program d
+      → ShowsIn mid program (with_memory_bytes d mid.state.memory)
   written o called program d shows =
-      let P : MachineValue → Type 0 = λ v. ShowsIn v program (with_memory_bytes d mid.state.memory) in
-      subst P (sym called.is) (shows_what_is_written old (memory_of mid) program d called.large.size called.bytes called.large.limit shows)
+      let P : MachineValue → Type 0 = λ v. ShowsIn v program (with_memory_bytes d mid.state.memory)
+      in
+      subst P (sym called.is) (shows_what_is_written old (memory_of mid) program d called.large.size
+      called.bytes called.large.limit shows)
 
-  pub unchanged : (o : CallOutcome) → HasCalled old old_held c arguments given o mid mid_held → mid.state.memory ≡ old.state.memory → mid ≡ old
-  unchanged o called e = called.is ∙ ap (λ (m : List ℕ). with_memory old (record { bytes = m; limit = mid.limit })) e ∙ ap (λ (n : ℕ). with_memory old (record { bytes = old.state.memory; limit = n })) called.large.limit
+  pub unchanged : (o : CallOutcome) → HasCalled old old_held c arguments given o mid mid_held
+      → mid.state.memory ≡ old.state.memory → mid ≡ old
+  unchanged o called e =
+      called.is ∙ ap (λ (m : List ℕ). with_memory old (record { bytes = m; limit = mid.limit })) e
+      ∙ ap (λ (n : ℕ). with_memory old (record {
+        bytes = old.state.memory;
+        limit = n;
+      })) called.large.limit
 
-  pub same_guest : (o : CallOutcome) → HasCalled old old_held c arguments given o mid mid_held → mid.guest ≡ old.guest
+  pub same_guest : (o : CallOutcome) → HasCalled old old_held c arguments given o mid mid_held
+      → mid.guest ≡ old.guest
   same_guest o called = ap (λ (v : MachineValue). v.guest) called.is

@@ -1,5 +1,6 @@
 -- The calls that a module's imports name.
-use Rattle.std.proofs.Common.{◌≡◌, ℕ, Bool, true, false, cond, List, [], ◌∷◌, Option, Some, None, refl, sym, ap, ◌∙◌, subst}
+use Rattle.std.proofs.Common.{◌≡◌, ℕ, Bool, true, false, cond, List, [], ◌∷◌, Option, Some, None}
+use Rattle.std.proofs.Common.{refl, sym, ap, ◌∙◌, subst}
 use Rattle.std.specs.Prelude.{map, reverse, IsSome}
 use Rattle.std.specs.List.{AllByRecursion, find}
 use Rattle.std.specs.Str.{bytes_eq}
@@ -18,7 +19,8 @@ use Rattle.machine_slots.proofs.Families.{map-reverse}
 use Rattle.wasi_abi.specs.declared.call.Call.{Call}
 use Rattle.wasi_abi.specs.rules.Calls.{module_name, all_calls, name_of, parameters_of, call_type_of}
 use Rattle.wasi_calls.specs.rules.Calls.{AreArguments}
-use Rattle.machine.specs.rules.Offers.{offered_call, offer, imported_call, AreImportedCalls as AreOffered}
+use Rattle.machine.specs.rules.Offers.{offered_call, offer, imported_call}
+use Rattle.machine.specs.rules.Offers.{AreImportedCalls as AreOffered}
 use Rattle.machine.proofs.InstanceLemmas.Offered.{has_call}
 use Rattle.process_rules.specs.Processes.{AreCalls}
 use Rattle.process_rules.proofs.OneStart.{calls_once}
@@ -47,7 +49,10 @@ of_module : (from name : List ℕ) (c : Call) (b : Bool) → bytes_eq from modul
     → cond b (find (λ d. bytes_eq (name_of d) name) all_calls) None ≡ Some c
     → IsOfferedAs from name c
 of_module from name c true t e =
-    record { from_is = (bytes_eq-Decides from module_name).0 t; named = found_named name all_calls c e }
+    record {
+      from_is = (bytes_eq-Decides from module_name).0 t;
+      named = found_named name all_calls c e;
+    }
 of_module from name c false t e = absurd (cc)
 
 offered_as : (from name : List ℕ) (c : Call) → offered_call from name ≡ Some c
@@ -92,7 +97,8 @@ some_calls types (i ∷ imports) h =
 
 -- ---- arguments
 
-are_arguments : (types : List ValueType) (values : List Value) → AreOf types values → AreArguments types (map number_in values)
+are_arguments : (types : List ValueType) (values : List Value) → AreOf types values
+    → AreArguments types (map number_in values)
 are_arguments [] [] h = tt
 are_arguments [] (v ∷ values) h = absurd h
 are_arguments (I32 ∷ types) [] h = absurd h
@@ -102,10 +108,15 @@ are_arguments (I32 ∷ types) (value.I64 n ∷ values) h = absurd h.0
 are_arguments (I64 ∷ types) (value.I32 n ∷ values) h = absurd h.0
 are_arguments (I64 ∷ types) (value.I64 n ∷ values) h = (h.0, are_arguments types values h.1)
 
-pub arguments_typed : (c : Call) (operands : List Value) → AreOf (takes_of (call_type_of c)) operands → AreArguments (parameters_of c) (reverse (map number_in operands))
+pub arguments_typed : (c : Call) (operands : List Value)
+    → AreOf (takes_of (call_type_of c)) operands
+    → AreArguments (parameters_of c) (reverse (map number_in operands))
 arguments_typed c operands h =
-    let there : AreOf (reverse (reverse (parameters_of c))) (reverse operands) = reverse_are (takes_of (call_type_of c)) operands h in
+    let there : AreOf (reverse (reverse (parameters_of c))) (reverse operands) =
+    reverse_are (takes_of (call_type_of c)) operands h in
     let P : List ValueType → Type 0 = λ types. AreOf types (reverse operands) in
-    let forwards = are_arguments (parameters_of c) (reverse operands) (subst P (reverse-reverse (parameters_of c)) there) in
+    let forwards =
+    are_arguments (parameters_of c) (reverse operands)
+    (subst P (reverse-reverse (parameters_of c)) there) in
     let Q : List ℕ → Type 0 = λ numbers. AreArguments (parameters_of c) numbers in
     subst Q (map-reverse number_in operands) forwards

@@ -1,5 +1,6 @@
 -- The process of a module that begins.
-use Rattle.std.proofs.Common.{◌≡◌, ℕ, List, [], Option, Some, None, refl, sym, ap, ◌∙◌, subst, arith}
+use Rattle.std.proofs.Common.{◌≡◌, ℕ, List, [], Option, Some, None, refl, sym, ap, ◌∙◌, subst}
+use Rattle.std.proofs.Common.{arith}
 use Rattle.std.specs.Prelude.{codes}
 use Rattle.wasm_syntax.specs.declared.module.Module.{Module}
 use Rattle.wasm_syntax.specs.declared.module.ExportItem.TheVariants as export
@@ -12,7 +13,8 @@ use Rattle.wasi_calls_rules.specs.Hosts.{Host}
 use Rattle.wasi_calls.specs.rules.Held.{HeldHost, ShowsHost, held_ended}
 use Rattle.machine.specs.rules.Values.{MachineValue, ShowsIn}
 use Rattle.machine.specs.rules.Runs.{HasBegun}
-use Rattle.process_rules.specs.Processes.{Exited, ProcessState, Guest, AreCalls, IsStart, host_of, over, closed}
+use Rattle.process_rules.specs.Processes.{Exited, ProcessState, Guest, AreCalls, IsStart, host_of}
+use Rattle.process_rules.specs.Processes.{over, closed}
 use Rattle.process_rules.proofs.OneStart.{item_number, entry_once}
 use Rattle.process_rules.proofs.Quiet.{open_still}
 use Rattle.process.specs.declared.stop.ProcessEnd.{ProcessEnd}
@@ -24,31 +26,52 @@ use Rattle.process.proofs.Making.{closed_over}
 
 -- the process before its first rule
 abbrev pub first_process : Settings → Configuration → ProcessState
-first_process config d = record { configuration = d; host = host_of config; steps = 0; answers = 0; requests = 0; ended = None }
+first_process config d = record {
+  configuration = d;
+  host = host_of config;
+  steps = 0;
+  answers = 0;
+  requests = 0;
+  ended = None;
+}
 
 abbrev pub first_held : Settings → HeldHost
 first_held config = record { released = 0; host = host_of config }
 
-module _ (m : Module) (config : Settings) (valid : IsValid m) (machine : MachineValue) (begun : HasBegun config.pages m machine)
+module _ (m : Module) (config : Settings) (valid : IsValid m) (machine : MachineValue)
+    (begun : HasBegun config.pages m machine)
     (held last : HeldHost) (held_is : held ≡ first_held config) where
   first_shown : ShowsHost held (host_of config)
-  first_shown = let P : HeldHost → Type 0 = λ z. ShowsHost z (host_of config) in subst P (sym held_is) (record { before = []; count = refl; is = refl })
+  first_shown = let P : HeldHost → Type 0 = λ z. ShowsHost z (host_of config) in
+      subst P (sym held_is) (record { before = []; count = refl; is = refl })
 
-  calls_of : (guest : Guest) → AreCalls m.imports guest.calls → AreCalls machine.guest.imports guest.calls
-  calls_of guest calls = let P : Module → Type 0 = λ z. AreCalls z.imports guest.calls in subst P (sym begun.guest) calls
+  calls_of : (guest : Guest) → AreCalls m.imports guest.calls
+      → AreCalls machine.guest.imports guest.calls
+  calls_of guest calls = let P : Module → Type 0 = λ z. AreCalls z.imports guest.calls in
+      subst P (sym begun.guest) calls
 
-  begun_at : (guest : Guest) (p : ProcessState) → (s : IsStart m config guest p) → ShowsIn machine guest.program s.first
+  begun_at : (guest : Guest) (p : ProcessState) → (s : IsStart m config guest p)
+      → ShowsIn machine guest.program s.first
   begun_at guest p s =
       let entries : s.entry ≡ begun.linkable.entry =
-      item_number s.entry begun.linkable.entry (entry_once m.exports (codes "_start") (export.Function s.entry) (export.Function begun.linkable.entry) valid.names s.exported begun.linkable.has_entry.exported) in
+      item_number s.entry begun.linkable.entry (entry_once m.exports (codes "_start")
+      (export.Function s.entry) (export.Function begun.linkable.entry) valid.names s.exported
+      begun.linkable.has_entry.exported) in
       let P : ℕ → Type 0 = λ n. Begins m config.pages n guest.program s.first in
       begun.shows guest.program s.first (subst P entries s.begins)
 
-  at_start : (guest : Guest) (p : ProcessState) (s : IsStart m config guest p) (ended : Option ProcessEnd) → EndsAt s.first last (host_of config) ended → ShowsProcess (process_of machine last 0 0 0 ended) guest p
+  at_start : (guest : Guest) (p : ProcessState) (s : IsStart m config guest p)
+      (ended : Option ProcessEnd) → EndsAt s.first last (host_of config) ended
+      → ShowsProcess (process_of machine last 0 0 0 ended) guest p
   at_start guest p s None ends =
       let q : ProcessState = first_process config s.first in
-      let is : p ≡ q = s.is ∙ open_still s.first.thread s.first.later q (λ a b. ends.0 (record { returned = a; nothing_later = b })) in
-      let P : ProcessState → Type 0 = λ z. ShowsProcess (process_of machine last 0 0 0 None) guest z in
+      let is : p ≡ q =
+      s.is ∙ open_still s.first.thread s.first.later q (λ a b. ends.0 (record {
+        returned = a;
+        nothing_later = b;
+      })) in
+      let P : ProcessState → Type 0 = λ z. ShowsProcess (process_of machine last 0 0 0 None) guest z
+      in
       subst P (sym is) (record {
         calls = calls_of guest s.calls;
         configuration = begun_at guest p s;
@@ -62,7 +85,8 @@ module _ (m : Module) (config : Settings) (valid : IsValid m) (machine : Machine
   at_start guest p s (Some how) ends =
       let q : ProcessState = over (Exited 0) (first_process config s.first) in
       let is : p ≡ q = s.is ∙ closed_over (first_process config s.first) ends.0 in
-      let P : ProcessState → Type 0 = λ z. ShowsProcess (process_of machine last 0 0 0 (Some how)) guest z in
+      let P : ProcessState → Type 0 =
+      λ z. ShowsProcess (process_of machine last 0 0 0 (Some how)) guest z in
       subst P (sym is) (record {
         calls = calls_of guest s.calls;
         configuration = begun_at guest p s;
@@ -75,12 +99,18 @@ module _ (m : Module) (config : Settings) (valid : IsValid m) (machine : Machine
       })
 
   none_at_first : (ended : Option ProcessEnd) → IsEndedBy ended held last → last.host.lines ≡ []
-  none_at_first None e = ap (λ (z : HeldHost). z.host.lines) e ∙ ap (λ (z : HeldHost). z.host.lines) held_is
-  none_at_first (Some how) e = ap (λ (z : HeldHost). z.host.lines) e ∙ ap (λ (z : HeldHost). (held_ended z).host.lines) held_is
+  none_at_first None e = ap (λ (z : HeldHost). z.host.lines) e
+      ∙ ap (λ (z : HeldHost). z.host.lines) held_is
+  none_at_first (Some how) e = ap (λ (z : HeldHost). z.host.lines) e
+      ∙ ap (λ (z : HeldHost). (held_ended z).host.lines) held_is
 
-  module _ (ended : Option ProcessEnd) (ends : (program : Program) (d : Configuration) (h : Host) → ShowsIn machine program d → ShowsHost held h → EndsAt d last h ended) where
-    shows_start : (guest : Guest) (p : ProcessState) → IsStart m config guest p → ShowsProcess (process_of machine last 0 0 0 ended) guest p
-    shows_start guest p s = at_start guest p s ended (ends guest.program s.first (host_of config) (begun_at guest p s) first_shown)
+  module _ (ended : Option ProcessEnd) (ends : (program : Program) (d : Configuration) (h : Host)
+      → ShowsIn machine program d → ShowsHost held h → EndsAt d last h ended) where
+    shows_start : (guest : Guest) (p : ProcessState) → IsStart m config guest p
+        → ShowsProcess (process_of machine last 0 0 0 ended) guest p
+    shows_start guest p s =
+        at_start guest p s ended (ends guest.program s.first (host_of config)
+        (begun_at guest p s) first_shown)
 
     calls : (calls : List Call) × AreCalls m.imports calls
     calls = some_calls m.types m.imports begun.linkable.imports
@@ -102,7 +132,8 @@ module _ (m : Module) (config : Settings) (valid : IsValid m) (machine : Machine
       is = refl;
     }
 
-    pub has_started : IsEndedBy ended held last → HasStarted m config (process_of machine last 0 0 0 ended)
+    pub has_started : IsEndedBy ended held last
+        → HasStarted m config (process_of machine last 0 0 0 ended)
     has_started e = record {
       linkable = begun.linkable;
       guest = begun.guest;

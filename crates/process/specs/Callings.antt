@@ -1,12 +1,14 @@
 -- What a call of the guest comes to.
-use Rattle.std.specs.Prelude.{◌≡◌, ◌≢◌, ℕ, ◌↔◌, IsTrue, Bool, List, Option, Some, None, Result, Ok, Err, slice_get}
+use Rattle.std.specs.Prelude.{◌≡◌, ◌≢◌, ℕ, ◌↔◌, IsTrue, Bool, List, Option, Some, None, Result, Ok}
+use Rattle.std.specs.Prelude.{Err, slice_get}
 use Rattle.std.specs.Option.{option_map}
 use Rattle.std.specs.List.{AllByRecursion}
 use Rattle.wasm_syntax.specs.declared.types.FunctionType.{FunctionType}
 use Rattle.wasm_syntax.specs.declared.value.Value.{Value}
 use Rattle.guest_memory.specs.rules.Bytes.{IsByte}
 use Rattle.wasm_syntax_rules.specs.Types.{AreOf, gives_of}
-use Rattle.wasm_syntax_rules.specs.Configuration.{Host as IsHost, Program, Thread, Configuration, Asks}
+use Rattle.wasm_syntax_rules.specs.Configuration.{Host as IsHost, Program, Thread, Configuration}
+use Rattle.wasm_syntax_rules.specs.Configuration.{Asks}
 use Rattle.wasm_syntax_rules.specs.Steps.{rule, answered, IsEnded, Settles}
 use Rattle.wasi_abi.specs.declared.answer.Answer.{Answer}
 use Rattle.wasi_abi.specs.declared.call.Call.{Call}
@@ -36,7 +38,8 @@ use Rattle.process.specs.Parts.{ShowsParts, IsAtCall}
 use Rattle.process.specs.rules.Stops.{EndsNot, CallsHost, LacksNumbers}
 
 -- it leads to a process that is then shown, and has ended so
-pub record LeadsToProcess (machine : MachineValue) (held : HeldHost) (guest : Guest) (p : ProcessState) (given : Option Answer) (how : Option Ending) : Type 0 where
+pub record LeadsToProcess (machine : MachineValue) (held : HeldHost) (guest : Guest)
+    (p : ProcessState) (given : Option Answer) (how : Option Ending) : Type 0 where
   pub process : ProcessState
   pub leads : LeadsTo guest (next_of guest p given) given p process
   pub shows : ShowsParts machine held guest process
@@ -49,18 +52,24 @@ Tells synced guest p given = given ≡ None → (IsTrue synced ↔ Syncs guest p
 -- It is made. Or it wants an answer, there is no memory for it, or its lines can't be numbered:
 -- then
 -- nothing changes.
-abbrev pub CallsFor : MachineValue → HeldHost → MachineValue → HeldHost → Guest → ProcessState → Option Answer → Result Called ProcessFault → Type 0
-CallsFor old old_held new held guest p given (Ok (called.Made synced ended)) = LeadsToProcess new held guest p given (option_map ending_of ended) × Tells synced guest p given
-CallsFor old old_held new held guest p given (Ok (called.Asks kind)) = (new ≡ old) × (held ≡ old_held) × (next_of guest p given ≡ Wants kind)
-CallsFor old old_held new held guest p given (Err fault.Memory) = (new ≡ old) × (held ≡ old_held) × EndsNot guest p
+abbrev pub CallsFor : MachineValue → HeldHost → MachineValue → HeldHost → Guest → ProcessState
+    → Option Answer → Result Called ProcessFault → Type 0
+CallsFor old old_held new held guest p given (Ok (called.Made synced ended)) =
+    LeadsToProcess new held guest p given (option_map ending_of ended) × Tells synced guest p given
+CallsFor old old_held new held guest p given (Ok (called.Asks kind)) =
+    (new ≡ old) × (held ≡ old_held) × (next_of guest p given ≡ Wants kind)
+CallsFor old old_held new held guest p given (Err fault.Memory) = (new ≡ old) × (held ≡ old_held)
+    × EndsNot guest p
 CallsFor old old_held new held guest p given (Err fault.StepsSpent) =
     (new ≡ old) × (held ≡ old_held) × LacksNumbers (next_of guest p given)
 CallsFor old old_held new held guest p given (Err fault.WrongAnswer) = ⊥
 
 -- whichever process was shown that is at this call
-abbrev pub MakesCall : MachineValue → HeldHost → Call → List ℕ → Option Answer → Result Called ProcessFault → MachineValue → HeldHost → Type 0
+abbrev pub MakesCall : MachineValue → HeldHost → Call → List ℕ → Option Answer
+    → Result Called ProcessFault → MachineValue → HeldHost → Type 0
 MakesCall old old_held call arguments given result new held =
-    (guest : Guest) (p : ProcessState) → ShowsParts old old_held guest p → p.ended ≡ None → IsAtCall guest p.configuration call arguments
+    (guest : Guest) (p : ProcessState) → ShowsParts old old_held guest p → p.ended ≡ None
+    → IsAtCall guest p.configuration call arguments
     → CallsFor old old_held new held guest p given result
 
 -- ---- the steps of a call
@@ -79,13 +88,17 @@ pub record HasNoNumbers (machine : MachineValue) (held : HeldHost) (call : Call)
   pub not_stopped : (given : Option Answer) (h : Host) (halt : Halt) → ShowsHost held h
       → row call arguments given machine.state.memory h ≢ Err halt
 
--- The host has made the call, on the memory that the machine holds. All else of the machine is as it was.
-pub record HasCalled (old : MachineValue) (old_held : HeldHost) (call : Call) (arguments : List ℕ) (given : Option Answer) (o : CallOutcome) (new : MachineValue) (held : HeldHost) : Type 0 where
+-- The host has made the call, on the memory that the machine holds. All else of the machine is as
+-- it was.
+pub record HasCalled (old : MachineValue) (old_held : HeldHost) (call : Call) (arguments : List ℕ)
+    (given : Option Answer) (o : CallOutcome) (new : MachineValue) (held : HeldHost) : Type 0 where
   pub is : new ≡ with_memory old (memory_of new)
   pub large : IsAsLarge (memory_of old) (memory_of new)
   pub bytes : AllByRecursion IsByte new.state.memory
   pub released : held.released ≡ old_held.released
-  pub shown : (h : Host) → ShowsHost old_held h → ShowsRow (told_of o) new.state.memory held old.state.memory old_held (row call arguments given old.state.memory h)
+  pub shown : (h : Host) → ShowsHost old_held h
+      → ShowsRow (told_of o) new.state.memory held old.state.memory old_held
+      (row call arguments given old.state.memory h)
   pub wants : o ≡ outcome.Memory → EndsNothing call arguments
 
 -- the error's number, or 0
@@ -108,23 +121,29 @@ IsEndedBy None old new = new ≡ old
 IsEndedBy (Some how) old new = new ≡ held_ended old
 
 -- what the call gives has settled to a configuration that is then shown
-pub record FinishesAt (new : MachineValue) (held : HeldHost) (program : Program) (given : Configuration) (h : Host) (ended : Option ProcessEnd) : Type 0 where
+pub record FinishesAt (new : MachineValue) (held : HeldHost) (program : Program)
+    (given : Configuration) (h : Host) (ended : Option ProcessEnd) : Type 0 where
   pub configuration : Configuration
   pub settles : Settles program given configuration
   pub shows : ShowsIn new program configuration
   pub ends : EndsAt configuration held h ended
 
 -- whichever configuration was shown that waits at such a call of the host
-abbrev pub HasFinished : MachineValue → HeldHost → ℕ → Option ProcessEnd → MachineValue → HeldHost → Type 0
+abbrev pub HasFinished : MachineValue → HeldHost → ℕ → Option ProcessEnd → MachineValue → HeldHost
+    → Type 0
 HasFinished old old_held number ended new held =
-    (program : Program) (d : Configuration) (f : ℕ) (operands : List Value) (waits : Thread) (kind : FunctionType) (h : Host)
-    → ShowsIn old program d → rule program d ≡ Asks f operands waits → slice_get program.functions f ≡ Some (IsHost kind) → AreOf (gives_of kind) (call_results (Some number)) → ShowsHost old_held h
-    → FinishesAt new held program (answered d old.state.memory (call_results (Some number)) waits) h ended
+    (program : Program) (d : Configuration) (f : ℕ) (operands : List Value) (waits : Thread)
+    (kind : FunctionType) (h : Host)
+    → ShowsIn old program d → rule program d ≡ Asks f operands waits
+    → slice_get program.functions f ≡ Some (IsHost kind)
+    → AreOf (gives_of kind) (call_results (Some number)) → ShowsHost old_held h
+    → FinishesAt new held program (answered d old.state.memory (call_results (Some number)) waits) h
+    ended
 
 -- ---- answers
 
--- The answer is the one that is wanted, and the call is made with it. Or it isn't, there is no memory
--- for the call, or its lines can't be numbered: then nothing changes.
+-- The answer is the one that is wanted, and the call is made with it. Or it isn't, there is no
+-- memory for the call, or its lines can't be numbered: then nothing changes.
 abbrev pub AnswersFor : MachineValue → HeldHost → MachineValue → HeldHost → Guest → ProcessState
     → Answer → Result (Option ProcessEnd) ProcessFault → Type 0
 AnswersFor old old_held new held guest p answer (Ok ended) =

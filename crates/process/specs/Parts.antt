@@ -1,5 +1,6 @@
 -- What a process does, seen of its machine and its host alone.
-use Rattle.std.specs.Prelude.{◌≡◌, ℕ, ◌+◌, ◌<◌, ◌^◌, List, length, map, reverse, Some, None, slice_get}
+use Rattle.std.specs.Prelude.{◌≡◌, ℕ, ◌+◌, ◌<◌, ◌^◌, List, length, map, reverse, Some, None}
+use Rattle.std.specs.Prelude.{slice_get}
 use Rattle.wasm_syntax.specs.declared.value.Value.{Value}
 use Rattle.wasm_syntax_rules.specs.Types.{number_in}
 use Rattle.wasm_syntax_rules.specs.Configuration.{Host, Thread, Configuration, Asks}
@@ -12,7 +13,8 @@ use Rattle.machine.specs.rules.Values.{MachineValue, ShowsIn}
 use Rattle.process_rules.specs.Processes.{ProcessState, Guest, AreCalls}
 
 -- They show the configuration and the host of this process.
-pub record ShowsParts (machine : MachineValue) (held : HeldHost) (guest : Guest) (p : ProcessState) : Type 0 where
+pub record ShowsParts (machine : MachineValue) (held : HeldHost) (guest : Guest)
+    (p : ProcessState) : Type 0 where
   pub calls : AreCalls machine.guest.imports guest.calls
   pub configuration : ShowsIn machine guest.program p.configuration
   pub host : ShowsHost held p.host
@@ -30,7 +32,8 @@ abbrev pub HasFewLines : HeldHost → Type 0
 HasFewLines held = held.released + length (lines_ended held.host).lines + 2 < 2 ^ 63
 
 -- the rule asks the host for this call, with these arguments, the first one first
-pub record IsAtCall (guest : Guest) (d : Configuration) (call : Call) (arguments : List ℕ) : Type 0 where
+pub record IsAtCall (guest : Guest) (d : Configuration) (call : Call) (arguments : List ℕ) :
+    Type 0 where
   pub function : ℕ
   pub operands : List Value
   pub waits : Thread
@@ -40,7 +43,8 @@ pub record IsAtCall (guest : Guest) (d : Configuration) (call : Call) (arguments
   pub are : arguments ≡ reverse (map number_in operands)
 
 -- they show some process that has not ended, and is at this call
-pub record WaitsAtCall (machine : MachineValue) (held : HeldHost) (call : Call) (arguments : List ℕ) : Type 0 where
+pub record WaitsAtCall (machine : MachineValue) (held : HeldHost) (call : Call)
+    (arguments : List ℕ) : Type 0 where
   pub guest : Guest
   pub process : ProcessState
   pub shows : ShowsParts machine held guest process

@@ -1,5 +1,6 @@
 -- What a stretch of steps comes to.
-use Rattle.std.specs.Prelude.{◌≡◌, ℕ, suc, ◌<◌, ◌≤◌, Bool, true, false, List, [], ◌∷◌, Option, Some, None, Result, Ok, Err}
+use Rattle.std.specs.Prelude.{◌≡◌, ℕ, suc, ◌<◌, ◌≤◌, Bool, true, false, List, [], ◌∷◌, Option, Some}
+use Rattle.std.specs.Prelude.{None, Result, Ok, Err}
 use Rattle.std.specs.Option.{option_map}
 use Rattle.wasi_abi.specs.declared.call.Call.{Call}
 use Rattle.wasi_calls_rules.specs.Hosts.{Line}
@@ -31,23 +32,32 @@ pub record Owes (guest : Guest) (p q : ProcessState) (fuel steps : ℕ) : Type 0
   pub within : quiet < fuel
 
 -- so many steps of the fuel, after none of which anything is owed, and no line waits
-pub record ComesOn (guest : Guest) (p q : ProcessState) (steps : ℕ) (waiting : List Line) : Type 0 where
+pub record ComesOn (guest : Guest) (p q : ProcessState) (steps : ℕ) (waiting : List Line) :
+    Type 0 where
   pub runs : RunsQuietly guest p steps q
   pub none_waits : waiting ≡ []
 
 -- why a stretch of so many steps has stopped, if it has
-abbrev pub ComesBy : Guest → ProcessState → ProcessState → ℕ → ℕ → List Line → Option (Result Stop ProcessFault) → Type 0
-ComesBy guest p q fuel steps waiting None = ComesOn guest p q steps waiting × (q.ended ≡ None) × (0 < steps) × (steps ≤ fuel)
+abbrev pub ComesBy : Guest → ProcessState → ProcessState → ℕ → ℕ → List Line
+    → Option (Result Stop ProcessFault) → Type 0
+ComesBy guest p q fuel steps waiting None = ComesOn guest p q steps waiting × (q.ended ≡ None)
+    × (0 < steps) × (steps ≤ fuel)
 ComesBy guest p q fuel steps waiting (Some (Ok stop.Owes)) = Owes guest p q fuel steps
-ComesBy guest p q fuel steps waiting (Some (Ok (stop.Ended how))) = ComesOn guest p q steps waiting × (q.ended ≡ Some (ending_of how)) × (steps ≤ fuel)
-ComesBy guest p q fuel steps waiting (Some (Ok stop.Spent)) = ComesOn guest p q steps waiting × (q.ended ≡ None) × (steps ≡ fuel)
-ComesBy guest p q fuel steps waiting (Some (Ok (stop.Asks kind))) = ComesOn guest p q steps waiting × (q.ended ≡ None) × (steps < fuel) × (next_of guest q None ≡ Wants kind)
-ComesBy guest p q fuel steps waiting (Some (Err fault.Memory)) = ComesOn guest p q steps waiting × (q.ended ≡ None) × (steps < fuel) × CallsHost guest q
-ComesBy guest p q fuel steps waiting (Some (Err fault.StepsSpent)) = ComesOn guest p q steps waiting × (q.ended ≡ None) × (steps < fuel) × IsBeyond guest q None
+ComesBy guest p q fuel steps waiting (Some (Ok (stop.Ended how))) = ComesOn guest p q steps waiting
+    × (q.ended ≡ Some (ending_of how)) × (steps ≤ fuel)
+ComesBy guest p q fuel steps waiting (Some (Ok stop.Spent)) = ComesOn guest p q steps waiting
+    × (q.ended ≡ None) × (steps ≡ fuel)
+ComesBy guest p q fuel steps waiting (Some (Ok (stop.Asks kind))) = ComesOn guest p q steps waiting
+    × (q.ended ≡ None) × (steps < fuel) × (next_of guest q None ≡ Wants kind)
+ComesBy guest p q fuel steps waiting (Some (Err fault.Memory)) = ComesOn guest p q steps waiting
+    × (q.ended ≡ None) × (steps < fuel) × CallsHost guest q
+ComesBy guest p q fuel steps waiting (Some (Err fault.StepsSpent)) = ComesOn guest p q steps waiting
+    × (q.ended ≡ None) × (steps < fuel) × IsBeyond guest q None
 ComesBy guest p q fuel steps waiting (Some (Err fault.WrongAnswer)) = ⊥
 
 -- it leads to a process that is then shown
-pub record ComesToShown (machine : MachineValue) (held : HeldHost) (guest : Guest) (p : ProcessState) (fuel : ℕ) (s : Stretch) : Type 0 where
+pub record ComesToShown (machine : MachineValue) (held : HeldHost) (guest : Guest)
+    (p : ProcessState) (fuel : ℕ) (s : Stretch) : Type 0 where
   pub process : ProcessState
   pub shows : ShowsParts machine held guest process
   pub ended : process.ended ≡ option_map ending_of s.ended
@@ -56,7 +66,8 @@ pub record ComesToShown (machine : MachineValue) (held : HeldHost) (guest : Gues
 -- whichever process was shown that has not ended
 abbrev pub Stretches : MachineValue → HeldHost → ℕ → Stretch → MachineValue → HeldHost → Type 0
 Stretches old old_held fuel s new held =
-    (guest : Guest) (p : ProcessState) → ShowsParts old old_held guest p → p.ended ≡ None → ComesToShown new held guest p fuel s
+    (guest : Guest) (p : ProcessState) → ShowsParts old old_held guest p → p.ended ≡ None
+    → ComesToShown new held guest p fuel s
 
 -- why a process stops after a step: something is owed, or it has ended
 abbrev pub stop_after : Bool → List Line → Option ProcessEnd → Option (Result Stop ProcessFault)
@@ -66,13 +77,23 @@ stop_after false [] (Some how) = Some (Ok (stop.Ended how))
 stop_after false [] None = None
 
 -- whichever process was shown that is at this call, where any fuel is left
-abbrev pub StepsAt : MachineValue → HeldHost → Call → List ℕ → Stretch → MachineValue → HeldHost → Type 0
+abbrev pub StepsAt : MachineValue → HeldHost → Call → List ℕ → Stretch → MachineValue → HeldHost
+    → Type 0
 StepsAt old old_held call arguments s new held =
-    (guest : Guest) (p : ProcessState) (fuel : ℕ) → ShowsParts old old_held guest p → p.ended ≡ None → IsAtCall guest p.configuration call arguments → 0 < fuel
+    (guest : Guest) (p : ProcessState) (fuel : ℕ) → ShowsParts old old_held guest p → p.ended ≡ None
+    → IsAtCall guest p.configuration call arguments → 0 < fuel
     → ComesToShown new held guest p fuel s
 
 -- the stretch of a call's step
 abbrev pub stretch_of : Result Called ProcessFault → List Line → Stretch
-stretch_of (Ok (called.Made synced ended)) waiting = record { steps = 1; ended = ended; stop = stop_after synced waiting ended }
-stretch_of (Ok (called.Asks kind)) waiting = record { steps = 0; ended = None; stop = Some (Ok (stop.Asks kind)) }
+stretch_of (Ok (called.Made synced ended)) waiting = record {
+  steps = 1;
+  ended = ended;
+  stop = stop_after synced waiting ended;
+}
+stretch_of (Ok (called.Asks kind)) waiting = record {
+  steps = 0;
+  ended = None;
+  stop = Some (Ok (stop.Asks kind));
+}
 stretch_of (Err fault) waiting = record { steps = 0; ended = None; stop = Some (Err fault) }

@@ -11,7 +11,8 @@ ghost use Rattle.machine.specs.rules.Answers.{call_results};
 ghost use Rattle.machine.specs.rules.Values.{HoldsMemory, IsSameMachine, ShowsIn};
 ghost use Rattle.machine.specs.rules.Runs.{WaitsFor};
 ghost use Rattle.process.specs.Parts.{HasFewLines, WaitsAtCall};
-ghost use Rattle.process.specs.Callings.{MakesCall, HasNumbers, HasNoNumbers, HasCalled, error_number, EndsAt, IsEndedBy, HasFinished, HasSynced};
+ghost use Rattle.process.specs.Callings.{MakesCall, HasNumbers, HasNoNumbers, HasCalled};
+ghost use Rattle.process.specs.Callings.{error_number, EndsAt, IsEndedBy, HasFinished, HasSynced};
 
 use crate::fault::ProcessFault;
 use crate::stop::ProcessEnd;
@@ -43,7 +44,8 @@ pub fn end_with_program(alloc: Global, machine: &Machine, host: &mut Host) -> Op
     ensures few { HasFewLines host.new }
     ensures released { host.new.released ≡ host.old.released }
     ensures host { IsEndedBy result host.old host.new }
-    ensures ends { (program : Program) (d : Configuration) (h : TheHost) → ShowsIn machine.now program d → ShowsHost host.old h → EndsAt d host.new h result }
+    ensures ends { (program : Program) (d : Configuration) (h : TheHost)
+        → ShowsIn machine.now program d → ShowsHost host.old h → EndsAt d host.new h result }
 {
     if !machine.has_ended() {
         return None;
@@ -93,14 +95,16 @@ fn call_host(
     answer: Option<&Answer>,
 ) -> CallOutcome
     requires typed { AreArguments (parameters_of call) arguments.now }
-    ensures made { HasCalled machine.old host.old call arguments.now (option_copied answer.entry) result machine.new host.new }
+    ensures made { HasCalled machine.old host.old call arguments.now
+        (option_copied answer.entry) result machine.new host.new }
 {
     let outcome = wasi_calls::call(alloc, host, machine.memory_mut(), call, arguments, answer);
     are_bytes(machine.memory().bytes());
     outcome
 }
 
-/// Gives the guest what a call that is done gives, and ends the process where the program has come to its end by that.
+/// Gives the guest what a call that is done gives, and ends the process where the program has come
+/// to its end by that.
 fn finish(
     alloc: Global,
     machine: &mut Machine,
@@ -113,7 +117,8 @@ fn finish(
     ensures holds { HoldsMemory machine.new }
     ensures few { HasFewLines host.new }
     ensures released { host.new.released ≡ host.old.released }
-    ensures finishes { HasFinished machine.old host.old (error_number error) result machine.new host.new }
+    ensures finishes { HasFinished machine.old host.old (error_number error) result machine.new
+        host.new }
 {
     machine.finish(Some(number(error)));
     end_with_program(alloc, machine, host)
@@ -126,7 +131,8 @@ fn number(error: Option<Errno>) -> u32
     error.map_or(0, Errno::number)
 }
 
-/// Makes a call that waits, with the answer that it wanted, where there is one. After an error nothing has changed.
+/// Makes a call that waits, with the answer that it wanted, where there is one. After an error
+/// nothing has changed.
 pub fn make(
     alloc: Global,
     machine: &mut Machine,
@@ -142,7 +148,8 @@ pub fn make(
     ensures holds { HoldsMemory machine.new }
     ensures few { HasFewLines host.new }
     ensures released { host.new.released ≡ host.old.released }
-    ensures calls { MakesCall machine.old host.old call arguments.now (option_copied answer.entry) result machine.new host.new }
+    ensures calls { MakesCall machine.old host.old call arguments.now
+        (option_copied answer.entry) result machine.new host.new }
 {
     if !has_numbers(machine, host, call, arguments) {
         return Err(ProcessFault::StepsSpent);

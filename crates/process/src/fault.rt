@@ -5,7 +5,8 @@ use thiserror::Error;
 /// The process is as it was after its last whole step.
 #[derive(Clone, Copy, Debug, PartialEq, Eq, Error)]
 pub enum ProcessFault {
-    /// The answer doesn't fit what is asked for, or nothing is asked for: a line waits, or the process has ended.
+    /// The answer doesn't fit what is asked for, or nothing is asked for: a line waits, or the
+    /// process has ended.
     #[error("P1 WrongAnswer")]
     WrongAnswer,
     /// There is no memory for the next step.

@@ -26,7 +26,8 @@ fn is_valid(module: &ValidModule)
     let _ = module.module();
 }
 
-/// A module that runs under a configuration. Contracts see its machine, its host, how far it has come and how it ended.
+/// A module that runs under a configuration. Contracts see its machine, its host, how far it has
+/// come and how it ended.
 #[derive(Drop)]
 pub struct Process {
     pub(crate) alloc: Global,
@@ -53,8 +54,8 @@ impl Process {
     ghost use Rattle.process.specs.rules.Values.{IsProcess, HasStarted, HasReleased};
     ghost use Rattle.process.specs.rules.Values.{ending_of, lines_in, waiting_in};
 
-    /// The process of a module that begins. All memory that its machine needs is taken here. The fault is the first in the order of
-    /// `LinkFault`.
+    /// The process of a module that begins. All memory that its machine needs is taken here. The
+    /// fault is the first in the order of `LinkFault`.
     pub fn start(alloc: Global, module: ValidModule, config: Config) -> Result<Process, LinkFault>
         requires types { AllByRecursion HasFewParameters «module».types }
         requires functions { AllByRecursion IsSmallFunction «module».functions }
@@ -107,7 +108,8 @@ impl Process {
         self.host.released_count() + self.host.waiting_lines().len() as u64
     }
 
-    /// The lines that were emitted and not released yet, in their order. The first one has the number behind those that were released.
+    /// The lines that were emitted and not released yet, in their order. The first one has the
+    /// number behind those that were released.
     pub fn waiting(&self) -> &[Line]
         ensures { result.now ≡ waiting_in self.now }
     {

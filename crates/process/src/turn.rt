@@ -57,7 +57,11 @@ fn end(alloc: Global, host: &mut Host, steps: u64, end: ProcessEnd) -> Stretch
     ensures few { HasFewLines host.new }
     ensures ended { host.new ≡ held_ended host.old }
     ensures shown { (h : TheHost) → ShowsHost host.old h → ShowsHost host.new (lines_ended h) }
-    ensures is { result ≡ record { steps = steps; ended = Some end; stop = stop_after false host.new.host.lines (Some end) } }
+    ensures is { result ≡ record {
+      steps = steps;
+      ended = Some end;
+      stop = stop_after false host.new.host.lines (Some end);
+    } }
 {
     host.end(alloc);
     Stretch {
@@ -154,7 +158,11 @@ pub fn take_steps(alloc: Global, machine: &mut Machine, host: &mut Host, fuel: u
     ensures holds { HoldsMemory machine.new }
     ensures few { HasFewLines host.new }
     ensures released { host.new.released ≡ host.old.released }
-    ensures stretches { Stretches machine.old host.old fuel (record { steps = result.steps; ended = result.ended; stop = Some result.stop }) machine.new host.new }
+    ensures stretches { Stretches machine.old host.old fuel (record {
+      steps = result.steps;
+      ended = result.ended;
+      stop = Some result.stop;
+    }) machine.new host.new }
 {
     let mut steps = 0;
     loop {

@@ -1,11 +1,14 @@
 -- The worked example `echo` holds: the answers, step by step.
-use Rattle.std.proofs.Common.{◌≡◌, ◌≢◌, inl, ℕ, ◌+◌, ◌==◌, true, false, List, [], ◌∷◌, ◌++◌, replicate, codes, Option, Some, None, refl, sym, ap, subst, lit≤, suc, arith}
+use Rattle.std.proofs.Common.{◌≡◌, ◌≢◌, inl, ℕ, ◌+◌, ◌==◌, true, false, List, [], ◌∷◌, ◌++◌}
+use Rattle.std.proofs.Common.{replicate, codes, Option, Some, None, refl, sym, ap, subst, lit≤, suc}
+use Rattle.std.proofs.Common.{arith}
 use Rattle.wasm_syntax.specs.declared.value.Value.{Value}
 use Rattle.wasm_syntax.specs.declared.instruction.Instruction.{Instruction}
 use Rattle.wasm_syntax.specs.declared.instruction.Instruction.TheVariants as instr
 use Rattle.wasm_syntax.specs.rules.Sequence.{Sequence, Stop, Plain}
 use Rattle.wasm_syntax.specs.laws.Examples.{echo, no_type, transfer_type}
-use Rattle.wasm_syntax_rules.specs.Configuration.{Host, Own, LabelOf, FrameOf, Thread, Configuration, Goes, Main}
+use Rattle.wasm_syntax_rules.specs.Configuration.{Host, Own, LabelOf, FrameOf, Thread}
+use Rattle.wasm_syntax_rules.specs.Configuration.{Configuration, Goes, Main}
 use Rattle.wasm_syntax_rules.specs.laws.Examples.{v}
 use Rattle.wasm_syntax_rules.specs.Instantiation.{filled_memory, empty_memory}
 use Rattle.wasm_syntax_rules.specs.Steps.{rule, loop_label, IsSettled, here, on}
@@ -20,14 +23,21 @@ use Rattle.wasi_calls_rules.specs.Hosts as host
 use Rattle.wasi_calls_rules.specs.Checks.{Bytes}
 use Rattle.wasi_calls_rules.specs.declared.limits.TheConstants.{TEXT_BYTES}
 use Rattle.process_rules.specs.Processes.{ProcessState, Guest, Exited, IsStart, host_of, closed}
-use Rattle.process_rules.specs.Runs.{On, Wants, next_of, after_rule, stepped, IsWanted, LeadsTo, Moves, Given, Runs, Reaches, none, step, take}
-use Rattle.process_rules.specs.laws.Examples.{ComesTo, at_rest, abc_and_end, echo_memory, echo_end, EchoEnds}
+use Rattle.process_rules.specs.Runs.{On, Wants, next_of, after_rule, stepped, IsWanted, LeadsTo}
+use Rattle.process_rules.specs.Runs.{Moves, Given, Runs, Reaches, none, step, take}
+use Rattle.process_rules.specs.laws.Examples.{ComesTo, at_rest, abc_and_end, echo_memory, echo_end}
+use Rattle.process_rules.specs.laws.Examples.{EchoEnds}
 use Rattle.process_rules.proofs.Ended.{comes}
-use Rattle.process_rules.proofs.EchoValid.{load_there, store_there, again, copying, testing, round, looping, echo_spells, echo_is_valid}
+use Rattle.process_rules.proofs.EchoValid.{load_there, store_there, again, copying, testing, round}
+use Rattle.process_rules.proofs.EchoValid.{looping, echo_spells, echo_is_valid}
 
 abbrev guest_of : Settings → Guest
 guest_of config = record {
-  program = record { types = no_type ∷ transfer_type ∷ []; functions = Host transfer_type ∷ Host transfer_type ∷ Own no_type [] looping ∷ []; most_pages = config.pages };
+  program = record {
+    types = no_type ∷ transfer_type ∷ [];
+    functions = Host transfer_type ∷ Host transfer_type ∷ Own no_type [] looping ∷ [];
+    most_pages = config.pages;
+  };
   calls = call.FdRead ∷ call.FdWrite ∷ [];
 }
 
@@ -40,7 +50,8 @@ first_memory = 64 ∷ 0 ∷ 0 ∷ 0 ∷ 0 ∷ 16 ∷ 0 ∷ 0 ∷ 64 ∷ 0 ∷ 0 
 -- with these four bytes from 12, from 16 and from 20 on, and the text
 abbrev with_counts : ℕ → ℕ → ℕ → Bytes
 with_counts lent read written =
-    (64 ∷ 0 ∷ 0 ∷ 0 ∷ 0 ∷ 16 ∷ 0 ∷ 0 ∷ []) ++ (64 ∷ 0 ∷ 0 ∷ 0 ∷ lent ∷ 0 ∷ 0 ∷ 0 ∷ []) ++ (read ∷ 0 ∷ 0 ∷ 0 ∷ []) ++ (written ∷ 0 ∷ 0 ∷ 0 ∷ [])
+    (64 ∷ 0 ∷ 0 ∷ 0 ∷ 0 ∷ 16 ∷ 0 ∷ 0 ∷ []) ++ (64 ∷ 0 ∷ 0 ∷ 0 ∷ lent ∷ 0 ∷ 0 ∷ 0 ∷ [])
+    ++ (read ∷ 0 ∷ 0 ∷ 0 ∷ []) ++ (written ∷ 0 ∷ 0 ∷ 0 ∷ [])
     ++ replicate 40 0 ++ (codes "abc" ++ 10 ∷ []) ++ replicate 65468 0
 
 memory_read : Bytes
@@ -66,17 +77,29 @@ all_memory = refl
 -- ---- places
 
 abbrev blank : Thread → Bytes → Configuration
-blank thread memory = record { store = record { memory = memory; globals = []; table = [] }; thread = thread; later = [] }
+blank thread memory = record {
+  store = record { memory = memory; globals = []; table = [] };
+  thread = thread;
+  later = [];
+}
 
 abbrev around : Thread
 around = FrameOf 2 [] (LabelOf 0 Stop [] Stop Main ∷ []) [] looping ∷ []
 
 abbrev inside : List Value → Sequence → Thread
-inside values rest = FrameOf 2 [] (loop_label None round [] Stop ∷ LabelOf 0 Stop [] Stop Main ∷ []) values rest ∷ []
+inside values rest =
+    FrameOf 2 [] (loop_label None round [] Stop ∷ LabelOf 0 Stop [] Stop Main ∷ []) values rest ∷ []
 
 -- after n steps, that many answers
 abbrev after : ℕ → ℕ → host.Host → Configuration → ProcessState
-after n answers h c = record { configuration = c; host = h; steps = n; answers = answers; requests = answers; ended = None }
+after n answers h c = record {
+  configuration = c;
+  host = h;
+  steps = n;
+  answers = answers;
+  requests = answers;
+  ended = None;
+}
 
 abbrev wrote : Settings → host.Host
 wrote config = record (host_of config) { lines = record { stream = 1; text = codes "abc" } ∷ [] }
@@ -93,67 +116,102 @@ last config memory = record (echo_end config) { configuration = at_rest memory }
 -- ---- steps
 
 -- a step that the next thing leads to, which is settled
-leads_on : (config : Settings) (p : ProcessState) (given : Option Answer) (c : Configuration) (h : host.Host) → p.ended ≡ None → IsWanted (guest_of config) p given
-    → next_of (guest_of config) p given ≡ On c h → IsSettled (guest_of config).program c → Moves (guest_of config) p given (closed (stepped given c h p))
+leads_on : (config : Settings) (p : ProcessState) (given : Option Answer) (c : Configuration)
+    (h : host.Host) → p.ended ≡ None → IsWanted (guest_of config) p given
+    → next_of (guest_of config) p given ≡ On c h → IsSettled (guest_of config).program c
+    → Moves (guest_of config) p given (closed (stepped given c h p))
 leads_on config p given c h running wanted e settled =
-    record { running = running; wanted = wanted; leads = subst (λ z. LeadsTo (guest_of config) z given p (closed (stepped given c h p))) (sym e) (c, here settled, refl) }
+    record {
+      running = running;
+      wanted = wanted;
+      leads = subst (λ z. LeadsTo (guest_of config) z given p (closed (stepped given c h p)))
+          (sym e) (c, here settled, refl);
+    }
 
 -- an instruction after which the loop goes on
-goes : (config : Settings) {n answers : ℕ} {h : host.Host} {m m' : Bytes} {values values' : List Value} {i j : Instruction} {rest rest' : Sequence}
-    → rule (guest_of config).program (blank (inside values (Plain i rest)) m) ≡ Goes (blank (inside values' (Plain j rest')) m')
-    → Moves (guest_of config) (after n answers h (blank (inside values (Plain i rest)) m)) None (after (n + 1) (answers + 0) h (blank (inside values' (Plain j rest')) m'))
-goes config {n = n} {answers = answers} {h = h} {m = m} {m' = m'} {values = values} {values' = values'} {i = i} {j = j} {rest = rest} {rest' = rest'} e =
-    leads_on config (after n answers h (blank (inside values (Plain i rest)) m)) None (blank (inside values' (Plain j rest')) m') h refl tt
-    (ap (λ o. after_rule (guest_of config) o None (blank (inside values (Plain i rest)) m) h) e) refl
+goes : (config : Settings) {n answers : ℕ} {h : host.Host} {m m' : Bytes} {values values' :
+    List Value} {i j : Instruction} {rest rest' : Sequence}
+    → rule (guest_of config).program (blank (inside values (Plain i rest)) m)
+    ≡ Goes (blank (inside values' (Plain j rest')) m')
+    → Moves (guest_of config) (after n answers h (blank (inside values (Plain i rest)) m)) None
+    (after (n + 1) (answers + 0) h (blank (inside values' (Plain j rest')) m'))
+goes config {n = n} {answers = answers} {h = h} {m = m} {m' = m'} {values = values}
+    {values' = values'} {i = i} {j = j} {rest = rest} {rest' = rest'} e =
+    leads_on config (after n answers h (blank (inside values (Plain i rest)) m)) None
+    (blank (inside values' (Plain j rest')) m') h refl tt
+    (ap (λ o. after_rule (guest_of config) o None (blank (inside values (Plain i rest)) m) h) e)
+    refl
 
 enters : (config : Settings) (n answers : ℕ) (h : host.Host) (m : Bytes)
-    → Moves (guest_of config) (after n answers h (blank around m)) None (after (n + 1) (answers + 0) h (blank (inside [] round) m))
+    → Moves (guest_of config) (after n answers h (blank around m)) None
+    (after (n + 1) (answers + 0) h (blank (inside [] round) m))
 enters config n answers h m = record { running = refl; wanted = tt; leads = (_, here refl, refl) }
 
 turns : (config : Settings) (n answers : ℕ) (h : host.Host) (m : Bytes)
-    → Moves (guest_of config) (after n answers h (blank (inside [] (Plain (instr.Br 0) Stop)) m)) None (after (n + 1) (answers + 0) h (blank around m))
+    → Moves (guest_of config) (after n answers h (blank (inside [] (Plain (instr.Br 0) Stop)) m))
+    None (after (n + 1) (answers + 0) h (blank around m))
 turns config n answers h m = record { running = refl; wanted = tt; leads = (_, here refl, refl) }
 
 -- ---- steps that read memory or write it
 
 abbrev at_read : ℕ → ℕ → host.Host → Bytes → ProcessState
-at_read n answers h m = after n answers h (blank (inside (v 16 ∷ v 1 ∷ v 0 ∷ v 0 ∷ []) (Plain (instr.Call 0) testing)) m)
+at_read n answers h m =
+    after n answers h (blank (inside (v 16 ∷ v 1 ∷ v 0 ∷ v 0 ∷ []) (Plain (instr.Call 0) testing))
+    m)
 
-wants_first : (config : Settings) → next_of (guest_of config) (at_read 5 0 (host_of config) first_memory) None ≡ Wants kind.Request
+wants_first : (config : Settings)
+    → next_of (guest_of config) (at_read 5 0 (host_of config) first_memory) None
+    ≡ Wants kind.Request
 unfolding first_memory
 wants_first config = refl
 
-reads_first : (config : Settings) → next_of (guest_of config) (at_read 5 0 (host_of config) first_memory) (Some abc) ≡ On (blank (inside (v 0 ∷ []) testing) memory_read) (host_of config)
+reads_first : (config : Settings)
+    → next_of (guest_of config) (at_read 5 0 (host_of config) first_memory) (Some abc)
+    ≡ On (blank (inside (v 0 ∷ []) testing) memory_read) (host_of config)
 unfolding first_memory memory_read
 reads_first config = refl
 
-wants_last : (config : Settings) → next_of (guest_of config) (at_read 27 1 (wrote config) memory_written) None ≡ Wants kind.Request
+wants_last : (config : Settings)
+    → next_of (guest_of config) (at_read 27 1 (wrote config) memory_written) None
+    ≡ Wants kind.Request
 unfolding memory_written
 wants_last config = refl
 
-reads_last : (config : Settings) → next_of (guest_of config) (at_read 27 1 (wrote config) memory_written) (Some answer.End) ≡ On (blank (inside (v 0 ∷ []) testing) last_memory) (ended_input config)
+reads_last : (config : Settings)
+    → next_of (guest_of config) (at_read 27 1 (wrote config) memory_written) (Some answer.End)
+    ≡ On (blank (inside (v 0 ∷ []) testing) last_memory) (ended_input config)
 unfolding memory_written last_memory
 reads_last config = refl
 
 abbrev at_write : Settings → ProcessState
-at_write config = after 19 1 (host_of config) (blank (inside (v 20 ∷ v 1 ∷ v 8 ∷ v 1 ∷ []) (Plain (instr.Call 1) again)) memory_copied)
+at_write config =
+    after 19 1 (host_of config)
+    (blank (inside (v 20 ∷ v 1 ∷ v 8 ∷ v 1 ∷ []) (Plain (instr.Call 1) again)) memory_copied)
 
-writes : (config : Settings) → next_of (guest_of config) (at_write config) None ≡ On (blank (inside (v 0 ∷ []) again) memory_written) (wrote config)
+writes : (config : Settings)
+    → next_of (guest_of config) (at_write config) None
+    ≡ On (blank (inside (v 0 ∷ []) again) memory_written) (wrote config)
 unfolding memory_copied memory_written
 writes config = refl
 
 loads_four : (config : Settings) (values : List Value) (rest : Sequence)
-    → rule (guest_of config).program (blank (inside (v 16 ∷ values) (Plain load_there rest)) memory_read) ≡ Goes (blank (inside (v 4 ∷ values) rest) memory_read)
+    → rule (guest_of config).program
+    (blank (inside (v 16 ∷ values) (Plain load_there rest)) memory_read)
+    ≡ Goes (blank (inside (v 4 ∷ values) rest) memory_read)
 unfolding memory_read
 loads_four config values rest = refl
 
 loads_none : (config : Settings) (rest : Sequence)
-    → rule (guest_of config).program (blank (inside (v 16 ∷ []) (Plain load_there rest)) last_memory) ≡ Goes (blank (inside (v 0 ∷ []) rest) last_memory)
+    → rule (guest_of config).program
+    (blank (inside (v 16 ∷ []) (Plain load_there rest)) last_memory)
+    ≡ Goes (blank (inside (v 0 ∷ []) rest) last_memory)
 unfolding last_memory
 loads_none config rest = refl
 
 stores_four : (config : Settings) (rest : Sequence)
-    → rule (guest_of config).program (blank (inside (v 4 ∷ v 12 ∷ []) (Plain store_there rest)) memory_read) ≡ Goes (blank (inside [] rest) memory_copied)
+    → rule (guest_of config).program
+    (blank (inside (v 4 ∷ v 12 ∷ []) (Plain store_there rest)) memory_read)
+    ≡ Goes (blank (inside [] rest) memory_copied)
 unfolding memory_read memory_copied
 stores_four config rest = refl
 
@@ -169,37 +227,67 @@ abc_fits = record {
 
 -- ---- the run
 
-last_round : (config : Settings) → Runs (guest_of config) (after 22 1 (wrote config) (blank around memory_written)) (Given answer.End ∷ []) 11 (last config last_memory)
+last_round : (config : Settings)
+    → Runs (guest_of config) (after 22 1 (wrote config) (blank around memory_written))
+    (Given answer.End ∷ []) 11 (last config last_memory)
 last_round config =
     step (enters config 22 1 (wrote config) memory_written)
-    (step (goes config refl) (step (goes config refl) (step (goes config refl) (step (goes config refl)
-    (take (leads_on config _ (Some answer.End) _ _ refl (kind.Request, wants_last config, tt) (reads_last config) refl)
-    (step (goes config refl) (step (goes config refl) (step (goes config (loads_none config _)) (step (goes config refl)
-    (step (record { running = refl; wanted = tt; leads = (_, on refl (here refl), refl) }) none))))))))))
+    (step (goes config refl)
+    (step (goes config refl) (step (goes config refl) (step (goes config refl)
+    (take (leads_on config _ (Some answer.End) _ _ refl (
+      kind.Request,
+      wants_last config,
+      tt,
+    ) (reads_last config) refl)
+    (step (goes config refl) (step (goes config refl) (step (goes config (loads_none config _))
+    (step (goes config refl)
+    (step (record {
+      running = refl;
+      wanted = tt;
+      leads = (_, on refl (here refl), refl);
+    }) none))))))))))
 
-copies : (config : Settings) → Runs (guest_of config) (after 11 1 (host_of config) (blank (inside [] copying) memory_read)) (Given answer.End ∷ []) 22 (last config last_memory)
+copies : (config : Settings)
+    → Runs (guest_of config) (after 11 1 (host_of config) (blank (inside [] copying) memory_read))
+    (Given answer.End ∷ []) 22 (last config last_memory)
 copies config =
-    step (goes config refl) (step (goes config refl) (step (goes config (loads_four config _ _)) (step (goes config (stores_four config _))
-    (step (goes config refl) (step (goes config refl) (step (goes config refl) (step (goes config refl)
+    step (goes config refl) (step (goes config refl) (step (goes config (loads_four config _ _))
+    (step (goes config (stores_four config _))
+    (step (goes config refl)
+    (step (goes config refl) (step (goes config refl) (step (goes config refl)
     (step (leads_on config _ None _ _ refl tt (writes config) refl)
-    (step (goes config refl) (step (turns config 21 1 (wrote config) memory_written) (last_round config)))))))))))
+    (step (goes config refl) (step (turns config 21 1 (wrote config) memory_written)
+    (last_round config)))))))))))
 
-runs : (config : Settings) → Runs (guest_of config) (after 0 0 (host_of config) (blank around first_memory)) abc_and_end 33 (last config last_memory)
+runs : (config : Settings)
+    → Runs (guest_of config) (after 0 0 (host_of config) (blank around first_memory)) abc_and_end 33
+    (last config last_memory)
 runs config =
     step (enters config 0 0 (host_of config) first_memory)
-    (step (goes config refl) (step (goes config refl) (step (goes config refl) (step (goes config refl)
-    (take (leads_on config _ (Some abc) _ _ refl (kind.Request, wants_first config, abc_fits) (reads_first config) refl)
-    (step (goes config refl) (step (goes config refl) (step (goes config (loads_four config _ _)) (step (goes config refl)
+    (step (goes config refl)
+    (step (goes config refl) (step (goes config refl) (step (goes config refl)
+    (take (leads_on config _ (Some abc) _ _ refl (
+      kind.Request,
+      wants_first config,
+      abc_fits,
+    ) (reads_first config) refl)
+    (step (goes config refl) (step (goes config refl) (step (goes config (loads_four config _ _))
+    (step (goes config refl)
     (step (goes config refl) (copies config)))))))))))
 
-begins : (config : Settings) → IsStart echo config (guest_of config) (after 0 0 (host_of config) (blank around first_memory))
+begins : (config : Settings)
+    → IsStart echo config (guest_of config) (after 0 0 (host_of config) (blank around first_memory))
 begins config = record {
   entry = 2;
   first = blank around first_memory;
   exported = inl (refl, refl);
   calls = (refl, refl, (refl, refl, tt));
   begins = record {
-    is_program = record { types = refl; functions = (refl, (refl, (refl, refl, echo_spells, tt))); most_pages = refl };
+    is_program = record {
+      types = refl;
+      functions = (refl, (refl, (refl, refl, echo_spells, tt)));
+      most_pages = refl;
+    };
     store = (blank [] first_memory).store;
     is_store = record { globals = tt; table = refl; memory = filled };
     settles = on refl (here refl);
@@ -238,7 +326,8 @@ rereads config =
     (step (goes config refl)
     (step (goes config refl) (step (goes config refl)
     (step (goes config (loads_four config _ _)) (step (goes config (stores_four config _))
-    (step (goes config refl) (step (goes config refl) (step (goes config refl) (step (goes config refl)
+    (step (goes config refl)
+    (step (goes config refl) (step (goes config refl) (step (goes config refl)
     (step (leads_on config _ None _ _ refl tt (writes config) refl)
     (step (goes config refl) (step (turns config 21 1 (wrote config) memory_written)
     (step (enters config 22 1 (wrote config) memory_written)
@@ -253,7 +342,8 @@ asked_once : (config : Settings) (n : ℕ) (q : ProcessState)
     (Given abc ∷ []) (n + 6) q
 asked_once config n q rest = rw (sym (plus_six n))
     (step (enters config 0 0 (host_of config) first_memory)
-    (step (goes config refl) (step (goes config refl) (step (goes config refl) (step (goes config refl)
+    (step (goes config refl)
+    (step (goes config refl) (step (goes config refl) (step (goes config refl)
     (take (leads_on config _ (Some abc) _ _ refl
     (kind.Request, wants_first config, abc_fits) (reads_first config) refl)
     rest))))))
@@ -286,5 +376,12 @@ echo_asks config = record {
 pub echo_ends : (config : Settings) → EchoEnds config
 echo_ends config =
     let reaches : Reaches echo config abc_and_end 33 (last config last_memory) =
-    record { guest = guest_of config; start = after 0 0 (host_of config) (blank around first_memory); begins = begins config; runs = runs config } in
-    subst (λ memory. ComesTo echo config abc_and_end (last config memory)) all_memory (comes echo config abc_and_end (Exited 0) (last config last_memory) echo_is_valid refl reaches)
+    record {
+      guest = guest_of config;
+      start = after 0 0 (host_of config) (blank around first_memory);
+      begins = begins config;
+      runs = runs config;
+    } in
+    subst (λ memory. ComesTo echo config abc_and_end (last config memory)) all_memory
+    (comes echo config abc_and_end (Exited 0) (last config last_memory) echo_is_valid refl
+    reaches)

@@ -23,27 +23,59 @@ load_there = instr.Load load.I32 (record { align = 2; offset = 0 })
 abbrev pub store_there : Instruction
 store_there = instr.Store store.I32 (record { align = 2; offset = 0 })
 
--- a round from its end to its beginning: the count of the write is dropped, and the loop begins anew
+-- a round from its end to its beginning: the count of the write is dropped, and the loop begins
+-- anew
 abbrev pub again : Sequence
 again = Plain instr.Drop (Plain (instr.Br 0) Stop)
 
 abbrev pub writing : Sequence
-writing = Plain (const_32 1) (Plain (const_32 8) (Plain (const_32 1) (Plain (const_32 20) (Plain (instr.Call 1) again))))
+writing = Plain (const_32 1)
+    (Plain (const_32 8) (Plain (const_32 1) (Plain (const_32 20) (Plain (instr.Call 1) again))))
 
 abbrev pub copying : Sequence
 copying = Plain (const_32 12) (Plain (const_32 16) (Plain load_there (Plain store_there writing)))
 
 abbrev pub testing : Sequence
-testing = Plain instr.Drop (Plain (const_32 16) (Plain load_there (Plain (instr.Eqz I32) (Plain (instr.BrIf 1) copying))))
+testing = Plain instr.Drop
+    (Plain (const_32 16) (Plain load_there (Plain (instr.Eqz I32) (Plain (instr.BrIf 1) copying))))
 
 abbrev pub round : Sequence
-round = Plain (const_32 0) (Plain (const_32 0) (Plain (const_32 1) (Plain (const_32 16) (Plain (instr.Call 0) testing))))
+round = Plain (const_32 0)
+    (Plain (const_32 0) (Plain (const_32 1) (Plain (const_32 16) (Plain (instr.Call 0) testing))))
 
 abbrev pub looping : Sequence
 looping = InLoop None round Stop
 
 pub echo_spells : Spells echo_body looping
-echo_spells = record { is = refl; nested = ((tt, (tt, (tt, (tt, (tt, (tt, (tt, (tt, (tt, (tt, (tt, (tt, (tt, (tt, (tt, (tt, (tt, (tt, (tt, (tt, (tt, tt))))))))))))))))))))), tt) }
+echo_spells =
+    record {
+      is = refl;
+      nested = (
+        (
+          tt,
+          (
+            tt,
+            (
+              tt,
+              (
+                tt,
+                (
+                  tt,
+                  (
+                    tt,
+                    (
+                      tt,
+                      (tt, (tt, (tt, (tt, (tt, (tt, (tt, (tt, (tt, (tt, (tt, (tt, (tt, (tt, tt)))))))))))))),
+                    ),
+                  ),
+                ),
+              ),
+            ),
+          ),
+        ),
+        tt,
+      );
+    }
 
 -- ---- its type
 
@@ -61,10 +93,18 @@ has_memory : HasMemory in_body
 has_memory = (one_page, refl)
 
 again_typed : IsTyped again (I32 ∷ [])
-again_typed = (I32 ∷ [], [], [], refl, (I32, refl, refl), ([], [], [], refl, ([], [], refl, refl), refl))
+again_typed =
+    (I32 ∷ [], [], [], refl, (I32, refl, refl), ([], [], [], refl, ([], [], refl, refl), refl))
 
 write_typed : IsTyped (Plain (instr.Call 1) again) (I32 ∷ I32 ∷ I32 ∷ I32 ∷ [])
-write_typed = (I32 ∷ I32 ∷ I32 ∷ I32 ∷ [], I32 ∷ [], [], refl, (transfer_type, refl, refl, refl), again_typed)
+write_typed = (
+  I32 ∷ I32 ∷ I32 ∷ I32 ∷ [],
+  I32 ∷ [],
+  [],
+  refl,
+  (transfer_type, refl, refl, refl),
+  again_typed,
+)
 
 writing_typed : IsTyped writing []
 writing_typed = (
@@ -79,7 +119,14 @@ writing_typed = (
     I32 ∷ [],
     refl,
     (I32, lit< tt, refl, refl),
-    ([], I32 ∷ [], I32 ∷ I32 ∷ [], refl, (I32, lit< tt, refl, refl), ([], I32 ∷ [], I32 ∷ I32 ∷ I32 ∷ [], refl, (I32, lit< tt, refl, refl), write_typed)),
+    (
+      [],
+      I32 ∷ [],
+      I32 ∷ I32 ∷ [],
+      refl,
+      (I32, lit< tt, refl, refl),
+      ([], I32 ∷ [], I32 ∷ I32 ∷ I32 ∷ [], refl, (I32, lit< tt, refl, refl), write_typed),
+    ),
   ),
 )
 
@@ -104,7 +151,21 @@ copying_typed = (
 )
 
 test_typed : IsTyped (Plain (instr.Eqz I32) (Plain (instr.BrIf 1) copying)) (I32 ∷ [])
-test_typed = (I32 ∷ [], I32 ∷ [], [], refl, (refl, refl), (I32 ∷ [], [], [], refl, ([], refl, refl, refl), copying_typed))
+test_typed = (
+  I32 ∷ [],
+  I32 ∷ [],
+  [],
+  refl,
+  (refl, refl),
+  (
+    I32 ∷ [],
+    [],
+    [],
+    refl,
+    ([], refl, refl, refl),
+    copying_typed,
+  ),
+)
 
 testing_typed : IsTyped testing (I32 ∷ [])
 testing_typed = (
@@ -124,7 +185,14 @@ testing_typed = (
 )
 
 read_typed : IsTyped (Plain (instr.Call 0) testing) (I32 ∷ I32 ∷ I32 ∷ I32 ∷ [])
-read_typed = (I32 ∷ I32 ∷ I32 ∷ I32 ∷ [], I32 ∷ [], [], refl, (transfer_type, refl, refl, refl), testing_typed)
+read_typed = (
+  I32 ∷ I32 ∷ I32 ∷ I32 ∷ [],
+  I32 ∷ [],
+  [],
+  refl,
+  (transfer_type, refl, refl, refl),
+  testing_typed,
+)
 
 round_typed : IsTyped round []
 round_typed = (
@@ -139,7 +207,14 @@ round_typed = (
     I32 ∷ [],
     refl,
     (I32, lit< tt, refl, refl),
-    ([], I32 ∷ [], I32 ∷ I32 ∷ [], refl, (I32, lit< tt, refl, refl), ([], I32 ∷ [], I32 ∷ I32 ∷ I32 ∷ [], refl, (I32, lit< tt, refl, refl), read_typed)),
+    (
+      [],
+      I32 ∷ [],
+      I32 ∷ I32 ∷ [],
+      refl,
+      (I32, lit< tt, refl, refl),
+      ([], I32 ∷ [], I32 ∷ I32 ∷ I32 ∷ [], refl, (I32, lit< tt, refl, refl), read_typed),
+    ),
   ),
 )
 
@@ -158,7 +233,32 @@ echo_is_valid = record {
   names = names_differ 2;
   start = tt;
   elements = tt;
-  data_segments = ((lit< tt, inl (value.I32 0, lit< tt, refl), (lit< tt, (lit< tt, (lit< tt, (lit< tt, (lit< tt, (lit< tt, (lit< tt, (lit< tt, (lit< tt, (lit< tt, (lit< tt, (lit< tt, tt))))))))))))), tt);
+  data_segments = (
+    (
+      lit< tt,
+      inl (value.I32 0, lit< tt, refl),
+      (
+        lit< tt,
+        (
+          lit< tt,
+          (
+            lit< tt,
+            (
+              lit< tt,
+              (
+                lit< tt,
+                (
+                  lit< tt,
+                  (lit< tt, (lit< tt, (lit< tt, (lit< tt, (lit< tt, (lit< tt, tt)))))),
+                ),
+              ),
+            ),
+          ),
+        ),
+      ),
+    ),
+    tt,
+  );
   one_table = lit≤ tt;
   one_memory = lit≤ tt;
 }

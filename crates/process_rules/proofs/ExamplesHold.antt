@@ -1,13 +1,16 @@
 -- The worked examples hold.
-use Rattle.std.proofs.Common.{◌≡◌, inl, subst, codes, ℕ, ◌+◌, List, [], ◌∷◌, replicate, Some, None, Ok, refl}
+use Rattle.std.proofs.Common.{◌≡◌, inl, subst, codes, ℕ, ◌+◌, List, [], ◌∷◌, replicate, Some, None}
+use Rattle.std.proofs.Common.{Ok, refl}
 use Rattle.wasm_syntax.specs.declared.value.Value.{Value}
 use Rattle.wasm_syntax.specs.declared.value.Trap.TheVariants as trap
 use Rattle.wasm_syntax.specs.declared.instruction.Instruction.{Instruction}
 use Rattle.wasm_syntax.specs.declared.instruction.Instruction.TheVariants as instr
 use Rattle.wasm_syntax.specs.rules.Sequence.{Sequence, Stop, Plain, Spells}
 use Rattle.wasm_syntax.specs.laws.Examples.{hello, idle, idle_with_code, no_type}
-use Rattle.wasm_syntax_rules.specs.Configuration.{Own, Configuration, Thread, LabelOf, FrameOf, Main}
-use Rattle.wasm_syntax_rules.specs.laws.Examples.{program_of_hello as hello_program, hello_sequence, in_hello, rest_behind_call, const_32, v}
+use Rattle.wasm_syntax_rules.specs.Configuration.{Own, Configuration, Thread, LabelOf, FrameOf}
+use Rattle.wasm_syntax_rules.specs.Configuration.{Main}
+use Rattle.wasm_syntax_rules.specs.laws.Examples.{program_of_hello as hello_program, hello_sequence}
+use Rattle.wasm_syntax_rules.specs.laws.Examples.{in_hello, rest_behind_call, const_32, v}
 use Rattle.wasm_syntax_rules.specs.Instantiation.{filled_memory, empty_memory}
 use Rattle.wasm_syntax_rules.specs.Steps.{Settles, here, on}
 use Rattle.wasm_syntax_rules.specs.Validity.{IsValid, memories_of}
@@ -16,9 +19,12 @@ use Rattle.wasi_abi.specs.rules.Configs.{Settings}
 use Rattle.wasi_calls_rules.specs.Hosts.{Line}
 use Rattle.wasi_calls_rules.specs.Checks.{Bytes}
 use Rattle.wasi_calls_rules.specs.Rows.{row}
-use Rattle.process_rules.specs.Processes.{ProcessState, Guest, Exited, Trapped, IsStart, host_of, closed}
+use Rattle.process_rules.specs.Processes.{ProcessState, Guest, Exited, Trapped, IsStart, host_of}
+use Rattle.process_rules.specs.Processes.{closed}
 use Rattle.process_rules.specs.Runs.{Moves, Runs, Reaches, none, step}
-use Rattle.process_rules.specs.laws.Examples.{ComesTo, at_rest, HelloEnds, hello_memory, hello_end, page_of_zeros, idle_end, IdleEnds, trapping, trapping_end, TrappingEnds}
+use Rattle.process_rules.specs.laws.Examples.{ComesTo, at_rest, HelloEnds, hello_memory, hello_end}
+use Rattle.process_rules.specs.laws.Examples.{page_of_zeros, idle_end, IdleEnds, trapping}
+use Rattle.process_rules.specs.laws.Examples.{trapping_end, TrappingEnds}
 use Rattle.process_rules.proofs.Ended.{comes}
 use Rattle.process_rules.proofs.ExamplesValid.{hello_spells, hello_is_valid, alone_is_valid}
 
@@ -39,12 +45,17 @@ unfolding first_memory
 filled = refl
 
 -- the call that writes the line
-written : (config : Settings) → row call.FdWrite (1 ∷ 0 ∷ 1 ∷ 16 ∷ []) None first_memory (host_of config) ≡ Ok (record { memory = last_memory; host = record (host_of config) { lines = hi_line ∷ [] } })
+written : (config : Settings)
+    → row call.FdWrite (1 ∷ 0 ∷ 1 ∷ 16 ∷ []) None first_memory (host_of config)
+    ≡ Ok (record { memory = last_memory; host = record (host_of config) { lines = hi_line ∷ [] } })
 unfolding first_memory last_memory
 written config = refl
 
 abbrev guest_of : Settings → Guest
-guest_of config = record { program = record hello_program { most_pages = config.pages }; calls = call.FdWrite ∷ call.ProcExit ∷ [] }
+guest_of config = record {
+  program = record hello_program { most_pages = config.pages };
+  calls = call.FdWrite ∷ call.ProcExit ∷ [];
+}
 
 -- inside of `_start` after n steps
 abbrev after : Settings → ℕ → Bytes → List Line → List Value → Sequence → ProcessState
@@ -70,7 +81,11 @@ begins config = record {
   exported = inl (refl, refl);
   calls = (refl, refl, (refl, refl, tt));
   begins = record {
-    is_program = record { types = refl; functions = (refl, (refl, (refl, refl, hello_spells, tt))); most_pages = refl };
+    is_program = record {
+      types = refl;
+      functions = (refl, (refl, (refl, refl, hello_spells, tt)));
+      most_pages = refl;
+    };
     store = record { memory = first_memory; globals = []; table = [] };
     is_store = record { globals = tt; table = refl; memory = filled };
     settles = on refl (here refl);
@@ -79,37 +94,65 @@ begins config = record {
 }
 
 -- a constant in front of another instruction is a step
-constant : (config : Settings) (n : ℕ) (memory : Bytes) (lines : List Line) (values : List Value) (x : ℕ) (i : Instruction) (rest : Sequence)
-    → Moves (guest_of config) (after config n memory lines values (Plain (const_32 x) (Plain i rest))) None (after config (n + 1) memory lines (v x ∷ values) (Plain i rest))
-constant config n memory lines values x i rest = record { running = refl; wanted = tt; leads = (_, here refl, refl) }
+constant : (config : Settings) (n : ℕ) (memory : Bytes) (lines : List Line) (values : List Value)
+    (x : ℕ) (i : Instruction) (rest : Sequence)
+    → Moves (guest_of config) (after config n memory lines values
+    (Plain (const_32 x) (Plain i rest))) None (after config (n + 1) memory lines (v x
+    ∷ values) (Plain i rest))
+constant config n memory lines values x i rest = record {
+  running = refl;
+  wanted = tt;
+  leads = (_, here refl, refl);
+}
 
 writes : (config : Settings)
-    → Moves (guest_of config) (after config 4 first_memory [] (v 16 ∷ v 1 ∷ v 0 ∷ v 1 ∷ []) (Plain (instr.Call 0) rest_behind_call)) None (after config 5 last_memory (hi_line ∷ []) (v 0 ∷ []) rest_behind_call)
-writes config = record { running = refl; wanted = tt; leads = rw (written config) (_, here refl, refl) }
+    → Moves (guest_of config) (after config 4 first_memory [] (v 16 ∷ v 1 ∷ v 0 ∷ v 1
+    ∷ []) (Plain (instr.Call 0) rest_behind_call)) None (after config 5 last_memory (hi_line
+    ∷ []) (v 0 ∷ []) rest_behind_call)
+writes config = record {
+  running = refl;
+  wanted = tt;
+  leads = rw (written config) (_, here refl, refl);
+}
 
 drops : (config : Settings)
-    → Moves (guest_of config) (after config 5 last_memory (hi_line ∷ []) (v 0 ∷ []) rest_behind_call) None (after config 6 last_memory (hi_line ∷ []) [] (Plain (const_32 7) (Plain (instr.Call 1) Stop)))
+    → Moves (guest_of config) (after config 5 last_memory (hi_line ∷ []) (v 0
+    ∷ []) rest_behind_call) None (after config 6 last_memory (hi_line
+    ∷ []) [] (Plain (const_32 7) (Plain (instr.Call 1) Stop)))
 drops config = record { running = refl; wanted = tt; leads = (_, here refl, refl) }
 
-exits : (config : Settings) → Moves (guest_of config) (after config 7 last_memory (hi_line ∷ []) (v 7 ∷ []) (Plain (instr.Call 1) Stop)) None (last config last_memory)
+exits : (config : Settings)
+    → Moves (guest_of config) (after config 7 last_memory (hi_line ∷ []) (v 7
+    ∷ []) (Plain (instr.Call 1) Stop)) None (last config last_memory)
 exits config = record { running = refl; wanted = tt; leads = refl }
 
 eight : (config : Settings) → Runs (guest_of config) (first config) [] 8 (last config last_memory)
 eight config =
-    step (constant config 0 first_memory [] _ 1 _ _) (step (constant config 1 first_memory [] _ 0 _ _)
-    (step (constant config 2 first_memory [] _ 1 _ _) (step (constant config 3 first_memory [] _ 16 _ _)
-    (step (writes config) (step (drops config) (step (constant config 6 last_memory (hi_line ∷ []) _ 7 _ _) (step (exits config) none)))))))
+    step (constant config 0 first_memory [] _ 1 _ _)
+    (step (constant config 1 first_memory [] _ 0 _ _)
+    (step (constant config 2 first_memory [] _ 1 _ _)
+    (step (constant config 3 first_memory [] _ 16 _ _)
+    (step (writes config)
+    (step (drops config) (step (constant config 6 last_memory (hi_line ∷ []) _ 7 _ _)
+    (step (exits config) none)))))))
 
 all_memory : last_memory ≡ hello_memory
 unfolding last_memory
 all_memory = refl
 
 hello_reaches : (config : Settings) → Reaches hello config [] 8 (last config last_memory)
-hello_reaches config = record { guest = guest_of config; start = first config; begins = begins config; runs = eight config }
+hello_reaches config = record {
+  guest = guest_of config;
+  start = first config;
+  begins = begins config;
+  runs = eight config;
+}
 
 pub hello_ends : (config : Settings) → HelloEnds config
 hello_ends config = record {
-  comes = subst (λ memory. ComesTo hello config [] (last config memory)) all_memory (comes hello config [] (Exited 7) (last config last_memory) hello_is_valid refl (hello_reaches config));
+  comes = subst (λ memory. ComesTo hello config [] (last config memory)) all_memory
+      (comes hello config [] (Exited 7) (last config last_memory) hello_is_valid refl
+      (hello_reaches config));
   written = refl;
 }
 
@@ -128,18 +171,43 @@ nothing_filled = refl
 
 -- nothing in the frames given
 abbrev blank : Thread → Configuration
-blank thread = record { store = record { memory = page; globals = []; table = [] }; thread = thread; later = [] }
+blank thread = record {
+  store = record { memory = page; globals = []; table = [] };
+  thread = thread;
+  later = [];
+}
 
 abbrev at_first : Settings → Thread → ProcessState
-at_first config thread = record { configuration = blank thread; host = host_of config; steps = 0; answers = 0; requests = 0; ended = None }
+at_first config thread = record {
+  configuration = blank thread;
+  host = host_of config;
+  steps = 0;
+  answers = 0;
+  requests = 0;
+  ended = None;
+}
 
 -- a module that is `_start` alone
 abbrev alone : Settings → Sequence → Guest
-alone config body = record { program = record { types = no_type ∷ []; functions = Own no_type [] body ∷ []; most_pages = config.pages }; calls = [] }
+alone config body =
+    record {
+      program = record {
+        types = no_type ∷ [];
+        functions = Own no_type [] body ∷ [];
+        most_pages = config.pages;
+      };
+      calls = [];
+    }
 
-alone_begins : (config : Settings) (opcodes : List Instruction) (body : Sequence) (thread : Thread) → Spells opcodes body
-    → Settles (alone config body).program (record { store = (blank []).store; thread = []; later = 0 ∷ [] }) (blank thread)
-    → IsStart (idle_with_code [] opcodes) config (alone config body) (closed (at_first config thread))
+alone_begins : (config : Settings) (opcodes : List Instruction) (body : Sequence) (thread : Thread)
+    → Spells opcodes body
+    → Settles (alone config body).program (record {
+      store = (blank []).store;
+      thread = [];
+      later = 0 ∷ [];
+    }) (blank thread)
+    → IsStart (idle_with_code [] opcodes) config (alone config body)
+    (closed (at_first config thread))
 alone_begins config opcodes body thread spells settles = record {
   entry = 0;
   first = blank thread;
@@ -164,14 +232,17 @@ idle_reaches : (config : Settings) → Reaches idle config [] 0 (over_at_once co
 idle_reaches config = record {
   guest = alone config Stop;
   start = over_at_once config;
-  begins = alone_begins config (instr.End ∷ []) Stop [] idle_spells (on refl (on refl (on refl (here refl))));
+  begins = alone_begins config (instr.End ∷ []) Stop [] idle_spells
+      (on refl (on refl (on refl (here refl))));
   runs = none;
 }
 
 pub idle_ends : (config : Settings) → IdleEnds config
 idle_ends config =
     let valid : IsValid idle = alone_is_valid (instr.End ∷ []) Stop idle_spells refl in
-    subst (λ memory. ComesTo idle config [] (record (idle_end config) { configuration = at_rest memory })) zeros (comes idle config [] (Exited 0) (over_at_once config) valid refl (idle_reaches config))
+    subst (λ memory.
+    ComesTo idle config [] (record (idle_end config) { configuration = at_rest memory })) zeros
+    (comes idle config [] (Exited 0) (over_at_once config) valid refl (idle_reaches config))
 
 abbrev trapping_body : Sequence
 trapping_body = Plain instr.Unreachable Stop
@@ -189,11 +260,24 @@ trapping_reaches : (config : Settings) → Reaches trapping config [] 1 (trapped
 trapping_reaches config = record {
   guest = alone config trapping_body;
   start = at_first config before_trap;
-  begins = alone_begins config (instr.Unreachable ∷ instr.End ∷ []) trapping_body before_trap trapping_spells (on refl (here refl));
+  begins = alone_begins config (instr.Unreachable ∷ instr.End
+      ∷ []) trapping_body before_trap trapping_spells (on refl (here refl));
   runs = step (record { running = refl; wanted = tt; leads = refl }) none;
 }
 
 pub trapping_ends : (config : Settings) → TrappingEnds config
 trapping_ends config =
-    let valid : IsValid trapping = alone_is_valid (instr.Unreachable ∷ instr.End ∷ []) trapping_body trapping_spells ([], [], [], refl, tt, refl) in
-    subst (λ memory. ComesTo trapping config [] (record (trapping_end config) { configuration = at_rest memory })) zeros (comes trapping config [] (Trapped trap.Unreachable) (trapped config) valid refl (trapping_reaches config))
+    let valid : IsValid trapping =
+    alone_is_valid (instr.Unreachable ∷ instr.End ∷ []) trapping_body trapping_spells (
+      [],
+      [],
+      [],
+      refl,
+      tt,
+      refl,
+    ) in
+    subst (λ memory.
+    ComesTo trapping config []
+    (record (trapping_end config) { configuration = at_rest memory })) zeros
+    (comes trapping config [] (Trapped trap.Unreachable) (trapped config) valid refl
+    (trapping_reaches config))

@@ -1,5 +1,6 @@
 -- The modules of the worked examples are valid.
-use Rattle.std.proofs.Common.{◌≡◌, inl, ℕ, ◌==◌, true, false, get_or, codes, ap, List, [], ◌∷◌, refl, lit<, lit≤}
+use Rattle.std.proofs.Common.{◌≡◌, inl, ℕ, ◌==◌, true, false, get_or, codes, ap, List, [], ◌∷◌}
+use Rattle.std.proofs.Common.{refl, lit<, lit≤}
 use Rattle.std.specs.List.{AllByRecursion}
 use Rattle.wasm_syntax.specs.declared.types.ValueType.TheVariants.{I32}
 use Rattle.wasm_syntax.specs.declared.types.FunctionType.{FunctionType}
@@ -7,10 +8,13 @@ use Rattle.wasm_syntax.specs.declared.value.Value.TheVariants as value
 use Rattle.wasm_syntax.specs.declared.instruction.Instruction.{Instruction}
 use Rattle.wasm_syntax.specs.declared.instruction.Instruction.TheVariants as instr
 use Rattle.wasm_syntax.specs.rules.Sequence.{Sequence, Stop, Plain, Spells}
-use Rattle.wasm_syntax.specs.laws.Examples.{hello, hello_body as hello_opcodes, idle_with_code, no_type, transfer_type, exit_type, one_page, exports_from}
+use Rattle.wasm_syntax.specs.laws.Examples.{hello, hello_body as hello_opcodes, idle_with_code}
+use Rattle.wasm_syntax.specs.laws.Examples.{no_type, transfer_type, exit_type, one_page}
+use Rattle.wasm_syntax.specs.laws.Examples.{exports_from}
 use Rattle.wasm_syntax_rules.specs.laws.Examples.{hello_sequence, rest_behind_call}
 use Rattle.wasm_syntax_rules.specs.Typing.{Context, HasType, body_context}
-use Rattle.wasm_syntax_rules.specs.Validity.{IsValid, IsMemoryTypeValid, HaveDistinctNames, module_context}
+use Rattle.wasm_syntax_rules.specs.Validity.{IsValid, IsMemoryTypeValid, HaveDistinctNames}
+use Rattle.wasm_syntax_rules.specs.Validity.{module_context}
 
 pub page_is_valid : AllByRecursion IsMemoryTypeValid (one_page ∷ [])
 page_is_valid = ((lit≤ tt, tt), tt)
@@ -19,7 +23,8 @@ pub names_differ : (function : ℕ) → HaveDistinctNames (exports_from function
 names_differ function = (((λ e. absurd (begin_alike e)), tt), (tt, tt))
   where
     begin_alike : codes "_start" ≡ codes "memory" → ⊥
-    begin_alike e = let alike : true ≡ false = ap (λ (name : List ℕ). get_or name 0 0 == 95) e in absurd (cc)
+    begin_alike e = let alike : true ≡ false = ap (λ (name : List ℕ). get_or name 0 0 == 95) e in
+        absurd (cc)
 
 -- ---- hello
 
@@ -36,10 +41,32 @@ exit_has_type : HasType in_body ([] ∷ []) (Plain (instr.Call 1) Stop) (I32 ∷
 exit_has_type = (I32 ∷ [], [], [], refl, (exit_type, refl, refl, refl), refl)
 
 behind_has_type : HasType in_body ([] ∷ []) rest_behind_call (I32 ∷ []) []
-behind_has_type = (I32 ∷ [], [], [], refl, (I32, refl, refl), ([], I32 ∷ [], [], refl, (I32, lit< tt, refl, refl), exit_has_type))
+behind_has_type = (
+  I32 ∷ [],
+  [],
+  [],
+  refl,
+  (I32, refl, refl),
+  (
+    [],
+    I32 ∷ [],
+    [],
+    refl,
+    (I32, lit< tt, refl, refl),
+    exit_has_type,
+  ),
+)
 
-call_has_type : HasType in_body ([] ∷ []) (Plain (instr.Call 0) rest_behind_call) (I32 ∷ I32 ∷ I32 ∷ I32 ∷ []) []
-call_has_type = (I32 ∷ I32 ∷ I32 ∷ I32 ∷ [], I32 ∷ [], [], refl, (transfer_type, refl, refl, refl), behind_has_type)
+call_has_type : HasType in_body ([] ∷ []) (Plain (instr.Call 0) rest_behind_call) (I32 ∷ I32 ∷ I32
+    ∷ I32 ∷ []) []
+call_has_type = (
+  I32 ∷ I32 ∷ I32 ∷ I32 ∷ [],
+  I32 ∷ [],
+  [],
+  refl,
+  (transfer_type, refl, refl, refl),
+  behind_has_type,
+)
 
 hello_has_type : HasType in_body ([] ∷ []) hello_sequence [] []
 hello_has_type = (
@@ -54,7 +81,14 @@ hello_has_type = (
     I32 ∷ [],
     refl,
     (I32, lit< tt, refl, refl),
-    ([], I32 ∷ [], I32 ∷ I32 ∷ [], refl, (I32, lit< tt, refl, refl), ([], I32 ∷ [], I32 ∷ I32 ∷ I32 ∷ [], refl, (I32, lit< tt, refl, refl), call_has_type)),
+    (
+      [],
+      I32 ∷ [],
+      I32 ∷ I32 ∷ [],
+      refl,
+      (I32, lit< tt, refl, refl),
+      ([], I32 ∷ [], I32 ∷ I32 ∷ I32 ∷ [], refl, (I32, lit< tt, refl, refl), call_has_type),
+    ),
   ),
 )
 
@@ -71,7 +105,26 @@ hello_is_valid = record {
   names = names_differ 2;
   start = tt;
   elements = tt;
-  data_segments = ((lit< tt, inl (value.I32 0, lit< tt, refl), (lit< tt, (lit< tt, (lit< tt, (lit< tt, (lit< tt, (lit< tt, (lit< tt, (lit< tt, (lit< tt, (lit< tt, (lit< tt, tt)))))))))))), tt);
+  data_segments = (
+    (
+      lit< tt,
+      inl (value.I32 0, lit< tt, refl),
+      (
+        lit< tt,
+        (
+          lit< tt,
+          (
+            lit< tt,
+            (
+              lit< tt,
+              (lit< tt, (lit< tt, (lit< tt, (lit< tt, (lit< tt, (lit< tt, (lit< tt, tt))))))),
+            ),
+          ),
+        ),
+      ),
+    ),
+    tt,
+  );
   one_table = lit≤ tt;
   one_memory = lit≤ tt;
 }
@@ -79,7 +132,8 @@ hello_is_valid = record {
 -- ---- a `_start` alone
 
 pub alone_is_valid : (opcodes : List Instruction) (body : Sequence) → Spells opcodes body
-    → HasType (body_context (module_context (idle_with_code [] opcodes) (no_type ∷ [])) no_type []) ([] ∷ []) body [] [] → IsValid (idle_with_code [] opcodes)
+    → HasType (body_context (module_context (idle_with_code [] opcodes) (no_type ∷ [])) no_type [])
+    ([] ∷ []) body [] [] → IsValid (idle_with_code [] opcodes)
 alone_is_valid opcodes body spells typed = record {
   functions = no_type ∷ [];
   types = (lit≤ tt, tt);

@@ -1,9 +1,11 @@
 -- A step is counted, and its lines stand behind those that were there.
-use Rattle.std.proofs.Common.{◌≡◌, ℕ, ◌+◌, List, [], ◌∷◌, ◌++◌, Option, Some, None, refl, ◌∙◌, ap, arith, append_assoc}
+use Rattle.std.proofs.Common.{◌≡◌, ℕ, ◌+◌, List, [], ◌∷◌, ◌++◌, Option, Some, None, refl, ◌∙◌, ap}
+use Rattle.std.proofs.Common.{arith, append_assoc}
 use Rattle.std.specs.Prelude.{Ok, Err, reverse, map, slice_get}
 use Rattle.wasm_syntax.specs.declared.value.Value.{Value}
 use Rattle.wasm_syntax_rules.specs.Types.{number_in}
-use Rattle.wasm_syntax_rules.specs.Configuration.{Configuration, Thread, Outcome, Goes, Traps, Asks, Stuck}
+use Rattle.wasm_syntax_rules.specs.Configuration.{Configuration, Thread, Outcome, Goes, Traps, Asks}
+use Rattle.wasm_syntax_rules.specs.Configuration.{Stuck}
 use Rattle.wasm_syntax_rules.specs.Steps.{rule}
 use Rattle.wasi_abi.specs.declared.answer.Answer.{Answer}
 use Rattle.wasi_abi.specs.declared.call.Call.{Call}
@@ -14,24 +16,30 @@ use Rattle.wasi_calls_rules.specs.Rows.{row}
 use Rattle.wasi_calls_rules.specs.laws.Laws.{Emits}
 use Rattle.wasi_calls_rules.proofs.EmitsLines.{emits_none, rows_emit}
 use Rattle.process_rules.specs.Processes.{ProcessState, Guest, closed, closed_at}
-use Rattle.process_rules.specs.Runs.{Next, On, Over, Wants, Nowhere, after_row, after_call, after_rule, next_of, stepped, LeadsTo, Moves, none, step, take}
+use Rattle.process_rules.specs.Runs.{Next, On, Over, Wants, Nowhere, after_row, after_call}
+use Rattle.process_rules.specs.Runs.{after_rule, next_of, stepped, LeadsTo, Moves, none, step, take}
 use Rattle.process_rules.specs.laws.Laws.{RunsCount, RunsEmit}
 
 pub emits_on : (g h k : Host) → Emits g h → Emits h k → Emits g k
-emits_on g h k a b = record { lines = a.lines ++ b.lines; are = rw b.are (rw a.are (append_assoc g.lines a.lines b.lines)) }
+emits_on g h k a b = record {
+  lines = a.lines ++ b.lines;
+  are = rw b.are (rw a.are (append_assoc g.lines a.lines b.lines));
+}
 
 -- ---- a step
 
 ended_emits : (h : Host) → Emits h (lines_ended h)
 ended_emits h = record { lines = _; are = refl }
 
-closed_emits : (thread : Thread) (later : List ℕ) (p : ProcessState) → Emits p.host (closed_at thread later p).host
+closed_emits : (thread : Thread) (later : List ℕ) (p : ProcessState)
+    → Emits p.host (closed_at thread later p).host
 closed_emits [] [] p = ended_emits p.host
 closed_emits [] (f ∷ later) p = emits_none p.host p.host refl
 closed_emits (frame ∷ frames) [] p = emits_none p.host p.host refl
 closed_emits (frame ∷ frames) (f ∷ later) p = emits_none p.host p.host refl
 
-closed_counts : (thread : Thread) (later : List ℕ) (p : ProcessState) → (closed_at thread later p).steps ≡ p.steps
+closed_counts : (thread : Thread) (later : List ℕ) (p : ProcessState)
+    → (closed_at thread later p).steps ≡ p.steps
 closed_counts [] [] p = refl
 closed_counts [] (f ∷ later) p = refl
 closed_counts (frame ∷ frames) [] p = refl
@@ -44,24 +52,29 @@ EmitsTo h (Over why c after) = Emits h after
 EmitsTo h (Wants kind) = Unit {0}
 EmitsTo h Nowhere = Unit {0}
 
-row_emits_to : (c : Call) (r : Ruling) (before : Configuration) (h : Host) (waits : Thread) → ((done : Done) → r ≡ Ok done → Emits h done.host)
+row_emits_to : (c : Call) (r : Ruling) (before : Configuration) (h : Host) (waits : Thread)
+    → ((done : Done) → r ≡ Ok done → Emits h done.host)
     → EmitsTo h (after_row c r before h waits)
 row_emits_to c (Ok done) before h waits emits = emits done refl
 row_emits_to c (Err (Refuses e)) before h waits emits = emits_none h h refl
 row_emits_to c (Err (Ends code)) before h waits emits = emits_none h h refl
 row_emits_to c (Err (Wishes kind)) before h waits emits = tt
 
-call_emits_to : (o : Option Call) (arguments : List Value) (given : Option Answer) (before : Configuration) (h : Host) (waits : Thread)
+call_emits_to : (o : Option Call) (arguments : List Value) (given : Option Answer)
+    (before : Configuration) (h : Host) (waits : Thread)
     → EmitsTo h (after_call o arguments given before h waits)
 call_emits_to None arguments given before h waits = tt
 call_emits_to (Some c) arguments given before h waits =
-    row_emits_to c (row c (reverse (map number_in arguments)) given before.store.memory h) before h waits
+    row_emits_to c (row c (reverse (map number_in arguments)) given before.store.memory h) before h
+    waits
     (rows_emit c (reverse (map number_in arguments)) given before.store.memory h)
 
-rule_emits_to : (guest : Guest) (outcome : Outcome) (given : Option Answer) (before : Configuration) (h : Host) → EmitsTo h (after_rule guest outcome given before h)
+rule_emits_to : (guest : Guest) (outcome : Outcome) (given : Option Answer) (before : Configuration)
+    (h : Host) → EmitsTo h (after_rule guest outcome given before h)
 rule_emits_to guest (Goes next) given before h = emits_none h h refl
 rule_emits_to guest (Traps why) given before h = emits_none h h refl
-rule_emits_to guest (Asks f arguments waits) given before h = call_emits_to (slice_get guest.calls f) arguments given before h waits
+rule_emits_to guest (Asks f arguments waits) given before h =
+    call_emits_to (slice_get guest.calls f) arguments given before h waits
 rule_emits_to guest Stuck given before h = tt
 
 -- one more step was counted, and lines were emitted
@@ -69,13 +82,16 @@ record Grows (p q : ProcessState) : Type 0 where
   pub counts : q.steps ≡ p.steps + 1
   pub emits : Emits p.host q.host
 
-leads_grow : (guest : Guest) (next : Next) (given : Option Answer) (p q : ProcessState) → EmitsTo p.host next → LeadsTo guest next given p q → Grows p q
+leads_grow : (guest : Guest) (next : Next) (given : Option Answer) (p q : ProcessState)
+    → EmitsTo p.host next → LeadsTo guest next given p q → Grows p q
 leads_grow guest (On c h) given p q emits to =
     let settled : Configuration = to.0 in
     let after : ProcessState = stepped given settled h p in
     record {
-      counts = ap (λ (z : ProcessState). z.steps) to.2 ∙ closed_counts settled.thread settled.later after;
-      emits = rw to.2 (emits_on p.host h (closed after).host emits (closed_emits settled.thread settled.later after));
+      counts = ap (λ (z : ProcessState). z.steps) to.2
+          ∙ closed_counts settled.thread settled.later after;
+      emits = rw to.2 (emits_on p.host h (closed after).host emits
+          (closed_emits settled.thread settled.later after));
     }
 leads_grow guest (Over why c h) given p q emits to = record {
   counts = ap (λ (z : ProcessState). z.steps) to;
@@ -84,14 +100,19 @@ leads_grow guest (Over why c h) given p q emits to = record {
 leads_grow guest (Wants kind) given p q emits to = absurd to
 leads_grow guest Nowhere given p q emits to = absurd to
 
-move_grows : (guest : Guest) (p q : ProcessState) (given : Option Answer) → Moves guest p given q → Grows p q
+move_grows : (guest : Guest) (p q : ProcessState) (given : Option Answer) → Moves guest p given q
+    → Grows p q
 move_grows guest p q given moves =
-    leads_grow guest (next_of guest p given) given p q (rule_emits_to guest (rule guest.program p.configuration) given p.configuration p.host) moves.leads
+    leads_grow guest (next_of guest p given) given p q
+    (rule_emits_to guest (rule guest.program p.configuration) given p.configuration p.host)
+    moves.leads
 
-pub move_counts : (guest : Guest) (p q : ProcessState) (given : Option Answer) → Moves guest p given q → q.steps ≡ p.steps + 1
+pub move_counts : (guest : Guest) (p q : ProcessState) (given : Option Answer)
+    → Moves guest p given q → q.steps ≡ p.steps + 1
 move_counts guest p q given moves = (move_grows guest p q given moves).counts
 
-pub move_emits : (guest : Guest) (p q : ProcessState) (given : Option Answer) → Moves guest p given q → Emits p.host q.host
+pub move_emits : (guest : Guest) (p q : ProcessState) (given : Option Answer)
+    → Moves guest p given q → Emits p.host q.host
 move_emits guest p q given moves = (move_grows guest p q given moves).emits
 
 -- ---- runs
@@ -110,6 +131,8 @@ runs_count guest p q kept n (take {p = p'} {q = next} {a = a} {kept = kept'} {n 
 pub runs_emit : RunsEmit
 runs_emit guest p q kept n (none {p = p'}) = emits_none p'.host p'.host refl
 runs_emit guest p q kept n (step {p = p'} {q = next} {kept = kept'} {n = m} moves rest) =
-    emits_on p'.host next.host q.host (move_emits guest p' next None moves) (runs_emit guest next q kept' m rest)
+    emits_on p'.host next.host q.host (move_emits guest p' next None moves)
+    (runs_emit guest next q kept' m rest)
 runs_emit guest p q kept n (take {p = p'} {q = next} {a = a} {kept = kept'} {n = m} moves rest) =
-    emits_on p'.host next.host q.host (move_emits guest p' next (Some a) moves) (runs_emit guest next q kept' m rest)
+    emits_on p'.host next.host q.host (move_emits guest p' next (Some a) moves)
+    (runs_emit guest next q kept' m rest)

@@ -1,5 +1,6 @@
 -- A valid module begins as one process at most.
-use Rattle.std.proofs.Common.{◌≡◌, ◌≢◌, inl, inr, ℕ, List, [], ◌∷◌, Option, Some, None, refl, sym, ap, ◌∙◌, subst, if◌then◌else◌}
+use Rattle.std.proofs.Common.{◌≡◌, ◌≢◌, inl, inr, ℕ, List, [], ◌∷◌, Option, Some, None, refl, sym}
+use Rattle.std.proofs.Common.{ap, ◌∙◌, subst, if◌then◌else◌}
 use Rattle.std.specs.Prelude.{codes}
 use Rattle.std.specs.List.{AllByRecursion}
 use Rattle.wasm_syntax.specs.declared.value.Value.{Value}
@@ -11,7 +12,8 @@ use Rattle.wasm_syntax.specs.declared.module.ExportItem.{ExportItem}
 use Rattle.wasm_syntax.specs.declared.module.ExportItem.TheVariants as export
 use Rattle.wasm_syntax_rules.specs.Validity.{HaveDistinctNames, IsValid}
 use Rattle.wasm_syntax_rules.specs.Configuration.{Program, Store, Configuration}
-use Rattle.wasm_syntax_rules.specs.Instantiation.{IsProgram, constant_of, AreInitial, IsInitialStore, calls_of, Begins}
+use Rattle.wasm_syntax_rules.specs.Instantiation.{IsProgram, constant_of, AreInitial}
+use Rattle.wasm_syntax_rules.specs.Instantiation.{IsInitialStore, calls_of, Begins}
 use Rattle.wasm_syntax_rules.specs.Steps.{Settles}
 use Rattle.wasm_syntax_rules.specs.Linking.{Exports}
 use Rattle.wasm_syntax_rules.proofs.OneProgram.{one_program}
@@ -27,14 +29,21 @@ use Rattle.wasi_abi.proofs.CallLemmas.{name_of-injective as one_name}
 
 -- ---- the program
 
-program_once : (m : Module) (pages : ℕ) (p q : Program) → IsProgram m pages p → IsProgram m pages q → p ≡ q
+program_once : (m : Module) (pages : ℕ) (p q : Program) → IsProgram m pages p → IsProgram m pages q
+    → p ≡ q
 program_once m pages p q a b = one_program m pages pages p q a b (a.most_pages ∙ sym b.most_pages)
 
 -- ---- the calls
 
 -- each call has a name of its own
 abbrev pub all_calls : List Call
-all_calls = call.ArgsGet ∷ call.ArgsSizesGet ∷ call.EnvironGet ∷ call.EnvironSizesGet ∷ call.ClockResGet ∷ call.ClockTimeGet ∷ call.FdClose ∷ call.FdDatasync ∷ call.FdFdstatGet ∷ call.FdFdstatSetFlags ∷ call.FdFilestatGet ∷ call.FdFilestatSetSize ∷ call.FdPread ∷ call.FdPrestatGet ∷ call.FdPrestatDirName ∷ call.FdPwrite ∷ call.FdRead ∷ call.FdReaddir ∷ call.FdSeek ∷ call.FdSync ∷ call.FdTell ∷ call.FdWrite ∷ call.PathCreateDirectory ∷ call.PathFilestatGet ∷ call.PathOpen ∷ call.PathRemoveDirectory ∷ call.PathRename ∷ call.PathUnlinkFile ∷ call.ProcExit ∷ call.SchedYield ∷ call.RandomGet ∷ []
+all_calls = call.ArgsGet ∷ call.ArgsSizesGet ∷ call.EnvironGet ∷ call.EnvironSizesGet
+    ∷ call.ClockResGet ∷ call.ClockTimeGet ∷ call.FdClose ∷ call.FdDatasync ∷ call.FdFdstatGet
+    ∷ call.FdFdstatSetFlags ∷ call.FdFilestatGet ∷ call.FdFilestatSetSize ∷ call.FdPread
+    ∷ call.FdPrestatGet ∷ call.FdPrestatDirName ∷ call.FdPwrite ∷ call.FdRead ∷ call.FdReaddir
+    ∷ call.FdSeek ∷ call.FdSync ∷ call.FdTell ∷ call.FdWrite ∷ call.PathCreateDirectory
+    ∷ call.PathFilestatGet ∷ call.PathOpen ∷ call.PathRemoveDirectory ∷ call.PathRename
+    ∷ call.PathUnlinkFile ∷ call.ProcExit ∷ call.SchedYield ∷ call.RandomGet ∷ []
 
 abbrev pub named : List Call → List ℕ → Option Call
 named [] name = None
@@ -73,7 +82,8 @@ found call.ProcExit = refl
 found call.SchedYield = refl
 found call.RandomGet = refl
 
-pub calls_once : (imports : List Import) (a b : List Call) → AreCalls imports a → AreCalls imports b → a ≡ b
+pub calls_once : (imports : List Import) (a b : List Call) → AreCalls imports a → AreCalls imports b
+    → a ≡ b
 calls_once [] [] [] h k = refl
 calls_once [] [] (d ∷ b) h k = absurd k
 calls_once [] (c ∷ a) b h k = absurd h
@@ -87,12 +97,15 @@ calls_once (i ∷ imports) (c ∷ a) (d ∷ b) h k =
 -- ---- the entry
 
 -- a name that is exported is not among the other ones
-not_again : (e : Export) (exports : List Export) (name : List ℕ) (item : ExportItem) → e.name ≡ name → AllByRecursion (λ (other : Export). e.name ≢ other.name) exports → Exports exports name item → ⊥
+not_again : (e : Export) (exports : List Export) (name : List ℕ) (item : ExportItem) → e.name ≡ name
+    → AllByRecursion (λ (other : Export). e.name ≢ other.name) exports → Exports exports name item
+    → ⊥
 not_again e [] name item same h k = k
 not_again e (f ∷ exports) name item same h (inl k) = h.0 (same ∙ sym k.0)
 not_again e (f ∷ exports) name item same h (inr k) = not_again e exports name item same h.1 k
 
-pub entry_once : (exports : List Export) (name : List ℕ) (a b : ExportItem) → HaveDistinctNames exports → Exports exports name a → Exports exports name b → a ≡ b
+pub entry_once : (exports : List Export) (name : List ℕ) (a b : ExportItem)
+    → HaveDistinctNames exports → Exports exports name a → Exports exports name b → a ≡ b
 entry_once [] name a b d h k = absurd h
 entry_once (e ∷ exports) name a b d (inl h) (inl k) = sym h.1 ∙ k.1
 entry_once (e ∷ exports) name a b d (inl h) (inr k) = absurd (not_again e exports name b h.0 d.0 k)
@@ -105,25 +118,48 @@ abbrev pub guest_of : Program → List Call → Guest
 guest_of program calls = record { program = program; calls = calls }
 
 guest_is : (a b : Guest) → a.program ≡ b.program → a.calls ≡ b.calls → a ≡ b
-guest_is a b p q = let whole : guest_of a.program a.calls ≡ guest_of b.program b.calls = rw (p, q) refl in whole
+guest_is a b p q = let whole : guest_of a.program a.calls ≡ guest_of b.program b.calls = rw (
+  p,
+  q,
+) refl in whole
 
 abbrev pub begun : Store → List ℕ → Configuration
 begun store later = record { store = store; thread = []; later = later }
 
-first_once : (m : Module) (pages x y : ℕ) (p : Program) (c d : Configuration) → x ≡ y → Begins m pages x p c → Begins m pages y p d → c ≡ d
+first_once : (m : Module) (pages x y : ℕ) (p : Program) (c d : Configuration) → x ≡ y
+    → Begins m pages x p c → Begins m pages y p d → c ≡ d
 first_once m pages x y p c d e a b =
     let same : a.store ≡ b.store = store_once m a.store b.store a.is_store b.is_store in
-    let begin : begun a.store (calls_of m.start x) ≡ begun b.store (calls_of m.start y) = rw (same, e) refl in
-    settles_once p (begun a.store (calls_of m.start x)) c d a.settles (subst (λ z. Settles p z d) (sym begin) b.settles)
+    let begin : begun a.store (calls_of m.start x) ≡ begun b.store (calls_of m.start y) =
+    rw (same, e) refl in
+    settles_once p (begun a.store (calls_of m.start x)) c d a.settles
+    (subst (λ z. Settles p z d) (sym begin) b.settles)
 
 pub item_number : (x y : ℕ) → export.Function x ≡ export.Function y → x ≡ y
 item_number x y e = cc
 
-pub start_once : (m : Module) (config : Settings) (g h : Guest) (p q : ProcessState) → IsValid m → IsStart m config g p → IsStart m config h q → (g ≡ h) × (p ≡ q)
+pub start_once : (m : Module) (config : Settings) (g h : Guest) (p q : ProcessState) → IsValid m
+    → IsStart m config g p → IsStart m config h q → (g ≡ h) × (p ≡ q)
 start_once m config g h p q v a b =
-    let programs : g.program ≡ h.program = program_once m config.pages g.program h.program a.begins.is_program b.begins.is_program in
+    let programs : g.program ≡ h.program =
+    program_once m config.pages g.program h.program a.begins.is_program b.begins.is_program in
     let calls : g.calls ≡ h.calls = calls_once m.imports g.calls h.calls a.calls b.calls in
-    let entries : a.entry ≡ b.entry = item_number a.entry b.entry (entry_once m.exports (codes "_start") (export.Function a.entry) (export.Function b.entry) v.names a.exported b.exported) in
-    let begins : Begins m config.pages b.entry g.program b.first = subst (λ z. Begins m config.pages b.entry z b.first) (sym programs) b.begins in
-    let firsts : a.first ≡ b.first = first_once m config.pages a.entry b.entry g.program a.first b.first entries a.begins begins in
-    (guest_is g h programs calls, a.is ∙ ap (λ c. closed (record { configuration = c; host = host_of config; steps = 0; answers = 0; requests = 0; ended = None })) firsts ∙ sym b.is)
+    let entries : a.entry ≡ b.entry =
+    item_number a.entry b.entry (entry_once m.exports (codes "_start") (export.Function a.entry)
+    (export.Function b.entry) v.names a.exported b.exported) in
+    let begins : Begins m config.pages b.entry g.program b.first =
+    subst (λ z. Begins m config.pages b.entry z b.first) (sym programs) b.begins in
+    let firsts : a.first ≡ b.first =
+    first_once m config.pages a.entry b.entry g.program a.first b.first entries a.begins begins
+    in (
+      guest_is g h programs calls,
+      a.is
+          ∙ ap (λ c. closed (record {
+            configuration = c;
+            host = host_of config;
+            steps = 0;
+            answers = 0;
+            requests = 0;
+            ended = None;
+          })) firsts ∙ sym b.is,
+    )

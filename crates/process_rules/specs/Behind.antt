@@ -1,6 +1,7 @@
--- The answers behind a line and behind a guest sync (this project's own). Demands are stated by covering: so many answers
--- are enough for a line to be emitted, or for a sync to be made.
-use Rattle.std.specs.Prelude.{◌≡◌, ℕ, ◌+◌, ◌≤◌, List, length, take, Some, None, Ok, slice_get, reverse, map}
+-- The answers behind a line and behind a guest sync (this project's own). Demands are stated by
+-- covering: so many answers are enough for a line to be emitted, or for a sync to be made.
+use Rattle.std.specs.Prelude.{◌≡◌, ℕ, ◌+◌, ◌≤◌, List, length, take, Some, None, Ok, slice_get}
+use Rattle.std.specs.Prelude.{reverse, map}
 use Rattle.wasm_syntax.specs.declared.value.Value.{Value}
 use Rattle.wasm_syntax.specs.declared.module.Module.{Module}
 use Rattle.wasm_syntax_rules.specs.Types.{number_in}
@@ -14,8 +15,10 @@ use Rattle.wasi_calls_rules.specs.Rows.{row, IsSync}
 use Rattle.process_rules.specs.Processes.{ProcessState, Guest}
 use Rattle.process_rules.specs.Runs.{Kept, Reaches}
 
--- the first a of the kept answers, exactly, lead to a process that has emitted line i, counted from 1
-pub record AnswersBehindLine (m : Module) (config : Settings) (kept : List Kept) (i a : ℕ) : Type 0 where
+-- the first a of the kept answers, exactly, lead to a process that has emitted line i, counted from
+-- 1
+pub record AnswersBehindLine (m : Module) (config : Settings) (kept : List Kept)
+    (i a : ℕ) : Type 0 where
   pub within : a ≤ length kept
   pub steps : ℕ
   pub process : ProcessState
@@ -23,7 +26,8 @@ pub record AnswersBehindLine (m : Module) (config : Settings) (kept : List Kept)
   pub emitted : i ≤ length process.host.lines
 
 -- line i, counted from 1, of what a front of the kept answers leads to
-pub record IsLine (m : Module) (config : Settings) (kept : List Kept) (i : ℕ) (line : Line) : Type 0 where
+pub record IsLine (m : Module) (config : Settings) (kept : List Kept) (i : ℕ)
+    (line : Line) : Type 0 where
   pub answers : ℕ
   pub steps : ℕ
   pub process : ProcessState
@@ -43,10 +47,12 @@ pub record Syncs (guest : Guest) (p : ProcessState) : Type 0 where
   pub asks : rule guest.program p.configuration ≡ Asks function arguments waits
   pub is_call : slice_get guest.calls function ≡ Some call
   pub is_sync : IsSync call
-  pub answers_zero : row call (reverse (map number_in arguments)) None p.configuration.store.memory p.host ≡ Ok done
+  pub answers_zero : row call (reverse (map number_in arguments)) None p.configuration.store.memory
+      p.host ≡ Ok done
 
 -- the first a of the kept answers, exactly, lead to the guest sync that is step k
-pub record AnswersBehindSync (m : Module) (config : Settings) (kept : List Kept) (k a : ℕ) : Type 0 where
+pub record AnswersBehindSync (m : Module) (config : Settings) (kept : List Kept)
+    (k a : ℕ) : Type 0 where
   pub within : a ≤ length kept
   pub before : ℕ
   pub process : ProcessState

@@ -1,5 +1,5 @@
--- Steps after which something is owed to the outside (this project's own): a line that was emitted has to be released, and a sync of
--- the guest has to be one of the disk.
+-- Steps after which something is owed to the outside (this project's own): a line that was emitted
+-- has to be released, and a sync of the guest has to be one of the disk.
 use Rattle.std.specs.Prelude.{◌≡◌, ◌≢◌, ◌⊎◌, ℕ, suc, None}
 use Rattle.process_rules.specs.Processes.{ProcessState, Guest}
 use Rattle.process_rules.specs.Runs.{Moves}
@@ -18,4 +18,5 @@ pub record MovesQuietly (guest : Guest) (p q : ProcessState) : Type 0 where
 -- so many of them
 pub data RunsQuietly (guest : Guest) : ProcessState → ℕ → ProcessState → Type 0 where
   none : {p : ProcessState} → RunsQuietly guest p 0 p
-  more : {n : ℕ} {p q r : ProcessState} → MovesQuietly guest p q → RunsQuietly guest q n r → RunsQuietly guest p (suc n) r
+  more : {n : ℕ} {p q r : ProcessState} → MovesQuietly guest p q → RunsQuietly guest q n r
+      → RunsQuietly guest p (suc n) r

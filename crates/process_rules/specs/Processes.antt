@@ -1,4 +1,5 @@
--- A process (this project's own): a configuration, the host's side, how far it has come, and how it ended.
+-- A process (this project's own): a configuration, the host's side, how far it has come, and how it
+-- ended.
 use Rattle.std.specs.Prelude.{◌≡◌, ℕ, ◌+◌, ◌*◌, ◌<◌, ◌^◌, List, [], ◌∷◌, length, Option, Some, None}
 use Rattle.wasm_syntax.specs.declared.value.Trap.{Trap}
 use Rattle.wasm_syntax.specs.declared.module.Module.{Module}
@@ -21,8 +22,8 @@ pub data Ending : Type 0 where
   Exited : (code : ℕ) → Ending
   Trapped : (why : Trap) → Ending
 
--- The lines emitted so far are those of its host. `answers` counts the outside answers taken, and `requests` those of
--- them that are a request or the end of input.
+-- The lines emitted so far are those of its host. `answers` counts the outside answers taken, and
+-- `requests` those of them that are a request or the end of input.
 pub record ProcessState : Type 0 where
   pub configuration : Configuration
   pub host : Host
@@ -39,7 +40,8 @@ pub record Guest : Type 0 where
 -- the imports are these calls
 abbrev pub AreCalls : List Import → List Call → Type 0
 AreCalls [] [] = Unit {0}
-AreCalls (i ∷ imports) (c ∷ calls) = (i.module_name ≡ module_name) × (i.name ≡ name_of c) × AreCalls imports calls
+AreCalls (i ∷ imports) (c ∷ calls) = (i.module_name ≡ module_name) × (i.name ≡ name_of c)
+    × AreCalls imports calls
 AreCalls [] (c ∷ calls) = ⊥
 AreCalls (i ∷ imports) [] = ⊥
 
@@ -50,7 +52,8 @@ HasLineNumbers h = length (lines_ended h).lines + 2 < 2 ^ 63
 -- ---- the beginning
 
 abbrev pub host_of : Settings → Host
-host_of config = first_host (config.files * UNIT_BYTES) TEXT_BYTES config.arguments config.environment
+host_of config =
+    first_host (config.files * UNIT_BYTES) TEXT_BYTES config.arguments config.environment
 
 -- a process that has ended emits what it has not finished
 abbrev pub over : Ending → ProcessState → ProcessState
@@ -65,10 +68,18 @@ abbrev pub closed : ProcessState → ProcessState
 closed p = closed_at p.configuration.thread p.configuration.later p
 
 -- the process that the module begins as, under this configuration
-pub record IsStart (m : Module) (config : Settings) (guest : Guest) (p : ProcessState) : Type 0 where
+pub record IsStart (m : Module) (config : Settings) (guest : Guest) (p : ProcessState) :
+    Type 0 where
   pub entry : ℕ
   pub first : Configuration
   pub exported : Exports m.exports (codes "_start") (export.Function entry)
   pub calls : AreCalls m.imports guest.calls
   pub begins : Begins m config.pages entry guest.program first
-  pub is : p ≡ closed (record { configuration = first; host = host_of config; steps = 0; answers = 0; requests = 0; ended = None })
+  pub is : p ≡ closed (record {
+    configuration = first;
+    host = host_of config;
+    steps = 0;
+    answers = 0;
+    requests = 0;
+    ended = None;
+  })

@@ -1,10 +1,12 @@
 -- What a process reaches on answers from outside, in so many counted steps (this project's own).
-use Rattle.std.specs.Prelude.{◌≡◌, ℕ, suc, ◌+◌, List, [], ◌∷◌, map, reverse, Option, Some, None, Ok, Err, slice_get}
+use Rattle.std.specs.Prelude.{◌≡◌, ℕ, suc, ◌+◌, List, [], ◌∷◌, map, reverse, Option, Some, None, Ok}
+use Rattle.std.specs.Prelude.{Err, slice_get}
 use Rattle.wasm_syntax.specs.declared.value.Value.{Value}
 use Rattle.wasm_syntax.specs.declared.value.Value.TheVariants as value
 use Rattle.wasm_syntax.specs.declared.module.Module.{Module}
 use Rattle.wasm_syntax_rules.specs.Types.{number_in}
-use Rattle.wasm_syntax_rules.specs.Configuration.{Configuration, Thread, Outcome, Goes, Traps, Asks, Stuck}
+use Rattle.wasm_syntax_rules.specs.Configuration.{Configuration, Thread, Outcome, Goes, Traps, Asks}
+use Rattle.wasm_syntax_rules.specs.Configuration.{Stuck}
 use Rattle.wasm_syntax_rules.specs.Steps.{rule, answered, stopped, Settles}
 use Rattle.wasi_abi.specs.declared.answer.Kind.{Kind}
 use Rattle.wasi_abi.specs.declared.answer.Answer.{Answer}
@@ -17,11 +19,13 @@ use Rattle.wasi_abi.specs.rules.Answers.{Fits}
 use Rattle.wasi_calls_rules.specs.Hosts.{Host}
 use Rattle.wasi_calls_rules.specs.Checks.{Refuses, Ends, Asks as Wishes, Ruling}
 use Rattle.wasi_calls_rules.specs.Rows.{row}
-use Rattle.process_rules.specs.Processes.{Ending, Exited, Trapped, ProcessState, Guest, IsStart, over, closed}
+use Rattle.process_rules.specs.Processes.{Ending, Exited, Trapped, ProcessState, Guest, IsStart}
+use Rattle.process_rules.specs.Processes.{over, closed}
 
 -- ---- one counted step
 
--- What a counted step leads to: a configuration that is then settled and a host, an end, or a wish for an outside answer.
+-- What a counted step leads to: a configuration that is then settled and a host, an end, or a wish
+-- for an outside answer.
 pub data Next : Type 0 where
   On : (configuration : Configuration) (host : Host) → Next
   Over : (why : Ending) (configuration : Configuration) (host : Host) → Next
@@ -34,24 +38,30 @@ given_by call.ProcExit number = []
 given_by _ number = value.I32 number ∷ []
 
 abbrev pub after_row : Call → Ruling → Configuration → Host → Thread → Next
-after_row c (Ok done) before h waits = On (answered before done.memory (given_by c 0) waits) done.host
-after_row c (Err (Refuses e)) before h waits = On (answered before before.store.memory (given_by c (errno_number e)) waits) h
+after_row c (Ok done) before h waits =
+    On (answered before done.memory (given_by c 0) waits) done.host
+after_row c (Err (Refuses e)) before h waits =
+    On (answered before before.store.memory (given_by c (errno_number e)) waits) h
 after_row c (Err (Ends code)) before h waits = Over (Exited code) (stopped before) h
 after_row c (Err (Wishes kind)) before h waits = Wants kind
 
-abbrev pub after_call : Option Call → List Value → Option Answer → Configuration → Host → Thread → Next
+abbrev pub after_call : Option Call → List Value → Option Answer → Configuration → Host → Thread
+    → Next
 after_call None arguments given before h waits = Nowhere
 after_call (Some c) arguments given before h waits =
-    after_row c (row c (reverse (map number_in arguments)) given before.store.memory h) before h waits
+    after_row c (row c (reverse (map number_in arguments)) given before.store.memory h) before h
+    waits
 
 abbrev pub after_rule : Guest → Outcome → Option Answer → Configuration → Host → Next
 after_rule guest (Goes next) given before h = On next h
 after_rule guest (Traps why) given before h = Over (Trapped why) (stopped before) h
-after_rule guest (Asks f arguments waits) given before h = after_call (slice_get guest.calls f) arguments given before h waits
+after_rule guest (Asks f arguments waits) given before h =
+    after_call (slice_get guest.calls f) arguments given before h waits
 after_rule guest Stuck given before h = Nowhere
 
 abbrev pub next_of : Guest → ProcessState → Option Answer → Next
-next_of guest p given = after_rule guest (rule guest.program p.configuration) given p.configuration p.host
+next_of guest p given =
+    after_rule guest (rule guest.program p.configuration) given p.configuration p.host
 
 -- ---- a step of a process
 
@@ -77,18 +87,22 @@ stepped given c h p = record {
 
 -- where the next thing leads, the rules that aren't counted included
 abbrev pub LeadsTo : Guest → Next → Option Answer → ProcessState → ProcessState → Type 0
-LeadsTo guest (On c h) given p q = (settled : Configuration) × Settles guest.program c settled × (q ≡ closed (stepped given settled h p))
+LeadsTo guest (On c h) given p q = (settled : Configuration) × Settles guest.program c settled
+    × (q ≡ closed (stepped given settled h p))
 LeadsTo guest (Over why c h) given p q = q ≡ over why (stepped given c h p)
 LeadsTo guest (Wants kind) given p q = ⊥
 LeadsTo guest Nowhere given p q = ⊥
 
--- The answer that a step takes is one that it wants: none where it goes on without, else one that fits.
+-- The answer that a step takes is one that it wants: none where it goes on without, else one that
+-- fits.
 abbrev pub IsWanted : Guest → ProcessState → Option Answer → Type 0
 IsWanted guest p None = Unit {0}
-IsWanted guest p (Some a) = (kind : Kind) × (next_of guest p None ≡ Wants kind) × Fits p.host.limit kind a
+IsWanted guest p (Some a) = (kind : Kind) × (next_of guest p None ≡ Wants kind)
+    × Fits p.host.limit kind a
 
 -- One counted step, with the rules that settle it. A process that has ended takes none.
-pub record Moves (guest : Guest) (p : ProcessState) (given : Option Answer) (q : ProcessState) : Type 0 where
+pub record Moves (guest : Guest) (p : ProcessState) (given : Option Answer) (q : ProcessState) :
+    Type 0 where
   pub running : p.ended ≡ None
   pub wanted : IsWanted guest p given
   pub leads : LeadsTo guest (next_of guest p given) given p q
@@ -102,11 +116,15 @@ pub data Kept : Type 0 where
 -- so many counted steps, which took exactly these answers, in order
 pub data Runs (guest : Guest) : ProcessState → List Kept → ℕ → ProcessState → Type 0 where
   none : {p : ProcessState} → Runs guest p [] 0 p
-  step : {p q r : ProcessState} {kept : List Kept} {n : ℕ} → Moves guest p None q → Runs guest q kept n r → Runs guest p kept (suc n) r
-  take : {p q r : ProcessState} {a : Answer} {kept : List Kept} {n : ℕ} → Moves guest p (Some a) q → Runs guest q kept n r → Runs guest p (Given a ∷ kept) (suc n) r
+  step : {p q r : ProcessState} {kept : List Kept} {n : ℕ} → Moves guest p None q
+      → Runs guest q kept n r → Runs guest p kept (suc n) r
+  take : {p q r : ProcessState} {a : Answer} {kept : List Kept} {n : ℕ} → Moves guest p (Some a) q
+      → Runs guest q kept n r → Runs guest p (Given a ∷ kept) (suc n) r
 
--- The module under a configuration reaches this process on these answers, all of them, in n counted steps.
-pub record Reaches (m : Module) (config : Settings) (kept : List Kept) (n : ℕ) (p : ProcessState) : Type 0 where
+-- The module under a configuration reaches this process on these answers, all of them, in n counted
+-- steps.
+pub record Reaches (m : Module) (config : Settings) (kept : List Kept) (n : ℕ) (p : ProcessState) :
+    Type 0 where
   pub guest : Guest
   pub start : ProcessState
   pub begins : IsStart m config guest start

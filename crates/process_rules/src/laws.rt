@@ -1,6 +1,8 @@
 //! Laws of what a process reaches. The functions do nothing: what they ensure is the law.
 
-ghost use Rattle.process_rules.specs.laws.Laws.{OneProcess, OneProcessRun, RunsJoin, RunsCount, RunsEmit, QuietRunsJoin, QuietRunsAreRuns, RulesAreQuiet, LastRuleEnds, TrapEnds};
+ghost use Rattle.process_rules.specs.laws.Laws.{OneProcess, OneProcessRun, RunsJoin, RunsCount};
+ghost use Rattle.process_rules.specs.laws.Laws.{RunsEmit, QuietRunsJoin, QuietRunsAreRuns};
+ghost use Rattle.process_rules.specs.laws.Laws.{RulesAreQuiet, LastRuleEnds, TrapEnds};
 ghost use Rattle.process_rules.specs.laws.Laws.{ReachedAreConfigured, NodesAreFew};
 ghost use Rattle.process_rules.specs.laws.Laws.{ReachedHaveHosts};
 ghost use Rattle.wasi_abi.specs.rules.Configs.{Settings};
@@ -48,8 +50,8 @@ pub fn trap_ends()
     ensures { TrapEnds }
 {}
 
-/// A reached process is configured as at the beginning, and has few nodes: one a step at most, beside
-/// the root and the number that comes next.
+/// A reached process is configured as at the beginning, and has few nodes: one a step at most,
+/// beside the root and the number that comes next.
 pub fn reached_hosts_are_bounded()
     ensures configured { ReachedAreConfigured }
     ensures few { NodesAreFew }
@@ -60,8 +62,8 @@ pub fn reached_processes_have_hosts()
     ensures { ReachedHaveHosts }
 {}
 
-/// Whole modules come to their ends, under any configuration: one that writes a line and exits with a code, one that writes
-/// what it reads, one that does nothing, and one that traps.
+/// Whole modules come to their ends, under any configuration: one that writes a line and exits with
+/// a code, one that writes what it reads, one that does nothing, and one that traps.
 pub fn worked_examples()
     ensures hello { (config : Settings) → HelloEnds config }
     ensures echo { (config : Settings) → EchoEnds config }

@@ -1,5 +1,5 @@
-//! What tests alone can show of the program's commands: the words of the command line, the lines
-//! in and out, what `check` prints of modules, and what `run` prints, tells and exits with. Also, how
+//! What tests alone can show of the program's commands: the words of the command line, the lines in
+//! and out, what `check` prints of modules, and what `run` prints, tells and exits with. Also, how
 //! a worker that asks takes its answers.
 //!
 //! Each test is a table of rows whose expected values come from outside. Those that take memory

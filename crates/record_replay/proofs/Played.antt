@@ -266,7 +266,8 @@ module _ {O : Type 0} (takes : Taking O) (v w : ProcessValue) (front : List Reco
           (all_taken (suc (length to.process.host.lines)) (drop w.host.released q.host.lines)) o''
           = subst (λ z. Releases takes o'
           (all_taken (suc z) (drop w.host.released q.host.lines)) o'') number_behind told in
-          tells_more takes v.host.released to.process q emits.lines o o' o'' few_before emits.are to.told
+          tells_more takes v.host.released to.process q emits.lines o o' o'' few_before emits.are
+          to.told
           (subst (λ z. Releases takes o' (all_taken (suc (length to.process.host.lines)) z) o'')
           others_behind numbered)
 

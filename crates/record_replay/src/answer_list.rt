@@ -7,8 +7,8 @@ use std::collections::VecDeque;
 use std::marker::Model;
 use wasi_abi::{Answer, Kind};
 
-/// Answers that are handed out in their order, whatever is asked for. Contracts see the list of those
-/// that are left. It never fails, and handing one out takes no memory.
+/// Answers that are handed out in their order, whatever is asked for. Contracts see the list of
+/// those that are left. It never fails, and handing one out takes no memory.
 #[derive(Debug, Drop)]
 pub struct AnswerList {
     left: VecDeque<Answer>,

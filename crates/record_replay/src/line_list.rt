@@ -15,8 +15,8 @@ pub struct NumberedLine {
     pub text: Row<u8>,
 }
 
-/// The lines that were released to it, in order. Contracts see their list. It fails only for want of
-/// memory, and then it keeps what it had.
+/// The lines that were released to it, in order. Contracts see their list. It fails only for want
+/// of memory, and then it keeps what it had.
 #[derive(Debug, Drop)]
 pub struct LineList {
     alloc: Global,

@@ -15,5 +15,8 @@ pub trait Outlet {
     /// Takes a line without its newline: its number, from 1 on, and the stream, 1 or 2, that it was
     /// written to. After an error it may have been taken or not.
     fn release(&mut self, number: u64, stream: u8, text: &[u8]) -> Result<(), OutletFault>
-        ensures { takes self.old number (record { stream = stream; text = text.now }) result self.new };
+        ensures { takes self.old number (record {
+          stream = stream;
+          text = text.now;
+        }) result self.new };
 }

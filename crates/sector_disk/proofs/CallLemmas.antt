@@ -1,5 +1,6 @@
 -- The writes and syncs that were asked for, one call on and over several.
-use Rattle.std.proofs.Common.{◌≡◌, ℕ, zero, suc, ◌+◌, ◌-◌, ◌<◌, ◌≤◌, List, [], ◌∷◌, ◌++◌, length, drop, Result, refl, sym, ap, ◌∙◌, subst, ⊎_elim, arith, append_assoc}
+use Rattle.std.proofs.Common.{◌≡◌, ℕ, zero, suc, ◌+◌, ◌-◌, ◌<◌, ◌≤◌, List, [], ◌∷◌, ◌++◌, length}
+use Rattle.std.proofs.Common.{drop, Result, refl, sym, ap, ◌∙◌, subst, ⊎_elim, arith, append_assoc}
 use Rattle.std.proofs.Math.Seq.{drop-append_seam, drop-append-add}
 use Rattle.std.proofs.lemmas.List.{drop_all, drop-append-le, drop-drop}
 use Rattle.std.proofs.lemmas.Bool.{cases_lt}
@@ -49,7 +50,8 @@ pub made_then : {T E : Type 0} (earlier later : List DiskCall) (result : Result 
 made_then earlier later result old mid new made makes = record {
   all = on_ok_weaker result
       (λ (all : new.calls ≡ later ++ mid.calls).
-      all ∙ ap (λ (l : List DiskCall). later ++ l) made ∙ sym (append_assoc later earlier old.calls))
+      all ∙ ap (λ (l : List DiskCall). later ++ l) made
+      ∙ sym (append_assoc later earlier old.calls))
       makes.all;
   begun = begun_then earlier later old mid new made makes.begun;
 }
@@ -112,7 +114,8 @@ module _ (at n : ℕ) (old mid new : Medium)
   rising_begun m lt begun =
       let one = WriteOf (at + n) ∷ [] in
       let more = begun_then (rising_writes at n) one old mid new so_far begun in
-      let next = subst (λ (l : List DiskCall). BeginsCalls l old new) (sym (rising_one at n)) more in
+      let next = subst (λ (l : List DiskCall). BeginsCalls l old new) (sym (rising_one at n)) more
+      in
       rising_longer at (n + 1) m old new (omega arith) next
 
   pub rising_more : new.calls ≡ (WriteOf (at + n) ∷ []) ++ mid.calls

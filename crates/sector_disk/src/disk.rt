@@ -4,9 +4,9 @@ ghost use Rattle.sector_disk.specs.rules.Medium.{Medium, Reads, Writes, SyncsMed
 
 use crate::{DiskFault, SECTOR_SIZE};
 
-/// Sectors of `SECTOR_SIZE` bytes that are read, written and synced, numbered from 0. What a contract says of
-/// a disk it says of its `medium`: what reads give, what a cut now may leave, and what a cut may have
-/// left since an earlier moment.
+/// Sectors of `SECTOR_SIZE` bytes that are read, written and synced, numbered from 0. What a
+/// contract says of a disk it says of its `medium`: what reads give, what a cut now may leave, and
+/// what a cut may have left since an earlier moment.
 pub trait Disk {
     ghost medium: { Self → Medium };
 
@@ -18,7 +18,8 @@ pub trait Disk {
     fn read(&mut self, sector: u64, into: &mut [u8; SECTOR_SIZE]) -> Result<(), DiskFault>
         ensures { Reads sector into.new result (medium self.old) (medium self.new) };
 
-    /// Writes a sector. Until a good sync a cut may leave any front of it, and so may a write that fails.
+    /// Writes a sector. Until a good sync a cut may leave any front of it, and so may a write that
+    /// fails.
     fn write(&mut self, sector: u64, from: &[u8; SECTOR_SIZE]) -> Result<(), DiskFault>
         ensures { Writes sector from.now result (medium self.old) (medium self.new) };
 

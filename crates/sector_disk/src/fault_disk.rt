@@ -1,5 +1,6 @@
 // A disk that stops or fails at a call that it is told.
-ghost use Rattle.std.specs.Prelude.{◌≡◌, ◌+◌, ◌<◌, ◌≤◌, IsTrue, IfSome, IfNone, length, false, ℕ, Bool};
+ghost use Rattle.std.specs.Prelude.{◌≡◌, ◌+◌, ◌<◌, ◌≤◌, IsTrue, IfSome, IfNone, length, false, ℕ};
+ghost use Rattle.std.specs.Prelude.{Bool};
 ghost use Rattle.sector_disk.specs.rules.Trouble.{is_met};
 
 use crate::front::write_front;
@@ -7,10 +8,10 @@ use crate::log::Log;
 use crate::trouble::Trouble;
 use crate::{Disk, DiskFault, Place, SECTOR_SIZE};
 
-/// Hands calls on to the disk below, and counts them. It stops at one that it is told: that call and
-/// each later one is `Cut`, and none of them reaches the disk below, but that of a stopped write the
-/// told front is left there. Or it fails one that it is told (`Io`, and of a write the told front is
-/// left), and later calls work.
+/// Hands calls on to the disk below, and counts them. It stops at one that it is told: that call
+/// and each later one is `Cut`, and none of them reaches the disk below, but that of a stopped
+/// write the told front is left there. Or it fails one that it is told (`Io`, and of a write the
+/// told front is left), and later calls work.
 #[derive(Drop)]
 pub struct FaultDisk<D> {
     inner: D,
@@ -22,11 +23,13 @@ pub struct FaultDisk<D> {
     has_left_front: bool,
     /// One item for each trouble. Only clauses read it.
     faults: Log<(), ()>,
-    ghost was_met: { 0 < length faults.items → IsTrue (is_met stop fail (record { reads = reads; writes = writes; syncs = syncs })) },
+    ghost was_met: { 0 < length faults.items
+        → IsTrue (is_met stop fail (record { reads = reads; writes = writes; syncs = syncs })) },
 }
 
 impl<D> FaultDisk<D> {
-    ghost use Rattle.sector_disk.specs.rules.FaultDisk.{disk_below, stop_of, fail_of, call_counts_of, trouble_of, left_front_of};
+    ghost use Rattle.sector_disk.specs.rules.FaultDisk.{disk_below, stop_of, fail_of};
+    ghost use Rattle.sector_disk.specs.rules.FaultDisk.{call_counts_of, trouble_of, left_front_of};
 
     /// It stops at the one call, and fails at the other. Where both are the same call, it stops.
     pub fn new(inner: D, stop: Option<Place>, fail: Option<Place>) -> Self
@@ -48,9 +51,14 @@ impl<D> FaultDisk<D> {
         }
     }
 
-    /// How many reads, writes and syncs have begun. Each count stays at the greatest number of 64 bits.
+    /// How many reads, writes and syncs have begun. Each count stays at the greatest number of 64
+    /// bits.
     pub fn calls(&self) -> (u64, u64, u64)
-        ensures { result ≡ ((call_counts_of self.now).reads, (call_counts_of self.now).writes, (call_counts_of self.now).syncs) }
+        ensures { result ≡ (
+          (call_counts_of self.now).reads,
+          (call_counts_of self.now).writes,
+          (call_counts_of self.now).syncs,
+        ) }
     {
         (self.reads, self.writes, self.syncs)
     }
@@ -106,9 +114,11 @@ impl<D> FaultDisk<D> {
 }
 
 impl<D: Disk> Disk for FaultDisk<D> {
-    ghost use Rattle.sector_disk.specs.rules.FaultDisk.{disk_below, stop_of, fail_of, call_counts_of, trouble_of, left_front_of};
+    ghost use Rattle.sector_disk.specs.rules.FaultDisk.{disk_below, stop_of, fail_of};
+    ghost use Rattle.sector_disk.specs.rules.FaultDisk.{call_counts_of, trouble_of, left_front_of};
     ghost use Rattle.sector_disk.specs.rules.Medium.{Reads, Writes, SyncsMedium};
-    ghost use Rattle.sector_disk.specs.rules.Trouble.{counted, trouble_fault, troubled, LeavesFront};
+    ghost use Rattle.sector_disk.specs.rules.Trouble.{counted, trouble_fault, troubled};
+    ghost use Rattle.sector_disk.specs.rules.Trouble.{LeavesFront};
 
     ghost medium = { λ f. troubled (D.medium f.inner) f.stop f.fail (length f.faults.items) };
 
@@ -117,13 +127,19 @@ impl<D: Disk> Disk for FaultDisk<D> {
     }
 
     fn read(&mut self, sector: u64, into: &mut [u8; SECTOR_SIZE]) -> Result<(), DiskFault>
-        ensures reads { Reads sector into.new result (⟦<FaultDisk<D> as Disk>⟧.medium self.old) (⟦<FaultDisk<D> as Disk>⟧.medium self.new) }
-        ensures calls { call_counts_of self.new ≡ record (call_counts_of self.old) { reads = counted (call_counts_of self.old).reads } }
+        ensures reads { Reads sector into.new result (⟦<FaultDisk<D> as Disk>⟧.medium self.old)
+            (⟦<FaultDisk<D> as Disk>⟧.medium self.new) }
+        ensures calls { call_counts_of self.new
+            ≡ record (call_counts_of self.old) { reads = counted (call_counts_of self.old).reads } }
         ensures stop { stop_of self.new ≡ stop_of self.old }
         ensures fail { fail_of self.new ≡ fail_of self.old }
         ensures left_front { left_front_of self.new ≡ left_front_of self.old }
-        ensures trouble { IfSome (trouble_of self.new) (λ trouble. (result ≡ Err (trouble_fault trouble)) × (into.new ≡ into.old) × (disk_below self.new ≡ disk_below self.old)) }
-        ensures passed_on { IfNone (trouble_of self.new) (Reads sector into.new result (D.medium (disk_below self.old)) (D.medium (disk_below self.new))) }
+        ensures trouble { IfSome (trouble_of self.new) (λ trouble. (result
+            ≡ Err (trouble_fault trouble)) × (into.new ≡ into.old)
+            × (disk_below self.new ≡ disk_below self.old)) }
+        ensures passed_on { IfNone (trouble_of self.new)
+            (Reads sector into.new result (D.medium (disk_below self.old))
+            (D.medium (disk_below self.new))) }
     {
         self.reads = self.reads.saturating_add(1);
         match self.trouble() {
@@ -136,16 +152,28 @@ impl<D: Disk> Disk for FaultDisk<D> {
     }
 
     fn write(&mut self, sector: u64, from: &[u8; SECTOR_SIZE]) -> Result<(), DiskFault>
-        ensures writes { Writes sector from.now result (⟦<FaultDisk<D> as Disk>⟧.medium self.old) (⟦<FaultDisk<D> as Disk>⟧.medium self.new) }
-        ensures calls { call_counts_of self.new ≡ record (call_counts_of self.old) { writes = counted (call_counts_of self.old).writes } }
+        ensures writes { Writes sector from.now result (⟦<FaultDisk<D> as Disk>⟧.medium self.old)
+            (⟦<FaultDisk<D> as Disk>⟧.medium self.new) }
+        ensures calls { call_counts_of self.new
+            ≡ record (call_counts_of self.old) { writes = counted (call_counts_of self.old).writes } }
         ensures stop { stop_of self.new ≡ stop_of self.old }
         ensures fail { fail_of self.new ≡ fail_of self.old }
-        ensures trouble { IfSome (trouble_of self.new) (λ trouble. result ≡ Err (trouble_fault trouble)) }
-        ensures stops { (front : ℕ) → trouble_of self.new ≡ Some (Trouble.Stops front) → LeavesFront front sector from.now (left_front_of self.new) (D.medium (disk_below self.old)) (D.medium (disk_below self.new)) }
-        ensures fails { (front : ℕ) → trouble_of self.new ≡ Some (Trouble.Fails front) → (is_taken : Bool) × LeavesFront front sector from.now is_taken (D.medium (disk_below self.old)) (D.medium (disk_below self.new)) }
-        ensures stopped { trouble_of self.new ≡ Some Trouble.Stopped → disk_below self.new ≡ disk_below self.old }
-        ensures left_front { ((front : ℕ) → trouble_of self.new ≡ Some (Trouble.Stops front) → ⊥) → left_front_of self.new ≡ left_front_of self.old }
-        ensures passed_on { IfNone (trouble_of self.new) (Writes sector from.now result (D.medium (disk_below self.old)) (D.medium (disk_below self.new))) }
+        ensures trouble { IfSome (trouble_of self.new) (λ trouble. result
+            ≡ Err (trouble_fault trouble)) }
+        ensures stops { (front : ℕ) → trouble_of self.new ≡ Some (Trouble.Stops front)
+            → LeavesFront front sector from.now (left_front_of self.new)
+            (D.medium (disk_below self.old)) (D.medium (disk_below self.new)) }
+        ensures fails { (front : ℕ) → trouble_of self.new ≡ Some (Trouble.Fails front)
+            → (is_taken : Bool)
+            × LeavesFront front sector from.now is_taken (D.medium (disk_below self.old))
+            (D.medium (disk_below self.new)) }
+        ensures stopped { trouble_of self.new ≡ Some Trouble.Stopped
+            → disk_below self.new ≡ disk_below self.old }
+        ensures left_front { ((front : ℕ) → trouble_of self.new ≡ Some (Trouble.Stops front) → ⊥)
+            → left_front_of self.new ≡ left_front_of self.old }
+        ensures passed_on { IfNone (trouble_of self.new)
+            (Writes sector from.now result (D.medium (disk_below self.old))
+            (D.medium (disk_below self.new))) }
     {
         self.writes = self.writes.saturating_add(1);
         match self.trouble() {
@@ -168,13 +196,17 @@ impl<D: Disk> Disk for FaultDisk<D> {
     }
 
     fn sync(&mut self) -> Result<(), DiskFault>
-        ensures syncs { SyncsMedium result (⟦<FaultDisk<D> as Disk>⟧.medium self.old) (⟦<FaultDisk<D> as Disk>⟧.medium self.new) }
-        ensures calls { call_counts_of self.new ≡ record (call_counts_of self.old) { syncs = counted (call_counts_of self.old).syncs } }
+        ensures syncs { SyncsMedium result (⟦<FaultDisk<D> as Disk>⟧.medium self.old)
+            (⟦<FaultDisk<D> as Disk>⟧.medium self.new) }
+        ensures calls { call_counts_of self.new
+            ≡ record (call_counts_of self.old) { syncs = counted (call_counts_of self.old).syncs } }
         ensures stop { stop_of self.new ≡ stop_of self.old }
         ensures fail { fail_of self.new ≡ fail_of self.old }
         ensures left_front { left_front_of self.new ≡ left_front_of self.old }
-        ensures trouble { IfSome (trouble_of self.new) (λ trouble. (result ≡ Err (trouble_fault trouble)) × (disk_below self.new ≡ disk_below self.old)) }
-        ensures passed_on { IfNone (trouble_of self.new) (SyncsMedium result (D.medium (disk_below self.old)) (D.medium (disk_below self.new))) }
+        ensures trouble { IfSome (trouble_of self.new) (λ trouble. (result
+            ≡ Err (trouble_fault trouble)) × (disk_below self.new ≡ disk_below self.old)) }
+        ensures passed_on { IfNone (trouble_of self.new)
+            (SyncsMedium result (D.medium (disk_below self.old)) (D.medium (disk_below self.new))) }
     {
         self.syncs = self.syncs.saturating_add(1);
         match self.trouble() {

@@ -25,9 +25,9 @@ pub struct FileDisk<F> {
 impl<F: OpenFile + FileExt> FileDisk<F> {
     ghost use Rattle.sector_disk.specs.rules.File.{file_medium, answers_of};
 
-    /// Makes a file of so many sectors of zeros, and makes its entry in its folder durable. It fails
-    /// where there is such a path already, and from 2^54 sectors on. After another error a file may be
-    /// left behind.
+    /// Makes a file of so many sectors of zeros, and makes its entry in its folder durable. It
+    /// fails where there is such a path already, and from 2^54 sectors on. After another error a
+    /// file may be left behind.
     pub fn create<R: Files<File = F>>(
         files: &R,
         path: &str,
@@ -106,7 +106,8 @@ impl<F: OpenFile + FileExt> Disk for FileDisk<F> {
     fn read(&mut self, sector: u64, into: &mut [u8; SECTOR_SIZE]) -> Result<(), DiskFault>
         ensures reads { Reads sector into.new result (file_medium self.old) (file_medium self.new) }
         ensures range { IsErrOf result DiskFault.Range ↔ ((file_medium self.old).sectors ≤ sector) }
-        ensures logged { ReadLogged result sector into.new (answers_of self.old) (answers_of self.new) }
+        ensures logged { ReadLogged result sector into.new (answers_of self.old)
+            (answers_of self.new) }
     {
         if sector >= self.count {
             return Err(DiskFault::Range);
@@ -124,9 +125,11 @@ impl<F: OpenFile + FileExt> Disk for FileDisk<F> {
     }
 
     fn write(&mut self, sector: u64, from: &[u8; SECTOR_SIZE]) -> Result<(), DiskFault>
-        ensures writes { Writes sector from.now result (file_medium self.old) (file_medium self.new) }
+        ensures writes { Writes sector from.now result (file_medium self.old)
+            (file_medium self.new) }
         ensures range { IsErrOf result DiskFault.Range ↔ ((file_medium self.old).sectors ≤ sector) }
-        ensures logged { WriteLogged result sector from.now (answers_of self.old) (answers_of self.new) }
+        ensures logged { WriteLogged result sector from.now (answers_of self.old)
+            (answers_of self.new) }
     {
         if sector >= self.count {
             return Err(DiskFault::Range);

@@ -24,8 +24,10 @@ pub(crate) fn write_front<D: Disk>(
     front: usize,
 ) -> bool
     requires { front ≤ SECTOR_SIZE }
-    ensures leaves { LeavesFront front sector from.now result (D.medium disk.old) (D.medium disk.new) }
-    ensures counts { CountsUpTo ((D.medium disk.old).unsynced + 1) (D.medium disk.old) (D.medium disk.new) }
+    ensures leaves { LeavesFront front sector from.now result (D.medium disk.old)
+        (D.medium disk.new) }
+    ensures counts { CountsUpTo ((D.medium disk.old).unsynced + 1) (D.medium disk.old)
+        (D.medium disk.new) }
     ensures passes { Passes (D.medium disk.old) (D.medium disk.new) (D.medium disk.new).may_leave }
 {
     let mut bytes = [0; SECTOR_SIZE];

@@ -1,7 +1,8 @@
 //! Laws of the disk model. The functions do nothing: what they ensure is the law.
 
 ghost use Rattle.sector_disk.specs.laws.Sizes.{SectorSizeNumber};
-ghost use Rattle.sector_disk.specs.laws.Examples.{ImageExamples, RunExamples, CountExamples, CallExamples};
+ghost use Rattle.sector_disk.specs.laws.Examples.{ImageExamples, RunExamples, CountExamples};
+ghost use Rattle.sector_disk.specs.laws.Examples.{CallExamples};
 
 /// How many bytes a sector has.
 pub fn sector_size_is()

@@ -1,5 +1,7 @@
-// A disk in memory. It keeps the sectors of the last good sync and the writes since, so that it can be cut.
-ghost use Rattle.std.specs.Prelude.{◌≡◌, ◌<◌, ◌≤◌, List, ℕ, [], length, drop, replicate, All, vec_capacity, IfOk, IfErr, OnOk, OnErr};
+// A disk in memory. It keeps the sectors of the last good sync and the writes since, so that it can
+// be cut.
+ghost use Rattle.std.specs.Prelude.{◌≡◌, ◌<◌, ◌≤◌, List, ℕ, [], length, drop, replicate, All};
+ghost use Rattle.std.specs.Prelude.{vec_capacity, IfOk, IfErr, OnOk, OnErr};
 ghost use Rattle.sector_disk.specs.declared.sector.TheConstants.{SECTOR_SIZE};
 ghost use Rattle.sector_disk.specs.rules.Image.{Image, IsImage, sector_at};
 ghost use Rattle.sector_disk.specs.rules.Pending.{IsWriteWithin, first_front, replayed as all_of};
@@ -39,13 +41,20 @@ pub struct MemDisk {
 
 impl MemDisk {
     ghost use Rattle.sector_disk.specs.rules.Medium.{IsAllSynced};
-    ghost use Rattle.sector_disk.specs.rules.Memory.{memory_medium, memory_state_of, shown_by, after_cut, IsEveryCut};
+    ghost use Rattle.sector_disk.specs.rules.Memory.{memory_medium, memory_state_of, shown_by};
+    ghost use Rattle.sector_disk.specs.rules.Memory.{after_cut, IsEveryCut};
 
     /// So many sectors of zeros, with room for so many writes between two syncs. It fails only for
     /// want of memory.
     pub fn new(alloc: Global, sectors: u64, writes: usize) -> Result<MemDisk, DiskFault>
-        ensures made { IfOk result (λ d. memory_state_of d ≡ record { settled = replicate sectors (replicate SECTOR_SIZE 0); pending = []; limit = writes }) }
-        ensures zeros { IfOk result (λ d. (memory_medium d).shows (replicate sectors (replicate SECTOR_SIZE 0))) }
+        ensures made { IfOk result (λ d. memory_state_of d
+            ≡ record {
+              settled = replicate sectors (replicate SECTOR_SIZE 0);
+              pending = [];
+              limit = writes;
+            }) }
+        ensures zeros { IfOk result (λ d.
+            (memory_medium d).shows (replicate sectors (replicate SECTOR_SIZE 0))) }
         ensures settled { IfOk result (λ d. IsAllSynced (memory_medium d)) }
         ensures fresh { IfOk result (λ d. (memory_medium d).calls ≡ []) }
         ensures err { IfErr result (λ e. e ≡ DiskFault.Memory) }
@@ -63,15 +72,18 @@ impl MemDisk {
     }
 
     /// What a cut leaves that keeps these fronts, in bytes, of the writes since the last good sync,
-    /// the oldest first. A missing number, or a larger one than a sector has bytes, keeps all of its write. It
-    /// fails only for want of memory.
+    /// the oldest first. A missing number, or a larger one than a sector has bytes, keeps all of
+    /// its write. It fails only for want of memory.
     pub fn cut(&self, alloc: Global, tears: &[u16]) -> Result<MemDisk, DiskFault>
-        ensures cut { IfOk result (λ d. memory_state_of d ≡ after_cut (memory_state_of self.now) tears.now) }
+        ensures cut { IfOk result (λ d. memory_state_of d
+            ≡ after_cut (memory_state_of self.now) tears.now) }
 
         // It is one of the images that a cut now may leave, and each of those is had so.
-        ensures left { (memory_medium self.now).may_leave (after_cut (memory_state_of self.now) tears.now).settled }
+        ensures left { (memory_medium self.now).may_leave
+            (after_cut (memory_state_of self.now) tears.now).settled }
         ensures every { IsEveryCut self.now }
-        ensures shows { IfOk result (λ d. (memory_medium d).shows (after_cut (memory_state_of self.now) tears.now).settled) }
+        ensures shows { IfOk result (λ d.
+            (memory_medium d).shows (after_cut (memory_state_of self.now) tears.now).settled) }
         ensures settled { IfOk result (λ d. IsAllSynced (memory_medium d)) }
         ensures fresh { IfOk result (λ d. (memory_medium d).calls ≡ []) }
         ensures err { IfErr result (λ e. e ≡ DiskFault.Memory) }
@@ -89,7 +101,11 @@ impl MemDisk {
 
     fn from_sectors(alloc: Global, settled: Vec<Sector>, limit: usize) -> Result<MemDisk, DiskFault>
         requires { IsImage (length settled.items) settled.items }
-        ensures made { IfOk result (λ d. memory_state_of d ≡ record { settled = settled.items; pending = []; limit = limit }) }
+        ensures made { IfOk result (λ d. memory_state_of d ≡ record {
+          settled = settled.items;
+          pending = [];
+          limit = limit;
+        }) }
         ensures shows { IfOk result (λ d. (memory_medium d).shows settled.items) }
         ensures settled { IfOk result (λ d. IsAllSynced (memory_medium d)) }
         ensures fresh { IfOk result (λ d. (memory_medium d).calls ≡ []) }
@@ -121,7 +137,9 @@ fn front_named(tears: &[u16], i: usize) -> usize
 
 impl Disk for MemDisk {
     ghost use Rattle.sector_disk.specs.rules.Medium.{Keeps, Reads, Writes, SyncsMedium};
-    ghost use Rattle.sector_disk.specs.rules.Memory.{memory_medium, memory_state_of, shown_by, read_answer, write_answer, after_write, after_sync};
+    ghost use Rattle.sector_disk.specs.rules.Memory.{memory_medium, memory_state_of, shown_by};
+    ghost use Rattle.sector_disk.specs.rules.Memory.{read_answer, write_answer, after_write};
+    ghost use Rattle.sector_disk.specs.rules.Memory.{after_sync};
 
     ghost medium = { memory_medium };
 
@@ -130,9 +148,11 @@ impl Disk for MemDisk {
     }
 
     fn read(&mut self, sector: u64, into: &mut [u8; SECTOR_SIZE]) -> Result<(), DiskFault>
-        ensures reads { Reads sector into.new result (memory_medium self.old) (memory_medium self.new) }
+        ensures reads { Reads sector into.new result (memory_medium self.old)
+            (memory_medium self.new) }
         ensures answer { result ≡ read_answer (memory_state_of self.old) sector }
-        ensures bytes { OnOk result (into.new ≡ sector_at (shown_by (memory_state_of self.old)) sector) }
+        ensures bytes { OnOk result (into.new
+            ≡ sector_at (shown_by (memory_state_of self.old)) sector) }
         ensures refused { OnErr result (into.new ≡ into.old) }
         ensures same { self.new ≡ self.old }
     {
@@ -144,9 +164,11 @@ impl Disk for MemDisk {
     }
 
     fn write(&mut self, sector: u64, from: &[u8; SECTOR_SIZE]) -> Result<(), DiskFault>
-        ensures writes { Writes sector from.now result (memory_medium self.old) (memory_medium self.new) }
+        ensures writes { Writes sector from.now result (memory_medium self.old)
+            (memory_medium self.new) }
         ensures answer { result ≡ write_answer (memory_state_of self.old) sector }
-        ensures done { OnOk result (memory_state_of self.new ≡ after_write (memory_state_of self.old) sector from.now) }
+        ensures done { OnOk result (memory_state_of self.new
+            ≡ after_write (memory_state_of self.old) sector from.now) }
         ensures refused { OnErr result (self.new ≡ self.old) }
         ensures kept { Keeps (memory_medium self.old) (memory_medium self.new) }
     {

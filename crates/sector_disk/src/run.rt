@@ -1,6 +1,7 @@
 // Sectors that are written one after another.
 ghost use Rattle.std.specs.Prelude.{◌≡◌, ◌⊎◌, ◌+◌, ◌<◌, ◌≤◌, length, OnOk, IsErr};
-ghost use Rattle.sector_disk.specs.rules.Medium.{LeavesOnly, After, Follows, IsAllSynced, CountsUpTo, MakesCalls, FailsInside, spare};
+ghost use Rattle.sector_disk.specs.rules.Medium.{LeavesOnly, After, Follows, IsAllSynced};
+ghost use Rattle.sector_disk.specs.rules.Medium.{CountsUpTo, MakesCalls, FailsInside, spare};
 ghost use Rattle.sector_disk.specs.rules.Calls.{synced_writes};
 ghost use Rattle.sector_disk.specs.rules.Run.{IsTornRun, IsWrittenRun, HoldsRun, WritesRun};
 
@@ -32,10 +33,12 @@ pub fn store_run<D: Disk>(
     requires { at + length sectors.now ≤ (D.medium disk.old).sectors }
 
     // A cut at any moment leaves of each of the sectors some front, and all others as they were.
-    ensures any_moment { LeavesOnly (D.medium disk.old) (D.medium disk.new) (After (IsTornRun at sectors.now (length sectors.now)) (D.medium disk.old).may_leave) }
+    ensures any_moment { LeavesOnly (D.medium disk.old) (D.medium disk.new)
+        (After (IsTornRun at sectors.now (length sectors.now)) (D.medium disk.old).may_leave) }
 
     // Once it has answered Ok, each cut leaves all of them.
-    ensures stored { OnOk result (Follows (IsWrittenRun at sectors.now (length sectors.now)) (D.medium disk.old).shows (D.medium disk.new).may_leave) }
+    ensures stored { OnOk result (Follows (IsWrittenRun at sectors.now (length sectors.now))
+        (D.medium disk.old).shows (D.medium disk.new).may_leave) }
     ensures holds { OnOk result (HoldsRun (D.medium disk.new) at sectors.now (length sectors.now)) }
     ensures settled { OnOk result (IsAllSynced (D.medium disk.new)) }
 
@@ -47,8 +50,10 @@ pub fn store_run<D: Disk>(
     ensures calls { MakesCalls (synced_writes at (length sectors.now)) result
         (D.medium disk.old) (D.medium disk.new) }
 
-    // It fails only where the disk does, or where there is no room for so many writes before a sync.
-    ensures cause { IsErr result → (spare (D.medium disk.old) < length sectors.now) ⊎ ((D.medium disk.old).faults < (D.medium disk.new).faults) }
+    // It fails only where the disk does, or where there is no room for so many writes before a
+    // sync.
+    ensures cause { IsErr result → (spare (D.medium disk.old) < length sectors.now)
+        ⊎ ((D.medium disk.old).faults < (D.medium disk.new).faults) }
     ensures kind { FailsInside result }
 {
     write_run(disk, at, sectors)?;

@@ -1,5 +1,6 @@
 -- Worked examples of heads, and of what a commit may change.
-use Rattle.std.proofs.Common.{◌≡◌, ◌≢◌, ℕ, ◌+◌, ◌-◌, ◌<◌, ◌≤◌, List, [], ◌∷◌, length, get_or, lit<, lit≤, refl, sym, ap, subst, inl, inr, ⊎_elim, arith}
+use Rattle.std.proofs.Common.{◌≡◌, ◌≢◌, ℕ, ◌+◌, ◌-◌, ◌<◌, ◌≤◌, List, [], ◌∷◌, length, get_or, lit<}
+use Rattle.std.proofs.Common.{lit≤, refl, sym, ap, subst, inl, inr, ⊎_elim, arith}
 use Rattle.sha2.specs.Sha256.{sha256}
 use Rattle.sector_disk.specs.rules.Image.{Image, sector_at}
 use Rattle.disk_layout.specs.declared.head.Head.{Head}
@@ -7,7 +8,8 @@ use Rattle.disk_layout.specs.rules.Places.{head_place}
 use Rattle.disk_layout.specs.rules.Sectors.{head_bytes, stamp_of, IsComplete, IsNewest}
 use Rattle.snapshot.specs.rules.Heads.{HasNone, IsReadyForHead}
 use Rattle.snapshot.specs.rules.Steps.{IsOutsideArea}
-use Rattle.snapshot.specs.laws.Examples.{NextCanFollow, plain_head, with_heads, headless, ReadyExamples, areas, area_disk, NoStep, AreaExamples}
+use Rattle.snapshot.specs.laws.Examples.{NextCanFollow, plain_head, with_heads, headless}
+use Rattle.snapshot.specs.laws.Examples.{ReadyExamples, areas, area_disk, NoStep, AreaExamples}
 use Rattle.snapshot.proofs.AreaLemmas.{newest_complete}
 
 differ : (a b : ℕ) → a ≡ b → a < b → ⊥

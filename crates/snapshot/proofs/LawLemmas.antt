@@ -1,5 +1,6 @@
 -- An image shows one newest snapshot at most.
-use Rattle.std.proofs.Common.{◌≡◌, ℕ, ◌+◌, ◌-◌, List, length, take, Err, IsErr, refl, sym, ap, ◌∙◌, subst, inl, inr, arith}
+use Rattle.std.proofs.Common.{◌≡◌, ℕ, ◌+◌, ◌-◌, List, length, take, Err, IsErr, refl, sym, ap, ◌∙◌}
+use Rattle.std.proofs.Common.{subst, inl, inr, arith}
 use Rattle.sector_disk.specs.rules.Image.{Image, sector_at}
 use Rattle.disk_layout.specs.declared.geometry.Geometry.{Geometry}
 use Rattle.disk_layout.specs.declared.head.Head.{Head}
@@ -12,9 +13,12 @@ use Rattle.snapshot.specs.laws.Laws.{ImageShowsOne, CanBeginAgain, FailsForGood}
 use Rattle.snapshot.proofs.AreaLemmas.{none_at, one_newest}
 
 one_head : (x : Image) (a b : ℕ) (h k : Head) → IsNewest x a h → IsNewest x b k → h ≡ k
-one_head x a b h k one two = one.is ∙ ap (λ (n : ℕ). head_of (sector_at x (head_place n))) (one_newest x a b h k one two) ∙ sym two.is
+one_head x a b h k one two =
+    one.is ∙ ap (λ (n : ℕ). head_of (sector_at x (head_place n))) (one_newest x a b h k one two)
+    ∙ sym two.is
 
-same_image : (geometry : Geometry) (x : Image) (g h v w : ℕ) (a b : List ℕ) → HoldsImage geometry x g v a → HoldsImage geometry x h w b → (g ≡ h) × (v ≡ w) × (a ≡ b)
+same_image : (geometry : Geometry) (x : Image) (g h v w : ℕ) (a b : List ℕ)
+    → HoldsImage geometry x g v a → HoldsImage geometry x h w b → (g ≡ h) × (v ≡ w) × (a ≡ b)
 same_image geometry x g h v w a b one two =
     let same = one_newest x g h _ _ one.newest two.newest in
     let head = one_head x g h _ _ one.newest two.newest in
@@ -23,17 +27,21 @@ same_image geometry x g h v w a b one two =
       ap (λ (k : Head). k.version) head,
       sym one.area
           ∙ ap (λ (n : ℕ). take n (bytes_from x (area_place geometry g) geometry.area_sectors)) len
-          ∙ ap (λ (n : ℕ). take (length b) (bytes_from x (area_place geometry n) geometry.area_sectors)) same
+          ∙ ap (λ (n : ℕ).
+          take (length b) (bytes_from x (area_place geometry n) geometry.area_sectors)) same
           ∙ two.area,
     )
 
-not_damaged : (geometry : Geometry) (x : Image) (g v : ℕ) (a : List ℕ) → HoldsImage geometry x g v a → IsDamaged geometry x → ⊥
+not_damaged : (geometry : Geometry) (x : Image) (g v : ℕ) (a : List ℕ) → HoldsImage geometry x g v a
+    → IsDamaged geometry x → ⊥
 not_damaged geometry x g v a one d =
     let head = one_head x d.generation g d.head _ d.newest one.newest in
     d.other a (record {
       len = ap (λ (k : Head). k.length_in_bytes) head;
       digest = ap (λ (k : Head). k.digest) head;
-      area = ap (λ (k : Head). take (length a) (bytes_from x (area_place geometry k.generation) geometry.area_sectors)) head ∙ one.area;
+      area = ap (λ (k : Head).
+          take (length a) (bytes_from x (area_place geometry k.generation) geometry.area_sectors))
+          head ∙ one.area;
     })
 
 pub shows_one : ImageShowsOne

@@ -1,14 +1,17 @@
 -- What the calls of a commit ask the disk for, one after another.
-use Rattle.std.proofs.Common.{◌≡◌, ◌≤◌, ◌⊎◌, ℕ, zero, suc, ◌+◌, ◌-◌, List, [], ◌∷◌, ◌++◌, Result, refl, sym, ap, ◌∙◌, subst, inl, inr, ⊎_elim, arith, append_assoc}
+use Rattle.std.proofs.Common.{◌≡◌, ◌≤◌, ◌⊎◌, ℕ, zero, suc, ◌+◌, ◌-◌, List, [], ◌∷◌, ◌++◌, Result}
+use Rattle.std.proofs.Common.{refl, sym, ap, ◌∙◌, subst, inl, inr, ⊎_elim, arith, append_assoc}
 use Rattle.sector_disk.specs.rules.Medium.{Medium, BeginsCalls, MakesCalls}
 use Rattle.sector_disk.specs.rules.Calls.{rising_writes}
 use Rattle.sector_disk.specs.declared.disk_call.DiskCall.{DiskCall}
 use Rattle.sector_disk.specs.declared.disk_call.DiskCall.TheVariants.{WriteOf, Sync}
-use Rattle.sector_disk.proofs.CallLemmas.{no_calls, begun_then, begun_first, made_then, rising_longer}
+use Rattle.sector_disk.proofs.CallLemmas.{no_calls, begun_then, begun_first, made_then}
+use Rattle.sector_disk.proofs.CallLemmas.{rising_longer}
 use Rattle.disk_layout.specs.rules.Places.{head_place}
 use Rattle.snapshot.specs.declared.writing.Writing.{Writing}
 use Rattle.snapshot.specs.declared.writing.Writing.TheVariants.{Whole, Changes}
-use Rattle.snapshot.specs.rules.Calls.{SomeRising, AreStores, AreaStores, MakesStores, MakesStoresAndHead, with_head}
+use Rattle.snapshot.specs.rules.Calls.{SomeRising, AreStores, AreaStores, MakesStores}
+use Rattle.snapshot.specs.rules.Calls.{MakesStoresAndHead, with_head}
 
 abbrev pub stores : Writing → ℕ → ℕ → AreaStores
 stores writing at n = record { writing = writing; first = at; count = n }

@@ -1,7 +1,8 @@
 -- A sector that is stored, and one that is written behind a sync (this project's own).
 use Rattle.std.specs.Prelude.{◌≡◌, ◌⊎◌, ℕ, ◌+◌, ◌<◌, ◌≤◌, max, List, Result, OnOk, IsErr}
 use Rattle.sector_disk.specs.rules.Image.{Image, IsTorn, IsWritten}
-use Rattle.sector_disk.specs.rules.Medium.{Medium, After, Follows, BothFollow, LeavesOnly, CountsUpTo, MakesCalls, IsAllSynced, Holds, spare}
+use Rattle.sector_disk.specs.rules.Medium.{Medium, After, Follows, BothFollow, LeavesOnly}
+use Rattle.sector_disk.specs.rules.Medium.{CountsUpTo, MakesCalls, IsAllSynced, Holds, spare}
 use Rattle.sector_disk.specs.declared.disk_call.DiskCall.{DiskCall}
 use Rattle.sector_disk.specs.declared.fault.DiskFault.{DiskFault}
 use Rattle.snapshot.specs.rules.Calls.{MakesStores}
@@ -27,13 +28,14 @@ pub record StoresSector {T : Type 0} (k : ℕ) (bytes : List ℕ) (writing : Wri
   pub calls : MakesStores (record { writing = writing; first = k; count = 1 }) result old new
   pub cause : IsErr result → (spare old ≡ 0) ⊎ (old.faults < new.faults)
 
--- Sector k is written once all that was written before is settled. A cut leaves what it may have left before, or some front of
--- the sector over what reads gave. These calls are asked for.
+-- Sector k is written once all that was written before is settled. A cut leaves what it may have
+-- left before, or some front of the sector over what reads gave. These calls are asked for.
 pub record SettlesSector {T : Type 0} (k : ℕ) (bytes : List ℕ) (asked : List DiskCall)
     (result : Result T DiskFault) (old new : Medium) : Type 0 where
   pub written : OnOk result (Follows (IsWritten k bytes) old.shows new.may_leave)
   pub settled : OnOk result (IsAllSynced new)
-  pub any_moment : LeavesOnly old new (λ image. old.may_leave image ⊎ After (IsTorn k bytes) old.shows image)
+  pub any_moment : LeavesOnly old new (λ image. old.may_leave image
+      ⊎ After (IsTorn k bytes) old.shows image)
   -- as many unsynced writes as before, or this one
   pub counts : CountsUpTo (max old.unsynced 1) old new
   pub calls : MakesCalls asked result old new

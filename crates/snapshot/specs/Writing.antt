@@ -43,9 +43,12 @@ pub record SparesAllButHead (place from to : ℕ) (old new : Medium) : Type 0 wh
       → CountsUpTo (max old.unsynced 1) old new × ((was : Image) × old.shows was
       × ((k : ℕ) → sector_at image (place + k) ≡ sector_at was (place + k)))
 
--- It was given these bytes: its hasher holds them, and reads give them in the area's first sectors, but for the last of them,
--- with which its own sector begins.
-pub record IsGiven (geometry : Geometry) (m : Medium) (w : AreaWriter) (bytes : List ℕ) : Type 0 where
+-- It was given these bytes: its hasher holds them, and reads give them in the area's first sectors,
+-- but for the last of them, with which its own sector begins.
+pub record IsGiven (geometry : Geometry) (m : Medium) (w : AreaWriter) (bytes : List ℕ) :
+    Type 0 where
   pub hashed : Holds256 w.hasher bytes
   pub count : length bytes ≡ written_length w
-  pub held : (image : Image) → m.shows image → bytes_from image (area_place geometry w.generation) w.sectors ++ take w.filled w.sector ≡ bytes
+  pub held : (image : Image) → m.shows image
+      → bytes_from image (area_place geometry w.generation) w.sectors ++ take w.filled w.sector
+      ≡ bytes

@@ -1,9 +1,11 @@
 //! Laws of snapshots.
 
-ghost use Rattle.snapshot.specs.laws.Examples.{NextCanFollow, ReadyExamples, CommitCallExamples, AreaExamples, StateExamples};
+ghost use Rattle.snapshot.specs.laws.Examples.{NextCanFollow, ReadyExamples, CommitCallExamples};
+ghost use Rattle.snapshot.specs.laws.Examples.{AreaExamples, StateExamples};
 ghost use Rattle.snapshot.specs.laws.Laws.{ImageShowsOne, CanBeginAgain, FailsForGood};
 
-/// A disk shows one newest snapshot at most, and a damaged one or none only where it shows no whole one.
+/// A disk shows one newest snapshot at most, and a damaged one or none only where it shows no whole
+/// one.
 pub fn newest_is_one()
     ensures { ImageShowsOne }
 {}

@@ -20,8 +20,8 @@
 //! - What is said of the newest image holds where that was of the generation before, or, before
 //!   the first, where there was none (`IsReadyForHead`).
 //! - `TooBig` comes exactly for a generation from `NUMBERS_END` on, and for an image longer than
-//!   its area (`too_big`). The disk is left alone then (`untouched`). `Disk` comes only where the disk
-//!   failed, or had no room for the writes (`cause`).
+//!   its area (`too_big`). The disk is left alone then (`untouched`). `Disk` comes only where the
+//!   disk failed, or had no room for the writes (`cause`).
 //! - After an error each call answers `Failed`, and leaves the disk alone (`fails`, `untouched`).
 //! - `laws::newest_is_one`: a disk shows no head, a damaged image, or one newest image.
 //!   `laws::next_can_follow`: once an image is the newest one, a disk is ready for the next. Where

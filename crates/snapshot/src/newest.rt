@@ -1,5 +1,6 @@
 // The newest complete head of a disk, and the image that it names.
-ghost use Rattle.std.specs.Prelude.{◌≡◌, ◌+◌, ◌*◌, ◌<◌, ◌≤◌, ◌↔◌, ◌⊎◌, ◌^◌, ℕ, IfOk, IfErr, IsTrue, length, take};
+ghost use Rattle.std.specs.Prelude.{◌≡◌, ◌+◌, ◌*◌, ◌<◌, ◌≤◌, ◌↔◌, ◌⊎◌, ◌^◌, ℕ, IfOk, IfErr, IsTrue};
+ghost use Rattle.std.specs.Prelude.{length, take};
 ghost use Rattle.sha2.specs.Sha256.{sha256};
 ghost use Rattle.sector_disk.specs.declared.sector.TheConstants.{SECTOR_SIZE};
 ghost use Rattle.sector_disk.specs.rules.Image.{Image, sector_at};
@@ -27,8 +28,10 @@ pub struct Snapshot {
 pub(crate) fn newest_head<D: Disk>(disk: &mut D) -> Result<Option<Head>, DiskFault>
     requires { 3 ≤ (D.medium disk.old).sectors }
     ensures reads { OnlyReads (D.medium disk.old) (D.medium disk.new) }
-    ensures finds { IfOk result (λ head. (image : Image) → (D.medium disk.new).shows image → FindsHead image head) }
-    ensures cause { (fault : DiskFault) → result ≡ Err fault → (D.medium disk.old).faults < (D.medium disk.new).faults }
+    ensures finds { IfOk result (λ head. (image : Image) → (D.medium disk.new).shows image
+        → FindsHead image head) }
+    ensures cause { (fault : DiskFault) → result ≡ Err fault
+        → (D.medium disk.old).faults < (D.medium disk.new).faults }
 {
     let mut first = [0; SECTOR_SIZE];
     disk.read(1, &mut first)?;
@@ -49,7 +52,8 @@ fn head_in(area: u64, sector: &[u8; SECTOR_SIZE]) -> Option<Head>
 }
 
 fn newer_head(first: Option<Head>, second: Option<Head>) -> Option<Head>
-    ensures { (image : Image) → HeadIn 0 (sector_at image 1) first → HeadIn 1 (sector_at image 2) second → FindsHead image result }
+    ensures { (image : Image) → HeadIn 0 (sector_at image 1) first
+        → HeadIn 1 (sector_at image 2) second → FindsHead image result }
 {
     let Some(head) = first else {
         return second;
@@ -60,7 +64,8 @@ fn newer_head(first: Option<Head>, second: Option<Head>) -> Option<Head>
     }
 }
 
-/// The image that a head names. Where the head's length is more than an area holds, no sector is read.
+/// The image that a head names. Where the head's length is more than an area holds, no sector is
+/// read.
 pub(crate) fn read_image<D: Disk>(
     alloc: Global,
     disk: &mut D,
@@ -69,9 +74,11 @@ pub(crate) fn read_image<D: Disk>(
 ) -> Result<Vec<u8>, SnapshotFault>
     requires { journal_place geometry.now ≤ (D.medium disk.old).sectors }
     ensures reads { OnlyReads (D.medium disk.old) (D.medium disk.new) }
-    ensures image { (image : Image) → (D.medium disk.new).shows image → ReadsImage geometry.now image head.now result }
+    ensures image { (image : Image) → (D.medium disk.new).shows image
+        → ReadsImage geometry.now image head.now result }
     ensures own { result ≡ Err SnapshotFault.Failed → ⊥ }
-    ensures cause { (fault : DiskFault) → result ≡ Err (SnapshotFault.Disk fault) → (D.medium disk.old).faults < (D.medium disk.new).faults }
+    ensures cause { (fault : DiskFault) → result ≡ Err (SnapshotFault.Disk fault)
+        → (D.medium disk.old).faults < (D.medium disk.new).faults }
 {
     let room = SECTOR_SIZE as u64 * u64::from(geometry.area_sectors);
     if head.length_in_bytes > room {
@@ -101,10 +108,13 @@ fn read_bytes<D: Disk>(
     requires small { len ≤ 2 ^ 60 }
     requires room { SECTOR_SIZE * at + len ≤ SECTOR_SIZE * (D.medium disk.old).sectors }
     ensures reads { OnlyReads (D.medium disk.old) (D.medium disk.new) }
-    ensures bytes { IfOk result (λ v. (count : ℕ) → len ≤ SECTOR_SIZE * count → (image : Image) → (D.medium disk.new).shows image → v.items ≡ take len (bytes_from image at count)) }
+    ensures bytes { IfOk result (λ v. (count : ℕ) → len ≤ SECTOR_SIZE * count → (image : Image)
+        → (D.medium disk.new).shows image → v.items ≡ take len (bytes_from image at count)) }
     ensures len { IfOk result (λ v. length v.items ≡ len) }
-    ensures cause { (fault : DiskFault) → result ≡ Err (SnapshotFault.Disk fault) → (D.medium disk.old).faults < (D.medium disk.new).faults }
-    ensures kind { IfErr result (λ e. e ≡ SnapshotFault.Memory ⊎ ((fault : DiskFault) × (e ≡ SnapshotFault.Disk fault))) }
+    ensures cause { (fault : DiskFault) → result ≡ Err (SnapshotFault.Disk fault)
+        → (D.medium disk.old).faults < (D.medium disk.new).faults }
+    ensures kind { IfErr result (λ e. e ≡ SnapshotFault.Memory
+        ⊎ ((fault : DiskFault) × (e ≡ SnapshotFault.Disk fault))) }
 {
     let mut bytes = Vec::new(alloc);
     let mut sector = [0; SECTOR_SIZE];

@@ -19,20 +19,22 @@ pub(crate) enum State {
     Failed,
 }
 
-/// Reads the newest snapshot of a disk, and writes the next one. Each call that touches a disk is handed it,
-/// and works on the places that a `Geometry` gives. After an error each call answers `Failed` and leaves the
-/// disk alone.
+/// Reads the newest snapshot of a disk, and writes the next one. Each call that touches a disk is
+/// handed it, and works on the places that a `Geometry` gives. After an error each call answers
+/// `Failed` and leaves the disk alone.
 #[derive(Drop)]
 pub struct Snapshots {
     pub(crate) state: State,
 }
 
 impl Snapshots {
-    ghost use Rattle.std.specs.Prelude.{◌+◌, ◌-◌, ◌*◌, ◌/◌, ◌^◌, ◌++◌, ◌↔◌, false, ℕ, List, length, ◌≡◌, ◌≤◌, ◌<◌, ◌⊎◌, IsTrue, OnOk, IfOk, IsErr};
+    ghost use Rattle.std.specs.Prelude.{◌+◌, ◌-◌, ◌*◌, ◌/◌, ◌^◌, ◌++◌, ◌↔◌, false, ℕ, List, length};
+    ghost use Rattle.std.specs.Prelude.{◌≡◌, ◌≤◌, ◌<◌, ◌⊎◌, IsTrue, OnOk, IfOk, IsErr};
     ghost use Rattle.wasi_abi.specs.declared.numbers.TheConstants.{NUMBERS_END};
     ghost use Rattle.sector_disk.specs.declared.sector.TheConstants.{SECTOR_SIZE};
     ghost use Rattle.sector_disk.specs.rules.Image.{Image};
-    ghost use Rattle.sector_disk.specs.rules.Medium.{LeavesOnly, After, Follows, CountsUpTo, IsAllSynced, spare};
+    ghost use Rattle.sector_disk.specs.rules.Medium.{LeavesOnly, After, Follows, CountsUpTo};
+    ghost use Rattle.sector_disk.specs.rules.Medium.{IsAllSynced, spare};
     ghost use Rattle.sector_disk.specs.declared.fault.DiskFault.{DiskFault};
     ghost use Rattle.disk_layout.specs.rules.Places.{journal_place, area_place, rounded_up};
     ghost use Rattle.disk_layout.specs.rules.Stored.{OnlyReads};
@@ -41,7 +43,9 @@ impl Snapshots {
     ghost use Rattle.snapshot.specs.rules.Newest.{ReadsImage, FindsNewest};
     ghost use Rattle.snapshot.specs.rules.Steps.{Fills, Commits, Replaces};
     ghost use Rattle.snapshot.specs.Writing.{SparesSectors, SparesAllButHead};
-    ghost use Rattle.snapshot.specs.rules.Snapshots.{is_idle, is_failed, generation_of, version_of, length_of, sectors_of, filled_by, writing_of, IsSameImage, IsBegun, HasPushed, StaysFailed};
+    ghost use Rattle.snapshot.specs.rules.Snapshots.{is_idle, is_failed, generation_of, version_of};
+    ghost use Rattle.snapshot.specs.rules.Snapshots.{length_of, sectors_of, filled_by, writing_of};
+    ghost use Rattle.snapshot.specs.rules.Snapshots.{IsSameImage, IsBegun, HasPushed, StaysFailed};
 
     pub fn new() -> Snapshots
         ensures idle { IsTrue (is_idle result) }
@@ -53,11 +57,14 @@ impl Snapshots {
     pub fn newest_head<D: Disk>(&mut self, disk: &mut D) -> Result<Option<Head>, SnapshotFault>
         requires { 3 ≤ (D.medium disk.old).sectors }
         ensures reads { OnlyReads (D.medium disk.old) (D.medium disk.new) }
-        ensures finds { IfOk result (λ head. (image : Image) → (D.medium disk.new).shows image → FindsHead image head) }
+        ensures finds { IfOk result (λ head. (image : Image) → (D.medium disk.new).shows image
+            → FindsHead image head) }
         ensures same { OnOk result (self.new ≡ self.old) }
         ensures fails { StaysFailed result self.old self.new }
         ensures untouched { IsTrue (is_failed self.old) → disk.new ≡ disk.old }
-        ensures cause { IsErr result → IsTrue (is_failed self.old) ⊎ ((fault : DiskFault) × (result ≡ Err (SnapshotFault.Disk fault)) × ((D.medium disk.old).faults < (D.medium disk.new).faults)) }
+        ensures cause { IsErr result → IsTrue (is_failed self.old)
+            ⊎ ((fault : DiskFault) × (result ≡ Err (SnapshotFault.Disk fault))
+            × ((D.medium disk.old).faults < (D.medium disk.new).faults)) }
     {
         if self.is_failed() {
             return Err(SnapshotFault::Failed);
@@ -71,9 +78,9 @@ impl Snapshots {
         }
     }
 
-    /// The image that a head names: as many bytes as it says, with the digest that it says, at the front of its
-    /// generation's area. Where that isn't so it is `Damaged`, and where the length is more than an area holds,
-    /// no sector is read.
+    /// The image that a head names: as many bytes as it says, with the digest that it says, at the
+    /// front of its generation's area. Where that isn't so it is `Damaged`, and where the length is
+    /// more than an area holds, no sector is read.
     pub fn image_of<D: Disk>(
         &mut self,
         alloc: Global,
@@ -83,11 +90,13 @@ impl Snapshots {
     ) -> Result<Vec<u8>, SnapshotFault>
         requires { journal_place geometry.now ≤ (D.medium disk.old).sectors }
         ensures reads { OnlyReads (D.medium disk.old) (D.medium disk.new) }
-        ensures image { (image : Image) → (D.medium disk.new).shows image → ReadsImage geometry.now image head.now result }
+        ensures image { (image : Image) → (D.medium disk.new).shows image
+            → ReadsImage geometry.now image head.now result }
         ensures same { OnOk result (self.new ≡ self.old) }
         ensures fails { StaysFailed result self.old self.new }
         ensures untouched { IsTrue (is_failed self.old) → disk.new ≡ disk.old }
-        ensures cause { (fault : DiskFault) → result ≡ Err (SnapshotFault.Disk fault) → (D.medium disk.old).faults < (D.medium disk.new).faults }
+        ensures cause { (fault : DiskFault) → result ≡ Err (SnapshotFault.Disk fault)
+            → (D.medium disk.old).faults < (D.medium disk.new).faults }
     {
         if self.is_failed() {
             return Err(SnapshotFault::Failed);
@@ -110,11 +119,13 @@ impl Snapshots {
     ) -> Result<Option<Snapshot>, SnapshotFault>
         requires { journal_place geometry.now ≤ (D.medium disk.old).sectors }
         ensures reads { OnlyReads (D.medium disk.old) (D.medium disk.new) }
-        ensures finds { (image : Image) → (D.medium disk.new).shows image → FindsNewest geometry.now image result }
+        ensures finds { (image : Image) → (D.medium disk.new).shows image
+            → FindsNewest geometry.now image result }
         ensures same { OnOk result (self.new ≡ self.old) }
         ensures fails { StaysFailed result self.old self.new }
         ensures untouched { IsTrue (is_failed self.old) → disk.new ≡ disk.old }
-        ensures cause { (fault : DiskFault) → result ≡ Err (SnapshotFault.Disk fault) → (D.medium disk.old).faults < (D.medium disk.new).faults }
+        ensures cause { (fault : DiskFault) → result ≡ Err (SnapshotFault.Disk fault)
+            → (D.medium disk.old).faults < (D.medium disk.new).faults }
     {
         let Some(head) = self.newest_head(disk)? else {
             return Ok(None);
@@ -127,8 +138,9 @@ impl Snapshots {
         }))
     }
 
-    /// Begins the image of this generation, which is given by `push` and ends with `finish`. It makes no call of
-    /// the disk. It is `TooBig` for a generation from `NUMBERS_END` on. An image that was begun before is left as it is.
+    /// Begins the image of this generation, which is given by `push` and ends with `finish`. It
+    /// makes no call of the disk. It is `TooBig` for a generation from `NUMBERS_END` on. An image
+    /// that was begun before is left as it is.
     pub fn begin(
         &mut self,
         generation: u64,
@@ -136,9 +148,11 @@ impl Snapshots {
         writing: Writing,
     ) -> Result<(), SnapshotFault>
         ensures begun { OnOk result (IsBegun generation version writing self.new) }
-        ensures too_big { (result ≡ Err SnapshotFault.TooBig) ↔ ((is_failed self.old ≡ false) × (NUMBERS_END ≤ generation)) }
+        ensures too_big { (result ≡ Err SnapshotFault.TooBig)
+            ↔ ((is_failed self.old ≡ false) × (NUMBERS_END ≤ generation)) }
         ensures fails { StaysFailed result self.old self.new }
-        ensures cause { IsErr result → IsTrue (is_failed self.old) ⊎ (result ≡ Err SnapshotFault.TooBig) }
+        ensures cause { IsErr result → IsTrue (is_failed self.old)
+            ⊎ (result ≡ Err SnapshotFault.TooBig) }
     {
         if self.is_failed() {
             return Err(SnapshotFault::Failed);
@@ -164,12 +178,17 @@ impl Snapshots {
         requires places { journal_place geometry.now ≤ (D.medium disk.old).sectors }
 
         // A cut at any moment leaves the newest snapshot that there was.
-        ensures any_moment { LeavesOnly (D.medium disk.old) (D.medium disk.new) (After (Fills geometry.now (generation_of self.old)) (D.medium disk.old).may_leave) }
-        ensures pushed { OnOk result ((before : List ℕ) → HasPushed geometry.now (D.medium disk.old) self.old before → HasPushed geometry.now (D.medium disk.new) self.new (before ++ bytes.now)) }
+        ensures any_moment { LeavesOnly (D.medium disk.old) (D.medium disk.new)
+            (After (Fills geometry.now (generation_of self.old)) (D.medium disk.old).may_leave) }
+        ensures pushed { OnOk result ((before : List ℕ)
+            → HasPushed geometry.now (D.medium disk.old) self.old before
+            → HasPushed geometry.now (D.medium disk.new) self.new (before ++ bytes.now)) }
         ensures same { OnOk result (IsSameImage self.old self.new) }
         ensures length { OnOk result (length_of self.new ≡ length_of self.old + length bytes.now) }
-        ensures within { OnOk result (length_of self.new ≤ SECTOR_SIZE * geometry.now.area_sectors) }
-        ensures unsynced { OnOk result ((D.medium disk.new).unsynced + sectors_of self.old ≤ (D.medium disk.old).unsynced + sectors_of self.new) }
+        ensures within { OnOk result (length_of self.new
+            ≤ SECTOR_SIZE * geometry.now.area_sectors) }
+        ensures unsynced { OnOk result ((D.medium disk.new).unsynced + sectors_of self.old
+            ≤ (D.medium disk.old).unsynced + sectors_of self.new) }
 
         // Of an image that is written whole, each sector that they fill is written, whatever the
         // area held.
@@ -195,10 +214,17 @@ impl Snapshots {
           count = filled_by self.old (length bytes.now);
         }) result (D.medium disk.old) (D.medium disk.new) }
 
-        ensures too_big { (result ≡ Err SnapshotFault.TooBig) ↔ ((is_failed self.old ≡ false) × (SECTOR_SIZE * geometry.now.area_sectors < length_of self.old + length bytes.now)) }
-        ensures untouched { IsTrue (is_failed self.old) ⊎ (result ≡ Err SnapshotFault.TooBig) → disk.new ≡ disk.old }
+        ensures too_big { (result ≡ Err SnapshotFault.TooBig)
+            ↔ ((is_failed self.old ≡ false)
+            × (SECTOR_SIZE * geometry.now.area_sectors < length_of self.old + length bytes.now)) }
+        ensures untouched { IsTrue (is_failed self.old) ⊎ (result ≡ Err SnapshotFault.TooBig)
+            → disk.new ≡ disk.old }
         ensures fails { StaysFailed result self.old self.new }
-        ensures cause { IsErr result → IsTrue (is_failed self.old) ⊎ (result ≡ Err SnapshotFault.TooBig) ⊎ ((fault : DiskFault) × (result ≡ Err (SnapshotFault.Disk fault)) × ((spare (D.medium disk.old) + sectors_of self.old < geometry.now.area_sectors) ⊎ ((D.medium disk.old).faults < (D.medium disk.new).faults))) }
+        ensures cause { IsErr result → IsTrue (is_failed self.old)
+            ⊎ (result ≡ Err SnapshotFault.TooBig)
+            ⊎ ((fault : DiskFault) × (result ≡ Err (SnapshotFault.Disk fault))
+            × ((spare (D.medium disk.old) + sectors_of self.old < geometry.now.area_sectors)
+            ⊎ ((D.medium disk.old).faults < (D.medium disk.new).faults))) }
     {
         let State::Begun(mut writer) = mem::replace(&mut self.state, State::Failed) else {
             return Err(SnapshotFault::Failed);
@@ -208,7 +234,8 @@ impl Snapshots {
         Ok(())
     }
 
-    /// Ends the image: stores its last sector with zeros behind it, syncs, writes its head, and syncs.
+    /// Ends the image: stores its last sector with zeros behind it, syncs, writes its head, and
+    /// syncs.
     pub fn finish<D: Disk>(
         &mut self,
         disk: &mut D,
@@ -219,12 +246,17 @@ impl Snapshots {
         requires places { journal_place geometry.now ≤ (D.medium disk.old).sectors }
 
         // A cut at any moment leaves the newest snapshot that there was, or this one.
-        ensures any_moment { (bytes : List ℕ) → HasPushed geometry.now (D.medium disk.old) self.old bytes →
-            LeavesOnly (D.medium disk.old) (D.medium disk.new) (After (Commits geometry.now (generation_of self.old) (version_of self.old) bytes) (D.medium disk.old).may_leave) }
+        ensures any_moment { (bytes : List ℕ)
+            → HasPushed geometry.now (D.medium disk.old) self.old bytes →
+            LeavesOnly (D.medium disk.old) (D.medium disk.new)
+            (After (Commits geometry.now (generation_of self.old) (version_of self.old) bytes)
+            (D.medium disk.old).may_leave) }
 
         // Once it has answered Ok, each cut leaves this one.
-        ensures done { OnOk result ((bytes : List ℕ) → HasPushed geometry.now (D.medium disk.old) self.old bytes →
-            Follows (Replaces geometry.now (generation_of self.old) (version_of self.old) bytes) (D.medium disk.old).may_leave (D.medium disk.new).may_leave) }
+        ensures done { OnOk result ((bytes : List ℕ)
+            → HasPushed geometry.now (D.medium disk.old) self.old bytes →
+            Follows (Replaces geometry.now (generation_of self.old) (version_of self.old) bytes)
+            (D.medium disk.old).may_leave (D.medium disk.new).may_leave) }
         ensures settled { OnOk result (IsAllSynced (D.medium disk.new)) }
         ensures counts { CountsUpTo ((D.medium disk.old).unsynced + 1) (D.medium disk.old)
             (D.medium disk.new) }
@@ -254,7 +286,11 @@ impl Snapshots {
 
         ensures untouched { IsTrue (is_failed self.old) → disk.new ≡ disk.old }
         ensures fails { StaysFailed result self.old self.new }
-        ensures cause { IsErr result → IsTrue (is_failed self.old) ⊎ ((fault : DiskFault) × (result ≡ Err (SnapshotFault.Disk fault)) × ((spare (D.medium disk.old) + sectors_of self.old < geometry.now.area_sectors) ⊎ ((D.medium disk.old).room ≡ 0) ⊎ ((D.medium disk.old).faults < (D.medium disk.new).faults))) }
+        ensures cause { IsErr result → IsTrue (is_failed self.old)
+            ⊎ ((fault : DiskFault) × (result ≡ Err (SnapshotFault.Disk fault))
+            × ((spare (D.medium disk.old) + sectors_of self.old < geometry.now.area_sectors)
+            ⊎ ((D.medium disk.old).room ≡ 0)
+            ⊎ ((D.medium disk.old).faults < (D.medium disk.new).faults))) }
     {
         let State::Begun(writer) = mem::replace(&mut self.state, State::Failed) else {
             return Err(SnapshotFault::Failed);
@@ -277,12 +313,16 @@ impl Snapshots {
         requires { journal_place geometry.now ≤ (D.medium disk.old).sectors }
 
         // A cut at any moment leaves the newest snapshot that there was, or this one.
-        ensures any_moment { LeavesOnly (D.medium disk.old) (D.medium disk.new) (After (Commits geometry.now generation version image.now) (D.medium disk.old).may_leave) }
+        ensures any_moment { LeavesOnly (D.medium disk.old) (D.medium disk.new)
+            (After (Commits geometry.now generation version image.now)
+            (D.medium disk.old).may_leave) }
 
         // Once it has answered Ok, each cut leaves this one.
-        ensures done { OnOk result (Follows (Replaces geometry.now generation version image.now) (D.medium disk.old).may_leave (D.medium disk.new).may_leave) }
+        ensures done { OnOk result (Follows (Replaces geometry.now generation version image.now)
+            (D.medium disk.old).may_leave (D.medium disk.new).may_leave) }
         ensures settled { OnOk result (IsAllSynced (D.medium disk.new)) }
-        ensures counts { CountsUpTo ((D.medium disk.old).unsynced + length image.now / SECTOR_SIZE + 1)
+        ensures counts { CountsUpTo ((D.medium disk.old).unsynced + length image.now / SECTOR_SIZE
+            + 1)
             (D.medium disk.old) (D.medium disk.new) }
         ensures idle { OnOk result (IsTrue (is_idle self.new)) }
 
@@ -298,10 +338,19 @@ impl Snapshots {
           count = rounded_up (length image.now);
         }) generation result (D.medium disk.old) (D.medium disk.new) }
 
-        ensures too_big { (result ≡ Err SnapshotFault.TooBig) ↔ ((is_failed self.old ≡ false) × ((NUMBERS_END ≤ generation) ⊎ (SECTOR_SIZE * geometry.now.area_sectors < length image.now))) }
-        ensures untouched { IsTrue (is_failed self.old) ⊎ (result ≡ Err SnapshotFault.TooBig) → disk.new ≡ disk.old }
+        ensures too_big { (result ≡ Err SnapshotFault.TooBig)
+            ↔ ((is_failed self.old ≡ false)
+            × ((NUMBERS_END ≤ generation)
+            ⊎ (SECTOR_SIZE * geometry.now.area_sectors < length image.now))) }
+        ensures untouched { IsTrue (is_failed self.old) ⊎ (result ≡ Err SnapshotFault.TooBig)
+            → disk.new ≡ disk.old }
         ensures fails { StaysFailed result self.old self.new }
-        ensures cause { IsErr result → IsTrue (is_failed self.old) ⊎ (result ≡ Err SnapshotFault.TooBig) ⊎ ((fault : DiskFault) × (result ≡ Err (SnapshotFault.Disk fault)) × ((spare (D.medium disk.old) < geometry.now.area_sectors) ⊎ ((D.medium disk.old).room ≡ 0) ⊎ ((D.medium disk.old).faults < (D.medium disk.new).faults))) }
+        ensures cause { IsErr result → IsTrue (is_failed self.old)
+            ⊎ (result ≡ Err SnapshotFault.TooBig)
+            ⊎ ((fault : DiskFault) × (result ≡ Err (SnapshotFault.Disk fault))
+            × ((spare (D.medium disk.old) < geometry.now.area_sectors)
+            ⊎ ((D.medium disk.old).room ≡ 0)
+            ⊎ ((D.medium disk.old).faults < (D.medium disk.new).faults))) }
     {
         self.begin(generation, version, Writing::Changes)?;
         self.push(disk, geometry, image)?;

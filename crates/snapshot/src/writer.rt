@@ -10,7 +10,8 @@ use disk_layout::{Geometry, Head};
 use sector_disk::{Disk, DiskFault, SECTOR_SIZE};
 use sha2::{Digest, Sha256};
 
-/// The image's bytes so far lie in the first sectors of its area, and behind them at the front of `sector`.
+/// The image's bytes so far lie in the first sectors of its area, and behind them at the front of
+/// `sector`.
 #[derive(Drop)]
 pub(crate) struct AreaWriter {
     pub(crate) generation: u64,
@@ -28,17 +29,20 @@ pub(crate) struct AreaWriter {
 }
 
 impl AreaWriter {
-    ghost use Rattle.std.specs.Prelude.{◌≡◌, ◌⊎◌, ◌↔◌, ◌+◌, ◌-◌, ◌*◌, ◌/◌, ◌++◌, ℕ, List, length, take, drop, replicate, IfOk, OnOk, IsErr};
+    ghost use Rattle.std.specs.Prelude.{◌≡◌, ◌⊎◌, ◌↔◌, ◌+◌, ◌-◌, ◌*◌, ◌/◌, ◌++◌, ℕ, List, length};
+    ghost use Rattle.std.specs.Prelude.{take, drop, replicate, IfOk, OnOk, IsErr};
     ghost use Rattle.sha2.specs.Hashers.{Holds256};
     ghost use Rattle.sha2.specs.Sha256.{sha256};
     ghost use Rattle.guest_memory.specs.rules.Bytes.{with_part};
     ghost use Rattle.sector_disk.specs.rules.Image.{Image, front_over};
-    ghost use Rattle.sector_disk.specs.rules.Medium.{LeavesOnly, After, Follows, CountsUpTo, IsAllSynced, spare};
+    ghost use Rattle.sector_disk.specs.rules.Medium.{LeavesOnly, After, Follows, CountsUpTo};
+    ghost use Rattle.sector_disk.specs.rules.Medium.{IsAllSynced, spare};
     ghost use Rattle.sector_disk.specs.declared.fault.DiskFault.{DiskFault};
     ghost use Rattle.disk_layout.specs.rules.Places.{journal_place, area_place, rounded_up};
     ghost use Rattle.snapshot.specs.rules.Calls.{MakesStores, MakesStoresAndHead};
     ghost use Rattle.snapshot.specs.rules.Steps.{HoldsWithZeros, Fills, Commits, Replaces};
-    ghost use Rattle.snapshot.specs.Writing.{written_length, Starts, SparesSectors, SparesAllButHead, IsGiven};
+    ghost use Rattle.snapshot.specs.Writing.{written_length, Starts, SparesSectors};
+    ghost use Rattle.snapshot.specs.Writing.{SparesAllButHead, IsGiven};
 
     pub(crate) fn new(generation: u64, version: u32, writing: Writing) -> AreaWriter
         ensures { Starts generation version writing result }
@@ -62,7 +66,8 @@ impl AreaWriter {
         SECTOR_SIZE as u64 * self.sectors + self.filled as u64
     }
 
-    /// Gives it more bytes of the image. Where they are more than the area holds, no call of the disk is made.
+    /// Gives it more bytes of the image. Where they are more than the area holds, no call of the
+    /// disk is made.
     pub(crate) fn push<D: Disk>(
         &mut self,
         disk: &mut D,
@@ -70,10 +75,15 @@ impl AreaWriter {
         bytes: &[u8],
     ) -> Result<(), SnapshotFault>
         requires { journal_place geometry.now ≤ (D.medium disk.old).sectors }
-        ensures too_big { (result ≡ Err SnapshotFault.TooBig) ↔ (SECTOR_SIZE * geometry.now.area_sectors < written_length self.old + length bytes.now) }
+        ensures too_big { (result ≡ Err SnapshotFault.TooBig)
+            ↔ (SECTOR_SIZE * geometry.now.area_sectors < written_length self.old
+            + length bytes.now) }
         ensures untouched { result ≡ Err SnapshotFault.TooBig → disk.new ≡ disk.old }
-        ensures given { OnOk result ((before : List ℕ) → IsGiven geometry.now (D.medium disk.old) self.old before → IsGiven geometry.now (D.medium disk.new) self.new (before ++ bytes.now)) }
-        ensures length { OnOk result (written_length self.new ≡ written_length self.old + length bytes.now) }
+        ensures given { OnOk result ((before : List ℕ)
+            → IsGiven geometry.now (D.medium disk.old) self.old before
+            → IsGiven geometry.now (D.medium disk.new) self.new (before ++ bytes.now)) }
+        ensures length { OnOk result (written_length self.new
+            ≡ written_length self.old + length bytes.now) }
         ensures generation { OnOk result (self.new.generation ≡ self.old.generation) }
         ensures version { OnOk result (self.new.version ≡ self.old.version) }
         ensures writing { OnOk result (self.new.writing ≡ self.old.writing) }
@@ -83,16 +93,22 @@ impl AreaWriter {
         ensures spared { self.old.writing ≡ Writing.Changes → OnOk result
             (SparesSectors (area_place geometry.now self.old.generation) self.old.sectors
             self.new.sectors (D.medium disk.old) (D.medium disk.new)) }
-        ensures unsynced { OnOk result ((D.medium disk.new).unsynced + self.old.sectors ≤ (D.medium disk.old).unsynced + self.new.sectors) }
-        ensures any_moment { LeavesOnly (D.medium disk.old) (D.medium disk.new) (After (Fills geometry.now self.old.generation) (D.medium disk.old).may_leave) }
+        ensures unsynced { OnOk result ((D.medium disk.new).unsynced + self.old.sectors
+            ≤ (D.medium disk.old).unsynced + self.new.sectors) }
+        ensures any_moment { LeavesOnly (D.medium disk.old) (D.medium disk.new)
+            (After (Fills geometry.now self.old.generation) (D.medium disk.old).may_leave) }
         ensures counts { CountsUpTo ((D.medium disk.old).unsynced +
-            (self.old.filled + length bytes.now) / SECTOR_SIZE) (D.medium disk.old) (D.medium disk.new) }
+            (self.old.filled + length bytes.now) / SECTOR_SIZE) (D.medium disk.old)
+            (D.medium disk.new) }
         ensures calls { MakesStores (record {
           writing = self.old.writing;
           first = area_place geometry.now self.old.generation + self.old.sectors;
           count = (self.old.filled + length bytes.now) / SECTOR_SIZE;
         }) result (D.medium disk.old) (D.medium disk.new) }
-        ensures cause { IsErr result → result ≡ Err SnapshotFault.TooBig ⊎ ((fault : DiskFault) × (result ≡ Err (SnapshotFault.Disk fault)) × ((spare (D.medium disk.old) + self.old.sectors < geometry.now.area_sectors) ⊎ ((D.medium disk.old).faults < (D.medium disk.new).faults))) }
+        ensures cause { IsErr result → result ≡ Err SnapshotFault.TooBig
+            ⊎ ((fault : DiskFault) × (result ≡ Err (SnapshotFault.Disk fault))
+            × ((spare (D.medium disk.old) + self.old.sectors < geometry.now.area_sectors)
+            ⊎ ((D.medium disk.old).faults < (D.medium disk.new).faults))) }
     {
         let total = self.length().saturating_add(bytes.len() as u64);
         if total > SECTOR_SIZE as u64 * u64::from(geometry.area_sectors) {
@@ -105,7 +121,8 @@ impl AreaWriter {
         Ok(())
     }
 
-    /// Takes as many of the bytes as its sector has room for, and stores it once it is full. It gives their number.
+    /// Takes as many of the bytes as its sector has room for, and stores it once it is full. It
+    /// gives their number.
     fn take_in<D: Disk>(
         &mut self,
         disk: &mut D,
@@ -118,7 +135,9 @@ impl AreaWriter {
         requires places { journal_place geometry.now ≤ (D.medium disk.old).sectors }
         ensures count { IfOk result (λ n. (0 < n) × (n ≤ length bytes.now)) }
         ensures length { IfOk result (λ n. written_length self.new ≡ written_length self.old + n) }
-        ensures given { IfOk result (λ n. (before : List ℕ) → IsGiven geometry.now (D.medium disk.old) self.old before → IsGiven geometry.now (D.medium disk.new) self.new (before ++ take n bytes.now)) }
+        ensures given { IfOk result (λ n. (before : List ℕ)
+            → IsGiven geometry.now (D.medium disk.old) self.old before
+            → IsGiven geometry.now (D.medium disk.new) self.new (before ++ take n bytes.now)) }
         ensures generation { self.new.generation ≡ self.old.generation }
         ensures version { self.new.version ≡ self.old.version }
         ensures writing { self.new.writing ≡ self.old.writing }
@@ -128,10 +147,13 @@ impl AreaWriter {
         ensures spared { self.old.writing ≡ Writing.Changes → OnOk result
             (SparesSectors (area_place geometry.now self.old.generation) self.old.sectors
             self.new.sectors (D.medium disk.old) (D.medium disk.new)) }
-        ensures unsynced { OnOk result ((D.medium disk.new).unsynced + self.old.sectors ≤ (D.medium disk.old).unsynced + self.new.sectors) }
-        ensures any_moment { LeavesOnly (D.medium disk.old) (D.medium disk.new) (After (Fills geometry.now self.old.generation) (D.medium disk.old).may_leave) }
+        ensures unsynced { OnOk result ((D.medium disk.new).unsynced + self.old.sectors
+            ≤ (D.medium disk.old).unsynced + self.new.sectors) }
+        ensures any_moment { LeavesOnly (D.medium disk.old) (D.medium disk.new)
+            (After (Fills geometry.now self.old.generation) (D.medium disk.old).may_leave) }
         ensures counts { CountsUpTo ((D.medium disk.old).unsynced +
-            (self.old.filled + length bytes.now) / SECTOR_SIZE) (D.medium disk.old) (D.medium disk.new) }
+            (self.old.filled + length bytes.now) / SECTOR_SIZE) (D.medium disk.old)
+            (D.medium disk.new) }
         ensures calls { (n : ℕ) × (n ≤ (self.old.filled + length bytes.now) / SECTOR_SIZE)
             × OnOk result (self.new.sectors ≡ self.old.sectors + n)
             × MakesStores (record {
@@ -139,7 +161,9 @@ impl AreaWriter {
               first = area_place geometry.now self.old.generation + self.old.sectors;
               count = n;
             }) result (D.medium disk.old) (D.medium disk.new) }
-        ensures cause { IsErr result → (spare (D.medium disk.old) + self.old.sectors < geometry.now.area_sectors) ⊎ ((D.medium disk.old).faults < (D.medium disk.new).faults) }
+        ensures cause { IsErr result
+            → (spare (D.medium disk.old) + self.old.sectors < geometry.now.area_sectors)
+            ⊎ ((D.medium disk.old).faults < (D.medium disk.new).faults) }
     {
         let filled = self.filled;
         let room = SECTOR_SIZE - filled;
@@ -169,7 +193,8 @@ impl AreaWriter {
         ensures holds { OnOk result ((bytes : List ℕ) → IsGiven geometry.now (D.medium disk.old)
             self.now bytes → (image : Image) → (D.medium disk.new).shows image → HoldsWithZeros
             geometry.now self.now.generation bytes image) }
-        ensures any_moment { LeavesOnly (D.medium disk.old) (D.medium disk.new) (After (Fills geometry.now self.now.generation) (D.medium disk.old).may_leave) }
+        ensures any_moment { LeavesOnly (D.medium disk.old) (D.medium disk.new)
+            (After (Fills geometry.now self.now.generation) (D.medium disk.old).may_leave) }
         ensures counts { CountsUpTo ((D.medium disk.old).unsynced + 1) (D.medium disk.old)
             (D.medium disk.new) }
         ensures spared { self.now.writing ≡ Writing.Changes → OnOk result
@@ -182,7 +207,9 @@ impl AreaWriter {
           first = area_place geometry.now self.now.generation + self.now.sectors;
           count = rounded_up (written_length self.now) - self.now.sectors;
         }) result (D.medium disk.old) (D.medium disk.new) }
-        ensures cause { IsErr result → (spare (D.medium disk.old) + self.now.sectors < geometry.now.area_sectors) ⊎ ((D.medium disk.old).faults < (D.medium disk.new).faults) }
+        ensures cause { IsErr result
+            → (spare (D.medium disk.old) + self.now.sectors < geometry.now.area_sectors)
+            ⊎ ((D.medium disk.old).faults < (D.medium disk.new).faults) }
     {
         if self.filled == 0 {
             return Ok(());
@@ -200,9 +227,11 @@ impl AreaWriter {
     fn head(self) -> Head
         ensures generation { result.generation ≡ self.generation }
         ensures version { result.version ≡ self.version }
-        ensures digest { (bytes : List ℕ) → Holds256 self.hasher bytes → result.digest ≡ sha256 bytes }
+        ensures digest { (bytes : List ℕ) → Holds256 self.hasher bytes
+            → result.digest ≡ sha256 bytes }
         ensures length { result.length_in_bytes ≡ written_length self }
-        ensures small { (result.version < 2 ^ 32) × (result.length_in_bytes < 2 ^ 64) × (result.generation < 2 ^ 64) }
+        ensures small { (result.version < 2 ^ 32) × (result.length_in_bytes < 2 ^ 64)
+            × (result.generation < 2 ^ 64) }
     {
         let length_in_bytes = self.length();
         let AreaWriter {
@@ -223,10 +252,15 @@ impl AreaWriter {
     pub(crate) fn finish<D: Disk>(self, disk: &mut D, geometry: &Geometry) -> Result<(), DiskFault>
         requires within { written_length self ≤ SECTOR_SIZE * geometry.now.area_sectors }
         requires places { journal_place geometry.now ≤ (D.medium disk.old).sectors }
-        ensures any_moment { (bytes : List ℕ) → IsGiven geometry.now (D.medium disk.old) self bytes →
-            LeavesOnly (D.medium disk.old) (D.medium disk.new) (After (Commits geometry.now self.generation self.version bytes) (D.medium disk.old).may_leave) }
-        ensures done { OnOk result ((bytes : List ℕ) → IsGiven geometry.now (D.medium disk.old) self bytes →
-            Follows (Replaces geometry.now self.generation self.version bytes) (D.medium disk.old).may_leave (D.medium disk.new).may_leave) }
+        ensures any_moment { (bytes : List ℕ) → IsGiven geometry.now (D.medium disk.old) self bytes
+            →
+            LeavesOnly (D.medium disk.old) (D.medium disk.new)
+            (After (Commits geometry.now self.generation self.version bytes)
+            (D.medium disk.old).may_leave) }
+        ensures done { OnOk result ((bytes : List ℕ)
+            → IsGiven geometry.now (D.medium disk.old) self bytes →
+            Follows (Replaces geometry.now self.generation self.version bytes)
+            (D.medium disk.old).may_leave (D.medium disk.new).may_leave) }
         ensures settled { OnOk result (IsAllSynced (D.medium disk.new)) }
         ensures counts { CountsUpTo ((D.medium disk.old).unsynced + 1) (D.medium disk.old)
             (D.medium disk.new) }
@@ -241,7 +275,10 @@ impl AreaWriter {
           first = area_place geometry.now self.generation + self.sectors;
           count = rounded_up (written_length self) - self.sectors;
         }) self.generation result (D.medium disk.old) (D.medium disk.new) }
-        ensures cause { IsErr result → (spare (D.medium disk.old) + self.sectors < geometry.now.area_sectors) ⊎ ((D.medium disk.old).room ≡ 0) ⊎ ((D.medium disk.old).faults < (D.medium disk.new).faults) }
+        ensures cause { IsErr result
+            → (spare (D.medium disk.old) + self.sectors < geometry.now.area_sectors)
+            ⊎ ((D.medium disk.old).room ≡ 0)
+            ⊎ ((D.medium disk.old).faults < (D.medium disk.new).faults) }
     {
         self.store_last(disk, geometry)?;
         let head = self.head();

@@ -1,5 +1,6 @@
 -- Every call has a place in the table, and a name of its own.
-use Rattle.std.proofs.Common.{◌≡◌, ◌≢◌, ℕ, ◌+◌, ◌<◌, List, [], ◌∷◌, length, get_or, Bool, true, false, ◌&&◌, not, refl, sym, ◌∙◌, ap, lit<, below_more}
+use Rattle.std.proofs.Common.{◌≡◌, ◌≢◌, ℕ, ◌+◌, ◌<◌, List, [], ◌∷◌, length, get_or, Bool, true}
+use Rattle.std.proofs.Common.{false, ◌&&◌, not, refl, sym, ◌∙◌, ap, lit<, below_more}
 use Rattle.std.specs.Prelude.{Contains, Option, Some, map}
 use Rattle.std.specs.List.{find, list_all, AllByRecursion, IsDistinct}
 use Rattle.std.specs.Str.{bytes_eq}
@@ -44,12 +45,15 @@ every_call call.SchedYield = (29, lit< tt, refl)
 every_call call.RandomGet = (30, lit< tt, refl)
 
 -- the name is none of those that were passed, nor this one
-pub passed : (xs : List Call) (i : ℕ) (name seen : List ℕ) → i < length xs → seen ≡ name_of (get_or xs i call.ArgsGet) → false ≡ bytes_eq seen name
-    → ((k : ℕ) (d : Call) → k < i → name ≢ name_of (get_or xs k d)) → (k : ℕ) (d : Call) → k < i + 1 → name ≢ name_of (get_or xs k d)
+pub passed : (xs : List Call) (i : ℕ) (name seen : List ℕ) → i < length xs
+    → seen ≡ name_of (get_or xs i call.ArgsGet) → false ≡ bytes_eq seen name
+    → ((k : ℕ) (d : Call) → k < i → name ≢ name_of (get_or xs k d)) → (k : ℕ) (d : Call) → k < i + 1
+    → name ≢ name_of (get_or xs k d)
 passed xs i name seen within is differs before =
     let here : (d : Call) → name ≢ name_of (get_or xs i d) =
     λ d e.
-    let same : seen ≡ name = is ∙ (ap name_of (get_or_default xs i call.ArgsGet d within) ∙ sym e) in
+    let same : seen ≡ name = is ∙ (ap name_of (get_or_default xs i call.ArgsGet d within) ∙ sym e)
+    in
     let yes : bytes_eq seen name ≡ true = (bytes_eq-Decides seen name).1 same in
     cc in
     let P : ℕ → Type 0 = λ k. (d : Call) → name ≢ name_of (get_or xs k d) in
@@ -64,14 +68,18 @@ differs : List (List ℕ) → Bool
 differs [] = true
 differs (x ∷ xs) = list_all (λ y. not (bytes_eq x y)) xs && differs xs
 
-all_differ : (x : List ℕ) (xs : List (List ℕ)) → list_all (λ y. not (bytes_eq x y)) xs ≡ true → AllByRecursion (λ y. bytes_eq x y ≡ false) xs
+all_differ : (x : List ℕ) (xs : List (List ℕ)) → list_all (λ y. not (bytes_eq x y)) xs ≡ true
+    → AllByRecursion (λ y. bytes_eq x y ≡ false) xs
 all_differ x [] h = tt
-all_differ x (y ∷ ys) h = let e = both (not (bytes_eq x y)) (list_all (λ z. not (bytes_eq x z)) ys) h in (not_true (bytes_eq x y) e.0, all_differ x ys e.1)
+all_differ x (y ∷ ys) h =
+    let e = both (not (bytes_eq x y)) (list_all (λ z. not (bytes_eq x z)) ys) h in
+    (not_true (bytes_eq x y) e.0, all_differ x ys e.1)
 
 distinct_from_test : (xs : List (List ℕ)) → differs xs ≡ true → IsDistinct bytes_eq xs
 unfolding IsDistinct differs
 distinct_from_test [] h = tt
-distinct_from_test (x ∷ xs) h = let e = both (list_all (λ y. not (bytes_eq x y)) xs) (differs xs) h in (all_differ x xs e.0, distinct_from_test xs e.1)
+distinct_from_test (x ∷ xs) h = let e = both (list_all (λ y. not (bytes_eq x y)) xs) (differs xs) h
+    in (all_differ x xs e.0, distinct_from_test xs e.1)
 
 pub distinct_names : IsDistinct bytes_eq (map name_of all_calls)
 unfolding differs
@@ -116,5 +124,6 @@ call_named-name_of call.RandomGet = refl
 
 pub name_of-injective : (c d : Call) → name_of c ≡ name_of d → c ≡ d
 name_of-injective c d e =
-    let same : Some c ≡ Some d = sym (call_named-name_of c) ∙ (ap call_named e ∙ call_named-name_of d) in
+    let same : Some c ≡ Some d = sym (call_named-name_of c)
+    ∙ (ap call_named e ∙ call_named-name_of d) in
     cc

@@ -16,6 +16,8 @@ bit_times_mask zero mask h k = grind (arith, nat_tests)
 bit_times_mask (suc zero) mask h k = grind (arith, nat_tests)
 bit_times_mask (suc (suc bit)) mask h k = absurd (omega arith)
 
-pub has_right-mask : (rights bit mask : ℕ) → mask ≡ 2 ^ bit → (bit_and rights mask == mask) ≡ has_right rights bit
+pub has_right-mask : (rights bit mask : ℕ) → mask ≡ 2 ^ bit
+    → (bit_and rights mask == mask) ≡ has_right rights bit
 has_right-mask rights bit mask e =
-    rw (e, and_pow rights bit) (bit_times_mask (bit_at rights bit) (2 ^ bit) (bit_at-lt rights bit) (one-le-pow bit 2 (omega arith)))
+    rw (e, and_pow rights bit) (bit_times_mask (bit_at rights bit) (2 ^ bit) (bit_at-lt rights bit)
+    (one-le-pow bit 2 (omega arith)))

@@ -2,7 +2,9 @@
 
 ghost use Rattle.std.specs.Prelude.{◌≡◌, ◌↔◌, ◌≤◌, length, IfOk, IsOk, IsTrue};
 ghost use Rattle.std.specs.List.{AllByRecursion};
-ghost use Rattle.wasi_abi.specs.rules.Configs.{Settings, settings, IsInRange, HasTexts, AreSettingsWithinLimits, IsShortText, IsText, HasEquals, IsNamed, IsEnvironmentEntry};
+ghost use Rattle.wasi_abi.specs.rules.Configs.{Settings, settings, IsInRange, HasTexts};
+ghost use Rattle.wasi_abi.specs.rules.Configs.{AreSettingsWithinLimits, IsShortText, IsText};
+ghost use Rattle.wasi_abi.specs.rules.Configs.{HasEquals, IsNamed, IsEnvironmentEntry};
 
 use std::marker::Model;
 use thiserror::Error;
@@ -48,7 +50,8 @@ impl Model for Config {
 
     ghost view = { λ c. settings c.pages c.files c.journal c.arguments c.environment };
 
-    ghost invariant = { λ c. AreSettingsWithinLimits (settings c.pages c.files c.journal c.arguments c.environment) };
+    ghost invariant = { λ c. AreSettingsWithinLimits
+        (settings c.pages c.files c.journal c.arguments c.environment) };
 }
 
 impl Config {
@@ -61,7 +64,8 @@ impl Config {
         environment: Row<Row<u8>>,
     ) -> Result<Config, ConfigFault>
         ensures made { IfOk result (λ c. c ≡ settings pages files journal arguments environment) }
-        ensures ok { IsOk result ↔ AreSettingsWithinLimits (settings pages files journal arguments environment) }
+        ensures ok { IsOk result
+            ↔ AreSettingsWithinLimits (settings pages files journal arguments environment) }
         ensures range { let s = settings pages files journal arguments environment in
             (result ≡ Err ConfigFault.Range) ↔ (¬ IsInRange s) }
         ensures text { let s = settings pages files journal arguments environment in

@@ -4,8 +4,10 @@ ghost use Rattle.std.specs.Prelude.{◌≡◌, [], ◌∷◌, bit_or, map};
 ghost use Rattle.wasi_abi.specs.rules.Calls.{module_name};
 ghost use Rattle.wasi_abi.specs.laws.ConfigLimits.{ConfigLimitNumbers};
 ghost use Rattle.wasi_abi.specs.laws.NumbersEnd.{NumbersEndThere};
-ghost use Rattle.wasi_abi.specs.laws.Laws.{ErrorsAreNoSuccess, right_masks, CallsDiffer, LayoutSizes, BytesSpellNumbers, WorkedDirectory};
-ghost use Rattle.wasi_abi.specs.rules.Numbers.{rights_number, file_rights, directory_rights, all_rights, input_rights, output_rights};
+ghost use Rattle.wasi_abi.specs.laws.Laws.{ErrorsAreNoSuccess, right_masks, CallsDiffer};
+ghost use Rattle.wasi_abi.specs.laws.Laws.{LayoutSizes, BytesSpellNumbers, WorkedDirectory};
+ghost use Rattle.wasi_abi.specs.rules.Numbers.{rights_number, file_rights, directory_rights};
+ghost use Rattle.wasi_abi.specs.rules.Numbers.{all_rights, input_rights, output_rights};
 
 use crate::call::MODULE_NAME;
 use crate::rights::Rights;
@@ -17,7 +19,8 @@ pub fn errors_are_no_success()
 
 /// Each right has its bit.
 pub fn rights_have_their_bits()
-    ensures { map rights_number (Rights.FD_DATASYNC ∷ Rights.FD_READ ∷ Rights.FD_SEEK ∷ Rights.FD_FDSTAT_SET_FLAGS ∷
+    ensures { map rights_number (Rights.FD_DATASYNC ∷ Rights.FD_READ ∷ Rights.FD_SEEK
+        ∷ Rights.FD_FDSTAT_SET_FLAGS ∷
         Rights.FD_SYNC ∷ Rights.FD_TELL ∷ Rights.FD_WRITE ∷ Rights.FD_ADVISE ∷
         Rights.FD_ALLOCATE ∷ Rights.PATH_CREATE_DIRECTORY ∷ Rights.PATH_CREATE_FILE ∷
         Rights.PATH_LINK_SOURCE ∷ Rights.PATH_LINK_TARGET ∷ Rights.PATH_OPEN ∷ Rights.FD_READDIR ∷
@@ -28,7 +31,8 @@ pub fn rights_have_their_bits()
         Rights.PATH_UNLINK_FILE ∷ Rights.POLL_FD_READWRITE ∷ Rights.SOCK_SHUTDOWN ∷ []) ≡ right_masks }
 {}
 
-/// The sets of rights have the numbers of the profile, and `ALL` is `FILE` and `DIRECTORY` together.
+/// The sets of rights have the numbers of the profile, and `ALL` is `FILE` and `DIRECTORY`
+/// together.
 pub fn sets_have_their_rights()
     ensures file { rights_number Rights.FILE ≡ file_rights }
     ensures directory { rights_number Rights.DIRECTORY ≡ directory_rights }

@@ -1,8 +1,10 @@
-//! What lies in a guest's memory: `fdstat`, `filestat`, `dirent`, `prestat` and `iovec`, byte by byte.
+//! What lies in a guest's memory: `fdstat`, `filestat`, `dirent`, `prestat` and `iovec`, byte by
+//! byte.
 
 ghost use Rattle.std.specs.Prelude.{◌≡◌, ◌+◌, ◌<◌, ◌≤◌, ◌^◌, ℕ, List, length};
 ghost use Rattle.guest_memory.specs.rules.Bytes.{with_part};
-ghost use Rattle.wasi_abi.specs.rules.Layouts.{u16_bytes, u32_bytes, u64_bytes, u16_at, u32_at, u64_at};
+ghost use Rattle.wasi_abi.specs.rules.Layouts.{u16_bytes, u32_bytes, u64_bytes, u16_at, u32_at};
+ghost use Rattle.wasi_abi.specs.rules.Layouts.{u64_at};
 
 use crate::rights::Rights;
 use byteorder::{ByteOrder, LittleEndian};
@@ -96,7 +98,8 @@ impl Filestat {
     /// The fields that lie there. Bytes between them are not looked at.
     pub fn read(bytes: &[u8; 64]) -> Self
         ensures fields { result ≡ filestat_of bytes.now }
-        ensures written { (s : Filestat) → FilestatFits s → bytes.now ≡ filestat_layout s → result ≡ s }
+        ensures written { (s : Filestat) → FilestatFits s → bytes.now ≡ filestat_layout s
+            → result ≡ s }
     {
         Filestat {
             node: u64_from(bytes, 8),
@@ -151,7 +154,8 @@ impl Prestat {
     /// The fields that lie there. The tag is not looked at.
     pub fn read(bytes: &[u8; 8]) -> Self
         ensures fields { result ≡ prestat_of bytes.now }
-        ensures written { (s : Prestat) → PrestatFits s → bytes.now ≡ prestat_layout s → result ≡ s }
+        ensures written { (s : Prestat) → PrestatFits s → bytes.now ≡ prestat_layout s
+            → result ≡ s }
     {
         Prestat {
             name_length: u32_from(bytes, 4),

@@ -1,11 +1,14 @@
 -- The lines that bytes begin are those that a write adds, unfinished ones counted.
-use Rattle.std.proofs.Common.{◌≡◌, inl, inr, ℕ, suc, ◌+◌, ◌<◌, ◌≤◌, List, [], ◌∷◌, ◌++◌, length, drop, get_or, refl, sym, ap, ◌∙◌, arith, length-append, add-one, drop-cons}
+use Rattle.std.proofs.Common.{◌≡◌, inl, inr, ℕ, suc, ◌+◌, ◌<◌, ◌≤◌, List, [], ◌∷◌, ◌++◌, length}
+use Rattle.std.proofs.Common.{drop, get_or, refl, sym, ap, ◌∙◌, arith, length-append, add-one}
+use Rattle.std.proofs.Common.{drop-cons}
 use Rattle.std.specs.Prelude.{Bool, true, false, if◌then◌else◌, ◌==◌, nat_lt}
 use Rattle.std.proofs.lemmas.Bool.{eqb-true}
 use Rattle.std.proofs.lemmas.Bool.Decides.{eqb_tells}
 use Rattle.wasi_abi.specs.rules.Answers.{newline}
 use Rattle.wasi_calls_rules.specs.Hosts.{Line, Host}
-use Rattle.wasi_calls_rules.specs.Lines.{Cut, cut_byte, cut_all, rest_of, stream_written, lines_ended}
+use Rattle.wasi_calls_rules.specs.Lines.{Cut, cut_byte, cut_all, rest_of, stream_written}
+use Rattle.wasi_calls_rules.specs.Lines.{lines_ended}
 use Rattle.wasi_calls_rules.specs.declared.limits.TheConstants.{LINE_BYTES}
 use Rattle.wasi_calls.specs.rules.Outputs.{count_begun}
 use Rattle.wasi_calls.specs.Writes.{unfinished_of}

@@ -1,5 +1,8 @@
--- Bytes of a stream, cut one after another: what goes on, what stands in front, and what stays true of the unfinished line.
-use Rattle.std.proofs.Common.{◌≡◌, ℕ, suc, ◌+◌, ◌<◌, ◌≤◌, List, [], ◌∷◌, ◌++◌, length, drop, get_or, refl, sym, ap, ◌∙◌, arith, append_assoc, drop-cons, add-one, length-append}
+-- Bytes of a stream, cut one after another: what goes on, what stands in front, and what stays true
+-- of the unfinished line.
+use Rattle.std.proofs.Common.{◌≡◌, ℕ, suc, ◌+◌, ◌<◌, ◌≤◌, List, [], ◌∷◌, ◌++◌, length, drop, get_or}
+use Rattle.std.proofs.Common.{refl, sym, ap, ◌∙◌, arith, append_assoc, drop-cons, add-one}
+use Rattle.std.proofs.Common.{length-append}
 use Rattle.std.specs.Prelude.{Bool, true, false, if◌then◌else◌, ◌==◌, ◌&&◌, not, nat_lt}
 use Rattle.wasi_calls_rules.specs.Checks.{has_no_newline}
 use Rattle.std.proofs.lemmas.Bool.{lt-ltb}
@@ -11,11 +14,14 @@ use Rattle.wasi_calls_rules.specs.declared.limits.TheConstants.{LINE_BYTES}
 
 -- ---- one more byte of a list
 
-pub cut_more : (stream : ℕ) (c d total : Cut) (bytes : List ℕ) (i x : ℕ) → i < length bytes → x ≡ get_or bytes i 0 → d ≡ cut_byte stream c x
+pub cut_more : (stream : ℕ) (c d total : Cut) (bytes : List ℕ) (i x : ℕ) → i < length bytes
+    → x ≡ get_or bytes i 0 → d ≡ cut_byte stream c x
     → cut_all stream c (drop i bytes) ≡ total → cut_all stream d (drop (i + 1) bytes) ≡ total
 cut_more stream c d total bytes i x lt at is so_far =
-    let split : drop i bytes ≡ x ∷ drop (i + 1) bytes = rw (add-one, drop-cons bytes i 0) (ap (λ (y : ℕ). y ∷ drop (suc i) bytes) (sym at)) in
-    ap (λ (e : Cut). cut_all stream e (drop (i + 1) bytes)) is ∙ sym (ap (cut_all stream c) split) ∙ so_far
+    let split : drop i bytes ≡ x ∷ drop (i + 1) bytes =
+    rw (add-one, drop-cons bytes i 0) (ap (λ (y : ℕ). y ∷ drop (suc i) bytes) (sym at)) in
+    ap (λ (e : Cut). cut_all stream e (drop (i + 1) bytes)) is ∙ sym (ap (cut_all stream c) split)
+    ∙ so_far
 
 -- ---- lines in front
 
@@ -26,35 +32,64 @@ behind_cut before c = record { lines = before ++ c.lines; unfinished = c.unfinis
 -- a byte that ends the line, or begins the next one
 abbrev pub put_by : ℕ → Cut → ℕ → Bool → Bool → Cut
 put_by stream c b is_end is_short =
-    if is_end then record { lines = c.lines ++ record { stream = stream; text = c.unfinished } ∷ []; unfinished = [] }
+    if is_end then record {
+      lines = c.lines ++ record { stream = stream; text = c.unfinished } ∷ [];
+      unfinished = [];
+    }
     else if is_short then record { lines = c.lines; unfinished = c.unfinished ++ b ∷ [] }
-    else record { lines = c.lines ++ record { stream = stream; text = c.unfinished } ∷ []; unfinished = b ∷ [] }
+    else record {
+      lines = c.lines ++ record { stream = stream; text = c.unfinished } ∷ [];
+      unfinished = b ∷ [];
+    }
 
-put_behind : (before : List Line) (stream : ℕ) (c : Cut) (b : ℕ) (p q : Bool) → put_by stream (behind_cut before c) b p q ≡ behind_cut before (put_by stream c b p q)
+put_behind : (before : List Line) (stream : ℕ) (c : Cut) (b : ℕ) (p q : Bool)
+    → put_by stream (behind_cut before c) b p q ≡ behind_cut before (put_by stream c b p q)
 put_behind before stream c b true q = rw append_assoc refl
 put_behind before stream c b false true = refl
 put_behind before stream c b false false = rw append_assoc refl
 
-byte_behind : (before : List Line) (stream : ℕ) (c : Cut) (b : ℕ) → cut_byte stream (behind_cut before c) b ≡ behind_cut before (cut_byte stream c b)
-byte_behind before stream c b = put_behind before stream c b (b == newline) (nat_lt (length c.unfinished) LINE_BYTES)
+byte_behind : (before : List Line) (stream : ℕ) (c : Cut) (b : ℕ)
+    → cut_byte stream (behind_cut before c) b ≡ behind_cut before (cut_byte stream c b)
+byte_behind before stream c b =
+    put_behind before stream c b (b == newline) (nat_lt (length c.unfinished) LINE_BYTES)
 
-pub all_behind : (before : List Line) (stream : ℕ) (c : Cut) (bytes : List ℕ) → cut_all stream (behind_cut before c) bytes ≡ behind_cut before (cut_all stream c bytes)
+pub all_behind : (before : List Line) (stream : ℕ) (c : Cut) (bytes : List ℕ)
+    → cut_all stream (behind_cut before c) bytes ≡ behind_cut before (cut_all stream c bytes)
 all_behind before stream c [] = refl
-all_behind before stream c (b ∷ bytes) = rw (byte_behind before stream c b) (all_behind before stream (cut_byte stream c b) bytes)
+all_behind before stream c (b ∷ bytes) =
+    rw (byte_behind before stream c b) (all_behind before stream (cut_byte stream c b) bytes)
 
 -- ---- what one write makes of lines that wait
 
 -- the lines that were emitted before don't matter
 pub from_nothing : (stream : ℕ) (before : List Line) (text bytes : List ℕ)
-    → cut_all stream (record { lines = before; unfinished = text }) bytes ≡ behind_cut before (cut_all stream (record { lines = []; unfinished = text }) bytes)
+    → cut_all stream (record { lines = before; unfinished = text }) bytes
+    ≡ behind_cut before (cut_all stream (record { lines = []; unfinished = text }) bytes)
 from_nothing stream before text bytes =
-    let start : record { lines = before; unfinished = text } ≡ behind_cut before (record { lines = []; unfinished = text }) = ap (λ (ls : List Line). record { lines = ls; unfinished = text }) (sym (append-nil before)) in
-    ap (λ (c : Cut). cut_all stream c bytes) start ∙ all_behind before stream (record { lines = []; unfinished = text }) bytes
+    let start : record {
+      lines = before;
+      unfinished = text;
+    } ≡ behind_cut before (record {
+      lines = [];
+      unfinished = text;
+    }) = ap (λ (ls : List Line). record {
+      lines = ls;
+      unfinished = text;
+    }) (sym (append-nil before)) in
+    ap (λ (c : Cut). cut_all stream c bytes) start ∙ all_behind before stream (record {
+      lines = [];
+      unfinished = text;
+    }) bytes
 
 pub written_cut : (stream : ℕ) (before lines after : List Line) (text rest bytes : List ℕ) (c : Cut)
-    → c ≡ cut_all stream (record { lines = []; unfinished = text }) bytes → lines ≡ c.lines → rest ≡ c.unfinished → after ≡ before ++ lines
-    → cut_all stream (record { lines = before; unfinished = text }) bytes ≡ record { lines = after; unfinished = rest }
-written_cut stream before lines after text rest bytes c is cut left put = from_nothing stream before text bytes ∙ rw (put, cut, left, is) refl
+    → c ≡ cut_all stream (record { lines = []; unfinished = text }) bytes → lines ≡ c.lines
+    → rest ≡ c.unfinished → after ≡ before ++ lines
+    → cut_all stream (record { lines = before; unfinished = text }) bytes ≡ record {
+      lines = after;
+      unfinished = rest;
+    }
+written_cut stream before lines after text rest bytes c is cut left put =
+    from_nothing stream before text bytes ∙ rw (put, cut, left, is) refl
 
 -- ---- bytes that end no line
 

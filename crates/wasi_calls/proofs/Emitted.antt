@@ -1,5 +1,6 @@
 -- How many lines a call adds, and what is shown once lines are released.
-use Rattle.std.proofs.Common.{◌≡◌, ℕ, ◌+◌, ◌≤◌, List, [], ◌∷◌, ◌++◌, length, take, drop, refl, sym, ap, ◌∙◌, arith, append_assoc, length-append, length-take}
+use Rattle.std.proofs.Common.{◌≡◌, ℕ, ◌+◌, ◌≤◌, List, [], ◌∷◌, ◌++◌, length, take, drop, refl, sym}
+use Rattle.std.proofs.Common.{ap, ◌∙◌, arith, append_assoc, length-append, length-take}
 use Rattle.std.specs.Prelude.{Result, Ok, Err}
 use Rattle.std.proofs.lemmas.List.{take-append-drop}
 use Rattle.guest_memory.specs.rules.Bytes.{with_part}
@@ -10,9 +11,11 @@ use Rattle.wasi_calls_rules.specs.Hosts.{Line, Target, Stream, Node, Descriptor,
 use Rattle.wasi_calls_rules.specs.Checks.{Bytes, Halt, Done, Ruling, ◌>>=◌, gathered}
 use Rattle.wasi_calls_rules.specs.Lines.{stream_written, rest_of, lines_ended}
 use Rattle.wasi_calls_rules.specs.Small.{call_done, roomy}
-use Rattle.wasi_calls_rules.specs.Moving.{size_after, file_written, write_offset, offset_after, target_written, fd_write}
+use Rattle.wasi_calls_rules.specs.Moving.{size_after, file_written, write_offset, offset_after}
+use Rattle.wasi_calls_rules.specs.Moving.{target_written, fd_write}
 use Rattle.wasi_calls_rules.proofs.Steps.{HoldsAfter, done_with, step, next}
-use Rattle.wasi_calls.specs.rules.Held.{HeldHost, ShowsHost, behind_lines, behind_lines_of_row, held_released}
+use Rattle.wasi_calls.specs.rules.Held.{HeldHost, ShowsHost, behind_lines, behind_lines_of_row}
+use Rattle.wasi_calls.specs.rules.Held.{held_released}
 use Rattle.wasi_calls.specs.rules.Outputs.{count_begun}
 use Rattle.wasi_calls.specs.Writes.{unfinished_of}
 use Rattle.wasi_calls.specs.Moves.{total_len, Wanted, wanted}
@@ -33,11 +36,20 @@ in_front before h =
       length-append h.lines left,
     )
 
-pub released_shows : (n : ℕ) (old : HeldHost) (h : Host) → n ≤ length old.host.lines → ShowsHost old h → ShowsHost (held_released n old) h
+pub released_shows : (n : ℕ) (old : HeldHost) (h : Host) → n ≤ length old.host.lines
+    → ShowsHost old h → ShowsHost (held_released n old) h
 released_shows n old h le s = record {
   before = s.before ++ take n old.host.lines;
-  count = (let c : length s.before ≡ old.released = s.count in omega (arith, c, length-append s.before (take n old.host.lines), length-take n old.host.lines));
-  is = s.is ∙ ap (λ (ls : List Line). record old.host { lines = ls }) (ap (λ (ls : List Line). s.before ++ ls) (sym (take-append-drop n old.host.lines)) ∙ sym (append_assoc s.before (take n old.host.lines) (drop n old.host.lines)));
+  count = (let c : length s.before ≡ old.released = s.count in
+      omega (
+        arith,
+        c,
+        length-append s.before (take n old.host.lines),
+        length-take n old.host.lines,
+      ));
+  is = s.is ∙ ap (λ (ls : List Line). record old.host { lines = ls })
+      (ap (λ (ls : List Line). s.before ++ ls) (sym (take-append-drop n old.host.lines))
+      ∙ sym (append_assoc s.before (take n old.host.lines) (drop n old.host.lines)));
 }
 
 -- ---- what a write adds

@@ -1,15 +1,19 @@
 -- What the rules say of a write to a file, once it is known whether it is refused.
-use Rattle.std.proofs.Common.{◌≡◌, ℕ, ◌+◌, ◌<◌, max, List, [], ◌∷◌, length, refl, sym, ap, ◌∙◌, arith}
-use Rattle.std.specs.Prelude.{Bool, true, false, nat_le, ◌==◌, if◌then◌else◌, slice_get, Option, Result, Ok, Err}
+use Rattle.std.proofs.Common.{◌≡◌, ℕ, ◌+◌, ◌<◌, max, List, [], ◌∷◌, length, refl, sym, ap, ◌∙◌}
+use Rattle.std.proofs.Common.{arith}
+use Rattle.std.specs.Prelude.{Bool, true, false, nat_le, ◌==◌, if◌then◌else◌, slice_get, Option}
+use Rattle.std.specs.Prelude.{Result, Ok, Err}
 use Rattle.std.proofs.lemmas.Bool.{lt-leb, eqb-true}
 use Rattle.file_tree.specs.rules.Bytes.{written, resized}
 use Rattle.file_tree.specs.rules.Files.{Files, bytes_of_node, with_file_bytes}
 use Rattle.file_tree.specs.declared.limits.TheConstants.{FILE_BYTES}
 use Rattle.wasi_abi.specs.declared.errno.Errno.TheVariants.{Badf, Fbig}
 use Rattle.wasi_calls_rules.specs.Hosts.{Target, Node, Descriptor, Host, IsThere}
-use Rattle.wasi_calls_rules.specs.Checks.{Bytes, Halt, Refuses, ◌>>=◌, Buffer, gathered, some_or, flat, open_descriptor}
+use Rattle.wasi_calls_rules.specs.Checks.{Bytes, Halt, Refuses, ◌>>=◌, Buffer, gathered, some_or}
+use Rattle.wasi_calls_rules.specs.Checks.{flat, open_descriptor}
 use Rattle.wasi_calls_rules.specs.Small.{roomy}
-use Rattle.wasi_calls_rules.specs.Moving.{size_after, file_written, write_offset, offset_after, moved_to, target_written}
+use Rattle.wasi_calls_rules.specs.Moving.{size_after, file_written, write_offset, offset_after}
+use Rattle.wasi_calls_rules.specs.Moving.{moved_to, target_written}
 use Rattle.wasi_calls_rules.specs.Rows.{IsNoRefusal}
 use Rattle.wasi_calls.specs.Moves.{total_len, AreInside, moved_behind}
 use Rattle.wasi_calls.proofs.Fronts.{length_gathered}

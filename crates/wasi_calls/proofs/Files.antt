@@ -19,7 +19,10 @@ pub rewritten_host : (h : Host) (k : ℕ) (bytes : List ℕ) → IsHost h → Is
 rewritten_host h k bytes is there file few low room =
     let at = node_there h.files k there in
     standing h (with_file_bytes k bytes h.files) h.descriptors is
-    (rewritten_stands h.files h.descriptors h.room k at.0 bytes (stands h is) at.1 file (few, low) room)
+    (rewritten_stands h.files h.descriptors h.room k at.0 bytes (stands h is) at.1 file (
+      few,
+      low,
+    ) room)
 
 pub resized_host : (h : Host) (k size : ℕ) → IsHost h → IsThere h.files (Node k)
     → is_directory h.files k ≡ false → size ≤ FILE_BYTES

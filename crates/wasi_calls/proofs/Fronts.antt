@@ -1,5 +1,8 @@
--- The buffers that a call moves bytes of: how they are read, and what the rules' buffers have to do with them.
-use Rattle.std.proofs.Common.{◌≡◌, ℕ, zero, suc, ◌+◌, ◌-◌, ◌*◌, ◌<◌, ◌≤◌, min, inl, inr, List, [], ◌∷◌, ◌++◌, length, take, drop, refl, sym, ap, ◌∙◌, append_assoc, arith, length-drop, length-append}
+-- The buffers that a call moves bytes of: how they are read, and what the rules' buffers have to do
+-- with them.
+use Rattle.std.proofs.Common.{◌≡◌, ℕ, zero, suc, ◌+◌, ◌-◌, ◌*◌, ◌<◌, ◌≤◌, min, inl, inr, List, []}
+use Rattle.std.proofs.Common.{◌∷◌, ◌++◌, length, take, drop, refl, sym, ap, ◌∙◌, append_assoc}
+use Rattle.std.proofs.Common.{arith, length-drop, length-append}
 use Rattle.std.specs.Prelude.{Bool, true, false, ◌&&◌, nat_le, sum_by, Result, Ok, Err}
 use Rattle.std.specs.List.{list_all}
 use Rattle.std.proofs.lemmas.Bool.{cases_lt, le-leb}
@@ -13,7 +16,8 @@ use Rattle.guest_memory.proofs.Lists.{all_both, all_take, all_drop}
 use Rattle.wasi_abi.specs.rules.Answers.{AreBytes}
 use Rattle.wasi_abi.specs.declared.errno.Errno.TheVariants.{Fault}
 use Rattle.wasi_abi.specs.rules.Layouts.{u32_at}
-use Rattle.wasi_calls_rules.specs.Checks.{Bytes, Halt, Refuses, ◌>>=◌, check_or, in_memory, Buffer, buffers_at, is_inside, few_buffers, gathered, scattered}
+use Rattle.wasi_calls_rules.specs.Checks.{Bytes, Halt, Refuses, ◌>>=◌, check_or, in_memory, Buffer}
+use Rattle.wasi_calls_rules.specs.Checks.{buffers_at, is_inside, few_buffers, gathered, scattered}
 use Rattle.wasi_calls_rules.specs.declared.limits.TheConstants.{IOVECS, MOVED_BYTES}
 use Rattle.wasi_calls.specs.Moves.{total_len, fronts, AreInside, moved_buffers}
 
@@ -144,7 +148,8 @@ next_is : (p t : Bool) (front after : List Buffer) (x : Buffer) (u : Unit {0})
     → (check_or (p && t) Fault >>= λ _. Ok (front ++ (x ∷ after)))
     ≡ (check_or t Fault >>= λ _. Ok ((front ++ x ∷ []) ++ after))
 next_is true t front after x u e =
-    ap (λ (y : List Buffer). check_or t Fault >>= λ _. Ok y) (sym (append_assoc front (x ∷ []) after))
+    ap (λ (y : List Buffer). check_or t Fault
+    >>= λ _. Ok y) (sym (append_assoc front (x ∷ []) after))
 next_is false t front after x u e = absurd (cc)
 
 none_is : (p t : Bool) (bs : List Buffer) (halt : Halt) → check_or p Fault ≡ Err halt

@@ -6,7 +6,9 @@ use Rattle.wasi_calls.specs.rules.Outputs.{Output, output_written}
 use Rattle.wasi_abi.specs.rules.Answers.{AreBytes}
 use Rattle.wasi_calls_rules.proofs.KeptLines.{all_unfinished}
 
-pub with_lines : (h : Host) (first second : List ℕ) (lines : List Line) → IsHost h → IsUnfinished first → IsUnfinished second → IsHost (record h { first = first; second = second; lines = lines })
+pub with_lines : (h : Host) (first second : List ℕ) (lines : List Line) → IsHost h
+    → IsUnfinished first → IsUnfinished second
+    → IsHost (record h { first = first; second = second; lines = lines })
 with_lines h first second lines k f s = record {
   files = k.files;
   within = k.within;

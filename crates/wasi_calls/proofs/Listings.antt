@@ -1,14 +1,19 @@
 -- Entries of a directory, and bytes that are put one after another.
-use Rattle.std.proofs.Common.{◌≡◌, ◌⊎◌, inl, inr, ℕ, zero, suc, ◌+◌, ◌-◌, ◌≤◌, Bool, true, false, List, [], ◌∷◌, ◌++◌, length, take, drop, refl, sym, ap, ◌∙◌, arith, append_assoc, add-one, length-append, length-take, length-drop}
+use Rattle.std.proofs.Common.{◌≡◌, ◌⊎◌, inl, inr, ℕ, zero, suc, ◌+◌, ◌-◌, ◌≤◌, Bool, true, false}
+use Rattle.std.proofs.Common.{List, [], ◌∷◌, ◌++◌, length, take, drop, refl, sym, ap, ◌∙◌, arith}
+use Rattle.std.proofs.Common.{append_assoc, add-one, length-append, length-take, length-drop}
 use Rattle.std.specs.Prelude.{Option, Some, None, IfSome, option_map, slice_get, if◌then◌else◌}
 use Rattle.std.specs.Option.{option_and_then}
 use Rattle.std.specs.List.{AllByRecursion}
-use Rattle.std.proofs.lemmas.List.{take_at, drop_at, drop_all, drop-drop, drop-append-le, take-append-drop, same_from_push}
+use Rattle.std.proofs.lemmas.List.{take_at, drop_at, drop_all, drop-drop, drop-append-le}
+use Rattle.std.proofs.lemmas.List.{take-append-drop, same_from_push}
 use Rattle.guest_memory.specs.rules.Bytes.{part, with_part}
 use Rattle.guest_memory.specs.rules.Memories.{LinearMemory, with_bytes, with_lent}
 use Rattle.guest_memory.proofs.Ranges.{length-with_part, with_lent-with_bytes}
 use Rattle.file_tree.specs.declared.limits.TheConstants.{NODES, NAME_BYTES}
-use Rattle.file_tree.specs.rules.Files.{Name, Path, FileNode, Files, Entry, IsFiles, IsPlaced, is_same_name, is_before, path_of, name_behind, entry_of, entries_in, entries_under, entries_of, inserted, sorted}
+use Rattle.file_tree.specs.rules.Files.{Name, Path, FileNode, Files, Entry, IsFiles, IsPlaced}
+use Rattle.file_tree.specs.rules.Files.{is_same_name, is_before, path_of, name_behind, entry_of}
+use Rattle.file_tree.specs.rules.Files.{entries_in, entries_under, entries_of, inserted, sorted}
 use Rattle.file_tree.specs.rules.Listings.{number_at_place, HasNameAtPlace}
 use Rattle.file_tree.proofs.Order.{all_sorted, all_at}
 use Rattle.wasi_abi.specs.rules.Layouts.{dirent_bytes}
@@ -108,7 +113,8 @@ pub put_none : (into : List ℕ) (done : ℕ) (piece : List ℕ) → done ≤ le
     → (with_part into done piece ≡ into) × (done + length piece ≡ done)
 put_none into done piece h e =
     let same : done + 0 ≡ done = omega arith in (
-      ap (with_part into done) e ∙ ap (λ (k : ℕ). take done into ++ drop k into) same ∙ whole done into,
+      ap (with_part into done) e ∙ ap (λ (k : ℕ). take done into ++ drop k into) same
+          ∙ whole done into,
       ap (λ (xs : List ℕ). done + length xs) e ∙ same,
     )
   where
@@ -166,7 +172,8 @@ lent_front m from len count bytes now after fits is size e f =
     let whole = take-append-drop len d in
     let cut = length-take len bytes in
     let long : length t ≡ count = ap (λ (k : ℕ). length (take k bytes)) (sym size) ∙ sym f in
-    let behind : length (drop count now) ≡ len - count = length-drop count now ∙ ap (λ (k : ℕ). k - count) size in
+    let behind : length (drop count now) ≡ len - count = length-drop count now
+    ∙ ap (λ (k : ℕ). k - count) size in
     let all : after ≡ t ++ drop count now =
     e ∙ ap (λ (k : ℕ). take k bytes ++ drop count now) size in
     let sum : length after ≡ len =

@@ -1,5 +1,6 @@
 -- The rules of the calls that move bytes, in the order of the code: all checks, and then the move.
-use Rattle.std.proofs.Common.{◌≡◌, ℕ, ◌*◌, ◌≤◌, min, inl, inr, List, [], ◌∷◌, ◌++◌, length, take, drop, refl, sym, ap, ◌∙◌, arith, length-take}
+use Rattle.std.proofs.Common.{◌≡◌, ℕ, ◌*◌, ◌≤◌, min, inl, inr, List, [], ◌∷◌, ◌++◌, length, take}
+use Rattle.std.proofs.Common.{drop, refl, sym, ap, ◌∙◌, arith, length-take}
 use Rattle.std.specs.Prelude.{Bool, true, false, ◌==◌, sum_by, Option, Result, Ok, Err}
 use Rattle.std.specs.List.{list_all}
 use Rattle.std.proofs.lemmas.Bool.{cases_lt}
@@ -15,9 +16,15 @@ use Rattle.wasi_abi.specs.rules.Answers.{newline}
 use Rattle.wasi_abi.specs.rules.Layouts.{u32_bytes}
 use Rattle.wasi_abi.specs.rules.Numbers.{fd_read_right, fd_seek_right, fd_write_right}
 use Rattle.wasi_calls_rules.specs.Hosts.{Target, Stream, Node, Descriptor, Host}
-use Rattle.wasi_calls_rules.specs.Checks.{Bytes, Halt, Refuses, Ruling, ◌>>=◌, check_or, open_descriptor, a_file, no_directory, with_right, in_memory, Buffer, is_inside, buffers, buffers_at, few_buffers, movable, gathered, scattered, node_named, answered_by}
+use Rattle.wasi_calls_rules.specs.Checks.{Bytes, Halt, Refuses, Ruling, ◌>>=◌, check_or}
+use Rattle.wasi_calls_rules.specs.Checks.{open_descriptor, a_file, no_directory, with_right}
+use Rattle.wasi_calls_rules.specs.Checks.{in_memory, Buffer, is_inside, buffers, buffers_at}
+use Rattle.wasi_calls_rules.specs.Checks.{few_buffers, movable, gathered, scattered, node_named}
+use Rattle.wasi_calls_rules.specs.Checks.{answered_by}
 use Rattle.wasi_calls_rules.specs.Small.{call_done}
-use Rattle.wasi_calls_rules.specs.Moving.{Got, bytes_taken, input_taken, has_bytes, input_read, file_read, target_read, file_written, target_written, fd_read, fd_pread, fd_write, fd_pwrite}
+use Rattle.wasi_calls_rules.specs.Moving.{Got, bytes_taken, input_taken, has_bytes, input_read}
+use Rattle.wasi_calls_rules.specs.Moving.{file_read, target_read, file_written, target_written}
+use Rattle.wasi_calls_rules.specs.Moving.{fd_read, fd_pread, fd_write, fd_pwrite}
 use Rattle.wasi_calls_rules.specs.declared.limits.TheConstants.{MOVED_BYTES}
 use Rattle.wasi_calls_rules.proofs.Puts.{all_lie}
 use Rattle.wasi_calls_rules.proofs.Steps.{HoldsAfter, refused, done_with, next, either_way}
@@ -25,8 +32,10 @@ use Rattle.wasi_calls_rules.specs.Rows.{IsNoRefusal}
 use Rattle.wasi_calls.specs.Steps.{StopsStep}
 use Rattle.wasi_calls.specs.declared.stop.CallStop.{CallStop}
 use Rattle.wasi_calls.specs.declared.stop.CallStop.TheVariants as stop
-use Rattle.wasi_calls.specs.Moves.{total_len, fronts, AreInside, moved_buffers, Wanted, wanted, wanted_at}
-use Rattle.wasi_calls.proofs.Fronts.{total_sum, total_fronts, length_gathered, inside_fronts, gathered_fronts, scattered_fronts}
+use Rattle.wasi_calls.specs.Moves.{total_len, fronts, AreInside, moved_buffers, Wanted, wanted}
+use Rattle.wasi_calls.specs.Moves.{wanted_at}
+use Rattle.wasi_calls.proofs.Fronts.{total_sum, total_fronts, length_gathered, inside_fronts}
+use Rattle.wasi_calls.proofs.Fronts.{gathered_fronts, scattered_fronts}
 
 -- ---- steps
 

@@ -1,5 +1,5 @@
--- The rules of `fd_readdir`, `path_rename` and `path_open` don't look at the lines that were emitted
--- before: with other lines in front each does the same.
+-- The rules of `fd_readdir`, `path_rename` and `path_open` don't look at the lines that were
+-- emitted before: with other lines in front each does the same.
 use Rattle.std.proofs.Common.{◌≡◌, ℕ, List, refl, ap}
 use Rattle.std.specs.Prelude.{Bool, true, false, not, ◌&&◌, ◌||◌, nat_le, if◌then◌else◌, Option}
 use Rattle.std.specs.Prelude.{Some, None}
@@ -93,9 +93,12 @@ module _ (before : List Line) (m : Bytes) (h : Host) where
 
   opened_there_behind : (k : ℕ) (w : Wish) (ret : ℕ) → IsBehind before (opened_there k w ret m) h
   opened_there_behind k w ret =
-      next before (check_or (not (has_flag w.oflags create_flag && has_flag w.oflags exclusive_flag)) Exist) _ _ (λ _.
-      next before (check_or (not (is_directory h.files k && (has_flag w.oflags create_flag || has_flag w.oflags truncate_flag || has_flag w.base 6))) Isdir) _ _ (λ _.
-      next before (check_or (is_directory h.files k || not (has_flag w.oflags directory_flag)) Notdir) _ _ (λ _.
+      next before (check_or (not (has_flag w.oflags create_flag
+      && has_flag w.oflags exclusive_flag)) Exist) _ _ (λ _.
+      next before (check_or (not (is_directory h.files k && (has_flag w.oflags create_flag
+      || has_flag w.oflags truncate_flag || has_flag w.base 6))) Isdir) _ _ (λ _.
+      next before (check_or (is_directory h.files k
+      || not (has_flag w.oflags directory_flag)) Notdir) _ _ (λ _.
       next before (free_number h) _ _ (λ n. refl))))
 
   opened_new_behind : (place : WalkEnd) (w : Wish) (ret : ℕ)
@@ -122,7 +125,9 @@ module _ (before : List Line) (m : Bytes) (h : Host) where
       next before (needs (has_flag w.oflags truncate_flag) path_filestat_set_size_right d) _ _ (λ _.
       next before (within_rights w.base d.inheriting) _ _ (λ _.
       next before (within_rights w.inheriting d.inheriting) _ _ (λ _.
-      next before (check_or (nat_le dirflags 1 && nat_le w.oflags 15 && nat_le w.fdflags 31 && not (has_flag w.oflags create_flag && has_flag w.oflags directory_flag)) Inval) _ _ (λ _.
+      next before (check_or (nat_le dirflags 1 && nat_le w.oflags 15 && nat_le w.fdflags 31
+      && not (has_flag w.oflags create_flag && has_flag w.oflags directory_flag)) Inval) _ _
+      (λ _.
       next before (lent m path len) _ _ (λ bytes.
       next before (in_memory m ret 4) _ _ (λ _.
       next before (formed bytes) _ _ (λ names.

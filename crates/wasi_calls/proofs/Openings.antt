@@ -1,5 +1,6 @@
 -- Nodes that are opened, and the numbers of their descriptors.
-use Rattle.std.proofs.Common.{◌≡◌, ℕ, zero, suc, ◌<◌, List, [], ◌∷◌, ◌++◌, length, sym, subst, arith}
+use Rattle.std.proofs.Common.{◌≡◌, ℕ, zero, suc, ◌<◌, List, [], ◌∷◌, ◌++◌, length, sym, subst}
+use Rattle.std.proofs.Common.{arith}
 use Rattle.std.specs.Prelude.{true, Option, Some, None, Ok, IfSome, slice_get, slice_set}
 use Rattle.file_tree.specs.rules.Files.{Path, File, Files, IsFiles, is_directory, created}
 use Rattle.wasi_calls_rules.specs.Hosts.{Node, Descriptor, Host, IsThere, IsDescriptor, IsHost}
@@ -7,7 +8,8 @@ use Rattle.wasi_calls_rules.specs.Checks.{node_named}
 use Rattle.wasi_calls_rules.specs.Entries.{free_number}
 use Rattle.wasi_calls_rules.specs.Paths.{WalkEnd, Self, Leaf, node_at}
 use Rattle.wasi_calls_rules.proofs.KeepsHosts.{stands, standing}
-use Rattle.wasi_calls_rules.proofs.NodesAfter.{there_node, directory_there, path_node, child_path, child_parent, created_own}
+use Rattle.wasi_calls_rules.proofs.NodesAfter.{there_node, directory_there, path_node, child_path}
+use Rattle.wasi_calls_rules.proofs.NodesAfter.{child_parent, created_own}
 use Rattle.wasi_calls_rules.proofs.Standing.{new_stands}
 use Rattle.wasi_calls_rules.proofs.Tables.{free_place}
 use Rattle.wasi_calls.specs.Places.{IsWellPlaced}
@@ -51,4 +53,5 @@ pub opened_host : (h : Host) (n : ℕ) (d : Descriptor) → IsHost h → free_nu
     → IsHost (record h { descriptors = slice_set h.descriptors n (Some d) })
 opened_host h n d is free target own =
     standing h h.files (slice_set h.descriptors n (Some d)) is
-    (new_stands h.files h.descriptors h.room n (node_named d.target) d (stands h is) (free_place h n free) target own)
+    (new_stands h.files h.descriptors h.room n (node_named d.target) d (stands h is)
+    (free_place h n free) target own)

@@ -1,8 +1,11 @@
 -- Buffers gone through one after another: what is left of their bytes, and what was put into them.
-use Rattle.std.proofs.Common.{◌≡◌, ℕ, ◌+◌, ◌<◌, ◌≤◌, inl, inr, List, [], ◌∷◌, ◌++◌, length, take, drop, get_or, refl, sym, ap, ◌∙◌, append_assoc, arith, length-take, length-drop, length-append}
+use Rattle.std.proofs.Common.{◌≡◌, ℕ, ◌+◌, ◌<◌, ◌≤◌, inl, inr, List, [], ◌∷◌, ◌++◌, length, take}
+use Rattle.std.proofs.Common.{drop, get_or, refl, sym, ap, ◌∙◌, append_assoc, arith, length-take}
+use Rattle.std.proofs.Common.{length-drop, length-append}
 use Rattle.std.specs.Prelude.{Bool, true, false, ◌&&◌, ◌==◌, not}
 use Rattle.std.proofs.lemmas.Bool.{cases_lt}
-use Rattle.std.proofs.lemmas.List.{take_all, take-take, drop_more, drop_all, drop-drop, drop-take, drop-append-le, take-append-drop}
+use Rattle.std.proofs.lemmas.List.{take_all, take-take, drop_more, drop_all, drop-drop, drop-take}
+use Rattle.std.proofs.lemmas.List.{drop-append-le, take-append-drop}
 use Rattle.guest_memory.specs.rules.Bytes.{part, with_part}
 use Rattle.guest_memory.proofs.Ranges.{length-with_part}
 use Rattle.wasi_calls_rules.specs.Checks.{Bytes, Buffer, gathered, scattered, has_no_newline}
@@ -174,7 +177,8 @@ lent_piece m from len piece inside few =
     let left = length-drop from m in
     let taken = length-take len ys in
     let size : length (piece ++ back) ≡ len =
-    omega (arith, length-append piece back, length-drop k (take len ys), taken, left, inside, few) in
+    omega (arith, length-append piece back, length-drop k (take len ys), taken, left, inside, few)
+    in
     let after : back ++ drop (from + length (piece ++ back)) m ≡ drop (from + k) m =
     ap (λ (n : ℕ). back ++ drop (from + n) m) size
     ∙ ap (λ (x : Bytes). back ++ x) (sym (drop-drop len from m))

@@ -1,16 +1,20 @@
 -- Nodes that move to another name, and what they replace.
-use Rattle.std.proofs.Common.{◌≡◌, ◌≢◌, ℕ, ◌++◌, true, false, [], ◌∷◌, length, refl, sym, ap, ◌∙◌, arith, length-append}
+use Rattle.std.proofs.Common.{◌≡◌, ◌≢◌, ℕ, ◌++◌, true, false, [], ◌∷◌, length, refl, sym, ap, ◌∙◌}
+use Rattle.std.proofs.Common.{arith, length-append}
 use Rattle.std.specs.Prelude.{Option, Some, None, Ok, is_some, unwrap_or}
 use Rattle.std.specs.Option.{option_and_then}
 use Rattle.std.proofs.lemmas.Bool.{eq-eqb}
 use Rattle.file_tree.specs.rules.Changes.{CanMove, is_within, within_path, path_at}
-use Rattle.file_tree.specs.rules.Files.{Name, Path, FileNode, Files, IsFiles, path_of, child, is_directory, holds_directory, renamed, path_behind}
+use Rattle.file_tree.specs.rules.Files.{Name, Path, FileNode, Files, IsFiles, path_of, child}
+use Rattle.file_tree.specs.rules.Files.{is_directory, holds_directory, renamed, path_behind}
 use Rattle.file_tree.proofs.Seen.{some_path}
 use Rattle.wasi_calls_rules.specs.Hosts.{Host, IsHost}
-use Rattle.wasi_calls_rules.specs.Entries.{is_directory_empty, is_within_node, is_same_node, gives_way, renamed_over, whole_path, without}
+use Rattle.wasi_calls_rules.specs.Entries.{is_directory_empty, is_within_node, is_same_node}
+use Rattle.wasi_calls_rules.specs.Entries.{gives_way, renamed_over, whole_path, without}
 use Rattle.wasi_calls_rules.specs.Checks.{Bytes}
 use Rattle.wasi_calls_rules.specs.Paths.{Leaf}
-use Rattle.wasi_calls_rules.proofs.KeepsHosts.{stands, standing, losing_stands, way_empty, child_not_root}
+use Rattle.wasi_calls_rules.proofs.KeepsHosts.{stands, standing, losing_stands, way_empty}
+use Rattle.wasi_calls_rules.proofs.KeepsHosts.{child_not_root}
 use Rattle.wasi_calls_rules.proofs.NodesAfter.{child_path, child_parent}
 use Rattle.wasi_calls_rules.proofs.Standing.{cleared_other, free_then, moved_stands, path_at_is}
 use Rattle.wasi_calls.specs.Renamings.{MayTake, place_renamed}

@@ -1,5 +1,6 @@
 -- Texts that are put into memory, and where each of them begins.
-use Rattle.std.proofs.Common.{◌≡◌, ℕ, ◌+◌, ◌*◌, ◌<◌, ◌≤◌, List, [], ◌∷◌, length, get_or, drop, refl, sym, ap, ◌∙◌, subst, arith, length-append}
+use Rattle.std.proofs.Common.{◌≡◌, ℕ, ◌+◌, ◌*◌, ◌<◌, ◌≤◌, List, [], ◌∷◌, length, get_or, drop, refl}
+use Rattle.std.proofs.Common.{sym, ap, ◌∙◌, subst, arith, length-append}
 use Rattle.std.specs.List.{AllByRecursion}
 use Rattle.std.proofs.lemmas.List.{at_drop_more}
 use Rattle.guest_memory.specs.rules.Bytes.{with_part}
@@ -136,10 +137,14 @@ module _ (texts : List Bytes) (array buffer : ℕ) (old : LinearMemory) where
               ∙ here.size;
           place = omega (arith, place);
           end = omega (arith, end, next);
-          puts = ap (λ (k : ℕ). with_part after.bytes k (pointers_to (begin + (length t + 1)) later)) at
-              ∙ ap (λ (k : ℕ). with_part after.bytes (array + offset + 4) (pointers_to k later)) from
-              ∙ ap (λ (x : Bytes). with_part x (array + offset + 4) (pointers_to (begin + length t + 1) later)) bytes
-              ∙ part_twice m (u32_bytes begin) (pointers_to (begin + length t + 1) later) (array + offset) fits
+          puts = ap (λ (k : ℕ).
+              with_part after.bytes k (pointers_to (begin + (length t + 1)) later)) at
+              ∙ ap (λ (k : ℕ). with_part after.bytes (array + offset + 4) (pointers_to k later))
+              from
+              ∙ ap (λ (x : Bytes). with_part x (array + offset + 4) (pointers_to (begin + length t
+              + 1) later)) bytes
+              ∙ part_twice m (u32_bytes begin) (pointers_to (begin + length t + 1) later) (array
+              + offset) fits
               ∙ here.puts;
         }
 

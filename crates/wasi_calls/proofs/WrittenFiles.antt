@@ -1,17 +1,24 @@
 -- Bytes put into a file one piece after another, and the file that they make.
-use Rattle.std.proofs.Common.{◌≡◌, ◌≢◌, ℕ, zero, suc, ◌+◌, ◌<◌, ◌≤◌, max, inl, inr, List, [], ◌∷◌, ◌++◌, length, take, drop, refl, sym, ap, ◌∙◌, append_assoc, arith, length-take, length-drop, length-append}
-use Rattle.std.specs.Prelude.{Bool, true, false, ◌==◌, if◌then◌else◌, replicate, map, find, Some, option_map}
+use Rattle.std.proofs.Common.{◌≡◌, ◌≢◌, ℕ, zero, suc, ◌+◌, ◌<◌, ◌≤◌, max, inl, inr, List, [], ◌∷◌}
+use Rattle.std.proofs.Common.{◌++◌, length, take, drop, refl, sym, ap, ◌∙◌, append_assoc, arith}
+use Rattle.std.proofs.Common.{length-take, length-drop, length-append}
+use Rattle.std.specs.Prelude.{Bool, true, false, ◌==◌, if◌then◌else◌, replicate, map, find, Some}
+use Rattle.std.specs.Prelude.{option_map}
 use Rattle.std.proofs.lemmas.Bool.{cases_lt, eqb-true, eqb-false}
-use Rattle.std.proofs.lemmas.List.{append-nil, take-take, take-append-drop, take-append-le, drop_all, drop-drop, length-replicate}
+use Rattle.std.proofs.lemmas.List.{append-nil, take-take, take-append-drop, take-append-le}
+use Rattle.std.proofs.lemmas.List.{drop_all, drop-drop, length-replicate}
 use Rattle.std.proofs.Math.Seq.{take-append_seam, drop-append-add}
 use Rattle.file_tree.specs.rules.Bytes.{written, resized}
-use Rattle.file_tree.specs.rules.Files.{Files, FileNode, File, Content, is_directory, holds_directory, bytes_of_node, bytes_held, node_of, changed_at, with_file_bytes, AreRising, IsFiles}
+use Rattle.file_tree.specs.rules.Files.{Files, FileNode, File, Content, is_directory}
+use Rattle.file_tree.specs.rules.Files.{holds_directory, bytes_of_node, bytes_held, node_of}
+use Rattle.file_tree.specs.rules.Files.{changed_at, with_file_bytes, AreRising, IsFiles}
 use Rattle.file_tree.proofs.Sizes.{length-written, length-resized, file_is}
 use Rattle.guest_memory.specs.rules.Bytes.{part}
 use Rattle.guest_memory.proofs.Ranges.{length-part}
 use Rattle.wasi_calls_rules.specs.Hosts.{Node, IsThere}
 use Rattle.wasi_calls_rules.specs.Checks.{Bytes, Buffer, gathered}
-use Rattle.wasi_calls_rules.proofs.NodesAfter.{node_there, mapped_node, changed_number, changed_own, changed_other, rewritten_there}
+use Rattle.wasi_calls_rules.proofs.NodesAfter.{node_there, mapped_node, changed_number, changed_own}
+use Rattle.wasi_calls_rules.proofs.NodesAfter.{changed_other, rewritten_there}
 use Rattle.file_tree.proofs.Rebuilt.{found_number}
 use Rattle.wasi_calls.specs.Moves.{total_len, AreInside}
 use Rattle.wasi_calls.proofs.Fronts.{length_gathered}
@@ -124,7 +131,8 @@ each_twice : (k : ℕ) (a b : List ℕ) (ns : List FileNode)
     ≡ map (changed_at k (node_with b)) ns
 each_twice k a b [] = refl
 each_twice k a b (n ∷ ns) =
-    ap (λ (x : FileNode). x ∷ map (changed_at k (node_with b)) (map (changed_at k (node_with a)) ns))
+    ap (λ (x : FileNode). x
+    ∷ map (changed_at k (node_with b)) (map (changed_at k (node_with a)) ns))
     (twice k a b n (n.number == k) refl)
     ∙ ap (λ (xs : List FileNode). changed_at k (node_with b) n ∷ xs) (each_twice k a b ns)
 

@@ -1,6 +1,7 @@
--- The rules of the calls that move bytes, up to the move itself, in the pieces that the code is made of (this project's
--- own).
-use Rattle.std.specs.Prelude.{◌≡◌, ◌≤◌, ◌==◌, if◌then◌else◌, ℕ, ◌+◌, ◌-◌, min, true, false, List, [], ◌∷◌, ◌++◌, length, Option, Result, Ok, Err}
+-- The rules of the calls that move bytes, up to the move itself, in the pieces that the code is
+-- made of (this project's own).
+use Rattle.std.specs.Prelude.{◌≡◌, ◌≤◌, ◌==◌, if◌then◌else◌, ℕ, ◌+◌, ◌-◌, min, true, false, List}
+use Rattle.std.specs.Prelude.{[], ◌∷◌, ◌++◌, length, Option, Result, Ok, Err}
 use Rattle.std.specs.List.{AllByRecursion}
 use Rattle.wasi_abi.specs.declared.errno.Errno.TheVariants.{Inval}
 use Rattle.wasi_abi.specs.declared.answer.Kind.TheVariants as kind
@@ -10,7 +11,9 @@ use Rattle.wasi_abi.specs.rules.Answers.{newline}
 use Rattle.wasi_abi.specs.rules.Numbers.{fd_seek_right}
 use Rattle.file_tree.specs.rules.Files.{is_directory}
 use Rattle.wasi_calls_rules.specs.Hosts.{Node, Descriptor, Host, IsThere}
-use Rattle.wasi_calls_rules.specs.Checks.{Bytes, Halt, Refuses, ◌>>=◌, Buffer, open_descriptor, no_directory, a_file, with_right, in_memory, buffers, few_buffers, scattered, answered_by}
+use Rattle.wasi_calls_rules.specs.Checks.{Bytes, Halt, Refuses, ◌>>=◌, Buffer, open_descriptor}
+use Rattle.wasi_calls_rules.specs.Checks.{no_directory, a_file, with_right, in_memory, buffers}
+use Rattle.wasi_calls_rules.specs.Checks.{few_buffers, scattered, answered_by}
 use Rattle.wasi_calls_rules.specs.Moving.{Got, has_bytes, moved_to}
 use Rattle.wasi_calls_rules.specs.declared.limits.TheConstants.{MOVED_BYTES}
 
@@ -61,7 +64,8 @@ wanted_at right fd iovs count ret m h =
     in_memory m ret 4 >>= λ _.
     Ok (record { descriptor = d; buffers = bs })
 
--- All checks have passed: bytes of these buffers are to be moved, and their number is to be put where there is room.
+-- All checks have passed: bytes of these buffers are to be moved, and their number is to be put
+-- where there is room.
 pub record PassesChecks (m : Bytes) (h : Host) (fd ret : ℕ) (r : Result Wanted Halt)
     (buffers : List Buffer) : Type 0 where
   pub descriptor : Descriptor
@@ -73,8 +77,10 @@ pub record PassesChecks (m : Bytes) (h : Host) (fd ret : ℕ) (r : Result Wanted
 
 -- ---- what was read
 
--- So many bytes were read: the rule gives them and the host after it, and they stand in the buffers.
-pub record ReadsInto (n : ℕ) (old new : Bytes) (bs : List Buffer) (after : Host) (r : Result Got Halt)
+-- So many bytes were read: the rule gives them and the host after it, and they stand in the
+-- buffers.
+pub record ReadsInto (n : ℕ) (old new : Bytes) (bs : List Buffer) (after : Host)
+    (r : Result Got Halt)
     : Type 0 where
   pub bytes : Bytes
   pub is : r ≡ Ok (record { bytes = bytes; host = after })
@@ -83,7 +89,8 @@ pub record ReadsInto (n : ℕ) (old new : Bytes) (bs : List Buffer) (after : Hos
 
 -- ---- input
 
--- the host once an answer has been taken: its text and a newline wait to be read, or input has ended
+-- the host once an answer has been taken: its text and a newline wait to be read, or input has
+-- ended
 abbrev pub line_taken : Answer → Host → Result Host Halt
 line_taken (answer.Request text) h = Ok (record h { unread = text ++ newline ∷ [] })
 line_taken answer.End h = Ok (record h { input_ended = true })

@@ -1,10 +1,12 @@
--- The rule of `path_rename` behind its walks, and what it has tested before anything moves (this project's own).
+-- The rule of `path_rename` behind its walks, and what it has tested before anything moves (this
+-- project's own).
 use Rattle.std.specs.Prelude.{◌≡◌, ℕ, true, false, is_some, Option, Some, Ok}
 use Rattle.file_tree.specs.rules.Files.{Name, Files, IsNodeName, child, is_directory, path_of}
 use Rattle.wasi_calls_rules.specs.Hosts.{Host}
 use Rattle.wasi_calls_rules.specs.Checks.{Bytes, Ruling}
 use Rattle.wasi_calls_rules.specs.Paths.{WalkEnd}
-use Rattle.wasi_calls_rules.specs.Entries.{a_leaf, is_within_node, is_same_node, gives_way, renamed_to}
+use Rattle.wasi_calls_rules.specs.Entries.{a_leaf, is_within_node, is_same_node, gives_way}
+use Rattle.wasi_calls_rules.specs.Entries.{renamed_to}
 
 -- from one place to another, both of them names
 abbrev pub place_renamed : WalkEnd → WalkEnd → Bytes → Host → Ruling

@@ -119,7 +119,8 @@ pub fn of_list(arguments: &[u64]) -> ListArguments
 /// Those of `path_filestat_get`.
 pub fn of_path_filestat(arguments: &[u64]) -> PathFilestatArguments
     requires { AreArguments (I32 ∷ I32 ∷ I32 ∷ I32 ∷ I32 ∷ []) arguments.now }
-    ensures { arguments.now ≡ result.fd ∷ result.flags ∷ result.path ∷ result.len ∷ result.ret ∷ [] }
+    ensures { arguments.now ≡ result.fd ∷ result.flags ∷ result.path ∷ result.len ∷ result.ret
+        ∷ [] }
 {
     PathFilestatArguments {
         fd: arguments[0] as u32,

@@ -29,10 +29,11 @@ use guest_memory::Memory;
 use std::alloc::Global;
 use wasi_abi::{Answer, Call, Errno, Rights};
 
-/// Makes a call, with its arguments in order and, where it asked for one, an answer from outside. What it tells is what the rules say; all but a call that is done leave memory and
-/// host as they were. It may say that there is no memory for it where an allocation was refused, or
-/// where no number is left for a new node. A call that is refused, asks for an answer or ends the
-/// process takes none.
+/// Makes a call, with its arguments in order and, where it asked for one, an answer from outside.
+/// What it tells is what the rules say; all but a call that is done leave memory and host as they
+/// were. It may say that there is no memory for it where an allocation was refused, or where no
+/// number is left for a new node. A call that is refused, asks for an answer or ends the process
+/// takes none.
 pub fn call(
     alloc: Global,
     host: &mut Host,
@@ -42,7 +43,8 @@ pub fn call(
     answer: Option<&Answer>,
 ) -> CallOutcome
     requires typed { AreArguments (parameters_of call) arguments.now }
-    ensures told { TellsRow (told_of result) memory.new.bytes host.new.host memory.old.bytes host.old.host
+    ensures told { TellsRow (told_of result) memory.new.bytes host.new.host memory.old.bytes
+        host.old.host
         (row call arguments.now (option_copied answer.entry) memory.old.bytes host.old.host) }
     ensures released { host.new.released ≡ host.old.released }
     ensures shown { (h : TheHost) → ShowsHost host.old h
@@ -64,7 +66,8 @@ fn make(
     answer: Option<&Answer>,
 ) -> CallOutcome
     requires typed { AreArguments (parameters_of call) arguments.now }
-    ensures told { TellsRow (told_of result) memory.new.bytes host.new.host memory.old.bytes host.old.host
+    ensures told { TellsRow (told_of result) memory.new.bytes host.new.host memory.old.bytes
+        host.old.host
         (row call arguments.now (option_copied answer.entry) memory.old.bytes host.old.host) }
     ensures released { host.new.released ≡ host.old.released }
     ensures wants { result ≡ WantOfMemory → call ≢ ProcExit }

@@ -84,7 +84,11 @@ impl Cut {
     }
 
     fn end_line(&mut self, alloc: Global, stream: u8) -> Result<(), AllocError>
-        ensures { OnOk result (self.new ≡ record { lines = self.old.lines ++ record { stream = stream; text = self.old.unfinished } ∷ []; unfinished = [] }) }
+        ensures { OnOk result (self.new ≡ record {
+          lines = self.old.lines
+              ++ record { stream = stream; text = self.old.unfinished } ∷ [];
+          unfinished = [];
+        }) }
     {
         let text = mem::replace(&mut self.unfinished, Vec::new(alloc));
         self.lines.push(Line::new(stream, text))?;

@@ -46,7 +46,13 @@ impl Model for Descriptor {
 
     ghost use Rattle.wasi_calls.specs.Views.{target_of};
 
-    ghost view = { λ d. record { target = target_of d.names; offset = d.offset; flags = descriptor_flags_number d.flags; base = rights_number d.base; inheriting = rights_number d.inheriting } };
+    ghost view = { λ d. record {
+      target = target_of d.names;
+      offset = d.offset;
+      flags = descriptor_flags_number d.flags;
+      base = rights_number d.base;
+      inheriting = rights_number d.inheriting;
+    } };
 }
 
 impl Descriptor {
@@ -68,7 +74,13 @@ impl Descriptor {
 
     /// A directory with these rights, and those that it hands on.
     pub fn directory(node: u64, base: Rights, inheriting: Rights) -> Descriptor
-        ensures { result ≡ record { target = Node node; offset = 0; flags = 0; base = rights_number base; inheriting = rights_number inheriting } }
+        ensures { result ≡ record {
+          target = Node node;
+          offset = 0;
+          flags = 0;
+          base = rights_number base;
+          inheriting = rights_number inheriting;
+        } }
     {
         Descriptor {
             names: Names::Node(node),
@@ -81,7 +93,13 @@ impl Descriptor {
 
     /// A file with these rights. It hands none on.
     pub fn file(node: u64, base: Rights) -> Descriptor
-        ensures { result ≡ record { target = Node node; offset = 0; flags = 0; base = rights_number base; inheriting = 0 } }
+        ensures { result ≡ record {
+          target = Node node;
+          offset = 0;
+          flags = 0;
+          base = rights_number base;
+          inheriting = 0;
+        } }
     {
         Descriptor {
             names: Names::Node(node),
@@ -179,7 +197,8 @@ impl Descriptor {
     /// Nothing where this right is among its own, else `Notcapable`.
     pub fn check_right(&self, right: Rights) -> Result<(), Errno>
         requires one { rights_number right ≡ 2 ^ bit_of (rights_number right) }
-        ensures gives { GivesValue (λ x. x) result (with_right (bit_of (rights_number right)) self.now) }
+        ensures gives { GivesValue (λ x. x) result
+            (with_right (bit_of (rights_number right)) self.now) }
     {
         if self.base.has(right) {
             Ok(())

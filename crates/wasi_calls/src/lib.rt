@@ -11,8 +11,8 @@
 //!   for an answer (`told`, `shown`). It asks for arguments of the call's types (`typed`).
 //! - `lines_begun`: how many lines such a call adds if it is done, unfinished ones counted
 //!   (`count`), and else none (`none`). They are at most `MOVED_BYTES` (`few`).
-//! - `wanted_answer`: the answer from outside that a call wants before it can be made. That is the one
-//!   that its rule asks for, of every host that is shown.
+//! - `wanted_answer`: the answer from outside that a call wants before it can be made. That is the
+//!   one that its rule asks for, of every host that is shown.
 //! - `Host::new` is the first host of the rules. `waiting_lines` and `released_count` are its
 //!   lines.
 //! - `Host::from_parts` is the host of an image's parts (`made`). It answers one exactly where the
@@ -29,8 +29,8 @@
 //! # Definitions to read
 //!
 //! `specs/rules/Calls.antt`: `AreArguments`, `ShowsRow`, `wish_of`, `EndsNothing`.
-//! `specs/rules/Held.antt`: `HeldHost` and `ShowsHost`, which say which hosts of the rules the code's
-//! host is. `specs/rules/Restored.antt`: `held_host_from`, which says what parts hold, and
+//! `specs/rules/Held.antt`: `HeldHost` and `ShowsHost`, which say which hosts of the rules the
+//! code's host is. `specs/rules/Restored.antt`: `held_host_from`, which says what parts hold, and
 //! `IsBoundedDescriptor`. The rules themselves are `row` and `Host` of `wasi_calls_rules`.
 //!
 //! # Who may touch what

@@ -249,7 +249,8 @@ fn open_new(
         opened_new (walk_end_of place.entry) (checked_wish wish) ret m host.old.host
         ≡ Ok (record { memory = with_part m ret (u32_bytes n); host = host.new.host })) }
     ensures stopped { (ret : ℕ) (m : Bytes) → IfErr result (λ why.
-        StopsStep why (opened_new (walk_end_of place.entry) (checked_wish wish) ret m host.old.host)) }
+        StopsStep why (opened_new (walk_end_of place.entry)
+        (checked_wish wish) ret m host.old.host)) }
     ensures kept { IfErr result (λ _. host.new ≡ host.old) }
     ensures released { host.new.released ≡ host.old.released }
 {

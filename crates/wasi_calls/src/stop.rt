@@ -1,7 +1,8 @@
 //! Why a call has changed nothing.
 
 ghost use Rattle.std.specs.Prelude.{◌≡◌};
-ghost use Rattle.wasi_calls.specs.declared.stop.CallStop.TheVariants.{Refused, Memory as WantOfMemory};
+ghost use Rattle.wasi_calls.specs.declared.stop.CallStop.TheVariants.{Refused};
+ghost use Rattle.wasi_calls.specs.declared.stop.CallStop.TheVariants.{Memory as WantOfMemory};
 
 use std::alloc::AllocError;
 use wasi_abi::{Errno, Kind};

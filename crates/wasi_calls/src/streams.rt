@@ -36,13 +36,24 @@ impl Model for Streams {
 
     ghost Value = { Output };
 
-    ghost view = { λ s. record { first = s.first.items; second = s.second.items; waiting = s.waiting.items; released = s.released } };
+    ghost view = { λ s. record {
+      first = s.first.items;
+      second = s.second.items;
+      waiting = s.waiting.items;
+      released = s.released;
+    } };
 
-    ghost invariant = { λ s. HasLineRoom (vec_capacity s.waiting) (record { first = s.first.items; second = s.second.items; waiting = s.waiting.items; released = s.released }) };
+    ghost invariant = { λ s. HasLineRoom (vec_capacity s.waiting) (record {
+      first = s.first.items;
+      second = s.second.items;
+      waiting = s.waiting.items;
+      released = s.released;
+    }) };
 }
 
 impl Streams {
-    ghost use Rattle.wasi_calls.specs.rules.Outputs.{no_output, output_written, output_ended, left_lines};
+    ghost use Rattle.wasi_calls.specs.rules.Outputs.{no_output, output_written, output_ended};
+    ghost use Rattle.wasi_calls.specs.rules.Outputs.{left_lines};
 
     /// Nothing was written.
     pub fn new(alloc: Global) -> Streams
@@ -180,7 +191,10 @@ impl Streams {
     pub fn release(&mut self, count: usize)
         requires there { count ≤ length self.old.waiting }
         requires counted { self.old.released + count < 2 ^ 64 }
-        ensures { self.new ≡ record self.old { waiting = drop count self.old.waiting; released = self.old.released + count } }
+        ensures { self.new ≡ record self.old {
+          waiting = drop count self.old.waiting;
+          released = self.old.released + count;
+        } }
     {
         self.waiting.drain(..count);
         self.released += count as u64;

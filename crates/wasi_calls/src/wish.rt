@@ -17,8 +17,8 @@ use crate::moves::{MoveArguments, check};
 use guest_memory::Memory;
 use wasi_abi::{Call, Kind, Rights};
 
-/// The answer from outside that such a call wants before it can be made, if it wants one. It changes
-/// nothing, and takes no memory.
+/// The answer from outside that such a call wants before it can be made, if it wants one. It
+/// changes nothing, and takes no memory.
 pub fn wanted_answer(host: &Host, memory: &Memory, call: Call, arguments: &[u64]) -> Option<Kind>
     requires typed { AreArguments (parameters_of call) arguments.now }
     ensures { (h : TheHost) → ShowsHost host.now h

@@ -7,12 +7,14 @@ use Rattle.wasi_abi.specs.declared.answer.Answer.{Answer}
 use Rattle.wasi_abi.specs.declared.call.Call.TheVariants as call
 use Rattle.wasi_abi.specs.rules.Answers.{Fits}
 use Rattle.wasi_calls_rules.specs.Hosts.{Target, Stream, Node, Descriptor, Host}
-use Rattle.wasi_calls_rules.specs.Checks.{Bytes, Buffer, Halt, Refuses, Asks, Ends, ◌>>=◌, check_or, some_or, buffers, asked, does_fit, answered_by}
+use Rattle.wasi_calls_rules.specs.Checks.{Bytes, Buffer, Halt, Refuses, Asks, Ends, ◌>>=◌, check_or}
+use Rattle.wasi_calls_rules.specs.Checks.{some_or, buffers, asked, does_fit, answered_by}
 use Rattle.wasi_calls_rules.specs.Small.{time_put, clock_time_get, random_put, random_get}
 use Rattle.wasi_calls_rules.specs.Moving.{input_taken, input_read, target_read, fd_read}
 use Rattle.wasi_calls_rules.specs.laws.Laws.{RowsAskOnce}
 use Rattle.wasi_calls_rules.proofs.Fitting.{tests_tell}
-use Rattle.wasi_calls_rules.proofs.Halting.{HaltsBy, done, buffers_halt, time_put_halts, random_put_halts, input_taken_halts, few_rows_ask}
+use Rattle.wasi_calls_rules.proofs.Halting.{HaltsBy, done, buffers_halt, time_put_halts}
+use Rattle.wasi_calls_rules.proofs.Halting.{random_put_halts, input_taken_halts, few_rows_ask}
 
 abbrev IsRefusal : Halt → Type 0
 IsRefusal (Refuses e) = Unit {0}

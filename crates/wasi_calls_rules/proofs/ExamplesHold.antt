@@ -5,7 +5,9 @@ use lib.Utf8.{encode}
 use Rattle.wasi_calls_rules.specs.Checks.{Bytes}
 use Rattle.wasi_calls_rules.specs.Hosts.{Host}
 use Rattle.wasi_calls_rules.specs.Rows.{Told, IsDone, IsAsk, IsExit, NoMemory, TellsRow}
-use Rattle.wasi_calls_rules.specs.laws.Examples.{OpeningExamples, WritingExamples, DirectoryExamples, bare_host, write_row, one_beyond}
+use Rattle.wasi_calls_rules.specs.laws.Examples.{OpeningExamples, WritingExamples}
+use Rattle.wasi_calls_rules.specs.laws.Examples.{DirectoryExamples, bare_host, write_row}
+use Rattle.wasi_calls_rules.specs.laws.Examples.{one_beyond}
 
 pub opening_examples : OpeningExamples
 unfolding is_utf8 chars encode
@@ -30,7 +32,9 @@ directory_examples = record {
 }
 
 -- a call that is refused changes nothing, whatever is told
-writing_unchanged : (told : Told) (m : Bytes) (h : Host) → TellsRow told m h one_beyond bare_host (write_row 16 one_beyond) → (m ≡ one_beyond) × (h ≡ bare_host)
+writing_unchanged : (told : Told) (m : Bytes) (h : Host)
+    → TellsRow told m h one_beyond bare_host (write_row 16 one_beyond) → (m ≡ one_beyond)
+    × (h ≡ bare_host)
 writing_unchanged (IsDone None) m h shown = absurd (cc)
 writing_unchanged (IsDone (Some e)) m h shown = (shown.1, shown.2)
 writing_unchanged (IsAsk k) m h shown = (shown.1, shown.2)
@@ -38,4 +42,9 @@ writing_unchanged (IsExit code) m h shown = (shown.1, shown.2)
 writing_unchanged NoMemory m h shown = (shown.1, shown.2)
 
 pub writing_examples : WritingExamples
-writing_examples = record { is_done = refl; is_refused = refl; number = refl; nothing_changes = writing_unchanged }
+writing_examples = record {
+  is_done = refl;
+  is_refused = refl;
+  number = refl;
+  nothing_changes = writing_unchanged;
+}

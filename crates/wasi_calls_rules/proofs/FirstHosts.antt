@@ -75,7 +75,8 @@ streams_stand (suc (suc (suc (suc n)))) s d e names = absurd (none_open 60 n d e
 kept : (k : ℕ) → IsRemoved fresh k → ⊥
 kept k (n, is, gone) =
     elim (eqb_tells 1 k) [
-      | inl h ↦ (let root : Some (record { number = 1; path = Some []; content = Directory }) ≡ Some n =
+      | inl h ↦ (let root : Some (record { number = 1; path = Some []; content = Directory })
+          ≡ Some n =
           rw h.0 at is in
           let same : record { number = 1; path = Some []; content = Directory } ≡ n = cc in
           let path : Some [] ≡ n.path = ap (λ (m : FileNode). m.path) same in

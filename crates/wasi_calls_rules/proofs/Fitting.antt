@@ -4,16 +4,20 @@ use Rattle.std.specs.Prelude.{◌==◌, ◌&&◌, ◌^◌, not, nat_le, nat_lt}
 use Rattle.std.specs.Bool.{Decides}
 use Rattle.std.specs.List.{AllByRecursion}
 use Rattle.std.proofs.lemmas.Bool.{leb-true, le-leb}
-use Rattle.std.proofs.lemmas.Bool.Decides.{Decides-and, Decides-eqb, Decides-ltb, Decides-like, Decides-not}
+use Rattle.std.proofs.lemmas.Bool.Decides.{Decides-and, Decides-eqb, Decides-ltb, Decides-like}
+use Rattle.std.proofs.lemmas.Bool.Decides.{Decides-not}
 use Rattle.wasi_abi.specs.declared.answer.Kind.TheVariants as kind
 use Rattle.wasi_abi.specs.declared.answer.Answer.TheVariants as answer
-use Rattle.wasi_abi.specs.rules.Answers.{newline, IsNoNewline, AreBytes, IsRequestText, AreSoManyBytes}
+use Rattle.wasi_abi.specs.rules.Answers.{newline, IsNoNewline, AreBytes, IsRequestText}
+use Rattle.wasi_abi.specs.rules.Answers.{AreSoManyBytes}
 use Rattle.wasi_calls_rules.specs.Checks.{Bytes, has_bytes_alone, has_no_newline}
 use Rattle.wasi_calls_rules.specs.laws.Laws.{TestsTellWhatFits}
 
 no_newline : (text : Bytes) → Decides (has_no_newline text) (AllByRecursion IsNoNewline text)
 no_newline [] = (λ _. tt, λ _. refl)
-no_newline (b ∷ text) = Decides-and (not (b == newline)) (has_no_newline text) (Decides-not (b == newline) (Decides-eqb b newline)) (no_newline text)
+no_newline (b ∷ text) =
+    Decides-and (not (b == newline)) (has_no_newline text) (Decides-not (b
+    == newline) (Decides-eqb b newline)) (no_newline text)
 
 bytes_alone : (bytes : Bytes) → Decides (has_bytes_alone bytes) (AreBytes bytes)
 bytes_alone [] = (λ _. tt, λ _. refl)

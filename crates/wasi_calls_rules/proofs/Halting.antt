@@ -1,6 +1,7 @@
 -- Why a call is not done: a walk over all rows, for any predicate on why that holds of refusals.
 use Rattle.std.proofs.Common.{◌≡◌, ℕ, List, [], ◌∷◌, refl}
-use Rattle.std.specs.Prelude.{Bool, true, false, if◌then◌else◌, Option, Some, None, Result, Ok, Err, ℤ, pos, negsuc, nat_lt, ◌^◌}
+use Rattle.std.specs.Prelude.{Bool, true, false, if◌then◌else◌, Option, Some, None, Result, Ok, Err}
+use Rattle.std.specs.Prelude.{ℤ, pos, negsuc, nat_lt, ◌^◌}
 use Rattle.wasi_abi.specs.declared.errno.Errno.{Errno}
 use Rattle.wasi_abi.specs.declared.errno.Errno.TheVariants.{Inval, Noent, Notcapable, Notdir}
 use Rattle.wasi_abi.specs.declared.answer.Kind.{Kind}
@@ -11,11 +12,23 @@ use Rattle.wasi_abi.specs.declared.call.Call.TheVariants as call
 use Rattle.file_tree.specs.rules.Files.{Name, Files, is_directory, child}
 use Rattle.wasi_abi.specs.rules.Numbers.{fd_datasync_right, fd_sync_right}
 use Rattle.wasi_calls_rules.specs.Hosts.{Target, Stream, Node, Descriptor, Host}
-use Rattle.wasi_calls_rules.specs.Checks.{Bytes, Buffer, Halt, Refuses, Asks, Ends, ◌>>=◌, check_or, some_or, a_file, lent, buffers, asked, fitting, answered_by}
-use Rattle.wasi_calls_rules.specs.Paths.{WalkEnd, Self, Leaf, formed, directory_entered, backed, onward, is_back, walk}
-use Rattle.wasi_calls_rules.specs.Small.{texts_get, texts_sizes_get, clock_res_get, time_put, clock_time_get, fd_close, fd_syncs, fd_fdstat_get, fd_fdstat_set_flags, fd_filestat_get, roomy, fd_filestat_set_size, fd_prestat_get, fd_prestat_dir_name, file_offset, fd_seek, fd_tell, random_put, random_get}
-use Rattle.wasi_calls_rules.specs.Moving.{Got, input_taken, input_read, target_read, fd_read, fd_pread, file_written, write_offset, target_written, fd_write, fd_pwrite}
-use Rattle.wasi_calls_rules.specs.Entries.{fd_readdir, a_leaf, placed, path_create_directory, path_filestat_get, path_remove_directory, path_unlink_file, gives_way, renamed_to, path_rename, Wish, opened_there, opened_new, opened_at, path_open}
+use Rattle.wasi_calls_rules.specs.Checks.{Bytes, Buffer, Halt, Refuses, Asks, Ends, ◌>>=◌, check_or}
+use Rattle.wasi_calls_rules.specs.Checks.{some_or, a_file, lent, buffers, asked, fitting}
+use Rattle.wasi_calls_rules.specs.Checks.{answered_by}
+use Rattle.wasi_calls_rules.specs.Paths.{WalkEnd, Self, Leaf, formed, directory_entered, backed}
+use Rattle.wasi_calls_rules.specs.Paths.{onward, is_back, walk}
+use Rattle.wasi_calls_rules.specs.Small.{texts_get, texts_sizes_get, clock_res_get, time_put}
+use Rattle.wasi_calls_rules.specs.Small.{clock_time_get, fd_close, fd_syncs, fd_fdstat_get}
+use Rattle.wasi_calls_rules.specs.Small.{fd_fdstat_set_flags, fd_filestat_get, roomy}
+use Rattle.wasi_calls_rules.specs.Small.{fd_filestat_set_size, fd_prestat_get, fd_prestat_dir_name}
+use Rattle.wasi_calls_rules.specs.Small.{file_offset, fd_seek, fd_tell, random_put, random_get}
+use Rattle.wasi_calls_rules.specs.Moving.{Got, input_taken, input_read, target_read, fd_read}
+use Rattle.wasi_calls_rules.specs.Moving.{fd_pread, file_written, write_offset, target_written}
+use Rattle.wasi_calls_rules.specs.Moving.{fd_write, fd_pwrite}
+use Rattle.wasi_calls_rules.specs.Entries.{fd_readdir, a_leaf, placed, path_create_directory}
+use Rattle.wasi_calls_rules.specs.Entries.{path_filestat_get, path_remove_directory}
+use Rattle.wasi_calls_rules.specs.Entries.{path_unlink_file, gives_way, renamed_to, path_rename}
+use Rattle.wasi_calls_rules.specs.Entries.{Wish, opened_there, opened_new, opened_at, path_open}
 use Rattle.wasi_calls_rules.specs.Rows.{row}
 use Rattle.wasi_calls_rules.specs.laws.Laws.{MayAsk, FewRowsAsk, ExitAloneEnds}
 

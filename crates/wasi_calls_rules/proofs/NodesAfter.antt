@@ -341,7 +341,8 @@ filtered_other (x ∷ ns) k j ne =
         absurd (ne (sym (eqb-true x.number j also) ∙ eqb-true x.number k is))
     by_tests true false is also later = later
     by_tests false t is also later =
-        ap (λ (b : Bool). cond b (Some x) (find (λ (n : FileNode). eqb n.number j) (others k ns))) also
+        ap (λ (b : Bool). cond b (Some x) (find (λ (n : FileNode). eqb n.number j) (others k ns)))
+        also
         ∙ ap (λ (o : Option FileNode). cond t (Some x) o) later
 
 pub forgotten_other : (fs : Files) (k j : ℕ) → j ≢ k → node_of (forgotten k fs) j ≡ node_of fs j

@@ -1,6 +1,7 @@
 -- What holds of a rule's answer where there is one, step by step along its checks.
 use Rattle.std.proofs.Common.{◌≡◌, ℕ, ◌+◌, ◌≤◌, length, refl}
-use Rattle.std.specs.Prelude.{Bool, true, false, Result, Ok, Err, if◌then◌else◌, nat_le, Option, Some, None}
+use Rattle.std.specs.Prelude.{Bool, true, false, Result, Ok, Err, if◌then◌else◌, nat_le, Option}
+use Rattle.std.specs.Prelude.{Some, None}
 use Rattle.std.proofs.lemmas.Bool.{leb-true}
 use Rattle.wasi_abi.specs.declared.errno.Errno.{Errno}
 use Rattle.wasi_abi.specs.declared.errno.Errno.TheVariants.{Fault, Inval}
@@ -8,7 +9,8 @@ use Rattle.wasi_abi.specs.declared.answer.Kind.{Kind}
 use Rattle.wasi_abi.specs.declared.answer.Answer.{Answer}
 use Rattle.file_tree.specs.rules.Files.{Name}
 use Rattle.wasi_calls_rules.specs.Hosts.{Host}
-use Rattle.wasi_calls_rules.specs.Checks.{Bytes, Halt, Refuses, Asks, ◌>>=◌, check_or, some_or, in_memory, asked, does_fit, answered_by}
+use Rattle.wasi_calls_rules.specs.Checks.{Bytes, Halt, Refuses, Asks, ◌>>=◌, check_or, some_or}
+use Rattle.wasi_calls_rules.specs.Checks.{in_memory, asked, does_fit, answered_by}
 use Rattle.wasi_calls_rules.specs.Paths.{WalkEnd, Self, Leaf}
 use Rattle.wasi_calls_rules.specs.Entries.{a_leaf}
 
@@ -23,7 +25,8 @@ pub done_with : {A : Type 0} (P : A → Type 0) (x : A) → P x → HoldsAfter P
 done_with P x h = record { holds = λ y e. let same : x ≡ y = cc in rw same at h }
 
 -- what holds of the first answer helps with the rest
-pub step : {A B : Type 0} (P : A → Type 0) {R : B → Type 0} (r : Result A Halt) (go : A → Result B Halt)
+pub step : {A B : Type 0} (P : A → Type 0) {R : B → Type 0} (r : Result A Halt) (go : A
+    → Result B Halt)
     → HoldsAfter P r → ((x : A) → P x → HoldsAfter R (go x)) → HoldsAfter R (r >>= go)
 step P (Ok x) go h f = f x (h.holds x refl)
 step P {R = R} (Err halt) go h f = refused R halt
@@ -43,13 +46,16 @@ pub checked : (b : Bool) (e : Errno) → HoldsAfter (λ (_ : Unit {0}). b ≡ tr
 checked true e = done_with (λ (_ : Unit {0}). true ≡ true) tt refl
 checked false e = record { holds = λ x h. absurd (cc) }
 
-pub within : {B : Type 0} {R : B → Type 0} (m : Bytes) (from len : ℕ) (go : Unit {0} → Result B Halt)
+pub within : {B : Type 0} {R : B → Type 0} (m : Bytes) (from len : ℕ) (go : Unit {0}
+    → Result B Halt)
     → (from + len ≤ length m → HoldsAfter R (go tt)) → HoldsAfter R (in_memory m from len >>= go)
 within m from len go f =
-    step (λ _. nat_le (from + len) (length m) ≡ true) (in_memory m from len) go (checked (nat_le (from + len) (length m)) Fault)
+    step (λ _. nat_le (from + len) (length m)
+    ≡ true) (in_memory m from len) go (checked (nat_le (from + len) (length m)) Fault)
     (λ _ e. f (leb-true (from + len) (length m) e))
 
-pub either_way : {B : Type 0} {R : B → Type 0} (b : Bool) (x y : Result B Halt) → HoldsAfter R x → HoldsAfter R y → HoldsAfter R (if b then x else y)
+pub either_way : {B : Type 0} {R : B → Type 0} (b : Bool) (x y : Result B Halt) → HoldsAfter R x
+    → HoldsAfter R y → HoldsAfter R (if b then x else y)
 either_way true x y h k = h
 either_way false x y h k = k
 
@@ -71,12 +77,14 @@ by_test false x y f g = g refl
 
 -- ---- where an answer from outside is wanted
 
-asked_where : (P : Answer → Type 0) (k : Kind) (a : Answer) (b : Bool) → (b ≡ true → P a) → HoldsAfter P (asked k (if b then Some a else None))
+asked_where : (P : Answer → Type 0) (k : Kind) (a : Answer) (b : Bool) → (b ≡ true → P a)
+    → HoldsAfter P (asked k (if b then Some a else None))
 asked_where P k a true f = done_with P a (f refl)
 asked_where P k a false f = refused P (Asks k)
 
 pub answered : (P : Answer → Type 0) (h : Host) (k : Kind) (given : Option Answer)
-    → ((a : Answer) → given ≡ Some a → does_fit h.limit k a ≡ true → P a) → HoldsAfter P (answered_by h k given)
+    → ((a : Answer) → given ≡ Some a → does_fit h.limit k a ≡ true → P a)
+    → HoldsAfter P (answered_by h k given)
 answered P h k None f = refused P (Asks k)
 answered P h k (Some a) f = asked_where P k a (does_fit h.limit k a) (f a refl)
 

@@ -1,9 +1,13 @@
--- The checks that all calls share, in their order: the descriptor, its kind, rights, numbers and flags, guest ranges, the
--- form of paths, and the rest (this project's profile). A call ends at the first that fails, and changes nothing then.
-use Rattle.std.specs.Prelude.{ℕ, zero, suc, ◌+◌, ◌*◌, ◌==◌, not, ◌&&◌, ◌||◌, nat_le, nat_lt, ◌^◌, min, Bool, true, false, if◌then◌else◌, List, [], ◌∷◌, ◌++◌, length, take, drop, sum_by, slice_get, Option, Some, None, Result, Ok, Err}
+-- The checks that all calls share, in their order: the descriptor, its kind, rights, numbers and
+-- flags, guest ranges, the form of paths, and the rest (this project's profile). A call ends at the
+-- first that fails, and changes nothing then.
+use Rattle.std.specs.Prelude.{ℕ, zero, suc, ◌+◌, ◌*◌, ◌==◌, not, ◌&&◌, ◌||◌, nat_le, nat_lt, ◌^◌}
+use Rattle.std.specs.Prelude.{min, Bool, true, false, if◌then◌else◌, List, [], ◌∷◌, ◌++◌, length}
+use Rattle.std.specs.Prelude.{take, drop, sum_by, slice_get, Option, Some, None, Result, Ok, Err}
 use Rattle.std.specs.List.{list_all}
 use Rattle.wasi_abi.specs.declared.errno.Errno.{Errno}
-use Rattle.wasi_abi.specs.declared.errno.Errno.TheVariants.{Badf, Fault, Inval, Isdir, Notdir, Notcapable, Spipe}
+use Rattle.wasi_abi.specs.declared.errno.Errno.TheVariants.{Badf, Fault, Inval, Isdir, Notdir}
+use Rattle.wasi_abi.specs.declared.errno.Errno.TheVariants.{Notcapable, Spipe}
 use Rattle.wasi_abi.specs.declared.answer.Kind.{Kind}
 use Rattle.wasi_abi.specs.declared.answer.Kind.TheVariants as kind
 use Rattle.wasi_abi.specs.declared.answer.Answer.{Answer}
@@ -109,12 +113,14 @@ pub record Buffer : Type 0 where
 -- the buffers that so many iovecs name
 abbrev pub buffers_at : Bytes → ℕ → ℕ → List Buffer
 buffers_at m iovs zero = []
-buffers_at m iovs (suc count) = record { from = u32_at m iovs; len = u32_at m (iovs + 4) } ∷ buffers_at m (iovs + 8) count
+buffers_at m iovs (suc count) =
+    record { from = u32_at m iovs; len = u32_at m (iovs + 4) } ∷ buffers_at m (iovs + 8) count
 
 abbrev pub is_inside : Bytes → Buffer → Bool
 is_inside m b = nat_le (b.from + b.len) (length m)
 
--- the array first, and then each buffer, within memory; they are read once, before anything is written
+-- the array first, and then each buffer, within memory; they are read once, before anything is
+-- written
 abbrev pub buffers : Bytes → ℕ → ℕ → Result (List Buffer) Halt
 buffers m iovs count =
     in_memory m iovs (8 * count) >>= λ _.

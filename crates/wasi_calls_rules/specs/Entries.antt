@@ -1,14 +1,28 @@
 -- The rules of the calls on directories and paths (this project's profile).
-use Rattle.std.specs.Prelude.{ℕ, ◌+◌, ◌==◌, not, ◌&&◌, ◌||◌, nat_le, nat_lt, bit_and, if◌then◌else◌, Bool, false, List, [], ◌∷◌, ◌++◌, length, take, drop, Option, Some, None, option_map, Result, Ok, Err}
+use Rattle.std.specs.Prelude.{ℕ, ◌+◌, ◌==◌, not, ◌&&◌, ◌||◌, nat_le, nat_lt, bit_and, if◌then◌else◌}
+use Rattle.std.specs.Prelude.{Bool, false, List, [], ◌∷◌, ◌++◌, length, take, drop, Option, Some}
+use Rattle.std.specs.Prelude.{None, option_map, Result, Ok, Err}
 use Rattle.std.specs.Prelude.{is_some}
-use Rattle.wasi_abi.specs.declared.errno.Errno.TheVariants.{Exist, Inval, Isdir, Mfile, Noent, Nospc, Notdir, Notempty}
-use Rattle.wasi_abi.specs.rules.Numbers.{path_create_directory_right, path_create_file_right, path_open_right, fd_readdir_right, path_rename_source_right, path_rename_target_right, path_filestat_get_right, path_filestat_set_size_right, path_remove_directory_right, path_unlink_file_right, file_rights, directory_rights, all_rights, create_flag, directory_flag, exclusive_flag, truncate_flag, has_flag, directory_type, regular_file}
+use Rattle.wasi_abi.specs.declared.errno.Errno.TheVariants.{Exist, Inval, Isdir, Mfile, Noent}
+use Rattle.wasi_abi.specs.declared.errno.Errno.TheVariants.{Nospc, Notdir, Notempty}
+use Rattle.wasi_abi.specs.rules.Numbers.{path_create_directory_right, path_create_file_right}
+use Rattle.wasi_abi.specs.rules.Numbers.{path_open_right, fd_readdir_right}
+use Rattle.wasi_abi.specs.rules.Numbers.{path_rename_source_right, path_rename_target_right}
+use Rattle.wasi_abi.specs.rules.Numbers.{path_filestat_get_right, path_filestat_set_size_right}
+use Rattle.wasi_abi.specs.rules.Numbers.{path_remove_directory_right, path_unlink_file_right}
+use Rattle.wasi_abi.specs.rules.Numbers.{file_rights, directory_rights, all_rights, create_flag}
+use Rattle.wasi_abi.specs.rules.Numbers.{directory_flag, exclusive_flag, truncate_flag, has_flag}
+use Rattle.wasi_abi.specs.rules.Numbers.{directory_type, regular_file}
 use Rattle.wasi_abi.specs.rules.Layouts.{u32_bytes, dirent_bytes}
 use Rattle.guest_memory.specs.rules.Bytes.{with_part}
-use Rattle.file_tree.specs.rules.Files.{Name, Path, Files, Entry, Directory, File, path_of, is_directory, entries_of, created, removed, renamed, with_file_bytes, path_behind}
+use Rattle.file_tree.specs.rules.Files.{Name, Path, Files, Entry, Directory, File, path_of}
+use Rattle.file_tree.specs.rules.Files.{is_directory, entries_of, created, removed, renamed}
+use Rattle.file_tree.specs.rules.Files.{with_file_bytes, path_behind}
 use Rattle.file_tree.specs.declared.limits.TheConstants.{NODES}
 use Rattle.wasi_calls_rules.specs.Hosts.{Node, Descriptor, Host}
-use Rattle.wasi_calls_rules.specs.Checks.{Bytes, Halt, Refuses, Ruling, ◌>>=◌, check_or, some_or, open_descriptor, a_directory, with_right, needs, within_rights, in_memory, lent, node_named}
+use Rattle.wasi_calls_rules.specs.Checks.{Bytes, Halt, Refuses, Ruling, ◌>>=◌, check_or, some_or}
+use Rattle.wasi_calls_rules.specs.Checks.{open_descriptor, a_directory, with_right, needs}
+use Rattle.wasi_calls_rules.specs.Checks.{within_rights, in_memory, lent, node_named}
 use Rattle.wasi_calls_rules.specs.Paths.{WalkEnd, Self, Leaf, formed, walk, node_at}
 use Rattle.wasi_calls_rules.specs.Small.{call_done, with_descriptor, filestat_bytes_of, swept}
 
@@ -20,7 +34,8 @@ node_type fs k = if is_directory fs k then directory_type else regular_file
 -- the entries from this place on, each with the place behind it
 abbrev pub listed : Files → ℕ → List Entry → Bytes
 listed fs place [] = []
-listed fs place (e ∷ entries) = dirent_bytes (place + 1) e.number (node_type fs e.number) e.name ++ listed fs (place + 1) entries
+listed fs place (e ∷ entries) = dirent_bytes (place + 1) e.number (node_type fs e.number) e.name
+    ++ listed fs (place + 1) entries
 
 -- as much of the entries behind the first `cookie` ones as there is room for
 abbrev pub fd_readdir : ℕ → ℕ → ℕ → ℕ → ℕ → Bytes → Host → Ruling
@@ -30,7 +45,8 @@ fd_readdir fd buf len cookie ret m h =
     with_right fd_readdir_right d >>= λ _.
     in_memory m buf len >>= λ _.
     in_memory m ret 4 >>= λ _.
-    let bytes : Bytes = take len (listed h.files cookie (drop cookie (entries_of h.files (node_named d.target)))) in
+    let bytes : Bytes =
+    take len (listed h.files cookie (drop cookie (entries_of h.files (node_named d.target)))) in
     call_done (with_part (with_part m buf bytes) ret (u32_bytes (length bytes))) h
 
 -- ---- places
@@ -140,7 +156,8 @@ without_target (Some j) h = without j h
 
 -- the node k, whose path is `from`, takes the path `to`, at which j may stand
 abbrev pub renamed_over : ℕ → Option ℕ → Path → Path → Host → Host
-renamed_over k j from to h = let cleared : Host = without_target j h in record cleared { files = renamed from to cleared.files }
+renamed_over k j from to h = let cleared : Host = without_target j h in
+    record cleared { files = renamed from to cleared.files }
 
 abbrev pub is_same_node : ℕ → Option ℕ → Bool
 is_same_node k None = false
@@ -154,7 +171,8 @@ renamed_to d name source e other target m h =
     whole_path h.files e other >>= λ to.
     check_or (not (is_within_node h.files k e)) Inval >>= λ _.
     if is_same_node k (node_at h.files target) then call_done m h
-    else (gives_way h.files k (node_at h.files target) >>= λ _. call_done m (renamed_over k (node_at h.files target) from to h))
+    else (gives_way h.files k (node_at h.files target)
+    >>= λ _. call_done m (renamed_over k (node_at h.files target) from to h))
 
 abbrev pub path_rename : ℕ → ℕ → ℕ → ℕ → ℕ → ℕ → Bytes → Host → Ruling
 path_rename old_fd old_path old_len new_fd new_path new_len m h =
@@ -212,11 +230,14 @@ opened_as ret n d m h = call_done (with_part m ret (u32_bytes n)) (with_descript
 -- a node that is there is opened
 abbrev pub opened_there : ℕ → Wish → ℕ → Bytes → Host → Ruling
 opened_there k w ret m h =
-    check_or (not (has_flag w.oflags create_flag && has_flag w.oflags exclusive_flag)) Exist >>= λ _.
-    check_or (not (is_directory h.files k && (has_flag w.oflags create_flag || has_flag w.oflags truncate_flag || has_flag w.base 6))) Isdir >>= λ _.
+    check_or (not (has_flag w.oflags create_flag && has_flag w.oflags exclusive_flag)) Exist
+    >>= λ _.
+    check_or (not (is_directory h.files k && (has_flag w.oflags create_flag
+    || has_flag w.oflags truncate_flag || has_flag w.base 6))) Isdir >>= λ _.
     check_or (is_directory h.files k || not (has_flag w.oflags directory_flag)) Notdir >>= λ _.
     free_number h >>= λ n.
-    opened_as ret n (new_descriptor (is_directory h.files k) k w.fdflags w.base w.inheriting) m (record h { files = cut_if (has_flag w.oflags truncate_flag) k h.files })
+    opened_as ret n (new_descriptor (is_directory h.files k) k w.fdflags w.base w.inheriting) m
+    (record h { files = cut_if (has_flag w.oflags truncate_flag) k h.files })
 
 -- a file is made and opened where nothing is
 abbrev pub opened_new : WalkEnd → Wish → ℕ → Bytes → Host → Ruling
@@ -226,7 +247,8 @@ opened_new place w ret m h =
     whole_path h.files d name >>= λ p.
     free_number h >>= λ n.
     a_free_node h.files >>= λ _.
-    opened_as ret n (new_descriptor false h.files.next w.fdflags w.base w.inheriting) m (record h { files = created p (File []) h.files }))
+    opened_as ret n (new_descriptor false h.files.next w.fdflags w.base w.inheriting) m
+    (record h { files = created p (File []) h.files }))
 
 abbrev pub opened_at : Option ℕ → WalkEnd → Wish → ℕ → Bytes → Host → Ruling
 opened_at None place w ret m h = opened_new place w ret m h
@@ -241,7 +263,8 @@ path_open fd dirflags path len w ret m h =
     needs (has_flag w.oflags truncate_flag) path_filestat_set_size_right d >>= λ _.
     within_rights w.base d.inheriting >>= λ _.
     within_rights w.inheriting d.inheriting >>= λ _.
-    check_or (nat_le dirflags 1 && nat_le w.oflags 15 && nat_le w.fdflags 31 && not (has_flag w.oflags create_flag && has_flag w.oflags directory_flag)) Inval >>= λ _.
+    check_or (nat_le dirflags 1 && nat_le w.oflags 15 && nat_le w.fdflags 31
+    && not (has_flag w.oflags create_flag && has_flag w.oflags directory_flag)) Inval >>= λ _.
     lent m path len >>= λ bytes.
     in_memory m ret 4 >>= λ _.
     formed bytes >>= λ names.

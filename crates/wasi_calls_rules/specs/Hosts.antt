@@ -1,7 +1,10 @@
--- The host's side of a process (this project's own): files, descriptors, streams, and what it was configured with.
-use Rattle.std.specs.Prelude.{◌≡◌, ℕ, ◌<◌, ◌≤◌, ◌^◌, ◌==◌, if◌then◌else◌, Bool, true, false, List, [], ◌∷◌, length, replicate, Option, Some, None, IfSome, slice_get}
+-- The host's side of a process (this project's own): files, descriptors, streams, and what it was
+-- configured with.
+use Rattle.std.specs.Prelude.{◌≡◌, ℕ, ◌<◌, ◌≤◌, ◌^◌, ◌==◌, if◌then◌else◌, Bool, true, false, List}
+use Rattle.std.specs.Prelude.{[], ◌∷◌, length, replicate, Option, Some, None, IfSome, slice_get}
 use Rattle.std.specs.List.{AllByRecursion}
-use Rattle.wasi_abi.specs.rules.Numbers.{are_within, input_rights, output_rights, directory_rights, all_rights}
+use Rattle.wasi_abi.specs.rules.Numbers.{are_within, input_rights, output_rights, directory_rights}
+use Rattle.wasi_abi.specs.rules.Numbers.{all_rights}
 use Rattle.wasi_abi.specs.rules.Answers.{IsNoNewline, AreBytes, IsTime}
 use Rattle.file_tree.specs.rules.Files.{Files, FileNode, IsFiles, node_of, used, fresh}
 use Rattle.wasi_calls_rules.specs.declared.limits.TheConstants.{DESCRIPTORS, LINE_BYTES}
@@ -23,7 +26,8 @@ pub record Line : Type 0 where
   pub stream : ℕ
   pub text : List ℕ
 
--- What the calls read and change. `limit` is that of request texts and of random bytes, and `room` that of all files, in bytes.
+-- What the calls read and change. `limit` is that of request texts and of random bytes, and `room`
+-- that of all files, in bytes.
 pub record Host : Type 0 where
   pub files : Files
   pub descriptors : List (Option Descriptor)
@@ -50,7 +54,13 @@ stream n rights = record { target = Stream n; offset = 0; flags = 0; base = righ
 abbrev pub first_descriptors : List (Option Descriptor)
 first_descriptors =
     Some (stream 0 input_rights) ∷ Some (stream 1 output_rights) ∷ Some (stream 2 output_rights)
-    ∷ Some (record { target = Node 1; offset = 0; flags = 0; base = directory_rights; inheriting = all_rights }) ∷ replicate 60 None
+    ∷ Some (record {
+      target = Node 1;
+      offset = 0;
+      flags = 0;
+      base = directory_rights;
+      inheriting = all_rights;
+    }) ∷ replicate 60 None
 
 -- nothing was read or written yet, and there is an empty root
 abbrev pub first_host : ℕ → ℕ → List (List ℕ) → List (List ℕ) → Host
@@ -113,7 +123,8 @@ pub record IsHost (h : Host) : Type 0 where
   -- all files are within their room
   pub within : used h.files ≤ h.room
   pub places : length h.descriptors ≡ DESCRIPTORS
-  pub descriptors : AllByRecursion (λ (o : Option Descriptor). IfSome o (IsDescriptor h.files)) h.descriptors
+  pub descriptors : AllByRecursion (λ (o : Option Descriptor).
+      IfSome o (IsDescriptor h.files)) h.descriptors
   -- a descriptor that names a stream is that stream's, and 3 names the root
   pub streams : (n s : ℕ) (d : Descriptor) → slice_get h.descriptors n ≡ Some (Some d)
       → d.target ≡ Stream s → IsStreamAt n s d
@@ -123,4 +134,5 @@ pub record IsHost (h : Host) : Type 0 where
   pub first : IsUnfinished h.first
   pub second : IsUnfinished h.second
   -- a removed node is one that a descriptor names
-  pub open_nodes : (k : ℕ) → IsRemoved h.files k → (n : ℕ) × (d : Descriptor) × (slice_get h.descriptors n ≡ Some (Some d)) × (d.target ≡ Node k)
+  pub open_nodes : (k : ℕ) → IsRemoved h.files k → (n : ℕ) × (d : Descriptor)
+      × (slice_get h.descriptors n ≡ Some (Some d)) × (d.target ≡ Node k)

@@ -1,17 +1,23 @@
--- The rules of the calls that move bytes between memory and files or streams (this project's profile).
-use Rattle.std.specs.Prelude.{ℕ, ◌+◌, ◌==◌, max, if◌then◌else◌, Bool, true, false, [], ◌∷◌, ◌++◌, length, take, drop, Option, Result, Ok, Err}
+-- The rules of the calls that move bytes between memory and files or streams (this project's
+-- profile).
+use Rattle.std.specs.Prelude.{ℕ, ◌+◌, ◌==◌, max, if◌then◌else◌, Bool, true, false, [], ◌∷◌, ◌++◌}
+use Rattle.std.specs.Prelude.{length, take, drop, Option, Result, Ok, Err}
 use Rattle.wasi_abi.specs.declared.errno.Errno.TheVariants.{Inval}
 use Rattle.wasi_abi.specs.declared.answer.Kind.TheVariants as kind
 use Rattle.wasi_abi.specs.declared.answer.Answer.{Answer}
 use Rattle.wasi_abi.specs.declared.answer.Answer.TheVariants as answer
-use Rattle.wasi_abi.specs.rules.Numbers.{fd_read_right, fd_seek_right, fd_write_right, append_flag, has_flag}
+use Rattle.wasi_abi.specs.rules.Numbers.{fd_read_right, fd_seek_right, fd_write_right, append_flag}
+use Rattle.wasi_abi.specs.rules.Numbers.{has_flag}
 use Rattle.wasi_abi.specs.rules.Answers.{newline}
 use Rattle.wasi_abi.specs.rules.Layouts.{u32_bytes}
 use Rattle.guest_memory.specs.rules.Bytes.{with_part}
 use Rattle.file_tree.specs.rules.Bytes.{written}
 use Rattle.file_tree.specs.rules.Files.{bytes_of_node, with_file_bytes}
 use Rattle.wasi_calls_rules.specs.Hosts.{Target, Stream, Node, Descriptor, Host}
-use Rattle.wasi_calls_rules.specs.Checks.{Bytes, Halt, Refuses, Ruling, ◌>>=◌, open_descriptor, a_file, no_directory, with_right, in_memory, buffers, few_buffers, movable, gathered, scattered, node_named, answered_by}
+use Rattle.wasi_calls_rules.specs.Checks.{Bytes, Halt, Refuses, Ruling, ◌>>=◌, open_descriptor}
+use Rattle.wasi_calls_rules.specs.Checks.{a_file, no_directory, with_right, in_memory, buffers}
+use Rattle.wasi_calls_rules.specs.Checks.{few_buffers, movable, gathered, scattered, node_named}
+use Rattle.wasi_calls_rules.specs.Checks.{answered_by}
 use Rattle.wasi_calls_rules.specs.Lines.{stream_written}
 use Rattle.wasi_calls_rules.specs.Small.{call_done, with_descriptor, roomy}
 
@@ -36,8 +42,8 @@ abbrev pub has_bytes : Bytes → Bool
 has_bytes [] = false
 has_bytes (b ∷ bytes) = true
 
--- A read of at least one byte gives bytes that were not read yet. Where there are none it asks for a request, unless
--- input has ended.
+-- A read of at least one byte gives bytes that were not read yet. Where there are none it asks for
+-- a request, unless input has ended.
 abbrev pub input_read : ℕ → Option Answer → Host → Result Got Halt
 input_read n given h =
     if n == 0 then Ok (record { bytes = []; host = h })
@@ -53,11 +59,15 @@ file_read h k offset n = take n (drop offset (bytes_of_node h.files k))
 abbrev pub moved_to : ℕ → Descriptor → ℕ → Host → Host
 moved_to fd d offset h = with_descriptor fd (record d { offset = offset }) h
 
--- what a read of a descriptor gives: of a stream its input, of a file what stands at its offset, which moves on
+-- what a read of a descriptor gives: of a stream its input, of a file what stands at its offset,
+-- which moves on
 abbrev pub target_read : Target → ℕ → Descriptor → ℕ → Option Answer → Host → Result Got Halt
 target_read (Stream s) fd d n given h = input_read n given h
 target_read (Node k) fd d n given h =
-    Ok (record { bytes = file_read h k d.offset n; host = moved_to fd d (d.offset + length (file_read h k d.offset n)) h })
+    Ok (record {
+      bytes = file_read h k d.offset n;
+      host = moved_to fd d (d.offset + length (file_read h k d.offset n)) h;
+    })
 
 abbrev pub fd_read : ℕ → ℕ → ℕ → ℕ → Option Answer → Bytes → Host → Ruling
 fd_read fd iovs count ret given m h =
@@ -93,11 +103,15 @@ abbrev pub file_written : ℕ → ℕ → Bytes → Host → Result Host Halt
 file_written k offset [] h = Ok h
 file_written k offset (b ∷ bytes) h =
     roomy h k (size_after (bytes_of_node h.files k) offset (b ∷ bytes)) >>= λ _.
-    Ok (record h { files = with_file_bytes k (written (bytes_of_node h.files k) offset (b ∷ bytes)) h.files })
+    Ok (record h {
+      files = with_file_bytes k (written (bytes_of_node h.files k) offset (b
+          ∷ bytes)) h.files;
+    })
 
 -- where a write to a file begins: at its offset, or with `append` at its end
 abbrev pub write_offset : Host → ℕ → Descriptor → ℕ
-write_offset h k d = if has_flag d.flags append_flag then length (bytes_of_node h.files k) else d.offset
+write_offset h k d = if has_flag d.flags append_flag then length (bytes_of_node h.files k)
+    else d.offset
 
 -- the offset after a write is where it ended; after one of no bytes it stays
 abbrev pub offset_after : ℕ → ℕ → Descriptor → Bytes → Host → Host
@@ -107,7 +121,8 @@ offset_after fd offset d (b ∷ bytes) h = moved_to fd d (offset + length (b ∷
 abbrev pub target_written : Target → ℕ → Descriptor → Bytes → Host → Result Host Halt
 target_written (Stream s) fd d bytes h = Ok (stream_written s bytes h)
 target_written (Node k) fd d bytes h =
-    file_written k (write_offset h k d) bytes h >>= λ after. Ok (offset_after fd (write_offset h k d) d bytes after)
+    file_written k (write_offset h k d) bytes h
+    >>= λ after. Ok (offset_after fd (write_offset h k d) d bytes after)
 
 abbrev pub fd_write : ℕ → ℕ → ℕ → ℕ → Bytes → Host → Ruling
 fd_write fd iovs count ret m h =

@@ -1,8 +1,10 @@
 -- Paths that a guest gives: their form, and where a walk along them ends (this project's profile).
-use Rattle.std.specs.Prelude.{ℕ, ◌==◌, ◌||◌, not, nat_le, if◌then◌else◌, Bool, false, List, [], ◌∷◌, length, filter, Option, Some, None, Result, Ok, Err}
+use Rattle.std.specs.Prelude.{ℕ, ◌==◌, ◌||◌, not, nat_le, if◌then◌else◌, Bool, false, List, [], ◌∷◌}
+use Rattle.std.specs.Prelude.{length, filter, Option, Some, None, Result, Ok, Err}
 use Rattle.std.specs.List.{list_any, list_all}
 use Rattle.std.specs.Str.{is_utf8}
-use Rattle.wasi_abi.specs.declared.errno.Errno.TheVariants.{Ilseq, Inval, Nametoolong, Noent, Notdir, Notcapable}
+use Rattle.wasi_abi.specs.declared.errno.Errno.TheVariants.{Ilseq, Inval, Nametoolong, Noent}
+use Rattle.wasi_abi.specs.declared.errno.Errno.TheVariants.{Notdir, Notcapable}
 use Rattle.file_tree.specs.rules.Files.{Name, Files, slash, dot, child, is_directory, is_same_name}
 use Rattle.file_tree.specs.declared.limits.TheConstants.{PATH_BYTES, NAME_BYTES}
 use Rattle.wasi_calls_rules.specs.Checks.{Halt, Refuses, ◌>>=◌, check_or}
@@ -41,7 +43,8 @@ formed bytes =
     check_or (is_utf8 bytes) Ilseq >>= λ _.
     check_or (not (list_any (λ b. b == 0) bytes)) Inval >>= λ _.
     check_or (not (begins_with bytes slash)) Notcapable >>= λ _.
-    check_or (list_all (λ (name : Name). nat_le (length name) NAME_BYTES) (names_of bytes)) Nametoolong >>= λ _.
+    check_or (list_all (λ (name : Name). nat_le (length name) NAME_BYTES) (names_of bytes))
+    Nametoolong >>= λ _.
     Ok (names_of bytes)
 
 -- ---- the walk

@@ -9,16 +9,23 @@ use Rattle.wasi_abi.specs.declared.call.Call.TheVariants as call
 use Rattle.wasi_abi.specs.rules.Numbers.{fd_datasync_right, fd_sync_right}
 use Rattle.wasi_calls_rules.specs.Hosts.{Host}
 use Rattle.wasi_calls_rules.specs.Checks.{Bytes, Halt, Refuses, Asks, Ends, Ruling}
-use Rattle.wasi_calls_rules.specs.Small.{texts_get, texts_sizes_get, clock_res_get, clock_time_get, fd_close, fd_syncs, fd_fdstat_get, fd_fdstat_set_flags, fd_filestat_get, fd_filestat_set_size, fd_prestat_get, fd_prestat_dir_name, fd_seek, fd_tell, proc_exit, sched_yield, random_get}
+use Rattle.wasi_calls_rules.specs.Small.{texts_get, texts_sizes_get, clock_res_get, clock_time_get}
+use Rattle.wasi_calls_rules.specs.Small.{fd_close, fd_syncs, fd_fdstat_get, fd_fdstat_set_flags}
+use Rattle.wasi_calls_rules.specs.Small.{fd_filestat_get, fd_filestat_set_size, fd_prestat_get}
+use Rattle.wasi_calls_rules.specs.Small.{fd_prestat_dir_name, fd_seek, fd_tell, proc_exit}
+use Rattle.wasi_calls_rules.specs.Small.{sched_yield, random_get}
 use Rattle.wasi_calls_rules.specs.Moving.{fd_read, fd_pread, fd_write, fd_pwrite}
-use Rattle.wasi_calls_rules.specs.Entries.{fd_readdir, path_create_directory, path_filestat_get, path_remove_directory, path_unlink_file, path_rename, path_open}
+use Rattle.wasi_calls_rules.specs.Entries.{fd_readdir, path_create_directory, path_filestat_get}
+use Rattle.wasi_calls_rules.specs.Entries.{path_remove_directory, path_unlink_file, path_rename}
+use Rattle.wasi_calls_rules.specs.Entries.{path_open}
 
 -- the numbers of the arguments, in order; `given` is the outside answer, where one is there
 abbrev pub row : Call → List ℕ → Option Answer → Bytes → Host → Ruling
 row call.ArgsGet (argv ∷ buf ∷ []) given m h = texts_get h.arguments argv buf m h
 row call.ArgsSizesGet (count ∷ size ∷ []) given m h = texts_sizes_get h.arguments count size m h
 row call.EnvironGet (environ ∷ buf ∷ []) given m h = texts_get h.environment environ buf m h
-row call.EnvironSizesGet (count ∷ size ∷ []) given m h = texts_sizes_get h.environment count size m h
+row call.EnvironSizesGet (count ∷ size ∷ []) given m h =
+    texts_sizes_get h.environment count size m h
 row call.ClockResGet (id ∷ ret ∷ []) given m h = clock_res_get id ret m h
 row call.ClockTimeGet (id ∷ precision ∷ ret ∷ []) given m h = clock_time_get id ret given m h
 row call.FdClose (fd ∷ []) given m h = fd_close fd m h
@@ -27,22 +34,35 @@ row call.FdFdstatGet (fd ∷ ret ∷ []) given m h = fd_fdstat_get fd ret m h
 row call.FdFdstatSetFlags (fd ∷ flags ∷ []) given m h = fd_fdstat_set_flags fd flags m h
 row call.FdFilestatGet (fd ∷ ret ∷ []) given m h = fd_filestat_get fd ret m h
 row call.FdFilestatSetSize (fd ∷ size ∷ []) given m h = fd_filestat_set_size fd size m h
-row call.FdPread (fd ∷ iovs ∷ count ∷ offset ∷ ret ∷ []) given m h = fd_pread fd iovs count offset ret m h
+row call.FdPread (fd ∷ iovs ∷ count ∷ offset ∷ ret ∷ []) given m h =
+    fd_pread fd iovs count offset ret m h
 row call.FdPrestatGet (fd ∷ ret ∷ []) given m h = fd_prestat_get fd ret m h
 row call.FdPrestatDirName (fd ∷ path ∷ len ∷ []) given m h = fd_prestat_dir_name fd path len m h
-row call.FdPwrite (fd ∷ iovs ∷ count ∷ offset ∷ ret ∷ []) given m h = fd_pwrite fd iovs count offset ret m h
+row call.FdPwrite (fd ∷ iovs ∷ count ∷ offset ∷ ret ∷ []) given m h =
+    fd_pwrite fd iovs count offset ret m h
 row call.FdRead (fd ∷ iovs ∷ count ∷ ret ∷ []) given m h = fd_read fd iovs count ret given m h
-row call.FdReaddir (fd ∷ buf ∷ len ∷ cookie ∷ ret ∷ []) given m h = fd_readdir fd buf len cookie ret m h
+row call.FdReaddir (fd ∷ buf ∷ len ∷ cookie ∷ ret ∷ []) given m h =
+    fd_readdir fd buf len cookie ret m h
 row call.FdSeek (fd ∷ delta ∷ whence ∷ ret ∷ []) given m h = fd_seek fd delta whence ret m h
 row call.FdSync (fd ∷ []) given m h = fd_syncs fd_sync_right fd m h
 row call.FdTell (fd ∷ ret ∷ []) given m h = fd_tell fd ret m h
 row call.FdWrite (fd ∷ iovs ∷ count ∷ ret ∷ []) given m h = fd_write fd iovs count ret m h
-row call.PathCreateDirectory (fd ∷ path ∷ len ∷ []) given m h = path_create_directory fd path len m h
-row call.PathFilestatGet (fd ∷ flags ∷ path ∷ len ∷ ret ∷ []) given m h = path_filestat_get fd flags path len ret m h
-row call.PathOpen (fd ∷ dirflags ∷ path ∷ len ∷ oflags ∷ base ∷ inheriting ∷ fdflags ∷ ret ∷ []) given m h =
-    path_open fd dirflags path len (record { oflags = oflags; base = base; inheriting = inheriting; fdflags = fdflags }) ret m h
-row call.PathRemoveDirectory (fd ∷ path ∷ len ∷ []) given m h = path_remove_directory fd path len m h
-row call.PathRename (old_fd ∷ old_path ∷ old_len ∷ new_fd ∷ new_path ∷ new_len ∷ []) given m h = path_rename old_fd old_path old_len new_fd new_path new_len m h
+row call.PathCreateDirectory (fd ∷ path ∷ len ∷ []) given m h =
+    path_create_directory fd path len m h
+row call.PathFilestatGet (fd ∷ flags ∷ path ∷ len ∷ ret ∷ []) given m h =
+    path_filestat_get fd flags path len ret m h
+row call.PathOpen (fd ∷ dirflags ∷ path ∷ len ∷ oflags ∷ base ∷ inheriting ∷ fdflags ∷ ret
+    ∷ []) given m h =
+    path_open fd dirflags path len (record {
+      oflags = oflags;
+      base = base;
+      inheriting = inheriting;
+      fdflags = fdflags;
+    }) ret m h
+row call.PathRemoveDirectory (fd ∷ path ∷ len ∷ []) given m h =
+    path_remove_directory fd path len m h
+row call.PathRename (old_fd ∷ old_path ∷ old_len ∷ new_fd ∷ new_path ∷ new_len ∷ []) given m h =
+    path_rename old_fd old_path old_len new_fd new_path new_len m h
 row call.PathUnlinkFile (fd ∷ path ∷ len ∷ []) given m h = path_unlink_file fd path len m h
 row call.ProcExit (code ∷ []) given m h = proc_exit code
 row call.SchedYield [] given m h = sched_yield m h
@@ -56,7 +76,8 @@ IsSync call.FdDatasync = Unit {0}
 IsSync call.FdSync = Unit {0}
 IsSync _ = ⊥
 
--- how a call of the code ends: with an error number or none, with a wish, with the end of the process, or for want of memory
+-- how a call of the code ends: with an error number or none, with a wish, with the end of the
+-- process, or for want of memory
 pub data Told : Type 0 where
   IsDone : Option Errno → Told
   IsAsk : Kind → Told

@@ -1,21 +1,31 @@
--- The rules of the calls on arguments, clocks, single descriptors and the process (this project's profile). Each reads in the
--- order of its checks, and then says what it puts into memory and what it changes.
-use Rattle.std.specs.Prelude.{ℕ, ◌+◌, ◌*◌, ◌^◌, ◌==◌, not, nat_le, nat_lt, max, if◌then◌else◌, Bool, true, false, List, [], ◌∷◌, ◌++◌, length, slice_set, Option, Some, None, Result, Ok, Err, ℤ, pos, ◌+ℤ◌, negsuc}
+-- The rules of the calls on arguments, clocks, single descriptors and the process (this project's
+-- profile). Each reads in the order of its checks, and then says what it puts into memory and what
+-- it changes.
+use Rattle.std.specs.Prelude.{ℕ, ◌+◌, ◌*◌, ◌^◌, ◌==◌, not, nat_le, nat_lt, max, if◌then◌else◌, Bool}
+use Rattle.std.specs.Prelude.{true, false, List, [], ◌∷◌, ◌++◌, length, slice_set, Option, Some}
+use Rattle.std.specs.Prelude.{None, Result, Ok, Err, ℤ, pos, ◌+ℤ◌, negsuc}
 use Rattle.std.specs.List.{list_any}
 use Rattle.std.specs.Int.{w64, cast_signed}
-use Rattle.wasi_abi.specs.declared.errno.Errno.TheVariants.{Badf, Fbig, Inval, Nametoolong, Nospc, Notcapable}
+use Rattle.wasi_abi.specs.declared.errno.Errno.TheVariants.{Badf, Fbig, Inval, Nametoolong, Nospc}
+use Rattle.wasi_abi.specs.declared.errno.Errno.TheVariants.{Notcapable}
 use Rattle.wasi_abi.specs.declared.answer.Kind.{Kind}
 use Rattle.wasi_abi.specs.declared.answer.Kind.TheVariants as kind
 use Rattle.wasi_abi.specs.declared.answer.Answer.{Answer}
 use Rattle.wasi_abi.specs.declared.answer.Answer.TheVariants as answer
-use Rattle.wasi_abi.specs.rules.Numbers.{fd_fdstat_set_flags_right, fd_filestat_get_right, fd_filestat_set_size_right, fd_seek_right, fd_tell_right, character_device, directory_type, regular_file}
-use Rattle.wasi_abi.specs.rules.Layouts.{u32_bytes, u64_bytes, fdstat_bytes, filestat_bytes, prestat_bytes}
+use Rattle.wasi_abi.specs.rules.Numbers.{fd_fdstat_set_flags_right, fd_filestat_get_right}
+use Rattle.wasi_abi.specs.rules.Numbers.{fd_filestat_set_size_right, fd_seek_right, fd_tell_right}
+use Rattle.wasi_abi.specs.rules.Numbers.{character_device, directory_type, regular_file}
+use Rattle.wasi_abi.specs.rules.Layouts.{u32_bytes, u64_bytes, fdstat_bytes, filestat_bytes}
+use Rattle.wasi_abi.specs.rules.Layouts.{prestat_bytes}
 use Rattle.guest_memory.specs.rules.Bytes.{with_part}
 use Rattle.file_tree.specs.rules.Bytes.{resized}
-use Rattle.file_tree.specs.rules.Files.{Files, slash, path_of, is_directory, bytes_of_node, used, with_file_bytes, forgotten}
+use Rattle.file_tree.specs.rules.Files.{Files, slash, path_of, is_directory, bytes_of_node, used}
+use Rattle.file_tree.specs.rules.Files.{with_file_bytes, forgotten}
 use Rattle.file_tree.specs.declared.limits.TheConstants.{FILE_BYTES}
 use Rattle.wasi_calls_rules.specs.Hosts.{Target, Stream, Node, Descriptor, Host}
-use Rattle.wasi_calls_rules.specs.Checks.{Bytes, Halt, Refuses, Ends, Ruling, ◌>>=◌, check_or, open_descriptor, a_file, with_right, in_memory, node_named, answered_by}
+use Rattle.wasi_calls_rules.specs.Checks.{Bytes, Halt, Refuses, Ends, Ruling, ◌>>=◌, check_or}
+use Rattle.wasi_calls_rules.specs.Checks.{open_descriptor, a_file, with_right, in_memory}
+use Rattle.wasi_calls_rules.specs.Checks.{node_named, answered_by}
 
 -- a call that is done
 abbrev pub call_done : Bytes → Host → Ruling
@@ -43,7 +53,8 @@ abbrev pub texts_sizes_get : List Bytes → ℕ → ℕ → Bytes → Host → R
 texts_sizes_get texts count size m h =
     in_memory m count 4 >>= λ _.
     in_memory m size 4 >>= λ _.
-    call_done (with_part (with_part m count (u32_bytes (length texts))) size (u32_bytes (length (with_zeros texts)))) h
+    call_done (with_part (with_part m count (u32_bytes (length texts))) size
+    (u32_bytes (length (with_zeros texts)))) h
 
 -- ---- clocks
 
@@ -56,7 +67,8 @@ clock_res_get id ret m h =
 -- what the guest sees of a monotonic answer: the larger of it and the last one seen
 abbrev pub time_put : Answer → ℕ → Bytes → Host → Ruling
 time_put (answer.Monotonic n) ret m h =
-    call_done (with_part m ret (u64_bytes (max n h.last_monotonic))) (record h { last_monotonic = max n h.last_monotonic })
+    call_done (with_part m ret (u64_bytes (max n h.last_monotonic)))
+    (record h { last_monotonic = max n h.last_monotonic })
 time_put (answer.Realtime n) ret m h = call_done (with_part m ret (u64_bytes n)) h
 time_put _ ret m h = Err (Refuses Inval)
 
@@ -90,13 +102,17 @@ has_path fs k = is_some_path (path_of fs k)
 -- a removed node goes with the last descriptor that names it
 abbrev pub swept : Target → List (Option Descriptor) → Files → Files
 swept (Stream s) ds fs = fs
-swept (Node k) ds fs = if has_path fs k then fs else if list_any (names k) ds then fs else forgotten k fs
+swept (Node k) ds fs = if has_path fs k then fs else if list_any (names k) ds then fs
+    else forgotten k fs
 
 abbrev pub fd_close : ℕ → Bytes → Host → Ruling
 fd_close fd m h =
     open_descriptor h fd >>= λ d.
     check_or (not (fd == 3)) Notcapable >>= λ _.
-    call_done m (record h { descriptors = slice_set h.descriptors fd None; files = swept d.target (slice_set h.descriptors fd None) h.files })
+    call_done m (record h {
+      descriptors = slice_set h.descriptors fd None;
+      files = swept d.target (slice_set h.descriptors fd None) h.files;
+    })
 
 -- a guest sync
 abbrev pub fd_syncs : ℕ → ℕ → Bytes → Host → Ruling
@@ -113,7 +129,8 @@ abbrev pub fd_fdstat_get : ℕ → ℕ → Bytes → Host → Ruling
 fd_fdstat_get fd ret m h =
     open_descriptor h fd >>= λ d.
     in_memory m ret 24 >>= λ _.
-    call_done (with_part m ret (fdstat_bytes (file_type_of h d.target) d.flags d.base d.inheriting)) h
+    call_done (with_part m ret (fdstat_bytes (file_type_of h d.target) d.flags d.base d.inheriting))
+    h
 
 -- the host with another descriptor at this number
 abbrev pub with_descriptor : ℕ → Descriptor → Host → Host
@@ -132,7 +149,9 @@ links_of fs k = if has_path fs k then 1 else 0
 
 abbrev pub filestat_bytes_of : Host → Target → Bytes
 filestat_bytes_of h (Stream s) = filestat_bytes 0 character_device 1 0
-filestat_bytes_of h (Node k) = filestat_bytes k (file_type_of h (Node k)) (links_of h.files k) (length (bytes_of_node h.files k))
+filestat_bytes_of h (Node k) =
+    filestat_bytes k (file_type_of h (Node k)) (links_of h.files k)
+    (length (bytes_of_node h.files k))
 
 abbrev pub fd_filestat_get : ℕ → ℕ → Bytes → Host → Ruling
 fd_filestat_get fd ret m h =
@@ -153,7 +172,10 @@ fd_filestat_set_size fd size m h =
     a_file h d >>= λ _.
     with_right fd_filestat_set_size_right d >>= λ _.
     roomy h (node_named d.target) size >>= λ _.
-    call_done m (record h { files = with_file_bytes (node_named d.target) (resized (bytes_of_node h.files (node_named d.target)) size) h.files })
+    call_done m (record h {
+      files = with_file_bytes (node_named d.target)
+          (resized (bytes_of_node h.files (node_named d.target)) size) h.files;
+    })
 
 -- descriptor 3 alone was opened for the guest before it began, as `/`
 abbrev pub fd_prestat_get : ℕ → ℕ → Bytes → Host → Ruling
@@ -173,7 +195,8 @@ fd_prestat_dir_name fd path len m h =
 
 -- where a seek counts from: the start, the offset, or the end
 abbrev pub seek_base : Host → Descriptor → ℕ → ℕ
-seek_base h d whence = if whence == 0 then 0 else if whence == 1 then d.offset else length (bytes_of_node h.files (node_named d.target))
+seek_base h d whence = if whence == 0 then 0 else if whence == 1 then d.offset
+    else length (bytes_of_node h.files (node_named d.target))
 
 -- an offset is below 2 ^ 63
 abbrev pub file_offset : ℤ → Result ℕ Halt
@@ -188,7 +211,8 @@ fd_seek fd delta whence ret m h =
     check_or (nat_le whence 2) Inval >>= λ _.
     in_memory m ret 8 >>= λ _.
     file_offset (pos (seek_base h d whence) +ℤ cast_signed w64 delta) >>= λ offset.
-    call_done (with_part m ret (u64_bytes offset)) (with_descriptor fd (record d { offset = offset }) h)
+    call_done (with_part m ret (u64_bytes offset))
+    (with_descriptor fd (record d { offset = offset }) h)
 
 abbrev pub fd_tell : ℕ → ℕ → Bytes → Host → Ruling
 fd_tell fd ret m h =
@@ -215,4 +239,5 @@ abbrev pub random_get : ℕ → ℕ → Option Answer → Bytes → Host → Rul
 random_get buf len given m h =
     check_or (nat_le len h.limit) Inval >>= λ _.
     in_memory m buf len >>= λ _.
-    if len == 0 then call_done m h else (answered_by h (kind.Random len) given >>= λ a. random_put a buf m h)
+    if len == 0 then call_done m h else (answered_by h (kind.Random len) given
+    >>= λ a. random_put a buf m h)

@@ -143,8 +143,8 @@ pub fn monotonic_clocks_never_fall()
     ensures told { LastTimesAreTold }
 {}
 
-/// A process begins with a host. What a call that is done leaves of a host is one, where memory holds
-/// bytes.
+/// A process begins with a host. What a call that is done leaves of a host is one, where memory
+/// holds bytes.
 pub fn calls_keep_hosts()
     ensures first { FirstHostsAreHosts }
     ensures kept { RowsKeepHosts }

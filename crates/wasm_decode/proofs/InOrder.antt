@@ -1,12 +1,17 @@
 -- What sections hold is the same, read in the order of the bytes.
-use Rattle.std.proofs.Common.{◌≡◌, ℕ, ◌<◌, eqb, List, [], length, Option, Some, None, refl, ◌∙◌, arith}
+use Rattle.std.proofs.Common.{◌≡◌, ℕ, ◌<◌, eqb, List, [], length, Option, Some, None, refl, ◌∙◌}
+use Rattle.std.proofs.Common.{arith}
 use Rattle.wasm_syntax.specs.declared.types.FunctionType.{FunctionType}
 use Rattle.wasm_syntax.specs.declared.module.Module.{Module}
 use Rattle.wasm_syntax.specs.declared.module.Import.{Import}
 use Rattle.wasm_syntax.specs.declared.limits.TheConstants.{GLOBALS}
-use Rattle.wasm_syntax.specs.laws.ReadingItems.{◌>>=◌, check, leb_u32_at, vector_at, vector_up_to_at, sized_at, memory_type_at}
+use Rattle.wasm_syntax.specs.laws.ReadingItems.{◌>>=◌, check, leb_u32_at, vector_at}
+use Rattle.wasm_syntax.specs.laws.ReadingItems.{vector_up_to_at, sized_at, memory_type_at}
 use Rattle.wasm_syntax.specs.laws.ReadingModules.{export_at, start_at, field_at, functions_of}
-use Rattle.wasm_syntax.specs.laws.ReadingWithin.{function_type_within_at, import_within_at, table_type_within_at, global_within_at, element_within_at, data_within_at, code_within_at, functions_left, contents_within_at}
+use Rattle.wasm_syntax.specs.laws.ReadingWithin.{function_type_within_at, import_within_at}
+use Rattle.wasm_syntax.specs.laws.ReadingWithin.{table_type_within_at, global_within_at}
+use Rattle.wasm_syntax.specs.laws.ReadingWithin.{element_within_at, data_within_at, code_within_at}
+use Rattle.wasm_syntax.specs.laws.ReadingWithin.{functions_left, contents_within_at}
 use Rattle.wasm_decode.proofs.ItemLemmas.Binds.{bind_same}
 use Rattle.wasm_decode.specs.Contents.{functions_at, contents_read}
 use Rattle.wasm_decode.proofs.Imports.{imports_step}
@@ -25,7 +30,18 @@ rest_within body types imports left =
     field_at (vector_at (sized_at code_within_at)) [] (body 10) >>= λ codes.
     field_at (vector_at data_within_at) [] (body 11) >>= λ data_segments.
     functions_of function_types codes >>= λ functions.
-    Some (record { types = types; imports = imports; functions = functions; tables = tables; memories = memories; globals = globals; exports = exports; start = start; elements = elements; data_segments = data_segments })
+    Some (record {
+      types = types;
+      imports = imports;
+      functions = functions;
+      tables = tables;
+      memories = memories;
+      globals = globals;
+      exports = exports;
+      start = start;
+      elements = elements;
+      data_segments = data_segments;
+    })
 
 -- the same, by functions
 abbrev rest_read : (ℕ → Option (List ℕ)) → List FunctionType → List Import → ℕ → Option Module
@@ -40,9 +56,22 @@ rest_read body types imports left =
     field_at (functions_at function_types) [] (body 10) >>= λ functions.
     field_at (vector_at data_within_at) [] (body 11) >>= λ data_segments.
     check (eqb (length functions) (length function_types)) >>= λ _.
-    Some (record { types = types; imports = imports; functions = functions; tables = tables; memories = memories; globals = globals; exports = exports; start = start; elements = elements; data_segments = data_segments })
+    Some (record {
+      types = types;
+      imports = imports;
+      functions = functions;
+      tables = tables;
+      memories = memories;
+      globals = globals;
+      exports = exports;
+      start = start;
+      elements = elements;
+      data_segments = data_segments;
+    })
 
-rest_are : (body : ℕ → Option (List ℕ)) (types : List FunctionType) (imports : List Import) (left : ℕ) → rest_within body types imports left ≡ rest_read body types imports left
+rest_are : (body : ℕ
+    → Option (List ℕ)) (types : List FunctionType) (imports : List Import) (left : ℕ)
+    → rest_within body types imports left ≡ rest_read body types imports left
 rest_are body types imports left =
     bind_same (field_at (vector_up_to_at leb_u32_at left) [] (body 3)) _ _ (λ function_types.
     bind_same (field_at (vector_at table_type_within_at) [] (body 4)) _ _ (λ tables.
@@ -51,18 +80,33 @@ rest_are body types imports left =
     bind_same (field_at (vector_at export_at) [] (body 7)) _ _ (λ exports.
     bind_same (field_at start_at None (body 8)) _ _ (λ start_function.
     bind_same (field_at (vector_at element_within_at) [] (body 9)) _ _ (λ elements.
-    codes_step function_types (body 10) (field_at (vector_at data_within_at) [] (body 11)) (λ data_segments functions. Some (record { types = types; imports = imports; functions = functions; tables = tables; memories = memories; globals = globals; exports = exports; start = start_function; elements = elements; data_segments = data_segments })))))))))
+    codes_step function_types (body 10) (field_at (vector_at data_within_at) [] (body 11))
+    (λ data_segments functions. Some (record {
+      types = types;
+      imports = imports;
+      functions = functions;
+      tables = tables;
+      memories = memories;
+      globals = globals;
+      exports = exports;
+      start = start_function;
+      elements = elements;
+      data_segments = data_segments;
+    })))))))))
 
 pub contents_are : (body : ℕ → Option (List ℕ)) → contents_within_at body ≡ contents_read body
 unfolding contents_within_at contents_read
 contents_are body =
     bind_same (field_at (vector_at function_type_within_at) [] (body 1)) _ _ (λ types.
-    bind_same (field_at (vector_at import_within_at) [] (body 2)) (λ imports. functions_left imports >>= λ left. rest_within body types imports left) (λ imports. functions_left imports >>= λ left. rest_read body types imports left)
+    bind_same (field_at (vector_at import_within_at) [] (body 2)) (λ imports. functions_left imports
+    >>= λ left. rest_within body types imports left) (λ imports. functions_left imports
+    >>= λ left. rest_read body types imports left)
     (λ imports. bind_same (functions_left imports) _ _ (λ left. rest_are body types imports left))
     ∙ imports_step (body 2) (λ imports left. rest_read body types imports left))
 
 -- it stands on the bytes under the ids of sections alone
-pub contents_same : (b c : ℕ → Option (List ℕ)) → ((id : ℕ) → 0 < id → id < 12 → b id ≡ c id) → contents_within_at b ≡ contents_within_at c
+pub contents_same : (b c : ℕ → Option (List ℕ)) → ((id : ℕ) → 0 < id → id < 12 → b id ≡ c id)
+    → contents_within_at b ≡ contents_within_at c
 unfolding contents_within_at
 contents_same b c h =
     rw (

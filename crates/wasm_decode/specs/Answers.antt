@@ -15,6 +15,7 @@ TakesAll (Ok x) read = read ≡ Some x
 TakesAll (Err e) read = read ≡ None
 
 -- an item, seen through f, and then these bytes are left; a refusal where nothing stands there
-abbrev pub TakesAs : {X Y : Type 0} → (X → Y) → Result X ReadRefusal → List ℕ → Option (Y × List ℕ) → Type 0
+abbrev pub TakesAs : {X Y : Type 0} → (X → Y) → Result X ReadRefusal → List ℕ → Option (Y × List ℕ)
+    → Type 0
 TakesAs f (Ok x) rest read = read ≡ Some (f x, rest)
 TakesAs f (Err e) rest read = read ≡ None

@@ -1,4 +1,5 @@
--- What sections hold, in the order in which it is read: limits on counts before their items, and functions with their code.
+-- What sections hold, in the order in which it is read: limits on counts before their items, and
+-- functions with their code.
 use Rattle.std.specs.Prelude.{ℕ, ◌==◌, List, [], ◌∷◌, ◌++◌, length, Option, Some, None}
 use Rattle.wasm_syntax.specs.declared.module.Module.{Module}
 use Rattle.wasm_syntax.specs.declared.module.Function.{Function}
@@ -6,9 +7,13 @@ use Rattle.wasm_syntax.specs.declared.module.ImportItem.{ImportItem}
 use Rattle.wasm_syntax.specs.declared.module.ImportItem.TheVariants as import
 use Rattle.wasm_decode.specs.declared.imported.Imports.{Imports}
 use Rattle.wasm_syntax.specs.declared.limits.TheConstants.{FUNCTIONS, GLOBALS}
-use Rattle.wasm_syntax.specs.laws.ReadingItems.{◌>>=◌, check, leb_u32_at, vector_at, vector_up_to_at, sized_at, memory_type_at}
+use Rattle.wasm_syntax.specs.laws.ReadingItems.{◌>>=◌, check, leb_u32_at, vector_at}
+use Rattle.wasm_syntax.specs.laws.ReadingItems.{vector_up_to_at, sized_at, memory_type_at}
 use Rattle.wasm_syntax.specs.laws.ReadingModules.{export_at, start_at, field_at}
-use Rattle.wasm_syntax.specs.laws.ReadingWithin.{function_type_within_at, import_within_at, table_type_within_at, global_within_at, element_within_at, data_within_at, code_within_at, functions_left}
+use Rattle.wasm_syntax.specs.laws.ReadingWithin.{function_type_within_at, import_within_at}
+use Rattle.wasm_syntax.specs.laws.ReadingWithin.{table_type_within_at, global_within_at}
+use Rattle.wasm_syntax.specs.laws.ReadingWithin.{element_within_at, data_within_at, code_within_at}
+use Rattle.wasm_syntax.specs.laws.ReadingWithin.{functions_left}
 
 -- how many functions an import is
 abbrev pub functions_of_item : ImportItem → ℕ
@@ -28,11 +33,16 @@ no_imports = record { items = []; functions_left = FUNCTIONS }
 unfoldable pub functions_onto_at : List ℕ → List Function → List ℕ → Option (List Function × List ℕ)
 functions_onto_at [] functions bytes = Some (functions, bytes)
 functions_onto_at (t ∷ ts) functions bytes =
-    sized_at code_within_at bytes >>= λ code. functions_onto_at ts (functions ++ record { function_type = t; code = code.0 } ∷ []) code.1
+    sized_at code_within_at bytes
+    >>= λ code. functions_onto_at ts (functions ++ record {
+      function_type = t;
+      code = code.0;
+    } ∷ []) code.1
 
 -- as many code entries as there are types
 unfoldable pub functions_at : List ℕ → List ℕ → Option (List Function × List ℕ)
-functions_at types bytes = leb_u32_at bytes >>= λ count. check (count.0 == length types) >>= λ _. functions_onto_at types [] count.1
+functions_at types bytes = leb_u32_at bytes >>= λ count. check (count.0 == length types)
+    >>= λ _. functions_onto_at types [] count.1
 
 unfoldable pub contents_read : (ℕ → Option (List ℕ)) → Option Module
 contents_read body =
@@ -48,4 +58,15 @@ contents_read body =
     field_at (functions_at function_types) [] (body 10) >>= λ functions.
     field_at (vector_at data_within_at) [] (body 11) >>= λ data_segments.
     check (length functions == length function_types) >>= λ _.
-    Some (record { types = types; imports = imports.items; functions = functions; tables = tables; memories = memories; globals = globals; exports = exports; start = start; elements = elements; data_segments = data_segments })
+    Some (record {
+      types = types;
+      imports = imports.items;
+      functions = functions;
+      tables = tables;
+      memories = memories;
+      globals = globals;
+      exports = exports;
+      start = start;
+      elements = elements;
+      data_segments = data_segments;
+    })

@@ -1,5 +1,6 @@
 -- A module's sections by their ids.
-use Rattle.std.specs.Prelude.{◌≡◌, ℕ, ◌<◌, ◌==◌, ◌||◌, ◌&&◌, nat_lt, if◌then◌else◌, Bool, true, is_some, List, Option, Some, None, slice_index_or}
+use Rattle.std.specs.Prelude.{◌≡◌, ℕ, ◌<◌, ◌==◌, ◌||◌, ◌&&◌, nat_lt, if◌then◌else◌, Bool, true}
+use Rattle.std.specs.Prelude.{is_some, List, Option, Some, None, slice_index_or}
 use Rattle.wasm_decode.specs.declared.items.span.Span.{Span}
 use Rattle.wasm_syntax.specs.rules.Modules.{Section, AreSections, body_of}
 use Rattle.wasm_syntax.specs.laws.ReadingItems.{◌>>=◌, check, byte_at, bytes_at, name_at}
@@ -10,13 +11,15 @@ use Rattle.wasm_syntax.specs.laws.ReadingItems.{◌>>=◌, check, byte_at, bytes
 abbrev pub may_stand : ℕ → ℕ → Bool
 may_stand last id = nat_lt id 12 && (id == 0 || nat_lt last id)
 
--- whether these are the bytes of a section with this id, as far as the order of sections is concerned
+-- whether these are the bytes of a section with this id, as far as the order of sections is
+-- concerned
 abbrev pub is_body : ℕ → List ℕ → Bool
 is_body id body = if id == 0 then is_some (name_at body) else true
 
 unfoldable pub next_at : ℕ → List ℕ → Option (Section × List ℕ)
 next_at last bytes =
-    byte_at bytes >>= λ id. check (may_stand last id.0) >>= λ _. bytes_at id.1 >>= λ body. check (is_body id.0 body.0) >>= λ _.
+    byte_at bytes >>= λ id. check (may_stand last id.0) >>= λ _. bytes_at id.1
+    >>= λ body. check (is_body id.0 body.0) >>= λ _.
     Some (record { id = id.0; body = body.0 }, body.1)
 
 -- ---- all sections

@@ -37,7 +37,8 @@ mod id {
 }
 
 /// The module that the sections hold, by their bytes under their ids. They are read in the order of
-/// their ids, in which they stand. Functions without a code section are told last, as `missing_code`.
+/// their ids, in which they stand. Functions without a code section are told last, as
+/// `missing_code`.
 #[tactic(auto, unfolding(crate::specs::Contents::contents_read))]
 pub fn contents(
     alloc: Global,

@@ -6,8 +6,9 @@ ghost use Rattle.wasm_decode.specs.rules.Faults.{decode_fault, place_of};
 use crate::items::{ReadError, ReadRefusal};
 use thiserror::Error;
 
-/// Why bytes are no module, or want of memory. Bytes are counted from 0, and read from the front: the number is that of the byte at
-/// which something begins that can't be there, be it a fixed byte, a number, or a name or vector together with its length.
+/// Why bytes are no module, or want of memory. Bytes are counted from 0, and read from the front:
+/// the number is that of the byte at which something begins that can't be there, be it a fixed
+/// byte, a number, or a name or vector together with its length.
 #[derive(Clone, Copy, Debug, PartialEq, Eq, Error)]
 pub enum DecodeFault {
     #[error("B1 Malformed")]

@@ -1,5 +1,5 @@
-//! What each section holds, or stands for where it is absent. Sections are given by their bytes under
-//! their ids.
+//! What each section holds, or stands for where it is absent. Sections are given by their bytes
+//! under their ids.
 
 ghost use Rattle.std.specs.Prelude.{◌≡◌, ◌<◌, [], None, length};
 ghost use Rattle.wasm_syntax.specs.laws.ReadingItems.{vector_at, vector_up_to_at};

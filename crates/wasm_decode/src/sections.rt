@@ -1,6 +1,7 @@
 //! A module's sections (sections 5.5.2 and 5.5.15), before what they hold is read.
 
-ghost use Rattle.std.specs.Prelude.{◌≡◌, ◌==◌, if◌then◌else◌, slice_set, ◌<◌, List, Some, MatchOption};
+ghost use Rattle.std.specs.Prelude.{◌≡◌, ◌==◌, if◌then◌else◌, slice_set, ◌<◌, List, Some};
+ghost use Rattle.std.specs.Prelude.{MatchOption};
 ghost use Rattle.wasm_syntax.specs.rules.Modules.{Section};
 ghost use Rattle.wasm_decode.specs.Answers.{TakesAs};
 ghost use Rattle.wasm_decode.specs.Sections.{may_stand, next_at, section_of, NoSections, Splits};
@@ -52,17 +53,19 @@ fn next_section<'a>(decoder: &mut Decoder<'a>, last: u8) -> Result<(u8, Span<'a>
 /// Puts a section under its id, unless it is custom.
 fn file<'a>(bodies: &mut [Option<Span<'a>>; KINDS], id: u8, body: Span<'a>)
     requires { id < 12 }
-    ensures { bodies.new ≡ (if id == 0 then bodies.old else slice_set bodies.old id (Some body.entry)) }
+    ensures { bodies.new ≡ (if id == 0 then bodies.old
+        else slice_set bodies.old id (Some body.entry)) }
 {
     if id != CUSTOM {
         bodies[id as usize] = Some(body);
     }
 }
 
-/// The sections of all bytes, up to the first fault between them. What the sections hold comes before
-/// that fault, and so is read first.
+/// The sections of all bytes, up to the first fault between them. What the sections hold comes
+/// before that fault, and so is read first.
 pub fn split<'a>(bytes: Decoder<'a>) -> Sections<'a>
-    ensures { MatchOption result.fault ((ss : List Section) × Splits bytes.entry result.bodies ss) (λ _. NoSections 0 bytes.entry) }
+    ensures { MatchOption result.fault ((ss : List Section)
+        × Splits bytes.entry result.bodies ss) (λ _. NoSections 0 bytes.entry) }
 {
     let mut rest = bytes;
     let mut last = 0;

@@ -32,8 +32,8 @@ fn header(decoder: &mut Decoder) -> Result<(), ReadRefusal>
     decoder.expect_byte(0x00)
 }
 
-/// The module that is all of the bytes. A fault inside a section is told before one between sections,
-/// and a missing code section after all others.
+/// The module that is all of the bytes. A fault inside a section is told before one between
+/// sections, and a missing code section after all others.
 fn module(alloc: Global, bytes: &[u8]) -> Result<Module, ReadError>
     ensures { GivesAll result (module_within_at bytes.now) }
 {
@@ -53,8 +53,9 @@ fn module(alloc: Global, bytes: &[u8]) -> Result<Module, ReadError>
     }
 }
 
-/// The module that the bytes spell, within the limits. It takes time and memory in proportion to the
-/// bytes, whatever counts they declare. `DecodeFault` has the first fault in the order of the bytes.
+/// The module that the bytes spell, within the limits. It takes time and memory in proportion to
+/// the bytes, whatever counts they declare. `DecodeFault` has the first fault in the order of the
+/// bytes.
 pub fn decode(alloc: Global, bytes: &[u8]) -> Result<Module, DecodeFault>
     ensures found { IfOk result (λ m. IsModule bytes.now m × IsWithinLimits bytes.now m) }
     ensures only { IfErr result (λ e. e ≢ Memory → HasNoModule bytes.now) }

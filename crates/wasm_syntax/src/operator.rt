@@ -1,4 +1,5 @@
-//! Operators: what instructions of one shape differ in (section 2.4), in the order of their opcodes.
+//! Operators: what instructions of one shape differ in (section 2.4), in the order of their
+//! opcodes.
 
 /// From one integer to one of the same type.
 #[derive(Clone, Copy, Debug, PartialEq, Eq)]

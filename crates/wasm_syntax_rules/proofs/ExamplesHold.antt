@@ -8,7 +8,9 @@ use Rattle.wasm_syntax.specs.declared.instruction.Instruction.TheVariants as ins
 use Rattle.wasm_syntax.specs.rules.Sequence.{Sequence, Stop, Plain, InIf}
 use Rattle.wasm_syntax_rules.specs.Typing.{HasType}
 use Rattle.wasm_syntax_rules.specs.Shapes.{type_of}
-use Rattle.wasm_syntax_rules.specs.laws.Examples.{TypingExamples, bare_context, const_32, const_64, add_32, mixed, lone_if, branch_out, choice, behind_unreachable}
+use Rattle.wasm_syntax_rules.specs.laws.Examples.{TypingExamples, bare_context, const_32, const_64}
+use Rattle.wasm_syntax_rules.specs.laws.Examples.{add_32, mixed, lone_if, branch_out, choice}
+use Rattle.wasm_syntax_rules.specs.laws.Examples.{behind_unreachable}
 use Rattle.wasm_syntax_rules.proofs.TypedShape.{value_type}
 
 choice_typed : HasType bare_context [] choice [] (I32 ∷ [])
@@ -28,7 +30,8 @@ choice_typed = (
 )
 
 unreachable_typed : HasType bare_context [] behind_unreachable [] (I32 ∷ [])
-unreachable_typed = ([], I32 ∷ I32 ∷ [], [], refl, tt, (I32 ∷ I32 ∷ [], I32 ∷ [], [], refl, (refl, refl), refl))
+unreachable_typed =
+    ([], I32 ∷ I32 ∷ [], [], refl, tt, (I32 ∷ I32 ∷ [], I32 ∷ [], [], refl, (refl, refl), refl))
 
 branch_typed : HasType bare_context [] branch_out [] (I32 ∷ [])
 branch_typed = (
@@ -58,7 +61,9 @@ branch_typed = (
 )
 
 -- a constant leaves its own type on top
-const_leaves : (v : Value) (rest : Sequence) (a b : List ValueType) → HasType bare_context [] (Plain (instr.Const v) rest) a b → HasType bare_context [] rest (type_of v ∷ a) b
+const_leaves : (v : Value) (rest : Sequence) (a b : List ValueType)
+    → HasType bare_context [] (Plain (instr.Const v) rest) a b
+    → HasType bare_context [] rest (type_of v ∷ a) b
 const_leaves v rest a b h =
     let same : type_of v ≡ h.4.0 = value_type h.4.0 v h.4.1 in
     let below : a ≡ h.2 = h.3 ∙ ap (λ z. z ++ h.2) h.4.2 in
@@ -70,7 +75,8 @@ not_mixed : (b : List ValueType) → HasType bare_context [] mixed [] b → ⊥
 not_mixed b h =
     let first = const_leaves (value.I32 1) (Plain (const_64 2) (Plain add_32 Stop)) [] b h in
     let second = const_leaves (value.I64 2) (Plain add_32 Stop) (I32 ∷ []) b first in
-    let operands : I64 ∷ I32 ∷ [] ≡ (I32 ∷ I32 ∷ []) ++ second.2 = second.3 ∙ ap (λ z. z ++ second.2) second.4.0 in
+    let operands : I64 ∷ I32 ∷ [] ≡ (I32 ∷ I32 ∷ []) ++ second.2 =
+    second.3 ∙ ap (λ z. z ++ second.2) second.4.0 in
     absurd (cc)
 
 not_dropped : (b : List ValueType) → HasType bare_context [] (Plain instr.Drop Stop) [] b → ⊥

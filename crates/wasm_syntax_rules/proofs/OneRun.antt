@@ -1,25 +1,31 @@
 -- Counted steps, and the rules that settle them, lead to one configuration at most.
 use Rattle.std.proofs.Common.{◌≡◌, refl, subst}
 use Rattle.wasm_syntax_rules.specs.Configuration.{Program, Configuration}
-use Rattle.wasm_syntax_rules.specs.Steps.{Settles, here, on, Advances, Steps, none, more, IsSettled, IsUncounted}
+use Rattle.wasm_syntax_rules.specs.Steps.{Settles, here, on, Advances, Steps, none, more, IsSettled}
+use Rattle.wasm_syntax_rules.specs.Steps.{IsUncounted}
 use Rattle.wasm_syntax_rules.specs.laws.Laws.{OneRun}
 
 -- a settled configuration settles to itself, and another one by its own next rule
-settled_now : (program : Program) (c d : Configuration) → Settles program c d → IsSettled program c → c ≡ d
+settled_now : (program : Program) (c d : Configuration) → Settles program c d → IsSettled program c
+    → c ≡ d
 settled_now program c d (here s') s = refl
 settled_now program c d (on {c = c'} {d = between} e rest) s = absurd (cc)
 
-next_now : (program : Program) (c e d : Configuration) → Settles program c e → IsUncounted program c d → Settles program d e
+next_now : (program : Program) (c e d : Configuration) → Settles program c e
+    → IsUncounted program c d → Settles program d e
 next_now program c e d (here s) step = absurd (cc)
 next_now program c e d (on {c = c'} {d = other} step' rest') step =
     let same : other ≡ d = cc in
     subst (λ z. Settles program z e) same rest'
 
-pub settles_once : (program : Program) (c d e : Configuration) → Settles program c d → Settles program c e → d ≡ e
+pub settles_once : (program : Program) (c d e : Configuration) → Settles program c d
+    → Settles program c e → d ≡ e
 settles_once program c d e (here s) b = settled_now program c e b s
-settles_once program c d e (on {c = c'} {d = between} step rest) b = settles_once program between d e rest (next_now program c' e between b step)
+settles_once program c d e (on {c = c'} {d = between} step rest) b =
+    settles_once program between d e rest (next_now program c' e between b step)
 
-advances_once : (program : Program) (c d e : Configuration) → Advances program c d → Advances program c e → d ≡ e
+advances_once : (program : Program) (c d e : Configuration) → Advances program c d
+    → Advances program c e → d ≡ e
 advances_once program c d e a b =
     let p = a.counted in let q = b.counted in
     let same : b.between ≡ a.between = cc in

@@ -9,7 +9,8 @@ use Rattle.wasm_syntax_rules.specs.Instantiation.{constant_of, AreInitial, IsIni
 pub some_once : {X : Type 0} (o : Option X) (x y : X) → o ≡ Some x → o ≡ Some y → x ≡ y
 some_once o x y e f = cc
 
-pub initial_once : (globals : List Global) (a b : List Value) → AreInitial globals a → AreInitial globals b → a ≡ b
+pub initial_once : (globals : List Global) (a b : List Value) → AreInitial globals a
+    → AreInitial globals b → a ≡ b
 initial_once [] [] [] h k = refl
 initial_once [] [] (y ∷ b) h k = absurd k
 initial_once [] (x ∷ a) b h k = absurd h
@@ -24,9 +25,16 @@ abbrev pub store_of : List ℕ → List Value → List (Option ℕ) → Store
 store_of memory globals table = record { memory = memory; globals = globals; table = table }
 
 store_is : (a b : Store) → a.memory ≡ b.memory → a.globals ≡ b.globals → a.table ≡ b.table → a ≡ b
-store_is a b x y z = let whole : store_of a.memory a.globals a.table ≡ store_of b.memory b.globals b.table = rw (x, y, z) refl in whole
+store_is a b x y z =
+    let whole : store_of a.memory a.globals a.table ≡ store_of b.memory b.globals b.table = rw (
+      x,
+      y,
+      z,
+    ) refl in whole
 
 pub store_once : (m : Module) (a b : Store) → IsInitialStore m a → IsInitialStore m b → a ≡ b
 store_once m a b h k =
-    let globals : a.globals ≡ b.globals = initial_once m.globals a.globals b.globals h.globals k.globals in
-    store_is a b (some_once _ a.memory b.memory h.memory (rw globals k.memory)) globals (some_once _ a.table b.table h.table (rw globals k.table))
+    let globals : a.globals ≡ b.globals =
+    initial_once m.globals a.globals b.globals h.globals k.globals in
+    store_is a b (some_once _ a.memory b.memory h.memory (rw globals k.memory)) globals
+    (some_once _ a.table b.table h.table (rw globals k.table))

@@ -1,4 +1,5 @@
--- When a module is accepted: it is spelled by its bytes within the limits, it is valid, and it can be linked.
+-- When a module is accepted: it is spelled by its bytes within the limits, it is valid, and it can
+-- be linked.
 use Rattle.std.specs.Prelude.{ℕ, List}
 use Rattle.wasm_syntax.specs.declared.module.Module.{Module}
 use Rattle.wasm_syntax.specs.rules.Modules.{IsModule}

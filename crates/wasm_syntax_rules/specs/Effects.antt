@@ -1,5 +1,8 @@
--- What the instructions do that are no jumps and no calls (Core Specification 1.0, sections 4.4.1 to 4.4.4).
-use Rattle.std.specs.Prelude.{ℕ, zero, suc, ◌+◌, ◌-◌, ◌*◌, ◌/◌, ◌^◌, nat_le, ◌==◌, List, ◌∷◌, ◌++◌, length, replicate, Option, Some, None, Result, Ok, Err, slice_get, slice_set, if◌then◌else◌}
+-- What the instructions do that are no jumps and no calls (Core Specification 1.0, sections 4.4.1
+-- to 4.4.4).
+use Rattle.std.specs.Prelude.{ℕ, zero, suc, ◌+◌, ◌-◌, ◌*◌, ◌/◌, ◌^◌, nat_le, ◌==◌, List, ◌∷◌, ◌++◌}
+use Rattle.std.specs.Prelude.{length, replicate, Option, Some, None, Result, Ok, Err, slice_get}
+use Rattle.std.specs.Prelude.{slice_set, if◌then◌else◌}
 use Rattle.wasm_syntax.specs.declared.types.ValueType.{ValueType}
 use Rattle.wasm_syntax.specs.declared.types.ValueType.TheVariants.{I32, I64}
 use Rattle.wasm_syntax.specs.declared.value.Value.{Value}
@@ -10,12 +13,16 @@ use Rattle.wasm_syntax.specs.declared.operator.LoadOperator.{LoadOperator}
 use Rattle.wasm_syntax.specs.declared.operator.StoreOperator.{StoreOperator}
 use Rattle.wasm_syntax.specs.declared.instruction.Instruction.{Instruction}
 use Rattle.wasm_syntax.specs.declared.instruction.Instruction.TheVariants as instr
-use Rattle.int_ops.specs.rules.Integers.{unary_of, binary_of, compare_of, convert_of, truth, sign_extended}
+use Rattle.int_ops.specs.rules.Integers.{unary_of, binary_of, compare_of, convert_of, truth}
+use Rattle.int_ops.specs.rules.Integers.{sign_extended}
 use Rattle.guest_memory.specs.rules.Bytes.{number_of, bytes_of, page_size, part, with_part}
-use Rattle.wasm_syntax_rules.specs.Types.{width_of, value_of, conversion_takes, conversion_gives, loaded_type, loaded_width, extends_sign, stored_type, stored_width, bytes_in}
+use Rattle.wasm_syntax_rules.specs.Types.{width_of, value_of, conversion_takes, conversion_gives}
+use Rattle.wasm_syntax_rules.specs.Types.{loaded_type, loaded_width, extends_sign, stored_type}
+use Rattle.wasm_syntax_rules.specs.Types.{stored_width, bytes_in}
 use Rattle.wasm_syntax_rules.specs.Configuration.{Program, Store}
 
--- what an instruction makes of the store, the locals and the values, or why it traps. `Wrong` where an operand is missing or of another type
+-- what an instruction makes of the store, the locals and the values, or why it traps. `Wrong` where
+-- an operand is missing or of another type
 pub data Effect : Type 0 where
   Gives : (store : Store) (locals values : List Value) → Effect
   Fails : (why : Trap) → Effect
@@ -42,11 +49,14 @@ with_result t (Err why) go = Fails why
 -- The sum of the operand and the offset does not wrap.
 abbrev pub loaded : LoadOperator → List ℕ → ℕ
 loaded o bytes =
-    if extends_sign o then sign_extended (loaded_width o) (width_of (loaded_type o)) (number_of bytes) else number_of bytes
+    if extends_sign o
+    then sign_extended (loaded_width o) (width_of (loaded_type o)) (number_of bytes)
+    else number_of bytes
 
 abbrev pub load_at : LoadOperator → List ℕ → ℕ → Result ℕ Trap
 load_at o memory from =
-    if nat_le (from + bytes_in (loaded_width o)) (length memory) then Ok (loaded o (part memory from (bytes_in (loaded_width o))))
+    if nat_le (from + bytes_in (loaded_width o)) (length memory)
+    then Ok (loaded o (part memory from (bytes_in (loaded_width o))))
     else Err trap.MemoryOutOfBounds
 
 abbrev pub store_at : StoreOperator → Store → ℕ → ℕ → (Store → Effect) → Effect
@@ -76,26 +86,40 @@ effect program instr.Unreachable s ls vs = Fails trap.Unreachable
 effect program instr.Nop s ls vs = Gives s ls vs
 effect program instr.Drop s ls (v ∷ vs) = Gives s ls vs
 effect program instr.Select s ls (value.I32 n ∷ b ∷ a ∷ vs) = Gives s ls (selected n a b ∷ vs)
-effect program (instr.LocalGet x) s ls vs = effect_of_some (slice_get ls x) (λ v. Gives s ls (v ∷ vs))
-effect program (instr.LocalSet x) s ls (v ∷ vs) = effect_of_some (slice_get ls x) (λ _. Gives s (slice_set ls x v) vs)
-effect program (instr.LocalTee x) s ls (v ∷ vs) = effect_of_some (slice_get ls x) (λ _. Gives s (slice_set ls x v) (v ∷ vs))
-effect program (instr.GlobalGet x) s ls vs = effect_of_some (slice_get s.globals x) (λ v. Gives s ls (v ∷ vs))
-effect program (instr.GlobalSet x) s ls (v ∷ vs) = effect_of_some (slice_get s.globals x) (λ _. Gives (record s { globals = slice_set s.globals x v }) ls vs)
+effect program (instr.LocalGet x) s ls vs =
+    effect_of_some (slice_get ls x) (λ v. Gives s ls (v ∷ vs))
+effect program (instr.LocalSet x) s ls (v ∷ vs) =
+    effect_of_some (slice_get ls x) (λ _. Gives s (slice_set ls x v) vs)
+effect program (instr.LocalTee x) s ls (v ∷ vs) =
+    effect_of_some (slice_get ls x) (λ _. Gives s (slice_set ls x v) (v ∷ vs))
+effect program (instr.GlobalGet x) s ls vs =
+    effect_of_some (slice_get s.globals x) (λ v. Gives s ls (v ∷ vs))
+effect program (instr.GlobalSet x) s ls (v ∷ vs) =
+    effect_of_some (slice_get s.globals x) (λ _.
+    Gives (record s { globals = slice_set s.globals x v }) ls vs)
 effect program (instr.Load o m) s ls vs =
-    with_top I32 vs (λ i vs. with_result (loaded_type o) (load_at o s.memory (i + m.offset)) (λ v. Gives s ls (v ∷ vs)))
+    with_top I32 vs (λ i vs. with_result (loaded_type o) (load_at o s.memory (i + m.offset)) (λ v.
+    Gives s ls (v ∷ vs)))
 effect program (instr.Store o m) s ls vs =
-    with_top (stored_type o) vs (λ n vs. with_top I32 vs (λ i vs. store_at o s (i + m.offset) n (λ s. Gives s ls vs)))
+    with_top (stored_type o) vs (λ n vs.
+    with_top I32 vs (λ i vs. store_at o s (i + m.offset) n (λ s. Gives s ls vs)))
 effect program instr.MemorySize s ls vs = Gives s ls (value.I32 (pages_of s) ∷ vs)
-effect program instr.MemoryGrow s ls vs = with_top I32 vs (λ n vs. grown program s n (λ s v. Gives s ls (v ∷ vs)))
+effect program instr.MemoryGrow s ls vs =
+    with_top I32 vs (λ n vs. grown program s n (λ s v. Gives s ls (v ∷ vs)))
 effect program (instr.Const v) s ls vs = Gives s ls (v ∷ vs)
-effect program (instr.Eqz t) s ls vs = with_top t vs (λ a vs. Gives s ls (value.I32 (truth (a == 0)) ∷ vs))
+effect program (instr.Eqz t) s ls vs =
+    with_top t vs (λ a vs. Gives s ls (value.I32 (truth (a == 0)) ∷ vs))
 effect program (instr.Compare t o) s ls vs =
-    with_top t vs (λ b vs. with_top t vs (λ a vs. Gives s ls (value.I32 (truth (compare_of (width_of t) o a b)) ∷ vs)))
-effect program (instr.Unary t o) s ls vs = with_top t vs (λ a vs. Gives s ls (value_of t (unary_of (width_of t) o a) ∷ vs))
+    with_top t vs (λ b vs.
+    with_top t vs (λ a vs. Gives s ls (value.I32 (truth (compare_of (width_of t) o a b)) ∷ vs)))
+effect program (instr.Unary t o) s ls vs =
+    with_top t vs (λ a vs. Gives s ls (value_of t (unary_of (width_of t) o a) ∷ vs))
 effect program (instr.Binary t o) s ls vs =
-    with_top t vs (λ b vs. with_top t vs (λ a vs. with_result t (binary_of (width_of t) o a b) (λ v. Gives s ls (v ∷ vs))))
+    with_top t vs (λ b vs. with_top t vs (λ a vs. with_result t (binary_of (width_of t) o a b) (λ v.
+    Gives s ls (v ∷ vs))))
 effect program (instr.Convert o) s ls vs =
-    with_top (conversion_takes o) vs (λ a vs. Gives s ls (value_of (conversion_gives o) (convert_of o a) ∷ vs))
+    with_top (conversion_takes o) vs (λ a vs.
+    Gives s ls (value_of (conversion_gives o) (convert_of o a) ∷ vs))
 effect program _ s ls vs = Wrong
 
 -- an instruction that is no jump and no call, and doesn't open, part or close a sequence

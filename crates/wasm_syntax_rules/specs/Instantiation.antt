@@ -1,5 +1,7 @@
--- How a module begins (Core Specification 1.0, section 4.5.4): its program, and the configuration before the first rule.
-use Rattle.std.specs.Prelude.{◌≡◌, ℕ, ◌+◌, ◌*◌, min, nat_le, List, [], ◌∷◌, ◌++◌, length, replicate, map, take, drop, Option, Some, None, slice_get, if◌then◌else◌}
+-- How a module begins (Core Specification 1.0, section 4.5.4): its program, and the configuration
+-- before the first rule.
+use Rattle.std.specs.Prelude.{◌≡◌, ℕ, ◌+◌, ◌*◌, min, nat_le, List, [], ◌∷◌, ◌++◌, length, replicate}
+use Rattle.std.specs.Prelude.{map, take, drop, Option, Some, None, slice_get, if◌then◌else◌}
 use Rattle.std.specs.Option.{option_and_then, option_map_or}
 use Rattle.wasm_syntax.specs.declared.types.TableType.{TableType}
 use Rattle.wasm_syntax.specs.declared.types.MemoryType.{MemoryType}
@@ -21,11 +23,14 @@ use Rattle.wasm_syntax_rules.specs.Steps.{Settles}
 
 -- ---- the program
 
--- imported functions are the host's, and the module's own have the sequences that their bodies spell
+-- imported functions are the host's, and the module's own have the sequences that their bodies
+-- spell
 abbrev pub AreCallees : Module → List ℕ → List Function → List Callee → Type 0
-AreCallees m (x ∷ imported) own (Host kind ∷ callees) = (slice_get m.types x ≡ Some kind) × AreCallees m imported own callees
+AreCallees m (x ∷ imported) own (Host kind ∷ callees) = (slice_get m.types x ≡ Some kind)
+    × AreCallees m imported own callees
 AreCallees m [] (f ∷ own) (Own kind declared body ∷ callees) =
-    (slice_get m.types f.function_type ≡ Some kind) × (declared ≡ f.code.locals) × Spells f.code.body body × AreCallees m [] own callees
+    (slice_get m.types f.function_type ≡ Some kind) × (declared ≡ f.code.locals)
+    × Spells f.code.body body × AreCallees m [] own callees
 AreCallees m [] [] [] = Unit {0}
 AreCallees m _ _ _ = ⊥
 
@@ -50,7 +55,8 @@ constant_of globals _ = None
 -- the globals' initial values. No global is imported
 abbrev pub AreInitial : List Global → List Value → Type 0
 AreInitial [] [] = Unit {0}
-AreInitial (g ∷ globals) (v ∷ values) = (constant_of [] g.initial ≡ Some v) × AreInitial globals values
+AreInitial (g ∷ globals) (v ∷ values) = (constant_of [] g.initial ≡ Some v)
+    × AreInitial globals values
 AreInitial [] (v ∷ values) = ⊥
 AreInitial (g ∷ globals) [] = ⊥
 
@@ -65,22 +71,28 @@ offset_of globals expression = option_and_then number_in (constant_of globals ex
 -- these entries in the table from a place on, if they are inside
 abbrev pub with_entries : List (Option ℕ) → List ℕ → ℕ → Option (List (Option ℕ))
 with_entries table functions from =
-    if nat_le (from + length functions) (length table) then Some (take from table ++ (map Some functions ++ drop (from + length functions) table)) else None
+    if nat_le (from + length functions) (length table)
+    then Some (take from table ++ (map Some functions ++ drop (from + length functions) table))
+    else None
 
 abbrev pub with_segment : List ℕ → List ℕ → ℕ → Option (List ℕ)
 with_segment memory bytes from =
-    if nat_le (from + length bytes) (length memory) then Some (with_part memory from bytes) else None
+    if nat_le (from + length bytes) (length memory) then Some (with_part memory from bytes)
+    else None
 
--- the table after all elements, and memory after all data, in their order, if each of them is inside
+-- the table after all elements, and memory after all data, in their order, if each of them is
+-- inside
 abbrev pub filled_table : List Value → List Element → List (Option ℕ) → Option (List (Option ℕ))
 filled_table globals [] table = Some table
 filled_table globals (e ∷ elements) table =
-    option_and_then (λ table'. filled_table globals elements table') (option_and_then (λ from. with_entries table e.functions from) (offset_of globals e.offset))
+    option_and_then (λ table'. filled_table globals elements table')
+    (option_and_then (λ from. with_entries table e.functions from) (offset_of globals e.offset))
 
 abbrev pub filled_memory : List Value → List Data → List ℕ → Option (List ℕ)
 filled_memory globals [] memory = Some memory
 filled_memory globals (d ∷ segments) memory =
-    option_and_then (λ memory'. filled_memory globals segments memory') (option_and_then (λ from. with_segment memory d.bytes from) (offset_of globals d.offset))
+    option_and_then (λ memory'. filled_memory globals segments memory')
+    (option_and_then (λ from. with_segment memory d.bytes from) (offset_of globals d.offset))
 
 -- at first a table has its minimum of empty entries, and a memory its minimum of pages of zeros
 abbrev pub empty_table : List TableType → List (Option ℕ)
@@ -94,7 +106,8 @@ empty_memory (t ∷ memories) = replicate (t.limits.minimum * page_size) 0
 pub record IsInitialStore (m : Module) (store : Store) : Type 0 where
   pub globals : AreInitial m.globals store.globals
   pub table : filled_table store.globals m.elements (empty_table (tables_of m)) ≡ Some store.table
-  pub memory : filled_memory store.globals m.data_segments (empty_memory (memories_of m)) ≡ Some store.memory
+  pub memory : filled_memory store.globals m.data_segments (empty_memory (memories_of m))
+      ≡ Some store.memory
 
 -- ---- the start
 
@@ -104,8 +117,13 @@ calls_of None entry = entry ∷ []
 calls_of (Some start) entry = start ∷ entry ∷ []
 
 -- the module, under so many pages and with this function as `_start`, begins here, settled
-pub record Begins (m : Module) (pages entry : ℕ) (program : Program) (c : Configuration) : Type 0 where
+pub record Begins (m : Module) (pages entry : ℕ) (program : Program) (c : Configuration) :
+    Type 0 where
   pub is_program : IsProgram m pages program
   pub store : Store
   pub is_store : IsInitialStore m store
-  pub settles : Settles program (record { store = store; thread = []; later = calls_of m.start entry }) c
+  pub settles : Settles program (record {
+    store = store;
+    thread = [];
+    later = calls_of m.start entry;
+  }) c

@@ -1,6 +1,7 @@
 -- The types of values and of operators, and what the parts of a module have for types.
 -- Operand types and operands are listed from the top of the stack down.
-use Rattle.std.specs.Prelude.{ℕ, ◌<◌, ◌^◌, Bool, true, false, ◌&&◌, List, [], ◌∷◌, Option, Some, None, reverse}
+use Rattle.std.specs.Prelude.{ℕ, ◌<◌, ◌^◌, Bool, true, false, ◌&&◌, List, [], ◌∷◌, Option, Some}
+use Rattle.std.specs.Prelude.{None, reverse}
 use Rattle.std.specs.Int.{Width, w8, w16, w32, w64}
 use Rattle.wasm_syntax.specs.declared.types.ValueType.{ValueType}
 use Rattle.wasm_syntax.specs.declared.types.ValueType.TheVariants.{I32, I64}
@@ -11,7 +12,8 @@ use Rattle.wasm_syntax.specs.declared.types.GlobalType.{GlobalType}
 use Rattle.wasm_syntax.specs.declared.value.Value.{Value}
 use Rattle.wasm_syntax.specs.declared.value.Value.TheVariants as value
 use Rattle.wasm_syntax.specs.declared.operator.Conversion.{Conversion}
-use Rattle.wasm_syntax.specs.declared.operator.Conversion.TheVariants.{I32WrapI64, I64ExtendI32S, I64ExtendI32U}
+use Rattle.wasm_syntax.specs.declared.operator.Conversion.TheVariants.{I32WrapI64, I64ExtendI32S}
+use Rattle.wasm_syntax.specs.declared.operator.Conversion.TheVariants.{I64ExtendI32U}
 use Rattle.wasm_syntax.specs.declared.operator.LoadOperator.{LoadOperator}
 use Rattle.wasm_syntax.specs.declared.operator.LoadOperator.TheVariants as load
 use Rattle.wasm_syntax.specs.declared.operator.StoreOperator.{StoreOperator}
@@ -155,7 +157,8 @@ are_same_types [] (u ∷ others) = false
 are_same_types (t ∷ types) [] = false
 
 abbrev pub is_same_function_type : FunctionType → FunctionType → Bool
-is_same_function_type f g = are_same_types f.parameters g.parameters && are_same_types f.results g.results
+is_same_function_type f g = are_same_types f.parameters g.parameters
+    && are_same_types f.results g.results
 
 -- ---- imports, in their order (2.5.1: imported ones come first in each index space)
 

@@ -1,5 +1,6 @@
 -- When a module is valid (Core Specification 1.0, sections 3.2 and 3.4).
-use Rattle.std.specs.Prelude.{◌≡◌, ◌≢◌, ℕ, ◌^◌, ◌<◌, ◌≤◌, ◌⊎◌, List, [], ◌∷◌, ◌++◌, length, map, Option, Some, None, slice_get, IfSome}
+use Rattle.std.specs.Prelude.{◌≡◌, ◌≢◌, ℕ, ◌^◌, ◌<◌, ◌≤◌, ◌⊎◌, List, [], ◌∷◌, ◌++◌, length, map}
+use Rattle.std.specs.Prelude.{Option, Some, None, slice_get, IfSome}
 use Rattle.std.specs.List.{AllByRecursion}
 use Rattle.wasm_syntax.specs.declared.types.ValueType.{ValueType}
 use Rattle.wasm_syntax.specs.declared.types.ValueType.TheVariants.{I32}
@@ -23,14 +24,16 @@ use Rattle.wasm_syntax.specs.declared.module.Data.{Data}
 use Rattle.wasm_syntax.specs.rules.Sequence.{Sequence, Spells}
 use Rattle.wasm_syntax.specs.rules.Modules.{function_type_of}
 use Rattle.guest_memory.specs.rules.Bytes.{IsByte}
-use Rattle.wasm_syntax_rules.specs.Types.{IsOf, gives_of, imported_functions, imported_tables, imported_memories, imported_globals, global_type_of}
+use Rattle.wasm_syntax_rules.specs.Types.{IsOf, gives_of, imported_functions, imported_tables}
+use Rattle.wasm_syntax_rules.specs.Types.{imported_memories, imported_globals, global_type_of}
 use Rattle.wasm_syntax_rules.specs.Typing.{Context, HasType, body_context}
 
 -- ---- types (3.2)
 
 -- from a minimum to a maximum that is not below it, both within a range
 abbrev pub AreLimits : Limits → ℕ → Type 0
-AreLimits l range = (l.minimum ≤ range) × IfSome l.maximum (λ most. (l.minimum ≤ most) × (most ≤ range))
+AreLimits l range = (l.minimum ≤ range) × IfSome l.maximum (λ most. (l.minimum ≤ most)
+    × (most ≤ range))
 
 abbrev pub IsFunctionTypeValid : FunctionType → Type 0
 IsFunctionTypeValid f = length f.results ≤ 1
@@ -48,7 +51,8 @@ IsMemoryTypeValid t = AreLimits t.limits (2 ^ 16)
 abbrev pub IsConstant : List GlobalType → List Instruction → ValueType → Type 0
 IsConstant globals expression t =
     ((v : Value) × IsOf t v × (expression ≡ instr.Const v ∷ instr.End ∷ []))
-    ⊎ ((x : ℕ) × (g : GlobalType) × (slice_get globals x ≡ Some g) × (g.mutability ≡ Constant) × (g.value_type ≡ t) × (expression ≡ instr.GlobalGet x ∷ instr.End ∷ []))
+    ⊎ ((x : ℕ) × (g : GlobalType) × (slice_get globals x ≡ Some g) × (g.mutability ≡ Constant)
+    × (g.value_type ≡ t) × (expression ≡ instr.GlobalGet x ∷ instr.End ∷ []))
 
 -- ---- the parts of a module (3.4)
 
@@ -61,7 +65,8 @@ AreTypesAt types (x ∷ indices) [] = ⊥
 
 -- the types of all functions, imported ones first
 abbrev pub AreFunctionTypes : Module → List FunctionType → Type 0
-AreFunctionTypes m functions = AreTypesAt m.types (imported_functions m.imports ++ map function_type_of m.functions) functions
+AreFunctionTypes m functions =
+    AreTypesAt m.types (imported_functions m.imports ++ map function_type_of m.functions) functions
 
 abbrev pub tables_of : Module → List TableType
 tables_of m = imported_tables m.imports ++ m.tables
@@ -84,11 +89,14 @@ module_context m functions = record {
   returns = [];
 }
 
--- The body spells a sequence that gives, from nothing on, what the function gives; a branch out of it all gives that too (3.4.1).
+-- The body spells a sequence that gives, from nothing on, what the function gives; a branch out of
+-- it all gives that too (3.4.1).
 abbrev pub IsFunctionValid : Module → List FunctionType → Function → Type 0
 IsFunctionValid m functions f =
-    (t : FunctionType) × (s : Sequence) × (slice_get m.types f.function_type ≡ Some t) × Spells f.code.body s
-    × HasType (body_context (module_context m functions) t f.code.locals) (gives_of t ∷ []) s [] (gives_of t)
+    (t : FunctionType) × (s : Sequence) × (slice_get m.types f.function_type ≡ Some t)
+    × Spells f.code.body s
+    × HasType (body_context (module_context m functions) t f.code.locals) (gives_of t
+    ∷ []) s [] (gives_of t)
 
 abbrev pub IsGlobalValid : Module → Global → Type 0
 IsGlobalValid m g = IsConstant (imported_globals m.imports) g.initial g.global_type.value_type
@@ -106,17 +114,21 @@ IsExportItemValid m functions (export.Global x) = IsIndex (globals_of m) x
 -- no name comes twice
 abbrev pub HaveDistinctNames : List Export → Type 0
 HaveDistinctNames [] = Unit {0}
-HaveDistinctNames (e ∷ exports) = AllByRecursion (λ (other : Export). e.name ≢ other.name) exports × HaveDistinctNames exports
+HaveDistinctNames (e ∷ exports) = AllByRecursion (λ (other : Export). e.name ≢ other.name) exports
+    × HaveDistinctNames exports
 
 abbrev pub IsStartValid : List FunctionType → Option ℕ → Type 0
 IsStartValid functions None = Unit {0}
-IsStartValid functions (Some x) = (f : FunctionType) × (slice_get functions x ≡ Some f) × (f.parameters ≡ []) × (f.results ≡ [])
+IsStartValid functions (Some x) = (f : FunctionType) × (slice_get functions x ≡ Some f)
+    × (f.parameters ≡ []) × (f.results ≡ [])
 
 abbrev pub IsElementValid : Module → List FunctionType → Element → Type 0
-IsElementValid m functions e = IsIndex (tables_of m) e.table × IsConstant (globals_of m) e.offset I32 × AllByRecursion (IsIndex functions) e.functions
+IsElementValid m functions e = IsIndex (tables_of m) e.table
+    × IsConstant (globals_of m) e.offset I32 × AllByRecursion (IsIndex functions) e.functions
 
 abbrev pub IsDataValid : Module → Data → Type 0
-IsDataValid m d = IsIndex (memories_of m) d.memory × IsConstant (globals_of m) d.offset I32 × AllByRecursion IsByte d.bytes
+IsDataValid m d = IsIndex (memories_of m) d.memory × IsConstant (globals_of m) d.offset I32
+    × AllByRecursion IsByte d.bytes
 
 -- ---- modules (3.4.10)
 

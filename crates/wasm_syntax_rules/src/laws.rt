@@ -1,5 +1,5 @@
-//! Laws of the definitions, over all programs and configurations. The functions do nothing: what they
-//! ensure is the law.
+//! Laws of the definitions, over all programs and configurations. The functions do nothing: what
+//! they ensure is the law.
 
 ghost use Rattle.wasm_syntax_rules.specs.Configuration.{Store};
 ghost use Rattle.wasm_syntax_rules.specs.Shapes.{ReachedShapesAreTyped};
@@ -7,7 +7,8 @@ ghost use Rattle.wasm_syntax_rules.specs.laws.Laws.{OneSequence, OneRun, Heights
 ghost use Rattle.wasm_syntax_rules.specs.laws.Examples.{TypingExamples, HelloRuns, StepExamples};
 ghost use Rattle.wasm_syntax_rules.specs.laws.LimitExamples.{StackExamples, BranchExamples};
 ghost use Rattle.wasm_syntax_rules.specs.laws.LimitExamples.{TableExamples, MemoryGrows};
-ghost use Rattle.wasm_syntax_rules.specs.Typed.{NeverStuck, LeavesTyped, AnswersTyped, StepsTyped, ProgramsTyped, BeginsTyped};
+ghost use Rattle.wasm_syntax_rules.specs.Typed.{NeverStuck, LeavesTyped, AnswersTyped, StepsTyped};
+ghost use Rattle.wasm_syntax_rules.specs.Typed.{ProgramsTyped, BeginsTyped};
 
 /// In a typed body each position that typing reaches has a typed shape.
 pub fn reached_shapes_are_typed()

@@ -8,7 +8,8 @@ fn is_zero(bytes: &[u8]) -> bool {
     bytes.iter().all(|b| *b == 0)
 }
 
-/// `scripts/refused-allocations` refuses each allocation in turn, and then this ends in want of memory.
+/// `scripts/refused-allocations` refuses each allocation in turn, and then this ends in want of
+/// memory.
 #[test]
 fn memory_begins_with_zero_bytes(rt: HostRuntime) -> Result<(), MemoryFault> {
     for (pages, limit, len) in [(0, 0, 0), (0, 256, 0), (1, 1, 65_536), (2, 3, 131_072)] {
@@ -150,7 +151,8 @@ fn bytes_are_written_within_the_end(rt: HostRuntime) -> Result<(), MemoryFault> 
     Ok(())
 }
 
-/// By how many pages memory is to grow, one of them after another, and how many there were, where it does.
+/// By how many pages memory is to grow, one of them after another, and how many there were, where
+/// it does.
 const GROWTHS: [(u32, Option<u32>); 6] = [
     (3, None),
     (4_294_967_295, None),

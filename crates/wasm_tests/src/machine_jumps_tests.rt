@@ -1,6 +1,7 @@
-//! Where jumps of small bodies lead, derived from the standard: a branch to the label of a block or an `if` goes on behind its
-//! `end`, one to that of a loop at the loop, and one to the function's own behind the last `end`. It keeps what the label
-//! takes, above the operands that were below the block.
+//! Where jumps of small bodies lead, derived from the standard: a branch to the label of a block or
+//! an `if` goes on behind its `end`, one to that of a loop at the loop, and one to the function's
+//! own behind the last `end`. It keeps what the label takes, above the operands that were below the
+//! block.
 
 ghost use Rattle.std.specs.Prelude.{IfOk};
 ghost use Rattle.machine_jumps.specs.Contexts.{GivesOnes};
@@ -48,7 +49,8 @@ const ONE: &str = "0061736d01000000 0105016000017f 03020100";
 /// A function from one integer to one.
 const ONE_TO_ONE: &str = "0061736d01000000 01060160017f017f 03020100";
 
-/// A function's locals and body, the position of an opcode in it, the number of a jump of that opcode, and that jump.
+/// A function's locals and body, the position of an opcode in it, the number of a jump of that
+/// opcode, and that jump.
 type Row = (&'static str, usize, usize, Option<Jump>);
 
 fn check(rt: &impl Abort, alloc: Global, front: &str, rows: &[Row]) -> Result<(), Refused> {
@@ -155,7 +157,8 @@ fn branches_lead_behind_blocks_and_to_loops(rt: HostRuntime) -> Result<(), Refus
     check(&rt, rt.alloc(), NOTHING, &BRANCHES)
 }
 
-/// Where the condition is zero an `if` goes on behind its `else`, or behind its `end`; an `else` goes on behind the `end`.
+/// Where the condition is zero an `if` goes on behind its `else`, or behind its `end`; an `else`
+/// goes on behind the `end`.
 const CHOICES: [Row; 10] = [
     (
         "00 4100 4100 0440 01 0b 1a 0b",
@@ -347,7 +350,8 @@ fn an_end_has_no_jump(rt: HostRuntime) -> Result<(), Refused> {
 const LEAVES: &[u8; 29] = b"\0asm\x01\0\0\0\x01\x04\x01\x60\0\0\x03\x02\x01\0\
     \x0a\x09\x01\x07\0\x02\x40\x0c\0\x0b\x0b";
 
-/// `scripts/refused-allocations` refuses each allocation in turn, and then this ends in want of memory.
+/// `scripts/refused-allocations` refuses each allocation in turn, and then this ends in want of
+/// memory.
 #[test]
 fn a_branch_table_is_made(rt: HostRuntime) -> Result<(), Refused> {
     let table = table_of(rt.alloc(), LEAVES)?;

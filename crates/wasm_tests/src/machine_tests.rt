@@ -88,7 +88,8 @@ fn a_start_and_a_memory_are_exported(rt: HostRuntime) -> Result<(), Refused> {
 /// The header, and types: from nothing to nothing, that of `fd_write`, and that of `proc_exit`.
 const TYPES: &str = "0061736d01000000 0110 03 600000 60047f7f7f7f017f 60017f00";
 
-/// A function, a page of memory, and both exports: `_start` with the index 0, 1 or 2, behind the imports.
+/// A function, a page of memory, and both exports: `_start` with the index 0, 1 or 2, behind the
+/// imports.
 const FROM_0: &str = "0302 01 00 0503 01 0001 0713 02 06'_start'0000 06'memory'0200 0a04 01 02000b";
 
 const FROM_1: &str = "0302 01 00 0503 01 0001 0713 02 06'_start'0001 06'memory'0200 0a04 01 02000b";
@@ -222,7 +223,8 @@ fn memory_begins_with_few_pages(rt: HostRuntime) -> Result<(), Refused> {
     check(&rt, rt.alloc(), FUNCTION, EXPORTED, &PAGES)
 }
 
-/// Two imports, a table with a second entry, two globals, and segments of which the last goes where a global says.
+/// Two imports, a table with a second entry, two globals, and segments of which the last goes where
+/// a global says.
 const WHOLE: &[u8; 181] =
     b"\0asm\x01\0\0\0\x01\x10\x03\x60\0\0\x60\x04\x7f\x7f\x7f\x7f\x01\x7f\x60\x01\x7f\0\x02\
     \x46\x02\x16wasi_snapshot_preview1\x09proc_exit\0\x02\x16wasi_snapshot_preview1\x08fd_\
@@ -241,7 +243,8 @@ fn exports_of(machine: Machine) -> usize {
     machine.unlink().module().exports.len()
 }
 
-/// `scripts/refused-allocations` refuses each allocation in turn, and then this ends in want of memory.
+/// `scripts/refused-allocations` refuses each allocation in turn, and then this ends in want of
+/// memory.
 #[test]
 fn a_machine_is_linked(rt: HostRuntime) -> Result<(), Refused> {
     let machine = accept(rt.alloc(), WHOLE, 2)?;
@@ -263,7 +266,8 @@ const FILLED: &str = "0b11 02 00 41010b 04'abcd' 00 23010b 02'yz'";
 const BEGINNINGS: [(&str, u64); 3] = [
     // both globals
     ("00 4100 2300 360000 4104 2301 360000 0b", 0x3_0000_0007),
-    // the second entry of the table is the function itself, which tells by the byte at 0 that it is called again
+    // the second entry of the table is the function itself, which tells by the byte at 0 that it is
+    // called again
     (
         "00 4100 2d0000 0440 4100 4202 370000 0f 0b 4100 4101 3a0000 4101 110000 0b",
         2,

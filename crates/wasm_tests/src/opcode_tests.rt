@@ -1,5 +1,6 @@
-//! What each integer instruction does in guest code: the bytes of its operands, its opcode, and the number that it leaves.
-//! The operands tell it from its neighbours. Each number was worked out from the standard.
+//! What each integer instruction does in guest code: the bytes of its operands, its opcode, and the
+//! number that it leaves. The operands tell it from its neighbours. Each number was worked out from
+//! the standard.
 
 use crate::runs::{End, ending, left_at_0};
 use crate::spelled::{Refused, append, spelled, with_code};
@@ -15,7 +16,8 @@ enum Shape {
     Binary64,
     /// Of -1 and 1, 1 and 2, 1 and 1, and 2 and 1, a byte of the number each.
     Compared32,
-    /// Of -1 and 2 ^ 40, 2 ^ 40 and 2 ^ 41, 2 ^ 40 and itself, and 2 ^ 41 and 2 ^ 40, a byte of the number each.
+    /// Of -1 and 2 ^ 40, 2 ^ 40 and 2 ^ 41, 2 ^ 40 and itself, and 2 ^ 41 and 2 ^ 40, a byte of the
+    /// number each.
     Compared64,
     /// Of 0x00f0_0400 and 0, a byte of the number each.
     Unary32,
@@ -35,7 +37,8 @@ enum Shape {
     Stored64,
 }
 
-/// Up to the opcode: the first function takes the operands, and the second one, `_start`, gives them.
+/// Up to the opcode: the first function takes the operands, and the second one, `_start`, gives
+/// them.
 fn front(shape: Shape) -> &'static str {
     match shape {
         Shape::Binary32 => {
@@ -235,13 +238,14 @@ fn operations_give_what_the_standard_says(rt: HostRuntime) -> Result<(), Refused
     Ok(())
 }
 
-/// Two types, four functions, a table of four entries with functions 1, 0 and 2, a page of memory of at most two, and a global
-/// that begins with 5.
+/// Two types, four functions, a table of four entries with functions 1, 0 and 2, a page of memory
+/// of at most two, and a global that begins with 5.
 const FRONT: &str = "0061736d01000000 010a 02 600000 60027f7f017f 0305 04 01 01 00 00 \
     0404 01 700004 0504 01 010102 0606 01 7f01 41050b \
     0713 02 06'_start'0003 06'memory'0200 0909 01 00 41000b 03010002";
 
-/// The first functions of four: the first integer less the second, the second less the first, and nothing.
+/// The first functions of four: the first integer less the second, the second less the first, and
+/// nothing.
 const OTHERS: &str = "04 0700200020016b0b 0700200120006b0b 02000b";
 
 /// Name, locals and body of `_start`, and the number that it leaves at address 0.
@@ -424,15 +428,17 @@ fn instructions_trap_where_the_standard_says(rt: HostRuntime) -> Result<(), Refu
     Ok(())
 }
 
-/// The first functions of two: it gives its parameter where that isn't zero, and else its declared local.
+/// The first functions of two: it gives its parameter where that isn't zero, and else its declared
+/// local.
 const CHOOSING: &str = "02 0e 01017f 2000 0440 2000 0f 0b 2001 0b";
 
-/// The header, types from nothing to nothing and from an integer to one, two functions, a page of memory, and the exports.
+/// The header, types from nothing to nothing and from an integer to one, two functions, a page of
+/// memory, and the exports.
 const CHOICE: &str = "0061736d01000000 0109 02 600000 60017f017f 0303 02 01 00 0503 01 0001 \
     0713 02 06'_start'0001 06'memory'0200";
 
-/// A body of `_start`, and the number that it leaves: a call takes one operand and gives one, and declared locals begin as
-/// zero.
+/// A body of `_start`, and the number that it leaves: a call takes one operand and gives one, and
+/// declared locals begin as zero.
 const CALLS: [(&str, u64); 3] = [
     ("00 4100 4109 4105 1000 6a 360000 0b", 14),
     ("00 4100 4109 4100 1000 6a 360000 0b", 9),

@@ -57,7 +57,8 @@ fn digit(letter: u8) -> Option<u8> {
     }
 }
 
-/// Appends the bytes that pairs of digits spell, with spaces between some, and the letters of names in quotes.
+/// Appends the bytes that pairs of digits spell, with spaces between some, and the letters of names
+/// in quotes.
 pub fn append(bytes: &mut Vec<u8>, text: &str) -> Result<(), Refused> {
     let mut high = None;
     let mut quoted = false;
@@ -106,8 +107,8 @@ fn append_code(bytes: &mut Vec<u8>, others: &[u8], last: &[u8]) -> Result<(), Re
     Ok(())
 }
 
-/// What stands before a module's code section, that section without sizes, as its number of entries with some of them and
-/// a last entry, and what stands behind it.
+/// What stands before a module's code section, that section without sizes, as its number of entries
+/// with some of them and a last entry, and what stands behind it.
 pub fn with_code(
     alloc: Global,
     front: &str,

@@ -627,7 +627,8 @@ fn counts(module: &Module) -> [usize; 5] {
     ]
 }
 
-/// `scripts/refused-allocations` refuses each allocation in turn, and then this ends in want of memory.
+/// `scripts/refused-allocations` refuses each allocation in turn, and then this ends in want of
+/// memory.
 #[test]
 fn a_whole_module_is_read(rt: HostRuntime) -> Result<(), DecodeFault> {
     let read = decode(rt.alloc(), &ECHO)?;

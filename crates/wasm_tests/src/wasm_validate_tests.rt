@@ -253,8 +253,8 @@ fn later_parts_are_told_in_their_order(rt: HostRuntime) -> Result<(), Refused> {
     check(&rt, rt.alloc(), FURNISHED, &LATER)
 }
 
-/// Types from nothing to nothing, and from integers of 32 and 64 bits to one of 32, a function of the second and one of the
-/// first, and a constant global.
+/// Types from nothing to nothing, and from integers of 32 and 64 bits to one of 32, a function of
+/// the second and one of the first, and a constant global.
 const BARE: &str = "0061736d01000000 010a 02 600000 60027f7e017f 0303 02 01 00 \
     0606 01 7f00 41000b";
 
@@ -265,7 +265,8 @@ const WITH_BOTH: &str = "0061736d01000000 010a 02 600000 60027f7e017f 0303 02 01
 /// The first entry of two.
 const FIRST: &str = "02 0400 2000 0b";
 
-/// Each row has the second entry, the body of a function from nothing to nothing behind the `00` that declares no locals.
+/// Each row has the second entry, the body of a function from nothing to nothing behind the `00`
+/// that declares no locals.
 fn check_bodies(
     rt: &impl Abort,
     alloc: Global,
@@ -477,7 +478,8 @@ const WHOLE: [u8; 65] = [
     0x0b,
 ];
 
-/// `scripts/refused-allocations` refuses each allocation in turn, and then this ends in want of memory.
+/// `scripts/refused-allocations` refuses each allocation in turn, and then this ends in want of
+/// memory.
 #[test]
 fn a_whole_module_is_valid(rt: HostRuntime) -> Result<(), Refused> {
     let valid = read(rt.alloc(), &WHOLE)?;

@@ -10,8 +10,8 @@ use crate::parts::{ModuleContext, ValidFault};
 use std::alloc::Global;
 use wasm_syntax::Function;
 
-/// One function: `Index` where its type doesn't exist, `Limits` where it gives two values, and else the first
-/// fault of its body.
+/// One function: `Index` where its type doesn't exist, `Limits` where it gives two values, and else
+/// the first fault of its body.
 fn check_function(
     checker: &mut BodyChecker,
     context: &ModuleContext,
@@ -31,8 +31,8 @@ fn check_function(
     checker.check(context, function_type, &function.code)
 }
 
-/// The functions of a module whose types are valid, in their order. All bodies are checked over the same
-/// memory.
+/// The functions of a module whose types are valid, in their order. All bodies are checked over the
+/// same memory.
 pub fn check_functions(
     alloc: Global,
     context: &ModuleContext,

@@ -38,8 +38,8 @@ impl ValidModule {
     }
 }
 
-/// The first fault, in this order: types, imports, functions' types, tables, memories, globals, exports, the
-/// start function, element segments, data segments, bodies.
+/// The first fault, in this order: types, imports, functions' types, tables, memories, globals,
+/// exports, the start function, element segments, data segments, bodies.
 fn check(alloc: Global, module: &Module) -> Result<(), ValidFault>
     ensures valid { Judges result (IsValid «module».now) }
     ensures fault { IfErr result (HasFault «module».now) }
@@ -51,12 +51,12 @@ fn check(alloc: Global, module: &Module) -> Result<(), ValidFault>
     check_functions(alloc, &context, module.functions.as_slice())
 }
 
-/// Decides whether a module is valid. A fault other than `Memory` says that it is not, and is the first one:
-/// types, imports, functions' types, tables, memories, globals, exports, the start function, element segments
-/// and data segments come before bodies, and each is checked from the front. It takes time in proportion to
-/// the module, but for the names of exports, whose bytes take n log n, and each call in a body takes time in
-/// proportion to its parameters. Memory is taken in proportion to the functions, globals, exports and the
-/// longest body.
+/// Decides whether a module is valid. A fault other than `Memory` says that it is not, and is the
+/// first one: types, imports, functions' types, tables, memories, globals, exports, the start
+/// function, element segments and data segments come before bodies, and each is checked from the
+/// front. It takes time in proportion to the module, but for the names of exports, whose bytes take
+/// n log n, and each call in a body takes time in proportion to its parameters. Memory is taken in
+/// proportion to the functions, globals, exports and the longest body.
 pub fn validate(alloc: Global, module: Module) -> Result<ValidModule, ValidFault>
     ensures same { IfOk result (λ v. v ≡ «module») }
     ensures valid { OnOk result (IsValid «module») }

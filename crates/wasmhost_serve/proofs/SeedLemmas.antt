@@ -1,5 +1,6 @@
 -- What a generator fills is what its stream has.
-use Rattle.std.proofs.Common.{◌≡◌, ℕ, zero, suc, ◌+◌, ◌*◌, ◌^◌, ◌<◌, List, [], ◌∷◌, ◌++◌, length, ap, refl, ◌∙◌, arith, take, length-append, length-take-le}
+use Rattle.std.proofs.Common.{◌≡◌, ℕ, zero, suc, ◌+◌, ◌*◌, ◌^◌, ◌<◌, List, [], ◌∷◌, ◌++◌, length}
+use Rattle.std.proofs.Common.{ap, refl, ◌∙◌, arith, take, length-append, length-take-le}
 use Rattle.std.specs.Int.{w32, to_le_bytes}
 use Rattle.wasi_abi.specs.rules.Answers.{AreBytes}
 use Rattle.rand_core.specs.Steps.{fill_via_u32, word_bytes}

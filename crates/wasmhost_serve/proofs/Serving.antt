@@ -1,5 +1,7 @@
 -- From slices to printed lines.
-use Rattle.std.proofs.Common.{◌≡◌, ◌≢◌, ◌⊎◌, inl, inr, ℕ, suc, ◌+◌, ◌-◌, ◌^◌, ◌<◌, ◌≤◌, Bool, false, List, [], ◌∷◌, ◌++◌, length, Option, Some, None, Ok, Err, refl, sym, ap, ◌∙◌, subst, arith}
+use Rattle.std.proofs.Common.{◌≡◌, ◌≢◌, ◌⊎◌, inl, inr, ℕ, suc, ◌+◌, ◌-◌, ◌^◌, ◌<◌, ◌≤◌, Bool, false}
+use Rattle.std.proofs.Common.{List, [], ◌∷◌, ◌++◌, length, Option, Some, None, Ok, Err, refl, sym}
+use Rattle.std.proofs.Common.{ap, ◌∙◌, subst, arith}
 use Rattle.std.specs.Prelude.{Result, ⊤}
 use Rattle.std.specs.List.{AllByRecursion}
 use Rattle.std.proofs.lemmas.List.{append-nil}
@@ -15,8 +17,11 @@ use Rattle.process_rules.specs.Processes.{ProcessState, Guest}
 use Rattle.process_rules.specs.Runs.{Kept, Wants, next_of}
 use Rattle.process_rules.proofs.Growing.{runs_count}
 use Rattle.record_replay.specs.declared.fault.SourceFault.{SourceFault}
-use Rattle.record_replay.specs.rules.Calls.{Giving, Taking, Ask, Asked, Exchange, Asks, AnswersInOrder, Releases, asks_of, releases_of, all_taken}
-use Rattle.record_replay.proofs.Following.{asks_of-append, releases_of-append, leads_split, leads_before}
+use Rattle.record_replay.specs.rules.Calls.{Giving, Taking, Ask, Asked, Exchange, Asks}
+use Rattle.record_replay.specs.rules.Calls.{AnswersInOrder, Releases, asks_of, releases_of}
+use Rattle.record_replay.specs.rules.Calls.{all_taken}
+use Rattle.record_replay.proofs.Following.{asks_of-append, releases_of-append, leads_split}
+use Rattle.record_replay.proofs.Following.{leads_before}
 use Rattle.process.specs.rules.Values.{IsProcess, ShowsProcess}
 use Rattle.worker.specs.declared.fault.WorkFault.{WorkFault}
 use Rattle.worker.specs.declared.fault.WorkFault.TheVariants as fault
@@ -24,8 +29,10 @@ use Rattle.worker.specs.declared.fault.Refusal.TheVariants as refusal
 use Rattle.worker.specs.declared.now.Now.{Now}
 use Rattle.worker.specs.declared.now.Now.TheVariants as now
 use Rattle.worker.specs.rules.Values.{WorkerValue}
-use Rattle.worker.specs.rules.Slices.{handed, HasAnswer, SliceLeadsTo, LeadsToWish, AreAnswered, IsNow, Works, Slices}
-use Rattle.worker.specs.rules.Faults.{IsBadAnswer, StopsAtAnswer, LeadsUpTo, last_answer, Fails, IsCause, SlicesInVain}
+use Rattle.worker.specs.rules.Slices.{handed, HasAnswer, SliceLeadsTo, LeadsToWish, AreAnswered}
+use Rattle.worker.specs.rules.Slices.{IsNow, Works, Slices}
+use Rattle.worker.specs.rules.Faults.{IsBadAnswer, StopsAtAnswer, LeadsUpTo, last_answer, Fails}
+use Rattle.worker.specs.rules.Faults.{IsCause, SlicesInVain}
 use Rattle.worker.proofs.Adding.{slices_add}
 use Rattle.worker.proofs.Failing.{slices_add_in_vain}
 use Rattle.worker.proofs.Joining.{handed_of_both}
@@ -36,13 +43,15 @@ use Rattle.wasmhost_serve.specs.Lines.Answers.{HandsAnswer, Finds, IsRefusedFor,
 use Rattle.wasmhost_serve.specs.rules.Prints.{PrintsOneLine as PrintsLine}
 use Rattle.wasmhost_serve.specs.rules.Printed.{all_printed}
 use Rattle.wasmhost_serve.specs.rules.Requests.{GiveUpTo}
-use Rattle.wasmhost_serve.proofs.LineLemmas.Asking.{gives_lines, HasAnswered, all_answered, none_left, refused_for, refused_so}
+use Rattle.wasmhost_serve.proofs.LineLemmas.Asking.{gives_lines, HasAnswered, all_answered}
+use Rattle.wasmhost_serve.proofs.LineLemmas.Asking.{none_left, refused_for, refused_so}
 use Rattle.wasmhost_serve.proofs.LineLemmas.Passing.{up_to_map}
 use Rattle.wasmhost_serve.proofs.LineLemmas.Printed.{taken_are_printed}
 use Rattle.wasmhost_serve.specs.declared.run.RunFault.{RunFault}
 use Rattle.wasmhost_serve.specs.declared.run.RunFault.TheVariants as run
 use Rattle.wasmhost_serve.specs.rules.Served.{WantsAnswer, IsOver, IsSpent}
-use Rattle.wasmhost_serve.specs.Runs.{SlicesSome, SlicesSomeInVain, Prints, IsWorkerRun, IsRunInVain, FailsAs, IsToldAs, ended_by}
+use Rattle.wasmhost_serve.specs.Runs.{SlicesSome, SlicesSomeInVain, Prints, IsWorkerRun}
+use Rattle.wasmhost_serve.specs.Runs.{IsRunInVain, FailsAs, IsToldAs, ended_by}
 
 -- ---- slices so far
 

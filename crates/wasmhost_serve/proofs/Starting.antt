@@ -1,5 +1,6 @@
 -- From a worker that was created to what the exit status says.
-use Rattle.std.proofs.Common.{◌≡◌, ◌⊎◌, inl, inr, ℕ, ◌+◌, ◌<◌, ◌≤◌, Bool, List, [], ◌∷◌, length, None, refl, sym, ap, ◌∙◌, subst, arith}
+use Rattle.std.proofs.Common.{◌≡◌, ◌⊎◌, inl, inr, ℕ, ◌+◌, ◌<◌, ◌≤◌, Bool, List, [], ◌∷◌, length}
+use Rattle.std.proofs.Common.{None, refl, sym, ap, ◌∙◌, subst, arith}
 use Rattle.std.specs.Prelude.{Option}
 use Rattle.std.proofs.KnownBytes.{Appends-nil}
 use Rattle.std.specs.Io.KnownBytes.{Appends}
@@ -24,7 +25,8 @@ use Rattle.wasmhost_serve.specs.declared.configuring.Unconfigured.{Unconfigured}
 use Rattle.wasmhost_serve.specs.declared.configuring.Unconfigured.TheVariants as unconfigured
 use Rattle.wasmhost_serve.specs.rules.Statuses.{IsUnconfigured, status_of}
 use Rattle.wasmhost_serve.specs.rules.Requests.{BeginsWithOther, BeginsWithLater, BeginsWithNumber}
-use Rattle.wasmhost_serve.specs.rules.Served.{Job, WantsAnswer, MeetsBadLine, LacksAnswer, HasPrinted, IsRefusal, Serves, last_words}
+use Rattle.wasmhost_serve.specs.rules.Served.{Job, WantsAnswer, MeetsBadLine, LacksAnswer}
+use Rattle.wasmhost_serve.specs.rules.Served.{HasPrinted, IsRefusal, Serves, last_words}
 use Rattle.wasmhost_serve.specs.rules.Outside.{requests_in, words_of}
 use Rattle.wasmhost_serve.specs.Lines.Answers.{IsRefusedFor, MissesNext, IsClockless, IsWordless}
 use Rattle.wasmhost_serve.specs.Runs.{Prints, IsWorkerRun, IsRunInVain, FailsAs, ended_by}
@@ -299,7 +301,8 @@ module _ (given : Job) (failed : Bool) (old err err' : Option (List ℕ)) where
           → Serves given failed failed old old err err' (status_of (run.Config why))
       by_refusal (unconfigured.Limits why) h =
           three given failed failed old old err err' (inl (h, Appends-nil old)) refl
-      by_refusal unconfigured.Memory h = five given failed failed old old err err' (inl (Appends-nil old))
+      by_refusal unconfigured.Memory h =
+          five given failed failed old old err err' (inl (Appends-nil old))
 
 pub few_statuses : (given : Job) (failed failed' : Bool) (old new err err' : Option (List ℕ))
     (status : ℕ) → Serves given failed failed' old new err err' status → status ≤ 7

@@ -23,9 +23,11 @@ fn verdict_on(alloc: Global, wasm: &[u8]) -> Result<(), FrontFault>
     }
 }
 
-/// Prints a verdict: `accepted`, or `refused` with the fault's code and name, and its place if it has one.
+/// Prints a verdict: `accepted`, or `refused` with the fault's code and name, and its place if it
+/// has one.
 fn print_verdict<W: Write>(verdict: Result<(), FrontFault>, out: &mut W) -> io::Result<()>
-    ensures { IsOk verdict → OnOk result (Appends (W.contents out.old) (W.contents out.new) (codes "accepted\n")) }
+    ensures { IsOk verdict
+        → OnOk result (Appends (W.contents out.old) (W.contents out.new) (codes "accepted\n")) }
 {
     match verdict {
         Ok(()) => writeln!(out, "accepted"),
@@ -47,11 +49,12 @@ fn status_of(verdict: Result<(), FrontFault>) -> u8
     }
 }
 
-/// Says whether a module is accepted: prints a line, and answers the exit status, 0, 3 where it is refused, 5
-/// for want of memory, 7 where nothing can be printed.
+/// Says whether a module is accepted: prints a line, and answers the exit status, 0, 3 where it is
+/// refused, 5 for want of memory, 7 where nothing can be printed.
 pub fn check_bytes<W: Write>(alloc: Global, wasm: &[u8], out: &mut W) -> u8
     ensures accepted { result ≡ 0 → HasAcceptedModule PAGES wasm.now }
-    ensures printed { result ≡ 0 → Appends (W.contents out.old) (W.contents out.new) (codes "accepted\n") }
+    ensures printed { result ≡ 0
+        → Appends (W.contents out.old) (W.contents out.new) (codes "accepted\n") }
     ensures refused { result ≡ 3 → HasNoAcceptedModule PAGES wasm.now }
     ensures known { (result ≡ 0) ⊎ (result ≡ 3) ⊎ (result ≡ 5) ⊎ (result ≡ 7) }
 {

@@ -5,7 +5,8 @@ ghost use Rattle.std.specs.Io.KnownBytes.{Appends};
 ghost use Rattle.process.specs.rules.Values.{IsProcess};
 ghost use Rattle.worker.specs.declared.now.Now.TheVariants.{Spent};
 ghost use Rattle.wasmhost_serve.specs.rules.Served.{Serves, config_of, job, last_words, texts_in};
-ghost use Rattle.wasmhost_serve.specs.Runs.{SlicesSome, SlicesSomeInVain, IsWorkerRun, IsRunInVain, IsToldAs, ended_by};
+ghost use Rattle.wasmhost_serve.specs.Runs.{SlicesSome, SlicesSomeInVain, IsWorkerRun, IsRunInVain};
+ghost use Rattle.wasmhost_serve.specs.Runs.{IsToldAs, ended_by};
 ghost use Rattle.wasmhost_serve.specs.rules.Statuses.{status_of};
 
 use crate::configuring::{Unconfigured, configure};

@@ -3,7 +3,8 @@
 ghost use Rattle.std.specs.Prelude.{◌≡◌, ◌≤◌, ◌⊎◌};
 ghost use Rattle.std.specs.IoError.{error_kind};
 ghost use Rattle.wasmhost_serve.specs.rules.Commands.{IsStatusOf};
-ghost use Rattle.wasmhost_serve.specs.rules.Reports.{SaysLine, IsFileFault, status_told, words_told};
+ghost use Rattle.wasmhost_serve.specs.rules.Reports.{SaysLine, IsFileFault, status_told};
+ghost use Rattle.wasmhost_serve.specs.rules.Reports.{words_told};
 
 use crate::status::{NO_MEMORY, UNREAD, UNWRITTEN, USAGE};
 use crate::words::WordsFault;

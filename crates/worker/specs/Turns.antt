@@ -27,12 +27,15 @@ taken_by (Ok done) = Ok true
 taken_by (Err why) = Err (work_fault why)
 
 -- The source failed; it had no answer yet; or it gave one, which the process was given.
-abbrev pub AnswersBy : ProcessValue → Result (Option Answer) SourceFault → Result Bool WorkFault → ProcessValue → Type 0
+abbrev pub AnswersBy : ProcessValue → Result (Option Answer) SourceFault → Result Bool WorkFault
+    → ProcessValue → Type 0
 AnswersBy old (Err e) result new = (result ≡ Err fault.Source) × (new ≡ old)
 AnswersBy old (Ok None) result new = (result ≡ Ok false) × (new ≡ old)
-AnswersBy old (Ok (Some a)) result new = (given : Result (Unit {0}) ProcessFault) × GivesAnswer old a given new × (result ≡ taken_by given)
+AnswersBy old (Ok (Some a)) result new = (given : Result (Unit {0}) ProcessFault)
+    × GivesAnswer old a given new × (result ≡ taken_by given)
 
-pub record AsksOnce {S : Type 0} (gives : Giving S) (kind : Kind) (old : ProcessValue) (result : Result Bool WorkFault) (new : ProcessValue) (source source' : S) : Type 0 where
+pub record AsksOnce {S : Type 0} (gives : Giving S) (kind : Kind) (old : ProcessValue)
+    (result : Result Bool WorkFault) (new : ProcessValue) (source source' : S) : Type 0 where
   pub said : Result (Option Answer) SourceFault
   pub asked : gives source kind said source'
   pub answers : AnswersBy old said result new

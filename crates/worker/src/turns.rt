@@ -1,4 +1,5 @@
-//! The turns of a slice: steps up to where something is owed or asked, and what that wants of the outside.
+//! The turns of a slice: steps up to where something is owed or asked, and what that wants of the
+//! outside.
 
 ghost use Rattle.std.specs.Prelude.{◌≡◌, [], IfOk, IfErr};
 ghost use Rattle.wasi_abi.specs.declared.answer.Kind.{Kind};
@@ -13,7 +14,8 @@ use process::{Process, Stop};
 use record_replay::{Outlet, Source, release_waiting};
 use wasi_abi::Kind;
 
-/// Takes at most `fuel` steps. Each line is released, and each answer asked for, before the next step.
+/// Takes at most `fuel` steps. Each line is released, and each answer asked for, before the next
+/// step.
 pub(crate) fn work<S: Source, O: Outlet>(
     process: &mut Process,
     fuel: u64,
@@ -21,8 +23,11 @@ pub(crate) fn work<S: Source, O: Outlet>(
     outlet: &mut O,
 ) -> Result<Now, WorkFault>
     requires none_waits { waiting_in process.old ≡ [] }
-    ensures done { IfOk result (λ now. Slices S.gives O.takes (working process.old) fuel now (working process.new) source.old source.new outlet.old outlet.new) }
-    ensures failed { IfErr result (λ fault. SlicesInVain S.gives O.takes (working process.old) fuel fault (failing process.new) source.old source.new outlet.old outlet.new) }
+    ensures done { IfOk result (λ now. Slices S.gives O.takes (working process.old) fuel now
+        (working process.new) source.old source.new outlet.old outlet.new) }
+    ensures failed { IfErr result (λ fault.
+        SlicesInVain S.gives O.takes (working process.old) fuel fault
+        (failing process.new) source.old source.new outlet.old outlet.new) }
 {
     let first = process.steps();
     loop {

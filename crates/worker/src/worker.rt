@@ -48,15 +48,20 @@ impl Worker {
         })
     }
 
-    /// Takes at most `fuel` steps: answers from the source, lines to the outlet. No step is taken while a line waits.
+    /// Takes at most `fuel` steps: answers from the source, lines to the outlet. No step is taken
+    /// while a line waits.
     pub fn slice<S: Source, O: Outlet>(
         &mut self,
         fuel: u64,
         source: &mut S,
         outlet: &mut O,
     ) -> Result<Now, WorkFault>
-        ensures done { IfOk result (λ now. Slices S.gives O.takes self.old fuel now self.new source.old source.new outlet.old outlet.new) }
-        ensures failed { IfErr result (λ fault. SlicesInVain S.gives O.takes self.old fuel fault self.new source.old source.new outlet.old outlet.new) }
+        ensures done { IfOk result (λ now.
+            Slices S.gives O.takes self.old fuel now self.new source.old source.new outlet.old
+            outlet.new) }
+        ensures failed { IfErr result (λ fault.
+            SlicesInVain S.gives O.takes self.old fuel fault self.new source.old source.new
+            outlet.old outlet.new) }
     {
         if self.failed {
             return Err(WorkFault::Failed);

@@ -30,7 +30,8 @@ promises_of_kept lives = kept_of_promised nothing_yet (events_of lives)
 pub calls_join : CallsJoin
 calls_join m config so_far stage [] then kept further = (further, refl, refl)
 calls_join m config so_far stage (e ∷ first) then kept further =
-    let rest = calls_join m config (after so_far e) (next_stage stage e) first then kept.1 further in
+    let rest = calls_join m config (after so_far e) (next_stage stage e) first then kept.1 further
+    in
     ((kept.0, rest.0), rest.1, rest.2)
 
 -- ---- the events of all lives, in one list

@@ -179,7 +179,8 @@ module _ (m : Module) (config : Settings) where
   shut_ends says acts calls (Failed OfAnswer) may = absurd may.0
   shut_ends says acts calls (Failed OfOutlet) may = absurd may.0
   shut_ends says acts calls (Failed OfMemory) may = refl
-  shut_ends says acts calls (Failed OfBounds) may = let e : 2 ^ 63 ≤ 1 = may.0 in absurd (omega (arith, e))
+  shut_ends says acts calls (Failed OfBounds) may = let e : 2 ^ 63 ≤ 1 = may.0 in
+      absurd (omega (arith, e))
 
   -- an open life in peace ends when all is done
   undone_ends : (act : Act) (acts : List Act) (says : List SourceSaid) (calls : ℕ) (first : Saved)
@@ -236,7 +237,8 @@ module _ (m : Module) (config : Settings) where
     undone = λ act acts says calls ends first goes.
         undone_ends act acts says calls first ends goes.0.ends;
     goes_on = λ inputs act cause held calls e events ends first last goes.
-        closed m config (after (after nothing_yet (Opened 0 first)) (Ended act (Fails cause) held last))
+        closed m config (after (after nothing_yet (Opened 0 first))
+        (Ended act (Fails cause) held last))
         (next_stage (next_stage (at_first inputs) (Opened 0 first))
         (Ended act (Fails cause) held last)) cause e refl goes.0.kept.1.1.0;
     other_process = λ i j calls more ends others first second rest valid none zero goes.

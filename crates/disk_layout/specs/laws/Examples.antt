@@ -10,7 +10,13 @@ use Rattle.disk_layout.specs.rules.Journal.{Record, record_bytes, record_at, jou
 
 -- one page, one unit of files, a journal of 64 sectors, and the argument `worker`
 abbrev pub small : Settings
-small = record { pages = 1; files = 1; journal = 64; arguments = codes "worker" ∷ []; environment = [] }
+small = record {
+  pages = 1;
+  files = 1;
+  journal = 64;
+  arguments = codes "worker" ∷ [];
+  environment = [];
+}
 
 -- the request `hello`, taken by the sixth step
 abbrev pub hello_record : Record
@@ -54,11 +60,13 @@ pub record LayoutExamples : Type 0 where
   pub journal : journal_place (geometry_of small 193) ≡ 4612
   pub module_sectors : (geometry_of small 193).module_sectors ≡ 1
   pub area_sectors : (geometry_of small 193).area_sectors ≡ 2304
-  pub record_is : record_bytes hello_record ≡ 1 ∷ 6 ∷ 0 ∷ 0 ∷ 0 ∷ 0 ∷ 0 ∷ 0 ∷ 0 ∷ 5 ∷ 0 ∷ 0x68 ∷ 0x65 ∷ 0x6c ∷ 0x6c ∷ 0x6f ∷ []
+  pub record_is : record_bytes hello_record ≡ 1 ∷ 6 ∷ 0 ∷ 0 ∷ 0 ∷ 0 ∷ 0 ∷ 0 ∷ 0 ∷ 5 ∷ 0 ∷ 0x68
+      ∷ 0x65 ∷ 0x6c ∷ 0x6c ∷ 0x6f ∷ []
   pub record_back : record_at 4096 (record_bytes hello_record) ≡ Some hello_record
   pub record_cut : record_at 4096 (take 15 (record_bytes hello_record)) ≡ None
   pub sector_length : length (third_sector 255) ≡ 512
-  -- a sector of generation 255 overwritten for 256 and torn: with 497 new bytes it shows 0, from 498 on it is the new one
+  -- a sector of generation 255 overwritten for 256 and torn: with 497 new bytes it shows 0, from
+  -- 498 on it is the new one
   pub torn_497 : shown_generation 3 (front_over 497 (third_sector 256) (third_sector 255)) ≡ 0
   pub torn_498 : front_over 498 (third_sector 256) (third_sector 255) ≡ third_sector 256
   pub shows_256 : shown_generation 3 (third_sector 256) ≡ 256

@@ -7,7 +7,8 @@ use Rattle.disk_layout.specs.declared.superblock.TheConstants.{WASM_LENGTH_AT, M
 use Rattle.disk_layout.specs.declared.superblock.TheConstants.{AREA_SECTORS_AT, JOURNAL_SECTORS_AT}
 use Rattle.disk_layout.specs.declared.superblock.TheConstants.{CONTENTS_DIGEST_AT, END_MARK_AT}
 use Rattle.disk_layout.specs.declared.head.TheConstants.{HEAD_MARK, VERSION_AT, IMAGE_VERSION}
-use Rattle.disk_layout.specs.declared.head.TheConstants.{IMAGE_LENGTH_AT, IMAGE_DIGEST_AT, HEAD_STAMP_PLACE}
+use Rattle.disk_layout.specs.declared.head.TheConstants.{IMAGE_LENGTH_AT, IMAGE_DIGEST_AT}
+use Rattle.disk_layout.specs.declared.head.TheConstants.{HEAD_STAMP_PLACE}
 use Rattle.disk_layout.specs.declared.stamp.TheConstants.{GENERATION_AT, PLACE_AT}
 use Rattle.disk_layout.specs.declared.journal_sectors.TheConstants.{PAYLOAD_SIZE, PAYLOAD_AT}
 use Rattle.disk_layout.specs.declared.record_fields.TheConstants.{RECORD_HEAD_BYTES, STEP_AT}

@@ -10,7 +10,8 @@ use Rattle.disk_layout.specs.declared.reading.contents.Contents.{Contents}
 use Rattle.disk_layout.specs.rules.Held.{GivesContents}
 
 abbrev pub OneSpelling : Type 0
-OneSpelling = (a b : Settings) → AreSettingsWithinLimits a → AreSettingsWithinLimits b → config_bytes a ≡ config_bytes b → a ≡ b
+OneSpelling = (a b : Settings) → AreSettingsWithinLimits a → AreSettingsWithinLimits b
+    → config_bytes a ≡ config_bytes b → a ≡ b
 
 -- it speaks of what the disk holds
 abbrev pub IsOfTheDisk : Result Contents LayoutFault → Type 0
@@ -19,8 +20,16 @@ IsOfTheDisk (Err (Disk fault)) = ⊥
 IsOfTheDisk other = Unit {0}
 
 abbrev pub OneAnswer : Type 0
-OneAnswer = (sectors : ℕ) (image : Image) (one other : Result Contents LayoutFault) → IsOfTheDisk one → IsOfTheDisk other → GivesContents sectors image one → GivesContents sectors image other → one ≡ other
+OneAnswer = (sectors : ℕ) (image : Image) (one other : Result Contents LayoutFault)
+    → IsOfTheDisk one → IsOfTheDisk other → GivesContents sectors image one
+    → GivesContents sectors image other → one ≡ other
 
 abbrev pub ReadsWhatIsWritten : Type 0
-ReadsWhatIsWritten = (sectors : ℕ) (image : Image) (config : Settings) (wasm : List ℕ) → AreSettingsWithinLimits config → length wasm < 2 ^ 32 → HasWorker config wasm image → total_sectors (geometry_of config (length wasm)) ≤ sectors
-    → GivesContents sectors image (Ok (record { geometry = geometry_of config (length wasm); config = config; wasm = wasm }))
+ReadsWhatIsWritten = (sectors : ℕ) (image : Image) (config : Settings) (wasm : List ℕ)
+    → AreSettingsWithinLimits config → length wasm < 2 ^ 32 → HasWorker config wasm image
+    → total_sectors (geometry_of config (length wasm)) ≤ sectors
+    → GivesContents sectors image (Ok (record {
+      geometry = geometry_of config (length wasm);
+      config = config;
+      wasm = wasm;
+    }))

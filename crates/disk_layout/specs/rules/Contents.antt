@@ -15,7 +15,8 @@ filled bytes = bytes ++ padding (SECTOR_SIZE - length bytes)
 -- so many sectors of these bytes, one after another
 abbrev pub filled_sectors : ℕ → List ℕ → Image
 filled_sectors zero bytes = []
-filled_sectors (suc n) bytes = filled (take SECTOR_SIZE bytes) ∷ filled_sectors n (drop SECTOR_SIZE bytes)
+filled_sectors (suc n) bytes =
+    filled (take SECTOR_SIZE bytes) ∷ filled_sectors n (drop SECTOR_SIZE bytes)
 
 -- the sectors of configuration and module
 abbrev pub contents_sectors : List ℕ → Image
@@ -23,5 +24,6 @@ contents_sectors bytes = filled_sectors (rounded_up (length bytes)) bytes
 
 -- once they are written behind the super and the heads, the disk holds these bytes there
 abbrev pub HoldsWhatIsWritten : Type 0
-HoldsWhatIsWritten = (bytes : List ℕ) (old new : Image) → IsWrittenRun MODULE_PLACE (contents_sectors bytes) (length (contents_sectors bytes)) old new
+HoldsWhatIsWritten = (bytes : List ℕ) (old new : Image)
+    → IsWrittenRun MODULE_PLACE (contents_sectors bytes) (length (contents_sectors bytes)) old new
     → SectorsHold new MODULE_PLACE (rounded_up (length bytes)) bytes

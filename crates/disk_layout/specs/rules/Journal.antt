@@ -1,5 +1,7 @@
 -- Records, and the sectors of the journal (this project's own), version 1.
-use Rattle.std.specs.Prelude.{ℕ, zero, suc, ◌+◌, ◌-◌, nat_le, nat_lt, ◌==◌, ◌&&◌, if◌then◌else◌, Bool, true, false, List, [], ◌∷◌, ◌++◌, length, drop, Option, Some, None, option_map}
+use Rattle.std.specs.Prelude.{ℕ, zero, suc, ◌+◌, ◌-◌, nat_le, nat_lt, ◌==◌, ◌&&◌, if◌then◌else◌}
+use Rattle.std.specs.Prelude.{Bool, true, false, List, [], ◌∷◌, ◌++◌, length, drop, Option, Some}
+use Rattle.std.specs.Prelude.{None, option_map}
 use Rattle.guest_memory.specs.rules.Bytes.{number_of, part}
 use Rattle.disk_layout.specs.declared.record.Record.{Record as DeclaredRecord}
 use Rattle.wasi_abi.specs.declared.answer.Answer.{Answer}
@@ -10,7 +12,8 @@ use Rattle.disk_layout.specs.rules.Places.{Geometry, journal_place}
 use Rattle.disk_layout.specs.rules.Sectors.{stamp_bytes, shown_generation}
 use Rattle.disk_layout.specs.declared.record.TheConstants.{REQUEST_KIND, END_KIND, REALTIME_KIND}
 use Rattle.disk_layout.specs.declared.record.TheConstants.{MONOTONIC_KIND, RANDOM_KIND}
-use Rattle.disk_layout.specs.declared.record_fields.TheConstants.{RECORD_HEAD_BYTES, STEP_AT, PAYLOAD_LENGTH_AT}
+use Rattle.disk_layout.specs.declared.record_fields.TheConstants.{RECORD_HEAD_BYTES, STEP_AT}
+use Rattle.disk_layout.specs.declared.record_fields.TheConstants.{PAYLOAD_LENGTH_AT}
 use Rattle.disk_layout.specs.declared.journal_sectors.TheConstants.{PAYLOAD_SIZE, PAYLOAD_AT}
 
 -- a step, and the answer that it took
@@ -33,7 +36,9 @@ payload_of (answer.Random bytes) = bytes
 
 -- kind, step, length of the payload in 16 bits, payload
 abbrev pub record_bytes : Record → List ℕ
-record_bytes r = kind_number r.answer ∷ (u64_bytes r.step ++ (u16_bytes (length (payload_of r.answer)) ++ payload_of r.answer))
+record_bytes r =
+    kind_number r.answer ∷ (u64_bytes r.step ++ (u16_bytes (length (payload_of r.answer))
+    ++ payload_of r.answer))
 
 -- ---- reading records
 
@@ -41,14 +46,18 @@ abbrev pub answer_if : Bool → Answer → Option Answer
 answer_if true a = Some a
 answer_if false a = None
 
--- an answer by its kind and payload, if they are well formed; texts and bytes have at most so many bytes
+-- an answer by its kind and payload, if they are well formed; texts and bytes have at most so many
+-- bytes
 abbrev pub answer_of : ℕ → ℕ → List ℕ → Option Answer
 answer_of limit kind payload =
     if kind == REQUEST_KIND then answer_if (nat_le (length payload) limit) (answer.Request payload)
     else if kind == END_KIND then answer_if (length payload == 0) answer.End
-    else if kind == REALTIME_KIND then answer_if (length payload == 8) (answer.Realtime (number_of payload))
-    else if kind == MONOTONIC_KIND then answer_if (length payload == 8) (answer.Monotonic (number_of payload))
-    else if kind == RANDOM_KIND then answer_if (nat_le (length payload) limit) (answer.Random payload)
+    else if kind == REALTIME_KIND
+    then answer_if (length payload == 8) (answer.Realtime (number_of payload))
+    else if kind == MONOTONIC_KIND
+    then answer_if (length payload == 8) (answer.Monotonic (number_of payload))
+    else if kind == RANDOM_KIND
+    then answer_if (nat_le (length payload) limit) (answer.Random payload)
     else None
 
 -- the length of the payload of the record at the front
@@ -60,7 +69,12 @@ abbrev pub record_at : ℕ → List ℕ → Option Record
 record_at limit [] = None
 record_at limit (kind ∷ bytes) =
     if nat_le (RECORD_HEAD_BYTES + payload_length (kind ∷ bytes)) (length (kind ∷ bytes))
-    then option_map (λ a. record { step = number_of (part (kind ∷ bytes) STEP_AT 8); answer = a }) (answer_of limit kind (part (kind ∷ bytes) RECORD_HEAD_BYTES (payload_length (kind ∷ bytes))))
+    then option_map (λ a. record {
+      step = number_of (part (kind ∷ bytes) STEP_AT 8);
+      answer = a;
+    })
+    (answer_of limit kind (part (kind ∷ bytes) RECORD_HEAD_BYTES (payload_length (kind
+    ∷ bytes))))
     else None
 
 -- a record, if there is one, before the others
@@ -71,31 +85,41 @@ with_first (Some r) others = r ∷ others
 -- the records at the front, until one is cut or not well formed; so many at most
 abbrev pub records_at : ℕ → ℕ → List ℕ → List Record
 records_at limit zero bytes = []
-records_at limit (suc n) bytes = with_first (record_at limit bytes) (records_at limit n (drop (RECORD_HEAD_BYTES + payload_length bytes) bytes))
+records_at limit (suc n) bytes =
+    with_first (record_at limit bytes)
+    (records_at limit n (drop (RECORD_HEAD_BYTES + payload_length bytes) bytes))
 
 -- ---- the sectors of the journal
 
 -- 0 used length, 2 payload and zeros, 496 generation, 504 place
 abbrev pub journal_sector : ℕ → ℕ → List ℕ → List ℕ
 journal_sector g place payload =
-    u16_bytes (length payload) ++ (payload ++ (padding (PAYLOAD_SIZE - length payload) ++ stamp_bytes (record { generation = g; place = place })))
+    u16_bytes (length payload)
+    ++ (payload ++ (padding (PAYLOAD_SIZE - length payload)
+    ++ stamp_bytes (record { generation = g; place = place })))
 
 abbrev pub used_length : List ℕ → ℕ
 used_length sector = number_of (part sector 0 2)
 
 -- whether a sector shows this generation at its place, with a used length in range
 abbrev pub is_of : ℕ → ℕ → List ℕ → Bool
-is_of g place sector = shown_generation place sector == g && nat_lt 0 (used_length sector) && nat_le (used_length sector) PAYLOAD_SIZE
+is_of g place sector = shown_generation place sector == g && nat_lt 0 (used_length sector)
+    && nat_le (used_length sector) PAYLOAD_SIZE
 
--- the payloads from this sector on, whose places are counted from 1, as far as sectors are of this generation
+-- the payloads from this sector on, whose places are counted from 1, as far as sectors are of this
+-- generation
 abbrev pub payloads_from : Image → ℕ → ℕ → ℕ → ℕ → List ℕ
 payloads_from image g sector place zero = []
 payloads_from image g sector place (suc count) =
-    if is_of g place (sector_at image sector) then part (sector_at image sector) PAYLOAD_AT (used_length (sector_at image sector)) ++ payloads_from image g (sector + 1) (place + 1) count
+    if is_of g place (sector_at image sector)
+    then part (sector_at image sector) PAYLOAD_AT (used_length (sector_at image sector))
+    ++ payloads_from image g (sector + 1) (place + 1) count
     else []
 
--- what the journal of generation g holds. Each record has a byte at least, so there are no more than bytes
+-- what the journal of generation g holds. Each record has a byte at least, so there are no more
+-- than bytes
 abbrev pub scan : Geometry → ℕ → Image → ℕ → List Record
 scan geometry limit image g =
-    let bytes : List ℕ = payloads_from image g (journal_place geometry) 1 geometry.journal_sectors in
+    let bytes : List ℕ = payloads_from image g (journal_place geometry) 1 geometry.journal_sectors
+    in
     records_at limit (length bytes) bytes

@@ -1,4 +1,5 @@
--- Where things lie on a disk: super, two heads, configuration and module, two areas, journal (this project's own).
+-- Where things lie on a disk: super, two heads, configuration and module, two areas, journal (this
+-- project's own).
 use Rattle.std.specs.Prelude.{ℕ, ◌+◌, ◌-◌, ◌*◌, ◌/◌, ◌%◌, List, ◌++◌, length}
 use Rattle.std.specs.List.{flat_map}
 use Rattle.wasi_abi.specs.rules.Configs.{Settings}
@@ -22,7 +23,9 @@ texts_bytes texts = u32_bytes (length texts) ++ flat_map short_text_bytes texts
 
 abbrev pub config_bytes : Settings → List ℕ
 config_bytes c =
-    u32_bytes c.pages ++ (u32_bytes c.files ++ (u32_bytes c.journal ++ (texts_bytes c.arguments ++ texts_bytes c.environment)))
+    u32_bytes c.pages
+    ++ (u32_bytes c.files
+    ++ (u32_bytes c.journal ++ (texts_bytes c.arguments ++ texts_bytes c.environment)))
 
 -- ---- the geometry
 

@@ -1,5 +1,7 @@
--- The sectors with fields: the super and the heads, and what a sector shows (this project's own). Numbers are little-endian.
-use Rattle.std.specs.Prelude.{◌≡◌, ℕ, zero, suc, ◌+◌, ◌%◌, ◌<◌, ◌≤◌, ◌==◌, if◌then◌else◌, List, [], ◌++◌, length, take}
+-- The sectors with fields: the super and the heads, and what a sector shows (this project's own).
+-- Numbers are little-endian.
+use Rattle.std.specs.Prelude.{◌≡◌, ℕ, zero, suc, ◌+◌, ◌%◌, ◌<◌, ◌≤◌, ◌==◌, if◌then◌else◌, List, []}
+use Rattle.std.specs.Prelude.{◌++◌, length, take}
 use Rattle.sha2.specs.Sha256.{sha256}
 use Rattle.guest_memory.specs.rules.Bytes.{number_of, part}
 use Rattle.wasi_abi.specs.rules.Configs.{Settings}
@@ -8,10 +10,13 @@ use Rattle.disk_layout.specs.declared.head.Head.{Head as DeclaredHead}
 use Rattle.disk_layout.specs.declared.superblock.Super.{Super as DeclaredSuper}
 use Rattle.wasi_abi.specs.rules.Layouts.{u32_bytes, u64_bytes, padding}
 use Rattle.sector_disk.specs.rules.Image.{Image, sector_at}
-use Rattle.disk_layout.specs.rules.Places.{Geometry, geometry_of, config_bytes, head_place, area_place}
+use Rattle.disk_layout.specs.rules.Places.{Geometry, geometry_of, config_bytes, head_place}
+use Rattle.disk_layout.specs.rules.Places.{area_place}
 use Rattle.disk_layout.specs.declared.geometry.TheConstants.{MODULE_PLACE}
-use Rattle.disk_layout.specs.declared.superblock.TheConstants.{SUPER_MARK, SUPER_END_MARK, LAYOUT, LAYOUT_AT}
-use Rattle.disk_layout.specs.declared.superblock.TheConstants.{CONFIG_LENGTH_AT, WASM_LENGTH_AT, MODULE_SECTORS_AT}
+use Rattle.disk_layout.specs.declared.superblock.TheConstants.{SUPER_MARK, SUPER_END_MARK, LAYOUT}
+use Rattle.disk_layout.specs.declared.superblock.TheConstants.{LAYOUT_AT}
+use Rattle.disk_layout.specs.declared.superblock.TheConstants.{CONFIG_LENGTH_AT, WASM_LENGTH_AT}
+use Rattle.disk_layout.specs.declared.superblock.TheConstants.{MODULE_SECTORS_AT}
 use Rattle.disk_layout.specs.declared.superblock.TheConstants.{AREA_SECTORS_AT, JOURNAL_SECTORS_AT}
 use Rattle.disk_layout.specs.declared.superblock.TheConstants.{CONTENTS_DIGEST_AT, END_MARK_AT}
 use Rattle.disk_layout.specs.declared.head.TheConstants.{HEAD_MARK, VERSION_AT, IMAGE_LENGTH_AT}
@@ -43,11 +48,13 @@ SectorsHold image place count bytes = take (length bytes) (bytes_from image plac
 
 -- ---- the super
 
--- 0 mark, 8 layout 1, 12 length of the configuration, 16 of the module, 20 their sectors, 24 those of an area, 28 of the
--- journal, 32 digest of configuration and module, 64 zeros, 504 mark
+-- 0 mark, 8 layout 1, 12 length of the configuration, 16 of the module, 20 their sectors, 24 those
+-- of an area, 28 of the journal, 32 digest of configuration and module, 64 zeros, 504 mark
 abbrev pub super_bytes : Geometry → List ℕ → List ℕ
 super_bytes g digest =
-    SUPER_MARK ++ (u32_bytes LAYOUT ++ (u32_bytes g.config ++ (u32_bytes g.wasm ++ (u32_bytes g.module_sectors ++ (u32_bytes g.area_sectors
+    SUPER_MARK ++ (u32_bytes LAYOUT
+    ++ (u32_bytes g.config
+    ++ (u32_bytes g.wasm ++ (u32_bytes g.module_sectors ++ (u32_bytes g.area_sectors
     ++ (u32_bytes g.journal_sectors ++ (digest ++ (padding 440 ++ SUPER_END_MARK))))))))
 
 -- both marks of the super are there
@@ -76,8 +83,10 @@ super_of sector = record {
 
 -- the super of this configuration and module, and the two behind the heads
 pub record HasWorker (config : Settings) (wasm : List ℕ) (image : Image) : Type 0 where
-  pub super : sector_at image 0 ≡ super_bytes (geometry_of config (length wasm)) (sha256 (config_bytes config ++ wasm))
-  pub contents : SectorsHold image MODULE_PLACE (geometry_of config (length wasm)).module_sectors (config_bytes config ++ wasm)
+  pub super : sector_at image 0
+      ≡ super_bytes (geometry_of config (length wasm)) (sha256 (config_bytes config ++ wasm))
+  pub contents : SectorsHold image MODULE_PLACE (geometry_of config (length wasm)).module_sectors
+      (config_bytes config ++ wasm)
 
 -- ---- stamps
 
@@ -86,7 +95,10 @@ abbrev pub stamp_bytes : Stamp → List ℕ
 stamp_bytes s = u64_bytes s.generation ++ u64_bytes s.place
 
 abbrev pub stamp_of : List ℕ → Stamp
-stamp_of sector = record { generation = number_of (part sector GENERATION_AT 8); place = number_of (part sector PLACE_AT 8) }
+stamp_of sector = record {
+  generation = number_of (part sector GENERATION_AT 8);
+  place = number_of (part sector PLACE_AT 8);
+}
 
 abbrev pub shown_at : ℕ → Stamp → ℕ
 shown_at place s = if s.place == place then s.generation else 0
@@ -97,10 +109,12 @@ shown_generation place sector = shown_at place (stamp_of sector)
 
 -- ---- heads
 
--- 0 mark, 8 version, 12 zeros, 16 length of the image, 24 its digest, 56 zeros, 496 generation, 504 place 1
+-- 0 mark, 8 version, 12 zeros, 16 length of the image, 24 its digest, 56 zeros, 496 generation, 504
+-- place 1
 abbrev pub head_bytes : Head → List ℕ
 head_bytes h =
-    HEAD_MARK ++ (u32_bytes h.version ++ (padding 4 ++ (u64_bytes h.length_in_bytes ++ (h.digest ++ (padding 440
+    HEAD_MARK ++ (u32_bytes h.version
+    ++ (padding 4 ++ (u64_bytes h.length_in_bytes ++ (h.digest ++ (padding 440
     ++ stamp_bytes (record { generation = h.generation; place = HEAD_STAMP_PLACE }))))))
 
 abbrev pub head_of : List ℕ → Head
@@ -111,21 +125,30 @@ head_of sector = record {
   generation = number_of (part sector GENERATION_AT 8);
 }
 
--- A complete head: it begins with the mark, its stamp names a head's place, and its generation, never 0, is odd or even as its area is.
+-- A complete head: it begins with the mark, its stamp names a head's place, and its generation,
+-- never 0, is odd or even as its area is.
 pub record IsComplete (area : ℕ) (sector : List ℕ) : Type 0 where
   pub mark : take 8 sector ≡ HEAD_MARK
   pub place : (stamp_of sector).place ≡ HEAD_STAMP_PLACE
   pub from_one : 1 ≤ (stamp_of sector).generation
   pub parity : (stamp_of sector).generation % 2 ≡ area
 
--- The newest complete head of an image, of generation g: it is complete, and the other one is not, or is older.
+-- The newest complete head of an image, of generation g: it is complete, and the other one is not,
+-- or is older.
 pub record IsNewest (image : Image) (g : ℕ) (h : Head) : Type 0 where
   pub complete : IsComplete (g % 2) (sector_at image (head_place g))
   pub is : h ≡ head_of (sector_at image (head_place g))
   pub same : h.generation ≡ g
-  pub newest : IsComplete ((g + 1) % 2) (sector_at image (head_place (g + 1))) → (stamp_of (sector_at image (head_place (g + 1)))).generation < g
+  pub newest : IsComplete ((g + 1) % 2) (sector_at image (head_place (g + 1)))
+      → (stamp_of (sector_at image (head_place (g + 1)))).generation < g
 
 -- the area of generation g holds these bytes, and its head says so
-pub record HoldsImage (geometry : Geometry) (image : Image) (g version : ℕ) (bytes : List ℕ) : Type 0 where
-  pub newest : IsNewest image g (record { version = version; length_in_bytes = length bytes; digest = sha256 bytes; generation = g })
+pub record HoldsImage (geometry : Geometry) (image : Image) (g version : ℕ) (bytes : List ℕ) :
+    Type 0 where
+  pub newest : IsNewest image g (record {
+    version = version;
+    length_in_bytes = length bytes;
+    digest = sha256 bytes;
+    generation = g;
+  })
   pub area : SectorsHold image (area_place geometry g) geometry.area_sectors bytes

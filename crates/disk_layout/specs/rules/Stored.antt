@@ -1,13 +1,16 @@
 -- What a super leads to: the configuration and the module behind it (this project's own).
-use Rattle.std.specs.Prelude.{◌≡◌, ◌≢◌, ◌⊎◌, ℕ, ◌+◌, ◌<◌, ◌≤◌, List, ◌++◌, length, take, Result, Ok, Err}
+use Rattle.std.specs.Prelude.{◌≡◌, ◌≢◌, ◌⊎◌, ℕ, ◌+◌, ◌<◌, ◌≤◌, List, ◌++◌, length, take, Result, Ok}
+use Rattle.std.specs.Prelude.{Err}
 use Rattle.sha2.specs.Sha256.{sha256}
 use Rattle.sector_disk.specs.rules.Image.{Image, sector_at}
 use Rattle.sector_disk.specs.rules.Medium.{Medium, Stays, LeavesOnly}
 use Rattle.disk_layout.specs.declared.fault.LayoutFault.{LayoutFault}
-use Rattle.disk_layout.specs.declared.fault.LayoutFault.TheVariants.{NotAWorker, Version, TooSmall, Damaged, Memory, Disk}
+use Rattle.disk_layout.specs.declared.fault.LayoutFault.TheVariants.{NotAWorker, Version, TooSmall}
+use Rattle.disk_layout.specs.declared.fault.LayoutFault.TheVariants.{Damaged, Memory, Disk}
 use Rattle.disk_layout.specs.declared.stored.Stored.{Stored}
 use Rattle.disk_layout.specs.rules.Places.{Geometry, rounded_up}
-use Rattle.disk_layout.specs.rules.Sectors.{bytes_from, SectorsHold, Super, IsMarked, HasMarks, super_of, super_layout}
+use Rattle.disk_layout.specs.rules.Sectors.{bytes_from, SectorsHold, Super, IsMarked, HasMarks}
+use Rattle.disk_layout.specs.rules.Sectors.{super_of, super_layout}
 use Rattle.disk_layout.specs.declared.geometry.TheConstants.{MODULE_PLACE}
 use Rattle.disk_layout.specs.declared.superblock.TheConstants.{LAYOUT}
 
@@ -37,22 +40,29 @@ IsConsistent g = g.module_sectors ≡ rounded_up (g.config + g.wasm)
 
 -- what a super's sector says on a disk of so many sectors. Each fault names a cause that is there
 abbrev pub Checks : ℕ → List ℕ → Result Super LayoutFault → Type 0
-Checks sectors sector (Ok s) = IsKnown sector × (s ≡ super_of sector) × IsConsistent s.geometry × (MODULE_PLACE + s.geometry.module_sectors ≤ sectors)
+Checks sectors sector (Ok s) = IsKnown sector × (s ≡ super_of sector) × IsConsistent s.geometry
+    × (MODULE_PLACE + s.geometry.module_sectors ≤ sectors)
 Checks sectors sector (Err NotAWorker) = IsMarked sector → ⊥
 Checks sectors sector (Err Version) = IsMarked sector × (super_layout sector ≢ LAYOUT)
 Checks sectors sector (Err Damaged) = IsKnown sector × (IsConsistent (super_of sector).geometry → ⊥)
-Checks sectors sector (Err TooSmall) = IsKnown sector × IsConsistent (super_of sector).geometry × (sectors < MODULE_PLACE + (super_of sector).geometry.module_sectors)
+Checks sectors sector (Err TooSmall) = IsKnown sector × IsConsistent (super_of sector).geometry
+    × (sectors < MODULE_PLACE + (super_of sector).geometry.module_sectors)
 Checks sectors sector (Err other) = ⊥
 
--- these are the configuration and the module in the bytes behind a super, if their digest is the super's
+-- these are the configuration and the module in the bytes behind a super, if their digest is the
+-- super's
 abbrev pub SplitsContents : Super → List ℕ → Result Stored LayoutFault → Type 0
-SplitsContents c bytes (Ok s) = (s.geometry ≡ c.geometry) × (length s.config ≡ c.geometry.config) × (length s.wasm ≡ c.geometry.wasm) × (s.config ++ s.wasm ≡ take (c.geometry.config + c.geometry.wasm) bytes)
+SplitsContents c bytes (Ok s) = (s.geometry ≡ c.geometry) × (length s.config ≡ c.geometry.config)
+    × (length s.wasm ≡ c.geometry.wasm)
+    × (s.config ++ s.wasm ≡ take (c.geometry.config + c.geometry.wasm) bytes)
     × (c.digest ≡ sha256 (s.config ++ s.wasm))
-SplitsContents c bytes (Err Damaged) = c.digest ≢ sha256 (take (c.geometry.config + c.geometry.wasm) bytes)
+SplitsContents c bytes (Err Damaged) =
+    c.digest ≢ sha256 (take (c.geometry.config + c.geometry.wasm) bytes)
 SplitsContents c bytes (Err Memory) = Unit {0}
 SplitsContents c bytes (Err other) = ⊥
 
--- on a disk of so many sectors configuration and module stand where the super says, and their digest is the super's
+-- on a disk of so many sectors configuration and module stand where the super says, and their
+-- digest is the super's
 pub record IsStored (sectors : ℕ) (image : Image) (s : Stored) : Type 0 where
   pub known : IsKnown (sector_at image 0)
   pub geometry : s.geometry ≡ (super_of (sector_at image 0)).geometry
@@ -66,14 +76,19 @@ pub record IsStored (sectors : ℕ) (image : Image) (s : Stored) : Type 0 where
 -- the super says where they stand, and they have another digest
 pub record HasOtherDigest (sectors : ℕ) (image : Image) (s : Super) : Type 0 where
   pub says : Checks sectors (sector_at image 0) (Ok s)
-  pub digest : s.digest ≢ sha256 (take (s.geometry.config + s.geometry.wasm) (bytes_from image MODULE_PLACE s.geometry.module_sectors))
+  pub digest : s.digest
+      ≢ sha256 (take (s.geometry.config + s.geometry.wasm)
+      (bytes_from image MODULE_PLACE s.geometry.module_sectors))
 
--- what is found on a disk of so many sectors. Where a fault names a cause of the disk's content, it is there.
+-- what is found on a disk of so many sectors. Where a fault names a cause of the disk's content, it
+-- is there.
 abbrev pub FindsStored : ℕ → Image → Result Stored LayoutFault → Type 0
 FindsStored sectors image (Ok s) = IsStored sectors image s
 FindsStored sectors image (Err NotAWorker) = HasMarks image → ⊥
-FindsStored sectors image (Err Version) = HasMarks image × (super_layout (sector_at image 0) ≢ LAYOUT)
+FindsStored sectors image (Err Version) =
+    HasMarks image × (super_layout (sector_at image 0) ≢ LAYOUT)
 FindsStored sectors image (Err TooSmall) = Checks sectors (sector_at image 0) (Err TooSmall)
-FindsStored sectors image (Err Damaged) = Checks sectors (sector_at image 0) (Err Damaged) ⊎ HasOtherDigest sectors image (super_of (sector_at image 0))
+FindsStored sectors image (Err Damaged) = Checks sectors (sector_at image 0) (Err Damaged)
+    ⊎ HasOtherDigest sectors image (super_of (sector_at image 0))
 FindsStored sectors image (Err Memory) = Unit {0}
 FindsStored sectors image (Err (Disk fault)) = Unit {0}

@@ -8,8 +8,8 @@ use crate::u32_from;
 use std::alloc::{AllocError, Global};
 use wasi_abi::Config;
 
-/// The configuration whose bytes these are; none where they are those of no configuration within its
-/// limits. It fails only for want of memory.
+/// The configuration whose bytes these are; none where they are those of no configuration within
+/// its limits. It fails only for want of memory.
 pub fn config_from(alloc: Global, bytes: &[u8]) -> Result<Option<Config>, AllocError>
     ensures { IfOk result (λ o. SpellsConfig bytes.now o) }
 {

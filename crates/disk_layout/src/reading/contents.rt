@@ -20,16 +20,18 @@ pub struct Contents {
     pub wasm: Row<u8>,
 }
 
-/// Reads the super, and the configuration and the module behind it. What is wrong is found in this order:
-/// a mark of the super is missing (`NotAWorker`); the layout is none that is known (`Version`); the super's
-/// lengths and sectors disagree (`Damaged`); the disk ends before the module does (`TooSmall`); the digest
-/// differs, the bytes are no configuration's, or the super's sectors aren't those of the configuration
-/// (`Damaged`); the disk ends before the journal does (`TooSmall`). Want of memory and a fault of the disk may
-/// come before any of these.
+/// Reads the super, and the configuration and the module behind it. What is wrong is found in this
+/// order: a mark of the super is missing (`NotAWorker`); the layout is none that is known
+/// (`Version`); the super's lengths and sectors disagree (`Damaged`); the disk ends before the
+/// module does (`TooSmall`); the digest differs, the bytes are no configuration's, or the super's
+/// sectors aren't those of the configuration (`Damaged`); the disk ends before the journal does
+/// (`TooSmall`). Want of memory and a fault of the disk may come before any of these.
 pub fn read_contents<D: Disk>(alloc: Global, disk: &mut D) -> Result<Contents, LayoutFault>
     ensures reads { OnlyReads (D.medium disk.old) (D.medium disk.new) }
-    ensures gives { (image : Image) → (D.medium disk.new).shows image → GivesContents (D.medium disk.old).sectors image result }
-    ensures cause { (fault : DiskFault) → result ≡ Err (LayoutFault.Disk fault) → (D.medium disk.old).faults < (D.medium disk.new).faults }
+    ensures gives { (image : Image) → (D.medium disk.new).shows image
+        → GivesContents (D.medium disk.old).sectors image result }
+    ensures cause { (fault : DiskFault) → result ≡ Err (LayoutFault.Disk fault)
+        → (D.medium disk.old).faults < (D.medium disk.new).faults }
 {
     let sectors = disk.sectors();
     let stored = read_super(alloc, disk)?;

@@ -13,7 +13,8 @@ pub(crate) fn texts_from(
     alloc: Global,
     bytes: &[u8],
 ) -> Result<Option<(Row<Row<u8>>, &[u8])>, AllocError>
-    ensures { IfOk result (λ o. MatchOption o (NoTextsFirst bytes.now) (λ r. TextsFirst bytes.now r.0 r.1.now)) }
+    ensures { IfOk result (λ o. MatchOption o (NoTextsFirst bytes.now) (λ r.
+        TextsFirst bytes.now r.0 r.1.now)) }
 {
     if bytes.len() < 4 {
         return Ok(None);
@@ -37,7 +38,8 @@ pub(crate) fn texts_from(
 
 /// The text at the front, behind its length, and what stands behind it.
 fn text_from(bytes: &[u8]) -> Option<(&[u8], &[u8])>
-    ensures { MatchOption result (NoTextFirst bytes.now) (λ r. TextFirst bytes.now r.0.now r.1.now) }
+    ensures { MatchOption result (NoTextFirst bytes.now) (λ r.
+        TextFirst bytes.now r.0.now r.1.now) }
 {
     if bytes.len() < 2 {
         return None;

@@ -1,11 +1,13 @@
 -- Keys in the order of their nodes' addresses, and what a change leaves of that.
-use Rattle.std.proofs.Common.{◌≡◌, ◌≢◌, ℕ, zero, suc, ◌<◌, ◌⊎◌, inl, inr, List, [], ◌∷◌, ◌++◌, length, get_or, refl, sym, ap, subst, ◌∙◌, arith}
+use Rattle.std.proofs.Common.{◌≡◌, ◌≢◌, ℕ, zero, suc, ◌<◌, ◌⊎◌, inl, inr, List, [], ◌∷◌, ◌++◌}
+use Rattle.std.proofs.Common.{length, get_or, refl, sym, ap, subst, ◌∙◌, arith}
 use Rattle.std.specs.List.{AllByRecursion, insert, remove}
 use Rattle.std.proofs.lemmas.Bool.{cases_eq}
 use Rattle.file_tree.specs.rules.Files.{is_before}
 use Rattle.file_tree.specs.Store.Cuts.{HasElement, AreOrdered, IsCut}
 use Rattle.file_tree.specs.Store.Named.{IsBehind, IsUpTo, AreNamed, NoKey, OnlyKey}
-use Rattle.file_tree.proofs.Order.{Before, not_itself, before_both, one_before, in_front, behind_if, not_behind_if}
+use Rattle.file_tree.proofs.Order.{Before, not_itself, before_both, one_before, in_front, behind_if}
+use Rattle.file_tree.proofs.Order.{not_behind_if}
 use Rattle.file_tree.proofs.StoreLemmas.Cuts.{ordered_but}
 use Rattle.file_tree.proofs.StoreLemmas.Places.{held_by_all}
 
@@ -15,7 +17,8 @@ pub held_added : (xs : List ℕ) (k y : ℕ) → HasElement (xs ++ k ∷ []) y �
 held_added [] k y (inl e) = inr (sym e)
 held_added [] k y (inr at) = absurd at
 held_added (x ∷ xs) k y (inl e) = inl (inl e)
-held_added (x ∷ xs) k y (inr at) = elim (held_added xs k y at) [ inl h ↦ inl (inr h) | inr e ↦ inr e ]
+held_added (x ∷ xs) k y (inr at) =
+    elim (held_added xs k y at) [ inl h ↦ inl (inr h) | inr e ↦ inr e ]
 
 pub held_still : (xs : List ℕ) (k y : ℕ) → HasElement xs y → HasElement (xs ++ k ∷ []) y
 held_still [] k y at = absurd at
@@ -49,7 +52,8 @@ held_put [] (suc i) k y (inr at) = absurd at
 held_put (x ∷ xs) zero k y (inl e) = inr (sym e)
 held_put (x ∷ xs) zero k y (inr at) = inl at
 held_put (x ∷ xs) (suc i) k y (inl e) = inl (inl e)
-held_put (x ∷ xs) (suc i) k y (inr at) = elim (held_put xs i k y at) [ inl h ↦ inl (inr h) | inr e ↦ inr e ]
+held_put (x ∷ xs) (suc i) k y (inr at) =
+    elim (held_put xs i k y at) [ inl h ↦ inl (inr h) | inr e ↦ inr e ]
 
 held_beside : (xs : List ℕ) (i k y : ℕ) → HasElement xs y → HasElement (insert xs i k) y
 held_beside [] i k y at = absurd at
@@ -77,14 +81,16 @@ module _ (address : ℕ → List ℕ) where
   after_both : (i j k : ℕ) → After i j → After j k → After i k
   after_both i j k h g =
       in_front (address i) (address k)
-      (before_both (address i) (address j) (address k) (behind_if (address i) (address j) h) (behind_if (address j) (address k) g))
+      (before_both (address i) (address j) (address k) (behind_if (address i) (address j) h)
+      (behind_if (address j) (address k) g))
 
   -- a key at or before the cut stands before the new one
   stands_before : (key k : ℕ) → address k ≢ address key → IsUpTo (address key) (address k)
       → After k key
   stands_before key k ne up =
       in_front (address k) (address key)
-      (one_before (address key) (address k) (λ e. ne (sym e)) (not_behind_if (address key) (address k) up))
+      (one_before (address key) (address k) (λ e. ne (sym e))
+      (not_behind_if (address key) (address k) up))
 
   ordered_put : (key : ℕ) (xs : List ℕ) (p : ℕ) → AreOrdered After xs
       → IsCut (λ k. IsUpTo (address key) (address k)) (λ k. After key k) xs p
@@ -107,36 +113,53 @@ module _ (address : ℕ → List ℕ) where
   one_key [] j k order h g e = absurd h
   one_key (x ∷ xs) j k order (inl a) (inl b) e = sym a ∙ b
   one_key (x ∷ xs) j k order (inl a) (inr b) e =
-      absurd (not_itself (address j) (subst (Before (address j)) (sym e) (subst (λ (y : ℕ). Before (address y) (address k)) a (behind_if (address x) (address k) (held_by_all (After x) xs k order.0 b)))))
+      absurd (not_itself (address j) (subst (Before (address j)) (sym e)
+      (subst (λ (y : ℕ). Before (address y) (address k)) a (behind_if (address x) (address k)
+      (held_by_all (After x) xs k order.0 b)))))
   one_key (x ∷ xs) j k order (inr a) (inl b) e =
-      absurd (not_itself (address k) (subst (Before (address k)) e (subst (λ (y : ℕ). Before (address y) (address j)) b (behind_if (address x) (address j) (held_by_all (After x) xs j order.0 a)))))
+      absurd (not_itself (address k)
+      (subst (Before (address k)) e (subst (λ (y : ℕ). Before (address y) (address j)) b
+      (behind_if (address x) (address j) (held_by_all (After x) xs j order.0 a)))))
   one_key (x ∷ xs) j k order (inr a) (inr b) e = one_key xs j k order.1 a b e
 
   -- a key at a place isn't there once it is taken out
   not_left : (xs : List ℕ) (i d : ℕ) → AreOrdered After xs → i < length xs
       → HasElement (remove xs i) (get_or xs i d) → ⊥
   not_left [] i d order lt at = absurd (omega (arith, lt))
-  not_left (x ∷ xs) zero d order lt at = not_itself (address x) (behind_if (address x) (address x) (held_by_all (After x) xs x order.0 at))
-  not_left (x ∷ xs) (suc i) d order lt (inl e) = not_itself (address x) (behind_if (address x) (address x) (subst (After x) (sym e) (all_at xs i d order.0 (omega (arith, lt))))) where
-    all_at : (ys : List ℕ) (i d : ℕ) → AllByRecursion (After x) ys → i < length ys
-        → After x (get_or ys i d)
-    all_at [] i d h lt = absurd (omega (arith, lt))
-    all_at (y ∷ ys) zero d h lt = h.0
-    all_at (y ∷ ys) (suc i) d h lt = all_at ys i d h.1 (omega (arith, lt))
+  not_left (x ∷ xs) zero d order lt at =
+      not_itself (address x) (behind_if (address x) (address x)
+      (held_by_all (After x) xs x order.0 at))
+  not_left (x ∷ xs) (suc i) d order lt (inl e) =
+      not_itself (address x) (behind_if (address x) (address x)
+      (subst (After x) (sym e) (all_at xs i d order.0 (omega (arith, lt))))) where
+        all_at : (ys : List ℕ) (i d : ℕ) → AllByRecursion (After x) ys → i < length ys
+            → After x (get_or ys i d)
+        all_at [] i d h lt = absurd (omega (arith, lt))
+        all_at (y ∷ ys) zero d h lt = h.0
+        all_at (y ∷ ys) (suc i) d h lt = all_at ys i d h.1 (omega (arith, lt))
   not_left (x ∷ xs) (suc i) d order lt (inr at) = not_left xs i d order.1 (omega (arith, lt)) at
 
   -- ---- the index and a key
 
   pub key_put : (order names : List ℕ) (key p : ℕ) → AreNamed (OnlyKey key) address order names
       → HasElement order key → address key ≢ []
-      → IsCut (λ k. IsUpTo (address key) (address k)) (λ k. IsBehind (address key) (address k)) names p
+      → IsCut (λ k. IsUpTo (address key) (address k)) (λ k.
+      IsBehind (address key) (address k)) names p
       → ((k : ℕ) → HasElement names k → address k ≢ address key)
       → AreNamed NoKey address order (insert names p key)
   key_put order names key p are there hung cut free =
       record {
         ordered = ordered_put key names p are.ordered cut free;
-        among = λ k at. elim (held_put names p key k at) [ inl h ↦ are.among k h | inr e ↦ subst (HasElement order) (sym e) there ];
-        hung = λ k at. elim (held_put names p key k at) [ inl h ↦ are.hung k h | inr e ↦ subst (λ (j : ℕ). address j ≢ []) (sym e) hung ];
+        among = λ k at. elim (held_put names p key k at) [
+          | inl h ↦ are.among k h
+          | inr e ↦ subst
+              (HasElement order) (sym e) there
+        ];
+        hung = λ k at. elim (held_put names p key k at) [
+          | inl h ↦ are.hung k h
+          | inr e ↦ subst
+              (λ (j : ℕ). address j ≢ []) (sym e) hung
+        ];
         without = λ k at out. out;
         all = λ k at some out. elim (cases_eq k key) [
           | inl e ↦ subst (HasElement (insert names p key)) (sym e) (held_there names p key)
@@ -152,8 +175,10 @@ module _ (address : ℕ → List ℕ) where
         ordered = ordered_but After names i are.ordered;
         among = λ k at. are.among k (held_without names i k at);
         hung = λ k at. are.hung k (held_without names i k at);
-        without = λ k at out. not_left names i d are.ordered lt (subst (HasElement (remove names i)) (out ∙ sym is) at);
-        all = λ k at some out. held_but names i d k (are.all k at some (λ none. none)) (λ e. out (e ∙ is));
+        without = λ k at out. not_left names i d are.ordered lt (subst (HasElement (remove names i))
+            (out ∙ sym is) at);
+        all = λ k at some out. held_but names i d k (are.all k at some (λ none. none)) (λ e. out (e
+            ∙ is));
       }
 
   pub key_not_hung : (order names : List ℕ) (key : ℕ) → AreNamed NoKey address order names
@@ -191,7 +216,8 @@ module _ (address : ℕ → List ℕ) where
         among = λ k at. held_but order i d k (are.among k at) (λ e. are.without k at (e ∙ is));
         hung = are.hung;
         without = λ k at out. out;
-        all = λ k at some out. are.all k (held_without order i k at) some (λ e. gone (subst (HasElement (remove order i)) e at));
+        all = λ k at some out. are.all k (held_without order i k at) some (λ e.
+            gone (subst (HasElement (remove order i)) e at));
       }
 
 -- the address of a key that is left out changes
@@ -210,29 +236,46 @@ address_changed old new order names key same are =
           → AllByRecursion (λ k. IsBehind (old x) (old k)) ks
           → AllByRecursion (λ k. IsBehind (new x) (new k)) ks
       all_so x [] ne others h = tt
-      all_so x (k ∷ ks) ne others h =
-          (ap (λ (a : List ℕ). is_before a (new k)) (same x ne) ∙ ap (is_before (old x)) (same k (others k (inl refl))) ∙ h.0, all_so x ks ne (λ j at. others j (inr at)) h.1)
+      all_so x (k ∷ ks) ne others h = (
+        ap (λ (a : List ℕ). is_before a (new k)) (same x ne)
+            ∙ ap (is_before (old x)) (same k (others k (inl refl)))
+            ∙ h.0,
+        all_so x ks ne (λ j at. others j (inr at)) h.1,
+      )
 
       ordered_so : (ks : List ℕ) → AreOrdered (λ j k. IsBehind (old j) (old k)) ks
           → ((k : ℕ) → HasElement ks k → k ≢ key) → AreOrdered (λ j k. IsBehind (new j) (new k)) ks
       ordered_so [] h others = tt
-      ordered_so (k ∷ ks) h others =
-          (all_so k ks (others k (inl refl)) (λ j at. others j (inr at)) h.0, ordered_so ks h.1 (λ j at. others j (inr at)))
+      ordered_so (k ∷ ks) h others = (
+        all_so k ks (others k (inl refl)) (λ j at. others j (inr at)) h.0,
+        ordered_so ks h.1 (λ j at. others j (inr at)),
+      )
 
 -- a key that is new
 pub key_new : (old new : ℕ → List ℕ) (order names : List ℕ) (key : ℕ)
     → ((k : ℕ) → k ≢ key → new k ≡ old k) → (HasElement order key → ⊥)
     → AreNamed NoKey old order names → AreNamed (OnlyKey key) new (order ++ key ∷ []) names
-key_new old new order names key same fresh are = address_changed old new (order ++ key ∷ []) names key same (record {
-  ordered = are.ordered;
-  among = λ k at. held_still order key k (are.among k at);
-  hung = are.hung;
-  without = λ k at out. fresh (subst (HasElement order) out (are.among k at));
-  all = λ k at some out. elim (held_added order key k at) [ inl h ↦ are.all k h some (λ none. none) | inr e ↦ absurd (out e) ];
-})
+key_new old new order names key same fresh are =
+    address_changed old new (order ++ key ∷ []) names key same (record {
+      ordered = are.ordered;
+      among = λ k at. held_still order key k (are.among k at);
+      hung = are.hung;
+      without = λ k at out. fresh (subst (HasElement order) out (are.among k at));
+      all = λ k at some out. elim (held_added order key k at) [
+        | inl h ↦ are.all k h some (λ none.
+            none)
+        | inr e ↦ absurd (out e)
+      ];
+    })
 
 -- nothing is named where there is nothing
 pub none_named : (address : ℕ → List ℕ) (order names : List ℕ) → order ≡ [] → names ≡ []
     → AreNamed NoKey address order names
 none_named address order names e f =
-    rw (e, f) (record { ordered = tt; among = λ k at. at; hung = λ k at g. at; without = λ k at out. at; all = λ k at some out. at })
+    rw (e, f) (record {
+      ordered = tt;
+      among = λ k at. at;
+      hung = λ k at g. at;
+      without = λ k at out. at;
+      all = λ k at some out. at;
+    })

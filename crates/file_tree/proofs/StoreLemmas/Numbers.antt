@@ -1,5 +1,6 @@
 -- Nodes by rising numbers.
-use Rattle.std.proofs.Common.{◌≡◌, ◌≢◌, ℕ, zero, suc, ◌+◌, ◌<◌, ◌≤◌, List, [], ◌∷◌, length, get_or, arith}
+use Rattle.std.proofs.Common.{◌≡◌, ◌≢◌, ℕ, zero, suc, ◌+◌, ◌<◌, ◌≤◌, List, [], ◌∷◌, length, get_or}
+use Rattle.std.proofs.Common.{arith}
 use Rattle.std.specs.List.{AllByRecursion}
 use Rattle.file_tree.specs.declared.store.node.Node.{Node}
 use Rattle.file_tree.specs.Store.Stored.{changed}
@@ -65,8 +66,10 @@ pub nowhere_at_cut : (k : ℕ) (ns : List Node) (i : ℕ) (d : Node) → AreOrde
 nowhere_at_cut k [] i d order cut ne = tt
 nowhere_at_cut k (n ∷ ns) zero d order cut ne =
     (ne (omega arith), all_other k ns (above k n ns cut.0 order.0))
-nowhere_at_cut k (n ∷ ns) (suc i) d order cut ne =
-    ((λ s. absurd (omega (arith, s, cut.0))), nowhere_at_cut k ns i d order.1 cut.1 (λ lt. ne (omega (arith, lt))))
+nowhere_at_cut k (n ∷ ns) (suc i) d order cut ne = (
+  (λ s. absurd (omega (arith, s, cut.0))),
+  nowhere_at_cut k ns i d order.1 cut.1 (λ lt. ne (omega (arith, lt))),
+)
 
 -- all have lower numbers
 pub nowhere_at_end : (k : ℕ) (ns : List Node) (i : ℕ)
@@ -86,5 +89,7 @@ from_least n (m ∷ ns) h = (omega (arith, h.0), from_least n ns h.1)
 pub rising_ordered : (least : ℕ) (ns : List Node) (next : ℕ)
     → AreRisingNodes least ns next → AreOrdered IsLower ns
 rising_ordered least [] next h = tt
-rising_ordered least (n ∷ ns) next h =
-    (from_least n ns (numbers_from (n.number + 1) ns next h.1), rising_ordered (n.number + 1) ns next h.1)
+rising_ordered least (n ∷ ns) next h = (
+  from_least n ns (numbers_from (n.number + 1) ns next h.1),
+  rising_ordered (n.number + 1) ns next h.1,
+)

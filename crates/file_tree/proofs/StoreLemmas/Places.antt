@@ -1,5 +1,6 @@
 -- What stands at a place of a list that is cut.
-use Rattle.std.proofs.Common.{◌≡◌, ℕ, zero, suc, ◌+◌, ◌<◌, ◌≤◌, ◌⊎◌, inl, inr, List, [], ◌∷◌, length, get_or, Some, None, refl, sym, ap, subst, ◌∙◌, arith}
+use Rattle.std.proofs.Common.{◌≡◌, ℕ, zero, suc, ◌+◌, ◌<◌, ◌≤◌, ◌⊎◌, inl, inr, List, [], ◌∷◌}
+use Rattle.std.proofs.Common.{length, get_or, Some, None, refl, sym, ap, subst, ◌∙◌, arith}
 use Rattle.std.specs.Prelude.{slice_get}
 use Rattle.std.specs.List.{AllByRecursion}
 use Rattle.file_tree.specs.Store.Cuts.{HasElement, AreOrdered, IsCut}
@@ -57,7 +58,8 @@ module _ {T : Type 0} where
       first_behind [] p y z order cut is at never = absurd at
       first_behind (x ∷ xs) zero y z order cut is (inl e) never = inl (sym e ∙ some_same x y is)
       first_behind (x ∷ xs) zero y z order cut is (inr at) never =
-          inr (subst (λ (w : T). Before w z) (some_same x y is) (held_by_all (Before x) xs z order.0 at))
+          inr (subst (λ (w : T). Before w z) (some_same x y is)
+          (held_by_all (Before x) xs z order.0 at))
       first_behind (x ∷ xs) (suc p) y z order cut is (inl e) never =
           absurd (never (subst Front e cut.0))
       first_behind (x ∷ xs) (suc p) y z order cut is (inr at) never =
@@ -72,7 +74,8 @@ module _ {T : Type 0} where
       last_before (x ∷ xs) zero y z order cut is (inr at) never =
           absurd (never (held_by_all Back xs z cut.1 at))
       last_before (x ∷ xs) (suc p) y z order cut is (inl e) never =
-          inr (subst (λ (w : T). Before w y) e (held_by_all (Before x) xs y order.0 (held_at xs p y is)))
+          inr (subst (λ (w : T). Before w y) e (held_by_all (Before x) xs y order.0
+          (held_at xs p y is)))
       last_before (x ∷ xs) (suc p) y z order cut is (inr at) never =
           last_before xs p y z order.1 cut.1 is at never
 
@@ -82,8 +85,10 @@ module _ {T : Type 0} where
       → slice_get xs i ≡ Some y → slice_get xs (suc i) ≡ Some z → Before y z
   next_behind Before [] i y z order is next = absurd cc
   next_behind Before (x ∷ xs) zero y z order is next =
-      subst (λ (w : T). Before w z) (some_same x y is) (held_by_all (Before x) xs z order.0 (held_at xs 0 z next))
-  next_behind Before (x ∷ xs) (suc i) y z order is next = next_behind Before xs i y z order.1 is next
+      subst (λ (w : T). Before w z) (some_same x y is) (held_by_all (Before x) xs z order.0
+      (held_at xs 0 z next))
+  next_behind Before (x ∷ xs) (suc i) y z order is next =
+      next_behind Before xs i y z order.1 is next
 
   pub none_further : (xs : List T) (i : ℕ) → slice_get xs i ≡ None → slice_get xs (suc i) ≡ None
   none_further [] i is = refl

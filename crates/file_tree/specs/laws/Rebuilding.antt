@@ -110,7 +110,8 @@ EntriesComeInOrder =
 -- ones stay, and a file then has them.
 pub record FilledFiles : Type 0 where
   pub new : (fs : Files) (k : ℕ) (old bytes : List ℕ) → IsFiles fs → fs.next ≤ k
-      → with_file_bytes k bytes (created_removed k (File old) fs) ≡ created_removed k (File bytes) fs
+      → with_file_bytes k bytes (created_removed k (File old) fs)
+      ≡ created_removed k (File bytes) fs
   pub again : (fs : Files) (k : ℕ) (old bytes : List ℕ)
       → with_file_bytes k bytes (with_file_bytes k old fs) ≡ with_file_bytes k bytes fs
   pub bytes : (fs : Files) (k : ℕ) (bytes : List ℕ) → is_some (node_of fs k) ≡ true

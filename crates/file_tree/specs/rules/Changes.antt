@@ -1,6 +1,9 @@
 -- What a caller has tested before a tree is changed.
-use Rattle.std.specs.Prelude.{◌≡◌, ◌≢◌, ℕ, ◌==◌, [], Bool, true, false, length, take, drop, List, Option, Some, None, is_some, unwrap_or, ◌++◌, ◌∷◌}
-use Rattle.file_tree.specs.rules.Files.{Name, Path, Files, Content, Directory, File, IsNodeName, path_of, path_behind, child, is_directory, bytes_of_node, entries_of}
+use Rattle.std.specs.Prelude.{◌≡◌, ◌≢◌, ℕ, ◌==◌, [], Bool, true, false, length, take, drop, List}
+use Rattle.std.specs.Prelude.{Option, Some, None, is_some, unwrap_or, ◌++◌, ◌∷◌}
+use Rattle.file_tree.specs.rules.Files.{Name, Path, Files, Content, Directory, File, IsNodeName}
+use Rattle.file_tree.specs.rules.Files.{path_of, path_behind, child, is_directory, bytes_of_node}
+use Rattle.file_tree.specs.rules.Files.{entries_of}
 use Rattle.file_tree.specs.declared.kind.NodeKind.{NodeKind}
 use Rattle.file_tree.specs.declared.kind.NodeKind.TheVariants as kind
 
@@ -43,7 +46,8 @@ within_path (Some above) (Some p) = is_some (path_behind above p)
 abbrev pub is_within : Files → ℕ → ℕ → Bool
 is_within fs k d = within_path (path_of fs k) (path_of fs d)
 
--- a node that can be moved to a name in a directory: it isn't the root, has a path, and the directory is no part of it
+-- a node that can be moved to a name in a directory: it isn't the root, has a path, and the
+-- directory is no part of it
 pub record CanMove (fs : Files) (k d : ℕ) (name : Name) : Type 0 where
   pub not_root : k ≢ 1
   pub there : is_some (path_of fs k) ≡ true

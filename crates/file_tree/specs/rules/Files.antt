@@ -1,5 +1,8 @@
--- The file system model (this project's own): each node's number, its whole path while it has one, and what it holds.
-use Rattle.std.specs.Prelude.{◌≡◌, ◌≢◌, ◌⊎◌, ℕ, ◌+◌, ◌<◌, ◌≤◌, ◌==◌, nat_lt, not, ◌&&◌, Bool, true, false, if◌then◌else◌, List, [], ◌∷◌, ◌++◌, length, map, filter, sum_by, find, Option, Some, None, option_map, IfSome}
+-- The file system model (this project's own): each node's number, its whole path while it has one,
+-- and what it holds.
+use Rattle.std.specs.Prelude.{◌≡◌, ◌≢◌, ◌⊎◌, ℕ, ◌+◌, ◌<◌, ◌≤◌, ◌==◌, nat_lt, not, ◌&&◌, Bool, true}
+use Rattle.std.specs.Prelude.{false, if◌then◌else◌, List, [], ◌∷◌, ◌++◌, length, map, filter}
+use Rattle.std.specs.Prelude.{sum_by, find, Option, Some, None, option_map, IfSome}
 use Rattle.std.specs.Option.{option_and_then}
 use Rattle.std.specs.List.{AllByRecursion}
 use Rattle.std.specs.Str.{IsUtf8}
@@ -22,8 +25,8 @@ pub record FileNode : Type 0 where
   pub path : Option Path
   pub content : Content
 
--- The nodes, by rising number, and the number of the next one. So the pairs of a whole path and a number are those of
--- the nodes with a path, and equal file systems are equal values.
+-- The nodes, by rising number, and the number of the next one. So the pairs of a whole path and a
+-- number are those of the nodes with a path, and equal file systems are equal values.
 pub record Files : Type 0 where
   pub nodes : List FileNode
   pub next : ℕ
@@ -81,7 +84,9 @@ at fs p = find (λ (n : FileNode). is_at p n.path) fs.nodes
 
 -- the number of the node under a name in a directory. A removed directory has none
 abbrev pub child : Files → ℕ → Name → Option ℕ
-child fs d name = option_and_then (λ p. option_map (λ (n : FileNode). n.number) (at fs (p ++ name ∷ []))) (path_of fs d)
+child fs d name =
+    option_and_then (λ p. option_map (λ (n : FileNode). n.number) (at fs (p ++ name ∷ [])))
+    (path_of fs d)
 
 abbrev pub is_directory_content : Content → Bool
 is_directory_content Directory = true
@@ -124,7 +129,11 @@ pub record Entry : Type 0 where
   pub number : ℕ
 
 abbrev pub entry_of : Path → FileNode → Option Entry
-entry_of p n = option_map (λ name. record { name = name; number = n.number }) (option_and_then (name_behind p) n.path)
+entry_of p n =
+    option_map (λ name. record {
+      name = name;
+      number = n.number;
+    }) (option_and_then (name_behind p) n.path)
 
 abbrev pub entries_in : Path → List FileNode → List Entry
 entries_in p [] = []
@@ -139,11 +148,13 @@ abbrev pub is_before : Name → Name → Bool
 is_before [] [] = false
 is_before [] (b ∷ other) = true
 is_before (a ∷ name) [] = false
-is_before (a ∷ name) (b ∷ other) = if nat_lt a b then true else if nat_lt b a then false else is_before name other
+is_before (a ∷ name) (b ∷ other) = if nat_lt a b then true else if nat_lt b a then false
+    else is_before name other
 
 abbrev pub inserted : Entry → List Entry → List Entry
 inserted e [] = e ∷ []
-inserted e (f ∷ entries) = if is_before e.name f.name then e ∷ f ∷ entries else f ∷ inserted e entries
+inserted e (f ∷ entries) = if is_before e.name f.name then e ∷ f ∷ entries
+    else f ∷ inserted e entries
 
 abbrev pub sorted : List Entry → List Entry
 sorted [] = []
@@ -161,7 +172,14 @@ entries_of fs d = entries_under fs (path_of fs d)
 
 -- a new node at a path
 abbrev pub created : Path → Content → Files → Files
-created p c fs = record { nodes = fs.nodes ++ record { number = fs.next; path = Some p; content = c } ∷ []; next = fs.next + 1 }
+created p c fs = record {
+  nodes = fs.nodes ++ record {
+    number = fs.next;
+    path = Some p;
+    content = c;
+  } ∷ [];
+  next = fs.next + 1;
+}
 
 -- the node with this number, changed
 abbrev pub changed_at : ℕ → (FileNode → FileNode) → FileNode → FileNode
@@ -196,7 +214,10 @@ with_next next fs = record { nodes = fs.nodes; next = next }
 
 -- a node that is gone
 abbrev pub forgotten : ℕ → Files → Files
-forgotten k fs = record { nodes = filter (λ (n : FileNode). not (n.number == k)) fs.nodes; next = fs.next }
+forgotten k fs = record {
+  nodes = filter (λ (n : FileNode). not (n.number == k)) fs.nodes;
+  next = fs.next;
+}
 
 -- what stands behind a front
 abbrev pub path_behind : Path → Path → Option Path
@@ -214,7 +235,12 @@ path_moved old new p = with_new_front new p (path_behind old p)
 
 -- every path that begins with the old one begins with the new one
 abbrev pub renamed : Path → Path → Files → Files
-renamed old new fs = record { nodes = map (λ (n : FileNode). record n { path = option_map (path_moved old new) n.path }) fs.nodes; next = fs.next }
+renamed old new fs =
+    record {
+      nodes = map (λ (n : FileNode).
+          record n { path = option_map (path_moved old new) n.path }) fs.nodes;
+      next = fs.next;
+    }
 
 -- ---- bytes of a file
 
@@ -226,7 +252,8 @@ AreRising least (n ∷ nodes) next = (least ≤ n.number) × AreRising (n.number
 
 -- a path but the root's is a name in a directory that has a path
 abbrev pub IsPlaced : Files → Path → Type 0
-IsPlaced fs p = (p ≡ []) ⊎ ((d : ℕ) × (parent : Path) × (name : Name) × (p ≡ parent ++ name ∷ []) × IsNodeName name × (path_of fs d ≡ Some parent) × (is_directory fs d ≡ true))
+IsPlaced fs p = (p ≡ []) ⊎ ((d : ℕ) × (parent : Path) × (name : Name) × (p ≡ parent ++ name ∷ [])
+    × IsNodeName name × (path_of fs d ≡ Some parent) × (is_directory fs d ≡ true))
 
 abbrev pub HasPath : Option Path → Path → Type 0
 HasPath None p = ⊥
@@ -235,7 +262,8 @@ HasPath (Some q) p = q ≡ p
 -- no two nodes have one path
 abbrev pub HaveDistinctPaths : List FileNode → Type 0
 HaveDistinctPaths [] = Unit {0}
-HaveDistinctPaths (n ∷ nodes) = AllByRecursion (λ (other : FileNode). (p : Path) → HasPath n.path p → HasPath other.path p → ⊥) nodes × HaveDistinctPaths nodes
+HaveDistinctPaths (n ∷ nodes) = AllByRecursion (λ (other : FileNode). (p : Path) → HasPath n.path p
+    → HasPath other.path p → ⊥) nodes × HaveDistinctPaths nodes
 
 abbrev pub IsSmallContent : Content → Type 0
 IsSmallContent Directory = Unit {0}

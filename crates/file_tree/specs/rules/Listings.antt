@@ -8,12 +8,14 @@ number_at fs place = option_map (λ (n : FileNode). n.number) (slice_get fs.node
 
 -- the number of the entry at a place of a directory, from 0 on
 abbrev pub number_at_place : Files → ℕ → ℕ → Option ℕ
-number_at_place fs d place = option_map (λ (e : Entry). e.number) (slice_get (entries_of fs d) place)
+number_at_place fs d place =
+    option_map (λ (e : Entry). e.number) (slice_get (entries_of fs d) place)
 
 -- the number of the first entry of a directory whose name comes after this one
 abbrev pub number_after : Files → ℕ → Name → Option ℕ
 number_after fs d name =
-    option_map (λ (e : Entry). e.number) (find (λ (e : Entry). is_before name e.name) (entries_of fs d))
+    option_map (λ (e : Entry). e.number) (find (λ (e : Entry). is_before name e.name)
+    (entries_of fs d))
 
 -- the entry at this place of a directory has this name
 abbrev pub HasNameAtPlace : Files → ℕ → ℕ → Name → Type 0

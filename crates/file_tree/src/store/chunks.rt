@@ -1,6 +1,7 @@
 //! Bytes in chunks of one size.
 
-ghost use Rattle.std.specs.Prelude.{◌≡◌, ◌+◌, ◌*◌, ◌-◌, ◌<◌, ◌≤◌, ◌^◌, ◌%◌, ◌++◌, length, take, drop, replicate, IfOk};
+ghost use Rattle.std.specs.Prelude.{◌≡◌, ◌+◌, ◌*◌, ◌-◌, ◌<◌, ◌≤◌, ◌^◌, ◌%◌, ◌++◌, length, take};
+ghost use Rattle.std.specs.Prelude.{drop, replicate, IfOk};
 ghost use Rattle.std.specs.List.{concat};
 ghost use Rattle.file_tree.specs.declared.limits.TheConstants.{CHUNK_BYTES};
 ghost use Rattle.file_tree.specs.rules.Chunks.{chunks_for};
@@ -10,7 +11,8 @@ use crate::limits::CHUNK_BYTES;
 use std::alloc::{AllocError, Global};
 use std::marker::Model;
 
-/// A chunk, which contracts see as its bytes. It has all of them from the first on, and they stay where they are.
+/// A chunk, which contracts see as its bytes. It has all of them from the first on, and they stay
+/// where they are.
 #[derive(Debug, Drop)]
 pub struct Chunk {
     items: Vec<u8>,
@@ -55,7 +57,8 @@ impl Chunk {
 
     fn put(&mut self, from: usize, bytes: &[u8])
         requires { from + length bytes.now ≤ CHUNK_BYTES }
-        ensures put { self.new ≡ take from self.old ++ (bytes.now ++ drop (from + length bytes.now) self.old) }
+        ensures put { self.new ≡ take from self.old
+            ++ (bytes.now ++ drop (from + length bytes.now) self.old) }
         ensures full { length self.old ≡ CHUNK_BYTES }
     {
         self.items[from..from + bytes.len()].copy_from_slice(bytes);
@@ -114,7 +117,8 @@ fn piece(from: usize, most: usize) -> usize
     if most < room { most } else { room }
 }
 
-// Puts as many of these bytes in the place of others as lie in the chunk of the first, and gives how many.
+// Puts as many of these bytes in the place of others as lie in the chunk of the first, and gives
+// how many.
 fn write_piece(chunks: &mut Vec<Chunk>, from: usize, bytes: &[u8]) -> usize
     requires full { AreFull chunks.old.items }
     requires some { 0 < length bytes.now }
@@ -123,7 +127,8 @@ fn write_piece(chunks: &mut Vec<Chunk>, from: usize, bytes: &[u8]) -> usize
     ensures most { result ≤ length bytes.now }
     ensures full { AreFull chunks.new.items }
     ensures count { length chunks.new.items ≡ length chunks.old.items }
-    ensures written { concat chunks.new.items ≡ overlaid (concat chunks.old.items) from (take result bytes.now) }
+    ensures written { concat chunks.new.items
+        ≡ overlaid (concat chunks.old.items) from (take result bytes.now) }
 {
     let count = piece(from, bytes.len());
     chunks[from / CHUNK_BYTES].write(from % CHUNK_BYTES, &bytes[..count]);
@@ -152,7 +157,8 @@ pub fn clear_chunk(chunks: &mut Vec<Chunk>, from: usize)
     requires last { length chunks.old.items * CHUNK_BYTES < from + CHUNK_BYTES }
     ensures full { AreFull chunks.new.items }
     ensures count { length chunks.new.items ≡ length chunks.old.items }
-    ensures cleared { concat chunks.new.items ≡ take from (concat chunks.old.items) ++ replicate (length chunks.old.items * CHUNK_BYTES - from) 0 }
+    ensures cleared { concat chunks.new.items ≡ take from (concat chunks.old.items)
+        ++ replicate (length chunks.old.items * CHUNK_BYTES - from) 0 }
 {
     let start = from % CHUNK_BYTES;
     if start > 0 {
@@ -160,14 +166,16 @@ pub fn clear_chunk(chunks: &mut Vec<Chunk>, from: usize)
     }
 }
 
-// Puts bytes from a place on into `into`, as many as lie in the chunk of the first and fit, and gives how many.
+// Puts bytes from a place on into `into`, as many as lie in the chunk of the first and fit, and
+// gives how many.
 fn read_piece(chunks: &Vec<Chunk>, from: usize, into: &mut [u8]) -> usize
     requires full { AreFull chunks.now.items }
     requires some { 0 < length into.old }
     requires within { from + length into.old ≤ length chunks.now.items * CHUNK_BYTES }
     ensures some { 0 < result }
     ensures most { result ≤ length into.old }
-    ensures bytes { into.new ≡ take result (drop from (concat chunks.now.items)) ++ drop result into.old }
+    ensures bytes { into.new ≡ take result (drop from (concat chunks.now.items))
+        ++ drop result into.old }
 {
     let count = piece(from, into.len());
     let start = from % CHUNK_BYTES;

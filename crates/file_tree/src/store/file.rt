@@ -1,6 +1,7 @@
 //! The bytes of a file.
 
-ghost use Rattle.std.specs.Prelude.{◌≡◌, ◌+◌, ◌-◌, ◌<◌, ◌≤◌, ◌^◌, ◌++◌, [], min, length, take, drop, OnOk, OnErr};
+ghost use Rattle.std.specs.Prelude.{◌≡◌, ◌+◌, ◌-◌, ◌<◌, ◌≤◌, ◌^◌, ◌++◌, [], min, length, take};
+ghost use Rattle.std.specs.Prelude.{drop, OnOk, OnErr};
 ghost use Rattle.file_tree.specs.declared.limits.TheConstants.{FILE_BYTES};
 ghost use Rattle.file_tree.specs.rules.Bytes.{written, resized};
 ghost use Rattle.file_tree.specs.rules.Chunks.{chunks_for, chunk_of};
@@ -12,8 +13,8 @@ use crate::store::chunks::{
 use std::alloc::{AllocError, Global};
 use std::marker::Model;
 
-/// The bytes of a file, which contracts see as a list. They lie in chunks, each of which stays where it is: so more bytes
-/// move none of those that are there.
+/// The bytes of a file, which contracts see as a list. They lie in chunks, each of which stays
+/// where it is: so more bytes move none of those that are there.
 #[derive(Debug, Drop)]
 pub struct FileBytes {
     // all full, the last one of zeros behind the bytes
@@ -76,11 +77,12 @@ impl FileBytes {
         }
     }
 
-    /// Puts the bytes from one of them on into `into`, as many as there are and fit, and gives how many. What is behind
-    /// them in `into` stays.
+    /// Puts the bytes from one of them on into `into`, as many as there are and fit, and gives how
+    /// many. What is behind them in `into` stays.
     pub fn read(&self, from: usize, into: &mut [u8]) -> usize
         ensures count { result ≡ length (take (length into.old) (drop from self.now)) }
-        ensures bytes { into.new ≡ take (length into.old) (drop from self.now) ++ drop result into.old }
+        ensures bytes { into.new ≡ take (length into.old) (drop from self.now)
+            ++ drop result into.old }
     {
         let count = count_from(self.len, from, into.len());
         if count > 0 {
@@ -97,8 +99,8 @@ impl FileBytes {
         write_chunks(&mut self.chunks, from, bytes);
     }
 
-    /// Cuts the bytes to a size, or puts zeros behind them up to it. It touches the last chunk, and those that come or go.
-    /// Only want of memory makes it fail, and then nothing is changed.
+    /// Cuts the bytes to a size, or puts zeros behind them up to it. It touches the last chunk, and
+    /// those that come or go. Only want of memory makes it fail, and then nothing is changed.
     pub fn resize(&mut self, size: usize) -> Result<(), AllocError>
         requires { size ≤ FILE_BYTES }
         ensures resized { OnOk result (self.new ≡ resized self.old size) }
@@ -111,7 +113,8 @@ impl FileBytes {
         self.grow(size)
     }
 
-    // Puts zeros behind the bytes up to a size. All chunks for them are taken before anything is changed.
+    // Puts zeros behind the bytes up to a size. All chunks for them are taken before anything is
+    // changed.
     fn grow(&mut self, size: usize) -> Result<(), AllocError>
         requires more { length self.old ≤ size }
         requires fits { size ≤ FILE_BYTES }

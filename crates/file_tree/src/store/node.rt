@@ -54,8 +54,8 @@ impl NodeContent {
         }
     }
 
-    /// Cuts a file to a size, or puts zeros behind its bytes up to it; a directory stays. Only want of
-    /// memory makes it fail, and then nothing is changed.
+    /// Cuts a file to a size, or puts zeros behind its bytes up to it; a directory stays. Only want
+    /// of memory makes it fail, and then nothing is changed.
     pub fn resize(&mut self, size: usize) -> Result<(), AllocError>
         requires { size ≤ FILE_BYTES }
         ensures resized { OnOk result (self.new ≡ content_resized size self.old) }

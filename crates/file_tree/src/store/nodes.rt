@@ -186,7 +186,8 @@ impl Nodes {
     /// Puts bytes in the place of others of the file at a place; a directory stays.
     pub fn write(&mut self, place: usize, from: usize, bytes: &[u8])
         requires place { place < length self.old }
-        requires within { (n : TheNode) → n ≡ slice_index_or self.old place n → from + length bytes.now ≤ length (file_bytes_of n) }
+        requires within { (n : TheNode) → n ≡ slice_index_or self.old place n
+            → from + length bytes.now ≤ length (file_bytes_of n) }
         ensures { self.new ≡ changed (node_written from bytes.now) place self.old }
     {
         let key = self.order[place];
@@ -196,8 +197,8 @@ impl Nodes {
         }
     }
 
-    /// Cuts the file at a place to a size, or puts zeros behind its bytes up to it; a directory stays. Only want
-    /// of memory makes it fail, and then nothing is changed.
+    /// Cuts the file at a place to a size, or puts zeros behind its bytes up to it; a directory
+    /// stays. Only want of memory makes it fail, and then nothing is changed.
     pub fn resize(&mut self, place: usize, size: usize) -> Result<(), AllocError>
         requires place { place < length self.old }
         requires size { size ≤ FILE_BYTES }

@@ -1,5 +1,7 @@
--- Bytes of a memory, and the numbers that they spell, the lowest byte first (Core Specification 1.0, sections 4.2.8 and 4.3.1.2).
-use Rattle.std.specs.Prelude.{ℕ, zero, suc, ◌+◌, ◌*◌, ◌/◌, ◌%◌, ◌<◌, List, [], ◌∷◌, ◌++◌, length, take, drop}
+-- Bytes of a memory, and the numbers that they spell, the lowest byte first (Core Specification
+-- 1.0, sections 4.2.8 and 4.3.1.2).
+use Rattle.std.specs.Prelude.{ℕ, zero, suc, ◌+◌, ◌*◌, ◌/◌, ◌%◌, ◌<◌, List, [], ◌∷◌, ◌++◌, length}
+use Rattle.std.specs.Prelude.{take, drop}
 
 abbrev pub IsByte : ℕ → Type 0
 IsByte b = b < 256

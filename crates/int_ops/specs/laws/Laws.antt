@@ -1,4 +1,5 @@
--- Laws of the definitions in `Integers`: what they give is an integer of its width, and they give the values that the standard gives.
+-- Laws of the definitions in `Integers`: what they give is an integer of its width, and they give
+-- the values that the standard gives.
 use Rattle.std.specs.Prelude.{◌≡◌, ℕ, ◌+◌, ◌-◌, ◌^◌, ◌<◌, ◌≤◌, Bool, true, false, Ok, Err}
 use Rattle.std.specs.Int.{Width, w32, w64}
 use mir.Val.{bits, hbits}
@@ -6,15 +7,19 @@ use Rattle.wasm_syntax.specs.declared.value.Trap.TheVariants.{DivideByZero, Inte
 use Rattle.wasm_syntax.specs.declared.operator.UnaryOperator.{UnaryOperator}
 use Rattle.wasm_syntax.specs.declared.operator.UnaryOperator.TheVariants.{Clz, Ctz, Popcnt}
 use Rattle.wasm_syntax.specs.declared.operator.BinaryOperator.{BinaryOperator}
-use Rattle.wasm_syntax.specs.declared.operator.BinaryOperator.TheVariants.{DivS, DivU, RemS, Shl, ShrS, Rotr}
+use Rattle.wasm_syntax.specs.declared.operator.BinaryOperator.TheVariants.{DivS, DivU, RemS, Shl}
+use Rattle.wasm_syntax.specs.declared.operator.BinaryOperator.TheVariants.{ShrS, Rotr}
 use Rattle.wasm_syntax.specs.declared.operator.Comparison.TheVariants.{LtS, LtU}
 use Rattle.wasm_syntax.specs.declared.operator.Conversion.{Conversion}
-use Rattle.wasm_syntax.specs.declared.operator.Conversion.TheVariants.{I32WrapI64, I64ExtendI32S, I64ExtendI32U}
-use Rattle.int_ops.specs.rules.Integers.{unary_of, binary_of, compare_of, truth, sign_extended, convert_of, converted_from, converted_to}
+use Rattle.wasm_syntax.specs.declared.operator.Conversion.TheVariants.{I32WrapI64, I64ExtendI32S}
+use Rattle.wasm_syntax.specs.declared.operator.Conversion.TheVariants.{I64ExtendI32U}
+use Rattle.int_ops.specs.rules.Integers.{unary_of, binary_of, compare_of, truth, sign_extended}
+use Rattle.int_ops.specs.rules.Integers.{convert_of, converted_from, converted_to}
 
 -- of integers of a width, an operator gives an integer of that width
 abbrev pub UnaryFits : Type 0
-UnaryFits = (w : Width) (operator : UnaryOperator) (a : ℕ) → a < 2 ^ bits w → unary_of w operator a < 2 ^ bits w
+UnaryFits = (w : Width) (operator : UnaryOperator) (a : ℕ) → a < 2 ^ bits w
+    → unary_of w operator a < 2 ^ bits w
 
 abbrev pub BinaryFits : Type 0
 BinaryFits = (w : Width) (operator : BinaryOperator) (a b n : ℕ) → a < 2 ^ bits w → b < 2 ^ bits w
@@ -30,7 +35,8 @@ ConversionFits = (operator : Conversion) (a : ℕ) → a < 2 ^ bits (converted_f
 
 -- to a width with as many bits at least, beside the sign
 abbrev pub ExtensionFits : Type 0
-ExtensionFits = (from to : Width) (a : ℕ) → hbits from ≤ bits to → sign_extended from to a < 2 ^ bits to
+ExtensionFits = (from to : Width) (a : ℕ) → hbits from ≤ bits to
+    → sign_extended from to a < 2 ^ bits to
 
 -- the integer that is read with a sign as -k
 abbrev pub minus : Width → ℕ → ℕ

@@ -1,21 +1,31 @@
--- Integer arithmetic (Core Specification 1.0, section 4.3.2).
--- An integer of width w, which is w32 or w64, is a number below 2 ^ N, where N is `bits w`. Read with a sign it is
--- `cast_signed w a`: a itself below 2 ^ (N - 1), else a - 2 ^ N. `cast_unsigned w` leads back, z + 2 ^ N where z is negative.
-use Rattle.std.specs.Prelude.{ℕ, ◌+◌, ◌-◌, ◌*◌, ◌/◌, ◌%◌, ◌^◌, Bool, true, false, not, ◌==◌, ◌&&◌, nat_lt, nat_le, if◌then◌else◌, Result, Ok, Err, pos, bit_and, bit_or, bit_xor, int_div, int_rem, int_lt, int_le, count_ones}
+-- Integer arithmetic (Core Specification 1.0, section 4.3.2). An integer of width w, which is w32
+-- or w64, is a number below 2 ^ N, where N is `bits w`. Read with a sign it is `cast_signed w a`: a
+-- itself below 2 ^ (N - 1), else a - 2 ^ N. `cast_unsigned w` leads back, z + 2 ^ N where z is
+-- negative.
+use Rattle.std.specs.Prelude.{ℕ, ◌+◌, ◌-◌, ◌*◌, ◌/◌, ◌%◌, ◌^◌, Bool, true, false, not, ◌==◌, ◌&&◌}
+use Rattle.std.specs.Prelude.{nat_lt, nat_le, if◌then◌else◌, Result, Ok, Err, pos, bit_and, bit_or}
+use Rattle.std.specs.Prelude.{bit_xor, int_div, int_rem, int_lt, int_le, count_ones}
 use mir.Val.{bits, hbits}
-use Rattle.std.specs.Int.{Width, w32, w64, cast_signed, cast_unsigned, int_div_euclid, leading_zeros, trailing_zeros}
+use Rattle.std.specs.Int.{Width, w32, w64, cast_signed, cast_unsigned, int_div_euclid}
+use Rattle.std.specs.Int.{leading_zeros, trailing_zeros}
 use Rattle.wasm_syntax.specs.declared.value.Trap.{Trap}
 use Rattle.wasm_syntax.specs.declared.value.Trap.TheVariants.{DivideByZero, IntegerOverflow}
 use Rattle.wasm_syntax.specs.declared.operator.UnaryOperator.{UnaryOperator}
 use Rattle.wasm_syntax.specs.declared.operator.UnaryOperator.TheVariants.{Clz, Ctz, Popcnt}
 use Rattle.wasm_syntax.specs.declared.operator.BinaryOperator.{BinaryOperator}
-use Rattle.wasm_syntax.specs.declared.operator.BinaryOperator.TheVariants.{Add, Sub, Mul, DivS, DivU, RemS, RemU, And, Or, Xor, Shl, ShrS, ShrU, Rotl, Rotr}
+use Rattle.wasm_syntax.specs.declared.operator.BinaryOperator.TheVariants.{Add, Sub, Mul, DivS}
+use Rattle.wasm_syntax.specs.declared.operator.BinaryOperator.TheVariants.{DivU, RemS, RemU, And}
+use Rattle.wasm_syntax.specs.declared.operator.BinaryOperator.TheVariants.{Or, Xor, Shl, ShrS, ShrU}
+use Rattle.wasm_syntax.specs.declared.operator.BinaryOperator.TheVariants.{Rotl, Rotr}
 use Rattle.wasm_syntax.specs.declared.operator.Comparison.{Comparison}
-use Rattle.wasm_syntax.specs.declared.operator.Comparison.TheVariants.{Eq, Ne, LtS, LtU, GtS, GtU, LeS, LeU, GeS, GeU}
+use Rattle.wasm_syntax.specs.declared.operator.Comparison.TheVariants.{Eq, Ne, LtS, LtU, GtS, GtU}
+use Rattle.wasm_syntax.specs.declared.operator.Comparison.TheVariants.{LeS, LeU, GeS, GeU}
 use Rattle.wasm_syntax.specs.declared.operator.Conversion.{Conversion}
-use Rattle.wasm_syntax.specs.declared.operator.Conversion.TheVariants.{I32WrapI64, I64ExtendI32S, I64ExtendI32U}
+use Rattle.wasm_syntax.specs.declared.operator.Conversion.TheVariants.{I32WrapI64, I64ExtendI32S}
+use Rattle.wasm_syntax.specs.declared.operator.Conversion.TheVariants.{I64ExtendI32U}
 
--- how many bits above the highest 1, below the lowest 1, or that are 1. Without any 1 the first two count all bits
+-- how many bits above the highest 1, below the lowest 1, or that are 1. Without any 1 the first two
+-- count all bits
 abbrev pub unary_of : Width → UnaryOperator → ℕ → ℕ
 unary_of w Clz a = leading_zeros w a
 unary_of w Ctz a = trailing_zeros w a
@@ -30,7 +40,8 @@ signed_quotient w a b =
 
 abbrev pub signed_remainder : Width → ℕ → ℕ → Result ℕ Trap
 signed_remainder w a b =
-    if b == 0 then Err DivideByZero else Ok (cast_unsigned w (int_rem (cast_signed w a) (cast_signed w b)))
+    if b == 0 then Err DivideByZero
+    else Ok (cast_unsigned w (int_rem (cast_signed w a) (cast_signed w b)))
 
 -- What leaves at one end comes in at the other.
 abbrev pub rotated_left : Width → ℕ → ℕ → ℕ
@@ -39,7 +50,8 @@ rotated_left w a k = (a * 2 ^ k) % 2 ^ bits w + a / 2 ^ (bits w - k)
 abbrev pub rotated_right : Width → ℕ → ℕ → ℕ
 rotated_right w a k = a / 2 ^ k + (a * 2 ^ (bits w - k)) % 2 ^ bits w
 
--- Arithmetic wraps modulo 2 ^ N, and shifts count modulo N. A signed shift to the right is the quotient cut downward.
+-- Arithmetic wraps modulo 2 ^ N, and shifts count modulo N. A signed shift to the right is the
+-- quotient cut downward.
 abbrev pub binary_of : Width → BinaryOperator → ℕ → ℕ → Result ℕ Trap
 binary_of w Add a b = Ok ((a + b) % 2 ^ bits w)
 binary_of w Sub a b = Ok ((a + (2 ^ bits w - b)) % 2 ^ bits w)
@@ -52,7 +64,8 @@ binary_of w And a b = Ok (bit_and a b)
 binary_of w Or a b = Ok (bit_or a b)
 binary_of w Xor a b = Ok (bit_xor a b)
 binary_of w Shl a b = Ok ((a * 2 ^ (b % bits w)) % 2 ^ bits w)
-binary_of w ShrS a b = Ok (cast_unsigned w (int_div_euclid (cast_signed w a) (pos (2 ^ (b % bits w)))))
+binary_of w ShrS a b =
+    Ok (cast_unsigned w (int_div_euclid (cast_signed w a) (pos (2 ^ (b % bits w)))))
 binary_of w ShrU a b = Ok (a / 2 ^ (b % bits w))
 binary_of w Rotl a b = Ok (rotated_left w a (b % bits w))
 binary_of w Rotr a b = Ok (rotated_right w a (b % bits w))

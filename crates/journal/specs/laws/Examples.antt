@@ -9,7 +9,8 @@ use Rattle.disk_layout.specs.laws.Examples.{hello_record}
 use Rattle.disk_layout.specs.laws.RecordExamples.{bare, bare_disk, end_record, spread, two_records}
 use Rattle.journal.specs.rules.Packed.{sectors_for, packed}
 use Rattle.journal.specs.rules.State.{state, room_of}
-use Rattle.journal.specs.rules.Steps.{RecordFits, records_bytes, RecordsStand, SameOthers, AppendsFront, barrier_calls}
+use Rattle.journal.specs.rules.Steps.{RecordFits, records_bytes, RecordsStand, SameOthers}
+use Rattle.journal.specs.rules.Steps.{AppendsFront, barrier_calls}
 
 pub record PackingExamples : Type 0 where
   pub no_sector : sectors_for 0 ≡ 0

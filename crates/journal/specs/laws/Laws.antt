@@ -9,16 +9,21 @@ use Rattle.disk_layout.specs.declared.record.TheConstants.{LONGEST_PAYLOAD}
 
 -- each sector of the journal shows an earlier generation
 abbrev pub ShowsEarlierThan : Geometry → ℕ → Image → Type 0
-ShowsEarlierThan geometry g image = (k : ℕ) → k < geometry.journal_sectors → shown_generation (1 + k) (sector_at image (journal_place geometry + k)) < g
+ShowsEarlierThan geometry g image = (k : ℕ) → k < geometry.journal_sectors
+    → shown_generation (1 + k) (sector_at image (journal_place geometry + k)) < g
 
 -- a journal of a generation that no sector shows has no records yet
 abbrev pub FreshStands : Type 0
-FreshStands = (geometry : Geometry) (g : ℕ) (image : Image) → ShowsEarlierThan geometry g image → RecordsStand geometry g 0 [] image
+FreshStands = (geometry : Geometry) (g : ℕ) (image : Image) → ShowsEarlierThan geometry g image
+    → RecordsStand geometry g 0 [] image
 
 -- a scan gives the records that stand in the sectors
 abbrev pub ScansWhatStands : Type 0
-ScansWhatStands = (geometry : Geometry) (g used : ℕ) (records : List Record) (image : Image) → RecordsStand geometry g used records image → AllRecordsFit records → scan geometry LONGEST_PAYLOAD image g ≡ records
+ScansWhatStands = (geometry : Geometry) (g used : ℕ) (records : List Record) (image : Image)
+    → RecordsStand geometry g used records image → AllRecordsFit records
+    → scan geometry LONGEST_PAYLOAD image g ≡ records
 
 -- a scan of a generation that no sector shows gives none
 abbrev pub ScansNoneOfLater : Type 0
-ScansNoneOfLater = (geometry : Geometry) (g : ℕ) (image : Image) → ShowsEarlierThan geometry g image → scan geometry LONGEST_PAYLOAD image g ≡ []
+ScansNoneOfLater = (geometry : Geometry) (g : ℕ) (image : Image) → ShowsEarlierThan geometry g image
+    → scan geometry LONGEST_PAYLOAD image g ≡ []

@@ -11,4 +11,6 @@ sectors_for bytes = (bytes + (PAYLOAD_SIZE - 1)) / PAYLOAD_SIZE
 -- so many sectors of generation g, the first of them at this place
 abbrev pub packed : ℕ → ℕ → ℕ → List ℕ → Image
 packed g place zero bytes = []
-packed g place (suc n) bytes = journal_sector g place (take PAYLOAD_SIZE bytes) ∷ packed g (place + 1) n (drop PAYLOAD_SIZE bytes)
+packed g place (suc n) bytes =
+    journal_sector g place (take PAYLOAD_SIZE bytes)
+    ∷ packed g (place + 1) n (drop PAYLOAD_SIZE bytes)

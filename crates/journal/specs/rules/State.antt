@@ -3,7 +3,8 @@ use Rattle.std.specs.Prelude.{ℕ, ◌-◌, ◌*◌, Bool, List, length}
 use Rattle.disk_layout.specs.rules.Places.{Geometry}
 use Rattle.disk_layout.specs.declared.journal_sectors.TheConstants.{PAYLOAD_SIZE}
 
--- the generation; how many sectors are written in it; the bytes of records that only memory holds; whether a call has failed
+-- the generation; how many sectors are written in it; the bytes of records that only memory holds;
+-- whether a call has failed
 pub record JournalState : Type 0 where
   pub generation : ℕ
   pub used : ℕ
@@ -11,7 +12,12 @@ pub record JournalState : Type 0 where
   pub has_failed : Bool
 
 abbrev pub state : ℕ → ℕ → List ℕ → Bool → JournalState
-state generation used kept has_failed = record { generation = generation; used = used; kept = kept; has_failed = has_failed }
+state generation used kept has_failed = record {
+  generation = generation;
+  used = used;
+  kept = kept;
+  has_failed = has_failed;
+}
 
 -- how many more bytes there is room for
 abbrev pub room_of : Geometry → JournalState → ℕ

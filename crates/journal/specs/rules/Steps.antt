@@ -1,12 +1,14 @@
 -- What the sectors of a journal hold, and how a barrier changes it (this project's own).
-use Rattle.std.specs.Prelude.{◌≡◌, ℕ, zero, suc, ◌+◌, ◌^◌, ◌<◌, ◌≤◌, true, List, [], ◌++◌, length, take}
+use Rattle.std.specs.Prelude.{◌≡◌, ℕ, zero, suc, ◌+◌, ◌^◌, ◌<◌, ◌≤◌, true, List, [], ◌++◌, length}
+use Rattle.std.specs.Prelude.{take}
 use Rattle.std.specs.List.{AllByRecursion, flat_map}
 use Rattle.sector_disk.specs.rules.Image.{Image, sector_at}
 use Rattle.sector_disk.specs.rules.Calls.{synced_writes}
 use Rattle.sector_disk.specs.declared.disk_call.DiskCall.{DiskCall}
 use Rattle.disk_layout.specs.rules.Places.{Geometry, journal_place}
 use Rattle.disk_layout.specs.rules.Sectors.{shown_generation}
-use Rattle.disk_layout.specs.rules.Journal.{Record, record_bytes, payload_of, is_of, payloads_from, scan}
+use Rattle.disk_layout.specs.rules.Journal.{Record, record_bytes, payload_of, is_of, payloads_from}
+use Rattle.disk_layout.specs.rules.Journal.{scan}
 use Rattle.wasi_abi.specs.declared.answer.Answer.{Answer}
 use Rattle.wasi_abi.specs.declared.answer.Answer.TheVariants as answer
 use Rattle.disk_layout.specs.declared.record.TheConstants.{LONGEST_PAYLOAD}
@@ -34,37 +36,48 @@ AllRecordsFit records = AllByRecursion RecordFits records
 abbrev pub records_bytes : List Record → List ℕ
 records_bytes records = flat_map record_bytes records
 
--- So many sectors of the journal are written in generation g, which hold these bytes, and each later one shows an earlier generation.
-pub record HoldsBytes (geometry : Geometry) (g used : ℕ) (bytes : List ℕ) (image : Image) : Type 0 where
+-- So many sectors of the journal are written in generation g, which hold these bytes, and each
+-- later one shows an earlier generation.
+pub record HoldsBytes (geometry : Geometry) (g used : ℕ) (bytes : List ℕ) (image : Image) :
+    Type 0 where
   pub within : used ≤ geometry.journal_sectors
-  pub written : (k : ℕ) → k < used → is_of g (1 + k) (sector_at image (journal_place geometry + k)) ≡ true
+  pub written : (k : ℕ) → k < used → is_of g (1 + k) (sector_at image (journal_place geometry + k))
+      ≡ true
   pub holds : payloads_from image g (journal_place geometry) 1 used ≡ bytes
-  pub clean : (k : ℕ) → used ≤ k → k < geometry.journal_sectors → shown_generation (1 + k) (sector_at image (journal_place geometry + k)) < g
+  pub clean : (k : ℕ) → used ≤ k → k < geometry.journal_sectors
+      → shown_generation (1 + k) (sector_at image (journal_place geometry + k)) < g
 
 -- so many sectors hold these records
 abbrev pub RecordsStand : Geometry → ℕ → ℕ → List Record → Image → Type 0
-RecordsStand geometry g used records image = HoldsBytes geometry g used (records_bytes records) image
+RecordsStand geometry g used records image =
+    HoldsBytes geometry g used (records_bytes records) image
 
 -- all sectors but those of the journal from this one on are as they were
 pub record SameOthers (geometry : Geometry) (used : ℕ) (old new : Image) : Type 0 where
   pub count : length new ≡ length old
   pub below : (k : ℕ) → k < journal_place geometry + used → sector_at new k ≡ sector_at old k
-  pub above : (k : ℕ) → journal_place geometry + geometry.journal_sectors ≤ k → sector_at new k ≡ sector_at old k
+  pub above : (k : ℕ) → journal_place geometry + geometry.journal_sectors ≤ k
+      → sector_at new k ≡ sector_at old k
 
 -- no sector of the journal shows a later generation
 abbrev pub ShowsNoneAfter : Geometry → ℕ → Image → Type 0
-ShowsNoneAfter geometry g image = (k : ℕ) → k < geometry.journal_sectors → shown_generation (1 + k) (sector_at image (journal_place geometry + k)) ≤ g
+ShowsNoneAfter geometry g image = (k : ℕ) → k < geometry.journal_sectors
+    → shown_generation (1 + k) (sector_at image (journal_place geometry + k)) ≤ g
 
--- a scan of the new image gives the records, and a front of those kept behind them; no other sector is changed
-pub record AppendsFront (geometry : Geometry) (g used : ℕ) (records kept : List Record) (old new : Image) : Type 0 where
+-- a scan of the new image gives the records, and a front of those kept behind them; no other sector
+-- is changed
+pub record AppendsFront (geometry : Geometry) (g used : ℕ) (records kept : List Record)
+    (old new : Image) : Type 0 where
   pub count : ℕ
   pub within : count ≤ length kept
   pub scanned : scan geometry LONGEST_PAYLOAD new g ≡ records ++ take count kept
   pub none_later : ShowsNoneAfter geometry g new
   pub others : SameOthers geometry used old new
 
--- what the records of a journal are: these are on the disk whatever a cut leaves, and those only in memory
-pub record IsOn (geometry : Geometry) (g used : ℕ) (kept_bytes : List ℕ) (records kept : List Record) (outcomes : Image → Type 0) : Type 0 where
+-- what the records of a journal are: these are on the disk whatever a cut leaves, and those only in
+-- memory
+pub record IsOn (geometry : Geometry) (g used : ℕ) (kept_bytes : List ℕ)
+    (records kept : List Record) (outcomes : Image → Type 0) : Type 0 where
   pub stands : (image : Image) → outcomes image → RecordsStand geometry g used records image
   pub spells : kept_bytes ≡ records_bytes kept
   pub fit : AllRecordsFit records

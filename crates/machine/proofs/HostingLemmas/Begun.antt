@@ -19,14 +19,16 @@ use Rattle.machine.specs.declared.hosting.starting.MachineStart.{MachineStart}
 use Rattle.machine.specs.Hosting.Beginnings.{first, IsOfInstance, StartStands}
 use Rattle.machine.proofs.HostingLemmas.Programs.{has_program}
 
-module _ (pages : ℕ) (m : Module) (i : Instance) (b : MachineStart) (few : pages ≤ 2 ^ 16) (linked : IsLinked pages m i) (h : IsOfInstance i b) where
+module _ (pages : ℕ) (m : Module) (i : Instance) (b : MachineStart) (few : pages
+    ≤ 2 ^ 16) (linked : IsLinked pages m i) (h : IsOfInstance i b) where
   guest : b.code.«module» ≡ m
   guest = h.guest ∙ linked.same
 
   valid : IsValid m
   valid = subst IsValid linked.same h.valid
 
-  module _ (functions : List FunctionType) (program : Program) (types : AreFunctionTypes m functions) (is_program : IsProgram m pages program) where
+  module _ (functions : List FunctionType) (program : Program)
+      (types : AreFunctionTypes m functions) (is_program : IsProgram m pages program) where
     is_code : IsExecutable b.code functions program
     is_code = record {
       valid = rw guest valid;
@@ -43,22 +45,28 @@ module _ (pages : ℕ) (m : Module) (i : Instance) (b : MachineStart) (few : pag
     start : i.«module».start ≡ m.start
     start = ap (λ (z : Module). z.start) linked.same
 
-    first_stands : PartsStandFor (module_context m functions) program b.code.table.items (parts_of_state b.state) (first linked.linkable.store (calls_of m.start linked.linkable.entry))
+    first_stands : PartsStandFor (module_context m functions) program b.code.table.items
+        (parts_of_state b.state)
+        (first linked.linkable.store (calls_of m.start linked.linkable.entry))
     first_stands = record {
-      typed = first_typed offer pages m functions program linked.linkable.store no_entry valid types linked.linkable is_program linked.linkable.segments;
-      frames = subst (λ z. AreFrames (module_context m functions) program z b.state.slots []) (sym h.frames) h.slots;
+      typed = first_typed offer pages m functions program linked.linkable.store no_entry valid types
+          linked.linkable is_program linked.linkable.segments;
+      frames = subst (λ z. AreFrames (module_context m functions) program z b.state.slots [])
+          (sym h.frames) h.slots;
       shown = record {
         globals_are = h.globals ∙ ap (λ (s : Store). map number_in s.globals) (sym linked.store);
         bytes_are = ap (λ z. z.bytes) h.memory ∙ ap (λ (s : Store). s.memory) (sym linked.store);
         limit_is = ap (λ z. z.limit) h.memory ∙ linked.limit ∙ sym is_program.most_pages;
       };
       same_table = ap (λ (s : Store). s.table) linked.store ∙ sym h.table;
-      later = sym (ap reverse h.later ∙ reverse-reverse (calls_of i.«module».start i.entry) ∙ ap (λ z. calls_of z i.entry) start ∙ ap (λ z. calls_of m.start z) (sym linked.entry));
+      later = sym (ap reverse h.later ∙ reverse-reverse (calls_of i.«module».start i.entry)
+          ∙ ap (λ z. calls_of z i.entry) start ∙ ap (λ z. calls_of m.start z) (sym linked.entry));
       few_frames = rw h.frames (omega arith);
       few_values = omega arith;
     }
 
-    pub stands : Stands b.code b.state functions program (first linked.linkable.store (calls_of m.start linked.linkable.entry))
+    pub stands : Stands b.code b.state functions program
+        (first linked.linkable.store (calls_of m.start linked.linkable.entry))
     stands = record { is_code = is_code; stands = rw guest first_stands }
 
   pub begun : StartStands pages m b

@@ -1,5 +1,6 @@
 -- Constants, and the globals' initial values.
-use Rattle.std.proofs.Common.{◌≡◌, inl, inr, ℕ, zero, suc, ◌+◌, ◌<◌, List, [], ◌∷◌, ◌++◌, length, get_or, drop, Some, refl, sym, ap, subst, arith, append_assoc}
+use Rattle.std.proofs.Common.{◌≡◌, inl, inr, ℕ, zero, suc, ◌+◌, ◌<◌, List, [], ◌∷◌, ◌++◌, length}
+use Rattle.std.proofs.Common.{get_or, drop, Some, refl, sym, ap, subst, arith, append_assoc}
 use Rattle.std.specs.Prelude.{slice_get, IsSome}
 use Rattle.std.specs.Option.{option_and_then}
 use Rattle.std.specs.List.{AllByRecursion}
@@ -14,7 +15,9 @@ use Rattle.wasm_syntax_rules.specs.Instantiation.{constant_of, AreInitial}
 use Rattle.wasm_validate.proofs.PartLemmas.Loops.{next}
 
 -- a global's value is its initial value
-pub global_value : (globals : List Global) (values : List Value) (x : ℕ) → AreInitial globals values → option_and_then (λ (g : Global). constant_of [] g.initial) (slice_get globals x) ≡ slice_get values x
+pub global_value : (globals : List Global) (values : List Value) (x : ℕ) → AreInitial globals values
+    → option_and_then (λ (g : Global). constant_of [] g.initial) (slice_get globals x)
+    ≡ slice_get values x
 global_value [] [] x h = refl
 global_value [] (v ∷ values) x h = absurd h
 global_value (g ∷ globals) [] x h = absurd h
@@ -22,28 +25,36 @@ global_value (g ∷ globals) (v ∷ values) zero h = h.0
 global_value (g ∷ globals) (v ∷ values) (suc x) h = global_value globals values x h.1
 
 -- Each of the globals that have initial values has one.
-pub initial_at : (globals : List Global) (values : List Value) (i : ℕ) (g : Global) → i < length globals → g ≡ get_or globals i g → AreInitial globals values → IsSome (constant_of [] g.initial)
+pub initial_at : (globals : List Global) (values : List Value) (i : ℕ) (g : Global)
+    → i < length globals → g ≡ get_or globals i g → AreInitial globals values
+    → IsSome (constant_of [] g.initial)
 initial_at [] values i g lt is h = absurd (omega arith)
 initial_at (f ∷ globals) [] i g lt is h = absurd h
 initial_at (f ∷ globals) (v ∷ values) zero g lt is h = let first = h.0 in rw (is, first) refl
-initial_at (f ∷ globals) (v ∷ values) (suc i) g lt is h = initial_at globals values i g (omega arith) is h.1
+initial_at (f ∷ globals) (v ∷ values) (suc i) g lt is h =
+    initial_at globals values i g (omega arith) is h.1
 
 -- the values so far, and those of the rest
 abbrev pub Continues : List Global → List Value → ℕ → Type 0
-Continues globals values i = (more : List Value) → AreInitial (drop i globals) more → AreInitial globals (values ++ more)
+Continues globals values i = (more : List Value) → AreInitial (drop i globals) more
+    → AreInitial globals (values ++ more)
 
-pub continues_with : (globals : List Global) (values : List Value) (i : ℕ) (g : Global) (v : Value) → i < length globals → g ≡ get_or globals i g → constant_of [] g.initial ≡ Some v → Continues globals values i → Continues globals (values ++ v ∷ []) (i + 1)
+pub continues_with : (globals : List Global) (values : List Value) (i : ℕ) (g : Global) (v : Value)
+    → i < length globals → g ≡ get_or globals i g → constant_of [] g.initial ≡ Some v
+    → Continues globals values i → Continues globals (values ++ v ∷ []) (i + 1)
 continues_with globals values i g v lt is e so_far = λ more h.
     let P : List Global → Type 0 = λ gs. AreInitial gs (v ∷ more) in
     let all = so_far (v ∷ more) (subst P (sym (next globals i g lt is)) (e, h)) in
     rw append_assoc all
 
 -- a valid global begins with a constant where none is imported
-constant_there : (expression : List Instruction) (t : ValueType) → IsConstant [] expression t → (v : Value) × (constant_of [] expression ≡ Some v)
+constant_there : (expression : List Instruction) (t : ValueType) → IsConstant [] expression t
+    → (v : Value) × (constant_of [] expression ≡ Some v)
 constant_there expression t (inl h) = (h.0, ap (constant_of []) h.2)
 constant_there expression t (inr h) = let none = h.2 in absurd (cc)
 
-pub initial_values : (m : Module) (globals : List Global) → imported_globals m.imports ≡ [] → AllByRecursion (IsGlobalValid m) globals → (values : List Value) × AreInitial globals values
+pub initial_values : (m : Module) (globals : List Global) → imported_globals m.imports ≡ []
+    → AllByRecursion (IsGlobalValid m) globals → (values : List Value) × AreInitial globals values
 initial_values m [] n h = ([], tt)
 initial_values m (g ∷ globals) n h =
     let first = constant_there g.initial g.global_type.value_type (rw n at h.0) in

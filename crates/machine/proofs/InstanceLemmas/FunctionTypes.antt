@@ -1,5 +1,6 @@
 -- The index of a function's type, import by import.
-use Rattle.std.proofs.Common.{◌≡◌, ℕ, zero, suc, ◌+◌, ◌-◌, ◌<◌, ◌≤◌, List, ◌∷◌, ◌++◌, length, get_or, drop, map, Some, refl, ap, ◌∙◌, arith}
+use Rattle.std.proofs.Common.{◌≡◌, ℕ, zero, suc, ◌+◌, ◌-◌, ◌<◌, ◌≤◌, List, ◌∷◌, ◌++◌, length}
+use Rattle.std.proofs.Common.{get_or, drop, map, Some, refl, ap, ◌∙◌, arith}
 use Rattle.std.specs.Prelude.{slice_get}
 use Rattle.std.specs.Option.{option_map}
 use Rattle.std.proofs.lemmas.List.{at_drop_all}
@@ -14,18 +15,30 @@ use Rattle.wasm_validate.proofs.PartLemmas.Loops.{next}
 abbrev pub all_types : List Import → List Function → List ℕ
 all_types imports functions = imported_functions imports ++ map function_type_of functions
 
-pub types_next : (imports : List Import) (functions : List Function) (i : ℕ) (x : Import) → i < length imports → x ≡ get_or imports i x → all_types (drop i imports) functions ≡ with_function_index x.item (imported_functions (drop (i + 1) imports)) ++ map function_type_of functions
+pub types_next : (imports : List Import) (functions : List Function) (i : ℕ) (x : Import)
+    → i < length imports → x ≡ get_or imports i x
+    → all_types (drop i imports) functions
+    ≡ with_function_index x.item (imported_functions (drop (i + 1) imports))
+    ++ map function_type_of functions
 types_next imports functions i x h is = ap (λ xs. all_types xs functions) (next imports i x h is)
 
-pub type_here : (first left : ℕ) (others : List ℕ) → left ≡ 0 → slice_get (first ∷ others) left ≡ Some first
+pub type_here : (first left : ℕ) (others : List ℕ) → left ≡ 0
+    → slice_get (first ∷ others) left ≡ Some first
 type_here first zero others e = refl
 type_here first (suc left) others e = cc
 
-pub type_further : (first left : ℕ) (others : List ℕ) → (left ≡ 0 → ⊥) → slice_get (first ∷ others) left ≡ slice_get others (left - 1)
+pub type_further : (first left : ℕ) (others : List ℕ) → (left ≡ 0 → ⊥)
+    → slice_get (first ∷ others) left ≡ slice_get others (left - 1)
 type_further first zero others e = absurd (e refl)
 type_further first (suc left) others e = ap (slice_get others) (omega arith)
 
 -- past all imports
-pub own_type : (imports : List Import) (functions : List Function) (i left x : ℕ) → length imports ≤ i → slice_get (all_types imports functions) x ≡ slice_get (all_types (drop i imports) functions) left → slice_get (all_types imports functions) x ≡ option_map function_type_of (slice_get functions left)
+pub own_type : (imports : List Import) (functions : List Function) (i left x : ℕ)
+    → length imports ≤ i
+    → slice_get (all_types imports functions) x
+    ≡ slice_get (all_types (drop i imports) functions) left
+    → slice_get (all_types imports functions) x
+    ≡ option_map function_type_of (slice_get functions left)
 own_type imports functions i left x h so_far =
-    so_far ∙ (at_drop_all (λ is. slice_get (all_types is functions) left) imports i h ∙ slice_get-map function_type_of functions left)
+    so_far ∙ (at_drop_all (λ is. slice_get (all_types is functions) left) imports i h
+    ∙ slice_get-map function_type_of functions left)

@@ -1,5 +1,7 @@
 -- The calls that are offered, and imports.
-use Rattle.std.proofs.Common.{◌≡◌, inl, inr, ℕ, ◌+◌, ◌<◌, ◌≤◌, Bool, true, false, cond, List, [], ◌∷◌, length, get_or, drop, Option, Some, None, refl, sym, ap, ◌∙◌, subst}
+use Rattle.std.proofs.Common.{◌≡◌, inl, inr, ℕ, ◌+◌, ◌<◌, ◌≤◌, Bool, true, false, cond, List, []}
+use Rattle.std.proofs.Common.{◌∷◌, length, get_or, drop, Option, Some, None, refl, sym, ap, ◌∙◌}
+use Rattle.std.proofs.Common.{subst}
 use Rattle.std.specs.Prelude.{slice_get, IsSome}
 use Rattle.std.proofs.lemmas.List.{at_drop_all, get_or_default}
 use Rattle.std.specs.Option.{option_map}
@@ -12,7 +14,8 @@ use Rattle.wasm_syntax.specs.declared.module.ImportItem.{ImportItem}
 use Rattle.wasm_syntax.specs.declared.module.ImportItem.TheVariants as import
 use Rattle.wasi_abi.specs.declared.call.Call.{Call}
 use Rattle.wasi_abi.specs.declared.call.Call.TheVariants as call
-use Rattle.wasi_abi.specs.rules.Calls.{module_name, all_calls, name_of, parameters_of, result_types, call_type_of}
+use Rattle.wasi_abi.specs.rules.Calls.{module_name, all_calls, name_of, parameters_of, result_types}
+use Rattle.wasi_abi.specs.rules.Calls.{call_type_of}
 use Rattle.wasm_syntax_rules.specs.Types.{imported_tables, imported_memories, imported_globals}
 use Rattle.wasm_syntax_rules.specs.Linking.{IsItemOffered, IsOffered}
 use Rattle.wasm_syntax_rules.specs.Typed.{OffersNoEntry}
@@ -24,11 +27,15 @@ use Rattle.machine.specs.rules.Refusals.{AreImportsRefused, IsImportRefused}
 
 -- ---- look-ups
 
-pub find_next : {X : Type 0} (p : X → Bool) (xs : List X) (i : ℕ) (x : X) → i < length xs → x ≡ get_or xs i x → p x ≡ false → find p (drop i xs) ≡ find p (drop (i + 1) xs)
-find_next {X} p xs i x h is fails = ap (find p) (next xs i x h is) ∙ ap (λ b. cond b (Some x) (find p (drop (i + 1) xs))) fails
+pub find_next : {X : Type 0} (p : X → Bool) (xs : List X) (i : ℕ) (x : X) → i < length xs
+    → x ≡ get_or xs i x → p x ≡ false → find p (drop i xs) ≡ find p (drop (i + 1) xs)
+find_next {X} p xs i x h is fails = ap (find p) (next xs i x h is)
+    ∙ ap (λ b. cond b (Some x) (find p (drop (i + 1) xs))) fails
 
-pub find_here : {X : Type 0} (p : X → Bool) (xs : List X) (i : ℕ) (x : X) → i < length xs → x ≡ get_or xs i x → p x ≡ true → find p (drop i xs) ≡ Some x
-find_here {X} p xs i x h is holds = ap (find p) (next xs i x h is) ∙ ap (λ b. cond b (Some x) (find p (drop (i + 1) xs))) holds
+pub find_here : {X : Type 0} (p : X → Bool) (xs : List X) (i : ℕ) (x : X) → i < length xs
+    → x ≡ get_or xs i x → p x ≡ true → find p (drop i xs) ≡ Some x
+find_here {X} p xs i x h is holds = ap (find p) (next xs i x h is)
+    ∙ ap (λ b. cond b (Some x) (find p (drop (i + 1) xs))) holds
 
 -- ---- offers
 
@@ -44,9 +51,11 @@ no_entry from name kind e p r = of_call (offered_call from name) e
     of_call None e = cc
     of_call (Some c) e =
         let same : call_type_of c ≡ kind = cc in
-        with_parameters c (ap (λ (t : FunctionType). t.results) same ∙ r) (ap (λ (t : FunctionType). t.parameters) same ∙ p)
+        with_parameters c (ap (λ (t : FunctionType). t.results) same
+        ∙ r) (ap (λ (t : FunctionType). t.parameters) same ∙ p)
 
-pub offered_as : (i : Import) (call : Call) → Some call ≡ imported_call i → offer i.module_name i.name ≡ Some (call_type_of call)
+pub offered_as : (i : Import) (call : Call) → Some call ≡ imported_call i
+    → offer i.module_name i.name ≡ Some (call_type_of call)
 unfolding offer
 offered_as i call e = ap (option_map call_type_of) (sym e)
 
@@ -54,7 +63,8 @@ pub offered_nothing : (i : Import) → None ≡ imported_call i → offer i.modu
 unfolding offer
 offered_nothing i e = ap (option_map call_type_of) (sym e)
 
-pub has_call : (types : List FunctionType) (i : Import) → IsOffered offer types i → IsSome (imported_call i)
+pub has_call : (types : List FunctionType) (i : Import) → IsOffered offer types i
+    → IsSome (imported_call i)
 unfolding offer
 has_call types i h = of_call (imported_call i) h
   where
@@ -64,70 +74,108 @@ has_call types i h = of_call (imported_call i) h
 
 -- ---- imports
 
-pub function_item : (o : Option FunctionType) (types : List FunctionType) (item : ImportItem) → IsItemOffered o types item → (x : ℕ) × (item ≡ import.Function x)
+pub function_item : (o : Option FunctionType) (types : List FunctionType) (item : ImportItem)
+    → IsItemOffered o types item → (x : ℕ) × (item ≡ import.Function x)
 function_item None types item h = absurd h
 function_item (Some kind) types (import.Function x) h = (x, refl)
 function_item (Some kind) types (import.Table t) h = absurd h
 function_item (Some kind) types (import.Memory t) h = absurd h
 function_item (Some kind) types (import.Global t) h = absurd h
 
-pub no_globals : (types : List FunctionType) (imports : List Import) → AllByRecursion (IsOffered offer types) imports → imported_globals imports ≡ []
+pub no_globals : (types : List FunctionType) (imports : List Import)
+    → AllByRecursion (IsOffered offer types) imports → imported_globals imports ≡ []
 no_globals types [] h = refl
-no_globals types (i ∷ imports) h = let f = function_item (offer i.module_name i.name) types i.item h.0 in rw f.1 (no_globals types imports h.1)
+no_globals types (i ∷ imports) h =
+    let f = function_item (offer i.module_name i.name) types i.item h.0 in
+    rw f.1 (no_globals types imports h.1)
 
-pub no_tables : (types : List FunctionType) (imports : List Import) → AllByRecursion (IsOffered offer types) imports → imported_tables imports ≡ []
+pub no_tables : (types : List FunctionType) (imports : List Import)
+    → AllByRecursion (IsOffered offer types) imports → imported_tables imports ≡ []
 no_tables types [] h = refl
-no_tables types (i ∷ imports) h = let f = function_item (offer i.module_name i.name) types i.item h.0 in rw f.1 (no_tables types imports h.1)
+no_tables types (i ∷ imports) h =
+    let f = function_item (offer i.module_name i.name) types i.item h.0 in
+    rw f.1 (no_tables types imports h.1)
 
-pub no_memories : (types : List FunctionType) (imports : List Import) → AllByRecursion (IsOffered offer types) imports → imported_memories imports ≡ []
+pub no_memories : (types : List FunctionType) (imports : List Import)
+    → AllByRecursion (IsOffered offer types) imports → imported_memories imports ≡ []
 no_memories types [] h = refl
-no_memories types (i ∷ imports) h = let f = function_item (offer i.module_name i.name) types i.item h.0 in rw f.1 (no_memories types imports h.1)
+no_memories types (i ∷ imports) h =
+    let f = function_item (offer i.module_name i.name) types i.item h.0 in
+    rw f.1 (no_memories types imports h.1)
 
 -- what is refused for a fault isn't offered
-refused_import : (types : List FunctionType) (i : Import) (o : Option FunctionType) (kind : FunctionType) → o ≡ Some kind → (IsItemOffered (Some kind) types i.item → ⊥) → IsItemOffered o types i.item → ⊥
+refused_import : (types : List FunctionType) (i : Import) (o : Option FunctionType)
+    (kind : FunctionType) → o ≡ Some kind → (IsItemOffered (Some kind) types i.item → ⊥)
+    → IsItemOffered o types i.item → ⊥
 refused_import types i None kind e denied h = h
-refused_import types i (Some k) kind e denied h = let same : k ≡ kind = cc in let P : FunctionType → Type 0 = λ k. IsItemOffered (Some k) types i.item in denied (subst P same h)
+refused_import types i (Some k) kind e denied h = let same : k ≡ kind = cc in let P : FunctionType
+    → Type 0 = λ k. IsItemOffered (Some k) types i.item in denied (subst P same h)
 
-pub not_offered : (types : List FunctionType) (i : Import) (e : LinkFault) → IsImportRefused types i e → IsOffered offer types i → ⊥
-not_offered types i UnknownImport r h = let P : Option FunctionType → Type 0 = λ o. IsItemOffered o types i.item in subst P r h
-not_offered types i ImportType r h = refused_import types i (offer i.module_name i.name) r.0 r.1 r.2 h
+pub not_offered : (types : List FunctionType) (i : Import) (e : LinkFault)
+    → IsImportRefused types i e → IsOffered offer types i → ⊥
+not_offered types i UnknownImport r h = let P : Option FunctionType
+    → Type 0 = λ o. IsItemOffered o types i.item in subst P r h
+not_offered types i ImportType r h =
+    refused_import types i (offer i.module_name i.name) r.0 r.1 r.2 h
 not_offered types i _ r h = r
 
-pub not_all_offered : (types : List FunctionType) (imports : List Import) (e : LinkFault) → AreImportsRefused types imports e → AllByRecursion (IsOffered offer types) imports → ⊥
+pub not_all_offered : (types : List FunctionType) (imports : List Import) (e : LinkFault)
+    → AreImportsRefused types imports e → AllByRecursion (IsOffered offer types) imports → ⊥
 not_all_offered types [] e r h = r
 not_all_offered types (i ∷ imports) e (inl r) h = not_offered types i e r h.0
 not_all_offered types (i ∷ imports) e (inr r) h = not_all_offered types imports e r.1 h.1
 
-pub refused_here : (types : List FunctionType) (imports : List Import) (i : ℕ) (x : Import) (e : LinkFault) → i < length imports → x ≡ get_or imports i x → IsImportRefused types x e → AreImportsRefused types (drop i imports) e
-refused_here types imports i x e h is r = let P : List Import → Type 0 = λ xs. AreImportsRefused types xs e in subst P (sym (next imports i x h is)) (inl r)
+pub refused_here : (types : List FunctionType) (imports : List Import) (i : ℕ) (x : Import)
+    (e : LinkFault) → i < length imports → x ≡ get_or imports i x → IsImportRefused types x e
+    → AreImportsRefused types (drop i imports) e
+refused_here types imports i x e h is r = let P : List Import
+    → Type 0 = λ xs. AreImportsRefused types xs e in subst P (sym (next imports i x h is)) (inl r)
 
-pub refused_further : (types : List FunctionType) (imports : List Import) (i : ℕ) (x : Import) (e : LinkFault) → i < length imports → x ≡ get_or imports i x → IsOffered offer types x → AreImportsRefused types (drop (i + 1) imports) e → AreImportsRefused types (drop i imports) e
-refused_further types imports i x e h is o r = let P : List Import → Type 0 = λ xs. AreImportsRefused types xs e in subst P (sym (next imports i x h is)) (inr (o, r))
+pub refused_further : (types : List FunctionType) (imports : List Import) (i : ℕ) (x : Import)
+    (e : LinkFault) → i < length imports → x ≡ get_or imports i x → IsOffered offer types x
+    → AreImportsRefused types (drop (i + 1) imports) e → AreImportsRefused types (drop i imports) e
+refused_further types imports i x e h is o r = let P : List Import
+    → Type 0 = λ xs. AreImportsRefused types xs e in
+    subst P (sym (next imports i x h is)) (inr (o, r))
 
 -- ---- the loop over the calls
 
 abbrev pub found_among : List Call → List ℕ → Option Call
 found_among calls name = find (λ (c : Call). bytes_eq (name_of c) name) calls
 
-pub another_module : (from name : List ℕ) → bytes_eq from module_name ≡ false → None ≡ offered_call from name
+pub another_module : (from name : List ℕ) → bytes_eq from module_name ≡ false
+    → None ≡ offered_call from name
 unfolding offered_call
 another_module from name e = sym (ap (λ b. cond b (found_among all_calls name) None) e)
 
-pub their_module : (from name : List ℕ) → bytes_eq from module_name ≡ true → offered_call from name ≡ found_among all_calls name
+pub their_module : (from name : List ℕ) → bytes_eq from module_name ≡ true
+    → offered_call from name ≡ found_among all_calls name
 unfolding offered_call
 their_module from name e = ap (λ b. cond b (found_among all_calls name) None) e
 
-pub call_found : (name seen : List ℕ) (i : ℕ) → i < length all_calls → seen ≡ name_of (get_or all_calls i call.ArgsGet) → bytes_eq seen name ≡ true → found_among (drop i all_calls) name ≡ found_among all_calls name → Some (get_or all_calls i call.ArgsGet) ≡ found_among all_calls name
+pub call_found : (name seen : List ℕ) (i : ℕ) → i < length all_calls
+    → seen ≡ name_of (get_or all_calls i call.ArgsGet) → bytes_eq seen name ≡ true
+    → found_among (drop i all_calls) name ≡ found_among all_calls name
+    → Some (get_or all_calls i call.ArgsGet) ≡ found_among all_calls name
 call_found name seen i lt is same so_far =
     let x = get_or all_calls i call.ArgsGet in
-    sym (find_here (λ (c : Call). bytes_eq (name_of c) name) all_calls i x lt (get_or_default all_calls i call.ArgsGet x lt) (ap (λ n. bytes_eq n name) (sym is) ∙ same)) ∙ so_far
+    sym (find_here (λ (c : Call). bytes_eq (name_of c) name) all_calls i x lt
+    (get_or_default all_calls i call.ArgsGet x lt) (ap (λ n. bytes_eq n name) (sym is) ∙ same))
+    ∙ so_far
 
-pub call_passed : (name seen : List ℕ) (i : ℕ) → i < length all_calls → seen ≡ name_of (get_or all_calls i call.ArgsGet) → bytes_eq seen name ≡ false → found_among (drop i all_calls) name ≡ found_among all_calls name → found_among (drop (i + 1) all_calls) name ≡ found_among all_calls name
+pub call_passed : (name seen : List ℕ) (i : ℕ) → i < length all_calls
+    → seen ≡ name_of (get_or all_calls i call.ArgsGet) → bytes_eq seen name ≡ false
+    → found_among (drop i all_calls) name ≡ found_among all_calls name
+    → found_among (drop (i + 1) all_calls) name ≡ found_among all_calls name
 call_passed name seen i lt is differs so_far =
     let x = get_or all_calls i call.ArgsGet in
-    sym (find_next (λ (c : Call). bytes_eq (name_of c) name) all_calls i x lt (get_or_default all_calls i call.ArgsGet x lt) (ap (λ n. bytes_eq n name) (sym is) ∙ differs)) ∙ so_far
+    sym (find_next (λ (c : Call). bytes_eq (name_of c) name) all_calls i x lt
+    (get_or_default all_calls i call.ArgsGet x lt) (ap (λ n. bytes_eq n name) (sym is)
+    ∙ differs)) ∙ so_far
 
-pub no_call : (name : List ℕ) (i : ℕ) → length all_calls ≤ i → found_among (drop i all_calls) name ≡ found_among all_calls name → None ≡ found_among all_calls name
+pub no_call : (name : List ℕ) (i : ℕ) → length all_calls ≤ i
+    → found_among (drop i all_calls) name ≡ found_among all_calls name
+    → None ≡ found_among all_calls name
 no_call name i h so_far = sym (at_drop_all (λ calls. found_among calls name) all_calls i h) ∙ so_far
 
 -- ---- the type of a call
@@ -139,20 +187,28 @@ same_parts : (p q r s : List ValueType) → p ≡ q → r ≡ s → of_parts p r
 same_parts p q r s e f = rw (e, f) refl
 
 -- a type by its parts
-pub same_type : (t : FunctionType) (call : Call) → t.parameters ≡ parameters_of call → t.results ≡ result_types call → t ≡ call_type_of call
-same_type t call p r = same_parts t.parameters (parameters_of call) t.results (result_types call) p r
+pub same_type : (t : FunctionType) (call : Call) → t.parameters ≡ parameters_of call
+    → t.results ≡ result_types call → t ≡ call_type_of call
+same_type t call p r =
+    same_parts t.parameters (parameters_of call) t.results (result_types call) p r
 
 -- an import's function has the type of the call
-pub type_there : (types : List FunctionType) (item : ImportItem) (x : ℕ) (kind : FunctionType) → item ≡ import.Function x → IsItemOffered (Some kind) types item → slice_get types x ≡ Some kind
-type_there types item x kind e h = let P : ImportItem → Type 0 = λ item. IsItemOffered (Some kind) types item in subst P e h
+pub type_there : (types : List FunctionType) (item : ImportItem) (x : ℕ) (kind : FunctionType)
+    → item ≡ import.Function x → IsItemOffered (Some kind) types item
+    → slice_get types x ≡ Some kind
+type_there types item x kind e h = let P : ImportItem
+    → Type 0 = λ item. IsItemOffered (Some kind) types item in subst P e h
 
-pub offered_at : (types : List FunctionType) (i : Import) (x : ℕ) (call : Call) → Some call ≡ imported_call i → i.item ≡ import.Function x → slice_get types x ≡ Some (call_type_of call) → IsOffered offer types i
+pub offered_at : (types : List FunctionType) (i : Import) (x : ℕ) (call : Call)
+    → Some call ≡ imported_call i → i.item ≡ import.Function x
+    → slice_get types x ≡ Some (call_type_of call) → IsOffered offer types i
 offered_at types i x call named e at =
     let P : ImportItem → Type 0 = λ item. IsItemOffered (Some (call_type_of call)) types item in
     let Q : Option FunctionType → Type 0 = λ o. IsItemOffered o types i.item in
     subst Q (sym (offered_as i call named)) (subst P (sym e) at)
 
-pub no_function : (types : List FunctionType) (kind : FunctionType) (item : ImportItem) → ((x : ℕ) → item ≡ import.Function x → ⊥) → IsItemOffered (Some kind) types item → ⊥
+pub no_function : (types : List FunctionType) (kind : FunctionType) (item : ImportItem)
+    → ((x : ℕ) → item ≡ import.Function x → ⊥) → IsItemOffered (Some kind) types item → ⊥
 no_function types kind (import.Function x) differs h = differs x refl
 no_function types kind (import.Table t) differs h = h
 no_function types kind (import.Memory t) differs h = h

@@ -1,5 +1,6 @@
 -- What a call leads to, of a function of the host's or of the module's own.
-use Rattle.std.proofs.Common.{◌≡◌, ◌⊎◌, ℕ, zero, suc, ◌+◌, ◌-◌, ◌<◌, ◌≤◌, List, [], ◌∷◌, ◌++◌, length, Option, Some, None, refl, sym, ap, ◌∙◌, subst, arith}
+use Rattle.std.proofs.Common.{◌≡◌, ◌⊎◌, ℕ, zero, suc, ◌+◌, ◌-◌, ◌<◌, ◌≤◌, List, [], ◌∷◌, ◌++◌}
+use Rattle.std.proofs.Common.{length, Option, Some, None, refl, sym, ap, ◌∙◌, subst, arith}
 use Rattle.std.specs.Prelude.{slice_get, map, replicate}
 use Rattle.std.proofs.lemmas.List.{length-map, length-reverse}
 use Rattle.std.proofs.lemmas.Option.{slice_get_past}
@@ -15,10 +16,12 @@ use Rattle.wasm_syntax.specs.declared.module.ImportItem.TheVariants as import
 use Rattle.wasm_syntax.specs.rules.Sequence.{Sequence}
 use Rattle.wasi_abi.specs.declared.call.Call.{Call}
 use Rattle.wasi_abi.specs.rules.Calls.{call_type_of, parameters_of}
-use Rattle.wasm_syntax_rules.specs.Types.{AreOf, number_in, takes_of, imported_functions, with_function_index}
+use Rattle.wasm_syntax_rules.specs.Types.{AreOf, number_in, takes_of, imported_functions}
+use Rattle.wasm_syntax_rules.specs.Types.{with_function_index}
 use Rattle.wasm_syntax_rules.specs.Validity.{module_context}
 use Rattle.wasm_syntax_rules.specs.Linking.{IsItemOffered, IsOffered}
-use Rattle.wasm_syntax_rules.specs.Configuration.{Callee, Host, Own, Program, Thread, Configuration, Asks, Traps}
+use Rattle.wasm_syntax_rules.specs.Configuration.{Callee, Host, Own, Program, Thread, Configuration}
+use Rattle.wasm_syntax_rules.specs.Configuration.{Asks, Traps}
 use Rattle.wasm_syntax_rules.specs.Steps.{rule, IsCounted}
 use Rattle.machine_slots.specs.declared.limits.TheConstants.{FRAMES, HELD_VALUES}
 use Rattle.machine.specs.rules.Offers.{offer, offered_call, imported_call}
@@ -34,59 +37,83 @@ use Rattle.machine_rules.proofs.Threads.Words.{values_count}
 -- ---- a function of the host's
 
 -- an offered function has the type of its call
-offered_kind : (o : Option Call) (types : List FunctionType) (item : ImportItem) (others : List ℕ) (x : ℕ) (kind : FunctionType) → IsItemOffered (option_map call_type_of o) types item
-    → slice_get (with_function_index item others) 0 ≡ Some x → slice_get types x ≡ Some kind → (call : Call) × (o ≡ Some call) × (kind ≡ call_type_of call)
+offered_kind : (o : Option Call) (types : List FunctionType) (item : ImportItem) (others : List ℕ)
+    (x : ℕ) (kind : FunctionType) → IsItemOffered (option_map call_type_of o) types item
+    → slice_get (with_function_index item others) 0 ≡ Some x → slice_get types x ≡ Some kind
+    → (call : Call) × (o ≡ Some call) × (kind ≡ call_type_of call)
 offered_kind None types item others x kind h e k = absurd h
 offered_kind (Some call) types (import.Function y) others x kind h e k =
     let same : y ≡ x = cc in
-    let there : slice_get types x ≡ Some (call_type_of call) = subst (λ z. slice_get types z ≡ Some (call_type_of call)) same h in
+    let there : slice_get types x ≡ Some (call_type_of call) =
+    subst (λ z. slice_get types z ≡ Some (call_type_of call)) same h in
     (call, refl, (cc))
 offered_kind (Some call) types (import.Table t) others x kind h e k = absurd h
 offered_kind (Some call) types (import.Memory t) others x kind h e k = absurd h
 offered_kind (Some call) types (import.Global t) others x kind h e k = absurd h
 
-next_function : (o : Option FunctionType) (types : List FunctionType) (item : ImportItem) (others : List ℕ) (f : ℕ) → IsItemOffered o types item → slice_get (with_function_index item others) (suc f) ≡ slice_get others f
+next_function : (o : Option FunctionType) (types : List FunctionType) (item : ImportItem)
+    (others : List ℕ) (f : ℕ) → IsItemOffered o types item
+    → slice_get (with_function_index item others) (suc f) ≡ slice_get others f
 next_function None types item others f h = absurd h
 next_function (Some kind) types (import.Function x) others f h = refl
 next_function (Some kind) types (import.Table t) others f h = absurd h
 next_function (Some kind) types (import.Memory t) others f h = absurd h
 next_function (Some kind) types (import.Global t) others f h = absurd h
 
-pub call_of_import : (types : List FunctionType) (imports : List Import) (f x : ℕ) (kind : FunctionType) → AllByRecursion (IsOffered offer types) imports → slice_get (imported_functions imports) f ≡ Some x → slice_get types x ≡ Some kind
-    → (call : Call) × (slice_get (map imported_call imports) f ≡ Some (Some call)) × (kind ≡ call_type_of call)
+pub call_of_import : (types : List FunctionType) (imports : List Import) (f x : ℕ)
+    (kind : FunctionType) → AllByRecursion (IsOffered offer types) imports
+    → slice_get (imported_functions imports) f ≡ Some x → slice_get types x ≡ Some kind
+    → (call : Call) × (slice_get (map imported_call imports) f ≡ Some (Some call))
+    × (kind ≡ call_type_of call)
 unfolding offered_call offer
 call_of_import types [] f x kind h e k = absurd (cc)
 call_of_import types (i ∷ imports) zero x kind h e k =
-    let found = offered_kind (offered_call i.module_name i.name) types i.item (imported_functions imports) x kind h.0 e k in
+    let found = offered_kind (offered_call i.module_name i.name) types i.item
+    (imported_functions imports) x kind h.0 e k in
     (found.0, ap Some found.1, found.2)
 call_of_import types (i ∷ imports) (suc f) x kind h e k =
-    call_of_import types imports f x kind h.1 (sym (next_function (offer i.module_name i.name) types i.item (imported_functions imports) f h.0) ∙ e) k
+    call_of_import types imports f x kind h.1
+    (sym (next_function (offer i.module_name i.name) types i.item
+    (imported_functions imports) f h.0) ∙ e) k
 
-some_some : (calls : List Call) (f : ℕ) (call : Call) → slice_get (map Some calls) f ≡ Some (Some call) → slice_get calls f ≡ Some call
+some_some : (calls : List Call) (f : ℕ) (call : Call)
+    → slice_get (map Some calls) f ≡ Some (Some call) → slice_get calls f ≡ Some call
 some_some [] f call e = absurd (cc)
 some_some (c ∷ calls) zero call e = let h : Some c ≡ Some call = (cc) in h
 some_some (c ∷ calls) (suc f) call e = some_some calls f call e
 
-module _ (code : Executable) (functions : List FunctionType) (program : Program) (is : IsExecutable code functions program) where
-  numbered : (f : ℕ) (callee : Callee) → slice_get program.functions f ≡ Some callee → IsNumberedCallee code.«module» f callee
+module _ (code : Executable) (functions : List FunctionType) (program : Program)
+    (is : IsExecutable code functions program) where
+  numbered : (f : ℕ) (callee : Callee) → slice_get program.functions f ≡ Some callee
+      → IsNumberedCallee code.«module» f callee
   numbered f callee e = functions_numbered is.pages code.«module» program f callee is.is_program e
 
   -- the call that one of the host's functions is
-  pub call_of_host : (f : ℕ) (kind : FunctionType) → slice_get program.functions f ≡ Some (Host kind) → (call : Call) × (slice_get code.calls.items f ≡ Some call) × (kind ≡ call_type_of call)
+  pub call_of_host : (f : ℕ) (kind : FunctionType)
+      → slice_get program.functions f ≡ Some (Host kind)
+      → (call : Call) × (slice_get code.calls.items f ≡ Some call) × (kind ≡ call_type_of call)
   call_of_host f kind e =
       let n = numbered f (Host kind) e in
-      let found = call_of_import code.«module».types code.«module».imports f n.1 kind is.offered n.2 n.3 in
-      (found.0, some_some code.calls.items f found.0 (ap (λ xs. slice_get xs f) (sym is.calls) ∙ found.1), found.2)
+      let found = call_of_import code.«module».types code.«module».imports f n.1 kind is.offered n.2
+      n.3 in (
+        found.0,
+        some_some code.calls.items f found.0 (ap (λ xs. slice_get xs f) (sym is.calls)
+            ∙ found.1),
+        found.2,
+      )
 
   -- an own function is behind the calls
-  pub own_is_behind : (f : ℕ) (kind : FunctionType) (declared : List ValueType) (body : Sequence) → slice_get program.functions f ≡ Some (Own kind declared body) → slice_get code.calls.items f ≡ None
+  pub own_is_behind : (f : ℕ) (kind : FunctionType) (declared : List ValueType) (body : Sequence)
+      → slice_get program.functions f ≡ Some (Own kind declared body)
+      → slice_get code.calls.items f ≡ None
   own_is_behind f kind declared body e =
       let n = numbered f (Own kind declared body) e in
       let count = calls_count code functions program is in
       let place = n.2 in
       slice_get_past code.calls.items f (omega (arith, count, place))
 
-  module _ (table : List (Option ℕ)) (held : MachineParts) (d : Configuration) (words : List ℕ) (f : ℕ) where
+  module _ (table : List (Option ℕ)) (held : MachineParts) (d : Configuration) (words : List ℕ)
+      (f : ℕ) where
     -- where it is the host's, it is asked for
     pub record Host_asks (call : Call) : Type 0 where
       pub arguments : List Value
@@ -98,7 +125,9 @@ module _ (code : Executable) (functions : List FunctionType) (program : Program)
       pub count : length (parameters_of call) ≡ length (map number_in arguments)
       pub words_are : words ≡ map number_in arguments ++ under
 
-    pub host_asks : (callee : Callee) (call : Call) → slice_get program.functions f ≡ Some callee → CallLeads (module_context code.«module» functions) program table held d words f callee → slice_get code.calls.items f ≡ Some call → Host_asks call
+    pub host_asks : (callee : Callee) (call : Call) → slice_get program.functions f ≡ Some callee
+        → CallLeads (module_context code.«module» functions) program table held d words f callee
+        → slice_get code.calls.items f ≡ Some call → Host_asks call
     host_asks (Host kind) call e leads there =
         let found = call_of_host f kind e in
         let known = found.1 in
@@ -112,10 +141,17 @@ module _ (code : Executable) (functions : List FunctionType) (program : Program)
           asks = leads.3;
           is_host = e ∙ ap (λ k. Some (Host k)) kinds;
           typed = subst (λ k. AreOf (takes_of k) leads.0) kinds leads.4;
-          count = omega (arith, counts, length-reverse kind.parameters, ap (λ (k : FunctionType). length k.parameters) kinds, length-map leads.0 number_in);
+          count = omega (
+            arith,
+            counts,
+            length-reverse kind.parameters,
+            ap (λ (k : FunctionType). length k.parameters) kinds,
+            length-map leads.0 number_in,
+          );
           words_are = leads.5;
         }
-    host_asks (Own kind declared body) call e leads there = let none = own_is_behind f kind declared body e in absurd (cc)
+    host_asks (Own kind declared body) call e leads there =
+        let none = own_is_behind f kind declared body e in absurd (cc)
 
     -- where it is the module's own, it is entered, or the stack is exhausted
     pub record Own_enters : Type 0 where
@@ -123,11 +159,24 @@ module _ (code : Executable) (functions : List FunctionType) (program : Program)
       pub enough : length own.kind.parameters ≤ length words
       pub enters : length held.frames < FRAMES → length own.declared + length words ≤ HELD_VALUES
           → (e : Configuration) × IsCounted program d e
-          × PartsStandFor (module_context code.«module» functions) program table (record held { frames = record { function = f; position = 0; base = length words - length own.kind.parameters } ∷ held.frames; words = replicate (length own.declared) 0 ++ words }) e
-      pub exhausts : (FRAMES ≤ length held.frames) ⊎ (HELD_VALUES < length own.declared + length words) → rule program d ≡ Traps trap.StackExhausted
+          × PartsStandFor (module_context code.«module» functions) program table
+          (record held {
+            frames = record {
+              function = f;
+              position = 0;
+              base = length words - length own.kind.parameters;
+            } ∷ held.frames;
+            words = replicate (length own.declared) 0 ++ words;
+          }) e
+      pub exhausts : (FRAMES ≤ length held.frames)
+          ⊎ (HELD_VALUES < length own.declared + length words)
+          → rule program d ≡ Traps trap.StackExhausted
 
-    pub own_enters : (callee : Callee) → slice_get program.functions f ≡ Some callee → CallLeads (module_context code.«module» functions) program table held d words f callee → slice_get code.calls.items f ≡ None → Own_enters
-    own_enters (Host kind) e leads there = let found = call_of_host f kind e in let known = found.1 in absurd (cc)
+    pub own_enters : (callee : Callee) → slice_get program.functions f ≡ Some callee
+        → CallLeads (module_context code.«module» functions) program table held d words f callee
+        → slice_get code.calls.items f ≡ None → Own_enters
+    own_enters (Host kind) e leads there = let found = call_of_host f kind e in let known = found.1
+        in absurd (cc)
     own_enters (Own kind declared body) e leads there = record {
       own = record { kind = kind; declared = declared; body = body; is = e };
       enough = leads.0;

@@ -1,5 +1,6 @@
 -- The types of functions: those that the code looks up are those that the program has.
-use Rattle.std.proofs.Common.{◌≡◌, ℕ, zero, suc, ◌+◌, List, [], ◌∷◌, ◌++◌, length, Some, refl, ap, ◌∙◌, arith}
+use Rattle.std.proofs.Common.{◌≡◌, ℕ, zero, suc, ◌+◌, List, [], ◌∷◌, ◌++◌, length, Some, refl, ap}
+use Rattle.std.proofs.Common.{◌∙◌, arith}
 use Rattle.std.specs.Prelude.{slice_get, map}
 use Rattle.std.specs.Option.{option_map}
 use Rattle.std.proofs.lemmas.Option.{slice_get-map}
@@ -32,14 +33,18 @@ in_first [] ys k x e = absurd (cc)
 in_first (z ∷ xs) ys zero x e = e
 in_first (z ∷ xs) ys (suc k) x e = in_first xs ys k x e
 
-in_second : (xs ys : List ℕ) (k place : ℕ) → k ≡ length xs + place → slice_get (xs ++ ys) k ≡ slice_get ys place
+in_second : (xs ys : List ℕ) (k place : ℕ) → k ≡ length xs + place
+    → slice_get (xs ++ ys) k ≡ slice_get ys place
 in_second [] ys k place e = ap (slice_get ys) (omega (arith, e))
 in_second (z ∷ xs) ys zero place e = absurd (omega (arith, e))
 in_second (z ∷ xs) ys (suc k) place e = in_second xs ys k place (omega (arith, e))
 
 -- ---- the type of a function of the program
 
-numbered_kind : (code : Executable) (f : ℕ) (callee : Callee) → code.kinds.items ≡ imported_functions code.«module».imports ++ map function_type_of code.«module».functions → IsNumberedCallee code.«module» f callee → HasKind code f (kind_of callee)
+numbered_kind : (code : Executable) (f : ℕ) (callee : Callee)
+    → code.kinds.items ≡ imported_functions code.«module».imports
+    ++ map function_type_of code.«module».functions → IsNumberedCallee code.«module» f callee
+    → HasKind code f (kind_of callee)
 numbered_kind code f (Host kind) kinds n =
     let imported = imported_functions code.«module».imports in
     let own = map function_type_of code.«module».functions in
@@ -48,9 +53,15 @@ numbered_kind code f (Own kind declared body) kinds n =
     let imported = imported_functions code.«module».imports in
     let own = map function_type_of code.«module».functions in (
       n.1.function_type,
-      ap (λ z. slice_get z f) kinds ∙ (in_second imported own f n.0 n.2 ∙ (slice_get-map function_type_of code.«module».functions n.0 ∙ ap (option_map function_type_of) n.3)),
+      ap (λ z. slice_get z f) kinds ∙ (in_second imported own f n.0 n.2
+          ∙ (slice_get-map function_type_of code.«module».functions n.0
+          ∙ ap (option_map function_type_of) n.3)),
       n.4,
     )
 
-pub kind_there : (code : Executable) (functions : List FunctionType) (program : Program) → IsExecutable code functions program → (f : ℕ) (callee : Callee) → slice_get program.functions f ≡ Some callee → HasKind code f (kind_of callee)
-kind_there code functions program is f callee e = numbered_kind code f callee is.kinds (functions_numbered is.pages code.«module» program f callee is.is_program e)
+pub kind_there : (code : Executable) (functions : List FunctionType) (program : Program)
+    → IsExecutable code functions program → (f : ℕ) (callee : Callee)
+    → slice_get program.functions f ≡ Some callee → HasKind code f (kind_of callee)
+kind_there code functions program is f callee e =
+    numbered_kind code f callee is.kinds
+    (functions_numbered is.pages code.«module» program f callee is.is_program e)

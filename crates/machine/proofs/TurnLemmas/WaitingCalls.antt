@@ -1,5 +1,6 @@
 -- What the rule asks the host for, read at the opcode of the running frame.
-use Rattle.std.proofs.Common.{◌≡◌, inl, inr, ℕ, ◌+◌, ◌<◌, ◌≤◌, Bool, true, false, List, [], ◌∷◌, ◌++◌, length, get_or, Option, Some, ap, ◌∙◌, subst, refl, arith}
+use Rattle.std.proofs.Common.{◌≡◌, inl, inr, ℕ, ◌+◌, ◌<◌, ◌≤◌, Bool, true, false, List, [], ◌∷◌}
+use Rattle.std.proofs.Common.{◌++◌, length, get_or, Option, Some, ap, ◌∙◌, subst, refl, arith}
 use Rattle.std.specs.Prelude.{slice_get, map, ltb, nat_le}
 use Rattle.std.proofs.lemmas.Bool.Decides.{nat_tests}
 use Rattle.wasm_syntax.specs.declared.types.FunctionType.{FunctionType}
@@ -126,7 +127,8 @@ module _ (code : Executable) (s : State) (functions : List FunctionType) (progra
             (read : i ≡ get_or opcodes frame.position i) where
           abbrev here : slice_get (opcodes_in code.«module» frame.function) frame.position ≡ Some i
           here =
-              read_at opcodes (opcodes_in code.«module» frame.function) frame.position i are within read
+              read_at opcodes (opcodes_in code.«module» frame.function) frame.position i are within
+              read
 
           pub at_opcode : (j : Instruction) → i ≡ j → StateIsAtOpcode code s j
           at_opcode j is = (frame, others, frames_are, here ∙ ap Some is)

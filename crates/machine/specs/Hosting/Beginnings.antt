@@ -36,8 +36,8 @@ pub record IsOfInstance (i : Instance) (b : MachineStart) : Type 0 where
   pub memory : b.state.memory ≡ i.memory
   pub later : b.state.later.items ≡ reverse (calls_of i.«module».start i.entry)
 
--- The module can be linked under so many pages. It has a program, and for each that it has, the state stands for the configuration
--- before the host's first call.
+-- The module can be linked under so many pages. It has a program, and for each that it has, the
+-- state stands for the configuration before the host's first call.
 pub record StartStands (pages : ℕ) (m : Module) (b : MachineStart) : Type 0 where
   pub guest : b.code.«module» ≡ m
   pub linkable : IsLinkable offer pages m
@@ -46,5 +46,7 @@ pub record StartStands (pages : ℕ) (m : Module) (b : MachineStart) : Type 0 wh
   pub is_program : IsProgram m pages program
   pub functions : List FunctionType
   pub types : AreFunctionTypes m functions
-  pub stands : (functions : List FunctionType) (program : Program) → AreFunctionTypes m functions → IsProgram m pages program
-      → Stands b.code b.state functions program (first linkable.store (calls_of m.start linkable.entry))
+  pub stands : (functions : List FunctionType) (program : Program) → AreFunctionTypes m functions
+      → IsProgram m pages program
+      → Stands b.code b.state functions program
+      (first linkable.store (calls_of m.start linkable.entry))

@@ -1,5 +1,6 @@
 -- What code and state stand for.
-use Rattle.std.specs.Prelude.{◌≡◌, ℕ, ◌+◌, ◌*◌, ◌≤◌, ◌^◌, List, ◌++◌, length, map, reverse, Some, slice_get}
+use Rattle.std.specs.Prelude.{◌≡◌, ℕ, ◌+◌, ◌*◌, ◌≤◌, ◌^◌, List, ◌++◌, length, map, reverse, Some}
+use Rattle.std.specs.Prelude.{slice_get}
 use Rattle.std.specs.List.{AllByRecursion}
 use Rattle.wasm_syntax.specs.declared.types.FunctionType.{FunctionType}
 use Rattle.wasm_syntax_rules.specs.Types.{imported_functions}
@@ -15,17 +16,25 @@ use Rattle.machine.specs.declared.turns.code.Executable.{Executable}
 use Rattle.machine.specs.declared.turns.state.State.{State}
 
 abbrev pub parts_of_state : State → MachineParts
-parts_of_state s = record { frames = s.frames; words = s.slots; globals = s.globals.items; memory = s.memory; later = reverse s.later.items }
+parts_of_state s = record {
+  frames = s.frames;
+  words = s.slots;
+  globals = s.globals.items;
+  memory = s.memory;
+  later = reverse s.later.items;
+}
 
 -- the code is that of this program of its module, all of whose imports the host offers
-pub record IsExecutable (code : Executable) (functions : List FunctionType) (program : Program) : Type 0 where
+pub record IsExecutable (code : Executable) (functions : List FunctionType) (program : Program) :
+    Type 0 where
   pub valid : IsValid code.«module»
   pub types : AreFunctionTypes code.«module» functions
   pub pages : ℕ
   pub few : pages ≤ 2 ^ 16
   pub is_program : IsProgram code.«module» pages program
   pub routines : AreRoutines code.«module» code.routines.items
-  pub kinds : code.kinds.items ≡ imported_functions code.«module».imports ++ map function_type_of code.«module».functions
+  pub kinds : code.kinds.items ≡ imported_functions code.«module».imports
+      ++ map function_type_of code.«module».functions
   pub calls : AreImportedCalls code.«module».imports code.calls.items
   pub offered : AllByRecursion (IsOffered offer code.«module».types) code.«module».imports
 
@@ -38,16 +47,20 @@ pub record HasOwnFunction (code : Executable) (f : ℕ) : Type 0 where
 
 -- a function's type
 abbrev pub HasKind : Executable → ℕ → FunctionType → Type 0
-HasKind code f kind = (x : ℕ) × (slice_get code.kinds.items f ≡ Some x) × (slice_get code.«module».types x ≡ Some kind)
+HasKind code f kind = (x : ℕ) × (slice_get code.kinds.items f ≡ Some x)
+    × (slice_get code.«module».types x ≡ Some kind)
 
 -- a function has a type, and there is one with this index
 abbrev pub HaveKinds : Executable → ℕ → ℕ → Type 0
-HaveKinds code f t = (kind : FunctionType) × HasKind code f kind × (other : FunctionType) × (slice_get code.«module».types t ≡ Some other)
+HaveKinds code f t = (kind : FunctionType) × HasKind code f kind × (other : FunctionType)
+    × (slice_get code.«module».types t ≡ Some other)
 
 -- the state stands for this configuration of the program, settled or not
-pub record Stands (code : Executable) (state : State) (functions : List FunctionType) (program : Program) (d : Configuration) : Type 0 where
+pub record Stands (code : Executable) (state : State) (functions : List FunctionType)
+    (program : Program) (d : Configuration) : Type 0 where
   pub is_code : IsExecutable code functions program
-  pub stands : PartsStandFor (module_context code.«module» functions) program code.table.items (parts_of_state state) d
+  pub stands : PartsStandFor (module_context code.«module» functions) program code.table.items
+      (parts_of_state state) d
 
 -- it stands for some
 pub record IsStanding (code : Executable) (state : State) : Type 0 where

@@ -17,7 +17,8 @@ use Rattle.machine.specs.declared.turns.pause.Paused.{Paused}
 use Rattle.machine.specs.Turns.Codes.{Stands}
 
 -- so many counted rules of the fuel lead to a configuration that the state stands for
-pub record ComesToState (code : Executable) (new : State) (functions : List FunctionType) (program : Program) (d : Configuration) (fuel left : ℕ) : Type 0 where
+pub record ComesToState (code : Executable) (new : State) (functions : List FunctionType)
+    (program : Program) (d : Configuration) (fuel left : ℕ) : Type 0 where
   pub configuration : Configuration
   pub steps : ℕ
   pub used : steps + left ≡ fuel
@@ -25,7 +26,8 @@ pub record ComesToState (code : Executable) (new : State) (functions : List Func
   pub stands : Stands code new functions program configuration
 
 -- a rule that asks the host for this call, with arguments of its types, the first one first
-pub record RuleAsksFor (code : Executable) (program : Program) (d : Configuration) (call : Call) (arguments : List ℕ) : Type 0 where
+pub record RuleAsksFor (code : Executable) (program : Program) (d : Configuration) (call : Call)
+    (arguments : List ℕ) : Type 0 where
   pub function : ℕ
   pub operands : List Value
   pub waits : Thread
@@ -36,7 +38,8 @@ pub record RuleAsksFor (code : Executable) (program : Program) (d : Configuratio
   pub are : arguments ≡ reverse (map number_in operands)
 
 -- The machine traps there. Then it stands for the configuration without a thread.
-pub record TrapsFor (code : Executable) (new : State) (functions : List FunctionType) (program : Program) (d : Configuration) (fuel left : ℕ) (why : Trap) : Type 0 where
+pub record TrapsFor (code : Executable) (new : State) (functions : List FunctionType)
+    (program : Program) (d : Configuration) (fuel left : ℕ) (why : Trap) : Type 0 where
   pub configuration : Configuration
   pub steps : ℕ
   pub used : suc steps + left ≡ fuel
@@ -44,18 +47,24 @@ pub record TrapsFor (code : Executable) (new : State) (functions : List Function
   pub traps : rule program configuration ≡ Traps why
   pub stands : Stands code new functions program (stopped configuration)
 
--- Where a machine pauses: settled without fuel; with some fuel left before a call of the host; ended; or trapped.
-abbrev pub PausesFor : Executable → State → List FunctionType → Program → Configuration → ℕ → ℕ → Pause → Type 0
+-- Where a machine pauses: settled without fuel; with some fuel left before a call of the host;
+-- ended; or trapped.
+abbrev pub PausesFor : Executable → State → List FunctionType → Program → Configuration → ℕ → ℕ
+    → Pause → Type 0
 PausesFor code new functions program d fuel left pause.Spent =
-    (come : ComesToState code new functions program d fuel left) × IsSettled program come.configuration × (come.configuration.thread ≢ []) × (left ≡ 0)
+    (come : ComesToState code new functions program d fuel left)
+    × IsSettled program come.configuration × (come.configuration.thread ≢ []) × (left ≡ 0)
 PausesFor code new functions program d fuel left (pause.Host asked) =
-    (come : ComesToState code new functions program d fuel left) × RuleAsksFor code program come.configuration asked.call asked.arguments × (0 < left)
+    (come : ComesToState code new functions program d fuel left)
+    × RuleAsksFor code program come.configuration asked.call asked.arguments × (0 < left)
 PausesFor code new functions program d fuel left pause.Returned =
     (come : ComesToState code new functions program d fuel left) × IsEnded come.configuration
-PausesFor code new functions program d fuel left (pause.Trapped why) = TrapsFor code new functions program d fuel left why
+PausesFor code new functions program d fuel left (pause.Trapped why) =
+    TrapsFor code new functions program d fuel left why
 
 -- whichever configuration the state stood for
 abbrev pub Pauses : Executable → State → ℕ → Paused → State → Type 0
 Pauses code old fuel paused new =
-    (functions : List FunctionType) (program : Program) (d : Configuration) → Stands code old functions program d
+    (functions : List FunctionType) (program : Program) (d : Configuration)
+    → Stands code old functions program d
     → PausesFor code new functions program d fuel paused.left paused.why

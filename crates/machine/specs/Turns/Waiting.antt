@@ -1,5 +1,6 @@
 -- A call that waits for the host's answer.
-use Rattle.std.specs.Prelude.{◌≡◌, ℕ, ◌≤◌, List, ◌++◌, length, reverse, Option, Some, None, slice_get}
+use Rattle.std.specs.Prelude.{◌≡◌, ℕ, ◌≤◌, List, ◌++◌, length, reverse, Option, Some, None}
+use Rattle.std.specs.Prelude.{slice_get}
 use Rattle.wasm_syntax.specs.declared.types.FunctionType.{FunctionType}
 use Rattle.wasm_syntax.specs.declared.value.Value.{Value}
 use Rattle.wasi_abi.specs.declared.call.Call.{Call}
@@ -16,7 +17,9 @@ use Rattle.machine.specs.Turns.Pauses.{RuleAsksFor}
 use Rattle.machine.specs.Turns.Turns.{IsAtPosition}
 
 -- the state stands for a configuration whose rule asks the host for this function
-pub record AsksAt (code : Executable) (s : State) (functions : List FunctionType) (program : Program) (d : Configuration) (f : ℕ) (arguments : List Value) (waits : Thread) : Type 0 where
+pub record AsksAt (code : Executable) (s : State) (functions : List FunctionType)
+    (program : Program) (d : Configuration) (f : ℕ) (arguments : List Value) (waits : Thread) :
+    Type 0 where
   pub stands : Stands code s functions program d
   pub asks : rule program d ≡ Asks f arguments waits
 
@@ -30,12 +33,15 @@ pub record IsAsking (code : Executable) (s : State) : Type 0 where
   pub waits : Thread
   pub at : AsksAt code s functions program configuration function arguments waits
 
--- Whichever configuration it stands for, and whatever that asks for, the call takes so many of the words.
+-- Whichever configuration it stands for, and whatever that asks for, the call takes so many of the
+-- words.
 abbrev pub TakesWords : Executable → State → ℕ → Type 0
 TakesWords code s taken =
-    (functions : List FunctionType) (program : Program) (d : Configuration) (f : ℕ) (arguments : List Value) (waits : Thread)
+    (functions : List FunctionType) (program : Program) (d : Configuration) (f : ℕ)
+    (arguments : List Value) (waits : Thread)
     → AsksAt code s functions program d f arguments waits
-    → (taken ≤ length s.slots) × IsAtPosition code s (λ p opcodes. HasTaken (slice_get opcodes p) taken (length arguments))
+    → (taken ≤ length s.slots)
+    × IsAtPosition code s (λ p opcodes. HasTaken (slice_get opcodes p) taken (length arguments))
 
 -- ---- what it is
 
@@ -43,7 +49,8 @@ TakesWords code s taken =
 abbrev pub IsCallBelow : List ℕ → Call → ℕ → HostCall → Type 0
 IsCallBelow words call above told =
     (over arguments under : List ℕ) → words ≡ over ++ (arguments ++ under) → above ≡ length over
-    → length (parameters_of call) ≡ length arguments → told ≡ record { call = call; arguments = reverse arguments }
+    → length (parameters_of call) ≡ length arguments
+    → told ≡ record { call = call; arguments = reverse arguments }
 
 -- the call that the rule asks the host for, or none where it asks for nothing
 abbrev pub CodeTellsCall : Executable → Program → Configuration → Option HostCall → Type 0

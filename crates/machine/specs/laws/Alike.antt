@@ -9,13 +9,15 @@ use Rattle.machine.specs.declared.turns.pause.Paused.{Paused}
 use Rattle.machine.specs.rules.Values.{MachineValue, IsSameMachine, ShowsIn}
 use Rattle.machine.specs.rules.Runs.{RunsOnFuel, Answers}
 
--- Two machines of one module that show one configuration have one value: also the positions of their frames are the same.
+-- Two machines of one module that show one configuration have one value: also the positions of
+-- their frames are the same.
 abbrev pub OneMachineShows : Type 0
 OneMachineShows =
     (v w : MachineValue) (program : Program) (d : Configuration)
     → v.guest ≡ w.guest → ShowsIn v program d → ShowsIn w program d → v ≡ w
 
--- On the same fuel they pause for the same reason, with as much fuel left, and have one value again.
+-- On the same fuel they pause for the same reason, with as much fuel left, and have one value
+-- again.
 abbrev pub MachinesRunAlike : Type 0
 MachinesRunAlike =
     (v w v' w' : MachineValue) (program : Program) (d : Configuration) (fuel : ℕ) (x y : Paused)

@@ -15,7 +15,8 @@ abbrev pub call_results : Option ℕ → List Value
 call_results None = []
 call_results (Some n) = value.I32 n ∷ []
 
--- the state stands for a configuration that waits at a call of the host, of a type that gives such results
+-- the state stands for a configuration that waits at a call of the host, of a type that gives such
+-- results
 pub record IsWaiting (results : List Value) (code : Executable) (s : State) : Type 0 where
   pub functions : List FunctionType
   pub program : Program
@@ -29,9 +30,12 @@ pub record IsWaiting (results : List Value) (code : Executable) (s : State) : Ty
   pub is_host : slice_get program.functions function ≡ Some (Host kind)
   pub gives : AreOf (gives_of kind) results
 
--- Whichever call of the host it waited at that gives such results, it stands for what the answer makes of that, with the memory that it has.
+-- Whichever call of the host it waited at that gives such results, it stands for what the answer
+-- makes of that, with the memory that it has.
 abbrev pub IsAnswered : List Value → Executable → State → State → Type 0
 IsAnswered results code old new =
-    (functions : List FunctionType) (program : Program) (d : Configuration) (f : ℕ) (arguments : List Value) (waits : Thread) (kind : FunctionType)
-    → Stands code old functions program d → rule program d ≡ Asks f arguments waits → slice_get program.functions f ≡ Some (Host kind) → AreOf (gives_of kind) results
+    (functions : List FunctionType) (program : Program) (d : Configuration) (f : ℕ)
+    (arguments : List Value) (waits : Thread) (kind : FunctionType)
+    → Stands code old functions program d → rule program d ≡ Asks f arguments waits
+    → slice_get program.functions f ≡ Some (Host kind) → AreOf (gives_of kind) results
     → Stands code new functions program (answered d old.memory.bytes results waits)

@@ -8,7 +8,8 @@ use Rattle.wasm_syntax.specs.declared.module.Global.{Global}
 use Rattle.wasm_syntax.specs.declared.module.Element.{Element}
 use Rattle.wasm_syntax.specs.declared.module.Data.{Data}
 use Rattle.wasm_syntax_rules.specs.Configuration.{Store}
-use Rattle.wasm_syntax_rules.specs.Instantiation.{AreInitial, offset_of, filled_table, filled_memory, IsInitialStore}
+use Rattle.wasm_syntax_rules.specs.Instantiation.{AreInitial, offset_of, filled_table}
+use Rattle.wasm_syntax_rules.specs.Instantiation.{filled_memory, IsInitialStore}
 use Rattle.wasm_syntax_rules.specs.Validity.{memories_of}
 use Rattle.wasm_syntax_rules.specs.Linking.{IsOffered, HasEntry, HasExportedMemory, FitsPages}
 use Rattle.machine.specs.rules.Offers.{offer}
@@ -35,22 +36,27 @@ pub record IsPrepared (pages : ℕ) (m : Module) (entry : ℕ) : Type 0 where
 
 -- so many items from this offset on are within so many
 abbrev pub IsInside : List Value → List Instruction → ℕ → ℕ → Type 0
-IsInside globals offset count size = (from : ℕ) × (offset_of globals offset ≡ Some from) × (from + count ≤ size)
+IsInside globals offset count size = (from : ℕ) × (offset_of globals offset ≡ Some from)
+    × (from + count ≤ size)
 
 -- the globals have initial values, with which these elements fill this table
 abbrev pub CanFillTable : List Global → List Element → List (Option ℕ) → Type 0
 CanFillTable globals elements table =
-    (values : List Value) × (filled : List (Option ℕ)) × AreInitial globals values × (filled_table values elements table ≡ Some filled)
+    (values : List Value) × (filled : List (Option ℕ)) × AreInitial globals values
+    × (filled_table values elements table ≡ Some filled)
 
 -- the table that these elements leave
 abbrev pub FillsTable : List Global → List Element → List (Option ℕ) → List (Option ℕ) → Type 0
 FillsTable globals elements old new =
-    (values : List Value) (filled : List (Option ℕ)) → AreInitial globals values → filled_table values elements old ≡ Some filled → new ≡ filled
+    (values : List Value) (filled : List (Option ℕ)) → AreInitial globals values
+    → filled_table values elements old ≡ Some filled → new ≡ filled
 
 abbrev pub CanFillMemory : List Global → List Data → List ℕ → Type 0
 CanFillMemory globals segments memory =
-    (values : List Value) × (filled : List ℕ) × AreInitial globals values × (filled_memory values segments memory ≡ Some filled)
+    (values : List Value) × (filled : List ℕ) × AreInitial globals values
+    × (filled_memory values segments memory ≡ Some filled)
 
 abbrev pub FillsMemory : List Global → List Data → List ℕ → List ℕ → Type 0
 FillsMemory globals segments old new =
-    (values : List Value) (filled : List ℕ) → AreInitial globals values → filled_memory values segments old ≡ Some filled → new ≡ filled
+    (values : List Value) (filled : List ℕ) → AreInitial globals values
+    → filled_memory values segments old ≡ Some filled → new ≡ filled

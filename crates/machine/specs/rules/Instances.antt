@@ -12,8 +12,9 @@ use Rattle.machine.specs.rules.Offers.{offer, AreImportedCalls}
 abbrev pub store_of : Instance → Store
 store_of i = record { memory = i.memory.bytes; globals = i.globals.items; table = i.table.items }
 
--- It is of this module, which can be linked under so many pages with its entry and its store. Its memory may have as
--- many pages as a program of the module may have, and its calls are those of the imports.
+-- It is of this module, which can be linked under so many pages with its entry and its store. Its
+-- memory may have as many pages as a program of the module may have, and its calls are those of the
+-- imports.
 pub record IsLinked (pages : ℕ) (m : Module) (i : Instance) : Type 0 where
   pub same : i.«module» ≡ m
   pub linkable : IsLinkable offer pages m

@@ -10,7 +10,8 @@ use Rattle.wasm_syntax_rules.specs.Linking.{Offer}
 
 -- the call with this name, under the name of their module
 unfoldable pub offered_call : List ℕ → List ℕ → Option Call
-offered_call from name = if bytes_eq from module_name then find (λ c. bytes_eq (name_of c) name) all_calls else None
+offered_call from name = if bytes_eq from module_name
+    then find (λ c. bytes_eq (name_of c) name) all_calls else None
 
 -- the host's functions: the calls with their types
 unfoldable pub offer : Offer

@@ -1,5 +1,6 @@
 -- Where a machine comes to on fuel, and after an answer of the host.
-use Rattle.std.specs.Prelude.{◌≡◌, ◌≢◌, ◌↔◌, ℕ, suc, ◌+◌, ◌<◌, Bool, IsTrue, List, [], map, reverse, Option, Some, None, slice_get}
+use Rattle.std.specs.Prelude.{◌≡◌, ◌≢◌, ◌↔◌, ℕ, suc, ◌+◌, ◌<◌, Bool, IsTrue, List, [], map, reverse}
+use Rattle.std.specs.Prelude.{Option, Some, None, slice_get}
 use Rattle.wasm_syntax.specs.declared.types.FunctionType.{FunctionType}
 use Rattle.wasm_syntax.specs.declared.value.Value.{Value}
 use Rattle.wasm_syntax.specs.declared.value.Trap.{Trap}
@@ -20,27 +21,31 @@ use Rattle.machine.specs.rules.Values.{MachineValue, HoldsMemory, ShowsIn}
 
 -- ---- the beginning
 
--- The machine is of this module, and has begun: for each program of the module under so many pages, of which there is one, it shows
--- where that begins.
+-- The machine is of this module, and has begun: for each program of the module under so many pages,
+-- of which there is one, it shows where that begins.
 pub record HasBegun (pages : ℕ) (m : Module) (v : MachineValue) : Type 0 where
   pub guest : v.guest ≡ m
   pub linkable : IsLinkable offer pages m
   pub holds : HoldsMemory v
-  pub shows : (program : Program) (d : Configuration) → Begins m pages linkable.entry program d → ShowsIn v program d
+  pub shows : (program : Program) (d : Configuration) → Begins m pages linkable.entry program d
+      → ShowsIn v program d
   pub begins : (program : Program) × (d : Configuration) × Begins m pages linkable.entry program d
 
 -- ---- fuel
 
 -- so many counted rules of the fuel lead to a configuration that the machine then shows
-pub record Arrives (new : MachineValue) (program : Program) (d : Configuration) (fuel left : ℕ) : Type 0 where
+pub record Arrives (new : MachineValue) (program : Program) (d : Configuration) (fuel left : ℕ) :
+    Type 0 where
   pub configuration : Configuration
   pub steps : ℕ
   pub used : steps + left ≡ fuel
   pub ran : Steps program steps d configuration
   pub shows : ShowsIn new program configuration
 
--- The rule asks the host for the function that is this call of the module's imports, with arguments of its types, the first one first.
-pub record AsksFor (m : Module) (program : Program) (d : Configuration) (call : Call) (arguments : List ℕ) : Type 0 where
+-- The rule asks the host for the function that is this call of the module's imports, with arguments
+-- of its types, the first one first.
+pub record AsksFor (m : Module) (program : Program) (d : Configuration) (call : Call)
+    (arguments : List ℕ) : Type 0 where
   pub function : ℕ
   pub operands : List Value
   pub waits : Thread
@@ -52,8 +57,10 @@ pub record AsksFor (m : Module) (program : Program) (d : Configuration) (call : 
   pub typed : AreOf (takes_of (call_type_of call)) operands
   pub are : arguments ≡ reverse (map number_in operands)
 
--- The rule after so many traps, which is one more of the fuel. The machine then shows that configuration without a thread.
-pub record TrapsAfter (new : MachineValue) (program : Program) (d : Configuration) (fuel left : ℕ) (why : Trap) : Type 0 where
+-- The rule after so many traps, which is one more of the fuel. The machine then shows that
+-- configuration without a thread.
+pub record TrapsAfter (new : MachineValue) (program : Program) (d : Configuration) (fuel left : ℕ)
+    (why : Trap) : Type 0 where
   pub configuration : Configuration
   pub steps : ℕ
   pub used : suc steps + left ≡ fuel
@@ -61,23 +68,28 @@ pub record TrapsAfter (new : MachineValue) (program : Program) (d : Configuratio
   pub traps : rule program configuration ≡ Traps why
   pub shows : ShowsIn new program (stopped configuration)
 
--- Why it pauses: the fuel is spent and the program has not ended; some is left, and a call of the host waits; it has ended; or it
--- has trapped.
+-- Why it pauses: the fuel is spent and the program has not ended; some is left, and a call of the
+-- host waits; it has ended; or it has trapped.
 abbrev pub RunsFor : MachineValue → Program → Configuration → ℕ → ℕ → Pause → Type 0
-RunsFor new program d fuel left pause.Spent = (a : Arrives new program d fuel left) × (a.configuration.thread ≢ []) × (left ≡ 0)
-RunsFor new program d fuel left (pause.Host asked) = (a : Arrives new program d fuel left) × AsksFor new.guest program a.configuration asked.call asked.arguments × (0 < left)
-RunsFor new program d fuel left pause.Returned = (a : Arrives new program d fuel left) × IsEnded a.configuration
+RunsFor new program d fuel left pause.Spent = (a : Arrives new program d fuel left)
+    × (a.configuration.thread ≢ []) × (left ≡ 0)
+RunsFor new program d fuel left (pause.Host asked) = (a : Arrives new program d fuel left)
+    × AsksFor new.guest program a.configuration asked.call asked.arguments × (0 < left)
+RunsFor new program d fuel left pause.Returned = (a : Arrives new program d fuel left)
+    × IsEnded a.configuration
 RunsFor new program d fuel left (pause.Trapped why) = TrapsAfter new program d fuel left why
 
 -- whichever configuration of whichever program it showed
 abbrev pub RunsOnFuel : MachineValue → ℕ → Paused → MachineValue → Type 0
-RunsOnFuel old fuel paused new = (program : Program) (d : Configuration) → ShowsIn old program d → RunsFor new program d fuel paused.left paused.why
+RunsOnFuel old fuel paused new = (program : Program) (d : Configuration) → ShowsIn old program d
+    → RunsFor new program d fuel paused.left paused.why
 
 -- ---- what waits
 
 -- the rule asks the host for nothing
 abbrev pub AsksNothing : Program → Configuration → Type 0
-AsksNothing program d = (f : ℕ) (arguments : List Value) (waits : Thread) → rule program d ≡ Asks f arguments waits → ⊥
+AsksNothing program d = (f : ℕ) (arguments : List Value) (waits : Thread)
+    → rule program d ≡ Asks f arguments waits → ⊥
 
 -- the call that the rule asks the host for, or none where it asks for nothing
 abbrev pub TellsCall : Module → Program → Configuration → Option HostCall → Type 0
@@ -86,11 +98,13 @@ TellsCall m program d (Some asked) = AsksFor m program d asked.call asked.argume
 
 -- whichever configuration of whichever program it shows
 abbrev pub TellsWaiting : MachineValue → Option HostCall → Type 0
-TellsWaiting v told = (program : Program) (d : Configuration) → ShowsIn v program d → TellsCall v.guest program d told
+TellsWaiting v told = (program : Program) (d : Configuration) → ShowsIn v program d
+    → TellsCall v.guest program d told
 
 -- whether that configuration has ended
 abbrev pub TellsEnd : MachineValue → Bool → Type 0
-TellsEnd v told = (program : Program) (d : Configuration) → ShowsIn v program d → IsTrue told ↔ IsEnded d
+TellsEnd v told = (program : Program) (d : Configuration) → ShowsIn v program d → IsTrue told
+    ↔ IsEnded d
 
 -- ---- answers
 
@@ -113,15 +127,19 @@ pub record Finishes (new : MachineValue) (program : Program) (answer : Configura
   pub settles : Settles program answer configuration
   pub shows : ShowsIn new program configuration
 
--- whichever call of the host it waited at that gives such results, with the bytes that memory had then
+-- whichever call of the host it waited at that gives such results, with the bytes that memory had
+-- then
 abbrev pub Answers : List Value → MachineValue → MachineValue → Type 0
 Answers results old new =
-    (program : Program) (d : Configuration) (f : ℕ) (arguments : List Value) (waits : Thread) (kind : FunctionType)
-    → ShowsIn old program d → rule program d ≡ Asks f arguments waits → slice_get program.functions f ≡ Some (Host kind) → AreOf (gives_of kind) results
+    (program : Program) (d : Configuration) (f : ℕ) (arguments : List Value) (waits : Thread)
+    (kind : FunctionType)
+    → ShowsIn old program d → rule program d ≡ Asks f arguments waits
+    → slice_get program.functions f ≡ Some (Host kind) → AreOf (gives_of kind) results
     → Finishes new program (answered d old.state.memory results waits)
 
 -- ---- the end by the host
 
 -- whichever configuration it showed, without its thread
 abbrev pub Stops : MachineValue → MachineValue → Type 0
-Stops old new = (program : Program) (d : Configuration) → ShowsIn old program d → ShowsIn new program (stopped d)
+Stops old new = (program : Program) (d : Configuration) → ShowsIn old program d
+    → ShowsIn new program (stopped d)

@@ -1,4 +1,5 @@
--- What contracts see of a machine: the module that it runs, and what it shows of a configuration. Nothing of how it holds that.
+-- What contracts see of a machine: the module that it runs, and what it shows of a configuration.
+-- Nothing of how it holds that.
 use Rattle.std.specs.Prelude.{◌≡◌, ℕ, ◌≤◌, ◌^◌, List, [], Option}
 use Rattle.wasm_syntax.specs.declared.types.FunctionType.{FunctionType}
 use Rattle.wasm_syntax.specs.declared.module.Module.{Module}
@@ -8,8 +9,9 @@ use Rattle.wasm_syntax_rules.specs.Instantiation.{IsProgram}
 use Rattle.wasm_syntax_rules.specs.Configuration.{Program, Configuration}
 use Rattle.machine_slots.specs.rules.Places.{MachineState, Shows}
 
--- The module, how many pages memory may have in its program, its table, the state, and how many pages the memory that the machine
--- holds may have. The last is the second, unless another memory was put into its place.
+-- The module, how many pages memory may have in its program, its table, the state, and how many
+-- pages the memory that the machine holds may have. The last is the second, unless another memory
+-- was put into its place.
 pub record MachineValue : Type 0 where
   pub guest : Module
   pub most_pages : ℕ
@@ -22,7 +24,10 @@ memory_of v = record { bytes = v.state.memory; limit = v.limit }
 
 -- the same with this memory in the place of its own
 abbrev pub with_memory : MachineValue → LinearMemory → MachineValue
-with_memory v memory = record v { state = record v.state { memory = memory.bytes }; limit = memory.limit }
+with_memory v memory = record v {
+  state = record v.state { memory = memory.bytes };
+  limit = memory.limit;
+}
 
 -- the same without frames, and without calls to come
 abbrev pub without_thread : MachineValue → MachineValue
@@ -32,8 +37,10 @@ without_thread v = record v { state = record v.state { frames = []; later = [] }
 abbrev pub HoldsMemory : MachineValue → Type 0
 HoldsMemory v = v.limit ≡ v.most_pages
 
--- This is a program of the module, whose memory may have so many pages, and these are the types of its functions.
-pub record IsProgramIn (m : Module) (most_pages : ℕ) (functions : List FunctionType) (program : Program) : Type 0 where
+-- This is a program of the module, whose memory may have so many pages, and these are the types of
+-- its functions.
+pub record IsProgramIn (m : Module) (most_pages : ℕ) (functions : List FunctionType)
+    (program : Program) : Type 0 where
   pub pages : ℕ
   pub few : pages ≤ 2 ^ 16
   pub is_program : IsProgram m pages program

@@ -11,7 +11,8 @@ use machine_slots::{SLOTS, Slots};
 fn replace(slots: &mut Slots, taken: usize, given: Option<u32>)
     requires enough { taken ≤ length slots.old }
     requires room { length slots.old < SLOTS }
-    ensures { (gone under : List ℕ) → taken ≡ length gone → slots.old ≡ gone ++ under → slots.new ≡ map number_in (call_results given) ++ under }
+    ensures { (gone under : List ℕ) → taken ≡ length gone → slots.old ≡ gone ++ under
+        → slots.new ≡ map number_in (call_results given) ++ under }
 {
     slots.truncate(slots.len() - taken);
     if let Some(number) = given {
@@ -19,8 +20,8 @@ fn replace(slots: &mut Slots, taken: usize, given: Option<u32>)
     }
 }
 
-/// Answers the call of the host that waits: puts its result, if the call gives one, in the place of what the call took, and goes on
-/// behind the call. Takes no memory.
+/// Answers the call of the host that waits: puts its result, if the call gives one, in the place of
+/// what the call took, and goes on behind the call. Takes no memory.
 pub fn answer(code: &Executable, state: &mut State, given: Option<u32>)
     requires { IsWaiting (call_results given) code.now state.old }
     ensures { IsAnswered (call_results given) code.now state.old state.new }

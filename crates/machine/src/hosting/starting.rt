@@ -55,8 +55,9 @@ fn prepare(alloc: Global, instance: Instance) -> Result<MachineStart, AllocError
     Ok(MachineStart { code, state })
 }
 
-/// Links a module to the host, under so many pages of memory at most, and takes all memory that running needs. The fault is the
-/// first in the order of `LinkFault`. Time in proportion to the module and to its memory and table.
+/// Links a module to the host, under so many pages of memory at most, and takes all memory that
+/// running needs. The fault is the first in the order of `LinkFault`. Time in proportion to the
+/// module and to its memory and table.
 pub fn begin(alloc: Global, module: ValidModule, pages: u32) -> Result<MachineStart, LinkFault>
     requires pages { pages ≤ MOST_PAGES }
     requires types { AllByRecursion HasFewParameters «module».types }

@@ -27,7 +27,8 @@ fn global_value(globals: &[Global], x: u32) -> Option<Value>
 
 /// The value of a constant expression, in which these globals may stand.
 fn constant(globals: &[Global], expression: &[Instruction]) -> Option<Value>
-    ensures { (values : List Number) → AreInitial globals.now values → result ≡ constant_of values expression.now }
+    ensures { (values : List Number) → AreInitial globals.now values
+        → result ≡ constant_of values expression.now }
 {
     match expression.first() {
         Some(Instruction::Const { value }) => Some(*value),
@@ -38,7 +39,8 @@ fn constant(globals: &[Global], expression: &[Instruction]) -> Option<Value>
 
 /// Where a segment begins.
 pub fn offset(globals: &[Global], expression: &[Instruction]) -> Option<u32>
-    ensures { (values : List Number) → AreInitial globals.now values → result ≡ offset_of values expression.now }
+    ensures { (values : List Number) → AreInitial globals.now values
+        → result ≡ offset_of values expression.now }
 {
     match constant(globals, expression) {
         Some(Value::I32(from)) => Some(from),

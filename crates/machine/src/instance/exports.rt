@@ -1,6 +1,7 @@
 //! What a host needs of a module's exports: a function to begin with, and the memory.
 
-ghost use Rattle.std.specs.Prelude.{◌≡◌, ◌≢◌, ◌↔◌, ◌++◌, ℕ, List, IsTrue, IfSome, IfNone, Some, slice_get, option_copied, map};
+ghost use Rattle.std.specs.Prelude.{◌≡◌, ◌≢◌, ◌↔◌, ◌++◌, ℕ, List, IsTrue, IfSome, IfNone, Some};
+ghost use Rattle.std.specs.Prelude.{slice_get, option_copied, map};
 ghost use Rattle.wasm_syntax.specs.declared.types.FunctionType.{FunctionType as Kind};
 ghost use Rattle.wasm_syntax.specs.declared.module.ExportItem.{ExportItem as Item};
 ghost use Rattle.wasm_syntax.specs.rules.Modules.{function_type_of};
@@ -13,7 +14,8 @@ use wasm_syntax::{Export, ExportItem, FunctionType, ImportItem, Module};
 /// What the first export with this name is.
 fn find_export(exports: &[Export], name: &[u8]) -> Option<ExportItem>
     ensures there { IfSome result (Exports exports.now name.now) }
-    ensures only { HaveDistinctNames exports.now → (item : Item) → Exports exports.now name.now item → result ≡ Some item }
+    ensures only { HaveDistinctNames exports.now → (item : Item) → Exports exports.now name.now item
+        → result ≡ Some item }
 {
     for export in exports {
         if export.name.as_slice() == name {
@@ -25,7 +27,8 @@ fn find_export(exports: &[Export], name: &[u8]) -> Option<ExportItem>
 
 /// The index of a function's type. Imported functions come first.
 fn function_type_index(module: &Module, function: u32) -> Option<u32>
-    ensures { result ≡ slice_get (imported_functions module.now.imports ++ map function_type_of module.now.functions) function }
+    ensures { result ≡ slice_get (imported_functions module.now.imports
+        ++ map function_type_of module.now.functions) function }
 {
     let mut left = function;
     for import in module.imports.as_slice() {
@@ -42,7 +45,8 @@ fn function_type_index(module: &Module, function: u32) -> Option<u32>
 
 /// The type of a function.
 fn function_type(module: &Module, function: u32) -> Option<&FunctionType>
-    ensures { (functions : List Kind) → AreFunctionTypes module.now functions → option_copied result ≡ slice_get functions function }
+    ensures { (functions : List Kind) → AreFunctionTypes module.now functions
+        → option_copied result ≡ slice_get functions function }
 {
     let index = function_type_index(module, function)?;
     module.types.get(index as usize)

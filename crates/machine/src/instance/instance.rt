@@ -60,9 +60,9 @@ fn check(module: &Module, pages: u32) -> Result<u32, LinkFault>
 impl Instance {
     ghost use Rattle.machine.specs.rules.Instances.{IsLinked};
 
-    /// Links a module to the host, under so many pages of memory at most. The fault is the first in the
-    /// order of `LinkFault`; memory is taken, and wanted, only where there is none. Time in proportion to the module
-    /// and to its memory and table.
+    /// Links a module to the host, under so many pages of memory at most. The fault is the first in
+    /// the order of `LinkFault`; memory is taken, and wanted, only where there is none. Time in
+    /// proportion to the module and to its memory and table.
     pub fn link(alloc: Global, module: ValidModule, pages: u32) -> Result<Instance, LinkFault>
         requires { pages ≤ MOST_PAGES }
         ensures linked { IfOk result (IsLinked pages «module») }

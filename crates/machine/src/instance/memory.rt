@@ -69,7 +69,8 @@ pub fn initial_memory(
     requires limited { pages ≤ MOST_PAGES }
     requires fits { FitsPages memories.now pages }
     requires inside { CanFillMemory globals.now segments.now (empty_memory memories.now) }
-    ensures bytes { IfOk result (λ memory. FillsMemory globals.now segments.now (empty_memory memories.now) memory.bytes) }
+    ensures bytes { IfOk result (λ memory. FillsMemory globals.now segments.now
+        (empty_memory memories.now) memory.bytes) }
     ensures limit { IfOk result (λ memory. memory.limit ≡ most_pages_of memories.now pages) }
 {
     let mut memory = Memory::new(alloc, first_pages(memories), most_pages(memories, pages))?;

@@ -14,7 +14,8 @@ use wasm_syntax::{Data, Element, Global, Instruction, Module};
 
 /// Whether so many items from this offset on are within so many.
 fn is_inside(globals: &[Global], expression: &[Instruction], count: usize, size: usize) -> bool
-    ensures { (values : List Number) → AreInitial globals.now values → IsTrue result ↔ IsInside values expression.now count size }
+    ensures { (values : List Number) → AreInitial globals.now values → IsTrue result
+        ↔ IsInside values expression.now count size }
 {
     let Some(from) = offset(globals, expression) else {
         return false;
@@ -25,7 +26,8 @@ fn is_inside(globals: &[Global], expression: &[Instruction], count: usize, size:
 
 /// Whether each element is within a table of so many entries.
 pub fn are_elements_inside(globals: &[Global], elements: &[Element], size: usize) -> bool
-    ensures { (values : List Number) (table : List (Option ℕ)) → AreInitial globals.now values → length table ≡ size → IsTrue result ↔ IsSome (filled_table values elements.now table) }
+    ensures { (values : List Number) (table : List (Option ℕ)) → AreInitial globals.now values
+        → length table ≡ size → IsTrue result ↔ IsSome (filled_table values elements.now table) }
 {
     for element in elements {
         let count = element.functions.len();
@@ -38,7 +40,8 @@ pub fn are_elements_inside(globals: &[Global], elements: &[Element], size: usize
 
 /// Whether each data segment is within a memory of so many bytes.
 pub fn is_data_inside(globals: &[Global], segments: &[Data], size: usize) -> bool
-    ensures { (values : List Number) (memory : List ℕ) → AreInitial globals.now values → length memory ≡ size → IsTrue result ↔ IsSome (filled_memory values segments.now memory) }
+    ensures { (values : List Number) (memory : List ℕ) → AreInitial globals.now values
+        → length memory ≡ size → IsTrue result ↔ IsSome (filled_memory values segments.now memory) }
 {
     for segment in segments {
         let count = segment.bytes.len();

@@ -47,7 +47,8 @@ pub fn initial_table(
     elements: &[Element],
 ) -> Result<Vec<Option<u32>>, AllocError>
     requires { CanFillTable globals.now elements.now (empty_table tables.now) }
-    ensures { IfOk result (λ table. FillsTable globals.now elements.now (empty_table tables.now) table.items) }
+    ensures { IfOk result (λ table. FillsTable globals.now elements.now
+        (empty_table tables.now) table.items) }
 {
     let mut table = vec![in alloc; None; table_size(tables)]?;
     fill_table(globals, elements, &mut table);

@@ -1,7 +1,8 @@
 //! Frames that are entered and left.
 
 ghost use Rattle.std.specs.Prelude.{◌≡◌, ◌<◌, ◌≤◌, ◌+◌, ◌-◌, length};
-ghost use Rattle.machine.specs.Turns.Turns.{CanLeave, Entered, EntersOrTraps, HasFrameRoom, IsCleared, LeavesFrame, TrapsWith};
+ghost use Rattle.machine.specs.Turns.Turns.{CanLeave, Entered, EntersOrTraps, HasFrameRoom};
+ghost use Rattle.machine.specs.Turns.Turns.{IsCleared, LeavesFrame, TrapsWith};
 
 use crate::routines::Routine;
 use crate::turns::pause::{Pause, Paused};
@@ -48,13 +49,15 @@ pub fn trap(state: &mut State, why: Trap, fuel: u64) -> Turn
     })
 }
 
-/// Enters a function of the module's own, whose parameters are on top, if there is room for its frame and locals.
+/// Enters a function of the module's own, whose parameters are on top, if there is room for its
+/// frame and locals.
 pub fn enter_or_trap(state: &mut State, function: u32, routine: &Routine, fuel: u64) -> Turn
     requires some { 0 < fuel }
     requires parameters { routine.now.parameters ≤ length state.old.slots }
     requires locals { routine.now.parameters ≤ routine.now.locals }
     requires few { routine.now.locals ≤ 512 }
-    ensures { EntersOrTraps function routine.now.parameters (routine.now.locals - routine.now.parameters) state.old fuel result state.new }
+    ensures { EntersOrTraps function routine.now.parameters (routine.now.locals
+        - routine.now.parameters) state.old fuel result state.new }
 {
     let declared = routine.locals - routine.parameters;
     if state.frames.len() >= FRAMES || declared + state.slots.len() > HELD_VALUES {

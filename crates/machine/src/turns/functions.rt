@@ -13,7 +13,8 @@ use wasm_syntax::{FunctionType, Instruction};
 #[inline(always)]
 pub fn routine_of(code: &Executable, function: u32) -> &Routine
     requires { HasOwnFunction code.now function }
-    ensures { slice_get code.now.routines.items (function - length code.now.calls.items) ≡ Some result.now }
+    ensures { slice_get code.now.routines.items (function - length code.now.calls.items)
+        ≡ Some result.now }
 {
     let place = function as usize - code.calls.as_slice().len();
     &code.routines.as_slice()[place]
@@ -41,7 +42,8 @@ fn is_same(a: &FunctionType, b: &FunctionType) -> bool
 /// Whether a function has the type with this index.
 pub fn has_kind(code: &Executable, function: u32, function_type: u32) -> bool
     requires { HaveKinds code.now function function_type }
-    ensures { (f g : Kind) → HasKind code.now function f → slice_get code.now.«module».types function_type ≡ Some g → IsTrue result ↔ (g ≡ f) }
+    ensures { (f g : Kind) → HasKind code.now function f
+        → slice_get code.now.«module».types function_type ≡ Some g → IsTrue result ↔ (g ≡ f) }
 {
     let types = code.module.module().types.as_slice();
     let kind = code.kinds.as_slice()[function as usize];

@@ -9,7 +9,8 @@ use wasm_syntax::Trap;
 /// The most parameters that a call of the host has.
 pub const MOST_ARGUMENTS: usize = 9;
 
-/// The arguments of a call of the host, the first one first: at most nine numbers. They take no memory.
+/// The arguments of a call of the host, the first one first: at most nine numbers. They take no
+/// memory.
 #[derive(Debug, Drop)]
 pub struct Arguments {
     words: [u64; 9],
@@ -61,12 +62,14 @@ pub enum Pause {
     Spent,
     /// A call of the host waits for its answer.
     Host(HostCall),
-    /// Nothing is left to run: the last function that the host called has returned, or the machine trapped or was stopped before.
+    /// Nothing is left to run: the last function that the host called has returned, or the machine
+    /// trapped or was stopped before.
     Returned,
     Trapped(Trap),
 }
 
-/// A pause, and how many counted rules of the fuel were not applied. A trap is one of those that were.
+/// A pause, and how many counted rules of the fuel were not applied. A trap is one of those that
+/// were.
 #[derive(Debug, Drop)]
 pub struct Paused {
     pub why: Pause,

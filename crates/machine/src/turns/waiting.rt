@@ -85,14 +85,15 @@ pub fn waiting_call(code: &Executable, state: &State) -> Option<HostCall>
 /// How many parameters the type with this index has.
 fn parameters_in(code: &Executable, function_type: u32) -> usize
     requires { function_type < length code.now.«module».types }
-    ensures { (kind : Kind) → slice_get code.now.«module».types function_type ≡ Some kind → result ≡ length kind.parameters }
+    ensures { (kind : Kind) → slice_get code.now.«module».types function_type ≡ Some kind
+        → result ≡ length kind.parameters }
 {
     let types = code.module.module().types.as_slice();
     types[function_type as usize].parameters.len()
 }
 
-/// How many words the call takes at which the innermost frame waits: its arguments, and where it is a `call_indirect` the entry's
-/// place, which is above them.
+/// How many words the call takes at which the innermost frame waits: its arguments, and where it is
+/// a `call_indirect` the entry's place, which is above them.
 pub fn words_taken(code: &Executable, state: &State) -> usize
     requires { IsAsking code.now state.now }
     ensures { TakesWords code.now state.now result }

@@ -54,18 +54,23 @@ FrontDenies _ P = P
 abbrev pub IsInvalid : Module → ValidFault → Type 0
 IsInvalid m fault = DeniesValid fault (IsValid m) × HasFault m fault
 
--- Which of the first two steps refuses, and what it says: no module is spelled; or one is, which isn't valid.
+-- Which of the first two steps refuses, and what it says: no module is spelled; or one is, which
+-- isn't valid.
 abbrev pub IsToldOfReading : List ℕ → FrontFault → Type 0
 IsToldOfReading bytes (Decode fault) = fault ≢ decode.Memory → HasNoModule bytes
-IsToldOfReading bytes (Valid fault) = (m : Module) × IsModule bytes m × IsWithinLimits bytes m × IsInvalid m fault
+IsToldOfReading bytes (Valid fault) = (m : Module) × IsModule bytes m × IsWithinLimits bytes m
+    × IsInvalid m fault
 IsToldOfReading bytes (Link fault) = ⊥
 
--- Which step refuses, and what it says: no module is spelled; or one is, which isn't valid; or it is valid, and this is the
--- first thing that it wants for linking. Want of memory says only what the steps before found.
+-- Which step refuses, and what it says: no module is spelled; or one is, which isn't valid; or it
+-- is valid, and this is the first thing that it wants for linking. Want of memory says only what
+-- the steps before found.
 abbrev pub IsTold : ℕ → List ℕ → FrontFault → Type 0
 IsTold pages bytes (Decode fault) = fault ≢ decode.Memory → HasNoModule bytes
-IsTold pages bytes (Valid fault) = (m : Module) × IsModule bytes m × IsWithinLimits bytes m × IsInvalid m fault
-IsTold pages bytes (Link fault) = (m : Module) × IsModule bytes m × IsWithinLimits bytes m × IsValid m × IsRefused pages m fault
+IsTold pages bytes (Valid fault) = (m : Module) × IsModule bytes m × IsWithinLimits bytes m
+    × IsInvalid m fault
+IsTold pages bytes (Link fault) = (m : Module) × IsModule bytes m × IsWithinLimits bytes m
+    × IsValid m × IsRefused pages m fault
 
 -- the host had no room
 abbrev pub is_want : FrontFault → Bool

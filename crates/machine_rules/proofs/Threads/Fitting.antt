@@ -1,5 +1,6 @@
 -- What fits a program shows some configuration of it, and the other way round.
-use Rattle.std.proofs.Common.{◌≡◌, ◌≢◌, ℕ, ◌+◌, ◌≤◌, List, [], ◌∷◌, ◌++◌, length, Some, None, refl, sym, ap, ◌∙◌, subst, arith, length-append}
+use Rattle.std.proofs.Common.{◌≡◌, ◌≢◌, ℕ, ◌+◌, ◌≤◌, List, [], ◌∷◌, ◌++◌, length, Some, None, refl}
+use Rattle.std.proofs.Common.{sym, ap, ◌∙◌, subst, arith, length-append}
 use Rattle.std.specs.Prelude.{map, reverse, slice_get}
 use Rattle.std.specs.List.{AllByRecursion}
 use Rattle.std.proofs.lemmas.List.{append_cancel_left, length-map, length-reverse, reverse-reverse}
@@ -10,16 +11,20 @@ use Rattle.wasm_syntax.specs.declared.value.Value.{Value}
 use Rattle.wasm_syntax.specs.declared.value.Value.TheVariants as value
 use Rattle.wasm_syntax.specs.declared.instruction.Instruction.TheVariants as instr
 use Rattle.wasm_syntax.specs.rules.Sequence.{Sequence, Stop, Plain, InBlock, InLoop, InIf, InIfElse}
-use Rattle.wasm_syntax_rules.specs.Types.{AreOf, IsOf, value_of, number_in, takes_of, gives_of, value_type_of}
+use Rattle.wasm_syntax_rules.specs.Types.{AreOf, IsOf, value_of, number_in, takes_of, gives_of}
+use Rattle.wasm_syntax_rules.specs.Types.{value_type_of}
 use Rattle.wasm_syntax_rules.specs.Typing.{Context, HasType, body_context}
-use Rattle.wasm_syntax_rules.specs.Configuration.{Own, Program, Store, Label, LabelOf, FrameOf, Thread}
+use Rattle.wasm_syntax_rules.specs.Configuration.{Own, Program, Store, Label, LabelOf, FrameOf}
+use Rattle.wasm_syntax_rules.specs.Configuration.{Thread}
 use Rattle.wasm_syntax_rules.specs.Shapes.{LabelShape, ShapeOf, AreTypedShapes}
 use Rattle.wasm_syntax_rules.specs.Steps.{held_by, held_below, left_by}
-use Rattle.wasm_syntax_rules.specs.Typed.{IsTypedMemory, IsTypedProgram, IsTypedThread, AreTypedLabels, IsEntry}
+use Rattle.wasm_syntax_rules.specs.Typed.{IsTypedMemory, IsTypedProgram, IsTypedThread}
+use Rattle.wasm_syntax_rules.specs.Typed.{AreTypedLabels, IsEntry}
 use Rattle.wasm_syntax_rules.proofs.TypedShape.{reached_shapes_typed}
 use Rattle.wasm_syntax_rules.proofs.Soundness.Values.{are_both, reverse_are}
 use Rattle.wasm_validate.specs.rules.Operands.{types_below, types_in}
-use Rattle.machine_slots.specs.rules.Places.{HaveShape, all_below, slots_of, held_beside, IsCallOf, ShownFrame, ShowsCallers, ShowsThread}
+use Rattle.machine_slots.specs.rules.Places.{HaveShape, all_below, slots_of, held_beside, IsCallOf}
+use Rattle.machine_slots.specs.rules.Places.{ShownFrame, ShowsCallers, ShowsThread}
 use Rattle.machine_slots.specs.declared.limits.TheConstants.{HELD_VALUES}
 use Rattle.machine_slots.proofs.Branches.{held_all}
 use Rattle.machine_rules.specs.Fitting.{AreWordsOf, FitCallers, FitFrames, slots_held, FewHeld}

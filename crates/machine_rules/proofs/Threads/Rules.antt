@@ -1,4 +1,5 @@
--- The rules of calls, returns and ends at a running frame, and that they lead to typed configurations.
+-- The rules of calls, returns and ends at a running frame, and that they lead to typed
+-- configurations.
 use Rattle.std.proofs.Common.{◌≡◌, ◌⊎◌, inl, inr, ℕ, List, [], ◌∷◌, length, Some, refl, ap, ◌∙◌}
 use Rattle.std.specs.Prelude.{slice_get}
 use Rattle.wasm_syntax.specs.declared.types.FunctionType.{FunctionType}
@@ -9,39 +10,74 @@ use Rattle.wasm_syntax.specs.declared.instruction.Instruction.TheVariants as ins
 use Rattle.wasm_syntax.specs.rules.Sequence.{Sequence, Stop, Plain}
 use Rattle.wasm_syntax_rules.specs.Types.{gives_of}
 use Rattle.wasm_syntax_rules.specs.Typing.{Context}
-use Rattle.wasm_syntax_rules.specs.Configuration.{Callee, Program, Label, FrameOf, Thread, Configuration, Stuck}
-use Rattle.wasm_syntax_rules.specs.Steps.{topmost, returned, called, calls_entry, kind_of, rule, rule_of, left_by, IsSettled, IsEnded, IsCounted, IsUncounted}
+use Rattle.wasm_syntax_rules.specs.Configuration.{Callee, Program, Label, FrameOf, Thread}
+use Rattle.wasm_syntax_rules.specs.Configuration.{Configuration, Stuck}
+use Rattle.wasm_syntax_rules.specs.Steps.{topmost, returned, called, calls_entry, kind_of, rule}
+use Rattle.wasm_syntax_rules.specs.Steps.{rule_of, left_by, IsSettled, IsEnded, IsCounted}
+use Rattle.wasm_syntax_rules.specs.Steps.{IsUncounted}
 use Rattle.wasm_syntax_rules.specs.Typed.{IsTypedProgram, IsTyped, IsSound}
-use Rattle.wasm_syntax_rules.proofs.Soundness.LeaveSound.{never_stuck_holds, goes_typed as sound_typed}
+use Rattle.wasm_syntax_rules.proofs.Soundness.LeaveSound.{never_stuck_holds}
+use Rattle.wasm_syntax_rules.proofs.Soundness.LeaveSound.{goes_typed as sound_typed}
 
 -- A configuration whose running frame is before a plain instruction is settled.
-pub settled_before : (program : Program) (d : Configuration) (f : ℕ) (ls vs : List Value) (labels : List Label) (i : Instruction) (after : Sequence) (thread : Thread) → d.thread ≡ FrameOf f ls labels vs (Plain i after) ∷ thread → IsSettled program d
-settled_before program d f ls vs labels i after thread e = ap (λ t. left_by program t d.later d.store) e
+pub settled_before : (program : Program) (d : Configuration) (f : ℕ) (ls vs : List Value)
+    (labels : List Label) (i : Instruction) (after : Sequence) (thread : Thread)
+    → d.thread ≡ FrameOf f ls labels vs (Plain i after) ∷ thread → IsSettled program d
+settled_before program d f ls vs labels i after thread e =
+    ap (λ t. left_by program t d.later d.store) e
 
 -- What a counted rule leads to is typed.
-pub counted_typed : (c : Context) (program : Program) (d e : Configuration) → IsTypedProgram c program → IsTyped c program d → IsSettled program d → IsCounted program d e → IsTyped c program e
-counted_typed c program d e typed now settled goes = sound_typed c program d e goes (never_stuck_holds c program d typed now settled)
+pub counted_typed : (c : Context) (program : Program) (d e : Configuration)
+    → IsTypedProgram c program → IsTyped c program d → IsSettled program d → IsCounted program d e
+    → IsTyped c program e
+counted_typed c program d e typed now settled goes =
+    sound_typed c program d e goes (never_stuck_holds c program d typed now settled)
 
 -- ---- the rules of calls and returns
 
 -- what remains of the running frame
-pub with_rest : (d : Configuration) (f : ℕ) (ls vs : List Value) (labels : List Label) (rest next : Sequence) (thread : Thread) → d.thread ≡ FrameOf f ls labels vs rest ∷ thread → rest ≡ next → d.thread ≡ FrameOf f ls labels vs next ∷ thread
+pub with_rest : (d : Configuration) (f : ℕ) (ls vs : List Value) (labels : List Label)
+    (rest next : Sequence) (thread : Thread) → d.thread ≡ FrameOf f ls labels vs rest ∷ thread
+    → rest ≡ next → d.thread ≡ FrameOf f ls labels vs next ∷ thread
 with_rest d f ls vs labels rest next thread e k = e ∙ ap (λ z. FrameOf f ls labels vs z ∷ thread) k
 
-pub with_values : (d : Configuration) (f : ℕ) (ls vs values : List Value) (labels : List Label) (rest : Sequence) (thread : Thread) → d.thread ≡ FrameOf f ls labels vs rest ∷ thread → vs ≡ values → d.thread ≡ FrameOf f ls labels values rest ∷ thread
-with_values d f ls vs values labels rest thread e k = e ∙ ap (λ z. FrameOf f ls labels z rest ∷ thread) k
+pub with_values : (d : Configuration) (f : ℕ) (ls vs values : List Value) (labels : List Label)
+    (rest : Sequence) (thread : Thread) → d.thread ≡ FrameOf f ls labels vs rest ∷ thread
+    → vs ≡ values → d.thread ≡ FrameOf f ls labels values rest ∷ thread
+with_values d f ls vs values labels rest thread e k =
+    e ∙ ap (λ z. FrameOf f ls labels z rest ∷ thread) k
 
-pub call_rule : (program : Program) (d : Configuration) (f : ℕ) (ls vs : List Value) (labels : List Label) (g : ℕ) (after : Sequence) (thread : Thread) (callee : Callee) → d.thread ≡ FrameOf f ls labels vs (Plain (instr.Call g) after) ∷ thread → slice_get program.functions g ≡ Some callee → rule program d ≡ called g callee d (λ others. FrameOf f ls labels others after) vs thread
-call_rule program d f ls vs labels g after thread callee e k = ap (λ t. rule_of program d t) e ∙ rw k refl
+pub call_rule : (program : Program) (d : Configuration) (f : ℕ) (ls vs : List Value)
+    (labels : List Label) (g : ℕ) (after : Sequence) (thread : Thread) (callee : Callee)
+    → d.thread ≡ FrameOf f ls labels vs (Plain (instr.Call g) after) ∷ thread
+    → slice_get program.functions g ≡ Some callee
+    → rule program d ≡ called g callee d (λ others. FrameOf f ls labels others after) vs thread
+call_rule program d f ls vs labels g after thread callee e k = ap (λ t. rule_of program d t) e
+    ∙ rw k refl
 
-pub indirect_rule : (program : Program) (d : Configuration) (f : ℕ) (ls vs : List Value) (labels : List Label) (t index : ℕ) (after : Sequence) (thread : Thread) (kind : FunctionType) → d.thread ≡ FrameOf f ls labels (value.I32 index ∷ vs) (Plain (instr.CallIndirect t) after) ∷ thread → slice_get program.types t ≡ Some kind → rule program d ≡ calls_entry program (slice_get d.store.table index) kind d (λ others. FrameOf f ls labels others after) vs thread
-indirect_rule program d f ls vs labels t index after thread kind e k = ap (λ t. rule_of program d t) e ∙ rw k refl
+pub indirect_rule : (program : Program) (d : Configuration) (f : ℕ) (ls vs : List Value)
+    (labels : List Label) (t index : ℕ) (after : Sequence) (thread : Thread) (kind : FunctionType)
+    → d.thread ≡ FrameOf f ls labels (value.I32 index ∷ vs) (Plain (instr.CallIndirect t) after)
+    ∷ thread → slice_get program.types t ≡ Some kind
+    → rule program d ≡ calls_entry program (slice_get d.store.table index) kind d (λ others.
+    FrameOf f ls labels others after) vs thread
+indirect_rule program d f ls vs labels t index after thread kind e k =
+    ap (λ t. rule_of program d t) e ∙ rw k refl
 
-pub return_rule : (program : Program) (d : Configuration) (f : ℕ) (ls vs results : List Value) (labels : List Label) (after : Sequence) (thread : Thread) (callee : Callee) → d.thread ≡ FrameOf f ls labels vs (Plain instr.Return after) ∷ thread → slice_get program.functions f ≡ Some callee → topmost (length (gives_of (kind_of callee))) vs ≡ Some results → IsCounted program d (record d { thread = returned results thread })
-return_rule program d f ls vs results labels after thread callee e k t = ap (λ z. rule_of program d z) e ∙ rw (k, t) refl
+pub return_rule : (program : Program) (d : Configuration) (f : ℕ) (ls vs results : List Value)
+    (labels : List Label) (after : Sequence) (thread : Thread) (callee : Callee)
+    → d.thread ≡ FrameOf f ls labels vs (Plain instr.Return after) ∷ thread
+    → slice_get program.functions f ≡ Some callee
+    → topmost (length (gives_of (kind_of callee))) vs ≡ Some results
+    → IsCounted program d (record d { thread = returned results thread })
+return_rule program d f ls vs results labels after thread callee e k t =
+    ap (λ z. rule_of program d z) e ∙ rw (k, t) refl
 
 -- the end of a body
-pub end_rule : (program : Program) (d : Configuration) (f : ℕ) (ls vs : List Value) (labels : List Label) (rest : Sequence) (thread : Thread) → d.thread ≡ FrameOf f ls labels vs rest ∷ thread → labels ≡ [] → rest ≡ Stop → IsUncounted program d (record d { thread = returned vs thread })
+pub end_rule : (program : Program) (d : Configuration) (f : ℕ) (ls vs : List Value)
+    (labels : List Label) (rest : Sequence) (thread : Thread)
+    → d.thread ≡ FrameOf f ls labels vs rest ∷ thread → labels ≡ [] → rest ≡ Stop
+    → IsUncounted program d (record d { thread = returned vs thread })
 end_rule program d f ls vs labels rest thread e k h =
     ap (λ t. left_by program t d.later d.store) e
     ∙ ap (λ z. left_by program (FrameOf f ls z vs rest ∷ thread) d.later d.store) k

@@ -1,5 +1,6 @@
 -- Where a process comes to, and why it stops there.
-use Rattle.std.specs.Prelude.{◌≡◌, ◌≢◌, ◌⊎◌, ℕ, suc, ◌<◌, ◌≤◌, ◌^◌, [], Bool, true, false, ◌&&◌, if◌then◌else◌, List, Option, Some, None, Result, Ok, Err}
+use Rattle.std.specs.Prelude.{◌≡◌, ◌≢◌, ◌⊎◌, ℕ, suc, ◌<◌, ◌≤◌, ◌^◌, [], Bool, true, false, ◌&&◌}
+use Rattle.std.specs.Prelude.{if◌then◌else◌, List, Option, Some, None, Result, Ok, Err}
 use Rattle.wasm_syntax.specs.declared.value.Value.{Value}
 use Rattle.wasm_syntax_rules.specs.Configuration.{Configuration, Thread, Asks}
 use Rattle.wasm_syntax_rules.specs.Steps.{rule}
@@ -16,7 +17,8 @@ use Rattle.process.specs.rules.Values.{ProcessValue, ShowsProcess, ending_of, wa
 
 -- ---- running
 
--- so many steps, after none of which anything is owed, lead to a process that is then shown, and no line waits
+-- so many steps, after none of which anything is owed, lead to a process that is then shown, and no
+-- line waits
 pub record ComesQuietly (new : ProcessValue) (guest : Guest) (p : ProcessState) : Type 0 where
   pub steps : ℕ
   pub process : ProcessState
@@ -34,22 +36,28 @@ pub record ComesOwing (new : ProcessValue) (guest : Guest) (p : ProcessState) : 
   pub owing : IsOwing guest before process
   pub shows : ShowsProcess new guest process
 
--- Why a process stops that was given so much fuel: a line waited before, and nothing was done; the last step is the first one after
--- which something is owed; it has ended; the fuel is spent; or some is left, and the next step wants an answer.
+-- Why a process stops that was given so much fuel: a line waited before, and nothing was done; the
+-- last step is the first one after which something is owed; it has ended; the fuel is spent; or
+-- some is left, and the next step wants an answer.
 abbrev pub StopsFor : ProcessValue → ProcessValue → Guest → ProcessState → ℕ → Stop → Type 0
 StopsFor old new guest p fuel stop.Owes =
-    ((waiting_in old ≢ []) × (new ≡ old)) ⊎ ((waiting_in old ≡ []) × (come : ComesOwing new guest p) × (come.steps < fuel))
+    ((waiting_in old ≢ []) × (new ≡ old)) ⊎ ((waiting_in old ≡ []) × (come : ComesOwing new guest p)
+    × (come.steps < fuel))
 StopsFor old new guest p fuel (stop.Ended how) =
-    (waiting_in old ≡ []) × (come : ComesQuietly new guest p) × (come.steps ≤ fuel) × (come.process.ended ≡ Some (ending_of how))
+    (waiting_in old ≡ []) × (come : ComesQuietly new guest p) × (come.steps ≤ fuel)
+    × (come.process.ended ≡ Some (ending_of how))
 StopsFor old new guest p fuel stop.Spent =
-    (waiting_in old ≡ []) × (come : ComesQuietly new guest p) × (come.steps ≡ fuel) × (come.process.ended ≡ None)
+    (waiting_in old ≡ []) × (come : ComesQuietly new guest p) × (come.steps ≡ fuel)
+    × (come.process.ended ≡ None)
 StopsFor old new guest p fuel (stop.Asks kind) =
-    (waiting_in old ≡ []) × (come : ComesQuietly new guest p) × (come.steps < fuel) × (come.process.ended ≡ None)
+    (waiting_in old ≡ []) × (come : ComesQuietly new guest p) × (come.steps < fuel)
+    × (come.process.ended ≡ None)
     × (next_of guest come.process None ≡ Wants kind)
 
 -- the next step doesn't end the process, whatever answer it is given
 abbrev pub EndsNot : Guest → ProcessState → Type 0
-EndsNot guest p = (given : Option Answer) (why : Ending) (d : Configuration) (h : Host) → next_of guest p given ≢ Over why d h
+EndsNot guest p = (given : Option Answer) (why : Ending) (d : Configuration) (h : Host)
+    → next_of guest p given ≢ Over why d h
 
 -- the next step is a call of the host, and not one that ends the process
 pub record CallsHost (guest : Guest) (p : ProcessState) : Type 0 where
@@ -69,21 +77,26 @@ LacksNumbers _ = ⊥
 abbrev pub IsBeyond : Guest → ProcessState → Option Answer → Type 0
 IsBeyond guest p given = (suc p.steps ≡ 2 ^ 63) ⊎ LacksNumbers (next_of guest p given)
 
--- Why it can't go on: there is no memory for the call that is the next step, or that step can't be counted. It is as it was before it.
+-- Why it can't go on: there is no memory for the call that is the next step, or that step can't be
+-- counted. It is as it was before it.
 abbrev pub FailsFor : ProcessValue → ProcessValue → Guest → ProcessState → ℕ → ProcessFault → Type 0
 FailsFor old new guest p fuel fault.Memory =
-    (waiting_in old ≡ []) × (come : ComesQuietly new guest p) × (come.steps < fuel) × (come.process.ended ≡ None) × CallsHost guest come.process
+    (waiting_in old ≡ []) × (come : ComesQuietly new guest p) × (come.steps < fuel)
+    × (come.process.ended ≡ None) × CallsHost guest come.process
 FailsFor old new guest p fuel fault.StepsSpent =
-    (waiting_in old ≡ []) × (come : ComesQuietly new guest p) × (come.steps < fuel) × (come.process.ended ≡ None) × IsBeyond guest come.process None
+    (waiting_in old ≡ []) × (come : ComesQuietly new guest p) × (come.steps < fuel)
+    × (come.process.ended ≡ None) × IsBeyond guest come.process None
 FailsFor old new guest p fuel fault.WrongAnswer = ⊥
 
-abbrev pub EndsFor : ProcessValue → ProcessValue → Guest → ProcessState → ℕ → Result Stop ProcessFault → Type 0
+abbrev pub EndsFor : ProcessValue → ProcessValue → Guest → ProcessState → ℕ
+    → Result Stop ProcessFault → Type 0
 EndsFor old new guest p fuel (Ok stop) = StopsFor old new guest p fuel stop
 EndsFor old new guest p fuel (Err fault) = FailsFor old new guest p fuel fault
 
 -- whichever process it showed
 abbrev pub AdvancesProcess : ProcessValue → ℕ → Result Stop ProcessFault → ProcessValue → Type 0
-AdvancesProcess old fuel result new = (guest : Guest) (p : ProcessState) → ShowsProcess old guest p → EndsFor old new guest p fuel result
+AdvancesProcess old fuel result new = (guest : Guest) (p : ProcessState) → ShowsProcess old guest p
+    → EndsFor old new guest p fuel result
 
 -- ---- the numbers that remain
 
@@ -98,19 +111,27 @@ told stop is_cut = if is_spent stop && is_cut then Err fault.StepsSpent else sto
 -- ---- answers
 
 -- the step that takes an answer leads to a process that is then shown
-pub record TakesAnswer (new : ProcessValue) (guest : Guest) (p : ProcessState) (answer : Answer) : Type 0 where
+pub record TakesAnswer (new : ProcessValue) (guest : Guest) (p : ProcessState) (answer : Answer) :
+    Type 0 where
   pub process : ProcessState
   pub moves : Moves guest p (Some answer) process
   pub shows : ShowsProcess new guest process
 
--- The answer is taken, where no line waits; or it isn't what is wanted, there is no memory for the step, or that can't be counted, and
--- nothing changes. While a line waits, and once the process has ended, none is wanted.
-abbrev pub GivesFor : ProcessValue → ProcessValue → Guest → ProcessState → Answer → Result (Unit {0}) ProcessFault → Type 0
+-- The answer is taken, where no line waits; or it isn't what is wanted, there is no memory for the
+-- step, or that can't be counted, and nothing changes. While a line waits, and once the process has
+-- ended, none is wanted.
+abbrev pub GivesFor : ProcessValue → ProcessValue → Guest → ProcessState → Answer
+    → Result (Unit {0}) ProcessFault → Type 0
 GivesFor old new guest p answer (Ok done) = (waiting_in old ≡ []) × TakesAnswer new guest p answer
-GivesFor old new guest p answer (Err fault.WrongAnswer) = (new ≡ old) × (waiting_in old ≡ [] → p.ended ≡ None → IsWanted guest p (Some answer) → ⊥)
-GivesFor old new guest p answer (Err fault.Memory) = (new ≡ old) × (waiting_in old ≡ []) × (p.ended ≡ None) × CallsHost guest p
-GivesFor old new guest p answer (Err fault.StepsSpent) = (new ≡ old) × (waiting_in old ≡ []) × (p.ended ≡ None) × IsBeyond guest p (Some answer)
+GivesFor old new guest p answer (Err fault.WrongAnswer) = (new ≡ old) × (waiting_in old ≡ []
+    → p.ended ≡ None → IsWanted guest p (Some answer) → ⊥)
+GivesFor old new guest p answer (Err fault.Memory) = (new ≡ old) × (waiting_in old ≡ [])
+    × (p.ended ≡ None) × CallsHost guest p
+GivesFor old new guest p answer (Err fault.StepsSpent) = (new ≡ old) × (waiting_in old ≡ [])
+    × (p.ended ≡ None) × IsBeyond guest p (Some answer)
 
 -- whichever process it showed
-abbrev pub GivesAnswer : ProcessValue → Answer → Result (Unit {0}) ProcessFault → ProcessValue → Type 0
-GivesAnswer old answer result new = (guest : Guest) (p : ProcessState) → ShowsProcess old guest p → GivesFor old new guest p answer result
+abbrev pub GivesAnswer : ProcessValue → Answer → Result (Unit {0}) ProcessFault → ProcessValue
+    → Type 0
+GivesAnswer old answer result new = (guest : Guest) (p : ProcessState) → ShowsProcess old guest p
+    → GivesFor old new guest p answer result

@@ -1,5 +1,7 @@
--- What contracts see of a process: its machine, its host, how far it has come, and how it ended; and which process of the rules that is.
-use Rattle.std.specs.Prelude.{◌≡◌, ℕ, ◌+◌, ◌<◌, ◌≤◌, ◌^◌, List, [], length, Option, None, option_map}
+-- What contracts see of a process: its machine, its host, how far it has come, and how it ended;
+-- and which process of the rules that is.
+use Rattle.std.specs.Prelude.{◌≡◌, ℕ, ◌+◌, ◌<◌, ◌≤◌, ◌^◌, List, [], length, Option, None}
+use Rattle.std.specs.Prelude.{option_map}
 use Rattle.wasm_syntax.specs.declared.module.Module.{Module}
 use Rattle.wasm_syntax_rules.specs.Steps.{IsEnded}
 use Rattle.wasm_syntax_rules.specs.Linking.{IsLinkable}
@@ -9,7 +11,8 @@ use Rattle.wasi_calls_rules.specs.Lines.{lines_ended}
 use Rattle.wasi_calls.specs.rules.Held.{HeldHost, ShowsHost, held_released}
 use Rattle.machine.specs.rules.Offers.{offer}
 use Rattle.machine.specs.rules.Values.{MachineValue, ShowsIn}
-use Rattle.process_rules.specs.Processes.{Ending, Exited, Trapped, ProcessState, Guest, AreCalls, IsStart}
+use Rattle.process_rules.specs.Processes.{Ending, Exited, Trapped, ProcessState, Guest, AreCalls}
+use Rattle.process_rules.specs.Processes.{IsStart}
 use Rattle.process.specs.declared.stop.ProcessEnd.{ProcessEnd}
 use Rattle.process.specs.declared.stop.ProcessEnd.TheVariants as end
 
@@ -45,7 +48,8 @@ waiting_in v = v.host.host.lines
 abbrev pub lines_in : ProcessValue → ℕ
 lines_in v = v.host.released + length (waiting_in v)
 
--- It shows a process of the rules, all parts of it. A process whose program has come to its end has ended.
+-- It shows a process of the rules, all parts of it. A process whose program has come to its end has
+-- ended.
 pub record ShowsProcess (v : ProcessValue) (guest : Guest) (p : ProcessState) : Type 0 where
   pub calls : AreCalls v.machine.guest.imports guest.calls
   pub configuration : ShowsIn v.machine guest.program p.configuration
@@ -67,7 +71,8 @@ pub record IsProcess (v : ProcessValue) : Type 0 where
   pub few_requests : v.requests ≤ v.answers
   pub few_lines : v.host.released + length (lines_ended v.host.host).lines + 2 < 2 ^ 63
 
--- The module can be linked under this configuration. It is at the start of the module, and no line waits.
+-- The module can be linked under this configuration. It is at the start of the module, and no line
+-- waits.
 pub record HasStarted («module» : Module) (config : Settings) (v : ProcessValue) : Type 0 where
   pub linkable : IsLinkable offer config.pages «module»
   pub guest : v.machine.guest ≡ «module»
@@ -75,9 +80,11 @@ pub record HasStarted («module» : Module) (config : Settings) (v : ProcessValu
   pub first_guest : Guest
   pub first : ProcessState
   pub is_first : IsStart «module» config first_guest first
-  pub shows : (guest : Guest) (p : ProcessState) → IsStart «module» config guest p → ShowsProcess v guest p
+  pub shows : (guest : Guest) (p : ProcessState) → IsStart «module» config guest p
+      → ShowsProcess v guest p
 
 -- the first so many lines that wait were released; it shows what it showed
 pub record HasReleased (count : ℕ) (old new : ProcessValue) : Type 0 where
   pub is : new ≡ record old { host = held_released count old.host }
-  pub shows : (guest : Guest) (p : ProcessState) → ShowsProcess old guest p → ShowsProcess new guest p
+  pub shows : (guest : Guest) (p : ProcessState) → ShowsProcess old guest p
+      → ShowsProcess new guest p

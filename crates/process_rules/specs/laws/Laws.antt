@@ -17,39 +17,48 @@ use Rattle.process_rules.specs.Owing.{RunsQuietly}
 -- A valid module reaches one process at most on the same answers in the same number of steps.
 abbrev pub OneProcess : Type 0
 OneProcess =
-    (m : Module) (config : Settings) (kept : List Kept) (n : ℕ) (p q : ProcessState) → IsValid m → Reaches m config kept n p → Reaches m config kept n q → p ≡ q
+    (m : Module) (config : Settings) (kept : List Kept) (n : ℕ) (p q : ProcessState) → IsValid m
+    → Reaches m config kept n p → Reaches m config kept n q → p ≡ q
 
 -- ---- runs, one after another
 
 -- so does any process
 abbrev pub OneProcessRun : Type 0
-OneProcessRun = (guest : Guest) (p q r : ProcessState) (kept : List Kept) (n : ℕ) → Runs guest p kept n q → Runs guest p kept n r → q ≡ r
+OneProcessRun = (guest : Guest) (p q r : ProcessState) (kept : List Kept) (n : ℕ)
+    → Runs guest p kept n q → Runs guest p kept n r → q ≡ r
 
 abbrev pub RunsJoin : Type 0
 RunsJoin =
-    (guest : Guest) (p q r : ProcessState) (front rest : List Kept) (n k : ℕ) → Runs guest p front n q → Runs guest q rest k r → Runs guest p (front ++ rest) (n + k) r
+    (guest : Guest) (p q r : ProcessState) (front rest : List Kept) (n k : ℕ)
+    → Runs guest p front n q → Runs guest q rest k r → Runs guest p (front ++ rest) (n + k) r
 
 -- the first part of a run of so many steps without answers, and what it leads on to
 abbrev pub QuietRunsJoin : Type 0
-QuietRunsJoin = (guest : Guest) (p q r : ProcessState) (n k : ℕ) → RunsQuietly guest p n q → RunsQuietly guest q k r → RunsQuietly guest p (n + k) r
+QuietRunsJoin = (guest : Guest) (p q r : ProcessState) (n k : ℕ) → RunsQuietly guest p n q
+    → RunsQuietly guest q k r → RunsQuietly guest p (n + k) r
 
 -- steps after which nothing is owed take no answer, and emit no line
 abbrev pub QuietRunsAreRuns : Type 0
-QuietRunsAreRuns = (guest : Guest) (p q : ProcessState) (n : ℕ) → RunsQuietly guest p n q → Runs guest p [] n q × (q.host.lines ≡ p.host.lines)
+QuietRunsAreRuns = (guest : Guest) (p q : ProcessState) (n : ℕ) → RunsQuietly guest p n q
+    → Runs guest p [] n q × (q.host.lines ≡ p.host.lines)
 
 -- a run of so many steps is counted, and emits lines behind those that were there
 abbrev pub RunsCount : Type 0
-RunsCount = (guest : Guest) (p q : ProcessState) (kept : List Kept) (n : ℕ) → Runs guest p kept n q → q.steps ≡ p.steps + n
+RunsCount = (guest : Guest) (p q : ProcessState) (kept : List Kept) (n : ℕ) → Runs guest p kept n q
+    → q.steps ≡ p.steps + n
 
 abbrev pub RunsEmit : Type 0
-RunsEmit = (guest : Guest) (p q : ProcessState) (kept : List Kept) (n : ℕ) → Runs guest p kept n q → Emits p.host q.host
+RunsEmit = (guest : Guest) (p q : ProcessState) (kept : List Kept) (n : ℕ) → Runs guest p kept n q
+    → Emits p.host q.host
 
 -- ---- rules that ask the host for nothing
 
--- Where so many counted rules lead to a configuration that isn't the program's end, after none of them anything is owed.
+-- Where so many counted rules lead to a configuration that isn't the program's end, after none of
+-- them anything is owed.
 abbrev pub RulesAreQuiet : Type 0
 RulesAreQuiet =
-    (guest : Guest) (p : ProcessState) (n : ℕ) (d : Configuration) → p.ended ≡ None → Steps guest.program n p.configuration d → (IsEnded d → ⊥)
+    (guest : Guest) (p : ProcessState) (n : ℕ) (d : Configuration) → p.ended ≡ None
+    → Steps guest.program n p.configuration d → (IsEnded d → ⊥)
     → RunsQuietly guest p n (record p { configuration = d; steps = p.steps + n })
 
 -- a step that ends the process, behind so many after which nothing is owed
@@ -63,14 +72,22 @@ pub record EndsAfter (guest : Guest) (p : ProcessState) (n : ℕ) (q : ProcessSt
 -- The last rule ends it, where that leads to the program's end.
 abbrev pub LastRuleEnds : Type 0
 LastRuleEnds =
-    (guest : Guest) (p : ProcessState) (n : ℕ) (d : Configuration) → p.ended ≡ None → Steps guest.program (suc n) p.configuration d → IsEnded d
-    → EndsAfter guest p n (over (Exited 0) (record p { configuration = d; steps = p.steps + suc n }))
+    (guest : Guest) (p : ProcessState) (n : ℕ) (d : Configuration) → p.ended ≡ None
+    → Steps guest.program (suc n) p.configuration d → IsEnded d
+    → EndsAfter guest p n (over (Exited 0) (record p {
+      configuration = d;
+      steps = p.steps + suc n;
+    }))
 
 -- A trap behind so many counted rules ends it.
 abbrev pub TrapEnds : Type 0
 TrapEnds =
-    (guest : Guest) (p : ProcessState) (n : ℕ) (d : Configuration) (why : Trap) → p.ended ≡ None → Steps guest.program n p.configuration d → rule guest.program d ≡ Traps why
-    → EndsAfter guest p n (over (Trapped why) (record p { configuration = stopped d; steps = p.steps + suc n }))
+    (guest : Guest) (p : ProcessState) (n : ℕ) (d : Configuration) (why : Trap) → p.ended ≡ None
+    → Steps guest.program n p.configuration d → rule guest.program d ≡ Traps why
+    → EndsAfter guest p n (over (Trapped why) (record p {
+      configuration = stopped d;
+      steps = p.steps + suc n;
+    }))
 
 -- ---- hosts
 

@@ -1,5 +1,5 @@
--- What was done to a source and to an outlet, call by call (this project's own). No value stores a history: a list of calls
--- leads from a value before to a value after, by the relation of one call.
+-- What was done to a source and to an outlet, call by call (this project's own). No value stores a
+-- history: a list of calls leads from a value before to a value after, by the relation of one call.
 use Rattle.std.specs.Prelude.{◌≡◌, ℕ, ◌+◌, List, [], ◌∷◌, ◌++◌, length, Option, Result, Ok, Err}
 use Rattle.wasi_abi.specs.declared.answer.Kind.{Kind}
 use Rattle.wasi_abi.specs.declared.answer.Answer.{Answer}
@@ -10,7 +10,8 @@ use Rattle.record_replay.specs.declared.fault.OutletFault.{OutletFault}
 -- These calls lead from one value to another, in order, each from where the one before it led.
 abbrev pub Leads : {V C : Type 0} → (V → C → V → Type 0) → V → List C → V → Type 0
 Leads step before [] after = after ≡ before
-Leads {V} step before (call ∷ calls) after = (between : V) × step before call between × Leads step between calls after
+Leads {V} step before (call ∷ calls) after = (between : V) × step before call between
+    × Leads step between calls after
 
 -- ---- questions to a source
 
@@ -32,7 +33,8 @@ AnswersInOrder gives before asks after = Leads (Asked gives) before asks after
 
 -- ---- releases to an outlet
 
--- what an outlet takes: the outlet before, the line's number and the line, what it said, the outlet after
+-- what an outlet takes: the outlet before, the line's number and the line, what it said, the outlet
+-- after
 abbrev pub Taking : Type 0 → Type 1
 Taking O = O → ℕ → Line → Result (Unit {0}) OutletFault → O → Type 0
 
@@ -49,10 +51,15 @@ Released takes before begun after = takes before begun.number begun.line begun.s
 abbrev pub Releases : {O : Type 0} → Taking O → O → List Begun → O → Type 0
 Releases takes before releases after = Leads (Released takes) before releases after
 
--- releases of these lines, each once and in order, with the numbers from `first` on, to an outlet that took each of them
+-- releases of these lines, each once and in order, with the numbers from `first` on, to an outlet
+-- that took each of them
 abbrev pub all_taken : ℕ → List Line → List Begun
 all_taken first [] = []
-all_taken first (line ∷ lines) = record { number = first; line = line; said = Ok tt } ∷ all_taken (first + 1) lines
+all_taken first (line ∷ lines) = record {
+  number = first;
+  line = line;
+  said = Ok tt;
+} ∷ all_taken (first + 1) lines
 
 -- releases of these lines with the numbers from `first` on, each of which was taken, and of one
 -- more, which was refused
@@ -79,6 +86,7 @@ releases_of (Asks ask ∷ exchanges) = releases_of exchanges
 releases_of (Tells begun ∷ exchanges) = begun ∷ releases_of exchanges
 
 -- These calls lead from one source and one outlet to another. Neither knows of the other.
-pub record Exchanges {S O : Type 0} (gives : Giving S) (takes : Taking O) (source : S) (outlet : O) (exchanges : List Exchange) (source' : S) (outlet' : O) : Type 0 where
+pub record Exchanges {S O : Type 0} (gives : Giving S) (takes : Taking O) (source : S) (outlet : O)
+    (exchanges : List Exchange) (source' : S) (outlet' : O) : Type 0 where
   pub asked : AnswersInOrder gives source (asks_of exchanges) source'
   pub released : Releases takes outlet (releases_of exchanges) outlet'

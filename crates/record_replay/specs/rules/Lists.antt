@@ -1,5 +1,6 @@
 -- The plain types of this crate, call by call.
-use Rattle.std.specs.Prelude.{◌≡◌, ℕ, ◌-◌, ◌==◌, List, [], ◌∷◌, ◌++◌, Option, Some, None, Result, Ok, Err, if◌then◌else◌}
+use Rattle.std.specs.Prelude.{◌≡◌, ℕ, ◌-◌, ◌==◌, List, [], ◌∷◌, ◌++◌, Option, Some, None, Result}
+use Rattle.std.specs.Prelude.{Ok, Err, if◌then◌else◌}
 use Rattle.wasi_abi.specs.declared.answer.Answer.{Answer}
 use Rattle.wasi_calls_rules.specs.Hosts.{Line}
 use Rattle.record_replay.specs.rules.Calls.{Taking}
@@ -18,7 +19,8 @@ abbrev pub numbered : ℕ → Line → NumberedLine
 numbered number line = record { number = number; stream = line.stream; text = line.text }
 
 -- a line that is taken is the last of those kept, and one that isn't changes nothing
-abbrev pub KeepsLine : List NumberedLine → ℕ → Line → Result (Unit {0}) OutletFault → List NumberedLine → Type 0
+abbrev pub KeepsLine : List NumberedLine → ℕ → Line → Result (Unit {0}) OutletFault
+    → List NumberedLine → Type 0
 KeepsLine kept number line (Ok x) new = new ≡ kept ++ numbered number line ∷ []
 KeepsLine kept number line (Err e) new = new ≡ kept
 
@@ -32,7 +34,8 @@ module _ {O : Type 0} where
   until_fault o = o.until_fault
 
 -- The outlet inside took the line. What it said is handed on, or a fault in its place.
-pub record Refuses {O : Type 0} (takes : Taking O) (old : RefusingOutlet O) (number : ℕ) (line : Line) (said : Result (Unit {0}) OutletFault) (new : RefusingOutlet O) : Type 0 where
+pub record Refuses {O : Type 0} (takes : Taking O) (old : RefusingOutlet O) (number : ℕ)
+    (line : Line) (said : Result (Unit {0}) OutletFault) (new : RefusingOutlet O) : Type 0 where
   pub said_inside : Result (Unit {0}) OutletFault
   pub took : takes (inner_outlet old) number line said_inside (inner_outlet new)
   pub counted : until_fault new ≡ until_fault old - 1

@@ -3,31 +3,51 @@ use Rattle.std.specs.Prelude.{◌≡◌, ◌⊎◌, ◌<◌, ◌≤◌, ◌+◌,
 use Rattle.std.proofs.Common.{sym, ap, subst, ◌∙◌, inl, inr, ⊎_elim, arith}
 use Rattle.std.proofs.lemmas.List.{set_past, length-set}
 use Rattle.std.proofs.lemmas.Bool.{cases_lt, cases_eq}
-use Rattle.sector_disk.specs.rules.Image.{Image, sector_at, with_sector, with_front, front_over, IsImage}
-use Rattle.sector_disk.specs.laws.Fronts.{image-with_sector, image-with_front, whole-with_front, sector-with_sector, sector-with_other, with_front_twice, with_front_comm, with_front_self, front_hides, front_within, shorter, longer}
+use Rattle.sector_disk.specs.rules.Image.{Image, sector_at, with_sector, with_front, front_over}
+use Rattle.sector_disk.specs.rules.Image.{IsImage}
+use Rattle.sector_disk.specs.laws.Fronts.{image-with_sector, image-with_front, whole-with_front}
+use Rattle.sector_disk.specs.laws.Fronts.{sector-with_sector, sector-with_other, with_front_twice}
+use Rattle.sector_disk.specs.laws.Fronts.{with_front_comm, with_front_self, front_hides}
+use Rattle.sector_disk.specs.laws.Fronts.{front_within, shorter, longer}
 use Rattle.sector_disk.specs.laws.Pending.{keeps_step}
 use Rattle.sector_disk.specs.rules.Answered.{AnsweredCalls, OneOn, Explains, ShowsOn, ExplainsSince}
 use Rattle.sector_disk.specs.declared.file_call.FileCall.{FileCall}
-use Rattle.sector_disk.specs.declared.file_call.FileCall.TheVariants.{Read, Wrote, Tore, Synced, Failed}
+use Rattle.sector_disk.specs.declared.file_call.FileCall.TheVariants.{Read, Wrote, Tore, Synced}
+use Rattle.sector_disk.specs.declared.file_call.FileCall.TheVariants.{Failed}
 
 -- both are images
-image_on : (n : ℕ) (call : FileCall) (bytes : List ℕ) (before : Image → Image → Type 0) → ((s l : Image) → before s l → IsImage n s × IsImage n l) → (s l : Image) → OneOn call bytes before s l → IsImage n s × IsImage n l
+image_on : (n : ℕ) (call : FileCall) (bytes : List ℕ) (before : Image → Image → Type 0)
+    → ((s l : Image) → before s l → IsImage n s × IsImage n l) → (s l : Image)
+    → OneOn call bytes before s l → IsImage n s × IsImage n l
 image_on n (Read k) bytes before was s l on = was s l on.0
 image_on n (Wrote k) bytes before was s l (s0, l0, f, b, le, full, es, el) =
-    let both = was s0 l0 b in
-    (subst (λ (i : Image). IsImage n i) (sym es) (image-with_sector n s0 k bytes both.0 (λ lt. full)), subst (λ (i : Image). IsImage n i) (sym el) (image-with_front n l0 k f bytes both.1 le (λ lt. full)))
+    let both = was s0 l0 b in (
+      subst (λ (i : Image). IsImage n i) (sym es) (image-with_sector n s0 k bytes both.0 (λ lt.
+          full)),
+      subst (λ (i : Image). IsImage n i) (sym el)
+          (image-with_front n l0 k f bytes both.1 le (λ lt. full)),
+    )
 image_on n (Tore k) bytes before was s l (s0, l0, m, f, b, le, less, full, es, el) =
-    let both = was s0 l0 b in
-    (subst (λ (i : Image). IsImage n i) (sym es) (image-with_front n s0 k m bytes both.0 le (λ lt. full)), subst (λ (i : Image). IsImage n i) (sym el) (image-with_front n l0 k f bytes both.1 (omega arith) (λ lt. full)))
-image_on n Synced bytes before was s l (l0, b, e) = let both = was s l0 b in (both.0, subst (λ (i : Image). IsImage n i) (sym e) both.0)
+    let both = was s0 l0 b in (
+      subst (λ (i : Image). IsImage n i) (sym es) (image-with_front n s0 k m bytes both.0 le (λ lt.
+          full)),
+      subst (λ (i : Image). IsImage n i) (sym el) (image-with_front n l0 k f bytes both.1
+          (omega arith) (λ lt. full)),
+    )
+image_on n Synced bytes before was s l (l0, b, e) = let both = was s l0 b in
+    (both.0, subst (λ (i : Image). IsImage n i) (sym e) both.0)
 image_on n Failed bytes before was s l on = was s l on
 
-pub images : (n : ℕ) (answers : AnsweredCalls) (s l : Image) → Explains n answers s l → IsImage n s × IsImage n l
+pub images : (n : ℕ) (answers : AnsweredCalls) (s l : Image) → Explains n answers s l
+    → IsImage n s × IsImage n l
 images n [] s l on = on
-images n (answer ∷ answers) s l on = image_on n answer.0 answer.1 (Explains n answers) (images n answers) s l on
+images n (answer ∷ answers) s l on =
+    image_on n answer.0 answer.1 (Explains n answers) (images n answers) s l on
 
 -- a cut may leave all that reads give
-stay_on : (n : ℕ) (call : FileCall) (bytes : List ℕ) (before : Image → Image → Type 0) → ((s l : Image) → before s l → IsImage n s × IsImage n l) → ((s l : Image) → before s l → before s s)
+stay_on : (n : ℕ) (call : FileCall) (bytes : List ℕ) (before : Image → Image → Type 0)
+    → ((s l : Image) → before s l → IsImage n s × IsImage n l)
+    → ((s l : Image) → before s l → before s s)
     → (s l : Image) → OneOn call bytes before s l → OneOn call bytes before s s
 stay_on n (Read k) bytes before is stays s l on = (stays s l on.0, on.1)
 stay_on n (Wrote k) bytes before is stays s l (s0, l0, f, b, le, full, es, el) =
@@ -45,45 +65,64 @@ stay_on n (Wrote k) bytes before is stays s l (s0, l0, f, b, le, full, es, el) =
           (cases_lt k n),
     )
   where
-    out_of : (n : ℕ) (image : Image) (k f : ℕ) (bytes : List ℕ) → IsImage n image → n ≤ k → with_sector image k bytes ≡ with_front image k f bytes
+    out_of : (n : ℕ) (image : Image) (k f : ℕ) (bytes : List ℕ) → IsImage n image → n ≤ k
+        → with_sector image k bytes ≡ with_front image k f bytes
     out_of n image k f bytes is out =
         let past : length image ≤ k = let c = is.count in omega (arith, c) in
-        set_past image k bytes past ∙ sym (set_past image k (front_over f bytes (sector_at image k)) past)
-stay_on n (Tore k) bytes before is stays s l (s0, l0, m, f, b, le, less, full, es, el) = (s0, s0, m, m, stays s0 l0 b, le, omega arith, full, es, es)
+        set_past image k bytes past
+        ∙ sym (set_past image k (front_over f bytes (sector_at image k)) past)
+stay_on n (Tore k) bytes before is stays s l (s0, l0, m, f, b, le, less, full, es, el) =
+    (s0, s0, m, m, stays s0 l0 b, le, omega arith, full, es, es)
 stay_on n Synced bytes before is stays s l (l0, b, e) = (l0, b, refl)
 stay_on n Failed bytes before is stays s l on = stays s l on
 
-pub stays : (n : ℕ) (answers : AnsweredCalls) (s l : Image) → Explains n answers s l → Explains n answers s s
+pub stays : (n : ℕ) (answers : AnsweredCalls) (s l : Image) → Explains n answers s l
+    → Explains n answers s s
 stays n [] s l on = (on.0, on.0)
-stays n (answer ∷ answers) s l on = stay_on n answer.0 answer.1 (Explains n answers) (images n answers) (stays n answers) s l on
+stays n (answer ∷ answers) s l on =
+    stay_on n answer.0 answer.1 (Explains n answers) (images n answers) (stays n answers) s l on
 
 -- a write past the last sector
-out_of_range : (n : ℕ) (image : Image) (k f : ℕ) (bytes : List ℕ) → length image ≡ n → n ≤ k → with_front image k f bytes ≡ image
-out_of_range n image k f bytes size out = set_past image k (front_over f bytes (sector_at image k)) (omega arith)
+out_of_range : (n : ℕ) (image : Image) (k f : ℕ) (bytes : List ℕ) → length image ≡ n → n ≤ k
+    → with_front image k f bytes ≡ image
+out_of_range n image k f bytes size out =
+    set_past image k (front_over f bytes (sector_at image k)) (omega arith)
 
 -- what a cut leaves may keep more of what reads give: a write
-wrote_more : (n k j f g : ℕ) (bytes : List ℕ) (s0 l0 : Image) → IsImage n s0 → IsImage n l0 → f ≤ 512 → g ≤ 512 → length bytes ≡ 512
-    → (h : ℕ) × (h ≤ 512) × (with_front (with_front l0 k g bytes) j f (sector_at (with_sector s0 k bytes) j) ≡ with_front (with_front l0 j f (sector_at s0 j)) k h bytes)
+wrote_more : (n k j f g : ℕ) (bytes : List ℕ) (s0 l0 : Image) → IsImage n s0 → IsImage n l0
+    → f ≤ 512 → g ≤ 512 → length bytes ≡ 512
+    → (h : ℕ) × (h ≤ 512)
+    × (with_front (with_front l0 k g bytes) j f (sector_at (with_sector s0 k bytes) j)
+    ≡ with_front (with_front l0 j f (sector_at s0 j)) k h bytes)
 wrote_more n k j f g bytes s0 l0 is-s is-l le-f le-g full =
     ⊎_elim
-    (λ (lt : k < n). let step = keeps_step n l0 s0 j f g (record { sector = k; bytes = bytes }) is-l.count is-s (record { within = lt; full = full }) le-f le-g in (step.0, step.1, sym step.2))
+    (λ (lt : k < n). let step = keeps_step n l0 s0 j f g (record {
+      sector = k;
+      bytes = bytes;
+    }) is-l.count is-s (record { within = lt; full = full }) le-f le-g in
+    (step.0, step.1, sym step.2))
     (λ (out : n ≤ k).
     let c = is-l.count in let d = is-s.count in
     let s-is : with_sector s0 k bytes ≡ s0 = set_past s0 k bytes (omega arith) in (
       g,
       le-g,
-      ap (λ (i : Image). with_front i j f (sector_at (with_sector s0 k bytes) j)) (out_of_range n l0 k g bytes c out)
+      ap (λ (i : Image). with_front i j f (sector_at (with_sector s0 k bytes) j))
+          (out_of_range n l0 k g bytes c out)
           ∙ ap (λ (i : Image). with_front l0 j f (sector_at i j)) s-is
-          ∙ sym (out_of_range n (with_front l0 j f (sector_at s0 j)) k g bytes (length-set l0 j _ ∙ c) out),
+          ∙ sym (out_of_range n (with_front l0 j f (sector_at s0 j)) k g bytes (length-set l0 j _
+          ∙ c) out),
     ))
     (cases_lt k n)
 
 -- a write that left a front at most
-tore_same : (f g m : ℕ) (b s l : List ℕ) → f ≤ 512 → g ≤ m → m ≤ 512 → length b ≡ 512 → length s ≡ 512
-    → ((h : ℕ) × (h ≤ m) × (front_over f (front_over m b s) (front_over g b l) ≡ front_over h b l)) ⊎ (front_over f (front_over m b s) (front_over g b l) ≡ front_over m b (front_over f s l))
+tore_same : (f g m : ℕ) (b s l : List ℕ) → f ≤ 512 → g ≤ m → m ≤ 512 → length b ≡ 512
+    → length s ≡ 512
+    → ((h : ℕ) × (h ≤ m) × (front_over f (front_over m b s) (front_over g b l) ≡ front_over h b l))
+    ⊎ (front_over f (front_over m b s) (front_over g b l) ≡ front_over m b (front_over f s l))
 tore_same f g m b s l le-f le-g le-m full-b full-s =
     ⊎_elim
-    (λ (big : m < f). inr (longer f m b s (front_over g b l) (omega arith) (omega arith) (omega arith)
+    (λ (big : m < f). inr (longer f m b s (front_over g b l) (omega arith) (omega arith)
+    (omega arith)
     ∙ ap (λ (x : List ℕ). front_over m b x) (front_hides g f s b l (omega arith) (omega arith))))
     (λ (small : f ≤ m). let short = shorter f m b s (front_over g b l) small (omega arith) in
     ⊎_elim
@@ -92,8 +131,12 @@ tore_same f g m b s l le-f le-g le-m full-b full-s =
     (cases_lt f g))
     (cases_lt m f)
 
-tore_more : (n k j f g m : ℕ) (bytes : List ℕ) (s0 l0 : Image) → IsImage n s0 → IsImage n l0 → f ≤ 512 → g ≤ m → m ≤ 512 → length bytes ≡ 512 → (before : Image → Type 0) → before l0 → ((j f : ℕ) → f ≤ 512 → before (with_front l0 j f (sector_at s0 j)))
-    → (l : Image) × (h : ℕ) × before l × (h ≤ m) × (with_front (with_front l0 k g bytes) j f (sector_at (with_front s0 k m bytes) j) ≡ with_front l k h bytes)
+tore_more : (n k j f g m : ℕ) (bytes : List ℕ) (s0 l0 : Image) → IsImage n s0 → IsImage n l0
+    → f ≤ 512 → g ≤ m → m ≤ 512 → length bytes ≡ 512 → (before : Image → Type 0) → before l0
+    → ((j f : ℕ) → f ≤ 512 → before (with_front l0 j f (sector_at s0 j)))
+    → (l : Image) × (h : ℕ) × before l × (h ≤ m)
+    × (with_front (with_front l0 k g bytes) j f (sector_at (with_front s0 k m bytes) j)
+    ≡ with_front l k h bytes)
 tore_more n k j f g m bytes s0 l0 is-s is-l le-f le-g le-m full before here more =
     ⊎_elim
     (λ (out : n ≤ k).
@@ -102,38 +145,63 @@ tore_more n k j f g m bytes s0 l0 is-s is-l le-f le-g le-m full before here more
       g,
       more j f le-f,
       le-g,
-      ap (λ (i : Image). with_front i j f (sector_at (with_front s0 k m bytes) j)) (out_of_range n l0 k g bytes c out)
-          ∙ ap (λ (i : Image). with_front l0 j f (sector_at i j)) (out_of_range n s0 k m bytes d out)
-          ∙ sym (out_of_range n (with_front l0 j f (sector_at s0 j)) k g bytes (length-set l0 j _ ∙ c) out),
+      ap (λ (i : Image). with_front i j f (sector_at (with_front s0 k m bytes) j))
+          (out_of_range n l0 k g bytes c out)
+          ∙ ap (λ (i : Image). with_front l0 j f (sector_at i j))
+          (out_of_range n s0 k m bytes d out)
+          ∙ sym (out_of_range n (with_front l0 j f (sector_at s0 j)) k g bytes (length-set l0 j _
+          ∙ c) out),
     ))
     (λ (lt : k < n).
     ⊎_elim
     (λ (e : j ≡ k).
-    let Goal : ℕ → Type 0 = λ i. (l : Image) × (h : ℕ) × before l × (h ≤ m) × (with_front (with_front l0 k g bytes) i f (sector_at (with_front s0 k m bytes) i) ≡ with_front l k h bytes) in
+    let Goal : ℕ → Type 0 = λ i. (l : Image) × (h : ℕ) × before l × (h ≤ m)
+    × (with_front (with_front l0 k g bytes) i f (sector_at (with_front s0 k m bytes) i)
+    ≡ with_front l k h bytes) in
     let in-s : k < length s0 = let d = is-s.count in omega arith in
     let in-l : k < length l0 = let c = is-l.count in omega arith in
-    let shown : sector_at (with_front s0 k m bytes) k ≡ front_over m bytes (sector_at s0 k) = sector-with_sector s0 k _ in-s in
-    let twice : with_front (with_front l0 k g bytes) k f (sector_at (with_front s0 k m bytes) k) ≡ with_sector l0 k (front_over f (front_over m bytes (sector_at s0 k)) (front_over g bytes (sector_at l0 k))) =
-    with_front_twice l0 k g f (sector_at (with_front s0 k m bytes) k) bytes in-l ∙ ap (λ (x : List ℕ). with_sector l0 k (front_over f x (front_over g bytes (sector_at l0 k)))) shown in
+    let shown : sector_at (with_front s0 k m bytes) k ≡ front_over m bytes (sector_at s0 k) =
+    sector-with_sector s0 k _ in-s in
+    let twice : with_front (with_front l0 k g bytes) k f (sector_at (with_front s0 k m bytes) k)
+    ≡ with_sector l0 k (front_over f (front_over m bytes (sector_at s0 k))
+    (front_over g bytes (sector_at l0 k))) =
+    with_front_twice l0 k g f (sector_at (with_front s0 k m bytes) k) bytes in-l
+    ∙ ap (λ (x : List ℕ).
+    with_sector l0 k (front_over f x (front_over g bytes (sector_at l0 k)))) shown in
     subst Goal (sym e) (⊎_elim
-    (λ (one : (h : ℕ) × (h ≤ m) × (front_over f (front_over m bytes (sector_at s0 k)) (front_over g bytes (sector_at l0 k)) ≡ front_over h bytes (sector_at l0 k))).
+    (λ (one : (h : ℕ) × (h ≤ m) × (front_over f (front_over m bytes (sector_at s0 k))
+    (front_over g bytes (sector_at l0 k)) ≡ front_over h bytes (sector_at l0 k))).
     (l0, one.0, here, one.1, twice ∙ ap (λ (x : List ℕ). with_sector l0 k x) one.2))
-    (λ (two : front_over f (front_over m bytes (sector_at s0 k)) (front_over g bytes (sector_at l0 k)) ≡ front_over m bytes (front_over f (sector_at s0 k) (sector_at l0 k))).
-    (with_front l0 k f (sector_at s0 k), m, more k f le-f, omega arith, twice ∙ ap (λ (x : List ℕ). with_sector l0 k x) two ∙ sym (with_front_twice l0 k f m bytes (sector_at s0 k) in-l)))
+    (λ (two : front_over f (front_over m bytes (sector_at s0 k))
+    (front_over g bytes (sector_at l0 k))
+    ≡ front_over m bytes (front_over f (sector_at s0 k) (sector_at l0 k))). (
+      with_front l0 k f (sector_at s0 k),
+      m,
+      more k f le-f,
+      omega arith,
+      twice
+          ∙ ap (λ (x : List ℕ). with_sector l0 k x) two
+          ∙ sym (with_front_twice l0 k f m bytes (sector_at s0 k) in-l),
+    ))
     (tore_same f g m bytes (sector_at s0 k) (sector_at l0 k) le-f le-g le-m full (is-s.full k lt))))
     (λ (ne : j ≡ k → ⊥). (
       with_front l0 j f (sector_at s0 j),
       g,
       more j f le-f,
       le-g,
-      ap (λ (x : List ℕ). with_front (with_front l0 k g bytes) j f x) (sector-with_other s0 j k _ ne)
+      ap (λ (x : List ℕ). with_front (with_front l0 k g bytes) j f x)
+          (sector-with_other s0 j k _ ne)
           ∙ sym (with_front_comm l0 j k f g bytes (sector_at s0 j) ne),
     ))
     (cases_eq j k))
     (⊎_elim (λ lt. inr lt) (λ out. inl out) (cases_lt k n))
 
-more_on : (n : ℕ) (call : FileCall) (bytes : List ℕ) (before : Image → Image → Type 0) → ((s l : Image) → before s l → IsImage n s × IsImage n l) → ((s l : Image) → before s l → (j f : ℕ) → f ≤ 512 → before s (with_front l j f (sector_at s j)))
-    → (s l : Image) → OneOn call bytes before s l → (j f : ℕ) → f ≤ 512 → OneOn call bytes before s (with_front l j f (sector_at s j))
+more_on : (n : ℕ) (call : FileCall) (bytes : List ℕ) (before : Image → Image → Type 0)
+    → ((s l : Image) → before s l → IsImage n s × IsImage n l)
+    → ((s l : Image) → before s l → (j f : ℕ) → f ≤ 512
+    → before s (with_front l j f (sector_at s j)))
+    → (s l : Image) → OneOn call bytes before s l → (j f : ℕ) → f ≤ 512
+    → OneOn call bytes before s (with_front l j f (sector_at s j))
 more_on n (Read k) bytes before is more s l on j f le = (more s l on.0 j f le, on.1)
 more_on n (Wrote k) bytes before is more s l (s0, l0, g, b, le-g, full, es, el) j f le =
     let both = is s0 l0 b in
@@ -145,11 +213,14 @@ more_on n (Wrote k) bytes before is more s l (s0, l0, g, b, le-g, full, es, el) 
       step.1,
       full,
       es,
-      ap (λ (i : Image). with_front i j f (sector_at s j)) el ∙ ap (λ (i : Image). with_front (with_front l0 k g bytes) j f (sector_at i j)) es ∙ step.2,
+      ap (λ (i : Image). with_front i j f (sector_at s j)) el
+          ∙ ap (λ (i : Image). with_front (with_front l0 k g bytes) j f (sector_at i j)) es
+          ∙ step.2,
     )
 more_on n (Tore k) bytes before is more s l (s0, l0, m, g, b, le-m, le-g, full, es, el) j f le =
     let both = is s0 l0 b in
-    let step = tore_more n k j f g m bytes s0 l0 both.0 both.1 le le-g le-m full (before s0) b (more s0 l0 b) in (
+    let step = tore_more n k j f g m bytes s0 l0 both.0 both.1 le le-g le-m full (before s0) b
+    (more s0 l0 b) in (
       s0,
       step.0,
       m,
@@ -159,95 +230,135 @@ more_on n (Tore k) bytes before is more s l (s0, l0, m, g, b, le-m, le-g, full, 
       step.3,
       full,
       es,
-      ap (λ (i : Image). with_front i j f (sector_at s j)) el ∙ ap (λ (i : Image). with_front (with_front l0 k g bytes) j f (sector_at i j)) es ∙ step.4,
+      ap (λ (i : Image). with_front i j f (sector_at s j)) el
+          ∙ ap (λ (i : Image). with_front (with_front l0 k g bytes) j f (sector_at i j)) es
+          ∙ step.4,
     )
-more_on n Synced bytes before is more s l (l0, b, e) j f le = (l0, b, ap (λ (i : Image). with_front i j f (sector_at s j)) e ∙ with_front_self s j f)
+more_on n Synced bytes before is more s l (l0, b, e) j f le =
+    (l0, b, ap (λ (i : Image). with_front i j f (sector_at s j)) e ∙ with_front_self s j f)
 more_on n Failed bytes before is more s l on j f le = more s l on j f le
 
-pub keeps_more_of : (n : ℕ) (answers : AnsweredCalls) (s l : Image) → Explains n answers s l → (j f : ℕ) → f ≤ 512 → Explains n answers s (with_front l j f (sector_at s j))
-keeps_more_of n [] s l on j f le = (on.0, image-with_front n l j f (sector_at s j) on.1 le (λ lt. let is = on.0 in is.full j lt))
-keeps_more_of n (answer ∷ answers) s l on j f le = more_on n answer.0 answer.1 (Explains n answers) (images n answers) (keeps_more_of n answers) s l on j f le
+pub keeps_more_of : (n : ℕ) (answers : AnsweredCalls) (s l : Image) → Explains n answers s l
+    → (j f : ℕ) → f ≤ 512 → Explains n answers s (with_front l j f (sector_at s j))
+keeps_more_of n [] s l on j f le =
+    (on.0, image-with_front n l j f (sector_at s j) on.1 le (λ lt. let is = on.0 in is.full j lt))
+keeps_more_of n (answer ∷ answers) s l on j f le =
+    more_on n answer.0 answer.1 (Explains n answers) (images n answers)
+    (keeps_more_of n answers) s l on j f le
 
 -- moments
-pub from_shows : (call : FileCall) (bytes : List ℕ) (before : Image → Type 0) (s : Image) → ShowsOn call bytes before s → (was : Image) × before was
+pub from_shows : (call : FileCall) (bytes : List ℕ) (before : Image → Type 0) (s : Image)
+    → ShowsOn call bytes before s → (was : Image) × before was
 from_shows (Read k) bytes before s on = (s, on.0)
 from_shows (Wrote k) bytes before s on = (on.0, on.1)
 from_shows (Tore k) bytes before s on = (on.0, on.2)
 from_shows Synced bytes before s on = (s, on)
 from_shows Failed bytes before s on = (s, on)
 
-none_since : (n t : ℕ) (answers : AnsweredCalls) (left s : Image) → length answers < t → ExplainsSince n t answers left s → ⊥
+none_since : (n t : ℕ) (answers : AnsweredCalls) (left s : Image) → length answers < t
+    → ExplainsSince n t answers left s → ⊥
 none_since n t [] left s lt since = let no-later = since.0 in absurd (omega arith)
 none_since n t (answer ∷ answers) left s lt since =
     ⊎_elim
-    (λ (now : (t ≤ length answers + 1) × Explains n (answer ∷ answers) s left). let no-later = now.0 in absurd (omega arith))
-    (λ (earlier : ShowsOn answer.0 answer.1 (ExplainsSince n t answers left) s). let was = from_shows answer.0 answer.1 (ExplainsSince n t answers left) s earlier in none_since n t answers left was.0 (omega arith) was.1)
+    (λ (now : (t ≤ length answers + 1) × Explains n (answer ∷ answers) s left). let no-later = now.0
+    in absurd (omega arith))
+    (λ (earlier : ShowsOn answer.0 answer.1 (ExplainsSince n t answers left) s).
+    let was = from_shows answer.0 answer.1 (ExplainsSince n t answers left) s earlier in
+    none_since n t answers left was.0 (omega arith) was.1)
     since
 
-pub since_now : (n t : ℕ) (answers : AnsweredCalls) (left s : Image) → t ≤ length answers → Explains n answers s left → ExplainsSince n t answers left s
+pub since_now : (n t : ℕ) (answers : AnsweredCalls) (left s : Image) → t ≤ length answers
+    → Explains n answers s left → ExplainsSince n t answers left s
 since_now n t [] left s le on = (omega arith, on)
 since_now n t (answer ∷ answers) left s le on = inl (omega arith, on)
 
-pub since_only : (n : ℕ) (answers : AnsweredCalls) (left s : Image) → ExplainsSince n (length answers) answers left s → Explains n answers s left
+pub since_only : (n : ℕ) (answers : AnsweredCalls) (left s : Image)
+    → ExplainsSince n (length answers) answers left s → Explains n answers s left
 since_only n [] left s since = since.1
 since_only n (answer ∷ answers) left s since =
     ⊎_elim
-    (λ (now : (length (answer ∷ answers) ≤ length answers + 1) × Explains n (answer ∷ answers) s left). now.1)
-    (λ (earlier : ShowsOn answer.0 answer.1 (ExplainsSince n (length (answer ∷ answers)) answers left) s).
-    let was = from_shows answer.0 answer.1 (ExplainsSince n (length (answer ∷ answers)) answers left) s earlier in
+    (λ (now : (length (answer ∷ answers) ≤ length answers + 1)
+    × Explains n (answer ∷ answers) s left). now.1)
+    (λ (earlier : ShowsOn answer.0 answer.1
+    (ExplainsSince n (length (answer ∷ answers)) answers left) s).
+    let was = from_shows answer.0 answer.1
+    (ExplainsSince n (length (answer ∷ answers)) answers left) s earlier in
     absurd (none_since n (length (answer ∷ answers)) answers left was.0 (omega arith) was.1))
     since
 
 -- one answer more
-pub since_on : (n t : ℕ) (answer : FileCall × List ℕ) (answers : AnsweredCalls) (left s : Image) → ExplainsSince n t (answer ∷ answers) left s
-    → ((was : Image) × ExplainsSince n t answers left was) ⊎ ((now : Image) × Explains n (answer ∷ answers) now left)
+pub since_on : (n t : ℕ) (answer : FileCall × List ℕ) (answers : AnsweredCalls) (left s : Image)
+    → ExplainsSince n t (answer ∷ answers) left s
+    → ((was : Image) × ExplainsSince n t answers left was)
+    ⊎ ((now : Image) × Explains n (answer ∷ answers) now left)
 since_on n t answer answers left s since =
     ⊎_elim
     (λ (now : (t ≤ length answers + 1) × Explains n (answer ∷ answers) s left). inr (s, now.1))
-    (λ (earlier : ShowsOn answer.0 answer.1 (ExplainsSince n t answers left) s). inl (from_shows answer.0 answer.1 (ExplainsSince n t answers left) s earlier))
+    (λ (earlier : ShowsOn answer.0 answer.1 (ExplainsSince n t answers left) s).
+    inl (from_shows answer.0 answer.1 (ExplainsSince n t answers left) s earlier))
     since
 
 -- a whole write is a front of all its bytes
-pub whole_front : (n : ℕ) (image : Image) (k : ℕ) (bytes : List ℕ) → IsImage n image → length bytes ≡ 512 → with_sector image k bytes ≡ with_front image k 512 bytes
+pub whole_front : (n : ℕ) (image : Image) (k : ℕ) (bytes : List ℕ) → IsImage n image
+    → length bytes ≡ 512 → with_sector image k bytes ≡ with_front image k 512 bytes
 whole_front n image k bytes is full =
     ⊎_elim (λ (lt : k < n). sym (whole-with_front n image k bytes is lt full))
-    (λ (out : n ≤ k). let c = is.count in set_past image k bytes (omega arith) ∙ sym (out_of_range n image k 512 bytes c out))
+    (λ (out : n ≤ k). let c = is.count in set_past image k bytes (omega arith)
+    ∙ sym (out_of_range n image k 512 bytes c out))
     (cases_lt k n)
 
 -- what explains a run of moments explains this one
-shows_on : (call : FileCall) (bytes : List ℕ) (before : Image → Image → Type 0) (was : Image → Type 0) → ((s : Image) → was s → (l : Image) × before s l) → (s : Image) → ShowsOn call bytes was s → (l : Image) × OneOn call bytes before s l
+shows_on : (call : FileCall) (bytes : List ℕ) (before : Image → Image → Type 0) (was : Image
+    → Type 0) → ((s : Image) → was s → (l : Image) × before s l) → (s : Image)
+    → ShowsOn call bytes was s → (l : Image) × OneOn call bytes before s l
 shows_on (Read k) bytes before was has s on = let b = has s on.0 in (b.0, (b.1, on.1))
-shows_on (Wrote k) bytes before was has s (s0, b, full, e) = let w = has s0 b in (with_front w.0 k 0 bytes, (s0, w.0, 0, w.1, omega arith, full, e, refl))
-shows_on (Tore k) bytes before was has s (s0, f, b, le, full, e) = let w = has s0 b in (with_front w.0 k 0 bytes, (s0, w.0, f, 0, w.1, le, omega arith, full, e, refl))
+shows_on (Wrote k) bytes before was has s (s0, b, full, e) = let w = has s0 b in
+    (with_front w.0 k 0 bytes, (s0, w.0, 0, w.1, omega arith, full, e, refl))
+shows_on (Tore k) bytes before was has s (s0, f, b, le, full, e) = let w = has s0 b in
+    (with_front w.0 k 0 bytes, (s0, w.0, f, 0, w.1, le, omega arith, full, e, refl))
 shows_on Synced bytes before was has s on = let w = has s on in (s, (w.0, w.1, refl))
 shows_on Failed bytes before was has s on = has s on
 
-pub since_shows : (n t : ℕ) (answers : AnsweredCalls) (left s : Image) → ExplainsSince n t answers left s → (l : Image) × Explains n answers s l
+pub since_shows : (n t : ℕ) (answers : AnsweredCalls) (left s : Image)
+    → ExplainsSince n t answers left s → (l : Image) × Explains n answers s l
 since_shows n t [] left s since = (left, since.1)
 since_shows n t (answer ∷ answers) left s since =
     ⊎_elim
     (λ (now : (t ≤ length answers + 1) × Explains n (answer ∷ answers) s left). (left, now.1))
     (λ (earlier : ShowsOn answer.0 answer.1 (ExplainsSince n t answers left) s).
-    shows_on answer.0 answer.1 (Explains n answers) (ExplainsSince n t answers left) (since_shows n t answers left) s earlier)
+    shows_on answer.0 answer.1 (Explains n answers) (ExplainsSince n t answers left)
+    (since_shows n t answers left) s earlier)
     since
 
 -- a read or a sync adds nothing to what a cut may have left
-stay_since : (n t : ℕ) (call : FileCall) (bytes : List ℕ) (answers : AnsweredCalls) (left s : Image) → t ≤ length answers
-    → (OneOn call bytes (Explains n answers) s left → ExplainsSince n t answers left s) → (ShowsOn call bytes (ExplainsSince n t answers left) s → ExplainsSince n t answers left s)
+stay_since : (n t : ℕ) (call : FileCall) (bytes : List ℕ) (answers : AnsweredCalls) (left s : Image)
+    → t ≤ length answers
+    → (OneOn call bytes (Explains n answers) s left → ExplainsSince n t answers left s)
+    → (ShowsOn call bytes (ExplainsSince n t answers left) s → ExplainsSince n t answers left s)
     → ExplainsSince n t ((call, bytes) ∷ answers) left s → ExplainsSince n t answers left s
 stay_since n t call bytes answers left s le now before since =
-    ⊎_elim (λ (here : (t ≤ length answers + 1) × Explains n ((call, bytes) ∷ answers) s left). now here.1) before since
+    ⊎_elim (λ (here : (t ≤ length answers + 1) × Explains n ((call, bytes) ∷ answers) s left).
+    now here.1) before since
 
-pub read_since : (n t : ℕ) {k : ℕ} {bytes : List ℕ} (moments answers : AnsweredCalls) (left s : Image) → moments ≡ (Read k, bytes) ∷ answers → t ≤ length answers → ExplainsSince n t moments left s → ExplainsSince n t answers left s
+pub read_since : (n t : ℕ) {k : ℕ} {bytes : List ℕ} (moments answers : AnsweredCalls)
+    (left s : Image) → moments ≡ (Read k, bytes) ∷ answers → t ≤ length answers
+    → ExplainsSince n t moments left s → ExplainsSince n t answers left s
 read_since n t {k} {bytes} moments answers left s e le since =
-    stay_since n t (Read k) bytes answers left s le (λ on. since_now n t answers left s le on.0) (λ on. on.0) (subst (λ (a : AnsweredCalls). ExplainsSince n t a left s) e since)
+    stay_since n t (Read k) bytes answers left s le (λ on. since_now n t answers left s le on.0)
+    (λ on. on.0) (subst (λ (a : AnsweredCalls). ExplainsSince n t a left s) e since)
 
-pub failed_since : (n t : ℕ) {bytes : List ℕ} (moments answers : AnsweredCalls) (left s : Image) → moments ≡ (Failed, bytes) ∷ answers → t ≤ length answers → ExplainsSince n t moments left s → ExplainsSince n t answers left s
+pub failed_since : (n t : ℕ) {bytes : List ℕ} (moments answers : AnsweredCalls) (left s : Image)
+    → moments ≡ (Failed, bytes) ∷ answers → t ≤ length answers → ExplainsSince n t moments left s
+    → ExplainsSince n t answers left s
 failed_since n t {bytes} moments answers left s e le since =
-    stay_since n t Failed bytes answers left s le (λ on. since_now n t answers left s le on) (λ on. on) (subst (λ (a : AnsweredCalls). ExplainsSince n t a left s) e since)
+    stay_since n t Failed bytes answers left s le (λ on. since_now n t answers left s le on) (λ on.
+    on) (subst (λ (a : AnsweredCalls). ExplainsSince n t a left s) e since)
 
-pub synced_since : (n t : ℕ) {bytes : List ℕ} (moments answers : AnsweredCalls) (left s : Image) → moments ≡ (Synced, bytes) ∷ answers → t ≤ length answers → ExplainsSince n t moments left s → ExplainsSince n t answers left s
+pub synced_since : (n t : ℕ) {bytes : List ℕ} (moments answers : AnsweredCalls) (left s : Image)
+    → moments ≡ (Synced, bytes) ∷ answers → t ≤ length answers → ExplainsSince n t moments left s
+    → ExplainsSince n t answers left s
 synced_since n t {bytes} moments answers left s e le since =
     stay_since n t Synced bytes answers left s le
-    (λ on. subst (λ (i : Image). ExplainsSince n t answers i s) (sym on.2) (since_now n t answers s s le (stays n answers s on.0 on.1)))
+    (λ on. subst (λ (i : Image). ExplainsSince n t answers i s) (sym on.2)
+    (since_now n t answers s s le (stays n answers s on.0 on.1)))
     (λ on. on) (subst (λ (a : AnsweredCalls). ExplainsSince n t a left s) e since)

@@ -1,6 +1,8 @@
 -- Worked examples of images, of runs of writes, and of what is counted.
-use Rattle.std.specs.Prelude.{◌≡◌, ◌<◌, ◌≤◌, ◌+◌, ◌-◌, ◌^◌, ◌++◌, ℕ, List, [], ◌∷◌, Option, Some, None, replicate, refl, Bool, IsTrue}
-use Rattle.sector_disk.specs.rules.Image.{Image, sector_at, with_sector, front_over, with_front, IsImage, IsTornWithin}
+use Rattle.std.specs.Prelude.{◌≡◌, ◌<◌, ◌≤◌, ◌+◌, ◌-◌, ◌^◌, ◌++◌, ℕ, List, [], ◌∷◌, Option, Some}
+use Rattle.std.specs.Prelude.{None, replicate, refl, Bool, IsTrue}
+use Rattle.sector_disk.specs.rules.Image.{Image, sector_at, with_sector, front_over, with_front}
+use Rattle.sector_disk.specs.rules.Image.{IsImage, IsTornWithin}
 use Rattle.std.proofs.Common.{zero, suc, length, drop, sym, ap, ◌∙◌, arith}
 use Rattle.std.proofs.lemmas.List.{drop_all}
 use Rattle.sector_disk.specs.rules.Medium.{Medium, BeginsCalls, spare}
@@ -9,13 +11,15 @@ use Rattle.sector_disk.specs.rules.Memory.{calls_in}
 use Rattle.sector_disk.specs.rules.Run.{IsTornRun, IsWrittenRun}
 use Rattle.sector_disk.specs.rules.Pending.{replayed, torn_by}
 use Rattle.sector_disk.specs.rules.Answered.{AnsweredCalls, faults_of, unsynced_of, file_calls}
-use Rattle.sector_disk.specs.rules.Trouble.{counted, call_number, trouble_at, place_numbers, troubled, LeavesFront}
+use Rattle.sector_disk.specs.rules.Trouble.{counted, call_number, trouble_at, place_numbers}
+use Rattle.sector_disk.specs.rules.Trouble.{troubled, LeavesFront}
 use Rattle.sector_disk.specs.declared.write.Write.{Write}
 use Rattle.sector_disk.specs.declared.disk_call.DiskCall.{DiskCall}
 use Rattle.sector_disk.specs.declared.disk_call.DiskCall.TheVariants.{WriteOf, Sync}
 use Rattle.sector_disk.specs.declared.place.Place.{Place}
 use Rattle.sector_disk.specs.declared.trouble.Trouble.TheVariants.{Stops, Stopped, Fails}
-use Rattle.sector_disk.specs.declared.file_call.FileCall.TheVariants.{Read, Wrote, Tore, Synced, Failed}
+use Rattle.sector_disk.specs.declared.file_call.FileCall.TheVariants.{Read, Wrote, Tore, Synced}
+use Rattle.sector_disk.specs.declared.file_call.FileCall.TheVariants.{Failed}
 
 -- three sectors of two bytes
 abbrev pub three : Image

@@ -7,21 +7,25 @@ use Rattle.sector_disk.specs.declared.disk_call.DiskCall.TheVariants.{WriteOf, S
 use Rattle.sector_disk.specs.declared.fault.DiskFault.{DiskFault}
 use Rattle.sector_disk.specs.declared.fault.DiskFault.TheVariants.{Range, Io}
 use Rattle.sector_disk.specs.declared.file_call.FileCall.{FileCall}
-use Rattle.sector_disk.specs.declared.file_call.FileCall.TheVariants.{Read, Wrote, Tore, Synced, Failed}
+use Rattle.sector_disk.specs.declared.file_call.FileCall.TheVariants.{Read, Wrote, Tore, Synced}
+use Rattle.sector_disk.specs.declared.file_call.FileCall.TheVariants.{Failed}
 use Rattle.sector_disk.specs.declared.sector.TheConstants.{SECTOR_SIZE}
 
 -- the calls with their bytes, the newest first
 abbrev pub AnsweredCalls : Type 0
 AnsweredCalls = List (FileCall × List ℕ)
 
--- One call on: `shown` is what reads give, and `left` what a cut may leave. Before it they were as `before` says.
+-- One call on: `shown` is what reads give, and `left` what a cut may leave. Before it they were as
+-- `before` says.
 abbrev pub OneOn : FileCall → List ℕ → (Image → Image → Type 0) → Image → Image → Type 0
 OneOn (Read k) bytes before shown left = before shown left × (sector_at shown k ≡ bytes)
 OneOn (Wrote k) bytes before shown left =
-    (was_shown : Image) × (was_left : Image) × (front : ℕ) × before was_shown was_left × (front ≤ SECTOR_SIZE) × (length bytes ≡ SECTOR_SIZE)
+    (was_shown : Image) × (was_left : Image) × (front : ℕ) × before was_shown was_left
+    × (front ≤ SECTOR_SIZE) × (length bytes ≡ SECTOR_SIZE)
     × (shown ≡ with_sector was_shown k bytes) × (left ≡ with_front was_left k front bytes)
 OneOn (Tore k) bytes before shown left =
-    (was_shown : Image) × (was_left : Image) × (most : ℕ) × (front : ℕ) × before was_shown was_left × (most ≤ SECTOR_SIZE) × (front ≤ most) × (length bytes ≡ SECTOR_SIZE)
+    (was_shown : Image) × (was_left : Image) × (most : ℕ) × (front : ℕ) × before was_shown was_left
+    × (most ≤ SECTOR_SIZE) × (front ≤ most) × (length bytes ≡ SECTOR_SIZE)
     × (shown ≡ with_front was_shown k most bytes) × (left ≡ with_front was_left k front bytes)
 OneOn Synced bytes before shown left = (was_left : Image) × before shown was_left × (left ≡ shown)
 OneOn Failed bytes before shown left = before shown left
@@ -29,21 +33,26 @@ OneOn Failed bytes before shown left = before shown left
 -- the file gave these answers: reads may now give `shown`, and then a cut may leave `left`
 abbrev pub Explains : ℕ → AnsweredCalls → Image → Image → Type 0
 Explains sectors [] shown left = IsImage sectors shown × IsImage sectors left
-Explains sectors (answer ∷ answers) shown left = OneOn answer.0 answer.1 (Explains sectors answers) shown left
+Explains sectors (answer ∷ answers) shown left =
+    OneOn answer.0 answer.1 (Explains sectors answers) shown left
 
 -- what reads give, one call on
 abbrev pub ShowsOn : FileCall → List ℕ → (Image → Type 0) → Image → Type 0
 ShowsOn (Read k) bytes before shown = before shown × (sector_at shown k ≡ bytes)
-ShowsOn (Wrote k) bytes before shown = (was : Image) × before was × (length bytes ≡ SECTOR_SIZE) × (shown ≡ with_sector was k bytes)
-ShowsOn (Tore k) bytes before shown = (was : Image) × (front : ℕ) × before was × (front ≤ SECTOR_SIZE) × (length bytes ≡ SECTOR_SIZE) × (shown ≡ with_front was k front bytes)
+ShowsOn (Wrote k) bytes before shown = (was : Image) × before was × (length bytes ≡ SECTOR_SIZE)
+    × (shown ≡ with_sector was k bytes)
+ShowsOn (Tore k) bytes before shown = (was : Image) × (front : ℕ) × before was
+    × (front ≤ SECTOR_SIZE) × (length bytes ≡ SECTOR_SIZE) × (shown ≡ with_front was k front bytes)
 ShowsOn Synced bytes before shown = before shown
 ShowsOn Failed bytes before shown = before shown
 
--- the file gave these answers, reads may now give `shown`, and a cut at a moment from t on may have left `left`
+-- the file gave these answers, reads may now give `shown`, and a cut at a moment from t on may have
+-- left `left`
 abbrev pub ExplainsSince : ℕ → ℕ → AnsweredCalls → Image → Image → Type 0
 ExplainsSince sectors t [] left shown = (t ≤ 0) × Explains sectors [] shown left
 ExplainsSince sectors t (answer ∷ answers) left shown =
-    ((t ≤ length answers + 1) × Explains sectors (answer ∷ answers) shown left) ⊎ ShowsOn answer.0 answer.1 (ExplainsSince sectors t answers left) shown
+    ((t ≤ length answers + 1) × Explains sectors (answer ∷ answers) shown left)
+    ⊎ ShowsOn answer.0 answer.1 (ExplainsSince sectors t answers left) shown
 
 abbrev pub is_fault : FileCall → ℕ
 is_fault (Tore k) = 1
@@ -78,13 +87,15 @@ file_calls [] = []
 file_calls (answer ∷ answers) = call_on answer.0 (file_calls answers)
 
 -- what is logged of a call, by its answer: nothing where it was refused before the file was asked
-abbrev pub ReadLogged : Result (Unit {0}) DiskFault → ℕ → List ℕ → AnsweredCalls → AnsweredCalls → Type 0
+abbrev pub ReadLogged : Result (Unit {0}) DiskFault → ℕ → List ℕ → AnsweredCalls → AnsweredCalls
+    → Type 0
 ReadLogged (Ok x) k bytes old new = new ≡ (Read k, bytes) ∷ old
 ReadLogged (Err Range) k bytes old new = new ≡ old
 ReadLogged (Err Io) k bytes old new = new ≡ (Failed, NO_BYTES) ∷ old
 ReadLogged (Err other) k bytes old new = ⊥
 
-abbrev pub WriteLogged : Result (Unit {0}) DiskFault → ℕ → List ℕ → AnsweredCalls → AnsweredCalls → Type 0
+abbrev pub WriteLogged : Result (Unit {0}) DiskFault → ℕ → List ℕ → AnsweredCalls → AnsweredCalls
+    → Type 0
 WriteLogged (Ok x) k bytes old new = new ≡ (Wrote k, bytes) ∷ old
 WriteLogged (Err Range) k bytes old new = new ≡ old
 WriteLogged (Err Io) k bytes old new = new ≡ (Tore k, bytes) ∷ old

@@ -3,9 +3,11 @@ use Rattle.std.specs.Prelude.{◌<◌, ◌^◌, [], length}
 use Rattle.std.proofs.Common.{arith}
 use Rattle.sector_disk.specs.rules.Image.{Image}
 use Rattle.sector_disk.specs.rules.Medium.{Medium}
-use Rattle.sector_disk.specs.rules.Answered.{AnsweredCalls, Explains, ExplainsSince, faults_of, unsynced_of, file_calls}
+use Rattle.sector_disk.specs.rules.Answered.{AnsweredCalls, Explains, ExplainsSince, faults_of}
+use Rattle.sector_disk.specs.rules.Answered.{unsynced_of, file_calls}
 use Rattle.sector_disk.specs.rules.Counts.{AnsweredCount, answered_now, answered_only}
-use Rattle.sector_disk.specs.laws.Answered.{images, stays, keeps_more_of, since_now, since_only, since_shows}
+use Rattle.sector_disk.specs.laws.Answered.{images, stays, keeps_more_of, since_now, since_only}
+use Rattle.sector_disk.specs.laws.Answered.{since_shows}
 use Rattle.sector_disk.specs.declared.file.FileDisk.{FileDisk}
 
 module _ {F : Type 0} where
@@ -37,13 +39,18 @@ module _ {F : Type 0} where
     of_left = λ image both. both;
     of_may = λ shown image both. ((image, both), (shown, both));
     of_since = λ t image since. since;
-    of_may_since = λ t shown image since. (since_shows d.count t d.log.items image shown since, (shown, since));
-    counts_now = λ t image le left. (left.0, since_now d.count t d.log.items image left.0 le left.1);
+    of_may_since = λ t shown image since. (
+      since_shows d.count t d.log.items image shown since,
+      (shown, since),
+    );
+    counts_now =
+        λ t image le left. (left.0, since_now d.count t d.log.items image left.0 le left.1);
     only_now = λ image since. (since.0, since_only d.count d.log.items image since.0 since.1);
     only_may = λ shown image since. since_only d.count d.log.items image shown since;
     count_now = λ t le. answered_now t d.log.items le;
     only_count = λ n since. answered_only d.log.items n since;
     may_stay = λ shown image both. stays d.count d.log.items shown image both;
-    may_keep = λ shown image both k front le. keeps_more_of d.count d.log.items shown image both k front le;
+    may_keep = λ shown image both k front le.
+        keeps_more_of d.count d.log.items shown image both k front le;
     is_image = λ image left. let both = images d.count d.log.items left.0 image left.1 in both.1;
   }

@@ -1,5 +1,6 @@
 -- The bytes of a disk, sector by sector.
-use Rattle.std.specs.Prelude.{◌≡◌, ◌<◌, ◌≤◌, ◌++◌, ℕ, List, [], length, take, drop, slice_index_or, slice_set}
+use Rattle.std.specs.Prelude.{◌≡◌, ◌<◌, ◌≤◌, ◌++◌, ℕ, List, [], length, take, drop, slice_index_or}
+use Rattle.std.specs.Prelude.{slice_set}
 use Rattle.sector_disk.specs.declared.sector.TheConstants.{SECTOR_SIZE}
 
 abbrev pub Image : Type 0
@@ -26,7 +27,8 @@ pub record IsImage (sectors : ℕ) (image : Image) : Type 0 where
   pub count : length image ≡ sectors
   pub full : (k : ℕ) → k < sectors → length (sector_at image k) ≡ SECTOR_SIZE
 
--- new is old after a write of these bytes to sector k, of which a front was left, at most so many bytes of it
+-- new is old after a write of these bytes to sector k, of which a front was left, at most so many
+-- bytes of it
 pub record IsTornWithin (most k : ℕ) (bytes : List ℕ) (old new : Image) : Type 0 where
   pub front : ℕ
   pub within : front ≤ most

@@ -1,5 +1,7 @@
--- A disk at a moment, as the contracts see it: what reads give, what a cut may leave, and what a cut may have left since.
-use Rattle.std.specs.Prelude.{◌≡◌, ◌⊎◌, ◌<◌, ◌≤◌, ◌+◌, ◌-◌, ◌^◌, ℕ, List, [], ◌∷◌, ◌++◌, drop, Result, OnOk, OnErr, IsErr, IsErrOf}
+-- A disk at a moment, as the contracts see it: what reads give, what a cut may leave, and what a
+-- cut may have left since.
+use Rattle.std.specs.Prelude.{◌≡◌, ◌⊎◌, ◌<◌, ◌≤◌, ◌+◌, ◌-◌, ◌^◌, ℕ, List, [], ◌∷◌, ◌++◌, drop}
+use Rattle.std.specs.Prelude.{Result, OnOk, OnErr, IsErr, IsErrOf}
 use Rattle.sector_disk.specs.rules.Image.{Image, sector_at, with_front, IsImage, IsTorn, IsWritten}
 use Rattle.sector_disk.specs.declared.disk_call.DiskCall.{DiskCall}
 use Rattle.sector_disk.specs.declared.disk_call.DiskCall.TheVariants.{WriteOf, Sync}
@@ -7,7 +9,8 @@ use Rattle.sector_disk.specs.declared.fault.DiskFault.{DiskFault}
 use Rattle.sector_disk.specs.declared.fault.DiskFault.TheVariants.{Range, Memory}
 use Rattle.sector_disk.specs.declared.sector.TheConstants.{SECTOR_SIZE}
 
--- Of a disk that obeys the model reads give one image. Of one whose answers fit no image, there is none in any of these sets.
+-- Of a disk that obeys the model reads give one image. Of one whose answers fit no image, there is
+-- none in any of these sets.
 pub record Medium : Type 1 where
   pub sectors : ℕ
   -- what it was told when it was made, which no call changes
@@ -39,8 +42,10 @@ pub record Medium : Type 1 where
   pub of_shows : (image : Image) → shows image → (left : Image) × may image left
   pub of_left : (image : Image) → may_leave image → (shown : Image) × may shown image
   pub of_may : (shown image : Image) → may shown image → shows shown × may_leave image
-  pub of_since : (t : ℕ) (image : Image) → left_since t image → (shown : Image) × may_since t shown image
-  pub of_may_since : (t : ℕ) (shown image : Image) → may_since t shown image → shows shown × left_since t image
+  pub of_since : (t : ℕ) (image : Image) → left_since t image → (shown : Image)
+      × may_since t shown image
+  pub of_may_since : (t : ℕ) (shown image : Image) → may_since t shown image
+      → shows shown × left_since t image
   -- this moment is one of those since an earlier one, and since this moment there is no other
   pub counts_now : (t : ℕ) (image : Image) → t ≤ moment → may_leave image → left_since t image
   pub only_now : (image : Image) → left_since moment image → may_leave image
@@ -49,7 +54,8 @@ pub record Medium : Type 1 where
   pub only_count : (n : ℕ) → unsynced_since moment n → n ≡ unsynced
   -- a cut may leave all that reads give, and in any sector a longer front of that than it did
   pub may_stay : (shown image : Image) → may shown image → may shown shown
-  pub may_keep : (shown image : Image) → may shown image → (k front : ℕ) → front ≤ SECTOR_SIZE → may shown (with_front image k front (sector_at shown k))
+  pub may_keep : (shown image : Image) → may shown image → (k front : ℕ) → front ≤ SECTOR_SIZE
+      → may shown (with_front image k front (sector_at shown k))
   pub is_image : (image : Image) → may_leave image → IsImage sectors image
 
 -- how many more writes it surely takes before a good sync
@@ -64,18 +70,21 @@ After step old image = (before : Image) × old before × step before image
 abbrev pub Follows : (Image → Image → Type 0) → (Image → Type 0) → (Image → Type 0) → Type 0
 Follows step old new = (image : Image) → new image → After step old image
 
--- Time goes on, and faults don't fall. A cut in between leaves what it may have left before, or what has P.
+-- Time goes on, and faults don't fall. A cut in between leaves what it may have left before, or
+-- what has P.
 pub record Passes (old new : Medium) (P : Image → Type 0) : Type 0 where
   pub sectors : new.sectors ≡ old.sectors
   pub told : new.told ≡ old.told
   pub room : new.room ≡ old.room
   pub faults : old.faults ≤ new.faults
   pub later : old.moment ≤ new.moment
-  pub nothing_else : (t : ℕ) (image : Image) → t ≤ old.moment → new.left_since t image → old.left_since t image ⊎ P image
+  pub nothing_else : (t : ℕ) (image : Image) → t ≤ old.moment → new.left_since t image
+      → old.left_since t image ⊎ P image
 
 -- what a cut at an earlier moment may have left is not forgotten
 abbrev pub Keeps : Medium → Medium → Type 0
-Keeps old new = (t : ℕ) (image : Image) → t ≤ old.moment → old.left_since t image → new.left_since t image
+Keeps old new = (t : ℕ) (image : Image) → t ≤ old.moment → old.left_since t image
+    → new.left_since t image
 
 -- a cut at any moment since old leaves an image that has P
 pub record LeavesOnly (old new : Medium) (P : Image → Type 0) : Type 0 where
@@ -83,19 +92,24 @@ pub record LeavesOnly (old new : Medium) (P : Image → Type 0) : Type 0 where
   pub passes : Passes old new P
 
 -- the same for what reads give and what a cut may leave together
-abbrev pub BothFollow : (Image → Image → Type 0) → (Image → Image → Type 0) → Medium → Medium → Type 0
+abbrev pub BothFollow : (Image → Image → Type 0) → (Image → Image → Type 0) → Medium → Medium
+    → Type 0
 BothFollow shown_step left_step old new =
-    (shown image : Image) → new.may shown image → (was_shown : Image) × (was_left : Image) × old.may was_shown was_left × shown_step was_shown shown × left_step was_left image
+    (shown image : Image) → new.may shown image → (was_shown : Image) × (was_left : Image)
+    × old.may was_shown was_left × shown_step was_shown shown × left_step was_left image
 
 -- at each moment in between there were as many unsynced writes as at one before, or so many at most
 pub record CountsUpTo (most : ℕ) (old new : Medium) : Type 0 where
   pub keeps : (t n : ℕ) → t ≤ old.moment → old.unsynced_since t n → new.unsynced_since t n
-  pub grows : (t n : ℕ) → t ≤ old.moment → new.unsynced_since t n → old.unsynced_since t n ⊎ (n ≤ most)
+  pub grows : (t n : ℕ) → t ≤ old.moment → new.unsynced_since t n → old.unsynced_since t n
+      ⊎ (n ≤ most)
 
--- no image is added to what reads give and to what a cut may leave, or may have left since, and no write
+-- no image is added to what reads give and to what a cut may leave, or may have left since, and no
+-- write
 pub record Stays (old new : Medium) : Type 0 where
   pub may : (shown image : Image) → new.may shown image → old.may shown image
-  pub since : (t : ℕ) (shown image : Image) → t ≤ old.moment → new.may_since t shown image → old.may_since t shown image
+  pub since : (t : ℕ) (shown image : Image) → t ≤ old.moment → new.may_since t shown image
+      → old.may_since t shown image
   pub unsynced : new.unsynced ≤ old.unsynced
 
 -- sector k of all that reads give has these bytes
@@ -128,7 +142,8 @@ pub record MakesCalls {T E : Type 0} (calls : List DiskCall) (result : Result T 
   pub begun : BeginsCalls calls old new
 
 -- a call answers an error only where the disk failed, or for a cause that is named
-pub record HasCause {T : Type 0} (is_out is_full : Type 0) (result : Result T DiskFault) (old new : Medium) : Type 0 where
+pub record HasCause {T : Type 0} (is_out is_full : Type 0) (result : Result T DiskFault)
+    (old new : Medium) : Type 0 where
   pub fault : IsErr result → (is_out ⊎ is_full) ⊎ (old.faults < new.faults)
   pub range : IsErrOf result Range → is_out
   pub no_memory : IsErrOf result Memory → ⊥
@@ -139,7 +154,8 @@ pub record FailsInside {T : Type 0} (result : Result T DiskFault) : Type 0 where
   pub no_memory : IsErrOf result Memory → ⊥
 
 -- a read of sector k, which gives what it holds
-pub record Reads {T : Type 0} (k : ℕ) (into : List ℕ) (result : Result T DiskFault) (old new : Medium) : Type 0 where
+pub record Reads {T : Type 0} (k : ℕ) (into : List ℕ) (result : Result T DiskFault)
+    (old new : Medium) : Type 0 where
   pub inside : OnOk result (k < old.sectors)
   pub bytes : OnOk result (Holds new k into)
   pub stays : Stays old new
@@ -150,7 +166,8 @@ pub record Reads {T : Type 0} (k : ℕ) (into : List ℕ) (result : Result T Dis
   pub cause : HasCause (old.sectors ≤ k) ⊥ result old new
 
 -- a write to sector k: all of it where it answers Ok, else some front
-pub record Writes {T : Type 0} (k : ℕ) (bytes : List ℕ) (result : Result T DiskFault) (old new : Medium) : Type 0 where
+pub record Writes {T : Type 0} (k : ℕ) (bytes : List ℕ) (result : Result T DiskFault)
+    (old new : Medium) : Type 0 where
   pub inside : OnOk result (k < old.sectors)
   pub whole : OnOk result (TakesWrite k bytes old new)
   pub tears : Tears k bytes old new

@@ -1,5 +1,6 @@
 -- A disk in memory, as the contracts see it.
-use Rattle.std.specs.Prelude.{◌≡◌, ◌⊎◌, ◌<◌, ◌≤◌, ◌^◌, ◌++◌, ℕ, List, [], ◌∷◌, Vec, All, length, nat_le, if◌then◌else◌, Result, Ok, Err, refl}
+use Rattle.std.specs.Prelude.{◌≡◌, ◌⊎◌, ◌<◌, ◌≤◌, ◌^◌, ◌++◌, ℕ, List, [], ◌∷◌, Vec, All, length}
+use Rattle.std.specs.Prelude.{nat_le, if◌then◌else◌, Result, Ok, Err, refl}
 use Rattle.std.specs.declared.alloc.Global.{Global}
 use Rattle.std.proofs.Common.{inl, ⊎_elim, arith, sym, subst, ◌∙◌}
 use Rattle.sector_disk.specs.rules.Image.{Image, sector_at, with_front}
@@ -14,7 +15,8 @@ use Rattle.sector_disk.specs.declared.memory.MemDisk.{MemDisk}
 use Rattle.sector_disk.specs.declared.write.Write.{Write}
 use Rattle.sector_disk.specs.declared.sector.TheConstants.{SECTOR_SIZE}
 
--- what the last good sync left, the writes since, the oldest first, and how many writes there is room for between two good syncs
+-- what the last good sync left, the writes since, the oldest first, and how many writes there is
+-- room for between two good syncs
 pub record MemoryState : Type 0 where
   pub settled : Image
   pub pending : List Write
@@ -33,10 +35,12 @@ read_answer state k = if nat_le (length state.settled) k then Err Range else Ok 
 
 -- so is a write, and one for which there is no room fails
 abbrev pub write_answer : MemoryState → ℕ → Result (Unit {0}) DiskFault
-write_answer state k = if nat_le (length state.settled) k then Err Range else (if nat_le state.limit (length state.pending) then Err Io else Ok tt)
+write_answer state k = if nat_le (length state.settled) k then Err Range
+    else (if nat_le state.limit (length state.pending) then Err Io else Ok tt)
 
 abbrev pub after_write : MemoryState → ℕ → List ℕ → MemoryState
-after_write state k bytes = record state { pending = state.pending ++ (record { sector = k; bytes = bytes }) ∷ [] }
+after_write state k bytes =
+    record state { pending = state.pending ++ (record { sector = k; bytes = bytes }) ∷ [] }
 
 abbrev pub settled_by : MemoryState → Image → MemoryState
 settled_by state image = record { settled = image; pending = []; limit = state.limit }
@@ -60,11 +64,17 @@ vec_fits v = omega (arith, v.ok.0, v.ok.1, v.small)
 
 -- a cut may leave all that reads give
 pub memory_stays : (d : MemDisk) → Leaves d.pending.items d.settled.items d.shown.items
-memory_stays d = subst (λ i. Leaves d.pending.items d.settled.items i) (sym d.replayed) (whole_left _ d.pending.items d.settled.items d.full d.within)
+memory_stays d =
+    subst (λ i. Leaves d.pending.items d.settled.items i) (sym d.replayed)
+    (whole_left _ d.pending.items d.settled.items d.full d.within)
 
 -- since this moment there is no other
-pub memory_only : (d : MemDisk) (image : Image) → Leaves d.pending.items d.settled.items image ⊎ HadLeft (length d.past.items) d.past.items image → Leaves d.pending.items d.settled.items image
-memory_only d image since = ⊎_elim (λ left. left) (λ had. absurd (none_left (length d.past.items) d.past.items image (omega arith) had)) since
+pub memory_only : (d : MemDisk) (image : Image) → Leaves d.pending.items d.settled.items image
+    ⊎ HadLeft (length d.past.items) d.past.items image
+    → Leaves d.pending.items d.settled.items image
+memory_only d image since =
+    ⊎_elim (λ left. left) (λ had.
+    absurd (none_left (length d.past.items) d.past.items image (omega arith) had)) since
 
 -- it never fails of itself
 abbrev pub memory_medium : MemDisk → Medium
@@ -78,14 +88,16 @@ memory_medium d = record {
   of_left = λ image left. (d.shown.items, (refl, left));
   of_may = λ shown image both. both;
   moment = length d.past.items;
-  left_since = λ t image. Leaves d.pending.items d.settled.items image ⊎ HadLeft t d.past.items image;
+  left_since = λ t image. Leaves d.pending.items d.settled.items image
+      ⊎ HadLeft t d.past.items image;
   faults = 0;
   unsynced = length d.pending.items;
   room = d.limit;
   unsynced_since = λ t n. (n ≡ length d.pending.items) ⊎ HadCount t d.past.items n;
   calls = calls_in d.calls.items;
   fits = vec_fits d.settled;
-  may_since = λ t shown image. (shown ≡ d.shown.items) × (Leaves d.pending.items d.settled.items image ⊎ HadLeft t d.past.items image);
+  may_since = λ t shown image. (shown ≡ d.shown.items)
+      × (Leaves d.pending.items d.settled.items image ⊎ HadLeft t d.past.items image);
   of_since = λ t image since. (d.shown.items, (refl, since));
   of_may_since = λ t shown image both. both;
   counts_now = λ t image le left. inl left;
@@ -93,11 +105,22 @@ memory_medium d = record {
   only_may = λ shown image both. (both.0, memory_only d image both.1);
   count_now = λ t le. inl refl;
   only_count = λ n since. count_only d.past.items (length d.pending.items) n since;
-  may_stay = λ shown image both. (both.0, subst (λ i. Leaves d.pending.items d.settled.items i) (sym both.0) (memory_stays d));
-  may_keep = λ shown image both k front le. (both.0, subst (λ i. Leaves d.pending.items d.settled.items (with_front image k front (sector_at i k))) (sym (both.0 ∙ d.replayed)) (keeps_more _ d.pending.items d.settled.items image k front d.full d.within le both.1));
+  may_stay = λ shown image both. (
+    both.0,
+    subst (λ i. Leaves d.pending.items d.settled.items i) (sym both.0) (memory_stays d),
+  );
+  may_keep = λ shown image both k front le. (
+    both.0,
+    subst (λ i. Leaves d.pending.items d.settled.items (with_front image k front (sector_at i k)))
+        (sym (both.0
+        ∙ d.replayed)) (keeps_more _ d.pending.items d.settled.items image k front d.full d.within le
+        both.1),
+  );
   is_image = λ image left. image-left _ d.pending.items d.settled.items image d.full d.within left;
 }
 
 -- each image that a cut may leave is had by numbers of at most a sector's size
 abbrev pub IsEveryCut : MemDisk → Type 0
-IsEveryCut d = (image : Image) → (memory_medium d).may_leave image → (tears : List ℕ) × All (λ tear. tear ≤ SECTOR_SIZE) tears × (image ≡ (after_cut (memory_state_of d) tears).settled)
+IsEveryCut d = (image : Image) → (memory_medium d).may_leave image → (tears : List ℕ)
+    × All (λ tear. tear ≤ SECTOR_SIZE) tears
+    × (image ≡ (after_cut (memory_state_of d) tears).settled)

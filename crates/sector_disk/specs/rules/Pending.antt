@@ -13,14 +13,16 @@ pub record IsWriteWithin (sectors : ℕ) (write : Write) : Type 0 where
 -- what a cut may leave: of each write some front, over what the earlier ones left
 abbrev pub Leaves : List Write → Image → Image → Type 0
 Leaves [] from image = image ≡ from
-Leaves (write ∷ writes) from image = (front : ℕ) × (front ≤ SECTOR_SIZE) × Leaves writes (with_front from write.sector front write.bytes) image
+Leaves (write ∷ writes) from image = (front : ℕ) × (front ≤ SECTOR_SIZE)
+    × Leaves writes (with_front from write.sector front write.bytes) image
 
 -- all of them, whole
 abbrev pub replayed : List Write → Image → Image
 replayed [] from = from
 replayed (write ∷ writes) from = replayed writes (with_sector from write.sector write.bytes)
 
--- the front that the first of these numbers names: a missing one, or a larger one, names the whole write
+-- the front that the first of these numbers names: a missing one, or a larger one, names the whole
+-- write
 abbrev pub first_front : List ℕ → ℕ
 first_front [] = SECTOR_SIZE
 first_front (tear ∷ tears) = min tear SECTOR_SIZE
@@ -28,9 +30,12 @@ first_front (tear ∷ tears) = min tear SECTOR_SIZE
 -- of each write the front that its number names
 abbrev pub torn_by : List ℕ → List Write → Image → Image
 torn_by tears [] from = from
-torn_by tears (write ∷ writes) from = torn_by (drop 1 tears) writes (with_front from write.sector (first_front tears) write.bytes)
+torn_by tears (write ∷ writes) from =
+    torn_by (drop 1 tears) writes (with_front from write.sector (first_front tears) write.bytes)
 
--- what a cut may have left at a moment from t on; of each moment the settled sectors and the writes since, the newest first
+-- what a cut may have left at a moment from t on; of each moment the settled sectors and the writes
+-- since, the newest first
 abbrev pub HadLeft : ℕ → List (Vec (List ℕ) Global × Vec Write Global) → Image → Type 0
 HadLeft t [] image = ⊥
-HadLeft t (moment ∷ earlier) image = ((t ≤ length earlier) × Leaves moment.1.items moment.0.items image) ⊎ HadLeft t earlier image
+HadLeft t (moment ∷ earlier) image =
+    ((t ≤ length earlier) × Leaves moment.1.items moment.0.items image) ⊎ HadLeft t earlier image

@@ -1,5 +1,7 @@
 -- Where a disk is told to stop or to fail, and what a call meets there.
-use Rattle.std.specs.Prelude.{◌≡◌, ◌<◌, ◌≤◌, IsTrue, ◌+◌, ◌-◌, ◌^◌, ◌++◌, ◌==◌, ◌||◌, ℕ, min, Bool, false, nat_lt, nat_le, List, [], ◌∷◌, Option, Some, None, if◌then◌else◌}
+use Rattle.std.specs.Prelude.{◌≡◌, ◌<◌, ◌≤◌, IsTrue, ◌+◌, ◌-◌, ◌^◌, ◌++◌, ◌==◌, ◌||◌, ℕ, min, Bool}
+use Rattle.std.specs.Prelude.{false, nat_lt, nat_le, List, [], ◌∷◌, Option, Some, None}
+use Rattle.std.specs.Prelude.{if◌then◌else◌}
 use Rattle.sector_disk.specs.rules.Image.{IsFront, IsTornWithin}
 use Rattle.sector_disk.specs.rules.Medium.{Medium, BothFollow, BeginsCalls, spare}
 use Rattle.sector_disk.specs.declared.disk_call.DiskCall.TheVariants.{WriteOf}
@@ -27,12 +29,14 @@ call_number calls = min (calls.reads + calls.writes + calls.syncs) (2 ^ 64 - 1)
 -- the call of this number fails where it is told
 abbrev pub failure_at : Option Place → ℕ → Option Trouble
 failure_at None n = None
-failure_at (Some place) n = if place.call == n then Some (Fails (min place.front SECTOR_SIZE)) else None
+failure_at (Some place) n = if place.call == n then Some (Fails (min place.front SECTOR_SIZE))
+    else None
 
 -- it stops where it is told, and each later one finds the machine stopped
 abbrev pub trouble_at : Option Place → Option Place → ℕ → Option Trouble
 trouble_at None fail n = failure_at fail n
-trouble_at (Some place) fail n = if nat_lt place.call n then Some Stopped else (if place.call == n then Some (Stops (min place.front SECTOR_SIZE)) else failure_at fail n)
+trouble_at (Some place) fail n = if nat_lt place.call n then Some Stopped
+    else (if place.call == n then Some (Stops (min place.front SECTOR_SIZE)) else failure_at fail n)
 
 -- what such a call answers
 abbrev pub trouble_fault : Trouble → DiskFault
@@ -56,13 +60,20 @@ place_numbers (Some place) = 1 ∷ place.call ∷ place.front ∷ []
 
 -- the disk below, told where to stop and to fail, which has met trouble so often
 abbrev pub troubled : Medium → Option Place → Option Place → ℕ → Medium
-troubled below stop fail n = record below { told = place_numbers stop ++ place_numbers fail ++ below.told; faults = below.faults + n }
+troubled below stop fail n =
+    record below {
+      told = place_numbers stop ++ place_numbers fail ++ below.told;
+      faults = below.faults + n;
+    }
 
--- The told front of a write is left, and a cut may leave a front of that. A disk that fails may leave less.
-pub record LeavesFront (front k : ℕ) (bytes : List ℕ) (is_taken : Bool) (old new : Medium) : Type 0 where
+-- The told front of a write is left, and a cut may leave a front of that. A disk that fails may
+-- leave less.
+pub record LeavesFront (front k : ℕ) (bytes : List ℕ) (is_taken : Bool) (old new : Medium) :
+    Type 0 where
   pub tears : BothFollow (IsTornWithin front k bytes) (IsTornWithin front k bytes) old new
   pub unsynced : new.unsynced ≤ old.unsynced + 1
-  pub exactly : IsTrue is_taken → BothFollow (IsFront front k bytes) (IsTornWithin front k bytes) old new
+  pub exactly : IsTrue is_taken
+      → BothFollow (IsFront front k bytes) (IsTornWithin front k bytes) old new
   -- also where no byte is left, it counts as a write
   pub counts : IsTrue is_taken → new.unsynced ≡ old.unsynced + 1
   pub called : IsTrue is_taken → new.calls ≡ WriteOf k ∷ old.calls

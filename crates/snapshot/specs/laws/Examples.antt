@@ -16,7 +16,8 @@ use Rattle.snapshot.specs.declared.snapshots.Snapshots.{Snapshots}
 use Rattle.snapshot.specs.declared.snapshots.State.{State}
 use Rattle.snapshot.specs.declared.snapshots.State.TheVariants as state
 use Rattle.snapshot.specs.declared.writer.AreaWriter.{AreaWriter}
-use Rattle.snapshot.specs.rules.Steps.{HoldsWithZeros, HasNew, IsOutsideArea, Fills, Commits, Replaces}
+use Rattle.snapshot.specs.rules.Steps.{HoldsWithZeros, HasNew, IsOutsideArea, Fills, Commits}
+use Rattle.snapshot.specs.rules.Steps.{Replaces}
 
 -- once an image is the newest one, a disk is ready for the next
 abbrev pub NextCanFollow : Type 0

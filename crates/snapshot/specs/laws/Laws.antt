@@ -11,11 +11,15 @@ use Rattle.snapshot.specs.declared.fault.SnapshotFault.{SnapshotFault}
 use Rattle.snapshot.specs.declared.fault.SnapshotFault.TheVariants.{Failed}
 use Rattle.snapshot.specs.declared.snapshots.Snapshots.{Snapshots}
 
--- An image shows no complete head, or a newest one that names no bytes that are there, or one snapshot, and one of these alone.
+-- An image shows no complete head, or a newest one that names no bytes that are there, or one
+-- snapshot, and one of these alone.
 pub record ImageShowsOne : Type 0 where
-  pub same : (geometry : Geometry) (x : Image) (g h v w : ℕ) (a b : List ℕ) → HoldsImage geometry x g v a → HoldsImage geometry x h w b → (g ≡ h) × (v ≡ w) × (a ≡ b)
-  pub some : (geometry : Geometry) (x : Image) (g v : ℕ) (a : List ℕ) → HoldsImage geometry x g v a → HasNone x → ⊥
-  pub whole : (geometry : Geometry) (x : Image) (g v : ℕ) (a : List ℕ) → HoldsImage geometry x g v a → IsDamaged geometry x → ⊥
+  pub same : (geometry : Geometry) (x : Image) (g h v w : ℕ) (a b : List ℕ)
+      → HoldsImage geometry x g v a → HoldsImage geometry x h w b → (g ≡ h) × (v ≡ w) × (a ≡ b)
+  pub some : (geometry : Geometry) (x : Image) (g v : ℕ) (a : List ℕ) → HoldsImage geometry x g v a
+      → HasNone x → ⊥
+  pub whole : (geometry : Geometry) (x : Image) (g v : ℕ) (a : List ℕ) → HoldsImage geometry x g v a
+      → IsDamaged geometry x → ⊥
   pub headed : (geometry : Geometry) (x : Image) → IsDamaged geometry x → HasNone x → ⊥
 
 -- Where a commit has left what was newest, its generation can be begun again.

@@ -9,11 +9,14 @@ use Rattle.disk_layout.specs.rules.Sectors.{SectorsHold, IsNewest, HoldsImage}
 use Rattle.std.specs.declared.alloc.Global.{Global}
 use Rattle.snapshot.specs.rules.Heads.{HasNone}
 use Rattle.snapshot.specs.declared.fault.SnapshotFault.{SnapshotFault}
-use Rattle.snapshot.specs.declared.fault.SnapshotFault.TheVariants.{TooBig, Damaged, Disk, Memory, Failed}
+use Rattle.snapshot.specs.declared.fault.SnapshotFault.TheVariants.{TooBig, Damaged, Disk, Memory}
+use Rattle.snapshot.specs.declared.fault.SnapshotFault.TheVariants.{Failed}
 use Rattle.snapshot.specs.declared.newest.Snapshot.{Snapshot}
 
--- the area of a head's generation begins with as many bytes as the head says, and they have its digest
-pub record NamesBytes (geometry : Geometry) (image : Image) (h : Head) (bytes : List ℕ) : Type 0 where
+-- the area of a head's generation begins with as many bytes as the head says, and they have its
+-- digest
+pub record NamesBytes (geometry : Geometry) (image : Image) (h : Head) (bytes : List ℕ) :
+    Type 0 where
   pub len : h.length_in_bytes ≡ length bytes
   pub digest : h.digest ≡ sha256 bytes
   pub area : SectorsHold image (area_place geometry h.generation) geometry.area_sectors bytes
@@ -34,10 +37,12 @@ ReadsImage geometry image h (Err Failed) = Unit {0}
 ReadsImage geometry image h (Err Memory) = Unit {0}
 ReadsImage geometry image h (Err (Disk fault)) = Unit {0}
 
--- what is found on a disk: no complete head, or the newest one with the image that it names, or one that names none that is there
+-- what is found on a disk: no complete head, or the newest one with the image that it names, or one
+-- that names none that is there
 abbrev pub FindsNewest : Geometry → Image → Result (Option Snapshot) SnapshotFault → Type 0
 FindsNewest geometry image (Ok None) = HasNone image
-FindsNewest geometry image (Ok (Some s)) = HoldsImage geometry image s.generation s.version s.image.items
+FindsNewest geometry image (Ok (Some s)) =
+    HoldsImage geometry image s.generation s.version s.image.items
 FindsNewest geometry image (Err Damaged) = IsDamaged geometry image
 FindsNewest geometry image (Err TooBig) = ⊥
 FindsNewest geometry image (Err Failed) = Unit {0}

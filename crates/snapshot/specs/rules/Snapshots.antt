@@ -1,5 +1,6 @@
 -- What a `Snapshots` is in the middle of (this project's own).
-use Rattle.std.specs.Prelude.{◌≡◌, ◌↔◌, ℕ, ◌+◌, ◌-◌, ◌/◌, List, Bool, true, false, IsTrue, Result, Err, IsErr}
+use Rattle.std.specs.Prelude.{◌≡◌, ◌↔◌, ℕ, ◌+◌, ◌-◌, ◌/◌, List, Bool, true, false, IsTrue, Result}
+use Rattle.std.specs.Prelude.{Err, IsErr}
 use Rattle.sector_disk.specs.rules.Medium.{Medium}
 use Rattle.disk_layout.specs.declared.geometry.Geometry.{Geometry}
 use Rattle.snapshot.specs.declared.fault.SnapshotFault.{SnapshotFault}
@@ -31,7 +32,8 @@ abbrev pub is_idle : Snapshots → Bool
 is_idle s = is_idle_state s.state
 
 -- from an error on it is failed, and then each call answers `Failed`
-pub record StaysFailed {T : Type 0} (result : Result T SnapshotFault) (old new : Snapshots) : Type 0 where
+pub record StaysFailed {T : Type 0} (result : Result T SnapshotFault) (old new : Snapshots) :
+    Type 0 where
   pub failed : IsTrue (is_failed new) ↔ IsErr result
   pub refused : (result ≡ Err Failed) ↔ IsTrue (is_failed old)
 
@@ -111,6 +113,7 @@ IsGivenIn geometry m (state.Begun w) bytes = IsGiven geometry m w bytes
 IsGivenIn geometry m state.Idle bytes = ⊥
 IsGivenIn geometry m state.Failed bytes = ⊥
 
--- an image is begun, these bytes of it were pushed, and reads give them in its area, but for those behind the last whole sector
+-- an image is begun, these bytes of it were pushed, and reads give them in its area, but for those
+-- behind the last whole sector
 abbrev pub HasPushed : Geometry → Medium → Snapshots → List ℕ → Type 0
 HasPushed geometry m s bytes = IsGivenIn geometry m s.state bytes

@@ -12,7 +12,8 @@ use Rattle.sector_disk.specs.declared.sector.TheConstants.{SECTOR_SIZE}
 -- what `newest` finds is found again
 pub record KeepsNewest (geometry : Geometry) (old new : Image) : Type 0 where
   pub none : HasNone old → HasNone new
-  pub image : (g version : ℕ) (bytes : List ℕ) → HoldsImage geometry old g version bytes → HoldsImage geometry new g version bytes
+  pub image : (g version : ℕ) (bytes : List ℕ) → HoldsImage geometry old g version bytes
+      → HoldsImage geometry new g version bytes
   pub damaged : IsDamaged geometry old → IsDamaged geometry new
   pub heads : heads_to new ≡ heads_to old
 
@@ -25,14 +26,16 @@ HoldsWithZeros geometry g bytes image =
 
 -- The image of this generation is the newest one, with zeros behind it up to the end of its last
 -- sector. No head's sector shows a later one.
-pub record HasNew (geometry : Geometry) (g version : ℕ) (bytes : List ℕ) (image : Image) : Type 0 where
+pub record HasNew (geometry : Geometry) (g version : ℕ) (bytes : List ℕ) (image : Image) :
+    Type 0 where
   pub holds : HoldsImage geometry image g version bytes
   pub zeros : HoldsWithZeros geometry g bytes image
   pub heads : heads_to image ≡ g
 
 -- no sector of the area of this generation
 abbrev pub IsOutsideArea : Geometry → ℕ → ℕ → Type 0
-IsOutsideArea geometry g k = (k < area_place geometry g) ⊎ (area_place geometry g + geometry.area_sectors ≤ k)
+IsOutsideArea geometry g k = (k < area_place geometry g)
+    ⊎ (area_place geometry g + geometry.area_sectors ≤ k)
 
 -- sectors of the area of this generation have changed, and nothing else
 pub record Fills (geometry : Geometry) (g : ℕ) (old new : Image) : Type 0 where
@@ -40,14 +43,20 @@ pub record Fills (geometry : Geometry) (g : ℕ) (old new : Image) : Type 0 wher
   pub others : (k : ℕ) → IsOutsideArea geometry g k → sector_at new k ≡ sector_at old k
   pub newest : IsReadyForHead g old → KeepsNewest geometry old new
 
--- The area and the head of this generation have changed, and nothing else. The newest image is the old one or this one.
-pub record Commits (geometry : Geometry) (g version : ℕ) (bytes : List ℕ) (old new : Image) : Type 0 where
+-- The area and the head of this generation have changed, and nothing else. The newest image is the
+-- old one or this one.
+pub record Commits (geometry : Geometry) (g version : ℕ) (bytes : List ℕ) (old new : Image) :
+    Type 0 where
   pub count : length new ≡ length old
-  pub others : (k : ℕ) → IsOutsideArea geometry g k → k ≢ head_place g → sector_at new k ≡ sector_at old k
-  pub newest : IsReadyForHead g old → KeepsNewest geometry old new ⊎ HasNew geometry g version bytes new
+  pub others : (k : ℕ) → IsOutsideArea geometry g k → k ≢ head_place g
+      → sector_at new k ≡ sector_at old k
+  pub newest : IsReadyForHead g old → KeepsNewest geometry old new
+      ⊎ HasNew geometry g version bytes new
 
 -- the same, and the newest image is this one
-pub record Replaces (geometry : Geometry) (g version : ℕ) (bytes : List ℕ) (old new : Image) : Type 0 where
+pub record Replaces (geometry : Geometry) (g version : ℕ) (bytes : List ℕ) (old new : Image) :
+    Type 0 where
   pub count : length new ≡ length old
-  pub others : (k : ℕ) → IsOutsideArea geometry g k → k ≢ head_place g → sector_at new k ≡ sector_at old k
+  pub others : (k : ℕ) → IsOutsideArea geometry g k → k ≢ head_place g
+      → sector_at new k ≡ sector_at old k
   pub newest : IsReadyForHead g old → HasNew geometry g version bytes new

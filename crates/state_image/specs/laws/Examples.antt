@@ -7,7 +7,12 @@ use Rattle.state_image.specs.rules.Image.{Saved, image}
 -- one frame without locals, at its first instruction, and one page
 abbrev pub fresh_process : List ℕ → Saved
 fresh_process memory = record {
-  machine = record { frames = record { function = 2; position = 0; slots = [] } ∷ []; globals = []; memory = memory; later = [] };
+  machine = record {
+    frames = record { function = 2; position = 0; slots = [] } ∷ [];
+    globals = [];
+    memory = memory;
+    later = [];
+  };
   files = fresh;
   descriptors = first_descriptors;
   unread = [];
@@ -23,4 +28,5 @@ fresh_process memory = record {
 }
 
 abbrev pub FreshImageSize : Type 0
-FreshImageSize = (memory : List ℕ) → length memory ≡ 65536 → length (image (fresh_process memory)) ≡ 65811
+FreshImageSize = (memory : List ℕ) → length memory ≡ 65536
+    → length (image (fresh_process memory)) ≡ 65811

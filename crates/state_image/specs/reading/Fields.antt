@@ -1,10 +1,12 @@
--- Reading the fields of an image from the front of bytes (this project's own). A reader answers the field and the bytes behind
--- it, or nothing.
-use Rattle.std.specs.Prelude.{◌≡◌, ℕ, ◌*◌, ◌==◌, Bool, true, false, if◌then◌else◌, List, [], ◌∷◌, Option, Some, None}
+-- Reading the fields of an image from the front of bytes (this project's own). A reader answers the
+-- field and the bytes behind it, or nothing.
+use Rattle.std.specs.Prelude.{◌≡◌, ℕ, ◌*◌, ◌==◌, Bool, true, false, if◌then◌else◌, List, [], ◌∷◌}
+use Rattle.std.specs.Prelude.{Option, Some, None}
 use Rattle.guest_memory.specs.rules.Bytes.{number_of}
 use Rattle.wasm_syntax.specs.laws.ReadingItems.{◌>>=◌, byte_at, part_at}
 
--- what the code answers, beside what stands at the front: the field, and then these bytes are left; or nothing
+-- what the code answers, beside what stands at the front: the field, and then these bytes are left;
+-- or nothing
 abbrev pub FindsField : {X : Type 0} → Option X → List ℕ → Option (X × List ℕ) → Type 0
 FindsField (Some x) rest read = read ≡ Some (x, rest)
 FindsField None rest read = read ≡ None

@@ -13,7 +13,8 @@ frame_of f = record { function = f.function; position = f.position; slots = f.sl
 
 unfoldable pub frame_at : List ℕ → Option (ShownFrame × List ℕ)
 frame_at bytes =
-    integer_at 4 bytes >>= λ function. integer_at 4 function.1 >>= λ position. words_at position.1 >>= λ slots.
+    integer_at 4 bytes >>= λ function. integer_at 4 function.1 >>= λ position. words_at position.1
+    >>= λ slots.
     Some (record { function = function.0; position = position.0; slots = slots.0 }, slots.1)
 
 -- how many pages there are, and their bytes

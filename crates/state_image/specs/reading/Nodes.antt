@@ -34,7 +34,8 @@ unfoldable pub content_front_at : List ℕ → Option (ContentFront × List ℕ)
 content_front_at bytes =
     byte_at bytes >>= λ kind.
     if kind.0 == directory_type then (integer_at 4 kind.1 >>= λ n. Some (EntryCount n.0, n.1))
-    else if kind.0 == regular_file then (text_at 8 kind.1 >>= λ file. Some (FileBytes file.0, file.1)) else None
+    else if kind.0 == regular_file
+    then (text_at 8 kind.1 >>= λ file. Some (FileBytes file.0, file.1)) else None
 
 unfoldable pub node_front_at : List ℕ → Option (NodeFront × List ℕ)
 node_front_at bytes =
@@ -43,4 +44,5 @@ node_front_at bytes =
 
 unfoldable pub entry_at : List ℕ → Option (Entry × List ℕ)
 entry_at bytes =
-    text_at 2 bytes >>= λ name. integer_at 8 name.1 >>= λ number. Some (record { name = name.0; number = number.0 }, number.1)
+    text_at 2 bytes >>= λ name. integer_at 8 name.1
+    >>= λ number. Some (record { name = name.0; number = number.0 }, number.1)

@@ -11,4 +11,5 @@ numbers_in (suc n) bytes = number_of (take 8 bytes) ∷ numbers_in n (drop 8 byt
 
 -- how many words there are, and the words
 unfoldable pub words_at : List ℕ → Option (List ℕ × List ℕ)
-words_at bytes = integer_at 4 bytes >>= λ n. part_at (8 * n.0) n.1 >>= λ p. Some (numbers_in n.0 p.0, p.1)
+words_at bytes = integer_at 4 bytes >>= λ n. part_at (8 * n.0) n.1
+    >>= λ p. Some (numbers_in n.0 p.0, p.1)

@@ -1,6 +1,7 @@
--- The image of a process as bytes, version 1, and the process state that a process shows (this project's own). Numbers are
--- little-endian.
-use Rattle.std.specs.Prelude.{◌≡◌, ℕ, ◌+◌, ◌/◌, Bool, true, false, List, [], ◌∷◌, ◌++◌, length, reverse, codes, if◌then◌else◌, Option, Some, None}
+-- The image of a process as bytes, version 1, and the process state that a process shows (this
+-- project's own). Numbers are little-endian.
+use Rattle.std.specs.Prelude.{◌≡◌, ℕ, ◌+◌, ◌/◌, Bool, true, false, List, [], ◌∷◌, ◌++◌, length}
+use Rattle.std.specs.Prelude.{reverse, codes, if◌then◌else◌, Option, Some, None}
 use Rattle.std.specs.List.{flat_map}
 use Rattle.wasm_syntax.specs.declared.value.Trap.{Trap}
 use Rattle.wasm_syntax.specs.declared.value.Trap.TheVariants as trap
@@ -9,12 +10,14 @@ use Rattle.wasm_syntax_rules.specs.Typing.{Context}
 use Rattle.wasm_syntax_rules.specs.Configuration.{Program}
 use Rattle.wasi_abi.specs.rules.Layouts.{u16_bytes, u32_bytes, u64_bytes}
 use Rattle.wasi_abi.specs.rules.Numbers.{directory_type, regular_file}
-use Rattle.file_tree.specs.rules.Files.{Files, FileNode, Content, Directory, File, Entry, is_directory, entries_of}
+use Rattle.file_tree.specs.rules.Files.{Files, FileNode, Content, Directory, File, Entry}
+use Rattle.file_tree.specs.rules.Files.{is_directory, entries_of}
 use Rattle.wasi_calls_rules.specs.Hosts.{Target, Stream, Node, Descriptor}
 use Rattle.process_rules.specs.Processes.{Ending, Exited, Trapped, ProcessState}
 use Rattle.machine_slots.specs.rules.Places.{ShownFrame, MachineState, Shows}
 
--- A process as its image has it: positions in the place of sequences, and of the emitted lines their number.
+-- A process as its image has it: positions in the place of sequences, and of the emitted lines
+-- their number.
 pub record Saved : Type 0 where
   pub machine : MachineState
   pub files : Files
@@ -31,7 +34,8 @@ pub record Saved : Type 0 where
   pub ended : Option Ending
 
 -- it shows this process state, in a program whose table is this one
-pub record SavedShowsProcess (c : Context) (program : Program) (table : List (Option ℕ)) (s : Saved) (p : ProcessState) : Type 0 where
+pub record SavedShowsProcess (c : Context) (program : Program) (table : List (Option ℕ)) (s : Saved)
+    (p : ProcessState) : Type 0 where
   pub machine : Shows c program table s.machine p.configuration
   pub files : s.files ≡ p.host.files
   pub descriptors : s.descriptors ≡ p.host.descriptors
@@ -110,7 +114,8 @@ files_bytes fs = u64_bytes fs.next ++ items_bytes (node_bytes fs) fs.nodes
 -- a stream by its number and no node; a node by its kind and number
 abbrev pub target_bytes : Files → Target → List ℕ
 target_bytes fs (Stream s) = s ∷ u64_bytes 0
-target_bytes fs (Node k) = (if is_directory fs k then directory_type else regular_file) ∷ u64_bytes k
+target_bytes fs (Node k) =
+    (if is_directory fs k then directory_type else regular_file) ∷ u64_bytes k
 
 -- an open descriptor with its number
 pub record Numbered : Type 0 where
@@ -124,7 +129,8 @@ open_from n (Some d ∷ ds) = record { number = n; descriptor = d } ∷ open_fro
 
 abbrev pub descriptor_bytes : Files → Numbered → List ℕ
 descriptor_bytes fs d =
-    u32_bytes d.number ++ (target_bytes fs d.descriptor.target ++ (u64_bytes d.descriptor.offset ++ (u16_bytes d.descriptor.flags
+    u32_bytes d.number ++ (target_bytes fs d.descriptor.target ++ (u64_bytes d.descriptor.offset
+    ++ (u16_bytes d.descriptor.flags
     ++ (u64_bytes d.descriptor.base ++ u64_bytes d.descriptor.inheriting))))
 
 -- ---- the image
@@ -133,19 +139,27 @@ abbrev pub image_mark : List ℕ
 image_mark = codes "DWIMAGE1"
 
 abbrev pub counts_bytes : Saved → List ℕ
-counts_bytes s = u64_bytes s.steps ++ (u64_bytes s.answers ++ (u64_bytes s.requests ++ (u64_bytes s.lines ++ u64_bytes s.last_monotonic)))
+counts_bytes s =
+    u64_bytes s.steps
+    ++ (u64_bytes s.answers
+    ++ (u64_bytes s.requests ++ (u64_bytes s.lines ++ u64_bytes s.last_monotonic)))
 
 abbrev pub phase_bytes : Saved → List ℕ
-phase_bytes s = phase_of s.ended s.machine.later ∷ (u32_bytes (ending_code s.ended) ++ flag_of s.input_ended ∷ [])
+phase_bytes s =
+    phase_of s.ended s.machine.later ∷ (u32_bytes (ending_code s.ended) ++ flag_of s.input_ended
+    ∷ [])
 
 abbrev pub streams_bytes : Saved → List ℕ
 streams_bytes s = text_bytes s.unread ++ (text_bytes s.first ++ text_bytes s.second)
 
 -- the frames from the outermost one on
 abbrev pub machine_bytes : MachineState → List ℕ
-machine_bytes m = items_bytes u64_bytes m.globals ++ (items_bytes place_bytes (reverse m.frames) ++ memory_bytes m.memory)
+machine_bytes m =
+    items_bytes u64_bytes m.globals ++ (items_bytes place_bytes (reverse m.frames)
+    ++ memory_bytes m.memory)
 
 abbrev pub image : Saved → List ℕ
 image s =
     image_mark ++ (counts_bytes s ++ (phase_bytes s ++ (streams_bytes s ++ (machine_bytes s.machine
-    ++ (files_bytes s.files ++ items_bytes (descriptor_bytes s.files) (open_from 0 s.descriptors))))))
+    ++ (files_bytes s.files
+    ++ items_bytes (descriptor_bytes s.files) (open_from 0 s.descriptors))))))

@@ -1,4 +1,5 @@
--- When a process as its image has it is well typed: the images of these are the ones that are accepted (this project's own).
+-- When a process as its image has it is well typed: the images of these are the ones that are
+-- accepted (this project's own).
 use Rattle.std.specs.Prelude.{◌≡◌, ◌≢◌, ℕ, ◌+◌, ◌<◌, ◌≤◌, ◌^◌, List, [], ◌∷◌}
 use Rattle.std.specs.Prelude.{length, sum_by, Option, Some, None}
 use Rattle.std.specs.List.{AllByRecursion}
@@ -8,7 +9,8 @@ use Rattle.wasm_syntax_rules.specs.Validity.{AreFunctionTypes, module_context, I
 use Rattle.wasi_abi.specs.rules.Configs.{Settings}
 use Rattle.wasi_calls_rules.specs.Hosts.{Host, IsHost}
 use Rattle.wasi_calls_rules.specs.declared.limits.TheConstants.{TEXT_BYTES}
-use Rattle.process_rules.specs.Processes.{Ending, ProcessState, Guest, host_of, IsStart, HasLineNumbers}
+use Rattle.process_rules.specs.Processes.{Ending, ProcessState, Guest, host_of, IsStart}
+use Rattle.process_rules.specs.Processes.{HasLineNumbers}
 use Rattle.wasm_syntax.specs.declared.limits.TheConstants.{FUNCTIONS, INSTRUCTIONS, GLOBALS}
 use Rattle.machine_slots.specs.declared.slots.TheConstants.{SLOTS}
 use Rattle.machine_slots.specs.rules.Places.{ShownFrame}
@@ -31,10 +33,12 @@ IsOutermost b later [] = Unit {0}
 IsOutermost b later (place ∷ []) = IsCalled b later place.function
 IsOutermost b later (place ∷ next ∷ places) = IsOutermost b later (next ∷ places)
 
--- a process that runs has a frame; one that has ended has none, nothing to come, and no unfinished line
+-- a process that runs has a frame; one that has ended has none, nothing to come, and no unfinished
+-- line
 abbrev pub IsAlive : Option Ending → Saved → Type 0
 IsAlive None s = s.machine.frames ≢ []
-IsAlive (Some why) s = (s.machine.frames ≡ []) × (s.machine.later ≡ []) × (s.first ≡ []) × (s.second ≡ [])
+IsAlive (Some why) s = (s.machine.frames ≡ []) × (s.machine.later ≡ []) × (s.first ≡ [])
+    × (s.second ≡ [])
 
 -- what no call changes is as the configuration has it
 pub record IsConfigured (config : Settings) (h : Host) : Type 0 where

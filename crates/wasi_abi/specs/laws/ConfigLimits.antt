@@ -9,7 +9,8 @@ without_texts pages files journal = settings pages files journal [] []
 -- settings with so many arguments and entries of the environment, of so many bytes each
 abbrev pub with_short_texts : ℕ → ℕ → ℕ → ℕ → Settings
 with_short_texts arguments bytes entries entry_bytes =
-    settings 1 1 64 (replicate arguments (replicate bytes 97)) (replicate entries (replicate entry_bytes 97))
+    settings 1 1 64 (replicate arguments (replicate bytes 97))
+    (replicate entries (replicate entry_bytes 97))
 
 pub record ConfigLimitNumbers : Type 0 where
   pub least : IsInRange (without_texts 1 1 64)

@@ -14,8 +14,10 @@ abbrev pub all_calls : List Call
 all_calls =
     call.ArgsGet ∷ call.ArgsSizesGet ∷ call.EnvironGet ∷ call.EnvironSizesGet ∷ call.ClockResGet ∷
     call.ClockTimeGet ∷ call.FdClose ∷ call.FdDatasync ∷ call.FdFdstatGet ∷ call.FdFdstatSetFlags ∷
-    call.FdFilestatGet ∷ call.FdFilestatSetSize ∷ call.FdPread ∷ call.FdPrestatGet ∷ call.FdPrestatDirName ∷
-    call.FdPwrite ∷ call.FdRead ∷ call.FdReaddir ∷ call.FdSeek ∷ call.FdSync ∷ call.FdTell ∷ call.FdWrite ∷
+    call.FdFilestatGet ∷ call.FdFilestatSetSize ∷ call.FdPread ∷ call.FdPrestatGet
+    ∷ call.FdPrestatDirName ∷
+    call.FdPwrite ∷ call.FdRead ∷ call.FdReaddir ∷ call.FdSeek ∷ call.FdSync ∷ call.FdTell
+    ∷ call.FdWrite ∷
     call.PathCreateDirectory ∷ call.PathFilestatGet ∷ call.PathOpen ∷ call.PathRemoveDirectory ∷
     call.PathRename ∷ call.PathUnlinkFile ∷ call.ProcExit ∷ call.SchedYield ∷ call.RandomGet ∷ []
 
@@ -52,7 +54,8 @@ name_of call.ProcExit = codes "proc_exit"
 name_of call.SchedYield = codes "sched_yield"
 name_of call.RandomGet = codes "random_get"
 
--- pointers, sizes, descriptors, numbers and flags are i32; offsets, cookies, rights and time stamps are i64
+-- pointers, sizes, descriptors, numbers and flags are i32; offsets, cookies, rights and time stamps
+-- are i64
 abbrev pub parameters_of : Call → List ValueType
 parameters_of call.ArgsGet = I32 ∷ I32 ∷ []
 parameters_of call.ArgsSizesGet = I32 ∷ I32 ∷ []

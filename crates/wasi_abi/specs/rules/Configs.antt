@@ -2,7 +2,8 @@
 use Rattle.std.specs.Prelude.{◌≡◌, ◌≢◌, ◌⊎◌, ℕ, ◌≤◌, List, [], ◌∷◌, length}
 use Rattle.std.specs.List.{AllByRecursion}
 
--- the most pages of guest memory; the most bytes of all files, in units of 65,536; the sectors of the journal
+-- the most pages of guest memory; the most bytes of all files, in units of 65,536; the sectors of
+-- the journal
 pub record Settings : Type 0 where
   pub pages : ℕ
   pub files : ℕ

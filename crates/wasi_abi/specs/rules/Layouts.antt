@@ -1,5 +1,5 @@
--- Layouts of WASI preview 1 as lists of bytes (`fdstat`, `filestat`, `dirent`, `prestat` and `iovec` of its witx files).
--- Bytes between the fields are 0.
+-- Layouts of WASI preview 1 as lists of bytes (`fdstat`, `filestat`, `dirent`, `prestat` and
+-- `iovec` of its witx files). Bytes between the fields are 0.
 use Rattle.std.specs.Prelude.{ℕ, ◌<◌, ◌^◌, List, ◌∷◌, ◌++◌, replicate, length, slice_index}
 use Rattle.guest_memory.specs.rules.Bytes.{bytes_of, number_of, part}
 use Rattle.wasi_abi.specs.declared.layout.Fdstat.{Fdstat}
@@ -24,12 +24,14 @@ padding n = replicate n 0
 -- 24 bytes: file type, descriptor flags at 2, rights at 8, inheriting rights at 16
 abbrev pub fdstat_bytes : ℕ → ℕ → ℕ → ℕ → List ℕ
 fdstat_bytes file_type flags base inheriting =
-    file_type ∷ (padding 1 ++ (u16_bytes flags ++ (padding 4 ++ (u64_bytes base ++ u64_bytes inheriting))))
+    file_type ∷ (padding 1
+    ++ (u16_bytes flags ++ (padding 4 ++ (u64_bytes base ++ u64_bytes inheriting))))
 
 -- 64 bytes: device at 0, node at 8, file type at 16, links at 24, size at 32, three times
 abbrev pub filestat_bytes : ℕ → ℕ → ℕ → ℕ → List ℕ
 filestat_bytes node file_type links size =
-    padding 8 ++ (u64_bytes node ++ (file_type ∷ (padding 7 ++ (u64_bytes links ++ (u64_bytes size ++ padding 24)))))
+    padding 8 ++ (u64_bytes node
+    ++ (file_type ∷ (padding 7 ++ (u64_bytes links ++ (u64_bytes size ++ padding 24)))))
 
 -- 24 bytes before a name: next cookie at 0, node at 8, length of the name at 16, file type at 20
 abbrev pub dirent_head_bytes : ℕ → ℕ → ℕ → ℕ → List ℕ
@@ -51,7 +53,8 @@ iovec_bytes from len = u32_bytes from ++ u32_bytes len
 -- ---- the layouts of values, and those that have room in them
 
 abbrev pub fdstat_layout : Fdstat → List ℕ
-fdstat_layout s = fdstat_bytes s.file_type s.flags (rights_number s.base) (rights_number s.inheriting)
+fdstat_layout s =
+    fdstat_bytes s.file_type s.flags (rights_number s.base) (rights_number s.inheriting)
 
 pub record FdstatFits (s : Fdstat) : Type 0 where
   pub flags : s.flags < 2 ^ 16

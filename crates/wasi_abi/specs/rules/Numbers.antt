@@ -1,5 +1,6 @@
--- Numbers of WASI preview 1 (the types `errno`, `rights`, `filetype`, `whence`, `clockid`, `lookupflags`, `oflags` and `fdflags`
--- of its witx files), and the sets of rights of this project's profile.
+-- Numbers of WASI preview 1 (the types `errno`, `rights`, `filetype`, `whence`, `clockid`,
+-- `lookupflags`, `oflags` and `fdflags` of its witx files), and the sets of rights of this
+-- project's profile.
 use Rattle.std.specs.Prelude.{ℕ, ◌==◌, bit_and, Bool}
 use Rattle.std.specs.Int.{bit_at}
 use Rattle.wasi_abi.specs.declared.errno.Errno.{Errno}
@@ -10,7 +11,9 @@ use Rattle.wasi_abi.specs.declared.flags.OpenFlags.{OpenFlags}
 use Rattle.wasi_abi.specs.declared.flags.DescriptorFlags.{DescriptorFlags}
 use Rattle.wasi_abi.specs.declared.flags.Whence.{Whence}
 use Rattle.wasi_abi.specs.declared.flags.Whence.TheVariants as whence
-use Rattle.wasi_abi.specs.declared.errno.Errno.TheVariants.{Badf, Exist, Fault, Fbig, Ilseq, Inval, Isdir, Mfile, Nametoolong, Noent, Nospc, Notdir, Notempty, Spipe, Notcapable}
+use Rattle.wasi_abi.specs.declared.errno.Errno.TheVariants.{Badf, Exist, Fault, Fbig, Ilseq, Inval}
+use Rattle.wasi_abi.specs.declared.errno.Errno.TheVariants.{Isdir, Mfile, Nametoolong, Noent, Nospc}
+use Rattle.wasi_abi.specs.declared.errno.Errno.TheVariants.{Notdir, Notempty, Spipe, Notcapable}
 
 abbrev pub errno_number : Errno → ℕ
 errno_number Badf = 8

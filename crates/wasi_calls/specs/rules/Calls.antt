@@ -1,5 +1,6 @@
 -- What is told of a call, and of which calls (this project's own).
-use Rattle.std.specs.Prelude.{◌≡◌, ◌≢◌, ℕ, ◌<◌, ◌^◌, List, [], ◌∷◌, length, Option, Some, None, Result, Ok, Err}
+use Rattle.std.specs.Prelude.{◌≡◌, ◌≢◌, ℕ, ◌<◌, ◌^◌, List, [], ◌∷◌, length, Option, Some, None}
+use Rattle.std.specs.Prelude.{Result, Ok, Err}
 use Rattle.wasm_syntax.specs.declared.types.ValueType.{ValueType}
 use Rattle.wasm_syntax.specs.declared.types.ValueType.TheVariants.{I32, I64}
 use Rattle.guest_memory.specs.rules.Memories.{LinearMemory}
@@ -46,8 +47,10 @@ call_outcome (Err stop.Memory) = outcome.Memory
 -- is done the host of the row is shown. All other outcomes leave memory and host as they were.
 -- Memory may be wanting for a call alone that isn't refused.
 abbrev pub ShowsRow : Told → Bytes → HeldHost → Bytes → HeldHost → Ruling → Type 0
-ShowsRow (IsDone None) m held old_m old row = (done : Done) × (row ≡ Ok done) × (m ≡ done.memory) × ShowsHost held done.host
-ShowsRow (IsDone (Some e)) m held old_m old row = (row ≡ Err (Refuses e)) × (m ≡ old_m) × (held ≡ old)
+ShowsRow (IsDone None) m held old_m old row = (done : Done) × (row ≡ Ok done) × (m ≡ done.memory)
+    × ShowsHost held done.host
+ShowsRow (IsDone (Some e)) m held old_m old row = (row ≡ Err (Refuses e)) × (m ≡ old_m)
+    × (held ≡ old)
 ShowsRow (IsAsk kind) m held old_m old row = (row ≡ Err (Asks kind)) × (m ≡ old_m) × (held ≡ old)
 ShowsRow (IsExit code) m held old_m old row = (row ≡ Err (Ends code)) × (m ≡ old_m) × (held ≡ old)
 ShowsRow NoMemory m held old_m old row = IsNoRefusal row × (m ≡ old_m) × (held ≡ old)
@@ -61,7 +64,8 @@ wish_of (Ok x) = None
 
 -- the call with these arguments doesn't end the process, whatever host, memory and answer it has
 abbrev pub EndsNothing : Call → List ℕ → Type 0
-EndsNothing call arguments = (given : Option Answer) (m : Bytes) (h : Host) (code : ℕ) → row call arguments given m h ≢ Err (Ends code)
+EndsNothing call arguments = (given : Option Answer) (m : Bytes) (h : Host) (code : ℕ)
+    → row call arguments given m h ≢ Err (Ends code)
 
 -- as long as it was, with the same limit
 pub record IsAsLarge (old new : LinearMemory) : Type 0 where

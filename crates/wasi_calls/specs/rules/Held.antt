@@ -17,15 +17,16 @@ pub record HeldHost : Type 0 where
 abbrev pub behind_lines : List Line → Host → Host
 behind_lines before h = record h { lines = before ++ h.lines }
 
--- It shows a host that has emitted as many lines as were released, and then those that wait. Nothing is kept of the texts of
--- the released ones, so it shows one host for each choice of them.
+-- It shows a host that has emitted as many lines as were released, and then those that wait.
+-- Nothing is kept of the texts of the released ones, so it shows one host for each choice of them.
 pub record ShowsHost (held : HeldHost) (h : Host) : Type 0 where
   pub before : List Line
   pub count : length before ≡ held.released
   pub is : h ≡ behind_lines before held.host
 
 -- of its parts
-abbrev pub held_host_of : Settings → ℕ → Files → List (Option Descriptor) → List ℕ → Bool → ℕ → Output → HeldHost
+abbrev pub held_host_of : Settings → ℕ → Files → List (Option Descriptor) → List ℕ → Bool → ℕ
+    → Output → HeldHost
 held_host_of config limit files descriptors unread input_ended last_monotonic o = record {
   released = o.released;
   host = record {
@@ -50,9 +51,13 @@ held_ended held = record held { host = lines_ended held.host }
 
 -- what a rule leads to, with other lines in front of the host's own
 abbrev pub behind_lines_of_row : List Line → Ruling → Ruling
-behind_lines_of_row before (Ok done) = Ok (record { memory = done.memory; host = behind_lines before done.host })
+behind_lines_of_row before (Ok done) =
+    Ok (record { memory = done.memory; host = behind_lines before done.host })
 behind_lines_of_row before (Err halt) = Err halt
 
 -- the first so many lines that wait are released
 abbrev pub held_released : ℕ → HeldHost → HeldHost
-held_released count held = record { released = held.released + count; host = record held.host { lines = drop count held.host.lines } }
+held_released count held = record {
+  released = held.released + count;
+  host = record held.host { lines = drop count held.host.lines };
+}

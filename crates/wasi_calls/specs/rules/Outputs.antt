@@ -5,7 +5,8 @@ use Rattle.wasi_calls_rules.specs.Hosts.{Line}
 use Rattle.wasi_calls_rules.specs.Lines.{cut_all, rest_of}
 use Rattle.wasi_calls_rules.specs.declared.limits.TheConstants.{LINE_BYTES}
 
--- the unfinished lines of streams 1 and 2, the emitted lines that wait, and how many went before them
+-- the unfinished lines of streams 1 and 2, the emitted lines that wait, and how many went before
+-- them
 pub record Output : Type 0 where
   pub first : List ℕ
   pub second : List ℕ
@@ -19,8 +20,10 @@ no_output = record { first = []; second = []; waiting = []; released = 0 }
 abbrev pub output_written : ℕ → List ℕ → Output → Output
 output_written stream bytes o =
     if stream == 1
-    then (let c = cut_all 1 (record { lines = o.waiting; unfinished = o.first }) bytes in record o { waiting = c.lines; first = c.unfinished })
-    else (let c = cut_all 2 (record { lines = o.waiting; unfinished = o.second }) bytes in record o { waiting = c.lines; second = c.unfinished })
+    then (let c = cut_all 1 (record { lines = o.waiting; unfinished = o.first }) bytes in
+    record o { waiting = c.lines; first = c.unfinished })
+    else (let c = cut_all 2 (record { lines = o.waiting; unfinished = o.second }) bytes in
+    record o { waiting = c.lines; second = c.unfinished })
 
 -- the lines that an end emits
 abbrev pub left_lines : Output → List Line

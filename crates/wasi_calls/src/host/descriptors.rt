@@ -1,6 +1,7 @@
 //! Open descriptors of a host.
 
-ghost use Rattle.std.specs.Prelude.{◌≡◌, ◌≢◌, ◌<◌, ◌≤◌, ◌^◌, true, false, Some, None, Ok, IfOk, slice_get, slice_set};
+ghost use Rattle.std.specs.Prelude.{◌≡◌, ◌≢◌, ◌<◌, ◌≤◌, ◌^◌, true, false, Some, None, Ok, IfOk};
+ghost use Rattle.std.specs.Prelude.{slice_get, slice_set};
 ghost use Rattle.file_tree.specs.rules.Files.{is_directory};
 ghost use Rattle.wasi_calls_rules.specs.Hosts.{Node, Descriptor as Opened, IsThere, IsDescriptor};
 ghost use Rattle.wasi_calls_rules.specs.Hosts.{IsHost};

@@ -11,8 +11,8 @@ use crate::host::Host;
 use wasi_abi::Kind;
 
 impl Host {
-    /// What a read of so many bytes asks for before it can be made: a request, where it is of input,
-    /// nothing is left to be read, and input hasn't ended.
+    /// What a read of so many bytes asks for before it can be made: a request, where it is of
+    /// input, nothing is left to be read, and input hasn't ended.
     pub(crate) fn wanted_input(&self, fd: u32, len: usize) -> Option<Kind>
         requires { (d : Opened) × (open_descriptor self.now.host fd ≡ Ok d) }
         ensures { (d : Opened) → open_descriptor self.now.host fd ≡ Ok d

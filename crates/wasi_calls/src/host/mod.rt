@@ -60,9 +60,11 @@ impl Model for Host {
 
     ghost Value = { HeldHost };
 
-    ghost view = { λ h. held_host_of h.config h.limit h.tree h.descriptors.items h.unread.items h.input_ended h.last_monotonic h.streams };
+    ghost view = { λ h. held_host_of h.config h.limit h.tree h.descriptors.items h.unread.items h.input_ended
+        h.last_monotonic h.streams };
 
-    ghost invariant = { λ h. IsHost (held_host_of h.config h.limit h.tree h.descriptors.items h.unread.items h.input_ended h.last_monotonic h.streams).host };
+    ghost invariant = { λ h. IsHost (held_host_of h.config h.limit h.tree h.descriptors.items h.unread.items
+        h.input_ended h.last_monotonic h.streams).host };
 }
 
 impl Host {
@@ -72,7 +74,10 @@ impl Host {
     /// bytes. It
     /// fails for want of memory alone.
     pub fn new(alloc: Global, config: Config, limit: usize) -> Result<Host, AllocError>
-        ensures { IfOk result (λ h. h ≡ record { released = 0; host = first_host (config.files * UNIT_BYTES) limit config.arguments config.environment }) }
+        ensures { IfOk result (λ h. h ≡ record {
+          released = 0;
+          host = first_host (config.files * UNIT_BYTES) limit config.arguments config.environment;
+        }) }
     {
         Ok(Host {
             config,

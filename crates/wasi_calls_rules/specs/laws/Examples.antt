@@ -1,6 +1,8 @@
 -- Worked examples of the calls: a root with the file `a`, and a few bytes of memory.
-use Rattle.std.specs.Prelude.{◌≡◌, ℕ, ◌-◌, ◌^◌, List, [], ◌∷◌, ◌++◌, length, take, drop, codes, Some, None, Ok, Err}
-use Rattle.wasi_abi.specs.declared.errno.Errno.TheVariants.{Exist, Fault, Fbig, Inval, Noent, Nospc, Notcapable, Notdir, Notempty}
+use Rattle.std.specs.Prelude.{◌≡◌, ℕ, ◌-◌, ◌^◌, List, [], ◌∷◌, ◌++◌, length, take, drop, codes}
+use Rattle.std.specs.Prelude.{Some, None, Ok, Err}
+use Rattle.wasi_abi.specs.declared.errno.Errno.TheVariants.{Exist, Fault, Fbig, Inval, Noent, Nospc}
+use Rattle.wasi_abi.specs.declared.errno.Errno.TheVariants.{Notcapable, Notdir, Notempty}
 use Rattle.wasi_abi.specs.declared.answer.Kind.TheVariants as kind
 use Rattle.wasi_abi.specs.declared.answer.Answer.TheVariants as answer
 use Rattle.wasi_abi.specs.declared.call.Call.TheVariants as call
@@ -11,10 +13,12 @@ use Rattle.file_tree.specs.rules.Files.{Path, Files, Directory, File, fresh, cre
 use Rattle.wasi_calls_rules.specs.Hosts.{Node, Host, first_host}
 use Rattle.wasi_calls_rules.specs.Checks.{Bytes, Refuses, Asks, Ruling}
 use Rattle.wasi_calls_rules.specs.Lines.{cut_all}
-use Rattle.wasi_calls_rules.specs.Small.{with_descriptor, clock_time_get, fd_seek, random_get, fd_close}
+use Rattle.wasi_calls_rules.specs.Small.{with_descriptor, clock_time_get, fd_seek, random_get}
+use Rattle.wasi_calls_rules.specs.Small.{fd_close}
 use Rattle.wasi_calls_rules.specs.Moving.{fd_read, fd_write, fd_pwrite}
 use Rattle.wasi_calls_rules.specs.Rows.{row, Told, TellsRow}
-use Rattle.wasi_calls_rules.specs.Entries.{Wish, path_open, path_rename, path_remove_directory, fd_readdir}
+use Rattle.wasi_calls_rules.specs.Entries.{Wish, path_open, path_rename, path_remove_directory}
+use Rattle.wasi_calls_rules.specs.Entries.{fd_readdir}
 
 abbrev pub path_to : List ℕ → Path
 path_to name = name ∷ []
@@ -31,7 +35,13 @@ with_a_and_b = record bare_host { files = created (path_to (codes "b")) (File []
 
 -- the file open as descriptor 4
 abbrev pub with_open_a : Host
-with_open_a = with_descriptor 4 (record { target = Node 2; offset = 0; flags = 0; base = file_rights; inheriting = 0 }) with_a
+with_open_a = with_descriptor 4 (record {
+  target = Node 2;
+  offset = 0;
+  flags = 0;
+  base = file_rights;
+  inheriting = 0;
+}) with_a
 
 abbrev pub nothing_asked : Wish
 nothing_asked = record { oflags = 0; base = 0; inheriting = 0; fdflags = 0 }
@@ -74,42 +84,66 @@ abbrev pub beyond : Bytes
 beyond = iovec_bytes 0 1 ++ (iovec_bytes 20 1 ++ padding 4)
 
 pub record MovingExamples : Type 0 where
-  pub first_buffer : take 8 (memory_after (fd_read 0 0 2 4 None two_buffers with_request)) ≡ codes "ABCD" ++ (16 ∷ 0 ∷ 0 ∷ 0 ∷ [])
-  pub second_iovec : part (memory_after (fd_read 0 0 2 4 None two_buffers with_request)) 8 8 ≡ iovec_bytes 16 8
-  pub second_buffer : drop 16 (memory_after (fd_read 0 0 2 4 None two_buffers with_request)) ≡ codes "IJKLMNO" ++ 10 ∷ []
+  pub first_buffer : take 8 (memory_after (fd_read 0 0 2 4 None two_buffers with_request))
+      ≡ codes "ABCD" ++ (16 ∷ 0 ∷ 0 ∷ 0 ∷ [])
+  pub second_iovec : part (memory_after (fd_read 0 0 2 4 None two_buffers with_request)) 8 8
+      ≡ iovec_bytes 16 8
+  pub second_buffer : drop 16 (memory_after (fd_read 0 0 2 4 None two_buffers with_request))
+      ≡ codes "IJKLMNO" ++ 10 ∷ []
   pub asks_for_a_request : fd_read 0 0 2 4 None two_buffers bare_host ≡ Err (Asks kind.Request)
   pub out_of_range : fd_write 1 0 2 16 beyond bare_host ≡ Err (Refuses Fault)
-  pub file_too_large : fd_pwrite 4 0 1 1048576 8 (iovec_bytes 0 1 ++ padding 4) with_open_a ≡ Err (Refuses Fbig)
-  pub no_room : fd_pwrite 4 0 1 65536 8 (iovec_bytes 0 1 ++ padding 4) with_open_a ≡ Err (Refuses Nospc)
-  pub empty_line : cut_all 1 (record { lines = []; unfinished = [] }) (10 ∷ []) ≡ record { lines = record { stream = 1; text = [] } ∷ []; unfinished = [] }
+  pub file_too_large : fd_pwrite 4 0 1 1048576 8 (iovec_bytes 0 1 ++ padding 4) with_open_a
+      ≡ Err (Refuses Fbig)
+  pub no_room : fd_pwrite 4 0 1 65536 8 (iovec_bytes 0 1 ++ padding 4) with_open_a
+      ≡ Err (Refuses Nospc)
+  pub empty_line : cut_all 1 (record { lines = []; unfinished = [] }) (10 ∷ [])
+      ≡ record { lines = record { stream = 1; text = [] } ∷ []; unfinished = [] }
 
 -- two buffers for one write, the first of them behind the second, and then a cell for the count
 abbrev pub two_texts : ℕ → Bytes
-two_texts count = iovec_bytes 19 3 ++ (iovec_bytes 16 3 ++ (codes "you" ++ ((codes "hi" ++ 10 ∷ []) ++ u32_bytes count)))
+two_texts count =
+    iovec_bytes 19 3
+    ++ (iovec_bytes 16 3 ++ (codes "you" ++ ((codes "hi" ++ 10 ∷ []) ++ u32_bytes count)))
 
 -- a write to descriptor 1 of the buffers that two iovecs at 0 name
 abbrev pub write_row : ℕ → Bytes → Ruling
 write_row ret m = row call.FdWrite (1 ∷ 0 ∷ 2 ∷ ret ∷ []) None m bare_host
 
--- the first buffer is the newline that ends 21 bytes of memory; the second begins there too, and is one byte longer
+-- the first buffer is the newline that ends 21 bytes of memory; the second begins there too, and is
+-- one byte longer
 abbrev pub one_beyond : Bytes
 one_beyond = iovec_bytes 20 1 ++ (iovec_bytes 20 2 ++ (padding 4 ++ 10 ∷ []))
 
 pub record WritingExamples : Type 0 where
-  -- The cell counts six bytes, the newline has ended the line `hi`, and `you` is unfinished. Nothing else has changed.
-  pub is_done : write_row 22 (two_texts 0) ≡ Ok (record { memory = two_texts 6; host = record bare_host { lines = record { stream = 1; text = codes "hi" } ∷ []; first = codes "you" } })
-  -- The error is 21. Whatever a caller is told, memory is as it was, and no line is emitted or begun.
+  -- The cell counts six bytes, the newline has ended the line `hi`, and `you` is unfinished.
+  -- Nothing else has changed.
+  pub is_done : write_row 22 (two_texts 0) ≡ Ok (record {
+    memory = two_texts 6;
+    host = record bare_host {
+      lines = record { stream = 1; text = codes "hi" } ∷ [];
+      first = codes "you";
+    };
+  })
+  -- The error is 21. Whatever a caller is told, memory is as it was, and no line is emitted or
+  -- begun.
   pub is_refused : write_row 16 one_beyond ≡ Err (Refuses Fault)
   pub number : errno_number Fault ≡ 21
-  pub nothing_changes : (told : Told) (m : Bytes) (h : Host) → TellsRow told m h one_beyond bare_host (write_row 16 one_beyond) → (m ≡ one_beyond) × (h ≡ bare_host)
+  pub nothing_changes : (told : Told) (m : Bytes) (h : Host)
+      → TellsRow told m h one_beyond bare_host (write_row 16 one_beyond) → (m ≡ one_beyond)
+      × (h ≡ bare_host)
 
 pub record SmallExamples : Type 0 where
   pub before_the_start : fd_seek 4 (2 ^ 64 - 1) 0 0 (padding 8) with_open_a ≡ Err (Refuses Inval)
-  pub no_random_bytes : random_get 0 0 None (padding 8) bare_host ≡ Ok (record { memory = padding 8; host = bare_host })
+  pub no_random_bytes : random_get 0 0 None (padding 8) bare_host ≡ Ok (record {
+    memory = padding 8;
+    host = bare_host;
+  })
   pub too_many : random_get 0 4097 None (padding 8) bare_host ≡ Err (Refuses Inval)
   -- an answer that doesn't fit is as none
-  pub does_not_fit : random_get 0 3 (Some (answer.Random (1 ∷ 2 ∷ 3 ∷ 4 ∷ []))) (padding 8) bare_host ≡ Err (Asks (kind.Random 3))
-  pub time_never_falls : memory_after (clock_time_get 1 0 (Some (answer.Monotonic 40)) (padding 8) (record bare_host { last_monotonic = 50 })) ≡ u64_bytes 50
+  pub does_not_fit : random_get 0 3 (Some (answer.Random (1 ∷ 2 ∷ 3 ∷ 4 ∷ [])))
+      (padding 8) bare_host ≡ Err (Asks (kind.Random 3))
+  pub time_never_falls : memory_after (clock_time_get 1 0 (Some (answer.Monotonic 40)) (padding 8)
+      (record bare_host { last_monotonic = 50 })) ≡ u64_bytes 50
   pub root_stays_open : fd_close 3 (padding 8) bare_host ≡ Err (Refuses Notcapable)
 
 -- a directory `d`, node 3, and a rename of `a` to `d/a`
@@ -120,10 +154,30 @@ abbrev pub two_paths : Bytes
 two_paths = codes "ad/a"
 
 pub record DirectoryExamples : Type 0 where
-  pub cut_entries : part (memory_after (fd_readdir 3 0 30 0 30 (padding 34) with_a_and_b)) 25 5 ≡ 2 ∷ 0 ∷ 0 ∷ 0 ∷ 0 ∷ []
-  pub used_up : part (memory_after (fd_readdir 3 0 30 0 30 (padding 34) with_a_and_b)) 30 4 ≡ u32_bytes 30
-  pub last_entry : part (memory_after (fd_readdir 3 0 30 1 30 (padding 34) with_a_and_b)) 30 4 ≡ u32_bytes 25
+  pub cut_entries : part (memory_after (fd_readdir 3 0 30 0 30 (padding 34) with_a_and_b)) 25 5
+      ≡ 2 ∷ 0 ∷ 0 ∷ 0 ∷ 0 ∷ []
+  pub used_up : part (memory_after (fd_readdir 3 0 30 0 30 (padding 34) with_a_and_b)) 30 4
+      ≡ u32_bytes 30
+  pub last_entry : part (memory_after (fd_readdir 3 0 30 1 30 (padding 34) with_a_and_b)) 30 4
+      ≡ u32_bytes 25
   pub is_renamed : files_after (path_rename 3 0 1 3 1 3 two_paths with_d)
-      ≡ record { nodes = record { number = 1; path = Some []; content = Directory } ∷ record { number = 2; path = Some (codes "d" ∷ codes "a" ∷ []); content = File (codes "xyz") } ∷ record { number = 3; path = Some (codes "d" ∷ []); content = Directory } ∷ []; next = 4 }
-  pub not_empty : path_remove_directory 3 0 1 (codes "d") (record with_d { files = files_after (path_rename 3 0 1 3 1 3 two_paths with_d) }) ≡ Err (Refuses Notempty)
+      ≡ record {
+        nodes = record {
+          number = 1;
+          path = Some [];
+          content = Directory;
+        } ∷ record {
+          number = 2;
+          path = Some (codes "d" ∷ codes "a" ∷ []);
+          content = File (codes "xyz");
+        } ∷ record {
+          number = 3;
+          path = Some (codes "d" ∷ []);
+          content = Directory;
+        } ∷ [];
+        next = 4;
+      }
+  pub not_empty : path_remove_directory 3 0 1 (codes "d")
+      (record with_d { files = files_after (path_rename 3 0 1 3 1 3 two_paths with_d) })
+      ≡ Err (Refuses Notempty)
   pub below_itself : path_rename 3 0 1 3 0 3 (codes "d/d") with_d ≡ Err (Refuses Inval)

@@ -16,7 +16,9 @@ use Rattle.wasi_calls_rules.specs.Rows.{row}
 
 -- the memory of a call that is done is as long as it was
 abbrev pub RowsKeepMemory : Type 0
-RowsKeepMemory = (c : Call) (arguments : List ℕ) (given : Option Answer) (m : Bytes) (h : Host) (done : Done) → row c arguments given m h ≡ Ok done → length done.memory ≡ length m
+RowsKeepMemory =
+    (c : Call) (arguments : List ℕ) (given : Option Answer) (m : Bytes) (h : Host) (done : Done)
+    → row c arguments given m h ≡ Ok done → length done.memory ≡ length m
 
 -- ---- lines
 
@@ -27,7 +29,8 @@ pub record Emits (before after : Host) : Type 0 where
 
 -- a call that is done emits lines behind those that were there
 abbrev pub RowsEmit : Type 0
-RowsEmit = (c : Call) (arguments : List ℕ) (given : Option Answer) (m : Bytes) (h : Host) (done : Done) → row c arguments given m h ≡ Ok done → Emits h done.host
+RowsEmit = (c : Call) (arguments : List ℕ) (given : Option Answer) (m : Bytes) (h : Host)
+    (done : Done) → row c arguments given m h ≡ Ok done → Emits h done.host
 
 -- ---- bytes
 
@@ -117,7 +120,8 @@ LastTimesAreTold = (precision ret : ℕ) (given : Option Answer) (m : Bytes) (h 
 
 -- the test that the rows make of an answer passes exactly where it fits
 abbrev pub TestsTellWhatFits : Type 0
-TestsTellWhatFits = (limit : ℕ) (k : Kind) (a : Answer) → IsTrue (does_fit limit k a) ↔ Fits limit k a
+TestsTellWhatFits = (limit : ℕ) (k : Kind) (a : Answer) → IsTrue (does_fit limit k a)
+    ↔ Fits limit k a
 
 -- the calls that may want an answer from outside
 abbrev pub MayAsk : Call → Type 0

@@ -12,7 +12,8 @@ use Rattle.wasi_calls_rules.specs.Hosts.{Descriptor, Host, first_descriptors}
 use Rattle.wasi_calls_rules.specs.Checks.{Bytes, Ruling}
 use Rattle.wasi_calls_rules.specs.Small.{call_done, with_descriptor}
 use Rattle.wasi_calls_rules.specs.laws.Examples.{bare_host}
-use Rattle.wasi_calls_rules.specs.laws.Scenes.{bare_call, refused_by, old_bytes, small_u32, root_node}
+use Rattle.wasi_calls_rules.specs.laws.Scenes.{bare_call, refused_by, old_bytes, small_u32}
+use Rattle.wasi_calls_rules.specs.laws.Scenes.{root_node}
 use Rattle.wasi_calls_rules.specs.laws.Scenes.{file_a, node_descriptor, a_open}
 use Rattle.wasi_calls_rules.specs.laws.Trees.{placed_node, lost_nodes, directory_d, file_d_b}
 use Rattle.wasi_calls_rules.specs.laws.Trees.{directory_d_e, directory_f, before_seven, grove}

@@ -4,6 +4,7 @@ use Rattle.wasm_decode.specs.declared.items.fault.ReadError.{ReadError}
 use Rattle.wasm_decode.specs.declared.items.fault.ReadError.TheVariants.{Refused, Memory}
 use Rattle.wasm_decode.specs.Items.Answers.{FailsToRead}
 
-pub fails_as : {X Y : Type 0} (e : ReadError) (read : Option X) (total : Option Y) → (read ≡ None → total ≡ None) → FailsToRead e read → FailsToRead e total
+pub fails_as : {X Y : Type 0} (e : ReadError) (read : Option X) (total : Option Y)
+    → (read ≡ None → total ≡ None) → FailsToRead e read → FailsToRead e total
 fails_as Memory read total h f = tt
 fails_as (Refused r) read total h f = h f

@@ -1,4 +1,5 @@
--- What a reader answers, beside what stands at the front of the bytes: an item with the bytes behind it, or nothing.
+-- What a reader answers, beside what stands at the front of the bytes: an item with the bytes
+-- behind it, or nothing.
 use Rattle.std.specs.Prelude.{◌≡◌, ℕ, List, Option, Some, None, Result, Ok, Err}
 use Rattle.wasm_decode.specs.declared.items.fault.ReadRefusal.{ReadRefusal}
 use Rattle.wasm_decode.specs.declared.items.fault.ReadError.{ReadError}

@@ -10,4 +10,5 @@ is_past (Some most) n = nat_lt most n
 
 -- limits whose minimum isn't past the bound
 abbrev pub limits_up_to_at : Option ℕ → List ℕ → Option (Limits × List ℕ)
-limits_up_to_at most bytes = limits_at bytes >>= λ l. if is_past most l.0.minimum then None else Some l
+limits_up_to_at most bytes = limits_at bytes >>= λ l. if is_past most l.0.minimum then None
+    else Some l

@@ -1,8 +1,10 @@
 //! Bytes and integers (sections 5.2.1 and 5.2.2).
 
-ghost use Rattle.std.specs.Prelude.{◌≡◌, ◌≤◌, ◌<◌, ◌^◌, ◌-◌, ◌↔◌, IsTrue, IsOk, nat_lt, [], length, IfSome, take, drop};
+ghost use Rattle.std.specs.Prelude.{◌≡◌, ◌≤◌, ◌<◌, ◌^◌, ◌-◌, ◌↔◌, IsTrue, IsOk, nat_lt, [], length};
+ghost use Rattle.std.specs.Prelude.{IfSome, take, drop};
 ghost use Rattle.wasm_decode.specs.Items.Answers.{FindsItem, TakesItem};
-ghost use Rattle.wasm_syntax.specs.laws.ReadingItems.{byte_at, exactly_at, unsigned_at, last_signed, signed_at, leb_u32_at, part_at};
+ghost use Rattle.wasm_syntax.specs.laws.ReadingItems.{byte_at, exactly_at, unsigned_at};
+ghost use Rattle.wasm_syntax.specs.laws.ReadingItems.{last_signed, signed_at, leb_u32_at, part_at};
 
 use crate::items::fault::ReadRefusal;
 use crate::items::span::Span;
@@ -16,7 +18,8 @@ fn is_below(byte: u8, bits: u8) -> bool
     bits >= 7 || byte < 1 << bits
 }
 
-/// The number, in two's complement of so many bits, that the last byte of a signed integer stands for.
+/// The number, in two's complement of so many bits, that the last byte of a signed integer stands
+/// for.
 #[tactic(auto, unfolding(wasm_syntax::specs::laws::ReadingItems::last_signed))]
 fn last_signed(byte: u8, bits: u8) -> Option<u64>
     requires byte { byte < 128 }

@@ -4,7 +4,8 @@ ghost use Rattle.std.specs.Prelude.{◌≡◌};
 ghost use Rattle.wasm_decode.specs.Items.Answers.{GivesItem, TakesItem};
 ghost use Rattle.wasm_decode.specs.Items.Entries.{import_item_up_to_at, import_up_to_at};
 ghost use Rattle.wasm_syntax.specs.laws.ReadingModules.{export_item_at, export_at};
-ghost use Rattle.wasm_syntax.specs.laws.ReadingWithin.{global_within_at, element_within_at, data_within_at};
+ghost use Rattle.wasm_syntax.specs.laws.ReadingWithin.{global_within_at, element_within_at};
+ghost use Rattle.wasm_syntax.specs.laws.ReadingWithin.{data_within_at};
 
 use crate::items::decoder::Decoder;
 use crate::items::expressions::expression;

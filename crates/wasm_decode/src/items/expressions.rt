@@ -19,7 +19,8 @@ fn nest(
     openers: &mut Vec<Opener>,
     instruction: &Instruction,
 ) -> Result<BodyStep, AllocFailed<Opener>>
-    ensures { IfOk result (λ step. Nests step (reverse openers.new.items) (nesting_after instruction.now (reverse openers.old.items))) }
+    ensures { IfOk result (λ step. Nests step (reverse openers.new.items)
+        (nesting_after instruction.now (reverse openers.old.items))) }
 {
     match instruction {
         Instruction::Block { .. } | Instruction::Loop { .. } => openers.push(Opener::Straight)?,

@@ -5,8 +5,8 @@ ghost use Rattle.wasm_decode.specs.declared.items.fault.ReadError.TheVariants.{R
 
 use std::alloc::{AllocError, AllocFailed};
 
-/// What is wrong with the bytes: the first fault from the front. Offsets are in bytes, from the first of
-/// all bytes, and name the first byte of the item at fault.
+/// What is wrong with the bytes: the first fault from the front. Offsets are in bytes, from the
+/// first of all bytes, and name the first byte of the item at fault.
 #[derive(Clone, Copy, Debug, PartialEq, Eq)]
 pub enum ReadRefusal {
     /// An item can't stand at this offset.

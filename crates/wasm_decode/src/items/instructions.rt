@@ -2,7 +2,9 @@
 
 ghost use Rattle.std.specs.Prelude.{◌≡◌};
 ghost use Rattle.wasm_syntax.specs.laws.ReadingItems.{block_type_at};
-ghost use Rattle.wasm_syntax.specs.laws.ReadingInstructions.{control_at, variable_at, memory_at, memory_argument_at, numeric_at, instruction_at, behind_opcode};
+ghost use Rattle.wasm_syntax.specs.laws.ReadingInstructions.{control_at, variable_at, memory_at};
+ghost use Rattle.wasm_syntax.specs.laws.ReadingInstructions.{memory_argument_at, numeric_at};
+ghost use Rattle.wasm_syntax.specs.laws.ReadingInstructions.{instruction_at, behind_opcode};
 ghost use Rattle.wasm_decode.specs.Items.Answers.{GivesItem, TakesItem};
 
 use crate::items::decoder::Decoder;

@@ -1,7 +1,8 @@
 //! Operators, by their opcodes (sections 5.4.4 and 5.4.5).
 
 ghost use Rattle.std.specs.Prelude.{◌≡◌, slice_get, option_map};
-ghost use Rattle.wasm_syntax.specs.laws.ReadingInstructions.{comparison_of, operation_of, load_of, store_operator_of};
+ghost use Rattle.wasm_syntax.specs.laws.ReadingInstructions.{comparison_of, operation_of, load_of};
+ghost use Rattle.wasm_syntax.specs.laws.ReadingInstructions.{store_operator_of};
 ghost use Rattle.wasm_syntax.specs.declared.instruction.Instruction.TheVariants as instr;
 
 use wasm_syntax::{

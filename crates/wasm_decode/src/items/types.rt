@@ -3,8 +3,10 @@
 ghost use Rattle.std.specs.Prelude.{◌≡◌};
 ghost use Rattle.wasm_decode.specs.Items.Answers.{GivesItem, TakesItem};
 ghost use Rattle.wasm_decode.specs.Items.Bounded.{limits_up_to_at};
-ghost use Rattle.wasm_syntax.specs.laws.ReadingItems.{value_type_at, memory_type_at, mutability_at, global_type_at};
-ghost use Rattle.wasm_syntax.specs.laws.ReadingWithin.{function_type_within_at, table_type_within_at};
+ghost use Rattle.wasm_syntax.specs.laws.ReadingItems.{value_type_at, memory_type_at, mutability_at};
+ghost use Rattle.wasm_syntax.specs.laws.ReadingItems.{global_type_at};
+ghost use Rattle.wasm_syntax.specs.laws.ReadingWithin.{function_type_within_at};
+ghost use Rattle.wasm_syntax.specs.laws.ReadingWithin.{table_type_within_at};
 
 use crate::items::decoder::Decoder;
 use crate::items::fault::{ReadError, ReadRefusal};
@@ -50,7 +52,8 @@ impl Item for FunctionType {
     }
 }
 
-/// Limits, whose minimum is at most so much where that is given. It is judged before a maximum is read.
+/// Limits, whose minimum is at most so much where that is given. It is judged before a maximum is
+/// read.
 #[tactic(auto, unfolding(wasm_syntax::specs::laws::ReadingItems::limits_at))]
 fn limits(decoder: &mut Decoder, most: Option<u32>) -> Result<Limits, ReadRefusal>
     ensures { TakesItem result decoder.new (limits_up_to_at most decoder.old) }

@@ -3,7 +3,8 @@
 ghost use Rattle.std.specs.Prelude.{◌≡◌, is_some};
 ghost use Rattle.std.specs.Str.{is_utf8};
 ghost use Rattle.wasm_decode.specs.Items.Answers.{GivesItem, TakesItem};
-ghost use Rattle.wasm_syntax.specs.laws.ReadingItems.{items_at, vector_at, vector_up_to_at, name_at, bytes_at};
+ghost use Rattle.wasm_syntax.specs.laws.ReadingItems.{items_at, vector_at, vector_up_to_at};
+ghost use Rattle.wasm_syntax.specs.laws.ReadingItems.{name_at, bytes_at};
 
 use crate::items::decoder::Decoder;
 use crate::items::fault::{ReadError, ReadRefusal};
@@ -55,7 +56,8 @@ fn is_text(bytes: &[u8]) -> bool
     str::from_utf8(bytes).is_ok()
 }
 
-/// A length, and so many bytes, as a decoder of their own. Where they aren't whole the length is at fault.
+/// A length, and so many bytes, as a decoder of their own. Where they aren't whole the length is at
+/// fault.
 #[tactic(auto, unfolding(wasm_syntax::specs::laws::ReadingItems::bytes_at))]
 pub fn take_sized<'a>(decoder: &mut Decoder<'a>) -> Result<Decoder<'a>, ReadRefusal>
     ensures { TakesItem result decoder.new (bytes_at decoder.old) }

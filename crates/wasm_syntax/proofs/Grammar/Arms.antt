@@ -1,5 +1,6 @@
 -- Instructions are read exactly.
-use Rattle.std.proofs.Common.{◌≡◌, ℕ, zero, suc, ltb, eqb, List, [], ◌∷◌, map, Option, Some, refl, sym, ap, subst}
+use Rattle.std.proofs.Common.{◌≡◌, ℕ, zero, suc, ltb, eqb, List, [], ◌∷◌, map, Option, Some, refl}
+use Rattle.std.proofs.Common.{sym, ap, subst}
 use Rattle.std.specs.Prelude.{slice_get}
 use Rattle.wasm_syntax.specs.declared.types.ValueType.{ValueType}
 use Rattle.wasm_syntax.specs.declared.types.ValueType.TheVariants.{I32, I64}
@@ -7,11 +8,16 @@ use Rattle.wasm_syntax.specs.declared.value.Value.TheVariants as value
 use Rattle.wasm_syntax.specs.declared.operator.UnaryOperator.{UnaryOperator}
 use Rattle.wasm_syntax.specs.declared.operator.UnaryOperator.TheVariants.{Clz, Ctz, Popcnt}
 use Rattle.wasm_syntax.specs.declared.operator.BinaryOperator.{BinaryOperator}
-use Rattle.wasm_syntax.specs.declared.operator.BinaryOperator.TheVariants.{Add, Sub, Mul, DivS, DivU, RemS, RemU, And, Or, Xor, Shl, ShrS, ShrU, Rotl, Rotr}
+use Rattle.wasm_syntax.specs.declared.operator.BinaryOperator.TheVariants.{Add, Sub, Mul, DivS}
+use Rattle.wasm_syntax.specs.declared.operator.BinaryOperator.TheVariants.{DivU, RemS, RemU, And}
+use Rattle.wasm_syntax.specs.declared.operator.BinaryOperator.TheVariants.{Or, Xor, Shl, ShrS, ShrU}
+use Rattle.wasm_syntax.specs.declared.operator.BinaryOperator.TheVariants.{Rotl, Rotr}
 use Rattle.wasm_syntax.specs.declared.operator.Comparison.{Comparison}
-use Rattle.wasm_syntax.specs.declared.operator.Comparison.TheVariants.{Eq, Ne, LtS, LtU, GtS, GtU, LeS, LeU, GeS, GeU}
+use Rattle.wasm_syntax.specs.declared.operator.Comparison.TheVariants.{Eq, Ne, LtS, LtU, GtS, GtU}
+use Rattle.wasm_syntax.specs.declared.operator.Comparison.TheVariants.{LeS, LeU, GeS, GeU}
 use Rattle.wasm_syntax.specs.declared.operator.Conversion.{Conversion}
-use Rattle.wasm_syntax.specs.declared.operator.Conversion.TheVariants.{I32WrapI64, I64ExtendI32S, I64ExtendI32U}
+use Rattle.wasm_syntax.specs.declared.operator.Conversion.TheVariants.{I32WrapI64, I64ExtendI32S}
+use Rattle.wasm_syntax.specs.declared.operator.Conversion.TheVariants.{I64ExtendI32U}
 use Rattle.wasm_syntax.specs.declared.operator.LoadOperator.{LoadOperator}
 use Rattle.wasm_syntax.specs.declared.operator.LoadOperator.TheVariants as load
 use Rattle.wasm_syntax.specs.declared.operator.StoreOperator.{StoreOperator}
@@ -20,14 +26,25 @@ use Rattle.wasm_syntax.specs.declared.instruction.MemoryArgument.{MemoryArgument
 use Rattle.wasm_syntax.specs.declared.instruction.Instruction.{Instruction}
 use Rattle.wasm_syntax.specs.declared.instruction.Instruction.TheVariants as instr
 use Rattle.wasm_syntax.specs.rules.Items.{IsThisByte, IsU32, IsSigned, IsVector, IsBlockType}
-use Rattle.wasm_syntax.specs.rules.Instructions.{load_opcode, store_opcode, eqz_opcode, compare_place, compare_opcode, unary_place, unary_opcode, binary_place, binary_opcode, convert_opcode, IsMemoryArgument, IsInstruction}
-use Rattle.wasm_syntax.specs.laws.ReadingItems.{◌>>=◌, read_as, exactly_at, leb_u32_at, signed_at, vector_at, block_type_at}
-use Rattle.wasm_syntax.specs.laws.ReadingInstructions.{comparisons, unary_operators, binary_operators, load_of, store_operator_of, comparison_of, operation_of, control_at, variable_at, memory_argument_at, memory_at, numeric_at, behind_opcode, instruction_at}
-use Rattle.wasm_syntax.proofs.Grammar.Exact.{Reads, bind_some, pass_some, pick, found, some_is, carry}
-use Rattle.wasm_syntax.proofs.Grammar.Integers.{Reads-u32_at, Reads-signed_at, byte_sound, byte_complete}
+use Rattle.wasm_syntax.specs.rules.Instructions.{load_opcode, store_opcode, eqz_opcode}
+use Rattle.wasm_syntax.specs.rules.Instructions.{compare_place, compare_opcode, unary_place}
+use Rattle.wasm_syntax.specs.rules.Instructions.{unary_opcode, binary_place, binary_opcode}
+use Rattle.wasm_syntax.specs.rules.Instructions.{convert_opcode, IsMemoryArgument, IsInstruction}
+use Rattle.wasm_syntax.specs.laws.ReadingItems.{◌>>=◌, read_as, exactly_at, leb_u32_at, signed_at}
+use Rattle.wasm_syntax.specs.laws.ReadingItems.{vector_at, block_type_at}
+use Rattle.wasm_syntax.specs.laws.ReadingInstructions.{comparisons, unary_operators}
+use Rattle.wasm_syntax.specs.laws.ReadingInstructions.{binary_operators, load_of, store_operator_of}
+use Rattle.wasm_syntax.specs.laws.ReadingInstructions.{comparison_of, operation_of, control_at}
+use Rattle.wasm_syntax.specs.laws.ReadingInstructions.{variable_at, memory_argument_at, memory_at}
+use Rattle.wasm_syntax.specs.laws.ReadingInstructions.{numeric_at, behind_opcode, instruction_at}
+use Rattle.wasm_syntax.proofs.Grammar.Exact.{Reads, bind_some, pass_some, pick, found, some_is}
+use Rattle.wasm_syntax.proofs.Grammar.Exact.{carry}
+use Rattle.wasm_syntax.proofs.Grammar.Integers.{Reads-u32_at, Reads-signed_at, byte_sound}
+use Rattle.wasm_syntax.proofs.Grammar.Integers.{byte_complete}
 use Rattle.wasm_syntax.proofs.Grammar.Vectors.{Reads-vector_at}
 use Rattle.wasm_syntax.proofs.Grammar.Types.{front_is, Reads-block_type_at}
-use Rattle.wasm_syntax.proofs.Grammar.Opcodes.{load_sound, store_sound, numeric_opcode, comparison_sound, operation_sound}
+use Rattle.wasm_syntax.proofs.Grammar.Opcodes.{load_sound, store_sound, numeric_opcode}
+use Rattle.wasm_syntax.proofs.Grammar.Opcodes.{comparison_sound, operation_sound}
 
 pub Reads-indices : Reads (IsVector IsU32) (vector_at leb_u32_at)
 Reads-indices = Reads-vector_at IsU32 leb_u32_at Reads-u32_at
@@ -38,9 +55,18 @@ Reads-memory_argument_at = record {
   sound = λ bytes m rest e.
       let align = bind_some (leb_u32_at bytes) _ _ e in
       let offset = bind_some (leb_u32_at align.0.1) _ _ align.2 in
-      carry (IsMemoryArgument bytes) (record { align = align.0.0; offset = offset.0.0 }) m offset.0.1 rest offset.2
-      (align.0.1, Reads-u32_at.sound bytes align.0.0 align.0.1 align.1, Reads-u32_at.sound align.0.1 offset.0.0 offset.0.1 offset.1);
-  complete = λ bytes m rest h. rw (Reads-u32_at.complete bytes m.align h.0 h.1, Reads-u32_at.complete h.0 m.offset rest h.2) refl;
+      carry (IsMemoryArgument bytes) (record {
+        align = align.0.0;
+        offset = offset.0.0;
+      }) m offset.0.1 rest offset.2 (
+        align.0.1,
+        Reads-u32_at.sound bytes align.0.0 align.0.1 align.1,
+        Reads-u32_at.sound align.0.1 offset.0.0 offset.0.1 offset.1,
+      );
+  complete = λ bytes m rest h. rw (
+    Reads-u32_at.complete bytes m.align h.0 h.1,
+    Reads-u32_at.complete h.0 m.offset rest h.2,
+  ) refl;
 }
 
 -- ---- what is read is spelled
@@ -50,112 +76,239 @@ opcode_is : (b k : ℕ) (bytes : List ℕ) → b ≡ k → IsThisByte k (b ∷ b
 opcode_is b k bytes e = ap (λ (x : ℕ). x ∷ bytes) e
 
 -- an opcode alone
-alone : (b : ℕ) (bytes : List ℕ) (x i : Instruction) (rest : List ℕ) → found x bytes ≡ found i rest → IsInstruction (b ∷ bytes) x bytes → IsInstruction (b ∷ bytes) i rest
+alone : (b : ℕ) (bytes : List ℕ) (x i : Instruction) (rest : List ℕ) → found x bytes ≡ found i rest
+    → IsInstruction (b ∷ bytes) x bytes → IsInstruction (b ∷ bytes) i rest
 alone b bytes x i rest e h = carry (IsInstruction (b ∷ bytes)) x i bytes rest e h
 
 -- an opcode and one item
-with_item : {X : Type 0} (IsItem : List ℕ → X → List ℕ → Type 0) (item_at : List ℕ → Option (X × List ℕ)) → Reads IsItem item_at → (make : X → Instruction) (b : ℕ) (bytes : List ℕ) (i : Instruction) (rest : List ℕ)
-    → read_as make item_at bytes ≡ Some (i, rest) → ((x : X) (r : List ℕ) → IsItem bytes x r → IsInstruction (b ∷ bytes) (make x) r) → IsInstruction (b ∷ bytes) i rest
+with_item : {X : Type 0} (IsItem : List ℕ → X → List ℕ → Type 0) (item_at : List ℕ
+    → Option (X × List ℕ)) → Reads IsItem item_at
+    → (make : X → Instruction) (b : ℕ) (bytes : List ℕ) (i : Instruction) (rest : List ℕ)
+    → read_as make item_at bytes ≡ Some (i, rest) → ((x : X) (r : List ℕ) → IsItem bytes x r
+    → IsInstruction (b ∷ bytes) (make x) r) → IsInstruction (b ∷ bytes) i rest
 with_item IsItem item_at reads make b bytes i rest e h =
     let x = bind_some (item_at bytes) _ _ e in
-    carry (IsInstruction (b ∷ bytes)) (make x.0.0) i x.0.1 rest x.2 (h x.0.0 x.0.1 (reads.sound bytes x.0.0 x.0.1 x.1))
+    carry (IsInstruction (b ∷ bytes)) (make x.0.0) i x.0.1 rest x.2
+    (h x.0.0 x.0.1 (reads.sound bytes x.0.0 x.0.1 x.1))
 
 with_index : (make : ℕ → Instruction) (b : ℕ) (bytes : List ℕ) (i : Instruction) (rest : List ℕ)
-    → read_as make leb_u32_at bytes ≡ Some (i, rest) → ((n : ℕ) (r : List ℕ) → IsU32 bytes n r → IsInstruction (b ∷ bytes) (make n) r) → IsInstruction (b ∷ bytes) i rest
+    → read_as make leb_u32_at bytes ≡ Some (i, rest) → ((n : ℕ) (r : List ℕ) → IsU32 bytes n r
+    → IsInstruction (b ∷ bytes) (make n) r) → IsInstruction (b ∷ bytes) i rest
 with_index make b bytes i rest e h = with_item IsU32 leb_u32_at Reads-u32_at make b bytes i rest e h
 
-with_block_type : (make : Option ValueType → Instruction) (b : ℕ) (bytes : List ℕ) (i : Instruction) (rest : List ℕ)
-    → read_as make block_type_at bytes ≡ Some (i, rest) → ((t : Option ValueType) (r : List ℕ) → IsBlockType bytes t r → IsInstruction (b ∷ bytes) (make t) r) → IsInstruction (b ∷ bytes) i rest
-with_block_type make b bytes i rest e h = with_item IsBlockType block_type_at Reads-block_type_at make b bytes i rest e h
+with_block_type : (make : Option ValueType
+    → Instruction) (b : ℕ) (bytes : List ℕ) (i : Instruction) (rest : List ℕ)
+    → read_as make block_type_at bytes ≡ Some (i, rest) → ((t : Option ValueType) (r : List ℕ)
+    → IsBlockType bytes t r → IsInstruction (b ∷ bytes) (make t) r)
+    → IsInstruction (b ∷ bytes) i rest
+with_block_type make b bytes i rest e h =
+    with_item IsBlockType block_type_at Reads-block_type_at make b bytes i rest e h
 
 -- an opcode and a zero byte
 with_zero : (x : Instruction) (b : ℕ) (bytes : List ℕ) (i : Instruction) (rest : List ℕ)
-    → read_as (λ (mark : Unit {0}). x) (exactly_at 0x00) bytes ≡ Some (i, rest) → ((r : List ℕ) → IsThisByte 0x00 bytes r → IsInstruction (b ∷ bytes) x r) → IsInstruction (b ∷ bytes) i rest
+    → read_as (λ (mark : Unit {0}). x) (exactly_at 0x00) bytes ≡ Some (i, rest)
+    → ((r : List ℕ) → IsThisByte 0x00 bytes r → IsInstruction (b ∷ bytes) x r)
+    → IsInstruction (b ∷ bytes) i rest
 with_zero x b bytes i rest e h =
     let mark = bind_some (exactly_at 0x00 bytes) _ _ e in
-    carry (IsInstruction (b ∷ bytes)) x i mark.0.1 rest mark.2 (h mark.0.1 (byte_sound 0x00 bytes mark.0.0 mark.0.1 mark.1))
+    carry (IsInstruction (b ∷ bytes)) x i mark.0.1 rest mark.2
+    (h mark.0.1 (byte_sound 0x00 bytes mark.0.0 mark.0.1 mark.1))
 
-br_table_sound : (bytes : List ℕ) (i : Instruction) (rest : List ℕ) → (vector_at leb_u32_at bytes >>= λ labels. leb_u32_at labels.1 >>= λ last. found (instr.BrTable labels.0 last.0) last.1) ≡ Some (i, rest) → IsInstruction (0x0e ∷ bytes) i rest
+br_table_sound : (bytes : List ℕ) (i : Instruction) (rest : List ℕ)
+    → (vector_at leb_u32_at bytes >>= λ labels. leb_u32_at labels.1
+    >>= λ last. found (instr.BrTable labels.0 last.0) last.1) ≡ Some (i, rest)
+    → IsInstruction (0x0e ∷ bytes) i rest
 br_table_sound bytes i rest e =
     let labels = bind_some (vector_at leb_u32_at bytes) _ _ e in
     let last = bind_some (leb_u32_at labels.0.1) _ _ labels.2 in
-    carry (IsInstruction (0x0e ∷ bytes)) (instr.BrTable labels.0.0 last.0.0) i last.0.1 rest last.2
-    (bytes, refl, (labels.0.1, Reads-indices.sound bytes labels.0.0 labels.0.1 labels.1, Reads-u32_at.sound labels.0.1 last.0.0 last.0.1 last.1))
+    carry (IsInstruction (0x0e ∷ bytes)) (instr.BrTable labels.0.0 last.0.0) i last.0.1 rest last.2 (
+      bytes,
+      refl,
+      (
+        labels.0.1,
+        Reads-indices.sound bytes labels.0.0 labels.0.1 labels.1,
+        Reads-u32_at.sound labels.0.1 last.0.0 last.0.1 last.1,
+      ),
+    )
 
-call_indirect_sound : (bytes : List ℕ) (i : Instruction) (rest : List ℕ) → (leb_u32_at bytes >>= λ t. exactly_at 0x00 t.1 >>= λ mark. found (instr.CallIndirect t.0) mark.1) ≡ Some (i, rest) → IsInstruction (0x11 ∷ bytes) i rest
+call_indirect_sound : (bytes : List ℕ) (i : Instruction) (rest : List ℕ)
+    → (leb_u32_at bytes >>= λ t. exactly_at 0x00 t.1
+    >>= λ mark. found (instr.CallIndirect t.0) mark.1) ≡ Some (i, rest)
+    → IsInstruction (0x11 ∷ bytes) i rest
 call_indirect_sound bytes i rest e =
     let t = bind_some (leb_u32_at bytes) _ _ e in
     let mark = bind_some (exactly_at 0x00 t.0.1) _ _ t.2 in
-    carry (IsInstruction (0x11 ∷ bytes)) (instr.CallIndirect t.0.0) i mark.0.1 rest mark.2
-    (bytes, refl, (t.0.1, Reads-u32_at.sound bytes t.0.0 t.0.1 t.1, byte_sound 0x00 t.0.1 mark.0.0 mark.0.1 mark.1))
+    carry (IsInstruction (0x11 ∷ bytes)) (instr.CallIndirect t.0.0) i mark.0.1 rest mark.2 (
+      bytes,
+      refl,
+      (
+        t.0.1,
+        Reads-u32_at.sound bytes t.0.0 t.0.1 t.1,
+        byte_sound 0x00 t.0.1 mark.0.0 mark.0.1 mark.1,
+      ),
+    )
 
-control_sound : (b : ℕ) (bytes : List ℕ) (i : Instruction) (rest : List ℕ) → control_at b bytes ≡ Some (i, rest) → IsInstruction (b ∷ bytes) i rest
+control_sound : (b : ℕ) (bytes : List ℕ) (i : Instruction) (rest : List ℕ)
+    → control_at b bytes ≡ Some (i, rest) → IsInstruction (b ∷ bytes) i rest
 control_sound b bytes i rest e =
-    pick (eqb b 0x00) _ _ _ e (λ t h. alone b bytes instr.Unreachable i rest h (front_is b 0x00 bytes t)) (λ f e.
-    pick (eqb b 0x01) _ _ _ e (λ t h. alone b bytes instr.Nop i rest h (front_is b 0x01 bytes t)) (λ f e.
-    pick (eqb b 0x02) _ _ _ e (λ t h. with_block_type instr.Block b bytes i rest h (λ x r is. (bytes, front_is b 0x02 bytes t, is))) (λ f e.
-    pick (eqb b 0x03) _ _ _ e (λ t h. with_block_type instr.Loop b bytes i rest h (λ x r is. (bytes, front_is b 0x03 bytes t, is))) (λ f e.
-    pick (eqb b 0x04) _ _ _ e (λ t h. with_block_type instr.If b bytes i rest h (λ x r is. (bytes, front_is b 0x04 bytes t, is))) (λ f e.
-    pick (eqb b 0x05) _ _ _ e (λ t h. alone b bytes instr.Else i rest h (front_is b 0x05 bytes t)) (λ f e.
-    pick (eqb b 0x0b) _ _ _ e (λ t h. alone b bytes instr.End i rest h (front_is b 0x0b bytes t)) (λ f e.
-    pick (eqb b 0x0c) _ _ _ e (λ t h. with_index instr.Br b bytes i rest h (λ x r is. (bytes, front_is b 0x0c bytes t, is))) (λ f e.
-    pick (eqb b 0x0d) _ _ _ e (λ t h. with_index instr.BrIf b bytes i rest h (λ x r is. (bytes, front_is b 0x0d bytes t, is))) (λ f e.
-    pick (eqb b 0x0e) _ _ _ e (λ t h. subst (λ (bs : List ℕ). IsInstruction bs i rest) (sym (front_is b 0x0e bytes t)) (br_table_sound bytes i rest h)) (λ f e.
-    pick (eqb b 0x0f) _ _ _ e (λ t h. alone b bytes instr.Return i rest h (front_is b 0x0f bytes t)) (λ f e.
-    pick (eqb b 0x10) _ _ _ e (λ t h. with_index instr.Call b bytes i rest h (λ x r is. (bytes, front_is b 0x10 bytes t, is))) (λ f e.
+    pick (eqb b 0x00) _ _ _ e (λ t h. alone b bytes instr.Unreachable i rest h
+    (front_is b 0x00 bytes t)) (λ f e.
+    pick (eqb b 0x01) _ _ _ e (λ t h. alone b bytes instr.Nop i rest h (front_is b 0x01 bytes t))
+    (λ f e.
+    pick (eqb b 0x02) _ _ _ e (λ t h. with_block_type instr.Block b bytes i rest h (λ x r is.
+    (bytes, front_is b 0x02 bytes t, is))) (λ f e.
+    pick (eqb b 0x03) _ _ _ e (λ t h. with_block_type instr.Loop b bytes i rest h (λ x r is. (
+      bytes,
+      front_is b 0x03 bytes t,
+      is,
+    ))) (λ f e.
+    pick (eqb b 0x04) _ _ _ e (λ t h. with_block_type instr.If b bytes i rest h (λ x r is. (
+      bytes,
+      front_is b 0x04 bytes t,
+      is,
+    ))) (λ f e.
+    pick (eqb b 0x05) _ _ _ e (λ t h. alone b bytes instr.Else i rest h (front_is b 0x05 bytes t))
+    (λ f e.
+    pick (eqb b 0x0b) _ _ _ e (λ t h. alone b bytes instr.End i rest h (front_is b 0x0b bytes t))
+    (λ f e.
+    pick (eqb b 0x0c) _ _ _ e (λ t h. with_index instr.Br b bytes i rest h (λ x r is. (
+      bytes,
+      front_is b 0x0c bytes t,
+      is,
+    ))) (λ f e.
+    pick (eqb b 0x0d) _ _ _ e (λ t h. with_index instr.BrIf b bytes i rest h (λ x r is. (
+      bytes,
+      front_is b 0x0d bytes t,
+      is,
+    ))) (λ f e.
+    pick (eqb b 0x0e) _ _ _ e (λ t h. subst (λ (bs : List ℕ). IsInstruction bs i rest)
+    (sym (front_is b 0x0e bytes t)) (br_table_sound bytes i rest h)) (λ f e.
+    pick (eqb b 0x0f) _ _ _ e (λ t h. alone b bytes instr.Return i rest h (front_is b 0x0f bytes t))
+    (λ f e.
+    pick (eqb b 0x10) _ _ _ e (λ t h. with_index instr.Call b bytes i rest h (λ x r is. (
+      bytes,
+      front_is b 0x10 bytes t,
+      is,
+    ))) (λ f e.
     let k = pass_some (eqb b 0x11) _ _ e in
-    subst (λ (bs : List ℕ). IsInstruction bs i rest) (sym (front_is b 0x11 bytes k.0)) (call_indirect_sound bytes i rest k.1)))))))))))))
+    subst (λ (bs : List ℕ). IsInstruction bs i rest) (sym (front_is b 0x11 bytes k.0))
+    (call_indirect_sound bytes i rest k.1)))))))))))))
 
-variable_sound : (b : ℕ) (bytes : List ℕ) (i : Instruction) (rest : List ℕ) → variable_at b bytes ≡ Some (i, rest) → IsInstruction (b ∷ bytes) i rest
+variable_sound : (b : ℕ) (bytes : List ℕ) (i : Instruction) (rest : List ℕ)
+    → variable_at b bytes ≡ Some (i, rest) → IsInstruction (b ∷ bytes) i rest
 variable_sound b bytes i rest e =
-    pick (eqb b 0x1a) _ _ _ e (λ t h. alone b bytes instr.Drop i rest h (front_is b 0x1a bytes t)) (λ f e.
-    pick (eqb b 0x1b) _ _ _ e (λ t h. alone b bytes instr.Select i rest h (front_is b 0x1b bytes t)) (λ f e.
-    pick (eqb b 0x20) _ _ _ e (λ t h. with_index instr.LocalGet b bytes i rest h (λ x r is. (bytes, front_is b 0x20 bytes t, is))) (λ f e.
-    pick (eqb b 0x21) _ _ _ e (λ t h. with_index instr.LocalSet b bytes i rest h (λ x r is. (bytes, front_is b 0x21 bytes t, is))) (λ f e.
-    pick (eqb b 0x22) _ _ _ e (λ t h. with_index instr.LocalTee b bytes i rest h (λ x r is. (bytes, front_is b 0x22 bytes t, is))) (λ f e.
-    pick (eqb b 0x23) _ _ _ e (λ t h. with_index instr.GlobalGet b bytes i rest h (λ x r is. (bytes, front_is b 0x23 bytes t, is))) (λ f e.
+    pick (eqb b 0x1a) _ _ _ e (λ t h. alone b bytes instr.Drop i rest h (front_is b 0x1a bytes t))
+    (λ f e.
+    pick (eqb b 0x1b) _ _ _ e (λ t h. alone b bytes instr.Select i rest h (front_is b 0x1b bytes t))
+    (λ f e.
+    pick (eqb b 0x20) _ _ _ e (λ t h. with_index instr.LocalGet b bytes i rest h (λ x r is. (
+      bytes,
+      front_is b 0x20 bytes t,
+      is,
+    ))) (λ f e.
+    pick (eqb b 0x21) _ _ _ e (λ t h. with_index instr.LocalSet b bytes i rest h (λ x r is. (
+      bytes,
+      front_is b 0x21 bytes t,
+      is,
+    ))) (λ f e.
+    pick (eqb b 0x22) _ _ _ e (λ t h. with_index instr.LocalTee b bytes i rest h (λ x r is. (
+      bytes,
+      front_is b 0x22 bytes t,
+      is,
+    ))) (λ f e.
+    pick (eqb b 0x23) _ _ _ e (λ t h. with_index instr.GlobalGet b bytes i rest h (λ x r is. (
+      bytes,
+      front_is b 0x23 bytes t,
+      is,
+    ))) (λ f e.
     let k = pass_some (eqb b 0x24) _ _ e in
-    with_index instr.GlobalSet b bytes i rest k.1 (λ x r is. (bytes, front_is b 0x24 bytes k.0, is))))))))
+    with_index instr.GlobalSet b bytes i rest k.1 (λ x r is. (
+      bytes,
+      front_is b 0x24 bytes k.0,
+      is,
+    ))))))))
 
-memory_sound : (b : ℕ) (bytes : List ℕ) (i : Instruction) (rest : List ℕ) → memory_at b bytes ≡ Some (i, rest) → IsInstruction (b ∷ bytes) i rest
+memory_sound : (b : ℕ) (bytes : List ℕ) (i : Instruction) (rest : List ℕ)
+    → memory_at b bytes ≡ Some (i, rest) → IsInstruction (b ∷ bytes) i rest
 memory_sound b bytes i rest e =
-    pick (eqb b 0x3f) _ _ _ e (λ t h. with_zero instr.MemorySize b bytes i rest h (λ r is. (bytes, front_is b 0x3f bytes t, is))) (λ f e.
-    pick (eqb b 0x40) _ _ _ e (λ t h. with_zero instr.MemoryGrow b bytes i rest h (λ r is. (bytes, front_is b 0x40 bytes t, is))) (λ f e.
+    pick (eqb b 0x3f) _ _ _ e (λ t h. with_zero instr.MemorySize b bytes i rest h (λ r is. (
+      bytes,
+      front_is b 0x3f bytes t,
+      is,
+    ))) (λ f e.
+    pick (eqb b 0x40) _ _ _ e (λ t h. with_zero instr.MemoryGrow b bytes i rest h (λ r is. (
+      bytes,
+      front_is b 0x40 bytes t,
+      is,
+    ))) (λ f e.
     pick (ltb b 0x36) _ _ _ e
     (λ t h.
     let o = bind_some (load_of b) _ _ h in
-    with_item IsMemoryArgument memory_argument_at Reads-memory_argument_at (instr.Load o.0) b bytes i rest o.2 (λ x r is. (bytes, opcode_is b (load_opcode o.0) bytes (load_sound b o.0 o.1), is)))
+    with_item IsMemoryArgument memory_argument_at Reads-memory_argument_at
+    (instr.Load o.0) b bytes i rest o.2 (λ x r is. (
+      bytes,
+      opcode_is b (load_opcode o.0) bytes (load_sound b o.0 o.1),
+      is,
+    )))
     (λ t h.
     let o = bind_some (store_operator_of b) _ _ h in
-    with_item IsMemoryArgument memory_argument_at Reads-memory_argument_at (instr.Store o.0) b bytes i rest o.2 (λ x r is. (bytes, opcode_is b (store_opcode o.0) bytes (store_sound b o.0 o.1), is)))))
+    with_item IsMemoryArgument memory_argument_at Reads-memory_argument_at
+    (instr.Store o.0) b bytes i rest o.2 (λ x r is. (
+      bytes,
+      opcode_is b (store_opcode o.0) bytes (store_sound b o.0 o.1),
+      is,
+    )))))
 
-by_numeric_opcode : (b : ℕ) (i : Instruction) (bytes : List ℕ) → numeric_opcode i ≡ Some b → IsInstruction (b ∷ bytes) i bytes
-by_numeric_opcode b (instr.Eqz t) bytes e = opcode_is b (eqz_opcode t) bytes (sym (some_is (eqz_opcode t) b e))
-by_numeric_opcode b (instr.Compare t operator) bytes e = opcode_is b (compare_opcode t operator) bytes (sym (some_is (compare_opcode t operator) b e))
-by_numeric_opcode b (instr.Unary t operator) bytes e = opcode_is b (unary_opcode t operator) bytes (sym (some_is (unary_opcode t operator) b e))
-by_numeric_opcode b (instr.Binary t operator) bytes e = opcode_is b (binary_opcode t operator) bytes (sym (some_is (binary_opcode t operator) b e))
-by_numeric_opcode b (instr.Convert operator) bytes e = opcode_is b (convert_opcode operator) bytes (sym (some_is (convert_opcode operator) b e))
+by_numeric_opcode : (b : ℕ) (i : Instruction) (bytes : List ℕ) → numeric_opcode i ≡ Some b
+    → IsInstruction (b ∷ bytes) i bytes
+by_numeric_opcode b (instr.Eqz t) bytes e =
+    opcode_is b (eqz_opcode t) bytes (sym (some_is (eqz_opcode t) b e))
+by_numeric_opcode b (instr.Compare t operator) bytes e =
+    opcode_is b (compare_opcode t operator) bytes (sym (some_is (compare_opcode t operator) b e))
+by_numeric_opcode b (instr.Unary t operator) bytes e =
+    opcode_is b (unary_opcode t operator) bytes (sym (some_is (unary_opcode t operator) b e))
+by_numeric_opcode b (instr.Binary t operator) bytes e =
+    opcode_is b (binary_opcode t operator) bytes (sym (some_is (binary_opcode t operator) b e))
+by_numeric_opcode b (instr.Convert operator) bytes e =
+    opcode_is b (convert_opcode operator) bytes (sym (some_is (convert_opcode operator) b e))
 by_numeric_opcode b _ bytes e = absurd cc
 
-numeric_sound : (b : ℕ) (bytes : List ℕ) (i : Instruction) (rest : List ℕ) → numeric_at b bytes ≡ Some (i, rest) → IsInstruction (b ∷ bytes) i rest
+numeric_sound : (b : ℕ) (bytes : List ℕ) (i : Instruction) (rest : List ℕ)
+    → numeric_at b bytes ≡ Some (i, rest) → IsInstruction (b ∷ bytes) i rest
 numeric_sound b bytes i rest e =
-    pick (eqb b 0x41) _ _ _ e (λ t h. with_item (IsSigned 32) (signed_at 32) (Reads-signed_at 32) (λ (n : ℕ). instr.Const (value.I32 n)) b bytes i rest h (λ x r is. (bytes, front_is b 0x41 bytes t, is))) (λ f e.
-    pick (eqb b 0x42) _ _ _ e (λ t h. with_item (IsSigned 64) (signed_at 64) (Reads-signed_at 64) (λ (n : ℕ). instr.Const (value.I64 n)) b bytes i rest h (λ x r is. (bytes, front_is b 0x42 bytes t, is))) (λ f e.
+    pick (eqb b 0x41) _ _ _ e (λ t h. with_item (IsSigned 32) (signed_at 32) (Reads-signed_at 32)
+    (λ (n : ℕ). instr.Const (value.I32 n)) b bytes i rest h (λ x r is. (
+      bytes,
+      front_is b 0x41 bytes t,
+      is,
+    ))) (λ f e.
+    pick (eqb b 0x42) _ _ _ e (λ t h. with_item (IsSigned 64) (signed_at 64) (Reads-signed_at 64)
+    (λ (n : ℕ). instr.Const (value.I64 n)) b bytes i rest h (λ x r is. (
+      bytes,
+      front_is b 0x42 bytes t,
+      is,
+    ))) (λ f e.
     pick (ltb b 0x67) _ _ _ e
-    (λ t h. (let x = bind_some (comparison_of b) _ _ h in alone b bytes x.0 i rest x.2 (by_numeric_opcode b x.0 bytes (comparison_sound b x.0 x.1))))
-    (λ t h. (let x = bind_some (operation_of b) _ _ h in alone b bytes x.0 i rest x.2 (by_numeric_opcode b x.0 bytes (operation_sound b x.0 x.1))))))
+    (λ t h. (let x = bind_some (comparison_of b) _ _ h in
+    alone b bytes x.0 i rest x.2 (by_numeric_opcode b x.0 bytes (comparison_sound b x.0 x.1))))
+    (λ t h. (let x = bind_some (operation_of b) _ _ h in
+    alone b bytes x.0 i rest x.2 (by_numeric_opcode b x.0 bytes (operation_sound b x.0 x.1))))))
 
-instruction_sound : (bytes : List ℕ) (i : Instruction) (rest : List ℕ) → instruction_at bytes ≡ Some (i, rest) → IsInstruction bytes i rest
+instruction_sound : (bytes : List ℕ) (i : Instruction) (rest : List ℕ)
+    → instruction_at bytes ≡ Some (i, rest) → IsInstruction bytes i rest
 unfolding instruction_at behind_opcode
 instruction_sound [] i rest e = absurd cc
 instruction_sound (b ∷ bytes) i rest e =
     pick (ltb b 0x1a) _ _ _ e (λ t h. control_sound b bytes i rest h) (λ f e.
     pick (ltb b 0x28) _ _ _ e (λ t h. variable_sound b bytes i rest h) (λ f e.
-    pick (ltb b 0x41) _ _ _ e (λ t h. memory_sound b bytes i rest h) (λ f e. numeric_sound b bytes i rest e)))
+    pick (ltb b 0x41) _ _ _ e (λ t h. memory_sound b bytes i rest h) (λ f e.
+    numeric_sound b bytes i rest e)))
 
 -- ---- what is spelled is read
 
-load_complete : (operator : LoadOperator) (m : MemoryArgument) (bytes rest : List ℕ) → memory_argument_at bytes ≡ Some (m, rest) → behind_opcode (load_opcode operator) bytes ≡ Some (instr.Load operator m, rest)
+load_complete : (operator : LoadOperator) (m : MemoryArgument) (bytes rest : List ℕ)
+    → memory_argument_at bytes ≡ Some (m, rest)
+    → behind_opcode (load_opcode operator) bytes ≡ Some (instr.Load operator m, rest)
 unfolding behind_opcode
 load_complete load.I32 m bytes rest e = rw e refl
 load_complete load.I64 m bytes rest e = rw e refl
@@ -170,7 +323,9 @@ load_complete load.I64Bits16U m bytes rest e = rw e refl
 load_complete load.I64Bits32S m bytes rest e = rw e refl
 load_complete load.I64Bits32U m bytes rest e = rw e refl
 
-store_complete : (operator : StoreOperator) (m : MemoryArgument) (bytes rest : List ℕ) → memory_argument_at bytes ≡ Some (m, rest) → behind_opcode (store_opcode operator) bytes ≡ Some (instr.Store operator m, rest)
+store_complete : (operator : StoreOperator) (m : MemoryArgument) (bytes rest : List ℕ)
+    → memory_argument_at bytes ≡ Some (m, rest)
+    → behind_opcode (store_opcode operator) bytes ≡ Some (instr.Store operator m, rest)
 unfolding behind_opcode
 store_complete store.I32 m bytes rest e = rw e refl
 store_complete store.I64 m bytes rest e = rw e refl
@@ -182,7 +337,8 @@ store_complete store.I64Bits32 m bytes rest e = rw e refl
 
 -- where every operator stands in its table
 
-comparison_stands : (operator : Comparison) → slice_get comparisons (compare_place operator) ≡ Some operator
+comparison_stands : (operator : Comparison)
+    → slice_get comparisons (compare_place operator) ≡ Some operator
 comparison_stands Eq = refl
 comparison_stands Ne = refl
 comparison_stands LtS = refl
@@ -194,12 +350,14 @@ comparison_stands LeU = refl
 comparison_stands GeS = refl
 comparison_stands GeU = refl
 
-unary_stands : (operator : UnaryOperator) → slice_get unary_operators (unary_place operator) ≡ Some operator
+unary_stands : (operator : UnaryOperator)
+    → slice_get unary_operators (unary_place operator) ≡ Some operator
 unary_stands Clz = refl
 unary_stands Ctz = refl
 unary_stands Popcnt = refl
 
-binary_stands : (operator : BinaryOperator) → slice_get binary_operators (binary_place operator) ≡ Some operator
+binary_stands : (operator : BinaryOperator)
+    → slice_get binary_operators (binary_place operator) ≡ Some operator
 binary_stands Add = refl
 binary_stands Sub = refl
 binary_stands Mul = refl
@@ -217,67 +375,116 @@ binary_stands Rotl = refl
 binary_stands Rotr = refl
 
 -- what holds of each item of a list holds of the one at a place
-agree_at : {X Y : Type 0} (f g : X → Y) (xs : List X) (k : ℕ) (x : X) → map f xs ≡ map g xs → slice_get xs k ≡ Some x → f x ≡ g x
+agree_at : {X Y : Type 0} (f g : X → Y) (xs : List X) (k : ℕ) (x : X) → map f xs ≡ map g xs
+    → slice_get xs k ≡ Some x → f x ≡ g x
 agree_at f g [] k x h e = absurd cc
-agree_at f g (y ∷ xs) zero x h e = (let same : y ≡ x = some_is y x e in let here : f y ≡ g y = cc in cc)
-agree_at f g (y ∷ xs) (suc k) x h e = (let later : map f xs ≡ map g xs = cc in agree_at f g xs k x later e)
+agree_at f g (y ∷ xs) zero x h e = (let same : y ≡ x = some_is y x e in let here : f y ≡ g y = cc in
+    cc)
+agree_at f g (y ∷ xs) (suc k) x h e = (let later : map f xs ≡ map g xs = cc in
+    agree_at f g xs k x later e)
 
-compare_complete : (t : ValueType) (operator : Comparison) (bytes : List ℕ) → behind_opcode (compare_opcode t operator) bytes ≡ Some (instr.Compare t operator, bytes)
+compare_complete : (t : ValueType) (operator : Comparison) (bytes : List ℕ)
+    → behind_opcode (compare_opcode t operator) bytes ≡ Some (instr.Compare t operator, bytes)
 unfolding behind_opcode
-compare_complete I32 operator bytes = agree_at (λ (x : Comparison). behind_opcode (compare_opcode I32 x) bytes) (λ (x : Comparison). found (instr.Compare I32 x) bytes) comparisons (compare_place operator) operator refl (comparison_stands operator)
-compare_complete I64 operator bytes = agree_at (λ (x : Comparison). behind_opcode (compare_opcode I64 x) bytes) (λ (x : Comparison). found (instr.Compare I64 x) bytes) comparisons (compare_place operator) operator refl (comparison_stands operator)
+compare_complete I32 operator bytes =
+    agree_at (λ (x : Comparison). behind_opcode (compare_opcode I32 x) bytes) (λ (x : Comparison).
+    found (instr.Compare I32 x) bytes) comparisons (compare_place operator) operator refl
+    (comparison_stands operator)
+compare_complete I64 operator bytes =
+    agree_at (λ (x : Comparison). behind_opcode (compare_opcode I64 x) bytes) (λ (x : Comparison).
+    found (instr.Compare I64 x) bytes) comparisons (compare_place operator) operator refl
+    (comparison_stands operator)
 
-unary_complete : (t : ValueType) (operator : UnaryOperator) (bytes : List ℕ) → behind_opcode (unary_opcode t operator) bytes ≡ Some (instr.Unary t operator, bytes)
+unary_complete : (t : ValueType) (operator : UnaryOperator) (bytes : List ℕ)
+    → behind_opcode (unary_opcode t operator) bytes ≡ Some (instr.Unary t operator, bytes)
 unfolding behind_opcode
-unary_complete I32 operator bytes = agree_at (λ (x : UnaryOperator). behind_opcode (unary_opcode I32 x) bytes) (λ (x : UnaryOperator). found (instr.Unary I32 x) bytes) unary_operators (unary_place operator) operator refl (unary_stands operator)
-unary_complete I64 operator bytes = agree_at (λ (x : UnaryOperator). behind_opcode (unary_opcode I64 x) bytes) (λ (x : UnaryOperator). found (instr.Unary I64 x) bytes) unary_operators (unary_place operator) operator refl (unary_stands operator)
+unary_complete I32 operator bytes =
+    agree_at (λ (x : UnaryOperator). behind_opcode (unary_opcode I32 x) bytes)
+    (λ (x : UnaryOperator). found (instr.Unary I32 x) bytes) unary_operators
+    (unary_place operator) operator refl (unary_stands operator)
+unary_complete I64 operator bytes =
+    agree_at (λ (x : UnaryOperator). behind_opcode (unary_opcode I64 x) bytes)
+    (λ (x : UnaryOperator). found (instr.Unary I64 x) bytes) unary_operators
+    (unary_place operator) operator refl (unary_stands operator)
 
-binary_complete : (t : ValueType) (operator : BinaryOperator) (bytes : List ℕ) → behind_opcode (binary_opcode t operator) bytes ≡ Some (instr.Binary t operator, bytes)
+binary_complete : (t : ValueType) (operator : BinaryOperator) (bytes : List ℕ)
+    → behind_opcode (binary_opcode t operator) bytes ≡ Some (instr.Binary t operator, bytes)
 unfolding behind_opcode
-binary_complete I32 operator bytes = agree_at (λ (x : BinaryOperator). behind_opcode (binary_opcode I32 x) bytes) (λ (x : BinaryOperator). found (instr.Binary I32 x) bytes) binary_operators (binary_place operator) operator refl (binary_stands operator)
-binary_complete I64 operator bytes = agree_at (λ (x : BinaryOperator). behind_opcode (binary_opcode I64 x) bytes) (λ (x : BinaryOperator). found (instr.Binary I64 x) bytes) binary_operators (binary_place operator) operator refl (binary_stands operator)
+binary_complete I32 operator bytes =
+    agree_at (λ (x : BinaryOperator). behind_opcode (binary_opcode I32 x) bytes)
+    (λ (x : BinaryOperator). found (instr.Binary I32 x) bytes) binary_operators
+    (binary_place operator) operator refl (binary_stands operator)
+binary_complete I64 operator bytes =
+    agree_at (λ (x : BinaryOperator). behind_opcode (binary_opcode I64 x) bytes)
+    (λ (x : BinaryOperator). found (instr.Binary I64 x) bytes) binary_operators
+    (binary_place operator) operator refl (binary_stands operator)
 
-eqz_complete : (t : ValueType) (bytes : List ℕ) → behind_opcode (eqz_opcode t) bytes ≡ Some (instr.Eqz t, bytes)
+eqz_complete : (t : ValueType) (bytes : List ℕ)
+    → behind_opcode (eqz_opcode t) bytes ≡ Some (instr.Eqz t, bytes)
 unfolding behind_opcode
 eqz_complete I32 bytes = refl
 eqz_complete I64 bytes = refl
 
-convert_complete : (operator : Conversion) (bytes : List ℕ) → behind_opcode (convert_opcode operator) bytes ≡ Some (instr.Convert operator, bytes)
+convert_complete : (operator : Conversion) (bytes : List ℕ)
+    → behind_opcode (convert_opcode operator) bytes ≡ Some (instr.Convert operator, bytes)
 unfolding behind_opcode
 convert_complete I32WrapI64 bytes = refl
 convert_complete I64ExtendI32S bytes = refl
 convert_complete I64ExtendI32U bytes = refl
 
-instruction_complete : (bytes : List ℕ) (i : Instruction) (rest : List ℕ) → IsInstruction bytes i rest → instruction_at bytes ≡ Some (i, rest)
+instruction_complete : (bytes : List ℕ) (i : Instruction) (rest : List ℕ)
+    → IsInstruction bytes i rest → instruction_at bytes ≡ Some (i, rest)
 unfolding instruction_at behind_opcode
 instruction_complete bytes instr.Unreachable rest h = rw h refl
 instruction_complete bytes instr.Nop rest h = rw h refl
-instruction_complete bytes (instr.Block t) rest h = rw (h.1, Reads-block_type_at.complete h.0 t rest h.2) refl
-instruction_complete bytes (instr.Loop t) rest h = rw (h.1, Reads-block_type_at.complete h.0 t rest h.2) refl
-instruction_complete bytes (instr.If t) rest h = rw (h.1, Reads-block_type_at.complete h.0 t rest h.2) refl
+instruction_complete bytes (instr.Block t) rest h =
+    rw (h.1, Reads-block_type_at.complete h.0 t rest h.2) refl
+instruction_complete bytes (instr.Loop t) rest h =
+    rw (h.1, Reads-block_type_at.complete h.0 t rest h.2) refl
+instruction_complete bytes (instr.If t) rest h =
+    rw (h.1, Reads-block_type_at.complete h.0 t rest h.2) refl
 instruction_complete bytes instr.Else rest h = rw h refl
 instruction_complete bytes instr.End rest h = rw h refl
-instruction_complete bytes (instr.Br label) rest h = rw (h.1, Reads-u32_at.complete h.0 label rest h.2) refl
-instruction_complete bytes (instr.BrIf label) rest h = rw (h.1, Reads-u32_at.complete h.0 label rest h.2) refl
-instruction_complete bytes (instr.BrTable labels last) rest h = rw (h.1, Reads-indices.complete h.0 labels h.2.0 h.2.1, Reads-u32_at.complete h.2.0 last rest h.2.2) refl
+instruction_complete bytes (instr.Br label) rest h =
+    rw (h.1, Reads-u32_at.complete h.0 label rest h.2) refl
+instruction_complete bytes (instr.BrIf label) rest h =
+    rw (h.1, Reads-u32_at.complete h.0 label rest h.2) refl
+instruction_complete bytes (instr.BrTable labels last) rest h =
+    rw (
+      h.1,
+      Reads-indices.complete h.0 labels h.2.0 h.2.1,
+      Reads-u32_at.complete h.2.0 last rest h.2.2,
+    ) refl
 instruction_complete bytes instr.Return rest h = rw h refl
-instruction_complete bytes (instr.Call function) rest h = rw (h.1, Reads-u32_at.complete h.0 function rest h.2) refl
-instruction_complete bytes (instr.CallIndirect t) rest h = rw (h.1, Reads-u32_at.complete h.0 t h.2.0 h.2.1, byte_complete 0x00 h.2.0 rest h.2.2) refl
+instruction_complete bytes (instr.Call function) rest h =
+    rw (h.1, Reads-u32_at.complete h.0 function rest h.2) refl
+instruction_complete bytes (instr.CallIndirect t) rest h =
+    rw (h.1, Reads-u32_at.complete h.0 t h.2.0 h.2.1, byte_complete 0x00 h.2.0 rest h.2.2) refl
 instruction_complete bytes instr.Drop rest h = rw h refl
 instruction_complete bytes instr.Select rest h = rw h refl
-instruction_complete bytes (instr.LocalGet local) rest h = rw (h.1, Reads-u32_at.complete h.0 local rest h.2) refl
-instruction_complete bytes (instr.LocalSet local) rest h = rw (h.1, Reads-u32_at.complete h.0 local rest h.2) refl
-instruction_complete bytes (instr.LocalTee local) rest h = rw (h.1, Reads-u32_at.complete h.0 local rest h.2) refl
-instruction_complete bytes (instr.GlobalGet global) rest h = rw (h.1, Reads-u32_at.complete h.0 global rest h.2) refl
-instruction_complete bytes (instr.GlobalSet global) rest h = rw (h.1, Reads-u32_at.complete h.0 global rest h.2) refl
-instruction_complete bytes (instr.Load operator m) rest h = rw h.1 (load_complete operator m h.0 rest (Reads-memory_argument_at.complete h.0 m rest h.2))
-instruction_complete bytes (instr.Store operator m) rest h = rw h.1 (store_complete operator m h.0 rest (Reads-memory_argument_at.complete h.0 m rest h.2))
+instruction_complete bytes (instr.LocalGet local) rest h =
+    rw (h.1, Reads-u32_at.complete h.0 local rest h.2) refl
+instruction_complete bytes (instr.LocalSet local) rest h =
+    rw (h.1, Reads-u32_at.complete h.0 local rest h.2) refl
+instruction_complete bytes (instr.LocalTee local) rest h =
+    rw (h.1, Reads-u32_at.complete h.0 local rest h.2) refl
+instruction_complete bytes (instr.GlobalGet global) rest h =
+    rw (h.1, Reads-u32_at.complete h.0 global rest h.2) refl
+instruction_complete bytes (instr.GlobalSet global) rest h =
+    rw (h.1, Reads-u32_at.complete h.0 global rest h.2) refl
+instruction_complete bytes (instr.Load operator m) rest h =
+    rw h.1 (load_complete operator m h.0 rest (Reads-memory_argument_at.complete h.0 m rest h.2))
+instruction_complete bytes (instr.Store operator m) rest h =
+    rw h.1 (store_complete operator m h.0 rest (Reads-memory_argument_at.complete h.0 m rest h.2))
 instruction_complete bytes instr.MemorySize rest h = rw (h.1, byte_complete 0x00 h.0 rest h.2) refl
 instruction_complete bytes instr.MemoryGrow rest h = rw (h.1, byte_complete 0x00 h.0 rest h.2) refl
-instruction_complete bytes (instr.Const (value.I32 n)) rest h = rw (h.1, (Reads-signed_at 32).complete h.0 n rest h.2) refl
-instruction_complete bytes (instr.Const (value.I64 n)) rest h = rw (h.1, (Reads-signed_at 64).complete h.0 n rest h.2) refl
+instruction_complete bytes (instr.Const (value.I32 n)) rest h =
+    rw (h.1, (Reads-signed_at 32).complete h.0 n rest h.2) refl
+instruction_complete bytes (instr.Const (value.I64 n)) rest h =
+    rw (h.1, (Reads-signed_at 64).complete h.0 n rest h.2) refl
 instruction_complete bytes (instr.Eqz t) rest h = rw h (eqz_complete t rest)
-instruction_complete bytes (instr.Compare t operator) rest h = rw h (compare_complete t operator rest)
+instruction_complete bytes (instr.Compare t operator) rest h =
+    rw h (compare_complete t operator rest)
 instruction_complete bytes (instr.Unary t operator) rest h = rw h (unary_complete t operator rest)
 instruction_complete bytes (instr.Binary t operator) rest h = rw h (binary_complete t operator rest)
 instruction_complete bytes (instr.Convert operator) rest h = rw h (convert_complete operator rest)

@@ -3,8 +3,19 @@ use Rattle.std.proofs.Common.{◌≡◌, ℕ, List, [], ◌∷◌, ◌++◌, Non
 use Rattle.wasm_syntax.specs.declared.instruction.Instruction.TheVariants as instr
 use Rattle.wasm_syntax.specs.rules.Modules.{IsModule, preamble}
 use Rattle.wasm_syntax.specs.laws.ReadingModules.{module_at}
-use Rattle.wasm_syntax.specs.laws.Examples.{empty_module, idle_types, idle_functions, idle_memories, idle_exports, idle_codes, idle_behind_types, idle_bytes, idle, idle_with_code, idle_with_types, idle_with_codes, long_size_types, six_byte_size_types, unused_bit_types, short_size_types, spare_byte_types, custom_section, nameless_section, unknown_section, local_codes, three_locals, float_local_codes, float_constant_codes, constant_codes, constant_body, positive_overflow_codes, if_else_codes, if_else_body, lone_else_codes, block_else_codes, second_else_codes, open_codes, early_end_codes, hello_bytes, hello, echo_bytes, echo}
-use Rattle.wasm_syntax.specs.laws.Laws.{SpellNothing, SpellingsOfIdle, SpellingsOfSections, SpellingsOfBodies}
+use Rattle.wasm_syntax.specs.laws.Examples.{empty_module, idle_types, idle_functions, idle_memories}
+use Rattle.wasm_syntax.specs.laws.Examples.{idle_exports, idle_codes, idle_behind_types, idle_bytes}
+use Rattle.wasm_syntax.specs.laws.Examples.{idle, idle_with_code, idle_with_types, idle_with_codes}
+use Rattle.wasm_syntax.specs.laws.Examples.{long_size_types, six_byte_size_types, unused_bit_types}
+use Rattle.wasm_syntax.specs.laws.Examples.{short_size_types, spare_byte_types, custom_section}
+use Rattle.wasm_syntax.specs.laws.Examples.{nameless_section, unknown_section, local_codes}
+use Rattle.wasm_syntax.specs.laws.Examples.{three_locals, float_local_codes, float_constant_codes}
+use Rattle.wasm_syntax.specs.laws.Examples.{constant_codes, constant_body, positive_overflow_codes}
+use Rattle.wasm_syntax.specs.laws.Examples.{if_else_codes, if_else_body, lone_else_codes}
+use Rattle.wasm_syntax.specs.laws.Examples.{block_else_codes, second_else_codes, open_codes}
+use Rattle.wasm_syntax.specs.laws.Examples.{early_end_codes, hello_bytes, hello, echo_bytes, echo}
+use Rattle.wasm_syntax.specs.laws.Laws.{SpellNothing, SpellingsOfIdle, SpellingsOfSections}
+use Rattle.wasm_syntax.specs.laws.Laws.{SpellingsOfBodies}
 use Rattle.wasm_syntax.proofs.Grammar.Computing.{reading}
 use Rattle.wasm_syntax.proofs.Grammar.Exact.{just}
 use Rattle.wasm_syntax.proofs.Grammar.Whole.{module_sound, module_complete}
@@ -30,9 +41,13 @@ unfolding reading
 sections_spelled = record {
   none = module_sound preamble empty_module refl;
   twice = unread (preamble ++ idle_types ++ idle_types ++ idle_behind_types) refl;
-  falling = unread (preamble ++ idle_functions ++ idle_types ++ idle_memories ++ idle_exports ++ idle_codes) refl;
-  custom_first = module_sound (preamble ++ custom_section ++ idle_types ++ idle_behind_types) idle refl;
-  custom_between_and_last = module_sound (preamble ++ idle_types ++ custom_section ++ idle_behind_types ++ custom_section) idle refl;
+  falling = unread (preamble ++ idle_functions ++ idle_types ++ idle_memories ++ idle_exports
+      ++ idle_codes) refl;
+  custom_first =
+      module_sound (preamble ++ custom_section ++ idle_types ++ idle_behind_types) idle refl;
+  custom_between_and_last =
+      module_sound (preamble ++ idle_types ++ custom_section ++ idle_behind_types
+      ++ custom_section) idle refl;
   nameless = unread (idle_bytes ++ nameless_section) refl;
   unknown = unread (idle_bytes ++ unknown_section) refl;
   no_code = unread (preamble ++ idle_types ++ idle_functions) refl;
@@ -41,7 +56,8 @@ sections_spelled = record {
 pub bodies_spelled : SpellingsOfBodies
 unfolding reading
 bodies_spelled = record {
-  locals = module_sound (idle_with_codes local_codes) (idle_with_code three_locals (instr.End ∷ [])) refl;
+  locals = module_sound (idle_with_codes local_codes) (idle_with_code three_locals (instr.End
+      ∷ [])) refl;
   float_local = unread (idle_with_codes float_local_codes) refl;
   float_constant = unread (idle_with_codes float_constant_codes) refl;
   constant = module_sound (idle_with_codes constant_codes) (idle_with_code [] constant_body) refl;

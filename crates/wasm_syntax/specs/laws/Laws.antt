@@ -3,10 +3,21 @@ use Rattle.std.specs.Prelude.{◌≡◌, ◌≢◌, ℕ, ◌<◌, List, [], ◌�
 use Rattle.wasm_syntax.specs.declared.instruction.Instruction.TheVariants as instr
 use Rattle.wasm_syntax.specs.declared.module.Module.{Module}
 use Rattle.wasm_syntax.specs.rules.Modules.{IsModule, preamble}
-use Rattle.wasm_syntax.specs.laws.Examples.{empty_module, idle_types, idle_functions, idle_memories, idle_exports, idle_codes, idle_behind_types, idle_bytes, idle, idle_with_code, idle_with_types, idle_with_codes, long_size_types, six_byte_size_types, unused_bit_types, short_size_types, spare_byte_types, custom_section, nameless_section, unknown_section, local_codes, three_locals, float_local_codes, float_constant_codes, constant_codes, constant_body, positive_overflow_codes, if_else_codes, if_else_body, lone_else_codes, block_else_codes, second_else_codes, open_codes, early_end_codes, hello_bytes, hello, echo_bytes, echo}
+use Rattle.wasm_syntax.specs.laws.Examples.{empty_module, idle_types, idle_functions, idle_memories}
+use Rattle.wasm_syntax.specs.laws.Examples.{idle_exports, idle_codes, idle_behind_types, idle_bytes}
+use Rattle.wasm_syntax.specs.laws.Examples.{idle, idle_with_code, idle_with_types, idle_with_codes}
+use Rattle.wasm_syntax.specs.laws.Examples.{long_size_types, six_byte_size_types, unused_bit_types}
+use Rattle.wasm_syntax.specs.laws.Examples.{short_size_types, spare_byte_types, custom_section}
+use Rattle.wasm_syntax.specs.laws.Examples.{nameless_section, unknown_section, local_codes}
+use Rattle.wasm_syntax.specs.laws.Examples.{three_locals, float_local_codes, float_constant_codes}
+use Rattle.wasm_syntax.specs.laws.Examples.{constant_codes, constant_body, positive_overflow_codes}
+use Rattle.wasm_syntax.specs.laws.Examples.{if_else_codes, if_else_body, lone_else_codes}
+use Rattle.wasm_syntax.specs.laws.Examples.{block_else_codes, second_else_codes, open_codes}
+use Rattle.wasm_syntax.specs.laws.Examples.{early_end_codes, hello_bytes, hello, echo_bytes, echo}
 
 abbrev pub BytesSpellAtMostOneModule : Type 0
-BytesSpellAtMostOneModule = (bytes : List ℕ) (m : Module) (n : Module) → IsModule bytes m → IsModule bytes n → m ≡ n
+BytesSpellAtMostOneModule = (bytes : List ℕ) (m : Module) (n : Module) → IsModule bytes m
+    → IsModule bytes n → m ≡ n
 
 -- no module is spelled by these bytes
 abbrev pub SpellNothing : List ℕ → Type 0
@@ -26,9 +37,11 @@ pub record SpellingsOfIdle : Type 0 where
 pub record SpellingsOfSections : Type 0 where
   pub none : IsModule preamble empty_module
   pub twice : SpellNothing (preamble ++ idle_types ++ idle_types ++ idle_behind_types)
-  pub falling : SpellNothing (preamble ++ idle_functions ++ idle_types ++ idle_memories ++ idle_exports ++ idle_codes)
+  pub falling : SpellNothing (preamble ++ idle_functions ++ idle_types ++ idle_memories
+      ++ idle_exports ++ idle_codes)
   pub custom_first : IsModule (preamble ++ custom_section ++ idle_types ++ idle_behind_types) idle
-  pub custom_between_and_last : IsModule (preamble ++ idle_types ++ custom_section ++ idle_behind_types ++ custom_section) idle
+  pub custom_between_and_last : IsModule (preamble ++ idle_types ++ custom_section
+      ++ idle_behind_types ++ custom_section) idle
   pub nameless : SpellNothing (idle_bytes ++ nameless_section)
   pub unknown : SpellNothing (idle_bytes ++ unknown_section)
   pub no_code : SpellNothing (preamble ++ idle_types ++ idle_functions)
@@ -47,7 +60,8 @@ pub record SpellingsOfBodies : Type 0 where
   pub open_body : SpellNothing (idle_with_codes open_codes)
   pub early_end : SpellNothing (idle_with_codes early_end_codes)
 
--- Of the fronts of a module's bytes, the header alone and the header with the types are modules too, and no others.
+-- Of the fronts of a module's bytes, the header alone and the header with the types are modules
+-- too, and no others.
 abbrev pub FrontsSpellNothing : Type 0
 FrontsSpellNothing = (n : ℕ) → n < 50 → n ≢ 8 → n ≢ 14 → SpellNothing (take n idle_bytes)
 

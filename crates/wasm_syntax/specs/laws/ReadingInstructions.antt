@@ -1,14 +1,20 @@
 -- Reading from the front: instructions and expressions (Core Specification 1.0, section 5.4).
-use Rattle.std.specs.Prelude.{ℕ, zero, suc, ◌-◌, ◌==◌, ◌&&◌, nat_le, nat_lt, if◌then◌else◌, Bool, List, [], ◌∷◌, length, Option, Some, None, option_map, slice_get}
+use Rattle.std.specs.Prelude.{ℕ, zero, suc, ◌-◌, ◌==◌, ◌&&◌, nat_le, nat_lt, if◌then◌else◌, Bool}
+use Rattle.std.specs.Prelude.{List, [], ◌∷◌, length, Option, Some, None, option_map, slice_get}
 use Rattle.wasm_syntax.specs.declared.types.ValueType.TheVariants.{I32, I64}
 use Rattle.wasm_syntax.specs.declared.value.Value.TheVariants as value
 use Rattle.wasm_syntax.specs.declared.operator.UnaryOperator.{UnaryOperator}
 use Rattle.wasm_syntax.specs.declared.operator.UnaryOperator.TheVariants.{Clz, Ctz, Popcnt}
 use Rattle.wasm_syntax.specs.declared.operator.BinaryOperator.{BinaryOperator}
-use Rattle.wasm_syntax.specs.declared.operator.BinaryOperator.TheVariants.{Add, Sub, Mul, DivS, DivU, RemS, RemU, And, Or, Xor, Shl, ShrS, ShrU, Rotl, Rotr}
+use Rattle.wasm_syntax.specs.declared.operator.BinaryOperator.TheVariants.{Add, Sub, Mul, DivS}
+use Rattle.wasm_syntax.specs.declared.operator.BinaryOperator.TheVariants.{DivU, RemS, RemU, And}
+use Rattle.wasm_syntax.specs.declared.operator.BinaryOperator.TheVariants.{Or, Xor, Shl, ShrS, ShrU}
+use Rattle.wasm_syntax.specs.declared.operator.BinaryOperator.TheVariants.{Rotl, Rotr}
 use Rattle.wasm_syntax.specs.declared.operator.Comparison.{Comparison}
-use Rattle.wasm_syntax.specs.declared.operator.Comparison.TheVariants.{Eq, Ne, LtS, LtU, GtS, GtU, LeS, LeU, GeS, GeU}
-use Rattle.wasm_syntax.specs.declared.operator.Conversion.TheVariants.{I32WrapI64, I64ExtendI32S, I64ExtendI32U}
+use Rattle.wasm_syntax.specs.declared.operator.Comparison.TheVariants.{Eq, Ne, LtS, LtU, GtS, GtU}
+use Rattle.wasm_syntax.specs.declared.operator.Comparison.TheVariants.{LeS, LeU, GeS, GeU}
+use Rattle.wasm_syntax.specs.declared.operator.Conversion.TheVariants.{I32WrapI64, I64ExtendI32S}
+use Rattle.wasm_syntax.specs.declared.operator.Conversion.TheVariants.{I64ExtendI32U}
 use Rattle.wasm_syntax.specs.declared.operator.LoadOperator.{LoadOperator}
 use Rattle.wasm_syntax.specs.declared.operator.LoadOperator.TheVariants as load
 use Rattle.wasm_syntax.specs.declared.operator.StoreOperator.{StoreOperator}
@@ -18,15 +24,18 @@ use Rattle.wasm_syntax.specs.declared.instruction.Instruction.{Instruction}
 use Rattle.wasm_syntax.specs.declared.instruction.Instruction.TheVariants as instr
 use Rattle.wasm_syntax.specs.declared.opener.Opener.{Opener}
 use Rattle.wasm_syntax.specs.declared.opener.Opener.TheVariants.{Straight, Conditional}
-use Rattle.wasm_syntax.specs.laws.ReadingItems.{◌>>=◌, read_as, byte_at, exactly_at, leb_u32_at, signed_at, vector_at, block_type_at}
+use Rattle.wasm_syntax.specs.laws.ReadingItems.{◌>>=◌, read_as, byte_at, exactly_at, leb_u32_at}
+use Rattle.wasm_syntax.specs.laws.ReadingItems.{signed_at, vector_at, block_type_at}
 
 -- ---- operators, in the order of their opcodes
 
 abbrev pub narrow_loads : List LoadOperator
-narrow_loads = load.I32Bits8S ∷ load.I32Bits8U ∷ load.I32Bits16S ∷ load.I32Bits16U ∷ load.I64Bits8S ∷ load.I64Bits8U ∷ load.I64Bits16S ∷ load.I64Bits16U ∷ load.I64Bits32S ∷ load.I64Bits32U ∷ []
+narrow_loads = load.I32Bits8S ∷ load.I32Bits8U ∷ load.I32Bits16S ∷ load.I32Bits16U ∷ load.I64Bits8S
+    ∷ load.I64Bits8U ∷ load.I64Bits16S ∷ load.I64Bits16U ∷ load.I64Bits32S ∷ load.I64Bits32U ∷ []
 
 abbrev pub narrow_stores : List StoreOperator
-narrow_stores = store.I32Bits8 ∷ store.I32Bits16 ∷ store.I64Bits8 ∷ store.I64Bits16 ∷ store.I64Bits32 ∷ []
+narrow_stores =
+    store.I32Bits8 ∷ store.I32Bits16 ∷ store.I64Bits8 ∷ store.I64Bits16 ∷ store.I64Bits32 ∷ []
 
 abbrev pub comparisons : List Comparison
 comparisons = Eq ∷ Ne ∷ LtS ∷ LtU ∷ GtS ∷ GtU ∷ LeS ∷ LeU ∷ GeS ∷ GeU ∷ []
@@ -35,7 +44,8 @@ abbrev pub unary_operators : List UnaryOperator
 unary_operators = Clz ∷ Ctz ∷ Popcnt ∷ []
 
 abbrev pub binary_operators : List BinaryOperator
-binary_operators = Add ∷ Sub ∷ Mul ∷ DivS ∷ DivU ∷ RemS ∷ RemU ∷ And ∷ Or ∷ Xor ∷ Shl ∷ ShrS ∷ ShrU ∷ Rotl ∷ Rotr ∷ []
+binary_operators = Add ∷ Sub ∷ Mul ∷ DivS ∷ DivU ∷ RemS ∷ RemU ∷ And ∷ Or ∷ Xor ∷ Shl ∷ ShrS ∷ ShrU
+    ∷ Rotl ∷ Rotr ∷ []
 
 abbrev pub is_between : ℕ → ℕ → ℕ → Bool
 is_between low high b = nat_le low b && nat_le b high
@@ -58,18 +68,24 @@ store_operator_of b =
 abbrev pub comparison_of : ℕ → Option Instruction
 comparison_of b =
     if b == 0x45 then Some (instr.Eqz I32)
-    else if is_between 0x46 0x4f b then option_map (instr.Compare I32) (slice_get comparisons (b - 0x46))
+    else if is_between 0x46 0x4f b
+    then option_map (instr.Compare I32) (slice_get comparisons (b - 0x46))
     else if b == 0x50 then Some (instr.Eqz I64)
-    else if is_between 0x51 0x5a b then option_map (instr.Compare I64) (slice_get comparisons (b - 0x51))
+    else if is_between 0x51 0x5a b
+    then option_map (instr.Compare I64) (slice_get comparisons (b - 0x51))
     else None
 
 -- operators from one type to the same, and conversions
 abbrev pub operation_of : ℕ → Option Instruction
 operation_of b =
-    if is_between 0x67 0x69 b then option_map (instr.Unary I32) (slice_get unary_operators (b - 0x67))
-    else if is_between 0x6a 0x78 b then option_map (instr.Binary I32) (slice_get binary_operators (b - 0x6a))
-    else if is_between 0x79 0x7b b then option_map (instr.Unary I64) (slice_get unary_operators (b - 0x79))
-    else if is_between 0x7c 0x8a b then option_map (instr.Binary I64) (slice_get binary_operators (b - 0x7c))
+    if is_between 0x67 0x69 b
+    then option_map (instr.Unary I32) (slice_get unary_operators (b - 0x67))
+    else if is_between 0x6a 0x78 b
+    then option_map (instr.Binary I32) (slice_get binary_operators (b - 0x6a))
+    else if is_between 0x79 0x7b b
+    then option_map (instr.Unary I64) (slice_get unary_operators (b - 0x79))
+    else if is_between 0x7c 0x8a b
+    then option_map (instr.Binary I64) (slice_get binary_operators (b - 0x7c))
     else if b == 0xa7 then Some (instr.Convert I32WrapI64)
     else if b == 0xac then Some (instr.Convert I64ExtendI32S)
     else if b == 0xad then Some (instr.Convert I64ExtendI32U)
@@ -89,10 +105,12 @@ control_at b rest =
     else if b == 0x0b then Some (instr.End, rest)
     else if b == 0x0c then read_as instr.Br leb_u32_at rest
     else if b == 0x0d then read_as instr.BrIf leb_u32_at rest
-    else if b == 0x0e then (vector_at leb_u32_at rest >>= λ labels. leb_u32_at labels.1 >>= λ last. Some (instr.BrTable labels.0 last.0, last.1))
+    else if b == 0x0e then (vector_at leb_u32_at rest >>= λ labels. leb_u32_at labels.1
+    >>= λ last. Some (instr.BrTable labels.0 last.0, last.1))
     else if b == 0x0f then Some (instr.Return, rest)
     else if b == 0x10 then read_as instr.Call leb_u32_at rest
-    else if b == 0x11 then (leb_u32_at rest >>= λ t. exactly_at 0x00 t.1 >>= λ mark. Some (instr.CallIndirect t.0, mark.1))
+    else if b == 0x11 then (leb_u32_at rest >>= λ t. exactly_at 0x00 t.1
+    >>= λ mark. Some (instr.CallIndirect t.0, mark.1))
     else None
 
 -- operands, locals and globals: opcodes from 0x1a to 0x24
@@ -109,15 +127,23 @@ variable_at b rest =
 
 unfoldable pub memory_argument_at : List ℕ → Option (MemoryArgument × List ℕ)
 memory_argument_at bytes =
-    leb_u32_at bytes >>= λ align. leb_u32_at align.1 >>= λ offset. Some (record { align = align.0; offset = offset.0 }, offset.1)
+    leb_u32_at bytes >>= λ align. leb_u32_at align.1 >>= λ offset. Some (
+      record {
+        align = align.0;
+        offset = offset.0;
+      },
+      offset.1,
+    )
 
 -- loads, stores and the memory's size: opcodes from 0x28 to 0x40
 abbrev pub memory_at : ℕ → List ℕ → Option (Instruction × List ℕ)
 memory_at b rest =
     if b == 0x3f then read_as (λ (mark : Unit {0}). instr.MemorySize) (exactly_at 0x00) rest
     else if b == 0x40 then read_as (λ (mark : Unit {0}). instr.MemoryGrow) (exactly_at 0x00) rest
-    else if nat_lt b 0x36 then (load_of b >>= λ operator. read_as (instr.Load operator) memory_argument_at rest)
-    else (store_operator_of b >>= λ operator. read_as (instr.Store operator) memory_argument_at rest)
+    else if nat_lt b 0x36
+    then (load_of b >>= λ operator. read_as (instr.Load operator) memory_argument_at rest)
+    else (store_operator_of b
+    >>= λ operator. read_as (instr.Store operator) memory_argument_at rest)
 
 -- constants, tests, comparisons, operators and conversions: opcodes from 0x41 on
 abbrev pub numeric_at : ℕ → List ℕ → Option (Instruction × List ℕ)
@@ -159,7 +185,8 @@ nesting_after instr.End [] = Closed
 nesting_after _ openers = Open openers
 
 -- an instruction, and what follows it unless it is the last one
-abbrev pub rest_of_expression : Nesting → Instruction → List ℕ → (List Opener → Option (List Instruction × List ℕ)) → Option (List Instruction × List ℕ)
+abbrev pub rest_of_expression : Nesting → Instruction → List ℕ
+    → (List Opener → Option (List Instruction × List ℕ)) → Option (List Instruction × List ℕ)
 rest_of_expression Closed i rest go = Some (i ∷ [], rest)
 rest_of_expression Misplaced i rest go = None
 rest_of_expression (Open openers) i rest go = go openers >>= λ others. Some (i ∷ others.0, others.1)
@@ -168,7 +195,9 @@ rest_of_expression (Open openers) i rest go = go openers >>= λ others. Some (i 
 unfoldable pub expression_up_to_at : ℕ → List Opener → List ℕ → Option (List Instruction × List ℕ)
 expression_up_to_at zero openers bytes = None
 expression_up_to_at (suc most) openers bytes =
-    instruction_at bytes >>= λ i. rest_of_expression (nesting_after i.0 openers) i.0 i.1 (λ inner. expression_up_to_at most inner i.1)
+    instruction_at bytes
+    >>= λ i. rest_of_expression (nesting_after i.0 openers) i.0 i.1 (λ inner.
+    expression_up_to_at most inner i.1)
 
 -- an expression: each instruction takes a byte at least
 unfoldable pub expression_at : List ℕ → Option (List Instruction × List ℕ)

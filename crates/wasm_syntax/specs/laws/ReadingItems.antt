@@ -1,6 +1,8 @@
--- Reading from the front: bytes, integers, vectors, names and types (Core Specification 1.0, sections 5.1 to 5.3).
--- A reader answers the item at the front and the bytes behind it, or nothing.
-use Rattle.std.specs.Prelude.{ℕ, zero, suc, ◌+◌, ◌-◌, ◌*◌, ◌^◌, ◌==◌, nat_lt, nat_le, Bool, true, false, if◌then◌else◌, List, [], ◌∷◌, length, take, drop, Option, Some, None}
+-- Reading from the front: bytes, integers, vectors, names and types (Core Specification 1.0,
+-- sections 5.1 to 5.3). A reader answers the item at the front and the bytes behind it, or nothing.
+use Rattle.std.specs.Prelude.{ℕ, zero, suc, ◌+◌, ◌-◌, ◌*◌, ◌^◌, ◌==◌, nat_lt, nat_le, Bool, true}
+use Rattle.std.specs.Prelude.{false, if◌then◌else◌, List, [], ◌∷◌, length, take, drop, Option, Some}
+use Rattle.std.specs.Prelude.{None}
 use Rattle.std.specs.Str.{is_utf8}
 use Rattle.wasm_syntax.specs.declared.types.ValueType.{ValueType}
 use Rattle.wasm_syntax.specs.declared.types.ValueType.TheVariants.{I32, I64}
@@ -25,7 +27,8 @@ check true = Some tt
 check false = None
 
 -- an item, and what is made of it
-abbrev pub read_as : {X Y : Type 0} → (X → Y) → (List ℕ → Option (X × List ℕ)) → List ℕ → Option (Y × List ℕ)
+abbrev pub read_as : {X Y : Type 0} → (X → Y) → (List ℕ → Option (X × List ℕ)) → List ℕ
+    → Option (Y × List ℕ)
 read_as f item_at bytes = item_at bytes >>= λ x. Some (f x.0, x.1)
 
 -- an item that is all of the bytes
@@ -53,7 +56,8 @@ unfoldable pub unsigned_at : ℕ → List ℕ → Option (ℕ × List ℕ)
 unsigned_at bits [] = None
 unsigned_at bits (b ∷ rest) =
     if nat_lt b 128 then (check (nat_lt b (2 ^ bits)) >>= λ _. Some (b, rest))
-    else (check (nat_lt 7 bits) >>= λ _. unsigned_at (bits - 7) rest >>= λ high. Some (high.0 * 128 + (b - 128), high.1))
+    else (check (nat_lt 7 bits) >>= λ _. unsigned_at (bits - 7) rest
+    >>= λ high. Some (high.0 * 128 + (b - 128), high.1))
 
 -- the number that the last byte of a signed integer stands for
 unfoldable pub last_signed : ℕ → ℕ → Option ℕ
@@ -66,7 +70,8 @@ unfoldable pub signed_at : ℕ → List ℕ → Option (ℕ × List ℕ)
 signed_at bits [] = None
 signed_at bits (b ∷ rest) =
     if nat_lt b 128 then (last_signed bits b >>= λ n. Some (n, rest))
-    else (check (nat_lt 7 bits) >>= λ _. signed_at (bits - 7) rest >>= λ high. Some (high.0 * 128 + (b - 128), high.1))
+    else (check (nat_lt 7 bits) >>= λ _. signed_at (bits - 7) rest
+    >>= λ high. Some (high.0 * 128 + (b - 128), high.1))
 
 abbrev pub leb_u32_at : List ℕ → Option (ℕ × List ℕ)
 leb_u32_at bytes = unsigned_at 32 bytes
@@ -75,21 +80,27 @@ leb_u32_at bytes = unsigned_at 32 bytes
 
 -- so many bytes
 abbrev pub part_at : ℕ → List ℕ → Option (List ℕ × List ℕ)
-part_at len bytes = if nat_lt (length bytes) len then None else Some (take len bytes, drop len bytes)
+part_at len bytes = if nat_lt (length bytes) len then None
+    else Some (take len bytes, drop len bytes)
 
 -- so many items
-unfoldable pub items_at : {X : Type 0} → (List ℕ → Option (X × List ℕ)) → ℕ → List ℕ → Option (List X × List ℕ)
+unfoldable pub items_at : {X : Type 0} → (List ℕ → Option (X × List ℕ)) → ℕ → List ℕ
+    → Option (List X × List ℕ)
 items_at item_at zero bytes = Some ([], bytes)
 items_at item_at (suc n) bytes =
-    item_at bytes >>= λ first. items_at item_at n first.1 >>= λ others. Some (first.0 ∷ others.0, others.1)
+    item_at bytes >>= λ first. items_at item_at n first.1
+    >>= λ others. Some (first.0 ∷ others.0, others.1)
 
-unfoldable pub vector_at : {X : Type 0} → (List ℕ → Option (X × List ℕ)) → List ℕ → Option (List X × List ℕ)
+unfoldable pub vector_at : {X : Type 0} → (List ℕ → Option (X × List ℕ)) → List ℕ
+    → Option (List X × List ℕ)
 vector_at item_at bytes = leb_u32_at bytes >>= λ count. items_at item_at count.0 count.1
 
 -- a vector of at most so many items
-unfoldable pub vector_up_to_at : {X : Type 0} → (List ℕ → Option (X × List ℕ)) → ℕ → List ℕ → Option (List X × List ℕ)
+unfoldable pub vector_up_to_at : {X : Type 0} → (List ℕ → Option (X × List ℕ)) → ℕ → List ℕ
+    → Option (List X × List ℕ)
 vector_up_to_at item_at most bytes =
-    leb_u32_at bytes >>= λ count. if nat_lt most count.0 then None else items_at item_at count.0 count.1
+    leb_u32_at bytes >>= λ count. if nat_lt most count.0 then None
+    else items_at item_at count.0 count.1
 
 unfoldable pub bytes_at : List ℕ → Option (List ℕ × List ℕ)
 bytes_at bytes = leb_u32_at bytes >>= λ len. part_at len.0 len.1
@@ -97,14 +108,17 @@ bytes_at bytes = leb_u32_at bytes >>= λ len. part_at len.0 len.1
 unfoldable pub name_at : List ℕ → Option (List ℕ × List ℕ)
 name_at bytes = bytes_at bytes >>= λ name. if is_utf8 name.0 then Some name else None
 
-unfoldable pub sized_at : {X : Type 0} → (List ℕ → Option (X × List ℕ)) → List ℕ → Option (X × List ℕ)
-sized_at content_at bytes = bytes_at bytes >>= λ part. whole_at content_at part.0 >>= λ x. Some (x, part.1)
+unfoldable pub sized_at : {X : Type 0} → (List ℕ → Option (X × List ℕ)) → List ℕ
+    → Option (X × List ℕ)
+sized_at content_at bytes = bytes_at bytes >>= λ part. whole_at content_at part.0
+    >>= λ x. Some (x, part.1)
 
 -- ---- types
 
 abbrev pub value_type_at : List ℕ → Option (ValueType × List ℕ)
 value_type_at [] = None
-value_type_at (b ∷ rest) = if b == 0x7f then Some (I32, rest) else if b == 0x7e then Some (I64, rest) else None
+value_type_at (b ∷ rest) = if b == 0x7f then Some (I32, rest) else if b == 0x7e
+    then Some (I64, rest) else None
 
 abbrev pub block_type_at : List ℕ → Option (Option ValueType × List ℕ)
 block_type_at [] = None
@@ -124,20 +138,28 @@ function_type_at bytes =
 unfoldable pub limits_at : List ℕ → Option (Limits × List ℕ)
 limits_at [] = None
 limits_at (b ∷ bytes) =
-    if b == 0x00 then (leb_u32_at bytes >>= λ least. Some (record { minimum = least.0; maximum = None }, least.1))
-    else if b == 0x01 then (leb_u32_at bytes >>= λ least. leb_u32_at least.1 >>= λ most. Some (record { minimum = least.0; maximum = Some most.0 }, most.1))
+    if b == 0x00
+    then (leb_u32_at bytes >>= λ least. Some (
+      record { minimum = least.0; maximum = None },
+      least.1,
+    ))
+    else if b == 0x01 then (leb_u32_at bytes >>= λ least. leb_u32_at least.1
+    >>= λ most. Some (record { minimum = least.0; maximum = Some most.0 }, most.1))
     else None
 
 unfoldable pub table_type_at : List ℕ → Option (TableType × List ℕ)
-table_type_at bytes = exactly_at 0x70 bytes >>= λ mark. limits_at mark.1 >>= λ limits. Some (record { limits = limits.0 }, limits.1)
+table_type_at bytes = exactly_at 0x70 bytes >>= λ mark. limits_at mark.1
+    >>= λ limits. Some (record { limits = limits.0 }, limits.1)
 
 unfoldable pub memory_type_at : List ℕ → Option (MemoryType × List ℕ)
 memory_type_at bytes = limits_at bytes >>= λ limits. Some (record { limits = limits.0 }, limits.1)
 
 abbrev pub mutability_at : List ℕ → Option (Mutability × List ℕ)
 mutability_at [] = None
-mutability_at (b ∷ rest) = if b == 0x00 then Some (Constant, rest) else if b == 0x01 then Some (Variable, rest) else None
+mutability_at (b ∷ rest) = if b == 0x00 then Some (Constant, rest) else if b == 0x01
+    then Some (Variable, rest) else None
 
 unfoldable pub global_type_at : List ℕ → Option (GlobalType × List ℕ)
 global_type_at bytes =
-    value_type_at bytes >>= λ t. mutability_at t.1 >>= λ m. Some (record { value_type = t.0; mutability = m.0 }, m.1)
+    value_type_at bytes >>= λ t. mutability_at t.1
+    >>= λ m. Some (record { value_type = t.0; mutability = m.0 }, m.1)

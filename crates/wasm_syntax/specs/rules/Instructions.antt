@@ -7,11 +7,16 @@ use Rattle.wasm_syntax.specs.declared.value.Value.TheVariants as value
 use Rattle.wasm_syntax.specs.declared.operator.UnaryOperator.{UnaryOperator}
 use Rattle.wasm_syntax.specs.declared.operator.UnaryOperator.TheVariants.{Clz, Ctz, Popcnt}
 use Rattle.wasm_syntax.specs.declared.operator.BinaryOperator.{BinaryOperator}
-use Rattle.wasm_syntax.specs.declared.operator.BinaryOperator.TheVariants.{Add, Sub, Mul, DivS, DivU, RemS, RemU, And, Or, Xor, Shl, ShrS, ShrU, Rotl, Rotr}
+use Rattle.wasm_syntax.specs.declared.operator.BinaryOperator.TheVariants.{Add, Sub, Mul, DivS}
+use Rattle.wasm_syntax.specs.declared.operator.BinaryOperator.TheVariants.{DivU, RemS, RemU, And}
+use Rattle.wasm_syntax.specs.declared.operator.BinaryOperator.TheVariants.{Or, Xor, Shl, ShrS, ShrU}
+use Rattle.wasm_syntax.specs.declared.operator.BinaryOperator.TheVariants.{Rotl, Rotr}
 use Rattle.wasm_syntax.specs.declared.operator.Comparison.{Comparison}
-use Rattle.wasm_syntax.specs.declared.operator.Comparison.TheVariants.{Eq, Ne, LtS, LtU, GtS, GtU, LeS, LeU, GeS, GeU}
+use Rattle.wasm_syntax.specs.declared.operator.Comparison.TheVariants.{Eq, Ne, LtS, LtU, GtS, GtU}
+use Rattle.wasm_syntax.specs.declared.operator.Comparison.TheVariants.{LeS, LeU, GeS, GeU}
 use Rattle.wasm_syntax.specs.declared.operator.Conversion.{Conversion}
-use Rattle.wasm_syntax.specs.declared.operator.Conversion.TheVariants.{I32WrapI64, I64ExtendI32S, I64ExtendI32U}
+use Rattle.wasm_syntax.specs.declared.operator.Conversion.TheVariants.{I32WrapI64, I64ExtendI32S}
+use Rattle.wasm_syntax.specs.declared.operator.Conversion.TheVariants.{I64ExtendI32U}
 use Rattle.wasm_syntax.specs.declared.operator.LoadOperator.{LoadOperator}
 use Rattle.wasm_syntax.specs.declared.operator.LoadOperator.TheVariants as load
 use Rattle.wasm_syntax.specs.declared.operator.StoreOperator.{StoreOperator}
@@ -20,7 +25,8 @@ use Rattle.wasm_syntax.specs.declared.instruction.MemoryArgument.{MemoryArgument
 use Rattle.wasm_syntax.specs.declared.instruction.Instruction.{Instruction}
 use Rattle.wasm_syntax.specs.declared.instruction.Instruction.TheVariants as instr
 use Rattle.wasm_syntax.specs.rules.Sequence.{Sequence, Spells}
-use Rattle.wasm_syntax.specs.rules.Items.{IsThisByte, IsU32, IsSigned, AreItems, IsVector, IsBlockType}
+use Rattle.wasm_syntax.specs.rules.Items.{IsThisByte, IsU32, IsSigned, AreItems, IsVector}
+use Rattle.wasm_syntax.specs.rules.Items.{IsBlockType}
 
 -- ---- opcodes (5.4.4, 5.4.5)
 
@@ -127,10 +133,12 @@ IsInstruction bytes instr.Else rest = IsThisByte 0x05 bytes rest
 IsInstruction bytes instr.End rest = IsThisByte 0x0b bytes rest
 IsInstruction bytes (instr.Br label) rest = IsOpcode 0x0c (λ a. IsU32 a label rest) bytes
 IsInstruction bytes (instr.BrIf label) rest = IsOpcode 0x0d (λ a. IsU32 a label rest) bytes
-IsInstruction bytes (instr.BrTable labels last) rest = IsOpcode 0x0e (λ a. (b : List ℕ) × IsVector IsU32 a labels b × IsU32 b last rest) bytes
+IsInstruction bytes (instr.BrTable labels last) rest =
+    IsOpcode 0x0e (λ a. (b : List ℕ) × IsVector IsU32 a labels b × IsU32 b last rest) bytes
 IsInstruction bytes instr.Return rest = IsThisByte 0x0f bytes rest
 IsInstruction bytes (instr.Call function) rest = IsOpcode 0x10 (λ a. IsU32 a function rest) bytes
-IsInstruction bytes (instr.CallIndirect function_type) rest = IsOpcode 0x11 (λ a. (b : List ℕ) × IsU32 a function_type b × IsThisByte 0x00 b rest) bytes
+IsInstruction bytes (instr.CallIndirect function_type) rest =
+    IsOpcode 0x11 (λ a. (b : List ℕ) × IsU32 a function_type b × IsThisByte 0x00 b rest) bytes
 IsInstruction bytes instr.Drop rest = IsThisByte 0x1a bytes rest
 IsInstruction bytes instr.Select rest = IsThisByte 0x1b bytes rest
 IsInstruction bytes (instr.LocalGet local) rest = IsOpcode 0x20 (λ a. IsU32 a local rest) bytes
@@ -138,19 +146,24 @@ IsInstruction bytes (instr.LocalSet local) rest = IsOpcode 0x21 (λ a. IsU32 a l
 IsInstruction bytes (instr.LocalTee local) rest = IsOpcode 0x22 (λ a. IsU32 a local rest) bytes
 IsInstruction bytes (instr.GlobalGet global) rest = IsOpcode 0x23 (λ a. IsU32 a global rest) bytes
 IsInstruction bytes (instr.GlobalSet global) rest = IsOpcode 0x24 (λ a. IsU32 a global rest) bytes
-IsInstruction bytes (instr.Load operator m) rest = IsOpcode (load_opcode operator) (λ a. IsMemoryArgument a m rest) bytes
-IsInstruction bytes (instr.Store operator m) rest = IsOpcode (store_opcode operator) (λ a. IsMemoryArgument a m rest) bytes
+IsInstruction bytes (instr.Load operator m) rest =
+    IsOpcode (load_opcode operator) (λ a. IsMemoryArgument a m rest) bytes
+IsInstruction bytes (instr.Store operator m) rest =
+    IsOpcode (store_opcode operator) (λ a. IsMemoryArgument a m rest) bytes
 IsInstruction bytes instr.MemorySize rest = IsOpcode 0x3f (λ a. IsThisByte 0x00 a rest) bytes
 IsInstruction bytes instr.MemoryGrow rest = IsOpcode 0x40 (λ a. IsThisByte 0x00 a rest) bytes
 IsInstruction bytes (instr.Const v) rest = IsConstantOpcode bytes v rest
 IsInstruction bytes (instr.Eqz t) rest = IsThisByte (eqz_opcode t) bytes rest
-IsInstruction bytes (instr.Compare t operator) rest = IsThisByte (compare_opcode t operator) bytes rest
+IsInstruction bytes (instr.Compare t operator) rest =
+    IsThisByte (compare_opcode t operator) bytes rest
 IsInstruction bytes (instr.Unary t operator) rest = IsThisByte (unary_opcode t operator) bytes rest
-IsInstruction bytes (instr.Binary t operator) rest = IsThisByte (binary_opcode t operator) bytes rest
+IsInstruction bytes (instr.Binary t operator) rest =
+    IsThisByte (binary_opcode t operator) bytes rest
 IsInstruction bytes (instr.Convert operator) rest = IsThisByte (convert_opcode operator) bytes rest
 
 -- ---- expressions (5.4.6)
 
 -- opcodes, one after another, that are a nested sequence and the end that closes it
 abbrev pub IsExpression : List ℕ → List Instruction → List ℕ → Type 0
-IsExpression bytes opcodes rest = (s : Sequence) × Spells opcodes s × AreItems IsInstruction bytes opcodes rest
+IsExpression bytes opcodes rest = (s : Sequence) × Spells opcodes s
+    × AreItems IsInstruction bytes opcodes rest

@@ -13,7 +13,9 @@ use Rattle.wasm_syntax.specs.declared.module.Global.{Global}
 use Rattle.wasm_syntax.specs.declared.module.Element.{Element}
 use Rattle.wasm_syntax.specs.declared.module.Data.{Data}
 use Rattle.wasm_syntax.specs.rules.Modules.{IsModule}
-use Rattle.wasm_syntax.specs.declared.limits.TheConstants.{MODULE_BYTES, FUNCTIONS, INSTRUCTIONS, PARAMETERS, LOCALS, TABLE_ENTRIES, GLOBALS}
+use Rattle.wasm_syntax.specs.declared.limits.TheConstants.{MODULE_BYTES, FUNCTIONS, INSTRUCTIONS}
+use Rattle.wasm_syntax.specs.declared.limits.TheConstants.{PARAMETERS, LOCALS, TABLE_ENTRIES}
+use Rattle.wasm_syntax.specs.declared.limits.TheConstants.{GLOBALS}
 
 abbrev pub is_function : Import → Bool
 is_function i = is_function_item i.item

@@ -1,5 +1,6 @@
 -- The binary grammar of modules (Core Specification 1.0, section 5.5).
-use Rattle.std.specs.Prelude.{◌≡◌, ℕ, ◌^◌, ◌<◌, ◌⊎◌, List, [], ◌∷◌, ◌++◌, length, map, max, replicate, Option, Some, None, MatchOption, ◌==◌, if◌then◌else◌}
+use Rattle.std.specs.Prelude.{◌≡◌, ℕ, ◌^◌, ◌<◌, ◌⊎◌, List, [], ◌∷◌, ◌++◌, length, map, max}
+use Rattle.std.specs.Prelude.{replicate, Option, Some, None, MatchOption, ◌==◌, if◌then◌else◌}
 use Rattle.wasm_syntax.specs.declared.types.ValueType.{ValueType}
 use Rattle.wasm_syntax.specs.declared.module.Module.{Module}
 use Rattle.wasm_syntax.specs.declared.module.Import.{Import}
@@ -13,22 +14,26 @@ use Rattle.wasm_syntax.specs.declared.module.ExportItem.{ExportItem}
 use Rattle.wasm_syntax.specs.declared.module.ExportItem.TheVariants as export
 use Rattle.wasm_syntax.specs.declared.module.Element.{Element}
 use Rattle.wasm_syntax.specs.declared.module.Data.{Data}
-use Rattle.wasm_syntax.specs.rules.Items.{IsU32, IsVector, IsBytes, IsName, IsSized, IsValueType, IsFunctionType, IsTableType, IsMemoryType, IsGlobalType}
+use Rattle.wasm_syntax.specs.rules.Items.{IsU32, IsVector, IsBytes, IsName, IsSized, IsValueType}
+use Rattle.wasm_syntax.specs.rules.Items.{IsFunctionType, IsTableType, IsMemoryType, IsGlobalType}
 use Rattle.wasm_syntax.specs.rules.Instructions.{IsOpcode, IsExpression}
 
 -- ---- what sections hold (5.5.4 to 5.5.14)
 
 abbrev pub IsImportItem : List ℕ → ImportItem → List ℕ → Type 0
-IsImportItem bytes (import.Function function_type) rest = IsOpcode 0x00 (λ a. IsU32 a function_type rest) bytes
+IsImportItem bytes (import.Function function_type) rest =
+    IsOpcode 0x00 (λ a. IsU32 a function_type rest) bytes
 IsImportItem bytes (import.Table t) rest = IsOpcode 0x01 (λ a. IsTableType a t rest) bytes
 IsImportItem bytes (import.Memory t) rest = IsOpcode 0x02 (λ a. IsMemoryType a t rest) bytes
 IsImportItem bytes (import.Global t) rest = IsOpcode 0x03 (λ a. IsGlobalType a t rest) bytes
 
 abbrev pub IsImport : List ℕ → Import → List ℕ → Type 0
-IsImport bytes i rest = (a : List ℕ) × (b : List ℕ) × IsName bytes i.module_name a × IsName a i.name b × IsImportItem b i.item rest
+IsImport bytes i rest = (a : List ℕ) × (b : List ℕ) × IsName bytes i.module_name a
+    × IsName a i.name b × IsImportItem b i.item rest
 
 abbrev pub IsGlobal : List ℕ → Global → List ℕ → Type 0
-IsGlobal bytes g rest = (a : List ℕ) × IsGlobalType bytes g.global_type a × IsExpression a g.initial rest
+IsGlobal bytes g rest = (a : List ℕ) × IsGlobalType bytes g.global_type a
+    × IsExpression a g.initial rest
 
 abbrev pub IsExportItem : List ℕ → ExportItem → List ℕ → Type 0
 IsExportItem bytes (export.Function index) rest = IsOpcode 0x00 (λ a. IsU32 a index rest) bytes
@@ -44,10 +49,12 @@ IsStartFunction bytes None rest = ⊥
 IsStartFunction bytes (Some function) rest = IsU32 bytes function rest
 
 abbrev pub IsElement : List ℕ → Element → List ℕ → Type 0
-IsElement bytes e rest = (a : List ℕ) × (b : List ℕ) × IsU32 bytes e.table a × IsExpression a e.offset b × IsVector IsU32 b e.functions rest
+IsElement bytes e rest = (a : List ℕ) × (b : List ℕ) × IsU32 bytes e.table a
+    × IsExpression a e.offset b × IsVector IsU32 b e.functions rest
 
 abbrev pub IsData : List ℕ → Data → List ℕ → Type 0
-IsData bytes d rest = (a : List ℕ) × (b : List ℕ) × IsU32 bytes d.memory a × IsExpression a d.offset b × IsBytes b d.bytes rest
+IsData bytes d rest = (a : List ℕ) × (b : List ℕ) × IsU32 bytes d.memory a
+    × IsExpression a d.offset b × IsBytes b d.bytes rest
 
 -- so many locals of one type
 pub record LocalRun : Type 0 where
@@ -65,7 +72,8 @@ locals_of (r ∷ runs) = replicate r.count r.value_type ++ locals_of runs
 -- runs of locals, and the body. There are fewer than 2 ^ 32 locals
 abbrev pub IsCode : List ℕ → Code → List ℕ → Type 0
 IsCode bytes c rest =
-    (runs : List LocalRun) × (a : List ℕ) × IsVector IsLocalRun bytes runs a × (c.locals ≡ locals_of runs) × (length c.locals < 2 ^ 32) × IsExpression a c.body rest
+    (runs : List LocalRun) × (a : List ℕ) × IsVector IsLocalRun bytes runs a
+    × (c.locals ≡ locals_of runs) × (length c.locals < 2 ^ 32) × IsExpression a c.body rest
 
 -- ---- sections (5.5.2, 5.5.3)
 
@@ -89,7 +97,8 @@ MayFollow last s = IsCustom s ⊎ ((last < s.id) × (s.id < 12))
 abbrev pub AreSections : ℕ → List ℕ → List Section → Type 0
 AreSections last bytes [] = bytes ≡ []
 AreSections last bytes (s ∷ ss) =
-    (rest : List ℕ) × IsSection bytes s rest × MayFollow last s × AreSections (max last s.id) rest ss
+    (rest : List ℕ) × IsSection bytes s rest × MayFollow last s
+    × AreSections (max last s.id) rest ss
 
 -- ---- modules (5.5.15)
 
@@ -99,8 +108,10 @@ body_of id [] = None
 body_of id (s ∷ ss) = if s.id == id then Some s.body else body_of id ss
 
 -- The section with this id spells x, all of it. Without it, x is what an absent one stands for.
-abbrev pub IsField : {X : Type 0} → List Section → ℕ → (List ℕ → X → List ℕ → Type 0) → X → X → Type 0
-IsField ss id IsContent absent x = MatchOption (body_of id ss) (x ≡ absent) (λ body. IsContent body x [])
+abbrev pub IsField : {X : Type 0} → List Section → ℕ → (List ℕ → X → List ℕ → Type 0) → X → X
+    → Type 0
+IsField ss id IsContent absent x =
+    MatchOption (body_of id ss) (x ≡ absent) (λ body. IsContent body x [])
 
 -- the mark and the version
 abbrev pub preamble : List ℕ

@@ -1,11 +1,13 @@
--- Instruction sequences as the standard nests them (Core Specification 1.0, section 2.4), and the flat opcodes that spell them.
+-- Instruction sequences as the standard nests them (Core Specification 1.0, section 2.4), and the
+-- flat opcodes that spell them.
 use Rattle.std.specs.Prelude.{◌≡◌, List, [], ◌∷◌, ◌++◌, Option}
 use Rattle.wasm_syntax.specs.declared.types.ValueType.{ValueType}
 use Rattle.wasm_syntax.specs.declared.instruction.Instruction.{Instruction}
 use Rattle.wasm_syntax.specs.declared.instruction.Instruction.TheVariants as instr
 
--- A sequence is empty, or a first instruction and what follows it. Block, loop and if hold sequences of their own.
--- An `if` whose second part is written, be it empty, is told from one without: the opcodes differ, the meaning doesn't.
+-- A sequence is empty, or a first instruction and what follows it. Block, loop and if hold
+-- sequences of their own. An `if` whose second part is written, be it empty, is told from one
+-- without: the opcodes differ, the meaning doesn't.
 pub data Sequence : Type 0 where
   Stop : Sequence
   Plain : (i : Instruction) (rest : Sequence) → Sequence
@@ -21,7 +23,8 @@ spelled (Plain i rest) = i ∷ spelled rest
 spelled (InBlock t body rest) = instr.Block t ∷ (spelled body ++ (instr.End ∷ spelled rest))
 spelled (InLoop t body rest) = instr.Loop t ∷ (spelled body ++ (instr.End ∷ spelled rest))
 spelled (InIf t first rest) = instr.If t ∷ (spelled first ++ (instr.End ∷ spelled rest))
-spelled (InIfElse t first second rest) = instr.If t ∷ (spelled first ++ (instr.Else ∷ (spelled second ++ (instr.End ∷ spelled rest))))
+spelled (InIfElse t first second rest) =
+    instr.If t ∷ (spelled first ++ (instr.Else ∷ (spelled second ++ (instr.End ∷ spelled rest))))
 
 -- none of the opcodes that open, part or close a sequence
 abbrev pub IsPlain : Instruction → Type 0

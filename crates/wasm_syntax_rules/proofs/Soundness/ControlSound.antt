@@ -1,5 +1,6 @@
 -- Branches, calls, returns and ends keep a typed thread so.
-use Rattle.std.proofs.Common.{◌≡◌, ℕ, zero, suc, Bool, true, false, if◌then◌else◌, ◌&&◌, List, [], ◌∷◌, ◌++◌, length, drop, Some, refl, sym, ap}
+use Rattle.std.proofs.Common.{◌≡◌, ℕ, zero, suc, Bool, true, false, if◌then◌else◌, ◌&&◌, List, []}
+use Rattle.std.proofs.Common.{◌∷◌, ◌++◌, length, drop, Some, refl, sym, ap}
 use Rattle.std.specs.Prelude.{slice_get, reverse, map, unwrap_or}
 use Rattle.std.specs.List.{AllByRecursion}
 use Rattle.std.proofs.lemmas.List.{append-nil, reverse-reverse}
@@ -9,16 +10,26 @@ use Rattle.wasm_syntax.specs.declared.types.FunctionType.{FunctionType}
 use Rattle.wasm_syntax.specs.declared.value.Value.{Value}
 use Rattle.wasm_syntax.specs.declared.value.Trap.TheVariants as trap
 use Rattle.wasm_syntax.specs.rules.Sequence.{Sequence, Stop}
-use Rattle.wasm_syntax_rules.specs.Types.{AreOf, takes_of, gives_of, is_same_type, are_same_types, is_same_function_type}
+use Rattle.wasm_syntax_rules.specs.Types.{AreOf, takes_of, gives_of, is_same_type, are_same_types}
+use Rattle.wasm_syntax_rules.specs.Types.{is_same_function_type}
 use Rattle.wasm_syntax_rules.specs.Typing.{Context, body_context, IsLabel}
-use Rattle.wasm_syntax_rules.specs.Configuration.{Callee, Host, Own, Program, Part, Main, Label, LabelOf, Frame, FrameOf, Thread, Configuration, Goes, Traps}
+use Rattle.wasm_syntax_rules.specs.Configuration.{Callee, Host, Own, Program, Part, Main, Label}
+use Rattle.wasm_syntax_rules.specs.Configuration.{LabelOf, Frame, FrameOf, Thread, Configuration}
+use Rattle.wasm_syntax_rules.specs.Configuration.{Goes, Traps}
 use Rattle.wasm_syntax_rules.specs.Steps.{branch, returned, called, kind_of, zero_of}
-use Rattle.wasm_syntax_rules.specs.Typed.{IsTypedCallee, IsTypedProgram, AreTypedLabels, IsTypedFrame, IsTypedThread, IsTyped, IsSound}
+use Rattle.wasm_syntax_rules.specs.Typed.{IsTypedCallee, IsTypedProgram, AreTypedLabels}
+use Rattle.wasm_syntax_rules.specs.Typed.{IsTypedFrame, IsTypedThread, IsTyped, IsSound}
 use Rattle.wasm_syntax_rules.proofs.Soundness.Values.{are_both, topmost_are, zeros_are, reverse_are}
 
 -- ---- branches
 
-branch_zero : (c : Context) (f : ℕ) (ls vs : List Value) (ts rest out : List ValueType) (tss : List (List ValueType)) (keeps : ℕ) (target after : Sequence) (which : Part) (below : List Value) (labels : List Label) → AreOf (ts ++ rest) vs → AreOf c.locals ls → AreTypedLabels c (ts ∷ tss) (LabelOf keeps target below after which ∷ labels) out → (labels' : List Label) × (vs' : List Value) × (rest' : Sequence) × (branch zero f ls (LabelOf keeps target below after which ∷ labels) vs ≡ Some (FrameOf f ls labels' vs' rest')) × IsTypedFrame c [] ls labels' vs' rest'
+branch_zero : (c : Context) (f : ℕ) (ls vs : List Value) (ts rest out : List ValueType)
+    (tss : List (List ValueType)) (keeps : ℕ) (target after : Sequence) (which : Part)
+    (below : List Value) (labels : List Label) → AreOf (ts ++ rest) vs → AreOf c.locals ls
+    → AreTypedLabels c (ts ∷ tss) (LabelOf keeps target below after which ∷ labels) out
+    → (labels' : List Label) × (vs' : List Value) × (rest' : Sequence)
+    × (branch zero f ls (LabelOf keeps target below after which ∷ labels) vs
+    ≡ Some (FrameOf f ls labels' vs' rest')) × IsTypedFrame c [] ls labels' vs' rest'
 branch_zero c f ls vs ts rest out tss keeps target after which below labels o l h =
     let r = topmost_are ts rest vs o in (
       labels,
@@ -37,18 +48,27 @@ branch_zero c f ls vs ts rest out tss keeps target after which below labels o l 
     )
 
 -- a branch to a label finds what the label takes
-pub branch_has : (c : Context) (d f : ℕ) (ls vs : List Value) (ts rest out : List ValueType) (branches : List (List ValueType)) (labels : List Label) → IsLabel branches ts d → AreOf (ts ++ rest) vs → AreOf c.locals ls → AreTypedLabels c branches labels out → (labels' : List Label) × (vs' : List Value) × (rest' : Sequence) × (branch d f ls labels vs ≡ Some (FrameOf f ls labels' vs' rest')) × IsTypedFrame c [] ls labels' vs' rest'
+pub branch_has : (c : Context) (d f : ℕ) (ls vs : List Value) (ts rest out : List ValueType)
+    (branches : List (List ValueType)) (labels : List Label) → IsLabel branches ts d
+    → AreOf (ts ++ rest) vs → AreOf c.locals ls → AreTypedLabels c branches labels out
+    → (labels' : List Label) × (vs' : List Value) × (rest' : Sequence)
+    × (branch d f ls labels vs ≡ Some (FrameOf f ls labels' vs' rest'))
+    × IsTypedFrame c [] ls labels' vs' rest'
 branch_has c d f ls vs ts rest out [] [] is o l h = absurd (cc)
 branch_has c d f ls vs ts rest out [] (b ∷ labels) is o l h = absurd h
 branch_has c d f ls vs ts rest out (us ∷ tss) [] is o l h = absurd h
-branch_has c zero f ls vs ts rest out (us ∷ tss) (LabelOf keeps target below after which ∷ labels) is o l h =
+branch_has c zero f ls vs ts rest out (us ∷ tss) (LabelOf keeps target below after which
+    ∷ labels) is o l h =
     let same : ts ≡ us = cc in
     branch_zero c f ls vs us rest out tss keeps target after which below labels (rw same at o) l h
-branch_has c (suc d) f ls vs ts rest out (us ∷ tss) (LabelOf keeps target below after which ∷ labels) is o l h =
+branch_has c (suc d) f ls vs ts rest out (us ∷ tss) (LabelOf keeps target below after which
+    ∷ labels) is o l h =
     branch_has c d f ls vs ts rest h.1 tss labels is o l h.6
 
 -- the label that a table of labels chooses
-pub chosen_label : (branches : List (List ValueType)) (ts : List ValueType) (table : List ℕ) (last n : ℕ) → AllByRecursion (IsLabel branches ts) table → IsLabel branches ts last → IsLabel branches ts (unwrap_or (slice_get table n) last)
+pub chosen_label : (branches : List (List ValueType)) (ts : List ValueType) (table : List ℕ)
+    (last n : ℕ) → AllByRecursion (IsLabel branches ts) table → IsLabel branches ts last
+    → IsLabel branches ts (unwrap_or (slice_get table n) last)
 chosen_label branches ts [] last n h k = k
 chosen_label branches ts (l ∷ table) last zero h k = h.0
 chosen_label branches ts (l ∷ table) last (suc n) h k = chosen_label branches ts table last n h.1 k
@@ -56,7 +76,9 @@ chosen_label branches ts (l ∷ table) last (suc n) h k = chosen_label branches 
 -- ---- returns
 
 -- a thread whose first frame is given values of the types that it waits for
-pub returned_typed : (base : Context) (program : Program) (ts : List ValueType) (results : List Value) (frames : Thread) → AreOf ts results → IsTypedThread base program ts frames → IsTypedThread base program [] (returned results frames)
+pub returned_typed : (base : Context) (program : Program) (ts : List ValueType)
+    (results : List Value) (frames : Thread) → AreOf ts results
+    → IsTypedThread base program ts frames → IsTypedThread base program [] (returned results frames)
 returned_typed base program ts results [] o h = tt
 returned_typed base program ts results (FrameOf f ls labels vs rest ∷ frames) o h = (
   h.0,
@@ -78,37 +100,68 @@ returned_typed base program ts results (FrameOf f ls labels vs rest ∷ frames) 
 -- ---- calls
 
 -- the frame of a function that is entered
-pub entered_typed : (base : Context) (f : ℕ) (kind : FunctionType) (declared : List ValueType) (body : Sequence) (arguments : List Value) → AreOf (takes_of kind) arguments → IsTypedCallee base (Own kind declared body) → IsTypedFrame (body_context base kind declared) [] (reverse arguments ++ map zero_of declared) (LabelOf (length (gives_of kind)) Stop [] Stop Main ∷ []) [] body
+pub entered_typed : (base : Context) (f : ℕ) (kind : FunctionType) (declared : List ValueType)
+    (body : Sequence) (arguments : List Value) → AreOf (takes_of kind) arguments
+    → IsTypedCallee base (Own kind declared body)
+    → IsTypedFrame (body_context base kind declared) [] (reverse arguments
+    ++ map zero_of declared) (LabelOf (length (gives_of kind)) Stop [] Stop Main ∷ []) [] body
 entered_typed base f kind declared body arguments o h =
-    let taken : AreOf kind.parameters (reverse arguments) = (rw reverse-reverse at (reverse_are (takes_of kind) arguments o)) in
+    let taken : AreOf kind.parameters (reverse arguments) =
+    (rw reverse-reverse at (reverse_are (takes_of kind) arguments o)) in
     record {
       branches = gives_of kind ∷ [];
       types = [];
       out = gives_of kind;
-      locals = are_both kind.parameters declared (reverse arguments) (map zero_of declared) taken (zeros_are declared);
+      locals = are_both kind.parameters declared (reverse arguments) (map zero_of declared) taken
+          (zeros_are declared);
       values = tt;
       typed_rest = h;
-      typed_labels = ([], gives_of kind, refl, tt, append-nil (gives_of kind), append-nil (gives_of kind), refl);
+      typed_labels = (
+        [],
+        gives_of kind,
+        refl,
+        tt,
+        append-nil (gives_of kind),
+        append-nil (gives_of kind),
+        refl,
+      );
     }
 
-module _ (base : Context) (program : Program) (typed : IsTypedProgram base program) (c : Configuration) (now : IsTyped base program c) where
+module _ (base : Context) (program : Program) (typed : IsTypedProgram base program)
+    (c : Configuration) (now : IsTyped base program c) where
   -- a configuration with another thread
-  pub with_thread : (thread : Thread) → IsTypedThread base program [] thread → IsTyped base program (record c { thread = thread })
+  pub with_thread : (thread : Thread) → IsTypedThread base program [] thread
+      → IsTyped base program (record c { thread = thread })
   with_thread thread h = record { store = now.store; thread = h; later = now.later }
 
-  exhausted_sound : (b : Bool) (thread : Thread) → IsTypedThread base program [] thread → IsSound base program (if b then Traps trap.StackExhausted else Goes (record c { thread = thread }))
+  exhausted_sound : (b : Bool) (thread : Thread) → IsTypedThread base program [] thread
+      → IsSound base program (if b then Traps trap.StackExhausted
+      else Goes (record c { thread = thread }))
   exhausted_sound true thread h = tt
   exhausted_sound false thread h = with_thread thread h
 
   -- the call of a function whose arguments stand on top
-  pub called_sound : (f : ℕ) (callee : Callee) (caller : List Value → Frame) (below : List ValueType) (vs : List Value) (frames : Thread) → slice_get program.functions f ≡ Some callee → AreOf (takes_of (kind_of callee) ++ below) vs → ((others : List Value) → AreOf below others → IsTypedThread base program (gives_of (kind_of callee)) (caller others ∷ frames)) → IsSound base program (called f callee c caller vs frames)
+  pub called_sound : (f : ℕ) (callee : Callee) (caller : List Value
+      → Frame) (below : List ValueType) (vs : List Value) (frames : Thread)
+      → slice_get program.functions f ≡ Some callee → AreOf (takes_of (kind_of callee) ++ below) vs
+      → ((others : List Value) → AreOf below others
+      → IsTypedThread base program (gives_of (kind_of callee)) (caller others ∷ frames))
+      → IsSound base program (called f callee c caller vs frames)
   called_sound f (Host kind) caller below vs frames is o back =
       let r = topmost_are (takes_of kind) below vs o in
       rw r.1 (kind, is, r.2, back (drop (length (takes_of kind)) vs) r.3)
   called_sound f (Own kind declared body) caller below vs frames is o back =
       let r = topmost_are (takes_of kind) below vs o in
-      let frame = entered_typed base f kind declared body r.0 r.2 (typed.bodies f (Own kind declared body) is) in
-      rw r.1 (exhausted_sound _ _ (kind, declared, body, is, frame, back (drop (length (takes_of kind)) vs) r.3))
+      let frame = entered_typed base f kind declared body r.0 r.2
+      (typed.bodies f (Own kind declared body) is) in
+      rw r.1 (exhausted_sound _ _ (
+        kind,
+        declared,
+        body,
+        is,
+        frame,
+        back (drop (length (takes_of kind)) vs) r.3,
+      ))
 
 -- ---- equal types
 
@@ -140,7 +193,11 @@ are_same [] = refl
 are_same (t ∷ ts) = rw (is_same t) (are_same ts)
 
 -- the test of two function types tells that they are one
-pub same_function_type : (f g : FunctionType) → is_same_function_type f g ≡ true → (takes_of g ≡ takes_of f) × (gives_of g ≡ gives_of f)
+pub same_function_type : (f g : FunctionType) → is_same_function_type f g ≡ true
+    → (takes_of g ≡ takes_of f) × (gives_of g ≡ gives_of f)
 same_function_type f g e =
-    let b = both_true (are_same_types f.parameters g.parameters) (are_same_types f.results g.results) e in
-    (sym (ap reverse (same_types f.parameters g.parameters b.0)), sym (ap reverse (same_types f.results g.results b.1)))
+    let b = both_true (are_same_types f.parameters g.parameters)
+    (are_same_types f.results g.results) e in (
+      sym (ap reverse (same_types f.parameters g.parameters b.0)),
+      sym (ap reverse (same_types f.results g.results b.1)),
+    )

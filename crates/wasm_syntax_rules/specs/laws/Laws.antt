@@ -11,18 +11,21 @@ use Rattle.wasm_syntax_rules.specs.Steps.{Steps}
 
 -- opcodes spell one nested sequence at most
 abbrev pub OneSequence : Type 0
-OneSequence = (opcodes : List Instruction) (s t : Sequence) → Spells opcodes s → Spells opcodes t → s ≡ t
+OneSequence = (opcodes : List Instruction) (s t : Sequence) → Spells opcodes s → Spells opcodes t
+    → s ≡ t
 
 -- so many counted steps lead to one configuration at most, each with the rules that settle it
 abbrev pub OneRun : Type 0
-OneRun = (program : Program) (n : ℕ) (c d e : Configuration) → Steps program n c d → Steps program n c e → d ≡ e
+OneRun = (program : Program) (n : ℕ) (c d e : Configuration) → Steps program n c d
+    → Steps program n c e → d ≡ e
 
 -- ---- heights
 
 -- how many values are below the labels, and how many there are with the operands
 abbrev pub labels_height : List LabelShape → ℕ
 labels_height [] = 0
-labels_height (ShapeOf takes target below after which ∷ labels) = length below + labels_height labels
+labels_height (ShapeOf takes target below after which ∷ labels) =
+    length below + labels_height labels
 
 abbrev pub height : Shape → ℕ
 height s = length s.operands + labels_height s.labels
@@ -30,8 +33,10 @@ height s = length s.operands + labels_height s.labels
 abbrev pub GivesOneAtMost : FunctionType → Type 0
 GivesOneAtMost f = length f.results ≤ 1
 
--- At a position of a body there are no more values than opcodes before it, where each function gives one at most.
+-- At a position of a body there are no more values than opcodes before it, where each function
+-- gives one at most.
 abbrev pub HeightsAreSmall : Type 0
 HeightsAreSmall =
-    (c : Context) (body : Sequence) (p : ℕ) (s : Shape) → AllByRecursion GivesOneAtMost c.types → AllByRecursion GivesOneAtMost c.functions
+    (c : Context) (body : Sequence) (p : ℕ) (s : Shape) → AllByRecursion GivesOneAtMost c.types
+    → AllByRecursion GivesOneAtMost c.functions
     → length c.returns ≤ 1 → body_shape c body p ≡ Some s → height s ≤ p

@@ -1,5 +1,5 @@
--- Worked examples: calls at the limits of the stack, branches that leave values behind, calls through
--- the table, and memory that grows up to its limit.
+-- Worked examples: calls at the limits of the stack, branches that leave values behind, calls
+-- through the table, and memory that grows up to its limit.
 use Rattle.std.specs.Prelude.{◌≡◌, ℕ, ◌^◌, ◌-◌, List, [], ◌∷◌, ◌++◌, length, replicate, Some, None}
 use Rattle.wasm_syntax.specs.declared.types.ValueType.TheVariants.{I32, I64}
 use Rattle.wasm_syntax.specs.declared.value.Value.{Value}
@@ -7,9 +7,12 @@ use Rattle.wasm_syntax.specs.declared.value.Trap.TheVariants as trap
 use Rattle.wasm_syntax.specs.declared.instruction.Instruction.{Instruction}
 use Rattle.wasm_syntax.specs.declared.instruction.Instruction.TheVariants as instr
 use Rattle.wasm_syntax.specs.rules.Sequence.{Sequence, Stop, Plain, InLoop}
-use Rattle.wasm_syntax_rules.specs.Configuration.{Own, Program, Store, Main, Label, LabelOf, Frame, FrameOf, Thread, Configuration, Outcome, Goes, Traps}
+use Rattle.wasm_syntax_rules.specs.Configuration.{Own, Program, Store, Main, Label, LabelOf, Frame}
+use Rattle.wasm_syntax_rules.specs.Configuration.{FrameOf, Thread, Configuration, Outcome, Goes}
+use Rattle.wasm_syntax_rules.specs.Configuration.{Traps}
 use Rattle.wasm_syntax_rules.specs.Steps.{rule}
-use Rattle.wasm_syntax_rules.specs.laws.Examples.{nothing, v, endless, four_bytes, executing, goes_with}
+use Rattle.wasm_syntax_rules.specs.laws.Examples.{nothing, v, endless, four_bytes, executing}
+use Rattle.wasm_syntax_rules.specs.laws.Examples.{goes_with}
 
 -- this thread, over a memory of four bytes
 abbrev pub with_thread : Thread → Configuration
@@ -43,7 +46,8 @@ pub record StackExamples : Type 0 where
       ≡ Traps trap.StackExhausted
   -- value 65,536 is held, and value 65,537 isn't
   pub last_value : rule spacious (with_thread (caller_above (replicate 65280 (v 7)) ∷ []))
-      ≡ Goes (with_thread (first_frame 256 Stop ∷ FrameOf 0 [] [] (replicate 65280 (v 7)) Stop ∷ []))
+      ≡ Goes (with_thread (first_frame 256 Stop ∷ FrameOf 0 [] [] (replicate 65280 (v 7)) Stop
+      ∷ []))
   pub one_value_more : rule spacious (with_thread (caller_above (replicate 65281 (v 7)) ∷ []))
       ≡ Traps trap.StackExhausted
 
@@ -54,7 +58,8 @@ nop = Plain instr.Nop Stop
 
 -- two labels: the inner one keeps no value above 5, and the outer one keeps one above 6
 abbrev pub two_labels : List Label
-two_labels = LabelOf 0 (Plain instr.Drop Stop) (v 5 ∷ []) Stop Main ∷ LabelOf 1 nop (v 6 ∷ []) Stop Main ∷ []
+two_labels =
+    LabelOf 0 (Plain instr.Drop Stop) (v 5 ∷ []) Stop Main ∷ LabelOf 1 nop (v 6 ∷ []) Stop Main ∷ []
 
 -- this instruction inside of both labels
 abbrev pub inside_two : Instruction → List Value → Configuration

@@ -1,5 +1,6 @@
 -- Where no jump stands before, the types of all operands are known.
-use Rattle.std.proofs.Common.{◌≡◌, ◌⊎◌, inl, inr, Bool, true, false, List, [], ◌∷◌, ◌++◌, drop, length, Option, Some, None, refl, sym, ap, ◌∙◌, subst}
+use Rattle.std.proofs.Common.{◌≡◌, ◌⊎◌, inl, inr, Bool, true, false, List, [], ◌∷◌, ◌++◌, drop}
+use Rattle.std.proofs.Common.{length, Option, Some, None, refl, sym, ap, ◌∙◌, subst}
 use Rattle.std.specs.Prelude.{map, not}
 use Rattle.wasm_syntax.specs.declared.types.ValueType.{ValueType}
 use Rattle.wasm_syntax.specs.declared.types.ValueType.TheVariants.{I32}
@@ -11,7 +12,11 @@ use Rattle.wasm_syntax_rules.specs.Types.{takes_of, gives_of}
 use Rattle.wasm_syntax_rules.specs.Typing.{Context, HasRule}
 use Rattle.wasm_syntax_rules.specs.Shapes.{types_behind}
 use Rattle.wasm_syntax_rules.proofs.TypedShape.{value_type}
-use Rattle.wasm_validate.specs.laws.Checking.{Known, Level, popped_of, popped, agrees, operand_taken, all_operands_taken, pushed, all_pushed, level_left, Arrow, Fixed, Jump, Dropping, Selecting, Refused, only, met, operands_selected, applied, arrow_of}
+use Rattle.wasm_validate.specs.laws.Checking.{Known, Level, popped_of, popped, agrees}
+use Rattle.wasm_validate.specs.laws.Checking.{operand_taken, all_operands_taken, pushed, all_pushed}
+use Rattle.wasm_validate.specs.laws.Checking.{level_left, Arrow, Fixed, Jump, Dropping, Selecting}
+use Rattle.wasm_validate.specs.laws.Checking.{Refused, only, met, operands_selected, applied}
+use Rattle.wasm_validate.specs.laws.Checking.{arrow_of}
 use Rattle.wasm_validate.specs.laws.Remaining.{FitsOperands}
 
 -- ---- known operands

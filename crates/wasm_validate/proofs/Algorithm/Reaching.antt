@@ -1,5 +1,7 @@
 -- Checking a typed body comes at each position to what typing gives there.
-use Rattle.std.proofs.Common.{◌≡◌, inl, inr, ℕ, zero, suc, ◌+◌, ◌-◌, ◌<◌, ◌≤◌, Bool, true, false, List, [], ◌∷◌, ◌++◌, length, take, drop, Option, Some, None, refl, sym, ap, ◌∙◌, subst, arith, append_assoc, length-append}
+use Rattle.std.proofs.Common.{◌≡◌, inl, inr, ℕ, zero, suc, ◌+◌, ◌-◌, ◌<◌, ◌≤◌, Bool, true, false}
+use Rattle.std.proofs.Common.{List, [], ◌∷◌, ◌++◌, length, take, drop, Option, Some, None, refl}
+use Rattle.std.proofs.Common.{sym, ap, ◌∙◌, subst, arith, append_assoc, length-append}
 use Rattle.std.specs.Prelude.{nat_le, map, ◌&&◌, if◌then◌else◌}
 use Rattle.std.specs.Option.{option_and_then}
 use Rattle.std.proofs.lemmas.Bool.{le-leb}
@@ -10,7 +12,8 @@ use Rattle.wasm_syntax.specs.declared.types.ValueType.{ValueType}
 use Rattle.wasm_syntax.specs.declared.types.ValueType.TheVariants.{I32}
 use Rattle.wasm_syntax.specs.declared.instruction.Instruction.{Instruction}
 use Rattle.wasm_syntax.specs.declared.instruction.Instruction.TheVariants as instr
-use Rattle.wasm_syntax.specs.rules.Sequence.{Sequence, Stop, Plain, InBlock, InLoop, InIf, InIfElse, spelled, IsPlain, IsNested}
+use Rattle.wasm_syntax.specs.rules.Sequence.{Sequence, Stop, Plain, InBlock, InLoop, InIf, InIfElse}
+use Rattle.wasm_syntax.specs.rules.Sequence.{spelled, IsPlain, IsNested}
 use Rattle.wasm_syntax.specs.laws.ReadingItems.{◌>>=◌, check}
 use Rattle.wasm_syntax.proofs.Grammar.Rising.{both as both_true}
 use Rattle.wasm_syntax_rules.specs.Configuration.{Main, Second}
@@ -18,13 +21,19 @@ use Rattle.wasm_syntax_rules.specs.Types.{results_of}
 use Rattle.wasm_syntax_rules.specs.Typing.{Context, HasRule, HasType}
 use Rattle.wasm_syntax_rules.specs.Shapes.{Shape, LabelShape, ShapeOf, types_behind, shape_at}
 use Rattle.wasm_validate.specs.rules.Operands.{types_below}
-use Rattle.wasm_validate.specs.laws.Checking.{Level, operand_taken, arrow_of, applied, all_pushed, labels_of, new_level, level_closed, may_end, result_returned, levels_after, checked}
+use Rattle.wasm_validate.specs.laws.Checking.{Level, operand_taken, arrow_of, applied, all_pushed}
+use Rattle.wasm_validate.specs.laws.Checking.{labels_of, new_level, level_closed, may_end}
+use Rattle.wasm_validate.specs.laws.Checking.{result_returned, levels_after, checked}
 use Rattle.wasm_validate.specs.laws.Remaining.{FitsOperands}
-use Rattle.wasm_validate.specs.laws.Reached.{are_reached, all_operands, StandFor, PassesTo, CheckingFindsShapes}
+use Rattle.wasm_validate.specs.laws.Reached.{are_reached, all_operands, StandFor, PassesTo}
+use Rattle.wasm_validate.specs.laws.Reached.{CheckingFindsShapes}
 use Rattle.wasm_validate.proofs.Algorithm.Arrows.{arrow_of_rule}
-use Rattle.wasm_validate.proofs.Algorithm.Certain.{IsSure, known_types, taken_stays, all_pushed_stays, Leads, rule_leads, IsBehind, applied_leads}
+use Rattle.wasm_validate.proofs.Algorithm.Certain.{IsSure, known_types, taken_stays}
+use Rattle.wasm_validate.proofs.Algorithm.Certain.{all_pushed_stays, Leads, rule_leads, IsBehind}
+use Rattle.wasm_validate.proofs.Algorithm.Certain.{applied_leads}
 use Rattle.wasm_validate.proofs.Algorithm.Complete.{closed_on, after_plain}
-use Rattle.wasm_validate.proofs.Algorithm.Fitting.{FitsLevel, Keeps, keeps_same, keeps_on, pushed_fit, taken_on, applied_on}
+use Rattle.wasm_validate.proofs.Algorithm.Fitting.{FitsLevel, Keeps, keeps_same, keeps_on}
+use Rattle.wasm_validate.proofs.Algorithm.Fitting.{pushed_fit, taken_on, applied_on}
 
 -- ---- opcodes one behind the other
 

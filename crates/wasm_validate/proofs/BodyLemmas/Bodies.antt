@@ -1,5 +1,6 @@
 -- The check of a whole body.
-use Rattle.std.proofs.Common.{◌≡◌, inl, inr, false, [], ◌∷◌, ◌++◌, Option, Some, refl, sym, ap, ◌∙◌, subst}
+use Rattle.std.proofs.Common.{◌≡◌, inl, inr, false, [], ◌∷◌, ◌++◌, Option, Some, refl, sym, ap, ◌∙◌}
+use Rattle.std.proofs.Common.{subst}
 use Rattle.wasm_syntax.specs.declared.types.ValueType.{ValueType}
 use Rattle.wasm_syntax.specs.declared.types.FunctionType.{FunctionType}
 use Rattle.wasm_syntax.specs.declared.module.Code.{Code}
@@ -13,28 +14,42 @@ use Rattle.wasm_validate.specs.laws.Remaining.{Closes, Ends, Remains}
 use Rattle.wasm_validate.proofs.Algorithm.Sound.{sound, opened_fits as no_operands}
 use Rattle.wasm_validate.proofs.Algorithm.Complete.{complete}
 
-module _ (c : Context) (kind : FunctionType) (code : Code) (r : Option ValueType) (is : results_of r ≡ gives_of kind) where
-  of_remains : Remains (body_context c kind code.locals) [] (new_level r r false ∷ []) code.body → HasBody c kind code
+module _ (c : Context) (kind : FunctionType) (code : Code) (r : Option ValueType) (is : results_of r
+    ≡ gives_of kind) where
+  of_remains : Remains (body_context c kind code.locals) [] (new_level r r false ∷ []) code.body
+      → HasBody c kind code
   of_remains (types, f, ends) = by_closes ends.closes
     where
-      by_closes : Closes (body_context c kind code.locals) (results_of r ∷ []) false r (λ next. Remains (body_context c kind code.locals) (results_of r) [] next) ends.rest code.body → HasBody c kind code
+      by_closes : Closes (body_context c kind code.locals) (results_of r ∷ []) false r (λ next.
+          Remains (body_context c kind code.locals) (results_of r) [] next) ends.rest code.body
+          → HasBody c kind code
       by_closes (inr h) = let no = h.first in absurd (cc)
       by_closes (inl h) = record {
         sequence = ends.rest;
-        spells = record { is = h.is ∙ ap (λ z. spelled ends.rest ++ (instr.End ∷ z)) h.follows; nested = ends.nested };
-        typed = subst (λ z. HasType (body_context c kind code.locals) (z ∷ []) ends.rest [] z) is (subst (λ z. HasType (body_context c kind code.locals) (results_of r ∷ []) ends.rest z (results_of r)) (no_operands types f) ends.typed);
+        spells = record {
+          is = h.is ∙ ap (λ z. spelled ends.rest ++ (instr.End ∷ z)) h.follows;
+          nested = ends.nested;
+        };
+        typed = subst (λ z. HasType (body_context c kind code.locals) (z ∷ []) ends.rest [] z) is
+            (subst (λ z. HasType (body_context c kind code.locals) (results_of r
+            ∷ []) ends.rest z (results_of r)) (no_operands types f) ends.typed);
       }
 
-  pub body_sound : checked (body_context c kind code.locals) code.body (new_level r r false ∷ []) ≡ Some [] → HasBody c kind code
-  body_sound e = of_remains (sound (body_context c kind code.locals) code.body (new_level r r false ∷ []) e)
+  pub body_sound : checked (body_context c kind code.locals) code.body (new_level r r false ∷ [])
+      ≡ Some [] → HasBody c kind code
+  body_sound e =
+      of_remains (sound (body_context c kind code.locals) code.body (new_level r r false ∷ []) e)
 
-  pub body_complete : HasBody c kind code → checked (body_context c kind code.locals) code.body (new_level r r false ∷ []) ≡ Some []
+  pub body_complete : HasBody c kind code
+      → checked (body_context c kind code.locals) code.body (new_level r r false ∷ []) ≡ Some []
   body_complete h =
-      let ends : Ends (body_context c kind code.locals) (results_of r ∷ []) false r (λ next. Remains (body_context c kind code.locals) (results_of r) [] next) [] code.body =
+      let ends : Ends (body_context c kind code.locals) (results_of r ∷ []) false r (λ next.
+      Remains (body_context c kind code.locals) (results_of r) [] next) [] code.body =
       record {
         rest = h.sequence;
         nested = h.spells.nested;
-        typed = subst (λ z. HasType (body_context c kind code.locals) (z ∷ []) h.sequence [] z) (sym is) h.typed;
+        typed = subst (λ z. HasType (body_context c kind code.locals) (z ∷ []) h.sequence [] z)
+            (sym is) h.typed;
         closes = inl (record { next = []; is = h.spells.is; may = refl; follows = refl });
       } in
       complete (body_context c kind code.locals) code.body (new_level r r false ∷ []) ([], tt, ends)

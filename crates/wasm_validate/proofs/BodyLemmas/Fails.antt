@@ -1,7 +1,8 @@
 -- Faults of steps.
 use Rattle.std.proofs.Common.{◌≡◌, Option, None, refl, subst}
 use Rattle.wasm_validate.specs.declared.parts.fault.ValidFault.{ValidFault}
-use Rattle.wasm_validate.specs.declared.parts.fault.ValidFault.TheVariants.{Typing, Index, Limits, Memory}
+use Rattle.wasm_validate.specs.declared.parts.fault.ValidFault.TheVariants.{Typing, Index, Limits}
+use Rattle.wasm_validate.specs.declared.parts.fault.ValidFault.TheVariants.{Memory}
 use Rattle.wasm_validate.specs.rules.Answers.{Denies, DeniesOne}
 use Rattle.wasm_validate.specs.Body.Answers.{FailsToCheck}
 

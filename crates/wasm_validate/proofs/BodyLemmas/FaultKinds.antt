@@ -1,6 +1,7 @@
 -- What the kind of the first fault in a body says: an index names nothing, or an access is
 -- misaligned.
-use Rattle.std.proofs.Common.{◌≡◌, ◌≢◌, ℕ, suc, ◌<◌, ◌≤◌, ◌^◌, Bool, true, false, List, [], ◌∷◌, length, Option, Some, None, refl, sym, ap, ◌∙◌, subst, arith}
+use Rattle.std.proofs.Common.{◌≡◌, ◌≢◌, ℕ, suc, ◌<◌, ◌≤◌, ◌^◌, Bool, true, false, List, [], ◌∷◌}
+use Rattle.std.proofs.Common.{length, Option, Some, None, refl, sym, ap, ◌∙◌, subst, arith}
 use Rattle.std.specs.Prelude.{slice_get, nat_le, is_some}
 use Rattle.std.specs.List.{AllByRecursion}
 use Rattle.std.proofs.lemmas.List.{length-map}
@@ -15,9 +16,14 @@ use Rattle.wasm_syntax_rules.specs.Types.{are_same_types, bytes_in, loaded_width
 use Rattle.wasm_syntax_rules.specs.Typing.{Context}
 use Rattle.wasm_validate.specs.declared.parts.fault.ValidFault.{ValidFault}
 use Rattle.wasm_validate.specs.declared.parts.fault.ValidFault.TheVariants.{Typing, Index, Limits}
-use Rattle.wasm_validate.specs.rules.Faults.{IsAligned, HaveDefinedIndices, HasDefinedIndices, labels_behind}
-use Rattle.wasm_validate.specs.laws.Checking.{Level, applied, arrow_of, checked, has_memory, has_table, label_of, labels_of, level_closed, levels_after, may_end, new_level, operand_taken, result_returned}
-use Rattle.wasm_validate.specs.laws.FirstFault.{fault_at, fault_from, fault_in, fault_of, fault_unless, labels_fault, opcode_fault}
+use Rattle.wasm_validate.specs.rules.Faults.{IsAligned, HaveDefinedIndices, HasDefinedIndices}
+use Rattle.wasm_validate.specs.rules.Faults.{labels_behind}
+use Rattle.wasm_validate.specs.laws.Checking.{Level, applied, arrow_of, checked, has_memory}
+use Rattle.wasm_validate.specs.laws.Checking.{has_table, label_of, labels_of, level_closed}
+use Rattle.wasm_validate.specs.laws.Checking.{levels_after, may_end, new_level, operand_taken}
+use Rattle.wasm_validate.specs.laws.Checking.{result_returned}
+use Rattle.wasm_validate.specs.laws.FirstFault.{fault_at, fault_from, fault_in, fault_of}
+use Rattle.wasm_validate.specs.laws.FirstFault.{fault_unless, labels_fault, opcode_fault}
 use Rattle.wasm_validate.proofs.PartLemmas.Lookups.{none_within}
 
 -- ---- how many sequences are open

@@ -1,5 +1,6 @@
 -- Operands whose types are known.
-use Rattle.std.proofs.Common.{◌≡◌, ◌<◌, ◌+◌, ℕ, zero, suc, drop, get_or, true, false, List, [], ◌∷◌, ◌++◌, length, Some, None, refl, sym, ap, ◌∙◌}
+use Rattle.std.proofs.Common.{◌≡◌, ◌<◌, ◌+◌, ℕ, zero, suc, drop, get_or, true, false, List, [], ◌∷◌}
+use Rattle.std.proofs.Common.{◌++◌, length, Some, None, refl, sym, ap, ◌∙◌}
 use Rattle.std.specs.Prelude.{is_some, map, reverse, slice_get}
 use Rattle.std.proofs.lemmas.List.{reverse-append, map-append, at_drop_more}
 use Rattle.wasm_syntax.specs.declared.types.ValueType.{ValueType}

@@ -1,6 +1,7 @@
 -- A body that has its type has defined indices, and its accesses are aligned. It has its type
 -- however they are.
-use Rattle.std.proofs.Common.{◌≡◌, ℕ, suc, ◌<◌, ◌≤◌, ◌^◌, List, [], ◌∷◌, ◌++◌, length, map, refl, sym, ap, ◌∙◌, subst, arith, append_assoc}
+use Rattle.std.proofs.Common.{◌≡◌, ℕ, suc, ◌<◌, ◌≤◌, ◌^◌, List, [], ◌∷◌, ◌++◌, length, map, refl}
+use Rattle.std.proofs.Common.{sym, ap, ◌∙◌, subst, arith, append_assoc}
 use Rattle.std.specs.List.{AllByRecursion}
 use Rattle.std.proofs.lemmas.List.{append-nil, map-append}
 use Rattle.std.proofs.lemmas.Nat.{pow_pos}
@@ -10,10 +11,12 @@ use Rattle.wasm_syntax.specs.declared.types.FunctionType.{FunctionType}
 use Rattle.wasm_syntax.specs.declared.module.Code.{Code}
 use Rattle.wasm_syntax.specs.declared.instruction.Instruction.{Instruction}
 use Rattle.wasm_syntax.specs.declared.instruction.Instruction.TheVariants as instr
-use Rattle.wasm_syntax.specs.rules.Sequence.{Sequence, Stop, Plain, InBlock, InLoop, InIf, InIfElse, spelled, IsPlain, IsNested, Spells}
+use Rattle.wasm_syntax.specs.rules.Sequence.{Sequence, Stop, Plain, InBlock, InLoop, InIf, InIfElse}
+use Rattle.wasm_syntax.specs.rules.Sequence.{spelled, IsPlain, IsNested, Spells}
 use Rattle.wasm_syntax_rules.specs.Types.{gives_of, results_of}
 use Rattle.wasm_syntax_rules.specs.Typing.{Context, HasRule, HasType, IsLabel, body_context}
-use Rattle.wasm_validate.specs.rules.Faults.{HasDefinedIndices, HaveDefinedIndices, IsAligned, WouldHaveBody, extended, labels_behind, unaligned}
+use Rattle.wasm_validate.specs.rules.Faults.{HasDefinedIndices, HaveDefinedIndices, IsAligned}
+use Rattle.wasm_validate.specs.rules.Faults.{WouldHaveBody, extended, labels_behind, unaligned}
 
 -- ---- indices
 
@@ -265,13 +268,30 @@ module _ (c : Context) where
 
 abbrev nothing_more : Context
 nothing_more =
-    record { types = []; functions = []; tables = []; memories = []; globals = []; locals = []; returns = [] }
+    record {
+      types = [];
+      functions = [];
+      tables = [];
+      memories = [];
+      globals = [];
+      locals = [];
+      returns = [];
+    }
 
 same_context : (c : Context) → extended c nothing_more ≡ c
 same_context c =
-    rw (append-nil c.types, append-nil c.functions, append-nil c.tables, append-nil c.memories, append-nil c.globals, append-nil c.locals) refl
+    rw (
+      append-nil c.types,
+      append-nil c.functions,
+      append-nil c.tables,
+      append-nil c.memories,
+      append-nil c.globals,
+      append-nil c.locals,
+    ) refl
 
-module _ (c : Context) (kind : FunctionType) (code : Code) (s : Sequence) (spells : Spells code.body s) (typed : HasType (body_context c kind code.locals) (gives_of kind ∷ []) s [] (gives_of kind)) where
+module _ (c : Context) (kind : FunctionType) (code : Code) (s : Sequence)
+    (spells : Spells code.body s) (typed : HasType (body_context c kind code.locals) (gives_of kind
+    ∷ []) s [] (gives_of kind)) where
   pub would_have_body : WouldHaveBody c kind code
   would_have_body = record {
     more = nothing_more;

@@ -1,7 +1,10 @@
 -- Whether all open sequences are reached, and all their operands, seen on one stack of operands.
-use Rattle.std.proofs.Common.{◌≡◌, ℕ, ◌+◌, ◌-◌, ◌<◌, ◌≤◌, get_or, Bool, true, false, List, [], ◌∷◌, ◌++◌, length, take, drop, Some, None, refl, sym, ap, ◌∙◌, subst, arith, length-drop}
+use Rattle.std.proofs.Common.{◌≡◌, ℕ, ◌+◌, ◌-◌, ◌<◌, ◌≤◌, get_or, Bool, true, false, List, [], ◌∷◌}
+use Rattle.std.proofs.Common.{◌++◌, length, take, drop, Some, None, refl, sym, ap, ◌∙◌, subst}
+use Rattle.std.proofs.Common.{arith, length-drop}
 use Rattle.std.specs.Prelude.{◌&&◌, reverse, slice_get}
-use Rattle.std.proofs.lemmas.List.{append-nil, reverse-append, length-reverse, take-append-drop, at_drop_more}
+use Rattle.std.proofs.lemmas.List.{append-nil, reverse-append, length-reverse, take-append-drop}
+use Rattle.std.proofs.lemmas.List.{at_drop_more}
 use Rattle.std.proofs.Math.Seq.{take-add, drop-append_seam}
 use Rattle.wasm_validate.specs.declared.body.levels.Control.{Control}
 use Rattle.wasm_validate.specs.laws.Checking.{Known}

@@ -1,5 +1,6 @@
 -- What is told of a table of labels that can't be performed.
-use Rattle.std.proofs.Common.{◌≡◌, ◌⊎◌, inl, inr, ℕ, Bool, true, false, List, [], ◌∷◌, Option, Some, None, refl, sym, ap, ◌∙◌, subst}
+use Rattle.std.proofs.Common.{◌≡◌, ◌⊎◌, inl, inr, ℕ, Bool, true, false, List, [], ◌∷◌, Option, Some}
+use Rattle.std.proofs.Common.{None, refl, sym, ap, ◌∙◌, subst}
 use Rattle.std.specs.Prelude.{slice_get}
 use Rattle.wasm_syntax.specs.declared.types.ValueType.{ValueType}
 use Rattle.wasm_syntax.specs.declared.types.ValueType.TheVariants.{I32}
@@ -9,7 +10,8 @@ use Rattle.wasm_syntax_rules.specs.Types.{are_same_types}
 use Rattle.wasm_syntax_rules.specs.Typing.{Context}
 use Rattle.wasm_validate.specs.declared.parts.fault.ValidFault.{ValidFault}
 use Rattle.wasm_validate.specs.declared.parts.fault.ValidFault.TheVariants.{Typing, Index}
-use Rattle.wasm_validate.specs.laws.Checking.{Jump, Level, are_labels, arrow_of, arrow_of_some, only}
+use Rattle.wasm_validate.specs.laws.Checking.{Jump, Level, are_labels, arrow_of, arrow_of_some}
+use Rattle.wasm_validate.specs.laws.Checking.{only}
 use Rattle.wasm_validate.specs.laws.FirstFault.{fault_at, fault_of, fault_unless, labels_fault}
 use Rattle.wasm_validate.specs.Body.Answers.{FailsToCheck}
 use Rattle.wasm_validate.specs.Body.Tops.{top_all_taken, top_applied, top_left, top_taken}
@@ -41,7 +43,8 @@ told : {X : Type 0} (kind : ValidFault) (o : Option X) → (kind ≡ Typing) ⊎
 told kind o (inl e) none = subst (λ (z : ValidFault). FailsToCheck z z o) (sym e) none
 told kind o (inr e) none = subst (λ (z : ValidFault). FailsToCheck z z o) (sym e) none
 
-module _ (c : Context) (labels : List (List ValueType)) (ls : List ℕ) (l : ℕ) (ts : List ValueType) (old : List Level) (there : slice_get labels l ≡ Some ts) where
+module _ (c : Context) (labels : List (List ValueType)) (ls : List ℕ) (l : ℕ) (ts : List ValueType)
+    (old : List Level) (there : slice_get labels l ≡ Some ts) where
   kind_is : fault_of c labels (instr.BrTable ls l) ≡ labels_fault labels ts ls
   kind_is = ap (λ z. fault_at z (λ ts. labels_fault labels ts ls)) there
 

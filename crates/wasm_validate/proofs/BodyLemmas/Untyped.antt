@@ -1,6 +1,8 @@
 -- Where the first fault of a body is one of typing, the body has no type even if there were more to
 -- name.
-use Rattle.std.proofs.Common.{◌≡◌, ◌≢◌, ◌⊎◌, inl, inr, ℕ, zero, suc, ◌^◌, Bool, true, false, List, [], ◌∷◌, ◌++◌, length, map, Option, Some, None, refl, sym, ap, ◌∙◌, subst, arith, append_assoc}
+use Rattle.std.proofs.Common.{◌≡◌, ◌≢◌, ◌⊎◌, inl, inr, ℕ, zero, suc, ◌^◌, Bool, true, false, List}
+use Rattle.std.proofs.Common.{[], ◌∷◌, ◌++◌, length, map, Option, Some, None, refl, sym, ap, ◌∙◌}
+use Rattle.std.proofs.Common.{subst, arith, append_assoc}
 use Rattle.std.specs.Prelude.{slice_get, nat_le, is_some, ◌&&◌}
 use Rattle.std.proofs.lemmas.List.{append-nil, map-append}
 use Rattle.std.proofs.lemmas.Nat.{pow_pos}
@@ -12,20 +14,28 @@ use Rattle.wasm_syntax.specs.declared.types.GlobalType.{GlobalType}
 use Rattle.wasm_syntax.specs.declared.module.Code.{Code}
 use Rattle.wasm_syntax.specs.declared.instruction.Instruction.{Instruction}
 use Rattle.wasm_syntax.specs.declared.instruction.Instruction.TheVariants as instr
-use Rattle.wasm_syntax.specs.rules.Sequence.{Sequence, Stop, Plain, InBlock, InLoop, InIf, InIfElse, spelled, IsPlain, IsNested}
+use Rattle.wasm_syntax.specs.rules.Sequence.{Sequence, Stop, Plain, InBlock, InLoop, InIf, InIfElse}
+use Rattle.wasm_syntax.specs.rules.Sequence.{spelled, IsPlain, IsNested}
 use Rattle.wasm_syntax.specs.laws.ReadingItems.{◌>>=◌, check}
 use Rattle.wasm_syntax.proofs.Grammar.Rising.{both as both_true}
-use Rattle.wasm_syntax_rules.specs.Types.{are_same_types, bytes_in, gives_of, loaded_width, results_of, stored_width, takes_of}
+use Rattle.wasm_syntax_rules.specs.Types.{are_same_types, bytes_in, gives_of, loaded_width}
+use Rattle.wasm_syntax_rules.specs.Types.{results_of, stored_width, takes_of}
 use Rattle.wasm_syntax_rules.specs.Typing.{Context, HasType, body_context}
 use Rattle.wasm_validate.specs.declared.parts.fault.ValidFault.{ValidFault}
 use Rattle.wasm_validate.specs.declared.parts.fault.ValidFault.TheVariants.{Typing, Index, Limits}
 use Rattle.wasm_validate.specs.rules.Faults.{WouldHaveBody, extended, labels_behind, unaligned}
-use Rattle.wasm_validate.specs.laws.Checking.{Arrow, Fixed, Jump, Level, applied, are_labels, arrow_of, arrow_of_some, checked, has_memory, has_table, is_label, is_variable, label_of, labels_of, level_closed, levels_after, may_end, new_level, only, operand_taken, result_returned}
-use Rattle.wasm_validate.specs.laws.FirstFault.{fault_at, fault_in, fault_of, fault_unless, labels_fault, opcode_fault}
+use Rattle.wasm_validate.specs.laws.Checking.{Arrow, Fixed, Jump, Level, applied, are_labels}
+use Rattle.wasm_validate.specs.laws.Checking.{arrow_of, arrow_of_some, checked, has_memory}
+use Rattle.wasm_validate.specs.laws.Checking.{has_table, is_label, is_variable, label_of, labels_of}
+use Rattle.wasm_validate.specs.laws.Checking.{level_closed, levels_after, may_end, new_level, only}
+use Rattle.wasm_validate.specs.laws.Checking.{operand_taken, result_returned}
+use Rattle.wasm_validate.specs.laws.FirstFault.{fault_at, fault_in, fault_of, fault_unless}
+use Rattle.wasm_validate.specs.laws.FirstFault.{labels_fault, opcode_fault}
 use Rattle.wasm_validate.specs.laws.Remaining.{Ends, Remains}
 use Rattle.wasm_validate.proofs.Algorithm.Complete.{complete}
 use Rattle.wasm_validate.proofs.BodyLemmas.Steps.{after_plain, onto}
-use Rattle.wasm_validate.proofs.BodyLemmas.FaultKinds.{after_length, here_or_behind, opcode_fault_is}
+use Rattle.wasm_validate.proofs.BodyLemmas.FaultKinds.{after_length, here_or_behind}
+use Rattle.wasm_validate.proofs.BodyLemmas.FaultKinds.{opcode_fault_is}
 
 -- ---- what is there is there still, where there is more
 
@@ -454,7 +464,12 @@ around_remains c (t ∷ around) given = (
     typed = (given ++ [], [], [], sym (append-nil (given ++ [])), tt, refl);
     closes =
         inl
-        (record { next = closers around; is = refl; may = refl; follows = around_remains c around [] });
+        (record {
+          next = closers around;
+          is = refl;
+          may = refl;
+          follows = around_remains c around [];
+        });
   },
 )
 
@@ -463,7 +478,8 @@ around_labels : (around : List (Option ValueType))
 around_labels [] = refl
 around_labels (t ∷ around) = ap (λ z. results_of t ∷ z) (around_labels around)
 
-module _ (c : Context) (kind : FunctionType) (code : Code) (r : Option ValueType) (is : results_of r ≡ gives_of kind) where
+module _ (c : Context) (kind : FunctionType) (code : Code) (r : Option ValueType) (is : results_of r
+    ≡ gives_of kind) where
   would_pass : (h : WouldHaveBody c kind code)
       → checked (extended (body_context c kind code.locals) h.more)
       (map unaligned code.body ++ closers h.around)

@@ -1,5 +1,6 @@
 -- What the fault of a part says of the module.
-use Rattle.std.proofs.Common.{◌≡◌, ◌⊎◌, inl, inr, ℕ, zero, suc, ◌<◌, List, [], ◌∷◌, ◌++◌, length, map, Option, Some, None, sym, subst, arith, Result, Ok, Err}
+use Rattle.std.proofs.Common.{◌≡◌, ◌⊎◌, inl, inr, ℕ, zero, suc, ◌<◌, List, [], ◌∷◌, ◌++◌, length}
+use Rattle.std.proofs.Common.{map, Option, Some, None, sym, subst, arith, Result, Ok, Err}
 use Rattle.std.specs.Prelude.{slice_get, IfSome, IfErr}
 use Rattle.std.specs.List.{AllByRecursion}
 use Rattle.wasm_syntax.specs.declared.types.ValueType.{ValueType}
@@ -10,12 +11,16 @@ use Rattle.wasm_syntax.specs.declared.module.Module.{Module}
 use Rattle.wasm_syntax.specs.declared.module.Export.{Export}
 use Rattle.wasm_syntax.specs.rules.Modules.{function_type_of}
 use Rattle.wasm_syntax_rules.specs.Types.{imported_functions}
-use Rattle.wasm_syntax_rules.specs.Validity.{AreFunctionTypes, HaveDistinctNames, IsConstant, IsExportItemValid, IsIndex, IsStartValid}
+use Rattle.wasm_syntax_rules.specs.Validity.{AreFunctionTypes, HaveDistinctNames, IsConstant}
+use Rattle.wasm_syntax_rules.specs.Validity.{IsExportItemValid, IsIndex, IsStartValid}
 use Rattle.wasm_syntax_rules.proofs.OneProgram.{one_list}
 use Rattle.wasm_validate.specs.declared.parts.fault.ValidFault.{ValidFault}
-use Rattle.wasm_validate.specs.declared.parts.fault.ValidFault.TheVariants.{Typing, Index, Limits, DuplicateExport, Memory}
+use Rattle.wasm_validate.specs.declared.parts.fault.ValidFault.TheVariants.{Typing, Index, Limits}
+use Rattle.wasm_validate.specs.declared.parts.fault.ValidFault.TheVariants.{DuplicateExport, Memory}
 use Rattle.wasm_validate.specs.rules.Answers.{DemandsInTurn, DeniesOne, IsFor, JudgesExports}
-use Rattle.wasm_validate.specs.rules.Faults.{AreIndicesDefined, AreLimitsKept, HasFault, NamesGlobal, WouldBeConstant, WouldBeStart, WouldBeTyped}
+use Rattle.wasm_validate.specs.rules.Faults.{AreIndicesDefined, AreLimitsKept, HasFault}
+use Rattle.wasm_validate.specs.rules.Faults.{NamesGlobal, WouldBeConstant, WouldBeStart}
+use Rattle.wasm_validate.specs.rules.Faults.{WouldBeTyped}
 use Rattle.wasm_validate.specs.Parts.Contexts.{HasFunctionTypes}
 
 -- ---- items
@@ -81,7 +86,8 @@ module _ (m : Module) where
   part_fault functions are Index t i l h = λ others they n.
       let N : List FunctionType → Type 0 = AreIndicesDefined m in
       h (i (subst N (one_list m.types
-      (imported_functions m.imports ++ map function_type_of m.functions) others functions they are) n))
+      (imported_functions m.imports ++ map function_type_of m.functions) others functions they are)
+      n))
   part_fault functions are Limits t i l h = λ k. h (l k)
   part_fault functions are DuplicateExport t i l h = absurd h
   part_fault functions are Memory t i l h = tt

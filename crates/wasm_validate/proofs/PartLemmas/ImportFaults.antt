@@ -1,5 +1,7 @@
 -- The first import that isn't valid, and why no module with it is valid.
-use Rattle.std.proofs.Common.{◌≡◌, ◌⊎◌, ℕ, suc, ◌+◌, ◌<◌, ◌≤◌, Bool, true, false, List, [], ◌∷◌, ◌++◌, length, get_or, drop, inl, inr, refl, sym, subst, map, arith, Result, Ok, Err}
+use Rattle.std.proofs.Common.{◌≡◌, ◌⊎◌, ℕ, suc, ◌+◌, ◌<◌, ◌≤◌, Bool, true, false, List, [], ◌∷◌}
+use Rattle.std.proofs.Common.{◌++◌, length, get_or, drop, inl, inr, refl, sym, subst, map, arith}
+use Rattle.std.proofs.Common.{Result, Ok, Err}
 use Rattle.std.specs.Prelude.{IfErr}
 use Rattle.std.specs.List.{AllByRecursion}
 use Rattle.std.proofs.lemmas.List.{length-append}
@@ -11,21 +13,26 @@ use Rattle.wasm_syntax.specs.declared.module.Module.{Module}
 use Rattle.wasm_syntax.specs.declared.module.Import.{Import}
 use Rattle.wasm_syntax.specs.declared.module.ImportItem.{ImportItem}
 use Rattle.wasm_syntax.specs.declared.module.ImportItem.TheVariants as import
-use Rattle.wasm_syntax_rules.specs.Types.{imported_functions, imported_tables, imported_memories, with_function_index, with_table_type, with_memory_type}
+use Rattle.wasm_syntax_rules.specs.Types.{imported_functions, imported_tables, imported_memories}
+use Rattle.wasm_syntax_rules.specs.Types.{with_function_index, with_table_type, with_memory_type}
 use Rattle.wasm_syntax.specs.rules.Modules.{function_type_of}
-use Rattle.wasm_syntax_rules.specs.Validity.{AreTypesAt, IsTableTypeValid, IsMemoryTypeValid, IsValid, memories_of, tables_of}
+use Rattle.wasm_syntax_rules.specs.Validity.{AreTypesAt, IsTableTypeValid, IsMemoryTypeValid}
+use Rattle.wasm_syntax_rules.specs.Validity.{IsValid, memories_of, tables_of}
 use Rattle.wasm_validate.specs.declared.parts.imports.Before.{Before}
 use Rattle.wasm_validate.specs.declared.parts.fault.ValidFault.{ValidFault}
-use Rattle.wasm_validate.specs.declared.parts.fault.ValidFault.TheVariants.{Typing, Index, Limits, DuplicateExport, Memory}
+use Rattle.wasm_validate.specs.declared.parts.fault.ValidFault.TheVariants.{Typing, Index, Limits}
+use Rattle.wasm_validate.specs.declared.parts.fault.ValidFault.TheVariants.{DuplicateExport, Memory}
 use Rattle.wasm_validate.specs.rules.Answers.{Denies}
 use Rattle.wasm_validate.specs.rules.Faults.{HasFault}
-use Rattle.wasm_validate.specs.Parts.Parts.{AreImportsValid, IsFirstImportFault, IsImportItemValid, import_fault, nothing_before, with_import}
+use Rattle.wasm_validate.specs.Parts.Parts.{AreImportsValid, IsFirstImportFault, IsImportItemValid}
+use Rattle.wasm_validate.specs.Parts.Parts.{import_fault, nothing_before, with_import}
 use Rattle.wasm_validate.proofs.PartLemmas.Imported.{all_left}
 use Rattle.wasm_validate.proofs.PartLemmas.Loops.{next}
 
 -- ---- the loop over imports
 
-module _ (types : List FunctionType) (before : Before) (imports : List Import) (i : ℕ) (x : Import) (h : i < length imports) (is : x ≡ get_or imports i x) where
+module _ (types : List FunctionType) (before : Before) (imports : List Import) (i : ℕ) (x : Import)
+    (h : i < length imports) (is : x ≡ get_or imports i x) where
   pub refused_here : (e : ValidFault) → (IsImportItemValid types before x.item → ⊥)
       → e ≡ import_fault x.item → IsFirstImportFault types before (drop i imports) e
   refused_here e r f =

@@ -1,5 +1,6 @@
 -- A valid module has no fault.
-use Rattle.std.proofs.Common.{◌≡◌, inl, inr, ℕ, List, [], ◌∷◌, ◌++◌, map, Option, Some, None, refl, sym, subst}
+use Rattle.std.proofs.Common.{◌≡◌, inl, inr, ℕ, List, [], ◌∷◌, ◌++◌, map, Option, Some, None, refl}
+use Rattle.std.proofs.Common.{sym, subst}
 use Rattle.std.specs.Prelude.{IfSome}
 use Rattle.std.specs.List.{AllByRecursion}
 use Rattle.std.proofs.lemmas.List.{append-nil}
@@ -16,12 +17,20 @@ use Rattle.wasm_syntax.specs.declared.module.Element.{Element}
 use Rattle.wasm_syntax.specs.declared.module.Data.{Data}
 use Rattle.wasm_syntax.specs.rules.Modules.{function_type_of}
 use Rattle.wasm_syntax_rules.specs.Types.{imported_functions, imported_globals}
-use Rattle.wasm_syntax_rules.specs.Validity.{IsConstant, IsDataValid, IsElementValid, IsFunctionValid, IsGlobalValid, IsIndex, IsStartValid, IsValid, globals_of, module_context}
+use Rattle.wasm_syntax_rules.specs.Validity.{IsConstant, IsDataValid, IsElementValid}
+use Rattle.wasm_syntax_rules.specs.Validity.{IsFunctionValid, IsGlobalValid, IsIndex, IsStartValid}
+use Rattle.wasm_syntax_rules.specs.Validity.{IsValid, globals_of, module_context}
 use Rattle.wasm_syntax_rules.proofs.OneProgram.{one_list}
 use Rattle.wasm_validate.specs.declared.parts.fault.ValidFault.{ValidFault}
-use Rattle.wasm_validate.specs.declared.parts.fault.ValidFault.TheVariants.{Typing, Index, Limits, DuplicateExport, Memory}
-use Rattle.wasm_validate.specs.rules.Faults.{AreDataIndicesDefined, AreElementIndicesDefined, AreFunctionIndicesDefined, AreIndicesDefined, AreLimitsKept, HasFault, IsFunctionAligned, NamesGlobal, WouldBeConstant, WouldBeGlobal, WouldBeStart, WouldBeTyped, WouldHaveType}
-use Rattle.wasm_validate.proofs.BodyLemmas.NoFault.{accesses_aligned, indices_defined, would_have_body}
+use Rattle.wasm_validate.specs.declared.parts.fault.ValidFault.TheVariants.{Typing, Index, Limits}
+use Rattle.wasm_validate.specs.declared.parts.fault.ValidFault.TheVariants.{DuplicateExport, Memory}
+use Rattle.wasm_validate.specs.rules.Faults.{AreDataIndicesDefined, AreElementIndicesDefined}
+use Rattle.wasm_validate.specs.rules.Faults.{AreFunctionIndicesDefined, AreIndicesDefined}
+use Rattle.wasm_validate.specs.rules.Faults.{AreLimitsKept, HasFault, IsFunctionAligned}
+use Rattle.wasm_validate.specs.rules.Faults.{NamesGlobal, WouldBeConstant, WouldBeGlobal}
+use Rattle.wasm_validate.specs.rules.Faults.{WouldBeStart, WouldBeTyped, WouldHaveType}
+use Rattle.wasm_validate.proofs.BodyLemmas.NoFault.{accesses_aligned, indices_defined}
+use Rattle.wasm_validate.proofs.BodyLemmas.NoFault.{would_have_body}
 
 each : {X : Type 0} (P Q : X → Type 0) (xs : List X) → ((x : X) → P x → Q x) → AllByRecursion P xs
     → AllByRecursion Q xs
@@ -122,7 +131,9 @@ module _ (m : Module) (v : IsValid m) where
   no_fault Typing h =
       let T : List FunctionType → Type 0 = WouldBeTyped m in
       absurd (h.2 (subst T (one_list m.types
-      (imported_functions m.imports ++ map function_type_of m.functions) v.functions h.0 v.function_types h.1) would_be_typed))
+      (imported_functions m.imports
+      ++ map function_type_of m.functions) v.functions h.0 v.function_types h.1)
+      would_be_typed))
   no_fault Index h = absurd (h v.functions v.function_types are_defined)
   no_fault Limits h = absurd (h are_kept)
   no_fault DuplicateExport h = absurd (h v.names)

@@ -1,12 +1,14 @@
 -- What the steps of a check answer.
-use Rattle.std.specs.Prelude.{◌≡◌, ℕ, Bool, true, false, List, ◌++◌, map, Option, Some, None, Result, Ok, Err, slice_get}
+use Rattle.std.specs.Prelude.{◌≡◌, ℕ, Bool, true, false, List, ◌++◌, map, Option, Some, None}
+use Rattle.std.specs.Prelude.{Result, Ok, Err, slice_get}
 use Rattle.wasm_syntax.specs.declared.types.ValueType.{ValueType}
 use Rattle.wasm_syntax.specs.declared.instruction.Instruction.{Instruction}
 use Rattle.wasm_syntax_rules.specs.Types.{results_of}
 use Rattle.wasm_syntax_rules.specs.Typing.{Context}
 use Rattle.wasm_syntax_rules.specs.Shapes.{Shape}
 use Rattle.wasm_validate.specs.declared.parts.fault.ValidFault.{ValidFault}
-use Rattle.wasm_validate.specs.declared.parts.fault.ValidFault.TheVariants.{Typing, Index, Limits, Memory}
+use Rattle.wasm_validate.specs.declared.parts.fault.ValidFault.TheVariants.{Typing, Index, Limits}
+use Rattle.wasm_validate.specs.declared.parts.fault.ValidFault.TheVariants.{Memory}
 use Rattle.wasm_validate.specs.laws.Checking.{Known, Level, arrow_of, labels_of}
 use Rattle.wasm_validate.specs.laws.FirstFault.{fault_of}
 use Rattle.wasm_validate.specs.laws.Reached.{all_operands}
@@ -29,7 +31,8 @@ LevelsFollow kind (Ok x) new o = o ≡ Some new
 LevelsFollow kind (Err e) new o = FailsToCheck e kind o
 
 -- the levels are then those behind an instruction that stays in its sequence
-abbrev pub Performs : {X : Type 0} → Context → Instruction → Result X ValidFault → List Level → List Level → Type 0
+abbrev pub Performs : {X : Type 0} → Context → Instruction → Result X ValidFault → List Level
+    → List Level → Type 0
 Performs c i r old new =
     LevelsFollow (fault_of c (labels_of old) i) r new
     (top_applied (arrow_of c (labels_of old) i) old)

@@ -18,8 +18,10 @@ IsFaultOfBody c kind code e =
     (HaveDefinedIndices (body_context c kind code.locals) 1 code.body)
     (AllByRecursion IsAligned code.body)
 
--- The body spells a sequence that gives, from nothing on, what the function gives; a branch out of it all gives that too (3.4.1).
+-- The body spells a sequence that gives, from nothing on, what the function gives; a branch out of
+-- it all gives that too (3.4.1).
 pub record HasBody (c : Context) (kind : FunctionType) (code : Code) : Type 0 where
   pub sequence : Sequence
   pub spells : Spells code.body sequence
-  pub typed : HasType (body_context c kind code.locals) (gives_of kind ∷ []) sequence [] (gives_of kind)
+  pub typed : HasType (body_context c kind code.locals) (gives_of kind
+      ∷ []) sequence [] (gives_of kind)

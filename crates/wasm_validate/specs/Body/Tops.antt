@@ -1,10 +1,12 @@
--- What is done to the innermost open sequence, as a step of all of them. Where none is open nothing can be taken, and what is
--- pushed is lost.
+-- What is done to the innermost open sequence, as a step of all of them. Where none is open nothing
+-- can be taken, and what is pushed is lost.
 use Rattle.std.specs.Prelude.{List, [], ◌∷◌, Option, Some, None}
 use Rattle.wasm_syntax.specs.declared.types.ValueType.{ValueType}
 use Rattle.wasm_syntax.specs.declared.types.ValueType.TheVariants.{I32}
 use Rattle.wasm_syntax.specs.laws.ReadingItems.{◌>>=◌, check}
-use Rattle.wasm_validate.specs.laws.Checking.{Known, Level, popped, agrees, pushed, all_pushed, level_left, Arrow, Fixed, Jump, Dropping, Selecting, Refused, met, has_no_operands}
+use Rattle.wasm_validate.specs.laws.Checking.{Known, Level, popped, agrees, pushed, all_pushed}
+use Rattle.wasm_validate.specs.laws.Checking.{level_left, Arrow, Fixed, Jump, Dropping, Selecting}
+use Rattle.wasm_validate.specs.laws.Checking.{Refused, met, has_no_operands}
 
 abbrev pub top_popped : List Level → Option (Known × List Level)
 top_popped [] = None
@@ -31,10 +33,12 @@ top_all_taken (t ∷ ts) levels = top_taken t levels >>= λ levels'. top_all_tak
 
 abbrev pub top_selected : List Level → Option (List Level)
 top_selected levels =
-    top_taken I32 levels >>= λ a. top_popped a >>= λ second. top_popped second.1 >>= λ first. met second.0 first.0 >>= λ k. Some (top_pushed k first.1)
+    top_taken I32 levels >>= λ a. top_popped a >>= λ second. top_popped second.1
+    >>= λ first. met second.0 first.0 >>= λ k. Some (top_pushed k first.1)
 
 abbrev pub top_applied : Arrow → List Level → Option (List Level)
-top_applied (Fixed takes gives) levels = top_all_taken takes levels >>= λ levels'. Some (top_all_pushed gives levels')
+top_applied (Fixed takes gives) levels = top_all_taken takes levels
+    >>= λ levels'. Some (top_all_pushed gives levels')
 top_applied (Jump takes) levels = top_all_taken takes levels >>= λ levels'. Some (top_left levels')
 top_applied Dropping levels = top_popped levels >>= λ o. Some o.1
 top_applied Selecting levels = top_selected levels

@@ -23,4 +23,5 @@ HasFunctionTypes m = (functions : List FunctionType) × AreFunctionTypes m funct
 
 -- what bodies of this module look up
 abbrev pub IsContextOfModule : Module → ModuleContext → Type 0
-IsContextOfModule m code = (functions : List FunctionType) → AreFunctionTypes m functions → IsContextOf (module_context m functions) code
+IsContextOfModule m code = (functions : List FunctionType) → AreFunctionTypes m functions
+    → IsContextOf (module_context m functions) code

@@ -15,17 +15,26 @@ use Rattle.wasm_syntax.specs.declared.module.Data.{Data}
 use Rattle.wasm_syntax.specs.declared.module.Import.{Import}
 use Rattle.wasm_syntax.specs.declared.module.ImportItem.{ImportItem}
 use Rattle.wasm_syntax.specs.declared.module.ImportItem.TheVariants as import
-use Rattle.wasm_syntax_rules.specs.Validity.{IsFunctionTypeValid, IsTableTypeValid, IsMemoryTypeValid, IsGlobalValid, IsExportItemValid, HaveDistinctNames, IsStartValid, IsElementValid, IsDataValid, IsFunctionValid, IsIndex, IsValid, AreFunctionTypes, globals_of, module_context, tables_of, memories_of}
+use Rattle.wasm_syntax_rules.specs.Validity.{IsFunctionTypeValid, IsTableTypeValid}
+use Rattle.wasm_syntax_rules.specs.Validity.{IsMemoryTypeValid, IsGlobalValid, IsExportItemValid}
+use Rattle.wasm_syntax_rules.specs.Validity.{HaveDistinctNames, IsStartValid, IsElementValid}
+use Rattle.wasm_syntax_rules.specs.Validity.{IsDataValid, IsFunctionValid, IsIndex, IsValid}
+use Rattle.wasm_syntax_rules.specs.Validity.{AreFunctionTypes, globals_of, module_context}
+use Rattle.wasm_syntax_rules.specs.Validity.{tables_of, memories_of}
 use Rattle.wasm_validate.specs.declared.parts.context.ModuleContext.{ModuleContext}
 use Rattle.wasm_validate.specs.declared.parts.imports.Before.{Before}
 use Rattle.wasm_validate.specs.declared.parts.fault.ValidFault.{ValidFault}
 use Rattle.wasm_validate.specs.declared.parts.fault.ValidFault.TheVariants.{Index, Limits}
 use Rattle.wasm_validate.specs.rules.Answers.{DeniesOne}
-use Rattle.wasm_validate.specs.rules.Faults.{AreDataIndicesDefined, AreElementIndicesDefined, IsFunctionAligned, AreFunctionIndicesDefined, NamesGlobal, WouldBeConstant, WouldHaveType}
+use Rattle.wasm_validate.specs.rules.Faults.{AreDataIndicesDefined, AreElementIndicesDefined}
+use Rattle.wasm_validate.specs.rules.Faults.{IsFunctionAligned, AreFunctionIndicesDefined}
+use Rattle.wasm_validate.specs.rules.Faults.{NamesGlobal, WouldBeConstant, WouldHaveType}
 use Rattle.wasm_validate.specs.Parts.Contexts.{IsContextOf}
 
--- The context is this module's, whose functions have these types. It has one table and one memory at most.
-pub record IsModuleContext (m : Module) (functions : List FunctionType) (code : ModuleContext) : Type 0 where
+-- The context is this module's, whose functions have these types. It has one table and one memory
+-- at most.
+pub record IsModuleContext (m : Module) (functions : List FunctionType) (code : ModuleContext) :
+    Type 0 where
   pub context : IsContextOf (module_context m functions) code
   pub one_table : length (tables_of m) ≤ 1
   pub one_memory : length (memories_of m) ≤ 1
@@ -94,7 +103,8 @@ IsFirstTypeFault m fault =
     × IsFirstImportFault m.types nothing_before m.imports fault)
 
 abbrev pub IsConstantGlobal : List GlobalType → ℕ → ValueType → Type 0
-IsConstantGlobal globals x t = (g : GlobalType) × (slice_get globals x ≡ Some g) × (g.mutability ≡ Constant) × (g.value_type ≡ t)
+IsConstantGlobal globals x t = (g : GlobalType) × (slice_get globals x ≡ Some g)
+    × (g.mutability ≡ Constant) × (g.value_type ≡ t)
 
 -- what a fault says of initial values in which these globals may stand
 abbrev pub IsFaultInGlobals : List GlobalType → List Global → ValidFault → Type 0
@@ -163,10 +173,14 @@ pub record IsValidButBodies (m : Module) (functions : List FunctionType) : Type 
 
 -- the parts and the bodies are all of validity
 abbrev pub PartsGiveValid : Type 0
-PartsGiveValid = (m : Module) (functions : List FunctionType) → IsValidButBodies m functions → AllByRecursion (IsFunctionValid m functions) m.functions → IsValid m
+PartsGiveValid = (m : Module) (functions : List FunctionType) → IsValidButBodies m functions
+    → AllByRecursion (IsFunctionValid m functions) m.functions → IsValid m
 
 abbrev pub ValidGivesParts : Type 0
-ValidGivesParts = (m : Module) (functions : List FunctionType) → AreFunctionTypes m functions → IsValid m → IsValidButBodies m functions × AllByRecursion (IsFunctionValid m functions) m.functions
+ValidGivesParts = (m : Module) (functions : List FunctionType) → AreFunctionTypes m functions
+    → IsValid m → IsValidButBodies m functions
+    × AllByRecursion (IsFunctionValid m functions) m.functions
 
 abbrev pub WasValidBeforeData : Module → Type 0
-WasValidBeforeData m = (functions : List FunctionType) × AreFunctionTypes m functions × IsValidBeforeData m functions
+WasValidBeforeData m = (functions : List FunctionType) × AreFunctionTypes m functions
+    × IsValidBeforeData m functions

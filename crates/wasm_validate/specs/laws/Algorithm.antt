@@ -7,8 +7,10 @@ use Rattle.wasm_validate.specs.laws.Remaining.{Remains}
 
 -- What passes the check and leaves nothing open closes all that was open, typed.
 abbrev pub PassesOnlyTyped : Type 0
-PassesOnlyTyped = (c : Context) (opcodes : List Instruction) (levels : List Level) → checked c opcodes levels ≡ Some [] → Remains c [] levels opcodes
+PassesOnlyTyped = (c : Context) (opcodes : List Instruction) (levels : List Level)
+    → checked c opcodes levels ≡ Some [] → Remains c [] levels opcodes
 
 -- What closes all that is open, typed, passes the check and leaves nothing open.
 abbrev pub PassesAllTyped : Type 0
-PassesAllTyped = (c : Context) (opcodes : List Instruction) (levels : List Level) → Remains c [] levels opcodes → checked c opcodes levels ≡ Some []
+PassesAllTyped = (c : Context) (opcodes : List Instruction) (levels : List Level)
+    → Remains c [] levels opcodes → checked c opcodes levels ≡ Some []

@@ -1,6 +1,8 @@
--- Checking a body from the front: after each opcode, what is known of the open sequences and of their operands (Core
--- Specification 1.0, appendix A.3). Nothing here has to be believed: that it is the same as typing is proved.
-use Rattle.std.specs.Prelude.{ℕ, ◌^◌, nat_le, nat_lt, Bool, true, false, ◌&&◌, ◌||◌, not, is_some, List, [], ◌∷◌, ◌++◌, map, Option, Some, None, slice_get}
+-- Checking a body from the front: after each opcode, what is known of the open sequences and of
+-- their operands (Core Specification 1.0, appendix A.3). Nothing here has to be believed: that it
+-- is the same as typing is proved.
+use Rattle.std.specs.Prelude.{ℕ, ◌^◌, nat_le, nat_lt, Bool, true, false, ◌&&◌, ◌||◌, not, is_some}
+use Rattle.std.specs.Prelude.{List, [], ◌∷◌, ◌++◌, map, Option, Some, None, slice_get}
 use Rattle.wasm_syntax.specs.declared.types.ValueType.{ValueType}
 use Rattle.wasm_syntax.specs.declared.types.ValueType.TheVariants.{I32}
 use Rattle.wasm_syntax.specs.declared.types.Mutability.{Mutability}
@@ -10,7 +12,9 @@ use Rattle.wasm_syntax.specs.declared.value.Value.TheVariants as value
 use Rattle.wasm_syntax.specs.declared.instruction.Instruction.{Instruction}
 use Rattle.wasm_syntax.specs.declared.instruction.Instruction.TheVariants as instr
 use Rattle.wasm_syntax.specs.laws.ReadingItems.{◌>>=◌, check}
-use Rattle.wasm_syntax_rules.specs.Types.{is_same_type, are_same_types, conversion_takes, conversion_gives, loaded_type, loaded_width, stored_type, stored_width, bytes_in, takes_of, gives_of, results_of}
+use Rattle.wasm_syntax_rules.specs.Types.{is_same_type, are_same_types, conversion_takes}
+use Rattle.wasm_syntax_rules.specs.Types.{conversion_gives, loaded_type, loaded_width, stored_type}
+use Rattle.wasm_syntax_rules.specs.Types.{stored_width, bytes_in, takes_of, gives_of, results_of}
 use Rattle.wasm_syntax_rules.specs.Typing.{Context}
 use Rattle.wasm_syntax_rules.specs.Shapes.{type_of}
 
@@ -20,8 +24,9 @@ use Rattle.wasm_syntax_rules.specs.Shapes.{type_of}
 abbrev pub Known : Type 0
 Known = Option ValueType
 
--- An open sequence: what a branch to its label takes, and what it gives; whether it is the first part of an `if`, to which
--- an `else` may come; whether no jump stands before; and its operands, the last one first.
+-- An open sequence: what a branch to its label takes, and what it gives; whether it is the first
+-- part of an `if`, to which an `else` may come; whether no jump stands before; and its operands,
+-- the last one first.
 pub record Level : Type 0 where
   pub takes : Option ValueType
   pub gives : Option ValueType
@@ -61,8 +66,9 @@ level_left l = record l { is_reached = false; operands = [] }
 
 -- ---- instructions that stay in their sequence
 
--- What an instruction takes and gives: a fixed list of types each; or what it takes before it jumps; or it drops an operand of
--- any type, or selects one of two of the same type. Or it stands where it may not.
+-- What an instruction takes and gives: a fixed list of types each; or what it takes before it
+-- jumps; or it drops an operand of any type, or selects one of two of the same type. Or it stands
+-- where it may not.
 pub data Arrow : Type 0 where
   Fixed : (takes gives : List ValueType) → Arrow
   Jump : (takes : List ValueType) → Arrow
@@ -109,19 +115,31 @@ arrow_of c labels instr.Unreachable = Jump []
 arrow_of c labels instr.Nop = Fixed [] []
 arrow_of c labels (instr.Br l) = arrow_of_some (slice_get labels l) (λ ts. Jump ts)
 arrow_of c labels (instr.BrIf l) = arrow_of_some (slice_get labels l) (λ ts. Fixed (I32 ∷ ts) ts)
-arrow_of c labels (instr.BrTable ls l) = arrow_of_some (slice_get labels l) (λ ts. only (are_labels labels ts ls) (Jump (I32 ∷ ts)))
+arrow_of c labels (instr.BrTable ls l) =
+    arrow_of_some (slice_get labels l) (λ ts. only (are_labels labels ts ls) (Jump (I32 ∷ ts)))
 arrow_of c labels instr.Return = Jump c.returns
-arrow_of c labels (instr.Call x) = arrow_of_some (slice_get c.functions x) (λ f. Fixed (takes_of f) (gives_of f))
-arrow_of c labels (instr.CallIndirect x) = arrow_of_some (slice_get c.types x) (λ f. only (has_table c) (Fixed (I32 ∷ takes_of f) (gives_of f)))
+arrow_of c labels (instr.Call x) =
+    arrow_of_some (slice_get c.functions x) (λ f. Fixed (takes_of f) (gives_of f))
+arrow_of c labels (instr.CallIndirect x) =
+    arrow_of_some (slice_get c.types x) (λ f.
+    only (has_table c) (Fixed (I32 ∷ takes_of f) (gives_of f)))
 arrow_of c labels instr.Drop = Dropping
 arrow_of c labels instr.Select = Selecting
 arrow_of c labels (instr.LocalGet x) = arrow_of_some (slice_get c.locals x) (λ t. Fixed [] (t ∷ []))
 arrow_of c labels (instr.LocalSet x) = arrow_of_some (slice_get c.locals x) (λ t. Fixed (t ∷ []) [])
-arrow_of c labels (instr.LocalTee x) = arrow_of_some (slice_get c.locals x) (λ t. Fixed (t ∷ []) (t ∷ []))
-arrow_of c labels (instr.GlobalGet x) = arrow_of_some (slice_get c.globals x) (λ g. Fixed [] (g.value_type ∷ []))
-arrow_of c labels (instr.GlobalSet x) = arrow_of_some (slice_get c.globals x) (λ g. only (is_variable g.mutability) (Fixed (g.value_type ∷ []) []))
-arrow_of c labels (instr.Load o m) = only (has_memory c && nat_le (2 ^ m.align) (bytes_in (loaded_width o))) (Fixed (I32 ∷ []) (loaded_type o ∷ []))
-arrow_of c labels (instr.Store o m) = only (has_memory c && nat_le (2 ^ m.align) (bytes_in (stored_width o))) (Fixed (stored_type o ∷ I32 ∷ []) [])
+arrow_of c labels (instr.LocalTee x) =
+    arrow_of_some (slice_get c.locals x) (λ t. Fixed (t ∷ []) (t ∷ []))
+arrow_of c labels (instr.GlobalGet x) =
+    arrow_of_some (slice_get c.globals x) (λ g. Fixed [] (g.value_type ∷ []))
+arrow_of c labels (instr.GlobalSet x) =
+    arrow_of_some (slice_get c.globals x) (λ g. only (is_variable g.mutability) (Fixed (g.value_type
+    ∷ []) []))
+arrow_of c labels (instr.Load o m) =
+    only (has_memory c
+    && nat_le (2 ^ m.align) (bytes_in (loaded_width o))) (Fixed (I32 ∷ []) (loaded_type o ∷ []))
+arrow_of c labels (instr.Store o m) =
+    only (has_memory c && nat_le (2 ^ m.align) (bytes_in (stored_width o))) (Fixed (stored_type o
+    ∷ I32 ∷ []) [])
 arrow_of c labels instr.MemorySize = only (has_memory c) (Fixed [] (I32 ∷ []))
 arrow_of c labels instr.MemoryGrow = only (has_memory c) (Fixed (I32 ∷ []) (I32 ∷ []))
 arrow_of c labels (instr.Const v) = only (is_number v) (Fixed [] (type_of v ∷ []))
@@ -143,7 +161,8 @@ met (Some t) k = check (agrees t k) >>= λ _. Some (Some t)
 
 abbrev pub operands_selected : Level → Option Level
 operands_selected l =
-    operand_taken I32 l >>= λ l1. popped l1 >>= λ second. popped second.1 >>= λ first. met second.0 first.0 >>= λ k. Some (pushed k first.1)
+    operand_taken I32 l >>= λ l1. popped l1 >>= λ second. popped second.1
+    >>= λ first. met second.0 first.0 >>= λ k. Some (pushed k first.1)
 
 abbrev pub applied : Arrow → Level → Option Level
 applied (Fixed takes gives) l = all_operands_taken takes l >>= λ l'. Some (all_pushed gives l')
@@ -162,7 +181,13 @@ abbrev pub labels_of : List Level → List (List ValueType)
 labels_of levels = map label_of levels
 
 abbrev pub new_level : Option ValueType → Option ValueType → Bool → Level
-new_level takes gives is_first = record { takes = takes; gives = gives; is_first = is_first; is_reached = true; operands = [] }
+new_level takes gives is_first = record {
+  takes = takes;
+  gives = gives;
+  is_first = is_first;
+  is_reached = true;
+  operands = [];
+}
 
 -- at its end a sequence has what it gives, and no more
 abbrev pub has_no_operands : List Known → Bool
@@ -170,7 +195,8 @@ has_no_operands [] = true
 has_no_operands (k ∷ ks) = false
 
 abbrev pub level_closed : Level → Option Level
-level_closed l = all_operands_taken (results_of l.gives) l >>= λ l'. check (has_no_operands l'.operands) >>= λ _. Some l'
+level_closed l = all_operands_taken (results_of l.gives) l
+    >>= λ l'. check (has_no_operands l'.operands) >>= λ _. Some l'
 
 -- an `if` without `else` gives nothing
 abbrev pub may_end : Bool → Option ValueType → Bool
@@ -189,10 +215,14 @@ abbrev pub levels_after : Context → Instruction → List Level → Option (Lis
 levels_after c i [] = None
 levels_after c (instr.Block t) (l ∷ levels) = Some (new_level t t false ∷ l ∷ levels)
 levels_after c (instr.Loop t) (l ∷ levels) = Some (new_level None t false ∷ l ∷ levels)
-levels_after c (instr.If t) (l ∷ levels) = operand_taken I32 l >>= λ l'. Some (new_level t t true ∷ l' ∷ levels)
-levels_after c instr.Else (l ∷ levels) = check l.is_first >>= λ _. level_closed l >>= λ _. Some (new_level l.takes l.gives false ∷ levels)
-levels_after c instr.End (l ∷ levels) = check (may_end l.is_first l.gives) >>= λ _. level_closed l >>= λ _. Some (result_returned l.gives levels)
-levels_after c i (l ∷ levels) = applied (arrow_of c (labels_of (l ∷ levels)) i) l >>= λ l'. Some (l' ∷ levels)
+levels_after c (instr.If t) (l ∷ levels) = operand_taken I32 l
+    >>= λ l'. Some (new_level t t true ∷ l' ∷ levels)
+levels_after c instr.Else (l ∷ levels) = check l.is_first >>= λ _. level_closed l
+    >>= λ _. Some (new_level l.takes l.gives false ∷ levels)
+levels_after c instr.End (l ∷ levels) = check (may_end l.is_first l.gives) >>= λ _. level_closed l
+    >>= λ _. Some (result_returned l.gives levels)
+levels_after c i (l ∷ levels) = applied (arrow_of c (labels_of (l ∷ levels)) i) l
+    >>= λ l'. Some (l' ∷ levels)
 
 abbrev pub checked : Context → List Instruction → List Level → Option (List Level)
 checked c [] levels = Some levels

@@ -8,4 +8,5 @@ use Rattle.wasm_validate.specs.rules.Faults.{HasFault}
 
 -- A valid module has a fault of no kind. Want of memory is none of the module.
 abbrev pub ValidHasNoFault : Type 0
-ValidHasNoFault = (m : Module) → IsValid m → (fault : ValidFault) → HasFault m fault → fault ≡ Memory
+ValidHasNoFault = (m : Module) → IsValid m → (fault : ValidFault) → HasFault m fault
+    → fault ≡ Memory

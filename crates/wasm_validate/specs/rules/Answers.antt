@@ -1,7 +1,8 @@
 -- What checks answer.
 use Rattle.std.specs.Prelude.{◌≡◌, ◌⊎◌, Result, Ok, Err}
 use Rattle.wasm_validate.specs.declared.parts.fault.ValidFault.{ValidFault}
-use Rattle.wasm_validate.specs.declared.parts.fault.ValidFault.TheVariants.{Typing, Index, Limits, DuplicateExport, Memory}
+use Rattle.wasm_validate.specs.declared.parts.fault.ValidFault.TheVariants.{Typing, Index, Limits}
+use Rattle.wasm_validate.specs.declared.parts.fault.ValidFault.TheVariants.{DuplicateExport, Memory}
 
 -- A fault says that P doesn't hold. Want of memory says nothing of it.
 abbrev pub Denies : ValidFault → Type 0 → Type 0
@@ -33,17 +34,21 @@ abbrev pub Demands : {X : Type 0} → ValidFault → Result X ValidFault → Typ
 Demands fault (Ok x) P = P
 Demands fault (Err e) P = (e ≡ fault) × (P → ⊥)
 
--- Ok exactly where Q holds. Elsewhere it is the first fault where P doesn't hold, and the second where it does.
-abbrev pub DemandsInTurn : {X : Type 0} → Result X ValidFault → ValidFault → Type 0 → ValidFault → Type 0 → Type 0
+-- Ok exactly where Q holds. Elsewhere it is the first fault where P doesn't hold, and the second
+-- where it does.
+abbrev pub DemandsInTurn : {X : Type 0} → Result X ValidFault → ValidFault → Type 0 → ValidFault
+    → Type 0 → Type 0
 DemandsInTurn (Ok x) first P second Q = Q
-DemandsInTurn (Err e) first P second Q = ((e ≡ first) × (P → ⊥) × (Q → ⊥)) ⊎ ((e ≡ second) × P × (Q → ⊥))
+DemandsInTurn (Err e) first P second Q = ((e ≡ first) × (P → ⊥) × (Q → ⊥))
+    ⊎ ((e ≡ second) × P × (Q → ⊥))
 
 -- The fault is this one and P doesn't hold, or it is want of memory, which says nothing.
 abbrev pub IsFor : ValidFault → Type 0 → ValidFault → Type 0
 IsFor fault P Memory = Unit {0}
 IsFor fault P e = (e ≡ fault) × (P → ⊥)
 
--- Ok where P and Q hold, as far as memory goes. `Index` says that P doesn't hold, `DuplicateExport` that Q doesn't.
+-- Ok where P and Q hold, as far as memory goes. `Index` says that P doesn't hold, `DuplicateExport`
+-- that Q doesn't.
 abbrev pub JudgesExports : {X : Type 0} → Result X ValidFault → Type 0 → Type 0 → Type 0
 JudgesExports (Ok x) P Q = P × Q
 JudgesExports (Err Memory) P Q = Unit {0}

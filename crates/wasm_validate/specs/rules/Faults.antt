@@ -1,5 +1,6 @@
 -- What each kind of fault says of a module: a part of validity that doesn't hold.
-use Rattle.std.specs.Prelude.{◌≡◌, ◌≤◌, ◌<◌, ◌^◌, ℕ, zero, suc, List, [], ◌∷◌, ◌++◌, length, map, Option, Some, slice_get, IfSome}
+use Rattle.std.specs.Prelude.{◌≡◌, ◌≤◌, ◌<◌, ◌^◌, ℕ, zero, suc, List, [], ◌∷◌, ◌++◌, length, map}
+use Rattle.std.specs.Prelude.{Option, Some, slice_get, IfSome}
 use Rattle.std.specs.List.{AllByRecursion}
 use Rattle.wasm_syntax.specs.declared.types.ValueType.{ValueType}
 use Rattle.wasm_syntax.specs.declared.types.ValueType.TheVariants.{I32}
@@ -15,11 +16,16 @@ use Rattle.wasm_syntax.specs.declared.module.Element.{Element}
 use Rattle.wasm_syntax.specs.declared.module.Data.{Data}
 use Rattle.wasm_syntax.specs.declared.module.Code.{Code}
 use Rattle.wasm_syntax.specs.rules.Sequence.{Sequence, Spells}
-use Rattle.wasm_syntax_rules.specs.Types.{bytes_in, gives_of, imported_globals, loaded_width, results_of, stored_width}
+use Rattle.wasm_syntax_rules.specs.Types.{bytes_in, gives_of, imported_globals, loaded_width}
+use Rattle.wasm_syntax_rules.specs.Types.{results_of, stored_width}
 use Rattle.wasm_syntax_rules.specs.Typing.{Context, HasType, body_context}
-use Rattle.wasm_syntax_rules.specs.Validity.{AreFunctionTypes, HaveDistinctNames, IsConstant, IsExportItemValid, IsFunctionTypeValid, IsIndex, IsMemoryTypeValid, IsStartValid, IsTableTypeValid, globals_of, memories_of, module_context, tables_of}
+use Rattle.wasm_syntax_rules.specs.Validity.{AreFunctionTypes, HaveDistinctNames, IsConstant}
+use Rattle.wasm_syntax_rules.specs.Validity.{IsExportItemValid, IsFunctionTypeValid, IsIndex}
+use Rattle.wasm_syntax_rules.specs.Validity.{IsMemoryTypeValid, IsStartValid, IsTableTypeValid}
+use Rattle.wasm_syntax_rules.specs.Validity.{globals_of, memories_of, module_context, tables_of}
 use Rattle.wasm_validate.specs.declared.parts.fault.ValidFault.{ValidFault}
-use Rattle.wasm_validate.specs.declared.parts.fault.ValidFault.TheVariants.{Typing, Index, Limits, DuplicateExport, Memory}
+use Rattle.wasm_validate.specs.declared.parts.fault.ValidFault.TheVariants.{Typing, Index, Limits}
+use Rattle.wasm_validate.specs.declared.parts.fault.ValidFault.TheVariants.{DuplicateExport, Memory}
 
 -- ---- indices (2.5.1)
 

@@ -1,6 +1,7 @@
 //! The body of a function.
 
-ghost use Rattle.std.specs.Prelude.{◌≡◌, ◌≢◌, ◌≤◌, ◌∷◌, [], false, length, IfErr, IfOk, MatchResult, OnOk};
+ghost use Rattle.std.specs.Prelude.{◌≡◌, ◌≢◌, ◌≤◌, ◌∷◌, [], false, length, IfErr, IfOk};
+ghost use Rattle.std.specs.Prelude.{MatchResult, OnOk};
 ghost use Rattle.wasm_syntax_rules.specs.Types.{gives_of, results_of};
 ghost use Rattle.wasm_syntax_rules.specs.Typing.{Context as Typing, body_context};
 ghost use Rattle.wasm_syntax_rules.specs.Shapes.{body_shape};
@@ -85,10 +86,11 @@ impl BodyChecker {
         }
     }
 
-    /// Checks the body of a function. The fault is the first from the front: `Typing`, `Index`, `Limits` for
-    /// an alignment, or `Memory`. Behind all opcodes it is `Typing` where something is still open. It takes time
-    /// linear in the opcodes, the labels of tables and the parameters of calls, and memory for the operands and
-    /// blocks that stand at a time, which the next body uses again.
+    /// Checks the body of a function. The fault is the first from the front: `Typing`, `Index`,
+    /// `Limits` for an alignment, or `Memory`. Behind all opcodes it is `Typing` where something is
+    /// still open. It takes time linear in the opcodes, the labels of tables and the parameters of
+    /// calls, and memory for the operands and blocks that stand at a time, which the next body uses
+    /// again.
     pub fn check(
         &mut self,
         context: &ModuleContext,

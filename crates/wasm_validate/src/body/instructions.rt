@@ -49,8 +49,8 @@ impl Levels {
         self.push_results(takes)
     }
 
-    /// Whether each of these labels takes what the default one of a table takes: `Index` where there is
-    /// no such label, and `Typing` where it takes something else.
+    /// Whether each of these labels takes what the default one of a table takes: `Index` where
+    /// there is no such label, and `Typing` where it takes something else.
     fn expect_labels(&self, labels: &[u32], takes: Option<ValueType>) -> Result<(), ValidFault>
         ensures { Tests result (are_labels (labels_of self.now) (results_of takes) labels.now)
             (labels_fault (labels_of self.now) (results_of takes) labels.now) }
@@ -64,7 +64,8 @@ impl Levels {
     }
 
     pub fn branch_table(&mut self, labels: &Row<u32>, default: u32) -> Result<(), ValidFault>
-        ensures { (c : Typing) → Performs c (instr.BrTable labels.now default) result self.old self.new }
+        ensures { (c : Typing)
+            → Performs c (instr.BrTable labels.now default) result self.old self.new }
     {
         let takes = self.label(default)?;
         self.expect_labels(labels.as_slice(), takes)?;
@@ -75,7 +76,8 @@ impl Levels {
     }
 
     pub fn return_from(&mut self, scope: &Scope) -> Result<(), ValidFault>
-        ensures { (c : Typing) → IsScopeOf c scope.now → Performs c instr.Return result self.old self.new }
+        ensures { (c : Typing) → IsScopeOf c scope.now
+            → Performs c instr.Return result self.old self.new }
     {
         self.expect_all(scope.returns)?;
         self.leave();
@@ -83,7 +85,8 @@ impl Levels {
     }
 
     pub fn call(&mut self, scope: &Scope, function: u32) -> Result<(), ValidFault>
-        ensures { (c : Typing) → IsScopeOf c scope.now → Performs c (instr.Call function) result self.old self.new }
+        ensures { (c : Typing) → IsScopeOf c scope.now
+            → Performs c (instr.Call function) result self.old self.new }
     {
         let Some(kind) = scope.context.function_type(function) else {
             return Err(ValidFault::Index);
@@ -92,7 +95,8 @@ impl Levels {
     }
 
     pub fn call_indirect(&mut self, scope: &Scope, kind: u32) -> Result<(), ValidFault>
-        ensures { (c : Typing) → IsScopeOf c scope.now → Performs c (instr.CallIndirect kind) result self.old self.new }
+        ensures { (c : Typing) → IsScopeOf c scope.now
+            → Performs c (instr.CallIndirect kind) result self.old self.new }
     {
         let Some(kind) = scope.context.type_at(kind) else {
             return Err(ValidFault::Index);
@@ -105,35 +109,40 @@ impl Levels {
     }
 
     pub fn local_get(&mut self, scope: &Scope, local: u32) -> Result<(), ValidFault>
-        ensures { (c : Typing) → IsScopeOf c scope.now → Performs c (instr.LocalGet local) result self.old self.new }
+        ensures { (c : Typing) → IsScopeOf c scope.now
+            → Performs c (instr.LocalGet local) result self.old self.new }
     {
         let value_type = scope.local(local)?;
         self.apply(&[], &[value_type])
     }
 
     pub fn local_set(&mut self, scope: &Scope, local: u32) -> Result<(), ValidFault>
-        ensures { (c : Typing) → IsScopeOf c scope.now → Performs c (instr.LocalSet local) result self.old self.new }
+        ensures { (c : Typing) → IsScopeOf c scope.now
+            → Performs c (instr.LocalSet local) result self.old self.new }
     {
         let value_type = scope.local(local)?;
         self.apply(&[value_type], &[])
     }
 
     pub fn local_tee(&mut self, scope: &Scope, local: u32) -> Result<(), ValidFault>
-        ensures { (c : Typing) → IsScopeOf c scope.now → Performs c (instr.LocalTee local) result self.old self.new }
+        ensures { (c : Typing) → IsScopeOf c scope.now
+            → Performs c (instr.LocalTee local) result self.old self.new }
     {
         let value_type = scope.local(local)?;
         self.apply(&[value_type], &[value_type])
     }
 
     pub fn global_get(&mut self, scope: &Scope, global: u32) -> Result<(), ValidFault>
-        ensures { (c : Typing) → IsScopeOf c scope.now → Performs c (instr.GlobalGet global) result self.old self.new }
+        ensures { (c : Typing) → IsScopeOf c scope.now
+            → Performs c (instr.GlobalGet global) result self.old self.new }
     {
         let global_type = scope.global(global)?;
         self.apply(&[], &[global_type.value_type])
     }
 
     pub fn global_set(&mut self, scope: &Scope, global: u32) -> Result<(), ValidFault>
-        ensures { (c : Typing) → IsScopeOf c scope.now → Performs c (instr.GlobalSet global) result self.old self.new }
+        ensures { (c : Typing) → IsScopeOf c scope.now
+            → Performs c (instr.GlobalSet global) result self.old self.new }
     {
         let global_type = scope.global(global)?;
         match global_type.mutability {
@@ -148,7 +157,8 @@ impl Levels {
         operator: LoadOperator,
         argument: MemoryArgument,
     ) -> Result<(), ValidFault>
-        ensures { (c : Typing) → IsScopeOf c scope.now → Performs c (instr.Load operator argument) result self.old self.new }
+        ensures { (c : Typing) → IsScopeOf c scope.now
+            → Performs c (instr.Load operator argument) result self.old self.new }
     {
         if !scope.context.has_memory() {
             return Err(ValidFault::Index);
@@ -165,7 +175,8 @@ impl Levels {
         operator: StoreOperator,
         argument: MemoryArgument,
     ) -> Result<(), ValidFault>
-        ensures { (c : Typing) → IsScopeOf c scope.now → Performs c (instr.Store operator argument) result self.old self.new }
+        ensures { (c : Typing) → IsScopeOf c scope.now
+            → Performs c (instr.Store operator argument) result self.old self.new }
     {
         if !scope.context.has_memory() {
             return Err(ValidFault::Index);
@@ -177,7 +188,8 @@ impl Levels {
     }
 
     pub fn memory_size(&mut self, scope: &Scope) -> Result<(), ValidFault>
-        ensures { (c : Typing) → IsScopeOf c scope.now → Performs c instr.MemorySize result self.old self.new }
+        ensures { (c : Typing) → IsScopeOf c scope.now
+            → Performs c instr.MemorySize result self.old self.new }
     {
         if !scope.context.has_memory() {
             return Err(ValidFault::Index);
@@ -186,7 +198,8 @@ impl Levels {
     }
 
     pub fn memory_grow(&mut self, scope: &Scope) -> Result<(), ValidFault>
-        ensures { (c : Typing) → IsScopeOf c scope.now → Performs c instr.MemoryGrow result self.old self.new }
+        ensures { (c : Typing) → IsScopeOf c scope.now
+            → Performs c instr.MemoryGrow result self.old self.new }
     {
         if !scope.context.has_memory() {
             return Err(ValidFault::Index);

@@ -1,6 +1,7 @@
 //! The open sequences of a body and their operands.
 
-ghost use Rattle.std.specs.Prelude.{◌≡◌, ◌∷◌, [], reverse, slice_get, OnOk, OnErr, IsTrue, ◌↔◌, Some, option_map};
+ghost use Rattle.std.specs.Prelude.{◌≡◌, ◌∷◌, [], reverse, slice_get, OnOk, OnErr, IsTrue, ◌↔◌};
+ghost use Rattle.std.specs.Prelude.{Some, option_map};
 ghost use Rattle.wasm_validate.specs.declared.parts.fault.ValidFault.TheVariants as fault;
 ghost use Rattle.wasm_validate.specs.Body.Answers.{Pops, FindsLabel, LevelsFollow, OnlyMemory};
 ghost use Rattle.wasm_validate.specs.Body.Tops.{top_popped, top_pushed, top_left, top_closed};
@@ -29,8 +30,8 @@ pub struct Control {
     pub height: usize,
 }
 
-/// The open sequences with what is known of their operands: a type, or none where any type may stand,
-/// behind a jump.
+/// The open sequences with what is known of their operands: a type, or none where any type may
+/// stand, behind a jump.
 #[derive(Debug, Drop)]
 pub struct Levels {
     controls: Stack<Control>,

@@ -5,7 +5,8 @@ ghost use Rattle.wasm_syntax.specs.declared.types.ValueType.TheVariants as value
 ghost use Rattle.wasm_syntax_rules.specs.Types.{results_of};
 ghost use Rattle.wasm_validate.specs.Body.Answers.{LevelsFollow, OnlyMemory};
 ghost use Rattle.wasm_validate.specs.laws.Checking.{Fixed, Jump, Dropping, Selecting};
-ghost use Rattle.wasm_validate.specs.Body.Tops.{top_taken, top_all_taken, top_all_pushed, top_applied, top_selected};
+ghost use Rattle.wasm_validate.specs.Body.Tops.{top_taken, top_all_taken, top_all_pushed};
+ghost use Rattle.wasm_validate.specs.Body.Tops.{top_applied, top_selected};
 
 use crate::body::levels::Levels;
 use crate::parts::ValidFault;

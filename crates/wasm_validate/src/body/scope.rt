@@ -31,7 +31,8 @@ impl Scope<'_, '_> {
 
     /// The type of a global. `Index` where there is none.
     pub fn global(&self, number: u32) -> Result<GlobalType, ValidFault>
-        ensures { (c : Typing) → IsScopeOf c self.now → LooksUp result (slice_get c.globals number) }
+        ensures { (c : Typing) → IsScopeOf c self.now
+            → LooksUp result (slice_get c.globals number) }
     {
         self.context.global_type(number).ok_or(ValidFault::Index)
     }

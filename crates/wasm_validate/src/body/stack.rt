@@ -1,6 +1,7 @@
 //! A stack.
 
-ghost use Rattle.std.specs.Prelude.{◌≡◌, ◌≢◌, ◌-◌, ◌∷◌, [], length, drop, reverse, slice_get, OnOk, OnErr};
+ghost use Rattle.std.specs.Prelude.{◌≡◌, ◌≢◌, ◌-◌, ◌∷◌, [], length, drop, reverse, slice_get, OnOk};
+ghost use Rattle.std.specs.Prelude.{OnErr};
 
 use std::alloc::{AllocFailed, Global};
 use std::marker::Model;

@@ -18,7 +18,8 @@ const I32: ValueType = ValueType::I32;
 impl Levels {
     /// An instruction of numbers, locals, globals or memory.
     fn operate(&mut self, scope: &Scope, instruction: &Instruction) -> Result<(), ValidFault>
-        ensures { (c : Typing) → IsScopeOf c scope.now → Performs c instruction.now result self.old self.new }
+        ensures { (c : Typing) → IsScopeOf c scope.now
+            → Performs c instruction.now result self.old self.new }
     {
         match instruction {
             Instruction::Drop => self.drop_operand(),
@@ -48,7 +49,8 @@ impl Levels {
 
     /// An instruction that hands control on, or none.
     fn transfer(&mut self, scope: &Scope, instruction: &Instruction) -> Result<(), ValidFault>
-        ensures { (c : Typing) → IsScopeOf c scope.now → IsTransfer instruction.now → Performs c instruction.now result self.old self.new }
+        ensures { (c : Typing) → IsScopeOf c scope.now → IsTransfer instruction.now
+            → Performs c instruction.now result self.old self.new }
     {
         match instruction {
             Instruction::Unreachable => {

@@ -14,7 +14,8 @@ use wasm_syntax::{GlobalType, Instruction, Mutability, Value, ValueType};
 
 /// The one instruction of an expression.
 fn only_instruction(expression: &[Instruction]) -> Option<&Instruction>
-    ensures { MatchOption result ((i : Opcode) → expression.now ≢ i ∷ instr.End ∷ []) (λ i. expression.now ≡ i.now ∷ instr.End ∷ []) }
+    ensures { MatchOption result ((i : Opcode)
+        → expression.now ≢ i ∷ instr.End ∷ []) (λ i. expression.now ≡ i.now ∷ instr.End ∷ []) }
 {
     match expression {
         [only, Instruction::End] => Some(only),
@@ -32,7 +33,8 @@ fn check_value(value: Value, value_type: ValueType) -> Result<(), ValidFault>
 }
 
 fn check_global(globals: &[GlobalType], x: u32, value_type: ValueType) -> Result<(), ValidFault>
-    ensures { DemandsInTurn result ValidFault.Index (IsIndex globals.now x) ValidFault.Typing (IsConstantGlobal globals.now x value_type) }
+    ensures { DemandsInTurn result ValidFault.Index (IsIndex globals.now x) ValidFault.Typing
+        (IsConstantGlobal globals.now x value_type) }
 {
     let Some(global) = globals.get(x as usize) else {
         return Err(ValidFault::Index);
@@ -44,14 +46,15 @@ fn check_global(globals: &[GlobalType], x: u32, value_type: ValueType) -> Result
     }
 }
 
-/// The expression is one constant of this type, or one constant global of these, of this type. `Index`
-/// where it is one global that is none of these, `Typing` otherwise.
+/// The expression is one constant of this type, or one constant global of these, of this type.
+/// `Index` where it is one global that is none of these, `Typing` otherwise.
 pub fn check_constant(
     globals: &[GlobalType],
     expression: &[Instruction],
     value_type: ValueType,
 ) -> Result<(), ValidFault>
-    ensures { DemandsInTurn result ValidFault.Index (NamesGlobal globals.now expression.now) ValidFault.Typing (IsConstant globals.now expression.now value_type) }
+    ensures { DemandsInTurn result ValidFault.Index (NamesGlobal globals.now expression.now)
+        ValidFault.Typing (IsConstant globals.now expression.now value_type) }
 {
     let Some(only) = only_instruction(expression) else {
         return Err(ValidFault::Typing);

@@ -1,12 +1,14 @@
 //! What typing looks up (section 3.1.1).
 
-ghost use Rattle.std.specs.Prelude.{◌≡◌, ◌++◌, ◌↔◌, length, map, IsTrue, IfOk, IfErr, OnOk, slice_get, option_copied};
+ghost use Rattle.std.specs.Prelude.{◌≡◌, ◌++◌, ◌↔◌, length, map, IsTrue, IfOk, IfErr, OnOk};
+ghost use Rattle.std.specs.Prelude.{slice_get, option_copied};
 ghost use Rattle.wasm_syntax_rules.specs.Types.{imported_functions};
 ghost use Rattle.wasm_syntax_rules.specs.Typing.{Context as Typing, HasTable, HasMemory};
 ghost use Rattle.wasm_syntax.specs.rules.Modules.{function_type_of};
 ghost use Rattle.wasm_syntax_rules.specs.Validity.{globals_of};
 ghost use Rattle.wasm_validate.specs.rules.Answers.{IsFor};
-ghost use Rattle.wasm_validate.specs.Parts.Contexts.{IsContextOf, IsContextOfModule, HasFunctionTypes};
+ghost use Rattle.wasm_validate.specs.Parts.Contexts.{IsContextOf, IsContextOfModule};
+ghost use Rattle.wasm_validate.specs.Parts.Contexts.{HasFunctionTypes};
 
 use crate::parts::counts::{memory_count, table_count};
 use crate::parts::fault::ValidFault;
@@ -14,8 +16,8 @@ use crate::parts::indices::are_below;
 use std::alloc::{AllocError, Global};
 use wasm_syntax::{FunctionType, GlobalType, ImportItem, Module};
 
-/// The types of a module's functions and globals, imported ones first, and whether it has a table and
-/// a memory. Made once of a module; each answer takes constant time.
+/// The types of a module's functions and globals, imported ones first, and whether it has a table
+/// and a memory. Made once of a module; each answer takes constant time.
 #[derive(Debug, Drop)]
 pub struct ModuleContext<'m> {
     types: &'m [FunctionType],
@@ -28,7 +30,8 @@ pub struct ModuleContext<'m> {
 
 /// The index of the type of each function, imported ones first.
 pub fn function_type_indices(alloc: Global, module: &Module) -> Result<Vec<u32>, AllocError>
-    ensures { IfOk result (λ v. v.items ≡ imported_functions «module».now.imports ++ map function_type_of «module».now.functions) }
+    ensures { IfOk result (λ v. v.items ≡ imported_functions «module».now.imports
+        ++ map function_type_of «module».now.functions) }
 {
     let mut indices = Vec::new(alloc);
     for import in module.imports.as_slice() {
@@ -82,7 +85,8 @@ impl<'m> ModuleContext<'m> {
 
     /// The type of a function.
     pub fn function_type(&self, x: u32) -> Option<&'m FunctionType>
-        ensures { (c : Typing) → IsContextOf c self.now → option_copied result ≡ slice_get c.functions x }
+        ensures { (c : Typing) → IsContextOf c self.now
+            → option_copied result ≡ slice_get c.functions x }
     {
         let function_type = self.function_types.get(x as usize)?;
         self.type_at(*function_type)
@@ -90,7 +94,8 @@ impl<'m> ModuleContext<'m> {
 
     /// A type of the type section.
     pub fn type_at(&self, x: u32) -> Option<&'m FunctionType>
-        ensures { (c : Typing) → IsContextOf c self.now → option_copied result ≡ slice_get c.types x }
+        ensures { (c : Typing) → IsContextOf c self.now
+            → option_copied result ≡ slice_get c.types x }
     {
         self.types.get(x as usize)
     }

@@ -17,7 +17,8 @@ use wasm_syntax::{Export, ExportItem};
 
 /// Whether there is what is exported.
 fn exists(context: &ModuleContext, item: ExportItem) -> bool
-    ensures { (m : TheModule) (functions : List Kind) → IsModuleContext m functions context.now → IsTrue result ↔ IsExportItemValid m functions item }
+    ensures { (m : TheModule) (functions : List Kind) → IsModuleContext m functions context.now
+        → IsTrue result ↔ IsExportItemValid m functions item }
 {
     match item {
         ExportItem::Function(x) => is_function(context, x),
@@ -28,15 +29,17 @@ fn exists(context: &ModuleContext, item: ExportItem) -> bool
 }
 
 /// Each export names something, and no two have one name. For each in turn, `Index` where there is
-/// nothing that it names, and then `DuplicateExport` where its name came before. It takes n log n time in
-/// the bytes of the names.
+/// nothing that it names, and then `DuplicateExport` where its name came before. It takes n log n
+/// time in the bytes of the names.
 pub fn check_exports(
     alloc: Global,
     context: &ModuleContext,
     exports: &[Export],
 ) -> Result<(), ValidFault>
     ensures { (m : TheModule) (functions : List Kind) → IsModuleContext m functions context.now
-        → JudgesExports result (AllByRecursion (λ e. IsExportItemValid m functions e.item) exports.now) (HaveDistinctNames exports.now) }
+        → JudgesExports result
+        (AllByRecursion (λ e. IsExportItemValid m functions e.item) exports.now)
+        (HaveDistinctNames exports.now) }
 {
     let mut names = BTreeSet::new(alloc);
     for export in exports {

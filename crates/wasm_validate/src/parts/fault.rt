@@ -6,8 +6,9 @@ ghost use Rattle.wasm_validate.specs.declared.parts.fault.ValidFault.TheVariants
 use std::alloc::{AllocError, AllocFailed};
 use thiserror::Error;
 
-/// The first fault, or want of memory. Types are checked first, then imports, functions, tables, memories,
-/// globals, exports, the start function, element segments and data segments, and bodies last.
+/// The first fault, or want of memory. Types are checked first, then imports, functions, tables,
+/// memories, globals, exports, the start function, element segments and data segments, and bodies
+/// last.
 #[derive(Clone, Copy, Debug, PartialEq, Eq, Error)]
 pub enum ValidFault {
     /// Operands, results or a constant expression have another type.
@@ -16,8 +17,8 @@ pub enum ValidFault {
     /// An index names nothing.
     #[error("V2 Index")]
     Index,
-    /// Limits are out of order or range, there is a second table, memory or result, or an alignment is
-    /// above the natural one.
+    /// Limits are out of order or range, there is a second table, memory or result, or an alignment
+    /// is above the natural one.
     #[error("V3 Limits")]
     Limits,
     /// Two exports have one name.

@@ -27,8 +27,8 @@ fn check_initial_values(imported: &[GlobalType], globals: &[Global]) -> Result<(
     Ok(())
 }
 
-/// Each global begins with a constant of its type, in which imported globals may stand. `Index` where
-/// it begins with a global that isn't imported, `Typing` otherwise.
+/// Each global begins with a constant of its type, in which imported globals may stand. `Index`
+/// where it begins with a global that isn't imported, `Typing` otherwise.
 pub fn check_globals(module: &Module, context: &ModuleContext) -> Result<(), ValidFault>
     requires types { HasFunctionTypes «module».now }
     requires context { IsContextOfModule «module».now context.now }

@@ -1,7 +1,9 @@
 //! Imports (section 3.4.9).
 
 ghost use Rattle.std.specs.Prelude.{◌≡◌, ◌↔◌, IsTrue, IfErr, OnOk};
-ghost use Rattle.wasm_validate.specs.Parts.Parts.{AreImportsValid, IsFirstImportFault, IsImportItemValid, import_fault, nothing_before, with_import};
+ghost use Rattle.wasm_validate.specs.Parts.Parts.{AreImportsValid, IsFirstImportFault};
+ghost use Rattle.wasm_validate.specs.Parts.Parts.{IsImportItemValid, import_fault, nothing_before};
+ghost use Rattle.wasm_validate.specs.Parts.Parts.{with_import};
 
 use crate::parts::fault::ValidFault;
 use crate::parts::limits::{is_memory_valid, is_table_valid};

@@ -22,14 +22,16 @@ pub fn is_function(context: &ModuleContext, x: u32) -> bool
 
 /// Whether there is such a table, where there is one at most.
 pub fn is_table(context: &ModuleContext, x: u32) -> bool
-    ensures { (c : Typing) → IsContextOf c context.now → length c.tables ≤ 1 → IsTrue result ↔ IsIndex c.tables x }
+    ensures { (c : Typing) → IsContextOf c context.now → length c.tables ≤ 1 → IsTrue result
+        ↔ IsIndex c.tables x }
 {
     x == 0 && context.has_table()
 }
 
 /// Whether there is such a memory, where there is one at most.
 pub fn is_memory(context: &ModuleContext, x: u32) -> bool
-    ensures { (c : Typing) → IsContextOf c context.now → length c.memories ≤ 1 → IsTrue result ↔ IsIndex c.memories x }
+    ensures { (c : Typing) → IsContextOf c context.now → length c.memories ≤ 1 → IsTrue result
+        ↔ IsIndex c.memories x }
 {
     x == 0 && context.has_memory()
 }

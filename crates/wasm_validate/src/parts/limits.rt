@@ -2,7 +2,9 @@
 
 ghost use Rattle.std.specs.Prelude.{◌≤◌, ◌↔◌, IsTrue, length};
 ghost use Rattle.std.specs.List.{AllByRecursion};
-ghost use Rattle.wasm_syntax_rules.specs.Validity.{AreLimits, IsFunctionTypeValid, IsTableTypeValid, IsMemoryTypeValid, tables_of, memories_of};
+ghost use Rattle.wasm_syntax_rules.specs.Validity.{AreLimits, IsFunctionTypeValid};
+ghost use Rattle.wasm_syntax_rules.specs.Validity.{IsTableTypeValid, IsMemoryTypeValid, tables_of};
+ghost use Rattle.wasm_syntax_rules.specs.Validity.{memories_of};
 ghost use Rattle.wasm_validate.specs.rules.Answers.{Demands};
 ghost use Rattle.wasm_validate.specs.Parts.Parts.{IsImportedTableValid, IsImportedMemoryValid};
 
@@ -109,9 +111,11 @@ fn are_memories_valid(module: &Module) -> bool
         && are_own_memories_valid(module.memories.as_slice())
 }
 
-/// Tables have limits in order, and there is one at most, imported ones included. `Limits` otherwise.
+/// Tables have limits in order, and there is one at most, imported ones included. `Limits`
+/// otherwise.
 pub fn check_tables(module: &Module) -> Result<(), ValidFault>
-    ensures { Demands ValidFault.Limits result (AllByRecursion IsTableTypeValid (tables_of «module».now) × (length (tables_of «module».now) ≤ 1)) }
+    ensures { Demands ValidFault.Limits result (AllByRecursion IsTableTypeValid
+        (tables_of «module».now) × (length (tables_of «module».now) ≤ 1)) }
 {
     if are_tables_valid(module) && table_count(module) <= 1 {
         Ok(())
@@ -123,7 +127,8 @@ pub fn check_tables(module: &Module) -> Result<(), ValidFault>
 /// Memories have limits in order and within 65,536 pages, and there is one at most, imported ones
 /// included. `Limits` otherwise.
 pub fn check_memories(module: &Module) -> Result<(), ValidFault>
-    ensures { Demands ValidFault.Limits result (AllByRecursion IsMemoryTypeValid (memories_of «module».now) × (length (memories_of «module».now) ≤ 1)) }
+    ensures { Demands ValidFault.Limits result (AllByRecursion IsMemoryTypeValid
+        (memories_of «module».now) × (length (memories_of «module».now) ≤ 1)) }
 {
     if are_memories_valid(module) && memory_count(module) <= 1 {
         Ok(())

@@ -1,5 +1,6 @@
-//! The checks of a whole module but the bodies (section 3.4.10), in this order: types, imports, functions,
-//! tables, memories, globals, exports, the start function, element segments, data segments.
+//! The checks of a whole module but the bodies (section 3.4.10), in this order: types, imports,
+//! functions, tables, memories, globals, exports, the start function, element segments, data
+//! segments.
 
 ghost use Rattle.std.specs.Prelude.{List, IfErr, OnOk};
 ghost use Rattle.std.specs.List.{AllByRecursion};
@@ -8,7 +9,9 @@ ghost use Rattle.wasm_syntax_rules.specs.Validity.{AreFunctionTypes, IsFunctionT
 ghost use Rattle.wasm_validate.specs.rules.Answers.{Decides, Denies, Judges};
 ghost use Rattle.wasm_validate.specs.rules.Faults.{HasFault};
 ghost use Rattle.wasm_validate.specs.Parts.Contexts.{HasFunctionTypes, IsContextOfModule};
-ghost use Rattle.wasm_validate.specs.Parts.Parts.{AreTypesValid, IsFirstTypeFault, IsValidBeforeData, AreDataValid, WasValidBeforeData};
+ghost use Rattle.wasm_validate.specs.Parts.Parts.{AreTypesValid, IsFirstTypeFault};
+ghost use Rattle.wasm_validate.specs.Parts.Parts.{IsValidBeforeData, AreDataValid};
+ghost use Rattle.wasm_validate.specs.Parts.Parts.{WasValidBeforeData};
 
 use crate::parts::context::ModuleContext;
 use crate::parts::exports::check_exports;
@@ -21,8 +24,8 @@ use crate::parts::start::check_start;
 use std::alloc::Global;
 use wasm_syntax::Module;
 
-/// Types, and then imports, each from the front. `Limits` for a type with two results, and else the fault of
-/// the first import that isn't valid.
+/// Types, and then imports, each from the front. `Limits` for a type with two results, and else the
+/// fault of the first import that isn't valid.
 pub fn check_types(module: &Module) -> Result<(), ValidFault>
     ensures valid { OnOk result (AreTypesValid «module».now) }
     ensures refused { IfErr result (IsFirstTypeFault «module».now) }
@@ -34,9 +37,10 @@ pub fn check_types(module: &Module) -> Result<(), ValidFault>
     check_imports(types, module.imports.as_slice())
 }
 
-/// What is checked before data segments: tables, memories, globals, exports, the start function and element
-/// segments. The context is the module's own. It takes time in proportion to the module, but for the names
-/// of exports, whose bytes take n log n, and memory for as many slices as there are exports.
+/// What is checked before data segments: tables, memories, globals, exports, the start function and
+/// element segments. The context is the module's own. It takes time in proportion to the module,
+/// but for the names of exports, whose bytes take n log n, and memory for as many slices as there
+/// are exports.
 pub fn check_before_data(
     alloc: Global,
     module: &Module,

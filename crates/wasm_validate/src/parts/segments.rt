@@ -6,7 +6,8 @@ ghost use Rattle.wasm_syntax.specs.declared.module.Module.{Module as TheModule};
 ghost use Rattle.wasm_syntax.specs.declared.types.FunctionType.{FunctionType as Kind};
 ghost use Rattle.wasm_syntax_rules.specs.Validity.{IsElementValid, IsDataValid};
 ghost use Rattle.wasm_validate.specs.rules.Answers.{Decides};
-ghost use Rattle.wasm_validate.specs.Parts.Parts.{IsFaultInData, IsFaultInElements, IsFaultOfData, IsFaultOfElement, IsModuleContext};
+ghost use Rattle.wasm_validate.specs.Parts.Parts.{IsFaultInData, IsFaultInElements, IsFaultOfData};
+ghost use Rattle.wasm_validate.specs.Parts.Parts.{IsFaultOfElement, IsModuleContext};
 
 use crate::parts::constants::check_constant;
 use crate::parts::context::ModuleContext;
@@ -15,8 +16,8 @@ use crate::parts::indices::{are_below, is_memory, is_table};
 use guest_memory::laws::are_bytes;
 use wasm_syntax::{Data, Element, ValueType};
 
-/// `Index` where there is no such table, then `check_constant`'s faults of the offset, then `Index` where
-/// there is no such function.
+/// `Index` where there is no such table, then `check_constant`'s faults of the offset, then `Index`
+/// where there is no such function.
 fn check_element(context: &ModuleContext, element: &Element) -> Result<(), ValidFault>
     ensures valid { (m : TheModule) (functions : List Kind)
         → IsModuleContext m functions context.now

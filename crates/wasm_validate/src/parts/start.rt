@@ -12,7 +12,9 @@ use crate::parts::fault::ValidFault;
 /// The start function, if there is one, takes and gives nothing. `Index` where there is no such
 /// function, `Typing` where it takes or gives something.
 pub fn check_start(context: &ModuleContext, start: Option<u32>) -> Result<(), ValidFault>
-    ensures { (c : Typing) → IsContextOf c context.now → DemandsInTurn result ValidFault.Index (IfSome start (IsIndex c.functions)) ValidFault.Typing (IsStartValid c.functions start) }
+    ensures { (c : Typing) → IsContextOf c context.now
+        → DemandsInTurn result ValidFault.Index (IfSome start (IsIndex c.functions))
+        ValidFault.Typing (IsStartValid c.functions start) }
 {
     let Some(x) = start else {
         return Ok(());

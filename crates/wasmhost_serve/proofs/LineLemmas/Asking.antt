@@ -1,5 +1,6 @@
 -- Question after question to a source.
-use Rattle.std.proofs.Common.{inl, inr, ◌≡◌, ℕ, ◌+◌, List, [], ◌∷◌, ◌++◌, length, None, Some, Ok, Err, refl, sym, ap, subst, ◌∙◌, arith, append-nil, length-append}
+use Rattle.std.proofs.Common.{inl, inr, ◌≡◌, ℕ, ◌+◌, List, [], ◌∷◌, ◌++◌, length, None, Some, Ok}
+use Rattle.std.proofs.Common.{Err, refl, sym, ap, subst, ◌∙◌, arith, append-nil, length-append}
 use Rattle.std.specs.Prelude.{Option}
 use Rattle.std.specs.Option.{IsSomeAnd}
 use Rattle.std.specs.List.{AllByRecursion}
@@ -15,10 +16,13 @@ use Rattle.record_replay.specs.rules.Calls.{Giving, Ask, AnswersInOrder}
 use Rattle.worker.specs.rules.Slices.{handed_by, handed, HasAnswer}
 use Rattle.wasmhost_serve.specs.declared.lines.fault.LineFault.{LineFault}
 use Rattle.wasmhost_serve.specs.declared.lines.fault.LineFault.TheVariants as line
-use Rattle.wasmhost_serve.specs.rules.Outside.{ComesFrom, ComeFrom, request_in, requests_in, words_in, words_of}
+use Rattle.wasmhost_serve.specs.rules.Outside.{ComesFrom, ComeFrom, request_in, requests_in}
+use Rattle.wasmhost_serve.specs.rules.Outside.{words_in, words_of}
 use Rattle.wasmhost_serve.specs.rules.Requests.{GiveUpTo, BeginsWithOther, BeginsWithNumber}
 use Rattle.wasmhost_serve.specs.Lines.Reads.{AreSome}
-use Rattle.wasmhost_serve.specs.Lines.Answers.{Standing, HandsNext, HandsAnswer, TakesOther, Finds, IsNext, MissesNext, IsRefusedFor, IsRefusedAt, IsClockless, IsWordless, LeavesFault}
+use Rattle.wasmhost_serve.specs.Lines.Answers.{Standing, HandsNext, HandsAnswer, TakesOther, Finds}
+use Rattle.wasmhost_serve.specs.Lines.Answers.{IsNext, MissesNext, IsRefusedFor, IsRefusedAt}
+use Rattle.wasmhost_serve.specs.Lines.Answers.{IsClockless, IsWordless, LeavesFault}
 use Rattle.wasmhost_serve.proofs.LineLemmas.Passing.{passed_nothing, up_to_on}
 
 -- ---- one answer

@@ -1,5 +1,6 @@
 -- Line after line of a reader.
-use Rattle.std.proofs.Common.{◌≡◌, ℕ, ◌+◌, ◌≤◌, List, [], ◌∷◌, ◌++◌, length, None, Some, refl, sym, ap, subst, ◌∙◌, arith, append_assoc, append-nil, length-append}
+use Rattle.std.proofs.Common.{◌≡◌, ℕ, ◌+◌, ◌≤◌, List, [], ◌∷◌, ◌++◌, length, None, Some, refl, sym}
+use Rattle.std.proofs.Common.{ap, subst, ◌∙◌, arith, append_assoc, append-nil, length-append}
 use Rattle.std.specs.Prelude.{Option, IfSome}
 use Rattle.std.specs.Io.BufRead.{first_piece, drop_through, DropsThrough}
 use Rattle.std.specs.Io.KnownBytes.{IsAtEnd}
@@ -8,7 +9,8 @@ use Rattle.wasi_abi.specs.rules.Answers.{newline}
 use Rattle.process_rules.specs.Runs.{Kept, Given}
 use Rattle.wasmhost_serve.specs.declared.lines.request.Request.{Request}
 use Rattle.wasmhost_serve.specs.rules.Numbers.{IsNumberedRequest, request_number}
-use Rattle.wasmhost_serve.specs.rules.Requests.{answer_in, BeginsWithRequest, GivesAnswers, none, passed, taken, GiveUpTo, BeginsWithNumber}
+use Rattle.wasmhost_serve.specs.rules.Requests.{answer_in, BeginsWithRequest, GivesAnswers, none}
+use Rattle.wasmhost_serve.specs.rules.Requests.{passed, taken, GiveUpTo, BeginsWithNumber}
 use Rattle.wasmhost_serve.specs.rules.Texts.{IsShortRequest, request_line}
 
 -- answers behind others

@@ -10,14 +10,19 @@ appends_nothing : (o : Option (List ℕ)) → Appends o o []
 appends_nothing None = tt
 appends_nothing (Some xs) = sym (append-nil xs)
 
-appends_both : (a b c : Option (List ℕ)) (front rest : List ℕ) → Appends a b front → Appends b c rest → Appends a c (front ++ rest)
+appends_both : (a b c : Option (List ℕ)) (front rest : List ℕ) → Appends a b front
+    → Appends b c rest → Appends a c (front ++ rest)
 appends_both None b c front rest h k = tt
 appends_both (Some xs) None c front rest h k = absurd h
 appends_both (Some xs) (Some ys) None front rest h k = absurd k
-appends_both (Some xs) (Some ys) (Some zs) front rest h k = k ∙ ap (λ v. v ++ rest) h ∙ append_assoc xs front rest
+appends_both (Some xs) (Some ys) (Some zs) front rest h k = k ∙ ap (λ v. v ++ rest) h
+    ∙ append_assoc xs front rest
 
-pub taken_are_printed : {O : Type 0} (contents : O → Option (List ℕ)) → TakenLinesArePrinted contents
-taken_are_printed contents first [] old new h = subst (λ z. Appends (contents old) (contents z) []) (sym h) (appends_nothing (contents old))
+pub taken_are_printed : {O : Type 0} (contents : O → Option (List ℕ))
+    → TakenLinesArePrinted contents
+taken_are_printed contents first [] old new h =
+    subst (λ z. Appends (contents old) (contents z) []) (sym h) (appends_nothing (contents old))
 taken_are_printed contents first (line ∷ lines) old new h =
-    appends_both (contents old) (contents h.0) (contents new) (printed first line) (all_printed (first + 1) lines) h.1
+    appends_both (contents old) (contents h.0) (contents new) (printed first line)
+    (all_printed (first + 1) lines) h.1
     (taken_are_printed contents (first + 1) lines h.0 new h.2)

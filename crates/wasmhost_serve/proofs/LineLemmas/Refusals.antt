@@ -1,5 +1,8 @@
 -- Lines that are refused.
-use Rattle.std.proofs.Common.{inl, inr, ◌≡◌, ◌≢◌, ℕ, ◌+◌, ◌-◌, ◌^◌, ◌<◌, ◌≤◌, Bool, true, false, List, [], ◌∷◌, ◌++◌, All, None, Some, cond, length, take, drop, codes, refl, sym, ap, subst, ◌∙◌, arith, take-append-drop, length-take-le, take-take, append_assoc, length-append}
+use Rattle.std.proofs.Common.{inl, inr, ◌≡◌, ◌≢◌, ℕ, ◌+◌, ◌-◌, ◌^◌, ◌<◌, ◌≤◌, Bool, true, false}
+use Rattle.std.proofs.Common.{List, [], ◌∷◌, ◌++◌, All, None, Some, cond, length, take, drop, codes}
+use Rattle.std.proofs.Common.{refl, sym, ap, subst, ◌∙◌, arith, take-append-drop, length-take-le}
+use Rattle.std.proofs.Common.{take-take, append_assoc, length-append}
 use Rattle.std.specs.Prelude.{Option, IfSome, OnSome}
 use Rattle.std.proofs.lemmas.Bool.{false≢true}
 use Rattle.std.specs.Fmt.{decimal}
@@ -15,7 +18,8 @@ use Rattle.wasmhost_serve.specs.declared.lines.fault.LineFault.TheVariants as fa
 use Rattle.wasmhost_serve.specs.declared.lines.request.Request.TheVariants as request
 use Rattle.wasmhost_serve.specs.rules.Texts.{IsRequestLine}
 use Rattle.wasmhost_serve.specs.rules.Requests.{GiveUpTo, BeginsWithOther}
-use Rattle.wasmhost_serve.specs.Lines.Reads.{IsFaultOfReading, IsFaultOfLine, GrowsTooLong, BeginsTooLong, AreSome}
+use Rattle.wasmhost_serve.specs.Lines.Reads.{IsFaultOfReading, IsFaultOfLine, GrowsTooLong}
+use Rattle.wasmhost_serve.specs.Lines.Reads.{BeginsTooLong, AreSome}
 use Rattle.wasmhost_serve.specs.Lines.Answers.{MissesNext}
 use Rattle.wasmhost_serve.proofs.LineLemmas.Passing.{behind_passed, if_some_map, up_to_here}
 

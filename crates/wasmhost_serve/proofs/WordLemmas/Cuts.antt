@@ -1,6 +1,9 @@
 -- Words that are cut at the first `--`.
-use Rattle.std.proofs.Common.{◌≡◌, ℕ, Bool, ◌+◌, ◌-◌, map, ◌<◌, ◌≤◌, true, false, refl, sym, ap, subst, ◌∙◌, arith, List, [], ◌∷◌, ◌++◌, length, get_or, take, drop, codes}
-use Rattle.std.proofs.lemmas.List.{append-nil, append_assoc, take-append-drop, take_more, drop_more, drop-map, get_or-map, length-map, take-map, take_rest}
+use Rattle.std.proofs.Common.{◌≡◌, ℕ, Bool, ◌+◌, ◌-◌, map, ◌<◌, ◌≤◌, true, false, refl, sym, ap}
+use Rattle.std.proofs.Common.{subst, ◌∙◌, arith, List, [], ◌∷◌, ◌++◌, length, get_or, take, drop}
+use Rattle.std.proofs.Common.{codes}
+use Rattle.std.proofs.lemmas.List.{append-nil, append_assoc, take-append-drop, take_more, drop_more}
+use Rattle.std.proofs.lemmas.List.{drop-map, get_or-map, length-map, take-map, take_rest}
 use Rattle.std.proofs.Math.ListN.{drop_of_length-le}
 use Rattle.std.specs.Str.{bytes_eq}
 use Rattle.clap.specs.Words.{Text}
@@ -20,7 +23,8 @@ module _ (words : List Text) (at : ℕ) (passed : HasPassed words at) where
   next : (d : Text) → at < length words → drop at words ≡ get_or words at d ∷ drop (at + 1) words
   next d more = drop_more words at d more
 
-  pub passes_one : (d : Text) → at < length words → bytes_eq (get_or words at d) (codes "--") ≡ false
+  pub passes_one : (d : Text) → at < length words
+      → bytes_eq (get_or words at d) (codes "--") ≡ false
       → HasPassed words (at + 1)
   passes_one d more other = record {
     within = omega (arith, more);

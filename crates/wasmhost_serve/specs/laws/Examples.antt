@@ -3,7 +3,8 @@ use Rattle.std.specs.Prelude.{◌≡◌, ◌-◌, ◌^◌, ℕ, true, List, [], 
 use Rattle.clap.specs.Words.{Text, takes}
 use Rattle.clap.specs.Kinds.{Kinds}
 use Rattle.clap.specs.declared.error.ErrorKind.TheVariants as kind
-use Rattle.wasmhost_serve.specs.rules.Commands.{Meaning, RunMeaning, check, faults_in_words, meaning_in, own_words, run, wasmhost}
+use Rattle.wasmhost_serve.specs.rules.Commands.{Meaning, RunMeaning, check, faults_in_words}
+use Rattle.wasmhost_serve.specs.rules.Commands.{meaning_in, own_words, run, wasmhost}
 
 -- the program's name, and words behind it
 abbrev pub line : List Text → List Text
@@ -39,8 +40,10 @@ pub record OrderExamples : Type 0 where
   pub checks : Means (line (codes "check" ∷ codes "a.wasm" ∷ [])) (check (codes "a.wasm"))
   pub runs : Means (run_line []) (run plain_run)
   pub runs_with_fuel : Means (with_fuel (codes "7")) (run (fuelled_run 7))
-  pub runs_with_the_most_fuel : Means (with_fuel (codes "18446744073709551615")) (run (fuelled_run (2 ^ 64 - 1)))
-  pub option_first : Means (line (codes "run" ∷ codes "--fuel=7" ∷ codes "a.wasm" ∷ [])) (run (fuelled_run 7))
+  pub runs_with_the_most_fuel : Means (with_fuel (codes "18446744073709551615"))
+      (run (fuelled_run (2 ^ 64 - 1)))
+  pub option_first : Means (line (codes "run" ∷ codes "--fuel=7" ∷ codes "a.wasm" ∷ []))
+      (run (fuelled_run 7))
   pub seed : Means (run_line (codes "--seed" ∷ codes "0A" ∷ []))
       (run (record plain_run { seed = Some (codes "0A") }))
   pub clock : Means (run_line (codes "--clock=0" ∷ []))
@@ -51,7 +54,8 @@ pub record OrderExamples : Type 0 where
       (run_line (codes "--" ∷ codes "--fuel" ∷ codes "--" ∷ codes "b" ∷ []))
       (run (record plain_run { arguments = codes "--fuel" ∷ codes "--" ∷ codes "b" ∷ [] }))
   pub no_arguments : Means (run_line (codes "--" ∷ [])) (run plain_run)
-  pub path_like_an_option : Means (line (codes "check" ∷ codes "--" ∷ codes "--fuel" ∷ [])) (check (codes "--fuel"))
+  pub path_like_an_option : Means (line (codes "check" ∷ codes "--" ∷ codes "--fuel" ∷ []))
+      (check (codes "--fuel"))
 
 -- the kinds of fault that are listed for the words
 abbrev pub WordsFail : List Text → Kinds → Type 0
@@ -59,13 +63,16 @@ WordsFail words kinds = faults_in_words words ≡ kinds
 
 pub record MistakeExamples : Type 0 where
   pub no_command : WordsFail (line []) (kind.MissingSubcommand ∷ [])
-  pub unknown_command : WordsFail (line (codes "open" ∷ codes "a" ∷ [])) (kind.UnknownArgument ∷ kind.InvalidSubcommand ∷ [])
+  pub unknown_command : WordsFail (line (codes "open" ∷ codes "a" ∷ [])) (kind.UnknownArgument
+      ∷ kind.InvalidSubcommand ∷ [])
   pub no_module : WordsFail (line (codes "run" ∷ [])) (kind.MissingRequiredArgument ∷ [])
   pub two_modules : WordsFail (run_line (codes "b.wasm" ∷ [])) (kind.UnknownArgument ∷ [])
   pub no_number : WordsFail (run_line (codes "--fuel" ∷ [])) (kind.InvalidValue ∷ [])
   pub zero_fuel : WordsFail (with_fuel (codes "0")) (kind.ValueValidation ∷ [])
-  pub too_much_fuel : WordsFail (with_fuel (codes "18446744073709551616")) (kind.ValueValidation ∷ [])
-  pub fuel_twice : WordsFail (run_line (codes "--fuel" ∷ codes "1" ∷ codes "--fuel" ∷ codes "2" ∷ [])) (kind.ArgumentConflict ∷ [])
+  pub too_much_fuel : WordsFail (with_fuel (codes "18446744073709551616")) (kind.ValueValidation
+      ∷ [])
+  pub fuel_twice : WordsFail (run_line (codes "--fuel" ∷ codes "1" ∷ codes "--fuel" ∷ codes "2"
+      ∷ [])) (kind.ArgumentConflict ∷ [])
   pub clock_below_zero : WordsFail (run_line (codes "--clock=-1" ∷ []))
       (kind.ValueValidation ∷ [])
   pub seed_twice : WordsFail
@@ -73,7 +80,8 @@ pub record MistakeExamples : Type 0 where
       (kind.ArgumentConflict ∷ [])
   pub path_behind_dashes : WordsFail (line (codes "run" ∷ codes "--" ∷ codes "a.wasm" ∷ []))
       (kind.MissingRequiredArgument ∷ [])
-  pub fuel_of_a_check : WordsFail (line (codes "check" ∷ codes "a.wasm" ∷ codes "--fuel" ∷ codes "7" ∷ [])) (kind.UnknownArgument ∷ [])
+  pub fuel_of_a_check : WordsFail (line (codes "check" ∷ codes "a.wasm" ∷ codes "--fuel" ∷ codes "7"
+      ∷ [])) (kind.UnknownArgument ∷ [])
 
 -- help is asked for
 pub record HelpExamples : Type 0 where

@@ -10,4 +10,5 @@ HasFuel (run said) = (1 ≤ said.fuel) × (said.fuel < 2 ^ 64)
 
 -- words for which no fault is listed mean an order, and its fuel is a number from 1 to 2^64 - 1
 abbrev pub FaultlessWordsMean : Type 0
-FaultlessWordsMean = (words : List Text) → faults_in_words words ≡ [] → IsSomeAnd (meaning_in words) HasFuel
+FaultlessWordsMean = (words : List Text) → faults_in_words words ≡ []
+    → IsSomeAnd (meaning_in words) HasFuel

@@ -1,10 +1,15 @@
 -- The program's command line, and the order that its words give.
-use Rattle.std.specs.Prelude.{◌≡◌, ◌⊎◌, ⊤, ℕ, ◌-◌, ◌^◌, Bool, List, [], ◌∷◌, true, false, Option, Some, None, Result, option_map, option_and_then, unwrap_or, slice_get, if◌then◌else◌, codes, ◌≢◌, IfSome, IsSome, MatchResult}
+use Rattle.std.specs.Prelude.{◌≡◌, ◌⊎◌, ⊤, ℕ, ◌-◌, ◌^◌, Bool, List, [], ◌∷◌, true, false, Option}
+use Rattle.std.specs.Prelude.{Some, None, Result, option_map, option_and_then, unwrap_or, slice_get}
+use Rattle.std.specs.Prelude.{if◌then◌else◌, codes, ◌≢◌, IfSome, IsSome, MatchResult}
 use Rattle.std.specs.Option.{option_map_or}
 use Rattle.std.specs.Int.NonZero.{non_zero_u64_get}
 use Rattle.std.specs.Str.{bytes_eq}
 use Rattle.std.specs.Str.Parse.{digits_value, without_leading_plus}
-use Rattle.clap.specs.Words.{App, IsAmong, IsUnsignedIn, Kinds, Row, Rule, Text, all_of, app_of, fault_of, first_of, is_broken, kind_of, new_app, new_rule, one_of, rule_of, subcommand_of, subcommand_rows_of, takes, with_rule, with_subcommand}
+use Rattle.clap.specs.Words.{App, IsAmong, IsUnsignedIn, Kinds, Row, Rule, Text, all_of, app_of}
+use Rattle.clap.specs.Words.{fault_of, first_of, is_broken, kind_of, new_app, new_rule, one_of}
+use Rattle.clap.specs.Words.{rule_of, subcommand_of, subcommand_rows_of, takes, with_rule}
+use Rattle.clap.specs.Words.{with_subcommand}
 use Rattle.clap.specs.Simple.{on_top}
 use Rattle.clap.specs.declared.error.ErrorKind.TheVariants as kind
 use Rattle.clap.specs.declared.error.Error.{Error}
@@ -29,7 +34,11 @@ module_rule = record (new_rule (codes "MODULE")) { required = true; action = Som
 
 -- the option `--fuel`, with a number from 1 to 2^64 - 1
 abbrev pub fuel_rule : Rule
-fuel_rule = record (new_rule (codes "fuel")) { long = Some (codes "fuel"); value_names = 1; parser = Some (Unsigned 1 (2 ^ 64 - 1)) }
+fuel_rule = record (new_rule (codes "fuel")) {
+  long = Some (codes "fuel");
+  value_names = 1;
+  parser = Some (Unsigned 1 (2 ^ 64 - 1));
+}
 
 -- `check MODULE`
 abbrev pub check_app : App
@@ -69,7 +78,8 @@ run_app = with_rule seeded_app env_rule
 
 -- the program, which requires one of the two
 abbrev pub wasmhost : App
-wasmhost = on_top (λ top. record top { subcommand_required = true }) (with_subcommand (with_subcommand (new_app (codes "wasmhost")) check_app.top) run_app.top)
+wasmhost = on_top (λ top. record top { subcommand_required = true })
+    (with_subcommand (with_subcommand (new_app (codes "wasmhost")) check_app.top) run_app.top)
 
 -- the argument has this rule, and belongs to its command alone
 abbrev pub IsArgument : Rule → Arg → Type 0
@@ -77,7 +87,8 @@ IsArgument rule argument = (rule_of argument ≡ rule) × (argument.global ≡ f
 
 -- the command is this one, whole, and none of its arguments is global
 abbrev pub IsCommand : App → Command → Type 0
-IsCommand app command = (app_of command ≡ app) × (is_broken command ≡ false) × ((out-Command command).has_globals ≡ false)
+IsCommand app command = (app_of command ≡ app) × (is_broken command ≡ false)
+    × ((out-Command command).has_globals ≡ false)
 
 -- ---- the words behind `--`
 
@@ -189,10 +200,12 @@ meaning_in words = option_and_then (meaning_below (guest_words words))
 -- a fault of the words that the command reads: a mistake, or a call for help, of a kind that is
 -- listed for them; or want of memory
 abbrev pub IsFaultOf : List Text → WordsFault → Type 0
-IsFaultOf words (fault.Words told) = IsAmong (kind_of told) (fault_of wasmhost words) × (takes wasmhost words ≡ true → ⊥)
+IsFaultOf words (fault.Words told) = IsAmong (kind_of told) (fault_of wasmhost words)
+    × (takes wasmhost words ≡ true → ⊥)
 IsFaultOf words fault.Memory = ⊤
 
--- what may be answered to the words: the order that they mean, where no kind of fault is listed for them, or a fault of theirs
+-- what may be answered to the words: the order that they mean, where no kind of fault is listed for
+-- them, or a fault of theirs
 abbrev pub IsReading : List Text → Result Order WordsFault → Type 0
 IsReading words result = MatchResult result
     (λ order. (faults_in_words words ≡ []) × (meaning_in words ≡ Some (meaning_of order)))
@@ -202,7 +215,8 @@ IsReading words result = MatchResult result
 
 -- the matches are those of the words
 abbrev pub IsParse : List Text → Result ArgMatches WordsFault → Type 0
-IsParse words result = MatchResult result (λ matches. (fault_of wasmhost words ≡ []) × (subcommand_rows_of matches ≡ subcommand_of wasmhost words)) (IsFaultOf words)
+IsParse words result = MatchResult result (λ matches. (fault_of wasmhost words ≡ [])
+    × (subcommand_rows_of matches ≡ subcommand_of wasmhost words)) (IsFaultOf words)
 
 -- a number from 1 to 2^64 - 1
 abbrev pub IsFuelText : Text → Type 0
@@ -238,5 +252,6 @@ IsWordsFault told fault.Memory = kind_of told ≡ kind.OutOfMemory
 
 -- help is done, a mistake is 2, and want of memory 5
 abbrev pub IsStatusOf : WordsFault → ℕ → Type 0
-IsStatusOf (fault.Words told) status = ((status ≡ 0) × IsAskedFor told) ⊎ ((status ≡ 2) × (IsAskedFor told → ⊥))
+IsStatusOf (fault.Words told) status = ((status ≡ 0) × IsAskedFor told)
+    ⊎ ((status ≡ 2) × (IsAskedFor told → ⊥))
 IsStatusOf fault.Memory status = status ≡ 5

@@ -15,5 +15,6 @@ all_printed first (line ∷ lines) = printed first line ++ all_printed (first + 
 abbrev pub TakenLinesArePrinted : {O : Type 0} → (O → Option (List ℕ)) → Type 0
 TakenLinesArePrinted {O} contents =
     (first : ℕ) (lines : List Line) (old new : O)
-    → Releases (λ o number line said p. PrintsOneLine (contents o) number line said (contents p)) old (all_taken first lines) new
+    → Releases (λ o number line said p. PrintsOneLine (contents o) number line said (contents p))
+    old (all_taken first lines) new
     → Appends (contents old) (contents new) (all_printed first lines)

@@ -1,7 +1,8 @@
 -- What the commands find, and the exit status that says it.
 use Rattle.std.specs.Prelude.{ℕ, List, Result, Ok, Err, ⊤, if◌then◌else◌}
 use Rattle.machine_loader.specs.declared.fault.FrontFault.{FrontFault}
-use Rattle.machine_loader.specs.rules.Acceptance.{HasAcceptedModule, HasNoAcceptedModule, FrontDenies, is_want}
+use Rattle.machine_loader.specs.rules.Acceptance.{HasAcceptedModule, HasNoAcceptedModule}
+use Rattle.machine_loader.specs.rules.Acceptance.{FrontDenies, is_want}
 use Rattle.worker.specs.declared.fault.WorkFault.TheVariants as fault
 use Rattle.wasmhost_serve.specs.declared.lines.fault.LineFault.TheVariants as line
 use Rattle.wasi_abi.specs.rules.Configs.{Settings, AreSettingsWithinLimits}
@@ -10,7 +11,8 @@ use Rattle.wasmhost_serve.specs.declared.configuring.Unconfigured.TheVariants as
 use Rattle.wasmhost_serve.specs.declared.run.RunFault.{RunFault}
 use Rattle.wasmhost_serve.specs.declared.run.RunFault.TheVariants as run
 
--- The bytes spell an accepted module, or none for the fault to be told. Want of memory says nothing of them.
+-- The bytes spell an accepted module, or none for the fault to be told. Want of memory says nothing
+-- of them.
 abbrev pub IsRight : ℕ → List ℕ → Result ⊤ FrontFault → Type 0
 IsRight pages bytes (Ok done) = HasAcceptedModule pages bytes
 IsRight pages bytes (Err fault) = FrontDenies fault (HasNoAcceptedModule pages bytes)

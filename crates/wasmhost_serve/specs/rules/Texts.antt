@@ -18,7 +18,8 @@ letter_of stream = if stream == 2 then codes " e " else codes " o "
 abbrev pub printed : ℕ → Line → List ℕ
 printed number line = decimal number ++ letter_of line.stream ++ line.text ++ newline ∷ []
 
--- a request line as it is read, without its newline: its number, and `r` with a text or `e` for the end
+-- a request line as it is read, without its newline: its number, and `r` with a text or `e` for the
+-- end
 abbrev pub request_line : Request → List ℕ
 request_line (request.Text number text) = decimal number ++ codes " r " ++ text.now
 request_line (request.End number) = decimal number ++ codes " e"
@@ -30,7 +31,8 @@ IsShortRequest (request.End number) = Unit {0}
 
 -- the line of some request, with a text that isn't too long
 abbrev pub IsRequestLine : List ℕ → Type 0
-IsRequestLine line = (r : Request) × IsNumberedRequest r × IsShortRequest r × (line ≡ request_line r)
+IsRequestLine line = (r : Request) × IsNumberedRequest r × IsShortRequest r
+    × (line ≡ request_line r)
 
 -- the name of a trap, as it is printed
 abbrev pub trap_text : Trap → List ℕ

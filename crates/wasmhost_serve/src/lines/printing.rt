@@ -8,7 +8,8 @@ use std::io::{self, Write};
 
 /// Spells a line: its number, `o` or `e` for stream 2, its text and a newline.
 fn spell_line<W: Write>(out: &mut W, number: u64, stream: u8, text: &[u8]) -> io::Result<()>
-    ensures { OnOk result (Appends (W.contents out.old) (W.contents out.new) (printed number (record { stream = stream; text = text.now }))) }
+    ensures { OnOk result (Appends (W.contents out.old) (W.contents out.new)
+        (printed number (record { stream = stream; text = text.now }))) }
 {
     write!(out, "{number}")?;
     if stream == 2 {
@@ -20,7 +21,8 @@ fn spell_line<W: Write>(out: &mut W, number: u64, stream: u8, text: &[u8]) -> io
     out.write_all(b"\n")
 }
 
-/// Spells a line in `line`, in place of what is there, and writes it whole. Then the writer is flushed.
+/// Spells a line in `line`, in place of what is there, and writes it whole. Then the writer is
+/// flushed.
 pub fn print_line<W: Write>(
     out: &mut W,
     line: &mut Vec<u8>,
@@ -28,7 +30,8 @@ pub fn print_line<W: Write>(
     stream: u8,
     text: &[u8],
 ) -> io::Result<()>
-    ensures { OnOk result (Appends (W.contents out.old) (W.contents out.new) (printed number (record { stream = stream; text = text.now }))) }
+    ensures { OnOk result (Appends (W.contents out.old) (W.contents out.new)
+        (printed number (record { stream = stream; text = text.now }))) }
 {
     line.clear();
     spell_line(line, number, stream, text)?;

@@ -1,6 +1,7 @@
 //! Request lines.
 
-ghost use Rattle.std.specs.Prelude.{◌≡◌, ◌≢◌, ◌<◌, ◌≤◌, ◌^◌, ℕ, List, ◌∷◌, ◌++◌, Some, IfSome, IsSome, IsSomeAnd, codes, length, slice_index};
+ghost use Rattle.std.specs.Prelude.{◌≡◌, ◌≢◌, ◌<◌, ◌≤◌, ◌^◌, ℕ, List, ◌∷◌, ◌++◌, Some, IfSome};
+ghost use Rattle.std.specs.Prelude.{IsSome, IsSomeAnd, codes, length, slice_index};
 ghost use Rattle.std.specs.Fmt.{decimal};
 ghost use Rattle.wasmhost_serve.specs.rules.Texts.{IsShortRequest, IsRequestLine, request_line};
 ghost use Rattle.wasmhost_serve.specs.rules.Numbers.{IsNumberedRequest, request_number};
@@ -65,7 +66,9 @@ fn first_space(line: &[u8]) -> Option<usize>
 /// What stands before the first space, and what behind it.
 fn split_at_space(line: &[u8]) -> Option<(&[u8], &[u8])>
     ensures parts { IfSome result (λ r. line.now ≡ r.0.now ++ 32 ∷ r.1.now) }
-    ensures found { (front back : List ℕ) → line.now ≡ front ++ 32 ∷ back → ((k : ℕ) → k < length front → slice_index front k ≢ 32) → IsSomeAnd result (λ r. (r.0.now ≡ front) × (r.1.now ≡ back)) }
+    ensures found { (front back : List ℕ) → line.now ≡ front ++ 32 ∷ back
+        → ((k : ℕ) → k < length front → slice_index front k ≢ 32)
+        → IsSomeAnd result (λ r. (r.0.now ≡ front) × (r.1.now ≡ back)) }
 {
     let space = first_space(line)?;
     Some((&line[..space], &line[space + 1..]))
@@ -73,10 +76,12 @@ fn split_at_space(line: &[u8]) -> Option<(&[u8], &[u8])>
 
 /// What is said behind the number and its space: `r text`, with a text that isn't too long, or `e`.
 fn read_said<'a>(number: u64, said: &'a [u8]) -> Option<Request<'a>>
-    ensures spelled { IfSome result (λ read. decimal number ++ 32 ∷ said.entry.now ≡ request_line read) }
+    ensures spelled { IfSome result (λ read. decimal number ++ 32 ∷ said.entry.now
+        ≡ request_line read) }
     ensures same { IfSome result (λ read. request_number read ≡ number) }
     ensures short { IfSome result IsShortRequest }
-    ensures text { (bytes : List ℕ) → said.entry.now ≡ codes "r " ++ bytes → length bytes ≤ TEXT_BYTES → IsSome result }
+    ensures text { (bytes : List ℕ) → said.entry.now ≡ codes "r " ++ bytes
+        → length bytes ≤ TEXT_BYTES → IsSome result }
     ensures end { said.entry.now ≡ codes "e" → IsSome result }
 {
     match said {
@@ -88,7 +93,8 @@ fn read_said<'a>(number: u64, said: &'a [u8]) -> Option<Request<'a>>
     }
 }
 
-/// What a line without its newline says: `N r text` or `N e`. A line with a text that is too long says nothing.
+/// What a line without its newline says: `N r text` or `N e`. A line with a text that is too long
+/// says nothing.
 pub fn read_request<'a>(line: &'a [u8]) -> Option<Request<'a>>
     ensures spelled { IfSome result (λ read. line.entry.now ≡ request_line read) }
     ensures numbered { IfSome result IsNumberedRequest }

@@ -2,7 +2,8 @@
 
 ghost use Rattle.std.specs.Prelude.{◌≡◌, IfOk, codes, map};
 ghost use Rattle.std.specs.Str.{bytes_eq};
-ghost use Rattle.wasmhost_serve.specs.rules.Commands.{behind_dashes, before_dashes, guest_words, is_run, own_words};
+ghost use Rattle.wasmhost_serve.specs.rules.Commands.{behind_dashes, before_dashes, guest_words};
+ghost use Rattle.wasmhost_serve.specs.rules.Commands.{is_run, own_words};
 ghost use Rattle.wasmhost_serve.specs.rules.Served.{texts_in};
 
 use std::alloc::{AllocError, Global};

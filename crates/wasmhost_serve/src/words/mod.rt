@@ -4,8 +4,14 @@ ghost use Rattle.std.specs.Prelude.{◌≡◌, IfOk, Some, codes, map, option_ma
 ghost use Rattle.std.specs.Int.NonZero.{non_zero_u64_get};
 ghost use Rattle.clap.specs.Words.{first_of, found_of, rows_of};
 ghost use Rattle.wasmhost_serve.specs.rules.Served.{texts_in};
-ghost use Rattle.wasmhost_serve.specs.rules.Commands.{IsArgument, IsCommand, IsParse, IsReading, IsStatusOf, IsTaken, IsWordsFault, TakesClock, TakesFuel};
-ghost use Rattle.wasmhost_serve.specs.rules.Commands.{check_app, clock_in, clock_rule, env_rule, environment_in, fuel_in, fuel_rule, fuelled_app, meaning_below, meaning_of, module_rule, run_app, run_in, run_said, seed_rule, seeded_app, wasmhost};
+ghost use Rattle.wasmhost_serve.specs.rules.Commands.{IsArgument, IsCommand, IsParse, IsReading};
+ghost use Rattle.wasmhost_serve.specs.rules.Commands.{IsStatusOf, IsTaken, IsWordsFault};
+ghost use Rattle.wasmhost_serve.specs.rules.Commands.{TakesClock, TakesFuel};
+ghost use Rattle.wasmhost_serve.specs.rules.Commands.{check_app, clock_in, clock_rule, env_rule};
+ghost use Rattle.wasmhost_serve.specs.rules.Commands.{environment_in, fuel_in, fuel_rule};
+ghost use Rattle.wasmhost_serve.specs.rules.Commands.{fuelled_app, meaning_below, meaning_of};
+ghost use Rattle.wasmhost_serve.specs.rules.Commands.{module_rule, run_app, run_in, run_said};
+ghost use Rattle.wasmhost_serve.specs.rules.Commands.{seed_rule, seeded_app, wasmhost};
 ghost use Rattle.wasmhost_serve.specs.declared.words.WordsFault.TheVariants as fault;
 
 mod cut;

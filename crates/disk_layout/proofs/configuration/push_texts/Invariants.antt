@@ -6,5 +6,6 @@ use Rattle.disk_layout.proofs.configuration.push_texts.Given as goal
 
 abbrev pub invariant-loop-text : goal.invariant-loop-text
 invariant-loop-text l = record {
-  so_far : l.bytes.items ≡ l.fn.bytes.items ++ (u32_bytes (length l.texts) ++ flat_map short_text_bytes (take l.text-index l.texts));
+  so_far : l.bytes.items ≡ l.fn.bytes.items
+      ++ (u32_bytes (length l.texts) ++ flat_map short_text_bytes (take l.text-index l.texts));
 }

@@ -1,9 +1,11 @@
-use Rattle.std.proofs.Common.{◌≡◌, ◌<◌, ◌≤◌, ◌+◌, ◌++◌, ℕ, List, length, Ok, Result, sym, ap, ◌∙◌, subst, arith, rules}
+use Rattle.std.proofs.Common.{◌≡◌, ◌<◌, ◌≤◌, ◌+◌, ◌++◌, ℕ, List, length, Ok, Result, sym, ap, ◌∙◌}
+use Rattle.std.proofs.Common.{subst, arith, rules}
 use Rattle.sector_disk.specs.rules.Image.{sector_at}
 use Rattle.sector_disk.specs.rules.Medium.{Tears, TakesWrite, BothFollow, MakesCalls}
 use Rattle.sector_disk.specs.rules.Calls.{rising_writes}
 use Rattle.sector_disk.specs.rules.Run.{IsTornRun, IsWrittenRun}
-use Rattle.sector_disk.proofs.RunLemmas.{both_tear, both_take, both_longer, run_passes, run_leaves_only}
+use Rattle.sector_disk.proofs.RunLemmas.{both_tear, both_take, both_longer, run_passes}
+use Rattle.sector_disk.proofs.RunLemmas.{run_leaves_only}
 use Rattle.sector_disk.proofs.CountLemmas.{counts_then, counts_more}
 use Rattle.sector_disk.proofs.CallLemmas.{rising_begun, rising_more}
 use Rattle.disk_layout.specs.rules.Places.{rounded_up}
@@ -19,13 +21,18 @@ returns-in_err-write-clause-any_moment g c =
     let mid = g.D.Disk.medium c.loop-i.disk in
     let new = g.D.Disk.medium c.write.new.self in
     let sectors = contents_sectors (c.args.config.now ++ c.args.wasm.now) in
-    let many = counted c.args.config.now c.args.wasm.now c.sectors_of-count.result c.sectors_of-count.ensures in
+    let many = counted c.args.config.now c.args.wasm.now c.sectors_of-count.result
+    c.sectors_of-count.ensures in
     let below : n < length sectors = let t = c.loop-i-test.true in omega arith in
-    let sector : c.sector_of-sector.result ≡ sector_at sectors n = c.sector_of-sector.ensures ∙ sym (contents_at c.args.config.now c.args.wasm.now n below) in
+    let sector : c.sector_of-sector.result ≡ sector_at sectors n = c.sector_of-sector.ensures
+    ∙ sym (contents_at c.args.config.now c.args.wasm.now n below) in
     let tears = subst (λ (s : List ℕ). Tears (3 + n) s mid new) sector c.write.ensures.tears in
-    let inside : 3 + n < mid.sectors = let s = i.passes.sectors in let r = c.requires.room in let e = c.sectors_of-count.ensures in omega arith in
+    let inside : 3 + n < mid.sectors = let s = i.passes.sectors in let r = c.requires.room in
+    let e = c.sectors_of-count.ensures in omega arith in
     let both = both_tear 3 sectors n old mid new inside i.tears tears in
-    run_leaves_only 3 sectors (length sectors) old new (run_passes 3 sectors (n + 1) (length sectors) old mid new (omega arith) i.passes both c.write.ensures.passes)
+    run_leaves_only 3 sectors (length sectors) old new
+    (run_passes 3 sectors (n + 1) (length sectors) old mid new
+    (omega arith) i.passes both c.write.ensures.passes)
 
 pub loop-i-preserved : goal.loop-i-preserved
 loop-i-preserved g c =
@@ -35,20 +42,27 @@ loop-i-preserved g c =
     let mid = g.D.Disk.medium c.loop-i.disk in
     let new = g.D.Disk.medium c.write.new.self in
     let sectors = contents_sectors (c.args.config.now ++ c.args.wasm.now) in
-    let many = counted c.args.config.now c.args.wasm.now c.sectors_of-count.result c.sectors_of-count.ensures in
+    let many = counted c.args.config.now c.args.wasm.now c.sectors_of-count.result
+    c.sectors_of-count.ensures in
     let below : n < length sectors = let t = c.loop-i-test.true in omega arith in
-    let sector : c.sector_of-sector.result ≡ sector_at sectors n = c.sector_of-sector.ensures ∙ sym (contents_at c.args.config.now c.args.wasm.now n below) in
+    let sector : c.sector_of-sector.result ≡ sector_at sectors n = c.sector_of-sector.ensures
+    ∙ sym (contents_at c.args.config.now c.args.wasm.now n below) in
     let tears = subst (λ (s : List ℕ). Tears (3 + n) s mid new) sector c.write.ensures.tears in
-    let inside : 3 + n < mid.sectors = let s = i.passes.sectors in let r = c.requires.room in let e = c.sectors_of-count.ensures in omega arith in
+    let inside : 3 + n < mid.sectors = let s = i.passes.sectors in let r = c.requires.room in
+    let e = c.sectors_of-count.ensures in omega arith in
     let both = both_tear 3 sectors n old mid new inside i.tears tears in
-    let takes = subst (λ (s : List ℕ). TakesWrite (3 + n) s mid new) sector c.in_ok-write.ensures.whole in
+    let takes = subst (λ (s : List ℕ).
+    TakesWrite (3 + n) s mid new) sector c.in_ok-write.ensures.whole in
     record {
       whole = both_take 3 sectors n old mid new inside i.whole takes;
       tears = both;
       unsynced = let u = takes.unsynced in omega (arith, i.unsynced, u);
-      counts = let u = i.unsynced in let p = i.passes in counts_then (old.unsynced + n) (mid.unsynced + 1) (old.unsynced + (n + 1)) old mid new (omega arith) (omega arith) p.later i.counts c.write.ensures.counts;
+      counts = let u = i.unsynced in let p = i.passes in
+          counts_then (old.unsynced + n) (mid.unsynced + 1) (old.unsynced + (n + 1)) old mid new
+          (omega arith) (omega arith) p.later i.counts c.write.ensures.counts;
       calls = rising_more 3 n old mid new i.calls c.in_ok-write.ensures.calls.all;
-      passes = run_passes 3 sectors (n + 1) (length sectors) old mid new (omega arith) i.passes both c.write.ensures.passes;
+      passes = run_passes 3 sectors (n + 1) (length sectors) old mid new
+          (omega arith) i.passes both c.write.ensures.passes;
     }
 
 pub returns-in_err-write-clause-torn : goal.returns-in_err-write-clause-torn
@@ -59,12 +73,16 @@ returns-in_err-write-clause-torn g c =
     let mid = g.D.Disk.medium c.loop-i.disk in
     let new = g.D.Disk.medium c.write.new.self in
     let sectors = contents_sectors (c.args.config.now ++ c.args.wasm.now) in
-    let many = counted c.args.config.now c.args.wasm.now c.sectors_of-count.result c.sectors_of-count.ensures in
+    let many = counted c.args.config.now c.args.wasm.now c.sectors_of-count.result
+    c.sectors_of-count.ensures in
     let below : n < length sectors = let t = c.loop-i-test.true in omega arith in
-    let sector : c.sector_of-sector.result ≡ sector_at sectors n = c.sector_of-sector.ensures ∙ sym (contents_at c.args.config.now c.args.wasm.now n below) in
+    let sector : c.sector_of-sector.result ≡ sector_at sectors n = c.sector_of-sector.ensures
+    ∙ sym (contents_at c.args.config.now c.args.wasm.now n below) in
     let tears = subst (λ (s : List ℕ). Tears (3 + n) s mid new) sector c.write.ensures.tears in
-    let inside : 3 + n < mid.sectors = let s = i.passes.sectors in let r = c.requires.room in let e = c.sectors_of-count.ensures in omega arith in
-    both_longer 3 sectors (n + 1) (length sectors) old new (omega arith) (both_tear 3 sectors n old mid new inside i.tears tears)
+    let inside : 3 + n < mid.sectors = let s = i.passes.sectors in let r = c.requires.room in
+    let e = c.sectors_of-count.ensures in omega arith in
+    both_longer 3 sectors (n + 1) (length sectors) old new (omega arith)
+    (both_tear 3 sectors n old mid new inside i.tears tears)
 
 pub returns-in_err-write-clause-counts : goal.returns-in_err-write-clause-counts
 returns-in_err-write-clause-counts g c =
@@ -76,8 +94,10 @@ returns-in_err-write-clause-counts g c =
     let most = old.unsynced + rounded_up (length c.args.config.now + length c.args.wasm.now) in
     let u = i.unsynced in
     let p = i.passes in
-    let below : n < rounded_up (length c.args.config.now + length c.args.wasm.now) = let e = c.sectors_of-count.ensures in let t = c.loop-i-test.true in omega arith in
-    counts_then (old.unsynced + n) (mid.unsynced + 1) most old mid new (omega arith) (omega arith) p.later i.counts c.write.ensures.counts
+    let below : n < rounded_up (length c.args.config.now + length c.args.wasm.now) =
+    let e = c.sectors_of-count.ensures in let t = c.loop-i-test.true in omega arith in
+    counts_then (old.unsynced + n) (mid.unsynced + 1) most old mid new (omega arith)
+    (omega arith) p.later i.counts c.write.ensures.counts
 
 pub returns-clause-any_moment : goal.returns-clause-any_moment
 returns-clause-any_moment g c =
@@ -94,9 +114,12 @@ returns-clause-stored g c =
     let old = g.D.Disk.medium c.args.disk.now in
     let new = g.D.Disk.medium c.loop-i.disk in
     let sectors = contents_sectors (c.args.config.now ++ c.args.wasm.now) in
-    let many = counted c.args.config.now c.args.wasm.now c.sectors_of-count.result c.sectors_of-count.ensures in
-    let all : n ≡ length sectors = let t = c.loop-i.auto.i-end in let f = c.loop-i-test.false in omega arith in
-    subst (λ (k : ℕ). BothFollow (IsWrittenRun 3 sectors k) (IsTornRun 3 sectors k) old new) all i.whole
+    let many = counted c.args.config.now c.args.wasm.now c.sectors_of-count.result
+    c.sectors_of-count.ensures in
+    let all : n ≡ length sectors = let t = c.loop-i.auto.i-end in let f = c.loop-i-test.false in
+    omega arith in
+    subst (λ (k : ℕ). BothFollow (IsWrittenRun 3 sectors k) (IsTornRun 3 sectors k) old new) all
+    i.whole
 
 pub returns-clause-torn : goal.returns-clause-torn
 returns-clause-torn g c =
@@ -105,9 +128,12 @@ returns-clause-torn g c =
     let old = g.D.Disk.medium c.args.disk.now in
     let new = g.D.Disk.medium c.loop-i.disk in
     let sectors = contents_sectors (c.args.config.now ++ c.args.wasm.now) in
-    let many = counted c.args.config.now c.args.wasm.now c.sectors_of-count.result c.sectors_of-count.ensures in
-    let all : n ≡ length sectors = let t = c.loop-i.auto.i-end in let f = c.loop-i-test.false in omega arith in
-    subst (λ (k : ℕ). BothFollow (IsTornRun 3 sectors k) (IsTornRun 3 sectors k) old new) all i.tears
+    let many = counted c.args.config.now c.args.wasm.now c.sectors_of-count.result
+    c.sectors_of-count.ensures in
+    let all : n ≡ length sectors = let t = c.loop-i.auto.i-end in let f = c.loop-i-test.false in
+    omega arith in
+    subst (λ (k : ℕ). BothFollow (IsTornRun 3 sectors k) (IsTornRun 3 sectors k) old new) all
+    i.tears
 
 pub returns-clause-counts : goal.returns-clause-counts
 returns-clause-counts g c =
@@ -115,8 +141,10 @@ returns-clause-counts g c =
     let n = c.loop-i.i in
     let old = g.D.Disk.medium c.args.disk.now in
     let new = g.D.Disk.medium c.loop-i.disk in
-    let within : n ≤ rounded_up (length c.args.config.now + length c.args.wasm.now) = let e = c.sectors_of-count.ensures in let t = c.loop-i.auto.i-end in omega arith in
-    counts_more (old.unsynced + n) (old.unsynced + rounded_up (length c.args.config.now + length c.args.wasm.now)) old new (omega arith) i.counts
+    let within : n ≤ rounded_up (length c.args.config.now + length c.args.wasm.now) =
+    let e = c.sectors_of-count.ensures in let t = c.loop-i.auto.i-end in omega arith in
+    counts_more (old.unsynced + n) (old.unsynced + rounded_up (length c.args.config.now
+    + length c.args.wasm.now)) old new (omega arith) i.counts
 
 pub returns-in_err-write-clause-calls : goal.returns-in_err-write-clause-calls
 returns-in_err-write-clause-calls g c =
@@ -126,8 +154,12 @@ returns-in_err-write-clause-calls g c =
     let mid = g.D.Disk.medium c.loop-i.disk in
     let new = g.D.Disk.medium c.write.new.self in
     let many = rounded_up (length c.args.config.now + length c.args.wasm.now) in
-    let below : n < many = let e = c.sectors_of-count.ensures in let t = c.loop-i-test.true in omega arith in
-    record { all = search rules; begun = rising_begun 3 n old mid new i.calls many below c.write.ensures.calls.begun }
+    let below : n < many = let e = c.sectors_of-count.ensures in let t = c.loop-i-test.true in
+    omega arith in
+    record {
+      all = search rules;
+      begun = rising_begun 3 n old mid new i.calls many below c.write.ensures.calls.begun;
+    }
 
 pub returns-clause-calls : goal.returns-clause-calls
 returns-clause-calls g c =
@@ -136,6 +168,7 @@ returns-clause-calls g c =
     let old = g.D.Disk.medium c.args.disk.now in
     let new = g.D.Disk.medium c.loop-i.disk in
     let many = rounded_up (length c.args.config.now + length c.args.wasm.now) in
-    let all : n ≡ many = let e = c.sectors_of-count.ensures in let t = c.loop-i.auto.i-end in let f = c.loop-i-test.false in omega arith in
+    let all : n ≡ many = let e = c.sectors_of-count.ensures in let t = c.loop-i.auto.i-end in
+    let f = c.loop-i-test.false in omega arith in
     let made = i.calls ∙ ap (λ k. rising_writes 3 k ++ old.calls) all in
     record { all = made; begun = (0, made) }

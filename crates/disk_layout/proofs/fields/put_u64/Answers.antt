@@ -2,4 +2,5 @@ use Rattle.disk_layout.proofs.fields.put_u64.Goals as goal
 use Rattle.wasi_abi.proofs.LayoutLemmas.{put_mid-with_part}
 
 pub returns : goal.returns
-returns c = put_mid-with_part c.args.at 8 c.args.number c.args.bytes.now c.write_u64.new.buf c.requires c.write_u64.ensures
+returns c = put_mid-with_part c.args.at 8 c.args.number c.args.bytes.now c.write_u64.new.buf
+    c.requires c.write_u64.ensures

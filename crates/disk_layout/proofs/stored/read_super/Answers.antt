@@ -9,13 +9,16 @@ use Rattle.disk_layout.proofs.stored.read_super.Goals as goal
 pub returns-in-Err-clause-reads : goal.returns-in-Err-clause-reads
 returns-in-Err-clause-reads g c =
     let old = g.D.Disk.medium c.args.disk.now in
-    read_more old old (g.D.Disk.medium c.read.new.self) _ _ c.read.result (no_reads old) c.read.ensures
+    read_more old old (g.D.Disk.medium c.read.new.self) _ _ c.read.result
+    (no_reads old) c.read.ensures
 
 pub returns-in_err-bytes-clause-reads : goal.returns-in_err-bytes-clause-reads
 returns-in_err-bytes-clause-reads g c =
     let old = g.D.Disk.medium c.args.disk.now in
     let mid = g.D.Disk.medium c.read.new.self in
-    reads_then old mid (g.D.Disk.medium c.read_sectors.new.disk) (read_more old old mid _ _ c.read.result (no_reads old) c.read.ensures) c.read_sectors.ensures.reads
+    reads_then old mid (g.D.Disk.medium c.read_sectors.new.disk)
+    (read_more old old mid _ _ c.read.result (no_reads old) c.read.ensures)
+    c.read_sectors.ensures.reads
 
 pub split-requires : goal.split-requires
 split-requires g c =
@@ -29,7 +32,9 @@ pub returns-clause-reads : goal.returns-clause-reads
 returns-clause-reads g c =
     let old = g.D.Disk.medium c.args.disk.now in
     let mid = g.D.Disk.medium c.read.new.self in
-    reads_then old mid (g.D.Disk.medium c.read_sectors.new.disk) (read_more old old mid _ _ c.read.result (no_reads old) c.read.ensures) c.read_sectors.ensures.reads
+    reads_then old mid (g.D.Disk.medium c.read_sectors.new.disk)
+    (read_more old old mid _ _ c.read.result (no_reads old) c.read.ensures)
+    c.read_sectors.ensures.reads
 
 pub returns-clause-finds : goal.returns-clause-finds
 returns-clause-finds g c = λ image shows.
@@ -48,4 +53,5 @@ returns-clause-finds g c = λ image shows.
       check.2,
       omega (arith, room, count),
     ) in
-    finds_split old.sectors image c.in_ok-contents.contents c.as_slice.result.now c.split.result says bytes c.split.ensures
+    finds_split old.sectors image c.in_ok-contents.contents c.as_slice.result.now c.split.result
+    says bytes c.split.ensures

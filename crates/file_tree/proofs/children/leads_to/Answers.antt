@@ -9,20 +9,34 @@ loop-init c = begins c.args.most (hook_of c.args.nodes.now) c.args.number c.args
 
 pub returns-in-Nowhere : goal.returns-in-Nowhere
 returns-in-Nowhere c =
-    ends_nowhere c.args.most c.loop.counter (hook_of c.args.nodes.now) c.args.number c.loop.at (comes_to c.args.most (hook_of c.args.nodes.now) c.args.number c.args.directory) (omega arith) c.loop.invariant (sym c.in-Nowhere.is ∙ c.step_up.ensures)
+    ends_nowhere c.args.most c.loop.counter (hook_of c.args.nodes.now) c.args.number c.loop.at
+    (comes_to c.args.most (hook_of c.args.nodes.now) c.args.number c.args.directory)
+    (omega arith) c.loop.invariant (sym c.in-Nowhere.is ∙ c.step_up.ensures)
 
 pub returns-in-Top : goal.returns-in-Top
 returns-in-Top c =
-    ends_on_top c.args.most c.loop.counter (hook_of c.args.nodes.now) c.args.number c.loop.at (comes_to c.args.most (hook_of c.args.nodes.now) c.args.number c.args.directory) (omega arith) c.loop.invariant (sym c.in-Top.is ∙ c.step_up.ensures)
+    ends_on_top c.args.most c.loop.counter (hook_of c.args.nodes.now) c.args.number c.loop.at
+    (comes_to c.args.most (hook_of c.args.nodes.now) c.args.number c.args.directory)
+    (omega arith) c.loop.invariant (sym c.in-Top.is ∙ c.step_up.ensures)
 
 pub returns-then-at-number : goal.returns-then-at-number
 returns-then-at-number c =
-    ends_there c.args.most c.loop.counter (hook_of c.args.nodes.now) c.args.number c.loop.at c.in-Up.parent (comes_to c.args.most (hook_of c.args.nodes.now) c.args.number c.args.directory) (omega arith) c.loop.invariant (sym c.in-Up.is ∙ c.step_up.ensures) (eq-eqb c.loop.at c.args.number c.if-at-number.true)
+    ends_there c.args.most c.loop.counter (hook_of c.args.nodes.now) c.args.number c.loop.at
+    c.in-Up.parent
+    (comes_to c.args.most (hook_of c.args.nodes.now) c.args.number c.args.directory)
+    (omega arith) c.loop.invariant (sym c.in-Up.is
+    ∙ c.step_up.ensures) (eq-eqb c.loop.at c.args.number c.if-at-number.true)
 
 pub loop-preserved : goal.loop-preserved
 loop-preserved c =
-    goes_on c.args.most c.loop.counter (hook_of c.args.nodes.now) c.args.number c.loop.at c.in-Up.parent (comes_to c.args.most (hook_of c.args.nodes.now) c.args.number c.args.directory) (omega arith) c.loop.invariant (sym c.in-Up.is ∙ c.step_up.ensures) (ne_eqb c.loop.at c.args.number c.if-at-number.false)
+    goes_on c.args.most c.loop.counter (hook_of c.args.nodes.now) c.args.number c.loop.at
+    c.in-Up.parent
+    (comes_to c.args.most (hook_of c.args.nodes.now) c.args.number c.args.directory)
+    (omega arith) c.loop.invariant (sym c.in-Up.is
+    ∙ c.step_up.ensures) (ne_eqb c.loop.at c.args.number c.if-at-number.false)
 
 pub returns : goal.returns
 returns c =
-    is_over c.args.most c.loop.counter (hook_of c.args.nodes.now) c.args.number c.loop.at (comes_to c.args.most (hook_of c.args.nodes.now) c.args.number c.args.directory) (omega (arith, c.loop-test.false, c.loop.auto.counter-end)) c.loop.invariant
+    is_over c.args.most c.loop.counter (hook_of c.args.nodes.now) c.args.number c.loop.at
+    (comes_to c.args.most (hook_of c.args.nodes.now) c.args.number c.args.directory)
+    (omega (arith, c.loop-test.false, c.loop.auto.counter-end)) c.loop.invariant

@@ -11,11 +11,18 @@ returns-then-place-len-clause-nowhere c =
 pub returns-then-get-number-clause-there : goal.returns-then-get-number-clause-there
 returns-then-get-number-clause-there c =
     let n = c.get.result.now in
-    place_at_cut c.args.number c.args.nodes.now c.count_below-place.result n (omega (arith, c.if-place-len.false, c.len.ensures.count))
-    c.count_below-place.ensures.cut (sym (ap (λ (m : Node). m.number) c.get.ensures) ∙ c.if-get-number.true)
+    place_at_cut c.args.number c.args.nodes.now c.count_below-place.result n (omega (
+      arith,
+      c.if-place-len.false,
+      c.len.ensures.count,
+    ))
+    c.count_below-place.ensures.cut (sym (ap (λ (m : Node). m.number) c.get.ensures)
+    ∙ c.if-get-number.true)
 
 pub returns-clause-nowhere : goal.returns-clause-nowhere
 returns-clause-nowhere c =
     let n = c.get.result.now in
-    nowhere_at_cut c.args.number c.args.nodes.now c.count_below-place.result n c.count_below-place.ensures.rising
-    c.count_below-place.ensures.cut (λ lt e. c.if-get-number.false (ap (λ (m : Node). m.number) c.get.ensures ∙ e))
+    nowhere_at_cut c.args.number c.args.nodes.now c.count_below-place.result n
+    c.count_below-place.ensures.rising
+    c.count_below-place.ensures.cut (λ lt e.
+    c.if-get-number.false (ap (λ (m : Node). m.number) c.get.ensures ∙ e))

@@ -8,4 +8,6 @@ on_stream_1 text = record { stream = 1; text = text }
 
 -- the texts so far were told
 abbrev pub invariant-loop-i : goal.invariant-loop-i
-invariant-loop-i g l = Releases g.O.Outlet.takes l.initial.outlet (all_taken 1 (map on_stream_1 (take l.i l.texts))) l.outlet
+invariant-loop-i g l =
+    Releases g.O.Outlet.takes l.initial.outlet (all_taken 1 (map on_stream_1 (take l.i l.texts)))
+    l.outlet

@@ -1,4 +1,5 @@
-use Rattle.int_ops.proofs.Bounds.{unary_below, binary_below, truth_below, convert_below, sign_extended_below}
+use Rattle.int_ops.proofs.Bounds.{unary_below, binary_below, truth_below, convert_below}
+use Rattle.int_ops.proofs.Bounds.{sign_extended_below}
 use Rattle.int_ops.proofs.laws.results_fit.Goals as goal
 
 pub returns : goal.returns

@@ -1,4 +1,5 @@
-use Rattle.std.proofs.Common.{◌≡◌, ◌≤◌, ◌<◌, ◌+◌, ◌-◌, ◌++◌, ℕ, List, take, drop, true, false, sym, ap, ◌∙◌, subst, ⊎_elim, arith}
+use Rattle.std.proofs.Common.{◌≡◌, ◌≤◌, ◌<◌, ◌+◌, ◌-◌, ◌++◌, ℕ, List, take, drop, true, false, sym}
+use Rattle.std.proofs.Common.{ap, ◌∙◌, subst, ⊎_elim, arith}
 use Rattle.std.proofs.lemmas.Bool.{cases_lt}
 use Rattle.std.proofs.lemmas.List.{append-nil}
 use Rattle.sector_disk.specs.rules.Image.{Image, sector_at}
@@ -10,33 +11,52 @@ use Rattle.journal.proofs.PackedLemmas.{payloads_split, pay_on, pay_off}
 use Rattle.journal.proofs.scan.read_payloads.Goals as goal
 
 -- a sector more
-payloads_more : (image : Image) (g at k : ℕ) → ((i : ℕ) → i < k → is_of g (1 + i) (sector_at image (at + i)) ≡ true) → is_of g (1 + k) (sector_at image (at + k)) ≡ true
-    → payloads_from image g at 1 (k + 1) ≡ payloads_from image g at 1 k ++ payload_of_sector (sector_at image (at + k))
+payloads_more : (image : Image) (g at k : ℕ)
+    → ((i : ℕ) → i < k → is_of g (1 + i) (sector_at image (at + i)) ≡ true)
+    → is_of g (1 + k) (sector_at image (at + k)) ≡ true
+    → payloads_from image g at 1 (k + 1) ≡ payloads_from image g at 1 k
+    ++ payload_of_sector (sector_at image (at + k))
 payloads_more image g at k on here =
-    payloads_split image g at 1 k 1 on ∙ ap (λ l. payloads_from image g at 1 k ++ l) (pay_on image g (at + k) (1 + k) 0 here ∙ append-nil (payload_of_sector (sector_at image (at + k))))
+    payloads_split image g at 1 k 1 on
+    ∙ ap (λ l. payloads_from image g at 1 k ++ l) (pay_on image g (at + k) (1 + k) 0 here
+    ∙ append-nil (payload_of_sector (sector_at image (at + k))))
 
 -- a sector of another kind ends it
-payloads_end : (image : Image) (g at k count : ℕ) → k ≤ count → ((i : ℕ) → i < k → is_of g (1 + i) (sector_at image (at + i)) ≡ true) → is_of g (1 + k) (sector_at image (at + k)) ≡ false
+payloads_end : (image : Image) (g at k count : ℕ) → k ≤ count
+    → ((i : ℕ) → i < k → is_of g (1 + i) (sector_at image (at + i)) ≡ true)
+    → is_of g (1 + k) (sector_at image (at + k)) ≡ false
     → payloads_from image g at 1 count ≡ payloads_from image g at 1 k
 payloads_end image g at k count le on off =
-    ap (λ n. payloads_from image g at 1 n) (let e : count ≡ k + (count - k) = omega arith in e) ∙ payloads_split image g at 1 k (count - k) on
-    ∙ ap (λ l. payloads_from image g at 1 k ++ l) (pay_off image g (at + k) (1 + k) (count - k) off) ∙ append-nil (payloads_from image g at 1 k)
+    ap (λ n. payloads_from image g at 1 n) (let e : count ≡ k + (count - k) = omega arith in e)
+    ∙ payloads_split image g at 1 k (count - k) on
+    ∙ ap (λ l. payloads_from image g at 1 k ++ l) (pay_off image g (at + k) (1 + k) (count - k) off)
+    ∙ append-nil (payloads_from image g at 1 k)
 
-on_more : (image : Image) (g at k : ℕ) → ((i : ℕ) → i < k → is_of g (1 + i) (sector_at image (at + i)) ≡ true) → is_of g (1 + k) (sector_at image (at + k)) ≡ true
+on_more : (image : Image) (g at k : ℕ)
+    → ((i : ℕ) → i < k → is_of g (1 + i) (sector_at image (at + i)) ≡ true)
+    → is_of g (1 + k) (sector_at image (at + k)) ≡ true
     → (i : ℕ) → i < k + 1 → is_of g (1 + i) (sector_at image (at + i)) ≡ true
 on_more image g at k on here i lt =
     ⊎_elim (λ (before : i < k). on i before)
-    (λ (last : k ≤ i). let e : k ≡ i = omega arith in subst (λ (n : ℕ). is_of g (1 + n) (sector_at image (at + n)) ≡ true) e here)
+    (λ (last : k ≤ i). let e : k ≡ i = omega arith in
+    subst (λ (n : ℕ). is_of g (1 + n) (sector_at image (at + n)) ≡ true) e here)
     (cases_lt i k)
 
 pub returns-in-Err-clause-reads : goal.returns-in-Err-clause-reads
-returns-in-Err-clause-reads g c = read_more (g.D.Disk.medium c.args.disk.now) (g.D.Disk.medium c.loop-k.disk) (g.D.Disk.medium c.read.new.self) _ _ c.read.result c.loop-k.invariant.reads c.read.ensures
+returns-in-Err-clause-reads g c =
+    read_more (g.D.Disk.medium c.args.disk.now) (g.D.Disk.medium c.loop-k.disk)
+    (g.D.Disk.medium c.read.new.self) _ _ c.read.result c.loop-k.invariant.reads c.read.ensures
 
 pub returns-then-not-is_of-clause-reads : goal.returns-then-not-is_of-clause-reads
-returns-then-not-is_of-clause-reads g c = read_more (g.D.Disk.medium c.args.disk.now) (g.D.Disk.medium c.loop-k.disk) (g.D.Disk.medium c.read.new.self) _ _ c.read.result c.loop-k.invariant.reads c.read.ensures
+returns-then-not-is_of-clause-reads g c =
+    read_more (g.D.Disk.medium c.args.disk.now) (g.D.Disk.medium c.loop-k.disk)
+    (g.D.Disk.medium c.read.new.self) _ _ c.read.result c.loop-k.invariant.reads c.read.ensures
 
-pub returns-in_default-extend_from_slice-clause-reads : goal.returns-in_default-extend_from_slice-clause-reads
-returns-in_default-extend_from_slice-clause-reads g c = read_more (g.D.Disk.medium c.args.disk.now) (g.D.Disk.medium c.loop-k.disk) (g.D.Disk.medium c.read.new.self) _ _ c.read.result c.loop-k.invariant.reads c.read.ensures
+pub returns-in_default-extend_from_slice-clause-reads :
+    goal.returns-in_default-extend_from_slice-clause-reads
+returns-in_default-extend_from_slice-clause-reads g c =
+    read_more (g.D.Disk.medium c.args.disk.now) (g.D.Disk.medium c.loop-k.disk)
+    (g.D.Disk.medium c.read.new.self) _ _ c.read.result c.loop-k.invariant.reads c.read.ensures
 
 pub returns-then-not-is_of-clause-payloads : goal.returns-then-not-is_of-clause-payloads
 returns-then-not-is_of-clause-payloads g c = λ image shows.
@@ -46,11 +66,16 @@ returns-then-not-is_of-clause-payloads g c = λ image shows.
     let before = stays_shows mid new stays image shows in
     let here = c.in_default.ensures.bytes image shows in
     let at = c.loop-k.invariant in
-    let off : is_of c.args.generation (1 + c.loop-k.k) (sector_at image (c.journal_place-at.result + c.loop-k.k)) ≡ false =
-    ap (λ (s : List ℕ). is_of c.args.generation (1 + c.loop-k.k) s) here ∙ sym c.is_of.ensures ∙ c.if-not-is_of.true in
-    let le : c.loop-k.k ≤ c.args.geometry.now.journal_sectors = let t = c.loop-k-test.true in let e = c.from-k-end.ensures in omega arith in
-    ap (λ (n : ℕ). payloads_from image c.args.generation n 1 c.args.geometry.now.journal_sectors) (sym c.journal_place-at.ensures)
-    ∙ payloads_end image c.args.generation c.journal_place-at.result c.loop-k.k c.args.geometry.now.journal_sectors le (at.on image before) off ∙ at.payloads image before
+    let off : is_of c.args.generation (1 + c.loop-k.k) (sector_at image (c.journal_place-at.result
+    + c.loop-k.k)) ≡ false =
+    ap (λ (s : List ℕ). is_of c.args.generation (1 + c.loop-k.k) s) here ∙ sym c.is_of.ensures
+    ∙ c.if-not-is_of.true in
+    let le : c.loop-k.k ≤ c.args.geometry.now.journal_sectors = let t = c.loop-k-test.true in
+    let e = c.from-k-end.ensures in omega arith in
+    ap (λ (n : ℕ). payloads_from image c.args.generation n 1 c.args.geometry.now.journal_sectors)
+    (sym c.journal_place-at.ensures)
+    ∙ payloads_end image c.args.generation c.journal_place-at.result c.loop-k.k
+    c.args.geometry.now.journal_sectors le (at.on image before) off ∙ at.payloads image before
 
 pub loop-k-preserved : goal.loop-k-preserved
 loop-k-preserved g c =
@@ -59,16 +84,30 @@ loop-k-preserved g c =
     let new = g.D.Disk.medium c.read.new.self in
     let stays = c.read.ensures.stays in
     let at = c.loop-k.invariant in
-    let on : (image : Image) → new.shows image → is_of c.args.generation (1 + c.loop-k.k) (sector_at image (c.journal_place-at.result + c.loop-k.k)) ≡ true =
-    λ image shows. ap (λ (s : List ℕ). is_of c.args.generation (1 + c.loop-k.k) s) (c.in_default.ensures.bytes image shows) ∙ sym c.is_of.ensures ∙ c.if-not-is_of.false in
-    let items : c.extend_from_slice.new.self.items ≡ c.loop-k.bytes.items ++ payload_of_sector c.read.new.into =
-    c.in-Ok.ensures.items ∙ ap (λ (n : ℕ). c.loop-k.bytes.items ++ take n (drop 2 c.read.new.into)) (let u = c.used_length-used.ensures in let e : 2 + c.used_length-used.result - 2 ≡ c.used_length-used.result = omega arith in e ∙ u) in
+    let on : (image : Image) → new.shows image
+    → is_of c.args.generation (1 + c.loop-k.k) (sector_at image (c.journal_place-at.result
+    + c.loop-k.k)) ≡ true =
+    λ image shows. ap (λ (s : List ℕ). is_of c.args.generation (1 + c.loop-k.k) s)
+    (c.in_default.ensures.bytes image shows) ∙ sym c.is_of.ensures ∙ c.if-not-is_of.false in
+    let items : c.extend_from_slice.new.self.items ≡ c.loop-k.bytes.items
+    ++ payload_of_sector c.read.new.into =
+    c.in-Ok.ensures.items
+    ∙ ap (λ (n : ℕ). c.loop-k.bytes.items
+    ++ take n (drop 2 c.read.new.into)) (let u = c.used_length-used.ensures in
+    let e : 2 + c.used_length-used.result - 2 ≡ c.used_length-used.result = omega arith in
+    e ∙ u) in
     record {
       reads = read_more old mid new _ _ c.read.result at.reads c.read.ensures;
-      on = λ image shows. let before = stays_shows mid new stays image shows in on_more image c.args.generation c.journal_place-at.result c.loop-k.k (at.on image before) (on image shows);
+      on = λ image shows. let before = stays_shows mid new stays image shows in
+          on_more image c.args.generation c.journal_place-at.result c.loop-k.k (at.on image before)
+          (on image shows);
       payloads = λ image shows.
           let before = stays_shows mid new stays image shows in
-          payloads_more image c.args.generation c.journal_place-at.result c.loop-k.k (at.on image before) (on image shows)
-          ∙ ap (λ (l : List ℕ). l ++ payload_of_sector (sector_at image (c.journal_place-at.result + c.loop-k.k))) (at.payloads image before)
-          ∙ ap (λ (s : List ℕ). c.loop-k.bytes.items ++ payload_of_sector s) (c.in_default.ensures.bytes image shows) ∙ sym items;
+          payloads_more image c.args.generation c.journal_place-at.result c.loop-k.k
+          (at.on image before) (on image shows)
+          ∙ ap (λ (l : List ℕ). l
+          ++ payload_of_sector (sector_at image (c.journal_place-at.result + c.loop-k.k)))
+          (at.payloads image before)
+          ∙ ap (λ (s : List ℕ). c.loop-k.bytes.items
+          ++ payload_of_sector s) (c.in_default.ensures.bytes image shows) ∙ sym items;
     }

@@ -10,6 +10,8 @@ invariant-loop-k g l =
     let now = g.D.Disk.medium l.disk in
     record {
       reads : OnlyReads old now;
-      on : (image : Image) → now.shows image → (i : ℕ) → i < l.k → is_of l.generation (1 + i) (sector_at image (l.at + i)) ≡ true;
-      payloads : (image : Image) → now.shows image → payloads_from image l.generation l.at 1 l.k ≡ l.bytes.items;
+      on : (image : Image) → now.shows image → (i : ℕ) → i < l.k
+          → is_of l.generation (1 + i) (sector_at image (l.at + i)) ≡ true;
+      payloads : (image : Image) → now.shows image
+          → payloads_from image l.generation l.at 1 l.k ≡ l.bytes.items;
     }

@@ -1,4 +1,5 @@
-use Rattle.std.proofs.Common.{◌≡◌, ◌<◌, ◌≤◌, ◌+◌, ◌*◌, ◌++◌, ℕ, List, [], ◌∷◌, length, sym, ap, ◌∙◌, subst, arith, rules}
+use Rattle.std.proofs.Common.{◌≡◌, ◌<◌, ◌≤◌, ◌+◌, ◌*◌, ◌++◌, ℕ, List, [], ◌∷◌, length, sym, ap, ◌∙◌}
+use Rattle.std.proofs.Common.{subst, arith, rules}
 use Rattle.std.proofs.lemmas.Result.{on_ok_weaker}
 use Rattle.sector_disk.specs.rules.Image.{sector_at}
 use Rattle.sector_disk.specs.rules.Medium.{Tears, TakesWrite, BothFollow}
@@ -6,7 +7,8 @@ use Rattle.sector_disk.specs.rules.Calls.{rising_writes}
 use Rattle.sector_disk.specs.declared.disk_call.DiskCall.TheVariants.{Sync}
 use Rattle.sector_disk.specs.rules.Run.{IsTornRun, IsWrittenRun}
 use Rattle.sector_disk.proofs.Moments.{shows_follow, settled_follows, goes_on, stays_left}
-use Rattle.sector_disk.proofs.RunLemmas.{both_tear, both_take, run_passes, run_leaves_only, left_longer}
+use Rattle.sector_disk.proofs.RunLemmas.{both_tear, both_take, run_passes, run_leaves_only}
+use Rattle.sector_disk.proofs.RunLemmas.{left_longer}
 use Rattle.sector_disk.proofs.CountLemmas.{counts_then}
 use Rattle.sector_disk.proofs.CallLemmas.{begun_first, made_then, rising_begun, rising_more}
 use Rattle.disk_layout.specs.rules.Journal.{journal_sector}
@@ -23,14 +25,20 @@ returns-in_err-write-clause-any_moment g c =
     let new = g.D.Disk.medium c.write.new.self in
     let count = sectors_for (length c.args.bytes.now) in
     let batch = packed c.args.generation c.args.place count c.args.bytes.now in
-    let below : n < count = let e = c.sectors_for-count.ensures in let t = c.loop-i-test.true in omega arith in
+    let below : n < count = let e = c.sectors_for-count.ensures in let t = c.loop-i-test.true in
+    omega arith in
     let sector : c.journal_sector-sector.result ≡ sector_at batch n =
-    c.journal_sector-sector.ensures ∙ ap (λ (l : List ℕ). journal_sector c.args.generation (c.args.place + n) l) (part_lent c.args.bytes.now (494 * n) c.min-end.result c.min-end.ensures)
+    c.journal_sector-sector.ensures
+    ∙ ap (λ (l : List ℕ). journal_sector c.args.generation (c.args.place + n) l)
+    (part_lent c.args.bytes.now (494 * n) c.min-end.result c.min-end.ensures)
     ∙ sym (packed_at c.args.generation c.args.place count c.args.bytes.now n below) in
-    let tears = subst (λ (s : List ℕ). Tears (c.args.at + n) s mid new) sector c.write.ensures.tears in
-    let inside : c.args.at + n < mid.sectors = let s = i.passes.sectors in let r = c.requires.room in omega arith in
+    let tears = subst (λ (s : List ℕ). Tears (c.args.at + n) s mid new) sector c.write.ensures.tears
+    in
+    let inside : c.args.at + n < mid.sectors = let s = i.passes.sectors in let r = c.requires.room
+    in omega arith in
     let both = both_tear c.args.at batch n old mid new inside i.tears tears in
-    run_leaves_only c.args.at batch count old new (run_passes c.args.at batch (n + 1) count old mid new (omega arith) i.passes both c.write.ensures.passes)
+    run_leaves_only c.args.at batch count old new (run_passes c.args.at batch (n
+    + 1) count old mid new (omega arith) i.passes both c.write.ensures.passes)
 
 pub loop-i-preserved : goal.loop-i-preserved
 loop-i-preserved g c =
@@ -41,21 +49,30 @@ loop-i-preserved g c =
     let new = g.D.Disk.medium c.write.new.self in
     let count = sectors_for (length c.args.bytes.now) in
     let batch = packed c.args.generation c.args.place count c.args.bytes.now in
-    let below : n < count = let e = c.sectors_for-count.ensures in let t = c.loop-i-test.true in omega arith in
+    let below : n < count = let e = c.sectors_for-count.ensures in let t = c.loop-i-test.true in
+    omega arith in
     let sector : c.journal_sector-sector.result ≡ sector_at batch n =
-    c.journal_sector-sector.ensures ∙ ap (λ (l : List ℕ). journal_sector c.args.generation (c.args.place + n) l) (part_lent c.args.bytes.now (494 * n) c.min-end.result c.min-end.ensures)
+    c.journal_sector-sector.ensures
+    ∙ ap (λ (l : List ℕ). journal_sector c.args.generation (c.args.place + n) l)
+    (part_lent c.args.bytes.now (494 * n) c.min-end.result c.min-end.ensures)
     ∙ sym (packed_at c.args.generation c.args.place count c.args.bytes.now n below) in
-    let tears = subst (λ (s : List ℕ). Tears (c.args.at + n) s mid new) sector c.write.ensures.tears in
-    let inside : c.args.at + n < mid.sectors = let s = i.passes.sectors in let r = c.requires.room in omega arith in
+    let tears = subst (λ (s : List ℕ). Tears (c.args.at + n) s mid new) sector c.write.ensures.tears
+    in
+    let inside : c.args.at + n < mid.sectors = let s = i.passes.sectors in let r = c.requires.room
+    in omega arith in
     let both = both_tear c.args.at batch n old mid new inside i.tears tears in
-    let takes = subst (λ (s : List ℕ). TakesWrite (c.args.at + n) s mid new) sector c.in_ok-write.ensures.whole in
+    let takes = subst (λ (s : List ℕ). TakesWrite (c.args.at + n) s mid new) sector
+    c.in_ok-write.ensures.whole in
     record {
       whole = both_take c.args.at batch n old mid new inside i.whole takes;
       tears = both;
       unsynced = let u = takes.unsynced in omega (arith, i.unsynced, u);
-      counts = let u = i.unsynced in let p = i.passes in let later = p.later in counts_then (old.unsynced + n) (mid.unsynced + 1) (old.unsynced + (n + 1)) old mid new (omega arith) (omega arith) later i.counts c.write.ensures.counts;
+      counts = let u = i.unsynced in let p = i.passes in let later = p.later in
+          counts_then (old.unsynced + n) (mid.unsynced + 1) (old.unsynced + (n + 1)) old mid new
+          (omega arith) (omega arith) later i.counts c.write.ensures.counts;
       calls = rising_more c.args.at n old mid new i.calls c.in_ok-write.ensures.calls.all;
-      passes = run_passes c.args.at batch (n + 1) count old mid new (omega arith) i.passes both c.write.ensures.passes;
+      passes = run_passes c.args.at batch (n + 1) count old mid new
+          (omega arith) i.passes both c.write.ensures.passes;
     }
 
 pub returns-clause-any_moment : goal.returns-clause-any_moment
@@ -67,9 +84,12 @@ returns-clause-any_moment g c =
     let new = g.D.Disk.medium c.sync.new.self in
     let count = sectors_for (length c.args.bytes.now) in
     let batch = packed c.args.generation c.args.place count c.args.bytes.now in
-    let within : n ≤ count = let e = c.sectors_for-count.ensures in let t = c.loop-i.auto.i-end in omega arith in
+    let within : n ≤ count = let e = c.sectors_for-count.ensures in let t = c.loop-i.auto.i-end in
+    omega arith in
     run_leaves_only c.args.at batch count old new
-    (goes_on old mid new _ _ i.passes c.sync.ensures.passes (λ image left. left_longer c.args.at batch n count old mid within i.tears image (stays_left mid new c.sync.ensures.stays image left)))
+    (goes_on old mid new _ _ i.passes c.sync.ensures.passes (λ image left.
+    left_longer c.args.at batch n count old mid within i.tears image
+    (stays_left mid new c.sync.ensures.stays image left)))
 
 pub returns-clause-stored : goal.returns-clause-stored
 returns-clause-stored g c =
@@ -80,9 +100,13 @@ returns-clause-stored g c =
     let new = g.D.Disk.medium c.sync.new.self in
     let count = sectors_for (length c.args.bytes.now) in
     let batch = packed c.args.generation c.args.place count c.args.bytes.now in
-    let all : n ≡ count = let e = c.sectors_for-count.ensures in let t = c.loop-i.auto.i-end in let f = c.loop-i-test.false in omega arith in
-    let whole = subst (λ (k : ℕ). BothFollow (IsWrittenRun c.args.at batch k) (IsTornRun c.args.at batch k) old mid) all i.whole in
-    on_ok_weaker c.sync.result (λ settled. settled_follows old mid new _ settled c.sync.ensures.stays (shows_follow old mid _ _ whole)) c.sync.ensures.settles
+    let all : n ≡ count = let e = c.sectors_for-count.ensures in let t = c.loop-i.auto.i-end in
+    let f = c.loop-i-test.false in omega arith in
+    let whole = subst (λ (k : ℕ). BothFollow (IsWrittenRun c.args.at batch k)
+    (IsTornRun c.args.at batch k) old mid) all i.whole in
+    on_ok_weaker c.sync.result (λ settled.
+    settled_follows old mid new _ settled c.sync.ensures.stays (shows_follow old mid _ _ whole))
+    c.sync.ensures.settles
 
 pub returns-in_err-write-clause-counts : goal.returns-in_err-write-clause-counts
 returns-in_err-write-clause-counts g c =
@@ -93,8 +117,11 @@ returns-in_err-write-clause-counts g c =
     let new = g.D.Disk.medium c.write.new.self in
     let u = i.unsynced in
     let p = i.passes in
-    let below : n < sectors_for (length c.args.bytes.now) = let e = c.sectors_for-count.ensures in let t = c.loop-i-test.true in omega arith in
-    counts_then (old.unsynced + n) (mid.unsynced + 1) (old.unsynced + sectors_for (length c.args.bytes.now)) old mid new (omega arith) (omega arith) p.later i.counts c.write.ensures.counts
+    let below : n < sectors_for (length c.args.bytes.now) = let e = c.sectors_for-count.ensures in
+    let t = c.loop-i-test.true in omega arith in
+    counts_then (old.unsynced + n) (mid.unsynced + 1) (old.unsynced
+    + sectors_for (length c.args.bytes.now)) old mid new (omega arith)
+    (omega arith) p.later i.counts c.write.ensures.counts
 
 pub returns-clause-counts : goal.returns-clause-counts
 returns-clause-counts g c =
@@ -105,8 +132,11 @@ returns-clause-counts g c =
     let new = g.D.Disk.medium c.sync.new.self in
     let u = i.unsynced in
     let p = i.passes in
-    let within : n ≤ sectors_for (length c.args.bytes.now) = let e = c.sectors_for-count.ensures in let t = c.loop-i.auto.i-end in omega arith in
-    counts_then (old.unsynced + n) mid.unsynced (old.unsynced + sectors_for (length c.args.bytes.now)) old mid new (omega arith) (omega arith) p.later i.counts c.sync.ensures.counts
+    let within : n ≤ sectors_for (length c.args.bytes.now) = let e = c.sectors_for-count.ensures in
+    let t = c.loop-i.auto.i-end in omega arith in
+    counts_then (old.unsynced + n) mid.unsynced (old.unsynced
+    + sectors_for (length c.args.bytes.now)) old mid new (omega arith)
+    (omega arith) p.later i.counts c.sync.ensures.counts
 
 pub returns-clause-together : goal.returns-clause-together
 returns-clause-together g c =
@@ -117,10 +147,13 @@ returns-clause-together g c =
     let new = g.D.Disk.medium c.sync.new.self in
     let u = i.unsynced in
     let p = i.passes in
-    let all : mid.unsynced ≡ old.unsynced + sectors_for (length c.args.bytes.now) = let e = c.sectors_for-count.ensures in let t = c.loop-i.auto.i-end in let f = c.loop-i-test.false in omega arith in
+    let all : mid.unsynced ≡ old.unsynced + sectors_for (length c.args.bytes.now) =
+    let e = c.sectors_for-count.ensures in let t = c.loop-i.auto.i-end in
+    let f = c.loop-i-test.false in omega arith in
     let counts = c.sync.ensures.counts in
     on_ok_weaker c.sync.result
-    (λ settled. subst (λ (k : ℕ). new.unsynced_since old.moment k) all (counts.keeps old.moment mid.unsynced p.later (mid.count_now old.moment p.later)))
+    (λ settled. subst (λ (k : ℕ). new.unsynced_since old.moment k) all
+    (counts.keeps old.moment mid.unsynced p.later (mid.count_now old.moment p.later)))
     c.sync.ensures.settles
 
 pub returns-in_err-write-clause-calls : goal.returns-in_err-write-clause-calls
@@ -131,9 +164,14 @@ returns-in_err-write-clause-calls g c =
     let mid = g.D.Disk.medium c.loop-i.disk in
     let new = g.D.Disk.medium c.write.new.self in
     let count = sectors_for (length c.args.bytes.now) in
-    let below : n < count = let e = c.sectors_for-count.ensures in let t = c.loop-i-test.true in omega arith in
-    let some = rising_begun c.args.at n old mid new i.calls count below c.write.ensures.calls.begun in
-    record { all = search rules; begun = begun_first (rising_writes c.args.at count) (Sync ∷ []) old new some }
+    let below : n < count = let e = c.sectors_for-count.ensures in let t = c.loop-i-test.true in
+    omega arith in
+    let some = rising_begun c.args.at n old mid new i.calls count below c.write.ensures.calls.begun
+    in
+    record {
+      all = search rules;
+      begun = begun_first (rising_writes c.args.at count) (Sync ∷ []) old new some;
+    }
 
 pub returns-clause-calls : goal.returns-clause-calls
 returns-clause-calls g c =
@@ -143,6 +181,8 @@ returns-clause-calls g c =
     let mid = g.D.Disk.medium c.loop-i.disk in
     let new = g.D.Disk.medium c.sync.new.self in
     let count = sectors_for (length c.args.bytes.now) in
-    let all : n ≡ count = let e = c.sectors_for-count.ensures in let t = c.loop-i.auto.i-end in let f = c.loop-i-test.false in omega arith in
+    let all : n ≡ count = let e = c.sectors_for-count.ensures in let t = c.loop-i.auto.i-end in
+    let f = c.loop-i-test.false in omega arith in
     let written = i.calls ∙ ap (λ k. rising_writes c.args.at k ++ old.calls) all in
-    made_then (rising_writes c.args.at count) (Sync ∷ []) c.sync.result old mid new written c.sync.ensures.calls
+    made_then (rising_writes c.args.at count) (Sync
+    ∷ []) c.sync.result old mid new written c.sync.ensures.calls

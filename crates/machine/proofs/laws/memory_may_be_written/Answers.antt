@@ -6,7 +6,8 @@ pub returns-clause-shows : goal.returns-clause-shows
 returns-clause-shows c = shows_what_is_written
 
 pub returns-clause-asks : goal.returns-clause-asks
-returns-clause-asks c = λ program d bytes f arguments waits asks. asks_again f arguments waits program d bytes asks
+returns-clause-asks c =
+    λ program d bytes f arguments waits asks. asks_again f arguments waits program d bytes asks
 
 pub returns-clause-waits : goal.returns-clause-waits
 returns-clause-waits c = waits_for_the_call

@@ -5,14 +5,22 @@ use Rattle.machine.proofs.Linked.{begin_stands, linked_machine, linked_begun}
 use Rattle.machine.proofs.linking.link.Goals as goal
 
 pub go_on-requires : goal.go_on-requires
-go_on-requires c = begin_stands c.args.pages c.args.«module» c.in_ok-code.field-0 c.requires.pages c.in_ok-code.ensures.begun
+go_on-requires c =
+    begin_stands c.args.pages c.args.«module» c.in_ok-code.field-0 c.requires.pages
+    c.in_ok-code.ensures.begun
 
 pub invariant_of-result : goal.invariant_of-result
 invariant_of-result c =
     let P : ℕ → Type 0 = λ z. IsMachine c.in_ok-code.field-0.code c.go_on.new.state z in
-    subst P (sym c.limit-most_pages.ensures) (linked_machine c.args.pages c.args.«module» c.in_ok-code.field-0 c.requires.pages c.in_ok-code.ensures.begun c.go_on.new.state c.go_on.result c.go_on.ensures)
+    subst P (sym c.limit-most_pages.ensures)
+    (linked_machine c.args.pages c.args.«module» c.in_ok-code.field-0 c.requires.pages
+    c.in_ok-code.ensures.begun c.go_on.new.state c.go_on.result c.go_on.ensures)
 
 pub returns-clause-begun : goal.returns-clause-begun
 returns-clause-begun c =
-    let P : ℕ → Type 0 = λ z. HasBegun c.args.pages c.args.«module» (seen c.in_ok-code.field-0.code c.go_on.new.state z) in
-    subst P (sym c.limit-most_pages.ensures) (linked_begun c.args.pages c.args.«module» c.in_ok-code.field-0 c.requires.pages c.in_ok-code.ensures.begun c.go_on.new.state c.go_on.result c.go_on.ensures)
+    let P : ℕ → Type 0 =
+    λ z. HasBegun c.args.pages c.args.«module»
+    (seen c.in_ok-code.field-0.code c.go_on.new.state z) in
+    subst P (sym c.limit-most_pages.ensures)
+    (linked_begun c.args.pages c.args.«module» c.in_ok-code.field-0 c.requires.pages
+    c.in_ok-code.ensures.begun c.go_on.new.state c.go_on.result c.go_on.ensures)

@@ -5,23 +5,35 @@ use Rattle.machine_loader.proofs.steps.accept.Goals as goal
 pub returns-in_err-valid-clause-only : goal.returns-in_err-valid-clause-only
 returns-in_err-valid-clause-only c =
     let p = err_from_is_err_and c.from_residual.result c.from_residual.ensures.1 in
-    rw (p.1, p.2) (denied c.args.pages c.args.bytes.now c.in_err-valid.field-0.0 c.in_err-valid.ensures.only)
+    rw (p.1, p.2)
+    (denied c.args.pages c.args.bytes.now c.in_err-valid.field-0.0 c.in_err-valid.ensures.only)
 
 pub returns-in_err-valid-clause-told : goal.returns-in_err-valid-clause-told
 returns-in_err-valid-clause-told c =
     let p = err_from_is_err_and c.from_residual.result c.from_residual.ensures.1 in
-    rw (p.1, p.2) (told c.args.pages c.args.bytes.now c.in_err-valid.field-0.0 c.in_err-valid.ensures.told)
+    rw (p.1, p.2)
+    (told c.args.pages c.args.bytes.now c.in_err-valid.field-0.0 c.in_err-valid.ensures.told)
 
 pub returns-in_err-link-clause-only : goal.returns-in_err-link-clause-only
 returns-in_err-link-clause-only c =
-    let p = err_from_is_err_and c.from_residual-in_err-link.result c.from_residual-in_err-link.ensures.1 in
-    rw (p.1, p.2) (not_linkable c.args.pages c.args.bytes.now c.in_ok-valid.valid c.in_ok-valid.ensures.read.spelled c.in_err-link.field-0.0 c.in_err-link.ensures.only)
+    let p = err_from_is_err_and c.from_residual-in_err-link.result
+    c.from_residual-in_err-link.ensures.1 in
+    rw (p.1, p.2)
+    (not_linkable c.args.pages c.args.bytes.now c.in_ok-valid.valid
+    c.in_ok-valid.ensures.read.spelled c.in_err-link.field-0.0 c.in_err-link.ensures.only)
 
 pub returns-in_err-link-clause-told : goal.returns-in_err-link-clause-told
 returns-in_err-link-clause-told c =
-    let p = err_from_is_err_and c.from_residual-in_err-link.result c.from_residual-in_err-link.ensures.1 in
+    let p = err_from_is_err_and c.from_residual-in_err-link.result
+    c.from_residual-in_err-link.ensures.1 in
     let read = c.in_ok-valid.ensures.read in
-    rw (p.1, p.2) (c.in_ok-valid.valid, read.spelled, read.limits, read.valid, c.in_err-link.ensures.refused)
+    rw (p.1, p.2) (
+      c.in_ok-valid.valid,
+      read.spelled,
+      read.limits,
+      read.valid,
+      c.in_err-link.ensures.refused,
+    )
 
 pub link-requires-clause-types : goal.link-requires-clause-types
 link-requires-clause-types c = c.in_ok-valid.ensures.read.limits.types

@@ -1,4 +1,5 @@
-use Rattle.machine_rules.proofs.Standing.LeadingOn.{effects_lead_on, blocks_lead_in, loops_lead_in, ifs_lead_in, choices_lead_in}
+use Rattle.machine_rules.proofs.Standing.LeadingOn.{effects_lead_on, blocks_lead_in, loops_lead_in}
+use Rattle.machine_rules.proofs.Standing.LeadingOn.{ifs_lead_in, choices_lead_in}
 use Rattle.machine_rules.proofs.laws.frames_lead_on.Goals as goal
 
 pub returns-clause-effects : goal.returns-clause-effects

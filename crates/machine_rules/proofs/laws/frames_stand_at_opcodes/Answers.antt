@@ -1,4 +1,5 @@
-use Rattle.machine_rules.proofs.Standing.Positions.{opcodes_remain, stands_somewhere, labels_end, operands_are_few, entry_stands}
+use Rattle.machine_rules.proofs.Standing.Positions.{opcodes_remain, stands_somewhere, labels_end}
+use Rattle.machine_rules.proofs.Standing.Positions.{operands_are_few, entry_stands}
 use Rattle.machine_rules.proofs.laws.frames_stand_at_opcodes.Goals as goal
 
 pub returns-clause-opcodes : goal.returns-clause-opcodes

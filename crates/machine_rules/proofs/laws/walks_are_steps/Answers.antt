@@ -1,4 +1,5 @@
-use Rattle.machine_rules.proofs.Standing.Walking.{walks_are_steps, walks_settle, walks_compose, walks_are_typed}
+use Rattle.machine_rules.proofs.Standing.Walking.{walks_are_steps, walks_settle, walks_compose}
+use Rattle.machine_rules.proofs.Standing.Walking.{walks_are_typed}
 use Rattle.machine_rules.proofs.laws.walks_are_steps.Goals as goal
 
 pub returns-clause-steps : goal.returns-clause-steps

@@ -1,20 +1,35 @@
-use Rattle.machine_slots.proofs.Families.{load_shown, store_shown, binary_shown, select_shown, local_get_shown, local_set_shown, local_tee_shown, global_get_shown, global_set_shown, memory_grow_shown}
+use Rattle.machine_slots.proofs.Families.{load_shown, store_shown, binary_shown, select_shown}
+use Rattle.machine_slots.proofs.Families.{local_get_shown, local_set_shown, local_tee_shown}
+use Rattle.machine_slots.proofs.Families.{global_get_shown, global_set_shown, memory_grow_shown}
 use Rattle.machine_slots.proofs.Outcomes.{comes}
 use Rattle.machine_slots.proofs.effects.operate.Goals as goal
 
 pub returns-in-Load : goal.returns-in-Load
 returns-in-Load c =
-    rw (c.outcome_of.ensures, c.in-Load.is) (comes _ _ _ _ _ c.load.result _ _ _ tt (λ program store ls vs below callers r.
+    rw (
+      c.outcome_of.ensures,
+      c.in-Load.is,
+    ) (comes _ _ _ _ _ c.load.result _ _ _ tt
+    (λ program store ls vs below callers r.
     load_shown program store below callers _ _ _ _ _ _ ls vs _ _ r c.load.ensures))
 
 pub returns-in-Store : goal.returns-in-Store
 returns-in-Store c =
-    rw (c.outcome_of-in-Store.ensures, c.in-Store.is) (comes _ _ _ _ _ c.store.result _ _ _ tt (λ program store ls vs below callers r.
-    store_shown program store below callers _ _ _ _ _ _ ls vs _ _ _ r c.store.ensures.slots c.store.ensures.memory))
+    rw (
+      c.outcome_of-in-Store.ensures,
+      c.in-Store.is,
+    ) (comes _ _ _ _ _ c.store.result _ _ _ tt
+    (λ program store ls vs below callers r.
+    store_shown program store below callers _ _ _ _ _ _ ls vs _ _ _ r c.store.ensures.slots
+    c.store.ensures.memory))
 
 pub returns-in-Binary : goal.returns-in-Binary
 returns-in-Binary c =
-    rw (c.outcome_of-in-Binary.ensures, c.in-Binary.is) (comes _ _ _ _ _ c.apply_binary.result _ _ _ tt (λ program store ls vs below callers r.
+    rw (
+      c.outcome_of-in-Binary.ensures,
+      c.in-Binary.is,
+    ) (comes _ _ _ _ _ c.apply_binary.result _ _ _ tt
+    (λ program store ls vs below callers r.
     binary_shown program store below callers _ _ _ _ _ _ ls vs _ _ r c.apply_binary.ensures))
 
 pub returns-in-Select : goal.returns-in-Select
@@ -62,7 +77,8 @@ returns-in-GlobalSet c =
     rw c.in-GlobalSet.is (
       tt,
       λ program store ls vs below callers r.
-          global_set_shown program store below callers _ _ _ _ _ ls vs _ _ r c.global_set.ensures.slots c.global_set.ensures.globals,
+          global_set_shown program store below callers _ _ _ _ _ ls vs _ _ r
+          c.global_set.ensures.slots c.global_set.ensures.globals,
     )
 
 pub returns-in-MemoryGrow : goal.returns-in-MemoryGrow
@@ -70,5 +86,6 @@ returns-in-MemoryGrow c =
     rw c.in-MemoryGrow.is (
       tt,
       λ program store ls vs below callers r.
-          memory_grow_shown program store below callers _ _ _ _ ls vs _ _ r c.memory_grow.ensures.slots c.memory_grow.ensures.memory,
+          memory_grow_shown program store below callers _ _ _ _ ls vs _ _ r
+          c.memory_grow.ensures.slots c.memory_grow.ensures.memory,
     )

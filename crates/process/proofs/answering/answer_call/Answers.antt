@@ -30,7 +30,8 @@ wants-requires c =
     let P : List ℕ → Type 0 = λ ns. AreArguments (parameters_of c.in-Some.asked.call) ns in
     record {
       typed = subst P (sym c.as_slice-arguments.ensures)
-          (are_typed c.args.machine.now r.guest r.shows.calls r.process.configuration c.in-Some.asked.call
+          (are_typed c.args.machine.now r.guest r.shows.calls r.process.configuration
+          c.in-Some.asked.call
           c.in-Some.asked.arguments asks);
     }
 

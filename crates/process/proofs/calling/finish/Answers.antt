@@ -5,7 +5,8 @@ use Rattle.process.proofs.calling.finish.Goals as goal
 
 pub returns-clause-finishes : goal.returns-clause-finishes
 returns-clause-finishes c = λ program d f operands waits kind h shows asks is_host gives host.
-    let P : ℕ → Type 0 = λ n. Answers (call_results (Some n)) c.args.machine.now c.finish.new.self in
+    let P : ℕ → Type 0 = λ n. Answers (call_results (Some n)) c.args.machine.now c.finish.new.self
+    in
     let answers = subst P c.number.ensures c.finish.ensures.answers in
     let fin = answers program d f operands waits kind shows asks is_host gives in
     let end = c.end_with_program.ensures in

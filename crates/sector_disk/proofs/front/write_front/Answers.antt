@@ -13,15 +13,24 @@ returns-clause-leaves g c =
     let new = g.D.Disk.medium c.write.new.self in
     let k = c.args.sector in
     let r = c.read.ensures in
-    let holds : Holds mid k c.read.new.into = search (rules, c.if-is_err.ensures, c.read.ensures.bytes) in
-    let writes = subst (λ (l : List ℕ). Writes k l c.write.result mid new) c.leave_front.ensures c.write.ensures in
-    let takes = λ (taken : IsTrue c.is_ok.result). takes_of c.write.result k _ mid new writes (subst IsTrue c.is_ok.ensures.value taken) in
+    let holds : Holds mid k c.read.new.into =
+    search (rules, c.if-is_err.ensures, c.read.ensures.bytes) in
+    let writes =
+    subst (λ (l : List ℕ). Writes k l c.write.result mid new) c.leave_front.ensures
+    c.write.ensures in
+    let takes = λ (taken : IsTrue c.is_ok.result). takes_of c.write.result k _ mid new writes
+    (subst IsTrue c.is_ok.ensures.value taken) in
     record {
-      tears = merged_tears old mid new k c.args.front c.args.from.now c.read.new.into c.requires c.told-from c.read.array_long r.stays holds writes.tears;
+      tears = merged_tears old mid new k c.args.front c.args.from.now c.read.new.into c.requires
+          c.told-from c.read.array_long r.stays holds writes.tears;
       unsynced = let t = writes.tears in let a = t.unsynced in let b = r.unsynced in omega arith;
-      exactly = λ taken. merged_takes old mid new k c.args.front c.args.from.now c.read.new.into c.requires c.told-from c.read.array_long r.stays holds (takes taken);
-      counts = λ taken. let t = takes taken in let a = t.unsynced in let b = r.unsynced in omega arith;
-      called = λ taken. let all = made_of c.write.result k _ mid new writes (subst IsTrue c.is_ok.ensures.value taken) in all ∙ ap (λ l. WriteOf k ∷ l) r.calls;
+      exactly = λ taken. merged_takes old mid new k c.args.front c.args.from.now c.read.new.into
+          c.requires c.told-from c.read.array_long r.stays holds (takes taken);
+      counts = λ taken. let t = takes taken in let a = t.unsynced in let b = r.unsynced in
+          omega arith;
+      called = λ taken. let all =
+          made_of c.write.result k _ mid new writes (subst IsTrue c.is_ok.ensures.value taken) in
+          all ∙ ap (λ l. WriteOf k ∷ l) r.calls;
       begun = begun_since (WriteOf k ∷ []) old mid new r.calls writes.calls.begun;
       taken = λ lt room same.
           let p = r.passes in
@@ -31,7 +40,8 @@ returns-clause-leaves g c =
           let unsynced = r.unsynced in
           let before = p.faults in
           let after = q.faults in
-          subst IsTrue (sym c.is_ok.ensures.value) (taken_of c.write.result k _ mid new writes (omega arith) (omega arith) (omega arith));
+          subst IsTrue (sym c.is_ok.ensures.value) (taken_of c.write.result k _ mid new writes
+          (omega arith) (omega arith) (omega arith));
     }
 
 pub returns-then-is_err-clause-leaves : goal.returns-then-is_err-clause-leaves

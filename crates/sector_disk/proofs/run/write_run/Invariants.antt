@@ -10,8 +10,10 @@ invariant-loop-sector g l =
     let now = g.D.Disk.medium l.disk in
     record {
       place : l.next ≡ l.at + l.sector-index;
-      whole : BothFollow (IsWrittenRun l.at l.sectors l.sector-index) (IsTornRun l.at l.sectors l.sector-index) old now;
-      tears : BothFollow (IsTornRun l.at l.sectors l.sector-index) (IsTornRun l.at l.sectors l.sector-index) old now;
+      whole : BothFollow (IsWrittenRun l.at l.sectors l.sector-index)
+          (IsTornRun l.at l.sectors l.sector-index) old now;
+      tears : BothFollow (IsTornRun l.at l.sectors l.sector-index)
+          (IsTornRun l.at l.sectors l.sector-index) old now;
       unsynced : now.unsynced ≤ old.unsynced + l.sector-index;
       counts : CountsUpTo (old.unsynced + l.sector-index) old now;
       calls : now.calls ≡ rising_writes l.at l.sector-index ++ old.calls;

@@ -13,9 +13,19 @@ returns-in_err-write g c =
     record {
       written = search rules;
       settled = search rules;
-      any_moment = settled_write c.args.at c.args.sector.now old new c.requires.settled c.write.ensures.tears c.write.ensures.passes;
-      counts = let s = c.requires.settled.unsynced in counts_more (old.unsynced + 1) (max old.unsynced 1) old new (omega (arith, s)) c.write.ensures.counts;
-      calls = record { all = search rules; begun = begun_first (WriteOf c.args.at ∷ []) (Sync ∷ []) old new c.write.ensures.calls.begun };
+      any_moment =
+          settled_write c.args.at c.args.sector.now old new c.requires.settled c.write.ensures.tears
+          c.write.ensures.passes;
+      counts = let s = c.requires.settled.unsynced in
+          counts_more (old.unsynced + 1) (max old.unsynced 1) old new (omega (
+            arith,
+            s,
+          )) c.write.ensures.counts;
+      calls = record {
+        all = search rules;
+        begun = begun_first (WriteOf c.args.at ∷ []) (Sync
+            ∷ []) old new c.write.ensures.calls.begun;
+      };
       cause = search rules;
     }
 
@@ -26,14 +36,25 @@ returns g c =
     let last = g.D.Disk.medium c.settle.new.disk in
     let takes = c.in_ok-write.ensures.whole in
     record {
-      written = on_ok_weaker c.settle.result (λ done. written_left c.args.at c.args.sector.now old new c.requires.settled c.write.ensures.tears c.write.ensures.passes last takes.both c.settle.ensures.stays done) c.settle.ensures.settles;
+      written = on_ok_weaker c.settle.result (λ done.
+          written_left c.args.at c.args.sector.now old new c.requires.settled c.write.ensures.tears
+          c.write.ensures.passes last takes.both c.settle.ensures.stays done)
+          c.settle.ensures.settles;
       settled = c.settle.ensures.settles;
-      any_moment = settled_sync c.args.at c.args.sector.now old new c.requires.settled c.write.ensures.tears c.write.ensures.passes last c.settle.ensures.stays c.settle.ensures.passes;
+      any_moment =
+          settled_sync c.args.at c.args.sector.now old new c.requires.settled c.write.ensures.tears
+          c.write.ensures.passes last c.settle.ensures.stays c.settle.ensures.passes;
       counts =
           let s = c.requires.settled.unsynced in
           let t = c.write.ensures.tears.unsynced in
           let p = c.write.ensures.passes in
-          counts_then (old.unsynced + 1) new.unsynced (max old.unsynced 1) old new last (omega (arith, s)) (omega (arith, s, t)) p.later c.write.ensures.counts c.settle.ensures.counts;
-      calls = made_then (WriteOf c.args.at ∷ []) (Sync ∷ []) c.settle.result old new last c.in_ok-write.ensures.calls.all c.settle.ensures.calls;
+          counts_then (old.unsynced + 1) new.unsynced (max old.unsynced 1) old new last
+          (omega (arith, s)) (omega (
+            arith,
+            s,
+            t,
+          )) p.later c.write.ensures.counts c.settle.ensures.counts;
+      calls = made_then (WriteOf c.args.at ∷ []) (Sync
+          ∷ []) c.settle.result old new last c.in_ok-write.ensures.calls.all c.settle.ensures.calls;
       cause = search rules;
     }

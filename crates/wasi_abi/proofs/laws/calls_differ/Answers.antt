@@ -3,4 +3,9 @@ use Rattle.wasi_abi.proofs.CallLemmas.{every_call, distinct_names, name_of-injec
 use Rattle.wasi_abi.proofs.laws.calls_differ.Goals as goal
 
 pub returns-clause-calls : goal.returns-clause-calls
-returns-clause-calls c = record { count = refl; every = every_call; distinct = distinct_names; names = name_of-injective }
+returns-clause-calls c = record {
+  count = refl;
+  every = every_call;
+  distinct = distinct_names;
+  names = name_of-injective;
+}

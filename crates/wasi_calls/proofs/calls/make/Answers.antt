@@ -69,7 +69,8 @@ returns-in-ArgsSizesGet-clause-told c =
     let m = c.args.memory.now in
     let two = c.two-count in
     rw (c.in-ArgsSizesGet.is, two.ensures, c.checked-in-ArgsSizesGet.ensures)
-    (rw c.arguments-in-ArgsSizesGet.ensures.texts at (memory_told c.get_sizes.result c.get_sizes.new.memory m h
+    (rw c.arguments-in-ArgsSizesGet.ensures.texts at
+    (memory_told c.get_sizes.result c.get_sizes.new.memory m h
     (texts_sizes_get c.arguments-in-ArgsSizesGet.result.now two.result.0 two.result.1 m.bytes h)
     (e.done h) (e.refused h) e.kept))
 
@@ -80,7 +81,8 @@ returns-in-EnvironGet-clause-told c =
     let m = c.args.memory.now in
     let two = c.two-array-in-EnvironGet in
     rw (c.in-EnvironGet.is, two.ensures, c.checked-in-EnvironGet.ensures)
-    (rw c.environment.ensures.texts at (memory_told c.get-in-EnvironGet.result c.get-in-EnvironGet.new.memory m h
+    (rw c.environment.ensures.texts at
+    (memory_told c.get-in-EnvironGet.result c.get-in-EnvironGet.new.memory m h
     (texts_get c.environment.result.now two.result.0 two.result.1 m.bytes h)
     (e.done h) (e.refused h) e.kept))
 
@@ -91,8 +93,11 @@ returns-in-EnvironSizesGet-clause-told c =
     let m = c.args.memory.now in
     let two = c.two-count-in-EnvironSizesGet in
     rw (c.in-EnvironSizesGet.is, two.ensures, c.checked-in-EnvironSizesGet.ensures)
-    (rw c.environment-in-EnvironSizesGet.ensures.texts at (memory_told c.get_sizes-in-EnvironSizesGet.result c.get_sizes-in-EnvironSizesGet.new.memory m h
-    (texts_sizes_get c.environment-in-EnvironSizesGet.result.now two.result.0 two.result.1 m.bytes h)
+    (rw c.environment-in-EnvironSizesGet.ensures.texts at
+    (memory_told c.get_sizes-in-EnvironSizesGet.result c.get_sizes-in-EnvironSizesGet.new.memory
+    m h
+    (texts_sizes_get c.environment-in-EnvironSizesGet.result.now two.result.0 two.result.1 m.bytes
+    h)
     (e.done h) (e.refused h) e.kept))
 
 pub returns-in-ClockResGet-clause-told : goal.returns-in-ClockResGet-clause-told

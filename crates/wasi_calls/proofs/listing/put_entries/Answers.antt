@@ -1,7 +1,8 @@
 use Rattle.std.proofs.Common.{◌∙◌, sym, arith}
 use Rattle.file_tree.specs.rules.Listings.{HasNameAtPlace}
 use Rattle.wasi_abi.specs.rules.Layouts.{dirent_layout}
-use Rattle.wasi_calls.proofs.Listings.{short_name, lists_from, lists_end, lists_past, lists_full, lists_more}
+use Rattle.wasi_calls.proofs.Listings.{short_name, lists_from, lists_end, lists_past, lists_full}
+use Rattle.wasi_calls.proofs.Listings.{lists_more}
 use Rattle.wasi_calls.proofs.listing.put_entries.Goals as goal
 
 pub loop-place-init : goal.loop-place-init

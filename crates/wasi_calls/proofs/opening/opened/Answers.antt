@@ -5,12 +5,21 @@ use Rattle.wasi_calls.proofs.opening.opened.Goals as goal
 
 pub returns-then-is_directory-clause-is : goal.returns-then-is_directory-clause-is
 returns-then-is_directory-clause-is c = λ fs there few.
-    rw (c.with_flags.ensures, c.directory.ensures, c.intersection-base.ensures, c.intersection-inheriting.ensures)
+    rw (
+      c.with_flags.ensures,
+      c.directory.ensures,
+      c.intersection-base.ensures,
+      c.intersection-inheriting.ensures,
+    )
     (opened_is fs true c.args.node (descriptor_flags_number c.args.wish.descriptor_flags)
     (rights_number c.args.wish.base) (rights_number c.args.wish.inheriting) there few)
 
 pub returns-else-is_directory-clause-is : goal.returns-else-is_directory-clause-is
 returns-else-is_directory-clause-is c = λ fs there few.
-    rw (c.with_flags-else-is_directory.ensures, c.file.ensures, c.intersection-base-else-is_directory.ensures)
+    rw (
+      c.with_flags-else-is_directory.ensures,
+      c.file.ensures,
+      c.intersection-base-else-is_directory.ensures,
+    )
     (opened_is fs false c.args.node (descriptor_flags_number c.args.wish.descriptor_flags)
     (rights_number c.args.wish.base) (rights_number c.args.wish.inheriting) there few)

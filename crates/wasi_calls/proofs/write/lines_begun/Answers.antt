@@ -22,7 +22,8 @@ returns-in-Stream-clause-count c = λ h done s e.
     let both : Ok own ≡ Ok d = sym is ∙ passed.is_open in
     let same : own ≡ d = cc in
     let named : d.target ≡ Stream c.in-Stream.stream =
-    ap (λ (x : Descriptor). x.target) (sym same) ∙ sym c.names.ensures ∙ ap target_of c.in-Stream.is in
+    ap (λ (x : Descriptor). x.target) (sym same) ∙ sym c.names.ensures ∙ ap target_of c.in-Stream.is
+    in
     let w : Wanted = record { descriptor = d; buffers = bs } in
     let counted = c.count_begun.ensures.value
     ∙ ap (λ (x : Bytes). count_begun (length x) (gathered m bs)) c.unfinished.ensures
@@ -43,7 +44,8 @@ returns-in-Node-clause-count c = λ h done s e.
     let both : Ok own ≡ Ok d = sym is ∙ passed.is_open in
     let same : own ≡ d = cc in
     let named : d.target ≡ Node c.in-Node.field-0 =
-    ap (λ (x : Descriptor). x.target) (sym same) ∙ sym c.names.ensures ∙ ap target_of c.in-Node.is in
+    ap (λ (x : Descriptor). x.target) (sym same) ∙ sym c.names.ensures ∙ ap target_of c.in-Node.is
+    in
     let w : Wanted = record { descriptor = d; buffers = bs } in
     let counted = ap (λ (t : Target). begun_on t (gathered m bs) old.host) (sym named) in
     write_adds a.fd a.iovecs a.count a.ret m old h s w passed.is done 0 e counted

@@ -1,4 +1,5 @@
-use Rattle.wasi_calls_rules.proofs.StoryExamplesHold.{rename_story, unlink_story, size_story, answer_story, page_story}
+use Rattle.wasi_calls_rules.proofs.StoryExamplesHold.{rename_story, unlink_story, size_story}
+use Rattle.wasi_calls_rules.proofs.StoryExamplesHold.{answer_story, page_story}
 use Rattle.wasi_calls_rules.proofs.laws.calls_in_turn_on_examples.Goals as goal
 
 pub returns-clause-renaming : goal.returns-clause-renaming

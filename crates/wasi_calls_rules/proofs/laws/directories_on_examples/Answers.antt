@@ -1,4 +1,5 @@
-use Rattle.wasi_calls_rules.proofs.PathExamplesHold.{listing_examples, making_examples, removal_examples, rename_examples}
+use Rattle.wasi_calls_rules.proofs.PathExamplesHold.{listing_examples, making_examples}
+use Rattle.wasi_calls_rules.proofs.PathExamplesHold.{removal_examples, rename_examples}
 use Rattle.wasi_calls_rules.proofs.laws.directories_on_examples.Goals as goal
 
 pub returns-clause-listing : goal.returns-clause-listing

@@ -1,4 +1,5 @@
-use Rattle.wasi_calls_rules.proofs.OpenExamplesHold.{opened_examples, open_refused_examples, open_right_examples, open_limit_examples}
+use Rattle.wasi_calls_rules.proofs.OpenExamplesHold.{opened_examples, open_refused_examples}
+use Rattle.wasi_calls_rules.proofs.OpenExamplesHold.{open_right_examples, open_limit_examples}
 use Rattle.wasi_calls_rules.proofs.laws.opening_on_examples.Goals as goal
 
 pub returns-clause-opened : goal.returns-clause-opened

@@ -1,4 +1,5 @@
-use Rattle.wasi_calls_rules.proofs.PathExamplesHold.{form_examples, walk_examples, path_status_examples}
+use Rattle.wasi_calls_rules.proofs.PathExamplesHold.{form_examples, walk_examples}
+use Rattle.wasi_calls_rules.proofs.PathExamplesHold.{path_status_examples}
 use Rattle.wasi_calls_rules.proofs.laws.paths_on_examples.Goals as goal
 
 pub returns-clause-form : goal.returns-clause-form

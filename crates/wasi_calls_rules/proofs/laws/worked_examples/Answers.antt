@@ -1,4 +1,5 @@
-use Rattle.wasi_calls_rules.proofs.ExamplesHold.{opening_examples, writing_examples, directory_examples}
+use Rattle.wasi_calls_rules.proofs.ExamplesHold.{opening_examples, writing_examples}
+use Rattle.wasi_calls_rules.proofs.ExamplesHold.{directory_examples}
 use Rattle.wasi_calls_rules.proofs.laws.worked_examples.Goals as goal
 
 pub returns-clause-opening : goal.returns-clause-opening

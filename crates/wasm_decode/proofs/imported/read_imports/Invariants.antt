@@ -9,7 +9,8 @@ use Rattle.wasm_decode.proofs.imported.read_imports.Given as goal
 
 abbrev pub invariant-loop : goal.invariant-loop
 invariant-loop l = record {
-  all : with_front l.items (items_at import_within_at (l.count - l.counter) l.decoder) ≡ items_at import_within_at l.count l.initial.decoder;
+  all : with_front l.items (items_at import_within_at (l.count - l.counter) l.decoder)
+      ≡ items_at import_within_at l.count l.initial.decoder;
   counted : l.functions ≡ count_by is_function l.items;
   few : l.functions ≤ FUNCTIONS;
 }

@@ -9,4 +9,5 @@ returns-in_err-module-clause-only c =
     rw (p.1, p.2) (refused c.args.bytes.now c.in_err-module.field-0.0 c.in_err-module.ensures)
 
 pub returns-clause-found : goal.returns-clause-found
-returns-clause-found c = module_within_sound c.args.bytes.now c.in_ok-module.field-0 c.in_ok-module.ensures
+returns-clause-found c =
+    module_within_sound c.args.bytes.now c.in_ok-module.field-0 c.in_ok-module.ensures

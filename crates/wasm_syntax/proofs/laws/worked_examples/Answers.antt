@@ -1,6 +1,7 @@
 -- Each example is read by computing.
 use Rattle.std.proofs.Common.{refl}
-use Rattle.wasm_syntax.proofs.Grammar.Worked.{idle_spelled, sections_spelled, bodies_spelled, hello_spelled, echo_spelled}
+use Rattle.wasm_syntax.proofs.Grammar.Worked.{idle_spelled, sections_spelled, bodies_spelled}
+use Rattle.wasm_syntax.proofs.Grammar.Worked.{hello_spelled, echo_spelled}
 use Rattle.wasm_syntax.proofs.Grammar.Fronts.{fronts_spell_nothing}
 use Rattle.wasm_syntax.proofs.laws.worked_examples.Goals as goal
 

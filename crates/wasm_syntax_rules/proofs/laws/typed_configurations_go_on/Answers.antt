@@ -1,4 +1,5 @@
-use Rattle.wasm_syntax_rules.proofs.Soundness.LeaveSound.{never_stuck_holds, leaves_typed, answers_typed, steps_typed}
+use Rattle.wasm_syntax_rules.proofs.Soundness.LeaveSound.{never_stuck_holds, leaves_typed}
+use Rattle.wasm_syntax_rules.proofs.Soundness.LeaveSound.{answers_typed, steps_typed}
 use Rattle.wasm_syntax_rules.proofs.laws.typed_configurations_go_on.Goals as goal
 
 pub returns-clause-never_stuck : goal.returns-clause-never_stuck

@@ -9,4 +9,7 @@ use Rattle.wasm_validate.proofs.bodies.check_functions.Given as goal
 
 abbrev pub invariant-loop-function : goal.invariant-loop-function
 invariant-loop-function l =
-    (m : Module) (functions : List FunctionType) → IsContextOf (module_context m functions) l.context → AllByRecursion IsFunctionTypeValid m.types → Passed (IsFunctionValid m functions) l.own l.function-index
+    (m : Module) (functions : List FunctionType)
+    → IsContextOf (module_context m functions) l.context
+    → AllByRecursion IsFunctionTypeValid m.types
+    → Passed (IsFunctionValid m functions) l.own l.function-index

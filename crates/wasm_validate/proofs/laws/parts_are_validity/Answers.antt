@@ -10,8 +10,10 @@ use Rattle.wasm_validate.proofs.laws.parts_are_validity.Goals as goal
 
 pub returns-clause-needed : goal.returns-clause-needed
 returns-clause-needed c = λ m functions are v.
-    let e = one_list m.types (imported_functions m.imports ++ map function_type_of m.functions) v.functions functions v.function_types are in
-    let P : List FunctionType → Type 0 = λ fs. IsValidButBodies m fs × AllByRecursion (IsFunctionValid m fs) m.functions in
+    let e = one_list m.types (imported_functions m.imports
+    ++ map function_type_of m.functions) v.functions functions v.function_types are in
+    let P : List FunctionType → Type 0 = λ fs. IsValidButBodies m fs
+    × AllByRecursion (IsFunctionValid m fs) m.functions in
     subst P e (
       record {
         function_types = v.function_types;

@@ -8,7 +8,8 @@ use Rattle.wasm_validate.proofs.valid.check.Goals as goal
 
 pub returns-in_err-context-clause-fault : goal.returns-in_err-context-clause-fault
 returns-in_err-context-clause-fault c =
-    let p = err_from_is_err_and c.from_residual-in_err-context.result c.from_residual-in_err-context.ensures.1 in
+    let p = err_from_is_err_and c.from_residual-in_err-context.result
+    c.from_residual-in_err-context.ensures.1 in
     rw (p.1, p.2)
     (types_fault c.args.module.now c.in_err-context.field-0.0 c.in_err-context.ensures.refused)
 

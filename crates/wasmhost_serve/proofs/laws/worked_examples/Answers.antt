@@ -1,4 +1,5 @@
-use Rattle.wasmhost_serve.proofs.WordLemmas.ExamplesHold.{help_examples, mistake_examples, order_examples}
+use Rattle.wasmhost_serve.proofs.WordLemmas.ExamplesHold.{help_examples, mistake_examples}
+use Rattle.wasmhost_serve.proofs.WordLemmas.ExamplesHold.{order_examples}
 use Rattle.wasmhost_serve.proofs.laws.worked_examples.Goals as goal
 
 pub returns-clause-orders : goal.returns-clause-orders

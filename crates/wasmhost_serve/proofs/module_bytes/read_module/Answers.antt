@@ -3,7 +3,8 @@ use Rattle.std.specs.Prelude.{IfSome, Option, option_map}
 use Rattle.wasmhost_serve.proofs.module_bytes.read_module.Goals as goal
 
 -- the first bytes of the same reader, in an empty row
-first_bytes : (a b : Option (List ℕ)) (limit n : ℕ) (old new : List ℕ) → a ≡ b → limit ≡ n → old ≡ []
+first_bytes : (a b : Option (List ℕ)) (limit n : ℕ) (old new : List ℕ) → a ≡ b → limit ≡ n
+    → old ≡ []
     → IfSome (option_map (take limit) a) (λ xs. new ≡ old ++ xs) → IfSome b (λ xs. new ≡ take n xs)
 first_bytes a b limit n old new same most none read =
     subst (λ z. IfSome z (λ xs. new ≡ take n xs)) same (here a read)

@@ -1,5 +1,6 @@
 use Rattle.wasmhost_serve.specs.rules.Served.{config_of, job, texts_in}
-use Rattle.wasmhost_serve.proofs.Starting.{serves_done, serves_failed, serves_unconfigured, few_statuses}
+use Rattle.wasmhost_serve.proofs.Starting.{serves_done, serves_failed, serves_unconfigured}
+use Rattle.wasmhost_serve.proofs.Starting.{few_statuses}
 use Rattle.wasmhost_serve.proofs.run.serve.Goals as goal
 
 pub returns-in-Err-clause-serves : goal.returns-in-Err-clause-serves

@@ -7,6 +7,8 @@ use Rattle.wasmhost_serve.proofs.words.matches_of.Goals as goal
 
 pub returns-in_err-matches : goal.returns-in_err-matches
 returns-in_err-matches g c =
-    let p = err_from_is_err_and c.from_residual-in_err-matches.result c.from_residual-in_err-matches.ensures.1 in
+    let p = err_from_is_err_and c.from_residual-in_err-matches.result
+    c.from_residual-in_err-matches.ensures.1 in
     subst (IsParse (map g.S.AsStr.text c.args.words.now)) (sym p.1)
-    (told_fault _ _ _ p.0 c.in_ok-command.ensures.0 c.in_err-matches.ensures.kinds c.in_err-matches.ensures.passes p.2)
+    (told_fault _ _ _ p.0 c.in_ok-command.ensures.0 c.in_err-matches.ensures.kinds
+    c.in_err-matches.ensures.passes p.2)

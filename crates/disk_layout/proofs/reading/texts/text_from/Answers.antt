@@ -9,4 +9,7 @@ returns c =
     let bytes = c.args.bytes.now in
     let is : 2 + c.from-end.result ≡ 2 + u16_at bytes 0 = omega arith in
     let small : u16_at bytes 0 < 2 ^ 16 = omega arith in
-    text_lent bytes (2 + c.from-end.result) (all_bytes bytes (λ k. omega (arith, c.type_inv.bytes k))) is c.if-bytes-end.false small
+    text_lent bytes (2 + c.from-end.result) (all_bytes bytes (λ k. omega (
+      arith,
+      c.type_inv.bytes k,
+    ))) is c.if-bytes-end.false small

@@ -6,16 +6,27 @@ use Rattle.file_tree.proofs.StoreLemmas.Overs.{piece_full, piece_cleared, none_c
 use Rattle.file_tree.proofs.store.chunks.clear_chunk.Goals as goal
 
 within : (n at : ℕ) → 0 < at % CHUNK_BYTES → at ≤ n * CHUNK_BYTES → at < n * CHUNK_BYTES
-within n at some le = omega (arith, div-add-mod' at CHUNK_BYTES, some, le, mod_below at CHUNK_BYTES (omega arith))
+within n at some le =
+    omega (arith, div-add-mod' at CHUNK_BYTES, some, le, mod_below at CHUNK_BYTES (omega arith))
 
 pub returns-then-start-gt0-clause-full : goal.returns-then-start-gt0-clause-full
 returns-then-start-gt0-clause-full c =
-    piece_full c.args.chunks.now.items c.args.from c.requires.full (within (length c.args.chunks.now.items) c.args.from c.if-start-gt0.true c.requires.within) c.index_mut.result.now c.clear.new.self (replicate (CHUNK_BYTES - c.args.from % CHUNK_BYTES) 0) c.index_mut.ensures.value c.clear.ensures
+    piece_full c.args.chunks.now.items c.args.from c.requires.full
+    (within (length c.args.chunks.now.items) c.args.from c.if-start-gt0.true c.requires.within)
+    c.index_mut.result.now c.clear.new.self
+    (replicate (CHUNK_BYTES - c.args.from % CHUNK_BYTES) 0) c.index_mut.ensures.value
+    c.clear.ensures
 
 pub returns-then-start-gt0-clause-cleared : goal.returns-then-start-gt0-clause-cleared
 returns-then-start-gt0-clause-cleared c =
-    piece_cleared c.args.chunks.now.items c.args.from c.requires.full (within (length c.args.chunks.now.items) c.args.from c.if-start-gt0.true c.requires.within) c.index_mut.result.now c.clear.new.self c.index_mut.ensures.value c.clear.ensures c.requires.last
+    piece_cleared c.args.chunks.now.items c.args.from c.requires.full
+    (within (length c.args.chunks.now.items) c.args.from c.if-start-gt0.true c.requires.within)
+    c.index_mut.result.now c.clear.new.self c.index_mut.ensures.value c.clear.ensures
+    c.requires.last
 
 pub returns-else-start-gt0-clause-cleared : goal.returns-else-start-gt0-clause-cleared
 returns-else-start-gt0-clause-cleared c =
-    none_cleared c.args.chunks.now.items c.args.from c.requires.full (omega (arith, c.if-start-gt0.false)) c.requires.within c.requires.last
+    none_cleared c.args.chunks.now.items c.args.from c.requires.full (omega (
+      arith,
+      c.if-start-gt0.false,
+    )) c.requires.within c.requires.last

@@ -1,4 +1,5 @@
-use Rattle.std.proofs.Common.{◌≡◌, ◌≤◌, ◌+◌, ◌-◌, length, take, drop, refl, arith, length-drop, length-take}
+use Rattle.std.proofs.Common.{◌≡◌, ◌≤◌, ◌+◌, ◌-◌, length, take, drop, refl, arith, length-drop}
+use Rattle.std.proofs.Common.{length-take}
 use Rattle.std.specs.List.{concat}
 use Rattle.file_tree.proofs.StoreLemmas.Overs.{length-joined, read_two}
 use Rattle.file_tree.proofs.store.chunks.read_chunks.Goals as goal
@@ -12,9 +13,22 @@ loop-done-preserved c =
     let into = c.loop-done.into in
     let rest = length into - i in
     let all = concat c.args.chunks.now.items in
-    let left : length (take rest (drop i into)) ≡ rest = omega (arith, length-take rest (drop i into), length-drop i into) in
+    let left : length (take rest (drop i into)) ≡ rest =
+    omega (arith, length-take rest (drop i into), length-drop i into) in
     let most : n ≤ rest = omega (arith, r.most, left) in
-    let many : length (take n (drop (c.args.from + i) all)) ≡ n = omega (arith, length-take n (drop (c.args.from + i) all), length-drop (c.args.from + i) all, length-joined c.args.chunks.now.items c.requires.full, most, c.loop-done.auto.into, c.loop-done-test.true, c.requires.within) in (
+    let many : length (take n (drop (c.args.from + i) all)) ≡ n =
+    omega (
+      arith,
+      length-take n (drop (c.args.from + i) all),
+      length-drop (c.args.from + i) all,
+      length-joined c.args.chunks.now.items c.requires.full,
+      most,
+      c.loop-done.auto.into,
+      c.loop-done-test.true,
+      c.requires.within,
+    ) in (
       omega (arith, most, c.loop-done.auto.into, c.loop-done-test.true),
-      read_two into all c.read_piece-done.new.into (drop n (take rest (drop i into))) (drop rest (drop i into)) i n (i + n) c.args.from (c.args.from + i) refl refl (omega (arith, c.loop-done-test.true)) many h.1 r.bytes,
+      read_two into all c.read_piece-done.new.into (drop n (take rest (drop i into)))
+          (drop rest (drop i into)) i n (i + n) c.args.from (c.args.from + i) refl refl
+          (omega (arith, c.loop-done-test.true)) many h.1 r.bytes,
     )

@@ -12,4 +12,8 @@ returns-clause-bytes c =
     (c.copy_from_slice.ensures.after
     ∙ ap (λ (k : ℕ). take k (drop start c.as_slice-bytes.result.now)) many
     ∙ ap (λ (xs : List ℕ). take n (drop start xs)) c.as_slice-bytes.ensures.bytes
-    ∙ piece_read c.args.chunks.now.items c.args.from c.requires.full (omega (arith, c.requires.some, c.requires.within)) c.index.result.now n c.index.ensures c.piece-count.ensures.chunk)
+    ∙ piece_read c.args.chunks.now.items c.args.from c.requires.full (omega (
+      arith,
+      c.requires.some,
+      c.requires.within,
+    )) c.index.result.now n c.index.ensures c.piece-count.ensures.chunk)

@@ -1,4 +1,5 @@
-use Rattle.std.proofs.Common.{ℕ, List, ◌+◌, length, take, drop, refl, sym, ap, ◌∙◌, arith, length-drop}
+use Rattle.std.proofs.Common.{ℕ, List, ◌+◌, length, take, drop, refl, sym, ap, ◌∙◌, arith}
+use Rattle.std.proofs.Common.{length-drop}
 use Rattle.std.specs.List.{concat}
 use Rattle.std.proofs.lemmas.List.{take_rest}
 use Rattle.file_tree.specs.Store.Chunked.{overlaid}
@@ -6,7 +7,12 @@ use Rattle.file_tree.proofs.StoreLemmas.Overs.{over_none, over_two}
 use Rattle.file_tree.proofs.store.chunks.write_chunks.Goals as goal
 
 pub loop-done-init : goal.loop-done-init
-loop-done-init c = (omega arith, c.requires.full, refl, sym (over_none (concat c.args.chunks.now.items) c.args.from))
+loop-done-init c = (
+  omega arith,
+  c.requires.full,
+  refl,
+  sym (over_none (concat c.args.chunks.now.items) c.args.from),
+)
 
 pub loop-done-preserved : goal.loop-done-preserved
 loop-done-preserved c =
@@ -19,7 +25,10 @@ loop-done-preserved c =
       w.full,
       w.count ∙ h.2,
       w.written
-          ∙ ap (λ (xs : List ℕ). overlaid (concat c.loop-done.chunks.items) (c.args.from + i) (take r xs)) rest
-          ∙ ap (λ (xs : List ℕ). overlaid xs (c.args.from + i) (take r (drop i c.args.bytes.now))) h.3
-          ∙ over_two (concat c.args.chunks.now.items) c.args.from c.args.bytes.now i r (i + r) (c.args.from + i) refl refl h.0,
+          ∙ ap (λ (xs : List ℕ). overlaid (concat c.loop-done.chunks.items) (c.args.from + i)
+          (take r xs)) rest
+          ∙ ap (λ (xs : List ℕ). overlaid xs (c.args.from + i) (take r (drop i c.args.bytes.now)))
+          h.3
+          ∙ over_two (concat c.args.chunks.now.items) c.args.from c.args.bytes.now i r (i + r)
+          (c.args.from + i) refl refl h.0,
     )

@@ -13,17 +13,37 @@ push-requires c =
       number = (numbers_below 1 c.self.inside.nodes c.self.inside.next c.self.invariant.0.rising).1;
       free =
           ap (child_in c.self.inside.nodes c.args.directory) c.in_ok-name.ensures
-          ∙ nothing_hangs c.self.inside.nodes c.self.inside.next c.args.directory c.args.name.now c.args.self.now c.self.view_is c.self.invariant.0 c.requires.free;
+          ∙ nothing_hangs c.self.inside.nodes c.self.inside.next c.args.directory c.args.name.now
+          c.args.self.now c.self.view_is c.self.invariant.0 c.requires.free;
     }
 
 pub invariant_of-self-2 : goal.invariant_of-self-2
 invariant_of-self-2 c =
-    let n : Node = record { number = c.self.inside.next; hook = In c.args.directory c.in_ok-name.name; content = c.new_content.result } in
-    let made = is_made c.self.inside.nodes c.self.inside.next c.args.directory c.args.name.now c.args.kind n c.args.self.now c.self.view_is c.self.invariant.0 c.requires.free c.requires.room refl (ap (λ x. In c.args.directory x) c.in_ok-name.ensures) c.new_content.ensures in
-    rw c.in_ok-push.ensures.pushed (made.nodes, c.self.invariant.1 ∙ sym made.used, c.self.invariant.2 ∙ sym made.chunks)
+    let n : Node = record {
+      number = c.self.inside.next;
+      hook = In c.args.directory c.in_ok-name.name;
+      content = c.new_content.result;
+    } in
+    let made = is_made c.self.inside.nodes c.self.inside.next c.args.directory c.args.name.now
+    c.args.kind n c.args.self.now c.self.view_is c.self.invariant.0 c.requires.free
+    c.requires.room refl (ap (λ x. In c.args.directory x) c.in_ok-name.ensures)
+    c.new_content.ensures in
+    rw c.in_ok-push.ensures.pushed (
+      made.nodes,
+      c.self.invariant.1
+          ∙ sym made.used,
+      c.self.invariant.2 ∙ sym made.chunks,
+    )
 
 pub returns-clause-created : goal.returns-clause-created
 returns-clause-created c =
-    let n : Node = record { number = c.self.inside.next; hook = In c.args.directory c.in_ok-name.name; content = c.new_content.result } in
-    let made = is_made c.self.inside.nodes c.self.inside.next c.args.directory c.args.name.now c.args.kind n c.args.self.now c.self.view_is c.self.invariant.0 c.requires.free c.requires.room refl (ap (λ x. In c.args.directory x) c.in_ok-name.ensures) c.new_content.ensures in
+    let n : Node = record {
+      number = c.self.inside.next;
+      hook = In c.args.directory c.in_ok-name.name;
+      content = c.new_content.result;
+    } in
+    let made = is_made c.self.inside.nodes c.self.inside.next c.args.directory c.args.name.now
+    c.args.kind n c.args.self.now c.self.view_is c.self.invariant.0 c.requires.free
+    c.requires.room refl (ap (λ x. In c.args.directory x) c.in_ok-name.ensures)
+    c.new_content.ensures in
     rw c.in_ok-push.ensures.pushed made.files_are

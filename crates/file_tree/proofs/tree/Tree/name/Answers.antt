@@ -11,18 +11,24 @@ pub returns-clause-last : goal.returns-clause-last
 returns-clause-last c =
     λ p name e.
     c.name_held.ensures ∙ ap (λ (o : Option Node). name_of_hook (hook_held o)) c.node_of.ensures
-    ∙ last_name c.self.inside.nodes c.self.inside.next c.args.number c.self.invariant.0 p name (ap (λ (fs : Files). path_of fs c.args.number) c.self.view_is ∙ e)
+    ∙ last_name c.self.inside.nodes c.self.inside.next c.args.number c.self.invariant.0 p name
+    (ap (λ (fs : Files). path_of fs c.args.number) c.self.view_is ∙ e)
 
 pub returns-clause-none : goal.returns-clause-none
 returns-clause-none c =
     λ never.
     c.name_held.ensures ∙ ap (λ (o : Option Node). name_of_hook (hook_held o)) c.node_of.ensures
-    ∙ no_name c.self.inside.nodes c.self.inside.next c.args.number c.self.invariant.0 (λ p name e. never p name (sym (ap (λ (fs : Files). path_of fs c.args.number) c.self.view_is) ∙ e))
+    ∙ no_name c.self.inside.nodes c.self.inside.next c.args.number c.self.invariant.0 (λ p name e.
+    never p name (sym (ap (λ (fs : Files). path_of fs c.args.number) c.self.view_is) ∙ e))
 
 pub returns-clause-of_entry : goal.returns-clause-of_entry
 returns-clause-of_entry c =
     λ d i is.
-    let held : name_of_hook (hook_of c.self.inside.nodes c.args.number) ≡ c.name_held.result.now = sym (c.name_held.ensures ∙ ap (λ (o : Option Node). name_of_hook (hook_held o)) c.node_of.ensures) in
+    let held : name_of_hook (hook_of c.self.inside.nodes c.args.number) ≡ c.name_held.result.now =
+    sym (c.name_held.ensures
+    ∙ ap (λ (o : Option Node). name_of_hook (hook_held o)) c.node_of.ensures) in
     subst (HasNameAtPlace c.args.self.now d i) held
-    (subst (λ (fs : Files). number_at_place fs d i ≡ Some c.args.number → HasNameAtPlace fs d i (name_of_hook (hook_of c.self.inside.nodes c.args.number))) c.self.view_is
+    (subst (λ (fs : Files). number_at_place fs d i ≡ Some c.args.number
+    → HasNameAtPlace fs d i (name_of_hook (hook_of c.self.inside.nodes c.args.number)))
+    c.self.view_is
     (name_at_place c.self.inside.nodes c.self.inside.next d i c.args.number c.self.invariant.0) is)

@@ -7,17 +7,40 @@ use Rattle.file_tree.proofs.tree.Tree.write.Goals as goal
 
 pub write-requires-clause-within : goal.write-requires-clause-within
 write-requires-clause-within c = λ n at.
-    omega (arith, c.requires.within, ap length (bytes_at_place c.self.inside.nodes c.self.inside.next c.args.number c.in-Some.place n c.args.self.now c.self.view_is c.in-Some.ensures.there at))
+    omega (
+      arith,
+      c.requires.within,
+      ap length (bytes_at_place c.self.inside.nodes c.self.inside.next c.args.number c.in-Some.place n
+          c.args.self.now c.self.view_is c.in-Some.ensures.there at),
+    )
 
 pub invariant_of-self : goal.invariant_of-self
 invariant_of-self c =
-    let all = is_overwritten c.self.inside.nodes c.self.inside.next c.args.number c.in-Some.place c.args.from c.args.bytes.now c.args.self.now c.self.view_is c.self.invariant.0 c.in-Some.ensures.there c.requires.file (all_bytes c.args.bytes.now (λ k. omega (arith, c.type_inv.bytes k))) c.requires.within in
-    rw c.write.ensures (all.nodes, c.self.invariant.1 ∙ sym all.used, c.self.invariant.2 ∙ sym all.chunks)
+    let all = is_overwritten c.self.inside.nodes c.self.inside.next c.args.number c.in-Some.place
+    c.args.from c.args.bytes.now c.args.self.now c.self.view_is c.self.invariant.0
+    c.in-Some.ensures.there c.requires.file (all_bytes c.args.bytes.now (λ k. omega (
+      arith,
+      c.type_inv.bytes k,
+    ))) c.requires.within in
+    rw c.write.ensures (
+      all.nodes,
+      c.self.invariant.1 ∙ sym all.used,
+      c.self.invariant.2
+          ∙ sym all.chunks,
+    )
 
 pub returns-in-Some : goal.returns-in-Some
 returns-in-Some c =
-    let all = is_overwritten c.self.inside.nodes c.self.inside.next c.args.number c.in-Some.place c.args.from c.args.bytes.now c.args.self.now c.self.view_is c.self.invariant.0 c.in-Some.ensures.there c.requires.file (all_bytes c.args.bytes.now (λ k. omega (arith, c.type_inv.bytes k))) c.requires.within in
+    let all = is_overwritten c.self.inside.nodes c.self.inside.next c.args.number c.in-Some.place
+    c.args.from c.args.bytes.now c.args.self.now c.self.view_is c.self.invariant.0
+    c.in-Some.ensures.there c.requires.file (all_bytes c.args.bytes.now (λ k. omega (
+      arith,
+      c.type_inv.bytes k,
+    ))) c.requires.within in
     rw c.write.ensures all.files_are
 
 pub returns-in_default : goal.returns-in_default
-returns-in_default c = no_bytes_changed c.self.inside.nodes c.self.inside.next c.args.number (written (bytes_of_node c.args.self.now c.args.number) c.args.from c.args.bytes.now) c.args.self.now c.self.view_is c.in_default.ensures.nowhere
+returns-in_default c =
+    no_bytes_changed c.self.inside.nodes c.self.inside.next c.args.number
+    (written (bytes_of_node c.args.self.now c.args.number) c.args.from c.args.bytes.now)
+    c.args.self.now c.self.view_is c.in_default.ensures.nowhere

@@ -10,11 +10,13 @@ returns-in-Rotl c =
     let a = c.args.self in
     let by = c.args.other % 64 in
     let is = rotate_left_is w64 a by c.ranges.self.fits in
-    rw c.in-Rotl.is (ap Ok (c.rotate_left.ensures ∙ is ∙ ap (rotated_left w64 a) (mod-mod c.args.other 64)))
+    rw c.in-Rotl.is (ap Ok (c.rotate_left.ensures ∙ is
+    ∙ ap (rotated_left w64 a) (mod-mod c.args.other 64)))
 
 pub returns-in-Rotr : goal.returns-in-Rotr
 returns-in-Rotr c =
     let a = c.args.self in
     let by = c.args.other % 64 in
     let is = rotate_right_is w64 a by c.ranges.self.fits in
-    rw c.in-Rotr.is (ap Ok (c.rotate_right.ensures ∙ is ∙ ap (rotated_right w64 a) (mod-mod c.args.other 64)))
+    rw c.in-Rotr.is (ap Ok (c.rotate_right.ensures ∙ is
+    ∙ ap (rotated_right w64 a) (mod-mod c.args.other 64)))

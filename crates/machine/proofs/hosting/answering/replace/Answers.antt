@@ -8,6 +8,8 @@ push-requires c =
     let enough = c.requires.enough in
     let room = c.requires.room in
     let count = c.len.ensures.len in
-    let height : c.len.result - c.args.taken ≡ length (drop c.args.taken c.args.slots.now) = simp length-drop (omega (arith, count)) in
-    let left = c.truncate.ensures (take c.args.taken c.args.slots.now) under height (sym (take-append-drop c.args.taken c.args.slots.now)) in
+    let height : c.len.result - c.args.taken ≡ length (drop c.args.taken c.args.slots.now) =
+    simp length-drop (omega (arith, count)) in
+    let left = c.truncate.ensures (take c.args.taken c.args.slots.now) under height
+    (sym (take-append-drop c.args.taken c.args.slots.now)) in
     omega (arith, ap length left, height, count, room)

@@ -5,4 +5,5 @@ use Rattle.wasi_abi.specs.rules.Calls.{all_calls, name_of}
 use Rattle.machine.proofs.instance.calls.call_of.Given as goal
 
 abbrev pub invariant-loop-call : goal.invariant-loop-call
-invariant-loop-call l = find (λ c. bytes_eq (name_of c) l.name) (drop l.call-index all_calls) ≡ find (λ c. bytes_eq (name_of c) l.name) all_calls
+invariant-loop-call l = find (λ c. bytes_eq (name_of c) l.name) (drop l.call-index all_calls)
+    ≡ find (λ c. bytes_eq (name_of c) l.name) all_calls

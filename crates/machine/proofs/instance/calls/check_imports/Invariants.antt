@@ -9,5 +9,6 @@ use Rattle.machine.proofs.instance.calls.check_imports.Given as goal
 abbrev pub invariant-loop-import : goal.invariant-loop-import
 invariant-loop-import l = record {
   offered : Passed (IsOffered offer l.types) l.imports l.import-index;
-  refused : (e : LinkFault) → AreImportsRefused l.types (drop l.import-index l.imports) e → AreImportsRefused l.types l.imports e;
+  refused : (e : LinkFault) → AreImportsRefused l.types (drop l.import-index l.imports) e
+      → AreImportsRefused l.types l.imports e;
 }

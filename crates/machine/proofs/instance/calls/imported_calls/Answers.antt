@@ -12,4 +12,7 @@ unwrap-requires c =
     let i = c.import-item.result in
     let types = c.requires.0 in
     let P : Option Call → Type 0 = IsSome in
-    subst P (sym c.call_of.ensures) (has_call types i (of_all (IsOffered offer types) c.args.imports.now c.loop-import.import-index i c.loop-import-test.true c.import-item.is c.requires.1))
+    subst P (sym c.call_of.ensures)
+    (has_call types i
+    (of_all (IsOffered offer types) c.args.imports.now c.loop-import.import-index i
+    c.loop-import-test.true c.import-item.is c.requires.1))

@@ -4,4 +4,5 @@ use Rattle.wasm_validate.proofs.PartLemmas.Loops.{Passed}
 use Rattle.machine.proofs.instance.memory.fits_pages.Given as goal
 
 abbrev pub invariant-loop-memory : goal.invariant-loop-memory
-invariant-loop-memory l = Passed (λ (t : MemoryType). t.limits.minimum ≤ l.pages) l.memories l.memory-index
+invariant-loop-memory l =
+    Passed (λ (t : MemoryType). t.limits.minimum ≤ l.pages) l.memories l.memory-index

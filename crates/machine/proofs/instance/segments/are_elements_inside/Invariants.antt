@@ -6,4 +6,5 @@ use Rattle.machine.proofs.InstanceLemmas.Filled.{IsElementInside}
 use Rattle.machine.proofs.instance.segments.are_elements_inside.Given as goal
 
 abbrev pub invariant-loop-element : goal.invariant-loop-element
-invariant-loop-element l = (values : List Value) → AreInitial l.globals values → Passed (IsElementInside values l.size) l.elements l.element-index
+invariant-loop-element l = (values : List Value) → AreInitial l.globals values
+    → Passed (IsElementInside values l.size) l.elements l.element-index

@@ -4,9 +4,12 @@ use Rattle.machine.proofs.Stopped.{machine_stopped, machine_stops}
 use Rattle.machine.proofs.running.Machine.stop.Goals as goal
 
 pub invariant_of-self : goal.invariant_of-self
-invariant_of-self c = machine_stopped c.self.inside.code c.self.inside.state c.clear.new.state c.self.inside.most_pages c.clear.ensures c.self.invariant
+invariant_of-self c =
+    machine_stopped c.self.inside.code c.self.inside.state c.clear.new.state
+    c.self.inside.most_pages c.clear.ensures c.self.invariant
 
 pub returns-clause-stops : goal.returns-clause-stops
 returns-clause-stops c = λ program d shows.
     let P : MachineValue → Type 0 = λ v. ShowsIn v program d in
-    machine_stops c.self.inside.code c.self.inside.state c.clear.new.state c.self.inside.most_pages c.clear.ensures program d (subst P (sym c.self.view_is) shows)
+    machine_stops c.self.inside.code c.self.inside.state c.clear.new.state c.self.inside.most_pages
+    c.clear.ensures program d (subst P (sym c.self.view_is) shows)

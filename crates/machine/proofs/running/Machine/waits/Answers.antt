@@ -7,10 +7,14 @@ use Rattle.machine.proofs.running.Machine.waits.Goals as goal
 
 pub waiting_call-requires : goal.waiting_call-requires
 waiting_call-requires c =
-    let holds = ap (λ (v : MachineValue). v.limit) c.self.view_is ∙ c.requires ∙ sym (ap (λ (v : MachineValue). v.most_pages) c.self.view_is) in
-    is_standing c.self.inside.code c.self.inside.state c.self.inside.state c.self.inside.most_pages c.self.invariant holds c.is_memory.ensures.shape c.is_memory.ensures.bytes
+    let holds = ap (λ (v : MachineValue). v.limit) c.self.view_is ∙ c.requires
+    ∙ sym (ap (λ (v : MachineValue). v.most_pages) c.self.view_is) in
+    is_standing c.self.inside.code c.self.inside.state c.self.inside.state c.self.inside.most_pages
+    c.self.invariant holds c.is_memory.ensures.shape c.is_memory.ensures.bytes
 
 pub returns : goal.returns
 returns c =
     let P : MachineValue → Type 0 = λ v. TellsWaiting v c.waiting_call.result in
-    subst P c.self.view_is (tells c.self.inside.code c.self.inside.state c.self.inside.most_pages c.self.invariant c.is_memory.ensures.shape c.is_memory.ensures.bytes c.waiting_call.result c.waiting_call.ensures)
+    subst P c.self.view_is (tells c.self.inside.code c.self.inside.state c.self.inside.most_pages
+    c.self.invariant c.is_memory.ensures.shape c.is_memory.ensures.bytes c.waiting_call.result
+    c.waiting_call.ensures)

@@ -3,13 +3,19 @@ use Rattle.machine.proofs.TurnLemmas.Codes.{not_host_there, function_within, opc
 use Rattle.machine.proofs.turns.functions.opcodes_of.Goals as goal
 
 pub overflow_sub-place : goal.overflow_sub-place
-overflow_sub-place c = not_host_there c.args.code.now c.args.function c.requires c.as_slice.result.now (length c.as_slice.result.now) c.as_slice.ensures.value refl
+overflow_sub-place c =
+    not_host_there c.args.code.now c.args.function c.requires c.as_slice.result.now
+    (length c.as_slice.result.now) c.as_slice.ensures.value refl
 
 pub bounds-own-place : goal.bounds-own-place
 bounds-own-place c =
-    function_within c.args.code.now c.args.function c.requires c.as_slice.result.now (length c.as_slice.result.now) c.as_slice.ensures.value refl c.as_slice-own.result.now (c.as_slice-own.ensures ∙ ap (λ m. m.functions) c.module.ensures.same)
+    function_within c.args.code.now c.args.function c.requires c.as_slice.result.now
+    (length c.as_slice.result.now) c.as_slice.ensures.value refl c.as_slice-own.result.now
+    (c.as_slice-own.ensures ∙ ap (λ m. m.functions) c.module.ensures.same)
 
 pub returns : goal.returns
 returns c =
-    opcodes_read c.args.code.now c.args.function c.requires c.as_slice.result.now (length c.as_slice.result.now) c.as_slice.ensures.value refl c.as_slice-own.result.now (c.as_slice-own.ensures ∙ ap (λ m. m.functions) c.module.ensures.same)
+    opcodes_read c.args.code.now c.args.function c.requires c.as_slice.result.now
+    (length c.as_slice.result.now) c.as_slice.ensures.value refl c.as_slice-own.result.now
+    (c.as_slice-own.ensures ∙ ap (λ m. m.functions) c.module.ensures.same)
     c.index-own-place.result c.index-own-place.is c.as_slice-2.result.now c.as_slice-2.ensures

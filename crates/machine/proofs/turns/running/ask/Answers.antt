@@ -6,4 +6,7 @@ use Rattle.machine.proofs.turns.running.ask.Goals as goal
 
 pub returns-clause-asks : goal.returns-clause-asks
 returns-clause-asks c = λ over arguments under words count typed.
-    ap (λ (told : HostCall). turn.Waits (record { why = pause.Host told; left = c.args.fuel })) (c.asked.ensures over arguments under words count typed)
+    ap (λ (told : HostCall). turn.Waits (record {
+      why = pause.Host told;
+      left = c.args.fuel;
+    })) (c.asked.ensures over arguments under words count typed)

@@ -7,15 +7,20 @@ pub leave-requires : goal.leave-requires
 leave-requires c =
     let r = c.requires.stands in
     let f = first_of c.args.state.now.frames c.top-frame.result c.top-frame.ensures in
-    over_leaves c.args.code.now c.args.state.now r.functions r.program r.configuration r.stands c.top-frame.result f.0 f.1 c.requires.ends c.routine_of.result.now c.routine_of.ensures
+    over_leaves c.args.code.now c.args.state.now r.functions r.program r.configuration r.stands
+    c.top-frame.result f.0 f.1 c.requires.ends c.routine_of.result.now c.routine_of.ensures
 
 pub returns-clause-left : goal.returns-clause-left
 returns-clause-left c = λ functions program d stands.
     let f = first_of c.args.state.now.frames c.top-frame.result c.top-frame.ensures in
-    over_left c.args.code.now c.args.state.now functions program d stands c.top-frame.result f.0 c.routine_of.result.now f.1 c.routine_of.ensures c.leave.new.state (c.leave.ensures c.top-frame.result f.0 f.1)
+    over_left c.args.code.now c.args.state.now functions program d stands c.top-frame.result f.0
+    c.routine_of.result.now f.1 c.routine_of.ensures c.leave.new.state
+    (c.leave.ensures c.top-frame.result f.0 f.1)
 
 pub returns-clause-less : goal.returns-clause-less
 returns-clause-less c =
     let f = first_of c.args.state.now.frames c.top-frame.result c.top-frame.ensures in
-    let left = c.leave.ensures c.top-frame.result f.0 f.1 in
-    (ap (λ s. suc (length s.frames)) left.is ∙ ap suc (behind_count f.0) ∙ sym (ap length f.1), ap (λ s. s.later) left.is)
+    let left = c.leave.ensures c.top-frame.result f.0 f.1 in (
+      ap (λ s. suc (length s.frames)) left.is ∙ ap suc (behind_count f.0) ∙ sym (ap length f.1),
+      ap (λ s. s.later) left.is,
+    )

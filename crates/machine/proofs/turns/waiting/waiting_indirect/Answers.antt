@@ -2,54 +2,102 @@ use Rattle.std.proofs.Common.{[], ◌∷◌, Some, refl, ap, ◌∙◌}
 use Rattle.wasm_syntax.specs.declared.value.Trap.TheVariants as trap
 use Rattle.machine.proofs.TurnLemmas.Codes.{read_at, none_at}
 use Rattle.machine.proofs.TurnLemmas.Turning.{arguments_there}
-use Rattle.machine.proofs.TurnLemmas.Indirect.{names_at, one_word, entry, undefined, uninitialized, have_kinds, mismatched, indirect_host, indirect_own}
+use Rattle.machine.proofs.TurnLemmas.Indirect.{names_at, one_word, entry, undefined, uninitialized}
+use Rattle.machine.proofs.TurnLemmas.Indirect.{have_kinds, mismatched, indirect_host, indirect_own}
 use Rattle.machine.proofs.TurnLemmas.WaitingCalls.{none_where_trapped, none_where_own, told_asked}
 use Rattle.machine.proofs.turns.waiting.waiting_indirect.Goals as goal
 
 pub top-place-requires : goal.top-place-requires
 top-place-requires c =
     let r = c.requires.stands in
-    one_word c.args.code.now c.args.state.now r.functions r.program r.configuration r.stands c.args.function_type c.requires.here
+    one_word c.args.code.now c.args.state.now r.functions r.program r.configuration r.stands
+    c.args.function_type c.requires.here
 
 pub returns-in_default : goal.returns-in_default
 returns-in_default c = λ functions program d stands.
-    let past = none_at c.as_slice.result.now c.args.code.now.table.items c.top-place.result c.as_slice.ensures.value c.in_default.ensures.lookup.3 in
-    none_where_trapped program d trap.UndefinedElement (undefined c.args.code.now c.args.state.now functions program d stands c.args.function_type c.requires.here c.top-place.result c.top-place.ensures past)
+    let past = none_at c.as_slice.result.now c.args.code.now.table.items c.top-place.result
+    c.as_slice.ensures.value c.in_default.ensures.lookup.3 in
+    none_where_trapped program d trap.UndefinedElement
+    (undefined c.args.code.now c.args.state.now functions program d stands c.args.function_type
+    c.requires.here c.top-place.result c.top-place.ensures past)
 
 pub returns-in_default-entry : goal.returns-in_default-entry
 returns-in_default-entry c = λ functions program d stands.
-    let there = read_at c.as_slice.result.now c.args.code.now.table.items c.top-place.result c.in-Some.entry.now c.as_slice.ensures.value c.in-Some.ensures.lookup.3.0 c.in-Some.ensures.lookup.1 in
-    none_where_trapped program d trap.UninitializedElement (uninitialized c.args.code.now c.args.state.now functions program d stands c.args.function_type c.requires.here c.top-place.result c.top-place.ensures (there ∙ ap Some c.in_default-entry.is))
+    let there = read_at c.as_slice.result.now c.args.code.now.table.items c.top-place.result
+    c.in-Some.entry.now c.as_slice.ensures.value c.in-Some.ensures.lookup.3.0
+    c.in-Some.ensures.lookup.1 in
+    none_where_trapped program d trap.UninitializedElement
+    (uninitialized c.args.code.now c.args.state.now functions program d stands
+    c.args.function_type c.requires.here c.top-place.result c.top-place.ensures (there
+    ∙ ap Some c.in_default-entry.is))
 
 pub has_kind-requires : goal.has_kind-requires
 has_kind-requires c =
     let r = c.requires.stands in
-    let named = names_at c.as_slice.result.now c.args.code.now.table.items c.top-place.result c.in-Some.entry.now c.in-Some-entry.function c.as_slice.ensures.value c.in-Some.ensures.lookup.3.0 c.in-Some.ensures.lookup.1 c.in-Some-entry.is in
-    have_kinds c.args.code.now c.args.state.now r.functions r.program r.configuration r.stands c.args.function_type c.requires.here c.top-place.result c.top-place.ensures c.in-Some-entry.function named
+    let named = names_at c.as_slice.result.now c.args.code.now.table.items c.top-place.result
+    c.in-Some.entry.now c.in-Some-entry.function c.as_slice.ensures.value
+    c.in-Some.ensures.lookup.3.0 c.in-Some.ensures.lookup.1 c.in-Some-entry.is in
+    have_kinds c.args.code.now c.args.state.now r.functions r.program r.configuration r.stands
+    c.args.function_type c.requires.here c.top-place.result c.top-place.ensures
+    c.in-Some-entry.function named
 
 pub returns-then-not-has_kind : goal.returns-then-not-has_kind
 returns-then-not-has_kind c = λ functions program d stands.
-    let named = names_at c.as_slice.result.now c.args.code.now.table.items c.top-place.result c.in-Some.entry.now c.in-Some-entry.function c.as_slice.ensures.value c.in-Some.ensures.lookup.3.0 c.in-Some.ensures.lookup.1 c.in-Some-entry.is in
-    none_where_trapped program d trap.IndirectCallTypeMismatch (mismatched c.args.code.now c.args.state.now functions program d stands c.args.function_type c.requires.here c.top-place.result c.top-place.ensures c.in-Some-entry.function named c.has_kind.result c.has_kind.ensures c.if-not-has_kind.true)
+    let named = names_at c.as_slice.result.now c.args.code.now.table.items c.top-place.result
+    c.in-Some.entry.now c.in-Some-entry.function c.as_slice.ensures.value
+    c.in-Some.ensures.lookup.3.0 c.in-Some.ensures.lookup.1 c.in-Some-entry.is in
+    none_where_trapped program d trap.IndirectCallTypeMismatch
+    (mismatched c.args.code.now c.args.state.now functions program d stands c.args.function_type
+    c.requires.here c.top-place.result c.top-place.ensures c.in-Some-entry.function named
+    c.has_kind.result c.has_kind.ensures c.if-not-has_kind.true)
 
 pub asked-requires : goal.asked-requires
 asked-requires c =
     let r = c.requires.stands in
-    let named = names_at c.as_slice.result.now c.args.code.now.table.items c.top-place.result c.in-Some.entry.now c.in-Some-entry.function c.as_slice.ensures.value c.in-Some.ensures.lookup.3.0 c.in-Some.ensures.lookup.1 c.in-Some-entry.is in
-    let there = read_at c.as_slice-2.result.now c.args.code.now.calls.items c.in-Some-entry.function c.in-Some-get.call.now c.as_slice-2.ensures.value c.in-Some-get.ensures.lookup.3.0 c.in-Some-get.ensures.lookup.1 in
-    arguments_there c.args.code.now c.args.state.now r.functions r.program r.configuration r.stands c.in-Some-entry.function (entry c.args.code.now c.args.state.now r.functions r.program r.configuration r.stands c.args.function_type c.requires.here c.top-place.result c.top-place.ensures).words c.in-Some-get.call.now 1 (c.top-place.result ∷ [])
-    (indirect_host c.args.code.now c.args.state.now r.functions r.program r.configuration r.stands c.args.function_type c.requires.here c.top-place.result c.top-place.ensures c.in-Some-entry.function named c.has_kind.result c.has_kind.ensures c.in-Some-get.call.now c.if-not-has_kind.false there) (entry c.args.code.now c.args.state.now r.functions r.program r.configuration r.stands c.args.function_type c.requires.here c.top-place.result c.top-place.ensures).words_are refl
+    let named = names_at c.as_slice.result.now c.args.code.now.table.items c.top-place.result
+    c.in-Some.entry.now c.in-Some-entry.function c.as_slice.ensures.value
+    c.in-Some.ensures.lookup.3.0 c.in-Some.ensures.lookup.1 c.in-Some-entry.is in
+    let there = read_at c.as_slice-2.result.now c.args.code.now.calls.items c.in-Some-entry.function
+    c.in-Some-get.call.now c.as_slice-2.ensures.value c.in-Some-get.ensures.lookup.3.0
+    c.in-Some-get.ensures.lookup.1 in
+    arguments_there c.args.code.now c.args.state.now r.functions r.program r.configuration r.stands
+    c.in-Some-entry.function
+    (entry c.args.code.now c.args.state.now r.functions r.program r.configuration r.stands
+    c.args.function_type c.requires.here c.top-place.result c.top-place.ensures).words
+    c.in-Some-get.call.now 1 (c.top-place.result ∷ [])
+    (indirect_host c.args.code.now c.args.state.now r.functions r.program r.configuration r.stands
+    c.args.function_type c.requires.here c.top-place.result c.top-place.ensures
+    c.in-Some-entry.function named c.has_kind.result c.has_kind.ensures c.in-Some-get.call.now
+    c.if-not-has_kind.false there)
+    (entry c.args.code.now c.args.state.now r.functions r.program r.configuration r.stands
+    c.args.function_type c.requires.here c.top-place.result c.top-place.ensures).words_are refl
 
 pub returns-in-Some-get : goal.returns-in-Some-get
 returns-in-Some-get c = λ functions program d stands.
-    let named = names_at c.as_slice.result.now c.args.code.now.table.items c.top-place.result c.in-Some.entry.now c.in-Some-entry.function c.as_slice.ensures.value c.in-Some.ensures.lookup.3.0 c.in-Some.ensures.lookup.1 c.in-Some-entry.is in
-    let there = read_at c.as_slice-2.result.now c.args.code.now.calls.items c.in-Some-entry.function c.in-Some-get.call.now c.as_slice-2.ensures.value c.in-Some-get.ensures.lookup.3.0 c.in-Some-get.ensures.lookup.1 in
-    told_asked c.args.code.now c.args.state.now functions program d stands c.in-Some-entry.function (entry c.args.code.now c.args.state.now functions program d stands c.args.function_type c.requires.here c.top-place.result c.top-place.ensures).words (c.top-place.result ∷ []) c.in-Some-get.call.now 1 c.asked.result there
-    (indirect_host c.args.code.now c.args.state.now functions program d stands c.args.function_type c.requires.here c.top-place.result c.top-place.ensures c.in-Some-entry.function named c.has_kind.result c.has_kind.ensures c.in-Some-get.call.now c.if-not-has_kind.false there) (entry c.args.code.now c.args.state.now functions program d stands c.args.function_type c.requires.here c.top-place.result c.top-place.ensures).words_are refl c.asked.ensures
+    let named = names_at c.as_slice.result.now c.args.code.now.table.items c.top-place.result
+    c.in-Some.entry.now c.in-Some-entry.function c.as_slice.ensures.value
+    c.in-Some.ensures.lookup.3.0 c.in-Some.ensures.lookup.1 c.in-Some-entry.is in
+    let there = read_at c.as_slice-2.result.now c.args.code.now.calls.items c.in-Some-entry.function
+    c.in-Some-get.call.now c.as_slice-2.ensures.value c.in-Some-get.ensures.lookup.3.0
+    c.in-Some-get.ensures.lookup.1 in
+    told_asked c.args.code.now c.args.state.now functions program d stands c.in-Some-entry.function
+    (entry c.args.code.now c.args.state.now functions program d stands c.args.function_type
+    c.requires.here c.top-place.result c.top-place.ensures).words (c.top-place.result
+    ∷ []) c.in-Some-get.call.now 1 c.asked.result there
+    (indirect_host c.args.code.now c.args.state.now functions program d stands c.args.function_type
+    c.requires.here c.top-place.result c.top-place.ensures c.in-Some-entry.function named
+    c.has_kind.result c.has_kind.ensures c.in-Some-get.call.now c.if-not-has_kind.false there)
+    (entry c.args.code.now c.args.state.now functions program d stands c.args.function_type
+    c.requires.here c.top-place.result c.top-place.ensures).words_are refl c.asked.ensures
 
 pub returns-in-None : goal.returns-in-None
 returns-in-None c = λ functions program d stands.
-    let named = names_at c.as_slice.result.now c.args.code.now.table.items c.top-place.result c.in-Some.entry.now c.in-Some-entry.function c.as_slice.ensures.value c.in-Some.ensures.lookup.3.0 c.in-Some.ensures.lookup.1 c.in-Some-entry.is in
-    let there = none_at c.as_slice-2.result.now c.args.code.now.calls.items c.in-Some-entry.function c.as_slice-2.ensures.value c.in-None.ensures.lookup.3 in
+    let named = names_at c.as_slice.result.now c.args.code.now.table.items c.top-place.result
+    c.in-Some.entry.now c.in-Some-entry.function c.as_slice.ensures.value
+    c.in-Some.ensures.lookup.3.0 c.in-Some.ensures.lookup.1 c.in-Some-entry.is in
+    let there = none_at c.as_slice-2.result.now c.args.code.now.calls.items c.in-Some-entry.function
+    c.as_slice-2.ensures.value c.in-None.ensures.lookup.3 in
     none_where_own c.args.code.now functions program stands.is_code _ _ d _ c.in-Some-entry.function
-    (indirect_own c.args.code.now c.args.state.now functions program d stands c.args.function_type c.requires.here c.top-place.result c.top-place.ensures c.in-Some-entry.function named c.has_kind.result c.has_kind.ensures c.if-not-has_kind.false there)
+    (indirect_own c.args.code.now c.args.state.now functions program d stands c.args.function_type
+    c.requires.here c.top-place.result c.top-place.ensures c.in-Some-entry.function named
+    c.has_kind.result c.has_kind.ensures c.if-not-has_kind.false there)

@@ -1,7 +1,8 @@
 use Rattle.std.proofs.Common.{◌≡◌, ◌+◌, ◌^◌, [], sym, ap, ◌∙◌, subst, arith}
 use Rattle.std.specs.Prelude.{Err}
 use Rattle.std.proofs.lemmas.Result.{err_from_is_err_and}
-use Rattle.process.specs.rules.Values.{ProcessValue, ShowsProcess, IsProcess, process_of, waiting_in}
+use Rattle.process.specs.rules.Values.{ProcessValue, ShowsProcess, IsProcess, process_of}
+use Rattle.process.specs.rules.Values.{waiting_in}
 use Rattle.process.specs.rules.Stops.{GivesFor}
 use Rattle.process.proofs.Lines.{below_when, empty_when}
 use Rattle.process.proofs.Counting.{parts_of}

@@ -6,13 +6,17 @@ use Rattle.process.proofs.process.Process.start.Goals as goal
 pub invariant_of-result : goal.invariant_of-result
 invariant_of-result c =
     let P : ℕ → Type 0 = λ n. HasBegun n c.args.«module» c.in_ok-machine.machine in
-    is_process c.args.«module» c.args.config c.is_valid.ensures c.in_ok-machine.machine (subst P c.pages.ensures.value c.in_ok-machine.ensures.begun)
+    is_process c.args.«module» c.args.config c.is_valid.ensures c.in_ok-machine.machine
+    (subst P c.pages.ensures.value c.in_ok-machine.ensures.begun)
     c.in_ok-host.host c.end_with_program-ended.new.host c.in_ok-host.ensures
-    c.end_with_program-ended.result c.end_with_program-ended.ensures.ends c.end_with_program-ended.ensures.few
+    c.end_with_program-ended.result c.end_with_program-ended.ensures.ends
+    c.end_with_program-ended.ensures.few
 
 pub returns-clause-started : goal.returns-clause-started
 returns-clause-started c =
     let P : ℕ → Type 0 = λ n. HasBegun n c.args.«module» c.in_ok-machine.machine in
-    has_started c.args.«module» c.args.config c.is_valid.ensures c.in_ok-machine.machine (subst P c.pages.ensures.value c.in_ok-machine.ensures.begun)
+    has_started c.args.«module» c.args.config c.is_valid.ensures c.in_ok-machine.machine
+    (subst P c.pages.ensures.value c.in_ok-machine.ensures.begun)
     c.in_ok-host.host c.end_with_program-ended.new.host c.in_ok-host.ensures
-    c.end_with_program-ended.result c.end_with_program-ended.ensures.ends c.end_with_program-ended.ensures.host
+    c.end_with_program-ended.result c.end_with_program-ended.ensures.ends
+    c.end_with_program-ended.ensures.host

@@ -5,6 +5,14 @@ use Rattle.record_replay.proofs.boxed.AnyOutletOutlet.release.Goals as goal
 pub returns : goal.returns
 returns g c =
     step_of_same
-    (λ name old new. (g.dyn-1.0.entry name).1.takes old c.args.number (record { stream = c.args.stream; text = c.args.text.now }) c.release.result new)
-    (λ name new. record { 0 = record { ptr = c.args.self.now.0.ptr; vtable = name; alloc = c.args.self.now.0.alloc; value = new } })
+    (λ name old new. (g.dyn-1.0.entry name).1.takes old c.args.number
+    (record { stream = c.args.stream; text = c.args.text.now }) c.release.result new)
+    (λ name new. record {
+      0 = record {
+        ptr = c.args.self.now.0.ptr;
+        vtable = name;
+        alloc = c.args.self.now.0.alloc;
+        value = new;
+      };
+    })
     _ _ _ _ _ c.deref_box_mut-1.ensures.value.1 c.release.ensures

@@ -6,5 +6,12 @@ pub returns : goal.returns
 returns g c =
     step_of_same
     (λ name old new. (g.dyn-1.0.entry name).1.gives old c.args.kind c.answer.result new)
-    (λ name new. record { 0 = record { ptr = c.args.self.now.0.ptr; vtable = name; alloc = c.args.self.now.0.alloc; value = new } })
+    (λ name new. record {
+      0 = record {
+        ptr = c.args.self.now.0.ptr;
+        vtable = name;
+        alloc = c.args.self.now.0.alloc;
+        value = new;
+      };
+    })
     _ _ _ _ _ c.deref_box_mut-1.ensures.value.1 c.answer.ensures

@@ -8,7 +8,13 @@ returns-in-Some-Stopped-clause-writes g c = record {
   inside = tt;
   whole = tt;
   tears = record {
-    both = λ shown image both. (shown, image, both, torn_none 512 c.args.sector c.args.from.now shown, torn_none 512 c.args.sector c.args.from.now image);
+    both = λ shown image both. (
+      shown,
+      image,
+      both,
+      torn_none 512 c.args.sector c.args.from.now shown,
+      torn_none 512 c.args.sector c.args.from.now image,
+    );
     unsynced = omega arith;
   };
   counts = record { keeps = λ t n le since. since; grows = λ t n le since. inl since };

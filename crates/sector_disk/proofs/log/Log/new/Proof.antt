@@ -34,7 +34,8 @@ function A B = inst_fn (args A B) code.function
 abbrev mark : RattleType → RattleType → RattleType
 mark A B = Mark.the_row (Tuple (param 0 A ∷ param 1 B ∷ []))
 
-abbrev stayed : (A B : RattleType) → Stays (contract.ended A B).signature.params (contract.ended A B).kept
+abbrev stayed : (A B : RattleType)
+    → Stays (contract.ended A B).signature.params (contract.ended A B).kept
 stayed A B = tt
 
 pub new_spec : {M : Type 1} → statement M
@@ -44,16 +45,23 @@ new_spec 𝓤 𝓛 𝓜 𝓡 wired A B LA LB =
     proved 𝓛 T (stayed A B) c 𝓜 𝓡 tt
     (#self (args A B)) (function A B) (code.unfolded 𝓤 𝓛.H 𝓜 𝓡 wired (A, (B, tt)))
     (λ κs. tt) (λ κs. tt) (λ κs qs bounds a g are.
-    let made : (Log.the_row (param 0 A) (param 1 B)).Denot = record { of = record {}; items = [] } in
-    qed 𝓛 ((raw (alive 𝓛 T.signature κs qs) ⊛ ‵ (owns (types_at T.signature.params κs) a tt)) ∷ raw ((c κs a).requires g) ∷ []) ∵
+    let made : (Log.the_row (param 0 A) (param 1 B)).Denot = record { of = record {}; items = [] }
+    in
+    qed 𝓛 ((raw (alive 𝓛 T.signature κs qs) ⊛ ‵ (owns (types_at T.signature.params κs) a tt))
+    ∷ raw ((c κs a).requires g) ∷ []) ∵
     keep ! (0 ∷ []) $ split ! $ keep ! (0 ∷ []) $
     -- [the tokens; the locals]
     enter ! _ _ _ _ _ $ alloc_all ! (λ l. pass_all ! refl tt $
     sets ! (agg ! (no_more !)) refl (tt, tt) $
     sets ! (agg ! (and_then ! (get ! refl) (no_more !))) refl (tt, (tt, tt)) $
     -- [the struct; the tokens; the locals]
-    nothing ! $ owned ! (mark A B) (Is (mark A B)) (makes (Mark.the_type (Tuple (param 0 A ∷ param 1 B ∷ []))) tt 𝓛) (record {}) (empty ∷ []) (tt, (refl, tt)) $
+    nothing ! $ owned ! (mark A B) (Is (mark A B))
+    (makes (Mark.the_type (Tuple (param 0 A ∷ param 1 B ∷ []))) tt 𝓛) (record {}) (empty
+    ∷ []) (tt, (refl, tt)) $
     rounds ! (mark A B) (record {}) empty $ fjoin ! $
     returns ! (look_at ! 0 refl) $ free_all ! refl $
-    suffices ! _ (ends_at 𝓛 T (stayed A B) c ((κs, qs, bounds, a, tt), g) (round empty) made tt tt) $ says ! refl $
+    suffices ! _ (ends_at 𝓛 T (stayed A B) c (
+      (κs, qs, bounds, a, tt),
+      g,
+    ) (round empty) made tt tt) $ says ! refl $
     nothing ! $ move ! (2 ∷ 0 ∷ 1 ∷ []) $ done !))

@@ -11,10 +11,13 @@ index-requires c = omega (arith, shown_size c.args.self.now, c.args.self.now.sho
 
 pub returns-clause-reads : goal.returns-clause-reads
 returns-clause-reads c =
-    let lt : c.args.sector < length c.args.self.now.shown.items = omega (arith, shown_size c.args.self.now) in
+    let lt : c.args.sector < length c.args.self.now.shown.items =
+    omega (arith, shown_size c.args.self.now) in
     record {
       inside = omega arith;
-      bytes = λ image e. rw e (sym (get_or_read c.args.self.now.shown.items c.args.sector c.index.result.now lt c.index.ensures []));
+      bytes = λ image e.
+          rw e (sym (get_or_read c.args.self.now.shown.items c.args.sector c.index.result.now lt
+          c.index.ensures []));
       stays = search rules;
       unsynced = refl;
       counts = counts_same (memory_medium c.args.self.now) _;
@@ -25,5 +28,7 @@ returns-clause-reads c =
 
 pub returns-clause-bytes : goal.returns-clause-bytes
 returns-clause-bytes c =
-    let lt : c.args.sector < length c.args.self.now.shown.items = omega (arith, shown_size c.args.self.now) in
-    get_or_read c.args.self.now.shown.items c.args.sector c.index.result.now lt c.index.ensures [] ∙ ap (λ image. sector_at image c.args.sector) c.args.self.now.replayed
+    let lt : c.args.sector < length c.args.self.now.shown.items =
+    omega (arith, shown_size c.args.self.now) in
+    get_or_read c.args.self.now.shown.items c.args.sector c.index.result.now lt c.index.ensures []
+    ∙ ap (λ image. sector_at image c.args.sector) c.args.self.now.replayed

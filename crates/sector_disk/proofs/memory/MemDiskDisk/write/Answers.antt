@@ -17,44 +17,80 @@ index_mut-requires c = omega (arith, shown_size c.args.self.now, c.args.self.now
 pub invariant_of-self-2-clause-within : goal.invariant_of-self-2-clause-within
 invariant_of-self-2-clause-within c =
     let P = IsWriteWithin (length c.args.self.now.settled.items) in
-    rw c.in-Ok.ensures.items (All-push P c.args.self.now.pending.items (record { sector = c.args.sector; bytes = c.args.from.now }) c.args.self.now.within
+    rw c.in-Ok.ensures.items (All-push P c.args.self.now.pending.items
+    (record { sector = c.args.sector; bytes = c.args.from.now }) c.args.self.now.within
     (record { within = omega arith; full = c.told-from }))
 
 pub invariant_of-self-2-clause-replayed : goal.invariant_of-self-2-clause-replayed
 invariant_of-self-2-clause-replayed c =
-    rw (c.in-Ok.ensures.items, c.args.self.now.replayed) (sym (replayed_more c.args.self.now.pending.items (record { sector = c.args.sector; bytes = c.args.from.now }) c.args.self.now.settled.items))
+    rw (
+      c.in-Ok.ensures.items,
+      c.args.self.now.replayed,
+    )
+    (sym (replayed_more c.args.self.now.pending.items (record {
+      sector = c.args.sector;
+      bytes = c.args.from.now;
+    }) c.args.self.now.settled.items))
 
 pub returns-clause-writes : goal.returns-clause-writes
 returns-clause-writes c =
     let lt : c.args.sector < length c.args.self.now.settled.items = omega arith in
     let d = c.args.self.now in
-    let w : Rattle.sector_disk.specs.declared.write.Write.Write = record { sector = c.args.sector; bytes = c.args.from.now } in
-    let image = subst (λ i. Rattle.sector_disk.specs.rules.Image.IsImage (length d.settled.items) i) (sym d.replayed) (image-replayed _ d.pending.items d.settled.items d.full d.within) in
-    let left = λ (new : Image) (left : Leaves c.push.new.self.items d.settled.items new). left_more d.pending.items w d.settled.items new (subst (λ ws. Leaves ws d.settled.items new) c.in-Ok.ensures.items left) in
-    let more : length c.push.new.self.items ≡ length d.pending.items + 1 = omega (arith, ap length c.in-Ok.ensures.items, length_push d.pending.items w) in
+    let w : Rattle.sector_disk.specs.declared.write.Write.Write = record {
+      sector = c.args.sector;
+      bytes = c.args.from.now;
+    } in
+    let image = subst (λ i. Rattle.sector_disk.specs.rules.Image.IsImage (length d.settled.items) i)
+    (sym d.replayed) (image-replayed _ d.pending.items d.settled.items d.full d.within) in
+    let left = λ (new : Image) (left : Leaves c.push.new.self.items d.settled.items new).
+    left_more d.pending.items w d.settled.items new
+    (subst (λ ws. Leaves ws d.settled.items new) c.in-Ok.ensures.items left) in
+    let more : length c.push.new.self.items ≡ length d.pending.items + 1 =
+    omega (arith, ap length c.in-Ok.ensures.items, length_push d.pending.items w) in
     record {
       inside = lt;
       whole = record {
-        both = λ shown new both. let was = left new both.1 in (d.shown.items, was.0, (refl, was.1), both.0, was.2);
+        both = λ shown new both. let was = left new both.1 in
+            (d.shown.items, was.0, (refl, was.1), both.0, was.2);
         unsynced = more;
       };
       tears = record {
         both = λ shown new both.
-            let was = left new both.1 in
-            (d.shown.items, was.0, (refl, was.1), record { front = 512; within = omega arith; is = both.0 ∙ sym (whole-with_front _ d.shown.items c.args.sector c.args.from.now image lt c.told-from) }, was.2);
+            let was = left new both.1 in (
+              d.shown.items,
+              was.0,
+              (refl, was.1),
+              record {
+                front = 512;
+                within = omega arith;
+                is = both.0 ∙ sym
+                    (whole-with_front _ d.shown.items c.args.sector c.args.from.now image lt
+                    c.told-from);
+              },
+              was.2,
+            );
         unsynced = omega arith;
       };
       counts = record {
-        keeps = λ t n le since. had_keeps d.settled d.pending d.past.items c.and-past.result.items (length c.push.new.self.items) t n c.and-past.ensures le since;
-        grows = λ t n le since. had_grows d.settled d.pending d.past.items c.and-past.result.items (length c.push.new.self.items) (length d.pending.items + 1) t n c.and-past.ensures (omega arith) since;
+        keeps = λ t n le since. had_keeps d.settled d.pending d.past.items c.and-past.result.items
+            (length c.push.new.self.items) t n c.and-past.ensures le since;
+        grows = λ t n le since. had_grows d.settled d.pending d.past.items c.and-past.result.items
+            (length c.push.new.self.items) (length d.pending.items + 1) t n c.and-past.ensures
+            (omega arith) since;
       };
-      calls = record { all = ap calls_in c.and-self.ensures; begun = (0, ap calls_in c.and-self.ensures) };
+      calls = record {
+        all = ap calls_in c.and-self.ensures;
+        begun = (0, ap calls_in c.and-self.ensures);
+      };
       passes = search rules;
       cause = search rules;
     }
 
 pub returns-clause-kept : goal.returns-clause-kept
-returns-clause-kept c = λ t image le left. inr (had_more t c.args.self.now.settled c.args.self.now.pending c.args.self.now.past.items c.and-past.result.items image c.and-past.ensures le left)
+returns-clause-kept c =
+    λ t image le left.
+    inr (had_more t c.args.self.now.settled c.args.self.now.pending c.args.self.now.past.items
+    c.and-past.result.items image c.and-past.ensures le left)
 
 pub returns-then-sector-sectors-clause-writes : goal.returns-then-sector-sectors-clause-writes
 returns-then-sector-sectors-clause-writes c =
@@ -62,7 +98,16 @@ returns-then-sector-sectors-clause-writes c =
     record {
       inside = tt;
       whole = tt;
-      tears = record { both = λ shown image both. (shown, image, both, torn_none 512 c.args.sector c.args.from.now shown, torn_none 512 c.args.sector c.args.from.now image); unsynced = omega arith };
+      tears = record {
+        both = λ shown image both. (
+          shown,
+          image,
+          both,
+          torn_none 512 c.args.sector c.args.from.now shown,
+          torn_none 512 c.args.sector c.args.from.now image,
+        );
+        unsynced = omega arith;
+      };
       counts = counts_same m _;
       calls = record { all = tt; begun = (1, refl) };
       passes = search rules;

@@ -10,5 +10,6 @@ returns-in_default-clause-calls g c =
     let s = c.args.self.now in
     let place = area_place c.args.geometry.now (generation_of s) + sectors_of s in
     let count = rounded_up (length_of s) - sectors_of s in
-    let none = no_head (writing_of s) place count (generation_of s) m m (none_stored (writing_of s) place count m) in
+    let none = no_head (writing_of s) place count (generation_of s) m m
+    (none_stored (writing_of s) place count m) in
     (none.0, none.1, record { all = tt; begun = none.2 })

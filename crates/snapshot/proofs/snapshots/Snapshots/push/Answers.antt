@@ -7,5 +7,6 @@ use Rattle.snapshot.proofs.snapshots.Snapshots.push.Goals as goal
 pub returns-in_default-clause-calls : goal.returns-in_default-clause-calls
 returns-in_default-clause-calls g c =
     let s = c.args.self.now in
-    let none = none_stored (writing_of s) (area_place c.args.geometry.now (generation_of s) + sectors_of s) (filled_by s (length c.args.bytes.now)) (g.D.Disk.medium c.args.disk.now) in
+    let none = none_stored (writing_of s) (area_place c.args.geometry.now (generation_of s)
+    + sectors_of s) (filled_by s (length c.args.bytes.now)) (g.D.Disk.medium c.args.disk.now) in
     (none.0, none.1, record { all = tt; begun = none.2 })

@@ -18,11 +18,17 @@ invariant-loop-at g l =
       generation : l.self.generation ≡ l.fn.self.generation;
       version : l.self.version ≡ l.fn.self.version;
       writing : l.self.writing ≡ l.fn.self.writing;
-      whole : l.fn.self.writing ≡ Whole → now.unsynced + l.fn.self.sectors ≡ old.unsynced + l.self.sectors;
-      given : (before : List ℕ) → IsGiven l.geometry old l.fn.self before → IsGiven l.geometry now l.self (before ++ take l.at l.bytes);
-      calls : (n : ℕ) × (l.self.sectors ≡ l.fn.self.sectors + n) × HasStored l.fn.self.writing (area_place l.geometry l.fn.self.generation + l.fn.self.sectors) n old now;
+      whole : l.fn.self.writing ≡ Whole
+          → now.unsynced + l.fn.self.sectors ≡ old.unsynced + l.self.sectors;
+      given : (before : List ℕ) → IsGiven l.geometry old l.fn.self before
+          → IsGiven l.geometry now l.self (before ++ take l.at l.bytes);
+      calls : (n : ℕ) × (l.self.sectors ≡ l.fn.self.sectors + n)
+          × HasStored l.fn.self.writing (area_place l.geometry l.fn.self.generation
+          + l.fn.self.sectors) n old now;
       unsynced : now.unsynced + l.fn.self.sectors ≤ old.unsynced + l.self.sectors;
-      spared : l.fn.self.writing ≡ Changes → SparesSectors (area_place l.geometry l.fn.self.generation) l.fn.self.sectors l.self.sectors old now;
+      spared : l.fn.self.writing ≡ Changes
+          → SparesSectors (area_place l.geometry l.fn.self.generation) l.fn.self.sectors
+          l.self.sectors old now;
       leaves : LeavesOnly old now (After (Fills l.geometry l.fn.self.generation) old.may_leave);
     }
 

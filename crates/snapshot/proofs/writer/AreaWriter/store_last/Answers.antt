@@ -1,4 +1,5 @@
-use Rattle.std.proofs.Common.{◌≡◌, ◌≤◌, ◌<◌, ◌+◌, ◌-◌, ◌*◌, ◌++◌, ◌∙◌, ℕ, List, [], take, drop, replicate, refl, sym, ap, subst, arith}
+use Rattle.std.proofs.Common.{◌≡◌, ◌≤◌, ◌<◌, ◌+◌, ◌-◌, ◌*◌, ◌++◌, ◌∙◌, ℕ, List, [], take, drop}
+use Rattle.std.proofs.Common.{replicate, refl, sym, ap, subst, arith}
 use Rattle.std.proofs.lemmas.List.{append-nil, drop-replicate}
 use Rattle.std.proofs.lemmas.Result.{on_ok_weaker}
 use Rattle.sector_disk.specs.rules.Image.{IsWritten, IsTorn}
@@ -25,7 +26,13 @@ overflow_add-area_place g c =
     let fits = m.fits in
     let some = c.if-self-eq0.false in
     let less : w.sectors < geometry.area_sectors = omega (arith, r.within, some) in
-    omega (arith, area_in geometry w.generation w.sectors less, c.area_place.ensures, r.places, fits)
+    omega (
+      arith,
+      area_in geometry w.generation w.sectors less,
+      c.area_place.ensures,
+      r.places,
+      fits,
+    )
 
 pub returns-then-self-eq0-clause-holds : goal.returns-then-self-eq0-clause-holds
 returns-then-self-eq0-clause-holds g c = λ bytes given image shows.
@@ -34,8 +41,13 @@ returns-then-self-eq0-clause-holds g c = λ bytes given image shows.
     let e : take w.filled w.sector ≡ [] = ap (λ (n : ℕ). take n w.sector) c.if-self-eq0.true in
     let none = c.if-self-eq0.true in
     let n = given.count in
-    zeros_held image (area_place c.args.geometry.now w.generation) w.sectors 0 bytes (omega (arith, n, none)) (omega (arith, n, none))
-    (sym (append-nil area) ∙ ap (λ (l : List ℕ). area ++ l) (sym e) ∙ given.held image shows ∙ sym (append-nil bytes))
+    zeros_held image (area_place c.args.geometry.now w.generation) w.sectors 0 bytes (omega (
+      arith,
+      n,
+      none,
+    )) (omega (arith, n, none))
+    (sym (append-nil area) ∙ ap (λ (l : List ℕ). area ++ l) (sym e) ∙ given.held image shows
+    ∙ sym (append-nil bytes))
 
 pub returns-clause-holds : goal.returns-clause-holds
 returns-clause-holds g c =
@@ -45,15 +57,26 @@ returns-clause-holds g c =
     let geometry = c.args.geometry.now in
     let place = area_place geometry w.generation in
     let some = c.if-self-eq0.false in
-    let less : w.sectors < geometry.area_sectors = let r = c.requires.within in omega (arith, r, some) in
-    let inside : place + w.sectors < old.sectors = let r = c.requires.places in omega (arith, area_in geometry w.generation w.sectors less, r) in
+    let less : w.sectors < geometry.area_sectors = let r = c.requires.within in
+    omega (arith, r, some) in
+    let inside : place + w.sectors < old.sectors = let r = c.requires.places in
+    omega (arith, area_in geometry w.generation w.sectors less, r) in
     on_ok_weaker c.store_sector.result
     (λ whole. λ bytes given image shows.
-    let here = subst (λ (k : ℕ). BothFollow (IsWritten (k + w.sectors) c.pad-last.result) (IsTorn (k + w.sectors) c.pad-last.result) old new) c.area_place.ensures whole in
+    let here = subst (λ (k : ℕ). BothFollow (IsWritten (k + w.sectors) c.pad-last.result)
+    (IsTorn (k + w.sectors) c.pad-last.result) old new) c.area_place.ensures whole in
     let n = given.count in
     let filled = w.open in
-    zeros_held image place (w.sectors + 1) (512 - w.filled) bytes (omega (arith, n, some, filled)) (omega (arith, n, filled))
-    (stored_more place w.sectors (take w.filled w.sector) (drop w.filled (replicate 512 0)) c.pad-last.result bytes old new inside c.pad-last.ensures here given.held image shows ∙ ap (λ (l : List ℕ). bytes ++ l) (drop-replicate w.filled 512 0)))
+    zeros_held image place (w.sectors + 1) (512 - w.filled) bytes (omega (
+      arith,
+      n,
+      some,
+      filled,
+    )) (omega (arith, n, filled))
+    (stored_more place w.sectors (take w.filled w.sector)
+    (drop w.filled (replicate 512 0)) c.pad-last.result bytes old new inside c.pad-last.ensures
+    here given.held image shows
+    ∙ ap (λ (l : List ℕ). bytes ++ l) (drop-replicate w.filled 512 0)))
     c.store_sector.ensures.whole
 
 pub returns-clause-any_moment : goal.returns-clause-any_moment
@@ -62,7 +85,11 @@ returns-clause-any_moment g c =
     let r = c.requires.within in
     let some = c.if-self-eq0.false in
     let at = c.area_place.ensures in
-    store_fills c.args.geometry.now w.generation (c.area_place.result + w.sectors) c.pad-last.result (g.D.Disk.medium c.args.disk.now) (g.D.Disk.medium c.store_sector.new.disk) (omega (arith, at)) (omega (arith, at, r, some)) c.store_sector.ensures.any_moment
+    store_fills c.args.geometry.now w.generation (c.area_place.result + w.sectors) c.pad-last.result
+    (g.D.Disk.medium c.args.disk.now) (g.D.Disk.medium c.store_sector.new.disk) (omega (
+      arith,
+      at,
+    )) (omega (arith, at, r, some)) c.store_sector.ensures.any_moment
 
 pub returns-then-self-eq0-clause-spared : goal.returns-then-self-eq0-clause-spared
 returns-then-self-eq0-clause-spared g c = λ is.
@@ -83,15 +110,23 @@ returns-clause-spared g c = λ is.
     let bytes = c.pad-last.result in
     let some = c.if-self-eq0.false in
     let filled = w.open in
-    let less : w.sectors < geometry.area_sectors = let r = c.requires.within in omega (arith, r, some) in
-    let inside : place + w.sectors < old.sectors = let r = c.requires.places in omega (arith, area_in geometry w.generation w.sectors less, r) in
-    let told = subst (λ (x : Writing). IsStoredAs x (c.area_place.result + w.sectors) bytes c.store_sector.result old new) is c.store_sector.ensures.told in
-    let placed = subst (λ (k : ℕ). IsStoredAs Changes (k + w.sectors) bytes c.store_sector.result old new) c.area_place.ensures told in
-    let last : w.sectors + 1 ≡ rounded_up (512 * w.sectors + w.filled) = omega (arith, some, filled) in
+    let less : w.sectors < geometry.area_sectors = let r = c.requires.within in
+    omega (arith, r, some) in
+    let inside : place + w.sectors < old.sectors = let r = c.requires.places in
+    omega (arith, area_in geometry w.generation w.sectors less, r) in
+    let told = subst (λ (x : Writing). IsStoredAs x (c.area_place.result
+    + w.sectors) bytes c.store_sector.result old new) is c.store_sector.ensures.told in
+    let placed =
+    subst (λ (k : ℕ). IsStoredAs Changes (k + w.sectors) bytes c.store_sector.result old new)
+    c.area_place.ensures told in
+    let last : w.sectors + 1 ≡ rounded_up (512 * w.sectors + w.filled) = omega (arith, some, filled)
+    in
     on_ok_weaker c.store_sector.result
     (λ whole.
-    let here = subst (λ (k : ℕ). BothFollow (IsWritten (k + w.sectors) bytes) (IsTorn (k + w.sectors) bytes) old new) c.area_place.ensures whole in
-    subst (λ (n : ℕ). SparesSectors place w.sectors n old new) last (spares_one place w.sectors bytes old new inside here placed))
+    let here = subst (λ (k : ℕ). BothFollow (IsWritten (k + w.sectors) bytes)
+    (IsTorn (k + w.sectors) bytes) old new) c.area_place.ensures whole in
+    subst (λ (n : ℕ). SparesSectors place w.sectors n old new) last
+    (spares_one place w.sectors bytes old new inside here placed))
     c.store_sector.ensures.whole
 
 pub returns-then-self-eq0-clause-calls : goal.returns-then-self-eq0-clause-calls
@@ -100,8 +135,11 @@ returns-then-self-eq0-clause-calls g c =
     let w = c.args.self.now in
     let place = area_place c.args.geometry.now w.generation + w.sectors in
     let none = c.if-self-eq0.true in
-    let same : 0 ≡ rounded_up (512 * w.sectors + w.filled) - w.sectors = omega (arith, none) in
-    ([], subst (λ (n : ℕ). AreStores w.writing place n []) same (stores_none w.writing place), record { all = refl; begun = (0, refl) })
+    let same : 0 ≡ rounded_up (512 * w.sectors + w.filled) - w.sectors = omega (arith, none) in (
+      [],
+      subst (λ (n : ℕ). AreStores w.writing place n []) same (stores_none w.writing place),
+      record { all = refl; begun = (0, refl) },
+    )
 
 pub returns-clause-calls : goal.returns-clause-calls
 returns-clause-calls g c =
@@ -111,7 +149,10 @@ returns-clause-calls g c =
     let place = area_place c.args.geometry.now w.generation in
     let some = c.if-self-eq0.false in
     let filled = w.open in
-    let one : 1 ≡ rounded_up (512 * w.sectors + w.filled) - w.sectors = omega (arith, some, filled) in
-    let at : c.area_place.result + w.sectors ≡ place + w.sectors = omega (arith, c.area_place.ensures) in
-    let same = same_stores w.writing w.writing (place + w.sectors) (c.area_place.result + w.sectors) (rounded_up (512 * w.sectors + w.filled) - w.sectors) 1 refl at one in
+    let one : 1 ≡ rounded_up (512 * w.sectors + w.filled) - w.sectors = omega (arith, some, filled)
+    in
+    let at : c.area_place.result + w.sectors ≡ place + w.sectors =
+    omega (arith, c.area_place.ensures) in
+    let same = same_stores w.writing w.writing (place + w.sectors) (c.area_place.result + w.sectors)
+    (rounded_up (512 * w.sectors + w.filled) - w.sectors) 1 refl at one in
     makes_at c.store_sector.result old new same c.store_sector.ensures.calls

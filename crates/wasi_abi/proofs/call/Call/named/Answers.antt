@@ -10,4 +10,5 @@ returns-clause-none c call e =
 
 pub loop-call-preserved : goal.loop-call-preserved
 loop-call-preserved c k d h =
-    passed all_calls c.loop-call.call-index c.args.name.now c.name.result.now c.loop-call-test.true c.name.ensures c.if-eq.ensures (λ j e below. c.loop-call.invariant j e below) k d h
+    passed all_calls c.loop-call.call-index c.args.name.now c.name.result.now c.loop-call-test.true
+    c.name.ensures c.if-eq.ensures (λ j e below. c.loop-call.invariant j e below) k d h

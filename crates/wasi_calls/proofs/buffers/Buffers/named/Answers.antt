@@ -19,7 +19,8 @@ loop-place-preserved c =
     let own = (rw c.in_ok-named.ensures.is at c.in_ok-named.ensures.inside) in
     let size : total_len (front ++ more ∷ []) ≡ total_len front + total_len (more ∷ []) =
     total_both front (more ∷ []) in
-    let left : MOVED_BYTES - total_len (front ++ more ∷ []) ≡ room - b.len = omega (arith, size, few) in
+    let left : MOVED_BYTES - total_len (front ++ more ∷ []) ≡ room - b.len =
+    omega (arith, size, few) in
     rw is (
       c.loop-place.invariant.0,
       omega (arith, c.loop-place.invariant.1, length-append front (more ∷ [])),

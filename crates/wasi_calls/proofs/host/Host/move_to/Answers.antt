@@ -8,4 +8,6 @@ invariant_of-self c =
     let held = held_host_of s.config s.limit s.tree s.descriptors.items s.unread.items
     s.input_ended s.last_monotonic s.streams in
     let there = (rw (← c.self.view_is) at c.opened.ensures) in
-    rw c.at_offset-moved.ensures (moved_host held.host c.args.fd c.args.offset c.opened.result.now c.self.invariant there c.requires.small)
+    rw c.at_offset-moved.ensures
+    (moved_host held.host c.args.fd c.args.offset c.opened.result.now c.self.invariant there
+    c.requires.small)

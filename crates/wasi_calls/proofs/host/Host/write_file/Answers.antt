@@ -10,7 +10,8 @@ use Rattle.wasi_calls_rules.proofs.NodesAfter.{rewritten_there}
 use Rattle.wasi_calls.specs.rules.Held.{HeldHost}
 use Rattle.wasi_calls.proofs.Fronts.{length_gathered}
 use Rattle.wasi_calls.proofs.WrittenFiles.{bytes_now, file_now}
-use Rattle.wasi_calls.proofs.FileRows.{no_bytes, none_written, too_large, refused_write, done_write, host_written, no_refusal, files_made}
+use Rattle.wasi_calls.proofs.FileRows.{no_bytes, none_written, too_large, refused_write, done_write}
+use Rattle.wasi_calls.proofs.FileRows.{host_written, no_refusal, files_made}
 use Rattle.wasi_calls.proofs.host.Host.write_file.Goals as goal
 
 pub returns-then-len-eq0-clause-done : goal.returns-then-len-eq0-clause-done
@@ -20,12 +21,14 @@ returns-then-len-eq0-clause-done c =
     none_written c.args.node c.args.from (gathered m bs) c.args.self.now.host
     (no_bytes m bs c.requires.inside (sym c.len-len.ensures.value ∙ c.if-len-eq0.true))
 
-pub returns-then-from-gt-FILE_BYTES-clause-stopped : goal.returns-then-from-gt-FILE_BYTES-clause-stopped
+pub returns-then-from-gt-FILE_BYTES-clause-stopped :
+    goal.returns-then-from-gt-FILE_BYTES-clause-stopped
 returns-then-from-gt-FILE_BYTES-clause-stopped c =
     let m = c.args.memory.now.bytes in
     let bs = c.args.buffers.now in
     let size = length_gathered m bs c.requires.inside in
-    let some : 0 < length (gathered m bs) = omega (arith, size, c.len-len.ensures.value, c.if-len-eq0.false) in
+    let some : 0 < length (gathered m bs) =
+    omega (arith, size, c.len-len.ensures.value, c.if-len-eq0.false) in
     too_large c.args.node c.args.from (gathered m bs) c.args.self.now.host some
     (omega (arith, c.if-from-gt-FILE_BYTES.true))
 

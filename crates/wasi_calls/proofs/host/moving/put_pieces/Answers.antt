@@ -8,7 +8,8 @@ pub overflow_add-place : goal.overflow_add-place
 overflow_add-place c =
     let items = c.as_slice-buffer-items.result.now in
     let b = c.buffer-item.result in
-    let split = next_one items c.loop-buffer.buffer-index b c.loop-buffer-test.true c.buffer-item.is in
+    let split = next_one items c.loop-buffer.buffer-index b c.loop-buffer-test.true c.buffer-item.is
+    in
     let within = c.loop-buffer.invariant.within in
     let total = next_total c.args.memory.now.bytes items c.loop-buffer.buffer-index b split in
     omega (

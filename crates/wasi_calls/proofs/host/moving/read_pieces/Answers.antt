@@ -1,11 +1,13 @@
-use Rattle.std.proofs.Common.{◌≡◌, ◌+◌, ◌++◌, ◌∙◌, [], drop, take, length, sym, ap, refl, arith, length-take, length-drop}
+use Rattle.std.proofs.Common.{◌≡◌, ◌+◌, ◌++◌, ◌∙◌, [], drop, take, length, sym, ap, refl, arith}
+use Rattle.std.proofs.Common.{length-take, length-drop}
 use Rattle.std.proofs.lemmas.List.{drop_all, drop-drop}
 use Rattle.guest_memory.specs.rules.Bytes.{part, with_part}
 use Rattle.file_tree.specs.rules.Files.{bytes_of_node}
 use Rattle.wasi_calls_rules.specs.Checks.{Bytes}
 use Rattle.wasi_calls_rules.specs.declared.limits.TheConstants.{MOVED_BYTES}
 use Rattle.wasi_calls.specs.Moves.{total_len}
-use Rattle.wasi_calls.proofs.Pieces.{next_one, moved_inside, moved_next, moved_all, moved_few, lent_piece}
+use Rattle.wasi_calls.proofs.Pieces.{next_one, moved_inside, moved_next, moved_all, moved_few}
+use Rattle.wasi_calls.proofs.Pieces.{lent_piece}
 use Rattle.wasi_calls.proofs.host.moving.read_pieces.Goals as goal
 
 pub loop-buffer-preserved : goal.loop-buffer-preserved

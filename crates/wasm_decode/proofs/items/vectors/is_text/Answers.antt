@@ -8,7 +8,9 @@ not_text : (bytes : List ℕ) (b : Bool) → is_utf8 bytes ≡ b → (IsUtf8 byt
 not_text bytes true e never = absurd (never (IsUtf8-from_is_utf8 bytes e))
 not_text bytes false e never = refl
 
-decides : {A B : Type 0} (r : Result A B) (bytes : List ℕ) (P : A → Type 0) (Q : B → Type 0) → MatchResult r (λ s. P s × IsUtf8 bytes) (λ e. (IsUtf8 bytes → ⊥) × Q e) → is_ok r ≡ is_utf8 bytes
+decides : {A B : Type 0} (r : Result A B) (bytes : List ℕ) (P : A → Type 0) (Q : B → Type 0)
+    → MatchResult r (λ s. P s × IsUtf8 bytes) (λ e. (IsUtf8 bytes → ⊥) × Q e)
+    → is_ok r ≡ is_utf8 bytes
 decides (Ok x) bytes P Q h = sym (is_utf8-from_IsUtf8 bytes h.1)
 decides (Err e) bytes P Q h = not_text bytes (is_utf8 bytes) refl h.0
 

@@ -10,6 +10,7 @@ use Rattle.wasm_validate.proofs.parts.exports.check_exports.Given as goal
 
 abbrev pub invariant-loop-export : goal.invariant-loop-export
 invariant-loop-export l = record {
-  items : (m : Module) (functions : List FunctionType) → IsModuleContext m functions l.context → Passed (λ (e : Export). IsExportItemValid m functions e.item) l.exports l.export-index;
+  items : (m : Module) (functions : List FunctionType) → IsModuleContext m functions l.context
+      → Passed (λ (e : Export). IsExportItemValid m functions e.item) l.exports l.export-index;
   names : HaveDistinctNames l.exports ↔ AreNewNames l.names.keys (drop l.export-index l.exports);
 }

@@ -14,18 +14,26 @@ pub returns-in_err-check_constant-clause-valid : goal.returns-in_err-check_const
 returns-in_err-check_constant-clause-valid c =
     let p = err_from_is_err_and c.from_residual.result c.from_residual.ensures.1 in
     let g = c.global-item.result in
-    let P : Global → Type 0 = λ g. IsConstant c.args.imported.now g.initial g.global_type.value_type in
-    let Q : List Instruction → Type 0 = λ e. IsConstant c.args.imported.now e g.global_type.value_type in
+    let P : Global → Type 0 = λ g. IsConstant c.args.imported.now g.initial g.global_type.value_type
+    in
+    let Q : List Instruction → Type 0 =
+    λ e. IsConstant c.args.imported.now e g.global_type.value_type in
     rw (p.1, p.2) (turn_as c.in_err-check_constant.field-0.0
-    (λ all. subst Q (sym c.as_slice.ensures) (of_all P c.args.globals.now c.loop-global.global-index g c.loop-global-test.true c.global-item.is all))
+    (λ all. subst Q (sym c.as_slice.ensures)
+    (of_all P c.args.globals.now c.loop-global.global-index g c.loop-global-test.true
+    c.global-item.is all))
     c.in_err-check_constant.ensures)
 
 pub loop-global-preserved : goal.loop-global-preserved
 loop-global-preserved c =
     let g = c.global-item.result in
-    let P : Global → Type 0 = λ g. IsConstant c.args.imported.now g.initial g.global_type.value_type in
-    let Q : List Instruction → Type 0 = λ e. IsConstant c.args.imported.now e g.global_type.value_type in
-    passes P c.args.globals.now c.loop-global.global-index g c.loop-global-test.true c.global-item.is (subst Q c.as_slice.ensures c.in_ok-check_constant.ensures) c.loop-global.invariant
+    let P : Global → Type 0 = λ g. IsConstant c.args.imported.now g.initial g.global_type.value_type
+    in
+    let Q : List Instruction → Type 0 =
+    λ e. IsConstant c.args.imported.now e g.global_type.value_type in
+    passes P c.args.globals.now c.loop-global.global-index g c.loop-global-test.true
+    c.global-item.is (subst Q c.as_slice.ensures c.in_ok-check_constant.ensures)
+    c.loop-global.invariant
 
 pub returns-in_err-check_constant-clause-fault : goal.returns-in_err-check_constant-clause-fault
 returns-in_err-check_constant-clause-fault c =
@@ -37,9 +45,12 @@ returns-in_err-check_constant-clause-fault c =
     let D : List Instruction → Type 0 = λ e. DeniesOne c.in_err-check_constant.field-0.0
     (WouldBeConstant globals e g.global_type.value_type) (NamesGlobal globals e) (Unit {0}) in
     let told = turn_told c.in_err-check_constant.field-0.0
-    (constant_there globals c.as_slice.result.now g.global_type.value_type) c.in_err-check_constant.ensures in
+    (constant_there globals c.as_slice.result.now g.global_type.value_type)
+    c.in_err-check_constant.ensures in
     rw (p.1, p.2) (one_as c.in_err-check_constant.field-0.0
-    (of_all T c.args.globals.now c.loop-global.global-index g c.loop-global-test.true c.global-item.is)
-    (of_all I c.args.globals.now c.loop-global.global-index g c.loop-global-test.true c.global-item.is)
+    (of_all T c.args.globals.now c.loop-global.global-index g c.loop-global-test.true
+    c.global-item.is)
+    (of_all I c.args.globals.now c.loop-global.global-index g c.loop-global-test.true
+    c.global-item.is)
     (λ u. u)
     (subst D c.as_slice.ensures told))

@@ -11,7 +11,12 @@ returns-clause-fault c =
     let functions = c.requires.before.0 in
     let are = c.requires.before.1 in
     let valid = c.requires.before.2 in
-    let s : IsModuleContext m functions c.args.context.now = record { context = c.requires.context functions are; one_table = valid.one_table; one_memory = valid.one_memory } in
+    let s : IsModuleContext m functions c.args.context.now =
+    record {
+      context = c.requires.context functions are;
+      one_table = valid.one_table;
+      one_memory = valid.one_memory;
+    } in
     let D : List Data → Type 0 = λ ss. IfErr c.check_data_segments.result (IsFaultInData m ss) in
     parts_fault m c.check_data_segments.result functions are (λ w. w.data_segments)
     (λ n. n.data_segments) (λ k. tt)

@@ -19,9 +19,12 @@ returns-clause-only c =
     → Type 0 = λ types. IfErr r (IsFirstImportFault types nothing_before c.as_slice.result.now) in
     let I : List Import → Type 0 = λ imports. IfErr r
     (IsFirstImportFault m.types nothing_before imports) in
-    imports_denied m r (subst I c.as_slice.ensures (subst T c.as_slice-types.ensures c.check_imports.ensures.refused))
+    imports_denied m r
+    (subst I c.as_slice.ensures
+    (subst T c.as_slice-types.ensures c.check_imports.ensures.refused))
 
-pub returns-in_err-check_function_types-clause-fault : goal.returns-in_err-check_function_types-clause-fault
+pub returns-in_err-check_function_types-clause-fault :
+    goal.returns-in_err-check_function_types-clause-fault
 returns-in_err-check_function_types-clause-fault c =
     let p = err_from_is_err_and c.from_residual.result c.from_residual.ensures.1 in
     let T : List FunctionType

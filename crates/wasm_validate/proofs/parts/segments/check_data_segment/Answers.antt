@@ -18,7 +18,11 @@ returns-clause-valid c = λ m functions s.
     let all = c.globals.ensures t s.context in
     let bytes = rw c.as_slice.ensures at c.are_bytes.ensures in
     decides_as (NamesGlobal c.globals.result.now c.as_slice-2.result.now) c.check_constant.result
-    (λ constant. ((c.if-not-is_memory.ensures t s.context s.one_memory).0 refl, rw (all, c.as_slice-2.ensures) at constant, bytes))
+    (λ constant. (
+      (c.if-not-is_memory.ensures t s.context s.one_memory).0 refl,
+      rw (all, c.as_slice-2.ensures) at constant,
+      bytes,
+    ))
     (λ d. rw (all, c.as_slice-2.ensures) d.1)
     c.check_constant.ensures
 

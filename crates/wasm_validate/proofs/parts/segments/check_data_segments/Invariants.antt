@@ -7,4 +7,5 @@ use Rattle.wasm_validate.proofs.PartLemmas.Loops.{Passed}
 use Rattle.wasm_validate.proofs.parts.segments.check_data_segments.Given as goal
 
 abbrev pub invariant-loop-segment : goal.invariant-loop-segment
-invariant-loop-segment l = (m : Module) (functions : List FunctionType) → IsModuleContext m functions l.context → Passed (IsDataValid m) l.segments l.segment-index
+invariant-loop-segment l = (m : Module) (functions : List FunctionType)
+    → IsModuleContext m functions l.context → Passed (IsDataValid m) l.segments l.segment-index

@@ -27,13 +27,18 @@ returns-then-are_below-clause-valid c = λ m functions s.
     let count = c.function_count.ensures t s.context in
     let all = c.globals.ensures t s.context in
     let constant = rw (all, c.as_slice.ensures) at c.in_ok-check_constant.ensures in
-    let below = rw (c.as_slice-2.ensures, count) at (recursion_from_All (λ x. x < c.function_count.result) c.as_slice-2.result.now (c.if-are_below.ensures.0 refl)) in
+    let below = rw (
+      c.as_slice-2.ensures,
+      count,
+    ) at (recursion_from_All (λ x. x < c.function_count.result) c.as_slice-2.result.now
+    (c.if-are_below.ensures.0 refl)) in
     ((c.if-not-is_table.ensures t s.context s.one_table).0 refl, constant, below)
 
 pub returns-else-are_below-clause-valid : goal.returns-else-are_below-clause-valid
 returns-else-are_below-clause-valid c = λ m functions s d.
     let count = c.function_count.ensures (module_context m functions) s.context in
-    is_false (c.if-are_below.ensures.1 (All-from_recursion (λ x. x < c.function_count.result) c.as_slice-2.result.now (rw (c.as_slice-2.ensures, count) d.2)))
+    is_false (c.if-are_below.ensures.1 (All-from_recursion (λ x. x
+    < c.function_count.result) c.as_slice-2.result.now (rw (c.as_slice-2.ensures, count) d.2)))
 
 pub returns-then-not-is_table-clause-fault : goal.returns-then-not-is_table-clause-fault
 returns-then-not-is_table-clause-fault c =
@@ -48,7 +53,8 @@ returns-in_err-check_constant-clause-fault c = λ m functions s.
     rw (p.1, p.2) (one_as e (λ t. rw (all, c.as_slice.ensures) t)
     (λ n. rw (all, c.as_slice.ensures) n.1) (λ u. u)
     (turn_told e
-    (constant_there c.globals.result.now c.as_slice.result.now I32) c.in_err-check_constant.ensures))
+    (constant_there c.globals.result.now c.as_slice.result.now I32)
+    c.in_err-check_constant.ensures))
 
 pub returns-else-are_below-clause-fault : goal.returns-else-are_below-clause-fault
 returns-else-are_below-clause-fault c = λ m functions s n.

@@ -7,4 +7,6 @@ use Rattle.wasm_validate.proofs.PartLemmas.Loops.{Passed}
 use Rattle.wasm_validate.proofs.parts.segments.check_elements.Given as goal
 
 abbrev pub invariant-loop-element : goal.invariant-loop-element
-invariant-loop-element l = (m : Module) (functions : List FunctionType) → IsModuleContext m functions l.context → Passed (IsElementValid m functions) l.elements l.element-index
+invariant-loop-element l = (m : Module) (functions : List FunctionType)
+    → IsModuleContext m functions l.context
+    → Passed (IsElementValid m functions) l.elements l.element-index

@@ -1,4 +1,5 @@
-use Rattle.std.proofs.Common.{◌≢◌, ◌-◌, [], All, take, sym, ap, subst, ◌∙◌, rules, arith, eq-eqb, eqb-true, get_or, get_or-take, length-take-le, append-nil}
+use Rattle.std.proofs.Common.{◌≢◌, ◌-◌, [], All, take, sym, ap, subst, ◌∙◌, rules, arith, eq-eqb}
+use Rattle.std.proofs.Common.{eqb-true, get_or, get_or-take, length-take-le, append-nil}
 use Rattle.std.proofs.lemmas.List.Elements.{All-nil, All-more}
 use Rattle.std.specs.Io.BufRead.{FillKeeps}
 use Rattle.std.proofs.KnownBytes.{Consumes-nil, Consumes-kept}

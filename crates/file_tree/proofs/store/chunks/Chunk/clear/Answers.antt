@@ -6,4 +6,10 @@ use Rattle.file_tree.proofs.StoreLemmas.Overs.{over_end}
 use Rattle.file_tree.proofs.store.chunks.Chunk.clear.Goals as goal
 
 pub returns : goal.returns
-returns c = c.put_zeros.ensures.put ∙ over_end c.args.self.now c.args.from (replicate (CHUNK_BYTES - c.args.from) 0) (omega (arith, c.requires, c.put_zeros.ensures.full, length-replicate {A = ℕ} (CHUNK_BYTES - c.args.from) 0))
+returns c = c.put_zeros.ensures.put
+    ∙ over_end c.args.self.now c.args.from (replicate (CHUNK_BYTES - c.args.from) 0) (omega (
+      arith,
+      c.requires,
+      c.put_zeros.ensures.full,
+      length-replicate {A = ℕ} (CHUNK_BYTES - c.args.from) 0,
+    ))

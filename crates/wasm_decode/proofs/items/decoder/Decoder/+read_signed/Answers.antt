@@ -3,13 +3,23 @@ use Rattle.wasm_decode.proofs.ItemLemmas.Powers.{seven_more, wide}
 use Rattle.wasm_decode.proofs.items.decoder.Decoder.+read_signed.Goals as goal
 
 pub overflow_mul-result : goal.overflow_mul-result
-overflow_mul-result t c = omega (arith, wide c.args.bits c.in_ok-high.high c.requires.1 c.in_ok-high.ensures.fits)
+overflow_mul-result t c =
+    omega (arith, wide c.args.bits c.in_ok-high.high c.requires.1 c.in_ok-high.ensures.fits)
 
 pub overflow_add-result : goal.overflow_add-result
-overflow_add-result t c = omega (arith, c.from.ensures, wide c.args.bits c.in_ok-high.high c.requires.1 c.in_ok-high.ensures.fits)
+overflow_add-result t c =
+    omega (
+      arith,
+      c.from.ensures,
+      wide c.args.bits c.in_ok-high.high c.requires.1 c.in_ok-high.ensures.fits,
+    )
 
 pub returns-clause-fits : goal.returns-clause-fits
 returns-clause-fits t c =
     let high = c.in_ok-high.high in
     let below : high < 2 ^ (c.args.bits - 7) = c.in_ok-high.ensures.fits in
-    omega (arith, c.from.ensures, seven_more c.args.bits high c.in_ok-byte.byte (omega arith) below (omega arith))
+    omega (
+      arith,
+      c.from.ensures,
+      seven_more c.args.bits high c.in_ok-byte.byte (omega arith) below (omega arith),
+    )

@@ -17,7 +17,8 @@ not_empty o new e h = cc
 
 pub returns-in_err-steps-clause-typed : goal.returns-in_err-steps-clause-typed
 returns-in_err-steps-clause-typed c = λ c' context.
-    let p = err_from_is_err_and c.from_residual-in_err-steps.result c.from_residual-in_err-steps.ensures.1 in
+    let p = err_from_is_err_and c.from_residual-in_err-steps.result
+    c.from_residual-in_err-steps.ensures.1 in
     let kind = c.args.function_type.now in
     let code = c.args.code.now in
     let r = c.result_of.result in
@@ -27,7 +28,10 @@ returns-in_err-steps-clause-typed c = λ c' context.
     rw (p.1, p.2)
     (denies c.in_err-steps.field-0.0 (fault_in bc c.as_slice.result.now c.begin.new.self.levels)
     (checked bc c.as_slice.result.now c.begin.new.self.levels)
-    (λ none body. some_not_none (checked bc code.body (new_level r r false ∷ [])) [] (body_complete c' kind code r c.result_of.ensures body) (ap (λ z. checked bc z (new_level r r false ∷ [])) (sym c.as_slice.ensures) ∙ ap (λ z. checked bc c.as_slice.result.now z) (sym start) ∙ none))
+    (λ none body. some_not_none (checked bc code.body (new_level r r false ∷ [])) []
+    (body_complete c' kind code r c.result_of.ensures body)
+    (ap (λ z. checked bc z (new_level r r false ∷ [])) (sym c.as_slice.ensures)
+    ∙ ap (λ z. checked bc c.as_slice.result.now z) (sym start) ∙ none))
     steps)
 
 pub returns-then-is_empty-clause-typed : goal.returns-then-is_empty-clause-typed
@@ -40,7 +44,9 @@ returns-then-is_empty-clause-typed c = λ c' context.
     let steps = c.in_ok-steps.ensures bc (c.scope_of-scope.ensures c' context) in
     let closed = c.is_empty.ensures.0 c.if-is_empty.true in
     body_sound c' kind code r c.result_of.ensures
-    (ap (λ z. checked bc z (new_level r r false ∷ [])) (sym c.as_slice.ensures) ∙ ap (λ z. checked bc c.as_slice.result.now z) (sym start) ∙ steps ∙ ap (λ z. Some z) closed)
+    (ap (λ z. checked bc z (new_level r r false ∷ [])) (sym c.as_slice.ensures)
+    ∙ ap (λ z. checked bc c.as_slice.result.now z) (sym start) ∙ steps
+    ∙ ap (λ z. Some z) closed)
 
 pub returns-else-is_empty-clause-typed : goal.returns-else-is_empty-clause-typed
 returns-else-is_empty-clause-typed c = λ c' context body.
@@ -50,15 +56,18 @@ returns-else-is_empty-clause-typed c = λ c' context body.
     let bc = body_context c' kind code.locals in
     let start = c.in_ok-begin.ensures.opened in
     let steps = c.in_ok-steps.ensures bc (c.scope_of-scope.ensures c' context) in
-    let here = ap (λ z. checked bc z (new_level r r false ∷ [])) (sym c.as_slice.ensures) ∙ ap (λ z. checked bc c.as_slice.result.now z) (sym start) ∙ steps in
-    let none = not_empty (checked bc code.body (new_level r r false ∷ [])) c.steps.new.self here (body_complete c' kind code r c.result_of.ensures body) in
+    let here = ap (λ z. checked bc z (new_level r r false ∷ [])) (sym c.as_slice.ensures)
+    ∙ ap (λ z. checked bc c.as_slice.result.now z) (sym start) ∙ steps in
+    let none = not_empty (checked bc code.body (new_level r r false ∷ [])) c.steps.new.self here
+    (body_complete c' kind code r c.result_of.ensures body) in
     let yes = c.is_empty.ensures.1 none in
     let no = c.if-is_empty.false in
     absurd (cc)
 
 pub returns-in_err-steps-clause-fault : goal.returns-in_err-steps-clause-fault
 returns-in_err-steps-clause-fault c = λ c' context.
-    let p = err_from_is_err_and c.from_residual-in_err-steps.result c.from_residual-in_err-steps.ensures.1 in
+    let p = err_from_is_err_and c.from_residual-in_err-steps.result
+    c.from_residual-in_err-steps.ensures.1 in
     let kind = c.args.function_type.now in
     let code = c.args.code.now in
     let r = c.result_of.result in
@@ -87,9 +96,11 @@ returns-else-is_empty-clause-fault c = λ c' context.
     let bc = body_context c' kind code.locals in
     let start = c.in_ok-begin.ensures.opened in
     let steps = c.in_ok-steps.ensures bc (c.scope_of-scope.ensures c' context) in
-    let here = ap (λ z. checked bc z (new_level r r false ∷ [])) (sym c.as_slice.ensures) ∙ ap (λ z. checked bc c.as_slice.result.now z) (sym start) ∙ steps in
+    let here = ap (λ z. checked bc z (new_level r r false ∷ [])) (sym c.as_slice.ensures)
+    ∙ ap (λ z. checked bc c.as_slice.result.now z) (sym start) ∙ steps in
     untyped c' kind code r c.result_of.ensures
     (λ passes. let none = not_empty
     (checked bc code.body
-    (new_level r r false ∷ [])) c.steps.new.self here passes in let yes = c.is_empty.ensures.1 none in let no = c.if-is_empty.false in absurd (cc))
+    (new_level r r false ∷ [])) c.steps.new.self here passes in let yes = c.is_empty.ensures.1 none
+    in let no = c.if-is_empty.false in absurd (cc))
     (passed_fault bc code.body (new_level r r false ∷ []) c.steps.new.self here)

@@ -5,7 +5,8 @@ use Rattle.wasm_validate.specs.declared.body.levels.Control.{Control}
 use Rattle.wasm_validate.specs.laws.Checking.{Known, Level}
 use Rattle.wasm_validate.specs.laws.Reached.{are_reached}
 use Rattle.wasm_validate.specs.Body.Views.{levels_of}
-use Rattle.wasm_validate.proofs.BodyLemmas.ReachedViews.{controls_reached, reached_view, reached_turned, one_unreached, one_reached}
+use Rattle.wasm_validate.proofs.BodyLemmas.ReachedViews.{controls_reached, reached_view}
+use Rattle.wasm_validate.proofs.BodyLemmas.ReachedViews.{reached_turned, one_unreached, one_reached}
 use Rattle.wasm_validate.proofs.body.levels.Levels.are_reached.Goals as goal
 
 -- what the loop goes over

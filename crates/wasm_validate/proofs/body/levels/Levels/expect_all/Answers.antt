@@ -1,4 +1,5 @@
-use Rattle.std.proofs.Common.{◌≡◌, ◌<◌, ◌+◌, ℕ, List, [], ◌∷◌, ◌++◌, length, drop, get_or, sym, ap, ◌∙◌, arith}
+use Rattle.std.proofs.Common.{◌≡◌, ◌<◌, ◌+◌, ℕ, List, [], ◌∷◌, ◌++◌, length, drop, get_or, sym, ap}
+use Rattle.std.proofs.Common.{◌∙◌, arith}
 use Rattle.std.specs.Prelude.{reverse}
 use Rattle.std.proofs.lemmas.Result.{err_from_is_err_and}
 use Rattle.std.proofs.lemmas.List.{at_drop_more, at_drop_all, length_push}
@@ -13,17 +14,23 @@ use Rattle.wasm_validate.proofs.BodyLemmas.Fails.{fails_as}
 use Rattle.wasm_validate.proofs.body.levels.Levels.expect_all.Goals as goal
 
 -- the next of these types is t
-next_taken : (types : List ValueType) (n : ℕ) (t : ValueType) (levels : List Level) → n < length types → t ≡ get_or types n t
-    → top_all_taken (drop n types) levels ≡ (top_taken t levels >>= λ levels'. top_all_taken (drop (n + 1) types) levels')
+next_taken : (types : List ValueType) (n : ℕ) (t : ValueType) (levels : List Level)
+    → n < length types → t ≡ get_or types n t
+    → top_all_taken (drop n types) levels ≡ (top_taken t levels
+    >>= λ levels'. top_all_taken (drop (n + 1) types) levels')
 next_taken types n t levels h is =
-    at_drop_more (λ ts. top_all_taken ts levels) types n t h ∙ ap (λ z. top_all_taken (z ∷ drop (n + 1) types) levels) (sym is)
+    at_drop_more (λ ts. top_all_taken ts levels) types n t h
+    ∙ ap (λ z. top_all_taken (z ∷ drop (n + 1) types) levels) (sym is)
 
 pub loop-value_type-preserved : goal.loop-value_type-preserved
 loop-value_type-preserved c =
-    let turn = YieldsList-turn (YieldsList-from_rev_slice c.args.types.now cc) c.loop-value_type.yielded _ c.loop-value_type.yielded_by _ _ c.in-Some.value_type c.in-Some.is c.next.ensures.steps in
+    let turn = YieldsList-turn (YieldsList-from_rev_slice c.args.types.now cc)
+    c.loop-value_type.yielded _ c.loop-value_type.yielded_by _ _ c.in-Some.value_type
+    c.in-Some.is c.next.ensures.steps in
     let types = reverse c.args.types.now in
     let n = length c.loop-value_type.yielded in
-    let count : length (c.loop-value_type.yielded ++ c.in-Some.value_type ∷ []) ≡ n + 1 = length_push c.loop-value_type.yielded c.in-Some.value_type in
+    let count : length (c.loop-value_type.yielded ++ c.in-Some.value_type ∷ []) ≡ n + 1 =
+    length_push c.loop-value_type.yielded c.in-Some.value_type in
     c.loop-value_type.invariant
     ∙ next_taken types n c.in-Some.value_type.now c.loop-value_type.self turn.0 turn.1
     ∙ ap (λ z. z >>= λ levels'. top_all_taken (drop (n + 1) types) levels') c.in_ok-expect.ensures
@@ -31,7 +38,9 @@ loop-value_type-preserved c =
 
 pub returns-in_err-expect : goal.returns-in_err-expect
 returns-in_err-expect c =
-    let turn = YieldsList-turn (YieldsList-from_rev_slice c.args.types.now cc) c.loop-value_type.yielded _ c.loop-value_type.yielded_by _ _ c.in-Some.value_type c.in-Some.is c.next.ensures.steps in
+    let turn = YieldsList-turn (YieldsList-from_rev_slice c.args.types.now cc)
+    c.loop-value_type.yielded _ c.loop-value_type.yielded_by _ _ c.in-Some.value_type
+    c.in-Some.is c.next.ensures.steps in
     let p = err_from_is_err_and c.from_residual.result c.from_residual.ensures.1 in
     let types = reverse c.args.types.now in
     let n = length c.loop-value_type.yielded in
@@ -39,11 +48,17 @@ returns-in_err-expect c =
     (fails_as c.in_err-expect.field-0.0 Typing
     (top_taken c.in-Some.value_type.now c.loop-value_type.self)
     (top_all_taken types c.args.self.now)
-    (λ none. c.loop-value_type.invariant ∙ next_taken types n c.in-Some.value_type.now c.loop-value_type.self turn.0 turn.1 ∙ ap (λ z. z >>= λ levels'. top_all_taken (drop (n + 1) types) levels') none)
+    (λ none. c.loop-value_type.invariant
+    ∙ next_taken types n c.in-Some.value_type.now c.loop-value_type.self turn.0 turn.1
+    ∙ ap (λ z. z >>= λ levels'. top_all_taken (drop (n + 1) types) levels') none)
     c.in_err-expect.ensures)
 
 pub returns : goal.returns
 returns c =
-    let end = YieldsList-end (YieldsList-from_rev_slice c.args.types.now cc) c.loop-value_type.yielded _ c.loop-value_type.yielded_by _ _ c.in-None.is c.next.ensures.steps in
+    let end = YieldsList-end (YieldsList-from_rev_slice c.args.types.now cc)
+    c.loop-value_type.yielded _ c.loop-value_type.yielded_by _ _ c.in-None.is
+    c.next.ensures.steps in
     let types = reverse c.args.types.now in
-    c.loop-value_type.invariant ∙ at_drop_all (λ ts. top_all_taken ts c.loop-value_type.self) types (length c.loop-value_type.yielded) (omega (arith, end.1))
+    c.loop-value_type.invariant
+    ∙ at_drop_all (λ ts. top_all_taken ts c.loop-value_type.self) types
+    (length c.loop-value_type.yielded) (omega (arith, end.1))

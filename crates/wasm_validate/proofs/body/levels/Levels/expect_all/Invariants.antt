@@ -4,4 +4,5 @@ use Rattle.wasm_validate.proofs.body.levels.Levels.expect_all.Given as goal
 
 abbrev pub invariant-loop-value_type : goal.invariant-loop-value_type
 invariant-loop-value_type l =
-    top_all_taken (reverse l.types) l.initial.self ≡ top_all_taken (drop (length l.yielded) (reverse l.types)) l.self
+    top_all_taken (reverse l.types) l.initial.self
+    ≡ top_all_taken (drop (length l.yielded) (reverse l.types)) l.self

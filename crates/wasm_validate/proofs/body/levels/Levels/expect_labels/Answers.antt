@@ -1,4 +1,5 @@
-use Rattle.std.proofs.Common.{◌≡◌, ◌<◌, ◌+◌, ℕ, Bool, true, false, List, length, drop, get_or, Some, None, refl, sym, ap, ◌∙◌}
+use Rattle.std.proofs.Common.{◌≡◌, ◌<◌, ◌+◌, ℕ, Bool, true, false, List, length, drop, get_or, Some}
+use Rattle.std.proofs.Common.{None, refl, sym, ap, ◌∙◌}
 use Rattle.std.specs.Prelude.{slice_get, ◌&&◌}
 use Rattle.std.proofs.lemmas.List.{at_drop_more, at_drop_all}
 use Rattle.std.proofs.lemmas.Result.{err_from_is_err_and}
@@ -9,8 +10,10 @@ use Rattle.wasm_validate.specs.laws.Checking.{labels_of, is_label, are_labels}
 use Rattle.wasm_validate.specs.laws.FirstFault.{fault_at, fault_unless, labels_fault}
 use Rattle.wasm_validate.proofs.body.levels.Levels.expect_labels.Goals as goal
 
-module _ (labels : List (List ValueType)) (ts : List ValueType) (ls : List ℕ) (n : ℕ) (h : n < length ls) where
-  next_label : are_labels labels ts (drop n ls) ≡ (is_label labels ts (get_or ls n 0) && are_labels labels ts (drop (n + 1) ls))
+module _ (labels : List (List ValueType)) (ts : List ValueType) (ls : List ℕ) (n : ℕ) (h : n
+    < length ls) where
+  next_label : are_labels labels ts (drop n ls) ≡ (is_label labels ts (get_or ls n 0)
+      && are_labels labels ts (drop (n + 1) ls))
   next_label = at_drop_more (λ z. are_labels labels ts z) ls n 0 h
 
   no_label : slice_get labels (get_or ls n 0) ≡ None → are_labels labels ts (drop n ls) ≡ false
@@ -18,7 +21,9 @@ module _ (labels : List (List ValueType)) (ts : List ValueType) (ls : List ℕ) 
       let is : is_label labels ts (get_or ls n 0) ≡ false = rw e refl in
       next_label ∙ ap (λ z. z && are_labels labels ts (drop (n + 1) ls)) is
 
-  this_label : (us : List ValueType) → slice_get labels (get_or ls n 0) ≡ Some us → are_labels labels ts (drop n ls) ≡ (are_same_types us ts && are_labels labels ts (drop (n + 1) ls))
+  this_label : (us : List ValueType) → slice_get labels (get_or ls n 0) ≡ Some us
+      → are_labels labels ts (drop n ls) ≡ (are_same_types us ts
+      && are_labels labels ts (drop (n + 1) ls))
   this_label us e =
       let is : is_label labels ts (get_or ls n 0) ≡ are_same_types us ts = rw e refl in
       next_label ∙ ap (λ z. z && are_labels labels ts (drop (n + 1) ls)) is
@@ -53,10 +58,12 @@ returns-in_err-label c =
     let none = c.in_err-label.ensures.1 in
     rw (p.1, p.2) (
       c.loop-label.invariant.test
-          ∙ no_label labels ts c.args.labels.now c.loop-label.label-index c.loop-label-test.true none,
+          ∙ no_label labels ts c.args.labels.now c.loop-label.label-index c.loop-label-test.true
+          none,
       c.in_err-label.ensures.0 ∙ sym
           (c.loop-label.invariant.fault
-          ∙ no_label_fault labels ts c.args.labels.now c.loop-label.label-index c.loop-label-test.true none),
+          ∙ no_label_fault labels ts c.args.labels.now c.loop-label.label-index
+          c.loop-label-test.true none),
     )
 
 pub returns-then-not-is_same : goal.returns-then-not-is_same
@@ -66,11 +73,13 @@ returns-then-not-is_same c =
     let us = results_of c.in_ok-label.field-0 in
     let other : are_same_types us ts ≡ false = sym c.is_same.ensures ∙ c.if-not-is_same.true in (
       c.loop-label.invariant.test
-          ∙ this_label labels ts c.args.labels.now c.loop-label.label-index c.loop-label-test.true us c.in_ok-label.ensures
+          ∙ this_label labels ts c.args.labels.now c.loop-label.label-index c.loop-label-test.true
+          us c.in_ok-label.ensures
           ∙ ap (λ z. z && are_labels labels ts
           (drop (c.loop-label.label-index + 1) c.args.labels.now)) other,
       sym (c.loop-label.invariant.fault
-          ∙ this_fault labels ts c.args.labels.now c.loop-label.label-index c.loop-label-test.true us false c.in_ok-label.ensures other),
+          ∙ this_fault labels ts c.args.labels.now c.loop-label.label-index c.loop-label-test.true
+          us false c.in_ok-label.ensures other),
     )
 
 pub loop-label-preserved : goal.loop-label-preserved
@@ -81,12 +90,14 @@ loop-label-preserved c =
     let same : are_same_types us ts ≡ true = sym c.is_same.ensures ∙ c.if-not-is_same.false in
     record {
       test = c.loop-label.invariant.test
-          ∙ this_label labels ts c.args.labels.now c.loop-label.label-index c.loop-label-test.true us c.in_ok-label.ensures
+          ∙ this_label labels ts c.args.labels.now c.loop-label.label-index c.loop-label-test.true
+          us c.in_ok-label.ensures
           ∙ ap (λ z. z && are_labels labels ts
           (drop (c.loop-label.label-index + 1) c.args.labels.now)) same;
       fault =
           c.loop-label.invariant.fault
-          ∙ this_fault labels ts c.args.labels.now c.loop-label.label-index c.loop-label-test.true us true c.in_ok-label.ensures same;
+          ∙ this_fault labels ts c.args.labels.now c.loop-label.label-index c.loop-label-test.true
+          us true c.in_ok-label.ensures same;
     }
 
 pub returns : goal.returns

@@ -5,4 +5,5 @@ use Rattle.wasm_validate.proofs.body.levels.Levels.innermost_control.Goals as go
 
 pub returns : goal.returns
 returns c =
-    subst (λ z. IsInnermost c.get.result z) c.self.view_is (innermost_is c.get.result c.self.inside.controls c.self.inside.operands c.get.ensures)
+    subst (λ z. IsInnermost c.get.result z) c.self.view_is
+    (innermost_is c.get.result c.self.inside.controls c.self.inside.operands c.get.ensures)

@@ -11,18 +11,24 @@ none_left (l ∷ levels) e = absurd (cc)
 
 pub returns-in_default : goal.returns-in_default
 returns-in_default c =
-    none_left c.args.self.now (sym c.self.view_is ∙ top_none c.self.inside.controls c.self.inside.operands (sym c.get.ensures ∙ c.in_default.is))
+    none_left c.args.self.now (sym c.self.view_is
+    ∙ top_none c.self.inside.controls c.self.inside.operands (sym c.get.ensures
+    ∙ c.in_default.is))
 
 pub invariant_of-self : goal.invariant_of-self
 invariant_of-self c =
-    let r = left_view c.self.inside.controls c.self.inside.operands c.in-Some.control (sym c.get.ensures ∙ c.in-Some.is) c.self.invariant in
+    let r = left_view c.self.inside.controls c.self.inside.operands c.in-Some.control
+    (sym c.get.ensures ∙ c.in-Some.is) c.self.invariant in
     subst (λ z. AreHeights z (length c.truncate.new.self)) (sym c.replace.ensures)
-    (subst (λ z. AreHeights (record c.in-Some.control { is_reached = false } ∷ drop 1 c.self.inside.controls) (length z)) (sym c.truncate.ensures) r.1)
+    (subst (λ z. AreHeights (record c.in-Some.control { is_reached = false }
+    ∷ drop 1 c.self.inside.controls) (length z)) (sym c.truncate.ensures) r.1)
 
 pub returns : goal.returns
 returns c =
-    let r = left_view c.self.inside.controls c.self.inside.operands c.in-Some.control (sym c.get.ensures ∙ c.in-Some.is) c.self.invariant in
+    let r = left_view c.self.inside.controls c.self.inside.operands c.in-Some.control
+    (sym c.get.ensures ∙ c.in-Some.is) c.self.invariant in
     ap (λ z. levels_of z c.truncate.new.self) c.replace.ensures
-    ∙ ap (λ z. levels_of (record c.in-Some.control { is_reached = false } ∷ drop 1 c.self.inside.controls) z) c.truncate.ensures
+    ∙ ap (λ z. levels_of (record c.in-Some.control { is_reached = false }
+    ∷ drop 1 c.self.inside.controls) z) c.truncate.ensures
     ∙ r.0
     ∙ ap top_left c.self.view_is

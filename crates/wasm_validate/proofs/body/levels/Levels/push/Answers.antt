@@ -5,12 +5,15 @@ use Rattle.wasm_validate.proofs.BodyLemmas.LevelViews.{pushed_view, higher}
 use Rattle.wasm_validate.proofs.body.levels.Levels.push.Goals as goal
 
 pub invariant_of-self : goal.invariant_of-self
-invariant_of-self c = subst (λ z. AreHeights c.self.inside.controls (length z)) (sym c.in_err-push.ensures.unchanged) c.self.invariant
+invariant_of-self c =
+    subst (λ z. AreHeights c.self.inside.controls (length z)) (sym c.in_err-push.ensures.unchanged)
+    c.self.invariant
 
 pub invariant_of-self-2 : goal.invariant_of-self-2
 invariant_of-self-2 c =
     subst (λ z. AreHeights c.self.inside.controls (length z)) (sym c.in_ok-push.ensures.pushed)
-    (higher c.self.inside.controls (length c.self.inside.operands) (length (c.args.operand ∷ c.self.inside.operands)) c.self.invariant (omega arith))
+    (higher c.self.inside.controls (length c.self.inside.operands) (length (c.args.operand
+    ∷ c.self.inside.operands)) c.self.invariant (omega arith))
 
 pub returns-clause-pushed : goal.returns-clause-pushed
 returns-clause-pushed c =

@@ -17,7 +17,8 @@ returns-in_default c = λ c' scope.
     (subst (λ z. LevelsFollow
     (fault_of c'
     (labels_of c.args.self.now) c.args.instruction.now) c.operate.result c.operate.new.self z)
-    (after_is c' c.args.instruction.now c.args.self.now some_open (plain c.args.instruction.now refl))
+    (after_is c' c.args.instruction.now c.args.self.now some_open
+    (plain c.args.instruction.now refl))
     (c.operate.ensures c' scope))
   where
     some_open : c.args.self.now ≢ []

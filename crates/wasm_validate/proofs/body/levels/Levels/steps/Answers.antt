@@ -9,10 +9,13 @@ use Rattle.wasm_validate.specs.laws.FirstFault.{fault_from, fault_in, opcode_fau
 use Rattle.wasm_validate.proofs.BodyLemmas.Fails.{fails_to}
 use Rattle.wasm_validate.proofs.body.levels.Levels.steps.Goals as goal
 
-next_checked : (c : Typing) (body : List Instruction) (n : ℕ) (i : Instruction) (levels : List Level) → n < length body → i ≡ get_or body n i
-    → checked c (drop n body) levels ≡ (levels_after c i levels >>= λ levels'. checked c (drop (n + 1) body) levels')
+next_checked : (c : Typing) (body : List Instruction) (n : ℕ) (i : Instruction)
+    (levels : List Level) → n < length body → i ≡ get_or body n i
+    → checked c (drop n body) levels ≡ (levels_after c i levels
+    >>= λ levels'. checked c (drop (n + 1) body) levels')
 next_checked c body n i levels h is =
-    at_drop_more (λ z. checked c z levels) body n i h ∙ ap (λ z. checked c (z ∷ drop (n + 1) body) levels) (sym is)
+    at_drop_more (λ z. checked c z levels) body n i h
+    ∙ ap (λ z. checked c (z ∷ drop (n + 1) body) levels) (sym is)
 
 next_fault : (c : Typing) (body : List Instruction) (n : ℕ) (i : Instruction) (levels : List Level)
     → n < length body → i ≡ get_or body n i
@@ -67,4 +70,5 @@ pub returns : goal.returns
 returns c = λ c' scope.
     c.loop-instruction.invariant.levels c' scope
     ∙ at_drop_all
-    (λ z. checked c' z c.loop-instruction.self) c.args.body.now c.loop-instruction.instruction-index c.loop-instruction-test.false
+    (λ z. checked c' z c.loop-instruction.self) c.args.body.now c.loop-instruction.instruction-index
+    c.loop-instruction-test.false

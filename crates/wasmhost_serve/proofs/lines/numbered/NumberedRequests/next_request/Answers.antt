@@ -1,6 +1,7 @@
 use Rattle.std.proofs.Common.{rules, arith, ◌≡◌, ◌+◌}
 use Rattle.std.proofs.lemmas.Result.{err_from_is_err_and}
-use Rattle.wasmhost_serve.proofs.LineLemmas.Passing.{passed_nothing, behind_passed, steps_over, takes_request, is_given}
+use Rattle.wasmhost_serve.proofs.LineLemmas.Passing.{passed_nothing, behind_passed, steps_over}
+use Rattle.wasmhost_serve.proofs.LineLemmas.Passing.{takes_request, is_given}
 use Rattle.wasmhost_serve.proofs.LineLemmas.Refusals.{misses_line}
 use Rattle.wasmhost_serve.proofs.lines.numbered.NumberedRequests.next_request.Goals as goal
 
