@@ -43,7 +43,8 @@ module _ (ns : List Node) (next k i : ℕ) (n : Node) (f : Node
   same_hook : (j : ℕ) → hook_of (changed f i ns) j ≡ hook_of ns j
   same_hook j = elim (cases_eq j k) [
     | inl same ↦ subst (λ (x : ℕ). hook_of (changed f i ns) x
-        ≡ hook_of ns x) (sym same) (ap hook_held (in_changed_same f r.numbers ns k i n r.place r.there)
+        ≡ hook_of ns x) (sym same) (ap hook_held
+        (in_changed_same f r.numbers ns k i n r.place r.there)
         ∙ r.hooks n ∙ sym (ap hook_held r.there))
     | inr ne ↦ ap hook_held (in_changed_other f r.numbers ns k i j r.place ne)
   ]

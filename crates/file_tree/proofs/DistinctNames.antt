@@ -23,7 +23,8 @@ others_differ hook next d tree k name is (n ∷ ns) own above =
     by n.hook refl (others_differ hook next d tree k name is ns own.1 above.1) where
       clash : (other : Name) → n.hook ≡ In d other → name ≢ other
       clash other e same =
-          let one : k ≡ n.number = tree.one_each k n.number d name is (own.0 ∙ e ∙ ap (In d) (sym same))
+          let one : k ≡ n.number = tree.one_each k n.number d name is (own.0 ∙ e
+          ∙ ap (In d) (sym same))
           in
           absurd (omega (arith, one, above.0))
 
@@ -38,7 +39,8 @@ others_differ hook next d tree k name is (n ∷ ns) own above =
           rw (eq-eqb x d same) (clash other (e ∙ ap (λ (y : ℕ). In y other) same), later)
       by_test x other e (inr ne) later = rw (ne_eqb x d ne) later
 
-      by : (h : Hook) → n.hook ≡ h → AllByRecursion (λ (f : Entry). name ≢ f.name) (hooked_entries d ns)
+      by : (h : Hook) → n.hook ≡ h → AllByRecursion (λ (f : Entry). name
+          ≢ f.name) (hooked_entries d ns)
           → AllByRecursion (λ (f : Entry). name ≢ f.name) (hooked_entries d (n ∷ ns))
       by Root e later = rw e later
       by Removed e later = rw e later
@@ -60,7 +62,8 @@ distinct_names hook next d tree least (n ∷ ns) most rising own =
       by_test x other e (inl same) later =
           rw (eq-eqb x d same) (
             others_differ hook next d tree n.number other (own.0 ∙ e
-                ∙ ap (λ (y : ℕ). In y other) same) ns own.1 (numbers_from (n.number + 1) ns most rising.1),
+                ∙ ap (λ (y : ℕ). In y other) same) ns own.1
+                (numbers_from (n.number + 1) ns most rising.1),
             later,
           )
       by_test x other e (inr ne) later = rw (ne_eqb x d ne) later

@@ -69,7 +69,8 @@ pub there_shown : (ns : List Node) (next k : ℕ)
     → is_some (node_of (files ns next) k) ≡ is_some (node_in ns k)
 there_shown ns next k = ap is_some (node_shown next (hook_of ns) ns k)
     ∙ of_node (node_in ns k) where
-      of_node : (o : Option Node) → is_some (option_map (shown_node next (hook_of ns)) o) ≡ is_some o
+      of_node : (o : Option Node) → is_some (option_map (shown_node next (hook_of ns)) o)
+          ≡ is_some o
       of_node None = refl
       of_node (Some n) = refl
 

@@ -444,7 +444,8 @@ cut_behind from [] i n order is e = absurd cc
 cut_behind from (m ∷ ms) zero n order is e =
     let same : m ≡ n = some_same m n is in
     let address : address_of m.hook ≡ from = ap (λ (w : Node). address_of w.hook) same ∙ e in (
-      subst (λ (x : List ℕ). IsUpTo from x) (sym address) (not_in_front from from (not_itself from)),
+      subst (λ (x : List ℕ). IsUpTo from x) (sym address)
+          (not_in_front from from (not_itself from)),
       subst (λ (x : List ℕ). AllByRecursion (λ (w : Node). IsBehind x (address_of w.hook)) ms)
           address order.0,
     )

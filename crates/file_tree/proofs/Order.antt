@@ -21,11 +21,13 @@ before_or_not [] (b ∷ other) = inl (refl, tt)
 before_or_not (a ∷ name) [] = inr (refl, λ h. h)
 before_or_not (a ∷ name) (b ∷ other) =
     by (cases_lt a b) (cases_lt b a) (before_or_not name other) where
-      not_so : b ≤ a → ((a ≡ b) → Before name other → ⊥) → (a < b) ⊎ ((a ≡ b) × Before name other) → ⊥
+      not_so : b ≤ a → ((a ≡ b) → Before name other → ⊥) → (a < b) ⊎ ((a ≡ b) × Before name other)
+          → ⊥
       not_so le never (inl lt) = absurd (omega (arith, le, lt))
       not_so le never (inr h) = never h.0 h.1
 
-      by : (a < b) ⊎ (b ≤ a) → (b < a) ⊎ (a ≤ b) → ((is_before name other ≡ true) × Before name other)
+      by : (a < b) ⊎ (b ≤ a) → (b < a) ⊎ (a ≤ b)
+          → ((is_before name other ≡ true) × Before name other)
           ⊎ ((is_before name other ≡ false) × (Before name other → ⊥))
           → ((cond (ltb a b) true (cond (ltb b a) false (is_before name other)) ≡ true)
           × ((a < b) ⊎ ((a ≡ b) × Before name other)))
@@ -152,7 +154,8 @@ ordered_inserted e (f ∷ es) ne h =
     (ordered_inserted e es ne.1 h.1) where
       by : (b : Bool) → is_before e.name f.name ≡ b
           → ((is_before e.name f.name ≡ true) × Before e.name f.name)
-          ⊎ ((is_before e.name f.name ≡ false) × (Before e.name f.name → ⊥)) → Ordered (inserted e es)
+          ⊎ ((is_before e.name f.name ≡ false) × (Before e.name f.name → ⊥))
+          → Ordered (inserted e es)
           → Ordered (cond b (e ∷ f ∷ es) (f ∷ inserted e es))
       by true is (inl y) later = ((y.1, all_later e f es y.1 h.0), (h.0, h.1))
       by true is (inr n) later = absurd (let t : true ≡ false = sym is ∙ n.0 in cc)

@@ -95,7 +95,8 @@ pub child_hook : (hook : ℕ → Hook) (ns : List Node) (d : ℕ) (name : Name) 
 child_hook hook [] d name k own e = absurd cc
 child_hook hook (n ∷ ns) d name k own e =
     by (is_hooked d name n.hook) refl (child_hook hook ns d name k own.1) e where
-      by : (b : Bool) → is_hooked d name n.hook ≡ b → (child_in ns d name ≡ Some k → hook k ≡ In d name)
+      by : (b : Bool) → is_hooked d name n.hook ≡ b
+          → (child_in ns d name ≡ Some k → hook k ≡ In d name)
           → cond b (Some n.number) (child_in ns d name) ≡ Some k → hook k ≡ In d name
       by true is later e = ap hook (sym (some_number n.number k e)) ∙ own.0
           ∙ is_hooked_so d name n.hook is

@@ -120,7 +120,8 @@ within_shown ns next k d are =
           ∙ elim (ends_or_not from.0 way.0) [
             | inl h ↦
                 ap (λ (x : Path). is_some (path_behind (reverse from.0) x)) (ap reverse h.1
-                ∙ reverse-append h.0 from.0) ∙ ap is_some (behind_front (reverse from.0) (reverse h.0))
+                ∙ reverse-append h.0 from.0) ∙ ap is_some
+                (behind_front (reverse from.0) (reverse h.0))
                 ∙ sym (comes next (hook_of ns) k d from.0 h.0 next are.tree from.2
                 (subst (Up (hook_of ns) d) h.1 way.2) (subst (λ (a : Path). length a
                 < next) h.1 (short_path (hook_of ns) next are.tree d way.0 way.2)))

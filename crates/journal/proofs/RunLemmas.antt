@@ -90,7 +90,8 @@ module _ (geometry : Geometry) (g used n : ℕ) (bytes kept : List ℕ) (old new
     where
       -- each sector behind those that are written
       pub behind_at : (i : ℕ) → i < geometry.journal_sectors - used
-          → (shown_generation (1 + used + i) (sector_at new (journal_place geometry + used + i)) < g)
+          → (shown_generation (1 + used + i) (sector_at new (journal_place geometry + used + i))
+          < g)
           ⊎ (IsUsedSector g (1 + used + i) (sector_at new (journal_place geometry + used + i))
           × (payload_of_sector (sector_at new (journal_place geometry + used + i))
           ≡ part kept (494 * i) 494))
@@ -116,7 +117,8 @@ module _ (geometry : Geometry) (g used n : ℕ) (bytes kept : List ℕ) (old new
           torn_sector g (1 + used + i) each.0 (part kept (494 * i) 494)
           (sector_at old (journal_place geometry + used + i))
           (sector_at new (journal_place geometry + used + i)) is full was each.1
-          (each.2 ∙ ap (λ s. front_over each.0 s (sector_at old (journal_place geometry + used + i)))
+          (each.2 ∙ ap (λ s. front_over each.0 s (sector_at old (journal_place geometry + used
+          + i)))
           meant))
           (λ (other : n ≤ i).
           let same = torn.above (journal_place geometry + used + i) (omega arith) in
@@ -144,8 +146,10 @@ module _ (geometry : Geometry) (g used n : ℕ) (bytes kept : List ℕ) (old new
       front_of_kept =
           let holds = run.stands in
           let rest = geometry.journal_sectors - used in
-          let count : geometry.journal_sectors ≡ used + rest = let w = holds.within in omega arith in
-          let front = torn_front new g (journal_place geometry + used) (1 + used) rest kept behind_at
+          let count : geometry.journal_sectors ≡ used + rest = let w = holds.within in omega arith
+          in
+          let front = torn_front new g (journal_place geometry + used) (1
+          + used) rest kept behind_at
           in (
             front.0,
             ap (λ k. payloads_from new g (journal_place geometry) 1 k) count
@@ -167,7 +171,8 @@ module _ (geometry : Geometry) (g used n : ℕ) (bytes kept : List ℕ) (old new
           let p : 1 + used + i ≡ 1 + k = omega arith in
           let less : shown_generation (1 + used + i) (sector_at new (journal_place geometry + used
           + i)) ≤ g =
-          ⊎_elim (λ (earlier : shown_generation (1 + used + i) (sector_at new (journal_place geometry
+          ⊎_elim (λ (earlier : shown_generation (1 + used + i)
+          (sector_at new (journal_place geometry
           + used + i)) < g). omega arith) (λ meant. let is = meant.0 in let s = is.shows in
           omega arith) (behind_at i (omega arith)) in
           subst (λ (t : ℕ). shown_generation (1 + k) (sector_at new t)

@@ -81,7 +81,8 @@ module _ (code : Executable) (old : State) (most : ℕ) (results : List Value)
               let lists : waits.shows.functions ≡ functions =
               one_list code.«module» most waits.shows.functions functions waits.program program
               waits.shows.is is in
-              let here = settled_with code new waits.shows.functions waits.program after.configuration
+              let here = settled_with code new waits.shows.functions waits.program
+              after.configuration
               after.stands memory after.settled (subst (λ z. IsMemoryFor z memory)
               (sym waits.shows.is.most) is_memory) in
               subst (λ z. IsSettledIn code (with_memory_of new memory) functions z) programs

@@ -77,7 +77,8 @@ module _ (old mid new : Medium) (k f : ℕ) (b r : List ℕ) (le : f ≤ 512) (f
           front = torn.front;
           within = small;
           is = torn.is
-              ∙ ap (λ (l : List ℕ). with_sector y k l) (shorter torn.front f b r (sector_at y k) small
+              ∙ ap (λ (l : List ℕ). with_sector y k l)
+              (shorter torn.front f b r (sector_at y k) small
               (omega arith));
         },
       ))

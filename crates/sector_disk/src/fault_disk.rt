@@ -155,7 +155,9 @@ impl<D: Disk> Disk for FaultDisk<D> {
         ensures writes { Writes sector from.now result (⟦<FaultDisk<D> as Disk>⟧.medium self.old)
             (⟦<FaultDisk<D> as Disk>⟧.medium self.new) }
         ensures calls { call_counts_of self.new
-            ≡ record (call_counts_of self.old) { writes = counted (call_counts_of self.old).writes } }
+            ≡ record (call_counts_of self.old) {
+              writes = counted (call_counts_of self.old).writes;
+            } }
         ensures stop { stop_of self.new ≡ stop_of self.old }
         ensures fail { fail_of self.new ≡ fail_of self.old }
         ensures trouble { IfSome (trouble_of self.new) (λ trouble. result

@@ -134,12 +134,14 @@ module _ (geometry : Geometry) (g version : ℕ) (bytes : List ℕ) (x y : Image
                   (is_complete h (sector_at y (head_place g)) some head);
               is = sym (read_again h (sector_at y (head_place g)) fits some head ∙ is);
               same = refl;
-              newest = λ c. let s = shown_complete ((g + 1) % 2) (sector_at y (head_place (g + 1))) c
+              newest = λ c. let s = shown_complete ((g + 1) % 2)
+                  (sector_at y (head_place (g + 1))) c
                   in let l = other_less in omega (arith, s, l);
             };
             area = ap (λ (l : List ℕ). take (length bytes) l) (areas_same g) ∙ area;
           };
-          zeros = bytes_same x y (area_place geometry g) (rounded_up (length bytes)) (λ k from below.
+          zeros = bytes_same x y (area_place geometry g) (rounded_up (length bytes))
+              (λ k from below.
               others k (omega (arith, from))) ∙ zeros;
           heads = let e = heads_split y g in let l = other_less in omega (arith, e, here, l);
         }

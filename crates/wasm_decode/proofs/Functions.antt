@@ -94,7 +94,8 @@ functions_are (t ∷ ts) functions bytes =
       step below None = refl
       step below (Some code) =
           let left = items_at (sized_at code_within_at) (length ts) code.1 in
-          let more : List Function = functions ++ record { function_type = t; code = code.0 } ∷ [] in
+          let more : List Function = functions ++ record { function_type = t; code = code.0 } ∷ []
+          in
           below more code.1
           ∙ bind_same left (joined ts more) (λ codes. joined (t ∷ ts) functions (
             code.0 ∷ codes.0,

@@ -135,7 +135,10 @@ module _ (front : List Import) (count i functions : ℕ) (bytes : List ℕ) (tot
             let all = items_go_on import_within_at front count i bytes total x.0 x.1 lt is so_far in
             let left = items_at import_within_at (count - (i + 1)) x.1 in
             ap (λ (t : Option (List Import × List ℕ)). t >>= few) (sym all)
-            ∙ bind_bind left (λ (y : List Import × List ℕ). Some ((front ++ x.0 ∷ []) ++ y.0, y.1)) few
+            ∙ bind_bind left (λ (y : List Import × List ℕ). Some (
+              (front ++ x.0 ∷ []) ++ y.0,
+              y.1,
+            )) few
             ∙ bind_none left (λ (y : List Import × List ℕ). few (
               (front ++ x.0 ∷ []) ++ y.0,
               y.1,

@@ -59,7 +59,8 @@ const EXPORTS: [Row; 7] = [
     ),
     ("0404 01 700001 070a 01 06'_start'0100", "", NO_START),
     (
-        "010c 02 600000 60047f7f7f7f017f 0223 01 16'wasi_snapshot_preview1'08'fd_write'0001 070a 01 06'_start'0000",
+        "010c 02 600000 60047f7f7f7f017f 0223 01 16'wasi_snapshot_preview1'08'fd_write'0001 070a \
+            01 06'_start'0000",
         "",
         NO_START,
     ),
@@ -69,12 +70,14 @@ const EXPORTS: [Row; 7] = [
         NO_MEMORY,
     ),
     (
-        "0104 01 600000 0302 01 00 0404 01 700001 0713 02 06'_start'0000 06'memory'0100 0a04 01 02000b",
+        "0104 01 600000 0302 01 00 0404 01 700001 0713 02 06'_start'0000 06'memory'0100 0a04 01 \
+            02000b",
         "",
         NO_MEMORY,
     ),
     (
-        "0104 01 600000 0302 01 00 0503 01 0000 0713 02 06'_start'0000 06'memory'0200 0a04 01 02000b",
+        "0104 01 600000 0302 01 00 0503 01 0000 0713 02 06'_start'0000 06'memory'0200 0a04 01 \
+            02000b",
         "",
         None,
     ),
@@ -108,7 +111,8 @@ const IMPORTS: [Row; 9] = [
         None,
     ),
     (
-        "0246 02 16'wasi_snapshot_preview1'09'proc_exit'0002 16'wasi_snapshot_preview1'08'fd_write'0001",
+        "0246 02 16'wasi_snapshot_preview1'09'proc_exit'0002 \
+            16'wasi_snapshot_preview1'08'fd_write'0001",
         FROM_2,
         None,
     ),
@@ -129,12 +133,14 @@ const IMPORTS: [Row; 9] = [
         WRONG_TYPE,
     ),
     (
-        "0245 02 16'wasi_snapshot_preview1'08'fd_write'0002 16'wasi_snapshot_preview1'08'fd_wrote'0001",
+        "0245 02 16'wasi_snapshot_preview1'08'fd_write'0002 \
+            16'wasi_snapshot_preview1'08'fd_wrote'0001",
         FROM_2,
         WRONG_TYPE,
     ),
     (
-        "0245 02 16'wasi_snapshot_preview1'08'fd_wrote'0001 16'wasi_snapshot_preview1'08'fd_write'0002",
+        "0245 02 16'wasi_snapshot_preview1'08'fd_wrote'0001 \
+            16'wasi_snapshot_preview1'08'fd_write'0002",
         FROM_2,
         UNKNOWN,
     ),
@@ -256,7 +262,8 @@ fn a_machine_is_linked(rt: HostRuntime) -> Result<(), Refused> {
 /// What stands before the code section of that module.
 const LINKED: &str = "0061736d01000000 0110 03 600000 60047f7f7f7f017f 60017f00 \
     0246 02 16'wasi_snapshot_preview1'09'proc_exit'0002 16'wasi_snapshot_preview1'08'fd_write'0001 \
-    0302 01 00 0404 01 700003 0503 01 0001 060b 02 7f00 41070b 7f00 41030b 0713 02 06'_start'0002 06'memory'0200 \
+    0302 01 00 0404 01 700003 0503 01 0001 060b 02 7f00 41070b 7f00 41030b 0713 02 06'_start'0002 \
+    06'memory'0200 \
     0907 01 00 41010b 0102";
 
 /// What stands behind it.

@@ -95,7 +95,8 @@ module _ {S O : Type 0} (gives : Giving S) (takes : Taking O) (first second thir
             process = two.0.process;
             shows = two.0.shows;
           },
-          cause_join guest start middle one.0.exchanges one.0.steps one.0.leads one.1.2 two.0.process
+          cause_join guest start middle one.0.exchanges one.0.steps one.0.leads one.1.2
+              two.0.process
               two.0.exchanges two.0.steps f g why one.1.0 two.1,
         )
 
@@ -105,7 +106,8 @@ module _ {S O : Type 0} (gives : Giving S) (takes : Taking O) (first second thir
     add_in_vain fault.Outlet h = (a.had_not_failed, h.1, in_vain_join fault.Outlet h.2)
     add_in_vain fault.Memory h = (a.had_not_failed, h.1, in_vain_join fault.Memory h.2)
     add_in_vain fault.Failed h = let none = a.has_not_failed in let one = h.0 in absurd (cc)
-    add_in_vain (fault.Refused why) h = (a.had_not_failed, h.1, in_vain_join (fault.Refused why) h.2)
+    add_in_vain (fault.Refused why) h =
+        (a.had_not_failed, h.1, in_vain_join (fault.Refused why) h.2)
 
 pub slices_add_in_vain : {S O : Type 0} (gives : Giving S) (takes : Taking O)
     → SlicesAddInVain gives takes

@@ -346,7 +346,8 @@ module _ (code : Executable) (s : State) (functions : List FunctionType) (progra
           record {
             is_code = stands.is_code;
             stands = subst (λ z.
-                PartsStandFor (module_context code.«module» functions) program code.table.items z g.0)
+                PartsStandFor (module_context code.«module» functions) program code.table.items z
+                g.0)
                 (sym (ap parts_of_state left.is)) g.2;
           },
         )

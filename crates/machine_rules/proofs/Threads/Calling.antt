@@ -100,7 +100,8 @@ module _ (c : Context) (program : Program) (opcodes : ℕ → List Instruction) 
               top.runs.vs x.after) (sym callee.2) calling;
           settled = settled_before program d frame.function top.runs.ls top.runs.vs top.runs.labels
               (instr.Call g) x.after top.thread thread;
-          calls = call_rule program d frame.function top.runs.ls top.runs.vs top.runs.labels g x.after
+          calls = call_rule program d frame.function top.runs.ls top.runs.vs top.runs.labels g
+              x.after
               top.thread callee.0 thread callee.1;
         }
 

@@ -138,7 +138,8 @@ keeps_from n (write ∷ writes) a b image k f size is all le left =
       step.1,
       subst (λ (start : Image).
           Leaves writes start
-          (with_front image k f (sector_at (replayed writes (with_sector b write.sector write.bytes))
+          (with_front image k f (sector_at
+          (replayed writes (with_sector b write.sector write.bytes))
           k))) (sym step.2) rest,
     )
 

@@ -113,7 +113,8 @@ memory_medium d = record {
     both.0,
     subst (λ i. Leaves d.pending.items d.settled.items (with_front image k front (sector_at i k)))
         (sym (both.0
-        ∙ d.replayed)) (keeps_more _ d.pending.items d.settled.items image k front d.full d.within le
+        ∙ d.replayed)) (keeps_more _ d.pending.items d.settled.items image k front d.full d.within
+        le
         both.1),
   );
   is_image = λ image left. image-left _ d.pending.items d.settled.items image d.full d.within left;

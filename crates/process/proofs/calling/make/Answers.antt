@@ -31,7 +31,8 @@ finish-ended-requires-clause-few c =
 pub returns-in-Done-clause-calls : goal.returns-in-Done-clause-calls
 returns-in-Done-clause-calls c = λ guest p shows running at. (
   done_leads c.args.machine.now c.call_host.new.machine c.args.host.now c.call_host.new.host
-      c.args.call c.args.arguments.now (option_copied c.args.answer) c.requires.typed c.in-Done.error
+      c.args.call c.args.arguments.now (option_copied c.args.answer) c.requires.typed
+      c.in-Done.error
       c.in-Done.ensures.made
       c.finish-ended.new.machine c.finish-ended.new.host c.finish-ended.result
       c.finish-ended.ensures.finishes c.finish-ended.ensures.same guest p shows at,

@@ -10,7 +10,8 @@ write-requires-clause-within c = λ n at.
     omega (
       arith,
       c.requires.within,
-      ap length (bytes_at_place c.self.inside.nodes c.self.inside.next c.args.number c.in-Some.place n
+      ap length (bytes_at_place c.self.inside.nodes c.self.inside.next c.args.number c.in-Some.place
+          n
           c.args.self.now c.self.view_is c.in-Some.ensures.there at),
     )
 

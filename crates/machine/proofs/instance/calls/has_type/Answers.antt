@@ -10,7 +10,8 @@ returns-then-eq c =
     let p = (slice_eq-Decides (λ a b. search rules) _ _ _ c.eq.ensures).0 c.if-eq.true in
     let d = slice_eq-Decides (λ a b. search rules) _ _ _ c.eq-then-eq.ensures in (
       λ e. same_type t c.args.call (sym c.as_slice.ensures
-          ∙ (p ∙ c.parameters.ensures)) (sym c.as_slice-then-eq.ensures ∙ (d.0 e ∙ c.results.ensures)),
+          ∙ (p ∙ c.parameters.ensures)) (sym c.as_slice-then-eq.ensures
+          ∙ (d.0 e ∙ c.results.ensures)),
       λ e. d.1 (c.as_slice-then-eq.ensures ∙ (ap (λ (t : FunctionType). t.results) e
           ∙ sym c.results.ensures)),
     )
