@@ -7,3 +7,8 @@ pub mod Before
 pub mod Passing
 pub mod Keeping
 pub mod Reading
+pub mod Underway
+pub mod CallEnds
+pub mod Pieces
+pub mod Telling
+pub mod Reopening

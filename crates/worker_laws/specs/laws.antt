@@ -5,3 +5,8 @@ pub mod Creations
 pub mod Journaled
 pub mod Moments
 pub mod Readings
+pub mod Underway
+pub mod CallEnds
+pub mod Pieces
+pub mod Telling
+pub mod Reopening

@@ -20,6 +20,16 @@
 //! - `disks_give_what_they_stand_by`: what is read of a disk that stands for a worker is what it
 //!   stands by.
 //!
+//! The calls of `events` say how what a worker does becomes events of a life:
+//!
+//! - `slices_tell_lines`: in a slice that is under way steps go on. Each line that is told is the
+//!   next one, and lines that are released one after another keep what was promised.
+//! - `slices_ask_questions`: so does each question, whatever is said to it.
+//! - `calls_end`: each way in which a slice or a checkpoint is over keeps it too.
+//! - `parts_of_calls_join`: what parts of a call keep one after another they keep together.
+//! - `lives_are_opened`: a recovery keeps it by what it tells, and by its opening. A fresh worker
+//!   holds what was promised where nothing was.
+//!
 //! # Definitions to read
 //!
 //! None: those of `worker_rules`, `journal`, `snapshot` and `disk_layout` are enough. In
@@ -30,8 +40,9 @@
 //!
 //! # Who may touch what
 //!
-//! There is no code here but the empty functions of `laws`, and no code uses it yet. The crate
+//! There is no code here but the empty functions of `laws` and `events`. No code uses it yet. The crate
 //! takes no memory, and has no errors.
 #![tactic(auto)]
 
+pub mod events;
 pub mod laws;

@@ -1,0 +1,59 @@
+-- Parts of a call, one after another: their exchanges are events that keep what was promised.
+use Rattle.std.specs.Prelude.{◌≡◌, Bool, List, [], ◌∷◌, ◌++◌}
+use Rattle.wasm_syntax.specs.declared.module.Module.{Module}
+use Rattle.wasi_abi.specs.rules.Configs.{Settings}
+use Rattle.record_replay.specs.rules.Calls.{Exchange, Asks, Tells}
+use Rattle.worker_rules.specs.Lives.{SourceSaid, Event}
+use Rattle.worker_rules.specs.Courses.{Stage, first_said, first_taken, without_first}
+use Rattle.worker_rules.specs.Courses.{next_stage, stage_after}
+use Rattle.worker_rules.specs.Promises.{Promise, after, promised, AreKept, IsKept}
+use Rattle.worker_rules.specs.Exchanges.{was_taken, AreEvents}
+
+-- what a source is to say, and an outlet to take, is what they have said and taken
+abbrev pub Foretell : List SourceSaid → List Bool → List Exchange → Type 0
+Foretell says takes [] = Unit {0}
+Foretell says takes (Tells begun ∷ exchanges) =
+    (was_taken begun.said ≡ first_taken takes) × Foretell says (without_first takes) exchanges
+Foretell says takes (Asks ask ∷ exchanges) =
+    (ask.said ≡ first_said says) × Foretell (without_first says) takes exchanges
+
+-- so it is with what a life is still to get
+abbrev pub IsForetold : Stage → List Exchange → Type 0
+IsForetold stage exchanges = Foretell stage.says stage.takes exchanges
+
+-- The exchanges are events that keep what was promised, and lead to this promise and this stage.
+pub record AreDone (m : Module) (config : Settings) (promise : Promise) (stage : Stage)
+    (exchanges : List Exchange) (promise' : Promise) (stage' : Stage) : Type 0 where
+  pub events : List Event
+  pub are : AreEvents exchanges events
+  pub kept : AreKept m config promise stage events
+  pub promised_is : promise' ≡ promised promise events
+  pub stage_is : stage' ≡ stage_after stage events
+
+-- Two parts are one.
+abbrev pub PartsJoin : Type 0
+PartsJoin =
+    (m : Module) (config : Settings) (promise between promise' : Promise)
+    (stage inside stage' : Stage) (first rest : List Exchange)
+    → AreDone m config promise stage first between inside
+    → AreDone m config between inside rest promise' stage'
+    → AreDone m config promise stage (first ++ rest) promise' stage'
+
+-- What is foretold of both is foretold of the first, and then of the second.
+abbrev pub PartsAreForetold : Type 0
+PartsAreForetold =
+    (m : Module) (config : Settings) (promise between : Promise) (stage inside : Stage)
+    (first rest : List Exchange) → IsForetold stage (first ++ rest)
+    → (AreDone m config promise stage first between inside → IsForetold inside rest)
+    × IsForetold stage first
+
+-- The end of a call comes behind its exchanges.
+abbrev pub EndsJoin : Type 0
+EndsJoin =
+    (m : Module) (config : Settings) (promise between : Promise) (stage inside : Stage)
+    (exchanges : List Exchange) (end : Event)
+    → (done : AreDone m config promise stage exchanges between inside)
+    → IsKept m config between inside end
+    → AreKept m config promise stage (done.events ++ end ∷ [])
+    × (promised promise (done.events ++ end ∷ []) ≡ after between end)
+    × (stage_after stage (done.events ++ end ∷ []) ≡ next_stage inside end)

@@ -1,0 +1,147 @@
+-- A worker in the middle of a slice, as events of a life: its steps, its lines and its questions.
+use Rattle.std.specs.Prelude.{◌≡◌, ℕ, suc, ◌+◌, ◌≤◌, ◌<◌, Bool, true, false, List, [], ◌∷◌, ◌++◌}
+use Rattle.std.specs.Prelude.{length, take, Option, Some, None, Ok, Err, slice_get}
+use Rattle.wasm_syntax.specs.declared.module.Module.{Module}
+use Rattle.wasi_abi.specs.declared.answer.Kind.{Kind}
+use Rattle.wasi_abi.specs.declared.answer.Answer.{Answer}
+use Rattle.wasi_abi.specs.rules.Answers.{Fits}
+use Rattle.wasi_abi.specs.rules.Configs.{Settings}
+use Rattle.wasi_calls_rules.specs.Hosts.{Line}
+use Rattle.process_rules.specs.Processes.{ProcessState, Guest, IsStart}
+use Rattle.process_rules.specs.Runs.{Kept, Given, Runs, Moves, Reaches, Wants, next_of}
+use Rattle.record_replay.specs.declared.fault.SourceFault.{SourceFault}
+use Rattle.worker_rules.specs.Lives.{Act, Slice, SourceSaid, Release, Told, Asked}
+use Rattle.worker_rules.specs.Lives.{OfSource, OfAnswer, OfOutlet}
+use Rattle.worker_rules.specs.Courses.{Stage, Phase, Open, NoneThere, Broken, next_stage}
+use Rattle.worker_rules.specs.Courses.{first_said, first_taken}
+use Rattle.worker_rules.specs.Promises.{Promise, after, IsTelling, IsInquiring, IsFitting}
+
+module _ (m : Module) (config : Settings) (guest : Guest) where
+  -- The module's process has taken the first so many of the kept answers. Its slice has come to
+  -- its step.
+  pub record IsInItsSlice (promise : Promise) (stage : Stage) (fuel held : ℕ) (p : ProcessState) :
+      Type 0 where
+    pub acts : List Act
+    pub slice : stage.acts ≡ Slice fuel ∷ acts
+    pub within : held ≤ length promise.kept
+    pub start : ProcessState
+    pub begins : IsStart m config guest start
+    pub runs : Runs guest start (take held promise.kept) p.steps p
+    pub begun : stage.step ≤ p.steps
+    pub in_time : p.steps ≤ stage.step + fuel
+
+  -- It has taken all of them, and so many of its lines were told.
+  pub record IsUnderWay (promise : Promise) (stage : Stage) (fuel told : ℕ) (p : ProcessState) :
+      Type 0 where
+    pub in_slice : IsInItsSlice promise stage fuel (length promise.kept) p
+    pub is_open : stage.phase ≡ Open
+    pub line : stage.line ≡ Some told
+    pub emitted : told ≤ length p.host.lines
+    pub heard : told ≤ promise.heard
+    pub passed : promise.passed ≤ told
+
+  -- Something from outside has failed the call, and the process is where it was.
+  pub record IsBroken (promise : Promise) (stage : Stage) (fuel held : ℕ) (p : ProcessState)
+      (phase : Phase) : Type 0 where
+    pub in_slice : IsInItsSlice promise stage fuel held p
+    pub is : stage.phase ≡ phase
+
+  -- ---- steps
+
+  -- Steps without answers go on in the slice.
+  abbrev pub StepsGoOn : Type 0
+  StepsGoOn =
+      (promise : Promise) (stage : Stage) (fuel told n : ℕ) (p q : ProcessState)
+      → IsUnderWay promise stage fuel told p → Runs guest p [] n q
+      → p.steps + n ≤ stage.step + fuel → IsUnderWay promise stage fuel told q
+
+  -- ---- lines
+
+  -- The next line that was not told is told, whether the outlet takes it or not.
+  abbrev pub LinesAreTold : Type 0
+  LinesAreTold =
+      (promise : Promise) (stage : Stage) (fuel told : ℕ) (p : ProcessState) (line : Line)
+      → IsUnderWay promise stage fuel told p → slice_get p.host.lines told ≡ Some line
+      → IsTelling m config promise stage (record { number = told + 1; line = line })
+      (first_taken stage.takes)
+
+  -- After one that was taken the slice goes on.
+  abbrev pub TakenLinesGoOn : Type 0
+  TakenLinesGoOn =
+      (promise : Promise) (stage : Stage) (fuel told : ℕ) (p : ProcessState) (line : Line)
+      → IsUnderWay promise stage fuel told p → slice_get p.host.lines told ≡ Some line
+      → (let r : Release = record { number = told + 1; line = line } in
+      IsUnderWay (after promise (Told r true)) (next_stage stage (Told r true)) fuel (told + 1) p)
+
+  -- One that was refused fails it.
+  abbrev pub RefusedLinesBreak : Type 0
+  RefusedLinesBreak =
+      (promise : Promise) (stage : Stage) (fuel told : ℕ) (p : ProcessState) (r : Release)
+      → IsUnderWay promise stage fuel told p
+      → IsBroken (after promise (Told r false)) (next_stage stage (Told r false)) fuel
+      (length promise.kept) p (Broken OfOutlet)
+
+  -- ---- questions
+
+  -- What a process asks for, all of whose lines were told, is a question, whatever is said to it.
+  pub record AsksFor (promise : Promise) (stage : Stage) (fuel : ℕ) (p : ProcessState)
+      (kind : Kind) : Type 0 where
+    pub way : IsUnderWay promise stage fuel (length p.host.lines) p
+    pub running : p.ended ≡ None
+    pub wants : next_of guest p None ≡ Wants kind
+    pub room : p.steps < stage.step + fuel
+
+  -- It keeps what was promised, whatever is said to it.
+  abbrev pub QuestionsAreAsked : Type 0
+  QuestionsAreAsked =
+      (promise : Promise) (stage : Stage) (fuel : ℕ) (p : ProcessState) (kind : Kind)
+      (fits : Bool) → AsksFor promise stage fuel p kind
+      → IsFitting p.host.limit kind (first_said stage.says) fits
+      → IsInquiring m config promise stage (record {
+        steps = p.steps;
+        kind = kind;
+        said = first_said stage.says;
+        fits = fits;
+      })
+
+  -- A question, and where it leads: to this promise and this stage.
+  abbrev pub promise_asked : Promise → ProcessState → Kind → SourceSaid → Bool → Promise
+  promise_asked promise p kind said fits = after promise (Asked p.steps kind said fits)
+
+  abbrev pub stage_asked : Stage → ProcessState → Kind → SourceSaid → Bool → Stage
+  stage_asked stage p kind said fits = next_stage stage (Asked p.steps kind said fits)
+
+  -- An answer that fits, and that the process takes, goes on.
+  abbrev pub AnswersGoOn : Type 0
+  AnswersGoOn =
+      (promise : Promise) (stage : Stage) (fuel : ℕ) (p q : ProcessState) (kind : Kind)
+      (a : Answer) → AsksFor promise stage fuel p kind → Moves guest p (Some a) q
+      → IsUnderWay (promise_asked promise p kind (Ok (Some a)) true)
+      (stage_asked stage p kind (Ok (Some a)) true) fuel (length p.host.lines) q
+
+  -- One that fits, and that the process has not taken yet, is kept all the same.
+  abbrev pub AnswersAreKept : Type 0
+  AnswersAreKept =
+      (promise : Promise) (stage : Stage) (fuel : ℕ) (p : ProcessState) (kind : Kind)
+      (a : Answer) → AsksFor promise stage fuel p kind
+      → IsBroken (promise_asked promise p kind (Ok (Some a)) true)
+      (stage_asked stage p kind (Ok (Some a)) true) fuel (length promise.kept) p Open
+
+  -- After any other the process is where it was: one that doesn't fit, none, or a fault.
+  pub record OthersBreak (promise : Promise) (stage : Stage) (fuel : ℕ) (p : ProcessState)
+      (kind : Kind) : Type 0 where
+    pub misfit : (a : Answer)
+        → IsBroken (promise_asked promise p kind (Ok (Some a)) false)
+        (stage_asked stage p kind (Ok (Some a)) false) fuel (length promise.kept) p
+        (Broken OfAnswer)
+    pub none_there : (fits : Bool) → IsBroken (promise_asked promise p kind (Ok None) fits)
+        (stage_asked stage p kind (Ok None) fits) fuel (length promise.kept) p
+        (NoneThere p.steps)
+    pub fault : (e : SourceFault) (fits : Bool)
+        → IsBroken (promise_asked promise p kind (Err e) fits)
+        (stage_asked stage p kind (Err e) fits) fuel (length promise.kept) p (Broken OfSource)
+
+  abbrev pub OtherAnswersBreak : Type 0
+  OtherAnswersBreak =
+      (promise : Promise) (stage : Stage) (fuel : ℕ) (p : ProcessState) (kind : Kind)
+      → AsksFor promise stage fuel p kind → OthersBreak promise stage fuel p kind
