@@ -169,6 +169,7 @@ IsSmallEnding None = Unit {0}
 IsSmallEnding (Some (Exited code)) = code < 2 ^ 32
 IsSmallEnding (Some (Trapped why)) = Unit {0}
 
+-- its configuration is typed and settled, and where it has exited, its code has 32 bits
 pub record IsTypedProcess (c : Context) (program : Program) (p : ProcessState) : Type 0 where
   pub typed : IsTyped c program p.configuration
   pub settled : IsSettled program p.configuration
