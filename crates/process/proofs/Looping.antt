@@ -106,6 +106,7 @@ pub record IsOn (first : MachineValue) (first_held : HeldHost) (fuel : ℕ) (mac
   pub holds : HoldsMemory machine
   pub few : HasFewLines held
   pub released : held.released ≡ first_held.released
+  pub guest : machine.guest ≡ first.guest
   pub none_waits : held.host.lines ≡ []
   pub runs : IsRunning machine held
   pub within : steps ≤ fuel
@@ -119,6 +120,7 @@ begins machine held fuel holds few none_waits runs = record {
   holds = holds;
   few = few;
   released = refl;
+  guest = refl;
   none_waits = none_waits;
   runs = runs;
   within = omega arith;
@@ -194,8 +196,8 @@ module _ (first : MachineValue) (first_held : HeldHost) (fuel : ℕ) (mid : Mach
         subst P goes_on (stretches guest p s r).comes
 
     pub on_again : HoldsMemory new → HasFewLines held → held.released ≡ mid_held.released
-        → IsOn first first_held fuel new held (steps + next.steps)
-    on_again holds few released =
+        → new.guest ≡ mid.guest → IsOn first first_held fuel new held (steps + next.steps)
+    on_again holds few released same =
         let r = is_on.runs in
         let come = stretches r.guest r.process r.shows r.running in
         let more = some_more r.guest r.process r.shows r.running in
@@ -205,6 +207,7 @@ module _ (first : MachineValue) (first_held : HeldHost) (fuel : ℕ) (mid : Mach
           holds = holds;
           few = few;
           released = released ∙ is_on.released;
+          guest = same ∙ is_on.guest;
           none_waits = more.0.none_waits;
           runs = record {
             guest = r.guest;

@@ -12,7 +12,6 @@ use Rattle.wasi_abi.specs.declared.answer.Answer.{Answer}
 use Rattle.wasi_abi.specs.declared.call.Call.{Call}
 use Rattle.wasi_abi.specs.declared.call.Call.TheVariants as call
 use Rattle.wasi_abi.specs.declared.errno.Errno.{Errno}
-use Rattle.wasi_abi.specs.declared.errno.Errno.TheVariants as errno
 use Rattle.wasi_abi.specs.rules.Calls.{parameters_of, call_type_of}
 use Rattle.wasi_abi.specs.rules.Numbers.{errno_number}
 use Rattle.wasi_calls_rules.specs.Hosts.{Host}
@@ -32,6 +31,7 @@ use Rattle.process_rules.specs.Runs.{Next, On, Over, given_by, after_row, after_
 use Rattle.process_rules.specs.Runs.{next_of, stepped, LeadsTo}
 use Rattle.process_rules.specs.Behind.{Syncs}
 use Rattle.process_rules.proofs.Quiet.{open_still}
+use Rattle.process_rules.proofs.ReachedTyped.{errno_small}
 use Rattle.process.specs.declared.stop.ProcessEnd.{ProcessEnd}
 use Rattle.process.specs.rules.Values.{ending_of}
 use Rattle.process.specs.Parts.{IsAtCall}
@@ -39,10 +39,6 @@ use Rattle.process.specs.rules.Stops.{EndsNot}
 use Rattle.process.specs.Callings.{LeadsToProcess, EndsAt, HasCalled, error_number}
 
 -- ---- what is given
-
-errno_small : (e : Errno) → errno_number e < 2 ^ 32
-errno_small errno.Badf = omega arith
-errno_small _ = omega arith
 
 pub number_small : (error : Option Errno) → error_number error < 2 ^ 32
 number_small None = omega arith

@@ -3,6 +3,7 @@ use Rattle.std.proofs.Common.{◌≡◌, ℕ, Bool, true, false, cond, List, [],
 use Rattle.std.proofs.Common.{refl, sym, ap, ◌∙◌, subst}
 use Rattle.std.specs.Prelude.{map, reverse, IsSome}
 use Rattle.std.specs.List.{AllByRecursion, find}
+use Rattle.std.specs.Option.{option_map}
 use Rattle.std.specs.Str.{bytes_eq}
 use Rattle.std.proofs.lemmas.Slice.Eq.{bytes_eq-Decides}
 use Rattle.std.proofs.lemmas.List.{reverse-reverse}
@@ -18,11 +19,13 @@ use Rattle.wasm_syntax_rules.proofs.Soundness.Values.{reverse_are}
 use Rattle.machine_slots.proofs.Families.{map-reverse}
 use Rattle.wasi_abi.specs.declared.call.Call.{Call}
 use Rattle.wasi_abi.specs.rules.Calls.{module_name, all_calls, name_of, parameters_of, call_type_of}
+use Rattle.wasi_abi.proofs.CallLemmas.{name_of-injective as one_name}
 use Rattle.wasi_calls.specs.rules.Calls.{AreArguments}
 use Rattle.machine.specs.rules.Offers.{offered_call, offer, imported_call}
 use Rattle.machine.specs.rules.Offers.{AreImportedCalls as AreOffered}
 use Rattle.machine.proofs.InstanceLemmas.Offered.{has_call}
 use Rattle.process_rules.specs.Processes.{AreCalls}
+use Rattle.process_rules.specs.laws.Laws.{OffersCalls}
 use Rattle.process_rules.proofs.OneStart.{calls_once}
 
 -- ---- what is offered
@@ -59,6 +62,18 @@ offered_as : (from name : List ℕ) (c : Call) → offered_call from name ≡ So
     → IsOfferedAs from name c
 unfolding offered_call
 offered_as from name c e = of_module from name c (bytes_eq from module_name) refl e
+
+-- what is offered under the name of a call is that call, and has its type
+pub offers_calls : OffersCalls offer
+unfolding offer
+offers_calls c kind e = by_call (offered_call module_name (name_of c)) refl e where
+  by_call : (o : Option Call) → offered_call module_name (name_of c) ≡ o
+      → option_map call_type_of o ≡ Some kind → kind ≡ call_type_of c
+  by_call None t e = absurd (cc)
+  by_call (Some d) t e =
+      let same : c ≡ d = one_name c d (offered_as module_name (name_of c) d t).named in
+      let there : call_type_of d ≡ kind = cc in
+      sym there ∙ ap call_type_of (sym same)
 
 -- ---- the calls of a module
 

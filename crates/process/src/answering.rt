@@ -54,6 +54,7 @@ pub fn answer_call(
     ensures holds { HoldsMemory machine.new }
     ensures few { HasFewLines host.new }
     ensures released { host.new.released ≡ host.old.released }
+    ensures guest { machine.new.guest ≡ machine.old.guest }
     ensures answers { AnswersCall machine.old host.old answer.now result machine.new host.new }
 {
     let Some(asked) = machine.waits() else {

@@ -148,6 +148,7 @@ pub fn make(
     ensures holds { HoldsMemory machine.new }
     ensures few { HasFewLines host.new }
     ensures released { host.new.released ≡ host.old.released }
+    ensures guest { machine.new.guest ≡ machine.old.guest }
     ensures calls { MakesCall machine.old host.old call arguments.now
         (option_copied answer.entry) result machine.new host.new }
 {

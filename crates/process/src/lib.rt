@@ -11,6 +11,7 @@
 //!   then shows (`advances`).
 //! - `give` takes an answer only where that is wanted and no line waits (`gives`). It makes the
 //!   waiting call with it, as one step, and runs nothing else. After an error nothing has changed.
+//! - `advance` and `give` keep the machine's module (`guest`).
 //! - `released` takes the first lines off that wait, and changes nothing else.
 //! - `steps`, `answers`, `requests`, `lines`, `waiting`, `memory`, `machine`, `host` and `ended`
 //!   say what it holds. Steps are below 2^63, and lines below 2^63 - 2, unfinished ones counted.

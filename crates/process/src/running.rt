@@ -49,6 +49,7 @@ impl Process {
     pub fn advance(&mut self, fuel: u64) -> Result<Stop, ProcessFault>
         ensures advances { AdvancesProcess self.old fuel result self.new }
         ensures released { self.new.host.released ≡ self.old.host.released }
+        ensures guest { self.new.machine.guest ≡ self.old.machine.guest }
     {
         if !self.host.waiting_lines().is_empty() {
             return Ok(Stop::Owes);
@@ -69,6 +70,7 @@ impl Process {
     pub fn give(&mut self, answer: Answer) -> Result<(), ProcessFault>
         ensures gives { GivesAnswer self.old answer result self.new }
         ensures released { self.new.host.released ≡ self.old.host.released }
+        ensures guest { self.new.machine.guest ≡ self.old.machine.guest }
     {
         if !self.host.waiting_lines().is_empty() || self.ended.is_some() {
             return Err(ProcessFault::WrongAnswer);

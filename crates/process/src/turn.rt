@@ -110,6 +110,7 @@ fn step(
     ensures holds { HoldsMemory machine.new }
     ensures few { HasFewLines host.new }
     ensures released { host.new.released ≡ host.old.released }
+    ensures guest { machine.new.guest ≡ machine.old.guest }
     ensures steps { StepsAt machine.old host.old call arguments.now result machine.new host.new }
 {
     let made = make(alloc, machine, host, call, arguments, None);
@@ -125,6 +126,7 @@ fn turn(alloc: Global, machine: &mut Machine, host: &mut Host, fuel: u64) -> Str
     ensures holds { HoldsMemory machine.new }
     ensures few { HasFewLines host.new }
     ensures released { host.new.released ≡ host.old.released }
+    ensures guest { machine.new.guest ≡ machine.old.guest }
     ensures stretches { Stretches machine.old host.old fuel result machine.new host.new }
 {
     let Paused { why, left } = machine.run(fuel);
@@ -158,6 +160,7 @@ pub fn take_steps(alloc: Global, machine: &mut Machine, host: &mut Host, fuel: u
     ensures holds { HoldsMemory machine.new }
     ensures few { HasFewLines host.new }
     ensures released { host.new.released ≡ host.old.released }
+    ensures guest { machine.new.guest ≡ machine.old.guest }
     ensures stretches { Stretches machine.old host.old fuel (record {
       steps = result.steps;
       ended = result.ended;

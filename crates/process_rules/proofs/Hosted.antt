@@ -21,10 +21,12 @@ use Rattle.wasi_calls_rules.specs.Lines.{lines_ended}
 use Rattle.wasi_calls_rules.specs.Rows.{row}
 use Rattle.wasi_calls_rules.specs.declared.limits.TheConstants.{TEXT_BYTES}
 use Rattle.wasi_calls_rules.specs.laws.Laws.{IsOfBytes, IsConfiguredAs, MakesOneNodeAtMost}
+use Rattle.wasi_calls_rules.specs.laws.Laws.{HasShortInput}
 use Rattle.wasi_calls_rules.proofs.KeepsMemory.{rows_keep_bytes}
 use Rattle.wasi_calls_rules.proofs.Configured.{rows_keep_configurations}
 use Rattle.wasi_calls_rules.proofs.Configured.{rows_make_one_node_at_most}
 use Rattle.wasi_calls_rules.proofs.HostBytes.{rows_keep_hosts_of_bytes}
+use Rattle.wasi_calls_rules.proofs.ShortInput.{rows_keep_input_short}
 use Rattle.wasi_calls_rules.proofs.KeepsHosts.{rows_keep_hosts}
 use Rattle.wasi_calls_rules.proofs.KeptLines.{nothing_unfinished}
 use Rattle.wasi_calls_rules.proofs.FirstHosts.{first_is_host}
@@ -33,7 +35,7 @@ use Rattle.process_rules.specs.Runs.{Next, On, Over, Wants, Nowhere, after_row, 
 use Rattle.process_rules.specs.Runs.{after_rule}
 use Rattle.process_rules.specs.Runs.{next_of, stepped, LeadsTo, Moves, Kept, Runs, none, step, take}
 use Rattle.process_rules.specs.laws.Laws.{ReachedAreConfigured, NodesAreFew}
-use Rattle.process_rules.specs.laws.Laws.{ReachedHaveHosts}
+use Rattle.process_rules.specs.laws.Laws.{ReachedInputIsShort, ReachedHaveHosts}
 use Rattle.process_rules.proofs.MemoryKept.{GoesToBytes, rule_bytes, settled_store}
 use Rattle.process_rules.proofs.MemoryKept.{begins_with_bytes}
 
@@ -42,11 +44,13 @@ use Rattle.process_rules.proofs.MemoryKept.{begins_with_bytes}
 record Follows (h after : Host) : Type 0 where
   configured : IsConfiguredAs h after
   nodes : MakesOneNodeAtMost h after
+  input : HasShortInput h → HasShortInput after
 
 same_host : (h : Host) → Follows h h
 same_host h = record {
   configured = record { room = refl; limit = refl; arguments = refl; environment = refl };
   nodes = record { least = omega arith; most = omega arith };
+  input = λ short. short;
 }
 
 abbrev FollowsTo : Host → Next → Type 0
@@ -73,6 +77,8 @@ call_follows (Some c) arguments given before h waits =
     (λ done e. record {
       configured = rows_keep_configurations c numbers given before.store.memory h done e;
       nodes = rows_make_one_node_at_most c numbers given before.store.memory h done e;
+      input = λ short.
+          rows_keep_input_short c numbers given before.store.memory h done short e;
     })
 
 rule_follows : (guest : Guest) (outcome : Outcome) (given : Option Answer) (before : Configuration)
@@ -92,6 +98,7 @@ ended_follows g h f = record {
     environment = f.configured.environment;
   };
   nodes = record { least = f.nodes.least; most = f.nodes.most };
+  input = f.input;
 }
 
 closed_follows : (thread : Thread) (later : List ℕ) (g : Host) (p : ProcessState) → Follows g p.host
@@ -150,8 +157,17 @@ runs_nodes guest p q kept n (take {p = p'} {q = next} {a = a} {kept = kept'} {n 
     let others = runs_nodes guest next q kept' m rest in
     omega (arith, one, others)
 
+runs_input : (guest : Guest) (p q : ProcessState) (kept : List Kept) (n : ℕ) → Runs guest p kept n q
+    → HasShortInput p.host → HasShortInput q.host
+runs_input guest p q kept n none short = short
+runs_input guest p q kept n (step {p = p'} {q = next} {kept = kept'} {n = m} moves rest) short =
+    runs_input guest next q kept' m rest ((move_follows guest p' next None moves).input short)
+runs_input guest p q kept n (take {p = p'} {q = next} {a = a} {kept = kept'} {n = m} moves rest)
+    short =
+    runs_input guest next q kept' m rest ((move_follows guest p' next (Some a) moves).input short)
+
 -- the process before its first step
-abbrev beginning : (c : Configuration) → Settings → ProcessState
+abbrev pub beginning : (c : Configuration) → Settings → ProcessState
 beginning c config = record {
   configuration = c;
   host = host_of config;
@@ -192,12 +208,19 @@ nodes_are_few m config kept n p r =
     let others = runs_nodes r.guest r.start p kept n r.runs in
     omega (arith, first, others)
 
+pub reached_input_is_short : ReachedInputIsShort
+reached_input_is_short m config kept n p r =
+    let first = (start_follows m config r.guest r.start r.begins).input (omega arith) in
+    let short = runs_input r.guest r.start p kept n r.runs first in
+    let limit : p.host.limit ≡ TEXT_BYTES = (reached_are_configured m config kept n p r).limit in
+    omega (arith, short, limit)
+
 -- ---- hosts and bytes
 
-record Holds (memory : List ℕ) (h : Host) : Type 0 where
-  memory_bytes : AreBytes memory
-  of_bytes : IsOfBytes h
-  host : IsHost h
+pub record Holds (memory : List ℕ) (h : Host) : Type 0 where
+  pub memory_bytes : AreBytes memory
+  pub of_bytes : IsOfBytes h
+  pub host : IsHost h
 
 abbrev HoldsIn : Next → Type 0
 HoldsIn (On c h) = Holds c.store.memory h
@@ -261,7 +284,7 @@ ended_holds memory h k = record {
   };
 }
 
-abbrev ProcessHolds : ProcessState → Type 0
+abbrev pub ProcessHolds : ProcessState → Type 0
 ProcessHolds p = Holds p.configuration.store.memory p.host
 
 closed_holds : (thread : Thread) (later : List ℕ) (p : ProcessState) → ProcessHolds p
@@ -285,8 +308,8 @@ leads_hold guest (Over why c h) given p q k to =
 leads_hold guest (Wants kind) given p q k to = absurd to
 leads_hold guest Nowhere given p q k to = absurd to
 
-move_holds : (guest : Guest) (p q : ProcessState) (given : Option Answer) → Moves guest p given q
-    → ProcessHolds p → ProcessHolds q
+pub move_holds : (guest : Guest) (p q : ProcessState) (given : Option Answer)
+    → Moves guest p given q → ProcessHolds p → ProcessHolds q
 move_holds guest p q given moves k =
     leads_hold guest (next_of guest p given) given p q
     (rule_holds guest (rule guest.program p.configuration) given p.configuration p.host
@@ -300,7 +323,7 @@ runs_hold guest p q kept n (step {p = p'} {q = next} {kept = kept'} {n = m} move
 runs_hold guest p q kept n (take {p = p'} {q = next} {a = a} {kept = kept'} {n = m} moves rest) k =
     runs_hold guest next q kept' m rest (move_holds guest p' next (Some a) moves k)
 
-start_holds : (m : Module) (config : Settings) (guest : Guest) (p : ProcessState) → IsValid m
+pub start_holds : (m : Module) (config : Settings) (guest : Guest) (p : ProcessState) → IsValid m
     → IsOfBytes (host_of config) → IsStart m config guest p → ProcessHolds p
 start_holds m config guest p valid bytes start =
     subst ProcessHolds (sym start.is)

@@ -9,3 +9,5 @@ pub mod EchoValid
 pub mod EchoHolds
 pub mod MemoryKept
 pub mod Hosted
+pub mod Counted
+pub mod ReachedTyped

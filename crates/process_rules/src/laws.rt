@@ -4,7 +4,9 @@ ghost use Rattle.process_rules.specs.laws.Laws.{OneProcess, OneProcessRun, RunsJ
 ghost use Rattle.process_rules.specs.laws.Laws.{RunsEmit, QuietRunsJoin, QuietRunsAreRuns};
 ghost use Rattle.process_rules.specs.laws.Laws.{RulesAreQuiet, LastRuleEnds, TrapEnds};
 ghost use Rattle.process_rules.specs.laws.Laws.{ReachedAreConfigured, NodesAreFew};
-ghost use Rattle.process_rules.specs.laws.Laws.{ReachedHaveHosts};
+ghost use Rattle.process_rules.specs.laws.Laws.{ReachedInputIsShort, ReachedHaveHosts};
+ghost use Rattle.process_rules.specs.laws.Laws.{ReachedAreCounted, ReachedAreClosed};
+ghost use Rattle.process_rules.specs.laws.Laws.{ReachedAreTyped};
 ghost use Rattle.wasi_abi.specs.rules.Configs.{Settings};
 ghost use Rattle.process_rules.specs.laws.Examples.{HelloEnds, EchoEnds, IdleEnds, TrappingEnds};
 
@@ -51,10 +53,24 @@ pub fn trap_ends()
 {}
 
 /// A reached process is configured as at the beginning, and has few nodes: one a step at most,
-/// beside the root and the number that comes next.
+/// beside the root and the number that comes next. At most one request waits to be read.
 pub fn reached_hosts_are_bounded()
     ensures configured { ReachedAreConfigured }
     ensures few { NodesAreFew }
+    ensures input { ReachedInputIsShort }
+{}
+
+/// A reached process has counted its steps and its answers. It has ended exactly where its program
+/// has come to its end, and has then no unfinished line.
+pub fn reached_processes_are_counted()
+    ensures counted { ReachedAreCounted }
+    ensures closed { ReachedAreClosed }
+{}
+
+/// What a valid module reaches that can be linked is typed and settled, and exits with a code of 32
+/// bits.
+pub fn reached_processes_are_typed()
+    ensures { ReachedAreTyped }
 {}
 
 /// What a valid module reaches has a host, where its arguments and environment are bytes.

@@ -23,3 +23,6 @@ mod Room
 mod Texts
 mod Spelled
 mod WordLemmas
+mod Outermost
+mod ShownBounds
+pub mod ReachedWellTyped

@@ -8,6 +8,7 @@ ghost use Rattle.state_image.specs.laws.Refusals.{RefusesFiles, RefusesDescripto
 ghost use Rattle.state_image.specs.laws.WellTypedExamples.{HelloBeginsWellTyped};
 ghost use Rattle.state_image.specs.laws.Laws.{ImagesTellProcessesApart};
 ghost use Rattle.state_image.specs.laws.Laws.{ImagesHaveRoom, ImagesAreBytes, SavesWhatIsShown};
+ghost use Rattle.state_image.specs.laws.Laws.{ReachedIsWellTyped, SavedIsWellTyped};
 
 /// The image of a well-typed process is that of no other one.
 pub fn images_tell_processes_apart()
@@ -47,4 +48,11 @@ pub fn others_are_refused()
 /// What is saved of a process shows what the process shows.
 pub fn saves_what_is_shown()
     ensures { SavesWhatIsShown }
+{}
+
+/// Every process that an accepted module reaches is well typed, and so is what is saved of the
+/// code's process that shows it.
+pub fn reached_processes_are_well_typed()
+    ensures reached { ReachedIsWellTyped }
+    ensures saved { SavedIsWellTyped }
 {}

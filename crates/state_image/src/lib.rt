@@ -22,6 +22,9 @@
 //!   of memory and an empty file system, has 65,811 bytes.
 //! - `laws::images_on_examples`: the whole image of a small process, byte by byte, and phases and
 //!   codes of others.
+//! - `laws::reached_processes_are_well_typed`: every process that an accepted module reaches is
+//!   well typed, and so is what is saved of the code's process that shows it. So their images are
+//!   accepted ones, and no two of them have one image.
 //! - `laws::hello_begins_well_typed`: the process that `hello` begins as is well typed, under any
 //!   configuration with a page.
 //! - `laws::others_are_refused`: what no well-typed process has: counts, streams, memories, files

@@ -38,7 +38,7 @@ configured : (m : Bytes) (h after : Host) → Becomes m h after → IsConfigured
 configured m h _ stays = alike h h refl refl refl refl
 configured m h _ (sees_time n small) = alike h _ refl refl refl refl
 configured m h _ (leaves_unread n) = alike h _ refl refl refl refl
-configured m h _ (takes_text n text k) = alike h _ refl refl refl refl
+configured m h _ (takes_text n text k short) = alike h _ refl refl refl refl
 configured m h _ ends_input = alike h _ refl refl refl refl
 configured m h _ (closes fd d o other) = alike h _ refl refl refl refl
 configured m h _ (sets_flags fd flags d o few) = alike h _ refl refl refl refl
@@ -95,7 +95,7 @@ nodes_made : (m : Bytes) (h after : Host) → Becomes m h after → MakesOneNode
 nodes_made m h _ stays = no_node h h refl
 nodes_made m h _ (sees_time n small) = no_node h _ refl
 nodes_made m h _ (leaves_unread n) = no_node h _ refl
-nodes_made m h _ (takes_text n text k) = no_node h _ refl
+nodes_made m h _ (takes_text n text k short) = no_node h _ refl
 nodes_made m h _ ends_input = no_node h _ refl
 nodes_made m h _ (closes fd d o other) = no_node h _ (swept_next d.target _ h.files)
 nodes_made m h _ (sets_flags fd flags d o few) = no_node h _ refl

@@ -232,7 +232,7 @@ of_bytes m h _ memory b (leaves_unread n) = record {
   arguments = b.arguments;
   environment = b.environment;
 }
-of_bytes m h _ memory b (takes_text n text k) = record {
+of_bytes m h _ memory b (takes_text n text k short) = record {
   files = b.files;
   unread = request_bytes n text k;
   arguments = b.arguments;

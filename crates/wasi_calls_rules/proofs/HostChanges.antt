@@ -92,7 +92,7 @@ pub data Becomes (m : Bytes) (h : Host) : Host → Type 0 where
   sees_time : (n : ℕ) → has_64_bits n ≡ true
       → Becomes m h (record h { last_monotonic = max n h.last_monotonic })
   leaves_unread : (n : ℕ) → Becomes m h (record h { unread = drop n h.unread })
-  takes_text : (n : ℕ) (text : Bytes) → has_bytes_alone text ≡ true
+  takes_text : (n : ℕ) (text : Bytes) → has_bytes_alone text ≡ true → length text ≤ h.limit
       → Becomes m h (record h { unread = drop n (text ++ newline ∷ []) })
   ends_input : Becomes m h (record h { input_ended = true })
   closes : (fd : ℕ) (d : Descriptor) → IsOpen h fd d → (fd == 3) ≡ false

@@ -385,7 +385,7 @@ host_after m h _ memory is stays = is
 host_after m h _ memory is (sees_time n small) = time_stands h n is small
 host_after m h _ memory is (leaves_unread n) =
     unread_stands h (drop n h.unread) is (all_drop IsByte n h.unread is.unread)
-host_after m h _ memory is (takes_text n text k) =
+host_after m h _ memory is (takes_text n text k short) =
     unread_stands h _ is (request_bytes n text k)
 host_after m h _ memory is ends_input = ended_stands h is
 host_after m h _ memory is (closes fd d o other) =

@@ -3,6 +3,7 @@ pub mod Steps
 pub mod HostChanges
 pub mod RowChanges
 pub mod Configured
+pub mod ShortInput
 pub mod Times
 pub mod GivenNames
 pub mod HostBytes

@@ -340,23 +340,26 @@ module _ (m : Bytes) (h : Host) where
 
   -- ---- reads
 
-  abbrev IsTextOfBytes : Answer → Type 0
-  IsTextOfBytes (answer.Request text) = has_bytes_alone text ≡ true
-  IsTextOfBytes _ = Unit {0}
+  abbrev IsShortText : Answer → Type 0
+  IsShortText (answer.Request text) = (has_bytes_alone text ≡ true) × (length text ≤ h.limit)
+  IsShortText _ = Unit {0}
 
-  text_fits : (a : Answer) → does_fit h.limit kind.Request a ≡ true → IsTextOfBytes a
+  text_fits : (a : Answer) → does_fit h.limit kind.Request a ≡ true → IsShortText a
   text_fits (answer.Request text) e =
-      (both (has_bytes_alone text) (has_no_newline text)
-      (both (nat_le (length text) h.limit) (has_bytes_alone text && has_no_newline text) e).1).0
+      let all = both (nat_le (length text) h.limit) (has_bytes_alone text && has_no_newline text) e
+      in (
+        (both (has_bytes_alone text) (has_no_newline text) all.1).0,
+        leb-true (length text) h.limit all.0,
+      )
   text_fits answer.End e = tt
   text_fits (answer.Realtime n) e = tt
   text_fits (answer.Monotonic n) e = tt
   text_fits (answer.Random bytes) e = tt
 
-  input_taken_changes : (n : ℕ) (a : Answer) → IsTextOfBytes a
+  input_taken_changes : (n : ℕ) (a : Answer) → IsShortText a
       → HoldsAfter BecomesByRead (input_taken n a h)
   input_taken_changes n (answer.Request text) k =
-      done_with BecomesByRead (bytes_taken n (text ++ newline ∷ []) h) (takes_text n text k)
+      done_with BecomesByRead (bytes_taken n (text ++ newline ∷ []) h) (takes_text n text k.0 k.1)
   input_taken_changes n answer.End k = done_with BecomesByRead _ ends_input
   input_taken_changes n _ k = refused _ (Refuses Inval)
 
@@ -370,8 +373,8 @@ module _ (m : Bytes) (h : Host) where
       (either_way (has_bytes h.unread) _ _
       (done_with BecomesByRead (bytes_taken n h.unread h) (leaves_unread n))
       (either_way h.input_ended _ _ nothing_read
-      (step IsTextOfBytes (answered_by h kind.Request given) _
-      (answered IsTextOfBytes h kind.Request given (λ a is fits. text_fits a fits))
+      (step IsShortText (answered_by h kind.Request given) _
+      (answered IsShortText h kind.Request given (λ a is fits. text_fits a fits))
       (λ a k. input_taken_changes n a k))))
 
   target_read_changes : (t : Target) (fd : ℕ) (d : Descriptor) (n : ℕ) (given : Option Answer)

@@ -45,7 +45,7 @@ times_kept : (m : Bytes) (h after : Host) → Becomes m h after
 times_kept m h _ stays = same_time h.last_monotonic h.last_monotonic refl
 times_kept m h _ (sees_time n small) = later_time n h.last_monotonic
 times_kept m h _ (leaves_unread n) = same_time h.last_monotonic _ refl
-times_kept m h _ (takes_text n text k) = same_time h.last_monotonic _ refl
+times_kept m h _ (takes_text n text k short) = same_time h.last_monotonic _ refl
 times_kept m h _ ends_input = same_time h.last_monotonic _ refl
 times_kept m h _ (closes fd d o other) = same_time h.last_monotonic _ refl
 times_kept m h _ (sets_flags fd flags d o few) = same_time h.last_monotonic _ refl

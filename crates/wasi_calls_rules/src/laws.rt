@@ -28,7 +28,7 @@ ghost use Rattle.wasi_calls_rules.specs.laws.CallLimits.{CallLimitNumbers};
 ghost use Rattle.wasi_calls_rules.specs.laws.Laws.{RowsKeepMemory, RowsKeepBytes, RowsEmit};
 ghost use Rattle.wasi_calls_rules.specs.laws.Laws.{RowsKeepConfigurations, RowsKeepHostsOfBytes};
 ghost use Rattle.wasi_calls_rules.specs.laws.Laws.{FirstHostsAreHosts, RowsKeepHosts};
-ghost use Rattle.wasi_calls_rules.specs.laws.Laws.{RowsMakeOneNodeAtMost};
+ghost use Rattle.wasi_calls_rules.specs.laws.Laws.{RowsMakeOneNodeAtMost, RowsKeepInputShort};
 ghost use Rattle.wasi_calls_rules.specs.laws.Laws.{RowsKeepTimes, LastTimesAreTold};
 ghost use Rattle.wasi_calls_rules.specs.laws.Laws.{TestsTellWhatFits};
 ghost use Rattle.wasi_calls_rules.specs.laws.Laws.{FewRowsAsk, RowsAskOnce, ExitAloneEnds};
@@ -134,6 +134,11 @@ pub fn calls_emit_lines()
 /// A call that is done makes one node at most, and gives no number twice.
 pub fn calls_make_one_node_at_most()
     ensures { RowsMakeOneNodeAtMost }
+{}
+
+/// At most one request's text and its newline wait to be read. A call that is done leaves no more.
+pub fn calls_keep_input_short()
+    ensures { RowsKeepInputShort }
 {}
 
 /// A guest never sees a monotonic clock fall: it is told the last time that was seen, and no call

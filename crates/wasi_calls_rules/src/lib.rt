@@ -13,6 +13,8 @@
 //!   whatever its arguments are: files, room, descriptors, streams, times and unfinished lines.
 //! - `calls_keep_hosts_of_bytes`: whatever the host can copy into memory stays bytes.
 //! - `calls_make_one_node_at_most`: a call that is done makes one node at most.
+//! - `calls_keep_input_short`: at most one request's text and its newline wait to be read, and a
+//!   call that is done leaves no more.
 //! - `monotonic_clocks_never_fall`: a guest is told the last monotonic time that was seen, and no
 //!   call lowers that.
 //! - `calls_keep_configurations`: it leaves room, limit, arguments and environment as they were.

@@ -1,15 +1,24 @@
 -- Laws of what a process reaches.
-use Rattle.std.specs.Prelude.{◌≡◌, ℕ, suc, ◌+◌, ◌≤◌, List, [], ◌++◌, None}
+use Rattle.std.specs.Prelude.{◌≡◌, ℕ, suc, ◌+◌, ◌<◌, ◌≤◌, ◌^◌, List, [], ◌++◌, length, Option, Some}
+use Rattle.std.specs.Prelude.{None}
+use Rattle.wasm_syntax.specs.declared.types.FunctionType.{FunctionType}
 use Rattle.wasm_syntax.specs.declared.value.Trap.{Trap}
 use Rattle.wasm_syntax.specs.declared.module.Module.{Module}
-use Rattle.wasm_syntax_rules.specs.Validity.{IsValid}
-use Rattle.wasm_syntax_rules.specs.Configuration.{Configuration, Traps}
-use Rattle.wasm_syntax_rules.specs.Steps.{rule, stopped, IsEnded, Steps}
+use Rattle.wasm_syntax_rules.specs.Typing.{Context}
+use Rattle.wasm_syntax_rules.specs.Validity.{AreFunctionTypes, module_context, IsValid}
+use Rattle.wasm_syntax_rules.specs.Configuration.{Program, Configuration, Traps}
+use Rattle.wasm_syntax_rules.specs.Linking.{Offer, IsLinkable}
+use Rattle.wasm_syntax_rules.specs.Steps.{rule, stopped, IsSettled, IsEnded, Steps}
+use Rattle.wasm_syntax_rules.specs.Typed.{IsTyped, OffersNoEntry}
+use Rattle.wasi_abi.specs.declared.call.Call.{Call}
+use Rattle.wasi_abi.specs.rules.Calls.{module_name, name_of, call_type_of}
 use Rattle.wasi_abi.specs.rules.Configs.{Settings}
 use Rattle.wasi_abi.specs.rules.Answers.{AreBytes}
 use Rattle.wasi_calls_rules.specs.Hosts.{IsHost}
 use Rattle.wasi_calls_rules.specs.laws.Laws.{Emits, IsConfiguredAs, IsOfBytes}
-use Rattle.process_rules.specs.Processes.{ProcessState, Guest, Exited, Trapped, over, host_of}
+use Rattle.wasi_calls_rules.specs.declared.limits.TheConstants.{TEXT_BYTES}
+use Rattle.process_rules.specs.Processes.{Ending, ProcessState, Guest, Exited, Trapped, over}
+use Rattle.process_rules.specs.Processes.{host_of}
 use Rattle.process_rules.specs.Runs.{Kept, Moves, Runs, Reaches}
 use Rattle.process_rules.specs.Behind.{Syncs}
 use Rattle.process_rules.specs.Owing.{RunsQuietly}
@@ -97,6 +106,12 @@ ReachedAreConfigured =
     (m : Module) (config : Settings) (kept : List Kept) (n : ℕ) (p : ProcessState)
     → Reaches m config kept n p → IsConfiguredAs (host_of config) p.host
 
+-- At most one request's text and its newline wait to be read.
+abbrev pub ReachedInputIsShort : Type 0
+ReachedInputIsShort =
+    (m : Module) (config : Settings) (kept : List Kept) (n : ℕ) (p : ProcessState)
+    → Reaches m config kept n p → length p.host.unread ≤ TEXT_BYTES + 1
+
 -- Each step makes one node at most, beside the root and the number that comes next.
 abbrev pub NodesAreFew : Type 0
 NodesAreFew =
@@ -114,3 +129,59 @@ abbrev pub ReachedHaveHosts : Type 0
 ReachedHaveHosts =
     (m : Module) (config : Settings) (kept : List Kept) (n : ℕ) (p : ProcessState) → IsValid m
     → IsOfBytes (host_of config) → Reaches m config kept n p → HasHost p
+
+-- ---- counts and ends
+
+-- so many steps, and these answers; of these are the requests and the end of input
+pub record HasCounted (kept : List Kept) (n : ℕ) (p : ProcessState) : Type 0 where
+  pub steps : p.steps ≡ n
+  pub answers : p.answers ≡ length kept
+  pub few_answers : p.answers ≤ p.steps
+  pub few_requests : p.requests ≤ p.answers
+
+-- A reached process has counted its steps and its answers, one a step at most.
+abbrev pub ReachedAreCounted : Type 0
+ReachedAreCounted =
+    (m : Module) (config : Settings) (kept : List Kept) (n : ℕ) (p : ProcessState)
+    → Reaches m config kept n p → HasCounted kept n p
+
+-- one that runs has not come to its program's end; one that has ended has, and no unfinished line
+abbrev pub IsClosed : Option Ending → ProcessState → Type 0
+IsClosed None p = IsEnded p.configuration → ⊥
+IsClosed (Some why) p = IsEnded p.configuration × (p.host.first ≡ []) × (p.host.second ≡ [])
+
+-- A reached process has ended exactly where its program has come to its end.
+abbrev pub ReachedAreClosed : Type 0
+ReachedAreClosed =
+    (m : Module) (config : Settings) (kept : List Kept) (n : ℕ) (p : ProcessState)
+    → Reaches m config kept n p → IsClosed p.ended p
+
+-- ---- types
+
+-- what is offered under the name of a call has its type
+abbrev pub OffersCalls : Offer → Type 0
+OffersCalls offer = (c : Call) (kind : FunctionType) → offer module_name (name_of c) ≡ Some kind
+    → kind ≡ call_type_of c
+
+-- the code of an exit has 32 bits
+abbrev pub IsSmallEnding : Option Ending → Type 0
+IsSmallEnding None = Unit {0}
+IsSmallEnding (Some (Exited code)) = code < 2 ^ 32
+IsSmallEnding (Some (Trapped why)) = Unit {0}
+
+-- its configuration is typed and settled, and where it has exited, its code has 32 bits
+pub record IsTypedProcess (c : Context) (program : Program) (p : ProcessState) : Type 0 where
+  pub typed : IsTyped c program p.configuration
+  pub settled : IsSettled program p.configuration
+  pub ended : IsSmallEnding p.ended
+
+-- A process is typed and settled that a valid module reaches which can be linked under these pages,
+-- where its arguments and environment are bytes.
+abbrev pub ReachedAreTyped : Type 0
+ReachedAreTyped =
+    (offer : Offer) (m : Module) (config : Settings) (functions : List FunctionType)
+    (kept : List Kept) (n : ℕ) (p : ProcessState) → OffersNoEntry offer → OffersCalls offer
+    → config.pages ≤ 2 ^ 16 → IsValid m → IsLinkable offer config.pages m
+    → AreFunctionTypes m functions → IsOfBytes (host_of config)
+    → (reached : Reaches m config kept n p)
+    → IsTypedProcess (module_context m functions) reached.guest.program p

@@ -102,6 +102,16 @@ RowsMakeOneNodeAtMost = (c : Call) (arguments : List ℕ) (given : Option Answer
     (h : Host) (done : Done) → row c arguments given m h ≡ Ok done
     → MakesOneNodeAtMost h done.host
 
+-- at most one request's text and its newline weren't read yet
+abbrev pub HasShortInput : Host → Type 0
+HasShortInput h = length h.unread ≤ h.limit + 1
+
+-- a call that is done leaves no more
+abbrev pub RowsKeepInputShort : Type 0
+RowsKeepInputShort = (c : Call) (arguments : List ℕ) (given : Option Answer) (m : Bytes)
+    (h : Host) (done : Done) → HasShortInput h → row c arguments given m h ≡ Ok done
+    → HasShortInput done.host
+
 -- ---- times
 
 -- a call that is done never lowers the last monotonic time that was seen

@@ -34,6 +34,9 @@ overflow_add-steps c =
 pub returns-in-Some-clause-released : goal.returns-in-Some-clause-released
 returns-in-Some-clause-released c = c.turn-next.ensures.released ∙ c.loop-stop.invariant.released
 
+pub returns-in-Some-clause-guest : goal.returns-in-Some-clause-guest
+returns-in-Some-clause-guest c = c.turn-next.ensures.guest ∙ c.loop-stop.invariant.guest
+
 pub returns-in-Some-clause-stretches : goal.returns-in-Some-clause-stretches
 returns-in-Some-clause-stretches c =
     stops_now c.args.machine.now c.args.host.now c.args.fuel c.loop-stop.machine c.loop-stop.host
@@ -51,4 +54,4 @@ loop-stop-preserved c =
     on_again c.args.machine.now c.args.host.now c.args.fuel c.loop-stop.machine c.loop-stop.host
     c.loop-stop.steps c.loop-stop.invariant c.turn-next.new.machine c.turn-next.new.host
     c.turn-next.result c.turn-next.ensures.stretches c.in_default.is c.turn-next.ensures.holds
-    c.turn-next.ensures.few c.turn-next.ensures.released
+    c.turn-next.ensures.few c.turn-next.ensures.released c.turn-next.ensures.guest

@@ -1,4 +1,5 @@
 use Rattle.process_rules.proofs.Hosted.{reached_are_configured, nodes_are_few}
+use Rattle.process_rules.proofs.Hosted.{reached_input_is_short}
 use Rattle.process_rules.proofs.laws.reached_hosts_are_bounded.Goals as goal
 
 pub returns-clause-configured : goal.returns-clause-configured
@@ -6,3 +7,6 @@ returns-clause-configured c = reached_are_configured
 
 pub returns-clause-few : goal.returns-clause-few
 returns-clause-few c = nodes_are_few
+
+pub returns-clause-input : goal.returns-clause-input
+returns-clause-input c = reached_input_is_short

@@ -1,0 +1,226 @@
+-- What is reached counts its steps and its answers, and has ended where its program has.
+use Rattle.std.proofs.Common.{◌≡◌, ℕ, suc, ◌+◌, ◌≤◌, List, [], ◌∷◌, length, Option, Some, None}
+use Rattle.std.proofs.Common.{refl, sym, ap, ◌∙◌, subst, arith}
+use Rattle.std.specs.Prelude.{Ok, Err, reverse, map, slice_get}
+use Rattle.wasm_syntax.specs.declared.value.Value.{Value}
+use Rattle.wasm_syntax.specs.declared.module.Module.{Module}
+use Rattle.wasm_syntax_rules.specs.Types.{number_in}
+use Rattle.wasm_syntax_rules.specs.Configuration.{Configuration, Thread, Outcome, Goes, Traps, Asks}
+use Rattle.wasm_syntax_rules.specs.Configuration.{Stuck}
+use Rattle.wasm_syntax_rules.specs.Steps.{rule, stopped, IsEnded}
+use Rattle.wasi_abi.specs.declared.answer.Answer.{Answer}
+use Rattle.wasi_abi.specs.declared.answer.Answer.TheVariants as answer
+use Rattle.wasi_abi.specs.declared.call.Call.{Call}
+use Rattle.wasi_abi.specs.rules.Configs.{Settings}
+use Rattle.wasi_calls_rules.specs.Hosts.{Host}
+use Rattle.wasi_calls_rules.specs.Checks.{Refuses, Ends, Asks as Wishes, Ruling}
+use Rattle.wasi_calls_rules.specs.Rows.{row}
+use Rattle.process_rules.specs.Processes.{ProcessState, Guest, IsStart, closed_at}
+use Rattle.process_rules.specs.Runs.{Next, On, Over, Wants, Nowhere, after_row, after_call}
+use Rattle.process_rules.specs.Runs.{after_rule, next_of, taken, request_taken, stepped, LeadsTo}
+use Rattle.process_rules.specs.Runs.{Moves, Kept, Runs, none, step, take}
+use Rattle.process_rules.specs.laws.Laws.{ReachedAreCounted, IsClosed, ReachedAreClosed}
+use Rattle.process_rules.proofs.Growing.{move_counts, runs_count}
+use Rattle.process_rules.proofs.Hosted.{beginning}
+
+-- ---- where a process ends
+
+-- an end leaves no frame, and no call to come
+abbrev StopsIn : Next → Type 0
+StopsIn (On c h) = Unit {0}
+StopsIn (Over why c h) = IsEnded c
+StopsIn (Wants kind) = Unit {0}
+StopsIn Nowhere = Unit {0}
+
+stopped_ends : (c : Configuration) → IsEnded (stopped c)
+stopped_ends c = record { returned = refl; nothing_later = refl }
+
+row_stops : (c : Call) (r : Ruling) (before : Configuration) (h : Host) (waits : Thread)
+    → StopsIn (after_row c r before h waits)
+row_stops c (Ok done) before h waits = tt
+row_stops c (Err (Refuses e)) before h waits = tt
+row_stops c (Err (Ends code)) before h waits = stopped_ends before
+row_stops c (Err (Wishes kind)) before h waits = tt
+
+call_stops : (o : Option Call) (arguments : List Value) (given : Option Answer)
+    (before : Configuration) (h : Host) (waits : Thread)
+    → StopsIn (after_call o arguments given before h waits)
+call_stops None arguments given before h waits = tt
+call_stops (Some c) arguments given before h waits =
+    row_stops c (row c (reverse (map number_in arguments)) given before.store.memory h) before h
+    waits
+
+rule_stops : (guest : Guest) (outcome : Outcome) (given : Option Answer) (before : Configuration)
+    (h : Host) → StopsIn (after_rule guest outcome given before h)
+rule_stops guest (Goes next) given before h = tt
+rule_stops guest (Traps why) given before h = stopped_ends before
+rule_stops guest (Asks f arguments waits) given before h =
+    call_stops (slice_get guest.calls f) arguments given before h waits
+rule_stops guest Stuck given before h = tt
+
+abbrev IsClosedHere : ProcessState → Type 0
+IsClosedHere p = IsClosed p.ended p
+
+-- a process that runs, of this thread and with these calls to come
+runs_on : (p : ProcessState) → p.ended ≡ None → (IsEnded p.configuration → ⊥) → IsClosedHere p
+runs_on p running not_ended = subst (λ o. IsClosed o p) (sym running) not_ended
+
+closed_closes : (thread : Thread) (later : List ℕ) (p : ProcessState)
+    → p.configuration.thread ≡ thread → p.configuration.later ≡ later → p.ended ≡ None
+    → IsClosedHere (closed_at thread later p)
+closed_closes [] [] p t l running = (record { returned = t; nothing_later = l }, refl, refl)
+closed_closes [] (f ∷ later) p t l running =
+    runs_on p running (λ ends. let none = ends.nothing_later in cc)
+closed_closes (frame ∷ frames) [] p t l running =
+    runs_on p running (λ ends. let none = ends.returned in cc)
+closed_closes (frame ∷ frames) (f ∷ later) p t l running =
+    runs_on p running (λ ends. let none = ends.returned in cc)
+
+-- ---- one counted step
+
+record CountsOn (given : Option Answer) (p q : ProcessState) : Type 0 where
+  answers : q.answers ≡ p.answers + taken given
+  requests : q.requests ≡ p.requests + request_taken given
+  closed : IsClosedHere q
+
+closed_answers : (thread : Thread) (later : List ℕ) (p : ProcessState)
+    → (closed_at thread later p).answers ≡ p.answers
+closed_answers [] [] p = refl
+closed_answers [] (f ∷ later) p = refl
+closed_answers (frame ∷ frames) [] p = refl
+closed_answers (frame ∷ frames) (f ∷ later) p = refl
+
+closed_requests : (thread : Thread) (later : List ℕ) (p : ProcessState)
+    → (closed_at thread later p).requests ≡ p.requests
+closed_requests [] [] p = refl
+closed_requests [] (f ∷ later) p = refl
+closed_requests (frame ∷ frames) [] p = refl
+closed_requests (frame ∷ frames) (f ∷ later) p = refl
+
+leads_count : (guest : Guest) (next : Next) (given : Option Answer) (p q : ProcessState)
+    → StopsIn next → LeadsTo guest next given p q → CountsOn given p q
+leads_count guest (On c h) given p q stops to =
+    let after : ProcessState = stepped given to.0 h p in
+    subst (CountsOn given p) (sym to.2) (record {
+      answers = closed_answers to.0.thread to.0.later after;
+      requests = closed_requests to.0.thread to.0.later after;
+      closed = closed_closes to.0.thread to.0.later after refl refl refl;
+    })
+leads_count guest (Over why c h) given p q stops to =
+    subst (CountsOn given p) (sym to)
+    (record { answers = refl; requests = refl; closed = (stops, refl, refl) })
+leads_count guest (Wants kind) given p q stops to = absurd to
+leads_count guest Nowhere given p q stops to = absurd to
+
+move_counted : (guest : Guest) (p q : ProcessState) (given : Option Answer)
+    → Moves guest p given q → CountsOn given p q
+move_counted guest p q given moves =
+    leads_count guest (next_of guest p given) given p q
+    (rule_stops guest (rule guest.program p.configuration) given p.configuration p.host)
+    moves.leads
+
+one_request : (a : Answer) → request_taken (Some a) ≤ 1
+one_request (answer.Request text) = omega arith
+one_request answer.End = omega arith
+one_request (answer.Realtime n) = omega arith
+one_request (answer.Monotonic n) = omega arith
+one_request (answer.Random bytes) = omega arith
+
+-- ---- runs
+
+-- a process that has taken so many answers
+record HasTaken (k : ℕ) (p : ProcessState) : Type 0 where
+  answers : p.answers ≡ k
+  few_answers : p.answers ≤ p.steps
+  few_requests : p.requests ≤ p.answers
+  closed : IsClosedHere p
+
+none_taken : (guest : Guest) (k : ℕ) (p q : ProcessState) → Moves guest p None q → HasTaken k p
+    → HasTaken k q
+none_taken guest k p q moves t =
+    let on = move_counted guest p q None moves in
+    let counted = move_counts guest p q None moves in
+    record {
+      answers = omega (arith, on.answers, t.answers);
+      few_answers = omega (arith, on.answers, counted, t.few_answers);
+      few_requests = omega (arith, on.answers, on.requests, t.few_requests);
+      closed = on.closed;
+    }
+
+one_taken : (guest : Guest) (k : ℕ) (p q : ProcessState) (a : Answer) → Moves guest p (Some a) q
+    → HasTaken k p → HasTaken (k + 1) q
+one_taken guest k p q a moves t =
+    let on = move_counted guest p q (Some a) moves in
+    let counted = move_counts guest p q (Some a) moves in
+    let one = one_request a in
+    record {
+      answers = omega (arith, on.answers, t.answers);
+      few_answers = omega (arith, on.answers, counted, t.few_answers);
+      few_requests = omega (arith, on.answers, on.requests, t.few_requests, one);
+      closed = on.closed;
+    }
+
+runs_taken : (guest : Guest) (k : ℕ) (p q : ProcessState) (kept : List Kept) (n : ℕ)
+    → Runs guest p kept n q → HasTaken k p → HasTaken (k + length kept) q
+runs_taken guest k p q kept n none t =
+    let same : k ≡ k + 0 = omega arith in
+    subst (λ j. HasTaken j q) same t
+runs_taken guest k p q kept n (step {p = p'} {q = next} {kept = kept'} {n = n'} moves rest) t =
+    runs_taken guest k next q kept' n' rest (none_taken guest k p' next moves t)
+runs_taken guest k p q kept n
+    (take {p = p'} {q = next} {a = a} {kept = kept'} {n = n'} moves rest) t =
+    let whole : k + 1 + length kept' ≡ k + suc (length kept') = omega arith in
+    subst (λ j. HasTaken j q) whole
+    (runs_taken guest (k + 1) next q kept' n' rest (one_taken guest k p' next a moves t))
+
+-- ---- the beginning
+
+closed_taken : (thread : Thread) (later : List ℕ) (p : ProcessState)
+    → p.configuration.thread ≡ thread → p.configuration.later ≡ later → p.ended ≡ None
+    → p.answers ≡ 0 → p.requests ≡ 0 → HasTaken 0 (closed_at thread later p)
+closed_taken thread later p t l running answers requests =
+    let same = closed_answers thread later p in
+    let also = closed_requests thread later p in
+    record {
+      answers = omega (arith, same, answers);
+      few_answers = omega (arith, same, answers);
+      few_requests = omega (arith, same, also, requests);
+      closed = closed_closes thread later p t l running;
+    }
+
+start_taken : (m : Module) (config : Settings) (guest : Guest) (p : ProcessState)
+    → IsStart m config guest p → HasTaken 0 p
+start_taken m config guest p start =
+    subst (HasTaken 0) (sym start.is)
+    (closed_taken start.first.thread start.first.later (beginning start.first config) refl refl
+    refl refl refl)
+
+start_steps : (m : Module) (config : Settings) (guest : Guest) (p : ProcessState)
+    → IsStart m config guest p → p.steps ≡ 0
+start_steps m config guest p start =
+    ap (λ (z : ProcessState). z.steps) start.is
+    ∙ no_step start.first.thread start.first.later where
+      no_step : (thread : Thread) (later : List ℕ)
+          → (closed_at thread later (beginning start.first config)).steps ≡ 0
+      no_step [] [] = refl
+      no_step [] (x ∷ later) = refl
+      no_step (frame ∷ frames) [] = refl
+      no_step (frame ∷ frames) (x ∷ later) = refl
+
+pub reached_are_counted : ReachedAreCounted
+reached_are_counted m config kept n p r =
+    let first = start_steps m config r.guest r.start r.begins in
+    let counted = runs_count r.guest r.start p kept n r.runs in
+    let t = runs_taken r.guest 0 r.start p kept n r.runs
+    (start_taken m config r.guest r.start r.begins) in
+    record {
+      steps = omega (arith, first, counted);
+      answers = omega (arith, t.answers);
+      few_answers = t.few_answers;
+      few_requests = t.few_requests;
+    }
+
+pub reached_are_closed : ReachedAreClosed
+reached_are_closed m config kept n p r =
+    (runs_taken r.guest 0 r.start p kept n r.runs
+    (start_taken m config r.guest r.start r.begins)).closed

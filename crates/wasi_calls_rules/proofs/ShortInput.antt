@@ -1,0 +1,56 @@
+-- A call that is done leaves no more unread than one request's text and its newline.
+use Rattle.std.proofs.Common.{◌≡◌, ℕ, ◌+◌, ◌≤◌, [], ◌∷◌, ◌++◌, length, drop, Option, Some, None}
+use Rattle.std.proofs.Common.{refl, arith, length-append, length-drop}
+use Rattle.wasi_abi.specs.rules.Answers.{newline}
+use Rattle.file_tree.specs.rules.Files.{Path}
+use Rattle.wasi_calls_rules.specs.Hosts.{Host}
+use Rattle.wasi_calls_rules.specs.Checks.{Bytes}
+use Rattle.wasi_calls_rules.specs.Lines.{stream_written}
+use Rattle.wasi_calls_rules.specs.Entries.{renamed_over}
+use Rattle.wasi_calls_rules.specs.laws.Laws.{HasShortInput, RowsKeepInputShort}
+use Rattle.wasi_calls_rules.proofs.HostChanges.{Becomes, stays, sees_time, leaves_unread}
+use Rattle.wasi_calls_rules.proofs.HostChanges.{takes_text, ends_input, closes, sets_flags, seeks}
+use Rattle.wasi_calls_rules.proofs.HostChanges.{reads_file, writes_stream, rewrites, writes_file}
+use Rattle.wasi_calls_rules.proofs.HostChanges.{makes, opens_new, opens, loses, renames}
+use Rattle.wasi_calls_rules.proofs.RowChanges.{changes}
+use Rattle.wasi_calls_rules.proofs.KeptLines.{stream_either}
+
+-- a part of what was there
+rest_short : (n k : ℕ) (bytes : Bytes) → length bytes ≤ k → length (drop n bytes) ≤ k
+rest_short n k bytes short = let left = length-drop n bytes in omega (arith, left, short)
+
+text_short : (n k : ℕ) (text : Bytes) → length text ≤ k
+    → length (drop n (text ++ newline ∷ [])) ≤ k + 1
+text_short n k text short =
+    let whole : length (text ++ newline ∷ []) ≡ length text + 1 = length-append text (newline ∷ [])
+    in
+    rest_short n (k + 1) (text ++ newline ∷ []) (omega (arith, whole, short))
+
+renamed_short : (h : Host) (k : ℕ) (j : Option ℕ) (from to : Path) → HasShortInput h
+    → HasShortInput (renamed_over k j from to h)
+renamed_short h k None from to short = short
+renamed_short h k (Some j) from to short = short
+
+input_short : (m : Bytes) (h after : Host) → HasShortInput h → Becomes m h after
+    → HasShortInput after
+input_short m h _ is stays = is
+input_short m h _ is (sees_time n small) = is
+input_short m h _ is (leaves_unread n) = rest_short n (h.limit + 1) h.unread is
+input_short m h _ is (takes_text n text k short) = text_short n h.limit text short
+input_short m h _ is ends_input = is
+input_short m h _ is (closes fd d o other) = is
+input_short m h _ is (sets_flags fd flags d o few) = is
+input_short m h _ is (seeks fd offset d o small) = is
+input_short m h _ is (reads_file fd n k d o e) = is
+input_short m h _ is (writes_stream s bytes k) = stream_either HasShortInput h s bytes is is
+input_short m h _ is (rewrites k bytes r) = is
+input_short m h _ is (writes_file fd k offset d bytes o fits r) = is
+input_short m h _ is (makes p x) = is
+input_short m h _ is (opens_new p n flags base inheriting x free few) = is
+input_short m h _ is (opens k n flags base inheriting cut x few) = is
+input_short m h _ is (loses k x) = is
+input_short m h _ is (renames k j from to x) = renamed_short h k j from to is
+
+pub rows_keep_input_short : RowsKeepInputShort
+rows_keep_input_short c arguments given m h done is e =
+    input_short m h done.host is (changes c arguments given m h done e)
