@@ -1,18 +1,13 @@
-//! Cuts, stops and failures of disks in memory, and disks in files.
+//! Cuts, stops and failures of disks in memory.
 
-use sector_disk::{Disk, DiskFault, FaultDisk, FileDisk, MemDisk, Place, store_run, write_run};
+use sector_disk::{Disk, DiskFault, FaultDisk, MemDisk, Place, rewrite, store_run, write_run};
 use std::alloc::{AllocError, Global};
 use std::fmt::Display;
-use std::fs;
-use std::fs::{File, OpenFile, OpenOptions};
-use std::os::unix::fs::FileExt;
-use std::rt::Files;
-use std::test::Fail;
 
 /// How many bytes of 5, of 9 and of 3 a sector holds, one after another. Behind them are zeros.
-type Parts = (usize, usize, usize);
+pub(crate) type Parts = (usize, usize, usize);
 
-const ZEROS: Parts = (0, 0, 0);
+pub(crate) const ZEROS: Parts = (0, 0, 0);
 
 const OLD: Parts = (0, 0, 512);
 
@@ -40,7 +35,7 @@ fn is_made_of(bytes: &[u8], parts: &[(u8, usize)]) -> bool {
     is_all(rest, 0)
 }
 
-fn holds<D: Disk>(disk: &mut D, sector: u64, parts: Parts) -> Result<bool, DiskFault> {
+pub(crate) fn holds<D: Disk>(disk: &mut D, sector: u64, parts: Parts) -> Result<bool, DiskFault> {
     let mut bytes = [0; 512];
     disk.read(sector, &mut bytes)?;
     Ok(is_made_of(&bytes, &[(5, parts.0), (9, parts.1), (3, parts.2)]))
@@ -80,7 +75,7 @@ fn cut_leaves(
 }
 
 /// Writes to sector 1, each of which fills it with one byte.
-fn rewrite<D: Disk>(disk: &mut D, writes: &[u8]) -> Result<(), DiskFault> {
+fn write_each<D: Disk>(disk: &mut D, writes: &[u8]) -> Result<(), DiskFault> {
     for byte in writes {
         disk.write(1, &[*byte; 512])?;
     }
@@ -165,7 +160,7 @@ static CUTS: [Cut; 13] = [
 
 fn is_cut_so(alloc: Global, cut: &Cut) -> Result<bool, DiskFault> {
     let mut disk = settled(alloc)?;
-    rewrite(&mut disk, cut.writes)?;
+    write_each(&mut disk, cut.writes)?;
     cut_leaves(alloc, &disk, cut.tears, &[ZEROS, cut.left, ZEROS, ZEROS])
 }
 
@@ -499,72 +494,22 @@ fn a_run_is_settled_by_its_sync(rt: HostRuntime) -> Result<(), DiskFault> {
     Ok(())
 }
 
-/// Whether a new file of three sectors is made once, and takes what is written to it.
-fn is_made_once<F: OpenFile + FileExt + Drop, R: Files<File = F>>(
-    files: &R,
-    path: &str,
-) -> Result<bool, DiskFault> {
-    let mut disk: FileDisk<F> = FileDisk::create(files, path, 3)?;
-    Ok(FileDisk::create(files, path, 3).is_err() && is_written_so(&mut disk)?)
-}
-
-fn is_written_so<D: Disk>(disk: &mut D) -> Result<bool, DiskFault> {
-    let is_empty = holds(disk, 2, ZEROS)?;
-    disk.write(2, &[9; 512])?;
-    let is_outside = disk.write(3, &[9; 512]) == Err(DiskFault::Range);
-    disk.sync()?;
-    Ok(is_empty && is_outside)
-}
-
-/// Whether the file is opened again with what was written.
-fn is_kept<F: OpenFile + FileExt + Drop, R: Files<File = F>>(
-    files: &R,
-    path: &str,
-) -> Result<bool, DiskFault> {
-    let mut disk: FileDisk<F> = FileDisk::open(files, path)?;
-    Ok(is_read_so(&mut disk)?)
-}
-
-fn is_read_so<D: Disk>(disk: &mut D) -> Result<bool, DiskFault> {
-    Ok(
-        disk.sectors() == 3
-            && holds(disk, 1, ZEROS)?
-            && holds(disk, 2, (0, 512, 0))?
-            && holds(disk, 3, ZEROS) == Err(DiskFault::Range),
-    )
+/// Whether sectors that are written back, one of them after an unsynced write, stay as they are,
+/// with a write each and one sync.
+fn is_rewritten_so(alloc: Global) -> Result<bool, DiskFault> {
+    let mut below = MemDisk::new(alloc, 4, 5)?;
+    settle(&mut below)?;
+    below.write(2, &[9; 512])?;
+    let mut disk = FaultDisk::new(below, None, None);
+    rewrite(&mut disk)?;
+    let counts = disk.calls();
+    let image = [ZEROS, OLD, (0, 512, 0), ZEROS];
+    Ok(counts == (4, 4, 1) && cut_leaves(alloc, &disk.into_inner(), &[], &image)?)
 }
 
 #[test]
-fn a_file_keeps_sectors(rt: HostRuntime) -> Result<(), DiskFault> {
-    let path = "sector_disk_kept";
-    let _ = fs::remove_file(&rt, path);
-    assert!(rt; is_made_once(&rt, path)?);
-    assert!(rt; is_kept(&rt, path)?);
-    assert!(rt; fs::remove_file(&rt, path).is_ok());
-    assert!(rt; FileDisk::open(&rt, path).is_err());
-    Ok(())
-}
-
-/// Whether the second sector fails to be read where it is cut short while the file is open.
-fn fails_when_cut_short<F: OpenFile + FileExt + Drop, R: Files<File = F>>(
-    files: &R,
-    path: &str,
-) -> Result<bool, Fail> {
-    let mut disk: FileDisk<F> = FileDisk::create(files, path, 2)?;
-    let file = OpenOptions::new().write(true).open(files, path)?;
-    file.set_len(700)?;
-    Ok(holds(&mut disk, 1, ZEROS) == Err(DiskFault::Io) && holds(&mut disk, 0, ZEROS)?)
-}
-
-#[test]
-fn a_file_that_is_too_short_fails(rt: HostRuntime) -> Result<(), Fail> {
-    let path = "sector_disk_short";
-    let _ = fs::remove_file(&rt, path);
-    assert!(rt; fails_when_cut_short(&rt, path)?);
-    // Opened anew it has as many sectors as are whole.
-    let disk: FileDisk<File> = FileDisk::open(&rt, path)?;
-    assert_eq!(rt; disk.sectors(), 1);
-    fs::remove_file(&rt, path)?;
+fn a_disk_is_written_back(rt: HostRuntime) -> Result<(), DiskFault> {
+    assert!(rt; is_rewritten_so(rt.alloc())?);
     Ok(())
 }
 

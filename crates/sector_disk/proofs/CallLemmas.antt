@@ -8,7 +8,7 @@ use Rattle.std.proofs.lemmas.Result.{on_ok_weaker}
 use Rattle.sector_disk.specs.rules.Medium.{Medium, BeginsCalls, MakesCalls}
 use Rattle.sector_disk.specs.rules.Calls.{rising_writes}
 use Rattle.sector_disk.specs.declared.disk_call.DiskCall.{DiskCall}
-use Rattle.sector_disk.specs.declared.disk_call.DiskCall.TheVariants.{WriteOf, Sync}
+use Rattle.sector_disk.specs.declared.disk_call.DiskCall.TheVariants.{WriteOf}
 
 -- two lists with the same behind them
 onto : {a b : List DiskCall} (before : List DiskCall) → a ≡ b → a ++ before ≡ b ++ before

@@ -1,5 +1,5 @@
 -- Worked examples of runs of writes.
-use Rattle.std.proofs.Common.{◌≡◌, ℕ, zero, suc, ◌+◌, ◌<◌, ◌≤◌, List, [], ◌∷◌, ◌++◌, length}
+use Rattle.std.proofs.Common.{◌≡◌, ℕ, zero, suc, ◌+◌, ◌<◌, ◌≤◌, List, [], ◌∷◌, length}
 use Rattle.std.proofs.Common.{replicate, get_or, refl, sym, ap, arith}
 use Rattle.sector_disk.specs.rules.Image.{Image, sector_at, front_over, with_front}
 use Rattle.sector_disk.specs.laws.Examples.{three, with_both, eights_and_nines, RunExamples}

@@ -1,6 +1,8 @@
 mod ExampleLemmas
 mod LogSteps
 mod MemoryLemmas
+mod AnswerLemmas
+mod RewriteLemmas
 mod FrontLemmas
 pub mod CallLemmas
 pub mod Moments

@@ -6,6 +6,8 @@ pub mod File
 pub mod Image
 pub mod Medium
 pub mod Memory
+pub mod Open
 pub mod Pending
+pub mod Rewrite
 pub mod Run
 pub mod Trouble

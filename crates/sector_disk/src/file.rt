@@ -1,14 +1,18 @@
 // A disk in a file of the operating system.
-ghost use Rattle.std.specs.Prelude.{◌≡◌, ◌<◌, ◌≤◌, ◌^◌, ◌↔◌, [], IfOk, IfErr, IsErrOf};
+ghost use Rattle.std.specs.Prelude.{◌≡◌, ◌<◌, ◌≤◌, ◌^◌, ◌↔◌, [], IfOk, IsErrOf, IsTrue, OnOk};
 
-use crate::file_call::{FileCall, NO_BYTES};
-use crate::log::Log;
-use crate::{Disk, DiskFault, SECTOR_SIZE};
+use crate::file_call::{Failure, FileCall, NO_BYTES};
+use crate::file_log::FileLog;
+use crate::{Disk, DiskFault, LockFile, OpenCause, OpenFault, SECTOR_SIZE};
 use std::fs::{File, OpenFile, OpenOptions};
 use std::os::unix::fs::FileExt;
 use std::rt::Files;
 
-/// Sectors in a file, the first at its start. No call takes memory.
+/// Sectors in a file, the first at its start. No call takes memory. It holds the file's lock until
+/// it is dropped.
+///
+/// Once a write or a sync has failed it is given up: every later call answers `Io`, and the file
+/// isn't asked.
 ///
 /// That the file is a disk of the model is a premise, and no flag says so: what a contract says of
 /// it, it says of each image from which a disk of the model gives the answers that the file gave
@@ -17,79 +21,86 @@ use std::rt::Files;
 pub struct FileDisk<F> {
     file: F,
     count: u64,
-    /// Each call with its answer. Only clauses read it.
-    log: Log<FileCall, [u8; SECTOR_SIZE]>,
+    past: FileLog,
     ghost small: { count < 2 ^ 55 },
 }
 
-impl<F: OpenFile + FileExt> FileDisk<F> {
-    ghost use Rattle.sector_disk.specs.rules.File.{file_medium, answers_of};
+impl<F: OpenFile + FileExt + LockFile> FileDisk<F> {
+    ghost use Rattle.sector_disk.specs.rules.File.{file_medium, answers_of, file_of};
+    ghost use Rattle.sector_disk.specs.declared.open_fault.OpenFault.TheVariants.{Io};
+    ghost use Rattle.sector_disk.specs.declared.open_fault.OpenCause.TheVariants.{TooLarge};
 
-    /// Makes a file of so many sectors of zeros, and makes its entry in its folder durable. It
-    /// fails where there is such a path already, and from 2^54 sectors on. After another error a
-    /// file may be left behind.
+    /// Makes a file of so many sectors of zeros, locks it, and makes its entry in its folder
+    /// durable. It fails where there is such a path already, and from 2^54 sectors on. After
+    /// another error a file may be left behind.
     pub fn create<R: Files<File = F>>(
         files: &R,
         path: &str,
         sectors: u64,
-    ) -> Result<FileDisk<F>, DiskFault>
+    ) -> Result<FileDisk<F>, OpenFault>
     where
         F: Drop,
         ensures sectors { IfOk result (λ d. (file_medium d).sectors ≡ sectors) }
         ensures fresh { IfOk result (λ d. answers_of d ≡ []) }
-        ensures err { IfErr result (λ e. e ≡ DiskFault.Io) }
+        ensures locked { IfOk result (λ d. IsTrue (F.is_locked (file_of d))) }
+        ensures busy { IsErrOf result OpenFault.Busy → ((file : F) × IsTrue (F.is_refused file)) }
+        ensures large { 2 ^ 54 ≤ sectors → IsErrOf result (Io TooLarge) }
     {
         if sectors >= 1 << 54 {
-            return Err(DiskFault::Io);
+            return Err(OpenFault::Io(OpenCause::TooLarge));
         }
-        let Ok(file) = File::create_new(files, path) else {
-            return Err(DiskFault::Io);
-        };
-        if file.set_len(sectors * SECTOR_SIZE as u64).is_err() || file.sync_all().is_err() {
-            return Err(DiskFault::Io);
-        }
+        let file = File::create_new(files, path)?;
+        lock(&file)?;
+        file.set_len(sectors * SECTOR_SIZE as u64)?;
+        file.sync_all()?;
         sync_folder(files, path)?;
         Ok(FileDisk {
             file,
             count: sectors,
-            log: Log::new(),
+            past: FileLog::new(),
         })
     }
 
-    /// Opens a file. Bytes past its last whole sector are left alone.
-    pub fn open<R: Files<File = F>>(files: &R, path: &str) -> Result<FileDisk<F>, DiskFault>
+    /// Opens a file and locks it, before anything of it is read. Bytes past its last whole sector
+    /// are left alone.
+    pub fn open<R: Files<File = F>>(files: &R, path: &str) -> Result<FileDisk<F>, OpenFault>
     where
         F: Drop,
         ensures fresh { IfOk result (λ d. answers_of d ≡ []) }
-        ensures err { IfErr result (λ e. e ≡ DiskFault.Io) }
+        ensures locked { IfOk result (λ d. IsTrue (F.is_locked (file_of d))) }
+        ensures busy { IsErrOf result OpenFault.Busy → ((file : F) × IsTrue (F.is_refused file)) }
     {
-        let Ok(file) = OpenOptions::new().read(true).write(true).open(files, path) else {
-            return Err(DiskFault::Io);
-        };
-        let Ok(found) = file.metadata() else {
-            return Err(DiskFault::Io);
-        };
+        let file = OpenOptions::new().read(true).write(true).open(files, path)?;
+        lock(&file)?;
+        let found = file.metadata()?;
         Ok(FileDisk {
             file,
             count: found.len() / SECTOR_SIZE as u64,
-            log: Log::new(),
+            past: FileLog::new(),
         })
     }
 }
 
+/// Takes the lock of a file for this handle.
+fn lock<F: LockFile>(file: &F) -> Result<(), OpenFault>
+    ensures locked { OnOk result (IsTrue (F.is_locked file.now)) }
+    ensures busy { IsErrOf result OpenFault.Busy → IsTrue (F.is_refused file.now) }
+{
+    file.try_lock()?;
+    Ok(())
+}
+
 /// Makes the entry of this path in its folder durable.
-fn sync_folder<R: Files>(files: &R, path: &str) -> Result<(), DiskFault>
-    ensures { IfErr result (λ e. e ≡ DiskFault.Io) }
+fn sync_folder<R: Files>(files: &R, path: &str) -> Result<(), OpenFault>
+    ensures { IsErrOf result OpenFault.Busy → ⊥ }
 {
     let folder = match path.rsplit_once('/') {
         None => ".",
         Some(("", _)) => "/",
         Some((folder, _)) => folder,
     };
-    let Ok(folder) = File::open(files, folder) else {
-        return Err(DiskFault::Io);
-    };
-    folder.sync_all().map_err(|_| DiskFault::Io)
+    File::open(files, folder)?.sync_all()?;
+    Ok(())
 }
 
 impl<F: OpenFile + FileExt> Disk for FileDisk<F> {
@@ -112,13 +123,17 @@ impl<F: OpenFile + FileExt> Disk for FileDisk<F> {
         if sector >= self.count {
             return Err(DiskFault::Range);
         }
+        if self.past.is_given_up() {
+            self.past = self.past.and(FileCall::Failed(Failure::Refused), &NO_BYTES);
+            return Err(DiskFault::Io);
+        }
         match self.file.read_exact_at(into, sector * SECTOR_SIZE as u64) {
             Ok(()) => {
-                self.log = self.log.and(&FileCall::Read(sector), into);
+                self.past = self.past.and(FileCall::Read(sector), into);
                 Ok(())
             }
             Err(_) => {
-                self.log = self.log.and(&FileCall::Failed, &NO_BYTES);
+                self.past = self.past.and(FileCall::Failed(Failure::OfRead), &NO_BYTES);
                 Err(DiskFault::Io)
             }
         }
@@ -134,13 +149,17 @@ impl<F: OpenFile + FileExt> Disk for FileDisk<F> {
         if sector >= self.count {
             return Err(DiskFault::Range);
         }
+        if self.past.is_given_up() {
+            self.past = self.past.and(FileCall::Failed(Failure::Refused), &NO_BYTES);
+            return Err(DiskFault::Io);
+        }
         match self.file.write_all_at(from, sector * SECTOR_SIZE as u64) {
             Ok(()) => {
-                self.log = self.log.and(&FileCall::Wrote(sector), from);
+                self.past = self.past.and(FileCall::Wrote(sector), from);
                 Ok(())
             }
             Err(_) => {
-                self.log = self.log.and(&FileCall::Tore(sector), from);
+                self.past = self.past.and(FileCall::Tore(sector), from);
                 Err(DiskFault::Io)
             }
         }
@@ -150,13 +169,17 @@ impl<F: OpenFile + FileExt> Disk for FileDisk<F> {
         ensures syncs { SyncsMedium result (file_medium self.old) (file_medium self.new) }
         ensures logged { SyncLogged result (answers_of self.old) (answers_of self.new) }
     {
-        match self.file.sync_all() {
+        if self.past.is_given_up() {
+            self.past = self.past.and(FileCall::Failed(Failure::Refused), &NO_BYTES);
+            return Err(DiskFault::Io);
+        }
+        match self.file.sync_data() {
             Ok(()) => {
-                self.log = self.log.and(&FileCall::Synced, &NO_BYTES);
+                self.past = self.past.and(FileCall::Synced, &NO_BYTES);
                 Ok(())
             }
             Err(_) => {
-                self.log = self.log.and(&FileCall::Failed, &NO_BYTES);
+                self.past = self.past.and(FileCall::Failed(Failure::OfSync), &NO_BYTES);
                 Err(DiskFault::Io)
             }
         }

@@ -1,7 +1,7 @@
 use crate::SECTOR_SIZE;
 
 /// A call that a file was asked for, with its answer. Its bytes stand beside it in the log, and are
-/// `NO_BYTES` of a call that has none. Only clauses read it.
+/// `NO_BYTES` of a call that has none.
 #[derive(Clone, Copy, Debug)]
 pub(crate) enum FileCall {
     /// It read these bytes in this sector.
@@ -11,8 +11,17 @@ pub(crate) enum FileCall {
     /// It failed to write these bytes to this sector, and may have left a front of them.
     Tore(u64),
     Synced,
-    /// A read or a sync failed.
-    Failed,
+    /// A call that failed and wrote nothing.
+    Failed(Failure),
+}
+
+/// Which call of a file failed.
+#[derive(Clone, Copy, Debug)]
+pub(crate) enum Failure {
+    OfRead,
+    OfSync,
+    /// One that the file wasn't asked for, since an earlier write or sync of it had failed.
+    Refused,
 }
 
 pub(crate) const NO_BYTES: [u8; SECTOR_SIZE] = [0; SECTOR_SIZE];

@@ -12,8 +12,14 @@
 //!   (`every`).
 //! - `FaultDisk` stops or fails at the call that it is told (`trouble`, `stops`, `fails`), and
 //!   hands all others on (`passed_on`).
-//! - `FileDisk` logs each call that it made of its file, with the answer (`logged`). `create`
-//!   gives a disk of so many sectors (`sectors`). It and `open` begin with an empty log (`fresh`).
+//! - `FileDisk` logs each call that it made of its file, with the answer. After a write or a sync
+//!   that failed every call answers `Io`, and the file isn't asked (`logged`). `create` gives a
+//!   disk of so many sectors (`sectors`). It and `open` begin with an empty log (`fresh`), and
+//!   answer Ok only with the file's lock (`locked`).
+//! - `OpenFault` says why they failed: another host has the file (`busy`), or what the operating
+//!   system said of the path (`open_cause`).
+//! - `rewrite` writes each sector of a disk back as it reads it, and syncs. At no moment does it
+//!   add an image to what reads give or to what a cut may leave (`same`, `any_moment`).
 //! - `write_run` and `store_run` write sectors one after another. `store_run`: a cut at any moment
 //!   leaves of each some front (`any_moment`). After Ok each cut leaves all of them (`stored`).
 //!   There are never more unsynced writes than before and these (`counts`). They are written in
@@ -24,16 +30,18 @@
 //!
 //! In `specs/rules/`: `Image`, `with_front`, `IsTorn` (`Image.antt`); `Medium`, `LeavesOnly`,
 //! `Reads`, `Writes`, `SyncsMedium`, `MakesCalls` (`Medium.antt`); `rising_writes`
-//! (`Calls.antt`); `IsTornRun` (`Run.antt`); the state of a `MemDisk` (`Memory.antt`,
-//! `Pending.antt`), of a `FaultDisk` (`Trouble.antt`, `FaultDisk.antt`) and of a `FileDisk`
-//! (`Answered.antt`, `Counts.antt`, `File.antt`).
+//! (`Calls.antt`); `IsTornRun` (`Run.antt`); `AddsNothing` (`Rewrite.antt`); the state of a
+//! `MemDisk` (`Memory.antt`, `Pending.antt`), of a `FaultDisk` (`Trouble.antt`,
+//! `FaultDisk.antt`) and of a `FileDisk` (`Answered.antt`, `Counts.antt`, `File.antt`); which
+//! error of the operating system is which cause (`Open.antt`).
 //!
 //! # Who may touch what
 //!
 //! What a cut may leave is defined here alone. `disk_layout`, `journal` and `snapshot` use any
 //! `Disk`. The crate stands on no other one of this repository. A `MemDisk` takes memory in `new`
 //! and `cut` alone. That a file behaves as a disk of the model is a premise: of one that doesn't,
-//! clauses say nothing.
+//! clauses say nothing. A file is locked as long as its `FileDisk` lives, so that no second host
+//! reads or writes it.
 #![tactic(auto)]
 
 mod disk;
@@ -42,11 +50,16 @@ mod fault;
 mod fault_disk;
 mod file;
 mod file_call;
+mod file_log;
 mod front;
 pub mod laws;
+mod lock;
 mod log;
 mod memory;
+mod open_cause;
+mod open_fault;
 mod place;
+mod rewriting;
 mod run;
 mod sector;
 mod trouble;
@@ -56,7 +69,10 @@ pub use disk::Disk;
 pub use fault::DiskFault;
 pub use fault_disk::FaultDisk;
 pub use file::FileDisk;
+pub use lock::LockFile;
 pub use memory::MemDisk;
+pub use open_fault::{OpenCause, OpenFault};
 pub use place::Place;
+pub use rewriting::rewrite;
 pub use run::{store_run, write_run};
 pub use sector::SECTOR_SIZE;

@@ -12,6 +12,7 @@ use Rattle.sector_disk.specs.laws.Fronts.{front_within, shorter, longer}
 use Rattle.sector_disk.specs.laws.Pending.{keeps_step}
 use Rattle.sector_disk.specs.rules.Answered.{AnsweredCalls, OneOn, Explains, ShowsOn, ExplainsSince}
 use Rattle.sector_disk.specs.declared.file_call.FileCall.{FileCall}
+use Rattle.sector_disk.specs.declared.file_call.Failure.{Failure}
 use Rattle.sector_disk.specs.declared.file_call.FileCall.TheVariants.{Read, Wrote, Tore, Synced}
 use Rattle.sector_disk.specs.declared.file_call.FileCall.TheVariants.{Failed}
 
@@ -36,7 +37,7 @@ image_on n (Tore k) bytes before was s l (s0, l0, m, f, b, le, less, full, es, e
     )
 image_on n Synced bytes before was s l (l0, b, e) = let both = was s l0 b in
     (both.0, subst (λ (i : Image). IsImage n i) (sym e) both.0)
-image_on n Failed bytes before was s l on = was s l on
+image_on n (Failed which) bytes before was s l on = was s l on
 
 pub images : (n : ℕ) (answers : AnsweredCalls) (s l : Image) → Explains n answers s l
     → IsImage n s × IsImage n l
@@ -74,7 +75,7 @@ stay_on n (Wrote k) bytes before is stays s l (s0, l0, f, b, le, full, es, el) =
 stay_on n (Tore k) bytes before is stays s l (s0, l0, m, f, b, le, less, full, es, el) =
     (s0, s0, m, m, stays s0 l0 b, le, omega arith, full, es, es)
 stay_on n Synced bytes before is stays s l (l0, b, e) = (l0, b, refl)
-stay_on n Failed bytes before is stays s l on = stays s l on
+stay_on n (Failed which) bytes before is stays s l on = stays s l on
 
 pub stays : (n : ℕ) (answers : AnsweredCalls) (s l : Image) → Explains n answers s l
     → Explains n answers s s
@@ -236,7 +237,7 @@ more_on n (Tore k) bytes before is more s l (s0, l0, m, g, b, le-m, le-g, full, 
     )
 more_on n Synced bytes before is more s l (l0, b, e) j f le =
     (l0, b, ap (λ (i : Image). with_front i j f (sector_at s j)) e ∙ with_front_self s j f)
-more_on n Failed bytes before is more s l on j f le = more s l on j f le
+more_on n (Failed which) bytes before is more s l on j f le = more s l on j f le
 
 pub keeps_more_of : (n : ℕ) (answers : AnsweredCalls) (s l : Image) → Explains n answers s l
     → (j f : ℕ) → f ≤ 512 → Explains n answers s (with_front l j f (sector_at s j))
@@ -253,7 +254,7 @@ from_shows (Read k) bytes before s on = (s, on.0)
 from_shows (Wrote k) bytes before s on = (on.0, on.1)
 from_shows (Tore k) bytes before s on = (on.0, on.2)
 from_shows Synced bytes before s on = (s, on)
-from_shows Failed bytes before s on = (s, on)
+from_shows (Failed which) bytes before s on = (s, on)
 
 none_since : (n t : ℕ) (answers : AnsweredCalls) (left s : Image) → length answers < t
     → ExplainsSince n t answers left s → ⊥
@@ -317,7 +318,7 @@ shows_on (Wrote k) bytes before was has s (s0, b, full, e) = let w = has s0 b in
 shows_on (Tore k) bytes before was has s (s0, f, b, le, full, e) = let w = has s0 b in
     (with_front w.0 k 0 bytes, (s0, w.0, f, 0, w.1, le, omega arith, full, e, refl))
 shows_on Synced bytes before was has s on = let w = has s on in (s, (w.0, w.1, refl))
-shows_on Failed bytes before was has s on = has s on
+shows_on (Failed which) bytes before was has s on = has s on
 
 pub since_shows : (n t : ℕ) (answers : AnsweredCalls) (left s : Image)
     → ExplainsSince n t answers left s → (l : Image) × Explains n answers s l
@@ -347,12 +348,13 @@ read_since n t {k} {bytes} moments answers left s e le since =
     stay_since n t (Read k) bytes answers left s le (λ on. since_now n t answers left s le on.0)
     (λ on. on.0) (subst (λ (a : AnsweredCalls). ExplainsSince n t a left s) e since)
 
-pub failed_since : (n t : ℕ) {bytes : List ℕ} (moments answers : AnsweredCalls) (left s : Image)
-    → moments ≡ (Failed, bytes) ∷ answers → t ≤ length answers → ExplainsSince n t moments left s
-    → ExplainsSince n t answers left s
-failed_since n t {bytes} moments answers left s e le since =
-    stay_since n t Failed bytes answers left s le (λ on. since_now n t answers left s le on) (λ on.
-    on) (subst (λ (a : AnsweredCalls). ExplainsSince n t a left s) e since)
+pub failed_since : (n t : ℕ) {which : Failure} {bytes : List ℕ} (moments answers : AnsweredCalls)
+    (left s : Image) → moments ≡ (Failed which, bytes) ∷ answers → t ≤ length answers
+    → ExplainsSince n t moments left s → ExplainsSince n t answers left s
+failed_since n t {which} {bytes} moments answers left s e le since =
+    stay_since n t (Failed which) bytes answers left s le
+    (λ on. since_now n t answers left s le on)
+    (λ on. on) (subst (λ (a : AnsweredCalls). ExplainsSince n t a left s) e since)
 
 pub synced_since : (n t : ℕ) {bytes : List ℕ} (moments answers : AnsweredCalls) (left s : Image)
     → moments ≡ (Synced, bytes) ∷ answers → t ≤ length answers → ExplainsSince n t moments left s

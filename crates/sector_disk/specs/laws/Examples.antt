@@ -1,6 +1,6 @@
 -- Worked examples of images, of runs of writes, and of what is counted.
 use Rattle.std.specs.Prelude.{◌≡◌, ◌<◌, ◌≤◌, ◌+◌, ◌-◌, ◌^◌, ◌++◌, ℕ, List, [], ◌∷◌, Option, Some}
-use Rattle.std.specs.Prelude.{None, replicate, refl, Bool, IsTrue}
+use Rattle.std.specs.Prelude.{None, replicate, refl, Bool, true, false, IsTrue}
 use Rattle.sector_disk.specs.rules.Image.{Image, sector_at, with_sector, front_over, with_front}
 use Rattle.sector_disk.specs.rules.Image.{IsImage, IsTornWithin}
 use Rattle.std.proofs.Common.{zero, suc, length, drop, sym, ap, ◌∙◌, arith}
@@ -11,6 +11,7 @@ use Rattle.sector_disk.specs.rules.Memory.{calls_in}
 use Rattle.sector_disk.specs.rules.Run.{IsTornRun, IsWrittenRun}
 use Rattle.sector_disk.specs.rules.Pending.{replayed, torn_by}
 use Rattle.sector_disk.specs.rules.Answered.{AnsweredCalls, faults_of, unsynced_of, file_calls}
+use Rattle.sector_disk.specs.rules.Answered.{is_given_up}
 use Rattle.sector_disk.specs.rules.Trouble.{counted, call_number, trouble_at, place_numbers}
 use Rattle.sector_disk.specs.rules.Trouble.{troubled, LeavesFront}
 use Rattle.sector_disk.specs.declared.write.Write.{Write}
@@ -20,6 +21,7 @@ use Rattle.sector_disk.specs.declared.place.Place.{Place}
 use Rattle.sector_disk.specs.declared.trouble.Trouble.TheVariants.{Stops, Stopped, Fails}
 use Rattle.sector_disk.specs.declared.file_call.FileCall.TheVariants.{Read, Wrote, Tore, Synced}
 use Rattle.sector_disk.specs.declared.file_call.FileCall.TheVariants.{Failed}
+use Rattle.sector_disk.specs.declared.file_call.Failure.TheVariants.{OfRead, OfSync, Refused}
 
 -- three sectors of two bytes
 abbrev pub three : Image
@@ -83,10 +85,10 @@ pub record RunExamples : Type 0 where
 
 -- ---- what is counted
 
--- a good write, a good sync, a call that failed, and two writes, the last of which failed; the
+-- a good write, a good sync, a read that failed, and two writes, the last of which failed; the
 -- newest is the first
 abbrev pub five_calls : AnsweredCalls
-five_calls = (Tore 1, []) ∷ (Wrote 1, []) ∷ (Failed, []) ∷ (Synced, []) ∷ (Wrote 0, []) ∷ []
+five_calls = (Tore 1, []) ∷ (Wrote 1, []) ∷ (Failed OfRead, []) ∷ (Synced, []) ∷ (Wrote 0, []) ∷ []
 
 abbrev pub at_third : ℕ → Option Place
 at_third front = Some (record { call = 3; front = front })
@@ -95,7 +97,7 @@ pub record CountExamples : Type 0 where
   pub faults : faults_of five_calls ≡ 2
   pub unsynced : unsynced_of five_calls ≡ 2
   pub after_a_read : unsynced_of ((Read 0, []) ∷ five_calls) ≡ 2
-  pub after_a_failed_sync : unsynced_of ((Failed, []) ∷ five_calls) ≡ 2
+  pub after_a_failed_sync : unsynced_of ((Failed OfSync, []) ∷ five_calls) ≡ 2
   pub after_a_sync : unsynced_of ((Synced, []) ∷ five_calls) ≡ 0
   pub one_more : counted 7 ≡ 8
   pub no_more : counted (2 ^ 64 - 1) ≡ 2 ^ 64 - 1
@@ -107,6 +109,11 @@ pub record CountExamples : Type 0 where
   pub after_a_failure : trouble_at None (at_third 7) 4 ≡ None
   pub told : place_numbers (at_third 7) ≡ 1 ∷ 3 ∷ 7 ∷ []
   pub told_nothing : place_numbers None ≡ 0 ∷ []
+  -- a failed read is not for good, and a failed write or sync is
+  pub read_on : is_given_up (drop 1 five_calls) ≡ false
+  pub given_up_by_a_write : is_given_up five_calls ≡ true
+  pub given_up_by_a_sync : is_given_up ((Failed OfSync, []) ∷ drop 1 five_calls) ≡ true
+  pub given_up_for_good : is_given_up ((Failed Refused, []) ∷ five_calls) ≡ true
 
 -- ---- what was asked for; the newest call is the first
 

@@ -1,5 +1,6 @@
 -- What the answers of a file tell, if it is a disk that obeys the model.
-use Rattle.std.specs.Prelude.{◌≡◌, ◌⊎◌, ◌≤◌, ◌+◌, ℕ, List, [], ◌∷◌, length, Result, Ok, Err}
+use Rattle.std.specs.Prelude.{◌≡◌, ◌⊎◌, ◌≤◌, ◌+◌, ℕ, Bool, true, false, if◌then◌else◌, IsFalse}
+use Rattle.std.specs.Prelude.{List, [], ◌∷◌, length, Result, Ok, Err}
 use Rattle.sector_disk.specs.rules.Image.{Image, sector_at, with_sector, with_front, IsImage}
 use Rattle.sector_disk.specs.declared.file_call.TheConstants.{NO_BYTES}
 use Rattle.sector_disk.specs.declared.disk_call.DiskCall.{DiskCall}
@@ -9,6 +10,7 @@ use Rattle.sector_disk.specs.declared.fault.DiskFault.TheVariants.{Range, Io}
 use Rattle.sector_disk.specs.declared.file_call.FileCall.{FileCall}
 use Rattle.sector_disk.specs.declared.file_call.FileCall.TheVariants.{Read, Wrote, Tore, Synced}
 use Rattle.sector_disk.specs.declared.file_call.FileCall.TheVariants.{Failed}
+use Rattle.sector_disk.specs.declared.file_call.Failure.TheVariants.{OfRead, OfSync, Refused}
 use Rattle.sector_disk.specs.declared.sector.TheConstants.{SECTOR_SIZE}
 
 -- the calls with their bytes, the newest first
@@ -28,7 +30,7 @@ OneOn (Tore k) bytes before shown left =
     × (most ≤ SECTOR_SIZE) × (front ≤ most) × (length bytes ≡ SECTOR_SIZE)
     × (shown ≡ with_front was_shown k most bytes) × (left ≡ with_front was_left k front bytes)
 OneOn Synced bytes before shown left = (was_left : Image) × before shown was_left × (left ≡ shown)
-OneOn Failed bytes before shown left = before shown left
+OneOn (Failed which) bytes before shown left = before shown left
 
 -- the file gave these answers: reads may now give `shown`, and then a cut may leave `left`
 abbrev pub Explains : ℕ → AnsweredCalls → Image → Image → Type 0
@@ -44,7 +46,7 @@ ShowsOn (Wrote k) bytes before shown = (was : Image) × before was × (length by
 ShowsOn (Tore k) bytes before shown = (was : Image) × (front : ℕ) × before was
     × (front ≤ SECTOR_SIZE) × (length bytes ≡ SECTOR_SIZE) × (shown ≡ with_front was k front bytes)
 ShowsOn Synced bytes before shown = before shown
-ShowsOn Failed bytes before shown = before shown
+ShowsOn (Failed which) bytes before shown = before shown
 
 -- the file gave these answers, reads may now give `shown`, and a cut at a moment from t on may have
 -- left `left`
@@ -56,7 +58,7 @@ ExplainsSince sectors t (answer ∷ answers) left shown =
 
 abbrev pub is_fault : FileCall → ℕ
 is_fault (Tore k) = 1
-is_fault Failed = 1
+is_fault (Failed which) = 1
 is_fault call = 0
 
 -- how many calls failed
@@ -86,22 +88,39 @@ abbrev pub file_calls : AnsweredCalls → List DiskCall
 file_calls [] = []
 file_calls (answer ∷ answers) = call_on answer.0 (file_calls answers)
 
--- what is logged of a call, by its answer: nothing where it was refused before the file was asked
+-- whether a file is given up once it has answered so: it was, or this write or sync failed
+abbrev pub gives_up_on : FileCall → Bool → Bool
+gives_up_on (Tore k) was = true
+gives_up_on (Failed OfSync) was = true
+gives_up_on call was = was
+
+-- A write or a sync has failed. What the file holds is then unknown for good: a later sync may
+-- answer well and yet leave out what the failed one lost.
+abbrev pub is_given_up : AnsweredCalls → Bool
+is_given_up [] = false
+is_given_up (answer ∷ answers) = gives_up_on answer.0 (is_given_up answers)
+
+-- the answers after a call that failed: a file that is given up wasn't asked
+abbrev pub after_failure : FileCall → List ℕ → AnsweredCalls → AnsweredCalls
+after_failure call bytes old =
+    (if is_given_up old then (Failed Refused, NO_BYTES) else (call, bytes)) ∷ old
+
+-- what is logged of a call, by its answer: nothing where the sector is out of range
 abbrev pub ReadLogged : Result (Unit {0}) DiskFault → ℕ → List ℕ → AnsweredCalls → AnsweredCalls
     → Type 0
-ReadLogged (Ok x) k bytes old new = new ≡ (Read k, bytes) ∷ old
+ReadLogged (Ok x) k bytes old new = IsFalse (is_given_up old) × (new ≡ (Read k, bytes) ∷ old)
 ReadLogged (Err Range) k bytes old new = new ≡ old
-ReadLogged (Err Io) k bytes old new = new ≡ (Failed, NO_BYTES) ∷ old
+ReadLogged (Err Io) k bytes old new = new ≡ after_failure (Failed OfRead) NO_BYTES old
 ReadLogged (Err other) k bytes old new = ⊥
 
 abbrev pub WriteLogged : Result (Unit {0}) DiskFault → ℕ → List ℕ → AnsweredCalls → AnsweredCalls
     → Type 0
-WriteLogged (Ok x) k bytes old new = new ≡ (Wrote k, bytes) ∷ old
+WriteLogged (Ok x) k bytes old new = IsFalse (is_given_up old) × (new ≡ (Wrote k, bytes) ∷ old)
 WriteLogged (Err Range) k bytes old new = new ≡ old
-WriteLogged (Err Io) k bytes old new = new ≡ (Tore k, bytes) ∷ old
+WriteLogged (Err Io) k bytes old new = new ≡ after_failure (Tore k) bytes old
 WriteLogged (Err other) k bytes old new = ⊥
 
 abbrev pub SyncLogged : Result (Unit {0}) DiskFault → AnsweredCalls → AnsweredCalls → Type 0
-SyncLogged (Ok x) old new = new ≡ (Synced, NO_BYTES) ∷ old
-SyncLogged (Err Io) old new = new ≡ (Failed, NO_BYTES) ∷ old
+SyncLogged (Ok x) old new = IsFalse (is_given_up old) × (new ≡ (Synced, NO_BYTES) ∷ old)
+SyncLogged (Err Io) old new = new ≡ after_failure (Failed OfSync) NO_BYTES old
 SyncLogged (Err other) old new = ⊥

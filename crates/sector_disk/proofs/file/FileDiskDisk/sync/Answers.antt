@@ -1,16 +1,23 @@
 use Rattle.std.proofs.Common.{◌≡◌, ap, sym, subst, arith, rules}
 use Rattle.sector_disk.specs.rules.Image.{Image}
 use Rattle.sector_disk.specs.rules.Answered.{AnsweredCalls, Explains, unsynced_of, file_calls}
-use Rattle.sector_disk.specs.laws.Answered.{stays, synced_since, failed_since}
+use Rattle.sector_disk.specs.laws.Answered.{stays, synced_since}
 use Rattle.sector_disk.proofs.CountLemmas.{answered_keeps, answered_grows}
+use Rattle.sector_disk.specs.declared.file_call.FileCall.TheVariants.{Failed}
+use Rattle.sector_disk.specs.declared.file_call.Failure.TheVariants.{OfSync}
+use Rattle.sector_disk.specs.declared.file_call.TheConstants.{NO_BYTES}
+use Rattle.sector_disk.specs.rules.File.{answers_of}
+use Rattle.sector_disk.proofs.AnswerLemmas.{failed_syncs, refused_after, failed_after}
 use Rattle.sector_disk.proofs.file.FileDiskDisk.sync.Goals as goal
 
 pub returns-in-Ok-clause-syncs : goal.returns-in-Ok-clause-syncs
 returns-in-Ok-clause-syncs g c =
     let d = c.args.self.now in
-    let on = λ (shown image : Image) (both : Explains d.count c.and-self.result.items shown image).
-    subst (λ (a : AnsweredCalls). Explains d.count a shown image) c.and-self.ensures both in
-    let none : unsynced_of c.and-self.result.items ≡ 0 = ap unsynced_of c.and-self.ensures in
+    let now = c.and-self-in-Ok.result.log.items in
+    let is = c.and-self-in-Ok.ensures in
+    let on = λ (shown image : Image) (both : Explains d.count now shown image).
+    subst (λ (a : AnsweredCalls). Explains d.count a shown image) is both in
+    let none : unsynced_of now ≡ 0 = ap unsynced_of is in
     record {
       settles = record {
         same = λ shown image both. let was = on shown image both in was.2;
@@ -19,53 +26,48 @@ returns-in-Ok-clause-syncs g c =
       stays = record {
         may = λ shown image both.
             let was = on shown image both in
-            subst (λ (i : Image). Explains d.count d.log.items shown i) (sym was.2)
-            (stays d.count d.log.items shown was.0 was.1);
+            subst (λ (i : Image). Explains d.count d.past.log.items shown i) (sym was.2)
+            (stays d.count d.past.log.items shown was.0 was.1);
         since = λ t shown image le both.
-            synced_since d.count t c.and-self.result.items d.log.items image shown
-            c.and-self.ensures le both;
+            synced_since d.count t now d.past.log.items image shown
+            is le both;
         unsynced = omega arith;
       };
       unsynced = tt;
       counts = record {
         keeps = λ t n le since.
-            answered_keeps d.log.items c.and-self.result.items _ t n c.and-self.ensures since;
-        grows = λ t n le since. answered_grows d.log.items c.and-self.result.items _
-            (unsynced_of d.log.items) t n c.and-self.ensures (omega arith) since;
+            answered_keeps d.past.log.items now _ t n is since;
+        grows = λ t n le since. answered_grows d.past.log.items now _
+            (unsynced_of d.past.log.items) t n is (omega arith) since;
       };
       calls = record {
-        all = ap file_calls c.and-self.ensures;
-        begun = (0, ap file_calls c.and-self.ensures);
+        all = ap file_calls is;
+        begun = (0, ap file_calls is);
       };
       passes = search rules;
       cause = search rules;
     }
 
+pub returns-then-is_given_up-clause-syncs : goal.returns-then-is_given_up-clause-syncs
+returns-then-is_given_up-clause-syncs g c =
+    let d = c.args.self.now in
+    let now = c.and-self.result.log.items in
+    failed_syncs d.count _ _ (answers_of d) now c.and-self.ensures
+
 pub returns-in-Err-clause-syncs : goal.returns-in-Err-clause-syncs
 returns-in-Err-clause-syncs g c =
     let d = c.args.self.now in
-    let same : unsynced_of c.and-self-in-Err.result.items ≡ unsynced_of d.log.items =
-    ap unsynced_of c.and-self-in-Err.ensures in
-    record {
-      settles = tt;
-      stays = record {
-        may = λ shown image both.
-            subst (λ (a : AnsweredCalls). Explains d.count a shown image) c.and-self-in-Err.ensures
-            both;
-        since = λ t shown image le both.
-            failed_since d.count t c.and-self-in-Err.result.items d.log.items image shown
-            c.and-self-in-Err.ensures le both;
-        unsynced = omega arith;
-      };
-      unsynced = same;
-      counts = record {
-        keeps = λ t n le since.
-            answered_keeps d.log.items c.and-self-in-Err.result.items _ t n
-            c.and-self-in-Err.ensures since;
-        grows = λ t n le since. answered_grows d.log.items c.and-self-in-Err.result.items _
-            (unsynced_of d.log.items) t n c.and-self-in-Err.ensures (omega arith) since;
-      };
-      calls = record { all = tt; begun = (1, ap file_calls c.and-self-in-Err.ensures) };
-      passes = search rules;
-      cause = search rules;
-    }
+    let now = c.and-self-in-Err.result.log.items in
+    failed_syncs d.count _ _ (answers_of d) now c.and-self-in-Err.ensures
+
+pub returns-then-is_given_up-clause-logged : goal.returns-then-is_given_up-clause-logged
+returns-then-is_given_up-clause-logged g c =
+    refused_after (Failed OfSync) NO_BYTES (answers_of c.args.self.now)
+    c.and-self.result.log.items
+    c.is_given_up.result c.is_given_up.ensures c.if-is_given_up.true c.and-self.ensures
+
+pub returns-in-Err-clause-logged : goal.returns-in-Err-clause-logged
+returns-in-Err-clause-logged g c =
+    failed_after (Failed OfSync) NO_BYTES (answers_of c.args.self.now)
+    c.and-self-in-Err.result.log.items
+    c.is_given_up.result c.is_given_up.ensures c.if-is_given_up.false c.and-self-in-Err.ensures
