@@ -17,3 +17,4 @@ pub mod RoutineLemmas
 pub mod TurnLemmas
 pub mod InstanceLemmas
 pub mod HostingLemmas
+pub mod LoadingLemmas

@@ -3,14 +3,17 @@ use Rattle.std.proofs.Common.{ℕ, ◌≤◌, ◌^◌, min, List, [], ◌∷◌,
 use Rattle.std.proofs.Common.{arith}
 use Rattle.std.specs.Option.{option_map_or}
 use Rattle.wasm_syntax.specs.declared.types.MemoryType.{MemoryType}
+use Rattle.wasm_syntax.specs.declared.types.FunctionType.{FunctionType}
 use Rattle.guest_memory.specs.rules.Memories.{LinearMemory}
+use Rattle.wasm_syntax_rules.specs.Configuration.{Program}
 use Rattle.wasm_syntax_rules.specs.Instantiation.{most_pages_of}
 use Rattle.wasm_syntax_rules.specs.Validity.{module_context, memories_of}
 use Rattle.machine_rules.specs.Stacked.{AreStacked}
 use Rattle.machine_rules.proofs.Threads.Showing.{frames_stacked}
 use Rattle.machine.specs.declared.turns.code.Executable.{Executable}
 use Rattle.machine.specs.declared.turns.state.State.{State}
-use Rattle.machine.specs.Insides.{IsMemoryFor, IsMachine}
+use Rattle.machine.specs.rules.Values.{IsProgramIn}
+use Rattle.machine.specs.Insides.{IsMemoryFor, IsSettledIn, IsMachine, with_memory_of}
 
 most_below : (memories : List MemoryType) (pages : ℕ) → pages ≤ 2 ^ 16
     → most_pages_of memories pages ≤ 2 ^ 16
@@ -21,11 +24,12 @@ most_below (t ∷ memories) pages h = limited t.limits.maximum
     limited None = h
     limited (Some most) = omega arith
 
--- With no bytes in memory, it stands for some configuration.
-pub stacked : (code : Executable) (s : State) (most : ℕ) → IsMachine code s most
-    → AreStacked s.frames s.slots
-stacked code s most machine =
-    let is = machine.is in
+-- With no bytes in memory, it stands for some configuration of each program.
+pub settled_empty : (code : Executable) (s : State) (most : ℕ) → IsMachine code s most
+    → (functions : List FunctionType) (program : Program)
+    → IsProgramIn code.«module» most functions program
+    → IsSettledIn code (with_memory_of s (record { bytes = []; limit = most })) functions program
+settled_empty code s most machine functions program is =
     let memories = memories_of code.«module» in
     let below = most_below memories is.pages is.few in
     let limit = sym is.most ∙ is.is_program.most_pages in
@@ -35,6 +39,11 @@ stacked code s most machine =
       shape = record { whole = refl; within = omega arith; limited = omega (arith, below, limit) };
       bytes = tt;
     } in
-    let some = machine.settled none machine.functions machine.program is_memory is in
+    machine.settled none functions program is_memory is
+
+pub stacked : (code : Executable) (s : State) (most : ℕ) → IsMachine code s most
+    → AreStacked s.frames s.slots
+stacked code s most machine =
+    let some = settled_empty code s most machine machine.functions machine.program machine.is in
     frames_stacked (module_context code.«module» machine.functions) machine.program s.frames
     s.slots some.configuration.thread some.stands.stands.frames

@@ -6,10 +6,12 @@ use Rattle.guest_memory.specs.rules.Bytes.{IsByte}
 use Rattle.guest_memory.specs.rules.Memories.{LinearMemory, IsWithinLimit}
 use Rattle.wasm_syntax_rules.specs.Configuration.{Program, Configuration}
 use Rattle.wasm_syntax_rules.specs.Steps.{IsSettled}
+use Rattle.wasm_syntax_rules.specs.Typed.{IsTypedEntry}
+use Rattle.machine_rules.specs.Stacked.{AreStacked}
 use Rattle.machine_rules.specs.Threads.{machine_state_of}
 use Rattle.machine.specs.declared.turns.code.Executable.{Executable}
 use Rattle.machine.specs.declared.turns.state.State.{State}
-use Rattle.machine.specs.Turns.Codes.{parts_of_state, Stands}
+use Rattle.machine.specs.Turns.Codes.{parts_of_state, IsExecutable, Stands}
 use Rattle.machine.specs.rules.Values.{MachineValue, IsProgramIn}
 
 -- what is seen of them
@@ -47,3 +49,23 @@ pub record IsMachine (code : Executable) (s : State) (most_pages : ℕ) : Type 0
   pub settled : (memory : LinearMemory) (functions : List FunctionType) (program : Program)
       → IsMemoryFor most_pages memory → IsProgramIn code.«module» most_pages functions program
       → IsSettledIn code (with_memory_of s memory) functions program
+
+-- ---- a machine that is put together
+
+-- the code is that of each program, with a table of its functions
+pub record IsLoadedCode (code : Executable) (most_pages : ℕ) : Type 0 where
+  pub functions : List FunctionType
+  pub program : Program
+  pub is : IsProgramIn code.«module» most_pages functions program
+  pub is_code : (functions : List FunctionType) (program : Program)
+      → IsProgramIn code.«module» most_pages functions program
+      → IsExecutable code functions program
+  pub table : (functions : List FunctionType) (program : Program)
+      → IsProgramIn code.«module» most_pages functions program
+      → AllByRecursion (IsTypedEntry program) code.table.items
+
+-- Its frames have their words, and its memory may have so many pages.
+pub record IsLoading (code : Executable) (s : State) (most_pages : ℕ) : Type 0 where
+  pub loaded : IsLoadedCode code most_pages
+  pub stacked : AreStacked s.frames s.slots
+  pub limit : s.memory.limit ≡ most_pages

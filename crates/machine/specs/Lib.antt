@@ -3,5 +3,6 @@ pub mod Frame
 pub mod Routines
 pub mod Turns
 pub mod Hosting
+pub mod Loading
 pub mod laws
 pub mod rules

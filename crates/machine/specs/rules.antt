@@ -3,6 +3,7 @@ pub mod Initial
 pub mod Instances
 pub mod Lends
 pub mod LentFrames
+pub mod Loading
 pub mod Offers
 pub mod Refusals
 pub mod Runs

@@ -17,6 +17,15 @@
 //! - `globals`, `frame_count`, `place` and `is_starting` tell what a machine shows beside memory:
 //!   the numbers of the globals, the frames from the outermost one in, and whether `_start` is
 //!   still to be called. None of them runs anything or takes memory.
+//! - `slot_count`: how many slots the frames have together, at most 69,632 (`count`, `bound`).
+//! - `into_loading` takes frames, slots, globals and calls to come away, so that others can be put
+//!   in their place: `push_frame` and `push_slot` from the outermost frame in, `push_global`,
+//!   `push_start` and `set_memory`. Each does exactly that (`pushed`, `set`), or changes nothing
+//!   (`kept`). `Unfit` is told at once where there is no room (`full`), or no such function or
+//!   memory (`none`, `refused`).
+//! - `finish` of `Loading` gives the machine with these parts (`same`), which then shows some
+//!   configuration (`shows`). `Unfit` comes only where they show none (`refused`). Types, heights
+//!   and calls that wait are those of typing at each frame's position.
 //! - `memory` is the guest's memory. `memory_mut` lends it, and nothing else changes
 //!   (`writes_back`). `unlink` gives the module back.
 //! - `laws`: a machine shows one configuration at most (`shows_one`). Two machines that show one
@@ -28,7 +37,8 @@
 //!
 //! In `specs/rules/`: `MachineValue`, `ShowsIn` (`Values.antt`); `HasBegun`, `RunsOnFuel`,
 //! `TellsWaiting`, `TellsEnd`, `WaitsFor`, `Answers`, `Stops` (`Runs.antt`); `IsRefused`,
-//! `LinkDenies` (`Refusals.antt`); `offer` (`Offers.antt`); `lent_frame` (`LentFrames.antt`).
+//! `LinkDenies` (`Refusals.antt`); `offer` (`Offers.antt`); `lent_frame` (`LentFrames.antt`);
+//! `emptied`, `with_frame`, `IsSlotPushed`, `ShowsSome`, `LoadDenies` (`Loading.antt`).
 //! Beside these: `CanStart`, `CanBegin` (`specs/rules/Initial.antt`), `call_results`
 //! (`specs/rules/Answers.antt`), and `Shows` of `machine_slots`.
 //!
@@ -47,6 +57,7 @@ mod hosting;
 mod instance;
 pub mod laws;
 mod linking;
+mod loading;
 mod places;
 mod routines;
 mod running;
@@ -54,6 +65,7 @@ mod turns;
 
 pub use instance::LinkFault;
 pub use linking::link;
+pub use loading::{LoadFault, Loading};
 pub use places::FramePlace;
 pub use running::Machine;
 pub use turns::{Arguments, HostCall, Pause, Paused};

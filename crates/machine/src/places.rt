@@ -3,6 +3,8 @@
 
 ghost use Rattle.std.specs.Prelude.{◌≡◌, ◌≢◌, ◌↔◌, ◌<◌, ◌≤◌, ◌-◌, IsTrue, Some, [], length, drop};
 ghost use Rattle.std.specs.Prelude.{reverse, slice_get, take};
+ghost use Rattle.machine_slots.specs.declared.slots.TheConstants.{SLOTS};
+ghost use Rattle.machine_rules.specs.Fitting.{slots_held};
 ghost use Rattle.machine_rules.specs.Stacked.{AreStacked, slots_end};
 ghost use Rattle.machine_rules.specs.Threads.{places_of};
 ghost use Rattle.machine.specs.rules.LentFrames.{lent_frame};
@@ -43,7 +45,7 @@ fn words_between(slots: &Slots, from: usize, to: usize) -> &[u64]
 }
 
 /// The frame with this number, counted from the outermost one.
-fn place_of<'a>(frames: &Frames, slots: &'a Slots, index: usize) -> FramePlace<'a>
+pub(crate) fn place_of<'a>(frames: &Frames, slots: &'a Slots, index: usize) -> FramePlace<'a>
     requires stacked { AreStacked frames.now slots.now }
     requires inside { index < length frames.now }
     ensures { slice_get (reverse (places_of frames.now slots.now)) index
@@ -71,6 +73,14 @@ impl Machine {
         ensures { result ≡ length self.now.state.frames }
     {
         self.state.frames.len()
+    }
+
+    /// How many slots all frames have together.
+    pub fn slot_count(&self) -> usize
+        ensures count { result ≡ slots_held self.now.state.frames }
+        ensures bound { result ≤ SLOTS }
+    {
+        self.state.slots.len()
     }
 
     /// The frame with this number, from 0, counted from the outermost one. Takes no memory.

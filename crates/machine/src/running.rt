@@ -32,7 +32,7 @@ impl Model for Machine {
 }
 
 /// What holds of a memory by its type.
-fn is_memory(memory: &Memory)
+pub(crate) fn is_memory(memory: &Memory)
     ensures shape { IsWithinLimit memory.now }
     ensures bytes { AllByRecursion IsByte memory.now.bytes }
 {

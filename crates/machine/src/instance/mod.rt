@@ -13,5 +13,6 @@ mod memory;
 mod segments;
 mod table;
 
+pub use exports::entry_of;
 pub use fault::LinkFault;
 pub use instance::Instance;

@@ -5,5 +5,5 @@
 mod making;
 mod routine;
 
-pub use making::routines;
+pub use making::{context_of, routines};
 pub use routine::Routine;

@@ -32,7 +32,7 @@ pub fn opcodes_of(code: &Executable, function: u32) -> &[Instruction]
 }
 
 /// Whether two types are the same.
-fn is_same(a: &FunctionType, b: &FunctionType) -> bool
+pub fn is_same(a: &FunctionType, b: &FunctionType) -> bool
     ensures { IsTrue result ↔ (a.now ≡ b.now) }
 {
     a.parameters.as_slice() == b.parameters.as_slice()

@@ -13,6 +13,7 @@ mod waiting;
 
 pub use calls::clear;
 pub use code::Executable;
+pub use functions::is_same;
 pub use pause::{Arguments, HostCall, Pause, Paused};
 pub use running::go_on;
 pub use state::State;

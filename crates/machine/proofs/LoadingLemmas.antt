@@ -1,0 +1,5 @@
+pub mod Words
+pub mod Parts
+pub mod Bodies
+pub mod Frames
+pub mod Fits

@@ -1,0 +1,25 @@
+use Rattle.std.proofs.Common.{sym, ◌∙◌, subst}
+use Rattle.machine.specs.rules.Loading.{ShowsSome}
+use Rattle.machine.proofs.LoadingLemmas.Fits.{fits_show, shown_fit}
+use Rattle.machine.proofs.loading.loading.Loading.check.Goals as goal
+
+pub returns-then-told-clause-shows : goal.returns-then-told-clause-shows
+returns-then-told-clause-shows c =
+    let h = c.self.invariant in
+    let k = h.loaded in
+    let told = c.in_ok-told.ensures k.functions k.program (k.is_code k.functions k.program k.is)
+    (h.limit ∙ sym k.is.most) in
+    subst ShowsSome c.self.view_is
+    (fits_show c.self.inside.code c.self.inside.state c.self.inside.most_pages h
+    (told.0 c.if-told.true))
+
+pub returns-else-told-clause-refused : goal.returns-else-told-clause-refused
+returns-else-told-clause-refused c = λ shown.
+    let h = c.self.invariant in
+    let k = h.loaded in
+    let told = c.in_ok-told.ensures k.functions k.program (k.is_code k.functions k.program k.is)
+    (h.limit ∙ sym k.is.most) in
+    let yes = told.1 (shown_fit c.self.inside.code c.self.inside.state c.self.inside.most_pages h
+    (subst ShowsSome (sym c.self.view_is) shown)) in
+    let none = c.if-told.false in
+    absurd (cc)
