@@ -23,3 +23,4 @@ mod Room
 mod Texts
 mod Spelled
 mod WordLemmas
+mod RestoreLemmas

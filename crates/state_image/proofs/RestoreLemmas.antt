@@ -1,0 +1,6 @@
+pub mod Lent
+pub mod Told
+pub mod Hung
+pub mod Refused
+pub mod Made
+pub mod Ended
