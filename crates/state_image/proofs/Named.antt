@@ -133,7 +133,7 @@ pub record SameNamed (fs gs : Files) : Type 0 where
   pub next : fs.next ≡ gs.next
   pub nodes : map (named fs) fs.nodes ≡ map (named gs) gs.nodes
 
-files_named : (fs : Files) (rest : List ℕ)
+pub files_named : (fs : Files) (rest : List ℕ)
     → files_bytes fs ++ rest ≡
     (u64_bytes fs.next ++ items_bytes named_bytes (map (named fs) fs.nodes)) ++ rest
 files_named fs rest = ap (λ (bytes : List ℕ). (u64_bytes fs.next ++ bytes) ++ rest)

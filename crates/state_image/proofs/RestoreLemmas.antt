@@ -4,3 +4,5 @@ pub mod Hung
 pub mod Refused
 pub mod Made
 pub mod Ended
+pub mod Fronts
+pub mod Loops

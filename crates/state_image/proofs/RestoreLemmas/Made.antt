@@ -88,7 +88,8 @@ pub size_made : (fs hs : Files) (k size : ℕ) → IsFiles fs → fs.next ≤ k
     → hs ≡ created_removed k (File (zeros size)) fs → length (bytes_of_node hs k) ≡ size
 size_made fs hs k size are le made =
     ap (λ (x : Files). length (bytes_of_node x k)) made
-    ∙ ap (λ (o : Option FileNode). length (bytes_held o)) (new_found fs k (File (zeros size)) are le)
+    ∙ ap (λ (o : Option FileNode). length (bytes_held o))
+    (new_found fs k (File (zeros size)) are le)
     ∙ length-zeros size
 
 -- bytes are written over all of it

@@ -54,7 +54,8 @@ not_after e (f ∷ es) is = by (is_before e.name f.name) refl is (not_after e es
       (ap (λ (x : Entry). is_before e.name x.name) same ∙ before)))
   by false before h later = later (tails (inserted e es) (es ++ e ∷ []) h)
 
-node_there : (o : Option FileNode) (p : Path) → option_and_then (λ (n : FileNode). n.path) o ≡ Some p
+node_there : (o : Option FileNode) (p : Path)
+    → option_and_then (λ (n : FileNode). n.path) o ≡ Some p
     → is_some o ≡ true
 node_there None p e = absurd cc
 node_there (Some n) p e = refl

@@ -4,7 +4,8 @@ use Rattle.std.specs.Prelude.{Option, Some, None, true, false, is_some, Result, 
 use Rattle.std.specs.List.{AllByRecursion}
 use Rattle.file_tree.specs.declared.limits.TheConstants.{NODES}
 use Rattle.file_tree.specs.rules.Files.{Files, Content, Directory, File, Entry}
-use Rattle.file_tree.specs.rules.Files.{IsNodeName, IsFiles, IsSmallContent, node_of, path_of, child}
+use Rattle.file_tree.specs.rules.Files.{IsNodeName, IsFiles, IsSmallContent, node_of, path_of}
+use Rattle.file_tree.specs.rules.Files.{child}
 use Rattle.file_tree.specs.rules.Files.{fresh}
 use Rattle.file_tree.specs.rules.Listings.{number_after}
 use Rattle.file_tree.specs.laws.Laws.{node_number, content_of}

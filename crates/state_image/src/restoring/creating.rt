@@ -3,7 +3,8 @@
 ghost use Rattle.std.specs.Prelude.{◌≡◌, ◌↔◌, ◌+◌, ◌<◌, ◌≤◌, ◌^◌, ◌∷◌, [], ℕ, IsTrue, OnOk};
 ghost use Rattle.std.specs.Prelude.{length, map, Err};
 ghost use Rattle.file_tree.specs.declared.limits.TheConstants.{NODES};
-ghost use Rattle.file_tree.specs.rules.Files.{Directory, File, IsSmallContent, created_removed, fresh};
+ghost use Rattle.file_tree.specs.rules.Files.{Directory, File, IsSmallContent, created_removed};
+ghost use Rattle.file_tree.specs.rules.Files.{fresh};
 ghost use Rattle.state_image.specs.declared.restoring.fault.RestoreFault.TheVariants as fault;
 ghost use Rattle.state_image.specs.restoring.Told.{lent_held, lent_whole, told_content, CanCreate};
 ghost use Rattle.state_image.specs.restoring.Told.{BeginsWithRoot, IsMadeOf, RefusesTold};
