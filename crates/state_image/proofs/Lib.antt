@@ -26,3 +26,4 @@ mod WordLemmas
 mod Outermost
 mod ShownBounds
 pub mod ReachedWellTyped
+mod RestoreLemmas

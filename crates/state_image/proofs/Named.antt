@@ -4,36 +4,13 @@ use Rattle.std.proofs.Common.{append_assoc, arith}
 use Rattle.std.specs.List.{flat_map}
 use Rattle.std.proofs.lemmas.List.{length-map}
 use Rattle.wasi_abi.specs.rules.Layouts.{u16_bytes, u32_bytes, u64_bytes}
-use Rattle.wasi_abi.specs.rules.Numbers.{directory_type, regular_file}
 use Rattle.file_tree.specs.rules.Files.{Name, Files, FileNode, Content, Directory, File, Entry}
-use Rattle.file_tree.specs.rules.Files.{entries_of}
 use Rattle.state_image.specs.rules.Image.{items_bytes, entry_bytes, content_bytes, node_bytes}
 use Rattle.state_image.specs.rules.Image.{files_bytes}
+use Rattle.state_image.specs.restoring.Named.{Held, Entries, Bytes, NamedNode, held_of, named}
+use Rattle.state_image.specs.restoring.Named.{held_bytes, named_bytes}
 use Rattle.state_image.proofs.Fields.{IsIn, AreFew, Tells, same_front, cut, number_field}
 use Rattle.state_image.proofs.Fields.{items_field}
-
--- the entries of a directory, or the bytes of a file
-pub data Held : Type 0 where
-  Entries : List Entry → Held
-  Bytes : List ℕ → Held
-
-pub record NamedNode : Type 0 where
-  pub number : ℕ
-  pub held : Held
-
-abbrev pub held_of : Files → ℕ → Content → Held
-held_of fs k Directory = Entries (entries_of fs k)
-held_of fs k (File bytes) = Bytes bytes
-
-abbrev pub named : Files → FileNode → NamedNode
-named fs n = record { number = n.number; held = held_of fs n.number n.content }
-
-abbrev held_bytes : Held → List ℕ
-held_bytes (Entries es) = directory_type ∷ items_bytes entry_bytes es
-held_bytes (Bytes bytes) = regular_file ∷ (u64_bytes (length bytes) ++ bytes)
-
-abbrev named_bytes : NamedNode → List ℕ
-named_bytes n = u64_bytes n.number ++ held_bytes n.held
 
 -- ---- the image is made of what is named
 
@@ -130,7 +107,7 @@ pub record IsNamedIn (n : NamedNode) : Type 0 where
 named_node : ℕ → Held → NamedNode
 named_node number held = record { number = number; held = held }
 
-same_named : (m n : NamedNode) → m.number ≡ n.number → m.held ≡ n.held → m ≡ n
+pub same_named : (m n : NamedNode) → m.number ≡ n.number → m.held ≡ n.held → m ≡ n
 unfolding named_node
 same_named m n a b = let whole : named_node m.number m.held ≡ named_node n.number n.held = rw
     (a, b) refl in whole
@@ -156,7 +133,7 @@ pub record SameNamed (fs gs : Files) : Type 0 where
   pub next : fs.next ≡ gs.next
   pub nodes : map (named fs) fs.nodes ≡ map (named gs) gs.nodes
 
-files_named : (fs : Files) (rest : List ℕ)
+pub files_named : (fs : Files) (rest : List ℕ)
     → files_bytes fs ++ rest ≡
     (u64_bytes fs.next ++ items_bytes named_bytes (map (named fs) fs.nodes)) ++ rest
 files_named fs rest = ap (λ (bytes : List ℕ). (u64_bytes fs.next ++ bytes) ++ rest)

@@ -9,14 +9,15 @@ use Rattle.file_tree.specs.rules.Files.{Name, Path, Files, FileNode, Content, Di
 use Rattle.file_tree.specs.rules.Files.{Entry, node_of, path_of, is_directory, holds_directory}
 use Rattle.file_tree.specs.rules.Files.{is_directory_content, entries_in, sorted, entries_under}
 use Rattle.file_tree.specs.rules.Files.{entries_of, IsPlaced, HasPath, IsFiles}
-use Rattle.state_image.proofs.Named.{Entries, Bytes, NamedNode, held_of, named, SameNamed}
+use Rattle.state_image.specs.restoring.Named.{Entries, Bytes, NamedNode, held_of, named}
+use Rattle.state_image.proofs.Named.{SameNamed}
 use Rattle.state_image.proofs.Among.{IsAmong, all_among, among_all, found_among, found_own}
 use Rattle.state_image.proofs.Among.{one_path, entry_with, has_entry, is_entry_of, among_sorted}
 use Rattle.state_image.proofs.Among.{sorted_among}
 
 -- ---- what is named under a number
 
-named_found : (fs : Files) (k : ℕ) (ns : List FileNode)
+pub named_found : (fs : Files) (k : ℕ) (ns : List FileNode)
     → find (λ (n : NamedNode). eqb n.number k) (map (named fs) ns) ≡ option_map (named fs)
     (find (λ (n : FileNode). eqb n.number k) ns)
 named_found fs k [] = refl

@@ -1,3 +1,4 @@
 pub mod laws
 pub mod reading
 pub mod rules
+pub mod restoring

@@ -1,5 +1,6 @@
 //! The image of a process as bytes, version 1, and which images are accepted (this project's own).
-//! The code writes images, and reads their fields. No process is made of these yet.
+//! The code writes images, and reads their fields. Files are made of these again, and no process
+//! yet.
 //!
 //! # Promises
 //!
@@ -10,6 +11,11 @@
 //! - `reading` reads the fields of an image from the front of bytes, one by one. Each reader gives
 //!   what a function on lists gives, or nothing where that gives nothing. It takes no memory. That
 //!   these functions give the fields of `image` is not proved yet.
+//! - `restoring::restore_files` reads the tree whose files stand next in an image (`made`), or says
+//!   that no files with a next number of 64 bits stand there (`refused`).
+//! - `restoring::tree_of` makes a tree again of its next number and of what was told of its nodes
+//!   (`made`), or says that no files are told so (`refused`). `AreNamed` says what is told of
+//!   files.
 //! - `Sink` is a trait. What one push does is known by one relation, `takes`, which each
 //!   implementation names. `ByteSink` keeps the bytes that it takes, in order (`KeepsBytes`).
 //! - `laws::saves_what_is_shown`: what is saved of a process shows every process of the rules that
@@ -43,7 +49,9 @@
 //! - `Sinks.antt`: `Pushes` says what was done to a sink, push by push.
 //! - `WellTyped.antt`: `IsWellTyped` says which of these processes have images that are accepted.
 //!
-//! In `specs/reading/` stand the functions on lists that `reading` follows.
+//! In `specs/reading/` stand the functions on lists that `reading` follows. In `specs/restoring/`
+//! stands what is told of nodes (`Named.antt`), and when files are told so (`IsTold` of
+//! `Told.antt`).
 //!
 //! # Who may touch what
 //!
@@ -51,12 +59,14 @@
 //! cites the definitions, for the disk that stands for a worker. Only tests call the code yet. It
 //! reads a process by the questions of `process`, `machine`, `wasi_calls` and `file_tree`, and
 //! changes nothing of it. The image has no lines that wait: whoever writes one has released them.
-//! Only `write_image` and `ByteSink` take memory, and want of it is their only error.
+//! Only `write_image`, `ByteSink` and `restoring` take memory. Want of it is the only error of the
+//! first two.
 #![tactic(auto)]
 
 mod byte_sink;
 pub mod laws;
 pub mod reading;
+pub mod restoring;
 mod sink;
 mod writing;
 

@@ -1,0 +1,43 @@
+use Rattle.std.proofs.Common.{◌++◌, ◌≡◌, List, Some, Vec, Global, map, subst, sym}
+use Rattle.state_image.specs.rules.Image.{files_bytes}
+use Rattle.state_image.specs.declared.restoring.whole_node.WholeNode.{WholeNode}
+use Rattle.state_image.specs.restoring.Named.{NamedNode, AreNamed}
+use Rattle.state_image.specs.restoring.Parts.{wholes_at}
+use Rattle.state_image.specs.restoring.Told.{lent_whole}
+use Rattle.state_image.proofs.RestoreLemmas.Fronts.{files_made, no_number, no_nodes, files_told}
+use Rattle.state_image.proofs.RestoreLemmas.Lent.{fault_of}
+use Rattle.state_image.proofs.RestoreLemmas.Loops.{none_by, if_ok}
+use Rattle.state_image.proofs.restoring.files.restore_files.Goals as goal
+
+-- what is shown of the nodes that are read
+abbrev shown_nodes : Vec WholeNode Global → List NamedNode
+shown_nodes nodes = map lent_whole nodes.items
+
+pub returns-in_default-clause-refused : goal.returns-in_default-clause-refused
+returns-in_default-clause-refused c refused fs rest are next is =
+    no_number c.args.reader.now c.in_default.ensures fs rest are next is
+
+pub returns-in_err-nodes-clause-refused : goal.returns-in_err-nodes-clause-refused
+returns-in_err-nodes-clause-refused c refused fs rest are next is =
+    no_nodes c.args.reader.now c.u64.new.self c.in-Some.next c.in-Some.ensures
+    (none_by shown_nodes _ c.read_wholes.new.reader
+    (wholes_at c.u64.new.self) c.in_err-nodes.ensures
+    (fault_of c.from_residual.result _ c.from_residual.ensures.1 refused)) fs rest are next is
+
+pub returns-clause-made : goal.returns-clause-made
+returns-clause-made c =
+    if_ok (λ tree. AreNamed tree c.in-Some.next (map lent_whole c.as_slice.result.now))
+    (λ tree. c.args.reader.now ≡ files_bytes tree ++ c.read_wholes.new.reader) c.tree_of.result
+    c.tree_of.ensures.made
+    (λ tree told. files_made tree c.in-Some.next (map lent_whole c.in_ok-nodes.nodes.items)
+    c.args.reader.now c.u64.new.self c.read_wholes.new.reader c.requires c.in-Some.ensures
+    c.in_ok-nodes.ensures
+    (subst (λ xs. AreNamed tree c.in-Some.next (map lent_whole xs)) c.as_slice.ensures.value told))
+
+pub returns-clause-refused : goal.returns-clause-refused
+returns-clause-refused c refused fs rest are next is =
+    c.tree_of.ensures.refused refused fs
+    (files_told c.args.reader.now c.u64.new.self c.read_wholes.new.reader c.in-Some.next
+    (map lent_whole c.as_slice.result.now) c.in-Some.ensures
+    (subst (λ xs. wholes_at c.u64.new.self ≡ Some (map lent_whole xs, c.read_wholes.new.reader))
+    (sym c.as_slice.ensures.value) c.in_ok-nodes.ensures) fs rest are next is)
