@@ -133,12 +133,12 @@ front_of_map [] (suc k) = refl
 front_of_map (r ∷ records) zero = refl
 front_of_map (r ∷ records) (suc k) = ap (λ l. given_in r ∷ l) (front_of_map records k)
 
-length_of_map : (records : List Record) → length (map given_in records) ≡ length records
+pub length_of_map : (records : List Record) → length (map given_in records) ≡ length records
 length_of_map [] = refl
 length_of_map (r ∷ records) = ap (λ (n : ℕ). suc n) (length_of_map records)
 
 -- the answers of a front of the records
-front_kept : (front : List Kept) (records pending : List Record) (count : ℕ)
+pub front_kept : (front : List Kept) (records pending : List Record) (count : ℕ)
     → take (length front + length records + count) (front ++ map given_in (records ++ pending))
     ≡ front ++ map given_in (records ++ take count pending)
 front_kept front records pending count =

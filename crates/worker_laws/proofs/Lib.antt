@@ -7,3 +7,5 @@ pub mod Before
 pub mod Passing
 pub mod Keeping
 pub mod Reading
+pub mod Carrying
+pub mod Raising

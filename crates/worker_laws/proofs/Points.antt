@@ -70,12 +70,12 @@ closed_counts [] (f ∷ later) p = refl
 closed_counts (frame ∷ frames) [] p = refl
 closed_counts (frame ∷ frames) (f ∷ later) p = refl
 
-start_counts : (m : Module) (config : Settings) (guest : Guest) (p : ProcessState)
+pub start_counts : (m : Module) (config : Settings) (guest : Guest) (p : ProcessState)
     → IsStart m config guest p → p.steps ≡ 0
 start_counts m config guest p start = ap (λ (z : ProcessState). z.steps) start.is
     ∙ closed_counts start.first.thread start.first.later _
 
-steps_of : (m : Module) (config : Settings) (point : Savepoint m config)
+pub steps_of : (m : Module) (config : Settings) (point : Savepoint m config)
     → point.process.steps ≡ point.steps
 steps_of m config point =
     let reached = point.reached in

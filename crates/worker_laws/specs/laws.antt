@@ -5,3 +5,5 @@ pub mod Creations
 pub mod Journaled
 pub mod Moments
 pub mod Readings
+pub mod Carried
+pub mod Raised

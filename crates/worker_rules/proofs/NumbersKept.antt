@@ -111,7 +111,8 @@ move_keeps_numbers guest p q given moves has =
 
 pub runs_keep_numbers : RunsKeepNumbers
 runs_keep_numbers guest p q kept n (none {p = p'}) has = has
-runs_keep_numbers guest p q kept n (step {p = p'} {q = next} {kept = kept'} {n = k} moves rest) has =
+runs_keep_numbers guest p q kept n
+    (step {p = p'} {q = next} {kept = kept'} {n = k} moves rest) has =
     move_keeps_numbers guest p' next None moves
     (runs_keep_numbers guest next q kept' k rest has)
 runs_keep_numbers guest p q kept n
@@ -121,8 +122,9 @@ runs_keep_numbers guest p q kept n
 
 pub records_keep_numbers : RecordsKeepNumbers
 records_keep_numbers guest p q records (no_record {p = p'}) has = has
-records_keep_numbers guest p q records (more_records {p = p'} {q = before} {r = after} {s = last} {a = a}
-    {n = n} {records = rest} first moves recorded) has =
+records_keep_numbers guest p q records
+    (more_records {p = p'} {q = before} {r = after} {s = last} {a = a} {n = n} {records = rest}
+    first moves recorded) has =
     runs_keep_numbers guest p' before [] n first
     (move_keeps_numbers guest before after (Some a) moves
     (records_keep_numbers guest after last rest recorded has))
