@@ -25,7 +25,11 @@ module _ (m : Module) (config : Settings) (next : Savepoint m config) (kept : Li
   there = stands_at_its_point old m config kept n before.stands
 
   is_next : IsNextPoint (point_of before.stands) next
-  is_next = record { wasm = before.wasm; generation = before.generation }
+  is_next = record {
+    wasm = before.wasm;
+    generation = before.generation;
+    numbers = before.numbers;
+  }
 
   -- where it stands at the same savepoint
   stays_before : StandsAtPoint (point_of before.stands) before.stands.records before.stands.last
@@ -40,6 +44,7 @@ module _ (m : Module) (config : Settings) (next : Savepoint m config) (kept : Li
         wasm = before.wasm ∙ sym by.wasm;
         generation = subst (λ g. next.generation ≡ g + 1) (sym by.generation)
             before.generation;
+        numbers = before.numbers;
       }
 
 pub filling_keeps_standing : FillingKeepsStanding

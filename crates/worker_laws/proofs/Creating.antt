@@ -173,7 +173,7 @@ first_commit_keeps_no_super geometry version bytes old new none commits =
 -- ---- behind the first head
 
 pub first_commit_awaits_super : FirstCommitAwaitsSuper
-first_commit_awaits_super m config point old new first awaits replaces =
+first_commit_awaits_super m config point old new first numbers awaits replaces =
     let geometry : Geometry = places point in
     let g : ℕ = point.generation in
     record {
@@ -190,6 +190,7 @@ first_commit_awaits_super m config point old new first awaits replaces =
           (later_no_head g (journal_place geometry + k) (journal_from geometry k)) in
           subst (λ h. shown_generation (1 + k) (sector_at new (journal_place geometry + k)) < h)
           (sym first) (subst (λ s. shown_generation (1 + k) s < 1) (sym same) there);
+      numbers = numbers;
     }
 
 -- ---- the super
@@ -241,7 +242,7 @@ awaited_begins m config point old new awaits super same =
     let heads : (n : ℕ) → SameSector old new (head_place n) =
     λ n. same (head_place n) (omega arith) in
     let had = awaits.new in
-    new_point_begins m config point new
+    new_point_begins m config point new awaits.numbers
     (record {
       super = super;
       contents = contents_stay old new geometry.module_sectors

@@ -7,7 +7,7 @@ use Rattle.std.proofs.lemmas.List.{append-nil, map-append}
 use Rattle.std.proofs.Math.Seq.{take-append-add}
 use Rattle.wasm_syntax.specs.declared.module.Module.{Module}
 use Rattle.wasi_abi.specs.rules.Configs.{Settings}
-use Rattle.process_rules.specs.Processes.{ProcessState}
+use Rattle.process_rules.specs.Processes.{ProcessState, Guest}
 use Rattle.process_rules.specs.Runs.{Kept}
 use Rattle.sector_disk.specs.rules.Image.{Image}
 use Rattle.disk_layout.specs.rules.Places.{Geometry, journal_place}
@@ -18,6 +18,8 @@ use Rattle.journal.specs.rules.Steps.{SameOthers, ShowsNoneAfter}
 use Rattle.journal.proofs.RunLemmas.{all_bytes}
 use Rattle.journal.proofs.RecordLemmas.{scan_of}
 use Rattle.record_replay.specs.rules.Records.{Recorded, none, more, given_in}
+use Rattle.worker_rules.specs.Stands.{IsNumbered}
+use Rattle.worker_rules.proofs.NumbersKept.{records_keep_numbers}
 use Rattle.worker_laws.specs.laws.Savepoints.{Savepoint, places, point_of, StandsAtPoint}
 use Rattle.worker_laws.specs.laws.Barriers.{RecordedOnce, BarrierLeavesFront, BarrierLeavesAll}
 use Rattle.worker_laws.specs.laws.Barriers.{FrontStands, BarrierStands}
@@ -69,10 +71,10 @@ with_journal : (m : Module) (config : Settings) (point : Savepoint m config)
     → StandsAtPoint point records last old → SameOthers (places point) used old new
     → ShowsNoneAfter (places point) point.generation new
     → scan (places point) LONGEST_PAYLOAD new point.generation ≡ later
-    → Recorded point.reached.guest point.process later q
+    → Recorded point.reached.guest point.process later q → IsNumbered q
     → StandsAtPoint point later q new
 with_journal m config point records later last q used old new at others none_later scanned
-    recorded =
+    recorded numbers =
     let same = below_same (places point) used old new others in
     let now = at.none_later in
     record {
@@ -82,6 +84,7 @@ with_journal m config point records later last q used old new at others none_lat
       holds = image_below (places point) old new point.generation _ _ same at.holds;
       scanned = scanned;
       recorded = recorded;
+      numbers = numbers;
       none_later = none_later_of (places point) new point.generation
           (head_stays old new point.generation 1
           (same 1 (some_below (places point) 1 (omega arith))) now.first_head)
@@ -91,28 +94,31 @@ with_journal m config point records later last q used old new at others none_lat
     }
 
 pub barrier_leaves_front : BarrierLeavesFront
-barrier_leaves_front m config point records pending last q used old new at recorded appends =
-    let front = recorded_front point.reached.guest last q pending appends.count recorded in
-    let all = recorded_join point.reached.guest point.process last front.0 records
-    (take appends.count pending) at.recorded front.1 in
+barrier_leaves_front m config point records pending last q used old new at recorded numbers
+    appends =
+    let guest : Guest = point.reached.guest in
+    let front = recorded_front guest last q pending appends.count recorded in
+    let all = recorded_join guest point.process last front.process records
+    (take appends.count pending) at.recorded front.recorded in
     record {
       count = appends.count;
       within = appends.within;
-      process = front.0;
-      recorded = front.1;
+      process = front.process;
+      recorded = front.recorded;
       at = with_journal m config point records (records ++ take appends.count pending) last
-          front.0 used old new at appends.others appends.none_later appends.scanned all;
+          front.process used old new at appends.others appends.none_later appends.scanned all
+          (records_keep_numbers guest front.process q front.others front.on numbers);
     }
 
 pub barrier_leaves_all : BarrierLeavesAll
-barrier_leaves_all m config point records pending last q used count old new at recorded appends
-    fit fit_pending stands =
+barrier_leaves_all m config point records pending last q used count old new at recorded numbers
+    appends fit fit_pending stands =
     let scanned = scanned_all (places point) point.generation count (records ++ pending) new
     stands (both_fit records pending fit fit_pending) in
     let all = recorded_join point.reached.guest point.process last q records pending at.recorded
     recorded in
     with_journal m config point records (records ++ pending) last q used old new at
-    appends.others appends.none_later scanned all
+    appends.others appends.none_later scanned all numbers
 
 -- ---- what it stands for
 
@@ -127,12 +133,12 @@ front_of_map [] (suc k) = refl
 front_of_map (r ∷ records) zero = refl
 front_of_map (r ∷ records) (suc k) = ap (λ l. given_in r ∷ l) (front_of_map records k)
 
-length_of_map : (records : List Record) → length (map given_in records) ≡ length records
+pub length_of_map : (records : List Record) → length (map given_in records) ≡ length records
 length_of_map [] = refl
 length_of_map (r ∷ records) = ap (λ (n : ℕ). suc n) (length_of_map records)
 
 -- the answers of a front of the records
-front_kept : (front : List Kept) (records pending : List Record) (count : ℕ)
+pub front_kept : (front : List Kept) (records pending : List Record) (count : ℕ)
     → take (length front + length records + count) (front ++ map given_in (records ++ pending))
     ≡ front ++ map given_in (records ++ take count pending)
 front_kept front records pending count =
@@ -165,18 +171,19 @@ kept_further front kept records others rest =
     ∙ ap (λ l. front ++ l) (sym (map-append given_in records others))
 
 pub barrier_stands : BarrierStands
-barrier_stands m config kept n old new stands pending q used recorded appends =
+barrier_stands m config kept n old new stands pending q used recorded numbers appends =
     let point : Savepoint m config = point_of stands in
     let at = stands_at_its_point old m config kept n stands in
     let front = recorded_front stands.reached.guest stands.last q pending appends.count recorded in
     let more : List Record = take appends.count pending in
-    let all = recorded_join stands.reached.guest stands.process stands.last front.0 stands.records
-    more stands.recorded front.1 in
+    let all = recorded_join stands.reached.guest stands.process stands.last front.process
+    stands.records more stands.recorded front.recorded in
     let now = with_journal m config point stands.records (stands.records ++ more) stands.last
-    front.0 used old new at appends.others appends.none_later appends.scanned all in (
-      front.0,
-      front.1,
-      point_stands m config point (stands.records ++ more) front.0 new
+    front.process used old new at appends.others appends.none_later appends.scanned all
+    (records_keep_numbers stands.reached.guest front.process q front.others front.on numbers) in (
+      front.process,
+      front.recorded,
+      point_stands m config point (stands.records ++ more) front.process new
           (kept ++ map given_in more) now
           (kept_further stands.front kept stands.records more stands.rest),
     )

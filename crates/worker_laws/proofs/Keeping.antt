@@ -44,7 +44,7 @@ module _ {D : Type 0} (medium : D → Medium) where
       step_at_any_moment (medium old) (medium new) _ _ _ is.stands
       (λ a b at appends.
       barrier_leaves_front m config point records pending last now journal.used a b at
-      is.recorded
+      is.recorded is.numbers
       (subst (λ g. AppendsFront (places point) g journal.used records pending a b)
       is.generation appends)) leaves
 
@@ -59,7 +59,7 @@ module _ {D : Type 0} (medium : D → Medium) where
         stands = λ image left.
             let step = left_in_the_end (medium old) (medium new) _ leaves image left in
             barrier_leaves_all m config point records pending last now before.used after.used
-            step.0 image (is.stands step.0 step.1) is.recorded
+            step.0 image (is.stands step.0 step.1) is.recorded is.numbers
             (subst (λ g. AppendsFront (places point) g before.used records pending step.0 image)
             is.generation step.2)
             on.fit on.fit_kept
@@ -73,11 +73,12 @@ module _ {D : Type 0} (medium : D → Medium) where
           generation = subst (λ g. g < 2 ^ 64) (sym same) on.generation;
         };
         recorded = none;
+        numbers = is.numbers;
       }
 
   pub append_goes_on : AppendGoesOn medium
   append_goes_on m config point before after records pending last now asks next a n disk is runs
-      moves fits e =
+      moves fits numbers e =
       let r : Record = record { step = next.steps; answer = a } in
       let grown = appended_on (places point) before records pending r (medium disk) is.on fits in
       record {
@@ -88,6 +89,7 @@ module _ {D : Type 0} (medium : D → Medium) where
             (medium disk).may_leave) (sym e) grown;
         recorded = recorded_once point.reached.guest last now asks next pending a n is.recorded
             runs moves;
+        numbers = numbers;
       }
 
   pub stays_journaled : StaysJournaled medium
@@ -104,10 +106,11 @@ module _ {D : Type 0} (medium : D → Medium) where
           generation = on.generation;
         };
         recorded = is.recorded;
+        numbers = is.numbers;
       }
 
   pub begins_journaled : BeginsJournaled medium
-  begins_journaled m config point disk begins below = record {
+  begins_journaled m config point disk begins below numbers = record {
     generation = refl;
     stands = λ image left. (let begun = begins image left in begun.at);
     on = record {
@@ -120,4 +123,5 @@ module _ {D : Type 0} (medium : D → Medium) where
       generation = below;
     };
     recorded = none;
+    numbers = numbers;
   }

@@ -12,3 +12,5 @@ pub mod CallEnds
 pub mod Pieces
 pub mod Telling
 pub mod Reopening
+pub mod Carrying
+pub mod Raising

@@ -122,10 +122,10 @@ module _ {D : Type 0} (medium : D → Medium) where
       first_commit_keeps_no_super geometry version bytes a b none commits) leaves
 
   pub first_commit_in_the_end : FirstCommitInTheEnd medium
-  first_commit_in_the_end m config point old new first all follows =
+  first_commit_in_the_end m config point old new first numbers all follows =
       step_in_the_end (medium old) (medium new) _ _ _ all
       (λ a b awaits replaces.
-      first_commit_awaits_super m config point a b first awaits replaces) follows
+      first_commit_awaits_super m config point a b first numbers awaits replaces) follows
 
   pub super_at_any_moment : SuperAtAnyMoment medium
   super_at_any_moment m config point old new all leaves =

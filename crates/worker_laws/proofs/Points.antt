@@ -24,20 +24,42 @@ recorded_join guest p q r front rest (more {p = p'} {q = before} {r = after} {s 
     {n = n} {records = records} first moves recorded) b =
     more first moves (recorded_join guest after last r records rest recorded b)
 
--- so many of the first of them
+-- so many of the first of them lead to a process from which others lead on
+pub record HasFront (guest : Guest) (p q : ProcessState) (records : List Record) (count : ℕ)
+    : Type 0 where
+  pub process : ProcessState
+  pub recorded : Recorded guest p (take count records) process
+  pub others : List Record
+  pub on : Recorded guest process others q
+
 pub recorded_front : (guest : Guest) (p q : ProcessState) (records : List Record) (count : ℕ)
-    → Recorded guest p records q → (r : ProcessState) × Recorded guest p (take count records) r
+    → Recorded guest p records q → HasFront guest p q records count
 recorded_front guest p q records count (none {p = p'}) =
-    (p', subst (λ l. Recorded guest p' l p') (no_front count) none)
+    record {
+      process = p';
+      recorded = subst (λ l. Recorded guest p' l p') (no_front count) none;
+      others = [];
+      on = none;
+    }
   where
     no_front : (count : ℕ) → (let l : List Record = [] in l) ≡ take count []
     no_front zero = refl
     no_front (suc count) = refl
-recorded_front guest p q records zero (more {p = p'} first moves recorded) = (p', none)
+recorded_front guest p q records zero (more {p = p'} first moves recorded) = record {
+  process = p';
+  recorded = none;
+  others = _;
+  on = more first moves recorded;
+}
 recorded_front guest p q records (suc count) (more {p = p'} {q = before} {r = after} {s = last}
     {a = a} {n = n} {records = rest} first moves recorded) =
     let on = recorded_front guest after last rest count recorded in
-    (on.0, more first moves on.1)
+    record {
+      process = on.process;
+      recorded = more first moves on.recorded;
+      others = on.others;
+      on = on.on;
+    }
 
 -- ---- steps
 
@@ -48,12 +70,12 @@ closed_counts [] (f ∷ later) p = refl
 closed_counts (frame ∷ frames) [] p = refl
 closed_counts (frame ∷ frames) (f ∷ later) p = refl
 
-start_counts : (m : Module) (config : Settings) (guest : Guest) (p : ProcessState)
+pub start_counts : (m : Module) (config : Settings) (guest : Guest) (p : ProcessState)
     → IsStart m config guest p → p.steps ≡ 0
 start_counts m config guest p start = ap (λ (z : ProcessState). z.steps) start.is
     ∙ closed_counts start.first.thread start.first.later _
 
-steps_of : (m : Module) (config : Settings) (point : Savepoint m config)
+pub steps_of : (m : Module) (config : Settings) (point : Savepoint m config)
     → point.process.steps ≡ point.steps
 steps_of m config point =
     let reached = point.reached in
@@ -70,6 +92,7 @@ stands_at_its_point disk m config kept n stands = record {
   holds = stands.holds;
   scanned = stands.scanned;
   recorded = stands.recorded;
+  numbers = stands.numbers;
   none_later = stands.none_later;
 }
 
@@ -80,7 +103,8 @@ pub by_point : (m : Module) (config : Settings) (point : Savepoint m config)
 by_point m config point records last disk kept n at rest step = record {
   stands = record {
     wasm = point.wasm;
-    spelled = point.spelled;
+    accepted = point.accepted;
+    settings = point.settings;
     worker = at.worker;
     generation = point.generation;
     saved = point.saved;
@@ -98,6 +122,7 @@ by_point m config point records last disk kept n at rest step = record {
     rest = rest;
     last = last;
     recorded = at.recorded;
+    numbers = at.numbers;
     at_step = step;
     none_later = at.none_later;
   };

@@ -1,6 +1,6 @@
 -- What is read of an image that stands for a worker.
-use Rattle.std.proofs.Common.{◌≡◌, ℕ, List, length, take, Some, None, Ok, refl}
-use Rattle.std.proofs.Common.{sym, ap, ◌∙◌}
+use Rattle.std.proofs.Common.{◌≡◌, ◌^◌, ◌<◌, ◌≤◌, ℕ, List, length, take, Some, None, Ok, refl}
+use Rattle.std.proofs.Common.{sym, ap, ◌∙◌, arith}
 use Rattle.sha2.specs.Sha256.{sha256}
 use Rattle.wasm_syntax.specs.declared.module.Module.{Module}
 use Rattle.wasi_abi.specs.rules.Configs.{Settings}
@@ -23,10 +23,13 @@ use Rattle.worker_laws.specs.laws.Readings.{ReadsTheModule, FindsThePoint, Reads
 use Rattle.worker_laws.specs.laws.Readings.{ReadsUndamaged, FindsNewestPoint, ScansTheRecords}
 
 pub reads_the_module : ReadsTheModule
-reads_the_module m config point records last disk sectors answer at within long room of_disk
-    gives =
-    let written = reads_what_is_written sectors disk config point.wasm within long at.worker room
-    in
+reads_the_module m config point records last disk sectors answer at room of_disk gives =
+    let accepted = point.accepted in
+    let limits = accepted.limits in
+    let size : length point.wasm ≤ 2097152 = limits.size in
+    let long : length point.wasm < 2 ^ 32 = omega (arith, size) in
+    let written = reads_what_is_written sectors disk config point.wasm point.settings long at.worker
+    room in
     one_answer sectors disk answer
     (Ok (record { geometry = places point; config = config; wasm = point.wasm })) of_disk tt gives
     written

@@ -18,6 +18,7 @@ use Rattle.snapshot.specs.rules.Heads.{heads_to, IsReadyForHead}
 use Rattle.snapshot.specs.rules.Steps.{KeepsNewest, HasNew, IsOutsideArea}
 use Rattle.snapshot.proofs.AreaLemmas.{parity}
 use Rattle.record_replay.specs.rules.Records.{none}
+use Rattle.worker_rules.specs.Stands.{IsNumbered}
 use Rattle.worker_laws.specs.laws.Savepoints.{Savepoint, places, StandsAtPoint}
 use Rattle.worker_laws.specs.laws.Commits.{BeginsAtPoint, NewPointBegins, PointIsReady}
 use Rattle.worker_laws.specs.laws.Commits.{FillingKeepsPoint, IsNextPoint, CommitLeavesOneOfTwo}
@@ -104,6 +105,7 @@ kept_point m config point records last old new at super contents journal keeps =
       scanned = scan_stays (places point) old new point.generation _ (λ k below. journal k)
           ∙ at.scanned;
       recorded = at.recorded;
+      numbers = at.numbers;
       none_later = record {
         first_head = first_within new point.generation within;
         second_head = second_within new point.generation within;
@@ -134,7 +136,7 @@ no_records geometry g disk earlier = record {
 }
 
 pub new_point_begins : NewPointBegins
-new_point_begins m config point disk worker new earlier =
+new_point_begins m config point disk numbers worker new earlier =
     let within : heads_to disk ≤ point.generation = same_within _ _ new.heads in
     record {
       at = record {
@@ -143,6 +145,7 @@ new_point_begins m config point disk worker new earlier =
         scanned = scanned_all (places point) point.generation 0 [] disk
             (no_records (places point) point.generation disk earlier) tt;
         recorded = none;
+        numbers = numbers;
         none_later = none_later_of (places point) disk point.generation
             (first_within disk point.generation within)
             (second_within disk point.generation within)
@@ -159,14 +162,14 @@ new_point_begins m config point disk worker new earlier =
 
 -- with the bytes of another savepoint
 begins_with : (m : Module) (config : Settings) (next : Savepoint m config) (wasm : List ℕ)
-    (disk : Image) → next.wasm ≡ wasm → HasWorker config wasm disk
+    (disk : Image) → IsNumbered next.process → next.wasm ≡ wasm → HasWorker config wasm disk
     → HasNew (geometry_of config (length wasm)) next.generation IMAGE_VERSION (image next.saved)
     disk
     → ShowsEarlierThan (geometry_of config (length wasm)) next.generation disk
     → BeginsAtPoint next disk
-begins_with m config next wasm disk e worker new earlier =
+begins_with m config next wasm disk numbers e worker new earlier =
     let place : List ℕ → Geometry = λ w. geometry_of config (length w) in
-    new_point_begins m config next disk
+    new_point_begins m config next disk numbers
     (subst (λ w. HasWorker config w disk) (sym e) worker)
     (subst (λ w. HasNew (place w) next.generation IMAGE_VERSION (image next.saved) disk) (sym e)
     new)
@@ -213,7 +216,7 @@ module _ (m : Module) (config : Settings) (point next : Savepoint m config)
   new_begins : HasNew (places point) next.generation IMAGE_VERSION (image next.saved) new
       → BeginsAtPoint next new
   new_begins has =
-      begins_with m config next point.wasm new is_next.wasm
+      begins_with m config next point.wasm new is_next.numbers is_next.wasm
       (worker_stays config point.wasm old new super contents at.worker) has earlier
 
 pub commit_leaves_one_of_two : CommitLeavesOneOfTwo

@@ -10,3 +10,5 @@ pub mod CallEnds
 pub mod Pieces
 pub mod Telling
 pub mod Reopening
+pub mod Carried
+pub mod Raised

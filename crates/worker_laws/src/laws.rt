@@ -28,6 +28,16 @@ ghost use Rattle.worker_laws.specs.laws.Commits.{ReplacingBegins};
 ghost use Rattle.worker_laws.specs.laws.Readings.{ReadsTheModule, FindsThePoint, ReadsThePoint};
 ghost use Rattle.worker_laws.specs.laws.Readings.{ReadsUndamaged, FindsNewestPoint};
 ghost use Rattle.worker_laws.specs.laws.Readings.{ScansTheRecords};
+ghost use Rattle.worker_laws.specs.laws.Carried.{HeldAtStands, StandsHeldAt, LessIsHeld};
+ghost use Rattle.worker_laws.specs.laws.Carried.{NextIsHeld, FreshIsHeld, CheckpointIsHeld};
+ghost use Rattle.worker_laws.specs.laws.Carried.{OpeningIsHeld, PointIsAt, PointOpens};
+ghost use Rattle.worker_laws.specs.laws.Carried.{CarriedKeeps, BarrierCarries, BarrierCarriesOn};
+ghost use Rattle.worker_laws.specs.laws.Carried.{CommitCarries, StandingCarries};
+ghost use Rattle.worker_laws.specs.laws.Carried.{CreationCarries, BeginsCarried};
+ghost use Rattle.worker_laws.specs.laws.Raised.{AllSyncsAreHeld, QuietSyncsAreHeld};
+ghost use Rattle.worker_laws.specs.laws.Raised.{AnsweredSyncsAreHeld, AnswerIsOnRecord};
+ghost use Rattle.worker_laws.specs.laws.Raised.{ToldCarries, AskedCarries, EndedCarries};
+ghost use Rattle.worker_laws.specs.laws.Raised.{AppendCarries, CarriedIsReached};
 
 use sector_disk::Disk;
 
@@ -129,4 +139,47 @@ pub fn disks_give_what_they_stand_by()
     ensures undamaged { ReadsUndamaged }
     ensures newest { FindsNewestPoint }
     ensures records { ScansTheRecords }
+{}
+
+/// What stands at a savepoint holds of a promise what the savepoint and its records hold. A next
+/// savepoint holds that too, and what the end of a checkpoint or an opening promises there.
+pub fn savepoints_hold_promises()
+    ensures stands { HeldAtStands }
+    ensures held { StandsHeldAt }
+    ensures less { LessIsHeld }
+    ensures next { NextIsHeld }
+    ensures fresh { FreshIsHeld }
+    ensures checkpoint { CheckpointIsHeld }
+    ensures opening { OpeningIsHeld }
+    ensures at { PointIsAt }
+    ensures opens { PointOpens }
+{}
+
+/// The disk of an open worker keeps what is promised, between its calls, while each goes on and
+/// when it has ended, by Ok or by any error.
+pub fn disks_carry_promises<D: Disk>()
+    ensures keeps { CarriedKeeps D.medium }
+    ensures barrier { BarrierCarries D.medium }
+    ensures settled { BarrierCarriesOn D.medium }
+    ensures commit { CommitCarries D.medium }
+    ensures standing { StandingCarries D.medium }
+    ensures creation { CreationCarries D.medium }
+    ensures begins { BeginsCarried D.medium }
+{}
+
+/// Which syncs of the guest need no answer but those on the disk.
+pub fn syncs_are_held()
+    ensures all { AllSyncsAreHeld }
+    ensures quiet { QuietSyncsAreHeld }
+    ensures answered { AnsweredSyncsAreHeld }
+    ensures on_record { AnswerIsOnRecord }
+{}
+
+/// What the disk of an open worker keeps stays so while events promise more.
+pub fn events_carry_promises<D: Disk>()
+    ensures told { ToldCarries D.medium }
+    ensures asked { AskedCarries D.medium }
+    ensures ended { EndedCarries D.medium }
+    ensures appended { AppendCarries D.medium }
+    ensures reached { CarriedIsReached D.medium }
 {}

@@ -19,6 +19,13 @@
 //!   clauses of `journal`, `snapshot` and `disk_layout`.
 //! - `disks_give_what_they_stand_by`: what is read of a disk that stands for a worker is what it
 //!   stands by.
+//! - `savepoints_hold_promises`: what stands at a savepoint with its records holds of a promise
+//!   what these hold (`IsHeldAt`). The next savepoint holds that too, and what the end of a
+//!   checkpoint, or a life that opens there, promises.
+//! - `disks_carry_promises`: the disk of an open worker (`IsCarried`) keeps what is promised. So it
+//!   does at each moment of a barrier, of a commit and of a creation, and behind their errors.
+//! - `events_carry_promises`, `syncs_are_held`: so it is behind each event. Which syncs of the
+//!   guest need no answer but those on the disk follows from the steps between two barriers.
 //!
 //! The calls of `events` say how what a worker does becomes events of a life:
 //!
@@ -35,8 +42,9 @@
 //! None: those of `worker_rules`, `journal`, `snapshot` and `disk_layout` are enough. In
 //! `specs/laws/` stand second forms of them, which nobody has to believe: `Savepoint`,
 //! `StandsAtPoint` (`Savepoints.antt`), `StandsAtFront` (`Barriers.antt`), `BeginsAtPoint`
-//! and `StandsBefore` (`Commits.antt`), `AwaitsHead` and `AwaitsSuper` (`Creations.antt`), and
-//! `IsJournaled` (`Journaled.antt`).
+//! and `StandsBefore` (`Commits.antt`), `AwaitsHead` and `AwaitsSuper` (`Creations.antt`),
+//! `IsJournaled` (`Journaled.antt`), `IsHeldAt`, `SavesFront` and `IsCarried` (`Carried.antt`),
+//! `SyncsAreHeld` and `AreOnRecord` (`Raised.antt`).
 //!
 //! # Who may touch what
 //!

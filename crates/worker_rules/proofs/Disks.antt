@@ -1,6 +1,6 @@
 -- What disk images stand for.
-use Rattle.std.proofs.Common.{◌≡◌, ℕ, zero, suc, ◌+◌, ◌-◌, ◌%◌, ◌<◌, ◌≤◌, Bool, false, List, []}
-use Rattle.std.proofs.Common.{◌∷◌, ◌++◌, Some, if◌then◌else◌, refl, sym, ap, ◌∙◌, subst, arith}
+use Rattle.std.proofs.Common.{◌≡◌, ℕ, zero, suc, ◌+◌, ◌-◌, ◌%◌, ◌^◌, ◌<◌, ◌≤◌, Bool, false, List}
+use Rattle.std.proofs.Common.{[], ◌∷◌, ◌++◌, Some, if◌then◌else◌, refl, sym, ap, ◌∙◌, subst, arith}
 use Rattle.std.proofs.Common.{lit≤, get_or}
 use Rattle.std.specs.Prelude.{map, length, take}
 use Rattle.std.proofs.lemmas.Bool.{eq-eqb}
@@ -75,13 +75,22 @@ records_ascend guest p q records (more {p = p'} {q = before} {r = after} {s = la
     (omega (arith, counted, taken), records_ascend guest after last rest recorded)
 
 pub stands_by_its_parts : StandsByItsParts
-stands_by_its_parts disk m config kept n stands = record {
-  spelled = stands.spelled;
-  worker = stands.worker;
-  image = stands.holds;
-  records = sym stands.scanned;
-  kept_answers = stands.rest;
-}
+stands_by_its_parts disk m config kept n stands =
+    let accepted = stands.accepted in
+    let limits = accepted.limits in
+    let settings = stands.settings in
+    let range = settings.in_range in
+    let numbers = stands.numbers in
+    record {
+      spelled = accepted.spelled;
+      size = limits.size;
+      pages = range.pages;
+      worker = stands.worker;
+      image = stands.holds;
+      records = sym stands.scanned;
+      kept_answers = stands.rest;
+      steps = subst (λ k. k < 2 ^ 63) (sym stands.at_step) numbers.steps;
+    }
 
 -- ---- marks and generations
 

@@ -2,6 +2,7 @@ pub mod Fronts
 pub mod Promised
 pub mod ForGood
 pub mod NextLives
+pub mod NumbersKept
 pub mod Disks
 pub mod Refusing
 pub mod Honesty

@@ -1,12 +1,13 @@
 -- A disk image that stands for a worker (this project's own).
-use Rattle.std.specs.Prelude.{◌≡◌, ℕ, ◌+◌, ◌<◌, ◌≤◌, List, ◌++◌, length, map, Option}
+use Rattle.std.specs.Prelude.{◌≡◌, ℕ, ◌+◌, ◌^◌, ◌<◌, ◌≤◌, List, ◌++◌, length, map, Option}
 use Rattle.wasm_syntax.specs.declared.module.Module.{Module}
-use Rattle.wasm_syntax.specs.rules.Modules.{IsModule}
 use Rattle.wasm_syntax.specs.declared.types.FunctionType.{FunctionType}
+use Rattle.wasm_syntax_rules.specs.Acceptance.{IsAccepted}
 use Rattle.wasm_syntax_rules.specs.Validity.{AreFunctionTypes, module_context}
-use Rattle.wasi_abi.specs.rules.Configs.{Settings}
+use Rattle.wasi_abi.specs.rules.Configs.{Settings, AreSettingsWithinLimits}
 use Rattle.wasi_calls_rules.specs.declared.limits.TheConstants.{TEXT_BYTES}
-use Rattle.process_rules.specs.Processes.{ProcessState}
+use Rattle.machine.specs.rules.Offers.{offer}
+use Rattle.process_rules.specs.Processes.{ProcessState, HasLineNumbers}
 use Rattle.process_rules.specs.Runs.{Kept, Reaches}
 use Rattle.state_image.specs.rules.Image.{Saved, SavedShowsProcess, image}
 use Rattle.sector_disk.specs.rules.Image.{Image, sector_at}
@@ -23,14 +24,21 @@ pub record ShowsNoneLater (geometry : Geometry) (disk : Image) (g : ℕ) : Type 
   pub journal : (k : ℕ) → k < geometry.journal_sectors
       → shown_generation (k + 1) (sector_at disk (journal_place geometry + k)) ≤ g
 
--- On the disk stand the configuration, the module, and an image that the newest complete head
--- names, of a process to which the module comes on the first of the kept answers. All others are
--- the records of the journal of that generation, one by one, each at its step. Step n is that of
--- the last record, or, if there are no records, of the image.
+-- its steps and its lines are below the ends of their numbers
+pub record IsNumbered (p : ProcessState) : Type 0 where
+  pub steps : p.steps < 2 ^ 63
+  pub lines : HasLineNumbers p.host
+
+-- On the disk stand a configuration within its limits, bytes that are accepted as the module, and
+-- an image that the newest complete head names, of a process to which the module comes on the
+-- first of the kept answers. All others are the records of the journal of that generation, one by
+-- one, each at its step. Step n is that of the last record, or, if there are no records, of the
+-- image; up to there all numbers are below their ends.
 pub record StandsFor (disk : Image) (m : Module) (config : Settings) (kept : List Kept) (n : ℕ)
     : Type 0 where
   pub wasm : List ℕ
-  pub spelled : IsModule wasm m
+  pub accepted : IsAccepted offer config.pages wasm m
+  pub settings : AreSettingsWithinLimits config
   pub worker : HasWorker config wasm disk
   pub generation : ℕ
   pub saved : Saved
@@ -50,6 +58,7 @@ pub record StandsFor (disk : Image) (m : Module) (config : Settings) (kept : Lis
   pub rest : kept ≡ front ++ map given_in records
   pub last : ProcessState
   pub recorded : Recorded reached.guest process records last
+  pub numbers : IsNumbered last
   pub at_step : n ≡ last.steps
   pub none_later : ShowsNoneLater (geometry_of config (length wasm)) disk generation
 

@@ -11,6 +11,8 @@ ghost use Rattle.worker_rules.specs.laws.Found.{NoWorkerComes};
 ghost use Rattle.worker_rules.specs.laws.Found.{NextLifeFindsIt, LivesGoOn};
 ghost use Rattle.worker_rules.specs.laws.Disks.{StandsForWhatIsReached, RecordsAscend};
 ghost use Rattle.worker_rules.specs.laws.Disks.{StandsByItsParts, BlankStandsForNone};
+ghost use Rattle.worker_rules.specs.laws.Disks.{RunsKeepNumbers, RecordsKeepNumbers};
+ghost use Rattle.worker_rules.specs.laws.Disks.{SavedAreNumbered};
 ghost use Rattle.worker_rules.specs.laws.Disks.{NoLaterImage, NoLaterPayload, OneGeneration};
 ghost use Rattle.worker_rules.specs.laws.Disks.{DiskExamples};
 ghost use Rattle.worker_rules.specs.laws.Examples.{LivesExamples, PromiseExamples, CourseExamples};
@@ -71,6 +73,13 @@ pub fn disks_stand_for_what_is_reached()
     ensures reached { StandsForWhatIsReached }
     ensures in_order { RecordsAscend }
     ensures parts { StandsByItsParts }
+{}
+
+/// All that leads to where a disk stands has numbers below their ends.
+pub fn numbers_only_grow()
+    ensures runs { RunsKeepNumbers }
+    ensures records { RecordsKeepNumbers }
+    ensures saved { SavedAreNumbered }
 {}
 
 /// A disk stands for a worker by one generation, and without the marks of one for none.

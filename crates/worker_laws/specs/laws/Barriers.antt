@@ -10,7 +10,7 @@ use Rattle.disk_layout.specs.rules.Places.{geometry_of}
 use Rattle.disk_layout.specs.rules.Journal.{Record}
 use Rattle.journal.specs.rules.Steps.{AppendsFront, RecordsStand, AllRecordsFit}
 use Rattle.record_replay.specs.rules.Records.{Recorded, given_in}
-use Rattle.worker_rules.specs.Stands.{StandsFor}
+use Rattle.worker_rules.specs.Stands.{IsNumbered, StandsFor}
 use Rattle.worker_laws.specs.laws.Savepoints.{Savepoint, places, point_of, StandsAtPoint}
 use Rattle.worker_laws.specs.laws.Savepoints.{StandsBySaved}
 
@@ -41,7 +41,7 @@ BarrierLeavesFront =
     (m : Module) (config : Settings) (point : Savepoint m config) (records pending : List Record)
     (last q : ProcessState) (used : ℕ) (old new : Image)
     → StandsAtPoint point records last old → Recorded point.reached.guest last pending q
-    → AppendsFront (places point) point.generation used records pending old new
+    → IsNumbered q → AppendsFront (places point) point.generation used records pending old new
     → StandsAtFront point records last pending new
 
 -- Where all of them stand in the journal, it stands for all.
@@ -50,7 +50,7 @@ BarrierLeavesAll =
     (m : Module) (config : Settings) (point : Savepoint m config) (records pending : List Record)
     (last q : ProcessState) (used count : ℕ) (old new : Image)
     → StandsAtPoint point records last old → Recorded point.reached.guest last pending q
-    → AppendsFront (places point) point.generation used records pending old new
+    → IsNumbered q → AppendsFront (places point) point.generation used records pending old new
     → AllRecordsFit records → AllRecordsFit pending
     → RecordsStand (places point) point.generation count (records ++ pending) new
     → StandsAtPoint point (records ++ pending) q new
@@ -71,7 +71,7 @@ abbrev pub BarrierStands : Type 0
 BarrierStands =
     (m : Module) (config : Settings) (kept : List Kept) (n : ℕ) (old new : Image)
     (stands : StandsFor old m config kept n) (pending : List Record) (q : ProcessState) (used : ℕ)
-    → Recorded stands.reached.guest stands.last pending q
+    → Recorded stands.reached.guest stands.last pending q → IsNumbered q
     → (appends : AppendsFront (geometry_of config (length stands.wasm)) stands.generation used
     stands.records pending old new)
     → (r : ProcessState)

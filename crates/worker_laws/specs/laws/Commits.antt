@@ -12,7 +12,7 @@ use Rattle.disk_layout.specs.declared.head.TheConstants.{IMAGE_VERSION}
 use Rattle.journal.specs.laws.Laws.{ShowsEarlierThan}
 use Rattle.snapshot.specs.rules.Heads.{IsReadyForHead}
 use Rattle.snapshot.specs.rules.Steps.{HasNew, Fills, Commits, Replaces}
-use Rattle.worker_rules.specs.Stands.{StandsFor}
+use Rattle.worker_rules.specs.Stands.{IsNumbered, StandsFor}
 use Rattle.worker_laws.specs.laws.Savepoints.{Savepoint, places, StandsAtPoint}
 
 -- It stands at this savepoint without records, and no sector of the journal shows the generation.
@@ -25,7 +25,7 @@ pub record BeginsAtPoint {m : Module} {config : Settings} (point : Savepoint m c
 abbrev pub NewPointBegins : Type 0
 NewPointBegins =
     (m : Module) (config : Settings) (point : Savepoint m config) (disk : Image)
-    → HasWorker config point.wasm disk
+    → IsNumbered point.process → HasWorker config point.wasm disk
     → HasNew (places point) point.generation IMAGE_VERSION (image point.saved) disk
     → ShowsEarlierThan (places point) point.generation disk
     → BeginsAtPoint point disk
@@ -45,11 +45,12 @@ FillingKeepsPoint =
     → Fills (places point) (point.generation + 1) old new
     → StandsAtPoint point records last new
 
--- of the same bytes of the module, and of the next generation
+-- of the same bytes of the module, and of the next generation; its numbers are below their ends
 pub record IsNextPoint {m : Module} {config : Settings} (point next : Savepoint m config)
     : Type 0 where
   pub wasm : next.wasm ≡ point.wasm
   pub generation : next.generation ≡ point.generation + 1
+  pub numbers : IsNumbered next.process
 
 -- whatever a commit of another savepoint has left, it stands at the one or at the other
 abbrev pub CommitLeavesOneOfTwo : Type 0
@@ -71,12 +72,14 @@ CommitBeginsNext =
 
 -- ---- whatever it stands by
 
--- It stands for these answers at this step, by the generation before that of the savepoint.
+-- It stands for these answers at this step, by the generation before that of the savepoint, whose
+-- numbers are below their ends.
 pub record StandsBefore {m : Module} {config : Settings} (next : Savepoint m config)
     (kept : List Kept) (n : ℕ) (disk : Image) : Type 0 where
   pub stands : StandsFor disk m config kept n
   pub wasm : next.wasm ≡ stands.wasm
   pub generation : next.generation ≡ stands.generation + 1
+  pub numbers : IsNumbered next.process
 
 -- Until the savepoint is there, it stands for the same.
 abbrev pub FillingKeepsStanding : Type 0

@@ -15,7 +15,7 @@ use Rattle.disk_layout.specs.declared.head.TheConstants.{IMAGE_VERSION}
 use Rattle.journal.specs.laws.Laws.{ShowsEarlierThan}
 use Rattle.snapshot.specs.rules.Heads.{HasNone, heads_to}
 use Rattle.snapshot.specs.rules.Steps.{HasNew, Fills, Commits, Replaces}
-use Rattle.worker_rules.specs.Stands.{IsBlank}
+use Rattle.worker_rules.specs.Stands.{IsNumbered, IsBlank}
 use Rattle.worker_laws.specs.laws.Savepoints.{Savepoint, places, StandsBySaved}
 use Rattle.worker_laws.specs.laws.Commits.{BeginsAtPoint}
 
@@ -97,7 +97,7 @@ FirstCommitKeepsNoSuper =
 
 -- ---- behind the first head
 
--- The savepoint is there, but for the super.
+-- The savepoint is there, but for the super, and its numbers are below their ends.
 pub record AwaitsSuper {m : Module} {config : Settings} (point : Savepoint m config) (disk : Image)
     : Type 0 where
   pub no_super : HasNoSuper disk
@@ -105,11 +105,12 @@ pub record AwaitsSuper {m : Module} {config : Settings} (point : Savepoint m con
       (config_bytes config ++ point.wasm)
   pub new : HasNew (places point) point.generation IMAGE_VERSION (image point.saved) disk
   pub journal : ShowsEarlierThan (places point) point.generation disk
+  pub numbers : IsNumbered point.process
 
 abbrev pub FirstCommitAwaitsSuper : Type 0
 FirstCommitAwaitsSuper =
     (m : Module) (config : Settings) (point : Savepoint m config) (old new : Image)
-    → point.generation ≡ 1 → AwaitsHead config point.wasm old
+    → point.generation ≡ 1 → IsNumbered point.process → AwaitsHead config point.wasm old
     → Replaces (places point) point.generation IMAGE_VERSION (image point.saved) old new
     → AwaitsSuper point new
 

@@ -11,13 +11,14 @@ use Rattle.disk_layout.specs.rules.Journal.{Record, record_bytes}
 use Rattle.journal.specs.rules.State.{JournalState, state}
 use Rattle.journal.specs.rules.Steps.{AppendsFront, RecordsStand, RecordFits, IsOn}
 use Rattle.record_replay.specs.rules.Records.{Recorded}
+use Rattle.worker_rules.specs.Stands.{IsNumbered}
 use Rattle.worker_laws.specs.laws.Savepoints.{Savepoint, places, StandsAtPoint}
 use Rattle.worker_laws.specs.laws.Barriers.{StandsAtFront}
 use Rattle.worker_laws.specs.laws.Commits.{BeginsAtPoint}
 
 -- Whatever a cut leaves of the disk stands at this savepoint, with these records, which lead to
 -- the first process. The journal holds them, and in memory those behind them, which lead on to the
--- second process.
+-- second process. Its numbers are below their ends.
 pub record IsJournaled {m : Module} {config : Settings} (point : Savepoint m config)
     (journal : JournalState) (records pending : List Record) (last now : ProcessState)
     (disk : Medium) : Type 0 where
@@ -26,6 +27,7 @@ pub record IsJournaled {m : Module} {config : Settings} (point : Savepoint m con
   pub on : IsOn (places point) journal.generation journal.used journal.kept records pending
       disk.may_leave
   pub recorded : Recorded point.reached.guest last pending now
+  pub numbers : IsNumbered now
 
 -- a cut at any moment of a barrier leaves a front of the pending records
 abbrev pub BarrierAtAnyMoment : {D : Type 0} → (D → Medium) → Type 0
@@ -60,7 +62,7 @@ AppendGoesOn {D} medium =
     (disk : D) → (let r : Record = record { step = next.steps; answer = a } in
     IsJournaled point before records pending last now (medium disk)
     → Runs point.reached.guest now [] n asks → Moves point.reached.guest asks (Some a) next
-    → RecordFits r
+    → RecordFits r → IsNumbered next
     → after ≡ state before.generation before.used (before.kept ++ record_bytes r) false
     → IsJournaled point after records (pending ++ r ∷ []) last next (medium disk))
 
@@ -78,6 +80,6 @@ abbrev pub BeginsJournaled : {D : Type 0} → (D → Medium) → Type 0
 BeginsJournaled {D} medium =
     (m : Module) (config : Settings) (point : Savepoint m config) (disk : D)
     → ((image : Image) → (medium disk).may_leave image → BeginsAtPoint point image)
-    → point.generation < 2 ^ 64
+    → point.generation < 2 ^ 64 → IsNumbered point.process
     → IsJournaled point (state point.generation 0 [] false) [] [] point.process point.process
     (medium disk)

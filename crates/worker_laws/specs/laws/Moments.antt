@@ -16,7 +16,7 @@ use Rattle.disk_layout.specs.declared.geometry.Geometry.{Geometry}
 use Rattle.disk_layout.specs.declared.geometry.TheConstants.{MODULE_PLACE}
 use Rattle.disk_layout.specs.declared.head.TheConstants.{IMAGE_VERSION}
 use Rattle.snapshot.specs.rules.Steps.{Fills, Commits, Replaces}
-use Rattle.worker_rules.specs.Stands.{IsBlank}
+use Rattle.worker_rules.specs.Stands.{IsNumbered, IsBlank}
 use Rattle.worker_laws.specs.laws.Savepoints.{Savepoint, places, StandsAtPoint}
 use Rattle.worker_laws.specs.laws.Commits.{BeginsAtPoint, IsNextPoint, StandsBefore}
 use Rattle.worker_laws.specs.laws.Creations.{zero_sector, HasNoSuper, AwaitsHead, AwaitsSuper}
@@ -150,7 +150,8 @@ FirstCommitAtAnyMoment {D} medium =
 abbrev pub FirstCommitInTheEnd : {D : Type 0} → (D → Medium) → Type 0
 FirstCommitInTheEnd {D} medium =
     (m : Module) (config : Settings) (point : Savepoint m config) (old new : D)
-    → point.generation ≡ 1 → LeavesAll (medium old) (AwaitsHead config point.wasm)
+    → point.generation ≡ 1 → IsNumbered point.process
+    → LeavesAll (medium old) (AwaitsHead config point.wasm)
     → Follows (Replaces (places point) point.generation IMAGE_VERSION (image point.saved))
     (medium old).may_leave (medium new).may_leave
     → LeavesAll (medium new) (AwaitsSuper point)

@@ -1,9 +1,9 @@
 -- What is read of a disk that stands for a worker is what it stands by.
-use Rattle.std.specs.Prelude.{◌≡◌, ℕ, ◌^◌, ◌<◌, ◌≤◌, List, length, Vec, Option, Some, None, Result}
+use Rattle.std.specs.Prelude.{◌≡◌, ℕ, ◌≤◌, List, Vec, Option, Some, None, Result}
 use Rattle.std.specs.Prelude.{Ok, Err}
 use Rattle.std.specs.declared.alloc.Global.{Global}
 use Rattle.wasm_syntax.specs.declared.module.Module.{Module}
-use Rattle.wasi_abi.specs.rules.Configs.{Settings, AreSettingsWithinLimits}
+use Rattle.wasi_abi.specs.rules.Configs.{Settings}
 use Rattle.process_rules.specs.Processes.{ProcessState}
 use Rattle.state_image.specs.rules.Image.{image}
 use Rattle.sector_disk.specs.rules.Image.{Image}
@@ -27,8 +27,7 @@ abbrev pub ReadsTheModule : Type 0
 ReadsTheModule =
     (m : Module) (config : Settings) (point : Savepoint m config) (records : List Record)
     (last : ProcessState) (disk : Image) (sectors : ℕ) (answer : Result Contents LayoutFault)
-    → StandsAtPoint point records last disk → AreSettingsWithinLimits config
-    → length point.wasm < 2 ^ 32 → total_sectors (places point) ≤ sectors
+    → StandsAtPoint point records last disk → total_sectors (places point) ≤ sectors
     → IsOfTheDisk answer → GivesContents sectors disk answer
     → answer ≡ Ok (record { geometry = places point; config = config; wasm = point.wasm })
 

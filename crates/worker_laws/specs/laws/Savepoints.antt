@@ -1,11 +1,12 @@
 -- What a disk image stands by, apart from the image itself: a savepoint, and records behind it.
 use Rattle.std.specs.Prelude.{◌≡◌, ℕ, List, [], ◌++◌, length, map, Option}
 use Rattle.wasm_syntax.specs.declared.module.Module.{Module}
-use Rattle.wasm_syntax.specs.rules.Modules.{IsModule}
 use Rattle.wasm_syntax.specs.declared.types.FunctionType.{FunctionType}
+use Rattle.wasm_syntax_rules.specs.Acceptance.{IsAccepted}
 use Rattle.wasm_syntax_rules.specs.Validity.{AreFunctionTypes, module_context}
-use Rattle.wasi_abi.specs.rules.Configs.{Settings}
+use Rattle.wasi_abi.specs.rules.Configs.{Settings, AreSettingsWithinLimits}
 use Rattle.wasi_calls_rules.specs.declared.limits.TheConstants.{TEXT_BYTES}
+use Rattle.machine.specs.rules.Offers.{offer}
 use Rattle.process_rules.specs.Processes.{ProcessState}
 use Rattle.process_rules.specs.Runs.{Kept, Reaches}
 use Rattle.state_image.specs.rules.Image.{Saved, SavedShowsProcess, image}
@@ -15,13 +16,14 @@ use Rattle.disk_layout.specs.rules.Sectors.{HasWorker, HoldsImage}
 use Rattle.disk_layout.specs.rules.Journal.{Record, scan}
 use Rattle.disk_layout.specs.declared.head.TheConstants.{IMAGE_VERSION}
 use Rattle.record_replay.specs.rules.Records.{Recorded, given_in}
-use Rattle.worker_rules.specs.Stands.{ShowsNoneLater, StandsFor}
+use Rattle.worker_rules.specs.Stands.{ShowsNoneLater, IsNumbered, StandsFor}
 
--- The bytes of a module, and a process to which it comes on these answers, as it is saved in a
--- generation.
+-- The bytes of a module, which are accepted, and a process to which it comes on these answers, as
+-- it is saved in a generation.
 pub record Savepoint (m : Module) (config : Settings) : Type 0 where
   pub wasm : List ℕ
-  pub spelled : IsModule wasm m
+  pub accepted : IsAccepted offer config.pages wasm m
+  pub settings : AreSettingsWithinLimits config
   pub generation : ℕ
   pub saved : Saved
   pub front : List Kept
@@ -39,13 +41,14 @@ abbrev pub places : {m : Module} {config : Settings} → Savepoint m config → 
 places {config = config} point = geometry_of config (length point.wasm)
 
 -- The savepoint is on the disk, and these are the records of its journal, which lead from its
--- process to this one.
+-- process to this one. Its numbers are below their ends.
 pub record StandsAtPoint {m : Module} {config : Settings} (point : Savepoint m config)
     (records : List Record) (last : ProcessState) (disk : Image) : Type 0 where
   pub worker : HasWorker config point.wasm disk
   pub holds : HoldsImage (places point) disk point.generation IMAGE_VERSION (image point.saved)
   pub scanned : scan (places point) TEXT_BYTES disk point.generation ≡ records
   pub recorded : Recorded point.reached.guest point.process records last
+  pub numbers : IsNumbered last
   pub none_later : ShowsNoneLater (places point) disk point.generation
 
 -- what an image stands by
@@ -53,7 +56,8 @@ abbrev pub point_of : {disk : Image} {m : Module} {config : Settings} {kept : Li
     → StandsFor disk m config kept n → Savepoint m config
 point_of stands = record {
   wasm = stands.wasm;
-  spelled = stands.spelled;
+  accepted = stands.accepted;
+  settings = stands.settings;
   generation = stands.generation;
   saved = stands.saved;
   front = stands.front;

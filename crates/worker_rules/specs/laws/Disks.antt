@@ -1,5 +1,5 @@
 -- Laws of the disk images that stand for a worker.
-use Rattle.std.specs.Prelude.{◌≡◌, ℕ, ◌+◌, ◌-◌, ◌<◌, ◌≤◌, List, [], ◌∷◌, ◌++◌, length, map}
+use Rattle.std.specs.Prelude.{◌≡◌, ℕ, ◌+◌, ◌-◌, ◌^◌, ◌<◌, ◌≤◌, List, [], ◌∷◌, ◌++◌, length, map}
 use Rattle.std.specs.Prelude.{replicate, take}
 use Rattle.wasm_syntax.specs.declared.module.Module.{Module}
 use Rattle.wasm_syntax.specs.rules.Modules.{IsModule}
@@ -7,13 +7,13 @@ use Rattle.wasi_calls_rules.specs.declared.limits.TheConstants.{TEXT_BYTES}
 use Rattle.state_image.specs.rules.Image.{image}
 use Rattle.wasi_abi.specs.rules.Configs.{Settings}
 use Rattle.process_rules.specs.Processes.{ProcessState, Guest}
-use Rattle.process_rules.specs.Runs.{Kept, Reaches}
+use Rattle.process_rules.specs.Runs.{Kept, Runs, Reaches}
 use Rattle.sector_disk.specs.rules.Image.{Image}
 use Rattle.disk_layout.specs.rules.Places.{Geometry, geometry_of, journal_place}
 use Rattle.disk_layout.specs.rules.Sectors.{super_bytes, head_bytes, HasWorker, HoldsImage}
 use Rattle.disk_layout.specs.rules.Journal.{Record, journal_sector, payloads_from, scan}
 use Rattle.record_replay.specs.rules.Records.{Recorded, given_in}
-use Rattle.worker_rules.specs.Stands.{ShowsNoneLater, StandsFor, IsBlank}
+use Rattle.worker_rules.specs.Stands.{ShowsNoneLater, IsNumbered, StandsFor, IsBlank}
 use Rattle.sector_disk.specs.declared.sector.TheConstants.{SECTOR_SIZE}
 use Rattle.disk_layout.specs.declared.head.TheConstants.{IMAGE_VERSION}
 use Rattle.disk_layout.specs.declared.record.TheConstants.{LONGEST_PAYLOAD}
@@ -35,6 +35,23 @@ abbrev pub RecordsAscend : Type 0
 RecordsAscend =
     (guest : Guest) (p q : ProcessState) (records : List Record)
     → Recorded guest p records q → IsAscending p.steps records q.steps
+
+-- Numbers only grow: what leads to a process whose numbers are below their ends has such too,
+abbrev pub RunsKeepNumbers : Type 0
+RunsKeepNumbers =
+    (guest : Guest) (p q : ProcessState) (kept : List Kept) (n : ℕ)
+    → Runs guest p kept n q → IsNumbered q → IsNumbered p
+
+abbrev pub RecordsKeepNumbers : Type 0
+RecordsKeepNumbers =
+    (guest : Guest) (p q : ProcessState) (records : List Record)
+    → Recorded guest p records q → IsNumbered q → IsNumbered p
+
+-- and so has the process of the image of which a disk stands for a worker.
+abbrev pub SavedAreNumbered : Type 0
+SavedAreNumbered =
+    (disk : Image) (m : Module) (config : Settings) (kept : List Kept) (n : ℕ)
+    → (stands : StandsFor disk m config kept n) → IsNumbered stands.process
 
 -- a disk without a worker stands for none
 abbrev pub BlankStandsForNone : Type 0
@@ -62,17 +79,21 @@ OneGeneration =
     → (left : StandsFor disk m config kept n) → (right : StandsFor disk other settings others k)
     → left.generation ≡ right.generation
 
--- What a disk stands by, with its numbers: the module that its bytes spell, an image of version 1,
--- and records of at most 4,096 bytes each. The kept answers are those of the image and of these.
+-- What a disk stands by, with its numbers: the module that its bytes spell, at most 2 MiB of them,
+-- an image of version 1, and records of at most 4,096 bytes each. The kept answers are those of the
+-- image and of these. A worker has between 1 and 256 pages, and fewer than 2 ^ 63 steps.
 pub record StandsBy (disk : Image) (m : Module) (config : Settings) (kept : List Kept) (n : ℕ)
     (stands : StandsFor disk m config kept n) : Type 0 where
   pub spelled : IsModule stands.wasm m
+  pub size : length stands.wasm ≤ 2 ^ 21
+  pub pages : (1 ≤ config.pages) × (config.pages ≤ 256)
   pub worker : HasWorker config stands.wasm disk
   pub image : HoldsImage (geometry_of config (length stands.wasm)) disk stands.generation 1
       (image stands.saved)
   pub records : stands.records
       ≡ scan (geometry_of config (length stands.wasm)) 4096 disk stands.generation
   pub kept_answers : kept ≡ stands.front ++ map given_in stands.records
+  pub steps : n < 2 ^ 63
 
 abbrev pub StandsByItsParts : Type 0
 StandsByItsParts =
