@@ -1,7 +1,7 @@
 pub mod FieldLemmas
 pub mod HeadLemmas
 mod TextLemmas
-mod ContentsLemmas
+pub mod ContentsLemmas
 pub mod ReadLemmas
 pub mod StampLemmas
 pub mod JournalLemmas

@@ -1,0 +1,239 @@
+-- The calls of a store, by the laws of the worker on its disk.
+use Rattle.std.proofs.Common.{◌≡◌, ◌<◌, ◌≤◌, ◌⊎◌, ◌^◌, ℕ, ◌+◌, List, [], ◌++◌}
+use Rattle.std.proofs.Common.{length}
+use Rattle.std.proofs.Common.{refl, sym, ap, ◌∙◌, subst, ⊎_elim, arith, false}
+use Rattle.std.proofs.lemmas.List.{length-append}
+use Rattle.sector_disk.specs.rules.Image.{Image}
+use Rattle.sector_disk.specs.rules.Medium.{Medium, After, Follows, IsAllSynced, LeavesOnly}
+use Rattle.disk_layout.specs.declared.geometry.Geometry.{Geometry}
+use Rattle.disk_layout.specs.declared.head.TheConstants.{IMAGE_VERSION}
+use Rattle.disk_layout.specs.rules.Places.{total_sectors}
+use Rattle.disk_layout.specs.rules.Journal.{Record, record_bytes}
+use Rattle.journal.specs.rules.State.{JournalState, state}
+use Rattle.journal.specs.rules.Steps.{AppendsFront, RecordsStand, IsOn}
+use Rattle.snapshot.specs.rules.Steps.{Commits, Replaces}
+use Rattle.process.specs.rules.Values.{ProcessValue}
+use Rattle.state_image.specs.rules.Image.{image}
+use Rattle.state_image.specs.rules.Saving.{saved_of}
+use Rattle.disk_layout.specs.rules.Places.{geometry_of}
+use Rattle.wasm_syntax.specs.declared.module.Module.{Module}
+use Rattle.wasi_abi.specs.rules.Configs.{Settings}
+use Rattle.worker_laws.specs.laws.Commits.{BeginsAtPoint}
+use Rattle.worker_laws.specs.laws.Moments.{LeavesAll}
+use Rattle.worker_laws.specs.laws.Savepoints.{Savepoint, places}
+use Rattle.worker_laws.specs.laws.Journaled.{IsJournaled}
+use Rattle.worker_laws.proofs.Keeping.{barrier_at_any_moment, barrier_in_the_end}
+use Rattle.worker_laws.proofs.Keeping.{append_goes_on, begins_journaled}
+use Rattle.worker_laws.proofs.Passing.{commit_at_any_moment, commit_in_the_end}
+use Rattle.worker_laws.proofs.Passing.{commit_keeps_at_any_moment, commit_keeps_in_the_end}
+use Rattle.worker_store.specs.declared.store.WorkerStore.{WorkerStore}
+use Rattle.worker_store.specs.laws.Laws.{AppendStores}
+use Rattle.worker_store.specs.rules.Stores.{IsStoreOf}
+use Rattle.worker_store.specs.rules.Calls.{LeavesBeforeOrNext, StoresAgain}
+use Rattle.worker_store.specs.rules.Calls.{LeavesFronts, StoresAll, LeavesOneOfTwo, StoresNext}
+
+-- ---- records
+
+module _ {D : Type 0} (medium : D → Medium) where
+  pub append_stores : AppendStores medium
+  append_stores m config point store records pending last now asks next a n disk is runs moves fits
+      room =
+      let r : Record = record { step = next.steps; answer = a } in
+      let more = length-append store.journal.kept (record_bytes r) in
+      let many = ap (λ (g : Geometry). g.journal_sectors) is.geometry in
+      record {
+        works = is.works;
+        journal_works = refl;
+        geometry = is.geometry;
+        journaled =
+            append_goes_on medium m config point store.journal
+            (state store.journal.generation store.journal.used
+            (store.journal.kept ++ record_bytes r) false) records pending last now asks next a n
+            disk is.journaled runs moves fits refl;
+        fits = omega (arith, more, many, room, is.fits);
+        sectors = is.sectors;
+        settled = is.settled;
+        early = is.early;
+      }
+
+  -- what a barrier leaves, and what it leaves after Ok
+  module _ (before : WorkerStore) (old new : D)
+      (leaves : (records kept : List Record)
+      → IsOn before.geometry before.journal.generation before.journal.used before.journal.kept
+      records kept (medium old).may_leave
+      → LeavesOnly (medium old) (medium new)
+      (After (AppendsFront before.geometry before.journal.generation before.journal.used records
+      kept) (medium old).may_leave)) where
+    pub barrier_leaves : LeavesFronts before (medium old) (medium new)
+    barrier_leaves m config point records pending last now is =
+        let journal = before.journal in
+        let journaled = is.journaled in
+        barrier_at_any_moment medium m config point journal records pending last now old new
+        journaled
+        (subst (λ (g : Geometry). LeavesOnly (medium old) (medium new)
+        (After (AppendsFront g journal.generation journal.used records pending)
+        (medium old).may_leave)) is.geometry
+        (leaves records pending
+        (subst (λ (g : Geometry). IsOn g journal.generation journal.used journal.kept records
+        pending (medium old).may_leave) (sym is.geometry) journaled.on)))
+
+    pub barrier_stores : (after : WorkerStore) (used : ℕ)
+        → after.journal ≡ state before.journal.generation used [] false
+        → after.geometry ≡ before.geometry → after.has_failed ≡ false
+        → ((records kept : List Record)
+        → IsOn before.geometry before.journal.generation before.journal.used before.journal.kept
+        records kept (medium old).may_leave → (image : Image) → (medium new).may_leave image
+        → RecordsStand before.geometry after.journal.generation after.journal.used
+        (records ++ kept) image)
+        → (length before.journal.kept ≡ 0) ⊎ IsAllSynced (medium new)
+        → (length before.journal.kept ≡ 0 → new ≡ old)
+        → StoresAll before after (medium old) (medium new)
+    barrier_stores after used e same works durable settled quiet m config point records pending last
+        now is =
+        let journal = before.journal in
+        let journaled = is.journaled in
+        let on : IsOn before.geometry journal.generation journal.used journal.kept records pending
+        (medium old).may_leave =
+        subst (λ (g : Geometry). IsOn g journal.generation journal.used journal.kept records
+        pending (medium old).may_leave) (sym is.geometry) journaled.on in
+        let all = leaves records pending on in
+        let p = all.passes in
+        let none = ap (λ (j : JournalState). length j.kept) e in
+        record {
+          works = works;
+          journal_works = ap (λ (j : JournalState). j.has_failed) e;
+          geometry = same ∙ is.geometry;
+          journaled =
+              barrier_in_the_end medium m config point journal after.journal records pending last
+              now used old new journaled
+              (subst (λ (g : Geometry). LeavesOnly (medium old) (medium new)
+              (After (AppendsFront g journal.generation journal.used records pending)
+              (medium old).may_leave)) is.geometry all) e
+              (subst (λ (g : Geometry). (image : Image) → (medium new).may_leave image
+              → RecordsStand g after.journal.generation after.journal.used (records ++ pending)
+              image) is.geometry (durable records pending on));
+          fits = omega (arith, none);
+          sectors = let s = is.sectors in omega (arith, s, p.sectors);
+          settled = ⊎_elim (λ quiet_one. subst (λ (d : D). IsAllSynced (medium d))
+              (sym (quiet quiet_one)) is.settled) (λ done. done) settled;
+          early = is.early;
+        }
+
+  -- a disk that begins at a savepoint, with a fresh journal
+  pub begun_stored : (m : Module) (config : Settings) (point : Savepoint m config)
+      (store : WorkerStore)
+      (new : D) (g : ℕ) → g ≡ point.generation → g < 2 ^ 63 → store.has_failed ≡ false
+      → store.geometry ≡ places point → store.journal ≡ state g 0 [] false
+      → total_sectors store.geometry ≤ (medium new).sectors → IsAllSynced (medium new)
+      → LeavesAll (medium new) (BeginsAtPoint point)
+      → IsStoreOf point store [] [] point.process point.process (medium new)
+  begun_stored m config point store new g numbered early works placed e sectors settled begins =
+      let below : point.generation < 2 ^ 63 = subst (λ k. k < 2 ^ 63) numbered early in
+      let fresh : store.journal ≡ state point.generation 0 [] false =
+      e ∙ ap (λ k. state k 0 [] false) numbered in
+      let none = ap (λ (j : JournalState). length j.kept) e in
+      record {
+        works = works;
+        journal_works = ap (λ (j : JournalState). j.has_failed) e;
+        geometry = placed;
+        journaled = subst (λ (j : JournalState).
+            IsJournaled point j [] [] point.process point.process (medium new)) (sym fresh)
+            (begins_journaled medium m config point new begins (omega (arith, below)));
+        fits = omega (arith, none);
+        sectors = subst (λ (g : Geometry). total_sectors g ≤ (medium new).sectors) placed sectors;
+        settled = settled;
+        early = below;
+      }
+
+  -- what a commit leaves, and what it leaves after Ok
+  module _ (before : WorkerStore) (process : ProcessValue) (old new : D) (n : ℕ)
+      (counts : before.journal.generation < 2 ^ 63 → n ≡ before.journal.generation + 1) where
+    pub commit_leaves : LeavesOnly (medium old) (medium new)
+        (After (Commits before.geometry n IMAGE_VERSION (image (saved_of process)))
+        (medium old).may_leave) → LeavesOneOfTwo before process (medium old) (medium new)
+    commit_leaves leaves m config point next records pending last now is is_next saved =
+        let journaled = is.journaled in
+        let whose = journaled.generation in
+        let same : n ≡ next.generation =
+        counts (subst (λ k. k < 2 ^ 63) (sym whose) is.early) ∙ ap (λ k. k + 1) whose
+        ∙ sym is_next.generation in
+        commit_at_any_moment medium m config point next records last old new journaled.stands
+        is_next
+        (subst (λ (g : Geometry). LeavesOnly (medium old) (medium new)
+        (After (Commits g next.generation IMAGE_VERSION (image next.saved))
+        (medium old).may_leave)) is.geometry
+        (subst (λ k. LeavesOnly (medium old) (medium new)
+        (After (Commits before.geometry k IMAGE_VERSION (image next.saved))
+        (medium old).may_leave)) same
+        (subst (λ s. LeavesOnly (medium old) (medium new)
+        (After (Commits before.geometry n IMAGE_VERSION (image s))
+        (medium old).may_leave)) (sym saved) leaves)))
+
+    pub commit_stores : (after : WorkerStore) → after.journal ≡ state n 0 [] false
+        → after.geometry ≡ before.geometry → after.has_failed ≡ false
+        → (medium new).sectors ≡ (medium old).sectors
+        → Follows (Replaces before.geometry n IMAGE_VERSION (image (saved_of process)))
+        (medium old).may_leave (medium new).may_leave
+        → IsAllSynced (medium new) → n < 2 ^ 63
+        → StoresNext before after process (medium old) (medium new)
+    commit_stores after e same works sectors done settled early m config point next records pending
+        last now is is_next saved =
+        let journaled = is.journaled in
+        let whose = journaled.generation in
+        let numbered : n ≡ next.generation =
+        counts (subst (λ k. k < 2 ^ 63) (sym whose) is.early) ∙ ap (λ k. k + 1) whose
+        ∙ sym is_next.generation in
+        let place : places point ≡ places next =
+        ap (λ w. geometry_of config (length w)) (sym is_next.wasm) in
+        let begins = commit_in_the_end medium m config point next records last old new
+        journaled.stands is_next
+        (subst (λ (g : Geometry).
+        Follows (Replaces g next.generation IMAGE_VERSION (image next.saved))
+        (medium old).may_leave (medium new).may_leave) is.geometry
+        (subst (λ k. Follows (Replaces before.geometry k IMAGE_VERSION (image next.saved))
+        (medium old).may_leave (medium new).may_leave) numbered
+        (subst (λ s. Follows (Replaces before.geometry n IMAGE_VERSION (image s))
+        (medium old).may_leave (medium new).may_leave) (sym saved) done))) in
+        let room = is.sectors in
+        let where_it_is = same ∙ is.geometry in
+        begun_stored m config next after new n numbered early works (where_it_is ∙ place) e
+        (subst (λ (g : Geometry). total_sectors g ≤ (medium new).sectors) (sym where_it_is)
+        (omega (arith, room, sectors))) settled begins
+
+  -- what a commit leaves of a disk that stands for a worker, and what it leaves after Ok
+  module _ (geometry : Geometry) (g : ℕ) (process : ProcessValue) (old new : D) where
+    pub reopening_leaves : LeavesOnly (medium old) (medium new)
+        (After (Commits geometry g IMAGE_VERSION (image (saved_of process)))
+        (medium old).may_leave) → LeavesBeforeOrNext geometry g process (medium old) (medium new)
+    reopening_leaves leaves m config next kept n again all =
+        commit_keeps_at_any_moment medium m config next kept n old new all
+        (subst (λ (p : Geometry). LeavesOnly (medium old) (medium new)
+        (After (Commits p next.generation IMAGE_VERSION (image next.saved))
+        (medium old).may_leave)) again.placed
+        (subst (λ k. LeavesOnly (medium old) (medium new)
+        (After (Commits geometry k IMAGE_VERSION (image next.saved)) (medium old).may_leave))
+        (sym again.generation)
+        (subst (λ s. LeavesOnly (medium old) (medium new)
+        (After (Commits geometry g IMAGE_VERSION (image s)) (medium old).may_leave))
+        (sym again.saved) leaves)))
+
+    pub reopening_stores : (store : WorkerStore) → store.journal ≡ state g 0 [] false
+        → store.geometry ≡ geometry → store.has_failed ≡ false
+        → total_sectors geometry ≤ (medium new).sectors
+        → Follows (Replaces geometry g IMAGE_VERSION (image (saved_of process)))
+        (medium old).may_leave (medium new).may_leave
+        → IsAllSynced (medium new) → g < 2 ^ 63
+        → StoresAgain geometry g process store (medium old) (medium new)
+    reopening_stores store e same works sectors done settled early m config next kept n again all =
+        let begins = commit_keeps_in_the_end medium m config next kept n old new all
+        (subst (λ (p : Geometry).
+        Follows (Replaces p next.generation IMAGE_VERSION (image next.saved))
+        (medium old).may_leave (medium new).may_leave) again.placed
+        (subst (λ k. Follows (Replaces geometry k IMAGE_VERSION (image next.saved))
+        (medium old).may_leave (medium new).may_leave) (sym again.generation)
+        (subst (λ s. Follows (Replaces geometry g IMAGE_VERSION (image s))
+        (medium old).may_leave (medium new).may_leave) (sym again.saved) done))) in
+        begun_stored m config next store new g (sym again.generation) early works
+        (same ∙ again.placed) e
+        (subst (λ (p : Geometry). total_sectors p ≤ (medium new).sectors) (sym same) sectors)
+        settled begins

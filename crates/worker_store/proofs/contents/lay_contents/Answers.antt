@@ -1,0 +1,91 @@
+use Rattle.std.proofs.Common.{refl}
+use Rattle.std.proofs.lemmas.Result.{on_ok_weaker}
+use Rattle.worker_store.specs.rules.Creations.{behind_sectors, contents_calls}
+use Rattle.worker_store.proofs.CreationLemmas.{zeros_leave_blank, zeros_leave_none, blank_on}
+use Rattle.worker_store.proofs.CreationLemmas.{both_leave_none, none_left, synced_none}
+use Rattle.worker_store.proofs.CreationLemmas.{synced_awaits, err_calls, contents_first}
+use Rattle.worker_store.proofs.CreationLemmas.{contents_second, contents_all, cause_behind}
+use Rattle.worker_store.proofs.contents.lay_contents.Goals as goal
+
+pub returns-in_err-store_run-clause-blank : goal.returns-in_err-store_run-clause-blank
+returns-in_err-store_run-clause-blank g c all =
+    zeros_leave_blank (g.D.Disk.medium c.args.disk.now) (g.D.Disk.medium c.store_run.new.disk) all
+    c.store_run.ensures.any_moment
+
+pub returns-in_err-store_run-clause-calls : goal.returns-in_err-store_run-clause-calls
+returns-in_err-store_run-clause-calls g c =
+    let old = g.D.Disk.medium c.args.disk.now in
+    let mid = g.D.Disk.medium c.store_run.new.disk in
+    err_calls (contents_calls c.args.geometry.now) c.from_residual.result old mid
+    c.from_residual.ensures.0
+    (contents_first c.args.geometry.now old mid c.store_run.ensures.calls.begun)
+
+pub returns-in_err-write_behind-clause-blank : goal.returns-in_err-write_behind-clause-blank
+returns-in_err-write_behind-clause-blank g c all =
+    let old = g.D.Disk.medium c.args.disk.now in
+    let mid = g.D.Disk.medium c.store_run.new.disk in
+    let next = g.D.Disk.medium c.write_behind.new.disk in
+    blank_on old mid next (zeros_leave_blank old mid all c.store_run.ensures.any_moment)
+    (c.write_behind.ensures.none (zeros_leave_none old mid c.in_ok-store_run.ensures.stored))
+
+pub returns-in_err-write_behind-clause-calls : goal.returns-in_err-write_behind-clause-calls
+returns-in_err-write_behind-clause-calls g c =
+    let old = g.D.Disk.medium c.args.disk.now in
+    let mid = g.D.Disk.medium c.store_run.new.disk in
+    let next = g.D.Disk.medium c.write_behind.new.disk in
+    err_calls (contents_calls c.args.geometry.now) c.from_residual-in_err-write_behind.result old
+    next c.from_residual-in_err-write_behind.ensures.0
+    (contents_second c.args.geometry.now old mid next c.in_ok-store_run.ensures.calls.all
+    c.write_behind.ensures.calls.begun)
+
+pub returns-in_err-write_behind-clause-cause : goal.returns-in_err-write_behind-clause-cause
+returns-in_err-write_behind-clause-cause g c is_err =
+    let leaves = c.store_run.ensures.any_moment in
+    let p = leaves.passes in
+    cause_behind (behind_sectors c.args.geometry.now) (g.D.Disk.medium c.args.disk.now)
+    (g.D.Disk.medium c.store_run.new.disk) (g.D.Disk.medium c.write_behind.new.disk)
+    c.in_ok-store_run.ensures.settled p.room p.faults (c.in_err-write_behind.ensures.cause refl)
+
+pub returns-clause-blank : goal.returns-clause-blank
+returns-clause-blank g c all =
+    let old = g.D.Disk.medium c.args.disk.now in
+    let mid = g.D.Disk.medium c.store_run.new.disk in
+    let next = g.D.Disk.medium c.write_behind.new.disk in
+    let new = g.D.Disk.medium c.sync.new.self in
+    let behind = c.write_behind.ensures.none
+    (zeros_leave_none old mid c.in_ok-store_run.ensures.stored) in
+    blank_on old mid new (zeros_leave_blank old mid all c.store_run.ensures.any_moment)
+    (both_leave_none mid next new behind
+    (synced_none next new (none_left mid next behind) c.sync.ensures.stays c.sync.ensures.passes))
+
+pub returns-clause-awaits : goal.returns-clause-awaits
+returns-clause-awaits g c settings spelled placed =
+    let old = g.D.Disk.medium c.args.disk.now in
+    let mid = g.D.Disk.medium c.store_run.new.disk in
+    let next = g.D.Disk.medium c.write_behind.new.disk in
+    let new = g.D.Disk.medium c.sync.new.self in
+    on_ok_weaker c.sync.result
+    (λ settled. synced_awaits settings c.args.wasm.now next new
+    (c.in_ok-write_behind.ensures.awaits settings spelled placed
+    (zeros_leave_none old mid c.in_ok-store_run.ensures.stored)) c.sync.ensures.stays settled)
+    c.sync.ensures.settles
+
+pub returns-clause-none : goal.returns-clause-none
+returns-clause-none g c =
+    let old = g.D.Disk.medium c.args.disk.now in
+    let mid = g.D.Disk.medium c.store_run.new.disk in
+    let next = g.D.Disk.medium c.write_behind.new.disk in
+    let new = g.D.Disk.medium c.sync.new.self in
+    let behind = c.write_behind.ensures.none
+    (zeros_leave_none old mid c.in_ok-store_run.ensures.stored) in
+    on_ok_weaker c.sync.result
+    (λ settled. none_left next new
+    (synced_none next new (none_left mid next behind) c.sync.ensures.stays c.sync.ensures.passes))
+    c.sync.ensures.settles
+
+pub returns-clause-calls : goal.returns-clause-calls
+returns-clause-calls g c =
+    contents_all c.args.geometry.now c.sync.result (g.D.Disk.medium c.args.disk.now)
+    (g.D.Disk.medium c.store_run.new.disk) (g.D.Disk.medium c.write_behind.new.disk)
+    (g.D.Disk.medium c.sync.new.self) c.in_ok-store_run.ensures.calls.all
+    c.in_ok-write_behind.ensures.calls.all c.sync.ensures.calls

@@ -1,0 +1,77 @@
+use Rattle.std.proofs.Common.{◌+◌, length, refl, arith}
+use Rattle.std.specs.Prelude.{Result, Err}
+use Rattle.disk_layout.specs.rules.Places.{area_place, rounded_up}
+use Rattle.snapshot.specs.declared.fault.SnapshotFault.{SnapshotFault}
+use Rattle.snapshot.specs.declared.writing.Writing.TheVariants.{Changes}
+use Rattle.state_image.specs.rules.Image.{image}
+use Rattle.state_image.specs.rules.Saving.{saved_of}
+use Rattle.worker_store.specs.declared.fault.StoreFault.{StoreFault}
+use Rattle.worker_store.specs.declared.fault.StoreFault.TheVariants.{Failed}
+use Rattle.worker_store.proofs.SavingLemmas.{none_made, stored_err, stored_ok}
+use Rattle.worker_store.specs.declared.store.WorkerStore.{WorkerStore}
+use Rattle.worker_store.proofs.StoreLemmas.{commit_leaves, commit_stores}
+use Rattle.worker_store.proofs.store.WorkerStore.commit.Goals as goal
+
+pub returns-in-Err-clause-any_moment : goal.returns-in-Err-clause-any_moment
+returns-in-Err-clause-any_moment g c =
+    commit_leaves g.D.Disk.medium c.args.self.now c.args.process.now c.args.disk.now
+    c.write_snapshot-written.new.disk c.saturating_add-next.result
+    (λ below. let e = c.saturating_add-next.ensures in let s = c.generation.ensures in
+    omega (arith, below, e, s))
+    c.write_snapshot-written.ensures.any_moment
+
+pub returns-clause-any_moment : goal.returns-clause-any_moment
+returns-clause-any_moment g c =
+    commit_leaves g.D.Disk.medium c.args.self.now c.args.process.now c.args.disk.now
+    c.write_snapshot-written.new.disk c.saturating_add-next.result
+    (λ below. let e = c.saturating_add-next.ensures in let s = c.generation.ensures in
+    omega (arith, below, e, s))
+    c.write_snapshot-written.ensures.any_moment
+
+pub returns-clause-durable : goal.returns-clause-durable
+returns-clause-durable g c =
+    let before = c.args.self.now in
+    let after : WorkerStore = record {
+      geometry = before.geometry;
+      journal = c.fresh.result;
+      has_failed = before.has_failed;
+    } in
+    let leaves = c.write_snapshot-written.ensures.any_moment in
+    let p = leaves.passes in
+    let ok = c.in_default.ensures in
+    commit_stores g.D.Disk.medium before c.args.process.now c.args.disk.now
+    c.write_snapshot-written.new.disk c.saturating_add-next.result
+    (λ below. let e = c.saturating_add-next.ensures in let s = c.generation.ensures in
+    omega (arith, below, e, s))
+    after c.fresh.ensures refl c.if-self.false p.sectors ok.done ok.settled
+    (let early = ok.early in omega (arith, early))
+
+pub returns-then-self-clause-calls : goal.returns-then-self-clause-calls
+returns-then-self-clause-calls g c early =
+    let s = c.args.self.now in
+    let r : Result (Unit {0}) StoreFault = Err Failed in
+    none_made Changes (area_place s.geometry (s.journal.generation + 1))
+    (rounded_up (length (image (saved_of c.args.process.now)))) (s.journal.generation + 1) r
+    (g.D.Disk.medium c.args.disk.now) refl
+
+pub returns-in-Err-clause-calls : goal.returns-in-Err-clause-calls
+returns-in-Err-clause-calls g c early =
+    let s = c.args.self.now in
+    let r : Result (Unit {0}) StoreFault = Err c.from.result in
+    stored_err s.geometry Changes
+    (rounded_up (length (image (saved_of c.args.process.now)))) c.saturating_add-next.result
+    (s.journal.generation + 1) (g.D.Disk.medium c.args.disk.now)
+    (g.D.Disk.medium c.write_snapshot-written.new.disk)
+    (let e = c.saturating_add-next.ensures in let s = c.generation.ensures in
+    omega (arith, early, e, s)) c.write_snapshot-written.result r refl
+    c.write_snapshot-written.ensures.calls
+
+pub returns-clause-calls : goal.returns-clause-calls
+returns-clause-calls g c early =
+    let s = c.args.self.now in
+    stored_ok {E = StoreFault} {F = SnapshotFault} s.geometry Changes
+    (rounded_up (length (image (saved_of c.args.process.now)))) c.saturating_add-next.result
+    (s.journal.generation + 1) (g.D.Disk.medium c.args.disk.now)
+    (g.D.Disk.medium c.write_snapshot-written.new.disk)
+    (let e = c.saturating_add-next.ensures in let s = c.generation.ensures in
+    omega (arith, early, e, s)) tt tt c.in_default.ensures.calls

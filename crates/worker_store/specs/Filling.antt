@@ -1,0 +1,42 @@
+-- What it does to a disk to push bytes of an image (this project's own).
+use Rattle.std.specs.Prelude.{◌≡◌, ◌⊎◌, ℕ, ◌+◌, ◌*◌, ◌<◌, ◌≤◌, List, ◌++◌, length, IsTrue, Result}
+use Rattle.std.specs.Prelude.{Err, IsErr, OnOk}
+use Rattle.sector_disk.specs.rules.Medium.{Medium, After, LeavesOnly, spare}
+use Rattle.sector_disk.specs.declared.fault.DiskFault.{DiskFault}
+use Rattle.sector_disk.specs.declared.sector.TheConstants.{SECTOR_SIZE}
+use Rattle.disk_layout.specs.declared.geometry.Geometry.{Geometry}
+use Rattle.disk_layout.specs.rules.Places.{area_place}
+use Rattle.snapshot.specs.declared.fault.SnapshotFault.{SnapshotFault}
+use Rattle.snapshot.specs.declared.fault.SnapshotFault.TheVariants.{TooBig, Disk}
+use Rattle.snapshot.specs.declared.snapshots.Snapshots.{Snapshots}
+use Rattle.snapshot.specs.rules.Calls.{MakesStores}
+use Rattle.snapshot.specs.rules.Snapshots.{is_failed, generation_of, writing_of, length_of}
+use Rattle.snapshot.specs.rules.Snapshots.{sectors_of, filled_by, IsSameImage, HasPushed}
+use Rattle.snapshot.specs.rules.Steps.{Fills}
+
+-- These bytes of an image that is begun were pushed, in some pieces, up to the first error. The
+-- other arguments are what was begun and the disk, before and after.
+pub record TakesBytes (geometry : Geometry) (bytes : List ℕ)
+    (said : Result (Unit {0}) SnapshotFault) (was now : Snapshots) (old new : Medium) : Type 0
+  where
+    -- a cut at any moment leaves the newest snapshot that there was
+    pub any_moment : LeavesOnly old new (After (Fills geometry (generation_of was)) old.may_leave)
+    pub pushed : OnOk said ((before : List ℕ) → HasPushed geometry old was before
+        → HasPushed geometry new now (before ++ bytes))
+    pub same : OnOk said (IsSameImage was now)
+    pub longer : OnOk said (length_of now ≡ length_of was + length bytes)
+    pub within : OnOk said (length_of was ≤ SECTOR_SIZE * geometry.area_sectors
+        → length_of now ≤ SECTOR_SIZE * geometry.area_sectors)
+    pub unsynced : OnOk said (new.unsynced + sectors_of was ≤ old.unsynced + sectors_of now)
+    pub works : OnOk said (IsTrue (is_failed now) → IsTrue (is_failed was))
+    -- the sectors that they fill are stored, in rising order and without a sync
+    pub calls : MakesStores (record {
+      writing = writing_of was;
+      first = area_place geometry (generation_of was) + sectors_of was;
+      count = filled_by was (length bytes);
+    }) said old new
+    pub too_big : said ≡ Err TooBig
+        → SECTOR_SIZE * geometry.area_sectors < length_of was + length bytes
+    pub cause : IsErr said → IsTrue (is_failed was) ⊎ (said ≡ Err TooBig)
+        ⊎ ((fault : DiskFault) × (said ≡ Err (Disk fault))
+        × ((spare old + sectors_of was < geometry.area_sectors) ⊎ (old.faults < new.faults)))

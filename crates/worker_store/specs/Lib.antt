@@ -1,0 +1,4 @@
+pub mod rules
+pub mod laws
+pub mod Filling
+pub mod AreaSinks

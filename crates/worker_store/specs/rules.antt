@@ -1,0 +1,5 @@
+pub mod Faults
+pub mod Stores
+pub mod Calls
+pub mod Creations
+pub mod Readings

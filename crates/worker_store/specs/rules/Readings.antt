@@ -1,0 +1,49 @@
+-- What is read of a disk that stands at a savepoint (this project's own). Want of memory and a
+-- fault of the disk may come in the place of what stands there, and nothing else.
+use Rattle.std.specs.Prelude.{◌≡◌, ℕ, ◌^◌, ◌<◌, ◌≤◌, List, length, Vec, Result, Ok, Err}
+use Rattle.std.specs.declared.alloc.Global.{Global}
+use Rattle.wasm_syntax.specs.declared.module.Module.{Module}
+use Rattle.wasi_abi.specs.rules.Configs.{Settings, AreSettingsWithinLimits}
+use Rattle.process_rules.specs.Processes.{ProcessState}
+use Rattle.state_image.specs.rules.Image.{image}
+use Rattle.sector_disk.specs.rules.Image.{Image}
+use Rattle.disk_layout.specs.declared.geometry.Geometry.{Geometry}
+use Rattle.disk_layout.specs.declared.reading.contents.Contents.{Contents}
+use Rattle.disk_layout.specs.rules.Journal.{Record}
+use Rattle.disk_layout.specs.rules.Places.{total_sectors}
+use Rattle.snapshot.specs.declared.newest.Snapshot.{Snapshot}
+use Rattle.worker_laws.specs.laws.Savepoints.{Savepoint, places, StandsAtPoint}
+use Rattle.worker_store.specs.declared.fault.StoreFault.{StoreFault}
+use Rattle.worker_store.specs.declared.fault.StoreFault.TheVariants.{Memory, Disk}
+
+-- an answer that has P, or an error that says nothing of what stands on the disk
+abbrev pub GivesOr : {T : Type 0} → (T → Type 0) → Result T StoreFault → Type 0
+GivesOr P (Ok found) = P found
+GivesOr P (Err Memory) = Unit {0}
+GivesOr P (Err (Disk fault)) = Unit {0}
+GivesOr P (Err other) = ⊥
+
+-- configuration and module
+abbrev pub ReadsContents : ℕ → Image → Result Contents StoreFault → Type 0
+ReadsContents sectors disk result =
+    (m : Module) (config : Settings) (point : Savepoint m config) (records : List Record)
+    (last : ProcessState) → StandsAtPoint point records last disk
+    → AreSettingsWithinLimits config → length point.wasm < 2 ^ 32
+    → total_sectors (places point) ≤ sectors
+    → GivesOr (λ found. found
+    ≡ record { geometry = places point; config = config; wasm = point.wasm }) result
+
+-- the snapshot
+abbrev pub ReadsNewest : Geometry → Image → Result Snapshot StoreFault → Type 0
+ReadsNewest geometry disk result =
+    (m : Module) (config : Settings) (point : Savepoint m config) (records : List Record)
+    (last : ProcessState) → StandsAtPoint point records last disk → geometry ≡ places point
+    → GivesOr (λ found. (found.generation ≡ point.generation)
+    × (found.image.items ≡ image point.saved)) result
+
+-- the records
+abbrev pub ReadsRecords : Geometry → ℕ → Image → Result (Vec Record Global) StoreFault → Type 0
+ReadsRecords geometry generation disk result =
+    (m : Module) (config : Settings) (point : Savepoint m config) (records : List Record)
+    (last : ProcessState) → StandsAtPoint point records last disk → geometry ≡ places point
+    → generation ≡ point.generation → GivesOr (λ found. found.items ≡ records) result

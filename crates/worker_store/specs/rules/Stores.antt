@@ -1,0 +1,37 @@
+-- The store of a worker on its disk (this project's own).
+use Rattle.std.specs.Prelude.{◌≡◌, ◌-◌, ◌*◌, ◌^◌, ◌<◌, ◌≤◌, List, ◌++◌, length, false}
+use Rattle.wasm_syntax.specs.declared.module.Module.{Module}
+use Rattle.wasi_abi.specs.rules.Configs.{Settings}
+use Rattle.process_rules.specs.Processes.{ProcessState}
+use Rattle.sector_disk.specs.rules.Medium.{Medium, IsAllSynced}
+use Rattle.disk_layout.specs.declared.journal_sectors.TheConstants.{PAYLOAD_SIZE}
+use Rattle.disk_layout.specs.rules.Places.{total_sectors}
+use Rattle.disk_layout.specs.rules.Journal.{Record, record_bytes}
+use Rattle.journal.specs.rules.State.{state}
+use Rattle.worker_laws.specs.laws.Savepoints.{Savepoint, places}
+use Rattle.worker_laws.specs.laws.Journaled.{IsJournaled}
+use Rattle.worker_store.specs.declared.store.WorkerStore.{WorkerStore}
+
+-- No call has failed. Whatever a cut leaves of the disk stands at this savepoint, with these
+-- records, which lead to the first process. The journal holds them, and in memory those that are
+-- pending, which lead on to the second process, and for which it has room. No write waits for a
+-- sync, and the next generation has 63 bits.
+pub record IsStoreOf {m : Module} {config : Settings} (point : Savepoint m config)
+    (store : WorkerStore)
+    (records pending : List Record) (last now : ProcessState) (disk : Medium) : Type 0 where
+  pub works : store.has_failed ≡ false
+  pub journal_works : store.journal.has_failed ≡ false
+  pub geometry : store.geometry ≡ places point
+  pub journaled : IsJournaled point store.journal records pending last now disk
+  pub fits : length store.journal.kept
+      ≤ PAYLOAD_SIZE * ((places point).journal_sectors - store.journal.used)
+  pub sectors : total_sectors (places point) ≤ disk.sectors
+  pub settled : IsAllSynced disk
+  pub early : point.generation < 2 ^ 63
+
+-- with one more record in memory
+abbrev pub with_record : WorkerStore → Record → WorkerStore
+with_record store r = record store {
+  journal = state store.journal.generation store.journal.used (store.journal.kept ++ record_bytes r)
+      false;
+}

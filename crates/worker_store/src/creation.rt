@@ -1,0 +1,107 @@
+// A worker's disk, laid out anew.
+
+ghost use Rattle.std.specs.Prelude.{◌≡◌, ◌⊎◌, ◌+◌, ◌<◌, ◌≤◌, ◌^◌, IfErr, IfOk, OnOk, length};
+ghost use Rattle.wasm_syntax.specs.declared.module.Module.{Module};
+ghost use Rattle.wasi_abi.specs.rules.Configs.{Settings};
+ghost use Rattle.sector_disk.specs.rules.Medium.{IsAllSynced, MakesCalls, Passes};
+ghost use Rattle.disk_layout.specs.rules.Places.{config_bytes, geometry_of, rounded_up};
+ghost use Rattle.disk_layout.specs.rules.Places.{total_sectors};
+ghost use Rattle.state_image.specs.rules.Image.{image};
+ghost use Rattle.state_image.specs.rules.Saving.{saved_of};
+ghost use Rattle.worker_laws.specs.laws.Savepoints.{Savepoint};
+ghost use Rattle.worker_laws.specs.laws.Commits.{BeginsAtPoint};
+ghost use Rattle.worker_laws.specs.laws.Moments.{LeavesAll};
+ghost use Rattle.worker_store.specs.rules.Creations.{LeavesBlankOrFirst, StoresFirst, IsFirstPoint};
+ghost use Rattle.worker_store.specs.rules.Creations.{CreationFails, creation_calls};
+
+use crate::contents::lay_contents;
+use crate::fault::StoreFault;
+use crate::saving::write_snapshot;
+use crate::store::WorkerStore;
+use disk_layout::{Geometry, LayoutFault, Super, config_bytes_of, digest_of, write_super};
+use journal::Journal;
+use process::Process;
+use sector_disk::Disk;
+use snapshot::Writing;
+use std::alloc::Global;
+use wasi_abi::Config;
+
+/// Lays a disk out for a worker of this configuration and the bytes of this module, that begins as
+/// this process. In this order: zeros over the super, and a sync; configuration and module, zeros
+/// over the heads and over the journal, and a sync; the image of the process, a sync, its head, and
+/// a sync; the super, and a sync. A disk with too few sectors is refused before anything is
+/// written.
+pub fn lay_out<D: Disk>(
+    alloc: Global,
+    disk: &mut D,
+    config: &Config,
+    wasm: &[u8],
+    process: &Process,
+) -> Result<WorkerStore, StoreFault>
+    requires { length wasm.now < 2 ^ 32 }
+
+    // A cut at any moment leaves a blank disk, or one that begins at the first snapshot.
+    ensures any_moment { LeavesBlankOrFirst config.now wasm.now process.now (D.medium disk.old)
+        (D.medium disk.new) }
+
+    // Once it has answered Ok, each cut leaves the first snapshot.
+    ensures durable { IfOk result (λ store. StoresFirst config.now wasm.now process.now store
+        (D.medium disk.new)) }
+    ensures calls { MakesCalls (creation_calls (geometry_of config.now (length wasm.now))
+        (length (image (saved_of process.now)))) result (D.medium disk.old) (D.medium disk.new) }
+    ensures too_small { (D.medium disk.old).sectors
+        < total_sectors (geometry_of config.now (length wasm.now))
+        → (result ≡ Err (StoreFault.Layout LayoutFault.TooSmall)) × (disk.new ≡ disk.old) }
+    ensures cause { IfErr result (λ e. CreationFails (geometry_of config.now (length wasm.now))
+        process.now (D.medium disk.old) (D.medium disk.new) e) }
+{
+    let geometry = Geometry::of(config, wasm.len() as u32);
+    if disk.sectors() < geometry.total_sectors() {
+        return Err(StoreFault::Layout(LayoutFault::TooSmall));
+    }
+    let config = config_bytes_of(alloc, config)?;
+    lay_worker(disk, &geometry, config.as_slice(), wasm, process)?;
+    Ok(WorkerStore {
+        geometry,
+        journal: Journal::fresh(alloc, 1),
+        has_failed: false,
+    })
+}
+
+/// Lays out all of the disk, the super last.
+fn lay_worker<D: Disk>(
+    disk: &mut D,
+    geometry: &Geometry,
+    config: &[u8],
+    wasm: &[u8],
+    process: &Process,
+) -> Result<(), StoreFault>
+    requires few { length config.now + length wasm.now ≤ 2 ^ 62 }
+    requires module_sectors { geometry.now.module_sectors
+        ≡ rounded_up (length config.now + length wasm.now) }
+    requires room { total_sectors geometry.now ≤ (D.medium disk.old).sectors }
+    ensures any_moment { (settings : Settings) → config.now ≡ config_bytes settings
+        → geometry.now ≡ geometry_of settings (length wasm.now)
+        → LeavesBlankOrFirst settings wasm.now process.now (D.medium disk.old) (D.medium disk.new) }
+    ensures done { (settings : Settings) → config.now ≡ config_bytes settings
+        → geometry.now ≡ geometry_of settings (length wasm.now)
+        → OnOk result ((m : Module) (point : Savepoint m settings)
+        → IsFirstPoint wasm.now process.now point
+        → LeavesAll (D.medium disk.new) (BeginsAtPoint point)) }
+    ensures settled { OnOk result (IsAllSynced (D.medium disk.new)) }
+    ensures passes { Passes (D.medium disk.old) (D.medium disk.new) (λ _. Unit {0}) }
+    ensures calls { MakesCalls (creation_calls geometry.now (length (image (saved_of process.now))))
+        result (D.medium disk.old) (D.medium disk.new) }
+    ensures cause { IfErr result (λ e.
+        CreationFails geometry.now process.now (D.medium disk.old) (D.medium disk.new) e) }
+{
+    lay_contents(disk, geometry, config, wasm)?;
+    write_snapshot(disk, geometry, 1, Writing::Whole, process)?;
+    let digest = digest_of(config, wasm);
+    let contents = Super {
+        geometry: *geometry,
+        digest,
+    };
+    write_super(disk, &contents)?;
+    Ok(())
+}

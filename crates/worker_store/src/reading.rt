@@ -1,0 +1,79 @@
+// What stands on a worker's disk, read back.
+
+ghost use Rattle.std.specs.Prelude.{◌≡◌, ◌<◌, ◌≤◌};
+ghost use Rattle.sector_disk.specs.declared.fault.DiskFault.{DiskFault};
+ghost use Rattle.sector_disk.specs.rules.Image.{Image};
+ghost use Rattle.disk_layout.specs.rules.Places.{total_sectors};
+ghost use Rattle.disk_layout.specs.rules.Stored.{OnlyReads};
+ghost use Rattle.worker_store.specs.rules.Readings.{ReadsContents, ReadsNewest, ReadsRecords};
+
+use crate::fault::StoreFault;
+use disk_layout::{Contents, Geometry, IMAGE_VERSION, LayoutFault, Record, read_contents};
+use journal::Journal;
+use sector_disk::Disk;
+use snapshot::{Snapshot, Snapshots};
+use std::alloc::Global;
+
+/// The configuration and the module of the worker on a disk, and where its things lie. A disk
+/// without one is a `Layout` fault.
+pub fn read_worker<D: Disk>(alloc: Global, disk: &mut D) -> Result<Contents, StoreFault>
+    ensures reads { OnlyReads (D.medium disk.old) (D.medium disk.new) }
+    ensures gives { (image : Image) → (D.medium disk.new).shows image
+        → ReadsContents (D.medium disk.old).sectors image result }
+    ensures cause { (fault : DiskFault) → result ≡ Err (StoreFault.Disk fault)
+        → (D.medium disk.old).faults < (D.medium disk.new).faults }
+{
+    match read_contents(alloc, disk) {
+        Ok(contents) => Ok(contents),
+        Err(fault) => Err(StoreFault::from(fault)),
+    }
+}
+
+/// The newest snapshot of the worker. It is `Damaged` where no head is complete, or where the
+/// newest one names an image that its area doesn't hold, and `Layout` with `Version` where the
+/// image is of a version that isn't known.
+pub fn read_newest<D: Disk>(
+    alloc: Global,
+    disk: &mut D,
+    geometry: &Geometry,
+) -> Result<Snapshot, StoreFault>
+    requires { total_sectors geometry.now ≤ (D.medium disk.old).sectors }
+    ensures reads { OnlyReads (D.medium disk.old) (D.medium disk.new) }
+    ensures finds { (image : Image) → (D.medium disk.new).shows image
+        → ReadsNewest geometry.now image result }
+    ensures cause { (fault : DiskFault) → result ≡ Err (StoreFault.Disk fault)
+        → (D.medium disk.old).faults < (D.medium disk.new).faults }
+{
+    let mut snapshots = Snapshots::new();
+    let found = match snapshots.newest(alloc, disk, geometry) {
+        Ok(found) => found,
+        Err(fault) => return Err(StoreFault::from(fault)),
+    };
+    let Some(snapshot) = found else {
+        return Err(StoreFault::Damaged);
+    };
+    if snapshot.version != IMAGE_VERSION {
+        return Err(StoreFault::Layout(LayoutFault::Version));
+    }
+    Ok(snapshot)
+}
+
+/// The records of a generation, in the order of their steps.
+pub fn read_records<D: Disk>(
+    alloc: Global,
+    disk: &mut D,
+    geometry: &Geometry,
+    generation: u64,
+) -> Result<Vec<Record>, StoreFault>
+    requires { total_sectors geometry.now ≤ (D.medium disk.old).sectors }
+    ensures reads { OnlyReads (D.medium disk.old) (D.medium disk.new) }
+    ensures scans { (image : Image) → (D.medium disk.new).shows image
+        → ReadsRecords geometry.now generation image result }
+    ensures cause { (fault : DiskFault) → result ≡ Err (StoreFault.Disk fault)
+        → (D.medium disk.old).faults < (D.medium disk.new).faults }
+{
+    match Journal::scan(alloc, disk, geometry, generation) {
+        Ok(records) => Ok(records),
+        Err(fault) => Err(StoreFault::from(fault)),
+    }
+}

@@ -1,0 +1,65 @@
+// The snapshot of a process.
+
+ghost use Rattle.std.specs.Prelude.{◌≡◌, ◌⊎◌, ◌*◌, ◌<◌, ◌≤◌, IsErr, OnOk, length};
+ghost use Rattle.wasi_abi.specs.declared.numbers.TheConstants.{NUMBERS_END};
+ghost use Rattle.sector_disk.specs.declared.fault.DiskFault.{DiskFault};
+ghost use Rattle.sector_disk.specs.declared.sector.TheConstants.{SECTOR_SIZE};
+ghost use Rattle.sector_disk.specs.rules.Medium.{After, Follows, IsAllSynced, LeavesOnly, spare};
+ghost use Rattle.disk_layout.specs.declared.head.TheConstants.{IMAGE_VERSION};
+ghost use Rattle.disk_layout.specs.rules.Places.{area_place, journal_place, rounded_up};
+ghost use Rattle.snapshot.specs.rules.Calls.{MakesStoresAndHead};
+ghost use Rattle.snapshot.specs.rules.Steps.{Commits, Replaces};
+ghost use Rattle.state_image.specs.rules.Image.{image};
+ghost use Rattle.state_image.specs.rules.Saving.{saved_of};
+
+use crate::filling::fill_area;
+use disk_layout::{Geometry, IMAGE_VERSION};
+use process::Process;
+use sector_disk::Disk;
+use snapshot::{SnapshotFault, Snapshots, Writing};
+
+/// Pushes the image of a process into the area of a generation, syncs, writes its head, and syncs.
+/// It fails where the image is longer than the area, for a generation of 2^63 or later, and where
+/// the disk does. It takes no memory.
+pub(crate) fn write_snapshot<D: Disk>(
+    disk: &mut D,
+    geometry: &Geometry,
+    generation: u64,
+    writing: Writing,
+    process: &Process,
+) -> Result<(), SnapshotFault>
+    requires { journal_place geometry.now ≤ (D.medium disk.old).sectors }
+
+    // A cut at any moment leaves the newest snapshot that there was, or this one.
+    ensures any_moment { LeavesOnly (D.medium disk.old) (D.medium disk.new)
+        (After (Commits geometry.now generation IMAGE_VERSION (image (saved_of process.now)))
+        (D.medium disk.old).may_leave) }
+
+    // Once it has answered Ok, each cut leaves this one.
+    ensures done { OnOk result
+        (Follows (Replaces geometry.now generation IMAGE_VERSION (image (saved_of process.now)))
+        (D.medium disk.old).may_leave (D.medium disk.new).may_leave) }
+    ensures settled { OnOk result (IsAllSynced (D.medium disk.new)) }
+    ensures early { OnOk result (generation < NUMBERS_END) }
+
+    // Its calls: the sectors of the image, in rising order, a sync, the head, and a sync. After an
+    // error these calls are begun.
+    ensures calls { MakesStoresAndHead (record {
+      writing = writing;
+      first = area_place geometry.now generation;
+      count = rounded_up (length (image (saved_of process.now)));
+    }) generation result (D.medium disk.old) (D.medium disk.new) }
+
+    ensures too_big { result ≡ Err SnapshotFault.TooBig → (NUMBERS_END ≤ generation)
+        ⊎ (SECTOR_SIZE * geometry.now.area_sectors < length (image (saved_of process.now))) }
+    ensures cause { IsErr result → (result ≡ Err SnapshotFault.TooBig)
+        ⊎ ((fault : DiskFault) × (result ≡ Err (SnapshotFault.Disk fault))
+        × ((spare (D.medium disk.old) < geometry.now.area_sectors)
+        ⊎ ((D.medium disk.old).room ≡ 0)
+        ⊎ ((D.medium disk.old).faults < (D.medium disk.new).faults))) }
+{
+    let mut snapshots = Snapshots::new();
+    snapshots.begin(generation, IMAGE_VERSION, writing)?;
+    fill_area(disk, geometry, &mut snapshots, process)?;
+    snapshots.finish(disk, geometry)
+}

@@ -1,0 +1,182 @@
+// What a worker on its disk calls.
+
+use crate::fault::StoreFault;
+use crate::saving::write_snapshot;
+use disk_layout::{Geometry, Record};
+use journal::Journal;
+use process::Process;
+use sector_disk::Disk;
+use snapshot::Writing;
+use std::alloc::Global;
+
+/// Where a worker's records and snapshots go. It keeps no disk: each call that touches one is
+/// handed it. After an error each call answers `Failed`, and touches neither disk nor store.
+#[derive(Drop)]
+pub struct WorkerStore {
+    pub(crate) geometry: Geometry,
+    pub(crate) journal: Journal,
+    pub(crate) has_failed: bool,
+}
+
+impl WorkerStore {
+    ghost use Rattle.std.specs.Prelude.{◌≡◌, ◌+◌, ◌<◌, ◌≤◌, true, IfErr, IfOk, OnErr, OnOk, length};
+    ghost use Rattle.disk_layout.specs.rules.Journal.{record_bytes};
+    ghost use Rattle.disk_layout.specs.rules.Places.{total_sectors};
+    ghost use Rattle.sector_disk.specs.rules.Medium.{MakesCalls};
+    ghost use Rattle.journal.specs.rules.State.{room_of};
+    ghost use Rattle.journal.specs.rules.Steps.{RecordFits, barrier_calls};
+    ghost use Rattle.worker_store.specs.rules.Stores.{with_record};
+    ghost use Rattle.worker_store.specs.rules.Calls.{AppendFails, LeavesFronts, StoresAll};
+    ghost use Rattle.worker_store.specs.rules.Calls.{BarrierFails, LeavesOneOfTwo, StoresNext};
+    ghost use Rattle.worker_store.specs.rules.Calls.{CommitFails, LeavesBeforeOrNext, StoresAgain};
+    ghost use Rattle.worker_store.specs.rules.Calls.{ReopeningFails, CommitCalls};
+    ghost use Rattle.wasi_abi.specs.declared.numbers.TheConstants.{NUMBERS_END};
+
+    /// Opens the store of a worker that a recovery has brought back to this process, from the disk
+    /// that stands for it: commits it as this generation, one more than that of the newest
+    /// snapshot. Lines that wait in the process have been released by the caller.
+    pub fn reopen<D: Disk>(
+        alloc: Global,
+        disk: &mut D,
+        geometry: &Geometry,
+        generation: u64,
+        process: &Process,
+    ) -> Result<WorkerStore, StoreFault>
+        requires { total_sectors geometry.now ≤ (D.medium disk.old).sectors }
+
+        // A cut at any moment leaves what stands for the same answers, or this snapshot.
+        ensures any_moment { LeavesBeforeOrNext geometry.now generation process.now
+            (D.medium disk.old) (D.medium disk.new) }
+
+        // Once it has answered Ok, each cut leaves this snapshot.
+        ensures durable { IfOk result (λ store. StoresAgain geometry.now generation process.now
+            store (D.medium disk.old) (D.medium disk.new)) }
+        ensures calls { CommitCalls geometry.now generation process.now result
+            (D.medium disk.old) (D.medium disk.new) }
+        ensures cause { IfErr result (λ e. ReopeningFails geometry.now generation process.now
+            (D.medium disk.old) (D.medium disk.new) e) }
+    {
+        let written = write_snapshot(disk, geometry, generation, Writing::Changes, process);
+        if let Err(fault) = written {
+            return Err(StoreFault::from(fault));
+        }
+        Ok(WorkerStore {
+            geometry: *geometry,
+            journal: Journal::fresh(alloc, generation),
+            has_failed: false,
+        })
+    }
+
+    /// The generation of the newest snapshot.
+    pub fn generation(&self) -> u64
+        ensures { result ≡ self.now.journal.generation }
+    {
+        self.journal.generation()
+    }
+
+    /// How many more bytes of records there is room for, before the next commit.
+    pub fn room(&self) -> usize
+        ensures { result ≡ room_of self.now.geometry self.now.journal }
+    {
+        self.journal.room(&self.geometry)
+    }
+
+    /// Keeps a record in memory, until the next barrier. A payload of more than `LONGEST_PAYLOAD`
+    /// bytes is `TooLong`; then a record longer than the room that is left is `Full`.
+    pub fn append(&mut self, entry: &Record) -> Result<(), StoreFault>
+        ensures appended { OnOk result (self.new ≡ with_record self.old entry.now) }
+        ensures fits { OnOk result (RecordFits entry.now) }
+        ensures room { OnOk result (length (record_bytes entry.now)
+            ≤ room_of self.old.geometry self.old.journal) }
+        ensures cause { IfErr result (λ e. AppendFails self.old entry.now e) }
+        ensures fails { OnErr result (self.new.has_failed ≡ true) }
+        ensures refused { self.old.has_failed ≡ true
+            → (result ≡ Err StoreFault.Failed) × (self.new ≡ self.old) }
+    {
+        if self.has_failed {
+            return Err(StoreFault::Failed);
+        }
+        if let Err(fault) = self.journal.append(&self.geometry, entry) {
+            self.has_failed = true;
+            return Err(StoreFault::from(fault));
+        }
+        Ok(())
+    }
+
+    /// Puts the records that only memory holds on the disk, and syncs. Without such records it
+    /// leaves the disk alone.
+    pub fn barrier<D: Disk>(&mut self, disk: &mut D) -> Result<(), StoreFault>
+        requires { total_sectors self.old.geometry ≤ (D.medium disk.old).sectors }
+
+        // A cut at any moment leaves a front of these records behind those that stood before.
+        ensures any_moment { LeavesFronts self.old (D.medium disk.old) (D.medium disk.new) }
+
+        // Once it has answered Ok, each cut leaves all of them.
+        ensures durable { OnOk result (StoresAll self.old self.new (D.medium disk.old)
+            (D.medium disk.new)) }
+        ensures quiet { length self.old.journal.kept ≡ 0 → disk.new ≡ disk.old }
+
+        // It writes each sector once, in rising order, and then syncs once. After an error these
+        // calls are begun.
+        ensures calls { MakesCalls (barrier_calls self.old.geometry self.old.journal) result
+            (D.medium disk.old) (D.medium disk.new) }
+        ensures cause { IfErr result (λ e.
+            BarrierFails self.old (D.medium disk.old) (D.medium disk.new) e) }
+        ensures fails { OnErr result (self.new.has_failed ≡ true) }
+        ensures refused { self.old.has_failed ≡ true
+            → (result ≡ Err StoreFault.Failed) × (self.new ≡ self.old) × (disk.new ≡ disk.old) }
+    {
+        if self.has_failed {
+            return Err(StoreFault::Failed);
+        }
+        if let Err(fault) = self.journal.barrier(disk, &self.geometry) {
+            self.has_failed = true;
+            return Err(StoreFault::from(fault));
+        }
+        Ok(())
+    }
+
+    /// Puts the image of a process on the disk, as the next generation, and begins its journal. Of
+    /// the sectors of the image it writes those that differ from what the area holds. Lines that
+    /// wait in the process have been released by the caller: the image tells only their number.
+    /// Records that only memory holds are dropped, since the image comes after them.
+    pub fn commit<D: Disk>(
+        &mut self,
+        alloc: Global,
+        disk: &mut D,
+        process: &Process,
+    ) -> Result<(), StoreFault>
+        requires { total_sectors self.old.geometry ≤ (D.medium disk.old).sectors }
+
+        // A cut at any moment leaves what stood before, or this snapshot.
+        ensures any_moment { LeavesOneOfTwo self.old process.now (D.medium disk.old)
+            (D.medium disk.new) }
+
+        // Once it has answered Ok, each cut leaves this snapshot.
+        ensures durable { OnOk result (StoresNext self.old self.new process.now
+            (D.medium disk.old) (D.medium disk.new)) }
+
+        // Its calls: sectors of the image, a sync, the head, and a sync. After an error these
+        // calls are begun.
+        ensures calls { self.old.journal.generation < NUMBERS_END
+            → CommitCalls self.old.geometry (self.old.journal.generation + 1) process.now result
+            (D.medium disk.old) (D.medium disk.new) }
+        ensures cause { IfErr result (λ e.
+            CommitFails self.old process.now (D.medium disk.old) (D.medium disk.new) e) }
+        ensures fails { OnErr result (self.new.has_failed ≡ true) }
+        ensures refused { self.old.has_failed ≡ true
+            → (result ≡ Err StoreFault.Failed) × (self.new ≡ self.old) × (disk.new ≡ disk.old) }
+    {
+        if self.has_failed {
+            return Err(StoreFault::Failed);
+        }
+        let next = self.journal.generation().saturating_add(1);
+        let written = write_snapshot(disk, &self.geometry, next, Writing::Changes, process);
+        if let Err(fault) = written {
+            self.has_failed = true;
+            return Err(StoreFault::from(fault));
+        }
+        self.journal = Journal::fresh(alloc, next);
+        Ok(())
+    }
+}
