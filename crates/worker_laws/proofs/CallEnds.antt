@@ -19,7 +19,7 @@ use Rattle.worker_rules.specs.Courses.{phase_ended, IsNextAct}
 use Rattle.worker_rules.specs.Promises.{Promise, after, IsEnding, IsAt, IsAtBound, HasLastLines}
 use Rattle.worker_rules.specs.Promises.{IsReply, IsCaughtUp}
 use Rattle.worker_laws.specs.laws.Underway.{IsInItsSlice, IsUnderWay, IsBroken}
-use Rattle.worker_laws.specs.laws.CallEnds.{IsSavedAs, IsOver, SpentSlicesEnd, EndedSlicesEnd}
+use Rattle.worker_laws.specs.laws.CallEnds.{IsSavedAs, IsSliceOver, SpentSlicesEnd, EndedSlicesEnd}
 use Rattle.worker_laws.specs.laws.CallEnds.{WaitingSlicesEnd, HasBound, FailedSlicesEnd}
 use Rattle.worker_laws.specs.laws.CallEnds.{IsBetween, DoneCheckpointsEnd, FailedCheckpointsEnd}
 use Rattle.worker_laws.specs.laws.CallEnds.{SlicesBegin, CallsLeaveBetween}

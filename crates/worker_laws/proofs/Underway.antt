@@ -24,7 +24,7 @@ use Rattle.worker_rules.specs.Courses.{Stage, Phase, Open, NoneThere, Broken, ne
 use Rattle.worker_rules.specs.Courses.{first_said, first_taken, phase_refused, IsToldIn, IsAskedIn, ComesAfter}
 use Rattle.worker_rules.specs.Courses.{IsWithinSlice}
 use Rattle.worker_rules.specs.Promises.{Promise, after, IsTelling, IsInquiring, IsFitting}
-use Rattle.worker_laws.specs.laws.Underway.{IsInItsSlice, IsUnderWay, IsBroken, AsksFor}
+use Rattle.worker_laws.specs.laws.Underway.{IsInItsSlice, IsUnderWay, IsBroken, IsAtQuestion}
 use Rattle.worker_laws.specs.laws.Underway.{StepsGoOn, LinesAreTold, TakenLinesGoOn}
 use Rattle.worker_laws.specs.laws.Underway.{RefusedLinesBreak, QuestionsAreAsked, AnswersGoOn}
 use Rattle.worker_laws.specs.laws.Underway.{AnswersAreKept, OthersBreak, OtherAnswersBreak}
@@ -194,7 +194,7 @@ module _ (m : Module) (config : Settings) (guest : Guest) where
 
   -- where the process has taken none of what was said
   not_taken : (promise : Promise) (stage : Stage) (fuel : ℕ) (p : ProcessState) (kind : Kind)
-      (said : SourceSaid) (fits : Bool) → AsksFor m config guest promise stage fuel p kind
+      (said : SourceSaid) (fits : Bool) → IsAtQuestion m config guest promise stage fuel p kind
       → IsInItsSlice m config guest (promise_asked m config guest promise p kind said fits)
       (stage_asked m config guest stage p kind said fits) fuel (length promise.kept) p
   not_taken promise stage fuel p kind said fits asks =

@@ -20,7 +20,7 @@ use Rattle.machine.specs.Turns.Codes.{IsExecutable}
 -- ---- what the checks look up
 
 -- the code is that of this program, and the context is its module's
-pub record LooksUp (code : Executable) (context : ModuleContext) (functions : List FunctionType)
+pub record LooksUpCode (code : Executable) (context : ModuleContext) (functions : List FunctionType)
     (program : Program) : Type 0 where
   pub is_code : IsExecutable code functions program
   pub looked_up : IsContextOf (module_context code.«module» functions) context
@@ -28,7 +28,7 @@ pub record LooksUp (code : Executable) (context : ModuleContext) (functions : Li
 -- those of some program
 abbrev pub CanLookUp : Executable → ModuleContext → Type 0
 CanLookUp code context = (functions : List FunctionType) × (program : Program)
-    × LooksUp code context functions program
+    × LooksUpCode code context functions program
 
 -- the code of some program
 abbrev pub IsSomeCode : Executable → Type 0
@@ -38,7 +38,7 @@ IsSomeCode code = (functions : List FunctionType) × (program : Program)
 -- whether P holds of each program that the code may be of
 abbrev pub TellsFit : Executable → ModuleContext → Bool → (Context → Program → Type 0) → Type 0
 TellsFit code context told P = (functions : List FunctionType) (program : Program)
-    → LooksUp code context functions program
+    → LooksUpCode code context functions program
     → IsTrue told ↔ P (module_context code.«module» functions) program
 
 -- ---- frames

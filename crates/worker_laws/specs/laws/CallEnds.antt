@@ -29,7 +29,7 @@ module _ (m : Module) (config : Settings) (guest : Guest) where
   -- ---- a slice
 
   -- A slice that is over, all of whose lines were told.
-  pub record IsOver (promise : Promise) (stage : Stage) (fuel : ℕ) (p : ProcessState)
+  pub record IsSliceOver (promise : Promise) (stage : Stage) (fuel : ℕ) (p : ProcessState)
       (shown : Saved) : Type 0 where
     pub way : IsUnderWay m config guest promise stage fuel (length p.host.lines) p
     pub saved : IsSavedAs p shown
@@ -37,7 +37,7 @@ module _ (m : Module) (config : Settings) (guest : Guest) where
   abbrev pub SpentSlicesEnd : Type 0
   SpentSlicesEnd =
       (promise : Promise) (stage : Stage) (fuel : ℕ) (p : ProcessState) (shown : Saved)
-      → IsOver promise stage fuel p shown → p.steps ≡ stage.step + fuel → p.ended ≡ None
+      → IsSliceOver promise stage fuel p shown → p.steps ≡ stage.step + fuel → p.ended ≡ None
       → IsEnding m config promise stage (record {
         act = Slice fuel;
         reply = Spent;
@@ -48,7 +48,7 @@ module _ (m : Module) (config : Settings) (guest : Guest) where
   abbrev pub EndedSlicesEnd : Type 0
   EndedSlicesEnd =
       (promise : Promise) (stage : Stage) (fuel : ℕ) (p : ProcessState) (shown : Saved)
-      (why : Ending) → IsOver promise stage fuel p shown → p.ended ≡ Some why
+      (why : Ending) → IsSliceOver promise stage fuel p shown → p.ended ≡ Some why
       → IsEnding m config promise stage (record {
         act = Slice fuel;
         reply = Over why;

@@ -84,7 +84,7 @@ module _ (m : Module) (config : Settings) (guest : Guest) where
   -- ---- questions
 
   -- What a process asks for, all of whose lines were told, is a question, whatever is said to it.
-  pub record AsksFor (promise : Promise) (stage : Stage) (fuel : ℕ) (p : ProcessState)
+  pub record IsAtQuestion (promise : Promise) (stage : Stage) (fuel : ℕ) (p : ProcessState)
       (kind : Kind) : Type 0 where
     pub way : IsUnderWay promise stage fuel (length p.host.lines) p
     pub running : p.ended ≡ None
@@ -95,7 +95,7 @@ module _ (m : Module) (config : Settings) (guest : Guest) where
   abbrev pub QuestionsAreAsked : Type 0
   QuestionsAreAsked =
       (promise : Promise) (stage : Stage) (fuel : ℕ) (p : ProcessState) (kind : Kind)
-      (fits : Bool) → AsksFor promise stage fuel p kind
+      (fits : Bool) → IsAtQuestion promise stage fuel p kind
       → IsFitting p.host.limit kind (first_said stage.says) fits
       → IsInquiring m config promise stage (record {
         steps = p.steps;
@@ -115,7 +115,7 @@ module _ (m : Module) (config : Settings) (guest : Guest) where
   abbrev pub AnswersGoOn : Type 0
   AnswersGoOn =
       (promise : Promise) (stage : Stage) (fuel : ℕ) (p q : ProcessState) (kind : Kind)
-      (a : Answer) → AsksFor promise stage fuel p kind → Moves guest p (Some a) q
+      (a : Answer) → IsAtQuestion promise stage fuel p kind → Moves guest p (Some a) q
       → IsUnderWay (promise_asked promise p kind (Ok (Some a)) true)
       (stage_asked stage p kind (Ok (Some a)) true) fuel (length p.host.lines) q
 
@@ -123,7 +123,7 @@ module _ (m : Module) (config : Settings) (guest : Guest) where
   abbrev pub AnswersAreKept : Type 0
   AnswersAreKept =
       (promise : Promise) (stage : Stage) (fuel : ℕ) (p : ProcessState) (kind : Kind)
-      (a : Answer) → AsksFor promise stage fuel p kind
+      (a : Answer) → IsAtQuestion promise stage fuel p kind
       → IsBroken (promise_asked promise p kind (Ok (Some a)) true)
       (stage_asked stage p kind (Ok (Some a)) true) fuel (length promise.kept) p Open
 
@@ -144,4 +144,4 @@ module _ (m : Module) (config : Settings) (guest : Guest) where
   abbrev pub OtherAnswersBreak : Type 0
   OtherAnswersBreak =
       (promise : Promise) (stage : Stage) (fuel : ℕ) (p : ProcessState) (kind : Kind)
-      → AsksFor promise stage fuel p kind → OthersBreak promise stage fuel p kind
+      → IsAtQuestion promise stage fuel p kind → OthersBreak promise stage fuel p kind

@@ -3,7 +3,7 @@ use Rattle.wasm_syntax.specs.declared.module.Module.{Module}
 use Rattle.wasm_syntax_rules.specs.Validity.{module_context}
 use Rattle.wasm_validate.specs.Parts.Contexts.{IsContextOfModule}
 use Rattle.wasm_validate.proofs.PartLemmas.Lookups.{is_false}
-use Rattle.machine.specs.Loading.Checks.{LooksUp}
+use Rattle.machine.specs.Loading.Checks.{LooksUpCode}
 use Rattle.machine.proofs.LoadingLemmas.Parts.{if_ok}
 use Rattle.machine.proofs.LoadingLemmas.Fits.{fits_program, fits_around}
 use Rattle.machine.proofs.loading.fits.fits.Goals as goal
@@ -15,7 +15,7 @@ returns-then-not-around c = λ functions program is limit. (
       let code = c.args.code.now in
       let ctx = module_context code.«module» functions in
       let M : Module → Type 0 = λ m. IsContextOfModule m c.in_ok-context.context in
-      let looks : LooksUp code c.in_ok-context.context functions program = record {
+      let looks : LooksUpCode code c.in_ok-context.context functions program = record {
         is_code = is;
         looked_up = (subst M c.module.ensures.same c.in_ok-context.ensures) functions is.types;
       } in
@@ -31,7 +31,7 @@ returns c = λ functions program is limit.
     let s = c.args.state.now in
     let ctx = module_context code.«module» functions in
     let M : Module → Type 0 = λ m. IsContextOfModule m c.in_ok-context.context in
-    let looks : LooksUp code c.in_ok-context.context functions program = record {
+    let looks : LooksUpCode code c.in_ok-context.context functions program = record {
       is_code = is;
       looked_up = (subst M c.module.ensures.same c.in_ok-context.ensures) functions is.types;
     } in
