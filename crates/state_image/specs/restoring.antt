@@ -2,3 +2,4 @@ pub mod Named
 pub mod Told
 pub mod Hanging
 pub mod Parts
+pub mod Opened

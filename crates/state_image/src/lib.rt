@@ -16,6 +16,8 @@
 //! - `restoring::tree_of` makes a tree again of its next number and of what was told of its nodes
 //!   (`made`), or says that no files are told so (`refused`). `AreNamed` says what is told of
 //!   files.
+//! - `restoring::descriptor_of` makes the descriptor of which a record is told (`made`), or says
+//!   that there is none (`none`): `IsReadAs` of `Opened.antt`. No list of them is made yet.
 //! - `Sink` is a trait. What one push does is known by one relation, `takes`, which each
 //!   implementation names. `ByteSink` keeps the bytes that it takes, in order (`KeepsBytes`).
 //! - `laws::saves_what_is_shown`: what is saved of a process shows every process of the rules that
@@ -50,8 +52,8 @@
 //! - `WellTyped.antt`: `IsWellTyped` says which of these processes have images that are accepted.
 //!
 //! In `specs/reading/` stand the functions on lists that `reading` follows. In `specs/restoring/`
-//! stands what is told of nodes (`Named.antt`), and when files are told so (`IsTold` of
-//! `Told.antt`).
+//! stands what is told of nodes (`Named.antt`), when files are told so (`IsTold` of `Told.antt`),
+//! and what is told of a descriptor (`Opened.antt`).
 //!
 //! # Who may touch what
 //!

@@ -15,6 +15,7 @@ use crate::byte_sink::ByteSink;
 use crate::sink::Sink;
 use crate::writing::counts::{push_counts, push_phase, push_streams};
 use crate::writing::descriptors::push_descriptors;
+pub(crate) use crate::writing::files::kind_of;
 use crate::writing::files::push_files;
 use crate::writing::machine_state::push_machine;
 use crate::writing::numbers::push_bytes;
