@@ -23,3 +23,10 @@ mod Room
 mod Texts
 mod Spelled
 mod WordLemmas
+mod ReadLemmas
+mod TextReads
+mod PartReads
+mod FrontReads
+mod StepsRead
+mod FieldsGiven
+mod ImageGiven

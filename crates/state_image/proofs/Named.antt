@@ -9,7 +9,8 @@ use Rattle.file_tree.specs.rules.Files.{Name, Files, FileNode, Content, Director
 use Rattle.file_tree.specs.rules.Files.{entries_of}
 use Rattle.state_image.specs.rules.Image.{items_bytes, entry_bytes, content_bytes, node_bytes}
 use Rattle.state_image.specs.rules.Image.{files_bytes}
-use Rattle.state_image.proofs.Fields.{IsIn, AreFew, Tells, same_front, cut, number_field}
+use Rattle.state_image.specs.rules.Ranges.{IsIn, AreFew, IsEntryIn}
+use Rattle.state_image.proofs.Fields.{Tells, same_front, cut, number_field}
 use Rattle.state_image.proofs.Fields.{items_field}
 
 -- the entries of a directory, or the bytes of a file
@@ -62,10 +63,6 @@ items_named fs ns =
 
 -- ---- the fields of an entry
 
-pub record IsEntryIn (e : Entry) : Type 0 where
-  pub name : IsIn 2 (length e.name)
-  pub number : IsIn 8 e.number
-
 entry : Name → ℕ → Entry
 entry name number = record { name = name; number = number }
 
@@ -74,7 +71,7 @@ unfolding entry
 same_entry e f a b = let whole : entry e.name e.number ≡ entry f.name f.number = rw (a, b) refl in
     whole
 
-entry_field : Tells Entry IsEntryIn entry_bytes
+pub entry_field : Tells Entry IsEntryIn entry_bytes
 entry_field = record { front = told } where
   told : (e f : Entry) (rest other : List ℕ) → IsEntryIn e → IsEntryIn f
       → entry_bytes e ++ rest ≡ entry_bytes f ++ other → (e ≡ f) × (rest ≡ other)

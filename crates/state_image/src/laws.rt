@@ -6,6 +6,7 @@ ghost use Rattle.wasi_abi.specs.rules.Configs.{Settings};
 ghost use Rattle.state_image.specs.laws.Refusals.{RefusesCounts, RefusesStreams, RefusesMachines};
 ghost use Rattle.state_image.specs.laws.Refusals.{RefusesFiles, RefusesDescriptors};
 ghost use Rattle.state_image.specs.laws.WellTypedExamples.{HelloBeginsWellTyped};
+ghost use Rattle.state_image.specs.laws.Reading.{NodesAreRead, DescriptorsAreRead};
 ghost use Rattle.state_image.specs.laws.Laws.{ImagesTellProcessesApart};
 ghost use Rattle.state_image.specs.laws.Laws.{ImagesHaveRoom, ImagesAreBytes, SavesWhatIsShown};
 
@@ -47,4 +48,10 @@ pub fn others_are_refused()
 /// What is saved of a process shows what the process shows.
 pub fn saves_what_is_shown()
     ensures { SavesWhatIsShown }
+{}
+
+/// What is read of a node and of a descriptor, in steps, are their bytes.
+pub fn what_is_read_in_steps()
+    ensures nodes { NodesAreRead }
+    ensures descriptors { DescriptorsAreRead }
 {}

@@ -8,8 +8,10 @@
 //!   is the one that is given (`Pushes`). It takes no memory, and copies none of the guest's.
 //! - `write_image` gives these bytes in a vector.
 //! - `reading` reads the fields of an image from the front of bytes, one by one. Each reader gives
-//!   what a function on lists gives, or nothing where that gives nothing. It takes no memory. That
-//!   these functions give the fields of `image` is not proved yet.
+//!   the field in range whose bytes, as `image` spells it, are in front. It leaves those behind it.
+//!   It gives nothing where there is no such field (`ReadsField`, `ReadsPart`). It takes no memory.
+//! - `laws::what_is_read_in_steps`: a node is read by its front and then entry by entry, and a
+//!   descriptor whatever its kind is. These are the bytes that `image` has of them.
 //! - `Sink` is a trait. What one push does is known by one relation, `takes`, which each
 //!   implementation names. `ByteSink` keeps the bytes that it takes, in order (`KeepsBytes`).
 //! - `laws::saves_what_is_shown`: what is saved of a process shows every process of the rules that
@@ -39,8 +41,10 @@
 //! - `Saving.antt`: `saved_of` is what is saved of the code's process.
 //! - `Sinks.antt`: `Pushes` says what was done to a sink, push by push.
 //! - `WellTyped.antt`: `IsWellTyped` says which of these processes have images that are accepted.
-//!
-//! In `specs/reading/` stand the functions on lists that `reading` follows.
+//! - `Reading.antt`: `ReadsField` and `ReadsPart` say what a reader gives. `Ranges.antt` says which
+//!   values the fields have room for.
+//! - `Parts.antt`, `LentFrames.antt`, `Fronts.antt` and `RawDescriptors.antt`: what readers give of
+//!   a process, a frame, a node and a descriptor.
 //!
 //! # Who may touch what
 //!
