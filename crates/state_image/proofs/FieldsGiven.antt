@@ -261,6 +261,22 @@ end_given (Some r) old new reads s rest within e =
     (ap (λ (c : ReadEnd). Some c) (sym that ∙ same_read_end t s same.0), same.1)
 end_given None old new lacks s rest within e = absurd (lacks.none s rest within e)
 
+-- each part is that of a process
+pub parts_of_processes : (s : Saved)
+    → ((counts : ReadCounts) → (t : Saved) × (counts_of t ≡ counts))
+    × ((end : ReadEnd) → (t : Saved) × (read_end_of t ≡ end))
+    × ((streams : StreamTexts) → (t : Saved) × (streams_of t ≡ streams))
+unfolding with_read_counts with_read_streams with_read_end end_from
+parts_of_processes s = (
+  λ counts. (with_read_counts counts s, refl),
+  λ end. (
+    with_read_end end s,
+    ap (λ (p : ReadPhase). end_from p end.input_ended)
+        (phase_as end.phase),
+  ),
+  λ streams. (with_read_streams streams s, refl),
+)
+
 -- ---- what is read in steps
 
 -- a node's bytes lead to its front, and to the entries behind it

@@ -11,7 +11,8 @@ use Rattle.file_tree.specs.rules.Files.{Files, FileNode, Content, Directory, Fil
 use Rattle.wasi_calls_rules.specs.Hosts.{Target, Stream, Node}
 use Rattle.machine_slots.specs.rules.Places.{MachineState}
 use Rattle.state_image.specs.rules.Image.{items_bytes, place_bytes, memory_bytes, machine_bytes}
-use Rattle.state_image.specs.rules.Image.{node_bytes, files_bytes, Numbered}
+use Rattle.state_image.specs.rules.Image.{node_bytes, files_bytes, Numbered, Saved, open_from}
+use Rattle.state_image.specs.rules.Image.{descriptor_bytes}
 use Rattle.state_image.specs.rules.Ranges.{IsIn, IsShort}
 use Rattle.state_image.specs.rules.Fronts.{content_front, IsContentFrontIn, node_front_of}
 use Rattle.state_image.specs.rules.Fronts.{IsFrontIn}
@@ -21,6 +22,7 @@ use Rattle.state_image.proofs.Fields.{Tells, number_field}
 use Rattle.state_image.proofs.Named.{held_of, named, IsHeldIn, IsNamedIn}
 use Rattle.state_image.proofs.Places.{IsTargetIn, IsNumberedIn}
 use Rattle.state_image.proofs.ReadLemmas.{in_two, gives}
+use Rattle.state_image.proofs.Whole.{from_descriptors}
 
 -- ---- items behind their number
 
@@ -33,14 +35,19 @@ count_given bytes xs result old mid rest reads few e =
     gives (number_field 4) result reads (length xs) (flat_map bytes xs ++ rest) few
     (e ∙ append_assoc (u32_bytes (length xs)) (flat_map bytes xs) rest)
 
--- those of items lead to the first one, and to the others
+-- those of items are those of the first one, and then of the others
+pub first_item : {X : Type 0} (bytes : X → List ℕ) (x : X) (xs : List X) (rest : List ℕ)
+    → flat_map bytes (x ∷ xs) ++ rest ≡ bytes x ++ (flat_map bytes xs ++ rest)
+first_item bytes x xs rest = append_assoc (bytes x) (flat_map bytes xs) rest
+
+-- they lead to the first one, and to the others
 pub item_given : {X : Type 0} {P : X → Type 0} {bytes : X → List ℕ} → Tells X P bytes
     → (x : X) (xs : List X) (result : Option X) (old new rest : List ℕ)
     → ReadsField bytes P result old new → P x → old ≡ flat_map bytes (x ∷ xs) ++ rest
     → (result ≡ Some x) × (new ≡ flat_map bytes xs ++ rest)
 item_given {bytes = bytes} tells x xs result old new rest reads within e =
     gives tells result reads x (flat_map bytes xs ++ rest) within
-    (e ∙ append_assoc (bytes x) (flat_map bytes xs) rest)
+    (e ∙ first_item bytes x xs rest)
 
 -- one item more that was read
 pub item_more : {X : Type 0} (bytes : X → List ℕ) (xs : List X) (x : X) (old mid new : List ℕ)
@@ -74,6 +81,12 @@ pub files_in_order : (fs : Files) (rest : List ℕ)
     → files_bytes fs ++ rest ≡ u64_bytes fs.next ++ (items_bytes (node_bytes fs) fs.nodes ++ rest)
 files_in_order fs rest =
     append_assoc (u64_bytes fs.next) (items_bytes (node_bytes fs) fs.nodes) rest
+
+-- the descriptors are the last of an image
+pub descriptors_in_order : (s : Saved)
+    → from_descriptors s
+    ≡ items_bytes (descriptor_bytes s.files) (open_from 0 s.descriptors) ++ []
+descriptors_in_order s = sym (append-nil (from_descriptors s))
 
 -- ---- ranges of what is read in steps
 

@@ -7,6 +7,7 @@ ghost use Rattle.state_image.specs.laws.Refusals.{RefusesCounts, RefusesStreams,
 ghost use Rattle.state_image.specs.laws.Refusals.{RefusesFiles, RefusesDescriptors};
 ghost use Rattle.state_image.specs.laws.WellTypedExamples.{HelloBeginsWellTyped};
 ghost use Rattle.state_image.specs.laws.Reading.{NodesAreRead, DescriptorsAreRead};
+ghost use Rattle.state_image.specs.laws.Reading.{PartsAreOfProcesses};
 ghost use Rattle.state_image.specs.laws.Laws.{ImagesTellProcessesApart};
 ghost use Rattle.state_image.specs.laws.Laws.{ImagesHaveRoom, ImagesAreBytes, SavesWhatIsShown};
 
@@ -50,8 +51,10 @@ pub fn saves_what_is_shown()
     ensures { SavesWhatIsShown }
 {}
 
-/// What is read of a node and of a descriptor, in steps, are their bytes.
+/// What is read of a node and of a descriptor, in steps, are their bytes. Any part of a process that
+/// is read is that of one.
 pub fn what_is_read_in_steps()
     ensures nodes { NodesAreRead }
     ensures descriptors { DescriptorsAreRead }
+    ensures parts { PartsAreOfProcesses }
 {}

@@ -1,6 +1,6 @@
 //! Bytes that are read from the front.
 
-ghost use Rattle.std.specs.Prelude.{◌≡◌, ◌↔◌, IsTrue, List, [], ◌∷◌, ◌++◌, ℕ, Bool, length};
+ghost use Rattle.std.specs.Prelude.{◌≡◌, ◌↔◌, IsTrue, [], ◌∷◌, ◌++◌, length};
 ghost use Rattle.std.specs.Option.{option_map};
 ghost use Rattle.wasi_abi.specs.rules.Layouts.{u16_bytes, u32_bytes, u64_bytes};
 ghost use Rattle.state_image.specs.rules.Image.{flag_of, text_bytes};
@@ -11,8 +11,8 @@ use byteorder::{ByteOrder, LittleEndian};
 use std::marker::Model;
 
 /// The bytes that are left, which is what contracts see. Each method gives the field whose bytes
-/// are in front, and leaves those behind it. Where there is no such field, it gives nothing. Then an
-/// end of the bytes is left, and nothing further is to be read.
+/// are in front, and leaves those behind it. Where there is no such field, it gives nothing. Then
+/// an end of the bytes is left, and nothing further is to be read.
 #[derive(Drop)]
 pub struct ImageReader<'a> {
     rest: &'a [u8],
