@@ -30,3 +30,4 @@ mod FrontReads
 mod StepsRead
 mod FieldsGiven
 mod ImageGiven
+mod WholeRead

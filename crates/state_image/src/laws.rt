@@ -51,8 +51,8 @@ pub fn saves_what_is_shown()
     ensures { SavesWhatIsShown }
 {}
 
-/// What is read of a node and of a descriptor, in steps, are their bytes. Any part of a process that
-/// is read is that of one.
+/// What is read of a node and of a descriptor, in steps, are their bytes. Any part that is read of
+/// a process is that of one.
 pub fn what_is_read_in_steps()
     ensures nodes { NodesAreRead }
     ensures descriptors { DescriptorsAreRead }
