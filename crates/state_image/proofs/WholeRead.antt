@@ -5,34 +5,12 @@ use Rattle.wasi_abi.specs.rules.Layouts.{u64_bytes}
 use Rattle.state_image.specs.rules.Image.{Saved, image_mark, counts_bytes, phase_bytes}
 use Rattle.state_image.specs.rules.Image.{streams_bytes, items_bytes, place_bytes, memory_bytes}
 use Rattle.state_image.specs.rules.Image.{node_bytes, descriptor_bytes, open_from, image}
+use Rattle.state_image.specs.laws.ImageOrder.{IsInOrder}
 use Rattle.state_image.proofs.Whole.{from_counts, from_phase, from_streams, from_machine}
 use Rattle.state_image.proofs.Whole.{from_files, from_descriptors}
 use Rattle.state_image.proofs.ImageGiven.{machine_in_order, files_in_order}
 
--- each field of this process is in front of what is left behind it
-pub record IsInOrder (s : Saved) (bytes : List ℕ) : Type 0 where
-  pub after_mark : List ℕ
-  pub mark : bytes ≡ image_mark ++ after_mark
-  pub after_counts : List ℕ
-  pub counts : after_mark ≡ counts_bytes s ++ after_counts
-  pub after_phase : List ℕ
-  pub phase : after_counts ≡ phase_bytes s ++ after_phase
-  pub after_streams : List ℕ
-  pub streams : after_phase ≡ streams_bytes s ++ after_streams
-  pub after_globals : List ℕ
-  pub globals : after_streams ≡ items_bytes u64_bytes s.machine.globals ++ after_globals
-  pub after_frames : List ℕ
-  pub frames : after_globals ≡ items_bytes place_bytes (reverse s.machine.frames) ++ after_frames
-  pub after_memory : List ℕ
-  pub memory : after_frames ≡ memory_bytes s.machine.memory ++ after_memory
-  pub after_next : List ℕ
-  pub next : after_memory ≡ u64_bytes s.files.next ++ after_next
-  pub after_nodes : List ℕ
-  pub nodes : after_next ≡ items_bytes (node_bytes s.files) s.files.nodes ++ after_nodes
-  pub descriptors : after_nodes
-      ≡ items_bytes (descriptor_bytes s.files) (open_from 0 s.descriptors) ++ []
-
--- then the bytes are its image
+-- bytes whose fields are in order are an image
 pub image_read : (s : Saved) (bytes : List ℕ) → IsInOrder s bytes → bytes ≡ image s
 image_read s bytes h =
     let descriptors : h.after_nodes ≡ from_descriptors s =

@@ -1,5 +1,6 @@
 pub mod Examples
 pub mod ImageExamples
+pub mod ImageOrder
 pub mod Laws
 pub mod Phases
 pub mod Reading

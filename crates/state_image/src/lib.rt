@@ -12,6 +12,10 @@
 //!   It gives nothing where there is no such field (`ReadsField`, `ReadsPart`). It takes no memory.
 //! - `laws::what_is_read_in_steps`: a node is read by its front and then entry by entry, and a
 //!   descriptor whatever its kind is. These are the bytes that `image` has of them.
+//! - `laws::fields_lead_their_readers`: bytes that begin with those of a field lead its reader to
+//!   this field, and to what is behind it.
+//! - `laws::images_are_in_order`: bytes are an image where its fields are in their order, and only
+//!   there.
 //! - `Sink` is a trait. What one push does is known by one relation, `takes`, which each
 //!   implementation names. `ByteSink` keeps the bytes that it takes, in order (`KeepsBytes`).
 //! - `laws::saves_what_is_shown`: what is saved of a process shows every process of the rules that
