@@ -8,16 +8,10 @@ use Rattle.wasi_abi.specs.rules.Layouts.{u32_bytes, u64_bytes}
 use Rattle.process_rules.specs.Processes.{Ending, Exited, Trapped}
 use Rattle.state_image.specs.rules.Image.{Saved, trap_number, phase_of, ending_code, flag_of}
 use Rattle.state_image.specs.rules.Image.{text_bytes, counts_bytes, phase_bytes, streams_bytes}
-use Rattle.state_image.proofs.Fields.{IsIn, IsShort, cut, number_field, text_field}
+use Rattle.state_image.specs.rules.Ranges.{IsIn, IsShort, FitsCounts, FitsStreams}
+use Rattle.state_image.proofs.Fields.{cut, number_field, text_field}
 
 -- ---- counts
-
-pub record HasCounts (s : Saved) : Type 0 where
-  pub steps : IsIn 8 s.steps
-  pub answers : IsIn 8 s.answers
-  pub requests : IsIn 8 s.requests
-  pub lines : IsIn 8 s.lines
-  pub last_monotonic : IsIn 8 s.last_monotonic
 
 pub record SameCounts (s t : Saved) : Type 0 where
   pub steps : s.steps ≡ t.steps
@@ -27,16 +21,16 @@ pub record SameCounts (s t : Saved) : Type 0 where
   pub last_monotonic : s.last_monotonic ≡ t.last_monotonic
 
 -- the counts from one on
-abbrev from_lines : Saved → List ℕ
+abbrev pub from_lines : Saved → List ℕ
 from_lines s = u64_bytes s.lines ++ u64_bytes s.last_monotonic
 
-abbrev from_requests : Saved → List ℕ
+abbrev pub from_requests : Saved → List ℕ
 from_requests s = u64_bytes s.requests ++ from_lines s
 
-abbrev from_answers : Saved → List ℕ
+abbrev pub from_answers : Saved → List ℕ
 from_answers s = u64_bytes s.answers ++ from_requests s
 
-pub same_counts : (s t : Saved) (rest other : List ℕ) → HasCounts s → HasCounts t
+pub same_counts : (s t : Saved) (rest other : List ℕ) → FitsCounts s → FitsCounts t
     → counts_bytes s ++ rest ≡ counts_bytes t ++ other → SameCounts s t × (rest ≡ other)
 same_counts s t rest other p q e =
     let steps = cut ℕ (IsIn 8) u64_bytes (number_field 8) s.steps t.steps (from_answers s)
@@ -138,17 +132,12 @@ same_phase s t rest other p q e =
 
 -- ---- streams
 
-pub record HasStreams (s : Saved) : Type 0 where
-  pub unread : IsShort s.unread
-  pub first : IsShort s.first
-  pub second : IsShort s.second
-
 pub record SameStreams (s t : Saved) : Type 0 where
   pub unread : s.unread ≡ t.unread
   pub first : s.first ≡ t.first
   pub second : s.second ≡ t.second
 
-pub same_streams : (s t : Saved) (rest other : List ℕ) → HasStreams s → HasStreams t
+pub same_streams : (s t : Saved) (rest other : List ℕ) → FitsStreams s → FitsStreams t
     → streams_bytes s ++ rest ≡ streams_bytes t ++ other → SameStreams s t × (rest ≡ other)
 same_streams s t rest other p q e =
     let unread = cut (List ℕ) IsShort text_bytes text_field s.unread t.unread

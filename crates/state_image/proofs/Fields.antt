@@ -6,6 +6,7 @@ use Rattle.guest_memory.specs.rules.Bytes.{number_of, bytes_of}
 use Rattle.guest_memory.proofs.ByteLemmas.{length-bytes_of, number_of-bytes_of}
 use Rattle.wasi_abi.specs.rules.Layouts.{u32_bytes}
 use Rattle.state_image.specs.rules.Image.{text_bytes, items_bytes}
+use Rattle.state_image.specs.rules.Ranges.{IsIn, IsShort, AreFew}
 
 -- ---- what is in front
 
@@ -38,10 +39,6 @@ cut X P bytes tells x y more others rest other p q e =
     tells.front x y (more ++ rest) (others ++ other) p q
     (sym (append_assoc (bytes x) more rest) ∙ e ∙ append_assoc (bytes y) others other)
 
--- a number in so many bytes
-abbrev pub IsIn : ℕ → ℕ → Type 0
-IsIn n x = x < 256 ^ n
-
 pub number_field : (n : ℕ) → Tells ℕ (IsIn n) (bytes_of n)
 number_field n = record { front = told } where
   told : (x y : ℕ) (rest other : List ℕ) → x < 256 ^ n → y < 256 ^ n
@@ -51,24 +48,29 @@ number_field n = record { front = told } where
       (length-bytes_of n x ∙ sym (length-bytes_of n y)) e in
       (sym (number_of-bytes_of n x p) ∙ ap number_of same.0 ∙ number_of-bytes_of n y q, same.1)
 
--- a text behind its length
-abbrev pub IsShort : {X : Type 0} → List X → Type 0
-IsShort xs = IsIn 4 (length xs)
+-- a byte
+pub byte_field : Tells ℕ (IsIn 1) (λ b. b ∷ [])
+byte_field = record { front = told } where
+  told : (x y : ℕ) (rest other : List ℕ) → IsIn 1 x → IsIn 1 y → x ∷ rest ≡ y ∷ other
+      → (x ≡ y) × (rest ≡ other)
+  told x y rest other p q e = (cc, cc)
 
-pub text_field : Tells (List ℕ) IsShort text_bytes
-text_field = record { front = told } where
-  told : (x y rest other : List ℕ) → IsShort x → IsShort y
-      → text_bytes x ++ rest ≡ text_bytes y ++ other → (x ≡ y) × (rest ≡ other)
+-- a text behind its length in so many bytes
+pub counted_field : (n : ℕ) → Tells (List ℕ) (λ text. IsIn n (length text))
+    (λ text. bytes_of n (length text) ++ text)
+counted_field n = record { front = told } where
+  told : (x y rest other : List ℕ) → IsIn n (length x) → IsIn n (length y)
+      → (bytes_of n (length x) ++ x) ++ rest ≡ (bytes_of n (length y) ++ y) ++ other
+      → (x ≡ y) × (rest ≡ other)
   told x y rest other p q e =
-      let lengths = cut ℕ (IsIn 4) u32_bytes (number_field 4) (length x) (length y) x y rest other
-      p q e in
+      let lengths = cut ℕ (IsIn n) (bytes_of n) (number_field n) (length x) (length y) x y rest
+      other p q e in
       same_front ℕ x y rest other lengths.0 lengths.1
 
--- ---- items behind their number
+pub text_field : Tells (List ℕ) IsShort text_bytes
+text_field = counted_field 4
 
-pub record AreFew (X : Type 0) (P : X → Type 0) (xs : List X) : Type 0 where
-  pub few : IsShort xs
-  pub each : AllByRecursion P xs
+-- ---- items behind their number
 
 same_items : (X : Type 0) (P : X → Type 0) (bytes : X → List ℕ) → Tells X P bytes
     → (xs ys : List X) (rest other : List ℕ) → length xs ≡ length ys → AllByRecursion P xs

@@ -9,9 +9,9 @@ use Rattle.file_tree.specs.rules.Files.{Directory, File, Entry, is_before, path_
 use Rattle.file_tree.specs.rules.Files.{entries_in, inserted, sorted, entries_under, entries_of}
 use Rattle.file_tree.specs.rules.Files.{IsPlaced, IsSmallContent, IsFiles}
 use Rattle.file_tree.proofs.Order.{all_sorted}
-use Rattle.state_image.proofs.Fields.{IsIn, AreFew}
+use Rattle.state_image.specs.rules.Ranges.{IsIn, AreFew, IsEntryIn}
 use Rattle.state_image.specs.restoring.Named.{held_of, named}
-use Rattle.state_image.proofs.Named.{IsEntryIn, IsHeldIn, IsNamedIn, AreNamedIn}
+use Rattle.state_image.proofs.Named.{IsHeldIn, IsNamedIn, AreNamedIn}
 use Rattle.state_image.proofs.Among.{IsAmong, all_among, among_all, numbers_below, next_entries}
 use Rattle.state_image.proofs.Among.{is_entry_of}
 use Rattle.state_image.proofs.PathsTold.{placed_at}

@@ -9,7 +9,7 @@ use Rattle.wasi_abi.specs.rules.Numbers.{are_within, all_rights}
 use Rattle.file_tree.specs.rules.Files.{Files, FileNode, node_of, IsFiles}
 use Rattle.wasi_calls_rules.specs.Hosts.{Target, Stream, Node, Descriptor, Host, IsThere}
 use Rattle.wasi_calls_rules.specs.Hosts.{IsDescriptor, IsHost}
-use Rattle.state_image.proofs.Fields.{IsIn}
+use Rattle.state_image.specs.rules.Ranges.{IsIn}
 use Rattle.state_image.proofs.Among.{all_among, numbers_below, found_among}
 use Rattle.state_image.proofs.Places.{IsTargetIn, IsDescriptorIn, HasPlaces}
 

@@ -1,6 +1,6 @@
 -- What pushes keep that each push keeps.
 use Rattle.std.proofs.Common.{◌≡◌, ℕ, List, [], ◌∷◌, ◌++◌, sym, ap, ◌∙◌, subst, append_assoc}
-use Rattle.std.specs.Prelude.{Result, Ok, Err}
+use Rattle.std.specs.Prelude.{Ok, Err}
 use Rattle.std.proofs.lemmas.List.{append-nil}
 use Rattle.state_image.specs.rules.Sinks.{TakingPieces, joined, TakesPieces, Pushes, KeepsBytes}
 

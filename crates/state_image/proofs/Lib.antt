@@ -27,3 +27,11 @@ mod Outermost
 mod ShownBounds
 pub mod ReachedWellTyped
 mod RestoreLemmas
+mod ReadLemmas
+mod TextReads
+mod PartReads
+mod FrontReads
+mod StepsRead
+mod FieldsGiven
+mod ImageGiven
+mod WholeRead

@@ -8,24 +8,16 @@ use Rattle.guest_memory.specs.rules.Bytes.{page_size}
 use Rattle.wasi_abi.specs.rules.Layouts.{u32_bytes, u64_bytes}
 use Rattle.machine_slots.specs.rules.Places.{ShownFrame, MachineState}
 use Rattle.state_image.specs.rules.Image.{items_bytes, place_bytes, memory_bytes, machine_bytes}
-use Rattle.state_image.proofs.Fields.{IsIn, AreFew, Tells, same_front, cut, number_field}
+use Rattle.state_image.specs.rules.Ranges.{IsIn, AreFew, AreWords, IsPlaceIn, IsWhole}
+use Rattle.state_image.proofs.Fields.{Tells, same_front, cut, number_field}
 use Rattle.state_image.proofs.Fields.{items_field}
 
 -- ---- words
 
--- so many words
-abbrev pub AreWords : List ℕ → Type 0
-AreWords words = AreFew ℕ (IsIn 8) words
-
-words_field : Tells (List ℕ) AreWords (items_bytes u64_bytes)
+pub words_field : Tells (List ℕ) AreWords (items_bytes u64_bytes)
 words_field = items_field ℕ (IsIn 8) u64_bytes (number_field 8)
 
 -- ---- frames
-
-pub record IsPlaceIn (f : ShownFrame) : Type 0 where
-  pub function : IsIn 4 f.function
-  pub position : IsIn 4 f.position
-  pub slots : AreWords f.slots
 
 frame_of : ℕ → ℕ → List ℕ → ShownFrame
 frame_of function position slots = record
@@ -37,7 +29,7 @@ unfolding frame_of
 same_frame f g a b c = let whole : frame_of f.function f.position f.slots ≡ frame_of g.function
     g.position g.slots = rw (a, b, c) refl in whole
 
-place_field : Tells ShownFrame IsPlaceIn place_bytes
+pub place_field : Tells ShownFrame IsPlaceIn place_bytes
 place_field = record { front = told } where
   told : (f g : ShownFrame) (rest other : List ℕ) → IsPlaceIn f → IsPlaceIn g
       → place_bytes f ++ rest ≡ place_bytes g ++ other → (f ≡ g) × (rest ≡ other)
@@ -54,16 +46,10 @@ place_field = record { front = told } where
 
 -- ---- memory
 
--- whole pages, as many as 32 bits count
-pub record IsWhole (memory : List ℕ) : Type 0 where
-  pub pages : ℕ
-  pub whole : length memory ≡ pages * page_size
-  pub few : IsIn 4 pages
-
 pages_in : (pages n : ℕ) → n ≡ pages * page_size → n / page_size ≡ pages
 pages_in pages n e = omega (arith, e)
 
-same_memory : (a b rest other : List ℕ) → IsWhole a → IsWhole b
+pub same_memory : (a b rest other : List ℕ) → IsWhole a → IsWhole b
     → memory_bytes a ++ rest ≡ memory_bytes b ++ other → (a ≡ b) × (rest ≡ other)
 same_memory a b rest other p q e =
     let mine : length a / page_size ≡ p.pages = pages_in p.pages (length a) p.whole in

@@ -9,7 +9,8 @@ use Rattle.state_image.specs.rules.Image.{items_bytes, entry_bytes, content_byte
 use Rattle.state_image.specs.rules.Image.{files_bytes}
 use Rattle.state_image.specs.restoring.Named.{Held, Entries, Bytes, NamedNode, held_of, named}
 use Rattle.state_image.specs.restoring.Named.{held_bytes, named_bytes}
-use Rattle.state_image.proofs.Fields.{IsIn, AreFew, Tells, same_front, cut, number_field}
+use Rattle.state_image.specs.rules.Ranges.{IsIn, AreFew, IsEntryIn}
+use Rattle.state_image.proofs.Fields.{Tells, same_front, cut, number_field}
 use Rattle.state_image.proofs.Fields.{items_field}
 
 -- ---- the image is made of what is named
@@ -39,10 +40,6 @@ items_named fs ns =
 
 -- ---- the fields of an entry
 
-pub record IsEntryIn (e : Entry) : Type 0 where
-  pub name : IsIn 2 (length e.name)
-  pub number : IsIn 8 e.number
-
 entry : Name → ℕ → Entry
 entry name number = record { name = name; number = number }
 
@@ -51,7 +48,7 @@ unfolding entry
 same_entry e f a b = let whole : entry e.name e.number ≡ entry f.name f.number = rw (a, b) refl in
     whole
 
-entry_field : Tells Entry IsEntryIn entry_bytes
+pub entry_field : Tells Entry IsEntryIn entry_bytes
 entry_field = record { front = told } where
   told : (e f : Entry) (rest other : List ℕ) → IsEntryIn e → IsEntryIn f
       → entry_bytes e ++ rest ≡ entry_bytes f ++ other → (e ≡ f) × (rest ≡ other)

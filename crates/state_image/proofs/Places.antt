@@ -9,7 +9,8 @@ use Rattle.file_tree.specs.rules.Files.{Files, is_directory}
 use Rattle.wasi_calls_rules.specs.Hosts.{Target, Stream, Node, Descriptor}
 use Rattle.state_image.specs.rules.Image.{target_bytes, Numbered, open_from, descriptor_bytes}
 use Rattle.state_image.specs.rules.Image.{items_bytes}
-use Rattle.state_image.proofs.Fields.{IsIn, AreFew, Tells, cut, number_field, items_field}
+use Rattle.state_image.specs.rules.Ranges.{IsIn, AreFew}
+use Rattle.state_image.proofs.Fields.{Tells, cut, number_field, items_field}
 
 -- ---- targets
 

@@ -19,9 +19,9 @@ use Rattle.state_image.specs.rules.Image.{phase_bytes, streams_bytes, machine_by
 use Rattle.state_image.specs.rules.Image.{image}
 use Rattle.state_image.specs.rules.WellTyped.{EntryPoints, IsCalled, IsOutermost, IsAlive}
 use Rattle.state_image.specs.rules.WellTyped.{IsWellTyped}
-use Rattle.state_image.proofs.Fields.{IsIn}
-use Rattle.state_image.proofs.Counts.{HasCounts, SameCounts, same_counts, SamePhase, same_phase}
-use Rattle.state_image.proofs.Counts.{HasStreams, SameStreams, same_streams}
+use Rattle.state_image.specs.rules.Ranges.{IsIn, FitsCounts, FitsStreams}
+use Rattle.state_image.proofs.Counts.{SameCounts, same_counts, SamePhase, same_phase}
+use Rattle.state_image.proofs.Counts.{SameStreams, same_streams}
 use Rattle.state_image.proofs.Machines.{HasMachine, SameMachine, same_machine}
 use Rattle.state_image.proofs.Named.{same_files_named}
 use Rattle.state_image.proofs.PathsTold.{same_files}
@@ -34,9 +34,9 @@ use Rattle.state_image.proofs.MachineWithin.{machine_within}
 
 -- what a process has is within the fields of its image
 pub record IsWithin (s : Saved) : Type 0 where
-  pub counts : HasCounts s
+  pub counts : FitsCounts s
   pub code : IsIn 4 (ending_code s.ended)
-  pub streams : HasStreams s
+  pub streams : FitsStreams s
   pub machine : HasMachine s.machine
   pub files : IsFiles s.files
   pub next : IsIn 8 s.files.next
@@ -47,7 +47,7 @@ lines_within h n =
     let all : length (h.lines ++ (rest_of 1 h.first ++ rest_of 2 h.second)) + 2 < 2 ^ 63 = n in
     omega (arith, all, length-append h.lines (rest_of 1 h.first ++ rest_of 2 h.second))
 
-counts_within : (m : Module) (config : Settings) (s : Saved) → IsWellTyped m config s → HasCounts s
+counts_within : (m : Module) (config : Settings) (s : Saved) → IsWellTyped m config s → FitsCounts s
 counts_within m config s w =
     let steps : s.steps < 2 ^ 63 = w.steps in
     let time : w.process.host.last_monotonic < 2 ^ 64 = w.host.last_monotonic in
@@ -60,7 +60,7 @@ counts_within m config s w =
     }
 
 streams_within : (m : Module) (config : Settings) (s : Saved) → IsWellTyped m config s
-    → HasStreams s
+    → FitsStreams s
 streams_within m config s w =
     let unread : length s.unread ≤ 4097 = w.unread in
     let first : length w.process.host.first ≤ 4096 = w.host.first.short in
@@ -125,22 +125,22 @@ later_told b c s t same h k None p q x y e =
 
 -- ---- the parts of an image
 
-abbrev from_descriptors : Saved → List ℕ
+abbrev pub from_descriptors : Saved → List ℕ
 from_descriptors s = items_bytes (descriptor_bytes s.files) (open_from 0 s.descriptors)
 
-abbrev from_files : Saved → List ℕ
+abbrev pub from_files : Saved → List ℕ
 from_files s = files_bytes s.files ++ from_descriptors s
 
-abbrev from_machine : Saved → List ℕ
+abbrev pub from_machine : Saved → List ℕ
 from_machine s = machine_bytes s.machine ++ from_files s
 
-abbrev from_streams : Saved → List ℕ
+abbrev pub from_streams : Saved → List ℕ
 from_streams s = streams_bytes s ++ from_machine s
 
-abbrev from_phase : Saved → List ℕ
+abbrev pub from_phase : Saved → List ℕ
 from_phase s = phase_bytes s ++ from_streams s
 
-abbrev from_counts : Saved → List ℕ
+abbrev pub from_counts : Saved → List ℕ
 from_counts s = counts_bytes s ++ from_phase s
 
 -- what the image tells of two processes

@@ -1,4 +1,3 @@
 pub mod laws
-pub mod reading
 pub mod rules
 pub mod restoring

@@ -1,5 +1,9 @@
 pub mod Examples
 pub mod ImageExamples
+pub mod ImageOrder
 pub mod Laws
+pub mod Phases
+pub mod Reading
 pub mod Refusals
 pub mod WellTypedExamples
+pub mod WordLists

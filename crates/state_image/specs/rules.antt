@@ -1,4 +1,10 @@
+pub mod Fronts
 pub mod Image
+pub mod LentFrames
+pub mod Parts
+pub mod Ranges
+pub mod RawDescriptors
+pub mod Reading
 pub mod Saving
 pub mod Sinks
 pub mod WellTyped

@@ -6,6 +6,19 @@ ghost use Rattle.wasi_abi.specs.rules.Configs.{Settings};
 ghost use Rattle.state_image.specs.laws.Refusals.{RefusesCounts, RefusesStreams, RefusesMachines};
 ghost use Rattle.state_image.specs.laws.Refusals.{RefusesFiles, RefusesDescriptors};
 ghost use Rattle.state_image.specs.laws.WellTypedExamples.{HelloBeginsWellTyped};
+ghost use Rattle.state_image.specs.laws.Reading.{NodesAreRead, DescriptorsAreRead};
+ghost use Rattle.state_image.specs.laws.Reading.{PartsAreOfProcesses};
+ghost use Rattle.state_image.specs.laws.ImageOrder.{ImagesAreInOrder, LeadsItsReader};
+ghost use Rattle.state_image.specs.laws.ImageOrder.{LeadsPartReader};
+ghost use Rattle.wasi_abi.specs.rules.Layouts.{u32_bytes, u64_bytes};
+ghost use Rattle.state_image.specs.rules.Image.{image_mark, counts_bytes, phase_bytes};
+ghost use Rattle.state_image.specs.rules.Image.{streams_bytes, items_bytes, place_bytes};
+ghost use Rattle.state_image.specs.rules.Image.{memory_bytes, entry_bytes};
+ghost use Rattle.state_image.specs.rules.Ranges.{IsIn, AreWords, FitsCounts, FitsCode, FitsStreams};
+ghost use Rattle.state_image.specs.rules.Ranges.{IsPlaceIn, IsWhole, IsEntryIn};
+ghost use Rattle.state_image.specs.rules.Parts.{counts_of, read_end_of, streams_of};
+ghost use Rattle.state_image.specs.rules.Fronts.{front_bytes, IsFrontIn};
+ghost use Rattle.state_image.specs.rules.RawDescriptors.{raw_bytes, IsRawIn};
 ghost use Rattle.state_image.specs.laws.Laws.{ImagesTellProcessesApart};
 ghost use Rattle.state_image.specs.laws.Laws.{ImagesHaveRoom, ImagesAreBytes, SavesWhatIsShown};
 ghost use Rattle.state_image.specs.laws.Laws.{ReachedIsWellTyped, SavedIsWellTyped};
@@ -55,4 +68,33 @@ pub fn saves_what_is_shown()
 pub fn reached_processes_are_well_typed()
     ensures reached { ReachedIsWellTyped }
     ensures saved { SavedIsWellTyped }
+{}
+
+/// What is read of a node and of a descriptor, in steps, are their bytes. Any part that is read of
+/// a process is that of one.
+pub fn what_is_read_in_steps()
+    ensures nodes { NodesAreRead }
+    ensures descriptors { DescriptorsAreRead }
+    ensures parts { PartsAreOfProcesses }
+{}
+
+/// Bytes that begin with those of a field lead its reader to this field, and to what is behind it.
+pub fn fields_lead_their_readers()
+    ensures mark { LeadsItsReader (λ (mark : Unit {0}). image_mark) (λ mark. Unit {0}) }
+    ensures counts { LeadsPartReader counts_of counts_bytes FitsCounts }
+    ensures phase { LeadsPartReader read_end_of phase_bytes FitsCode }
+    ensures streams { LeadsPartReader streams_of streams_bytes FitsStreams }
+    ensures count { LeadsItsReader u32_bytes (IsIn 4) }
+    ensures number { LeadsItsReader u64_bytes (IsIn 8) }
+    ensures words { LeadsItsReader (items_bytes u64_bytes) AreWords }
+    ensures frame { LeadsItsReader place_bytes IsPlaceIn }
+    ensures memory { LeadsItsReader memory_bytes IsWhole }
+    ensures front { LeadsItsReader front_bytes IsFrontIn }
+    ensures entry { LeadsItsReader entry_bytes IsEntryIn }
+    ensures descriptor { LeadsItsReader raw_bytes IsRawIn }
+{}
+
+/// Bytes are an image where its fields are in their order, and only there.
+pub fn images_are_in_order()
+    ensures { ImagesAreInOrder }
 {}

@@ -9,12 +9,18 @@
 //!   is the one that is given (`Pushes`). It takes no memory, and copies none of the guest's.
 //! - `write_image` gives these bytes in a vector.
 //! - `reading` reads the fields of an image from the front of bytes, one by one. Each reader gives
-//!   what a function on lists gives, or nothing where that gives nothing. It takes no memory. That
-//!   these functions give the fields of `image` is not proved yet.
+//!   the field in range whose bytes, as `image` spells it, are in front. It leaves those behind it.
+//!   It gives nothing where there is no such field (`ReadsField`, `ReadsPart`). It takes no memory.
+//! - `laws::what_is_read_in_steps`: a node is read by its front and then entry by entry, and a
+//!   descriptor whatever its kind is. These are the bytes that `image` has of them.
+//! - `laws::fields_lead_their_readers`: bytes that begin with those of a field lead its reader to
+//!   this field, and to what is behind it.
+//! - `laws::images_are_in_order`: bytes are an image where its fields are in their order, and only
+//!   there.
 //! - `restoring::restore_files` reads the tree whose files stand next in an image (`made`), or says
 //!   that no files with a next number of 64 bits stand there (`refused`).
 //! - `restoring::tree_of` makes a tree again of its next number and of what was told of its nodes
-//!   (`made`), or says that no files are told so (`refused`). `AreNamed` says what is told of
+//!   (`made`), or says that no files are told so (`refused`). `AreNamedNodes` says what is told of
 //!   files.
 //! - `restoring::descriptor_of` makes the descriptor of which a record is told (`made`), or says
 //!   that there is none (`none`): `IsReadAs` of `Opened.antt`. No list of them is made yet.
@@ -50,10 +56,13 @@
 //! - `Saving.antt`: `saved_of` is what is saved of the code's process.
 //! - `Sinks.antt`: `Pushes` says what was done to a sink, push by push.
 //! - `WellTyped.antt`: `IsWellTyped` says which of these processes have images that are accepted.
+//! - `Reading.antt`: `ReadsField` and `ReadsPart` say what a reader gives. `Ranges.antt` says which
+//!   values the fields have room for.
+//! - `Parts.antt`, `LentFrames.antt`, `Fronts.antt` and `RawDescriptors.antt`: what readers give of
+//!   a process, a frame, a node and a descriptor.
 //!
-//! In `specs/reading/` stand the functions on lists that `reading` follows. In `specs/restoring/`
-//! stands what is told of nodes (`Named.antt`), when files are told so (`IsTold` of `Told.antt`),
-//! and what is told of a descriptor (`Opened.antt`).
+//! In `specs/restoring/` stands what is told of nodes (`Named.antt`), when files are told so
+//! (`IsToldOf` of `Told.antt`), and what is told of a descriptor (`Opened.antt`).
 //!
 //! # Who may touch what
 //!

@@ -10,10 +10,10 @@ use Rattle.file_tree.specs.rules.Files.{holds_directory, entries_of, entries_und
 use Rattle.file_tree.specs.laws.Laws.{node_number, content_of}
 use Rattle.file_tree.proofs.FilesTold.{entries_tell_files}
 use Rattle.state_image.specs.restoring.Named.{Held, Entries, Bytes, NamedNode, held_of, named}
-use Rattle.state_image.specs.restoring.Named.{AreNamed}
+use Rattle.state_image.specs.restoring.Named.{AreNamedNodes}
 use Rattle.state_image.specs.declared.restoring.whole_node.WholeNode.{WholeNode}
 use Rattle.state_image.specs.restoring.Told.{lent_whole, told_number, told_content, content_of_told}
-use Rattle.state_image.specs.restoring.Told.{told_entries, entries_in_found, AreAs, IsTold}
+use Rattle.state_image.specs.restoring.Told.{told_entries, entries_in_found, AreAs, IsToldOf}
 use Rattle.state_image.specs.restoring.Told.{MayStay, MayAllStay}
 use Rattle.state_image.specs.restoring.Hanging.{IsHung}
 use Rattle.state_image.proofs.Among.{IsAmong, among_all, all_among, found_own}
@@ -126,7 +126,7 @@ stay_told fs (n ∷ nodes) h = (h.0, stay_told fs nodes h.1)
 -- all that is told is so of the files whose nodes have been hung
 pub named_again : (fs : Files) (next : ℕ) (nodes : List WholeNode)
     → IsHung (map lent_whole nodes) fs → fs.next ≡ next → MayAllStay fs nodes
-    → AreNamed fs next (map lent_whole nodes)
+    → AreNamedNodes fs next (map lent_whole nodes)
 named_again fs next nodes h is stay =
     let ns = map lent_whole nodes in
     record {
@@ -145,7 +145,7 @@ named_heads : (a b : NamedNode) (xs ys : List NamedNode) → a ∷ xs ≡ b ∷ 
 named_heads a b xs ys e = (cc, cc)
 
 pub all_stay : (fs gs : Files) (next : ℕ) (nodes : List WholeNode)
-    → IsHung (map lent_whole nodes) fs → fs.next ≡ next → IsTold gs next (map lent_whole nodes)
+    → IsHung (map lent_whole nodes) fs → fs.next ≡ next → IsToldOf gs next (map lent_whole nodes)
     → MayAllStay fs nodes
 all_stay fs gs next nodes h is t = each gs.nodes nodes t.told.nodes where
   alike : AreAs gs (map lent_whole nodes)

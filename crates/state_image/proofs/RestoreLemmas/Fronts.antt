@@ -17,9 +17,9 @@ use Rattle.state_image.specs.reading.Fields.{integer_at, text_at}
 use Rattle.state_image.specs.reading.Nodes.{ContentFront, EntryCount, FileBytes, NodeFront}
 use Rattle.state_image.specs.reading.Nodes.{content_front_at, node_front_at, entry_at}
 use Rattle.state_image.specs.restoring.Named.{Held, Entries, Bytes, NamedNode, named}
-use Rattle.state_image.specs.restoring.Named.{AreNamed, held_bytes, named_bytes}
-use Rattle.state_image.specs.restoring.Told.{IsTold}
-use Rattle.state_image.specs.restoring.Parts.{held_at, whole_at, wholes_at}
+use Rattle.state_image.specs.restoring.Named.{AreNamedNodes, held_bytes, named_bytes}
+use Rattle.state_image.specs.restoring.Told.{IsToldOf}
+use Rattle.state_image.specs.restoring.Parts.{held_at, whole_node_at, wholes_at}
 use Rattle.state_image.proofs.Fields.{IsIn, AreFew}
 use Rattle.state_image.proofs.Named.{IsEntryIn, IsHeldIn, IsNamedIn, files_named}
 use Rattle.state_image.proofs.FilesWithin.{files_within}
@@ -315,11 +315,11 @@ front_in : (h : Held) → IsHeldIn h → IsContentIn (content_of_held h)
 front_in (Entries es) p = p.few
 front_in (Bytes bytes) p = p
 
-whole_front : ReadsFront NamedNode IsNamedIn named_bytes whole_at
-unfolding whole_at
+whole_front : ReadsFront NamedNode IsNamedIn named_bytes whole_node_at
+unfolding whole_node_at
 whole_front = record { front = front; is = is } where
   front : (n : NamedNode) (rest : List ℕ) → IsNamedIn n
-      → whole_at (named_bytes n ++ rest) ≡ Some (n, rest)
+      → whole_node_at (named_bytes n ++ rest) ≡ Some (n, rest)
   front n rest p = rw (
     whole_split n rest,
     node_front.front (front_of n) (behind n.held ++ rest)
@@ -328,7 +328,7 @@ whole_front = record { front = front; is = is } where
   ) refl
 
   is : (bytes : List ℕ) (n : NamedNode) (rest : List ℕ) → AreBytes bytes
-      → whole_at bytes ≡ Some (n, rest) → (bytes ≡ named_bytes n ++ rest) × AreBytes rest
+      → whole_node_at bytes ≡ Some (n, rest) → (bytes ≡ named_bytes n ++ rest) × AreBytes rest
   is bytes n rest low e =
       let f = bind_some (node_front_at bytes) _ _ e in
       let h = bind_some (held_at f.0.0.content f.0.1) _ _ f.2 in
@@ -355,7 +355,7 @@ wholes_front = record { front = front; is = is } where
     append_assoc (u32_bytes (length ns)) (flat_map named_bytes ns) rest,
     (integer_front 4).front (length ns) (flat_map named_bytes ns ++ rest) p.few,
   )
-      (items_front NamedNode IsNamedIn named_bytes whole_at whole_front (length ns) ns rest refl
+      (items_front NamedNode IsNamedIn named_bytes whole_node_at whole_front (length ns) ns rest refl
       p.each)
 
   is : (bytes : List ℕ) (ns : List NamedNode) (rest : List ℕ) → AreBytes bytes
@@ -364,7 +364,7 @@ wholes_front = record { front = front; is = is } where
   is bytes ns rest low e =
       let count = bind_some (integer_at 4 bytes) _ _ e in
       let a = (integer_front 4).is bytes count.0.0 count.0.1 low count.1 in
-      let b = items_are NamedNode IsNamedIn named_bytes whole_at whole_front count.0.0 count.0.1 ns
+      let b = items_are NamedNode IsNamedIn named_bytes whole_node_at whole_front count.0.0 count.0.1 ns
       rest a.1 count.2 in (
         a.0 ∙ ap (λ (r : List ℕ). u32_bytes count.0.0 ++ r) b.is
             ∙ ap (λ (n : ℕ). u32_bytes n ++ (flat_map named_bytes ns ++ rest)) (sym b.many)
@@ -376,7 +376,7 @@ wholes_front = record { front = front; is = is } where
 
 pub files_made : (fs : Files) (next : ℕ) (ns : List NamedNode) (bytes mid rest : List ℕ)
     → AreBytes bytes → integer_at 8 bytes ≡ Some (next, mid) → wholes_at mid ≡ Some (ns, rest)
-    → AreNamed fs next ns → bytes ≡ files_bytes fs ++ rest
+    → AreNamedNodes fs next ns → bytes ≡ files_bytes fs ++ rest
 files_made fs next ns bytes mid rest low number nodes told =
     let a = (integer_front 8).is bytes next mid low number in
     let b = wholes_front.is mid ns rest a.1 nodes in
@@ -435,7 +435,7 @@ no_nodes bytes mid number there none fs rest are next is =
 pub files_told : (bytes mid behind : List ℕ) (number : ℕ) (ns : List NamedNode)
     → integer_at 8 bytes ≡ Some (number, mid) → wholes_at mid ≡ Some (ns, behind)
     → (fs : Files) (rest : List ℕ) → IsFiles fs → fs.next < 2 ^ 64
-    → bytes ≡ files_bytes fs ++ rest → IsTold fs number ns
+    → bytes ≡ files_bytes fs ++ rest → IsToldOf fs number ns
 files_told bytes mid behind number ns there nodes fs rest are next is =
     let r = files_read fs bytes rest are next is in
     let same = parts number fs.next mid r.mid (sym there ∙ r.number) in

@@ -11,7 +11,7 @@ use Rattle.file_tree.specs.rules.Changes.{path_at, CanHang}
 use Rattle.file_tree.specs.laws.Rebuilding.{HasHung}
 use Rattle.file_tree.proofs.OneEntryMore.{hanging_adds_an_entry}
 use Rattle.state_image.specs.restoring.Named.{NamedNode}
-use Rattle.state_image.specs.restoring.Told.{listed, AreAs, CanTake}
+use Rattle.state_image.specs.restoring.Told.{listed_node, AreAs, CanTake}
 use Rattle.state_image.specs.restoring.Hanging.{directory_alone, HangsUpTo}
 use Rattle.state_image.proofs.PushedItems.{front_more}
 use Rattle.state_image.proofs.RestoreLemmas.Told.{one_directory, still_as}
@@ -91,7 +91,7 @@ can_hang ns fs ws at i d e h here can = record {
 }
 
 module _ (ns : List NamedNode) (fs gs : Files) (ws : List ℕ) (at i d : ℕ) (e : Entry) (h : HangsUpTo
-    ns fs ws at i) (here : slice_get ws at ≡ Some d) (told : slice_get (listed ns d) i ≡ Some e)
+    ns fs ws at i) (here : slice_get ws at ≡ Some d) (told : slice_get (listed_node ns d) i ≡ Some e)
     (can : CanTake fs d e) (m : HasHung fs gs e.number d e.name) (b : Bool)
     (kind : is_directory gs e.number ≡ b) where
   same : AreAs gs ns
@@ -116,10 +116,10 @@ module _ (ns : List NamedNode) (fs gs : Files) (ws : List ℕ) (at i d : ℕ) (e
   apart j x is ne e = ne (h.once j at x is (here ∙ ap (λ (y : ℕ). Some y) (sym e)))
 
   done : (j x : ℕ) → slice_get (ws ++ directory_alone b e.number) j ≡ Some x → j < at
-      → entries_of gs x ≡ listed ns x
+      → entries_of gs x ≡ listed_node ns x
   done j x is lt = by (at_either ws (directory_alone b e.number) j x is) where
     by : (slice_get ws j ≡ Some x) ⊎ ((k : ℕ) × (j ≡ length ws + k)
-        × (slice_get (directory_alone b e.number) k ≡ Some x)) → entries_of gs x ≡ listed ns x
+        × (slice_get (directory_alone b e.number) k ≡ Some x)) → entries_of gs x ≡ listed_node ns x
     by (inl old) = m.others x (apart j x old (λ e. absurd (omega (arith, e, lt))))
         ∙ h.done j x old lt
     by (inr new) =
@@ -127,20 +127,20 @@ module _ (ns : List NamedNode) (fs gs : Files) (ws : List ℕ) (at i d : ℕ) (e
         absurd (omega (arith, new.1, lt, inside))
 
   begun : (x : ℕ) → slice_get (ws ++ directory_alone b e.number) at ≡ Some x
-      → entries_of gs x ≡ take (i + 1) (listed ns x)
+      → entries_of gs x ≡ take (i + 1) (listed_node ns x)
   begun x is =
       let same : d ≡ x = some_is d x
       (sym (at_front ws (directory_alone b e.number) at d here) ∙ is) in
-      subst (λ (y : ℕ). entries_of gs y ≡ take (i + 1) (listed ns y)) same more
+      subst (λ (y : ℕ). entries_of gs y ≡ take (i + 1) (listed_node ns y)) same more
     where
-      more : entries_of gs d ≡ take (i + 1) (listed ns d)
+      more : entries_of gs d ≡ take (i + 1) (listed_node ns d)
       more =
           m.here
           ∙ goes_last e (entries_of fs d)
           (none_found (λ (x : Entry). x.number)
           (find (λ (x : Entry). is_before e.name x.name) (entries_of fs d)) can.last)
           ∙ ap (λ (es : List Entry). es ++ e ∷ []) (h.begun d here)
-          ∙ sym (front_more (listed ns d) i e told)
+          ∙ sym (front_more (listed_node ns d) i e told)
 
   still : (j x : ℕ) → slice_get (ws ++ directory_alone b e.number) j ≡ Some x → at < j
       → entries_of gs x ≡ []
@@ -219,7 +219,7 @@ module _ (ns : List NamedNode) (fs gs : Files) (ws : List ℕ) (at i d : ℕ) (e
 
 -- one entry more of the directory at a place of those that wait
 pub entry_hung : (ns : List NamedNode) (fs gs : Files) (ws now : List ℕ) (at i d : ℕ) (e : Entry)
-    → HangsUpTo ns fs ws at i → slice_get ws at ≡ Some d → slice_get (listed ns d) i ≡ Some e
+    → HangsUpTo ns fs ws at i → slice_get ws at ≡ Some d → slice_get (listed_node ns d) i ≡ Some e
     → CanTake fs d e → gs ≡ hung e.number (path_at fs d ++ e.name ∷ []) fs
     → now ≡ ws ++ directory_alone (is_directory gs e.number) e.number
     → HangsUpTo ns gs now at (i + 1) × (gs.next ≡ fs.next) × (slice_get now at ≡ Some d)

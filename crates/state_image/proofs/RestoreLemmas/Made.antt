@@ -21,7 +21,7 @@ use Rattle.file_tree.proofs.KeptEntries.{others_keep_entries}
 use Rattle.file_tree.proofs.Filled.{filled_files}
 use Rattle.state_image.specs.restoring.Named.{NamedNode}
 use Rattle.state_image.specs.restoring.Told.{told_number, told_content, content_of_told, AreAs}
-use Rattle.state_image.specs.restoring.Told.{IsTold, CanCreate, BeginsWithRoot, next_behind}
+use Rattle.state_image.specs.restoring.Told.{IsToldOf, CanCreate, BeginsWithRoot, next_behind}
 use Rattle.state_image.specs.restoring.Told.{IsMadeOf}
 use Rattle.state_image.specs.restoring.Hanging.{HangsUpTo}
 use Rattle.state_image.proofs.Among.{all_among, found_among, numbers_below, numbers_from}
@@ -256,7 +256,7 @@ split_at (m ∷ ns) (suc i) n e = ap (λ (xs : List NamedNode). m ∷ xs) (split
 
 -- the node at a place can be made, if files are told so
 pub can_be_created : (ns : List NamedNode) (fs gs : Files) (next place : ℕ) (n : NamedNode)
-    → IsMadeOf (take place ns) fs → slice_get ns place ≡ Some n → IsTold gs next ns
+    → IsMadeOf (take place ns) fs → slice_get ns place ≡ Some n → IsToldOf gs next ns
     → CanCreate fs n
 can_be_created ns fs gs next place n h at t =
     let front = take place ns in
@@ -317,7 +317,7 @@ holds_some None e = absurd cc
 holds_some (Some n) e = refl
 
 -- files that are told begin with the root
-pub told_begins : (ns : List NamedNode) (gs : Files) (next : ℕ) → IsTold gs next ns
+pub told_begins : (ns : List NamedNode) (gs : Files) (next : ℕ) → IsToldOf gs next ns
     → BeginsWithRoot ns
 told_begins ns gs next t = by gs.nodes ns t.are.rising t.are.root_is_directory alike.numbers
     alike.contents where
@@ -342,7 +342,7 @@ told_begins ns gs next t = by gs.nodes ns t.are.rising t.are.root_is_directory a
           )
 
 pub next_told : (ns : List NamedNode) (fs gs : Files) (next : ℕ) → IsMadeOf ns fs
-    → IsTold gs next ns → fs.next ≤ next
+    → IsToldOf gs next ns → fs.next ≤ next
 next_told ns fs gs next h t =
     let behind = all_behind_told 1 gs.nodes gs.next ns t.are.rising
     (told_as gs next ns t.told).numbers in

@@ -17,7 +17,7 @@ use Rattle.file_tree.proofs.EntriesTell.{entries_tell_paths}
 use Rattle.file_tree.proofs.EntriesDiffer.{children_are_listed, entries_differ}
 use Rattle.file_tree.proofs.KeptEntries.{entries_come_in_order}
 use Rattle.state_image.specs.restoring.Named.{NamedNode}
-use Rattle.state_image.specs.restoring.Told.{listed, AreAs, IsTold, CanTake}
+use Rattle.state_image.specs.restoring.Told.{listed_node, AreAs, IsToldOf, CanTake}
 use Rattle.state_image.specs.restoring.Hanging.{HangsUpTo, IsHung}
 use Rattle.state_image.proofs.PushedItems.{front_more}
 use Rattle.state_image.proofs.RestoreLemmas.Told.{one_directory, one_there, told_as, told_listed}
@@ -64,12 +64,12 @@ node_there (Some n) p e = refl
 
 module _ (ns : List NamedNode) (fs gs : Files) (next : ℕ) (ws : List ℕ) (at i d : ℕ) (e : Entry)
     (h : HangsUpTo ns fs ws at i) (here : slice_get ws at ≡ Some d)
-    (is : slice_get (listed ns d) i ≡ Some e) (t : IsTold gs next ns) where
+    (is : slice_get (listed_node ns d) i ≡ Some e) (t : IsToldOf gs next ns) where
   alike : AreAs gs ns
   alike = told_as gs next ns t.told
 
   -- what is told of a directory that waits
-  its : (j x : ℕ) → slice_get ws j ≡ Some x → listed ns x ≡ entries_of gs x
+  its : (j x : ℕ) → slice_get ws j ≡ Some x → listed_node ns x ≡ entries_of gs x
   its j x waits = told_listed gs next ns t.told x
       (sym (one_directory fs gs ns h.same alike x) ∙ (h.hung j x waits).0)
 
@@ -92,7 +92,7 @@ module _ (ns : List NamedNode) (fs gs : Files) (next : ℕ) (ws : List ℕ) (at 
   before : (p : ℕ) (x : Entry) → slice_get (entries_of fs d) p ≡ Some x
       → (p < i) × (slice_get (entries_of gs d) p ≡ Some x)
   before p x at_p =
-      let r = take_at i (listed ns d) p x
+      let r = take_at i (listed_node ns d) p x
       (ap (λ (es : List Entry). slice_get es p) (sym (h.begun d here)) ∙ at_p) in
       (r.0, ap (λ (es : List Entry). slice_get es p) (sym (its at d here)) ∙ r.1)
 
@@ -150,7 +150,7 @@ module _ (ns : List NamedNode) (fs gs : Files) (next : ℕ) (ws : List ℕ) (at 
     by : (o : Option ℕ) → child fs d e.name ≡ o → o ≡ None
     by None found = refl
     by (Some k) found =
-        let l = children_are_listed.listed fs d k e.name h.are found in
+        let l = children_are_listed.listed_node fs d k e.name h.are found in
         let place = before l.place (entry_under e.name k) l.is in
         let one = entries_differ.names gs d l.place i (entry_under e.name k) e t.are place.1
         is_at refl in
@@ -179,7 +179,7 @@ module _ (ns : List NamedNode) (fs gs : Files) (next : ℕ) (ws : List ℕ) (at 
 -- ---- on to the next directory, and the end
 
 pub next_directory : (ns : List NamedNode) (fs : Files) (ws : List ℕ) (at n d : ℕ)
-    → HangsUpTo ns fs ws at n → slice_get ws at ≡ Some d → length (listed ns d) ≤ n
+    → HangsUpTo ns fs ws at n → slice_get ws at ≡ Some d → length (listed_node ns d) ≤ n
     → HangsUpTo ns fs ws (at + 1) 0
 next_directory ns fs ws at n d h here whole = record {
   are = h.are;
@@ -191,16 +191,16 @@ next_directory ns fs ws at n d h here whole = record {
   once = h.once;
   all = h.all;
 } where
-  now : (j x : ℕ) → slice_get ws j ≡ Some x → j ≡ at → entries_of fs x ≡ listed ns x
+  now : (j x : ℕ) → slice_get ws j ≡ Some x → j ≡ at → entries_of fs x ≡ listed_node ns x
   now j x is same =
       let waits : slice_get ws at ≡ Some x = ap (λ (y : ℕ). slice_get ws y) (sym same) ∙ is in
       let mine : d ≡ x = some_is d x (sym here ∙ waits) in
       h.begun x waits
-      ∙ take_all n (listed ns x) (subst (λ (y : ℕ). length (listed ns y) ≤ n) mine whole)
+      ∙ take_all n (listed_node ns x) (subst (λ (y : ℕ). length (listed_node ns y) ≤ n) mine whole)
 
-  done : (j x : ℕ) → slice_get ws j ≡ Some x → j < at + 1 → entries_of fs x ≡ listed ns x
+  done : (j x : ℕ) → slice_get ws j ≡ Some x → j < at + 1 → entries_of fs x ≡ listed_node ns x
   done j x is lt = by (cases_lt j at) where
-    by : (j < at) ⊎ (at ≤ j) → entries_of fs x ≡ listed ns x
+    by : (j < at) ⊎ (at ≤ j) → entries_of fs x ≡ listed_node ns x
     by (inl less) = h.done j x is less
     by (inr le) = now j x is (omega (arith, le, lt))
 
@@ -208,7 +208,7 @@ pub all_hung : (ns : List NamedNode) (fs : Files) (ws : List ℕ) (at : ℕ)
     → HangsUpTo ns fs ws at 0 → length ws ≤ at → IsHung ns fs
 all_hung ns fs ws at h whole = record { are = h.are; same = h.same; entries = entries } where
   entries : (d : ℕ) → is_directory fs d ≡ true → is_some (path_of fs d) ≡ true
-      → entries_of fs d ≡ listed ns d
+      → entries_of fs d ≡ listed_node ns d
   entries d directory path =
       let waits = h.all d directory path in
       let inside : waits.0 < length ws = slice_get_within ws waits.0 d waits.1 in

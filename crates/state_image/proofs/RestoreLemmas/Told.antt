@@ -7,9 +7,9 @@ use Rattle.file_tree.specs.rules.Files.{is_directory, is_directory_content, hold
 use Rattle.file_tree.specs.rules.Files.{entries_of}
 use Rattle.file_tree.specs.laws.Laws.{node_number, content_of}
 use Rattle.file_tree.specs.laws.Rebuilding.{HaveSameNodes}
-use Rattle.state_image.specs.restoring.Named.{NamedNode, held_of, named, AreNamed}
+use Rattle.state_image.specs.restoring.Named.{NamedNode, held_of, named, AreNamedNodes}
 use Rattle.state_image.specs.restoring.Told.{told_number, told_content, content_of_told}
-use Rattle.state_image.specs.restoring.Told.{told_entries, entries_in_found, listed, AreAs}
+use Rattle.state_image.specs.restoring.Told.{told_entries, entries_in_found, listed_node, AreAs}
 use Rattle.state_image.proofs.Among.{found_among}
 use Rattle.state_image.proofs.PathsTold.{named_found}
 
@@ -95,15 +95,15 @@ contents_named fs (m ∷ ms) =
     ∙ ap (λ (xs : List Content). told_content (held_of fs m.number m.content) ∷ xs)
     (contents_named fs ms)
 
-pub told_as : (gs : Files) (next : ℕ) (ns : List NamedNode) → AreNamed gs next ns → AreAs gs ns
+pub told_as : (gs : Files) (next : ℕ) (ns : List NamedNode) → AreNamedNodes gs next ns → AreAs gs ns
 told_as gs next ns told = record {
   numbers = numbers_named gs gs.nodes ∙ ap (map told_number) told.nodes;
   contents = contents_named gs gs.nodes ∙ ap (map content_of_told) told.nodes;
 }
 
 -- the entries of a directory are told
-pub told_listed : (gs : Files) (next : ℕ) (ns : List NamedNode) → AreNamed gs next ns → (d : ℕ)
-    → is_directory gs d ≡ true → listed ns d ≡ entries_of gs d
+pub told_listed : (gs : Files) (next : ℕ) (ns : List NamedNode) → AreNamedNodes gs next ns → (d : ℕ)
+    → is_directory gs d ≡ true → listed_node ns d ≡ entries_of gs d
 told_listed gs next ns told d is =
     ap (λ (ms : List NamedNode). entries_in_found (find (λ (n : NamedNode). eqb n.number d) ms))
     (sym told.nodes)

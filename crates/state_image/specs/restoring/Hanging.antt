@@ -3,7 +3,7 @@ use Rattle.std.specs.Prelude.{◌≡◌, ℕ, ◌<◌, List, [], ◌∷◌, take
 use Rattle.std.specs.Prelude.{is_some}
 use Rattle.file_tree.specs.rules.Files.{Files, IsFiles, is_directory, path_of, entries_of}
 use Rattle.state_image.specs.restoring.Named.{NamedNode}
-use Rattle.state_image.specs.restoring.Told.{AreAs, listed}
+use Rattle.state_image.specs.restoring.Told.{AreAs, listed_node}
 
 -- this number alone where it is a directory's, or else none
 abbrev pub directory_alone : Bool → ℕ → List ℕ
@@ -16,8 +16,8 @@ pub record HangsUpTo (ns : List NamedNode) (fs : Files) (waiting : List ℕ) (at
   where
     pub are : IsFiles fs
     pub same : AreAs fs ns
-    pub done : (j d : ℕ) → slice_get waiting j ≡ Some d → j < at → entries_of fs d ≡ listed ns d
-    pub begun : (d : ℕ) → slice_get waiting at ≡ Some d → entries_of fs d ≡ take count (listed ns d)
+    pub done : (j d : ℕ) → slice_get waiting j ≡ Some d → j < at → entries_of fs d ≡ listed_node ns d
+    pub begun : (d : ℕ) → slice_get waiting at ≡ Some d → entries_of fs d ≡ take count (listed_node ns d)
     pub still : (j d : ℕ) → slice_get waiting j ≡ Some d → at < j → entries_of fs d ≡ []
     pub hung : (j d : ℕ) → slice_get waiting j ≡ Some d
         → (is_directory fs d ≡ true) × (is_some (path_of fs d) ≡ true)
@@ -30,4 +30,4 @@ pub record IsHung (ns : List NamedNode) (fs : Files) : Type 0 where
   pub are : IsFiles fs
   pub same : AreAs fs ns
   pub entries : (d : ℕ) → is_directory fs d ≡ true → is_some (path_of fs d) ≡ true
-      → entries_of fs d ≡ listed ns d
+      → entries_of fs d ≡ listed_node ns d

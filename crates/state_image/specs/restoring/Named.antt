@@ -35,6 +35,6 @@ abbrev pub named_bytes : NamedNode → List ℕ
 named_bytes n = u64_bytes n.number ++ held_bytes n.held
 
 -- these files have this next number, and this is told of their nodes
-pub record AreNamed (fs : Files) (number : ℕ) (ns : List NamedNode) : Type 0 where
+pub record AreNamedNodes (fs : Files) (number : ℕ) (ns : List NamedNode) : Type 0 where
   pub next : fs.next ≡ number
   pub nodes : map (named fs) fs.nodes ≡ ns

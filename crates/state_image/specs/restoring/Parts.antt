@@ -22,11 +22,11 @@ held_at (EntryCount count) bytes = items_at entry_at count bytes >>= λ es. Some
 held_at (FileBytes file) bytes = Some (Bytes file, bytes)
 
 -- a node, and the entries behind it
-unfoldable pub whole_at : List ℕ → Option (NamedNode × List ℕ)
-whole_at bytes =
+unfoldable pub whole_node_at : List ℕ → Option (NamedNode × List ℕ)
+whole_node_at bytes =
     node_front_at bytes >>= λ front. held_at front.0.content front.1
     >>= λ held. Some (record { number = front.0.number; held = held.0 }, held.1)
 
 -- how many nodes there are, and the nodes
 unfoldable pub wholes_at : List ℕ → Option (List NamedNode × List ℕ)
-wholes_at bytes = integer_at 4 bytes >>= λ count. items_at whole_at count.0 count.1
+wholes_at bytes = integer_at 4 bytes >>= λ count. items_at whole_node_at count.0 count.1

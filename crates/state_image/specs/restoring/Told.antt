@@ -16,7 +16,7 @@ use Rattle.state_image.specs.declared.restoring.fault.RestoreFault.TheVariants a
 use Rattle.state_image.specs.declared.restoring.whole_node.WholeContent.{WholeContent}
 use Rattle.state_image.specs.declared.restoring.whole_node.WholeContent.TheVariants as whole
 use Rattle.state_image.specs.declared.restoring.whole_node.WholeNode.{WholeNode}
-use Rattle.state_image.specs.restoring.Named.{Held, Entries, Bytes, NamedNode, AreNamed}
+use Rattle.state_image.specs.restoring.Named.{Held, Entries, Bytes, NamedNode, AreNamedNodes}
 
 -- ---- what is lent
 
@@ -46,8 +46,8 @@ entries_in_found None = []
 entries_in_found (Some n) = told_entries n.held
 
 -- the entries that are told of the node of a number
-abbrev pub listed : List NamedNode → ℕ → List Entry
-listed ns d = entries_in_found (find (λ (n : NamedNode). n.number == d) ns)
+abbrev pub listed_node : List NamedNode → ℕ → List Entry
+listed_node ns d = entries_in_found (find (λ (n : NamedNode). n.number == d) ns)
 
 -- a node's content, by what is told of it
 abbrev pub content_of_told : NamedNode → Content
@@ -59,17 +59,17 @@ pub record AreAs (fs : Files) (ns : List NamedNode) : Type 0 where
   pub contents : map content_of fs.nodes ≡ map content_of_told ns
 
 -- Files of which this is told. Their next number has 64 bits.
-pub record IsTold (fs : Files) (next : ℕ) (ns : List NamedNode) : Type 0 where
+pub record IsToldOf (fs : Files) (next : ℕ) (ns : List NamedNode) : Type 0 where
   pub are : IsFiles fs
   pub within : fs.next < 2 ^ 64
-  pub told : AreNamed fs next ns
+  pub told : AreNamedNodes fs next ns
 
 -- ---- what is answered
 
 -- no files are told so, where that is the fault
 abbrev pub RefusesTold : {X : Type 0} → Result X RestoreFault → ℕ → List NamedNode → Type 0
 RefusesTold result next ns =
-    result ≡ Err fault.NotAnImage → (gs : Files) → IsTold gs next ns → ⊥
+    result ≡ Err fault.NotAnImage → (gs : Files) → IsToldOf gs next ns → ⊥
 
 -- ---- tests
 

@@ -1,15 +1,18 @@
 //! Bytes that are read from the front.
 
-ghost use Rattle.std.specs.Prelude.{◌≡◌, ◌↔◌, IsTrue, []};
-ghost use Rattle.wasm_syntax.specs.laws.ReadingItems.{byte_at, part_at};
-ghost use Rattle.state_image.specs.reading.Fields.{FindsField, LendsField, integer_at, flag_at};
-ghost use Rattle.state_image.specs.reading.Fields.{text_at};
+ghost use Rattle.std.specs.Prelude.{◌≡◌, ◌↔◌, IsTrue, [], ◌∷◌, ◌++◌, length};
+ghost use Rattle.std.specs.Option.{option_map};
+ghost use Rattle.wasi_abi.specs.rules.Layouts.{u16_bytes, u32_bytes, u64_bytes};
+ghost use Rattle.state_image.specs.rules.Image.{flag_of, text_bytes};
+ghost use Rattle.state_image.specs.rules.Ranges.{IsIn, IsShort};
+ghost use Rattle.state_image.specs.rules.Reading.{ReadsField};
 
 use byteorder::{ByteOrder, LittleEndian};
 use std::marker::Model;
 
-/// The bytes that are left, which is what contracts see. Where a field isn't there, it stands
-/// anywhere: nothing further is to be read.
+/// The bytes that are left, which is what contracts see. Each method gives the field whose bytes
+/// are in front, and leaves those behind it. Where there is no such field, it gives nothing. Then
+/// an end of the bytes is left, and nothing further is to be read.
 #[derive(Drop)]
 pub struct ImageReader<'a> {
     rest: &'a [u8],
@@ -38,7 +41,8 @@ impl<'a> ImageReader<'a> {
 
     /// The next bytes, so many.
     pub fn bytes(&mut self, count: usize) -> Option<&'a [u8]>
-        ensures { LendsField (λ b. b.now) result self.new (part_at count self.old) }
+        ensures { ReadsField (λ b. b) (λ b. length b ≡ count) (option_map (λ b. b.now) result)
+            self.old self.new }
     {
         if self.rest.len() < count {
             return None;
@@ -49,7 +53,7 @@ impl<'a> ImageReader<'a> {
     }
 
     pub fn u8(&mut self) -> Option<u8>
-        ensures { FindsField result self.new (byte_at self.old) }
+        ensures { ReadsField (λ b. b ∷ []) (IsIn 1) result self.old self.new }
     {
         match self.rest {
             [] => None,
@@ -60,34 +64,38 @@ impl<'a> ImageReader<'a> {
         }
     }
 
-    #[tactic(auto, unfolding(crate::specs::reading::Fields::integer_at))]
     pub fn u16(&mut self) -> Option<u16>
-        ensures { FindsField result self.new (integer_at 2 self.old) }
+        ensures { ReadsField u16_bytes (IsIn 2) result self.old self.new }
     {
         let bytes = self.bytes(2)?;
-        Some(LittleEndian::read_u16(bytes))
+        Some(u16_in(bytes))
     }
 
-    #[tactic(auto, unfolding(crate::specs::reading::Fields::integer_at))]
     pub fn u32(&mut self) -> Option<u32>
-        ensures { FindsField result self.new (integer_at 4 self.old) }
+        ensures { ReadsField u32_bytes (IsIn 4) result self.old self.new }
     {
         let bytes = self.bytes(4)?;
-        Some(LittleEndian::read_u32(bytes))
+        Some(u32_in(bytes))
     }
 
-    #[tactic(auto, unfolding(crate::specs::reading::Fields::integer_at))]
     pub fn u64(&mut self) -> Option<u64>
-        ensures { FindsField result self.new (integer_at 8 self.old) }
+        ensures { ReadsField u64_bytes (IsIn 8) result self.old self.new }
     {
         let bytes = self.bytes(8)?;
-        Some(LittleEndian::read_u64(bytes))
+        Some(u64_in(bytes))
+    }
+
+    /// How many items stand behind, in 32 bits.
+    pub fn count(&mut self) -> Option<u32>
+        ensures { ReadsField u32_bytes (IsIn 4) result self.old self.new }
+    {
+        self.u32()
     }
 
     /// A byte that is 1 or 0, and no other one.
-    #[tactic(auto, unfolding(crate::specs::reading::Fields::flag_at))]
     pub fn flag(&mut self) -> Option<bool>
-        ensures { FindsField result self.new (flag_at self.old) }
+        ensures { ReadsField (λ flag. flag_of flag ∷ []) (λ flag. Unit {0}) result
+            self.old self.new }
     {
         match self.u8()? {
             0 => Some(false),
@@ -97,29 +105,52 @@ impl<'a> ImageReader<'a> {
     }
 
     /// A length in 32 bits, and the bytes.
-    #[tactic(auto, unfolding(crate::specs::reading::Fields::text_at))]
     pub fn text(&mut self) -> Option<&'a [u8]>
-        ensures { LendsField (λ b. b.now) result self.new (text_at 4 self.old) }
+        ensures { ReadsField text_bytes IsShort (option_map (λ text. text.now) result)
+            self.old self.new }
     {
         let length = self.u32()?;
         self.bytes(length as usize)
     }
 
     /// A length in 16 bits, and the bytes.
-    #[tactic(auto, unfolding(crate::specs::reading::Fields::text_at))]
     pub fn short_text(&mut self) -> Option<&'a [u8]>
-        ensures { LendsField (λ b. b.now) result self.new (text_at 2 self.old) }
+        ensures { ReadsField (λ text. u16_bytes (length text) ++ text)
+            (λ text. IsIn 2 (length text)) (option_map (λ text. text.now) result)
+            self.old self.new }
     {
         let length = self.u16()?;
         self.bytes(usize::from(length))
     }
 
     /// A length in 64 bits, and the bytes.
-    #[tactic(auto, unfolding(crate::specs::reading::Fields::text_at))]
     pub fn long_text(&mut self) -> Option<&'a [u8]>
-        ensures { LendsField (λ b. b.now) result self.new (text_at 8 self.old) }
+        ensures { ReadsField (λ text. u64_bytes (length text) ++ text)
+            (λ text. IsIn 8 (length text)) (option_map (λ text. text.now) result)
+            self.old self.new }
     {
         let length = self.u64()?;
         self.bytes(length as usize)
     }
+}
+
+fn u16_in(bytes: &[u8]) -> u16
+    requires { length bytes.now ≡ 2 }
+    ensures { u16_bytes result ≡ bytes.now }
+{
+    LittleEndian::read_u16(bytes)
+}
+
+fn u32_in(bytes: &[u8]) -> u32
+    requires { length bytes.now ≡ 4 }
+    ensures { u32_bytes result ≡ bytes.now }
+{
+    LittleEndian::read_u32(bytes)
+}
+
+fn u64_in(bytes: &[u8]) -> u64
+    requires { length bytes.now ≡ 8 }
+    ensures { u64_bytes result ≡ bytes.now }
+{
+    LittleEndian::read_u64(bytes)
 }

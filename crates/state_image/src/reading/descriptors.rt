@@ -1,7 +1,7 @@
 //! The open descriptors of a process.
 
-ghost use Rattle.state_image.specs.reading.Fields.{FindsField};
-ghost use Rattle.state_image.specs.reading.Descriptors.{descriptor_at};
+ghost use Rattle.state_image.specs.rules.RawDescriptors.{raw_bytes, IsRawIn};
+ghost use Rattle.state_image.specs.rules.Reading.{ReadsField};
 
 use crate::reading::cursor::ImageReader;
 
@@ -17,9 +17,8 @@ pub struct ReadDescriptor {
     pub inheriting: u64,
 }
 
-#[tactic(auto, unfolding(crate::specs::reading::Descriptors::descriptor_at))]
 pub fn read_descriptor(reader: &mut ImageReader) -> Option<ReadDescriptor>
-    ensures { FindsField result reader.new (descriptor_at reader.old) }
+    ensures { ReadsField raw_bytes IsRawIn result reader.old reader.new }
 {
     let number = reader.u32()?;
     let kind = reader.u8()?;

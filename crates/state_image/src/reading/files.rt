@@ -1,9 +1,12 @@
 //! The files of a process, node by node.
 
-ghost use Rattle.state_image.specs.reading.Fields.{LendsField};
-ghost use Rattle.state_image.specs.reading.Nodes.{lent_entry, entry_at};
-ghost use Rattle.state_image.specs.reading.Nodes.{lent_content, content_front_at};
-ghost use Rattle.state_image.specs.reading.Nodes.{lent_node, node_front_at};
+ghost use Rattle.std.specs.Option.{option_map};
+ghost use Rattle.state_image.specs.rules.Image.{entry_bytes};
+ghost use Rattle.state_image.specs.rules.Ranges.{IsEntryIn};
+ghost use Rattle.state_image.specs.rules.Fronts.{lent_content, lent_node, lent_entry};
+ghost use Rattle.state_image.specs.rules.Fronts.{content_front_bytes, IsContentFrontIn};
+ghost use Rattle.state_image.specs.rules.Fronts.{front_bytes, IsFrontIn};
+ghost use Rattle.state_image.specs.rules.Reading.{ReadsField};
 
 use crate::reading::cursor::ImageReader;
 use wasi_abi::FileType;
@@ -29,22 +32,21 @@ pub struct ReadEntry<'a> {
     pub number: u64,
 }
 
-#[tactic(auto, unfolding(crate::specs::reading::Nodes::node_front_at))]
 pub fn read_node<'a>(reader: &mut ImageReader<'a>) -> Option<ReadNode<'a>>
-    ensures { LendsField lent_node result reader.new (node_front_at reader.old) }
+    ensures { ReadsField front_bytes IsFrontIn (option_map lent_node result) reader.old reader.new }
 {
     let number = reader.u64()?;
     let content = read_content(reader)?;
     Some(ReadNode { number, content })
 }
 
-#[tactic(auto, unfolding(crate::specs::reading::Nodes::content_front_at))]
 fn read_content<'a>(reader: &mut ImageReader<'a>) -> Option<ReadContent<'a>>
-    ensures { LendsField lent_content result reader.new (content_front_at reader.old) }
+    ensures { ReadsField content_front_bytes IsContentFrontIn (option_map lent_content result)
+        reader.old reader.new }
 {
     let kind = reader.u8()?;
     if kind == FileType::Directory.number() {
-        return Some(ReadContent::Directory(reader.u32()?));
+        return Some(ReadContent::Directory(reader.count()?));
     }
     if kind == FileType::RegularFile.number() {
         return Some(ReadContent::File(reader.long_text()?));
@@ -52,9 +54,9 @@ fn read_content<'a>(reader: &mut ImageReader<'a>) -> Option<ReadContent<'a>>
     None
 }
 
-#[tactic(auto, unfolding(crate::specs::reading::Nodes::entry_at))]
 pub fn read_entry<'a>(reader: &mut ImageReader<'a>) -> Option<ReadEntry<'a>>
-    ensures { LendsField lent_entry result reader.new (entry_at reader.old) }
+    ensures { ReadsField entry_bytes IsEntryIn (option_map lent_entry result)
+        reader.old reader.new }
 {
     let name = reader.short_text()?;
     let number = reader.u64()?;

@@ -1,7 +1,10 @@
 //! The machine of a process.
 
-ghost use Rattle.state_image.specs.reading.Fields.{LendsField};
-ghost use Rattle.state_image.specs.reading.Machines.{pages_at, frame_of, frame_at};
+ghost use Rattle.std.specs.Option.{option_map};
+ghost use Rattle.state_image.specs.rules.Image.{place_bytes, memory_bytes};
+ghost use Rattle.state_image.specs.rules.Ranges.{IsPlaceIn, IsWhole};
+ghost use Rattle.state_image.specs.rules.LentFrames.{frame_of};
+ghost use Rattle.state_image.specs.rules.Reading.{ReadsField};
 
 use crate::reading::cursor::ImageReader;
 use crate::reading::words::{Words, read_words};
@@ -15,9 +18,8 @@ pub struct ReadFrame<'a> {
     pub slots: Words<'a>,
 }
 
-#[tactic(auto, unfolding(crate::specs::reading::Machines::frame_at))]
 pub fn read_frame<'a>(reader: &mut ImageReader<'a>) -> Option<ReadFrame<'a>>
-    ensures { LendsField frame_of result reader.new (frame_at reader.old) }
+    ensures { ReadsField place_bytes IsPlaceIn (option_map frame_of result) reader.old reader.new }
 {
     let function = reader.u32()?;
     let position = reader.u32()?;
@@ -30,9 +32,9 @@ pub fn read_frame<'a>(reader: &mut ImageReader<'a>) -> Option<ReadFrame<'a>>
 }
 
 /// How many pages there are, and their bytes.
-#[tactic(auto, unfolding(crate::specs::reading::Machines::pages_at))]
 pub fn read_memory<'a>(reader: &mut ImageReader<'a>) -> Option<&'a [u8]>
-    ensures { LendsField (λ b. b.now) result reader.new (pages_at reader.old) }
+    ensures { ReadsField memory_bytes IsWhole (option_map (λ memory. memory.now) result)
+        reader.old reader.new }
 {
     let pages = reader.u32()?;
     reader.bytes(pages as usize * PAGE_SIZE as usize)

@@ -1,9 +1,11 @@
 //! How far a process has come, how it ended, and its streams.
 
-ghost use Rattle.std.specs.Prelude.{◌≡◌};
-ghost use Rattle.state_image.specs.reading.Fields.{FindsField, LendsField};
-ghost use Rattle.state_image.specs.reading.Progress.{counts_at, trap_from, phase_from, end_at};
-ghost use Rattle.state_image.specs.reading.Progress.{texts_of, streams_at};
+ghost use Rattle.std.specs.Option.{option_map};
+ghost use Rattle.state_image.specs.rules.Image.{counts_bytes, phase_bytes, streams_bytes};
+ghost use Rattle.state_image.specs.rules.Ranges.{FitsCounts, FitsCode, FitsStreams};
+ghost use Rattle.state_image.specs.rules.Parts.{counts_of, read_end_of, streams_of, texts_of};
+ghost use Rattle.state_image.specs.rules.Reading.{ReadsPart};
+ghost use Rattle.state_image.specs.laws.Phases.{IsTrapFrom, IsPhaseFrom};
 
 use crate::reading::cursor::ImageReader;
 use wasm_syntax::Trap;
@@ -42,9 +44,8 @@ pub struct ReadStreams<'a> {
     pub second: &'a [u8],
 }
 
-#[tactic(auto, unfolding(crate::specs::reading::Progress::counts_at))]
 pub fn read_counts(reader: &mut ImageReader) -> Option<ReadCounts>
-    ensures { FindsField result reader.new (counts_at reader.old) }
+    ensures { ReadsPart counts_of counts_bytes FitsCounts result reader.old reader.new }
 {
     let steps = reader.u64()?;
     let answers = reader.u64()?;
@@ -61,9 +62,8 @@ pub fn read_counts(reader: &mut ImageReader) -> Option<ReadCounts>
 }
 
 /// The phase with its code, and whether input has ended. A phase with no code has the code 0.
-#[tactic(auto, unfolding(crate::specs::reading::Progress::end_at))]
 pub fn read_end(reader: &mut ImageReader) -> Option<ReadEnd>
-    ensures { FindsField result reader.new (end_at reader.old) }
+    ensures { ReadsPart read_end_of phase_bytes FitsCode result reader.old reader.new }
 {
     let number = reader.u8()?;
     let code = reader.u32()?;
@@ -73,7 +73,7 @@ pub fn read_end(reader: &mut ImageReader) -> Option<ReadEnd>
 }
 
 fn phase_from(number: u8, code: u32) -> Option<ReadPhase>
-    ensures { result ≡ phase_from number code }
+    ensures { IsPhaseFrom number code result }
 {
     match number {
         0 if code == 0 => Some(ReadPhase::Starting),
@@ -86,7 +86,7 @@ fn phase_from(number: u8, code: u32) -> Option<ReadPhase>
 
 /// The trap of a number from 1 to 8.
 fn trap_from(number: u32) -> Option<Trap>
-    ensures { result ≡ trap_from number }
+    ensures { IsTrapFrom number result }
 {
     match number {
         1 => Some(Trap::Unreachable),
@@ -101,9 +101,9 @@ fn trap_from(number: u32) -> Option<Trap>
     }
 }
 
-#[tactic(auto, unfolding(crate::specs::reading::Progress::streams_at))]
 pub fn read_streams<'a>(reader: &mut ImageReader<'a>) -> Option<ReadStreams<'a>>
-    ensures { LendsField texts_of result reader.new (streams_at reader.old) }
+    ensures { ReadsPart streams_of streams_bytes FitsStreams (option_map texts_of result)
+        reader.old reader.new }
 {
     let unread = reader.text()?;
     let first = reader.text()?;

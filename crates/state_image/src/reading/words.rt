@@ -1,8 +1,11 @@
 //! Words of 64 bits that are lent as bytes.
 
-ghost use Rattle.std.specs.Prelude.{◌≡◌, ◌∷◌, [], length, MatchOption};
-ghost use Rattle.state_image.specs.reading.Fields.{FindsField};
-ghost use Rattle.state_image.specs.reading.WordLists.{words_at};
+ghost use Rattle.std.specs.Prelude.{◌≡◌, ◌*◌, ◌∷◌, [], length, MatchOption};
+ghost use Rattle.std.specs.List.{flat_map};
+ghost use Rattle.wasi_abi.specs.rules.Layouts.{u64_bytes};
+ghost use Rattle.state_image.specs.rules.Image.{items_bytes};
+ghost use Rattle.state_image.specs.rules.Ranges.{AreWords};
+ghost use Rattle.state_image.specs.rules.Reading.{ReadsField};
 
 use crate::reading::cursor::ImageReader;
 use byteorder::{ByteOrder, LittleEndian};
@@ -17,7 +20,7 @@ pub struct Words<'a> {
 
 impl<'a> Model for Words<'a> {
     ghost use Rattle.std.specs.Prelude.{◌≡◌, ◌*◌, ℕ, List, length};
-    ghost use Rattle.state_image.specs.reading.WordLists.{numbers_in};
+    ghost use Rattle.state_image.specs.laws.WordLists.{numbers_in};
 
     ghost Value = { List ℕ };
 
@@ -35,7 +38,8 @@ impl<'a> Words<'a> {
 
     /// The first word, which is taken away.
     pub fn next(&mut self) -> Option<u64>
-        ensures { MatchOption result (self.old ≡ []) (λ word. self.old ≡ word ∷ self.new) }
+        ensures { MatchOption result ((self.old ≡ []) × (self.new ≡ []))
+            (λ word. self.old ≡ word ∷ self.new) }
     {
         if self.count == 0 {
             return None;
@@ -48,11 +52,18 @@ impl<'a> Words<'a> {
 }
 
 /// How many words there are, and the words.
-#[tactic(auto, unfolding(crate::specs::reading::WordLists::words_at))]
 pub fn read_words<'a>(reader: &mut ImageReader<'a>) -> Option<Words<'a>>
-    ensures { FindsField result reader.new (words_at reader.old) }
+    ensures { ReadsField (items_bytes u64_bytes) AreWords result reader.old reader.new }
 {
-    let count = reader.u32()?;
+    let count = reader.count()?;
     let bytes = reader.bytes(8 * count as usize)?;
-    Some(Words { count, bytes })
+    Some(words_in(count, bytes))
+}
+
+fn words_in<'a>(count: u32, bytes: &'a [u8]) -> Words<'a>
+    requires { length bytes.now ≡ 8 * count }
+    ensures spelled { flat_map u64_bytes result ≡ bytes.now }
+    ensures few { AreWords result }
+{
+    Words { count, bytes }
 }

@@ -8,7 +8,7 @@ ghost use Rattle.file_tree.specs.rules.Changes.{path_at};
 ghost use Rattle.file_tree.specs.rules.Listings.{number_after};
 ghost use Rattle.state_image.specs.reading.Nodes.{lent_entry};
 ghost use Rattle.state_image.specs.declared.restoring.fault.RestoreFault.TheVariants as fault;
-ghost use Rattle.state_image.specs.restoring.Told.{lent_held, lent_whole, told_entries, listed};
+ghost use Rattle.state_image.specs.restoring.Told.{lent_held, lent_whole, told_entries, listed_node};
 ghost use Rattle.state_image.specs.restoring.Told.{CanTake, RefusesTold};
 ghost use Rattle.state_image.specs.restoring.Hanging.{directory_alone, HangsUpTo, IsHung};
 
@@ -64,7 +64,7 @@ fn hang_entries(
     ensures refused { (next : ℕ) → RefusesTold result next (map lent_whole nodes.now) }
 {
     let directory = waiting[place];
-    for entry in listed(nodes, directory) {
+    for entry in listed_node(nodes, directory) {
         hang_entry(alloc, tree, directory, entry)?;
         note_directory(tree, entry.number, waiting)?;
     }
@@ -72,8 +72,8 @@ fn hang_entries(
 }
 
 /// The entries that are told of the node with this number.
-fn listed<'a, 'b>(nodes: &'a [WholeNode<'b>], number: u64) -> &'a [ReadEntry<'b>]
-    ensures { map lent_entry result.now ≡ listed (map lent_whole nodes.now) number }
+fn listed_node<'a, 'b>(nodes: &'a [WholeNode<'b>], number: u64) -> &'a [ReadEntry<'b>]
+    ensures { map lent_entry result.now ≡ listed_node (map lent_whole nodes.now) number }
 {
     for node in nodes {
         if node.number == number {

@@ -3,7 +3,7 @@
 ghost use Rattle.std.specs.Prelude.{◌≡◌, ◌++◌, ◌∷◌, [], map, OnOk};
 ghost use Rattle.wasm_syntax.specs.laws.ReadingItems.{items_at};
 ghost use Rattle.state_image.specs.reading.Nodes.{lent_content, lent_entry, entry_at};
-ghost use Rattle.state_image.specs.restoring.Parts.{RestoresField, held_at, whole_at, wholes_at};
+ghost use Rattle.state_image.specs.restoring.Parts.{RestoresField, held_at, whole_node_at, wholes_at};
 ghost use Rattle.state_image.specs.restoring.Told.{lent_held, lent_whole};
 
 use crate::reading::{ImageReader, ReadContent, ReadEntry, read_entry, read_node};
@@ -33,7 +33,7 @@ fn read_nodes<'a>(
     reader: &mut ImageReader<'a>,
 ) -> Result<Vec<WholeNode<'a>>, RestoreFault>
     ensures { RestoresField (λ v. map lent_whole v.items) result reader.new
-        (items_at whole_at count reader.old) }
+        (items_at whole_node_at count reader.old) }
 {
     let mut nodes = Vec::new(alloc);
     for _ in 0..count {
@@ -51,12 +51,12 @@ fn keep_node<'a>(nodes: &mut Vec<WholeNode<'a>>, node: WholeNode<'a>) -> Result<
 }
 
 /// A node, and the entries behind it.
-#[tactic(auto, unfolding(crate::specs::restoring::Parts::whole_at))]
+#[tactic(auto, unfolding(crate::specs::restoring::Parts::whole_node_at))]
 fn read_whole<'a>(
     alloc: Global,
     reader: &mut ImageReader<'a>,
 ) -> Result<WholeNode<'a>, RestoreFault>
-    ensures { RestoresField lent_whole result reader.new (whole_at reader.old) }
+    ensures { RestoresField lent_whole result reader.new (whole_node_at reader.old) }
 {
     let Some(node) = read_node(reader) else {
         return Err(RestoreFault::NotAnImage);

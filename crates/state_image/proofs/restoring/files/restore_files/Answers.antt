@@ -1,7 +1,7 @@
 use Rattle.std.proofs.Common.{◌++◌, ◌≡◌, List, Some, Vec, Global, map, subst, sym}
 use Rattle.state_image.specs.rules.Image.{files_bytes}
 use Rattle.state_image.specs.declared.restoring.whole_node.WholeNode.{WholeNode}
-use Rattle.state_image.specs.restoring.Named.{NamedNode, AreNamed}
+use Rattle.state_image.specs.restoring.Named.{NamedNode, AreNamedNodes}
 use Rattle.state_image.specs.restoring.Parts.{wholes_at}
 use Rattle.state_image.specs.restoring.Told.{lent_whole}
 use Rattle.state_image.proofs.RestoreLemmas.Fronts.{files_made, no_number, no_nodes, files_told}
@@ -26,13 +26,13 @@ returns-in_err-nodes-clause-refused c refused fs rest are next is =
 
 pub returns-clause-made : goal.returns-clause-made
 returns-clause-made c =
-    if_ok (λ tree. AreNamed tree c.in-Some.next (map lent_whole c.as_slice.result.now))
+    if_ok (λ tree. AreNamedNodes tree c.in-Some.next (map lent_whole c.as_slice.result.now))
     (λ tree. c.args.reader.now ≡ files_bytes tree ++ c.read_wholes.new.reader) c.tree_of.result
     c.tree_of.ensures.made
     (λ tree told. files_made tree c.in-Some.next (map lent_whole c.in_ok-nodes.nodes.items)
     c.args.reader.now c.u64.new.self c.read_wholes.new.reader c.requires c.in-Some.ensures
     c.in_ok-nodes.ensures
-    (subst (λ xs. AreNamed tree c.in-Some.next (map lent_whole xs)) c.as_slice.ensures.value told))
+    (subst (λ xs. AreNamedNodes tree c.in-Some.next (map lent_whole xs)) c.as_slice.ensures.value told))
 
 pub returns-clause-refused : goal.returns-clause-refused
 returns-clause-refused c refused fs rest are next is =
