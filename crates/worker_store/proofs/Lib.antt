@@ -6,3 +6,4 @@ mod StoreLemmas
 mod CreationLemmas
 mod FirstLemmas
 mod ReadLemmas
+mod AppendLemmas

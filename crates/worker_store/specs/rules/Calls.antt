@@ -30,12 +30,13 @@ use Rattle.worker_store.specs.rules.Stores.{IsStoreOf}
 
 -- ---- append
 
--- when each error of `append` comes
+-- When each error of `append` comes. Where the record fits, want of memory is the only one.
 abbrev pub AppendFails : WorkerStore → Record → StoreFault → Type 0
 AppendFails store r Full = (length (payload_of r.answer) ≤ LONGEST_PAYLOAD)
     × (room_of store.geometry store.journal < length (record_bytes r))
 AppendFails store r TooLong = LONGEST_PAYLOAD < length (payload_of r.answer)
-AppendFails store r Memory = Unit {0}
+AppendFails store r Memory = (length (payload_of r.answer) ≤ LONGEST_PAYLOAD)
+    × (length (record_bytes r) ≤ room_of store.geometry store.journal)
 AppendFails store r Failed = (store.has_failed ≡ true) ⊎ (store.journal.has_failed ≡ true)
 AppendFails store r other = ⊥
 
@@ -57,8 +58,9 @@ StoresAll before after old new =
 
 -- when each error of `barrier` comes
 abbrev pub BarrierFails : WorkerStore → Medium → Medium → StoreFault → Type 0
-BarrierFails store old new Full =
-    store.geometry.journal_sectors < store.journal.used + sectors_for (length store.journal.kept)
+BarrierFails store old new Full = (0 < length store.journal.kept)
+    × (store.geometry.journal_sectors
+    < store.journal.used + sectors_for (length store.journal.kept))
 BarrierFails store old new (Disk fault) = (spare old < sectors_for (length store.journal.kept))
     ⊎ (old.faults < new.faults)
 BarrierFails store old new Failed =

@@ -1,0 +1,71 @@
+-- Why a record isn't appended.
+use Rattle.std.proofs.Common.{◌≡◌, ◌<◌, ◌≤◌, ◌⊎◌, ℕ, length, true, false, refl, sym, subst, ⊎_elim}
+use Rattle.std.proofs.Common.{inr}
+use Rattle.std.specs.Prelude.{◌↔◌, Result, Ok, Err}
+use Rattle.std.proofs.lemmas.Bool.{cases_lt, false_from_ne_true}
+use Rattle.sector_disk.specs.declared.fault.DiskFault.{DiskFault}
+use Rattle.disk_layout.specs.declared.record.TheConstants.{LONGEST_PAYLOAD}
+use Rattle.disk_layout.specs.rules.Journal.{Record, record_bytes, payload_of}
+use Rattle.journal.specs.declared.fault.JournalFault.{JournalFault}
+use Rattle.journal.specs.declared.fault.JournalFault.TheVariants as journal
+use Rattle.journal.specs.rules.State.{room_of}
+use Rattle.worker_store.specs.declared.fault.StoreFault.{StoreFault}
+use Rattle.worker_store.specs.declared.store.WorkerStore.{WorkerStore}
+use Rattle.worker_store.specs.rules.Calls.{AppendFails}
+use Rattle.worker_store.specs.rules.Faults.{fault_of_journal}
+
+-- an answer of a journal
+abbrev pub refusal : JournalFault → Result (Unit {0}) JournalFault
+refusal fault = Err fault
+
+-- it is for want of memory
+abbrev WantsMemory : Result (Unit {0}) JournalFault → Type 0
+WantsMemory (Err journal.Memory) = Unit {0}
+WantsMemory other = ⊥
+
+module _ (store : WorkerStore) (r : Record) where
+  -- the record fits, if memory is all that it fails for
+  fits_but : ((refusal journal.Memory ≡ refusal journal.Failed)
+      ↔ (store.journal.has_failed ≡ true))
+      → ((refusal journal.Memory ≡ refusal journal.TooLong)
+      ↔ ((store.journal.has_failed ≡ false)
+      × (LONGEST_PAYLOAD < length (payload_of r.answer))))
+      → ((refusal journal.Memory ≡ refusal journal.Full)
+      ↔ ((store.journal.has_failed ≡ false) × (length (payload_of r.answer) ≤ LONGEST_PAYLOAD)
+      × (room_of store.geometry store.journal < length (record_bytes r))))
+      → (length (payload_of r.answer) ≤ LONGEST_PAYLOAD)
+      × (length (record_bytes r) ≤ room_of store.geometry store.journal)
+  fits_but failed too_long full =
+      let works : store.journal.has_failed ≡ false =
+      false_from_ne_true store.journal.has_failed
+      (λ is. subst WantsMemory (failed.1 is) tt) in
+      let short : length (payload_of r.answer) ≤ LONGEST_PAYLOAD =
+      ⊎_elim (λ long. absurd (subst WantsMemory (too_long.1 (works, long)) tt)) (λ le. le)
+      (cases_lt LONGEST_PAYLOAD (length (payload_of r.answer))) in
+      let room : length (record_bytes r) ≤ room_of store.geometry store.journal =
+      ⊎_elim (λ more. absurd (subst WantsMemory (full.1 (works, short, more)) tt)) (λ le. le)
+      (cases_lt (room_of store.geometry store.journal) (length (record_bytes r))) in
+      (short, room)
+
+  pub append_fails : (fault : JournalFault) (e : StoreFault) → e ≡ fault_of_journal fault
+      → ((refusal fault ≡ refusal journal.Failed) ↔ (store.journal.has_failed ≡ true))
+      → ((refusal fault ≡ refusal journal.TooLong) ↔ ((store.journal.has_failed ≡ false)
+      × (LONGEST_PAYLOAD < length (payload_of r.answer))))
+      → ((refusal fault ≡ refusal journal.Full) ↔ ((store.journal.has_failed ≡ false)
+      × (length (payload_of r.answer) ≤ LONGEST_PAYLOAD)
+      × (room_of store.geometry store.journal < length (record_bytes r))))
+      → ((disk : DiskFault) → refusal fault ≡ refusal (journal.Disk disk) → ⊥)
+      → AppendFails store r e
+  append_fails journal.Full e same failed too_long full no_disk =
+      let why = full.0 refl in
+      subst (λ (f : StoreFault). AppendFails store r f) (sym same) (why.1, why.2)
+  append_fails journal.TooLong e same failed too_long full no_disk =
+      let why = too_long.0 refl in
+      subst (λ (f : StoreFault). AppendFails store r f) (sym same) why.1
+  append_fails journal.Memory e same failed too_long full no_disk =
+      subst (λ (f : StoreFault). AppendFails store r f) (sym same)
+      (fits_but failed too_long full)
+  append_fails journal.Failed e same failed too_long full no_disk =
+      subst (λ (f : StoreFault). AppendFails store r f) (sym same) (inr (failed.0 refl))
+  append_fails (journal.Disk disk) e same failed too_long full no_disk =
+      absurd (no_disk disk refl)
