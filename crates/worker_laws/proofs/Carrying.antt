@@ -25,7 +25,7 @@ use Rattle.worker_laws.specs.laws.Savepoints.{Savepoint, point_of, StandsAtPoint
 use Rattle.worker_laws.specs.laws.Barriers.{StandsAtFront}
 use Rattle.worker_laws.specs.laws.Commits.{BeginsAtPoint}
 use Rattle.worker_laws.specs.laws.Carried.{answers_at, count_at, IsHeldAt, HeldAtStands}
-use Rattle.worker_laws.specs.laws.Carried.{MarkedIsHeld, BlankIsUnopened}
+use Rattle.worker_laws.specs.laws.Carried.{MarkedIsHeld, BlankIsUnopened, StaysCarried}
 use Rattle.worker_laws.specs.laws.Carried.{StandsHeldAt, PromisesNoMore, LessIsHeld}
 use Rattle.worker_laws.specs.laws.Carried.{NextIsHeld, FreshIsHeld, CheckpointIsHeld}
 use Rattle.worker_laws.specs.laws.Carried.{OpeningIsHeld, PointIsAt, PointOpens, CarriedKeeps}
@@ -34,6 +34,7 @@ use Rattle.worker_laws.specs.laws.Carried.{StandingCarries, CreationCarries, Beg
 use Rattle.worker_laws.proofs.Points.{by_point, steps_of}
 use Rattle.worker_laws.proofs.Fronts.{front_kept, length_of_map}
 use Rattle.worker_laws.proofs.Passing.{left_in_the_end}
+use Rattle.worker_laws.proofs.Keeping.{stays_journaled}
 
 -- ---- counts
 
@@ -443,6 +444,14 @@ module _ {D : Type 0} (medium : D → Medium) where
       let journaled = is.journaled in
       inr (held_at_stands m config promise point records last image is.held
       (journaled.stands image left))
+
+  pub stays_carried : StaysCarried medium
+  stays_carried m config promise point journal records pending last now old new is stays = record {
+    journaled = stays_journaled medium m config point journal records pending last now old new
+        is.journaled stays;
+    held = is.held;
+    answers = is.answers;
+  }
 
   pub barrier_carries : BarrierCarries medium
   barrier_carries m config less promise point journal records pending last now old new no_more is

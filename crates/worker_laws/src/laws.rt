@@ -29,7 +29,7 @@ ghost use Rattle.worker_laws.specs.laws.Readings.{ReadsTheModule, FindsThePoint,
 ghost use Rattle.worker_laws.specs.laws.Readings.{ReadsUndamaged, FindsNewestPoint};
 ghost use Rattle.worker_laws.specs.laws.Readings.{ScansTheRecords};
 ghost use Rattle.worker_laws.specs.laws.Carried.{HeldAtStands, StandsHeldAt, LessIsHeld};
-ghost use Rattle.worker_laws.specs.laws.Carried.{MarkedIsHeld, BlankIsUnopened};
+ghost use Rattle.worker_laws.specs.laws.Carried.{MarkedIsHeld, BlankIsUnopened, StaysCarried};
 ghost use Rattle.worker_laws.specs.laws.Carried.{NextIsHeld, FreshIsHeld, CheckpointIsHeld};
 ghost use Rattle.worker_laws.specs.laws.Carried.{OpeningIsHeld, PointIsAt, PointOpens};
 ghost use Rattle.worker_laws.specs.laws.Carried.{CarriedKeeps, BarrierCarries, BarrierCarriesOn};
@@ -37,6 +37,7 @@ ghost use Rattle.worker_laws.specs.laws.Carried.{CommitCarries, StandingCarries}
 ghost use Rattle.worker_laws.specs.laws.Carried.{CreationCarries, BeginsCarried};
 ghost use Rattle.worker_laws.specs.laws.Raised.{AllSyncsAreHeld, QuietSyncsAreHeld};
 ghost use Rattle.worker_laws.specs.laws.Raised.{AnsweredSyncsAreHeld, AnswerIsOnRecord};
+ghost use Rattle.worker_laws.specs.laws.Raised.{MovedSyncsAreHeld};
 ghost use Rattle.worker_laws.specs.laws.Raised.{ToldCarries, AskedCarries, EndedCarries};
 ghost use Rattle.worker_laws.specs.laws.Raised.{AppendCarries, CarriedIsReached};
 
@@ -163,6 +164,7 @@ pub fn savepoints_hold_promises()
 /// when it has ended, by Ok or by any error.
 pub fn disks_carry_promises<D: Disk>()
     ensures keeps { CarriedKeeps D.medium }
+    ensures stays { StaysCarried D.medium }
     ensures barrier { BarrierCarries D.medium }
     ensures settled { BarrierCarriesOn D.medium }
     ensures commit { CommitCarries D.medium }
@@ -175,6 +177,7 @@ pub fn disks_carry_promises<D: Disk>()
 pub fn syncs_are_held()
     ensures all { AllSyncsAreHeld }
     ensures quiet { QuietSyncsAreHeld }
+    ensures moved { MovedSyncsAreHeld }
     ensures answered { AnsweredSyncsAreHeld }
     ensures on_record { AnswerIsOnRecord }
 {}

@@ -160,6 +160,15 @@ CarriedKeeps {D} medium =
     → IsCarried promise point journal records pending last now (medium disk)
     → KeepsPromise m config promise (medium disk)
 
+-- where a cut leaves no other image than before
+abbrev pub StaysCarried : {D : Type 0} → (D → Medium) → Type 0
+StaysCarried {D} medium =
+    (m : Module) (config : Settings) (promise : Promise) (point : Savepoint m config)
+    (journal : JournalState) (records pending : List Record) (last now : ProcessState)
+    (old new : D) → IsCarried promise point journal records pending last now (medium old)
+    → ((image : Image) → (medium new).may_leave image → (medium old).may_leave image)
+    → IsCarried promise point journal records pending last now (medium new)
+
 -- A barrier leaves it so, by Ok or by any error, whatever less was promised when the call began.
 abbrev pub BarrierCarries : {D : Type 0} → (D → Medium) → Type 0
 BarrierCarries {D} medium =
