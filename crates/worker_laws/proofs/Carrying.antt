@@ -19,11 +19,13 @@ use Rattle.record_replay.specs.rules.Records.{none, given_in}
 use Rattle.record_replay.proofs.Recordings.{recorded_count, recorded_emit, recorded_join}
 use Rattle.worker_rules.specs.Stands.{IsBlank}
 use Rattle.worker_rules.specs.Promises.{Promise, HoldsAll}
-use Rattle.worker_rules.specs.Holds.{HoldsPromise, ImageHolds, CarriesPromise}
+use Rattle.worker_rules.specs.Holds.{HoldsPromise, IsUnopened, ImageHolds, CarriesPromise}
+use Rattle.worker_rules.proofs.Disks.{blank_stands_for_none}
 use Rattle.worker_laws.specs.laws.Savepoints.{Savepoint, point_of, StandsAtPoint, StandsBySaved}
 use Rattle.worker_laws.specs.laws.Barriers.{StandsAtFront}
 use Rattle.worker_laws.specs.laws.Commits.{BeginsAtPoint}
 use Rattle.worker_laws.specs.laws.Carried.{answers_at, count_at, IsHeldAt, HeldAtStands}
+use Rattle.worker_laws.specs.laws.Carried.{MarkedIsHeld, BlankIsUnopened, StaysCarried}
 use Rattle.worker_laws.specs.laws.Carried.{StandsHeldAt, PromisesNoMore, LessIsHeld}
 use Rattle.worker_laws.specs.laws.Carried.{NextIsHeld, FreshIsHeld, CheckpointIsHeld}
 use Rattle.worker_laws.specs.laws.Carried.{OpeningIsHeld, PointIsAt, PointOpens, CarriedKeeps}
@@ -32,6 +34,7 @@ use Rattle.worker_laws.specs.laws.Carried.{StandingCarries, CreationCarries, Beg
 use Rattle.worker_laws.proofs.Points.{by_point, steps_of}
 use Rattle.worker_laws.proofs.Fronts.{front_kept, length_of_map}
 use Rattle.worker_laws.proofs.Passing.{left_in_the_end}
+use Rattle.worker_laws.proofs.Keeping.{stays_journaled}
 
 -- ---- counts
 
@@ -190,6 +193,24 @@ module _ (m : Module) (config : Settings) (promise : Promise) (point : Savepoint
         heard = held.heard;
         passed = held.passed;
       }) at.at
+
+-- ---- what a recovery finds
+
+pub marked_is_held : MarkedIsHeld
+marked_is_held m config promise disk found marks =
+    ⊎_elim
+    (λ (unopened : IsUnopened promise disk). absurd (unopened.1 marks))
+    (λ (holds : HoldsPromise m config promise promise disk). holds)
+    found
+
+pub blank_is_unopened : BlankIsUnopened
+blank_is_unopened m config promise disk found blank =
+    ⊎_elim
+    (λ (unopened : IsUnopened promise disk). unopened.0)
+    (λ (holds : HoldsPromise m config promise promise disk).
+    absurd (blank_stands_for_none disk m config (take holds.held promise.kept) holds.steps blank
+    holds.stands))
+    found
 
 -- ---- savepoints
 
@@ -423,6 +444,14 @@ module _ {D : Type 0} (medium : D → Medium) where
       let journaled = is.journaled in
       inr (held_at_stands m config promise point records last image is.held
       (journaled.stands image left))
+
+  pub stays_carried : StaysCarried medium
+  stays_carried m config promise point journal records pending last now old new is stays = record {
+    journaled = stays_journaled medium m config point journal records pending last now old new
+        is.journaled stays;
+    held = is.held;
+    answers = is.answers;
+  }
 
   pub barrier_carries : BarrierCarries medium
   barrier_carries m config less promise point journal records pending last now old new no_more is

@@ -1,19 +1,26 @@
 -- What an image stands by, and what it stands for by that.
 use Rattle.std.proofs.Common.{◌≡◌, ℕ, zero, suc, ◌+◌, List, [], ◌∷◌, ◌++◌, refl, sym, ap, ◌∙◌}
 use Rattle.std.proofs.Common.{subst, arith}
-use Rattle.std.specs.Prelude.{map, take}
+use Rattle.std.specs.Prelude.{map, take, length}
 use Rattle.std.proofs.lemmas.List.{append-nil}
 use Rattle.wasm_syntax.specs.declared.module.Module.{Module}
 use Rattle.wasm_syntax_rules.specs.Configuration.{Thread}
 use Rattle.wasi_abi.specs.rules.Configs.{Settings}
+use Rattle.wasi_calls_rules.specs.declared.limits.TheConstants.{TEXT_BYTES}
 use Rattle.process_rules.specs.Processes.{ProcessState, Guest, IsStart, closed_at}
 use Rattle.process_rules.specs.Runs.{Kept}
 use Rattle.process_rules.proofs.Growing.{runs_count}
+use Rattle.state_image.specs.rules.Image.{image}
 use Rattle.sector_disk.specs.rules.Image.{Image}
-use Rattle.disk_layout.specs.rules.Journal.{Record}
+use Rattle.disk_layout.specs.rules.Places.{Geometry, geometry_of}
+use Rattle.disk_layout.specs.rules.Sectors.{HasWorker, HoldsImage}
+use Rattle.disk_layout.specs.rules.Journal.{Record, scan}
+use Rattle.disk_layout.specs.declared.head.TheConstants.{IMAGE_VERSION}
 use Rattle.record_replay.specs.rules.Records.{Recorded, none, more, given_in}
+use Rattle.worker_rules.specs.Stands.{ShowsNoneLater}
 use Rattle.worker_laws.specs.laws.Savepoints.{Savepoint, StandsAtPoint, StandsBySaved}
-use Rattle.worker_laws.specs.laws.Savepoints.{StandsAtItsPoint, PointStands, PointStandsAlone}
+use Rattle.worker_laws.specs.laws.Savepoints.{StandsAtItsPoint, PointStands, ReadAlikeStands}
+use Rattle.worker_laws.specs.laws.Savepoints.{PointStandsAlone}
 
 -- ---- records, one after another
 
@@ -139,3 +146,24 @@ pub point_stands_alone : PointStandsAlone
 point_stands_alone m config point disk at =
     by_point m config point [] point.process disk point.front point.steps at
     (sym (append-nil point.front)) (sym (steps_of m config point))
+
+pub read_alike_stands : ReadAlikeStands
+read_alike_stands m config point other records last q disk found at there wasm generation bytes =
+    let place : List ℕ → Geometry = λ w. geometry_of config (length w) in
+    let holds : HoldsImage (place point.wasm) found point.generation IMAGE_VERSION
+    (image point.saved) =
+    subst (λ l. HoldsImage (place point.wasm) found point.generation IMAGE_VERSION l) bytes
+    (subst (λ g. HoldsImage (place point.wasm) found g IMAGE_VERSION (image other.saved)) generation
+    (subst (λ w. HoldsImage (place w) found other.generation IMAGE_VERSION (image other.saved)) wasm
+    there.holds)) in
+    record {
+      worker = subst (λ w. HasWorker config w found) wasm there.worker;
+      holds = holds;
+      scanned = subst (λ g. scan (place point.wasm) TEXT_BYTES found g ≡ records) generation
+          (subst (λ w. scan (place w) TEXT_BYTES found other.generation ≡ records) wasm
+          there.scanned);
+      recorded = at.recorded;
+      numbers = at.numbers;
+      none_later = subst (λ g. ShowsNoneLater (place point.wasm) found g) generation
+          (subst (λ w. ShowsNoneLater (place w) found other.generation) wasm there.none_later);
+    }

@@ -20,7 +20,7 @@ use Rattle.process_rules.specs.Runs.{after_rule, next_of, Runs, Reaches}
 use Rattle.process_rules.specs.Runs.{none as no_step, step, take as takes}
 use Rattle.process_rules.specs.Behind.{AnswersBehindLine, AnswersBehindSync, Syncs}
 use Rattle.process_rules.specs.Owing.{RunsQuietly, none, more}
-use Rattle.process_rules.proofs.Growing.{runs_count}
+use Rattle.process_rules.proofs.Growing.{move_counts, runs_count}
 use Rattle.process_rules.proofs.OneStart.{start_once}
 use Rattle.process_rules.proofs.Quiet.{runs_join, quiet_runs_are_runs}
 use Rattle.sector_disk.specs.rules.Medium.{Medium}
@@ -34,7 +34,7 @@ use Rattle.worker_laws.specs.laws.Carried.{answers_at, count_at}
 use Rattle.worker_laws.specs.laws.Raised.{AllSyncsAreHeld, QuietSyncsAreHeld}
 use Rattle.worker_laws.specs.laws.Raised.{AnsweredSyncsAreHeld, ToldCarries, AskedCarries}
 use Rattle.worker_laws.specs.laws.Raised.{EndedCarries, AppendCarries, AnswerIsOnRecord}
-use Rattle.worker_laws.specs.laws.Raised.{CarriedIsReached}
+use Rattle.worker_laws.specs.laws.Raised.{CarriedIsReached, MovedSyncsAreHeld}
 use Rattle.worker_laws.proofs.Points.{start_counts}
 use Rattle.worker_laws.proofs.Carrying.{answers_count, within_of}
 
@@ -212,6 +212,11 @@ quiet_syncs_are_held m config kept held n p q valid reached quiet syncs k a belo
     behind.syncs)))
     (λ (earlier : k ≤ p.steps). syncs k a earlier behind)
     (cases_lt p.steps k)
+
+pub moved_syncs_are_held : MovedSyncsAreHeld
+moved_syncs_are_held m config kept held guest p q given moves syncs k a below behind =
+    let counted : q.steps ≡ p.steps + 1 = move_counts guest p q given moves in
+    syncs k a (omega (arith, below, counted)) behind
 
 -- a sync behind answers of which the last isn't needed
 behind_front : (m : Module) (config : Settings) (kept more_kept : List Kept) (k a : ℕ)

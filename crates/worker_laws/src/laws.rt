@@ -1,7 +1,7 @@
 //! Laws of what the steps of journal and snapshots leave of a disk that stands for a worker.
 
 ghost use Rattle.worker_laws.specs.laws.Savepoints.{StandsAtItsPoint, PointStands};
-ghost use Rattle.worker_laws.specs.laws.Savepoints.{PointStandsAlone};
+ghost use Rattle.worker_laws.specs.laws.Savepoints.{PointStandsAlone, ReadAlikeStands};
 ghost use Rattle.worker_laws.specs.laws.Barriers.{RecordedOnce, BarrierLeavesFront};
 ghost use Rattle.worker_laws.specs.laws.Barriers.{BarrierLeavesAll, FrontStands, BarrierStands};
 ghost use Rattle.worker_laws.specs.laws.Commits.{NewPointBegins, PointIsReady};
@@ -29,6 +29,7 @@ ghost use Rattle.worker_laws.specs.laws.Readings.{ReadsTheModule, FindsThePoint,
 ghost use Rattle.worker_laws.specs.laws.Readings.{ReadsUndamaged, FindsNewestPoint};
 ghost use Rattle.worker_laws.specs.laws.Readings.{ScansTheRecords};
 ghost use Rattle.worker_laws.specs.laws.Carried.{HeldAtStands, StandsHeldAt, LessIsHeld};
+ghost use Rattle.worker_laws.specs.laws.Carried.{MarkedIsHeld, BlankIsUnopened, StaysCarried};
 ghost use Rattle.worker_laws.specs.laws.Carried.{NextIsHeld, FreshIsHeld, CheckpointIsHeld};
 ghost use Rattle.worker_laws.specs.laws.Carried.{OpeningIsHeld, PointIsAt, PointOpens};
 ghost use Rattle.worker_laws.specs.laws.Carried.{CarriedKeeps, BarrierCarries, BarrierCarriesOn};
@@ -36,6 +37,7 @@ ghost use Rattle.worker_laws.specs.laws.Carried.{CommitCarries, StandingCarries}
 ghost use Rattle.worker_laws.specs.laws.Carried.{CreationCarries, BeginsCarried};
 ghost use Rattle.worker_laws.specs.laws.Raised.{AllSyncsAreHeld, QuietSyncsAreHeld};
 ghost use Rattle.worker_laws.specs.laws.Raised.{AnsweredSyncsAreHeld, AnswerIsOnRecord};
+ghost use Rattle.worker_laws.specs.laws.Raised.{MovedSyncsAreHeld};
 ghost use Rattle.worker_laws.specs.laws.Raised.{ToldCarries, AskedCarries, EndedCarries};
 ghost use Rattle.worker_laws.specs.laws.Raised.{AppendCarries, CarriedIsReached};
 
@@ -46,6 +48,7 @@ pub fn disks_stand_at_savepoints()
     ensures point { StandsAtItsPoint }
     ensures stands { PointStands }
     ensures alone { PointStandsAlone }
+    ensures alike { ReadAlikeStands }
 {}
 
 /// Whatever a barrier has left, the disk stands for a front of the pending records. After Ok it
@@ -146,6 +149,8 @@ pub fn disks_give_what_they_stand_by()
 pub fn savepoints_hold_promises()
     ensures stands { HeldAtStands }
     ensures held { StandsHeldAt }
+    ensures marked { MarkedIsHeld }
+    ensures blank { BlankIsUnopened }
     ensures less { LessIsHeld }
     ensures next { NextIsHeld }
     ensures fresh { FreshIsHeld }
@@ -159,6 +164,7 @@ pub fn savepoints_hold_promises()
 /// when it has ended, by Ok or by any error.
 pub fn disks_carry_promises<D: Disk>()
     ensures keeps { CarriedKeeps D.medium }
+    ensures stays { StaysCarried D.medium }
     ensures barrier { BarrierCarries D.medium }
     ensures settled { BarrierCarriesOn D.medium }
     ensures commit { CommitCarries D.medium }
@@ -171,6 +177,7 @@ pub fn disks_carry_promises<D: Disk>()
 pub fn syncs_are_held()
     ensures all { AllSyncsAreHeld }
     ensures quiet { QuietSyncsAreHeld }
+    ensures moved { MovedSyncsAreHeld }
     ensures answered { AnsweredSyncsAreHeld }
     ensures on_record { AnswerIsOnRecord }
 {}

@@ -6,7 +6,7 @@
 //! The calls of `laws` do nothing; what they ensure is proved of the definitions.
 //!
 //! - `disks_stand_at_savepoints`: what a disk stands by, apart from the disk, says what it stands
-//!   for.
+//!   for. Images of which the same is read stand at the same savepoint.
 //! - `barriers_leave_fronts`: whatever a barrier has left, the disk stands for a front of the
 //!   pending records, and after Ok for all.
 //! - `commits_leave_one_of_two`: while an area is filled the disk stands for the same. Whatever a
@@ -21,7 +21,8 @@
 //!   stands by.
 //! - `savepoints_hold_promises`: what stands at a savepoint with its records holds of a promise
 //!   what these hold (`IsHeldAt`). The next savepoint holds that too, and what the end of a
-//!   checkpoint, or a life that opens there, promises.
+//!   checkpoint, or a life that opens there, promises. A recovery finds what holds all that is
+//!   promised, or nothing was promised.
 //! - `disks_carry_promises`: the disk of an open worker (`IsCarried`) keeps what is promised. So it
 //!   does at each moment of a barrier, of a commit and of a creation, and behind their errors.
 //! - `events_carry_promises`, `syncs_are_held`: so it is behind each event. Which syncs of the

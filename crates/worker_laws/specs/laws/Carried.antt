@@ -6,6 +6,7 @@ use Rattle.process_rules.specs.Processes.{ProcessState}
 use Rattle.process_rules.specs.Runs.{Kept, Runs}
 use Rattle.sector_disk.specs.rules.Image.{Image}
 use Rattle.sector_disk.specs.rules.Medium.{Medium, LeavesOnly}
+use Rattle.disk_layout.specs.rules.Sectors.{HasMarks}
 use Rattle.disk_layout.specs.rules.Journal.{Record}
 use Rattle.journal.specs.rules.State.{JournalState}
 use Rattle.record_replay.specs.rules.Records.{Recorded, given_in}
@@ -13,7 +14,8 @@ use Rattle.worker_rules.specs.Stands.{IsBlank}
 use Rattle.worker_rules.specs.Lives.{Checkpoint, Done, Opened, Ended}
 use Rattle.worker_rules.specs.Courses.{Stage, Shut, IsLast}
 use Rattle.worker_rules.specs.Promises.{Promise, after, HoldsAll, IsAt, IsOpening}
-use Rattle.worker_rules.specs.Holds.{HoldsPromise, IsNothingYet, KeepsPromise, CarriesPromise}
+use Rattle.worker_rules.specs.Holds.{HoldsPromise, IsNothingYet, ImageHolds, KeepsPromise}
+use Rattle.worker_rules.specs.Holds.{CarriesPromise}
 use Rattle.worker_laws.specs.laws.Savepoints.{Savepoint, point_of, StandsAtPoint}
 use Rattle.worker_laws.specs.laws.Barriers.{StandsAtFront}
 use Rattle.worker_laws.specs.laws.Commits.{BeginsAtPoint}
@@ -55,6 +57,19 @@ StandsHeldAt =
     (m : Module) (config : Settings) (promise : Promise) (disk : Image)
     → (holds : HoldsPromise m config promise promise disk)
     → IsHeldAt promise (point_of holds.stands) holds.stands.records holds.stands.last
+
+-- What a recovery finds with the marks of a worker holds what is promised,
+abbrev pub MarkedIsHeld : Type 0
+MarkedIsHeld =
+    (m : Module) (config : Settings) (promise : Promise) (disk : Image)
+    → ImageHolds m config promise promise disk → HasMarks disk
+    → HoldsPromise m config promise promise disk
+
+-- and where it finds no worker, nothing has been promised.
+abbrev pub BlankIsUnopened : Type 0
+BlankIsUnopened =
+    (m : Module) (config : Settings) (promise : Promise) (disk : Image)
+    → ImageHolds m config promise promise disk → IsBlank disk → IsNothingYet promise
 
 -- no more is promised by the first than by the second
 pub record PromisesNoMore (less more : Promise) : Type 0 where
@@ -144,6 +159,15 @@ CarriedKeeps {D} medium =
     (journal : JournalState) (records pending : List Record) (last now : ProcessState) (disk : D)
     → IsCarried promise point journal records pending last now (medium disk)
     → KeepsPromise m config promise (medium disk)
+
+-- where a cut leaves no other image than before
+abbrev pub StaysCarried : {D : Type 0} → (D → Medium) → Type 0
+StaysCarried {D} medium =
+    (m : Module) (config : Settings) (promise : Promise) (point : Savepoint m config)
+    (journal : JournalState) (records pending : List Record) (last now : ProcessState)
+    (old new : D) → IsCarried promise point journal records pending last now (medium old)
+    → ((image : Image) → (medium new).may_leave image → (medium old).may_leave image)
+    → IsCarried promise point journal records pending last now (medium new)
 
 -- A barrier leaves it so, by Ok or by any error, whatever less was promised when the call began.
 abbrev pub BarrierCarries : {D : Type 0} → (D → Medium) → Type 0

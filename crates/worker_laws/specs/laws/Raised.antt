@@ -1,13 +1,14 @@
 -- What events make of a promise that a worker's disk holds.
-use Rattle.std.specs.Prelude.{◌≡◌, ℕ, ◌+◌, ◌≤◌, Bool, true, List, [], ◌∷◌, ◌++◌, length, None}
+use Rattle.std.specs.Prelude.{◌≡◌, ℕ, ◌+◌, ◌-◌, ◌≤◌, Bool, true, List, [], ◌∷◌, ◌++◌, length, None}
 use Rattle.std.specs.Prelude.{Some, Ok}
+use Rattle.std.specs.Prelude.{Option}
 use Rattle.wasm_syntax.specs.declared.module.Module.{Module}
 use Rattle.wasm_syntax_rules.specs.Validity.{IsValid}
 use Rattle.wasi_abi.specs.declared.answer.Kind.{Kind}
 use Rattle.wasi_abi.specs.declared.answer.Answer.{Answer}
 use Rattle.wasi_abi.specs.rules.Configs.{Settings}
-use Rattle.process_rules.specs.Processes.{ProcessState}
-use Rattle.process_rules.specs.Runs.{Kept, Given, Wants, next_of, Runs, Reaches}
+use Rattle.process_rules.specs.Processes.{ProcessState, Guest}
+use Rattle.process_rules.specs.Runs.{Kept, Given, Wants, next_of, Moves, Runs, Reaches}
 use Rattle.process_rules.specs.Behind.{AnswersBehindSync}
 use Rattle.process_rules.specs.Owing.{RunsQuietly}
 use Rattle.state_image.specs.rules.Image.{Saved}
@@ -47,7 +48,14 @@ QuietSyncsAreHeld =
     → IsValid m → (reached : Reaches m config kept p.steps p) → RunsQuietly reached.guest p n q
     → SyncsAreHeld m config kept held p.steps → SyncsAreHeld m config kept held q.steps
 
--- Nor does the step that takes an answer, which is kept from the question on.
+-- A step changes nothing of the syncs before it.
+abbrev pub MovedSyncsAreHeld : Type 0
+MovedSyncsAreHeld =
+    (m : Module) (config : Settings) (kept : List Kept) (held : ℕ) (guest : Guest)
+    (p q : ProcessState) (given : Option Answer) → Moves guest p given q
+    → SyncsAreHeld m config kept held p.steps → SyncsAreHeld m config kept held (q.steps - 1)
+
+-- Nor does the step that takes an answer add one. The answer is kept from the question on.
 abbrev pub AnsweredSyncsAreHeld : Type 0
 AnsweredSyncsAreHeld =
     (m : Module) (config : Settings) (kept : List Kept) (held : ℕ) (p : ProcessState)

@@ -94,6 +94,17 @@ PointStands =
     → StandsAtPoint point records last disk → kept ≡ point.front ++ map given_in records
     → StandsBySaved point kept last.steps disk
 
+-- Of two images the same may be read: bytes of the module, generation, image of a process, and
+-- records. Then one stands at the savepoint of the other.
+abbrev pub ReadAlikeStands : Type 0
+ReadAlikeStands =
+    (m : Module) (config : Settings) (point other : Savepoint m config) (records : List Record)
+    (last q : ProcessState) (disk found : Image)
+    → StandsAtPoint point records last disk → StandsAtPoint other records q found
+    → other.wasm ≡ point.wasm → other.generation ≡ point.generation
+    → image other.saved ≡ image point.saved
+    → StandsAtPoint point records last found
+
 -- Without records that is the step of the savepoint.
 abbrev pub PointStandsAlone : Type 0
 PointStandsAlone =

@@ -1,6 +1,7 @@
 use Rattle.worker_laws.proofs.Carrying.{carried_keeps, barrier_carries, barrier_carries_on}
 use Rattle.worker_laws.proofs.Carrying.{commit_carries, standing_carries, creation_carries}
 use Rattle.worker_laws.proofs.Carrying.{begins_carried}
+use Rattle.worker_laws.proofs.Carrying.{stays_carried}
 use Rattle.worker_laws.proofs.laws.disks_carry_promises.Goals as goal
 
 pub returns-clause-keeps : goal.returns-clause-keeps
@@ -23,3 +24,6 @@ returns-clause-creation g c = creation_carries g.D.Disk.medium
 
 pub returns-clause-begins : goal.returns-clause-begins
 returns-clause-begins g c = begins_carried g.D.Disk.medium
+
+pub returns-clause-stays : goal.returns-clause-stays
+returns-clause-stays g c = stays_carried g.D.Disk.medium

@@ -1,4 +1,5 @@
 use Rattle.worker_laws.proofs.Points.{stands_at_its_point, point_stands, point_stands_alone}
+use Rattle.worker_laws.proofs.Points.{read_alike_stands}
 use Rattle.worker_laws.proofs.laws.disks_stand_at_savepoints.Goals as goal
 
 pub returns-clause-point : goal.returns-clause-point
@@ -9,3 +10,6 @@ returns-clause-stands c = point_stands
 
 pub returns-clause-alone : goal.returns-clause-alone
 returns-clause-alone c = point_stands_alone
+
+pub returns-clause-alike : goal.returns-clause-alike
+returns-clause-alike c = read_alike_stands

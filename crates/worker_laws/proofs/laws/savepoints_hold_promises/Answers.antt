@@ -1,6 +1,7 @@
 use Rattle.worker_laws.proofs.Carrying.{held_at_stands, stands_held_at, less_is_held, next_is_held}
 use Rattle.worker_laws.proofs.Carrying.{fresh_is_held, checkpoint_is_held, opening_is_held}
 use Rattle.worker_laws.proofs.Carrying.{point_is_at, point_opens}
+use Rattle.worker_laws.proofs.Carrying.{marked_is_held, blank_is_unopened}
 use Rattle.worker_laws.proofs.laws.savepoints_hold_promises.Goals as goal
 
 pub returns-clause-stands : goal.returns-clause-stands
@@ -29,3 +30,9 @@ returns-clause-at c = point_is_at
 
 pub returns-clause-opens : goal.returns-clause-opens
 returns-clause-opens c = point_opens
+
+pub returns-clause-marked : goal.returns-clause-marked
+returns-clause-marked c = marked_is_held
+
+pub returns-clause-blank : goal.returns-clause-blank
+returns-clause-blank c = blank_is_unopened

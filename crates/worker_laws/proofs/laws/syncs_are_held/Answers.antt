@@ -1,5 +1,6 @@
 use Rattle.worker_laws.proofs.Raising.{all_syncs_are_held, quiet_syncs_are_held}
 use Rattle.worker_laws.proofs.Raising.{answered_syncs_are_held, answer_is_on_record}
+use Rattle.worker_laws.proofs.Raising.{moved_syncs_are_held}
 use Rattle.worker_laws.proofs.laws.syncs_are_held.Goals as goal
 
 pub returns-clause-all : goal.returns-clause-all
@@ -13,3 +14,6 @@ returns-clause-answered c = answered_syncs_are_held
 
 pub returns-clause-on_record : goal.returns-clause-on_record
 returns-clause-on_record c = answer_is_on_record
+
+pub returns-clause-moved : goal.returns-clause-moved
+returns-clause-moved c = moved_syncs_are_held
