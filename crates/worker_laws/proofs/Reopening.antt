@@ -122,7 +122,8 @@ module _ (m : Module) (config : Settings) (guest : Guest) where
         made_more m config guest promise stage (length p.host.lines)
             (record { number = number; line = line; said = Ok tt })
             (map Tells (all_taken (number + 1) lines)) (omega (arith, same, inside))
-            (one_retold promise stage held place p line number true same foretold.0 at next.0) rest.0,
+            (one_retold promise stage held place p line number true same foretold.0 at next.0)
+            rest.0,
         rest.1,
       )
 
@@ -148,7 +149,8 @@ module _ (m : Module) (config : Settings) (guest : Guest) where
             (record { number = last; line = line; said = Err (record {}) }) []
             (omega (arith, here, inside))
             (one_retold promise stage held place p line last false here foretold.0 at next.0)
-            (made_none m config guest (after promise (Told r false)) (next_stage stage (Told r false))
+            (made_none m config guest (after promise (Told r false))
+            (next_stage stage (Told r false))
             (length p.host.lines)),
         ap phase_refused at.shut,
       )

@@ -177,7 +177,8 @@ module _ (m : Module) (config : Settings) (guest : Guest) where
         made_more promise stage (length p.host.lines)
             (record { number = number; line = line; said = Ok tt })
             (map Tells (all_taken (number + 1) lines)) (omega (arith, same, inside))
-            (one_told promise stage fuel place p line number true same foretold.0 way next.0) rest.0,
+            (one_told promise stage fuel place p line number true same foretold.0 way next.0)
+            rest.0,
         rest.1,
       )
 
@@ -210,7 +211,8 @@ module _ (m : Module) (config : Settings) (guest : Guest) where
             (length p.host.lines)),
         refused_lines_break m config guest promise stage fuel place p r way,
       )
-  told_until promise stage fuel place p (x ∷ first) others line number last same at way is foretold =
+  told_until promise stage fuel place p (x
+      ∷ first) others line number last same at way is foretold =
       let next = is_next p.host.lines (first ++ (line ∷ others)) x place is in
       let inside : place < length p.host.lines =
       slice_get_within p.host.lines place x next.0 in

@@ -21,7 +21,8 @@ use Rattle.record_replay.specs.declared.fault.SourceFault.{SourceFault}
 use Rattle.worker_rules.specs.Lives.{Act, Slice, SourceSaid, Release, Told, Asked}
 use Rattle.worker_rules.specs.Lives.{OfSource, OfAnswer, OfOutlet, kept_of_said}
 use Rattle.worker_rules.specs.Courses.{Stage, Phase, Open, NoneThere, Broken, next_stage}
-use Rattle.worker_rules.specs.Courses.{first_said, first_taken, phase_refused, IsToldIn, IsAskedIn, ComesAfter}
+use Rattle.worker_rules.specs.Courses.{first_said, first_taken, phase_refused, IsToldIn, IsAskedIn}
+use Rattle.worker_rules.specs.Courses.{ComesAfter}
 use Rattle.worker_rules.specs.Courses.{IsWithinSlice}
 use Rattle.worker_rules.specs.Promises.{Promise, after, IsTelling, IsInquiring, IsFitting}
 use Rattle.worker_laws.specs.laws.Underway.{IsInItsSlice, IsUnderWay, IsBroken, IsAtQuestion}

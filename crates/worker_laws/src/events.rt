@@ -1,5 +1,5 @@
-//! Laws of what a worker's calls do, as events of a life. The functions do nothing: what they ensure
-//! is the law.
+//! Laws of what a worker's calls do, as events of a life. The functions do nothing: what they
+//! ensure is the law.
 
 ghost use Rattle.wasm_syntax.specs.declared.module.Module.{Module};
 ghost use Rattle.wasi_abi.specs.rules.Configs.{Settings};
@@ -71,7 +71,8 @@ pub fn parts_of_calls_join()
     ensures ended { EndsJoin }
 {}
 
-/// What a recovery tells keeps what was promised, and so does its opening, and that of a fresh worker.
+/// What a recovery tells keeps what was promised, and so does its opening, and that of a fresh
+/// worker.
 pub fn lives_are_opened()
     ensures told { (m : Module) (config : Settings) (guest : Guest)
         → LinesAreRetold m config guest }

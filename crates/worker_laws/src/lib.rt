@@ -49,8 +49,8 @@
 //!
 //! # Who may touch what
 //!
-//! There is no code here but the empty functions of `laws` and `events`. No code uses it yet. The crate
-//! takes no memory, and has no errors.
+//! There is no code here but the empty functions of `laws` and `events`. No code uses it yet. The
+//! crate takes no memory, and has no errors.
 #![tactic(auto)]
 
 pub mod events;

@@ -1,5 +1,6 @@
 use Rattle.worker_laws.proofs.CallEnds.{spent_slices_end, ended_slices_end, waiting_slices_end}
-use Rattle.worker_laws.proofs.CallEnds.{failed_slices_end, done_checkpoints_end, failed_checkpoints_end}
+use Rattle.worker_laws.proofs.CallEnds.{failed_slices_end, done_checkpoints_end}
+use Rattle.worker_laws.proofs.CallEnds.{failed_checkpoints_end}
 use Rattle.worker_laws.proofs.CallEnds.{slices_begin, calls_leave_between}
 use Rattle.worker_laws.proofs.events.calls_end.Goals as goal
 
