@@ -81,7 +81,7 @@ module _ (m : Module) (settings : Settings) (point : Savepoint m settings) (conf
       (AwaitsHead settings point.wasm) (AwaitsSuper point)
       (subst (λ w. LeavesAll a (AwaitsHead settings w)) (sym first.wasm) all)
       (λ x y awaits replaces.
-      first_commit_awaits_super m settings point x y first.generation awaits replaces)
+      first_commit_awaits_super m settings point x y first.generation first.numbers awaits replaces)
       (subst (λ (g : Geometry). Follows
       (Replaces g point.generation IMAGE_VERSION (image point.saved)) a.may_leave b.may_leave) place
       (subst (λ n. Follows (Replaces geometry n IMAGE_VERSION (image point.saved)) a.may_leave
@@ -193,7 +193,7 @@ first_stored medium settings wasm process store new works placed fresh sectors s
     first =
     begun_stored medium m settings point store new 1 (sym first.generation) (omega arith) works
     (placed ∙ ap (λ w. geometry_of settings (length w)) (sym first.wasm)) fresh sectors settled
-    (begins m point first)
+    (begins m point first) first.numbers
 
 -- where no call was made
 pub none_first : (settings : Settings) (wasm : List ℕ) (process : ProcessValue) (a : Medium)

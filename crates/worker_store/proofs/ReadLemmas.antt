@@ -3,7 +3,7 @@ use Rattle.std.proofs.Common.{◌≡◌, ◌^◌, ◌<◌, ◌≤◌, ℕ, List,
 use Rattle.std.specs.Prelude.{Result, Ok, Err, Option, Some, None, IfOk, IsTrue}
 use Rattle.std.proofs.lemmas.Bool.{false≢true}
 use Rattle.wasm_syntax.specs.declared.module.Module.{Module}
-use Rattle.wasi_abi.specs.rules.Configs.{Settings, AreSettingsWithinLimits}
+use Rattle.wasi_abi.specs.rules.Configs.{Settings}
 use Rattle.process_rules.specs.Processes.{ProcessState}
 use Rattle.state_image.specs.rules.Image.{image}
 use Rattle.sector_disk.specs.rules.Image.{Image}
@@ -35,15 +35,15 @@ use Rattle.worker_store.proofs.FillLemmas.{ok_no_err}
 
 module _ (sectors : ℕ) (disk : Image) (m : Module) (config : Settings)
     (point : Savepoint m config) (records : List Record) (last : ProcessState)
-    (at : StandsAtPoint point records last disk) (within : AreSettingsWithinLimits config)
-    (long : length point.wasm < 2 ^ 32) (room : total_sectors (places point) ≤ sectors) where
+    (at : StandsAtPoint point records last disk)
+    (room : total_sectors (places point) ≤ sectors) where
   abbrev stored : Contents
   stored = record { geometry = places point; config = config; wasm = point.wasm }
 
   pub contents_ok : (found : Contents) → GivesContents sectors disk (Ok found) → found ≡ stored
   contents_ok found gives =
-      let same = reads_the_module m config point records last disk sectors (Ok found) at within long
-      room tt gives in
+      let same = reads_the_module m config point records last disk sectors (Ok found) at room tt
+      gives in
       let P : Result Contents LayoutFault → Type 0 = λ r. IfOk r (λ c. found ≡ c) in
       subst P same refl
 
@@ -52,28 +52,28 @@ pub contents_failed : (sectors : ℕ) (disk : Image) (fault : LayoutFault) (e : 
     → e ≡ fault_of_layout fault → GivesContents sectors disk (Err fault)
     → ReadsContents sectors disk (Err e)
 contents_failed sectors disk layout.NotAWorker e same gives =
-    λ m config point records last at within long room.
+    λ m config point records last at room.
     absurd (ok_no_err _ layout.NotAWorker
     (sym (reads_the_module m config point records last disk
-    sectors (Err layout.NotAWorker) at within long room tt gives)))
+    sectors (Err layout.NotAWorker) at room tt gives)))
 contents_failed sectors disk layout.Version e same gives =
-    λ m config point records last at within long room.
+    λ m config point records last at room.
     absurd (ok_no_err _ layout.Version (sym (reads_the_module m config point records last disk
-    sectors (Err layout.Version) at within long room tt gives)))
+    sectors (Err layout.Version) at room tt gives)))
 contents_failed sectors disk layout.TooSmall e same gives =
-    λ m config point records last at within long room.
+    λ m config point records last at room.
     absurd (ok_no_err _ layout.TooSmall (sym (reads_the_module m config point records last disk
-    sectors (Err layout.TooSmall) at within long room tt gives)))
+    sectors (Err layout.TooSmall) at room tt gives)))
 contents_failed sectors disk layout.Damaged e same gives =
-    λ m config point records last at within long room.
+    λ m config point records last at room.
     absurd (ok_no_err _ layout.Damaged (sym (reads_the_module m config point records last disk
-    sectors (Err layout.Damaged) at within long room tt gives)))
+    sectors (Err layout.Damaged) at room tt gives)))
 contents_failed sectors disk layout.Memory e same gives =
     subst (λ (f : StoreFault). ReadsContents sectors disk (Err f)) (sym same)
-    (λ m config point records last at within long room. tt)
+    (λ m config point records last at room. tt)
 contents_failed sectors disk (layout.Disk fault) e same gives =
     subst (λ (f : StoreFault). ReadsContents sectors disk (Err f)) (sym same)
-    (λ m config point records last at within long room. tt)
+    (λ m config point records last at room. tt)
 
 -- ---- the snapshot
 

@@ -18,6 +18,7 @@ use Rattle.state_image.specs.rules.Saving.{saved_of}
 use Rattle.disk_layout.specs.rules.Places.{geometry_of}
 use Rattle.wasm_syntax.specs.declared.module.Module.{Module}
 use Rattle.wasi_abi.specs.rules.Configs.{Settings}
+use Rattle.worker_rules.specs.Stands.{IsNumbered}
 use Rattle.worker_laws.specs.laws.Commits.{BeginsAtPoint}
 use Rattle.worker_laws.specs.laws.Moments.{LeavesAll}
 use Rattle.worker_laws.specs.laws.Savepoints.{Savepoint, places}
@@ -37,7 +38,7 @@ use Rattle.worker_store.specs.rules.Calls.{LeavesFronts, StoresAll, LeavesOneOfT
 module _ {D : Type 0} (medium : D → Medium) where
   pub append_stores : AppendStores medium
   append_stores m config point store records pending last now asks next a n disk is runs moves fits
-      room =
+      numbers room =
       let r : Record = record { step = next.steps; answer = a } in
       let more = length-append store.journal.kept (record_bytes r) in
       let many = ap (λ (g : Geometry). g.journal_sectors) is.geometry in
@@ -49,7 +50,7 @@ module _ {D : Type 0} (medium : D → Medium) where
             append_goes_on medium m config point store.journal
             (state store.journal.generation store.journal.used
             (store.journal.kept ++ record_bytes r) false) records pending last now asks next a n
-            disk is.journaled runs moves fits refl;
+            disk is.journaled runs moves fits numbers refl;
         fits = omega (arith, more, many, room, is.fits);
         sectors = is.sectors;
         settled = is.settled;
@@ -125,9 +126,10 @@ module _ {D : Type 0} (medium : D → Medium) where
       (new : D) (g : ℕ) → g ≡ point.generation → g < 2 ^ 63 → store.has_failed ≡ false
       → store.geometry ≡ places point → store.journal ≡ state g 0 [] false
       → total_sectors store.geometry ≤ (medium new).sectors → IsAllSynced (medium new)
-      → LeavesAll (medium new) (BeginsAtPoint point)
+      → LeavesAll (medium new) (BeginsAtPoint point) → IsNumbered point.process
       → IsStoreOf point store [] [] point.process point.process (medium new)
-  begun_stored m config point store new g numbered early works placed e sectors settled begins =
+  begun_stored m config point store new g numbered early works placed e sectors settled begins
+      numbers =
       let below : point.generation < 2 ^ 63 = subst (λ k. k < 2 ^ 63) numbered early in
       let fresh : store.journal ≡ state point.generation 0 [] false =
       e ∙ ap (λ k. state k 0 [] false) numbered in
@@ -138,7 +140,7 @@ module _ {D : Type 0} (medium : D → Medium) where
         geometry = placed;
         journaled = subst (λ (j : JournalState).
             IsJournaled point j [] [] point.process point.process (medium new)) (sym fresh)
-            (begins_journaled medium m config point new begins (omega (arith, below)));
+            (begins_journaled medium m config point new begins (omega (arith, below)) numbers);
         fits = omega (arith, none);
         sectors = subst (λ (g : Geometry). total_sectors g ≤ (medium new).sectors) placed sectors;
         settled = settled;
@@ -198,7 +200,7 @@ module _ {D : Type 0} (medium : D → Medium) where
         let where_it_is = same ∙ is.geometry in
         begun_stored m config next after new n numbered early works (where_it_is ∙ place) e
         (subst (λ (g : Geometry). total_sectors g ≤ (medium new).sectors) (sym where_it_is)
-        (omega (arith, room, sectors))) settled begins
+        (omega (arith, room, sectors))) settled begins is_next.numbers
 
   -- what a commit leaves of a disk that stands for a worker, and what it leaves after Ok
   module _ (geometry : Geometry) (g : ℕ) (process : ProcessValue) (old new : D) where
@@ -236,4 +238,4 @@ module _ {D : Type 0} (medium : D → Medium) where
         begun_stored m config next store new g (sym again.generation) early works
         (same ∙ again.placed) e
         (subst (λ (p : Geometry). total_sectors p ≤ (medium new).sectors) (sym same) sectors)
-        settled begins
+        settled begins again.numbers

@@ -14,6 +14,7 @@ use Rattle.disk_layout.specs.rules.Journal.{Record, record_bytes}
 use Rattle.journal.specs.rules.State.{room_of}
 use Rattle.journal.specs.rules.Steps.{RecordFits}
 use Rattle.worker_laws.specs.laws.Savepoints.{Savepoint}
+use Rattle.worker_rules.specs.Stands.{IsNumbered}
 use Rattle.worker_store.specs.declared.store.WorkerStore.{WorkerStore}
 use Rattle.worker_store.specs.rules.Stores.{IsStoreOf, with_record}
 
@@ -25,7 +26,7 @@ AppendStores {D} medium =
     (disk : D) → (let r : Record = record { step = next.steps; answer = a } in
     IsStoreOf point store records pending last now (medium disk)
     → Runs point.reached.guest now [] n asks → Moves point.reached.guest asks (Some a) next
-    → RecordFits r → length (record_bytes r) ≤ room_of store.geometry store.journal
+    → RecordFits r → IsNumbered next → length (record_bytes r) ≤ room_of store.geometry store.journal
     → IsStoreOf point (with_record store r) records (pending ++ r ∷ []) last next (medium disk))
 
 -- The image of a well-typed process fits into its area, whatever the module's length: no commit of

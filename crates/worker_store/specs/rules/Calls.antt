@@ -18,6 +18,7 @@ use Rattle.disk_layout.specs.declared.geometry.Geometry.{Geometry}
 use Rattle.disk_layout.specs.rules.Places.{area_place, rounded_up}
 use Rattle.snapshot.specs.declared.writing.Writing.TheVariants.{Changes}
 use Rattle.snapshot.specs.rules.Calls.{MakesStoresAndHead}
+use Rattle.worker_rules.specs.Stands.{IsNumbered}
 use Rattle.worker_laws.specs.laws.Savepoints.{Savepoint, StandsAtPoint, places}
 use Rattle.worker_laws.specs.laws.Moments.{LeavesAll}
 use Rattle.worker_laws.specs.laws.Barriers.{StandsAtFront}
@@ -114,6 +115,7 @@ pub record IsAgain {m : Module} {config : Settings} (geometry : Geometry) (g : �
   pub placed : geometry ≡ places next
   pub generation : next.generation ≡ g
   pub saved : next.saved ≡ saved_of process
+  pub numbers : IsNumbered next.process
 
 -- a cut at any moment leaves what stands for the same answers, or the new snapshot
 abbrev pub LeavesBeforeOrNext : Geometry → ℕ → ProcessValue → Medium → Medium → Type 0

@@ -16,7 +16,7 @@ use Rattle.disk_layout.specs.declared.geometry.TheConstants.{MODULE_PLACE}
 use Rattle.disk_layout.specs.rules.Places.{area_place, journal_place, rounded_up}
 use Rattle.disk_layout.specs.rules.Places.{total_sectors}
 use Rattle.snapshot.specs.rules.Calls.{with_head}
-use Rattle.worker_rules.specs.Stands.{IsBlank}
+use Rattle.worker_rules.specs.Stands.{IsBlank, IsNumbered}
 use Rattle.worker_laws.specs.laws.Savepoints.{Savepoint}
 use Rattle.worker_laws.specs.laws.Commits.{BeginsAtPoint}
 use Rattle.worker_laws.specs.laws.Moments.{LeavesAll}
@@ -57,6 +57,7 @@ pub record IsFirstPoint {m : Module} {config : Settings} (bytes : List ℕ) (pro
   pub generation : point.generation ≡ 1
   pub wasm : point.wasm ≡ bytes
   pub saved : point.saved ≡ saved_of process
+  pub numbers : IsNumbered point.process
 
 -- a cut at any moment leaves a blank disk, or one that begins at the first snapshot
 abbrev pub LeavesBlankOrFirst : Settings → List ℕ → ProcessValue → Medium → Medium → Type 0

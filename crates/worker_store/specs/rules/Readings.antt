@@ -3,7 +3,7 @@
 use Rattle.std.specs.Prelude.{◌≡◌, ℕ, ◌^◌, ◌<◌, ◌≤◌, List, length, Vec, Result, Ok, Err}
 use Rattle.std.specs.declared.alloc.Global.{Global}
 use Rattle.wasm_syntax.specs.declared.module.Module.{Module}
-use Rattle.wasi_abi.specs.rules.Configs.{Settings, AreSettingsWithinLimits}
+use Rattle.wasi_abi.specs.rules.Configs.{Settings}
 use Rattle.process_rules.specs.Processes.{ProcessState}
 use Rattle.state_image.specs.rules.Image.{image}
 use Rattle.sector_disk.specs.rules.Image.{Image}
@@ -28,7 +28,6 @@ abbrev pub ReadsContents : ℕ → Image → Result Contents StoreFault → Type
 ReadsContents sectors disk result =
     (m : Module) (config : Settings) (point : Savepoint m config) (records : List Record)
     (last : ProcessState) → StandsAtPoint point records last disk
-    → AreSettingsWithinLimits config → length point.wasm < 2 ^ 32
     → total_sectors (places point) ≤ sectors
     → GivesOr (λ found. found
     ≡ record { geometry = places point; config = config; wasm = point.wasm }) result

@@ -2,9 +2,9 @@ use Rattle.worker_store.proofs.ReadLemmas.{contents_ok, contents_failed}
 use Rattle.worker_store.proofs.reading.read_worker.Goals as goal
 
 pub returns-in-Ok-clause-gives : goal.returns-in-Ok-clause-gives
-returns-in-Ok-clause-gives g c disk shown m config point records last at within long room =
+returns-in-Ok-clause-gives g c disk shown m config point records last at room =
     let was = g.D.Disk.medium c.args.disk.now in
-    contents_ok was.sectors disk m config point records last at within long room c.in-Ok.contents
+    contents_ok was.sectors disk m config point records last at room c.in-Ok.contents
     (c.in-Ok.ensures.gives disk shown)
 
 pub returns-in-Err-clause-gives : goal.returns-in-Err-clause-gives
