@@ -5,4 +5,5 @@ pub mod Refused
 pub mod Made
 pub mod Ended
 pub mod Fronts
+pub mod ListReads
 pub mod Loops

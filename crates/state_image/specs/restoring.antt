@@ -1,4 +1,5 @@
 pub mod Named
+pub mod ListReaders
 pub mod Told
 pub mod Hanging
 pub mod Parts

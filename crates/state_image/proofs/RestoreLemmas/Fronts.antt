@@ -13,15 +13,17 @@ use Rattle.wasm_syntax.proofs.Grammar.Vectors.{Reads-part_at}
 use Rattle.wasi_abi.specs.rules.Layouts.{u16_bytes, u32_bytes, u64_bytes}
 use Rattle.file_tree.specs.rules.Files.{Files, Entry, IsFiles}
 use Rattle.state_image.specs.rules.Image.{items_bytes, entry_bytes, files_bytes}
-use Rattle.state_image.specs.reading.Fields.{integer_at, text_at}
-use Rattle.state_image.specs.reading.Nodes.{ContentFront, EntryCount, FileBytes, NodeFront}
-use Rattle.state_image.specs.reading.Nodes.{content_front_at, node_front_at, entry_at}
+use Rattle.state_image.specs.rules.Ranges.{IsIn, AreFew, IsEntryIn}
+use Rattle.state_image.specs.rules.Fronts.{ContentFront, EntryCount, FileBytes, NodeFront}
+use Rattle.state_image.specs.rules.Fronts.{content_front_bytes, IsContentFrontIn, front_bytes}
+use Rattle.state_image.specs.rules.Fronts.{IsFrontIn}
+use Rattle.state_image.specs.restoring.ListReaders.{integer_at, text_at}
+use Rattle.state_image.specs.restoring.ListReaders.{content_front_at, node_front_at, entry_at}
 use Rattle.state_image.specs.restoring.Named.{Held, Entries, Bytes, NamedNode, named}
 use Rattle.state_image.specs.restoring.Named.{AreNamedNodes, held_bytes, named_bytes}
 use Rattle.state_image.specs.restoring.Told.{IsToldOf}
 use Rattle.state_image.specs.restoring.Parts.{held_at, whole_node_at, wholes_at}
-use Rattle.state_image.proofs.Fields.{IsIn, AreFew}
-use Rattle.state_image.proofs.Named.{IsEntryIn, IsHeldIn, IsNamedIn, files_named}
+use Rattle.state_image.proofs.Named.{IsHeldIn, IsNamedIn, files_named}
 use Rattle.state_image.proofs.FilesWithin.{files_within}
 use Rattle.state_image.proofs.Among.{entry_with}
 
@@ -35,7 +37,7 @@ pub record ReadsFront (X : Type 0) (P : X → Type 0) (spell : X → List ℕ) (
   pub is : (bytes : List ℕ) (x : X) (rest : List ℕ) → AreBytes bytes
       → item_at bytes ≡ Some (x, rest) → (bytes ≡ spell x ++ rest) × AreBytes rest
 
-all_front : (xs ys : List ℕ) → AreBytes (xs ++ ys) → AreBytes xs
+pub all_front : (xs ys : List ℕ) → AreBytes (xs ++ ys) → AreBytes xs
 all_front [] ys h = tt
 all_front (x ∷ xs) ys h = (h.0, all_front xs ys h.1)
 
@@ -172,14 +174,6 @@ module _ (X : Type 0) (P : X → Type 0) (spell : X → List ℕ) (item_at : Lis
 
 -- ---- fronts of nodes
 
-abbrev content_bytes_of : ContentFront → List ℕ
-content_bytes_of (EntryCount count) = 3 ∷ u32_bytes count
-content_bytes_of (FileBytes file) = 4 ∷ long_text 8 file
-
-abbrev IsContentIn : ContentFront → Type 0
-IsContentIn (EntryCount count) = IsIn 4 count
-IsContentIn (FileBytes file) = IsIn 8 (length file)
-
 byte_is : (bytes : List ℕ) (b : ℕ) (rest : List ℕ) → byte_at bytes ≡ Some (b, rest)
     → bytes ≡ b ∷ rest
 byte_is [] b rest e = absurd cc
@@ -194,52 +188,46 @@ abbrev filed : List ℕ × List ℕ → Option (ContentFront × List ℕ)
 filed file = Some (FileBytes file.0, file.1)
 
 content_is : (bytes : List ℕ) (c : ContentFront) (rest : List ℕ) → AreBytes bytes
-    → content_front_at bytes ≡ Some (c, rest) → (bytes ≡ content_bytes_of c ++ rest) × AreBytes rest
+    → content_front_at bytes ≡ Some (c, rest) → (bytes ≡ content_front_bytes c ++ rest)
+    × AreBytes rest
 unfolding content_front_at
 content_is [] c rest low e = absurd cc
 content_is (k ∷ bytes) c rest low e = by (eqb k 3) refl (eqb k 4) refl e where
   by : (b : Bool) → eqb k 3 ≡ b → (d : Bool) → eqb k 4 ≡ d
       → cond b (integer_at 4 bytes >>= counted)
       (cond d (text_at 8 bytes >>= filed) None) ≡ Some (c, rest)
-      → (k ∷ bytes ≡ content_bytes_of c ++ rest) × AreBytes rest
+      → (k ∷ bytes ≡ content_front_bytes c ++ rest) × AreBytes rest
   by true p d q e =
       let n = bind_some (integer_at 4 bytes) counted _ e in
       let r = (integer_front 4).is bytes n.0.0 n.0.1 low.1 n.1 in
       carry (λ (x : ContentFront) (s : List ℕ).
-      (k ∷ bytes ≡ content_bytes_of x ++ s) × AreBytes s) (EntryCount n.0.0) c n.0.1 rest n.2
+      (k ∷ bytes ≡ content_front_bytes x ++ s) × AreBytes s) (EntryCount n.0.0) c n.0.1 rest n.2
       (ap (λ (h : ℕ). h ∷ bytes) (eqb-true k 3 p) ∙ ap (λ (s : List ℕ). 3 ∷ s) r.0, r.1)
   by false p true q e =
       let file = bind_some (text_at 8 bytes) filed _ e in
       let r = (text_front 8).is bytes file.0.0 file.0.1 low.1 file.1 in
       carry (λ (x : ContentFront) (s : List ℕ).
-      (k ∷ bytes ≡ content_bytes_of x ++ s) × AreBytes s) (FileBytes file.0.0) c file.0.1 rest
+      (k ∷ bytes ≡ content_front_bytes x ++ s) × AreBytes s) (FileBytes file.0.0) c file.0.1 rest
       file.2
       (ap (λ (h : ℕ). h ∷ bytes) (eqb-true k 4 q) ∙ ap (λ (s : List ℕ). 4 ∷ s) r.0, r.1)
   by false p false q e = absurd cc
 
-content_front : ReadsFront ContentFront IsContentIn content_bytes_of content_front_at
+pub content_front : ReadsFront ContentFront IsContentFrontIn content_front_bytes content_front_at
 unfolding content_front_at
 content_front = record { front = front; is = content_is } where
-  front : (c : ContentFront) (rest : List ℕ) → IsContentIn c
-      → content_front_at (content_bytes_of c ++ rest) ≡ Some (c, rest)
+  front : (c : ContentFront) (rest : List ℕ) → IsContentFrontIn c
+      → content_front_at (content_front_bytes c ++ rest) ≡ Some (c, rest)
   front (EntryCount count) rest p = rw ((integer_front 4).front count rest p) refl
   front (FileBytes file) rest p = rw ((text_front 8).front file rest p) refl
 
-abbrev front_bytes : NodeFront → List ℕ
-front_bytes f = u64_bytes f.number ++ content_bytes_of f.content
-
-record IsFrontIn (f : NodeFront) : Type 0 where
-  number : IsIn 8 f.number
-  content : IsContentIn f.content
-
-node_front : ReadsFront NodeFront IsFrontIn front_bytes node_front_at
+pub node_front : ReadsFront NodeFront IsFrontIn front_bytes node_front_at
 unfolding node_front_at
 node_front = record { front = front; is = is } where
   front : (f : NodeFront) (rest : List ℕ) → IsFrontIn f
       → node_front_at (front_bytes f ++ rest) ≡ Some (f, rest)
   front f rest p = rw (
-    append_assoc (u64_bytes f.number) (content_bytes_of f.content) rest,
-    (integer_front 8).front f.number (content_bytes_of f.content ++ rest) p.number,
+    append_assoc (u64_bytes f.number) (content_front_bytes f.content) rest,
+    (integer_front 8).front f.number (content_front_bytes f.content ++ rest) p.number,
     content_front.front f.content rest p.content,
   ) refl
 
@@ -253,7 +241,7 @@ node_front = record { front = front; is = is } where
       carry (λ (x : NodeFront) (s : List ℕ). (bytes ≡ front_bytes x ++ s) × AreBytes s)
       (record { number = number.0.0; content = content.0.0 }) f content.0.1 rest content.2 (
         a.0 ∙ ap (λ (r : List ℕ). u64_bytes number.0.0 ++ r) b.0
-            ∙ sym (append_assoc (u64_bytes number.0.0) (content_bytes_of content.0.0)
+            ∙ sym (append_assoc (u64_bytes number.0.0) (content_front_bytes content.0.0)
             content.0.1),
         b.1,
       )
@@ -271,7 +259,7 @@ behind (Bytes bytes) = []
 abbrev front_of : NamedNode → NodeFront
 front_of n = record { number = n.number; content = content_of_held n.held }
 
-held_split : (h : Held) → held_bytes h ≡ content_bytes_of (content_of_held h) ++ behind h
+held_split : (h : Held) → held_bytes h ≡ content_front_bytes (content_of_held h) ++ behind h
 held_split (Entries es) = refl
 held_split (Bytes bytes) = ap (λ (xs : List ℕ). 4 ∷ xs) (sym (append-nil (long_text 8 bytes)))
 
@@ -280,7 +268,7 @@ whole_split : (n : NamedNode) (rest : List ℕ)
 whole_split n rest =
     ap (λ (xs : List ℕ). (u64_bytes n.number ++ xs) ++ rest) (held_split n.held)
     ∙ ap (λ (xs : List ℕ). xs ++ rest)
-    (sym (append_assoc (u64_bytes n.number) (content_bytes_of (content_of_held n.held))
+    (sym (append_assoc (u64_bytes n.number) (content_front_bytes (content_of_held n.held))
     (behind n.held)))
     ∙ append_assoc (front_bytes (front_of n)) (behind n.held) rest
 
@@ -311,7 +299,7 @@ held_is (FileBytes file) bytes h rest low e =
     carry (IsHeldAt (FileBytes file) bytes) (Bytes file) h bytes rest e
     (record { front = refl; is = refl; low = low })
 
-front_in : (h : Held) → IsHeldIn h → IsContentIn (content_of_held h)
+front_in : (h : Held) → IsHeldIn h → IsContentFrontIn (content_of_held h)
 front_in (Entries es) p = p.few
 front_in (Bytes bytes) p = p
 
@@ -338,7 +326,7 @@ whole_front = record { front = front; is = is } where
       carry (λ (m : NamedNode) (s : List ℕ). (bytes ≡ named_bytes m ++ s) × AreBytes s) x n h.0.1
       rest h.2 (
         a.0
-            ∙ ap (λ (c : ContentFront). (u64_bytes f.0.0.number ++ content_bytes_of c) ++ f.0.1)
+            ∙ ap (λ (c : ContentFront). (u64_bytes f.0.0.number ++ content_front_bytes c) ++ f.0.1)
             (sym b.front)
             ∙ ap (λ (r : List ℕ). front_bytes (front_of x) ++ r) b.is
             ∙ sym (whole_split x h.0.1),
@@ -355,7 +343,8 @@ wholes_front = record { front = front; is = is } where
     append_assoc (u32_bytes (length ns)) (flat_map named_bytes ns) rest,
     (integer_front 4).front (length ns) (flat_map named_bytes ns ++ rest) p.few,
   )
-      (items_front NamedNode IsNamedIn named_bytes whole_node_at whole_front (length ns) ns rest refl
+      (items_front NamedNode IsNamedIn named_bytes whole_node_at whole_front
+      (length ns) ns rest refl
       p.each)
 
   is : (bytes : List ℕ) (ns : List NamedNode) (rest : List ℕ) → AreBytes bytes
@@ -364,7 +353,8 @@ wholes_front = record { front = front; is = is } where
   is bytes ns rest low e =
       let count = bind_some (integer_at 4 bytes) _ _ e in
       let a = (integer_front 4).is bytes count.0.0 count.0.1 low count.1 in
-      let b = items_are NamedNode IsNamedIn named_bytes whole_node_at whole_front count.0.0 count.0.1 ns
+      let b = items_are NamedNode IsNamedIn named_bytes whole_node_at whole_front count.0.0
+      count.0.1 ns
       rest a.1 count.2 in (
         a.0 ∙ ap (λ (r : List ℕ). u32_bytes count.0.0 ++ r) b.is
             ∙ ap (λ (n : ℕ). u32_bytes n ++ (flat_map named_bytes ns ++ rest)) (sym b.many)

@@ -91,7 +91,8 @@ can_hang ns fs ws at i d e h here can = record {
 }
 
 module _ (ns : List NamedNode) (fs gs : Files) (ws : List ℕ) (at i d : ℕ) (e : Entry) (h : HangsUpTo
-    ns fs ws at i) (here : slice_get ws at ≡ Some d) (told : slice_get (listed_node ns d) i ≡ Some e)
+    ns fs ws at i) (here : slice_get ws at ≡ Some d) (told : slice_get (listed_node ns d) i
+    ≡ Some e)
     (can : CanTake fs d e) (m : HasHung fs gs e.number d e.name) (b : Bool)
     (kind : is_directory gs e.number ≡ b) where
   same : AreAs gs ns

@@ -150,7 +150,7 @@ module _ (ns : List NamedNode) (fs gs : Files) (next : ℕ) (ws : List ℕ) (at 
     by : (o : Option ℕ) → child fs d e.name ≡ o → o ≡ None
     by None found = refl
     by (Some k) found =
-        let l = children_are_listed.listed_node fs d k e.name h.are found in
+        let l = children_are_listed.listed fs d k e.name h.are found in
         let place = before l.place (entry_under e.name k) l.is in
         let one = entries_differ.names gs d l.place i (entry_under e.name k) e t.are place.1
         is_at refl in

@@ -16,8 +16,10 @@ pub record HangsUpTo (ns : List NamedNode) (fs : Files) (waiting : List ℕ) (at
   where
     pub are : IsFiles fs
     pub same : AreAs fs ns
-    pub done : (j d : ℕ) → slice_get waiting j ≡ Some d → j < at → entries_of fs d ≡ listed_node ns d
-    pub begun : (d : ℕ) → slice_get waiting at ≡ Some d → entries_of fs d ≡ take count (listed_node ns d)
+    pub done : (j d : ℕ) → slice_get waiting j ≡ Some d → j < at
+        → entries_of fs d ≡ listed_node ns d
+    pub begun : (d : ℕ) → slice_get waiting at ≡ Some d
+        → entries_of fs d ≡ take count (listed_node ns d)
     pub still : (j d : ℕ) → slice_get waiting j ≡ Some d → at < j → entries_of fs d ≡ []
     pub hung : (j d : ℕ) → slice_get waiting j ≡ Some d
         → (is_directory fs d ≡ true) × (is_some (path_of fs d) ≡ true)

@@ -3,9 +3,8 @@ use Rattle.std.specs.Prelude.{◌≡◌, ℕ, List, Option, Some, None, Result, 
 use Rattle.wasm_syntax.specs.laws.ReadingItems.{◌>>=◌, items_at}
 use Rattle.state_image.specs.declared.restoring.fault.RestoreFault.{RestoreFault}
 use Rattle.state_image.specs.declared.restoring.fault.RestoreFault.TheVariants as fault
-use Rattle.state_image.specs.reading.Fields.{integer_at}
-use Rattle.state_image.specs.reading.Nodes.{ContentFront, EntryCount, FileBytes}
-use Rattle.state_image.specs.reading.Nodes.{entry_at, node_front_at}
+use Rattle.state_image.specs.rules.Fronts.{ContentFront, EntryCount, FileBytes}
+use Rattle.state_image.specs.restoring.ListReaders.{integer_at, entry_at, node_front_at}
 use Rattle.state_image.specs.restoring.Named.{Held, Entries, Bytes, NamedNode}
 
 -- what the code answers, by what it shows, beside what stands at the front: the field, and then

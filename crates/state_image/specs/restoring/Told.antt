@@ -10,7 +10,7 @@ use Rattle.file_tree.specs.rules.Files.{fresh}
 use Rattle.file_tree.specs.rules.Listings.{number_after}
 use Rattle.file_tree.specs.laws.Laws.{node_number, content_of}
 use Rattle.file_tree.specs.laws.Rebuilding.{HaveSameEntries}
-use Rattle.state_image.specs.reading.Nodes.{lent_entry}
+use Rattle.state_image.specs.rules.Fronts.{lent_entry}
 use Rattle.state_image.specs.declared.restoring.fault.RestoreFault.{RestoreFault}
 use Rattle.state_image.specs.declared.restoring.fault.RestoreFault.TheVariants as fault
 use Rattle.state_image.specs.declared.restoring.whole_node.WholeContent.{WholeContent}

@@ -1,13 +1,16 @@
 //! Bytes that are read from the front.
 
 ghost use Rattle.std.specs.Prelude.{◌≡◌, ◌↔◌, IsTrue, [], ◌∷◌, ◌++◌, length};
+ghost use Rattle.std.specs.List.{AllByRecursion};
 ghost use Rattle.std.specs.Option.{option_map};
+ghost use Rattle.guest_memory.specs.rules.Bytes.{IsByte};
 ghost use Rattle.wasi_abi.specs.rules.Layouts.{u16_bytes, u32_bytes, u64_bytes};
 ghost use Rattle.state_image.specs.rules.Image.{flag_of, text_bytes};
 ghost use Rattle.state_image.specs.rules.Ranges.{IsIn, IsShort};
 ghost use Rattle.state_image.specs.rules.Reading.{ReadsField};
 
 use byteorder::{ByteOrder, LittleEndian};
+use guest_memory::laws::are_bytes;
 use std::marker::Model;
 
 /// The bytes that are left, which is what contracts see. Each method gives the field whose bytes
@@ -37,6 +40,13 @@ impl<'a> ImageReader<'a> {
         ensures { IsTrue result ↔ (self.now ≡ []) }
     {
         self.rest.is_empty()
+    }
+
+    /// What is left are bytes, each below 256. This is for proofs alone: nothing is done.
+    pub(crate) fn are_bytes(&self)
+        ensures { AllByRecursion IsByte self.now }
+    {
+        are_bytes(self.rest);
     }
 
     /// The next bytes, so many.

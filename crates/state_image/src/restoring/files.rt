@@ -1,14 +1,13 @@
 //! The files of an image, made a tree again.
 
 ghost use Rattle.std.specs.Prelude.{◌≡◌, ◌≢◌, ◌<◌, ◌^◌, ◌++◌, ℕ, List, IfOk, Err};
-ghost use Rattle.std.specs.List.{AllByRecursion};
-ghost use Rattle.guest_memory.specs.rules.Bytes.{IsByte};
 ghost use Rattle.file_tree.specs.rules.Files.{Files, IsFiles};
 ghost use Rattle.state_image.specs.rules.Image.{files_bytes};
 ghost use Rattle.state_image.specs.declared.restoring.fault.RestoreFault.TheVariants as fault;
 
 use crate::reading::ImageReader;
 use crate::restoring::fault::RestoreFault;
+use crate::restoring::list_readers::next_number;
 use crate::restoring::parts::read_wholes;
 use crate::restoring::tree::tree_of;
 use file_tree::Tree;
@@ -17,12 +16,12 @@ use std::alloc::Global;
 /// The tree whose files stand next in an image. It reads each byte once, and takes no more memory
 /// than what was read wants.
 pub fn restore_files(alloc: Global, reader: &mut ImageReader) -> Result<Tree, RestoreFault>
-    requires { AllByRecursion IsByte reader.old }
     ensures made { IfOk result (λ tree. reader.old ≡ files_bytes tree ++ reader.new) }
     ensures refused { result ≡ Err fault.NotAnImage → (fs : Files) (rest : List ℕ)
         → IsFiles fs → fs.next < 2 ^ 64 → reader.old ≢ files_bytes fs ++ rest }
 {
-    let Some(next) = reader.u64() else {
+    reader.are_bytes();
+    let Some(next) = next_number(reader) else {
         return Err(RestoreFault::NotAnImage);
     };
     let nodes = read_wholes(alloc, reader)?;

@@ -6,9 +6,10 @@ ghost use Rattle.std.specs.Prelude.{true, false, is_some, None, Err, ℕ};
 ghost use Rattle.file_tree.specs.rules.Files.{is_directory, path_of, node_of, child, hung};
 ghost use Rattle.file_tree.specs.rules.Changes.{path_at};
 ghost use Rattle.file_tree.specs.rules.Listings.{number_after};
-ghost use Rattle.state_image.specs.reading.Nodes.{lent_entry};
+ghost use Rattle.state_image.specs.rules.Fronts.{lent_entry};
 ghost use Rattle.state_image.specs.declared.restoring.fault.RestoreFault.TheVariants as fault;
-ghost use Rattle.state_image.specs.restoring.Told.{lent_held, lent_whole, told_entries, listed_node};
+ghost use Rattle.state_image.specs.restoring.Told.{lent_held, lent_whole, told_entries};
+ghost use Rattle.state_image.specs.restoring.Told.{listed_node};
 ghost use Rattle.state_image.specs.restoring.Told.{CanTake, RefusesTold};
 ghost use Rattle.state_image.specs.restoring.Hanging.{directory_alone, HangsUpTo, IsHung};
 

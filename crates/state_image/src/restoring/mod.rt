@@ -4,6 +4,7 @@ mod creating;
 mod fault;
 mod files;
 mod hanging;
+mod list_readers;
 mod opened;
 mod parts;
 mod tree;

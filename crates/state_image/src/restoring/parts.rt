@@ -2,12 +2,15 @@
 
 ghost use Rattle.std.specs.Prelude.{◌≡◌, ◌++◌, ◌∷◌, [], map, OnOk};
 ghost use Rattle.wasm_syntax.specs.laws.ReadingItems.{items_at};
-ghost use Rattle.state_image.specs.reading.Nodes.{lent_content, lent_entry, entry_at};
-ghost use Rattle.state_image.specs.restoring.Parts.{RestoresField, held_at, whole_node_at, wholes_at};
+ghost use Rattle.state_image.specs.rules.Fronts.{lent_content, lent_entry};
+ghost use Rattle.state_image.specs.restoring.ListReaders.{entry_at};
+ghost use Rattle.state_image.specs.restoring.Parts.{RestoresField, held_at};
+ghost use Rattle.state_image.specs.restoring.Parts.{whole_node_at, wholes_at};
 ghost use Rattle.state_image.specs.restoring.Told.{lent_held, lent_whole};
 
-use crate::reading::{ImageReader, ReadContent, ReadEntry, read_entry, read_node};
+use crate::reading::{ImageReader, ReadContent, ReadEntry};
 use crate::restoring::fault::RestoreFault;
+use crate::restoring::list_readers::{next_count, next_entry, next_front};
 use crate::restoring::whole_node::{WholeContent, WholeNode};
 use std::alloc::{AllocError, Global};
 
@@ -20,7 +23,7 @@ pub(crate) fn read_wholes<'a>(
     ensures { RestoresField (λ v. map lent_whole v.items) result reader.new
         (wholes_at reader.old) }
 {
-    let Some(count) = reader.u32() else {
+    let Some(count) = next_count(reader) else {
         return Err(RestoreFault::NotAnImage);
     };
     read_nodes(alloc, count, reader)
@@ -58,7 +61,7 @@ fn read_whole<'a>(
 ) -> Result<WholeNode<'a>, RestoreFault>
     ensures { RestoresField lent_whole result reader.new (whole_node_at reader.old) }
 {
-    let Some(node) = read_node(reader) else {
+    let Some(node) = next_front(reader) else {
         return Err(RestoreFault::NotAnImage);
     };
     let content = read_held(alloc, node.content, reader)?;
@@ -98,7 +101,7 @@ fn read_entries<'a>(
 {
     let mut entries = Vec::new(alloc);
     for _ in 0..count {
-        let Some(entry) = read_entry(reader) else {
+        let Some(entry) = next_entry(reader) else {
             return Err(RestoreFault::NotAnImage);
         };
         keep_entry(&mut entries, entry)?;

@@ -19,9 +19,9 @@ returns-in_default-clause-refused c refused fs rest are next is =
 
 pub returns-in_err-nodes-clause-refused : goal.returns-in_err-nodes-clause-refused
 returns-in_err-nodes-clause-refused c refused fs rest are next is =
-    no_nodes c.args.reader.now c.u64.new.self c.in-Some.next c.in-Some.ensures
+    no_nodes c.args.reader.now c.next_number.new.reader c.in-Some.next c.in-Some.ensures
     (none_by shown_nodes _ c.read_wholes.new.reader
-    (wholes_at c.u64.new.self) c.in_err-nodes.ensures
+    (wholes_at c.next_number.new.reader) c.in_err-nodes.ensures
     (fault_of c.from_residual.result _ c.from_residual.ensures.1 refused)) fs rest are next is
 
 pub returns-clause-made : goal.returns-clause-made
@@ -30,14 +30,19 @@ returns-clause-made c =
     (λ tree. c.args.reader.now ≡ files_bytes tree ++ c.read_wholes.new.reader) c.tree_of.result
     c.tree_of.ensures.made
     (λ tree told. files_made tree c.in-Some.next (map lent_whole c.in_ok-nodes.nodes.items)
-    c.args.reader.now c.u64.new.self c.read_wholes.new.reader c.requires c.in-Some.ensures
+    c.args.reader.now c.next_number.new.reader c.read_wholes.new.reader c.are_bytes.ensures
+    c.in-Some.ensures
     c.in_ok-nodes.ensures
-    (subst (λ xs. AreNamedNodes tree c.in-Some.next (map lent_whole xs)) c.as_slice.ensures.value told))
+    (subst (λ xs. AreNamedNodes tree c.in-Some.next (map lent_whole xs)) c.as_slice.ensures.value
+    told))
 
 pub returns-clause-refused : goal.returns-clause-refused
 returns-clause-refused c refused fs rest are next is =
     c.tree_of.ensures.refused refused fs
-    (files_told c.args.reader.now c.u64.new.self c.read_wholes.new.reader c.in-Some.next
+    (files_told c.args.reader.now c.next_number.new.reader c.read_wholes.new.reader c.in-Some.next
     (map lent_whole c.as_slice.result.now) c.in-Some.ensures
-    (subst (λ xs. wholes_at c.u64.new.self ≡ Some (map lent_whole xs, c.read_wholes.new.reader))
+    (subst (λ xs. wholes_at c.next_number.new.reader ≡ Some (
+      map lent_whole xs,
+      c.read_wholes.new.reader,
+    ))
     (sym c.as_slice.ensures.value) c.in_ok-nodes.ensures) fs rest are next is)

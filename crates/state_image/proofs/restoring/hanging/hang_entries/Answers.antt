@@ -1,5 +1,5 @@
 use Rattle.std.proofs.Common.{map, ◌∙◌}
-use Rattle.state_image.specs.reading.Nodes.{lent_entry}
+use Rattle.state_image.specs.rules.Fronts.{lent_entry}
 use Rattle.state_image.specs.restoring.Told.{lent_whole, listed_node}
 use Rattle.state_image.proofs.RestoreLemmas.Lent.{shown_at, shown_all, fault_of}
 use Rattle.state_image.proofs.RestoreLemmas.Hung.{entry_hung}
@@ -15,7 +15,8 @@ returns-in_err-hang_entry-clause-refused c next refused gs told =
     (fault_of c.from_residual.result _ c.from_residual.ensures.1 refused)
     (can_be_taken ns c.loop-entry.tree gs next c.loop-entry.waiting.items c.args.place
     c.loop-entry.entry-index d _ so_far.0 so_far.2
-    (shown_at lent_entry c.listed_node-entry-items.result.now (listed_node ns d) c.loop-entry.entry-index _
+    (shown_at lent_entry c.listed_node-entry-items.result.now
+    (listed_node ns d) c.loop-entry.entry-index _
     c.listed_node-entry-items.ensures c.loop-entry-test.true) told)
 
 pub loop-entry-preserved : goal.loop-entry-preserved
@@ -25,7 +26,8 @@ loop-entry-preserved c =
     let d = c.index-directory.result.now in
     let more = entry_hung ns c.loop-entry.tree c.hang_entry.new.tree c.loop-entry.waiting.items
     c.note_directory.new.waiting.items c.args.place c.loop-entry.entry-index d _ so_far.0 so_far.2
-    (shown_at lent_entry c.listed_node-entry-items.result.now (listed_node ns d) c.loop-entry.entry-index _
+    (shown_at lent_entry c.listed_node-entry-items.result.now
+    (listed_node ns d) c.loop-entry.entry-index _
     c.listed_node-entry-items.ensures c.loop-entry-test.true) c.in_ok-hang_entry.ensures.can
     c.in_ok-hang_entry.ensures.hung c.in_ok-note_directory.ensures in
     (more.0, more.1 ∙ so_far.1, more.2)
@@ -37,5 +39,6 @@ returns-clause-hung c =
     let d = c.index-directory.result.now in
     next_directory ns c.loop-entry.tree c.loop-entry.waiting.items c.args.place
     c.loop-entry.entry-index d so_far.0 so_far.2
-    (shown_all lent_entry c.listed_node-entry-items.result.now (listed_node ns d) c.loop-entry.entry-index
+    (shown_all lent_entry c.listed_node-entry-items.result.now
+    (listed_node ns d) c.loop-entry.entry-index
     c.listed_node-entry-items.ensures c.loop-entry-test.false)

@@ -1,7 +1,8 @@
 use Rattle.std.proofs.Common.{◌≡◌, ◌-◌, map}
 use Rattle.wasm_syntax.specs.laws.ReadingItems.{items_at}
 use Rattle.wasm_syntax.proofs.Grammar.Loops.{with_front}
-use Rattle.state_image.specs.reading.Nodes.{lent_entry, entry_at}
+use Rattle.state_image.specs.rules.Fronts.{lent_entry}
+use Rattle.state_image.specs.restoring.ListReaders.{entry_at}
 use Rattle.state_image.proofs.restoring.parts.read_entries.Given as goal
 
 abbrev pub invariant-loop : goal.invariant-loop

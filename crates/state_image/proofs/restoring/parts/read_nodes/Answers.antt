@@ -11,7 +11,8 @@ returns-in_err-node c =
     all_refused lent_whole (λ v. map lent_whole v.items) whole_node_at
     (map lent_whole c.loop.nodes.items) c.args.count c.loop.counter c.loop.reader
     c.read_whole.new.reader c.read_whole.new.reader
-    (items_at whole_node_at c.args.count c.args.reader.now) _ c.from_residual.result c.loop-test.true
+    (items_at whole_node_at c.args.count c.args.reader.now) _ c.from_residual.result
+    c.loop-test.true
     c.in_err-node.ensures c.loop.invariant c.from_residual.ensures.1
 
 pub loop-preserved : goal.loop-preserved

@@ -7,5 +7,6 @@ use Rattle.state_image.proofs.restoring.parts.read_nodes.Given as goal
 
 abbrev pub invariant-loop : goal.invariant-loop
 invariant-loop l =
-    with_front (map lent_whole l.nodes.items) (items_at whole_node_at (l.count - l.counter) l.reader)
+    with_front (map lent_whole l.nodes.items) (items_at whole_node_at (l.count
+    - l.counter) l.reader)
     ≡ items_at whole_node_at l.fn.count l.fn.reader
