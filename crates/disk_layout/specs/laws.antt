@@ -3,4 +3,5 @@ pub mod Laws
 pub mod Reading
 pub mod Numbers
 pub mod RecordExamples
+pub mod SectorExamples
 pub mod Heads

@@ -3,14 +3,17 @@
 ghost use Rattle.disk_layout.specs.rules.Contents.{HoldsWhatIsWritten};
 ghost use Rattle.disk_layout.specs.laws.Examples.{LayoutExamples};
 ghost use Rattle.disk_layout.specs.laws.RecordExamples.{RecordExamples, JournalExamples};
+ghost use Rattle.disk_layout.specs.laws.SectorExamples.{SectorExamples};
 ghost use Rattle.disk_layout.specs.laws.Heads.{WrittenIsComplete, HeadExamples};
 ghost use Rattle.disk_layout.specs.laws.Numbers.{LayoutNumbers};
 ghost use Rattle.disk_layout.specs.laws.Laws.{ShowsEarlier, NeverNewer, ReadsFieldsBack};
 ghost use Rattle.disk_layout.specs.laws.Reading.{OneSpelling, OneAnswer, ReadsWhatIsWritten};
 
-/// Worked examples: sizes, records, a torn stamp, and journals that are scanned.
+/// Worked examples: sizes, the bytes of a super and of a head, records, a torn stamp, and journals
+/// that are scanned.
 pub fn worked_examples()
     ensures layout { LayoutExamples }
+    ensures sectors { SectorExamples }
     ensures records { RecordExamples }
     ensures journals { JournalExamples }
 {}
