@@ -1,53 +1,64 @@
 //! Answers from outside that calls take: times and random bytes.
 
-use guest_memory::Memory;
-use std::alloc::Global;
-use std::test::Fail;
-use wasi_abi::{Answer, Call, Config, Errno, Kind};
-use wasi_calls::{CallOutcome, Host, call};
+use crate::calls::{CallStop, Guest, fresh_guest};
+use std::alloc::{AllocError, Global};
+use wasi_abi::{Answer, Call, Errno, Kind};
+use wasi_calls::{CallOutcome, call};
 use wasm_syntax::Row;
 
 /// Where a call puts its result.
 const RESULT: u32 = 64;
 
-fn host(alloc: Global) -> Result<Host, Fail> {
-    let config = Config::new(1, 1, 64, Row::new(alloc), Row::new(alloc))?;
-    Ok(Host::new(alloc, config, 4_096)?)
-}
-
 /// The guest asks for a monotonic time, and is given this one.
-fn give_time(alloc: Global, host: &mut Host, memory: &mut Memory, time: u64) -> CallOutcome {
-    let answer = Answer::Monotonic { nanoseconds: time };
-    let arguments = [1, 0, u64::from(RESULT)];
+fn give_time(alloc: Global, guest: &mut Guest, nanoseconds: u64) -> CallOutcome {
+    let answer = Answer::Monotonic { nanoseconds };
     call(
         alloc,
-        host,
-        memory,
+        &mut guest.host,
+        &mut guest.memory,
         Call::ClockTimeGet,
-        &arguments,
+        &[1, 0, u64::from(RESULT)],
         Some(&answer),
     )
 }
 
+/// Whether the guest sees this time.
+fn sees(alloc: Global, guest: &mut Guest, given: u64, seen: u64) -> bool {
+    give_time(alloc, guest, given) == CallOutcome::Done(None)
+        && guest.memory.load_u64(RESULT, 0) == Some(seen)
+}
+
 /// Times that are given, and those that the guest sees.
-const TIMES: [(u64, u64); 3] = [(50, 50), (40, 50), (60, 60)];
+static TIMES: [(u64, u64); 3] = [(50, 50), (40, 50), (60, 60)];
 
 #[test]
-fn a_monotonic_time_never_falls(rt: HostRuntime) -> Result<(), Fail> {
-    let mut host = host(rt.alloc())?;
-    let mut memory = Memory::new(rt.alloc(), 1, 1)?;
-    for (given, seen) in TIMES {
-        assert_eq!(rt;
-            give_time(rt.alloc(), &mut host, &mut memory, given),
-            CallOutcome::Done(None)
-        );
-        assert_eq!(rt; memory.load_u64(RESULT, 0), Some(seen));
+fn a_monotonic_time_never_falls(rt: HostRuntime) -> Result<(), CallStop> {
+    let mut guest = fresh_guest(rt.alloc())?;
+    for (given, seen) in &TIMES {
+        assert!(rt; sees(rt.alloc(), &mut guest, *given, *seen), "{given}");
     }
+    drop(guest);
     Ok(())
 }
 
+fn ask_random(
+    alloc: Global,
+    guest: &mut Guest,
+    length: u32,
+    answer: Option<&Answer>,
+) -> CallOutcome {
+    call(
+        alloc,
+        &mut guest.host,
+        &mut guest.memory,
+        Call::RandomGet,
+        &[u64::from(RESULT), u64::from(length)],
+        answer,
+    )
+}
+
 /// So many random bytes, and what the call comes to without an answer.
-const LENGTHS: [(u32, CallOutcome); 4] = [
+static LENGTHS: [(u32, CallOutcome); 4] = [
     (0, CallOutcome::Done(None)),
     (1, CallOutcome::Ask(Kind::Random { length: 1 })),
     (4_096, CallOutcome::Ask(Kind::Random { length: 4_096 })),
@@ -55,46 +66,40 @@ const LENGTHS: [(u32, CallOutcome); 4] = [
 ];
 
 #[test]
-fn random_bytes_are_asked_for_within_the_limit(rt: HostRuntime) -> Result<(), Fail> {
-    let mut host = host(rt.alloc())?;
-    let mut memory = Memory::new(rt.alloc(), 1, 1)?;
-    for (length, wanted) in LENGTHS {
-        let arguments = [u64::from(RESULT), u64::from(length)];
-        let outcome = call(
-            rt.alloc(),
-            &mut host,
-            &mut memory,
-            Call::RandomGet,
-            &arguments,
-            None,
-        );
-        assert_eq!(rt; outcome, wanted);
+fn random_bytes_are_asked_for_within_the_limit(rt: HostRuntime) -> Result<(), CallStop> {
+    let mut guest = fresh_guest(rt.alloc())?;
+    for (length, wanted) in &LENGTHS {
+        let outcome = ask_random(rt.alloc(), &mut guest, *length, None);
+        assert!(rt; outcome == *wanted, "{length}");
     }
+    drop(guest);
     Ok(())
 }
 
 /// The first bytes of the seed of zeros.
-const BYTES: [u8; 5] = [0x76, 0xb8, 0xe0, 0xad, 0xa0];
+static BYTES: [u8; 5] = [0x76, 0xb8, 0xe0, 0xad, 0xa0];
+
+fn five_bytes(alloc: Global) -> Result<Answer, AllocError> {
+    let bytes = Row::from_vec(Vec::from_slice(alloc, &BYTES)?);
+    Ok(Answer::Random { bytes })
+}
+
+/// Whether they are put, and nothing behind them.
+fn are_put(alloc: Global, guest: &mut Guest) -> Result<bool, AllocError> {
+    let answer = five_bytes(alloc)?;
+    let outcome = ask_random(alloc, guest, 5, Some(&answer));
+    let there = guest.memory.part(RESULT, 6);
+    Ok(
+        outcome == CallOutcome::Done(None)
+            && there == Some([0x76, 0xb8, 0xe0, 0xad, 0xa0, 0].as_slice()),
+    )
+}
 
 #[test]
-fn random_bytes_are_put(rt: HostRuntime) -> Result<(), Fail> {
-    let mut host = host(rt.alloc())?;
-    let mut memory = Memory::new(rt.alloc(), 1, 1)?;
-    let bytes = Row::from_vec(Vec::from_slice(rt.alloc(), &BYTES)?);
-    let answer = Answer::Random { bytes };
-    let arguments = [u64::from(RESULT), 5];
-    let outcome = call(
-        rt.alloc(),
-        &mut host,
-        &mut memory,
-        Call::RandomGet,
-        &arguments,
-        Some(&answer),
-    );
-    assert_eq!(rt; outcome, CallOutcome::Done(None));
-    assert_eq!(rt;
-        memory.part(RESULT, 6),
-        Some([0x76, 0xb8, 0xe0, 0xad, 0xa0, 0].as_slice())
-    );
+fn random_bytes_are_put(rt: HostRuntime) -> Result<(), CallStop> {
+    let mut guest = fresh_guest(rt.alloc())?;
+    let are_put = are_put(rt.alloc(), &mut guest);
+    drop(guest);
+    assert!(rt; are_put?);
     Ok(())
 }

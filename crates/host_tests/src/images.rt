@@ -1,7 +1,9 @@
 //! The image of `hello` at its start, and a sink that takes no more.
 
 use crate::processes::hello;
+use process::Process;
 use state_image::{Sink, write_image, write_image_to};
+use std::alloc::Global;
 use std::test::Fail;
 
 /// The mark; steps, answers, requests, lines and the last monotonic time; in `_start`; no input has
@@ -39,21 +41,31 @@ impl Sink for Few {
     }
 }
 
+/// Whether an image has this length and front.
+fn is_image_so(alloc: Global) -> Result<bool, Fail> {
+    let process = hello(alloc)?;
+    let written = write_image(alloc, &process);
+    drop(process);
+    let bytes = written?;
+    Ok(bytes.len() == 65_811 && bytes.starts_with(&FRONT))
+}
+
 #[test]
 fn image_of_hello(rt: HostRuntime) -> Result<(), Fail> {
-    let alloc = rt.alloc();
-    let process = hello(alloc)?;
-    let bytes = write_image(alloc, &process)?;
-    assert_eq!(rt; bytes.len(), 65_811);
-    assert!(rt; bytes.starts_with(&FRONT));
+    assert!(rt; is_image_so(rt.alloc())?);
     Ok(())
+}
+
+/// Whether a sink that takes three pieces is asked for a fourth, and for no more.
+fn is_refused_once(process: &Process) -> bool {
+    let mut sink = Few { left: 3, asked: 0 };
+    write_image_to(process, &mut sink) == Err(Refused) && (sink.left, sink.asked) == (0, 4)
 }
 
 #[test]
 fn nothing_is_pushed_after_a_refusal(rt: HostRuntime) -> Result<(), Fail> {
     let process = hello(rt.alloc())?;
-    let mut sink = Few { left: 3, asked: 0 };
-    assert_eq!(rt; write_image_to(&process, &mut sink), Err(Refused));
-    assert_eq!(rt; (sink.left, sink.asked), (0, 4));
+    assert!(rt; is_refused_once(&process));
+    drop(process);
     Ok(())
 }

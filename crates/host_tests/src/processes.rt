@@ -43,38 +43,56 @@ fn advance(process: &mut Process, fuel: u64) -> [u64; 4] {
 #[test]
 fn hello_owes_its_line(rt: HostRuntime) -> Result<(), Fail> {
     let mut process = hello(rt.alloc())?;
-    assert_eq!(rt; advance(&mut process, 0), [1, 0, 0, 0]);
-    assert_eq!(rt; advance(&mut process, 4), [1, 4, 0, 0]);
-    assert_eq!(rt; advance(&mut process, 100), [2, 5, 1, 1]);
-    assert_eq!(rt; advance(&mut process, 100), [2, 5, 1, 1]);
+    assert!(rt; advance(&mut process, 0) == [1, 0, 0, 0]);
+    assert!(rt; advance(&mut process, 4) == [1, 4, 0, 0]);
+    assert!(rt; advance(&mut process, 100) == [2, 5, 1, 1]);
+    assert!(rt; advance(&mut process, 100) == [2, 5, 1, 1]);
+    drop(process);
     Ok(())
 }
 
-/// Nobody has asked.
+/// Whether nobody has asked.
+fn refuses_an_answer(process: &mut Process) -> bool {
+    process.give(Answer::End) == Err(ProcessFault::WrongAnswer)
+}
+
 #[test]
 fn hello_takes_no_answer(rt: HostRuntime) -> Result<(), Fail> {
     let mut process = hello(rt.alloc())?;
-    assert_eq!(rt; process.give(Answer::End), Err(ProcessFault::WrongAnswer));
-    assert_eq!(rt; advance(&mut process, 4), [1, 4, 0, 0]);
-    assert_eq!(rt; process.give(Answer::End), Err(ProcessFault::WrongAnswer));
-    assert_eq!(rt; advance(&mut process, 100), [2, 5, 1, 1]);
+    assert!(rt; refuses_an_answer(&mut process));
+    assert!(rt; advance(&mut process, 4) == [1, 4, 0, 0]);
+    assert!(rt; refuses_an_answer(&mut process));
+    assert!(rt; advance(&mut process, 100) == [2, 5, 1, 1]);
+    drop(process);
     Ok(())
+}
+
+/// Whether one line waits, `hi` on stream 1.
+fn owes_hi(process: &Process) -> bool {
+    let waiting = process.waiting();
+    waiting.len() == 1
+        && waiting.iter().all(|line| line.stream() == 1 && line.text() == b"hi".as_slice())
+}
+
+/// Takes all lines that wait.
+fn release(process: &mut Process) {
+    let count = process.waiting().len();
+    process.released(count);
+}
+
+/// Whether it has exited with 7 after eight steps, without an answer.
+fn has_exited(process: &mut Process) -> bool {
+    process.advance(100) == Ok(Stop::Ended(ProcessEnd::Exited(7)))
+        && (process.steps(), process.answers(), process.requests()) == (8, 0, 0)
 }
 
 #[test]
 fn hello_exits(rt: HostRuntime) -> Result<(), Fail> {
     let mut process = hello(rt.alloc())?;
-    assert_eq!(rt; process.advance(100), Ok(Stop::Owes));
-    for line in process.waiting() {
-        assert_eq!(rt; (line.stream(), line.text()), (1, b"hi".as_slice()));
-    }
-    let count = process.waiting().len();
-    process.released(count);
-    assert_eq!(rt;
-        process.advance(100),
-        Ok(Stop::Ended(ProcessEnd::Exited(7)))
-    );
-    let given = (process.answers(), process.requests());
-    assert_eq!(rt; (process.steps(), given), (8, (0, 0)));
+    assert!(rt; process.advance(100) == Ok(Stop::Owes));
+    assert!(rt; owes_hi(&process));
+    release(&mut process);
+    assert!(rt; has_exited(&mut process));
+    drop(process);
     Ok(())
 }

@@ -4,8 +4,8 @@ ghost use Rattle.record_replay.specs.rules.Calls.{Releases, all_taken};
 ghost use Rattle.record_replay.specs.rules.Lists.{HandsOut};
 
 use record_replay::{
-    AnswerList, AnyOutlet, AnySource, LineList, Outlet, OutletFault, RefusingOutlet, Source,
-    SourceFault,
+    AnswerList, AnyOutlet, AnySource, LineList, NumberedLine, Outlet, OutletFault, RefusingOutlet,
+    Source, SourceFault,
 };
 use std::alloc::{AllocError, Global};
 use std::cell::Cell;
@@ -86,84 +86,129 @@ fn is_seven(said: &Result<Option<Answer>, SourceFault>) -> bool {
     }
 }
 
+fn says_seven<S: Source>(source: &mut S, kind: Kind) -> bool {
+    let said = source.answer(kind);
+    is_seven(&said)
+}
+
+fn says_hello<S: Source>(source: &mut S, kind: Kind) -> bool {
+    let said = source.answer(kind);
+    is_hello(&said)
+}
+
+fn says_nothing<S: Source>(source: &mut S) -> bool {
+    matches!(&source.answer(Kind::Request), Ok(None))
+}
+
 #[test]
-fn answers_are_handed_out_in_order(rt: HostRuntime) -> Result<(), Fail> {
+fn answers_are_handed_out_in_order(rt: HostRuntime) -> Result<(), AllocError> {
     let mut source = clock_and_request(rt.alloc())?;
-    let said = source.answer(Kind::Monotonic);
-    assert!(rt; is_seven(&said));
-    let said = source.answer(Kind::Random { length: 3 });
-    assert!(rt; is_hello(&said));
-    for _ in 0..2 {
-        let said = source.answer(Kind::Request)?;
-        assert!(rt; said.is_none());
-    }
+    assert!(rt; says_seven(&mut source, Kind::Monotonic));
+    assert!(rt; says_hello(&mut source, Kind::Random { length: 3 }));
+    assert!(rt; says_nothing(&mut source));
+    assert!(rt; says_nothing(&mut source));
     Ok(())
 }
 
-#[test]
-fn a_box_says_what_is_in_it(rt: HostRuntime) -> Result<(), Fail> {
-    let alloc = rt.alloc();
+fn is_first_in_box(alloc: Global) -> Result<bool, AllocError> {
     let said = ask_first(alloc, clock_and_request(alloc)?, Kind::Realtime)?;
-    assert!(rt; is_seven(&said));
+    Ok(is_seven(&said))
+}
+
+/// Whether a source says `hello` second, and nothing more.
+fn is_second<S: Source>(source: &mut S) -> bool {
+    let said = ask_twice(source);
+    is_hello(&said) && says_nothing(source)
+}
+
+fn is_second_in_box(alloc: Global) -> Result<bool, AllocError> {
     let mut any = AnySource(Box::new(alloc, clock_and_request(alloc)?)?);
-    let said = ask_twice(&mut any);
-    assert!(rt; is_hello(&said));
-    let said = any.answer(Kind::Request)?;
-    assert!(rt; said.is_none());
-    let mut plain = clock_and_request(alloc)?;
-    let said = ask_twice(&mut plain);
-    assert!(rt; is_hello(&said));
-    Ok(())
+    Ok(is_second(&mut any))
 }
 
 #[test]
-fn lines_are_kept_in_order(rt: HostRuntime) -> Result<(), Fail> {
-    let mut outlet = LineList::new(rt.alloc());
+fn a_box_says_what_is_in_it(rt: HostRuntime) -> Result<(), AllocError> {
+    assert!(rt; is_first_in_box(rt.alloc())?);
+    assert!(rt; is_second_in_box(rt.alloc())?);
+    assert!(rt; is_second(&mut clock_and_request(rt.alloc())?));
+    Ok(())
+}
+
+fn is_line(line: &NumberedLine, number: u64, stream: u8, text: &[u8]) -> bool {
+    (line.number, line.stream) == (number, stream) && line.text.as_slice() == text
+}
+
+/// Releases two lines, the second one empty.
+fn release_two(outlet: &mut LineList) -> Result<(), OutletFault> {
     outlet.release(1, 1, b"hello")?;
-    outlet.release(2, 2, b"")?;
-    let kept = outlet.lines();
-    assert_eq!(rt; kept.len(), 2);
-    assert_eq!(rt; (kept[0].number, kept[0].stream), (1, 1));
-    assert_eq!(rt; kept[0].text.as_slice(), b"hello".as_slice());
-    assert_eq!(rt; (kept[1].number, kept[1].stream), (2, 2));
-    assert!(rt; kept[1].text.is_empty());
-    Ok(())
+    outlet.release(2, 2, b"")
+}
+
+fn are_two(lines: &[NumberedLine]) -> bool {
+    lines.len() == 2 && is_line(&lines[0], 1, 1, b"hello") && is_line(&lines[1], 2, 2, b"")
 }
 
 #[test]
-fn lines_are_told_until_a_fault(rt: HostRuntime) -> Result<(), Fail> {
-    let alloc = rt.alloc();
+fn lines_are_kept_in_order(rt: HostRuntime) -> Result<(), OutletFault> {
+    let mut outlet = LineList::new(rt.alloc());
+    release_two(&mut outlet)?;
+    assert!(rt; are_two(outlet.lines()));
+    Ok(())
+}
+
+fn three_texts(alloc: Global) -> Result<Vec<Row<u8>>, AllocError> {
     let mut texts = Vec::new(alloc);
-    for text in [b"a".as_slice(), b"b".as_slice(), b"c".as_slice()] {
+    for text in [b"a", b"b", b"c"] {
         texts.push(Row::from_vec(text.to_vec(alloc)?))?;
     }
-    for (nth, kept) in [(0, 3), (1, 1), (2, 2), (3, 3)] {
-        let mut outlet = RefusingOutlet::new(LineList::new(alloc), nth);
-        let said = tell_all(&mut outlet, texts.as_slice());
-        assert_eq!(rt; said.is_ok(), nth == 0);
-        assert_eq!(rt; outlet.into_inner().lines().len(), kept);
+    Ok(texts)
+}
+
+/// Which release is refused, if any, and how many lines are handed on.
+static REFUSED: [(u64, usize); 4] = [(0, 3), (1, 1), (2, 2), (3, 3)];
+
+/// Whether lines are told to their end where none is refused, and so many are handed on.
+fn are_told_so(alloc: Global, texts: &[Row<u8>], row: &(u64, usize)) -> bool {
+    let mut outlet = RefusingOutlet::new(LineList::new(alloc), row.0);
+    let said = tell_all(&mut outlet, texts);
+    said.is_ok() == (row.0 == 0) && outlet.into_inner().lines().len() == row.1
+}
+
+#[test]
+fn lines_are_told_until_a_fault(rt: HostRuntime) -> Result<(), AllocError> {
+    let texts = three_texts(rt.alloc())?;
+    for row in &REFUSED {
+        assert!(rt; are_told_so(rt.alloc(), texts.as_slice(), row), "{row:?}");
     }
     Ok(())
 }
 
+/// Which release is refused, if any, and which of three are answered well.
+static ANSWERED: [(u64, [bool; 3]); 5] = [
+    (0, [true, true, true]),
+    (1, [false, true, true]),
+    (2, [true, false, true]),
+    (3, [true, true, false]),
+    (4, [true, true, true]),
+];
+
+fn release_three<O: Outlet>(outlet: &mut O) -> [bool; 3] {
+    let first = outlet.release(1, 1, b"line").is_ok();
+    let second = outlet.release(2, 1, b"line").is_ok();
+    [first, second, outlet.release(3, 1, b"line").is_ok()]
+}
+
+/// Whether three releases are answered so, and each of them is handed on.
+fn are_answered_so(alloc: Global, row: &(u64, [bool; 3])) -> bool {
+    let mut outlet = RefusingOutlet::new(LineList::new(alloc), row.0);
+    release_three(&mut outlet) == row.1 && outlet.into_inner().lines().len() == 3
+}
+
 #[test]
-fn one_release_is_answered_by_a_fault(rt: HostRuntime) -> Result<(), Fail> {
-    for (nth, answers) in [
-        (0, [true, true, true]),
-        (1, [false, true, true]),
-        (2, [true, false, true]),
-        (3, [true, true, false]),
-        (4, [true, true, true]),
-    ] {
-        let mut outlet = RefusingOutlet::new(LineList::new(rt.alloc()), nth);
-        for (i, is_ok) in answers.iter().enumerate() {
-            let said = outlet.release(i as u64 + 1, 1, b"line");
-            assert_eq!(rt; said.is_ok(), *is_ok, "release {i} of {nth}");
-        }
-        // Each of them was handed on.
-        assert_eq!(rt; outlet.into_inner().lines().len(), 3);
+fn one_release_is_answered_by_a_fault(rt: HostRuntime) {
+    for row in &ANSWERED {
+        assert!(rt; are_answered_so(rt.alloc(), row), "{row:?}");
     }
-    Ok(())
 }
 
 /// Adds up what is released to it, where its maker sees the sum.
@@ -185,16 +230,23 @@ impl Outlet for Sum {
     }
 }
 
-#[test]
-fn a_box_takes_each_line_once(rt: HostRuntime) -> Result<(), Fail> {
-    let alloc = rt.alloc();
+/// Whether a line is taken once, and one with a great number is refused.
+fn adds_up(any: &mut AnyOutlet, sum: &Cell<u64>) -> bool {
+    any.release(3, 2, b"a") == Ok(())
+        && sum.get() == 32_097
+        && any.release(10, 1, b"") == Err(OutletFault)
+        && sum.get() == 33_097
+}
+
+fn is_taken_once(alloc: Global) -> Result<bool, AllocError> {
     let sum = Rc::new(alloc, Cell::new(0))?;
     let mut any = AnyOutlet(Box::new(alloc, Sum(sum.clone()?))?);
-    any.release(3, 2, b"a")?;
-    assert_eq!(rt; sum.get(), 32_097);
-    assert_eq!(rt; any.release(10, 1, b""), Err(OutletFault));
-    assert_eq!(rt; sum.get(), 33_097);
-    let said = release_first(alloc)?;
-    assert_eq!(rt; said, Err(OutletFault));
+    Ok(adds_up(&mut any, &sum))
+}
+
+#[test]
+fn a_box_takes_each_line_once(rt: HostRuntime) -> Result<(), Fail> {
+    assert!(rt; is_taken_once(rt.alloc())?);
+    assert!(rt; release_first(rt.alloc())? == Err(OutletFault));
     Ok(())
 }

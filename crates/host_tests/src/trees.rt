@@ -4,6 +4,7 @@
 use file_tree::limits::NODES;
 use file_tree::{ByteList, NodeKind, Tree, is_name};
 use std::alloc::{AllocError, Global};
+use std::process::Abort;
 
 fn make_node(
     alloc: Global,
@@ -105,81 +106,155 @@ fn hang_node(
     Ok(())
 }
 
+/// The first file that is made, and the first directory behind it.
+const FILE: u64 = 2;
+
+const DIRECTORY: u64 = 3;
+
+/// Whether a file and then a directory are made with these numbers.
+fn are_made(alloc: Global, tree: &mut Tree) -> Result<bool, AllocError> {
+    let file = make_node(alloc, tree, 1, b"a", NodeKind::File)?;
+    let directory = make_node(alloc, tree, 1, b"d", NodeKind::Directory)?;
+    Ok(file == FILE && directory == DIRECTORY)
+}
+
+/// Whether the file is in the directory, and in the root no more.
+fn is_moved(tree: &Tree) -> bool {
+    tree.child(1, b"a").is_none()
+        && tree.child(DIRECTORY, b"a") == Some(FILE)
+        && tree.parent(FILE) == Some(DIRECTORY)
+        && tree.name(FILE) == b"a".as_slice()
+}
+
+/// Whether the root has the directory alone, which is not empty.
+fn is_listed(tree: &Tree) -> bool {
+    !tree.is_empty(DIRECTORY) && tree.entry(1, 0) == Some(DIRECTORY) && tree.entry(1, 1).is_none()
+}
+
+/// Whether of the letters that are written from its third byte on two are left.
+fn is_written(tree: &mut Tree) -> Result<bool, AllocError> {
+    write_file(tree, FILE)?;
+    let mut bytes = [7; 3];
+    let count = tree.read(FILE, 1, &mut bytes);
+    Ok(tree.used_bytes() == 4 && count == 3 && bytes == [0, b'a', b'b'])
+}
+
+/// Whether the directory is removed once it is empty, and not before.
+fn is_removed(tree: &mut Tree) -> bool {
+    remove_node(tree, DIRECTORY);
+    let is_kept = tree.has_path(DIRECTORY);
+    remove_node(tree, FILE);
+    remove_node(tree, DIRECTORY);
+    is_kept && !tree.has_path(DIRECTORY)
+}
+
+/// Whether a removed file keeps its bytes until it is forgotten.
+fn is_forgotten(tree: &mut Tree) -> bool {
+    let used = tree.used_bytes();
+    forget_node(tree, FILE);
+    used == 4 && tree.used_bytes() == 0
+}
+
+fn change(rt: &impl Abort, alloc: Global, tree: &mut Tree) -> Result<(), AllocError> {
+    assert!(rt; are_made(alloc, tree)?);
+    move_node(alloc, tree, FILE, DIRECTORY)?;
+    assert!(rt; is_moved(tree));
+    assert!(rt; is_listed(tree));
+    assert!(rt; is_written(tree)?);
+    assert!(rt; is_removed(tree));
+    assert!(rt; is_forgotten(tree));
+    assert!(rt; make_node(alloc, tree, 1, b"a", NodeKind::File)? == 4);
+    Ok(())
+}
+
 #[test]
 fn changes_with_memory(rt: HostRuntime) -> Result<(), AllocError> {
     let mut tree = Tree::new(rt.alloc())?;
-    let file = make_node(rt.alloc(), &mut tree, 1, b"a", NodeKind::File)?;
-    let directory = make_node(rt.alloc(), &mut tree, 1, b"d", NodeKind::Directory)?;
-    assert_eq!(rt; file, 2);
-    assert_eq!(rt; directory, 3);
-    move_node(rt.alloc(), &mut tree, file, directory)?;
-    assert_eq!(rt; tree.child(1, b"a"), None);
-    assert_eq!(rt; tree.child(directory, b"a"), Some(file));
-    assert!(rt; !tree.is_empty(directory));
-    assert_eq!(rt; tree.entry(1, 0), Some(directory));
-    assert_eq!(rt; tree.entry(1, 1), None);
-    assert_eq!(rt; tree.name(file), b"a".as_slice());
-    assert_eq!(rt; tree.parent(file), Some(directory));
-    write_file(&mut tree, file)?;
-    assert_eq!(rt; tree.used_bytes(), 4);
-    let mut bytes = [7; 3];
-    assert_eq!(rt; tree.read(file, 1, &mut bytes), 3);
-    assert_eq!(rt; bytes, [0, b'a', b'b']);
-    remove_node(&mut tree, directory);
-    assert!(rt; tree.has_path(directory));
-    remove_node(&mut tree, file);
-    remove_node(&mut tree, directory);
-    assert!(rt; !tree.has_path(directory));
-    assert_eq!(rt; tree.used_bytes(), 4);
-    forget_node(&mut tree, file);
-    assert_eq!(rt; tree.used_bytes(), 0);
-    let again = make_node(rt.alloc(), &mut tree, 1, b"a", NodeKind::File)?;
-    assert_eq!(rt; again, 4);
+    let done = change(&rt, rt.alloc(), &mut tree);
+    drop(tree);
+    done
+}
+
+/// Whether so many bytes are read over six of 7, which are these then.
+fn reads(tree: &Tree, from: u64, count: usize, want: [u8; 6]) -> bool {
+    let mut bytes = [7; 6];
+    tree.read(FILE, from, &mut bytes) == count && bytes == want
+}
+
+/// Makes a file of 5,000 letters, and cuts it to 4,100. Then it is as long as before.
+fn cut_off(alloc: Global, tree: &mut Tree) -> Result<bool, AllocError> {
+    let file = make_node(alloc, tree, 1, b"a", NodeKind::File)?;
+    set_size(tree, FILE, 5_000)?;
+    put_bytes(tree, FILE, 0, &[b'a'; 5_000]);
+    let chunks = tree.chunks();
+    set_size(tree, FILE, 4_100)?;
+    set_size(tree, FILE, 5_000)?;
+    Ok(file == FILE && chunks == 2)
+}
+
+fn cut(rt: &impl Abort, alloc: Global, tree: &mut Tree) -> Result<(), AllocError> {
+    assert!(rt; cut_off(alloc, tree)?);
+    assert!(rt; reads(tree, 4_094, 6, [b'a'; 6]));
+    assert!(rt; reads(tree, 4_098, 6, [b'a', b'a', 0, 0, 0, 0]));
+    assert!(rt; reads(tree, 4_997, 3, [0, 0, 0, 7, 7, 7]));
+    set_size(tree, FILE, 4_096)?;
+    assert!(rt; tree.chunks() == 1);
     Ok(())
 }
 
 #[test]
 fn bytes_that_were_cut_off_are_zeros(rt: HostRuntime) -> Result<(), AllocError> {
     let mut tree = Tree::new(rt.alloc())?;
-    let file = make_node(rt.alloc(), &mut tree, 1, b"a", NodeKind::File)?;
-    set_size(&mut tree, file, 5_000)?;
-    put_bytes(&mut tree, file, 0, &[b'a'; 5_000]);
-    assert_eq!(rt; tree.chunks(), 2);
-    set_size(&mut tree, file, 4_100)?;
-    set_size(&mut tree, file, 5_000)?;
-    let mut bytes = [7; 6];
-    assert_eq!(rt; tree.read(file, 4_094, &mut bytes), 6);
-    assert_eq!(rt; bytes, [b'a'; 6]);
-    assert_eq!(rt; tree.read(file, 4_098, &mut bytes), 6);
-    assert_eq!(rt; bytes, [b'a', b'a', 0, 0, 0, 0]);
-    assert_eq!(rt; tree.read(file, 4_997, &mut bytes), 3);
-    assert_eq!(rt; bytes, [0; 6]);
-    set_size(&mut tree, file, 4_096)?;
-    assert_eq!(rt; tree.chunks(), 1);
+    let done = cut(&rt, rt.alloc(), &mut tree);
+    drop(tree);
+    done
+}
+
+/// Adds the file 3 and the directory 5, which have no path, and sets the next number to 8.
+fn add(alloc: Global, tree: &mut Tree) -> Result<bool, AllocError> {
+    add_node(alloc, tree, 3, NodeKind::File)?;
+    add_node(alloc, tree, 5, NodeKind::Directory)?;
+    if tree.next() <= 8 {
+        tree.raise_next(8);
+    }
+    Ok(tree.next() == 8 && !tree.has_path(3))
+}
+
+/// Hangs the directory into the root, and the file into the directory.
+fn hang(alloc: Global, tree: &mut Tree) -> Result<bool, AllocError> {
+    hang_node(alloc, tree, 5, 1, b"d")?;
+    hang_node(alloc, tree, 3, 5, b"f")?;
+    Ok(tree.child(5, b"f") == Some(3))
+}
+
+fn is_counted(tree: &Tree) -> bool {
+    tree.entry_count(5) == 1
+        && tree.entry_count(3) == 0
+        && tree.number_at(1) == Some(3)
+        && tree.number_at(3).is_none()
+}
+
+/// Whether the file has a whole chunk and two bytes of a second one.
+fn has_chunks(tree: &Tree) -> bool {
+    tree.chunk(3, 0).len() == 4_096
+        && tree.chunk(3, 1) == b"ab".as_slice()
+        && tree.chunk(3, 2).is_empty()
+}
+
+fn build(rt: &impl Abort, alloc: Global, tree: &mut Tree) -> Result<(), AllocError> {
+    assert!(rt; add(alloc, tree)?);
+    assert!(rt; hang(alloc, tree)?);
+    assert!(rt; is_counted(tree));
+    set_size(tree, 3, 4_098)?;
+    put_bytes(tree, 3, 4_096, b"ab");
+    assert!(rt; has_chunks(tree));
     Ok(())
 }
 
 #[test]
 fn a_tree_is_built_anew(rt: HostRuntime) -> Result<(), AllocError> {
     let mut tree = Tree::new(rt.alloc())?;
-    add_node(rt.alloc(), &mut tree, 3, NodeKind::File)?;
-    add_node(rt.alloc(), &mut tree, 5, NodeKind::Directory)?;
-    if tree.next() <= 8 {
-        tree.raise_next(8);
-    }
-    assert_eq!(rt; tree.next(), 8);
-    assert!(rt; !tree.has_path(3));
-    hang_node(rt.alloc(), &mut tree, 5, 1, b"d")?;
-    hang_node(rt.alloc(), &mut tree, 3, 5, b"f")?;
-    assert_eq!(rt; tree.child(5, b"f"), Some(3));
-    assert_eq!(rt; tree.entry_count(5), 1);
-    assert_eq!(rt; tree.entry_count(3), 0);
-    assert_eq!(rt; tree.number_at(1), Some(3));
-    assert_eq!(rt; tree.number_at(3), None);
-    set_size(&mut tree, 3, 4_098)?;
-    put_bytes(&mut tree, 3, 4_096, b"ab");
-    assert_eq!(rt; tree.chunk(3, 0).len(), 4_096);
-    assert_eq!(rt; tree.chunk(3, 1), b"ab".as_slice());
-    assert_eq!(rt; tree.chunk(3, 2).len(), 0);
-    Ok(())
+    let done = build(&rt, rt.alloc(), &mut tree);
+    drop(tree);
+    done
 }

@@ -37,7 +37,9 @@ fn first_table(alloc: Global, valid: &ValidModule) -> Result<BranchTable, Refuse
 
 fn table_of(alloc: Global, bytes: &[u8]) -> Result<BranchTable, Refused> {
     let valid = read(alloc, bytes)?;
-    first_table(alloc, &valid)
+    let table = first_table(alloc, &valid);
+    drop(valid);
+    table
 }
 
 /// A function from nothing to nothing.
@@ -53,20 +55,20 @@ const ONE_TO_ONE: &str = "0061736d01000000 01060160017f017f 03020100";
 /// opcode, and that jump.
 type Row = (&'static str, usize, usize, Option<Jump>);
 
+fn leads_so(alloc: Global, front: &str, row: &Row) -> Result<bool, Refused> {
+    let bytes = with_code(alloc, front, "01", row.0, "")?;
+    let table = table_of(alloc, bytes.as_slice())?;
+    Ok(table.jump(row.1, row.2) == row.3)
+}
+
 fn check(rt: &impl Abort, alloc: Global, front: &str, rows: &[Row]) -> Result<(), Refused> {
-    for (entry, position, number, wanted) in rows {
-        let bytes = with_code(alloc, front, "01", entry, "")?;
-        let table = table_of(alloc, bytes.as_slice())?;
-        assert_eq!(rt;
-            table.jump(*position, *number),
-            *wanted,
-            "{entry} at {position}"
-        );
+    for row in rows {
+        assert!(rt; leads_so(alloc, front, row)?, "{row:?}");
     }
     Ok(())
 }
 
-const BRANCHES: [Row; 8] = [
+static BRANCHES: [Row; 8] = [
     // out of a block, also with its value above another one, and out of a loop within it
     (
         "00 0240 01 0c00 0b 0b",
@@ -159,7 +161,7 @@ fn branches_lead_behind_blocks_and_to_loops(rt: HostRuntime) -> Result<(), Refus
 
 /// Where the condition is zero an `if` goes on behind its `else`, or behind its `end`; an `else`
 /// goes on behind the `end`.
-const CHOICES: [Row; 10] = [
+static CHOICES: [Row; 10] = [
     (
         "00 4100 4100 0440 01 0b 1a 0b",
         2,
@@ -270,7 +272,7 @@ fn choices_lead_behind_the_part_that_is_left_out(rt: HostRuntime) -> Result<(), 
 }
 
 /// A branch to the function's own label returns its result.
-const RESULTS: [Row; 3] = [
+static RESULTS: [Row; 3] = [
     (
         "00 4100 4100 0c00 0b",
         2,
@@ -309,7 +311,7 @@ fn branches_out_of_the_function_keep_its_result(rt: HostRuntime) -> Result<(), R
 }
 
 /// Gives the first local where that isn't zero, and else the second.
-const ROUTINE: [Row; 1] = [(
+static ROUTINE: [Row; 1] = [(
     "01017f 2000 0440 2000 0f 0b 2001 0b",
     1,
     0,
@@ -326,7 +328,7 @@ fn jumps_pass_over_a_return(rt: HostRuntime) -> Result<(), Refused> {
 }
 
 /// An `end` has none, where none is behind it; nor has what follows the last one.
-const NO_JUMP: [Row; 3] = [
+static NO_JUMP: [Row; 3] = [
     (
         "00 0240 0c00 0b 0b",
         1,
@@ -350,16 +352,18 @@ fn an_end_has_no_jump(rt: HostRuntime) -> Result<(), Refused> {
 const LEAVES: &[u8; 29] = b"\0asm\x01\0\0\0\x01\x04\x01\x60\0\0\x03\x02\x01\0\
     \x0a\x09\x01\x07\0\x02\x40\x0c\0\x0b\x0b";
 
+/// Where its branch leads.
+const LEFT: Option<Jump> = Some(Jump {
+    to: 3,
+    keeps: 0,
+    height: 0,
+});
+
 /// `scripts/refused-allocations` refuses each allocation in turn, and then this ends in want of
 /// memory.
 #[test]
 fn a_branch_table_is_made(rt: HostRuntime) -> Result<(), Refused> {
     let table = table_of(rt.alloc(), LEAVES)?;
-    let wanted = Some(Jump {
-        to: 3,
-        keeps: 0,
-        height: 0,
-    });
-    assert_eq!(rt; table.jump(1, 0), wanted);
+    assert!(rt; table.jump(1, 0) == LEFT);
     Ok(())
 }

@@ -10,6 +10,6 @@ fn slots_hold_words_in_one_piece_of_memory(rt: HostRuntime) -> Result<(), AllocE
     assert!(rt; slots.is_empty());
     slots.push_zeros(2);
     slots.push(7);
-    assert_eq!(rt; slots.as_slice(), [0, 0, 7].as_slice());
+    assert!(rt; slots.as_slice() == [0, 0, 7].as_slice());
     Ok(())
 }

@@ -1,13 +1,12 @@
 //! The kind of each fault of linking, two faults at once, what a machine begins with.
 
 use crate::runs::{End, ending, left_at_0, told as told_after};
-use crate::spelled::{Refused, append, spelled, with_code};
+use crate::spelled::{Refused, append, prints, spelled, with_code};
 use guest_memory::Memory;
 use machine::{LinkFault, Machine};
 use machine_loader::{FrontFault, accept};
-use std::alloc::Global;
+use std::alloc::{AllocError, Global};
 use std::process::Abort;
-use std::test::Fail;
 use wasi_abi::Call;
 use wasm_syntax::Trap;
 
@@ -31,6 +30,13 @@ fn told(alloc: Global, bytes: &[u8]) -> Option<FrontFault> {
 /// Text, more text, and the fault of the module that both belong to.
 type Row = (&'static str, &'static str, Option<FrontFault>);
 
+fn is_told_so(alloc: Global, front: &str, middle: &str, row: &Row) -> Result<bool, Refused> {
+    let mut bytes = spelled(alloc, front, row.0)?;
+    append(&mut bytes, middle)?;
+    append(&mut bytes, row.1)?;
+    Ok(told(alloc, bytes.as_slice()) == row.2)
+}
+
 /// What stands before both texts, and what stands between them.
 fn check(
     rt: &impl Abort,
@@ -39,18 +45,15 @@ fn check(
     middle: &str,
     rows: &[Row],
 ) -> Result<(), Refused> {
-    for (first, second, wanted) in rows {
-        let mut bytes = spelled(alloc, front, first)?;
-        append(&mut bytes, middle)?;
-        append(&mut bytes, second)?;
-        assert_eq!(rt; told(alloc, bytes.as_slice()), *wanted, "{first} {second}");
+    for row in rows {
+        assert!(rt; is_told_so(alloc, front, middle, row)?, "{row:?}");
     }
     Ok(())
 }
 
 const HEADER: &str = "0061736d01000000";
 
-const EXPORTS: [Row; 7] = [
+static EXPORTS: [Row; 7] = [
     ("", "", NO_START),
     (
         "0105 01 60017f00 0302 01 00 070a 01 06'_start'0000 0a04 01 02000b",
@@ -104,7 +107,7 @@ const FROM_1_PAST_END: &str =
     "0302 01 00 0503 01 0001 0713 02 06'_start'0001 06'memory'0200 0a04 01 02000b \
     0b09 01 00 418080040b 01'a'";
 
-const IMPORTS: [Row; 9] = [
+static IMPORTS: [Row; 9] = [
     (
         "0223 01 16'wasi_snapshot_preview1'08'fd_write'0001",
         FROM_1,
@@ -161,7 +164,7 @@ const FUNCTION: &str = "0061736d01000000 0104 01 600000 0302 01 00";
 
 const EXPORTED: &str = "0713 02 06'_start'0000 06'memory'0200";
 
-const SEGMENTS: [Row; 9] = [
+static SEGMENTS: [Row; 9] = [
     (
         "0503 01 0001",
         "0a04 01 02000b 0b08 01 00 418080040b 00",
@@ -214,7 +217,7 @@ fn segments_end_where_their_table_or_memory_does(rt: HostRuntime) -> Result<(), 
     check(&rt, rt.alloc(), FUNCTION, EXPORTED, &SEGMENTS)
 }
 
-const PAGES: [Row; 3] = [
+static PAGES: [Row; 3] = [
     ("0503 01 0002", "0a04 01 02000b", None),
     ("0503 01 0003", "0a04 01 02000b", TOO_MANY_PAGES),
     (
@@ -246,16 +249,23 @@ fn is_begun(memory: &Memory) -> bool {
 
 /// How many exports the machine's module has.
 fn exports_of(machine: Machine) -> usize {
-    machine.unlink().module().exports.len()
+    let valid = machine.unlink();
+    let count = valid.module().exports.len();
+    drop(valid);
+    count
+}
+
+fn is_linked(alloc: Global) -> Result<bool, FrontFault> {
+    let machine = accept(alloc, WHOLE, 2)?;
+    let is_begun = is_begun(machine.memory());
+    Ok(exports_of(machine) == 2 && is_begun)
 }
 
 /// `scripts/refused-allocations` refuses each allocation in turn, and then this ends in want of
 /// memory.
 #[test]
 fn a_machine_is_linked(rt: HostRuntime) -> Result<(), Refused> {
-    let machine = accept(rt.alloc(), WHOLE, 2)?;
-    assert!(rt; is_begun(machine.memory()));
-    assert_eq!(rt; exports_of(machine), 2);
+    assert!(rt; is_linked(rt.alloc())?);
     Ok(())
 }
 
@@ -270,7 +280,7 @@ const LINKED: &str = "0061736d01000000 0110 03 600000 60047f7f7f7f017f 60017f00 
 const FILLED: &str = "0b11 02 00 41010b 04'abcd' 00 23010b 02'yz'";
 
 /// A body, and the number that it leaves at address 0.
-const BEGINNINGS: [(&str, u64); 3] = [
+static BEGINNINGS: [(&str, u64); 3] = [
     // both globals
     ("00 4100 2300 360000 4104 2301 360000 0b", 0x3_0000_0007),
     // the second entry of the table is the function itself, which tells by the byte at 0 that it is
@@ -283,18 +293,26 @@ const BEGINNINGS: [(&str, u64); 3] = [
     ("00 0b", 0x7a_7962_6100),
 ];
 
+/// The module with this body.
+fn with_body(alloc: Global, body: &str) -> Result<Vec<u8>, Refused> {
+    with_code(alloc, LINKED, "01", body, FILLED)
+}
+
+fn is_begun_so(alloc: Global, row: &(&str, u64)) -> Result<bool, Refused> {
+    let bytes = with_body(alloc, row.0)?;
+    Ok(left_at_0(alloc, bytes.as_slice())? == Some(row.1))
+}
+
 #[test]
 fn globals_table_and_memory_are_filled(rt: HostRuntime) -> Result<(), Refused> {
-    for (body, wanted) in BEGINNINGS {
-        let bytes = with_code(rt.alloc(), LINKED, "01", body, FILLED)?;
-        let number = left_at_0(rt.alloc(), bytes.as_slice())?;
-        assert_eq!(rt; number, Some(wanted), "{body}");
+    for row in &BEGINNINGS {
+        assert!(rt; is_begun_so(rt.alloc(), row)?, "{row:?}");
     }
     Ok(())
 }
 
 /// A body, and how its run ends.
-const ENDS: [(&str, End); 5] = [
+static ENDS: [(&str, End); 5] = [
     // other entries of the table
     (
         "00 4100 110000 0b",
@@ -313,17 +331,21 @@ const ENDS: [(&str, End); 5] = [
     ),
 ];
 
+fn is_ended_so(alloc: Global, row: &(&str, End)) -> Result<bool, Refused> {
+    let bytes = with_body(alloc, row.0)?;
+    Ok(ending(alloc, bytes.as_slice())? == row.1)
+}
+
 #[test]
 fn entries_and_calls_are_those_of_the_module(rt: HostRuntime) -> Result<(), Refused> {
-    for (body, wanted) in ENDS {
-        let bytes = with_code(rt.alloc(), LINKED, "01", body, FILLED)?;
-        assert_eq!(rt; ending(rt.alloc(), bytes.as_slice())?, wanted, "{body}");
+    for row in &ENDS {
+        assert!(rt; is_ended_so(rt.alloc(), row)?, "{row:?}");
     }
     Ok(())
 }
 
 /// A body, and what is told once it has run: the end, a call that waits, or neither.
-const TOLD: [(&str, Option<End>); 4] = [
+static TOLD: [(&str, Option<End>); 4] = [
     ("00 0b", Some(End::Returned)),
     ("00 4105 1000 0b", Some(End::Asks(Call::ProcExit, 5))),
     (
@@ -333,16 +355,20 @@ const TOLD: [(&str, Option<End>); 4] = [
     ("00 0340 0c00 0b 0b", None),
 ];
 
+fn is_told_after(alloc: Global, row: &(&str, Option<End>)) -> Result<bool, Refused> {
+    let bytes = with_body(alloc, row.0)?;
+    Ok(told_after(alloc, bytes.as_slice())? == row.1)
+}
+
 #[test]
 fn ends_and_calls_are_told(rt: HostRuntime) -> Result<(), Refused> {
-    for (body, wanted) in TOLD {
-        let bytes = with_code(rt.alloc(), LINKED, "01", body, FILLED)?;
-        assert_eq!(rt; told_after(rt.alloc(), bytes.as_slice())?, wanted, "{body}");
+    for row in &TOLD {
+        assert!(rt; is_told_after(rt.alloc(), row)?, "{row:?}");
     }
     Ok(())
 }
 
-const FAULTS: [(LinkFault, &str); 7] = [
+static FAULTS: [(LinkFault, &str); 7] = [
     (LinkFault::NoStart, "L1 NoStart"),
     (LinkFault::NoMemory, "L2 NoMemory"),
     (LinkFault::UnknownImport, "L3 UnknownImport"),
@@ -353,10 +379,9 @@ const FAULTS: [(LinkFault, &str); 7] = [
 ];
 
 #[test]
-fn faults_are_printed_by_their_names(rt: HostRuntime) -> Result<(), Fail> {
-    for (fault, wanted) in FAULTS {
-        let text = format!(in rt.alloc(); "{fault}")?;
-        assert_eq!(rt; text.as_str(), wanted);
+fn faults_are_printed_by_their_names(rt: HostRuntime) -> Result<(), AllocError> {
+    for (fault, text) in &FAULTS {
+        assert!(rt; prints(rt.alloc(), fault, text)?, "{text}");
     }
     Ok(())
 }

@@ -140,7 +140,9 @@ fn with_opcode(alloc: Global, shape: Shape, opcode: u8) -> Result<Vec<u8>, Refus
 }
 
 /// Name, shape, opcode, and the number.
-const OPERATIONS: [(&str, Shape, u8, u64); 80] = [
+type Operation = (&'static str, Shape, u8, u64);
+
+static OPERATIONS: [Operation; 80] = [
     ("i32.load", Shape::Loaded32, 0x28, 0x8483_8281),
     ("i64.load", Shape::Loaded64, 0x29, 0x8887_8685_8483_8281),
     ("i32.load8_s", Shape::Loaded32, 0x2c, 0xffff_ff81),
@@ -228,12 +230,15 @@ const OPERATIONS: [(&str, Shape, u8, u64); 80] = [
     ("i64.extend_i32_u", Shape::Widened, 0xad, 0x8000_0001),
 ];
 
+fn is_given(alloc: Global, row: &Operation) -> Result<bool, Refused> {
+    let bytes = with_opcode(alloc, row.1, row.2)?;
+    Ok(left_at_0(alloc, bytes.as_slice())? == Some(row.3))
+}
+
 #[test]
 fn operations_give_what_the_standard_says(rt: HostRuntime) -> Result<(), Refused> {
-    for (name, shape, opcode, wanted) in OPERATIONS {
-        let bytes = with_opcode(rt.alloc(), shape, opcode)?;
-        let number = left_at_0(rt.alloc(), bytes.as_slice())?;
-        assert_eq!(rt; number, Some(wanted), "{name}");
+    for row in &OPERATIONS {
+        assert!(rt; is_given(rt.alloc(), row)?, "{row:?}");
     }
     Ok(())
 }
@@ -249,7 +254,7 @@ const FRONT: &str = "0061736d01000000 010a 02 600000 60027f7f017f 0305 04 01 01 
 const OTHERS: &str = "04 0700200020016b0b 0700200120006b0b 02000b";
 
 /// Name, locals and body of `_start`, and the number that it leaves at address 0.
-const INSTRUCTIONS: [(&str, &str, u64); 26] = [
+static INSTRUCTIONS: [(&str, &str, u64); 26] = [
     ("nop", "00 01 4100 4101 360000 01 0b", 1),
     ("block", "00 4100 027f 4107 0c00 0b 360000 0b", 7),
     (
@@ -351,18 +356,21 @@ const INSTRUCTIONS: [(&str, &str, u64); 26] = [
     ),
 ];
 
+fn does_so(alloc: Global, row: &(&str, &str, u64)) -> Result<bool, Refused> {
+    let bytes = with_code(alloc, FRONT, OTHERS, row.1, "")?;
+    Ok(left_at_0(alloc, bytes.as_slice())? == Some(row.2))
+}
+
 #[test]
 fn instructions_do_what_the_standard_says(rt: HostRuntime) -> Result<(), Refused> {
-    for (name, body, wanted) in INSTRUCTIONS {
-        let bytes = with_code(rt.alloc(), FRONT, OTHERS, body, "")?;
-        let number = left_at_0(rt.alloc(), bytes.as_slice())?;
-        assert_eq!(rt; number, Some(wanted), "{name}: {body}");
+    for row in &INSTRUCTIONS {
+        assert!(rt; does_so(rt.alloc(), row)?, "{row:?}");
     }
     Ok(())
 }
 
 /// Name, locals and body of `_start`, and how its run ends.
-const ENDS: [(&str, &str, End); 15] = [
+static ENDS: [(&str, &str, End); 15] = [
     ("unreachable", "00 00 0b", End::Trapped(Trap::Unreachable)),
     (
         "i32.div_u",
@@ -420,15 +428,15 @@ const ENDS: [(&str, &str, End); 15] = [
     ("block", "00 0240 0c00 0b 0b", End::Returned),
 ];
 
+fn ends_so(alloc: Global, row: &(&str, &str, End)) -> Result<bool, Refused> {
+    let bytes = with_code(alloc, FRONT, OTHERS, row.1, "")?;
+    Ok(ending(alloc, bytes.as_slice())? == row.2)
+}
+
 #[test]
 fn instructions_trap_where_the_standard_says(rt: HostRuntime) -> Result<(), Refused> {
-    for (name, body, wanted) in ENDS {
-        let bytes = with_code(rt.alloc(), FRONT, OTHERS, body, "")?;
-        assert_eq!(rt;
-            ending(rt.alloc(), bytes.as_slice())?,
-            wanted,
-            "{name}: {body}"
-        );
+    for row in &ENDS {
+        assert!(rt; ends_so(rt.alloc(), row)?, "{row:?}");
     }
     Ok(())
 }
@@ -444,18 +452,21 @@ const CHOICE: &str = "0061736d01000000 0109 02 600000 60017f017f 0303 02 01 00 0
 
 /// A body of `_start`, and the number that it leaves: a call takes one operand and gives one, and
 /// declared locals begin as zero.
-const CALLS: [(&str, u64); 3] = [
+static CALLS: [(&str, u64); 3] = [
     ("00 4100 4109 4105 1000 6a 360000 0b", 14),
     ("00 4100 4109 4100 1000 6a 360000 0b", 9),
     ("00 4163 4163 1a 1a 4100 4100 1000 360000 0b", 0),
 ];
 
+fn calls_so(alloc: Global, row: &(&str, u64)) -> Result<bool, Refused> {
+    let bytes = with_code(alloc, CHOICE, CHOOSING, row.0, "")?;
+    Ok(left_at_0(alloc, bytes.as_slice())? == Some(row.1))
+}
+
 #[test]
 fn calls_take_parameters_and_give_results(rt: HostRuntime) -> Result<(), Refused> {
-    for (body, wanted) in CALLS {
-        let bytes = with_code(rt.alloc(), CHOICE, CHOOSING, body, "")?;
-        let number = left_at_0(rt.alloc(), bytes.as_slice())?;
-        assert_eq!(rt; number, Some(wanted), "{body}");
+    for row in &CALLS {
+        assert!(rt; calls_so(rt.alloc(), row)?, "{row:?}");
     }
     Ok(())
 }

@@ -30,7 +30,9 @@ fn digits(arguments: &Arguments) -> u64 {
 /// How `_start` ends.
 pub fn ending(alloc: Global, bytes: &[u8]) -> Result<End, FrontFault> {
     let mut machine = accept(alloc, bytes, 2)?;
-    Ok(match machine.run(FUEL).why {
+    let ended = machine.run(FUEL).why;
+    drop(machine);
+    Ok(match ended {
         Pause::Spent => End::Spent,
         Pause::Returned => End::Returned,
         Pause::Trapped(trap) => End::Trapped(trap),
@@ -42,20 +44,26 @@ pub fn ending(alloc: Global, bytes: &[u8]) -> Result<End, FrontFault> {
 pub fn told(alloc: Global, bytes: &[u8]) -> Result<Option<End>, FrontFault> {
     let mut machine = accept(alloc, bytes, 2)?;
     let _ = machine.run(FUEL);
-    if machine.has_ended() {
-        return Ok(Some(End::Returned));
-    }
-    match machine.waits() {
-        Some(asked) => Ok(Some(End::Asks(asked.call, digits(&asked.arguments)))),
-        None => Ok(None),
-    }
+    let told = if machine.has_ended() {
+        Some(End::Returned)
+    } else {
+        match machine.waits() {
+            Some(asked) => Some(End::Asks(asked.call, digits(&asked.arguments))),
+            None => None,
+        }
+    };
+    drop(machine);
+    Ok(told)
 }
 
 /// The number that `_start` leaves at address 0, where it returns.
 pub fn left_at_0(alloc: Global, bytes: &[u8]) -> Result<Option<u64>, FrontFault> {
     let mut machine = accept(alloc, bytes, 2)?;
-    match machine.run(FUEL).why {
-        Pause::Returned => Ok(machine.memory().load_u64(0, 0)),
-        _ => Ok(None),
-    }
+    let ended = machine.run(FUEL).why;
+    let number = machine.memory().load_u64(0, 0);
+    drop(machine);
+    Ok(match ended {
+        Pause::Returned => number,
+        _ => None,
+    })
 }

@@ -2,6 +2,7 @@
 
 use machine_loader::FrontFault;
 use std::alloc::{AllocError, AllocFailed, Global};
+use std::fmt::Display;
 use wasm_decode::DecodeFault;
 use wasm_validate::ValidFault;
 
@@ -122,4 +123,8 @@ pub fn with_code(
     append_code(&mut bytes, others.as_slice(), last.as_slice())?;
     append(&mut bytes, rest)?;
     Ok(bytes)
+}
+
+pub fn prints<T: Display>(alloc: Global, value: &T, text: &str) -> Result<bool, AllocError> {
+    Ok(format!(in alloc; "{value}")?.as_str() == text)
 }

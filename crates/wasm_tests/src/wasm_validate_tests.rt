@@ -1,10 +1,9 @@
 //! The kind of a module's first fault, part by part and in the bodies of its functions.
 
-use crate::spelled::{Refused, spelled, with_code};
+use crate::spelled::{Refused, prints, spelled, with_code};
 use machine_loader::{FrontFault, read};
-use std::alloc::Global;
+use std::alloc::{AllocError, Global};
 use std::process::Abort;
-use std::test::Fail;
 use wasm_decode::decode;
 use wasm_syntax::{Code, Function, Instruction, Limits, Module, Row as Items, TableType, Value};
 use wasm_validate::{ValidFault, validate};
@@ -24,18 +23,22 @@ fn told(alloc: Global, bytes: &[u8]) -> Option<FrontFault> {
     read(alloc, bytes).err()
 }
 
+fn is_told_so(alloc: Global, front: &str, row: &Row) -> Result<bool, Refused> {
+    let bytes = spelled(alloc, front, row.0)?;
+    Ok(told(alloc, bytes.as_slice()) == row.1)
+}
+
 /// Each row has what stands behind the first sections.
 fn check(rt: &impl Abort, alloc: Global, front: &str, rows: &[Row]) -> Result<(), Refused> {
-    for (rest, wanted) in rows {
-        let bytes = spelled(alloc, front, rest)?;
-        assert_eq!(rt; told(alloc, bytes.as_slice()), *wanted, "{rest}");
+    for row in rows {
+        assert!(rt; is_told_so(alloc, front, row)?, "{row:?}");
     }
     Ok(())
 }
 
 const HEADER: &str = "0061736d01000000";
 
-const TYPES: [Row; 4] = [
+static TYPES: [Row; 4] = [
     ("", None),
     ("010d 02 60037f7f7f017f 6000027f7f", LIMITS),
     ("0302 01 00 0a04 01 02000b", INDEX),
@@ -48,7 +51,7 @@ fn types_give_one_result_and_exist(rt: HostRuntime) -> Result<(), Refused> {
 }
 
 /// Parts are told in the order of their sections, but for data segments, which come before bodies.
-const ORDER: [Row; 17] = [
+static ORDER: [Row; 17] = [
     // types, imports, functions
     (
         "0106 01 6000027f7f 0205 01 00000009 0302 01 09 0a04 01 02000b",
@@ -94,7 +97,7 @@ fn the_first_part_at_fault_is_told(rt: HostRuntime) -> Result<(), Refused> {
     check(&rt, rt.alloc(), HEADER, &ORDER)
 }
 
-const TABLES: [Row; 5] = [
+static TABLES: [Row; 5] = [
     ("0207 01 000001700001", None),
     ("0207 01 000001700001 0404 01 700001", LIMITS),
     ("0407 02 700001 700001", LIMITS),
@@ -107,7 +110,7 @@ fn there_is_one_table_of_limits_in_order(rt: HostRuntime) -> Result<(), Refused>
     check(&rt, rt.alloc(), HEADER, &TABLES)
 }
 
-const MEMORIES: [Row; 5] = [
+static MEMORIES: [Row; 5] = [
     ("0206 01 0000020001 0503 01 0001", LIMITS),
     ("0208 01 00000200818004", LIMITS),
     ("0508 01 01808004808004", None),
@@ -123,7 +126,7 @@ fn there_is_one_memory_of_limits_in_range(rt: HostRuntime) -> Result<(), Refused
 /// The header, and imports of two globals: a constant one, and one that varies.
 const TWO_GLOBALS: &str = "0061736d01000000 020b 02 0000037f00 0000037f01";
 
-const GLOBALS: [Row; 8] = [
+static GLOBALS: [Row; 8] = [
     ("0606 01 7f01 23000b", None),
     ("0606 01 7f01 23010b", TYPING),
     ("060b 02 7f01 41000b 7f01 23020b", INDEX),
@@ -143,7 +146,7 @@ fn globals_begin_with_constants(rt: HostRuntime) -> Result<(), Refused> {
 const FURNISHED: &str = "0061736d01000000 0109 02 600000 60017f017f 0303 02 00 01 \
     0404 01 700001 0503 01 0001";
 
-const EXPORTS: [Row; 6] = [
+static EXPORTS: [Row; 6] = [
     (
         "0709 02 01'a'0001 01'b'0100 0a09 02 02000b 040020000b",
         None,
@@ -166,7 +169,7 @@ fn exports_exist_and_have_names_of_their_own(rt: HostRuntime) -> Result<(), Refu
     check(&rt, rt.alloc(), FURNISHED, &EXPORTS)
 }
 
-const START: [Row; 3] = [
+static START: [Row; 3] = [
     ("0801 00 0a09 02 02000b 040020000b", None),
     ("0801 01 0a09 02 02000b 040020000b", TYPING),
     ("0801 02 0a09 02 02000b 040020000b", INDEX),
@@ -177,7 +180,7 @@ fn start_functions_take_and_give_nothing(rt: HostRuntime) -> Result<(), Refused>
     check(&rt, rt.alloc(), FURNISHED, &START)
 }
 
-const SEGMENTS: [Row; 7] = [
+static SEGMENTS: [Row; 7] = [
     (
         "0907 01 00 41000b 0101 0a09 02 02000b 040020000b 0b08 01 00 41000b 0207ff",
         None,
@@ -199,7 +202,7 @@ fn segments_have_a_place_and_an_offset(rt: HostRuntime) -> Result<(), Refused> {
 }
 
 /// Of a module with all that these rows name.
-const LATER: [Row; 14] = [
+static LATER: [Row; 14] = [
     // exports before the start function
     (
         "0709 02 01'a'0000 01'a'0000 0801 01 0a09 02 02000b 040020000b",
@@ -265,6 +268,11 @@ const WITH_BOTH: &str = "0061736d01000000 010a 02 600000 60027f7e017f 0303 02 01
 /// The first entry of two.
 const FIRST: &str = "02 0400 2000 0b";
 
+fn is_body_told_so(alloc: Global, front: &str, rest: &str, row: &Row) -> Result<bool, Refused> {
+    let bytes = with_code(alloc, front, FIRST, row.0, rest)?;
+    Ok(told(alloc, bytes.as_slice()) == row.1)
+}
+
 /// Each row has the second entry, the body of a function from nothing to nothing behind the `00`
 /// that declares no locals.
 fn check_bodies(
@@ -274,14 +282,13 @@ fn check_bodies(
     rest: &str,
     rows: &[Row],
 ) -> Result<(), Refused> {
-    for (body, wanted) in rows {
-        let bytes = with_code(alloc, front, FIRST, body, rest)?;
-        assert_eq!(rt; told(alloc, bytes.as_slice()), *wanted, "{body}");
+    for row in rows {
+        assert!(rt; is_body_told_so(alloc, front, rest, row)?, "{row:?}");
     }
     Ok(())
 }
 
-const OPERANDS: [Row; 17] = [
+static OPERANDS: [Row; 17] = [
     // an operand of another type, none, and one left over
     ("00 4100 4200 6a 1a 0b", TYPING),
     ("00 4100 6a 1a 0b", TYPING),
@@ -310,7 +317,7 @@ fn operands_have_the_types_that_are_taken(rt: HostRuntime) -> Result<(), Refused
     check_bodies(&rt, rt.alloc(), WITH_BOTH, "", &OPERANDS)
 }
 
-const BLOCKS: [Row; 10] = [
+static BLOCKS: [Row; 10] = [
     ("00 0b", None),
     ("00 027f 4100 0c00 0b 1a 0b", None),
     ("00 0240 0340 4100 0d00 0c01 0b 0b 0b", None),
@@ -329,7 +336,7 @@ fn blocks_leave_what_their_labels_take(rt: HostRuntime) -> Result<(), Refused> {
     check_bodies(&rt, rt.alloc(), WITH_BOTH, "", &BLOCKS)
 }
 
-const INDICES: [Row; 8] = [
+static INDICES: [Row; 8] = [
     ("00 0c01 0b", INDEX),
     ("00 0240 4100 0d02 0b 0b", INDEX),
     ("00 0240 4100 0e010002 0b 0b", INDEX),
@@ -345,7 +352,7 @@ fn indices_in_bodies_name_something(rt: HostRuntime) -> Result<(), Refused> {
     check_bodies(&rt, rt.alloc(), WITH_BOTH, "", &INDICES)
 }
 
-const WITH_MEMORY_AND_TABLE: [Row; 4] = [
+static WITH_MEMORY_AND_TABLE: [Row; 4] = [
     ("00 4100 280200 1a 0b", None),
     ("00 4100 280300 1a 0b", LIMITS),
     ("00 3f00 1a 0b", None),
@@ -353,7 +360,7 @@ const WITH_MEMORY_AND_TABLE: [Row; 4] = [
 ];
 
 /// Where there is no memory, that is told before an alignment that is too large.
-const WITHOUT_MEMORY_AND_TABLE: [Row; 4] = [
+static WITHOUT_MEMORY_AND_TABLE: [Row; 4] = [
     ("00 4100 280200 1a 0b", INDEX),
     ("00 4100 280300 1a 0b", INDEX),
     ("00 3f00 1a 0b", INDEX),
@@ -366,10 +373,10 @@ fn memory_and_table_are_there_where_they_are_used(rt: HostRuntime) -> Result<(),
     check_bodies(&rt, rt.alloc(), BARE, "", &WITHOUT_MEMORY_AND_TABLE)
 }
 
-const BEFORE_SEGMENTS: [Row; 2] = [("00 4100 0b", TYPING), ("00 0b", None)];
+static BEFORE_SEGMENTS: [Row; 2] = [("00 4100 0b", TYPING), ("00 0b", None)];
 
 /// A data segment without a memory is told before the first body.
-const BEHIND_SEGMENTS: [Row; 2] = [("00 4100 0b", INDEX), ("00 0b", INDEX)];
+static BEHIND_SEGMENTS: [Row; 2] = [("00 4100 0b", INDEX), ("00 0b", INDEX)];
 
 #[test]
 fn bodies_come_last(rt: HostRuntime) -> Result<(), Refused> {
@@ -425,7 +432,7 @@ fn told_of_function(alloc: Global, own: Function) -> Result<Option<ValidFault>, 
     Ok(told_of_module(alloc, made))
 }
 
-const ILL_FORMED: [&[u8]; 6] = [
+static ILL_FORMED: [&[u8]; 6] = [
     // an `else` without an `if`, and a second one
     &[0x05, 0x0b],
     &[0x02, 0x05, 0x0b, 0x0b],
@@ -436,12 +443,15 @@ const ILL_FORMED: [&[u8]; 6] = [
     &[0x02, 0x0b],
 ];
 
+fn is_not_typed(alloc: Global, opcodes: &[u8]) -> Result<bool, Refused> {
+    let body = instructions(alloc, opcodes)?;
+    Ok(told_of_function(alloc, function(alloc, body))? == Some(ValidFault::Typing))
+}
+
 #[test]
 fn ill_formed_bodies_are_not_typed(rt: HostRuntime) -> Result<(), Refused> {
-    for opcodes in ILL_FORMED {
-        let body = instructions(rt.alloc(), opcodes)?;
-        let fault = told_of_function(rt.alloc(), function(rt.alloc(), body))?;
-        assert_eq!(rt; fault, Some(ValidFault::Typing), "{opcodes:?}");
+    for opcodes in &ILL_FORMED {
+        assert!(rt; is_not_typed(rt.alloc(), opcodes)?, "{opcodes:?}");
     }
     Ok(())
 }
@@ -454,23 +464,29 @@ fn told_of_table(alloc: Global, limits: Limits) -> Result<Option<ValidFault>, Re
 }
 
 /// The least and the greatest size of a table, beyond what the decoder lets through, and the fault.
-const LARGE_TABLES: [(u32, u32, Option<ValidFault>); 2] = [
+static LARGE_TABLES: [(u32, u32, Option<ValidFault>); 2] = [
     (0xffff_ffff, 0xffff_ffff, None),
     (0xffff_ffff, 0xffff_fffe, Some(ValidFault::Limits)),
 ];
 
+fn is_table_told_so(alloc: Global, row: &(u32, u32, Option<ValidFault>)) -> Result<bool, Refused> {
+    let limits = Limits {
+        minimum: row.0,
+        maximum: Some(row.1),
+    };
+    Ok(told_of_table(alloc, limits)? == row.2)
+}
+
 #[test]
 fn tables_have_up_to_2_to_the_32_entries(rt: HostRuntime) -> Result<(), Refused> {
-    for (minimum, greatest, wanted) in LARGE_TABLES {
-        let maximum = Some(greatest);
-        let fault = told_of_table(rt.alloc(), Limits { minimum, maximum })?;
-        assert_eq!(rt; fault, wanted, "{minimum} {greatest}");
+    for row in &LARGE_TABLES {
+        assert!(rt; is_table_told_so(rt.alloc(), row)?, "{row:?}");
     }
     Ok(())
 }
 
 /// A module with everything that the others have.
-const WHOLE: [u8; 65] = [
+static WHOLE: [u8; 65] = [
     0x00, 0x61, 0x73, 0x6d, 0x01, 0x00, 0x00, 0x00, 0x01, 0x0a, 0x02, 0x60, 0x00, 0x00, 0x60, 0x02,
     0x7f, 0x7e, 0x01, 0x7f, 0x03, 0x03, 0x02, 0x01, 0x00, 0x04, 0x04, 0x01, 0x70, 0x00, 0x01, 0x05,
     0x03, 0x01, 0x00, 0x01, 0x06, 0x06, 0x01, 0x7f, 0x00, 0x41, 0x00, 0x0b, 0x0a, 0x13, 0x02, 0x04,
@@ -478,16 +494,22 @@ const WHOLE: [u8; 65] = [
     0x0b,
 ];
 
+fn functions_read(alloc: Global, bytes: &[u8]) -> Result<usize, FrontFault> {
+    let valid = read(alloc, bytes)?;
+    let count = valid.module().functions.len();
+    drop(valid);
+    Ok(count)
+}
+
 /// `scripts/refused-allocations` refuses each allocation in turn, and then this ends in want of
 /// memory.
 #[test]
 fn a_whole_module_is_valid(rt: HostRuntime) -> Result<(), Refused> {
-    let valid = read(rt.alloc(), &WHOLE)?;
-    assert_eq!(rt; valid.module().functions.len(), 2);
+    assert!(rt; functions_read(rt.alloc(), &WHOLE)? == 2);
     Ok(())
 }
 
-const FAULTS: [(ValidFault, &str); 5] = [
+static FAULTS: [(ValidFault, &str); 5] = [
     (ValidFault::Typing, "V1 Typing"),
     (ValidFault::Index, "V2 Index"),
     (ValidFault::Limits, "V3 Limits"),
@@ -496,10 +518,9 @@ const FAULTS: [(ValidFault, &str); 5] = [
 ];
 
 #[test]
-fn faults_are_printed_by_their_names(rt: HostRuntime) -> Result<(), Fail> {
-    for (fault, wanted) in FAULTS {
-        let text = format!(in rt.alloc(); "{fault}")?;
-        assert_eq!(rt; text.as_str(), wanted);
+fn faults_are_printed_by_their_names(rt: HostRuntime) -> Result<(), AllocError> {
+    for (fault, text) in &FAULTS {
+        assert!(rt; prints(rt.alloc(), fault, text)?, "{text}");
     }
     Ok(())
 }
