@@ -1,6 +1,6 @@
 //! What tests alone can show of the host's side: numbers, layouts and configurations of WASI, calls
 //! on memory and streams, answers from outside, the tree of files, sources and outlets, processes
-//! step after step, and an image.
+//! step after step, and images: written, changed, and made processes again.
 //!
 //! Each test is a table of rows whose expected values come from outside. Those that take memory
 //! return their error, so that `scripts/refused-allocations` can refuse each allocation in turn.
@@ -16,6 +16,8 @@ mod calls;
 mod images;
 #[cfg(test)]
 mod processes;
+#[cfg(test)]
+mod restored;
 #[cfg(test)]
 mod sources;
 #[cfg(test)]

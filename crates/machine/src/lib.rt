@@ -27,7 +27,9 @@
 //!   configuration (`shows`). `Unfit` comes only where they show none (`refused`). Types, heights
 //!   and calls that wait are those of typing at each frame's position.
 //! - `memory` is the guest's memory. `memory_mut` lends it, and nothing else changes
-//!   (`writes_back`). `unlink` gives the module back.
+//!   (`writes_back`). `module` lends the module, and `unlink` gives it back.
+//! - `entry_of`: the function without parameters and results that a valid module exports as
+//!   `_start` (`found`), or none where there is no such function (`none`).
 //! - `laws`: a machine shows one configuration at most (`shows_one`). Two machines that show one
 //!   configuration have one value, and run to one value again (`run_alike`). While a call waits
 //!   memory may be written (`memory_may_be_written`). No call of the host is an entry
@@ -63,7 +65,7 @@ mod routines;
 mod running;
 mod turns;
 
-pub use instance::LinkFault;
+pub use instance::{LinkFault, entry_of};
 pub use linking::link;
 pub use loading::{LoadFault, Loading};
 pub use places::FramePlace;

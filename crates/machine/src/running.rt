@@ -118,6 +118,13 @@ impl Machine {
         &mut state.memory
     }
 
+    /// The module that it runs.
+    pub fn module(&self) -> &ValidModule
+        ensures { result.now ≡ self.now.guest }
+    {
+        &self.code.module
+    }
+
     /// Gives the module back. No memory is taken.
     pub fn unlink(self) -> ValidModule
         ensures { result ≡ self.guest }

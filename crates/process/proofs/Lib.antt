@@ -10,3 +10,4 @@ pub mod Looping
 pub mod Starting
 pub mod Waiting
 pub mod Giving
+pub mod PartsTested

@@ -1,5 +1,6 @@
 pub mod Parts
 pub mod Callings
 pub mod Stretches
+pub mod TestedParts
 pub mod laws
 pub mod rules

@@ -1,2 +1,3 @@
+pub mod Restored
 pub mod Stops
 pub mod Values

@@ -36,7 +36,7 @@ pub enum Called {
 }
 
 /// Numbers of lines are below this one, unfinished lines counted.
-const LINES_END: u64 = NUMBERS_END - 2;
+pub const LINES_END: u64 = NUMBERS_END - 2;
 
 /// Ends the process where the program has come to its end.
 pub fn end_with_program(alloc: Global, machine: &Machine, host: &mut Host) -> Option<ProcessEnd>

@@ -6,6 +6,9 @@
 //! - `Process::start`: the process shows each start of the module under its configuration
 //!   (`started`). A fault names the first thing that isn't there (`refused`), and but for want of
 //!   memory the module can't be linked (`only`).
+//! - `Process::from_parts`: there is a process with these parts exactly where a process has them
+//!   (`exact`), and then it has them (`made`). The machine shows some configuration of a module
+//!   that can be linked.
 //! - `advance`: whichever process it showed, it takes steps after which nothing is owed, and then
 //!   at most one after which something is. Each stop and each error is true of the process that it
 //!   then shows (`advances`).
@@ -23,8 +26,8 @@
 //!
 //! In `specs/rules/`: `ProcessValue`, `ShowsProcess`, `IsProcess`, `HasStarted`, `HasReleased`
 //! (`Values.antt`); `AdvancesProcess`, `StopsFor`, `FailsFor`, `GivesAnswer`, `IsBeyond`
-//! (`Stops.antt`). A process of the rules is `ProcessState` of `process_rules`. All other files of
-//! `specs/` are about the parts of one step.
+//! (`Stops.antt`); `process_from`, `HasLinkableGuest` (`Restored.antt`). A process of the rules is
+//! `ProcessState` of `process_rules`. All other files of `specs/` are about the parts of one step.
 //!
 //! # Who may touch what
 //!
@@ -40,10 +43,12 @@ mod calling;
 mod fault;
 pub mod laws;
 mod process;
+mod restoring;
 mod running;
 mod stop;
 mod turn;
 
 pub use fault::ProcessFault;
 pub use process::Process;
+pub use restoring::ProcessParts;
 pub use stop::{ProcessEnd, Stop};

@@ -11,7 +11,7 @@ use wasm_syntax::Row;
 use worker::{WorkFault, Worker};
 
 /// Reads a line, writes it, and goes on until nothing is read.
-const ECHO: [&str; 9] = [
+pub(crate) const ECHO: [&str; 9] = [
     "0061736d01000000 010c02600000 60047f7f7f7f017f",
     "02440216776173695f736e617073686f745f70726576696577310766645f726561640001",
     "16776173695f736e617073686f745f70726576696577310866645f77726974650001",
@@ -23,7 +23,7 @@ const ECHO: [&str; 9] = [
     "400000000010000040000000",
 ];
 
-fn config(alloc: Global) -> Result<Config, Fail> {
+pub(crate) fn config(alloc: Global) -> Result<Config, Fail> {
     Ok(Config::new(1, 1, 64, Row::new(alloc), Row::new(alloc))?)
 }
 

@@ -10,8 +10,9 @@ use Rattle.file_tree.specs.rules.Files.{Files, FileNode, node_of, IsFiles}
 use Rattle.wasi_calls_rules.specs.Hosts.{Target, Stream, Node, Descriptor, Host, IsThere}
 use Rattle.wasi_calls_rules.specs.Hosts.{IsDescriptor, IsHost}
 use Rattle.state_image.specs.rules.Ranges.{IsIn}
+use Rattle.state_image.specs.restoring.Descriptors.{IsTargetIn}
 use Rattle.state_image.proofs.Among.{all_among, numbers_below, found_among}
-use Rattle.state_image.proofs.Places.{IsTargetIn, IsDescriptorIn, HasPlaces}
+use Rattle.state_image.proofs.Places.{IsDescriptorIn, HasPlaces}
 
 -- ---- targets
 
@@ -25,7 +26,7 @@ there_below fs is k there = by (node_of fs k) refl there where
       fs.nodes n (numbers_below 1 fs.nodes fs.next is.rising).1 found.0 in
       omega (arith, below, found.1)
 
-target_within : (fs : Files) → IsFiles fs → IsIn 8 fs.next → (t : Target) → IsThere fs t
+pub target_within : (fs : Files) → IsFiles fs → IsIn 8 fs.next → (t : Target) → IsThere fs t
     → ((s : ℕ) → t ≡ Stream s → s ≤ 2) → IsTargetIn t
 target_within fs is next (Stream s) there few = few s refl
 target_within fs is next (Node k) there few =
@@ -33,7 +34,7 @@ target_within fs is next (Node k) there few =
 
 -- ---- rights
 
-rights_within : (rights : ℕ) → are_within rights all_rights ≡ true → IsIn 8 rights
+pub rights_within : (rights : ℕ) → are_within rights all_rights ≡ true → IsIn 8 rights
 rights_within rights h =
     let same : bit_and rights all_rights ≡ rights = eqb-true (bit_and rights all_rights) rights
     h in
@@ -59,7 +60,7 @@ descriptor_within fs is next d h few =
       inheriting = rights_within d.inheriting h.inheriting;
     }
 
-few_streams : (ds : List (Option Descriptor))
+pub few_streams : (ds : List (Option Descriptor))
     → ((n s : ℕ) (d : Descriptor) → slice_get ds n ≡ Some (Some d) → d.target ≡ Stream s → s ≤ 2)
     → AllByRecursion (λ (o : Option Descriptor). IfSome o IsFewStream) ds
 few_streams [] h = tt

@@ -18,10 +18,11 @@ use Rattle.state_image.specs.rules.Fronts.{content_front, IsContentFrontIn, node
 use Rattle.state_image.specs.rules.Fronts.{IsFrontIn}
 use Rattle.state_image.specs.rules.RawDescriptors.{raw_kind, raw_node, raw_of, IsRawIn}
 use Rattle.state_image.specs.rules.Reading.{ReadsField}
+use Rattle.state_image.specs.restoring.Descriptors.{IsTargetIn}
 use Rattle.state_image.proofs.Fields.{Tells, number_field}
 use Rattle.state_image.specs.restoring.Named.{held_of, named}
 use Rattle.state_image.proofs.Named.{IsHeldIn, IsNamedIn}
-use Rattle.state_image.proofs.Places.{IsTargetIn, IsNumberedIn}
+use Rattle.state_image.proofs.Places.{IsNumberedIn}
 use Rattle.state_image.proofs.ReadLemmas.{in_two, gives}
 use Rattle.state_image.proofs.Whole.{from_descriptors}
 

@@ -2,7 +2,7 @@ pub mod Pushing
 pub mod Keeping
 pub mod PushedItems
 mod Opened
-mod Shown
+pub mod Shown
 mod NodesAt
 mod Fields
 mod Counts
@@ -35,3 +35,10 @@ mod StepsRead
 mod FieldsGiven
 mod ImageGiven
 mod WholeRead
+mod Behind
+mod ProgressRead
+mod Accepted
+mod RestoredWhole
+mod ReadWhole
+mod LinkedFirst
+mod RestoredReached

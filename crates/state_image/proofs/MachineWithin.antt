@@ -18,8 +18,8 @@ use Rattle.machine_slots.specs.rules.Places.{ShownFrame, HaveShape, all_below}
 use Rattle.machine_slots.specs.rules.Places.{slots_of, ShowsCallers, ShowsThread, Shows}
 use Rattle.state_image.specs.rules.Image.{Saved}
 use Rattle.state_image.specs.rules.WellTyped.{IsPlaceWithin, slots_in, IsWithinBounds}
-use Rattle.state_image.specs.rules.Ranges.{IsIn, IsPlaceIn, IsWhole}
-use Rattle.state_image.proofs.Machines.{HasMachine, all_behind, all_reversed}
+use Rattle.state_image.specs.rules.Ranges.{IsIn, IsPlaceIn, IsWhole, HasMachine}
+use Rattle.state_image.proofs.Machines.{all_behind, all_reversed}
 
 -- ---- words
 

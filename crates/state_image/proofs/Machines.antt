@@ -9,6 +9,7 @@ use Rattle.wasi_abi.specs.rules.Layouts.{u32_bytes, u64_bytes}
 use Rattle.machine_slots.specs.rules.Places.{ShownFrame, MachineState}
 use Rattle.state_image.specs.rules.Image.{items_bytes, place_bytes, memory_bytes, machine_bytes}
 use Rattle.state_image.specs.rules.Ranges.{IsIn, AreFew, AreWords, IsPlaceIn, IsWhole}
+use Rattle.state_image.specs.rules.Ranges.{HasMachine}
 use Rattle.state_image.proofs.Fields.{Tells, same_front, cut, number_field}
 use Rattle.state_image.proofs.Fields.{items_field}
 
@@ -62,11 +63,6 @@ same_memory a b rest other p q e =
     same_front ℕ a b rest other (p.whole ∙ ap (λ n. n * page_size) same ∙ sym q.whole) pages.1
 
 -- ---- machines
-
-pub record HasMachine (m : MachineState) : Type 0 where
-  pub globals : AreWords m.globals
-  pub frames : AreFew ShownFrame IsPlaceIn m.frames
-  pub memory : IsWhole m.memory
 
 pub record SameMachine (m n : MachineState) : Type 0 where
   pub globals : m.globals ≡ n.globals

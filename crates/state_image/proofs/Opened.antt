@@ -14,7 +14,7 @@ use Rattle.state_image.proofs.Pushing.{pushes_on, pushes_exit}
 use Rattle.state_image.proofs.PushedItems.{front_more}
 
 -- those of a list, and of another behind it
-open_from-append : (n : ℕ) (ds es : List (Option Descriptor))
+pub open_from-append : (n : ℕ) (ds es : List (Option Descriptor))
     → open_from n (ds ++ es) ≡ open_from n ds ++ open_from (n + length ds) es
 open_from-append n [] es = ap (λ k. open_from k es) (omega arith)
 open_from-append n (None ∷ ds) es =

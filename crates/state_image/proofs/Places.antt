@@ -10,13 +10,10 @@ use Rattle.wasi_calls_rules.specs.Hosts.{Target, Stream, Node, Descriptor}
 use Rattle.state_image.specs.rules.Image.{target_bytes, Numbered, open_from, descriptor_bytes}
 use Rattle.state_image.specs.rules.Image.{items_bytes}
 use Rattle.state_image.specs.rules.Ranges.{IsIn, AreFew}
+use Rattle.state_image.specs.restoring.Descriptors.{IsTargetIn}
 use Rattle.state_image.proofs.Fields.{Tells, cut, number_field, items_field}
 
 -- ---- targets
-
-abbrev pub IsTargetIn : Target → Type 0
-IsTargetIn (Stream s) = s ≤ 2
-IsTargetIn (Node k) = IsIn 8 k
 
 abbrev kind_of : Bool → ℕ
 kind_of directory = if directory then directory_type else regular_file
@@ -109,7 +106,7 @@ same_fields fs d e rest other p q is =
     q.inheriting base.1 in
     (same_descriptor d e target.0 offset.0 flags.0 base.0 inheriting.0, inheriting.1)
 
-descriptor_field : (fs : Files) → Tells Numbered IsNumberedIn (descriptor_bytes fs)
+pub descriptor_field : (fs : Files) → Tells Numbered IsNumberedIn (descriptor_bytes fs)
 descriptor_field fs = record { front = told } where
   told : (d e : Numbered) (rest other : List ℕ) → IsNumberedIn d → IsNumberedIn e
       → descriptor_bytes fs d ++ rest ≡ descriptor_bytes fs e ++ other → (d ≡ e) × (rest ≡ other)

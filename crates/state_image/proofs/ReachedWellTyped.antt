@@ -40,7 +40,7 @@ use Rattle.state_image.proofs.Shown.{saves_shown}
 
 -- ---- ends
 
-trap_small : (why : Trap) → trap_number why < 2 ^ 32
+pub trap_small : (why : Trap) → trap_number why < 2 ^ 32
 trap_small trap.Unreachable = omega arith
 trap_small trap.DivideByZero = omega arith
 trap_small trap.IntegerOverflow = omega arith
@@ -50,19 +50,19 @@ trap_small trap.UninitializedElement = omega arith
 trap_small trap.IndirectCallTypeMismatch = omega arith
 trap_small trap.StackExhausted = omega arith
 
-code_small : (o : Option Ending) → IsSmallEnding o → ending_code o < 2 ^ 32
+pub code_small : (o : Option Ending) → IsSmallEnding o → ending_code o < 2 ^ 32
 code_small None h = omega arith
 code_small (Some (Exited code)) h = h
 code_small (Some (Trapped why)) h = trap_small why
 
 -- places are there exactly where frames are
-no_places : (c : Context) (program : Program) (places : List ShownFrame) (thread : Thread)
+pub no_places : (c : Context) (program : Program) (places : List ShownFrame) (thread : Thread)
     → ShowsThread c program places thread → thread ≡ [] → places ≡ []
 no_places c program [] thread h e = refl
 no_places c program (place ∷ places) [] h e = absurd h
 no_places c program (place ∷ places) (frame ∷ frames) h e = absurd (cc)
 
-no_frames : (c : Context) (program : Program) (places : List ShownFrame) (thread : Thread)
+pub no_frames : (c : Context) (program : Program) (places : List ShownFrame) (thread : Thread)
     → ShowsThread c program places thread → places ≡ [] → thread ≡ []
 no_frames c program places [] h e = refl
 no_frames c program [] (frame ∷ frames) h e = absurd h

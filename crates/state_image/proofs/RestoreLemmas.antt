@@ -7,3 +7,7 @@ pub mod Ended
 pub mod Fronts
 pub mod ListReads
 pub mod Loops
+pub mod Loaded
+pub mod MachineRead
+pub mod OpenAgain
+pub mod HostAgain

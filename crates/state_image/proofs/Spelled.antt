@@ -22,9 +22,10 @@ use Rattle.state_image.specs.rules.Image.{Numbered, open_from, descriptor_bytes,
 use Rattle.state_image.specs.rules.Image.{counts_bytes, phase_bytes, streams_bytes, machine_bytes}
 use Rattle.state_image.specs.rules.Image.{image}
 use Rattle.state_image.specs.rules.WellTyped.{IsWellTyped}
+use Rattle.state_image.specs.restoring.Descriptors.{IsTargetIn}
 use Rattle.state_image.proofs.Among.{among_all}
 use Rattle.state_image.proofs.Machines.{all_behind}
-use Rattle.state_image.proofs.Places.{IsTargetIn, IsNumberedIn, open_in}
+use Rattle.state_image.proofs.Places.{IsNumberedIn, open_in}
 use Rattle.state_image.proofs.FilesWithin.{entry_name}
 use Rattle.state_image.proofs.Texts.{text_of_bytes}
 use Rattle.state_image.proofs.Whole.{is_within}

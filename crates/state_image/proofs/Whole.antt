@@ -19,10 +19,10 @@ use Rattle.state_image.specs.rules.Image.{phase_bytes, streams_bytes, machine_by
 use Rattle.state_image.specs.rules.Image.{image}
 use Rattle.state_image.specs.rules.WellTyped.{EntryPoints, IsCalled, IsOutermost, IsAlive}
 use Rattle.state_image.specs.rules.WellTyped.{IsWellTyped}
-use Rattle.state_image.specs.rules.Ranges.{IsIn, FitsCounts, FitsStreams}
+use Rattle.state_image.specs.rules.Ranges.{IsIn, FitsCounts, FitsStreams, HasMachine}
 use Rattle.state_image.proofs.Counts.{SameCounts, same_counts, SamePhase, same_phase}
 use Rattle.state_image.proofs.Counts.{SameStreams, same_streams}
-use Rattle.state_image.proofs.Machines.{HasMachine, SameMachine, same_machine}
+use Rattle.state_image.proofs.Machines.{SameMachine, same_machine}
 use Rattle.state_image.proofs.Named.{same_files_named}
 use Rattle.state_image.proofs.PathsTold.{same_files}
 use Rattle.state_image.proofs.Places.{HasPlaces, same_open}
@@ -144,7 +144,7 @@ abbrev pub from_counts : Saved → List ℕ
 from_counts s = counts_bytes s ++ from_phase s
 
 -- what the image tells of two processes
-record SameParts (s t : Saved) : Type 0 where
+pub record SameParts (s t : Saved) : Type 0 where
   pub counts : SameCounts s t
   pub phase : SamePhase s t
   pub streams : SameStreams s t
@@ -188,7 +188,7 @@ machine_with : List ShownFrame → List ℕ → List ℕ → List ℕ → Machin
 machine_with frames globals memory later = record
     { frames = frames; globals = globals; memory = memory; later = later }
 
-whole_machine : (m n : MachineState) → SameMachine m n → m.later ≡ n.later → m ≡ n
+pub whole_machine : (m n : MachineState) → SameMachine m n → m.later ≡ n.later → m ≡ n
 unfolding machine_with
 whole_machine m n h later =
     let frames = h.frames in let globals = h.globals in let memory = h.memory in
@@ -231,7 +231,7 @@ with_streams s unread input_ended first second ended = record {
   ended = ended;
 }
 
-whole_process : (s t : Saved) → SameParts s t → s.machine ≡ t.machine → s ≡ t
+pub whole_process : (s t : Saved) → SameParts s t → s.machine ≡ t.machine → s ≡ t
 unfolding with_counts with_streams
 whole_process s t h machine =
     let files = h.files in let descriptors = h.descriptors in

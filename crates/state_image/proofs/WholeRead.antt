@@ -1,10 +1,10 @@
 -- A whole image, field by field in its order: what is left behind each field, up to nothing.
-use Rattle.std.proofs.Common.{◌≡◌, List, ℕ, [], ◌++◌, reverse, refl, sym, ap, ◌∙◌}
+use Rattle.std.proofs.Common.{◌≡◌, List, ℕ, ◌++◌, reverse, refl, sym, ap, ◌∙◌}
 use Rattle.std.proofs.lemmas.List.{append-nil}
 use Rattle.wasi_abi.specs.rules.Layouts.{u64_bytes}
 use Rattle.state_image.specs.rules.Image.{Saved, image_mark, counts_bytes, phase_bytes}
 use Rattle.state_image.specs.rules.Image.{streams_bytes, items_bytes, place_bytes, memory_bytes}
-use Rattle.state_image.specs.rules.Image.{node_bytes, descriptor_bytes, open_from, image}
+use Rattle.state_image.specs.rules.Image.{node_bytes, image}
 use Rattle.state_image.specs.laws.ImageOrder.{IsInOrder}
 use Rattle.state_image.proofs.Whole.{from_counts, from_phase, from_streams, from_machine}
 use Rattle.state_image.proofs.Whole.{from_files, from_descriptors}

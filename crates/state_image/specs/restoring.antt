@@ -4,3 +4,7 @@ pub mod Told
 pub mod Hanging
 pub mod Parts
 pub mod Opened
+pub mod Machines
+pub mod Descriptors
+pub mod ToldHosts
+pub mod Processes

@@ -5,6 +5,7 @@ pub mod Parts
 pub mod Ranges
 pub mod RawDescriptors
 pub mod Reading
+pub mod Restored
 pub mod Saving
 pub mod Sinks
 pub mod WellTyped

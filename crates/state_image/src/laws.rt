@@ -22,6 +22,7 @@ ghost use Rattle.state_image.specs.rules.RawDescriptors.{raw_bytes, IsRawIn};
 ghost use Rattle.state_image.specs.laws.Laws.{ImagesTellProcessesApart};
 ghost use Rattle.state_image.specs.laws.Laws.{ImagesHaveRoom, ImagesAreBytes, SavesWhatIsShown};
 ghost use Rattle.state_image.specs.laws.Laws.{ReachedIsWellTyped, SavedIsWellTyped};
+ghost use Rattle.state_image.specs.laws.Laws.{RestoredShowsReached};
 
 /// The image of a well-typed process is that of no other one.
 pub fn images_tell_processes_apart()
@@ -68,6 +69,12 @@ pub fn saves_what_is_shown()
 pub fn reached_processes_are_well_typed()
     ensures reached { ReachedIsWellTyped }
     ensures saved { SavedIsWellTyped }
+{}
+
+/// A process that was made again of the image of one that an accepted module has reached has what
+/// was saved of that, and shows it.
+pub fn restored_processes_are_the_saved()
+    ensures { RestoredShowsReached }
 {}
 
 /// What is read of a node and of a descriptor, in steps, are their bytes. Any part that is read of

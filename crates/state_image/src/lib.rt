@@ -1,6 +1,5 @@
 //! The image of a process as bytes, version 1, and which images are accepted (this project's own).
-//! The code writes images, and reads their fields. Files are made of these again, and no process
-//! yet.
+//! The code writes images, and makes processes of them again.
 //!
 //! # Promises
 //!
@@ -23,7 +22,22 @@
 //!   (`made`), or says that no files are told so (`refused`). `AreNamedNodes` says what is told of
 //!   files.
 //! - `restoring::descriptor_of` makes the descriptor of which a record is told (`made`), or says
-//!   that there is none (`none`): `IsReadAs` of `Opened.antt`. No list of them is made yet.
+//!   that there is none (`none`): `IsReadAs` of `Opened.antt`.
+//! - `restoring::restore_machine` puts the globals, frames and memory that stand next in an image
+//!   into a linked machine, with `_start` to come in the start function (`made`). The machine shows
+//!   some configuration (`shows`), on a stack that has room (`slots`). Or it says that no machine
+//!   of this module that does so has these bytes in front (`refused`).
+//! - `restoring::restore_host` reads the host whose files and open descriptors stand next in an
+//!   image, of what was told of it before (`made`: `IsRestoredHost`). Its descriptors stand there
+//!   by rising numbers, and no line of it waits. Or it says that no such host of this configuration
+//!   stands there (`refused`).
+//! - `restoring::restore_into` makes the process again whose image the bytes are, of a machine that
+//!   `link` gave, under a configuration (`restored`). The bytes are its whole image, it is well
+//!   typed, no line waits, and it shows every process of the rules that the image shows
+//!   (`IsRestored`). Or it says that no well-typed process has this image (`refused`). `restore`
+//!   does the same of a valid module, which it links.
+//! - `laws::restored_processes_are_the_saved`: what is restored of the image of a process that an
+//!   accepted module has reached has what was saved of it, and shows it.
 //! - `Sink` is a trait. What one push does is known by one relation, `takes`, which each
 //!   implementation names. `ByteSink` keeps the bytes that it takes, in order (`KeepsBytes`).
 //! - `laws::saves_what_is_shown`: what is saved of a process shows every process of the rules that
@@ -56,22 +70,27 @@
 //! - `Saving.antt`: `saved_of` is what is saved of the code's process.
 //! - `Sinks.antt`: `Pushes` says what was done to a sink, push by push.
 //! - `WellTyped.antt`: `IsWellTyped` says which of these processes have images that are accepted.
+//! - `Restored.antt`: `IsRestored` says which process was made again of bytes, and `SavedShowsIn`
+//!   which processes an image shows.
 //! - `Reading.antt`: `ReadsField` and `ReadsPart` say what a reader gives. `Ranges.antt` says which
 //!   values the fields have room for.
 //! - `Parts.antt`, `LentFrames.antt`, `Fronts.antt` and `RawDescriptors.antt`: what readers give of
 //!   a process, a frame, a node and a descriptor.
 //!
 //! In `specs/restoring/` stands what is told of nodes (`Named.antt`), when files are told so
-//! (`IsToldOf` of `Told.antt`), and what is told of a descriptor (`Opened.antt`).
+//! (`IsToldOf` of `Told.antt`), what is told of a descriptor (`Opened.antt`), and which machine is
+//! read (`IsReadMachine` of `Machines.antt`). `ToldHosts.antt` says which host is read, and
+//! `Descriptors.antt` which descriptors it may have. `Processes.antt` says what is read of a
+//! process before its machine, and what is left to be asked of it at last.
 //!
 //! # Who may touch what
 //!
 //! Only these definitions and this code say which byte of an image means what. `worker_rules`
 //! cites the definitions, for the disk that stands for a worker. `worker_store` writes images, and
-//! nobody reads them yet. A process is read by the questions of `process`, `machine`, `wasi_calls`
-//! and `file_tree`, and nothing of it is changed. The image has no lines that wait: whoever writes one has released them.
-//! Only `write_image`, `ByteSink` and `restoring` take memory. Want of it is the only error of the
-//! first two.
+//! nobody restores them yet. A process is read by the questions of `process`, `machine`,
+//! `wasi_calls` and `file_tree`, and nothing of it is changed. The image has no lines that wait:
+//! whoever writes one has released them. Only `write_image`, `ByteSink` and `restoring` take
+//! memory. Want of it is the only error of the first two.
 #![tactic(auto)]
 
 mod byte_sink;

@@ -13,6 +13,7 @@ use Rattle.process_rules.specs.Runs.{Kept, Reaches}
 use Rattle.machine.specs.rules.Offers.{offer}
 use Rattle.process.specs.rules.Values.{ProcessValue, ShowsProcess, IsProcess}
 use Rattle.state_image.specs.rules.Image.{Saved, SavedShowsProcess, image}
+use Rattle.state_image.specs.rules.Restored.{IsRestored}
 use Rattle.state_image.specs.rules.Saving.{saved_of}
 use Rattle.state_image.specs.rules.WellTyped.{IsWellTyped}
 
@@ -63,3 +64,17 @@ SavedIsWellTyped =
     → IsAccepted offer config.pages bytes m → config.pages ≤ 2 ^ 16 → IsOfBytes (host_of config)
     → (reached : Reaches m config kept n p) → v.machine.guest ≡ m → IsProcess v
     → ShowsProcess v reached.guest p → IsWellTyped m config (saved_of v)
+
+-- A process that was made again of the image of one that an accepted module has reached has what
+-- was saved of that, and shows it, with the texts of all its lines.
+abbrev pub RestoredShowsReached : Type 0
+RestoredShowsReached =
+    (bytes : List ℕ) (m : Module) (config : Settings) (functions : List FunctionType)
+    (kept : List Kept) (n : ℕ) (p : ProcessState) (table : List (Option ℕ)) (s : Saved)
+    (v : ProcessValue)
+    → IsAccepted offer config.pages bytes m → config.pages ≤ 2 ^ 16 → IsOfBytes (host_of config)
+    → (reached : Reaches m config kept n p) → n < 2 ^ 63 → HasLineNumbers p.host
+    → AreFunctionTypes m functions
+    → SavedShowsProcess (module_context m functions) reached.guest.program table s p
+    → IsRestored m config (image s) v
+    → (saved_of v ≡ s) × ShowsProcess v reached.guest p

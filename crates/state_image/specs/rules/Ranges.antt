@@ -4,7 +4,7 @@ use Rattle.std.specs.Prelude.{◌≡◌, ℕ, ◌*◌, ◌^◌, ◌<◌, List, l
 use Rattle.std.specs.List.{AllByRecursion}
 use Rattle.guest_memory.specs.rules.Bytes.{page_size}
 use Rattle.file_tree.specs.rules.Files.{Entry}
-use Rattle.machine_slots.specs.rules.Places.{ShownFrame}
+use Rattle.machine_slots.specs.rules.Places.{ShownFrame, MachineState}
 use Rattle.state_image.specs.rules.Image.{Saved, ending_code}
 
 -- a number in so many bytes
@@ -53,6 +53,12 @@ pub record IsWhole (memory : List ℕ) : Type 0 where
   pub pages : ℕ
   pub whole : length memory ≡ pages * page_size
   pub few : IsIn 4 pages
+
+-- globals, frames and memory
+pub record HasMachine (m : MachineState) : Type 0 where
+  pub globals : AreWords m.globals
+  pub frames : AreFew ShownFrame IsPlaceIn m.frames
+  pub memory : IsWhole m.memory
 
 -- an entry of a directory
 pub record IsEntryIn (e : Entry) : Type 0 where

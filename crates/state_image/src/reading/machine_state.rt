@@ -11,7 +11,7 @@ use crate::reading::words::{Words, read_words};
 use guest_memory::PAGE_SIZE;
 
 /// A frame: its function, its position, and its slots.
-#[derive(Debug)]
+#[derive(Debug, Drop)]
 pub struct ReadFrame<'a> {
     pub function: u32,
     pub position: u32,

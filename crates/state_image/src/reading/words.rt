@@ -12,7 +12,7 @@ use byteorder::{ByteOrder, LittleEndian};
 use std::marker::Model;
 
 /// Words of 64 bits that are lent as bytes. Contracts see their list.
-#[derive(Debug)]
+#[derive(Debug, Drop)]
 pub struct Words<'a> {
     count: u32,
     bytes: &'a [u8],

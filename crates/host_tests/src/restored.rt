@@ -1,0 +1,312 @@
+//! Images that are made processes again.
+
+ghost use Rattle.std.specs.Prelude.{◌<◌, length};
+
+use hex::decode;
+use machine_loader::read;
+use process::Process;
+use state_image::restoring::{RestoreFault, restore};
+use state_image::write_image;
+use std::alloc::Global;
+use std::test::Fail;
+use wasi_abi::{Answer, Config};
+use wasm_syntax::Row;
+
+/// Reads a line, writes it, and goes on until nothing is read.
+const ECHO: [&str; 5] = [
+    "0061736d01000000010c0260000060047f7f7f7f017f02440216776173695f736e617073686f745f7072",
+    "6576696577310766645f72656164000116776173695f736e617073686f745f7072657669657731086664",
+    "5f77726974650001030201000503010001071302065f73746172740002066d656d6f727902000a31012f",
+    "000340410041004101411010001a4110280200450d01410c411028020036020041014108410141141001",
+    "1a0c000b0b0b12010041000b0c400000000010000040000000",
+];
+
+/// Makes directories and files, writes into both, and removes one that stays open. Then it leaves a
+/// line of stream 1 unfinished, and reads in a function that it calls.
+const FILES: [&str; 14] = [
+    "0061736d0100000001250560037f7f7f017f60097f7f7f7f7f7e7e7f7f017f60047f7f7f7f017f600000",
+    "60017f017f02c0010516776173695f736e617073686f745f707265766965773115706174685f63726561",
+    "74655f6469726563746f7279000016776173695f736e617073686f745f70726576696577310970617468",
+    "5f6f70656e000116776173695f736e617073686f745f70726576696577310866645f7772697465000216",
+    "776173695f736e617073686f745f707265766965773110706174685f756e6c696e6b5f66696c65000016",
+    "776173695f736e617073686f745f70726576696577310766645f72656164000203030203040503010001",
+    "0606017f0141030b071302065f73746172740005066d656d6f727902000aaf0102980100410341004101",
+    "10001a4103410041084103410142ff8080034200410141d00010011a410441c000410141d40010021a41",
+    "034108410310031a4103410041104101410142ff8080034200410041d00010011a410541c000410141d4",
+    "0010021a41034118410310001a410341004100410141024291ccbd3142ffccbd33410041d00010011a41",
+    "0141c000410141d40010021a4107100624000b1301017f2000410041c800410141d40010046a0b0b5601",
+    "0041000b506400000000000000642f6600000000006700000000000000642f650000000000736f6d6520",
+    "6279746573206f6620612066696c65000000000000000000000000200000001400000060000000100000",
+    "00",
+];
+
+/// Where memory begins in the image of `echo` at its start, and once it has an operand.
+const FRESH_AT: usize = 90;
+
+const ASKED_AT: usize = 98;
+
+/// The bytes of a page of memory.
+const PAGE_BYTES: usize = 65_536;
+
+fn bytes_of(alloc: Global, texts: &[&str]) -> Result<Vec<u8>, Fail> {
+    let mut bytes = Vec::new(alloc);
+    for text in texts {
+        bytes.extend_from_slice(decode(alloc, *text)?.as_slice())?;
+    }
+    Ok(bytes)
+}
+
+fn config(alloc: Global) -> Result<Config, Fail> {
+    Ok(Config::new(1, 1, 64, Row::new(alloc), Row::new(alloc))?)
+}
+
+fn begun(alloc: Global, wasm: &[u8]) -> Result<Process, Fail> {
+    let module = read(alloc, wasm)?;
+    Ok(Process::start(alloc, module, config(alloc)?)?)
+}
+
+/// The process of an image, if there is one.
+fn restored(alloc: Global, wasm: &[u8], image: &[u8]) -> Result<Option<Process>, Fail> {
+    let module = read(alloc, wasm)?;
+    match restore(alloc, module, config(alloc)?, image) {
+        Ok(process) => Ok(Some(process)),
+        Err(RestoreFault::NotAnImage) => Ok(None),
+        Err(fault) => Err(Fail::from(fault)),
+    }
+}
+
+/// Whether these bytes are the image of a process.
+fn is_image_of(alloc: Global, process: &Process, image: &[u8]) -> Result<bool, Fail> {
+    let again = write_image(alloc, process)?;
+    Ok(again.as_slice() == image)
+}
+
+/// What is made of bytes: 0 for nothing, 1 for a process whose image they are, and 2 for another.
+fn made_of(alloc: Global, wasm: &[u8], image: &[u8]) -> Result<u64, Fail> {
+    let Some(process) = restored(alloc, wasm, image)? else {
+        return Ok(0);
+    };
+    let told = is_image_of(alloc, &process, image);
+    drop(process);
+    if told? { Ok(1) } else { Ok(2) }
+}
+
+/// How many of four other bytes at a place make a process whose image is another one.
+fn wrong_at(alloc: Global, wasm: &[u8], image: &mut [u8], place: usize) -> Result<u32, Fail>
+    requires { place < length image.old }
+{
+    let byte = image[place];
+    let mut wrong: u32 = 0;
+    for other in [0, 1, 255, byte.wrapping_add(1)] {
+        image[place] = other;
+        if made_of(alloc, wasm, image)? == 2 {
+            wrong = wrong.saturating_add(1);
+        }
+    }
+    image[place] = byte;
+    Ok(wrong)
+}
+
+/// The same over all bytes but those of memory, which begins there.
+fn wrong_outside(
+    alloc: Global,
+    wasm: &[u8],
+    image: &mut [u8],
+    memory_at: usize,
+) -> Result<u32, Fail> {
+    let mut wrong: u32 = 0;
+    for place in 0..image.len() {
+        if place < memory_at || place - memory_at >= PAGE_BYTES {
+            wrong = wrong.saturating_add(wrong_at(alloc, wasm, image, place)?);
+        }
+    }
+    Ok(wrong)
+}
+
+/// The same over every 97th byte of memory.
+fn wrong_inside(
+    alloc: Global,
+    wasm: &[u8],
+    image: &mut [u8],
+    memory_at: usize,
+) -> Result<u32, Fail> {
+    let mut wrong: u32 = 0;
+    for place in 0..image.len() {
+        if place >= memory_at && place - memory_at < PAGE_BYTES && (place - memory_at) % 97 == 0 {
+            wrong = wrong.saturating_add(wrong_at(alloc, wasm, image, place)?);
+        }
+    }
+    Ok(wrong)
+}
+
+fn hello(alloc: Global) -> Result<Answer, Fail> {
+    let text = Row::from_vec(Vec::from_slice(alloc, b"hello")?);
+    Ok(Answer::Request { text })
+}
+
+#[test]
+fn fresh_echo_comes_back(rt: HostRuntime) -> Result<(), Fail> {
+    let alloc = rt.alloc();
+    let wasm = bytes_of(alloc, &ECHO)?;
+    let image = fresh_echo(alloc, wasm.as_slice())?;
+    assert_eq!(rt; image.len(), 65_811);
+    assert_eq!(rt; made_of(alloc, wasm.as_slice(), image.as_slice())?, 1);
+    Ok(())
+}
+
+#[test]
+fn a_byte_fewer_or_more_is_no_image(rt: HostRuntime) -> Result<(), Fail> {
+    let alloc = rt.alloc();
+    let wasm = bytes_of(alloc, &ECHO)?;
+    let mut image = fresh_echo(alloc, wasm.as_slice())?;
+    let last = image.pop();
+    assert_eq!(rt; last, Some(0));
+    assert_eq!(rt; made_of(alloc, wasm.as_slice(), image.as_slice())?, 0);
+    image.push(0)?;
+    image.push(0)?;
+    assert_eq!(rt; made_of(alloc, wasm.as_slice(), image.as_slice())?, 0);
+    Ok(())
+}
+
+/// The image of `echo` once it has taken its first request: one operand more.
+fn ask(alloc: Global, process: &mut Process) -> Result<Vec<u8>, Fail> {
+    let _stop = process.advance(100)?;
+    process.give(hello(alloc)?)?;
+    Ok(write_image(alloc, process)?)
+}
+
+fn asked_echo(alloc: Global, wasm: &[u8]) -> Result<Vec<u8>, Fail> {
+    let mut process = begun(alloc, wasm)?;
+    let image = ask(alloc, &mut process);
+    drop(process);
+    image
+}
+
+#[test]
+fn echo_comes_back_from_step_6(rt: HostRuntime) -> Result<(), Fail> {
+    let alloc = rt.alloc();
+    let wasm = bytes_of(alloc, &ECHO)?;
+    let image = asked_echo(alloc, wasm.as_slice())?;
+    assert_eq!(rt; image.len(), 65_819);
+    assert_eq!(rt; made_of(alloc, wasm.as_slice(), image.as_slice())?, 1);
+    Ok(())
+}
+
+/// The image of `echo` at its start.
+fn fresh_echo(alloc: Global, wasm: &[u8]) -> Result<Vec<u8>, Fail> {
+    let process = begun(alloc, wasm)?;
+    let image = write_image(alloc, &process);
+    drop(process);
+    Ok(image?)
+}
+
+/// Other bytes are refused, or are the image of another process.
+#[test]
+fn fresh_images_are_refused_or_others(rt: HostRuntime) -> Result<(), Fail> {
+    let alloc = rt.alloc();
+    let wasm = bytes_of(alloc, &ECHO)?;
+    let mut image = fresh_echo(alloc, wasm.as_slice())?;
+    assert_eq!(rt;
+        wrong_outside(alloc, wasm.as_slice(), image.as_mut_slice(), FRESH_AT)?,
+        0
+    );
+    Ok(())
+}
+
+#[test]
+fn fresh_memories_are_others(rt: HostRuntime) -> Result<(), Fail> {
+    let alloc = rt.alloc();
+    let wasm = bytes_of(alloc, &ECHO)?;
+    let mut image = fresh_echo(alloc, wasm.as_slice())?;
+    assert_eq!(rt;
+        wrong_inside(alloc, wasm.as_slice(), image.as_mut_slice(), FRESH_AT)?,
+        0
+    );
+    Ok(())
+}
+
+#[test]
+fn images_of_step_6_are_refused_or_others(rt: HostRuntime) -> Result<(), Fail> {
+    let alloc = rt.alloc();
+    let wasm = bytes_of(alloc, &ECHO)?;
+    let mut image = asked_echo(alloc, wasm.as_slice())?;
+    assert_eq!(rt;
+        wrong_outside(alloc, wasm.as_slice(), image.as_mut_slice(), ASKED_AT)?,
+        0
+    );
+    Ok(())
+}
+
+#[test]
+fn memories_of_step_6_are_others(rt: HostRuntime) -> Result<(), Fail> {
+    let alloc = rt.alloc();
+    let wasm = bytes_of(alloc, &ECHO)?;
+    let mut image = asked_echo(alloc, wasm.as_slice())?;
+    assert_eq!(rt;
+        wrong_inside(alloc, wasm.as_slice(), image.as_mut_slice(), ASKED_AT)?,
+        0
+    );
+    Ok(())
+}
+
+/// The image of a process with a directory in another, files, one of which is removed and open,
+/// descriptors, a global, two frames and an unfinished line.
+fn work(alloc: Global, process: &mut Process) -> Result<Vec<u8>, Fail> {
+    let _stop = process.advance(1_000)?;
+    Ok(write_image(alloc, process)?)
+}
+
+fn filed(alloc: Global, wasm: &[u8]) -> Result<Vec<u8>, Fail> {
+    let mut process = begun(alloc, wasm)?;
+    let image = work(alloc, &mut process);
+    drop(process);
+    image
+}
+
+#[test]
+fn files_come_back(rt: HostRuntime) -> Result<(), Fail> {
+    let alloc = rt.alloc();
+    let wasm = bytes_of(alloc, &FILES)?;
+    let image = filed(alloc, wasm.as_slice())?;
+    assert_eq!(rt; made_of(alloc, wasm.as_slice(), image.as_slice())?, 1);
+    Ok(())
+}
+
+/// The image behind one more step, with the answer to what is asked.
+fn go_on(alloc: Global, process: &mut Process) -> Result<Vec<u8>, Fail> {
+    let _stop = process.advance(1_000)?;
+    process.give(hello(alloc)?)?;
+    let _stop = process.advance(1)?;
+    Ok(write_image(alloc, process)?)
+}
+
+/// The same of the process that is made of an image; of none nothing.
+fn gone_on(alloc: Global, wasm: &[u8], image: &[u8]) -> Result<Vec<u8>, Fail> {
+    let Some(mut process) = restored(alloc, wasm, image)? else {
+        return Ok(Vec::new(alloc));
+    };
+    let behind = go_on(alloc, &mut process);
+    drop(process);
+    behind
+}
+
+/// The same of the process that runs from the start.
+fn run_on(alloc: Global, wasm: &[u8]) -> Result<Vec<u8>, Fail> {
+    let mut process = begun(alloc, wasm)?;
+    let behind = go_on(alloc, &mut process);
+    drop(process);
+    behind
+}
+
+/// What was made again asks as before, and takes the same answer to the same end.
+#[test]
+fn a_process_goes_on_where_it_was(rt: HostRuntime) -> Result<(), Fail> {
+    let alloc = rt.alloc();
+    let wasm = bytes_of(alloc, &FILES)?;
+    let image = filed(alloc, wasm.as_slice())?;
+    let behind = gone_on(alloc, wasm.as_slice(), image.as_slice())?;
+    let whole = run_on(alloc, wasm.as_slice())?;
+    assert!(rt; behind.as_slice() == whole.as_slice());
+    assert!(rt; behind.as_slice() != image.as_slice());
+    Ok(())
+}

@@ -1,0 +1,95 @@
+-- An image in front of other bytes tells its process, and that nothing stands behind it.
+use Rattle.std.proofs.Common.{◌≡◌, ℕ, List, [], ◌∷◌, ◌++◌, refl, sym, ap, ◌∙◌, append-nil}
+use Rattle.std.proofs.Common.{append_assoc}
+use Rattle.std.specs.Prelude.{Option}
+use Rattle.std.proofs.lemmas.List.{append_cancel_left}
+use Rattle.file_tree.specs.rules.Files.{Files}
+use Rattle.wasi_calls_rules.specs.Hosts.{Descriptor}
+use Rattle.state_image.specs.rules.Image.{Saved, Numbered, items_bytes, descriptor_bytes, open_from}
+use Rattle.state_image.specs.rules.Image.{image_mark, counts_bytes, phase_bytes, streams_bytes}
+use Rattle.state_image.specs.rules.Image.{machine_bytes, files_bytes, image}
+use Rattle.state_image.specs.restoring.Processes.{progress_before}
+use Rattle.state_image.proofs.Fields.{items_field}
+use Rattle.state_image.proofs.Counts.{same_counts, same_phase, same_streams}
+use Rattle.state_image.proofs.Machines.{same_machine}
+use Rattle.state_image.proofs.Named.{same_files_named}
+use Rattle.state_image.proofs.FilesWithin.{files_within}
+use Rattle.state_image.proofs.PathsTold.{same_files}
+use Rattle.state_image.proofs.Places.{IsNumberedIn, HasPlaces, open_in, same_places}
+use Rattle.state_image.proofs.Places.{descriptor_field}
+use Rattle.state_image.proofs.Whole.{IsWithin, SameParts, from_descriptors, from_files}
+use Rattle.state_image.proofs.Whole.{from_machine}
+use Rattle.state_image.proofs.Whole.{from_streams, from_phase, from_counts}
+
+-- ---- the fields in front of other bytes
+
+seven_before : (a b c d e f g rest : List ℕ)
+    → (a ++ (b ++ (c ++ (d ++ (e ++ (f ++ g)))))) ++ rest
+    ≡ a ++ (b ++ (c ++ (d ++ (e ++ (f ++ (g ++ rest))))))
+seven_before a b c d e f g rest = simp append_assoc
+
+-- from the machine on
+abbrev pub machine_before : Saved → List ℕ → List ℕ
+machine_before s rest =
+    machine_bytes s.machine ++ (files_bytes s.files ++ (from_descriptors s ++ rest))
+
+pub image_before : (s : Saved) (rest : List ℕ)
+    → image s ++ rest ≡ progress_before s (machine_before s rest)
+image_before s rest =
+    seven_before image_mark (counts_bytes s) (phase_bytes s) (streams_bytes s)
+    (machine_bytes s.machine) (files_bytes s.files) (from_descriptors s) rest
+
+-- ---- descriptors
+
+open_told : (fs : Files) (ds es : List (Option Descriptor)) (rest other : List ℕ) → HasPlaces ds
+    → HasPlaces es
+    → items_bytes (descriptor_bytes fs) (open_from 0 ds) ++ rest
+    ≡ items_bytes (descriptor_bytes fs) (open_from 0 es) ++ other → (ds ≡ es) × (rest ≡ other)
+open_told fs ds es rest other p q e =
+    let same = (items_field Numbered IsNumberedIn (descriptor_bytes fs)
+    (descriptor_field fs)).front (open_from 0 ds) (open_from 0 es) rest other (open_in ds p)
+    (open_in es q) e in
+    (same_places 0 ds es (p.places ∙ sym q.places) same.0, same.1)
+
+descriptors_told : (s t : Saved) (rest : List ℕ) → IsWithin s → IsWithin t → s.files ≡ t.files
+    → from_descriptors s ≡ from_descriptors t ++ rest
+    → (s.descriptors ≡ t.descriptors) × ([] ≡ rest)
+descriptors_told s t rest a b files e =
+    let here : items_bytes (descriptor_bytes s.files) (open_from 0 s.descriptors) ++ []
+    ≡ items_bytes (descriptor_bytes s.files) (open_from 0 t.descriptors) ++ rest =
+    append-nil (from_descriptors s) ∙ e
+    ∙ ap (λ (fs : Files). items_bytes (descriptor_bytes fs) (open_from 0 t.descriptors) ++ rest)
+    (sym files) in
+    open_told s.files s.descriptors t.descriptors [] rest a.places b.places here
+
+-- ---- the whole
+
+pub told_behind : (s t : Saved) (rest : List ℕ) → IsWithin s → IsWithin t
+    → image s ≡ image t ++ rest → SameParts s t × ([] ≡ rest)
+told_behind s t rest a b e =
+    let whole : image_mark ++ from_counts s
+    ≡ image_mark ++ (counts_bytes t ++ (phase_bytes t ++ (streams_bytes t
+    ++ machine_before t rest))) =
+    e ∙ image_before t rest in
+    let counts = same_counts s t (from_phase s)
+    (phase_bytes t ++ (streams_bytes t ++ machine_before t rest)) a.counts b.counts
+    (append_cancel_left image_mark _ _ whole) in
+    let phase = same_phase s t (from_streams s) (streams_bytes t ++ machine_before t rest) a.code
+    b.code counts.1 in
+    let streams = same_streams s t (from_machine s) (machine_before t rest) a.streams b.streams
+    phase.1 in
+    let machine = same_machine s.machine t.machine (from_files s)
+    (files_bytes t.files ++ (from_descriptors t ++ rest)) a.machine b.machine streams.1 in
+    let names = same_files_named s.files t.files (from_descriptors s) (from_descriptors t ++ rest)
+    (files_within s.files a.files a.next) (files_within t.files b.files b.next) machine.1 in
+    let files = same_files s.files t.files a.files b.files names.0 in
+    let descriptors = descriptors_told s t rest a b files names.1 in
+    let parts : SameParts s t = record {
+      counts = counts.0;
+      phase = phase.0;
+      streams = streams.0;
+      machine = machine.0;
+      files = files;
+      descriptors = descriptors.0;
+    } in
+    (parts, descriptors.1)

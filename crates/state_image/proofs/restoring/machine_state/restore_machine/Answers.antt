@@ -1,0 +1,47 @@
+use Rattle.std.proofs.Common.{sym, subst}
+use Rattle.machine.specs.rules.Loading.{LoadDenies, ShowsSome}
+use Rattle.state_image.specs.restoring.Machines.{IsReadMachine}
+use Rattle.state_image.proofs.RestoreLemmas.Lent.{fault_of}
+use Rattle.state_image.proofs.RestoreLemmas.Loaded.{unfit_of}
+use Rattle.state_image.proofs.RestoreLemmas.MachineRead.{emptied_once, few_slots_in, not_shown}
+use Rattle.state_image.proofs.RestoreLemmas.MachineRead.{read_linked, read_emptied}
+use Rattle.state_image.proofs.restoring.machine_state.restore_machine.Goals as goal
+
+pub load_parts-requires : goal.load_parts-requires
+load_parts-requires c =
+    emptied_once c.args.machine c.into_loading-loading.result c.into_loading-loading.ensures
+
+pub returns-in_err-load_parts-clause-refused : goal.returns-in_err-load_parts-clause-refused
+returns-in_err-load_parts-clause-refused c refused v rest read few shows =
+    c.in_err-load_parts.ensures.refused
+    (fault_of c.from_residual.result _ c.from_residual.ensures.1 refused) v rest
+    (read_emptied c.args.machine c.into_loading-loading.result c.into_loading-loading.ensures
+    c.args.phase c.args.reader.now rest v read) few shows
+
+pub returns-in_err-restored-clause-refused : goal.returns-in_err-restored-clause-refused
+returns-in_err-restored-clause-refused c refused v rest read few shows =
+    not_shown c.args.phase c.args.machine c.load_parts.new.machine v c.args.reader.now
+    c.load_parts.new.reader rest c.requires.valid
+    (read_linked c.args.machine c.into_loading-loading.result c.into_loading-loading.ensures
+    c.args.phase c.args.reader.now c.load_parts.new.reader c.load_parts.new.machine
+    c.in_ok-load_parts.ensures.made) read
+    (subst (LoadDenies c.load_parts.new.machine)
+    (unfit_of c.from_residual-in_err-restored.result _ c.from_residual-in_err-restored.ensures.1
+    refused) c.in_err-restored.ensures.refused) shows
+
+pub returns-clause-made : goal.returns-clause-made
+returns-clause-made c =
+    subst (IsReadMachine c.args.machine c.args.phase c.args.reader.now c.load_parts.new.reader)
+    (sym c.in_ok-restored.ensures.same)
+    (read_linked c.args.machine c.into_loading-loading.result c.into_loading-loading.ensures
+    c.args.phase c.args.reader.now c.load_parts.new.reader c.load_parts.new.machine
+    c.in_ok-load_parts.ensures.made)
+
+pub returns-clause-shows : goal.returns-clause-shows
+returns-clause-shows c =
+    subst ShowsSome (sym c.in_ok-restored.ensures.same) c.in_ok-restored.ensures.shows
+
+pub returns-clause-slots : goal.returns-clause-slots
+returns-clause-slots c =
+    few_slots_in c.slot_count-slots.result c.in_ok-restored.restored.state.frames
+    c.slot_count-slots.ensures.count c.slot_count-slots.ensures.bound

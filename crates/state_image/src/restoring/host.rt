@@ -1,0 +1,90 @@
+//! The host of an image, made again.
+
+ghost use Rattle.std.specs.Prelude.{◌≡◌, ◌≢◌, ◌<◌, ◌^◌, ◌++◌, ℕ, List, IfOk, Err};
+ghost use Rattle.file_tree.specs.rules.Files.{IsFiles};
+ghost use Rattle.wasi_calls_rules.specs.Hosts.{Host as TheHost, IsHost};
+ghost use Rattle.state_image.specs.declared.restoring.fault.RestoreFault.TheVariants as fault;
+ghost use Rattle.state_image.specs.rules.Parts.{texts_of};
+ghost use Rattle.state_image.specs.restoring.ToldHosts.{IsRestoredHost, IsToldHost, host_bytes};
+ghost use Rattle.state_image.specs.restoring.ToldHosts.{AreReadParts};
+ghost use Rattle.state_image.specs.restoring.ToldHosts.{fault_of_parts};
+
+use crate::reading::{ImageReader, ReadCounts, ReadEnd, ReadStreams};
+use crate::restoring::descriptors::restore_descriptors;
+use crate::restoring::fault::RestoreFault;
+use crate::restoring::files::restore_files;
+use file_tree::Tree;
+use std::alloc::Global;
+use wasi_abi::Config;
+use wasi_calls::{Host, HostParts, PartsFault};
+use wasi_calls_rules::limits::TEXT_BYTES;
+
+/// The host of this configuration of which this was told, and whose files and descriptors stand
+/// next in an image. It reads each byte once. No line waits.
+pub fn restore_host(
+    alloc: Global,
+    config: Config,
+    counts: ReadCounts,
+    end: ReadEnd,
+    streams: ReadStreams,
+    reader: &mut ImageReader,
+) -> Result<Host, RestoreFault>
+    ensures made { IfOk result (λ held. IsRestoredHost config counts end (texts_of streams.entry)
+        held reader.old reader.new) }
+    ensures refused { result ≡ Err fault.NotAnImage → (h : TheHost) (rest : List ℕ) → IsHost h
+        → h.files.next < 2 ^ 64 → IsToldHost config counts end (texts_of streams.entry) h
+        → reader.old ≢ host_bytes h ++ rest }
+{
+    let parts = read_parts(alloc, counts, end, streams, reader)?;
+    Ok(Host::from_parts(alloc, config, TEXT_BYTES, parts)?)
+}
+
+/// The parts of a host of which this was told, and whose files and descriptors stand next in an
+/// image.
+fn read_parts(
+    alloc: Global,
+    counts: ReadCounts,
+    end: ReadEnd,
+    streams: ReadStreams,
+    reader: &mut ImageReader,
+) -> Result<HostParts, RestoreFault>
+    ensures made { IfOk result (λ p. AreReadParts counts end (texts_of streams.entry) p
+        reader.old reader.new) }
+    ensures refused { result ≡ Err fault.NotAnImage → (h : TheHost) (rest : List ℕ) → IsHost h
+        → h.files.next < 2 ^ 64 → reader.old ≢ host_bytes h ++ rest }
+{
+    let tree = restore_files(alloc, reader)?;
+    are_within(&tree);
+    let descriptors = restore_descriptors(alloc, &tree, reader)?;
+    Ok(HostParts {
+        tree,
+        descriptors,
+        unread: Vec::from_slice(alloc, streams.unread)?,
+        input_ended: end.input_ended,
+        last_monotonic: counts.last_monotonic,
+        first: Vec::from_slice(alloc, streams.first)?,
+        second: Vec::from_slice(alloc, streams.second)?,
+        released: counts.lines,
+    })
+}
+
+/// The files of a tree and their next number are within their bounds. This is for proofs alone:
+/// nothing is done.
+fn are_within(tree: &Tree)
+    ensures files { IsFiles tree.now }
+    ensures next { tree.now.next < 2 ^ 64 }
+{
+    let _nodes = tree.len();
+    let _next = tree.next();
+}
+
+impl From<PartsFault> for RestoreFault {
+    ghost from_gives = { λ parts made. made ≡ fault_of_parts parts };
+
+    fn from(fault: PartsFault) -> RestoreFault {
+        match fault {
+            PartsFault::NoHost => RestoreFault::NotAnImage,
+            PartsFault::Memory => RestoreFault::Memory,
+        }
+    }
+}

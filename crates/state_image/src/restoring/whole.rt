@@ -1,0 +1,168 @@
+//! The process of an image, made again.
+
+ghost use Rattle.std.specs.Prelude.{◌≡◌, ◌≢◌, ◌↔◌, ℕ, [], IsTrue, IfOk, Err};
+ghost use Rattle.std.specs.List.{AllByRecursion};
+ghost use Rattle.wasm_syntax.specs.rules.Limits.{HasFewParameters, IsSmallFunction};
+ghost use Rattle.wasm_syntax_rules.specs.Validity.{IsValid};
+ghost use Rattle.wasm_syntax_rules.specs.Linking.{HasEntry, IsLinkable};
+ghost use Rattle.machine.specs.rules.Loading.{ShowsSome};
+ghost use Rattle.machine.specs.rules.Offers.{offer};
+ghost use Rattle.machine.specs.rules.Runs.{HasBegun};
+ghost use Rattle.process.specs.rules.Restored.{HasLinkableGuest};
+ghost use Rattle.process.specs.rules.Values.{IsProcess};
+ghost use Rattle.state_image.specs.declared.restoring.fault.RestoreFault.TheVariants as fault;
+ghost use Rattle.state_image.specs.rules.Image.{Saved, image};
+ghost use Rattle.state_image.specs.rules.Restored.{IsRestored};
+ghost use Rattle.state_image.specs.rules.Saving.{saved_of};
+ghost use Rattle.state_image.specs.rules.WellTyped.{IsWellTyped};
+ghost use Rattle.state_image.specs.restoring.Processes.{IsReadProcess, process_behind, end_in};
+ghost use Rattle.state_image.specs.restoring.Processes.{MayCome, MayBeAccepted, fault_of_link};
+
+use crate::reading::{ImageReader, ReadPhase};
+use crate::restoring::accepting::may_be_accepted;
+use crate::restoring::fault::RestoreFault;
+use crate::restoring::host::restore_host;
+use crate::restoring::machine_state::restore_machine;
+use crate::restoring::progress::{Progress, read_progress};
+use machine::{LinkFault, Machine, link};
+use process::{Process, ProcessEnd, ProcessParts};
+use std::alloc::Global;
+use wasi_abi::Config;
+use wasi_calls::Host;
+use wasm_validate::ValidModule;
+
+/// The process of which these bytes are the image, of this module under this configuration.
+/// `NotAnImage` also where the module can't be linked.
+pub fn restore(
+    alloc: Global,
+    module: ValidModule,
+    config: Config,
+    bytes: &[u8],
+) -> Result<Process, RestoreFault>
+    requires types { AllByRecursion HasFewParameters «module».types }
+    requires functions { AllByRecursion IsSmallFunction «module».functions }
+    ensures restored { IfOk result (IsRestored «module» config bytes.now) }
+    ensures refused { result ≡ Err fault.NotAnImage → IsLinkable offer config.pages «module»
+        → (s : Saved) → IsWellTyped «module» config s → bytes.now ≢ image s }
+{
+    let machine = link(alloc, module, config.pages())?;
+    restore_into(alloc, machine, config, bytes)
+}
+
+/// The process of which these bytes are the image, under this configuration. The machine is one
+/// that `link` gave of its module. Each byte is read once, and no more memory is taken than what
+/// was read wants.
+pub fn restore_into(
+    alloc: Global,
+    machine: Machine,
+    config: Config,
+    bytes: &[u8],
+) -> Result<Process, RestoreFault>
+    requires { HasBegun config.pages machine.guest machine }
+    ensures restored { IfOk result (IsRestored machine.guest config bytes.now) }
+    ensures refused { result ≡ Err fault.NotAnImage → (s : Saved)
+        → IsWellTyped machine.guest config s → bytes.now ≢ image s }
+{
+    is_valid(&machine);
+    let mut reader = ImageReader::new(bytes);
+    let process = read_process(alloc, machine, config, &mut reader)?;
+    if is_accepted(&process, &reader) {
+        Ok(process)
+    } else {
+        Err(RestoreFault::NotAnImage)
+    }
+}
+
+/// Whether nothing is left behind a process that was read, and it is one whose image is accepted.
+fn is_accepted(process: &Process, reader: &ImageReader) -> bool
+    requires shows { ShowsSome process.now.machine }
+    requires later { MayCome process.now.machine.guest process.now.machine.state.later }
+    ensures is { IsProcess process.now }
+    ensures exact { (entry : ℕ) → HasEntry process.now.machine.guest entry → IsTrue result
+        ↔ ((reader.now ≡ []) × MayBeAccepted process.now.machine.guest entry
+        (saved_of process.now)) }
+{
+    let _steps = process.steps();
+    if !reader.is_empty() {
+        return false;
+    }
+    may_be_accepted(process)
+}
+
+/// The module of a machine is valid. This is for proofs alone: nothing is done.
+fn is_valid(machine: &Machine)
+    ensures { IsValid machine.now.guest }
+{
+    let _module = machine.module().module();
+}
+
+/// The process whose image stands next, in the place of what the machine shows.
+fn read_process(
+    alloc: Global,
+    machine: Machine,
+    config: Config,
+    reader: &mut ImageReader,
+) -> Result<Process, RestoreFault>
+    requires begun { HasBegun config.pages machine.guest machine }
+    requires valid { IsValid machine.guest }
+    ensures read { IfOk result (IsReadProcess machine config reader.old reader.new) }
+    ensures refused { result ≡ Err fault.NotAnImage → (s : Saved)
+        → IsWellTyped machine.guest config s → reader.old ≢ image s }
+{
+    let Some(progress) = read_progress(reader) else {
+        return Err(RestoreFault::NotAnImage);
+    };
+    let (counts, end) = (progress.counts, progress.end);
+    let machine = restore_machine(alloc, machine, end.phase, reader)?;
+    let host = restore_host(alloc, config, counts, end, progress.streams, reader)?;
+    put_together(alloc, machine, host, &progress)
+}
+
+/// The process with this machine, this host and these counts, if there is one.
+fn put_together(
+    alloc: Global,
+    machine: Machine,
+    host: Host,
+    progress: &Progress,
+) -> Result<Process, RestoreFault>
+    requires shows { ShowsSome machine }
+    requires linked { HasLinkableGuest machine }
+    ensures made { IfOk result (λ p. p ≡ process_behind progress.now machine host) }
+    ensures refused { result ≡ Err fault.NotAnImage
+        → IsProcess (process_behind progress.now machine host) → ⊥ }
+{
+    let parts = ProcessParts {
+        machine,
+        host,
+        steps: progress.counts.steps,
+        answers: progress.counts.answers,
+        requests: progress.counts.requests,
+        ended: end_in(progress.end.phase),
+    };
+    match Process::from_parts(alloc, parts) {
+        Some(process) => Ok(process),
+        None => Err(RestoreFault::NotAnImage),
+    }
+}
+
+/// How a process has ended in this phase, if it has.
+fn end_in(phase: ReadPhase) -> Option<ProcessEnd>
+    ensures { result ≡ end_in phase }
+{
+    match phase {
+        ReadPhase::Starting | ReadPhase::Running => None,
+        ReadPhase::Exited(code) => Some(ProcessEnd::Exited(code)),
+        ReadPhase::Trapped(why) => Some(ProcessEnd::Trapped(why)),
+    }
+}
+
+impl From<LinkFault> for RestoreFault {
+    ghost from_gives = { λ fault made. made ≡ fault_of_link fault };
+
+    fn from(fault: LinkFault) -> RestoreFault {
+        match fault {
+            LinkFault::Memory => RestoreFault::Memory,
+            _ => RestoreFault::NotAnImage,
+        }
+    }
+}
