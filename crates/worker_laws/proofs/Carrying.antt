@@ -15,6 +15,7 @@ use Rattle.sector_disk.specs.rules.Image.{Image}
 use Rattle.sector_disk.specs.rules.Medium.{Medium, LeavesOnly}
 use Rattle.sector_disk.proofs.Moments.{leaves_weaker}
 use Rattle.disk_layout.specs.rules.Journal.{Record}
+use Rattle.journal.specs.rules.State.{JournalState}
 use Rattle.record_replay.specs.rules.Records.{none, given_in}
 use Rattle.record_replay.proofs.Recordings.{recorded_count, recorded_emit, recorded_join}
 use Rattle.worker_rules.specs.Stands.{IsBlank}
@@ -24,7 +25,8 @@ use Rattle.worker_rules.proofs.Disks.{blank_stands_for_none}
 use Rattle.worker_laws.specs.laws.Savepoints.{Savepoint, point_of, StandsAtPoint, StandsBySaved}
 use Rattle.worker_laws.specs.laws.Barriers.{StandsAtFront}
 use Rattle.worker_laws.specs.laws.Commits.{BeginsAtPoint}
-use Rattle.worker_laws.specs.laws.Carried.{answers_at, count_at, IsHeldAt, HeldAtStands}
+use Rattle.worker_laws.specs.laws.Carried.{answers_at, count_at, IsHeldAt, IsCarried}
+use Rattle.worker_laws.specs.laws.Carried.{HeldAtStands}
 use Rattle.worker_laws.specs.laws.Carried.{MarkedIsHeld, BlankIsUnopened, StaysCarried}
 use Rattle.worker_laws.specs.laws.Carried.{StandsHeldAt, PromisesNoMore, LessIsHeld}
 use Rattle.worker_laws.specs.laws.Carried.{NextIsHeld, FreshIsHeld, CheckpointIsHeld}
@@ -162,7 +164,7 @@ module _ (m : Module) (config : Settings) (promise : Promise) (point : Savepoint
   all_within = within_of (count_at point (records ++ pending)) promise.kept
       (answers_at point (records ++ pending)) answers (answers_count point (records ++ pending))
 
-  front_is_held : (disk : Image) → StandsAtFront point records last pending disk
+  pub front_is_held : (disk : Image) → StandsAtFront point records last pending disk
       → HoldsPromise m config promise promise disk
   front_is_held disk at =
       let some : List Record = take at.count pending in
@@ -426,8 +428,32 @@ point_opens m config promise point stage held shut last =
 
 -- ---- a disk
 
+-- all records on it and in memory hold what is promised
+pub all_is_held : (m : Module) (config : Settings) (promise : Promise)
+    (point : Savepoint m config) (journal : JournalState) (records pending : List Record)
+    (last now : ProcessState) (disk : Medium)
+    → IsCarried promise point journal records pending last now disk
+    → IsHeldAt promise point (records ++ pending) now
+all_is_held m config promise point journal records pending last now disk is =
+    let guest = point.reached.guest in
+    let journaled = is.journaled in
+    let held = is.held in
+    let all : List Record = records ++ pending in
+    let long : length all ≡ length records + length pending = length-append records pending in
+    record {
+      front = is.answers;
+      recorded = recorded_join guest point.process last now records pending held.recorded
+          journaled.recorded;
+      holds = holds_grow m config promise.kept promise (count_at point records)
+          (count_at point all) last.steps now.steps held.holds (omega (arith, long))
+          (all_within m config promise point records pending last held is.answers)
+          (recorded_count guest last now pending journaled.recorded);
+      heard = held.heard;
+      passed = held.passed;
+    }
+
 -- where each image that is left holds it, a call carries it
-carries : (m : Module) (config : Settings) (less promise : Promise) (old new : Medium)
+pub carries : (m : Module) (config : Settings) (less promise : Promise) (old new : Medium)
     (P : Image → Type 0) → PromisesNoMore less promise
     → ((disk : Image) → P disk → HoldsPromise m config promise promise disk)
     → LeavesOnly old new P → CarriesPromise m config less promise old new
@@ -462,26 +488,11 @@ module _ {D : Type 0} (medium : D → Medium) where
 
   pub barrier_carries_on : BarrierCarriesOn medium
   barrier_carries_on m config promise point before later records pending last now old new is goes =
-      let guest = point.reached.guest in
-      let journaled = is.journaled in
-      let held = is.held in
-      let all : List Record = records ++ pending in
-      let long : length all ≡ length records + length pending = length-append records pending in
       record {
         journaled = goes;
-        held = record {
-          front = is.answers;
-          recorded = recorded_join guest point.process last now records pending held.recorded
-              journaled.recorded;
-          holds = holds_grow m config promise.kept promise (count_at point records)
-              (count_at point all) last.steps now.steps held.holds (omega (arith, long))
-              (all_within m config promise point records pending last held is.answers)
-              (recorded_count guest last now pending journaled.recorded);
-          heard = held.heard;
-          passed = held.passed;
-        };
+        held = all_is_held m config promise point before records pending last now (medium old) is;
         answers = subst (λ (l : List Record). take (count_at point l) promise.kept
-            ≡ answers_at point l) (sym (append-nil all)) is.answers;
+            ≡ answers_at point l) (sym (append-nil (records ++ pending))) is.answers;
       }
 
   pub commit_carries : CommitCarries medium

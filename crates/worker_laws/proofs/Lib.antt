@@ -14,3 +14,8 @@ pub mod Telling
 pub mod Reopening
 pub mod Carrying
 pub mod Raising
+pub mod AtHand
+pub mod Saving
+pub mod Anew
+pub mod Recovering
+pub mod TurnLemmas

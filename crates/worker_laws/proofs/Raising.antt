@@ -100,7 +100,7 @@ one_at_step m config kept a b n p q valid left right =
     }
 
 -- Those that take more answers take more steps.
-later_step : (m : Module) (config : Settings) (kept : List Kept) (a b n k : ℕ)
+pub later_step : (m : Module) (config : Settings) (kept : List Kept) (a b n k : ℕ)
     (p q : ProcessState) → IsValid m → length (take a kept) < length (take b kept)
     → Reaches m config (take a kept) n p → Reaches m config (take b kept) k q → n < k
 later_step m config kept a b n k p q valid less left right =
@@ -219,7 +219,7 @@ moved_syncs_are_held m config kept held guest p q given moves syncs k a below be
     syncs k a (omega (arith, below, counted)) behind
 
 -- a sync behind answers of which the last isn't needed
-behind_front : (m : Module) (config : Settings) (kept more_kept : List Kept) (k a : ℕ)
+pub behind_front : (m : Module) (config : Settings) (kept more_kept : List Kept) (k a : ℕ)
     → a ≤ length kept → AnswersBehindSync m config (kept ++ more_kept) k a
     → AnswersBehindSync m config kept k a
 behind_front m config kept more_kept k a within behind = record {
@@ -300,7 +300,7 @@ answered_syncs_are_held m config kept held p kind a valid reached wants syncs k 
 -- ---- events
 
 -- a line stays behind as many answers where more are kept
-line_of_more : (m : Module) (config : Settings) (kept more_kept : List Kept) (i a : ℕ)
+pub line_of_more : (m : Module) (config : Settings) (kept more_kept : List Kept) (i a : ℕ)
     → AnswersBehindLine m config kept i a → AnswersBehindLine m config (kept ++ more_kept) i a
 line_of_more m config kept more_kept i a behind = record {
   within = longer a (length kept) (length (kept ++ more_kept)) (length more_kept) behind.within

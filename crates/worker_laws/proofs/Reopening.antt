@@ -212,7 +212,7 @@ module _ (m : Module) (config : Settings) (guest : Guest) where
         },
       )
 
-  no_lines : (p : ProcessState) → IsStart m config guest p → length p.host.lines ≡ 0
+  pub no_lines : (p : ProcessState) → IsStart m config guest p → length p.host.lines ≡ 0
   no_lines p start =
       ap (λ z. length z.host.lines) start.is
       ∙ lines_closed start.first.thread start.first.later _ refl refl refl

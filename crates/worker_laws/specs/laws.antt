@@ -12,3 +12,8 @@ pub mod Telling
 pub mod Reopening
 pub mod Carried
 pub mod Raised
+pub mod AtHand
+pub mod Saves
+pub mod Anew
+pub mod Recovered
+pub mod Turns

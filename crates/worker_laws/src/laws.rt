@@ -40,6 +40,12 @@ ghost use Rattle.worker_laws.specs.laws.Raised.{AnsweredSyncsAreHeld, AnswerIsOn
 ghost use Rattle.worker_laws.specs.laws.Raised.{MovedSyncsAreHeld};
 ghost use Rattle.worker_laws.specs.laws.Raised.{ToldCarries, AskedCarries, EndedCarries};
 ghost use Rattle.worker_laws.specs.laws.Raised.{AppendCarries, CarriedIsReached};
+ghost use Rattle.worker_laws.specs.laws.AtHand.{ShownIsSaved, ShownIsNumbered, NextIsAtHand};
+ghost use Rattle.worker_laws.specs.laws.AtHand.{FirstIsAtHand};
+ghost use Rattle.worker_laws.specs.laws.Saves.{SaveAtAnyMoment, SaveCarries, SavingCheckpoints};
+ghost use Rattle.worker_laws.specs.laws.Saves.{EndsPromiseNoLess};
+ghost use Rattle.worker_laws.specs.laws.Anew.{CreationOpens};
+ghost use Rattle.worker_laws.specs.laws.Recovered.{RetoldIsHeld, RecoveryOpens};
 
 use sector_disk::Disk;
 
@@ -189,4 +195,35 @@ pub fn events_carry_promises<D: Disk>()
     ensures ended { EndedCarries D.medium }
     ensures appended { AppendCarries D.medium }
     ensures reached { CarriedIsReached D.medium }
+{}
+
+/// What is saved of the process at hand is each process that it shows. It is a savepoint of the
+/// next generation, and one that begins is a first savepoint.
+pub fn processes_are_savepoints()
+    ensures saved { ShownIsSaved }
+    ensures numbered { ShownIsNumbered }
+    ensures next { NextIsAtHand }
+    ensures first { FirstIsAtHand }
+{}
+
+/// A barrier and a commit, one after the other, save a worker: at each moment its disk keeps what
+/// is promised, and in the end what a checkpoint promises.
+pub fn saves_carry_promises<D: Disk>()
+    ensures moment { SaveAtAnyMoment D.medium }
+    ensures carries { SaveCarries D.medium }
+    ensures checkpoint { SavingCheckpoints D.medium }
+    ensures ends { EndsPromiseNoLess }
+{}
+
+/// A creation keeps what is promised at each moment. In the end its disk holds what the opening
+/// promises.
+pub fn creations_open_workers<D: Disk>()
+    ensures { CreationOpens D.medium }
+{}
+
+/// So does a recovery, also once lines were told again. In the end its disk holds what its opening
+/// promises.
+pub fn recoveries_open_workers<D: Disk>()
+    ensures told { RetoldIsHeld }
+    ensures opens { RecoveryOpens D.medium }
 {}

@@ -25,6 +25,11 @@
 //!   promised, or nothing was promised.
 //! - `disks_carry_promises`: the disk of an open worker (`IsCarried`) keeps what is promised. So it
 //!   does at each moment of a barrier, of a commit and of a creation, and behind their errors.
+//! - `processes_are_savepoints`: the process at hand is the next savepoint, wherever the records of
+//!   the last one have led (`IsNextOf`); one that begins is a first savepoint.
+//! - `saves_carry_promises`: a barrier and a commit, one after the other, keep what is promised, and
+//!   in the end what a checkpoint promises. `creations_open_workers`: so does a creation, and in the
+//!   end what its opening promises.
 //! - `events_carry_promises`, `syncs_are_held`: so it is behind each event. Which syncs of the
 //!   guest need no answer but those on the disk follows from the steps between two barriers.
 //!
@@ -38,6 +43,14 @@
 //! - `lives_are_opened`: a recovery keeps it by what it tells, and by its opening. A fresh worker
 //!   holds what was promised where nothing was.
 //!
+//! The calls of `turns` join parts of a call on a disk:
+//!
+//! - `images_hold_still`: an image that held what was promised holds it still, while lines are told
+//!   and answers are kept.
+//! - `parts_leave_begun`: what is promised only grows, and the call is the one that began.
+//! - `turns_join`: parts one after the other leave, at each moment, what holds what was promised
+//!   when the first one began.
+//!
 //! # Definitions to read
 //!
 //! None: those of `worker_rules`, `journal`, `snapshot` and `disk_layout` are enough. In
@@ -49,9 +62,10 @@
 //!
 //! # Who may touch what
 //!
-//! There is no code here but the empty functions of `laws` and `events`. No code uses it yet. The
-//! crate takes no memory, and has no errors.
+//! There is no code here but the empty functions of `laws`, `events` and `turns`. `worker_store` and
+//! `durable_worker` are proved by them. The crate takes no memory, and has no errors.
 #![tactic(auto)]
 
 pub mod events;
 pub mod laws;
+pub mod turns;

@@ -2,7 +2,7 @@ mod FillLemmas
 mod SinkLemmas
 mod SavingLemmas
 mod ZeroLemmas
-mod StoreLemmas
+pub mod StoreLemmas
 mod CreationLemmas
 mod FirstLemmas
 mod ReadLemmas

@@ -30,7 +30,7 @@ use Rattle.worker_laws.proofs.Passing.{commit_keeps_at_any_moment, commit_keeps_
 use Rattle.worker_store.specs.declared.store.WorkerStore.{WorkerStore}
 use Rattle.worker_store.specs.laws.Laws.{AppendStores}
 use Rattle.worker_store.specs.rules.Stores.{IsStoreOf}
-use Rattle.worker_store.specs.rules.Calls.{LeavesBeforeOrNext, StoresAgain}
+use Rattle.worker_store.specs.rules.Calls.{LeavesBeforeOrNext, LeavesPointOrNext, StoresAgain}
 use Rattle.worker_store.specs.rules.Calls.{LeavesFronts, StoresAll, LeavesOneOfTwo, StoresNext}
 
 -- ---- records
@@ -212,6 +212,23 @@ module _ {D : Type 0} (medium : D → Medium) where
         (subst (λ (p : Geometry). LeavesOnly (medium old) (medium new)
         (After (Commits p next.generation IMAGE_VERSION (image next.saved))
         (medium old).may_leave)) again.placed
+        (subst (λ k. LeavesOnly (medium old) (medium new)
+        (After (Commits geometry k IMAGE_VERSION (image next.saved)) (medium old).may_leave))
+        (sym again.generation)
+        (subst (λ s. LeavesOnly (medium old) (medium new)
+        (After (Commits geometry g IMAGE_VERSION (image s)) (medium old).may_leave))
+        (sym again.saved) leaves)))
+
+    pub reopening_leaves_point : LeavesOnly (medium old) (medium new)
+        (After (Commits geometry g IMAGE_VERSION (image (saved_of process)))
+        (medium old).may_leave) → LeavesPointOrNext geometry g process (medium old) (medium new)
+    reopening_leaves_point leaves m config point next records last again comes all =
+        let placed : geometry ≡ places point =
+        again.placed ∙ ap (λ w. geometry_of config (length w)) comes.wasm in
+        commit_at_any_moment medium m config point next records last old new all comes
+        (subst (λ (p : Geometry). LeavesOnly (medium old) (medium new)
+        (After (Commits p next.generation IMAGE_VERSION (image next.saved))
+        (medium old).may_leave)) placed
         (subst (λ k. LeavesOnly (medium old) (medium new)
         (After (Commits geometry k IMAGE_VERSION (image next.saved)) (medium old).may_leave))
         (sym again.generation)

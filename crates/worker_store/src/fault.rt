@@ -33,10 +33,10 @@ pub enum StoreFault {
     #[error("{0}")]
     Disk(DiskFault),
     /// Memory ran out.
-    #[error("D1 Memory")]
+    #[error("out of memory")]
     Memory,
     /// An earlier call failed.
-    #[error("D2 Failed")]
+    #[error("an earlier call failed")]
     Failed,
 }
 

@@ -19,17 +19,19 @@ pub struct WorkerStore {
 }
 
 impl WorkerStore {
-    ghost use Rattle.std.specs.Prelude.{◌≡◌, ◌+◌, ◌<◌, ◌≤◌, true, IfErr, IfOk, OnErr, OnOk, length};
+    ghost use Rattle.std.specs.Prelude.{◌≡◌, ◌+◌, ◌<◌, ◌≤◌, [], false, true, IfErr, IfOk, OnErr, OnOk};
+    ghost use Rattle.std.specs.Prelude.{length};
     ghost use Rattle.disk_layout.specs.rules.Journal.{record_bytes};
     ghost use Rattle.disk_layout.specs.rules.Places.{total_sectors};
-    ghost use Rattle.sector_disk.specs.rules.Medium.{MakesCalls};
-    ghost use Rattle.journal.specs.rules.State.{room_of};
+    ghost use Rattle.sector_disk.specs.rules.Medium.{MakesCalls, Passes};
+    ghost use Rattle.journal.specs.rules.State.{room_of, state};
     ghost use Rattle.journal.specs.rules.Steps.{RecordFits, barrier_calls};
-    ghost use Rattle.worker_store.specs.rules.Stores.{with_record};
+    ghost use Rattle.worker_store.specs.rules.Stores.{with_record, IsOfStore};
     ghost use Rattle.worker_store.specs.rules.Calls.{AppendFails, LeavesFronts, StoresAll};
     ghost use Rattle.worker_store.specs.rules.Calls.{BarrierFails, LeavesOneOfTwo, StoresNext};
     ghost use Rattle.worker_store.specs.rules.Calls.{CommitFails, LeavesBeforeOrNext, StoresAgain};
     ghost use Rattle.worker_store.specs.rules.Calls.{ReopeningFails, CommitCalls};
+    ghost use Rattle.worker_store.specs.rules.Calls.{LeavesPointOrNext};
     ghost use Rattle.wasi_abi.specs.declared.numbers.TheConstants.{NUMBERS_END};
 
     /// Opens the store of a worker that a recovery has brought back to this process, from the disk
@@ -46,6 +48,8 @@ impl WorkerStore {
 
         // A cut at any moment leaves what stands for the same answers, or this snapshot.
         ensures any_moment { LeavesBeforeOrNext geometry.now generation process.now
+            (D.medium disk.old) (D.medium disk.new) }
+        ensures point_or_next { LeavesPointOrNext geometry.now generation process.now
             (D.medium disk.old) (D.medium disk.new) }
 
         // Once it has answered Ok, each cut leaves this snapshot.
@@ -123,6 +127,8 @@ impl WorkerStore {
         ensures cause { IfErr result (λ e.
             BarrierFails self.old (D.medium disk.old) (D.medium disk.new) e) }
         ensures fails { OnErr result (self.new.has_failed ≡ true) }
+        ensures stays { IsOfStore self.old self.new }
+        ensures passes { Passes (D.medium disk.old) (D.medium disk.new) (λ _. Unit {0}) }
         ensures refused { self.old.has_failed ≡ true
             → (result ≡ Err StoreFault.Failed) × (self.new ≡ self.old) × (disk.new ≡ disk.old) }
     {
@@ -164,6 +170,12 @@ impl WorkerStore {
         ensures cause { IfErr result (λ e.
             CommitFails self.old process.now (D.medium disk.old) (D.medium disk.new) e) }
         ensures fails { OnErr result (self.new.has_failed ≡ true) }
+        ensures stays { self.new.geometry ≡ self.old.geometry }
+        ensures numbered { OnOk result
+            (self.new.journal.generation ≡ self.old.journal.generation + 1) }
+        ensures fresh { OnOk result
+            (self.new.journal ≡ state self.new.journal.generation 0 [] false) }
+        ensures passes { Passes (D.medium disk.old) (D.medium disk.new) (λ _. Unit {0}) }
         ensures refused { self.old.has_failed ≡ true
             → (result ≡ Err StoreFault.Failed) × (self.new ≡ self.old) × (disk.new ≡ disk.old) }
     {

@@ -124,6 +124,14 @@ LeavesBeforeOrNext geometry g process old new =
     → IsAgain geometry g process next → LeavesAll old (StandsBefore next kept n)
     → LeavesOnly old new (λ disk. StandsBefore next kept n disk ⊎ BeginsAtPoint next disk)
 
+-- A cut at any moment leaves the savepoint and the records that stood there, or the new snapshot.
+abbrev pub LeavesPointOrNext : Geometry → ℕ → ProcessValue → Medium → Medium → Type 0
+LeavesPointOrNext geometry g process old new =
+    (m : Module) (config : Settings) (point next : Savepoint m config) (records : List Record)
+    (last : ProcessState) → IsAgain geometry g process next → IsNextPoint point next
+    → LeavesAll old (StandsAtPoint point records last)
+    → LeavesOnly old new (λ disk. StandsAtPoint point records last disk ⊎ BeginsAtPoint next disk)
+
 -- the disk begins at the new snapshot, and there are no records
 abbrev pub StoresAgain : Geometry → ℕ → ProcessValue → WorkerStore → Medium → Medium → Type 0
 StoresAgain geometry g process store old new =

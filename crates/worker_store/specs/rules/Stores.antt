@@ -35,3 +35,8 @@ with_record store r = record store {
   journal = state store.journal.generation store.journal.used (store.journal.kept ++ record_bytes r)
       false;
 }
+
+-- it keeps the same places and the same generation
+pub record IsOfStore (before after : WorkerStore) : Type 0 where
+  pub geometry : after.geometry ≡ before.geometry
+  pub generation : after.journal.generation ≡ before.journal.generation

@@ -1,6 +1,8 @@
-use Rattle.std.proofs.Common.{◌+◌, length, refl, arith}
+use Rattle.std.proofs.Common.{◌+◌, length, refl, ap, arith}
 use Rattle.std.specs.Prelude.{Result, Err}
+use Rattle.sector_disk.proofs.Moments.{started, weaker}
 use Rattle.disk_layout.specs.rules.Places.{area_place, rounded_up}
+use Rattle.journal.specs.rules.State.{JournalState}
 use Rattle.snapshot.specs.declared.fault.SnapshotFault.{SnapshotFault}
 use Rattle.snapshot.specs.declared.writing.Writing.TheVariants.{Changes}
 use Rattle.state_image.specs.rules.Image.{image}
@@ -75,3 +77,26 @@ returns-clause-calls g c early =
     (g.D.Disk.medium c.write_snapshot-written.new.disk)
     (let e = c.saturating_add-next.ensures in let s = c.generation.ensures in
     omega (arith, early, e, s)) tt tt c.in_default.ensures.calls
+
+pub returns-then-self-clause-passes : goal.returns-then-self-clause-passes
+returns-then-self-clause-passes g c = started (g.D.Disk.medium c.args.disk.now) (λ image. Unit {0})
+
+pub returns-in-Err-clause-passes : goal.returns-in-Err-clause-passes
+returns-in-Err-clause-passes g c =
+    let leaves = c.write_snapshot-written.ensures.any_moment in
+    weaker (g.D.Disk.medium c.args.disk.now) (g.D.Disk.medium c.write_snapshot-written.new.disk) _
+    (λ image. Unit {0}) leaves.passes (λ image at. tt)
+
+pub returns-clause-passes : goal.returns-clause-passes
+returns-clause-passes g c =
+    let leaves = c.write_snapshot-written.ensures.any_moment in
+    weaker (g.D.Disk.medium c.args.disk.now) (g.D.Disk.medium c.write_snapshot-written.new.disk) _
+    (λ image. Unit {0}) leaves.passes (λ image at. tt)
+
+pub returns-clause-numbered : goal.returns-clause-numbered
+returns-clause-numbered g c =
+    let fresh = ap (λ (j : JournalState). j.generation) c.fresh.ensures in
+    let early = c.in_default.ensures.early in
+    let next = c.saturating_add-next.ensures in
+    let now = c.generation.ensures in
+    omega (arith, fresh, early, next, now)

@@ -9,7 +9,8 @@ use Rattle.state_image.specs.rules.Saving.{saved_of}
 use Rattle.worker_store.specs.declared.fault.StoreFault.{StoreFault}
 use Rattle.worker_store.proofs.SavingLemmas.{stored_err, stored_ok}
 use Rattle.worker_store.specs.declared.store.WorkerStore.{WorkerStore}
-use Rattle.worker_store.proofs.StoreLemmas.{reopening_leaves, reopening_stores}
+use Rattle.worker_store.proofs.StoreLemmas.{reopening_leaves, reopening_leaves_point}
+use Rattle.worker_store.proofs.StoreLemmas.{reopening_stores}
 use Rattle.worker_store.proofs.store.WorkerStore.reopen.Goals as goal
 
 pub returns-in-Err-clause-any_moment : goal.returns-in-Err-clause-any_moment
@@ -56,3 +57,15 @@ returns-clause-calls g c =
     (rounded_up (length (image (saved_of c.args.process.now)))) c.args.generation c.args.generation
     (g.D.Disk.medium c.args.disk.now) (g.D.Disk.medium c.write_snapshot-written.new.disk) refl
     store tt c.in_default.ensures.calls
+
+pub returns-in-Err-clause-point_or_next : goal.returns-in-Err-clause-point_or_next
+returns-in-Err-clause-point_or_next g c =
+    reopening_leaves_point g.D.Disk.medium c.args.geometry.now c.args.generation
+    c.args.process.now c.args.disk.now c.write_snapshot-written.new.disk
+    c.write_snapshot-written.ensures.any_moment
+
+pub returns-clause-point_or_next : goal.returns-clause-point_or_next
+returns-clause-point_or_next g c =
+    reopening_leaves_point g.D.Disk.medium c.args.geometry.now c.args.generation
+    c.args.process.now c.args.disk.now c.write_snapshot-written.new.disk
+    c.write_snapshot-written.ensures.any_moment

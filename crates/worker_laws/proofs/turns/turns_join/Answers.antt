@@ -1,0 +1,14 @@
+use Rattle.worker_laws.proofs.TurnLemmas.{turns_join, turns_carry, rests_go_on, lines_carry}
+use Rattle.worker_laws.proofs.turns.turns_join.Goals as goal
+
+pub returns-clause-joined : goal.returns-clause-joined
+returns-clause-joined g c = turns_join g.D.Disk.medium
+
+pub returns-clause-carried : goal.returns-clause-carried
+returns-clause-carried g c = turns_carry g.D.Disk.medium
+
+pub returns-clause-rests : goal.returns-clause-rests
+returns-clause-rests g c = rests_go_on g.D.Disk.medium
+
+pub returns-clause-lines : goal.returns-clause-lines
+returns-clause-lines g c = lines_carry g.D.Disk.medium
