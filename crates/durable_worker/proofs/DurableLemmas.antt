@@ -1,0 +1,10 @@
+pub mod OnDisk
+pub mod Ends
+pub mod Settling
+pub mod Rooms
+pub mod Hearing
+pub mod Keeping
+pub mod Asking
+pub mod Advancing
+pub mod Working
+pub mod Slicing

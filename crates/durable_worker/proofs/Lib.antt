@@ -1,0 +1,4 @@
+mod SavingLemmas
+mod ShortAnswers
+mod DurableLemmas
+mod CheckpointLemmas

@@ -1,0 +1,48 @@
+use Rattle.std.proofs.Common.{◌≡◌, ◌≤◌, true, ap, sym, ◌∙◌, subst, Ok, Err}
+use Rattle.disk_layout.specs.rules.Places.{total_sectors}
+use Rattle.worker.specs.declared.fault.WorkFault.TheVariants as work
+use Rattle.durable_worker.specs.declared.fault.DurableFault.TheVariants.{Work}
+use Rattle.worker.specs.Turns.{working}
+use Rattle.durable_worker.specs.rules.DurableValues.{DurableValue, durable_of, without_disk}
+use Rattle.durable_worker.specs.rules.DurableCalls.{SliceCarries}
+use Rattle.worker.proofs.Worked.{slices_of}
+use Rattle.durable_worker.proofs.DurableLemmas.Working.{slice_carries, slice_fails, failed_carries}
+use Rattle.durable_worker.proofs.durable.DurableWorker.slice.Goals as goal
+
+pub returns-then-self-clause-carries : goal.returns-then-self-clause-carries
+returns-then-self-clause-carries g c =
+    failed_carries g.S.Source.gives g.O.Outlet.takes _ _ c.args.fuel
+    (Err (Work work.Failed)) _ _ _ _ _ _
+    (subst (λ (w : DurableValue). w.has_failed ≡ true) c.self.view_is c.if-self.true)
+
+pub returns-in-Ok-clause-done : goal.returns-in-Ok-clause-done
+returns-in-Ok-clause-done g c =
+    let still = sym c.if-self.false in
+    slices_of g.S.Source.gives g.O.Outlet.takes (working c.self.inside.running.process)
+    (working c.work.new.self.process) _ _ c.args.fuel c.in-Ok.now _ _ _ _
+    (ap (λ z. record { process = c.self.inside.running.process; failed = z }) still
+    ∙ ap without_disk c.self.view_is)
+    (ap (λ z. record { process = c.work.new.self.process; failed = z }) still)
+    c.in-Ok.ensures.done
+
+pub returns-in-Ok-clause-carries : goal.returns-in-Ok-clause-carries
+returns-in-Ok-clause-carries g c =
+    subst (λ (w : DurableValue). SliceCarries g.S.Source.gives g.O.Outlet.takes w c.args.fuel
+    (Ok c.in-Ok.now) (durable_of c.work.new.self c.self.inside.replayed c.self.inside.has_failed)
+    (g.D.Disk.medium c.args.disk.now) (g.D.Disk.medium c.work.new.disk) c.args.source.now
+    c.work.new.source c.args.outlet.now c.work.new.outlet) c.self.view_is
+    (slice_carries g.D.Disk.medium g.S.Source.gives g.O.Outlet.takes c.self.inside.running
+    c.work.new.self c.self.inside.replayed c.args.fuel c.self.inside.has_failed
+    c.self.inside.has_failed c.args.disk.now c.work.new.disk c.args.source.now c.work.new.source
+    c.args.outlet.now c.work.new.outlet c.in-Ok.now c.if-self.false c.in-Ok.ensures.works)
+
+pub returns-in-Err-clause-carries : goal.returns-in-Err-clause-carries
+returns-in-Err-clause-carries g c =
+    subst (λ (w : DurableValue). SliceCarries g.S.Source.gives g.O.Outlet.takes w c.args.fuel
+    (Err c.in-Err.fault) (durable_of c.work.new.self c.self.inside.replayed true)
+    (g.D.Disk.medium c.args.disk.now) (g.D.Disk.medium c.work.new.disk) c.args.source.now
+    c.work.new.source c.args.outlet.now c.work.new.outlet) c.self.view_is
+    (slice_fails g.D.Disk.medium g.S.Source.gives g.O.Outlet.takes c.self.inside.running
+    c.work.new.self c.self.inside.replayed c.args.fuel c.self.inside.has_failed true
+    c.args.disk.now c.work.new.disk c.args.source.now c.work.new.source c.args.outlet.now
+    c.work.new.outlet c.in-Err.fault c.in-Err.ensures.works)

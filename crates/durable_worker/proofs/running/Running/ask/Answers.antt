@@ -1,0 +1,26 @@
+use Rattle.std.proofs.Common.{◌+◌, ap}
+use Rattle.std.proofs.lemmas.Result.{err_from_is_err_and}
+use Rattle.durable_worker.proofs.DurableLemmas.Asking.{asks_turn, asks_nothing}
+use Rattle.durable_worker.proofs.DurableLemmas.Slicing.{once_if_ok}
+use Rattle.durable_worker.proofs.running.Running.ask.Goals as goal
+
+pub returns-in_err-make_room-clause-asks : goal.returns-in_err-make_room-clause-asks
+returns-in_err-make_room-clause-asks g c =
+    let p = err_from_is_err_and c.from_residual.result c.from_residual.ensures.1 in
+    rw (p.1, p.2) (asks_nothing g.D.Disk.medium g.S.Source.gives c.args.self.now
+    c.make_room.new.self c.args.kind c.in_err-make_room.field-0.0 c.args.disk.now
+    c.make_room.new.disk c.args.source.now c.in_err-make_room.ensures.fails)
+
+pub returns-clause-once : goal.returns-clause-once
+returns-clause-once g c =
+    once_if_ok g.S.Source.gives c.args.self.now c.make_room.new.self c.hear.new.self c.args.kind
+    (c.steps-step.result + 1) c.hear.result c.args.source.now c.hear.new.source
+    c.in_ok-make_room.ensures.same c.hear.ensures.hears
+
+pub returns-clause-asks : goal.returns-clause-asks
+returns-clause-asks g c =
+    asks_turn g.D.Disk.medium g.S.Source.gives c.args.self.now c.make_room.new.self
+    c.hear.new.self c.args.kind (c.steps-step.result + 1) c.args.disk.now c.make_room.new.disk
+    c.args.source.now c.hear.new.source c.in_ok-make_room.ensures.made
+    c.in_ok-make_room.ensures.same (ap (λ n. n + 1) c.steps-step.ensures.value) c.hear.result
+    c.hear.ensures.hears

@@ -1,0 +1,37 @@
+use Rattle.std.proofs.Common.{refl}
+use Rattle.std.proofs.lemmas.Result.{err_from_is_err_and}
+use Rattle.durable_worker.specs.declared.running.Running.{Running}
+use Rattle.durable_worker.proofs.DurableLemmas.Settling.{settles_not_stored, settles_all}
+use Rattle.durable_worker.proofs.DurableLemmas.Settling.{settles_some}
+use Rattle.durable_worker.proofs.running.Running.settle.Goals as goal
+
+pub returns-in_err-barrier-clause-fails : goal.returns-in_err-barrier-clause-fails
+returns-in_err-barrier-clause-fails g c =
+    let p = err_from_is_err_and c.from_residual.result c.from_residual.ensures.1 in
+    rw (p.1, p.2) (settles_not_stored g.D.Disk.medium g.O.Outlet.takes c.args.self.now
+    c.barrier.new.self c.args.disk.now c.barrier.new.disk c.in_err-barrier.ensures.any_moment
+    c.in_err-barrier.field-0.0 c.args.outlet.now c.in_err-barrier.ensures.cause)
+
+pub returns-in_err-release_waiting-clause-fails : goal.returns-in_err-release_waiting-clause-fails
+returns-in_err-release_waiting-clause-fails g c =
+    let p = err_from_is_err_and c.from_residual-in_err-release_waiting.result
+    c.from_residual-in_err-release_waiting.ensures.1 in
+    let new : Running = record c.args.self.now {
+      process = c.release_waiting.new.process;
+      store = c.barrier.new.self;
+    } in
+    rw (p.1, p.2) (settles_some g.D.Disk.medium g.O.Outlet.takes c.args.self.now
+    c.barrier.new.self c.args.disk.now c.barrier.new.disk c.in_ok-barrier.ensures.any_moment
+    c.in_ok-barrier.ensures.durable new c.args.outlet.now c.release_waiting.new.outlet refl
+    c.in_err-release_waiting.ensures.some)
+
+pub returns-clause-settles : goal.returns-clause-settles
+returns-clause-settles g c =
+    let new : Running = record c.args.self.now {
+      process = c.release_waiting.new.process;
+      store = c.barrier.new.self;
+    } in
+    settles_all g.D.Disk.medium g.O.Outlet.takes c.args.self.now c.barrier.new.self
+    c.args.disk.now c.barrier.new.disk c.in_ok-barrier.ensures.any_moment
+    c.in_ok-barrier.ensures.durable new c.args.outlet.now c.release_waiting.new.outlet refl
+    c.in_ok-release_waiting.ensures.all

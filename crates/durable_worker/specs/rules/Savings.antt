@@ -1,0 +1,63 @@
+-- What a barrier and a commit, one after the other, do to a store and its disk (this project's
+-- own).
+use Rattle.std.specs.Prelude.{◌≡◌, ◌⊎◌, ℕ, ◌+◌, ◌*◌, ◌<◌, ◌≤◌, List, ◌++◌, length, Result}
+use Rattle.wasm_syntax.specs.declared.module.Module.{Module}
+use Rattle.wasi_abi.specs.declared.numbers.TheConstants.{NUMBERS_END}
+use Rattle.wasi_abi.specs.rules.Configs.{Settings}
+use Rattle.process_rules.specs.Processes.{ProcessState}
+use Rattle.process.specs.rules.Values.{ProcessValue}
+use Rattle.state_image.specs.rules.Image.{image}
+use Rattle.state_image.specs.rules.Saving.{saved_of}
+use Rattle.sector_disk.specs.declared.disk_call.DiskCall.{DiskCall}
+use Rattle.sector_disk.specs.declared.sector.TheConstants.{SECTOR_SIZE}
+use Rattle.sector_disk.specs.rules.Medium.{Medium, LeavesOnly, MakesCalls}
+use Rattle.disk_layout.specs.rules.Places.{area_place, rounded_up}
+use Rattle.disk_layout.specs.rules.Journal.{Record}
+use Rattle.journal.specs.rules.Packed.{sectors_for}
+use Rattle.journal.specs.rules.Steps.{barrier_calls}
+use Rattle.snapshot.specs.declared.writing.Writing.TheVariants.{Changes}
+use Rattle.snapshot.specs.rules.Calls.{AreStores, with_head}
+use Rattle.worker_laws.specs.laws.Savepoints.{Savepoint}
+use Rattle.worker_laws.specs.laws.Commits.{IsNextPoint}
+use Rattle.worker_laws.specs.laws.Saves.{StandsAtFrontOrNext}
+use Rattle.worker_store.specs.declared.fault.StoreFault.{StoreFault}
+use Rattle.worker_store.specs.declared.fault.StoreFault.TheVariants.{TooBig, Disk}
+use Rattle.worker_store.specs.declared.store.WorkerStore.{WorkerStore}
+use Rattle.worker_store.specs.rules.Stores.{IsStoreOf}
+
+-- a cut at any moment leaves a front of the records that are pending, or the new snapshot
+abbrev pub LeavesFrontOrNext : WorkerStore → ProcessValue → Medium → Medium → Type 0
+LeavesFrontOrNext store process old new =
+    (m : Module) (config : Settings) (point next : Savepoint m config)
+    (records pending : List Record) (last now : ProcessState)
+    → IsStoreOf point store records pending last now old → IsNextPoint point next
+    → next.saved ≡ saved_of process
+    → LeavesOnly old new (StandsAtFrontOrNext point next records last pending)
+
+-- The records that are pending are written, and synced. Then some sectors of the image are, in
+-- rising order and each once at most, and behind a sync the head of the next generation, and a
+-- sync. After an error these calls are begun.
+abbrev pub SaveCalls : {T : Type 0} → WorkerStore → ProcessValue → Result T StoreFault → Medium
+    → Medium → Type 0
+SaveCalls store process result old new = (stores : List DiskCall)
+    × AreStores Changes (area_place store.geometry (store.journal.generation + 1))
+    (rounded_up (length (image (saved_of process)))) stores
+    × MakesCalls (with_head (store.journal.generation + 1) stores
+    ++ barrier_calls store.geometry store.journal) result old new
+
+-- When each error comes: the generation or the image is too big, or the disk failed, or it surely
+-- takes too few writes between two syncs.
+abbrev pub IsSaveFault : WorkerStore → ProcessValue → Medium → Medium → StoreFault → Type 0
+IsSaveFault store process old new TooBig = (NUMBERS_END ≤ store.journal.generation + 1)
+    ⊎ (SECTOR_SIZE * store.geometry.area_sectors < length (image (saved_of process)))
+IsSaveFault store process old new (Disk fault) =
+    (old.room < sectors_for (length store.journal.kept))
+    ⊎ (old.room < store.geometry.area_sectors) ⊎ (old.room ≡ 0) ⊎ (old.faults < new.faults)
+IsSaveFault store process old new other = ⊥
+
+-- so it is of every store of a worker on this disk
+abbrev pub SaveFails : WorkerStore → ProcessValue → Medium → Medium → StoreFault → Type 0
+SaveFails store process old new fault =
+    (m : Module) (config : Settings) (point : Savepoint m config) (records pending : List Record)
+    (last now : ProcessState) → IsStoreOf point store records pending last now old
+    → IsSaveFault store process old new fault

@@ -1,0 +1,57 @@
+//! A worker's process, saved at its own wish.
+
+use crate::durable::DurableWorker;
+use crate::fault::DurableFault;
+use crate::saving::{is_process, save};
+use sector_disk::Disk;
+use worker::WorkFault;
+use worker_store::laws::images_fit_areas;
+
+impl DurableWorker {
+    ghost use Rattle.std.specs.Prelude.{◌≡◌, ◌+◌, ◌<◌, ◌≤◌, true, IfErr, OnErr, OnOk};
+    ghost use Rattle.wasi_abi.specs.declared.numbers.TheConstants.{NUMBERS_END};
+    ghost use Rattle.disk_layout.specs.rules.Places.{total_sectors};
+    ghost use Rattle.durable_worker.specs.rules.DurableCalls.{CheckpointCarries};
+    ghost use Rattle.durable_worker.specs.rules.Checkpoints.{CheckpointCalls, CheckpointFails};
+    ghost use Rattle.durable_worker.specs.rules.Checkpoints.{IsSavedIn};
+
+    /// Puts all answers on the disk, and then the process, as a snapshot of the next generation.
+    /// What the guest does next is the same with it or without.
+    pub fn checkpoint<D: Disk>(&mut self, disk: &mut D) -> Result<(), DurableFault>
+        requires { total_sectors self.old.store.geometry ≤ (D.medium disk.old).sectors }
+
+        // Whatever was promised is kept, by Ok or by any error; once it has answered Ok, also
+        // that no later life comes behind this process.
+        ensures carries { CheckpointCarries self.old result self.new (D.medium disk.old)
+            (D.medium disk.new) }
+
+        // The process is as it was. Only an error makes the worker fail from then on.
+        ensures saved { OnOk result (IsSavedIn self.old self.new) }
+        ensures process { self.new.process ≡ self.old.process }
+        ensures fails { OnErr result (self.new.has_failed ≡ true) }
+
+        // Its calls: those of a barrier, and then those of a commit. After an error these are
+        // begun.
+        ensures calls { self.old.store.journal.generation < NUMBERS_END
+            → CheckpointCalls self.old result (D.medium disk.old) (D.medium disk.new) }
+        ensures cause { IfErr result (λ e.
+            CheckpointFails self.old (D.medium disk.old) (D.medium disk.new) e) }
+        ensures refused { self.old.has_failed ≡ true
+            → (result ≡ Err (DurableFault.Work WorkFault.Failed)) × (self.new ≡ self.old)
+            × (disk.new ≡ disk.old) }
+        ensures room { total_sectors self.new.store.geometry ≤ (D.medium disk.new).sectors }
+    {
+        if self.has_failed {
+            return Err(DurableFault::Work(WorkFault::Failed));
+        }
+        images_fit_areas();
+        is_process(&self.running.process);
+        let running = &mut self.running;
+        let saved = save(running.alloc, disk, &mut running.store, &running.process);
+        if let Err(fault) = saved {
+            self.has_failed = true;
+            return Err(DurableFault::from(fault));
+        }
+        Ok(())
+    }
+}
