@@ -41,7 +41,7 @@ impl DurableWorker {
         self.running.store.generation()
     }
 
-    /// How many records were replayed when it was recovered.
+    /// How many steps were replayed when it was recovered, 0 for a fresh one.
     pub fn replayed(&self) -> u64
         ensures { result ≡ self.now.replayed }
     {

@@ -1,5 +1,7 @@
 //! A worker on its disk (this project's own): its answers are recorded, its lines are released
-//! behind a barrier, and its process is saved from time to time. Nothing reads the disk again yet.
+//! behind a barrier, and its process is saved from time to time. No function makes such a worker
+//! yet: its creation and its recovery are to come. What is proved holds of any that is open on its
+//! disk (`IsOpenOn`).
 //!
 //! # Promises
 //!
