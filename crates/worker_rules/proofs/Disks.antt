@@ -1,7 +1,7 @@
 -- What disk images stand for.
 use Rattle.std.proofs.Common.{◌≡◌, ℕ, zero, suc, ◌+◌, ◌-◌, ◌%◌, ◌^◌, ◌<◌, ◌≤◌, Bool, false, List}
-use Rattle.std.proofs.Common.{[], ◌∷◌, ◌++◌, Some, if◌then◌else◌, refl, sym, ap, ◌∙◌, subst, arith}
-use Rattle.std.proofs.Common.{lit≤, get_or}
+use Rattle.std.proofs.Common.{[], ◌∷◌, ◌++◌, Some, Result, Ok, if◌then◌else◌, refl, sym, ap, ◌∙◌}
+use Rattle.std.proofs.Common.{subst, arith, lit≤, get_or}
 use Rattle.std.specs.Prelude.{map, length, take}
 use Rattle.std.proofs.lemmas.Bool.{eq-eqb}
 use Rattle.sha2.specs.Sha256.{sha256}
@@ -11,23 +11,29 @@ use Rattle.wasm_syntax.specs.declared.module.Module.{Module}
 use Rattle.wasm_syntax_rules.specs.Configuration.{Thread}
 use Rattle.wasi_abi.specs.rules.Configs.{Settings}
 use Rattle.process_rules.specs.Processes.{ProcessState, Guest, IsStart, closed_at}
-use Rattle.process_rules.specs.Runs.{Runs}
+use Rattle.process_rules.specs.Runs.{Kept, Runs}
 use Rattle.process_rules.proofs.Growing.{move_counts, runs_count}
 use Rattle.process_rules.proofs.Quiet.{runs_join}
 use Rattle.sector_disk.specs.rules.Image.{Image, sector_at}
 use Rattle.disk_layout.specs.rules.Places.{Geometry, geometry_of, config_bytes, head_place}
-use Rattle.disk_layout.specs.rules.Places.{journal_place}
+use Rattle.disk_layout.specs.rules.Places.{journal_place, total_sectors}
 use Rattle.disk_layout.specs.declared.superblock.TheConstants.{SUPER_END_MARK}
 use Rattle.disk_layout.specs.rules.Sectors.{IsMarked, super_bytes, stamp_of, shown_generation}
 use Rattle.disk_layout.specs.rules.Journal.{is_of, payloads_from}
+use Rattle.disk_layout.specs.declared.fault.LayoutFault.{LayoutFault}
+use Rattle.disk_layout.specs.declared.reading.contents.Contents.{Contents}
+use Rattle.disk_layout.specs.rules.Held.{GivesContents}
 use Rattle.disk_layout.proofs.FieldLemmas.{drop_over}
+use Rattle.disk_layout.proofs.ReadingLemmas.HeldLemmas.{one_answer}
+use Rattle.disk_layout.proofs.ReadingLemmas.WrittenLemmas.{reads_what_is_written}
 use Rattle.disk_layout.proofs.JournalLemmas.{is_of_other}
 use Rattle.record_replay.specs.rules.Records.{none as no_record, more, given_in}
 use Rattle.record_replay.proofs.Recordings.{recorded_runs}
-use Rattle.worker_rules.specs.Stands.{ShowsNoneLater}
+use Rattle.worker_rules.specs.Stands.{ShowsNoneLater, StandsFor}
 use Rattle.worker_rules.specs.laws.Disks.{StandsForWhatIsReached, RecordsAscend, StandsByItsParts}
 use Rattle.worker_rules.specs.laws.Disks.{BlankStandsForNone, NoLaterImage, NoLaterPayload}
 use Rattle.worker_rules.specs.laws.Disks.{OneGeneration, tiny, tiny_disk, DiskExamples}
+use Rattle.worker_rules.specs.laws.Disks.{OneSpelledWorker, StandsWithin, BlankIsWithin}
 
 -- ---- what is reached
 
@@ -138,6 +144,51 @@ one_generation disk m other config settings kept others n k left right =
     let down = no_later_image _ _ disk left.generation right.generation 1 _ left.none_later
     right.holds in
     omega (arith, up, down)
+
+-- the contents that a worker's disk gives
+abbrev contents_of : Settings → List ℕ → Contents
+contents_of config wasm = record {
+  geometry = geometry_of config (length wasm);
+  config = config;
+  wasm = wasm;
+}
+
+-- so they are read on any disk that has room
+gives_contents : (disk : Image) (m : Module) (config : Settings) (kept : List Kept)
+    (n sectors : ℕ) (stands : StandsFor disk m config kept n)
+    → total_sectors (geometry_of config (length stands.wasm)) ≤ sectors
+    → GivesContents sectors disk (Ok (contents_of config stands.wasm))
+gives_contents disk m config kept n sectors stands room =
+    let size : length stands.wasm ≤ 2097152 = stands.accepted.limits.size in
+    let long : length stands.wasm < 2 ^ 32 = omega (arith, size) in
+    reads_what_is_written sectors disk config stands.wasm stands.settings long stands.worker room
+
+same_contents : (a b : Contents) (one other : Result Contents LayoutFault) → one ≡ Ok a
+    → other ≡ Ok b → one ≡ other → a ≡ b
+same_contents a b one other x y e = cc
+
+pub one_spelled_worker : OneSpelledWorker
+one_spelled_worker disk m other config settings kept others n k left right =
+    let x : ℕ = total_sectors (geometry_of config (length left.wasm)) in
+    let y : ℕ = total_sectors (geometry_of settings (length right.wasm)) in
+    let same = same_contents (contents_of config left.wasm) (contents_of settings right.wasm)
+    (Ok (contents_of config left.wasm)) (Ok (contents_of settings right.wasm)) refl refl
+    (one_answer (x + y) disk (Ok (contents_of config left.wasm))
+    (Ok (contents_of settings right.wasm)) tt tt
+    (gives_contents disk m config kept n (x + y) left (omega arith))
+    (gives_contents disk other settings others k (x + y) right (omega arith))) in
+    (ap (λ (c : Contents). c.config) same, ap (λ (c : Contents). c.wasm) same)
+
+pub stands_within : StandsWithin
+stands_within disk m config kept n latest sectors stands early room other settings others k
+    again =
+    let one = one_generation disk m other config settings kept others n k stands again in
+    let spelled = one_spelled_worker disk m other config settings kept others n k stands again in
+    (rw one at early, rw (spelled.0, spelled.1) at room)
+
+pub blank_is_within : BlankIsWithin
+blank_is_within disk latest sectors blank m config kept n stands =
+    absurd (blank_stands_for_none disk m config kept n blank stands)
 
 no_payloads : (disk : Image) (h sector place count : ℕ)
     → is_of h place (sector_at disk sector) ≡ false → payloads_from disk h sector place count ≡ []

@@ -1,16 +1,18 @@
 -- What the next life finds, and that lives go on.
-use Rattle.std.proofs.Common.{inl, List, [], ◌∷◌, refl, sym, ap, subst}
+use Rattle.std.proofs.Common.{inl, ℕ, List, [], ◌∷◌, refl, sym, ap, subst}
 use Rattle.wasm_syntax.specs.declared.module.Module.{Module}
 use Rattle.wasi_abi.specs.rules.Configs.{Settings}
 use Rattle.sector_disk.specs.rules.Image.{Image}
 use Rattle.sector_disk.specs.rules.Medium.{Medium}
 use Rattle.worker_rules.specs.Lives.{Inputs, Life, Finished, Stopped, Failed}
 use Rattle.worker_rules.specs.Promises.{Promise, nothing_yet, promised_by, GoOn}
-use Rattle.worker_rules.specs.Holds.{KeepsPromise}
+use Rattle.worker_rules.specs.Holds.{KeepsPromise, KeepsBounds, IsBounded}
 use Rattle.worker_rules.specs.Between.{IsFoundAfterCut, AreLivedOn, more}
 use Rattle.worker_rules.specs.laws.Found.{FoundWasLeft, FoundIsAsLong, IsSettledAfterCut}
 use Rattle.worker_rules.specs.laws.Found.{FoundIsSettled, NoWorkerComes, NextLifeFindsIt}
+use Rattle.worker_rules.specs.laws.Found.{NextLifeIsWithin}
 use Rattle.worker_rules.specs.laws.Found.{LivesGoOn}
+use Rattle.worker_rules.proofs.Disks.{blank_is_within}
 
 cut_was_left : (left found : Medium) (image : Image) → IsFoundAfterCut left found
     → found.may_leave image → left.may_leave image
@@ -56,20 +58,31 @@ module _ {D : Type 0} (medium : D → Medium) where
   next_life_finds_it m config promise ends left found keeps finds image leaves =
       keeps image (found_was_left ends left found image finds leaves)
 
+  pub next_life_is_within : NextLifeIsWithin medium
+  next_life_is_within latest ends left found keeps finds image leaves =
+      subst (λ (sectors : ℕ). IsBounded latest sectors image)
+      (sym (found_is_as_long ends left found finds))
+      (keeps image (found_was_left ends left found image finds leaves))
+
   lives_on : (m : Module) (config : Settings) (so_far : Promise) (inputs : List Inputs)
       (lives : List Life) (disk : D) → KeepsPromise m config so_far (medium disk)
-      → AreLivedOn medium m config so_far inputs lives disk → GoOn m config so_far inputs lives
-  lives_on m config so_far [] [] disk keeps lived = tt
-  lives_on m config so_far [] (life ∷ lives) disk keeps lived = elim lived [ ]
-  lives_on m config so_far (inputs ∷ others) [] disk keeps lived = elim lived [ ]
-  lives_on m config so_far (inputs ∷ others) (life ∷ lives) disk keeps
+      → KeepsBounds so_far.events (medium disk)
+      → AreLivedOn medium m config so_far inputs lives disk
+      → GoOn m config so_far inputs lives
+  lives_on m config so_far [] [] disk keeps within lived = tt
+  lives_on m config so_far [] (life ∷ lives) disk keeps within lived = elim lived [ ]
+  lives_on m config so_far (inputs ∷ others) [] disk keeps within lived = elim lived [ ]
+  lives_on m config so_far (inputs ∷ others) (life ∷ lives) disk keeps within
       (more {left = left} {next = next} lived finds rest) =
-      let both = lived keeps in
-      let found = next_life_finds_it m config (promised_by so_far life) life.ends left next both.1
-      finds in
-      (both.0, lives_on m config (promised_by so_far life) others lives next found rest)
+      let all = lived keeps within in
+      let found = next_life_finds_it m config (promised_by so_far life) life.ends left next
+      all.1 finds in
+      let bounded = next_life_is_within (promised_by so_far life).events life.ends left next
+      all.2 finds in
+      (all.0, lives_on m config (promised_by so_far life) others lives next found bounded rest)
 
   pub lives_go_on : LivesGoOn medium
   lives_go_on m config inputs lives disk blank lived =
       lives_on m config nothing_yet inputs lives disk
-      (λ image leaves. inl (refl, blank image leaves)) lived
+      (λ image leaves. inl (refl, blank image leaves))
+      (λ image leaves. blank_is_within image 0 (medium disk).sectors (blank image leaves)) lived

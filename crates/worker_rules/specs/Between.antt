@@ -7,7 +7,7 @@ use Rattle.sector_disk.specs.rules.Medium.{Medium}
 use Rattle.worker_rules.specs.Stands.{IsBlank}
 use Rattle.worker_rules.specs.Lives.{Inputs, Life, End, Finished, Stopped, Failed}
 use Rattle.worker_rules.specs.Promises.{Promise, promised_by, IsLived}
-use Rattle.worker_rules.specs.Holds.{KeepsPromise}
+use Rattle.worker_rules.specs.Holds.{KeepsPromise, KeepsBounds}
 
 -- a disk that holds this image, with no write since
 pub record IsFresh (image : Image) (disk : Medium) : Type 0 where
@@ -34,11 +34,13 @@ FindsNoWorker disk = (image : Image) → disk.may_leave image → IsBlank image
 
 -- What the calls of one life are proved to do, from its recovery or creation to its end: where
 -- the disk that it found keeps the promise, its events are those of a worker that goes on, and
--- the disk that it leaves keeps what is promised then.
+-- the disk that it leaves keeps what is promised then. No disk is of a later generation than as
+-- much has happened, and each has all sectors of its worker.
 abbrev pub IsLivedOn : Module → Settings → Promise → Inputs → Life → Medium → Medium → Type 0
 IsLivedOn m config so_far inputs life found left =
-    KeepsPromise m config so_far found
+    KeepsPromise m config so_far found → KeepsBounds so_far.events found
     → IsLived m config so_far inputs life × KeepsPromise m config (promised_by so_far life) left
+    × KeepsBounds (promised_by so_far life).events left
 
 -- Lives on a disk, one after another, each of which finds what the one before it left. Nothing
 -- else links them.

@@ -1,9 +1,11 @@
 -- What the images of a disk hold of a promise (this project's own).
-use Rattle.std.specs.Prelude.{◌≡◌, ◌⊎◌, ℕ, ◌≤◌, take}
+use Rattle.std.specs.Prelude.{◌≡◌, ◌⊎◌, ℕ, ◌≤◌, List, length, take}
 use Rattle.wasm_syntax.specs.declared.module.Module.{Module}
 use Rattle.wasi_abi.specs.rules.Configs.{Settings}
+use Rattle.process_rules.specs.Runs.{Kept}
 use Rattle.sector_disk.specs.rules.Image.{Image}
 use Rattle.sector_disk.specs.rules.Medium.{Medium, LeavesOnly}
+use Rattle.disk_layout.specs.rules.Places.{geometry_of, total_sectors}
 use Rattle.worker_rules.specs.Stands.{StandsFor, IsBlank}
 use Rattle.worker_rules.specs.Promises.{Promise, nothing_yet, HoldsAll}
 
@@ -43,3 +45,21 @@ pub record CarriesPromise (m : Module) (config : Settings) (then now : Promise)
     (old new : Medium) : Type 0 where
   pub at_any_moment : LeavesOnly old new (ImageHolds m config then now)
   pub in_the_end : KeepsPromise m config now new
+
+-- ---- bounds
+
+-- Whatever worker the image stands for, its generation is at most this, and so many sectors are
+-- enough for all its places.
+abbrev pub IsBounded : ℕ → ℕ → Image → Type 0
+IsBounded latest sectors disk = (m : Module) (config : Settings) (kept : List Kept) (n : ℕ)
+    (stands : StandsFor disk m config kept n) → (stands.generation ≤ latest)
+    × (total_sectors (geometry_of config (length stands.wasm)) ≤ sectors)
+
+-- so it is of each image that a cut now may leave
+abbrev pub KeepsBounds : ℕ → Medium → Type 0
+KeepsBounds latest disk =
+    (image : Image) → disk.may_leave image → IsBounded latest disk.sectors image
+
+-- and so it is of each that a cut at any moment since then may have left
+abbrev pub StaysWithin : ℕ → Medium → Medium → Type 0
+StaysWithin latest old new = LeavesOnly old new (IsBounded latest old.sectors)

@@ -8,12 +8,13 @@ ghost use Rattle.worker_rules.specs.laws.Laws.{SyncsAreForGood};
 ghost use Rattle.worker_rules.specs.laws.Laws.{OpenedLinesAreToldNoMore, SavedLinesAreToldNoMore};
 ghost use Rattle.worker_rules.specs.laws.Found.{FoundWasLeft, FoundIsAsLong, FoundIsSettled};
 ghost use Rattle.worker_rules.specs.laws.Found.{NoWorkerComes};
-ghost use Rattle.worker_rules.specs.laws.Found.{NextLifeFindsIt, LivesGoOn};
+ghost use Rattle.worker_rules.specs.laws.Found.{NextLifeFindsIt, NextLifeIsWithin, LivesGoOn};
 ghost use Rattle.worker_rules.specs.laws.Disks.{StandsForWhatIsReached, RecordsAscend};
 ghost use Rattle.worker_rules.specs.laws.Disks.{StandsByItsParts, BlankStandsForNone};
 ghost use Rattle.worker_rules.specs.laws.Disks.{RunsKeepNumbers, RecordsKeepNumbers};
 ghost use Rattle.worker_rules.specs.laws.Disks.{SavedAreNumbered};
 ghost use Rattle.worker_rules.specs.laws.Disks.{NoLaterImage, NoLaterPayload, OneGeneration};
+ghost use Rattle.worker_rules.specs.laws.Disks.{OneSpelledWorker, StandsWithin, BlankIsWithin};
 ghost use Rattle.worker_rules.specs.laws.Disks.{DiskExamples};
 ghost use Rattle.worker_rules.specs.laws.Examples.{LivesExamples, PromiseExamples, CourseExamples};
 ghost use Rattle.worker_rules.specs.laws.Honest.{Teller, HonestStories};
@@ -56,6 +57,7 @@ pub fn calls_join()
 /// The next life finds what the last one left, with what was promised on it.
 pub fn next_life_finds_it<D: Disk>()
     ensures keeps { NextLifeFindsIt D.medium }
+    ensures within { NextLifeIsWithin D.medium }
     ensures was_left { FoundWasLeft D.medium }
     ensures as_long { FoundIsAsLong D.medium }
     ensures settled { FoundIsSettled D.medium }
@@ -82,12 +84,16 @@ pub fn numbers_only_grow()
     ensures saved { SavedAreNumbered }
 {}
 
-/// A disk stands for a worker by one generation, and without the marks of one for none.
+/// A disk stands for a worker by one generation, one spelling of its module and one configuration.
+/// Without the marks of one it stands for none.
 pub fn disks_stand_by_one_generation()
     ensures blank { BlankStandsForNone }
     ensures image { NoLaterImage }
     ensures payload { NoLaterPayload }
     ensures one { OneGeneration }
+    ensures spelled { OneSpelledWorker }
+    ensures within { StandsWithin }
+    ensures blank_within { BlankIsWithin }
     ensures examples { DiskExamples }
 {}
 

@@ -9,11 +9,12 @@ use Rattle.wasi_abi.specs.rules.Configs.{Settings}
 use Rattle.process_rules.specs.Processes.{ProcessState, Guest}
 use Rattle.process_rules.specs.Runs.{Kept, Runs, Reaches}
 use Rattle.sector_disk.specs.rules.Image.{Image}
-use Rattle.disk_layout.specs.rules.Places.{Geometry, geometry_of, journal_place}
+use Rattle.disk_layout.specs.rules.Places.{Geometry, geometry_of, journal_place, total_sectors}
 use Rattle.disk_layout.specs.rules.Sectors.{super_bytes, head_bytes, HasWorker, HoldsImage}
 use Rattle.disk_layout.specs.rules.Journal.{Record, journal_sector, payloads_from, scan}
 use Rattle.record_replay.specs.rules.Records.{Recorded, given_in}
 use Rattle.worker_rules.specs.Stands.{ShowsNoneLater, IsNumbered, StandsFor, IsBlank}
+use Rattle.worker_rules.specs.Holds.{IsBounded}
 use Rattle.sector_disk.specs.declared.sector.TheConstants.{SECTOR_SIZE}
 use Rattle.disk_layout.specs.declared.head.TheConstants.{IMAGE_VERSION}
 use Rattle.disk_layout.specs.declared.record.TheConstants.{LONGEST_PAYLOAD}
@@ -78,6 +79,26 @@ OneGeneration =
     (n k : ℕ)
     → (left : StandsFor disk m config kept n) → (right : StandsFor disk other settings others k)
     → left.generation ≡ right.generation
+
+-- and by one module, in one spelling, and one configuration
+abbrev pub OneSpelledWorker : Type 0
+OneSpelledWorker =
+    (disk : Image) (m other : Module) (config settings : Settings) (kept others : List Kept)
+    (n k : ℕ)
+    → (left : StandsFor disk m config kept n) → (right : StandsFor disk other settings others k)
+    → (config ≡ settings) × (left.wasm ≡ right.wasm)
+
+-- so bounds of what it stands for once are bounds of all that it stands for
+abbrev pub StandsWithin : Type 0
+StandsWithin =
+    (disk : Image) (m : Module) (config : Settings) (kept : List Kept) (n latest sectors : ℕ)
+    (stands : StandsFor disk m config kept n) → stands.generation ≤ latest
+    → total_sectors (geometry_of config (length stands.wasm)) ≤ sectors
+    → IsBounded latest sectors disk
+
+-- and what stands for no worker has any bounds
+abbrev pub BlankIsWithin : Type 0
+BlankIsWithin = (disk : Image) (latest sectors : ℕ) → IsBlank disk → IsBounded latest sectors disk
 
 -- What a disk stands by, with its numbers: the module that its bytes spell, at most 2 MiB of them,
 -- an image of version 1, and records of at most 4,096 bytes each. The kept answers are those of the

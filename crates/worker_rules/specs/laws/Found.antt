@@ -1,12 +1,12 @@
 -- Laws of the disk that a life finds, and the restart theorem from what the calls of lives do.
-use Rattle.std.specs.Prelude.{◌≡◌, List}
+use Rattle.std.specs.Prelude.{◌≡◌, ℕ, List}
 use Rattle.wasm_syntax.specs.declared.module.Module.{Module}
 use Rattle.wasi_abi.specs.rules.Configs.{Settings}
 use Rattle.sector_disk.specs.rules.Image.{Image}
 use Rattle.sector_disk.specs.rules.Medium.{Medium}
 use Rattle.worker_rules.specs.Lives.{Inputs, Life, End, Finished, Stopped, Failed}
 use Rattle.worker_rules.specs.Promises.{Promise, nothing_yet, GoesOn}
-use Rattle.worker_rules.specs.Holds.{KeepsPromise}
+use Rattle.worker_rules.specs.Holds.{KeepsPromise, KeepsBounds}
 use Rattle.worker_rules.specs.Between.{NextFinds, FindsNoWorker, AreLivedOn}
 
 -- what a cut of the found disk may leave, one of the disk before may have left
@@ -52,6 +52,12 @@ NextLifeFindsIt {D} medium =
     (m : Module) (config : Settings) (promise : Promise) (ends : End) (left found : D)
     → KeepsPromise m config promise (medium left) → NextFinds medium ends left found
     → KeepsPromise m config promise (medium found)
+
+-- so it does with bounds
+abbrev pub NextLifeIsWithin : {D : Type 0} → (D → Medium) → Type 0
+NextLifeIsWithin {D} medium = (latest : ℕ) (ends : End) (left found : D)
+    → KeepsBounds latest (medium left) → NextFinds medium ends left found
+    → KeepsBounds latest (medium found)
 
 -- The restart theorem from the contracts of calls: lives that do what the calls are proved to do,
 -- one after another on a disk that held no worker, go on.

@@ -1,5 +1,6 @@
 use Rattle.worker_rules.proofs.Disks.{blank_stands_for_none, no_later_image, no_later_payload}
 use Rattle.worker_rules.proofs.Disks.{one_generation, disk_examples}
+use Rattle.worker_rules.proofs.Disks.{one_spelled_worker, stands_within, blank_is_within}
 use Rattle.worker_rules.proofs.laws.disks_stand_by_one_generation.Goals as goal
 
 pub returns-clause-blank : goal.returns-clause-blank
@@ -16,3 +17,12 @@ returns-clause-one c = one_generation
 
 pub returns-clause-examples : goal.returns-clause-examples
 returns-clause-examples c = disk_examples
+
+pub returns-clause-spelled : goal.returns-clause-spelled
+returns-clause-spelled c = one_spelled_worker
+
+pub returns-clause-within : goal.returns-clause-within
+returns-clause-within c = stands_within
+
+pub returns-clause-blank_within : goal.returns-clause-blank_within
+returns-clause-blank_within c = blank_is_within

@@ -1,5 +1,6 @@
 use Rattle.worker_rules.proofs.NextLives.{found_was_left, found_is_as_long, found_is_settled}
 use Rattle.worker_rules.proofs.NextLives.{no_worker_comes, next_life_finds_it}
+use Rattle.worker_rules.proofs.NextLives.{next_life_is_within}
 use Rattle.worker_rules.proofs.laws.next_life_finds_it.Goals as goal
 
 pub returns-clause-keeps : goal.returns-clause-keeps
@@ -16,3 +17,6 @@ returns-clause-settled g c = found_is_settled g.D.Disk.medium
 
 pub returns-clause-no_worker : goal.returns-clause-no_worker
 returns-clause-no_worker g c = no_worker_comes g.D.Disk.medium
+
+pub returns-clause-within : goal.returns-clause-within
+returns-clause-within g c = next_life_is_within g.D.Disk.medium
