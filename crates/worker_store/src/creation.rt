@@ -1,6 +1,6 @@
 // A worker's disk, laid out anew.
 
-ghost use Rattle.std.specs.Prelude.{◌≡◌, ◌⊎◌, ◌+◌, ◌<◌, ◌≤◌, ◌^◌, IfErr, IfOk, OnOk, length};
+ghost use Rattle.std.specs.Prelude.{◌≡◌, ◌≢◌, ◌⊎◌, ◌+◌, ◌<◌, ◌≤◌, ◌^◌, IfErr, IfOk, OnOk, length};
 ghost use Rattle.wasm_syntax.specs.declared.module.Module.{Module};
 ghost use Rattle.wasi_abi.specs.rules.Configs.{Settings};
 ghost use Rattle.sector_disk.specs.rules.Medium.{IsAllSynced, MakesCalls, Passes};
@@ -30,7 +30,7 @@ use wasi_abi::Config;
 /// this process. In this order: zeros over the super, and a sync; configuration and module, zeros
 /// over the heads and over the journal, and a sync; the image of the process, a sync, its head, and
 /// a sync; the super, and a sync. A disk with too few sectors is refused before anything is
-/// written.
+/// written, and so is want of memory told.
 pub fn lay_out<D: Disk>(
     alloc: Global,
     disk: &mut D,
@@ -52,6 +52,7 @@ pub fn lay_out<D: Disk>(
     ensures too_small { (D.medium disk.old).sectors
         < total_sectors (geometry_of config.now (length wasm.now))
         → (result ≡ Err (StoreFault.Layout LayoutFault.TooSmall)) × (disk.new ≡ disk.old) }
+    ensures memory { IfErr result (λ e. e ≡ StoreFault.Memory → disk.new ≡ disk.old) }
     ensures cause { IfErr result (λ e. CreationFails (geometry_of config.now (length wasm.now))
         process.now (D.medium disk.old) (D.medium disk.new) e) }
 {
@@ -90,6 +91,7 @@ fn lay_worker<D: Disk>(
         → LeavesAll (D.medium disk.new) (BeginsAtPoint point)) }
     ensures settled { OnOk result (IsAllSynced (D.medium disk.new)) }
     ensures passes { Passes (D.medium disk.old) (D.medium disk.new) (λ _. Unit {0}) }
+    ensures no_memory { IfErr result (λ e. e ≢ StoreFault.Memory) }
     ensures calls { MakesCalls (creation_calls geometry.now (length (image (saved_of process.now))))
         result (D.medium disk.old) (D.medium disk.new) }
     ensures cause { IfErr result (λ e.

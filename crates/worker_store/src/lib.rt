@@ -18,9 +18,11 @@
 //! - `lay_out`: a cut at any moment leaves a blank disk, or one that begins at the first snapshot
 //!   (`any_moment`). After Ok it leaves that (`durable`), whatever stood there before. Its writes
 //!   and syncs are the told ones, in that order (`calls`). A disk with too few sectors is refused
-//!   before any (`too_small`).
+//!   before any (`too_small`), and so is want of memory told (`memory`).
 //! - `read_worker`, `read_newest`, `read_records`: of a disk that stands at a savepoint they give
-//!   what it stands by (`gives`, `finds`, `scans`). They only read (`reads`).
+//!   what it stands by (`gives`, `finds`, `scans`). They only read (`reads`). That there is no
+//!   worker is said by `read_worker` alone, only where a mark of one is missing, and always there
+//!   (`marks`, `own`).
 //! - `WorkerStore::reopen` commits the next generation on whatever stands for the worker: a cut at
 //!   any moment leaves what stands for the same answers, or the new snapshot (`any_moment`,
 //!   `durable`).

@@ -1,11 +1,12 @@
 // What stands on a worker's disk, read back.
 
-ghost use Rattle.std.specs.Prelude.{◌≡◌, ◌<◌, ◌≤◌};
+ghost use Rattle.std.specs.Prelude.{◌≡◌, ◌<◌, ◌≤◌, IfOk};
 ghost use Rattle.sector_disk.specs.declared.fault.DiskFault.{DiskFault};
 ghost use Rattle.sector_disk.specs.rules.Image.{Image};
 ghost use Rattle.disk_layout.specs.rules.Places.{total_sectors};
 ghost use Rattle.disk_layout.specs.rules.Stored.{OnlyReads};
 ghost use Rattle.worker_store.specs.rules.Readings.{ReadsContents, ReadsNewest, ReadsRecords};
+ghost use Rattle.worker_store.specs.rules.Readings.{DeniesWorker, TellsMarks};
 
 use crate::fault::StoreFault;
 use disk_layout::{Contents, Geometry, IMAGE_VERSION, LayoutFault, Record, read_contents};
@@ -20,6 +21,8 @@ pub fn read_worker<D: Disk>(alloc: Global, disk: &mut D) -> Result<Contents, Sto
     ensures reads { OnlyReads (D.medium disk.old) (D.medium disk.new) }
     ensures gives { (image : Image) → (D.medium disk.new).shows image
         → ReadsContents (D.medium disk.old).sectors image result }
+    ensures marks { (image : Image) → (D.medium disk.new).shows image → TellsMarks image result }
+    ensures room { IfOk result (λ c. total_sectors c.geometry ≤ (D.medium disk.old).sectors) }
     ensures cause { (fault : DiskFault) → result ≡ Err (StoreFault.Disk fault)
         → (D.medium disk.old).faults < (D.medium disk.new).faults }
 {
@@ -31,7 +34,7 @@ pub fn read_worker<D: Disk>(alloc: Global, disk: &mut D) -> Result<Contents, Sto
 
 /// The newest snapshot of the worker. It is `Damaged` where no head is complete, or where the
 /// newest one names an image that its area doesn't hold, and `Layout` with `Version` where the
-/// image is of a version that isn't known.
+/// image is of a version that isn't known. It never says that there is no worker.
 pub fn read_newest<D: Disk>(
     alloc: Global,
     disk: &mut D,
@@ -41,6 +44,7 @@ pub fn read_newest<D: Disk>(
     ensures reads { OnlyReads (D.medium disk.old) (D.medium disk.new) }
     ensures finds { (image : Image) → (D.medium disk.new).shows image
         → ReadsNewest geometry.now image result }
+    ensures own { DeniesWorker result → ⊥ }
     ensures cause { (fault : DiskFault) → result ≡ Err (StoreFault.Disk fault)
         → (D.medium disk.old).faults < (D.medium disk.new).faults }
 {
@@ -58,7 +62,7 @@ pub fn read_newest<D: Disk>(
     Ok(snapshot)
 }
 
-/// The records of a generation, in the order of their steps.
+/// The records of a generation, in the order of their steps. It never says that there is no worker.
 pub fn read_records<D: Disk>(
     alloc: Global,
     disk: &mut D,
@@ -69,6 +73,7 @@ pub fn read_records<D: Disk>(
     ensures reads { OnlyReads (D.medium disk.old) (D.medium disk.new) }
     ensures scans { (image : Image) → (D.medium disk.new).shows image
         → ReadsRecords geometry.now generation image result }
+    ensures own { DeniesWorker result → ⊥ }
     ensures cause { (fault : DiskFault) → result ≡ Err (StoreFault.Disk fault)
         → (D.medium disk.old).faults < (D.medium disk.new).faults }
 {

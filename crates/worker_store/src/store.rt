@@ -19,10 +19,11 @@ pub struct WorkerStore {
 }
 
 impl WorkerStore {
-    ghost use Rattle.std.specs.Prelude.{◌≡◌, ◌+◌, ◌<◌, ◌≤◌, [], false, true, IfErr, IfOk, OnErr, OnOk};
-    ghost use Rattle.std.specs.Prelude.{length};
+    ghost use Rattle.std.specs.Prelude.{◌≡◌, ◌+◌, ◌<◌, ◌≤◌, [], false, true, IfErr, IfOk, OnErr};
+    ghost use Rattle.std.specs.Prelude.{OnOk, length};
     ghost use Rattle.disk_layout.specs.rules.Journal.{record_bytes};
     ghost use Rattle.disk_layout.specs.rules.Places.{total_sectors};
+    ghost use Rattle.sector_disk.specs.rules.Image.{Image};
     ghost use Rattle.sector_disk.specs.rules.Medium.{MakesCalls, Passes};
     ghost use Rattle.journal.specs.rules.State.{room_of, state};
     ghost use Rattle.journal.specs.rules.Steps.{RecordFits, barrier_calls};
@@ -52,9 +53,16 @@ impl WorkerStore {
         ensures point_or_next { LeavesPointOrNext geometry.now generation process.now
             (D.medium disk.old) (D.medium disk.new) }
 
+        // No image comes of none.
+        ensures some { (image : Image) → (D.medium disk.new).may_leave image
+            → (before : Image) × (D.medium disk.old).may_leave before }
+
         // Once it has answered Ok, each cut leaves this snapshot.
         ensures durable { IfOk result (λ store. StoresAgain geometry.now generation process.now
             store (D.medium disk.old) (D.medium disk.new)) }
+        ensures numbered { IfOk result (λ store. store.journal.generation ≡ generation) }
+        ensures placed { IfOk result (λ store. store.geometry ≡ geometry.now) }
+        ensures passes { Passes (D.medium disk.old) (D.medium disk.new) (λ _. Unit {0}) }
         ensures calls { CommitCalls geometry.now generation process.now result
             (D.medium disk.old) (D.medium disk.new) }
         ensures cause { IfErr result (λ e. ReopeningFails geometry.now generation process.now

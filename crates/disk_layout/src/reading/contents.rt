@@ -1,7 +1,8 @@
 // What a worker's disk holds behind its super.
 
-ghost use Rattle.std.specs.Prelude.{◌≡◌, ◌<◌, Err};
+ghost use Rattle.std.specs.Prelude.{◌≡◌, ◌<◌, ◌≤◌, Err, IfOk};
 ghost use Rattle.sector_disk.specs.rules.Image.{Image};
+ghost use Rattle.disk_layout.specs.rules.Places.{total_sectors};
 ghost use Rattle.disk_layout.specs.rules.Stored.{OnlyReads};
 ghost use Rattle.disk_layout.specs.rules.Held.{Agrees, GivesContents};
 
@@ -30,6 +31,7 @@ pub fn read_contents<D: Disk>(alloc: Global, disk: &mut D) -> Result<Contents, L
     ensures reads { OnlyReads (D.medium disk.old) (D.medium disk.new) }
     ensures gives { (image : Image) → (D.medium disk.new).shows image
         → GivesContents (D.medium disk.old).sectors image result }
+    ensures room { IfOk result (λ c. total_sectors c.geometry ≤ (D.medium disk.old).sectors) }
     ensures cause { (fault : DiskFault) → result ≡ Err (LayoutFault.Disk fault)
         → (D.medium disk.old).faults < (D.medium disk.new).faults }
 {

@@ -10,11 +10,13 @@ use Rattle.sector_disk.specs.rules.Image.{Image}
 use Rattle.disk_layout.specs.declared.geometry.Geometry.{Geometry}
 use Rattle.disk_layout.specs.declared.reading.contents.Contents.{Contents}
 use Rattle.disk_layout.specs.rules.Journal.{Record}
+use Rattle.disk_layout.specs.declared.fault.LayoutFault.TheVariants.{NotAWorker}
 use Rattle.disk_layout.specs.rules.Places.{total_sectors}
 use Rattle.snapshot.specs.declared.newest.Snapshot.{Snapshot}
+use Rattle.worker_rules.specs.Stands.{IsBlank}
 use Rattle.worker_laws.specs.laws.Savepoints.{Savepoint, places, StandsAtPoint}
 use Rattle.worker_store.specs.declared.fault.StoreFault.{StoreFault}
-use Rattle.worker_store.specs.declared.fault.StoreFault.TheVariants.{Memory, Disk}
+use Rattle.worker_store.specs.declared.fault.StoreFault.TheVariants.{Layout, Memory, Disk}
 
 -- an answer that has P, or an error that says nothing of what stands on the disk
 abbrev pub GivesOr : {T : Type 0} → (T → Type 0) → Result T StoreFault → Type 0
@@ -31,6 +33,23 @@ ReadsContents sectors disk result =
     → total_sectors (places point) ≤ sectors
     → GivesOr (λ found. found
     ≡ record { geometry = places point; config = config; wasm = point.wasm }) result
+
+-- that there is no worker
+abbrev pub DeniesWorker : {T : Type 0} → Result T StoreFault → Type 0
+DeniesWorker (Err (Layout NotAWorker)) = Unit {0}
+DeniesWorker other = ⊥
+
+-- that, or an error that says nothing of what stands on the disk
+abbrev pub DeniesWorkerOr : {T : Type 0} → Result T StoreFault → Type 0
+DeniesWorkerOr (Err (Layout NotAWorker)) = Unit {0}
+DeniesWorkerOr (Err Memory) = Unit {0}
+DeniesWorkerOr (Err (Disk fault)) = Unit {0}
+DeniesWorkerOr other = ⊥
+
+-- A worker is denied only where a mark of one is missing, and always there.
+pub record TellsMarks (disk : Image) (result : Result Contents StoreFault) : Type 0 where
+  pub only : DeniesWorker result → IsBlank disk
+  pub always : IsBlank disk → DeniesWorkerOr result
 
 -- the snapshot
 abbrev pub ReadsNewest : Geometry → Image → Result Snapshot StoreFault → Type 0

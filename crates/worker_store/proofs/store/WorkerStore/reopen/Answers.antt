@@ -1,11 +1,14 @@
-use Rattle.std.proofs.Common.{refl, arith, false}
+use Rattle.std.proofs.Common.{refl, ap, arith, false}
 use Rattle.std.proofs.Common.{length}
 use Rattle.std.specs.Prelude.{Result, Err}
+use Rattle.sector_disk.proofs.Moments.{weaker}
 use Rattle.disk_layout.specs.rules.Places.{rounded_up}
+use Rattle.journal.specs.rules.State.{JournalState}
 use Rattle.snapshot.specs.declared.fault.SnapshotFault.{SnapshotFault}
 use Rattle.snapshot.specs.declared.writing.Writing.TheVariants.{Changes}
 use Rattle.state_image.specs.rules.Image.{image}
 use Rattle.state_image.specs.rules.Saving.{saved_of}
+use Rattle.worker_laws.proofs.Passing.{left_in_the_end}
 use Rattle.worker_store.specs.declared.fault.StoreFault.{StoreFault}
 use Rattle.worker_store.proofs.SavingLemmas.{stored_err, stored_ok}
 use Rattle.worker_store.specs.declared.store.WorkerStore.{WorkerStore}
@@ -69,3 +72,32 @@ returns-clause-point_or_next g c =
     reopening_leaves_point g.D.Disk.medium c.args.geometry.now c.args.generation
     c.args.process.now c.args.disk.now c.write_snapshot-written.new.disk
     c.write_snapshot-written.ensures.any_moment
+
+pub returns-in-Err-clause-some : goal.returns-in-Err-clause-some
+returns-in-Err-clause-some g c image left =
+    let before = left_in_the_end (g.D.Disk.medium c.args.disk.now)
+    (g.D.Disk.medium c.write_snapshot-written.new.disk) _
+    c.write_snapshot-written.ensures.any_moment image left in
+    (before.0, before.1)
+
+pub returns-in-Err-clause-passes : goal.returns-in-Err-clause-passes
+returns-in-Err-clause-passes g c =
+    let leaves = c.write_snapshot-written.ensures.any_moment in
+    weaker (g.D.Disk.medium c.args.disk.now) (g.D.Disk.medium c.write_snapshot-written.new.disk) _
+    (λ image. Unit {0}) leaves.passes (λ image at. tt)
+
+pub returns-clause-some : goal.returns-clause-some
+returns-clause-some g c image left =
+    let before = left_in_the_end (g.D.Disk.medium c.args.disk.now)
+    (g.D.Disk.medium c.write_snapshot-written.new.disk) _
+    c.write_snapshot-written.ensures.any_moment image left in
+    (before.0, before.1)
+
+pub returns-clause-passes : goal.returns-clause-passes
+returns-clause-passes g c =
+    let leaves = c.write_snapshot-written.ensures.any_moment in
+    weaker (g.D.Disk.medium c.args.disk.now) (g.D.Disk.medium c.write_snapshot-written.new.disk) _
+    (λ image. Unit {0}) leaves.passes (λ image at. tt)
+
+pub returns-clause-numbered : goal.returns-clause-numbered
+returns-clause-numbered g c = ap (λ (j : JournalState). j.generation) c.fresh.ensures
