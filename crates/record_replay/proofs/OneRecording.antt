@@ -54,24 +54,24 @@ one_recorded guest p q r records a b =
 -- ---- the front of a list of records
 
 -- where the first records lead, and the others from there
-record Split (guest : Guest) (p : ProcessState) (front rest : List Record) (q : ProcessState)
+pub record Split (guest : Guest) (p : ProcessState) (front rest : List Record) (q : ProcessState)
     : Type 0 where
-  at : ProcessState
-  first : Recorded guest p front at
-  second : Recorded guest at rest q
+  pub at : ProcessState
+  pub first : Recorded guest p front at
+  pub second : Recorded guest at rest q
 
 -- one record, and where the others lead from there
-record First (guest : Guest) (p : ProcessState) (next : Record) (others : List Record)
+pub record First (guest : Guest) (p : ProcessState) (next : Record) (others : List Record)
     (q : ProcessState) : Type 0 where
-  steps : ℕ
-  before : ProcessState
-  after : ProcessState
-  runs : Runs guest p [] steps before
-  moves : Moves guest before (Some next.answer) after
-  same : after.steps ≡ next.step
-  recorded : Recorded guest after others q
+  pub steps : ℕ
+  pub before : ProcessState
+  pub after : ProcessState
+  pub runs : Runs guest p [] steps before
+  pub moves : Moves guest before (Some next.answer) after
+  pub same : after.steps ≡ next.step
+  pub recorded : Recorded guest after others q
 
-first_of : (guest : Guest) (p q : ProcessState) (records : List Record) (next : Record)
+pub first_of : (guest : Guest) (p q : ProcessState) (records : List Record) (next : Record)
     (others : List Record) → records ≡ next ∷ others → Recorded guest p records q
     → First guest p next others q
 first_of guest p q records next others e none = absurd (cc)
@@ -91,7 +91,7 @@ first_of guest p q records next others e
       recorded = subst (λ z. Recorded guest after z last) tail recorded;
     }
 
-split : (guest : Guest) (p q : ProcessState) (front rest : List Record)
+pub split : (guest : Guest) (p q : ProcessState) (front rest : List Record)
     → Recorded guest p (front ++ rest) q → Split guest p front rest q
 split guest p q [] rest recorded = record { at = p; first = none; second = recorded }
 split guest p q (next ∷ front) rest recorded =

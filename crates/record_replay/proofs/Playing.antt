@@ -39,7 +39,7 @@ pub due_at : (p : ProcessState) (next : Record) → suc p.steps ≡ next.step
 due_at p next same =
     ap (λ (b : Bool). if b then Some next.answer else None) (eq-eqb (suc p.steps) next.step same)
 
-due_before : (p : ProcessState) (next : Record) → suc p.steps < next.step
+pub due_before : (p : ProcessState) (next : Record) → suc p.steps < next.step
     → answer_due p next ≡ None
 due_before p next less =
     ap (λ (b : Bool). if b then Some next.answer else None)

@@ -26,6 +26,7 @@ pub fn replay<O: Outlet>(
     ensures replayed { IfOk result
         (λ r. Replays O.takes process records.now r.0 outlet.old outlet.new) }
     ensures counted { IfOk result (λ r. r.0.steps ≡ process.steps + r.1) }
+    ensures guest { IfOk result (λ r. r.0.machine.guest ≡ process.machine.guest) }
     ensures stopped { IfErr result
         (λ why. ReplaysInVain O.takes process records.now why outlet.old outlet.new) }
 {
@@ -44,6 +45,7 @@ fn play_all<O: Outlet>(
     ensures played { OnOk result
         (Replays O.takes process.old records.now process.new outlet.old outlet.new) }
     ensures counted { IfOk result (λ count. process.new.steps ≡ process.old.steps + count) }
+    ensures guest { OnOk result (process.new.machine.guest ≡ process.old.machine.guest) }
     ensures stopped { IfErr result
         (λ why. ReplaysInVain O.takes process.old records.now why outlet.old outlet.new) }
 {
@@ -66,6 +68,7 @@ fn play<O: Outlet>(
     requires none_waits { waiting_in process.old ≡ [] }
     ensures played { OnOk result
         (Replays O.takes process.old (entry.now ∷ []) process.new outlet.old outlet.new) }
+    ensures guest { OnOk result (process.new.machine.guest ≡ process.old.machine.guest) }
     ensures stopped { IfErr result
         (λ why. ReplaysInVain O.takes process.old (entry.now ∷ []) why outlet.old outlet.new) }
 {
@@ -85,6 +88,7 @@ fn run_to_step<O: Outlet>(
     requires none_waits { waiting_in process.old ≡ [] }
     ensures done { OnOk result
         (RunsToStep O.takes entry.now.step process.old process.new outlet.old outlet.new) }
+    ensures guest { OnOk result (process.new.machine.guest ≡ process.old.machine.guest) }
     ensures stopped { IfErr result
         (λ why. ReplaysInVain O.takes process.old (entry.now ∷ []) why outlet.old outlet.new) }
 {

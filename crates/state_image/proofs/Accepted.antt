@@ -1,10 +1,9 @@
 -- What is asked of a process that was read from an image.
-use Rattle.std.proofs.Common.{◌≡◌, ◌≢◌, ℕ, zero, suc, ◌+◌, ◌<◌, ◌≤◌, ◌^◌, Bool, true, false, List}
+use Rattle.std.proofs.Common.{◌≡◌, ◌≢◌, ℕ, zero, suc, ◌+◌, ◌<◌, ◌≤◌, ◌^◌, Bool, false, List}
 use Rattle.std.proofs.Common.{[], ◌∷◌}
 use Rattle.std.proofs.Common.{◌++◌, length, reverse, Option, Some, None, refl, sym, ap, ◌∙◌, subst}
 use Rattle.std.proofs.Common.{inl, inr, arith}
 use Rattle.std.specs.Prelude.{◌↔◌, IsTrue, slice_get, ◌==◌, IfSome, IfNone, codes}
-use Rattle.std.specs.Option.{option_map}
 use Rattle.std.specs.List.{AllByRecursion}
 use Rattle.std.proofs.lemmas.Grind.{reverse_onto}
 use Rattle.std.proofs.lemmas.List.{reverse-reverse, length-reverse}
@@ -15,7 +14,7 @@ use borrow.Author.Count.{below_more}
 use Rattle.wasm_syntax.specs.declared.limits.TheConstants.{GLOBALS}
 use Rattle.wasm_syntax.specs.declared.module.Module.{Module}
 use Rattle.wasm_syntax.specs.declared.module.ExportItem.TheVariants as export
-use Rattle.wasm_syntax_rules.specs.Validity.{IsValid, module_context}
+use Rattle.wasm_syntax_rules.specs.Validity.{IsValid}
 use Rattle.wasm_syntax_rules.specs.Linking.{HasEntry}
 use Rattle.wasm_syntax_rules.specs.Typed.{IsTypedMemory}
 use Rattle.wasm_syntax_rules.proofs.Soundness.Beginning.{programs_typed}

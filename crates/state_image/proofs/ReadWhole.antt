@@ -1,6 +1,6 @@
 -- The parts of a process that are read from an image one after the other.
 use Rattle.std.proofs.Common.{◌≡◌, ◌≢◌, ℕ, Bool, ◌<◌, ◌≤◌, ◌^◌, List, [], ◌∷◌, ◌++◌, length}
-use Rattle.std.proofs.Common.{append-nil, append_assoc, Option, Some, None, refl, sym, ap, ◌∙◌}
+use Rattle.std.proofs.Common.{append-nil, append_assoc, Option, None, refl, sym, ap, ◌∙◌}
 use Rattle.std.proofs.Common.{subst, arith}
 use Rattle.std.specs.Option.{option_map}
 use Rattle.wasm_syntax.specs.declared.module.Module.{Module}
@@ -14,17 +14,16 @@ use Rattle.wasi_abi.specs.rules.Configs.{Settings}
 use Rattle.file_tree.specs.rules.Files.{Files}
 use Rattle.wasi_calls_rules.specs.Hosts.{Line, Descriptor, Host, IsHost}
 use Rattle.wasi_calls.specs.rules.Held.{HeldHost}
-use Rattle.process.specs.rules.Values.{ProcessValue, IsProcess, ending_of}
+use Rattle.process.specs.rules.Values.{IsProcess, ending_of}
 use Rattle.state_image.specs.declared.reading.progress.ReadCounts.{ReadCounts}
 use Rattle.state_image.specs.declared.reading.progress.ReadEnd.{ReadEnd}
 use Rattle.state_image.specs.declared.reading.progress.ReadPhase.{ReadPhase}
 use Rattle.state_image.specs.declared.reading.progress.ReadPhase.TheVariants as read
 use Rattle.state_image.specs.declared.restoring.progress.Progress.{Progress}
 use Rattle.state_image.specs.rules.Image.{Saved, items_bytes, descriptor_bytes, open_from}
-use Rattle.state_image.specs.rules.Image.{image_mark, counts_bytes, phase_bytes, streams_bytes}
 use Rattle.state_image.specs.rules.Image.{machine_bytes, files_bytes, image}
-use Rattle.state_image.specs.rules.Parts.{counts_of, read_phase, read_end_of, StreamTexts}
-use Rattle.state_image.specs.rules.Parts.{streams_of, texts_of}
+use Rattle.state_image.specs.rules.Parts.{read_phase, StreamTexts}
+use Rattle.state_image.specs.rules.Parts.{texts_of}
 use Rattle.state_image.specs.rules.Saving.{saved_of}
 use Rattle.state_image.specs.rules.WellTyped.{IsWellTyped, slots_in}
 use Rattle.state_image.specs.restoring.Machines.{AreToCome, IsReadMachine}
@@ -32,7 +31,7 @@ use Rattle.state_image.specs.restoring.ToldHosts.{host_bytes, IsToldHost, IsRest
 use Rattle.state_image.specs.restoring.Processes.{IsProgressOf, FitsProgress, progress_before}
 use Rattle.state_image.specs.restoring.Processes.{HasProgress, ReadsProgress, end_in}
 use Rattle.state_image.specs.restoring.Processes.{process_behind, IsReadProcess}
-use Rattle.state_image.proofs.Behind.{machine_before, image_before}
+use Rattle.state_image.proofs.Behind.{image_before}
 use Rattle.state_image.proofs.Machines.{same_machine}
 use Rattle.state_image.proofs.RestoredWhole.{shown_first, table_is, coming, is_one}
 use Rattle.state_image.proofs.Whole.{is_within, from_descriptors, from_files, from_machine}

@@ -1,34 +1,29 @@
 -- A process that was read from an image, and which processes it shows.
-use Rattle.std.proofs.Common.{◌≡◌, ◌≢◌, ℕ, ◌+◌, ◌<◌, ◌≤◌, ◌^◌, Bool, true, false, List, [], ◌∷◌}
+use Rattle.std.proofs.Common.{◌≡◌, ◌≢◌, ℕ, ◌+◌, Bool, true, false, List, [], ◌∷◌}
 use Rattle.std.proofs.Common.{◌++◌, length}
-use Rattle.std.proofs.Common.{length-append, append-nil, append_assoc, Option, Some, None, refl}
+use Rattle.std.proofs.Common.{length-append, append-nil, Option, Some, None, refl}
 use Rattle.std.proofs.Common.{sym}
 use Rattle.std.proofs.Common.{ap, ◌∙◌, subst, inl, inr, arith}
 use Rattle.std.specs.Prelude.{◌↔◌, IsTrue, codes, replicate}
 use Rattle.std.proofs.lemmas.Bool.{both_ways}
-use Rattle.std.specs.Option.{option_map}
 use Rattle.std.proofs.lemmas.List.{length-replicate}
 use Rattle.wasm_syntax.specs.declared.types.FunctionType.{FunctionType}
 use Rattle.wasm_syntax.specs.declared.module.Module.{Module}
 use Rattle.wasm_syntax.specs.declared.module.ExportItem.TheVariants as export
 use Rattle.wasm_syntax_rules.specs.Validity.{AreFunctionTypes, module_context, IsValid}
-use Rattle.wasm_syntax_rules.specs.Configuration.{Program, Configuration, Store}
+use Rattle.wasm_syntax_rules.specs.Configuration.{Program, Store}
 use Rattle.wasm_syntax_rules.specs.Instantiation.{IsProgram, Begins}
 use Rattle.wasm_syntax_rules.specs.Linking.{HasEntry}
 use Rattle.wasm_syntax_rules.specs.Steps.{IsEnded}
-use Rattle.machine_slots.specs.declared.slots.TheConstants.{SLOTS}
-use Rattle.machine_slots.specs.rules.Places.{ShownFrame, MachineState, Shows}
-use Rattle.machine.specs.rules.Loading.{ShowsSome}
+use Rattle.machine_slots.specs.rules.Places.{Shows}
 use Rattle.machine.specs.rules.Runs.{HasBegun}
 use Rattle.machine.specs.rules.Values.{MachineValue, ShowsIn, IsProgramIn, HoldsMemory}
 use Rattle.machine.specs.rules.Values.{IsSameMachine}
 use Rattle.machine.proofs.OneProgram.{one_program}
-use Rattle.wasi_abi.specs.declared.call.Call.{Call}
 use Rattle.wasi_abi.specs.rules.Configs.{Settings}
 use Rattle.file_tree.specs.rules.Files.{Files}
 use Rattle.wasi_calls_rules.specs.Hosts.{Line, Descriptor, Host, IsHost}
-use Rattle.wasi_calls_rules.specs.Lines.{lines_ended}
-use Rattle.wasi_calls.specs.rules.Held.{HeldHost, ShowsHost, behind_lines}
+use Rattle.wasi_calls.specs.rules.Held.{ShowsHost, behind_lines}
 use Rattle.process_rules.specs.Processes.{Ending, Exited, Trapped, ProcessState, Guest, AreCalls}
 use Rattle.process_rules.specs.Processes.{host_of, closed, IsStart, HasLineNumbers}
 use Rattle.process_rules.proofs.MemoryKept.{settled_store}
@@ -38,18 +33,17 @@ use Rattle.process.proofs.Lines.{all_shown, few_shown}
 use Rattle.process.proofs.Named.{some_calls}
 use Rattle.state_image.specs.rules.Image.{Saved, SavedShowsProcess, phase_of, image}
 use Rattle.state_image.specs.rules.Parts.{read_phase}
-use Rattle.state_image.specs.rules.Ranges.{IsIn}
 use Rattle.state_image.specs.rules.Restored.{SavedShowsIn, IsRestored}
 use Rattle.state_image.specs.rules.Saving.{saved_of}
 use Rattle.state_image.specs.rules.WellTyped.{EntryPoints, IsCalled, IsOutermost, IsAlive}
-use Rattle.state_image.specs.rules.WellTyped.{IsConfigured, IsWithinBounds, IsWellTyped}
+use Rattle.state_image.specs.rules.WellTyped.{IsConfigured, IsWellTyped}
 use Rattle.state_image.specs.restoring.Machines.{AreToCome}
-use Rattle.state_image.specs.restoring.Processes.{FitsProgress, MayCome, IsReadProcess}
+use Rattle.state_image.specs.restoring.Processes.{MayCome, IsReadProcess}
 use Rattle.state_image.specs.restoring.Processes.{MayBeAccepted}
 use Rattle.state_image.proofs.Behind.{told_behind}
 use Rattle.state_image.proofs.HostWithin.{places_within}
 use Rattle.state_image.proofs.ReachedWellTyped.{no_places}
-use Rattle.state_image.proofs.Whole.{IsWithin, is_within, called, SameParts, whole_machine}
+use Rattle.state_image.proofs.Whole.{IsWithin, is_within, called, whole_machine}
 use Rattle.state_image.proofs.Whole.{whole_process}
 
 -- ---- hosts

@@ -13,7 +13,7 @@ use Rattle.machine.specs.rules.Loading.{ShowsSome}
 use Rattle.machine.specs.rules.Values.{MachineValue, IsSameMachine}
 use Rattle.process.specs.declared.stop.ProcessEnd.{ProcessEnd}
 use Rattle.process.specs.declared.stop.ProcessEnd.TheVariants as end
-use Rattle.process.specs.rules.Values.{ProcessValue, IsProcess, process_of, waiting_in}
+use Rattle.process.specs.rules.Values.{ProcessValue, process_of, waiting_in}
 use Rattle.state_image.specs.declared.reading.progress.ReadPhase.{ReadPhase}
 use Rattle.state_image.specs.declared.reading.progress.ReadPhase.TheVariants as read
 use Rattle.state_image.specs.declared.restoring.progress.Progress.{Progress}

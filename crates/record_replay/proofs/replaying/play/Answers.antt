@@ -1,5 +1,6 @@
-use Rattle.std.proofs.Common.{Ok, Err}
+use Rattle.std.proofs.Common.{Ok, Err, ap, ◌∙◌}
 use Rattle.std.proofs.lemmas.Result.{err_from_is_err_and}
+use Rattle.process.specs.rules.Values.{ProcessValue}
 use Rattle.record_replay.proofs.Played.{given_as, copied_in_vain, given_in_vain, played}
 use Rattle.record_replay.proofs.Played.{told_in_vain}
 use Rattle.record_replay.proofs.replaying.play.Goals as goal
@@ -37,3 +38,9 @@ returns-clause-played g c =
     (given_as c.run_to_step.new.process c.give.new.self _ _ (Ok tt) c.in_ok-answer.ensures
     c.in_ok-give.ensures.gives)
     c.in_ok-give.ensures.released _ _ c.in_ok-release_waiting.ensures.all
+
+pub returns-clause-guest : goal.returns-clause-guest
+returns-clause-guest g c =
+    let all = c.in_ok-release_waiting.ensures.all in
+    ap (λ (v : ProcessValue). v.machine.guest) all.released.is ∙ c.in_ok-give.ensures.guest
+    ∙ c.in_ok-run_to_step.ensures.guest

@@ -1,4 +1,4 @@
-use Rattle.std.proofs.Common.{◌≡◌, List, ℕ, ap, ◌∙◌, arith}
+use Rattle.std.proofs.Common.{◌≡◌, ap, ◌∙◌, arith}
 use Rattle.wasi_calls.specs.rules.Held.{HeldHost}
 use Rattle.state_image.proofs.Accepted.{all_over, empty_told}
 use Rattle.state_image.proofs.restoring.accepting.is_over.Goals as goal

@@ -1,4 +1,3 @@
-use Rattle.std.proofs.Common.{◌≡◌}
 use Rattle.std.proofs.lemmas.Bool.{both_ways}
 use Rattle.state_image.proofs.restoring.accepting.may_be_accepted.Goals as goal
 

@@ -1,4 +1,3 @@
-use Rattle.state_image.specs.rules.Parts.{texts_of}
 use Rattle.state_image.proofs.ProgressRead.{no_mark, no_counts, no_end, no_streams, has_progress}
 use Rattle.state_image.proofs.restoring.progress.read_progress.Goals as goal
 

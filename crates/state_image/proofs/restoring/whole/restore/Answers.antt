@@ -1,9 +1,8 @@
-use Rattle.std.proofs.Common.{◌≡◌, ℕ, subst, sym}
+use Rattle.std.proofs.Common.{ℕ, subst, sym}
 use Rattle.wasm_syntax.specs.declared.module.Module.{Module}
 use Rattle.wasm_syntax_rules.specs.Linking.{IsLinkable}
 use Rattle.machine.specs.rules.Offers.{offer}
 use Rattle.machine.specs.rules.Runs.{HasBegun}
-use Rattle.process.specs.rules.Values.{ProcessValue}
 use Rattle.state_image.specs.rules.Restored.{IsRestored}
 use Rattle.state_image.specs.rules.WellTyped.{IsWellTyped}
 use Rattle.state_image.proofs.LinkedFirst.{not_linked}

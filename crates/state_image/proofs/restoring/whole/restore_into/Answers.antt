@@ -1,5 +1,4 @@
-use Rattle.std.proofs.Common.{◌≡◌, List, ℕ, ◌∙◌, subst, sym}
-use Rattle.process.specs.rules.Values.{ProcessValue}
+use Rattle.std.proofs.Common.{List, ℕ, ◌∙◌, subst}
 use Rattle.state_image.specs.rules.Restored.{IsRestored}
 use Rattle.state_image.proofs.RestoredWhole.{may_come, restored_so, refused_so}
 use Rattle.state_image.proofs.RestoreLemmas.Lent.{fault_of}
