@@ -26,6 +26,7 @@ use Rattle.worker_rules.specs.Lives.{Act, Checkpoint, Reply, Done, Fails, Cause,
 use Rattle.worker_rules.specs.Lives.{OfBounds, Ended}
 use Rattle.worker_rules.specs.Courses.{Stage, Open, MayFail, phase_ended}
 use Rattle.worker_rules.specs.Promises.{Promise, after}
+use Rattle.worker_rules.specs.Holds.{StaysWithin}
 use Rattle.worker_rules.specs.Exchanges.{none as no_exchange}
 use Rattle.worker_laws.specs.laws.Savepoints.{Savepoint}
 use Rattle.worker_laws.specs.laws.CallEnds.{IsSavedAs, HasBound}
@@ -54,6 +55,7 @@ use Rattle.durable_worker.specs.rules.Savings.{LeavesFrontOrNext, IsSaveFault, S
 use Rattle.durable_worker.specs.rules.Checkpoints.{IsCheckpointFault, CheckpointFails}
 use Rattle.durable_worker.specs.rules.Checkpoints.{CheckpointCalls, IsSavedIn}
 use Rattle.durable_worker.proofs.SavingLemmas.{none_rising}
+use Rattle.durable_worker.proofs.DurableLemmas.Bounds.{saves_within}
 
 max_within : (a b c : ℕ) → a ≤ c → b ≤ c → max a b ≤ c
 max_within a b c x y = omega (arith, x, y)
@@ -158,6 +160,19 @@ module _ {D : Type 0} (medium : D → Medium) (running : Running) (replayed : �
   module _ (acts : List Act) (next_act : stage.acts ≡ Checkpoint ∷ acts) (after_store : WorkerStore)
       (flag' : Bool) (disk' : D)
       (leaves : LeavesFrontOrNext running.store running.process (medium disk) (medium disk')) where
+    -- at any moment it is one generation on at most
+    save_bounds : StaysWithin (promise.events + 1) (medium disk) (medium disk')
+    save_bounds =
+        let on = opened.on_disk in
+        let stores = on.stores in
+        let next_is = ready.is_next in
+        let early = on.early in
+        saves_within m config on.point (promise.events + 1) (medium disk) (medium disk')
+        stores.sectors ready.next on.records on.pending on.last next_is.comes
+        (omega (arith, early))
+        (leaves m config on.point ready.next on.records on.pending on.last on.now on.stores
+        next_is.comes next_is.saved)
+
     pub checkpoint_failed : (cause : Cause) → MayFail Open cause
         → HasBound m config guest promise p cause
         → CallCarries m config guest promise stage Checkpoint (Fails cause)
@@ -193,6 +208,7 @@ module _ {D : Type 0} (medium : D → Medium) (running : Running) (replayed : �
               (saved_of running.process)) carried (next_is.saves more opened.heard)
               (leaves m config on.point can.next on.records on.pending on.last on.now on.stores
               next_is.comes next_is.saved);
+          bounded = save_bounds;
           goes_on = λ opens. absurd (cc);
         }
       where
@@ -237,6 +253,7 @@ module _ {D : Type 0} (medium : D → Medium) (running : Running) (replayed : �
             tt,
           );
           carried = saves.carries;
+          bounded = save_bounds;
           goes_on = λ opens. (
             p,
             record {

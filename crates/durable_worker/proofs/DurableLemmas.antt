@@ -1,4 +1,5 @@
 pub mod OnDisk
+pub mod Bounds
 pub mod Ends
 pub mod Settling
 pub mod Rooms
@@ -6,5 +7,6 @@ pub mod Hearing
 pub mod Keeping
 pub mod Asking
 pub mod Advancing
+pub mod InVain
 pub mod Working
 pub mod Slicing

@@ -2,3 +2,9 @@ mod SavingLemmas
 mod ShortAnswers
 mod DurableLemmas
 mod CheckpointLemmas
+mod RecoveryLemmas
+mod CreationLemmas
+mod FindingLemmas
+pub mod LifeLemmas
+mod RestoringLemmas
+mod TextLemmas

@@ -1,5 +1,5 @@
 -- The turns of a slice of a worker on its disk.
-use Rattle.std.specs.Prelude.{◌≡◌, ℕ, suc, ◌⊎◌, ◌+◌, ◌-◌, ◌<◌, ◌≤◌, Bool, true, false, List, []}
+use Rattle.std.specs.Prelude.{◌≡◌, ◌≢◌, ℕ, ◌⊎◌, ◌+◌, ◌-◌, ◌<◌, ◌≤◌, Bool, true, false, List, []}
 use Rattle.std.specs.Prelude.{◌∷◌}
 use Rattle.std.specs.Prelude.{length, map, Option, Some, None, Result, Ok, Err}
 use Rattle.wasm_syntax.specs.declared.module.Module.{Module}
@@ -11,11 +11,13 @@ use Rattle.process_rules.specs.Processes.{ProcessState, Guest, host_of}
 use Rattle.process_rules.specs.Runs.{Wants, next_of}
 use Rattle.wasi_abi.specs.rules.Answers.{Fits}
 use Rattle.process.specs.declared.fault.ProcessFault.{ProcessFault}
-use Rattle.process.specs.rules.Values.{ShowsProcess, IsProcess, waiting_in}
+use Rattle.process.specs.rules.Values.{ProcessValue, ShowsProcess, IsProcess, waiting_in}
 use Rattle.process.specs.rules.Stops.{GivesAnswer}
 use Rattle.disk_layout.specs.rules.Journal.{Record, record_bytes}
 use Rattle.journal.specs.rules.Steps.{RecordFits}
 use Rattle.worker_store.specs.declared.fault.StoreFault.{StoreFault}
+use Rattle.worker_store.specs.declared.fault.StoreFault.TheVariants as store
+use Rattle.record_replay.specs.rules.Waiting.{ReleasesSome}
 use Rattle.worker_store.specs.rules.Stores.{with_record}
 use Rattle.worker_store.specs.rules.Calls.{AppendFails}
 use Rattle.sector_disk.specs.rules.Medium.{Medium}
@@ -26,7 +28,7 @@ use Rattle.record_replay.specs.rules.Calls.{Releases, Exchanges}
 use Rattle.worker_rules.specs.Lives.{Act, Slice, Reply, Fails, Waits, Cause, SourceSaid, Ended}
 use Rattle.worker_rules.specs.Courses.{Stage, Open, phase_ended, next_stage, first_said}
 use Rattle.worker_rules.specs.Promises.{Promise, after, IsEnding}
-use Rattle.worker_rules.specs.Holds.{KeepsPromise}
+use Rattle.worker_rules.specs.Holds.{KeepsPromise, StaysWithin}
 use Rattle.worker_laws.specs.laws.Underway.{IsUnderWay}
 use Rattle.worker_laws.specs.laws.Pieces.{IsForetold, AreDone}
 use Rattle.worker_laws.specs.laws.Turns.{GoesOnFrom}
@@ -97,6 +99,7 @@ pub record TurnGoes (c : Course) (promise : Promise) (stage : Stage) (exchanges 
   pub process : ProcessState
   pub done : AreDone c.code c.config promise stage exchanges promise' stage'
   pub onward : GoesOnFrom c.code c.config promise promise' disk disk'
+  pub bounded : StaysWithin promise'.events disk disk'
   pub running : IsBetweenTurns c promise' stage' process w disk'
 
 -- the end of a slice
@@ -119,6 +122,7 @@ pub record TurnEnds (c : Course) (promise : Promise) (stage : Stage) (reply : Re
   })
   pub onward : GoesOnFrom c.code c.config promise (slice_end between c.fuel reply held w) disk
       disk'
+  pub bounded : StaysWithin (slice_end between c.fuel reply held w).events disk disk'
   pub keeps : KeepsPromise c.code c.config (slice_end between c.fuel reply held w) disk'
   pub goes_on : phase_ended reply ≡ Open → (replayed : ℕ) → (q : ProcessState)
       × IsOpenOn c.code c.config c.guest (slice_end between c.fuel reply held w)
@@ -156,19 +160,32 @@ SettlesInVain takes old why new disk disk' outlet outlet' = (begun : List Begun)
     → IsOwingTurn c promise stage p old disk → IsForetold stage (told_lines_of begun)
     → TurnFails c promise stage why (told_lines_of begun) new disk disk')
 
+-- the store failed, which wants no memory and no number; or the outlet did
+abbrev pub SettlesVainly : {O : Type 0} → Taking O → ProcessValue → DurableFault → ProcessValue
+    → O → O → Type 0
+SettlesVainly takes old why new outlet outlet' =
+    ((fault : StoreFault) × (why ≡ fault_of_store fault) × (fault ≢ store.Memory)
+    × (fault ≢ store.TooBig) × (new ≡ old) × (outlet' ≡ outlet))
+    ⊎ ((why ≡ Work work.Outlet) × ReleasesSome takes old new outlet outlet')
+
 -- ---- what is asked
+
+-- an error of the store
+abbrev pub IsOfStoreFault : DurableFault → Type 0
+IsOfStoreFault why = (fault : StoreFault) × (why ≡ fault_of_store fault)
 
 -- there is room in the journal for any record
 abbrev pub HasRoom : Running → Type 0
 HasRoom w = longest_record ≤ room_of w.store.geometry w.store.journal
 
--- the disk has room for the answer
+-- The disk has room for the answer. It may be one generation on: the question comes next.
 abbrev pub MakesRoom : Running → Running → Medium → Medium → Type 0
 MakesRoom old new disk disk' =
     (c : Course) (promise : Promise) (stage : Stage) (p : ProcessState) (kind : Kind)
     → IsAskingOn c promise stage p kind promise.events old disk
     → IsAskingOn c promise stage p kind (promise.events + 1) new disk'
     × HasRoom new × GoesOnFrom c.code c.config promise promise disk disk'
+    × StaysWithin (promise.events + 1) disk disk'
 
 -- there is none
 abbrev pub MakesNoRoom : Running → DurableFault → Running → Medium → Medium → Type 0
@@ -270,15 +287,23 @@ AsksTurn gives old kind (Err why) new disk disk' source source' = (exchanges : L
     → IsAskingOn c promise stage p kind promise.events old disk → IsForetold stage exchanges
     → TurnFails c promise stage why exchanges new disk disk')
 
+-- the store failed, and the source wasn't asked; or it was, in vain
+abbrev pub AsksVainly : {S : Type 0} → Giving S → Running → Kind → DurableFault → Running → S → S
+    → Type 0
+AsksVainly gives old kind why new source source' =
+    (IsOfStoreFault why × (new.process ≡ old.process) × (source' ≡ source))
+    ⊎ ((mid : Running) × (step : ℕ) × (mid.process ≡ old.process)
+    × Hears gives mid kind step (Err why) new source source')
+
 -- ---- a slice
 
 -- All turns of a slice, or those so far. It is over for this reason, or fails.
 abbrev pub WorksOn : {S O : Type 0} → Giving S → Taking O → Running → ℕ → Result Now DurableFault
     → Running → Medium → Medium → S → S → O → O → Type 0
 WorksOn gives takes old fuel result new disk disk' source source' outlet outlet' =
-    (c : Course) (promise : Promise) (stage : Stage) (p : ProcessState) → c.fuel ≡ fuel
+    (exchanges : List Exchange) × Exchanges gives takes source outlet exchanges source' outlet'
+    × ((c : Course) (promise : Promise) (stage : Stage) (p : ProcessState) → c.fuel ≡ fuel
     → c.first ≡ old.process.steps → IsBetweenTurns c promise stage p old disk
-    → (exchanges : List Exchange) × Exchanges gives takes source outlet exchanges source' outlet'
-    × (IsForetold stage exchanges → (reply : Reply) × IsReplyOf result reply
+    → IsForetold stage exchanges → (reply : Reply) × IsReplyOf result reply
     × HasCauseOf result c.guest c.config new.process disk disk'
     × TurnEnds c promise stage reply exchanges new disk disk')

@@ -1,6 +1,10 @@
 pub mod Checkpoints
 pub mod DurableCalls
+pub mod DurableCreations
+pub mod DurableFailures
 pub mod DurableFaults
 pub mod DurableValues
 pub mod OpenWorkers
+pub mod RecoverFaults
+pub mod Recoveries
 pub mod Savings

@@ -1,40 +1,73 @@
 //! A worker on its disk (this project's own): its answers are recorded, its lines are released
-//! behind a barrier, and its process is saved from time to time. No function makes such a worker
-//! yet: its creation and its recovery are to come. What is proved holds of any that is open on its
-//! disk (`IsOpenOn`).
+//! behind a barrier, and its process is saved from time to time. `DurableWorker::create` makes one,
+//! and `DurableWorker::recover` one that a disk stands for. What is proved of the other calls holds
+//! of any that is open on its disk (`IsOpenOn`).
 //!
 //! # Promises
 //!
-//! - `DurableWorker::slice` runs as `worker: Worker::slice` does (`done`). Whatever was promised of
-//!   the worker that is open on its disk is kept (`carries`): its exchanges, and its end by Ok or by
-//!   any error, are events that keep it. A cut at any moment leaves what holds all that was
+//! - `DurableWorker::create`: the worker of the accepted module that the bytes spell, at its start,
+//!   in generation 1 (`created`). Whatever stood on the disk, the worker is open on it after Ok.
+//!   Where no worker was, a cut at any moment leaves none, or this one, of which nothing was
+//!   promised before (`carries`). Each error comes only for its cause (`refused`). A module that
+//!   isn't accepted, a disk with too few sectors and want of memory leave the disk alone
+//!   (`untouched`). Its calls of the disk are told (`calls`).
+//! - `DurableWorker::recover`: nothing is written or told before a good sync, and what the disk
+//!   then shows decides the result (`recovers`). Where it stands for a worker, the process is the
+//!   one that all answers on the disk lead to. Each line behind the snapshot is told again, once
+//!   and in order, and the next generation is committed. Where a mark of a worker is missing,
+//!   nothing is written or told. Whatever was promised is kept, by Ok and by any error (`carries`):
+//!   the lines and the opening are events that keep it, and a cut at any moment leaves what holds
+//!   all that was promised before. After Ok the worker is open on the disk, which has room for it
+//!   (`room`).
+//! - `carries` speaks of a disk whose answers fit an image in the end: of another one nothing is
+//!   known. Want of memory may end a recovery anywhere.
+//! - `DurableWorker::slice` runs as `worker: Worker::slice` does (`done`). Whatever was promised
+//!   of the worker that is open on its disk is kept (`carries`): its exchanges, and its end by Ok
+//!   or by any error, are events that keep it. A cut at any moment leaves what holds all that was
 //!   promised before. Without an error the worker is open on the disk again.
-//! - Where a slice fails, `carries` alone says how far it has come and why. It isn't stated in the
-//!   words of `Worker::slice` (`SlicesInVain`), nor which calls the disk was asked for.
+//! - Where a slice fails, it has run so far as `worker: Worker::slice` does, and it stops at what
+//!   failed (`failed`). Of a worker that is open on its disk some faults don't come (`carries`).
+//!   Which calls the disk was asked for isn't stated.
 //! - `DurableWorker::checkpoint` keeps it too (`carries`), and after its Ok no later life comes
 //!   behind it (`saved`). Its calls of the disk are told (`calls`), and each error has its cause
 //!   (`cause`).
+//! - No image that a cut leaves is of a later generation than as much has happened, and the disk
+//!   has all sectors of its worker (`carries`, and `laws::open_workers_keep_bounds`).
 //! - After an error no call does anything (`fails`, `refused`).
 //!
 //! # Definitions to read
 //!
 //! In `specs/rules/`: `DurableValue` (`DurableValues.antt`); `IsOnDisk`, `IsOpenOn`
 //! (`OpenWorkers.antt`); `CallCarries`, `SliceCarries`, `IsReplyOf`, `HasCauseOf`
-//! (`DurableCalls.antt`); `CheckpointCalls`, `CheckpointFails` (`Checkpoints.antt`);
-//! `fault_of_store` (`DurableFaults.antt`). They speak in the words of `worker_rules` and
-//! `worker_laws`.
+//! (`DurableCalls.antt`); `IsCreatedOn`, `IsNotCreatedOn`, `CreationCalls`, `CreationKeeps`
+//! (`DurableCreations.antt`); `Recovers`, `RecoversFrom`, `Revives`, `OpeningCalls`,
+//! `RecoveryCarries`, `Reopens`, `ReopensInVain`, `FindsNone` (`Recoveries.antt`);
+//! `SlicesOnDiskInVain`, `IsDiskCause` (`DurableFailures.antt`); `CheckpointCalls`,
+//! `CheckpointFails` (`Checkpoints.antt`); `fault_of_store` (`DurableFaults.antt`);
+//! `fault_of_restore`, `fault_of_replay` (`RecoverFaults.antt`). They speak in the words of
+//! `worker_rules` and `worker_laws`.
 //!
 //! # Who may touch what
 //!
 //! Only this crate decides when records are kept, when they are put on the disk, and when a process
 //! is saved. No code uses it yet; it is handed its disk at each call, and keeps none. It stands on
-//! `worker`, whose definitions of slices are its own, and on `worker_store`. It takes no memory but
-//! what the process and the journal take.
+//! `worker`, whose definitions of slices are its own, and on `worker_store`. A creation takes
+//! memory for the module, for a copy of the configuration and for its bytes; the process keeps the
+//! copy.
+//! A recovery takes memory for all that it reads. The other calls take none but what the process
+//! and the journal take.
 #![tactic(auto)]
 
 mod checkpoints;
+mod copying;
+mod creating;
 mod durable;
 mod fault;
+mod finding;
+mod found;
+pub mod laws;
+mod recover_fault;
+mod recovering;
 mod running;
 mod saving;
 mod slices;
@@ -42,4 +75,5 @@ mod turns;
 
 pub use durable::DurableWorker;
 pub use fault::DurableFault;
+pub use recover_fault::RecoverFault;
 pub use running::Running;

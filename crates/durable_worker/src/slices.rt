@@ -1,11 +1,12 @@
 //! Slices of a worker on its disk.
 
-ghost use Rattle.std.specs.Prelude.{◌≡◌, ◌≤◌, [], IfOk, OnOk};
+ghost use Rattle.std.specs.Prelude.{◌≡◌, ◌≤◌, [], IfErr, IfOk, OnOk};
 ghost use Rattle.process.specs.rules.Values.{waiting_in};
 ghost use Rattle.disk_layout.specs.rules.Places.{total_sectors};
 ghost use Rattle.worker.specs.rules.Slices.{Slices};
 ghost use Rattle.worker.specs.Turns.{working};
 ghost use Rattle.durable_worker.specs.DurableTurns.{WorksOn};
+ghost use Rattle.durable_worker.specs.rules.DurableFailures.{SlicesOnDiskInVain};
 
 use crate::durable::DurableWorker;
 use crate::fault::DurableFault;
@@ -31,6 +32,8 @@ impl Running {
             now (working self.new.process) source.old source.new outlet.old outlet.new) }
         ensures works { WorksOn S.gives O.takes self.old fuel result self.new
             (D.medium disk.old) (D.medium disk.new) source.old source.new outlet.old outlet.new }
+        ensures failed { IfErr result (λ why. SlicesOnDiskInVain S.gives O.takes self.old.process
+            fuel why self.new.process source.old source.new outlet.old outlet.new) }
         ensures places { OnOk result (self.new.store.geometry ≡ self.old.store.geometry) }
         ensures sectors { (D.medium disk.new).sectors ≡ (D.medium disk.old).sectors }
     {
@@ -52,7 +55,7 @@ impl Running {
 }
 
 impl DurableWorker {
-    ghost use Rattle.std.specs.Prelude.{true, Err, OnErr};
+    ghost use Rattle.std.specs.Prelude.{true, false, Err, OnErr};
     ghost use Rattle.durable_worker.specs.rules.DurableValues.{without_disk};
     ghost use Rattle.durable_worker.specs.rules.DurableCalls.{SliceCarries};
 
@@ -76,6 +79,11 @@ impl DurableWorker {
         ensures carries { SliceCarries S.gives O.takes self.old fuel result self.new
             (D.medium disk.old) (D.medium disk.new) source.old source.new outlet.old outlet.new }
         ensures fails { OnErr result (self.new.has_failed ≡ true) }
+
+        // So far it has run as a worker that has no disk.
+        ensures failed { self.old.has_failed ≡ false
+            → IfErr result (λ why. SlicesOnDiskInVain S.gives O.takes self.old.process fuel why
+            self.new.process source.old source.new outlet.old outlet.new) }
         ensures refused { self.old.has_failed ≡ true
             → (result ≡ Err (DurableFault.Work WorkFault.Failed)) × (self.new ≡ self.old)
             × (disk.new ≡ disk.old) × (source.new ≡ source.old) × (outlet.new ≡ outlet.old) }

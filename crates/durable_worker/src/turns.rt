@@ -7,7 +7,8 @@ ghost use Rattle.disk_layout.specs.rules.Places.{total_sectors};
 ghost use Rattle.record_replay.specs.rules.Waiting.{ReleasesAll};
 ghost use Rattle.worker.specs.Turns.{AsksOnce};
 ghost use Rattle.durable_worker.specs.DurableTurns.{AsksTurn, Hears, MakesNoRoom, MakesRoom};
-ghost use Rattle.durable_worker.specs.DurableTurns.{SettlesTurn};
+ghost use Rattle.durable_worker.specs.DurableTurns.{SettlesTurn, SettlesVainly, AsksVainly};
+ghost use Rattle.durable_worker.specs.DurableTurns.{IsOfStoreFault};
 ghost use Rattle.durable_worker.specs.DurableTurns.{SettlesInVain, TakesNone, TakesOnRecord};
 
 use crate::fault::DurableFault;
@@ -37,6 +38,8 @@ impl Running {
             (D.medium disk.new) outlet.old outlet.new) }
         ensures fails { IfErr result (λ why. SettlesInVain O.takes self.old why self.new
             (D.medium disk.old) (D.medium disk.new) outlet.old outlet.new) }
+        ensures failed { IfErr result (λ why. SettlesVainly O.takes self.old.process why
+            self.new.process outlet.old outlet.new) }
         ensures places { self.new.store.geometry ≡ self.old.store.geometry }
         ensures sectors { (D.medium disk.new).sectors ≡ (D.medium disk.old).sectors }
     {
@@ -59,6 +62,8 @@ impl Running {
         ensures released { self.new.process.host.released ≡ self.old.process.host.released }
         ensures asks { AsksTurn S.gives self.old kind result self.new (D.medium disk.old)
             (D.medium disk.new) source.old source.new }
+        ensures failed { IfErr result (λ why. AsksVainly S.gives self.old kind why self.new
+            source.old source.new) }
         ensures places { OnOk result (self.new.store.geometry ≡ self.old.store.geometry) }
         ensures sectors { (D.medium disk.new).sectors ≡ (D.medium disk.old).sectors }
     {
@@ -76,6 +81,7 @@ impl Running {
             (D.medium disk.new)) }
         ensures fails { IfErr result (λ why. MakesNoRoom self.old why self.new
             (D.medium disk.old) (D.medium disk.new)) }
+        ensures failed { IfErr result IsOfStoreFault }
         ensures places { self.new.store.geometry ≡ self.old.store.geometry }
         ensures sectors { (D.medium disk.new).sectors ≡ (D.medium disk.old).sectors }
     {

@@ -20,6 +20,7 @@ use Rattle.state_image.specs.rules.Saving.{saved_of}
 use Rattle.worker_rules.specs.Lives.{Slice, Reply, Spent, Over, Fails, Cause, OfMemory, OfBounds}
 use Rattle.worker_rules.specs.Courses.{Stage, Open, MayFail, phase_ended}
 use Rattle.worker_rules.specs.Promises.{Promise, IsEnding, synced_by}
+use Rattle.worker_rules.specs.Holds.{StaysWithin}
 use Rattle.worker_laws.specs.laws.Underway.{IsUnderWay}
 use Rattle.worker_laws.specs.laws.CallEnds.{IsSliceOver, HasBound}
 use Rattle.worker_laws.proofs.AtHand.{shown_is_saved}
@@ -38,6 +39,7 @@ use Rattle.durable_worker.specs.DurableTurns.{TurnEnds, TurnFails}
 use Rattle.durable_worker.proofs.DurableLemmas.OnDisk.{keeps_now, fewer_syncs, lowered_to}
 use Rattle.durable_worker.proofs.DurableLemmas.OnDisk.{stepped_to}
 use Rattle.durable_worker.proofs.DurableLemmas.OnDisk.{quiet_syncs}
+use Rattle.durable_worker.proofs.DurableLemmas.Bounds.{on_disk_still}
 use Rattle.durable_worker.proofs.DurableLemmas.Ends.{done_nothing, ends_on, failed_end, broken_open}
 use Rattle.durable_worker.proofs.DurableLemmas.Ends.{open_again, stays_on, not_open}
 
@@ -53,6 +55,12 @@ module _ {D : Type 0} (medium : D → Medium) (c : Course) (promise : Promise) (
   told_steps : w.process.steps ≡ p.steps
   told_steps = let shows = running.shows in shows.steps
 
+  -- the disk is left alone
+  bounds_still : StaysWithin (promise.events + 1) (medium disk) (medium disk)
+  bounds_still =
+      on_disk_still medium c.code c.config c.guest promise p p.steps promise.events w.store disk
+      running.on_disk (promise.events + 1) (omega arith)
+
   -- by an error of its process
   pub process_fails : (cause : Cause) → MayFail Open cause
       → HasBound c.code c.config c.guest promise p cause
@@ -67,7 +75,7 @@ module _ {D : Type 0} (medium : D → Medium) (c : Course) (promise : Promise) (
       running.module_is may bound)
       (stays_on medium c promise disk running.opened
       (keeps_now medium c.code c.config c.guest promise p p.steps promise.events w.store disk is))
-      is.point w.store.journal is.records is.pending is.last is.now is.carried
+      bounds_still is.point w.store.journal is.records is.pending is.last is.now is.carried
       (fewer_syncs c.code c.config promise _ p.steps (w.process.steps - 1) (omega (arith, told))
       is.syncs)
       (λ e. absurd (not_open cause e))
@@ -101,7 +109,7 @@ module _ {D : Type 0} (medium : D → Medium) (c : Course) (promise : Promise) (
         (length promise.kept) (done_nothing c promise stage) ending
         (stays_on medium c promise disk running.opened
         (keeps_now medium c.code c.config c.guest promise p p.steps promise.events w.store disk is))
-        is.point w.store.journal is.records is.pending is.last is.now is.carried
+        bounds_still is.point w.store.journal is.records is.pending is.last is.now is.carried
         (fewer_syncs c.code c.config promise _ p.steps (synced_by reply w.process.steps) below
         is.syncs)
         (λ is_over replayed. (

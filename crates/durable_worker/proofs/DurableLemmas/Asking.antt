@@ -1,5 +1,5 @@
 -- Room is made, and the source is asked.
-use Rattle.std.proofs.Common.{◌≡◌, ◌⊎◌, ℕ, ◌+◌, List, [], refl, sym, ap, ◌∙◌, subst, inl, inr}
+use Rattle.std.proofs.Common.{◌≡◌, ◌⊎◌, ℕ, ◌+◌, ◌≤◌, List, [], refl, sym, ap, ◌∙◌, subst, inl, inr}
 use Rattle.std.proofs.Common.{⊎_elim, arith, Bool, true, false, Option, Some, None, Ok, Err}
 use Rattle.std.specs.Prelude.{Result}
 use Rattle.wasi_abi.specs.declared.answer.Kind.{Kind}
@@ -13,9 +13,10 @@ use Rattle.record_replay.specs.rules.Calls.{Giving, Exchange}
 use Rattle.worker_rules.specs.Lives.{Reply, Fails, Waits, SourceSaid, OfSource}
 use Rattle.worker_rules.specs.Courses.{Stage}
 use Rattle.worker_rules.specs.Promises.{Promise}
+use Rattle.worker_rules.specs.Holds.{StaysWithin}
 use Rattle.worker_laws.specs.laws.Pieces.{IsForetold}
-use Rattle.worker_laws.specs.laws.Turns.{GoesOnFrom}
-use Rattle.worker_laws.proofs.TurnLemmas.{turns_join}
+use Rattle.worker_laws.specs.laws.Turns.{GoesOnFrom, LeavesBegun}
+use Rattle.worker_laws.proofs.TurnLemmas.{turns_join, parts_leave_begun}
 use Rattle.worker.specs.declared.fault.WorkFault.{WorkFault}
 use Rattle.worker.specs.declared.fault.WorkFault.TheVariants as work
 use Rattle.durable_worker.specs.declared.fault.DurableFault.{DurableFault}
@@ -29,6 +30,7 @@ use Rattle.durable_worker.specs.DurableTurns.{TakesNone}
 use Rattle.durable_worker.specs.DurableTurns.{LacksRecord, IsNotTaken, IsMisfit, HearsBy, Hears}
 use Rattle.durable_worker.specs.DurableTurns.{TurnAsks}
 use Rattle.durable_worker.specs.DurableTurns.{AsksOutside, AsksTurn}
+use Rattle.durable_worker.proofs.DurableLemmas.Bounds.{bounds_join, question_counts}
 use Rattle.durable_worker.proofs.DurableLemmas.Ends.{cause_before}
 use Rattle.durable_worker.proofs.DurableLemmas.Hearing.{waits_once, source_fails, misfits}
 use Rattle.durable_worker.proofs.DurableLemmas.Hearing.{lacks_record}
@@ -38,16 +40,20 @@ use Rattle.durable_worker.proofs.DurableLemmas.Hearing.{not_taken, taken}
 
 module _ {D : Type 0} (medium : D → Medium) (c : Course) (promise : Promise) (stage : Stage)
     (exchanges : List Exchange) (w : Running) (disk mid disk' : D)
-    (goes : GoesOnFrom c.code c.config promise promise (medium disk) (medium mid)) where
-  goes_behind : TurnGoes c promise stage exchanges w (medium mid) (medium disk')
+    (goes : GoesOnFrom c.code c.config promise promise (medium disk) (medium mid))
+    (bounded : StaysWithin (promise.events + 1) (medium disk) (medium mid)) where
+  goes_behind : (turn : TurnGoes c promise stage exchanges w (medium mid) (medium disk'))
+      → promise.events + 1 ≤ turn.promise'.events
       → TurnGoes c promise stage exchanges w (medium disk) (medium disk')
-  goes_behind turn = record {
+  goes_behind turn counts = record {
     promise' = turn.promise';
     stage' = turn.stage';
     process = turn.process;
     done = turn.done;
     onward = turns_join medium c.code c.config promise promise turn.promise' disk mid disk' goes
         turn.onward;
+    bounded = bounds_join (promise.events + 1) turn.promise'.events (medium disk) (medium mid)
+        (medium disk') counts bounded turn.bounded;
     running = turn.running;
   }
 
@@ -62,9 +68,18 @@ module _ {D : Type 0} (medium : D → Medium) (c : Course) (promise : Promise) (
     ending = turn.ending;
     onward = turns_join medium c.code c.config promise promise
         (slice_end turn.between c.fuel reply turn.held w) disk mid disk' goes turn.onward;
+    bounded = bounds_join (promise.events + 1) (turn.between.events + 1) (medium disk)
+        (medium mid) (medium disk') (one_on begun.events) bounded turn.bounded;
     keeps = turn.keeps;
     goes_on = turn.goes_on;
   }
+    where
+      begun : LeavesBegun promise turn.between stage turn.inside
+      begun = parts_leave_begun c.code c.config promise turn.between stage turn.inside exchanges
+          turn.done
+
+      one_on : promise.events ≤ turn.between.events → promise.events + 1 ≤ turn.between.events + 1
+      one_on le = omega (arith, le)
 
   fails_behind : (why : DurableFault)
       → TurnFails c promise stage why exchanges w (medium mid) (medium disk')
@@ -74,8 +89,8 @@ module _ {D : Type 0} (medium : D → Medium) (c : Course) (promise : Promise) (
       let passes = leaves.passes in (
         turn.0,
         turn.1,
-        cause_before why c.guest c.config w.process (medium disk) (medium mid) (medium disk') passes.room
-            passes.faults turn.2,
+        cause_before why c.guest c.config w.process (medium disk) (medium mid) (medium disk')
+          passes.room passes.faults turn.2,
         ends_behind (Fails turn.0) turn.3,
       )
 
@@ -94,7 +109,7 @@ module _ {D S : Type 0} (medium : D → Medium) (gives : Giving S) (old mid new 
     λ c promise stage p asking foretold.
         let made = makes c promise stage p kind asking in
         fails_behind medium c promise stage (asks_once kind (Err e)) new disk disk' disk' made.2
-        (Work work.Source) (
+        made.3 (Work work.Source) (
           OfSource,
           inl refl,
           tt,
@@ -112,7 +127,7 @@ module _ {D S : Type 0} (medium : D → Medium) (gives : Giving S) (old mid new 
     λ c promise stage p asking foretold.
         let made = makes c promise stage p kind asking in
         ends_behind medium c promise stage (asks_once kind (Ok None)) new disk disk' disk' made.2
-        Waits
+        made.3 Waits
         (subst (λ w. TurnEnds c promise stage Waits (asks_once kind (Ok None)) w (medium disk')
         (medium disk')) (sym still)
         (waits_once medium c promise stage p kind mid disk' made.0 foretold)),
@@ -129,10 +144,12 @@ module _ {D S : Type 0} (medium : D → Medium) (gives : Giving S) (old mid new 
         let running = asking.running in
         let shows = running.shows in
         let steps : old.process.steps ≡ p.steps = shows.steps in
+        let turn = taken medium c promise stage p kind mid disk' made.0 a foretold step new
+        (step_is ∙ ap (λ n. n + 1) steps) takes in
         goes_behind medium c promise stage (asks_once kind (Ok (Some a))) new disk disk' disk'
-        made.2
-        (taken medium c promise stage p kind mid disk' made.0 a foretold step new
-        (step_is ∙ ap (λ n. n + 1) steps) takes),
+        made.2 made.3 turn
+        (question_counts c.code c.config promise turn.promise' stage turn.stage'
+        (record { kind = kind; said = Ok (Some a) }) turn.done),
   )
 
   takes_none : (a : Answer) (why : DurableFault) → gives source kind (Ok (Some a)) source'
@@ -144,14 +161,15 @@ module _ {D S : Type 0} (medium : D → Medium) (gives : Giving S) (old mid new 
     λ c promise stage p asking foretold.
         let made = makes c promise stage p kind asking in
         fails_behind medium c promise stage (asks_once kind (Ok (Some a))) new disk disk' disk'
-        made.2 why (⊎_elim
+        made.2 made.3 why (⊎_elim
         (λ (h : IsMisfit mid kind (record { step = step; answer = a }) why new).
         misfits medium c promise stage p kind mid disk' made.0 a foretold step why new h)
         (λ (rest : LacksRecord mid kind (record { step = step; answer = a }) why new
         ⊎ IsNotTaken mid kind (record { step = step; answer = a }) why new).
         ⊎_elim
         (λ (h : LacksRecord mid kind (record { step = step; answer = a }) why new).
-        lacks_record medium c promise stage p kind mid disk' made.0 a foretold step why new made.1 h)
+        lacks_record medium c promise stage p kind mid disk' made.0 a foretold step why new made.1
+          h)
         (λ (h : IsNotTaken mid kind (record { step = step; answer = a }) why new).
         not_taken medium c promise stage p kind mid disk' made.0 a foretold step why new h)
         rest) none),

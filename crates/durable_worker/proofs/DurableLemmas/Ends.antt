@@ -19,7 +19,7 @@ use Rattle.record_replay.specs.rules.Calls.{Exchange}
 use Rattle.worker_rules.specs.Lives.{Slice, Reply, Cause, Fails, Event, Ended}
 use Rattle.worker_rules.specs.Courses.{Stage, Phase, Open, Closed, MayFail, phase_ended, next_stage}
 use Rattle.worker_rules.specs.Promises.{Promise, synced_by, IsEnding}
-use Rattle.worker_rules.specs.Holds.{KeepsPromise, CarriesPromise}
+use Rattle.worker_rules.specs.Holds.{KeepsPromise, CarriesPromise, StaysWithin}
 use Rattle.worker_rules.specs.Exchanges.{none}
 use Rattle.worker_laws.specs.laws.Savepoints.{Savepoint, places}
 use Rattle.worker_laws.specs.laws.Underway.{IsInItsSlice, IsBroken}
@@ -139,6 +139,7 @@ module _ {D : Type 0} (medium : D → Medium) (c : Course) where
       })) where
     -- The end comes behind a part that has gone on, where the disk holds the syncs that it tells.
     pub ends_on : GoesOnFrom c.code c.config promise between (medium disk) (medium disk')
+        → StaysWithin (between.events + 1) (medium disk) (medium disk')
         → (point : Savepoint c.code c.config) (journal : JournalState)
         (records pending : List Record) (last now : ProcessState)
         → IsCarried between point journal records pending last now (medium disk')
@@ -149,13 +150,13 @@ module _ {D : Type 0} (medium : D → Medium) (c : Course) where
         (next_stage inside (Ended (Slice c.fuel) reply held (saved_of w.process))) q
         (durable_of w replayed false) (medium disk'))
         → TurnEnds c promise stage reply exchanges w (medium disk) (medium disk')
-    ends_on goes point journal records pending last now carried syncs goes_on =
+    ends_on goes bounded point journal records pending last now carried syncs goes_on =
         let later = ended_carries medium c.code c.config between point journal records pending last
         now (Slice c.fuel) reply held (saved_of w.process) disk' carried (λ count. refl) syncs in
         let keeps = carried_keeps medium c.code c.config (slice_end between c.fuel reply held w)
         point journal records pending last now disk' later in
-        let rest = rests_go_on medium c.code c.config between (slice_end between c.fuel reply held w)
-        disk' goes.opened_now goes.opened_now
+        let rest = rests_go_on medium c.code c.config between
+        (slice_end between c.fuel reply held w) disk' goes.opened_now goes.opened_now
         (ends_promise_no_less between (Slice c.fuel) reply held (saved_of w.process))
         (ended_still_holds c.code c.config between (Slice c.fuel) reply held (saved_of w.process))
         keeps in
@@ -167,6 +168,7 @@ module _ {D : Type 0} (medium : D → Medium) (c : Course) where
           ending = ending;
           onward = turns_join medium c.code c.config promise between
               (slice_end between c.fuel reply held w) disk disk' disk' goes rest;
+          bounded = bounded;
           keeps = keeps;
           goes_on = goes_on;
         }
@@ -182,8 +184,9 @@ module _ {D : Type 0} (medium : D → Medium) (c : Course) where
       })
       → CarriesPromise c.code c.config promise (slice_end promise c.fuel (Fails cause) held w)
       (medium disk) (medium disk')
+      → StaysWithin (promise.events + 1) (medium disk) (medium disk')
       → TurnEnds c promise stage (Fails cause) [] w (medium disk) (medium disk')
-  fails_at_call promise stage w disk disk' cause held opened ending carries = record {
+  fails_at_call promise stage w disk disk' cause held opened ending carries bounded = record {
     between = promise;
     inside = stage;
     held = held;
@@ -198,6 +201,7 @@ module _ {D : Type 0} (medium : D → Medium) (c : Course) where
           (saved_of w.process);
       leaves = carries.at_any_moment;
     };
+    bounded = bounded;
     keeps = carries.in_the_end;
     goes_on = λ e. absurd (not_open cause e);
   }
@@ -222,7 +226,8 @@ failed_end c promise stage p w phase held cause broken shows module_is may bound
 
 -- what is under way is where it was
 pub broken_open : (c : Course) (promise : Promise) (stage : Stage) (p : ProcessState)
-    (step latest : ℕ) (w : Running) (disk : Medium) → IsRunningOn c promise stage p step latest w disk
+    (step latest : ℕ) (w : Running) (disk : Medium)
+    → IsRunningOn c promise stage p step latest w disk
     → IsBroken c.code c.config c.guest promise stage c.fuel (length promise.kept) p Open
 broken_open c promise stage p step latest w disk running = record {
   in_slice = running.way.in_slice;

@@ -29,6 +29,7 @@ use Rattle.worker_rules.specs.Lives.{OfSource, OfAnswer, OfMemory, OfBounds}
 use Rattle.worker_rules.specs.Courses.{Stage, Phase, Open, Broken, NoneThere, MayFail, next_stage}
 use Rattle.worker_rules.specs.Courses.{first_said}
 use Rattle.worker_rules.specs.Promises.{Promise, after, IsFitting, IsInquiring}
+use Rattle.worker_rules.specs.Holds.{StaysWithin}
 use Rattle.worker_rules.specs.Exchanges.{none as no_exchange, asked}
 use Rattle.worker_laws.specs.laws.Savepoints.{Savepoint}
 use Rattle.worker_laws.specs.laws.Underway.{IsInItsSlice, IsUnderWay, IsBroken, IsAtQuestion}
@@ -66,6 +67,7 @@ use Rattle.durable_worker.specs.DurableTurns.{IsMisfit, longest_record}
 use Rattle.durable_worker.proofs.ShortAnswers.{short_payload}
 use Rattle.durable_worker.proofs.DurableLemmas.OnDisk.{IsReachedBy, reached_now, valid_module}
 use Rattle.durable_worker.proofs.DurableLemmas.OnDisk.{runs_there}
+use Rattle.durable_worker.proofs.DurableLemmas.Bounds.{on_disk_still}
 use Rattle.durable_worker.proofs.DurableLemmas.Ends.{ends_on, failed_end, open_again, not_open}
 
 -- where a question leads
@@ -117,6 +119,13 @@ module _ {D : Type 0} (medium : D → Medium) (c : Course) (promise : Promise) (
       let shows = running.shows in
       let host = shows.host in
       ap (λ (h : Host). h.limit) host.is
+
+  -- the disk is left alone
+  bounds_still : (later : ℕ) → promise.events + 1 ≤ later
+      → StaysWithin later (medium disk) (medium disk)
+  bounds_still later le = let running = asking.running in
+      on_disk_still medium c.code c.config c.guest promise p p.steps (promise.events + 1) w.store
+      disk running.on_disk later le
 
   -- ---- what was said
 
@@ -215,7 +224,8 @@ module _ {D : Type 0} (medium : D → Medium) (c : Course) (promise : Promise) (
           (length promise.kept) (done_once fitting foretold)
           (failed_end c (promise_once promise p kind said fits) (stage_once stage p kind said fits)
           p w' phase (length promise.kept) cause broken shows_still module_still may bound)
-          (goes_once fitting foretold) is.point w.store.journal is.records is.pending is.last is.now
+          (goes_once fitting foretold) (bounds_still (promise.events + 1 + 1) (omega arith))
+          is.point w.store.journal is.records is.pending is.last is.now
           carried_once (syncs_until (w'.process.steps - 1) (omega (arith, told)))
           (λ e. absurd (not_open cause e))
 
@@ -260,8 +270,9 @@ module _ {D : Type 0} (medium : D → Medium) (c : Course) (promise : Promise) (
       (waiting_slices_end c.code c.config c.guest more inside c.fuel p (saved_of w.process) broken
       (shown_is_saved c.code c.config c.guest w.process p running.shows running.module_is) way.line
       asking.unended asking.room)
-      (goes_once (Ok None) false tt foretold) is.point w.store.journal is.records is.pending is.last
-      is.now (carried_once (Ok None) false)
+      (goes_once (Ok None) false tt foretold) (bounds_still (promise.events + 1 + 1) (omega arith))
+      is.point w.store.journal is.records is.pending is.last is.now
+      (carried_once (Ok None) false)
       (syncs_until (Ok None) false w refl tt foretold w.process.steps (omega (arith, told)))
       (λ over replayed. (
         p,
@@ -477,6 +488,7 @@ module _ {D : Type 0} (medium : D → Medium) (c : Course) (promise : Promise) (
             process = q;
             done = done_once (Ok (Some a)) true fits foretold;
             onward = goes_once (Ok (Some a)) true fits foretold;
+            bounded = bounds_still (promise.events + 1) (omega arith);
             running = record {
               opened = running.opened;
               texts = running.texts;

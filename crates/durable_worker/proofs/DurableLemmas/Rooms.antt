@@ -18,6 +18,7 @@ use Rattle.record_replay.proofs.Emitted.{released_whole}
 use Rattle.worker_rules.specs.Lives.{Slice, Fails, Cause, OfDisk, OfBounds}
 use Rattle.worker_rules.specs.Courses.{Stage, Open, MayFail}
 use Rattle.worker_rules.specs.Promises.{Promise}
+use Rattle.worker_rules.specs.Holds.{StaysWithin}
 use Rattle.worker_laws.specs.laws.Savepoints.{Savepoint}
 use Rattle.worker_laws.specs.laws.CallEnds.{HasBound}
 use Rattle.worker_laws.specs.laws.Carried.{IsHeldAt, count_at}
@@ -43,6 +44,7 @@ use Rattle.durable_worker.specs.DurableTurns.{MakesNoRoom}
 use Rattle.durable_worker.specs.DurableTurns.{TurnFails, slice_end, longest_record}
 use Rattle.durable_worker.proofs.CheckpointLemmas.{CanSave, can_save}
 use Rattle.durable_worker.proofs.DurableLemmas.OnDisk.{keeps_now, fewer_syncs, lowered_to}
+use Rattle.durable_worker.proofs.DurableLemmas.Bounds.{on_disk_still, saves_within}
 use Rattle.durable_worker.proofs.DurableLemmas.Ends.{fails_at_call, failed_end, broken_open}
 use Rattle.durable_worker.proofs.DurableLemmas.Ends.{carried_on}
 use Rattle.durable_worker.proofs.DurableLemmas.Ends.{stays_on, disk_cause}
@@ -76,6 +78,8 @@ module _ {D : Type 0} (medium : D → Medium) where
         stays_on medium c promise disk running.opened
             (keeps_now medium c.code c.config c.guest promise p p.steps promise.events w.store disk
             is),
+        on_disk_still medium c.code c.config c.guest promise p p.steps promise.events w.store disk
+            is (promise.events + 1) (omega arith),
       )
 
 -- ---- it is made
@@ -119,6 +123,20 @@ module _ {D : Type 0} (medium : D → Medium) (w : Running) (after : WorkerStore
         released_whole w.process c.guest p running.shows asking.none_waits in
         let few : w.process.host.released ≤ promise.heard = way.heard in
         omega (arith, told, few)
+
+    -- at any moment it is one generation on at most
+    save_bounds : StaysWithin (promise.events + 1) (medium disk) (medium disk')
+    save_bounds =
+        let running = asking.running in
+        let is = running.on_disk in
+        let stores = is.stores in
+        let next_is = ready.is_next in
+        let early = is.early in
+        saves_within c.code c.config is.point (promise.events + 1) (medium disk) (medium disk')
+        stores.sectors ready.next is.records is.pending is.last next_is.comes
+        (omega (arith, early))
+        (leaves c.code c.config is.point ready.next is.records is.pending is.last is.now is.stores
+        next_is.comes next_is.saved)
 
     comes : (fault : StoreFault)
         → IsSaveFault w.store w.process (medium disk) (medium disk') fault
@@ -190,7 +208,8 @@ module _ {D : Type 0} (medium : D → Medium) (w : Running) (after : WorkerStore
               (saved_of w.process)) later
               (next_is.saves (slice_end promise c.fuel (Fails why.cause) held w) heard)
               (leaves c.code c.config point can.next is.records is.pending is.last is.now is.stores
-              next_is.comes next_is.saved)),
+              next_is.comes next_is.saved))
+              save_bounds,
         )
 
     module _ (stores : StoresNext w.store after w.process (medium disk) (medium disk')) where
@@ -297,4 +316,5 @@ module _ {D : Type 0} (medium : D → Medium) (w : Running) (after : WorkerStore
         },
         room_after c promise stage p kind asking stores fresh,
         save_goes c promise stage p kind asking stores,
+        save_bounds c promise stage p kind asking,
       )

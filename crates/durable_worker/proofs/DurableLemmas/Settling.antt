@@ -15,6 +15,7 @@ use Rattle.record_replay.proofs.Emitted.{waiting_behind, released_whole, release
 use Rattle.worker_rules.specs.Lives.{Slice, Fails, OfDisk, OfOutlet}
 use Rattle.worker_rules.specs.Courses.{Stage, Broken}
 use Rattle.worker_rules.specs.Promises.{Promise}
+use Rattle.worker_rules.specs.Holds.{StaysWithin}
 use Rattle.worker_laws.specs.laws.Underway.{IsUnderWay}
 use Rattle.worker_laws.specs.laws.Pieces.{IsForetold}
 use Rattle.worker_laws.specs.laws.Telling.{AddsLines}
@@ -43,6 +44,7 @@ use Rattle.durable_worker.specs.DurableTurns.{TurnFails, slice_end, told_lines_o
 use Rattle.durable_worker.specs.DurableTurns.{SettlesInVain}
 use Rattle.durable_worker.proofs.SavingLemmas.{barrier_fault}
 use Rattle.durable_worker.proofs.DurableLemmas.OnDisk.{reached_now, fewer_syncs}
+use Rattle.durable_worker.proofs.DurableLemmas.Bounds.{fronts_within}
 use Rattle.durable_worker.proofs.DurableLemmas.Ends.{ends_on, fails_at_call, failed_end}
 use Rattle.durable_worker.proofs.DurableLemmas.Ends.{broken_open}
 use Rattle.durable_worker.proofs.DurableLemmas.Ends.{carried_on, not_open, disk_cause}
@@ -94,6 +96,17 @@ module _ {D : Type 0} (medium : D → Medium) (c : Course) (promise : Promise) (
     (p : ProcessState) (w : Running) (after : WorkerStore) (disk disk' : D)
     (owing : IsOwingTurn c promise stage p w (medium disk))
     (fronts : LeavesFronts w.store (medium disk) (medium disk')) where
+  -- no image is of a later generation
+  barrier_bounds : (later : ℕ) → promise.events ≤ later
+      → StaysWithin later (medium disk) (medium disk')
+  barrier_bounds later le =
+      let is = owing.on_disk in
+      let stores = is.stores in
+      let early = is.early in
+      fronts_within c.code c.config is.point later (medium disk) (medium disk') stores.sectors
+      is.records is.pending is.last (omega (arith, early, le))
+      (fronts c.code c.config is.point is.records is.pending is.last is.now is.stores)
+
   -- it fails
   pub barrier_in_vain : (fault : StoreFault)
       → BarrierFails w.store (medium disk) (medium disk') fault
@@ -106,7 +119,8 @@ module _ {D : Type 0} (medium : D → Medium) (c : Course) (promise : Promise) (
       let told : w.process.steps ≡ p.steps = (let shows = owing.shows in shows.steps) in
       let here : w.process.steps - 1 ≤ p.steps - 1 = omega (arith, told) in
       let later = ended_carries medium c.code c.config promise point w.store.journal is.records
-      is.pending is.last is.now (Slice c.fuel) (Fails OfDisk) held (saved_of w.process) disk is.carried
+      is.pending is.last is.now (Slice c.fuel) (Fails OfDisk) held (saved_of w.process) disk
+      is.carried
       (λ count. refl)
       (fewer_syncs c.code c.config promise (count_at point is.records) (p.steps - 1)
       (w.process.steps - 1) here is.syncs) in (
@@ -125,7 +139,8 @@ module _ {D : Type 0} (medium : D → Medium) (c : Course) (promise : Promise) (
             is.pending is.last is.now disk disk'
             (ends_promise_no_less promise (Slice c.fuel) (Fails OfDisk) held
             (saved_of w.process)) later
-            (fronts c.code c.config point is.records is.pending is.last is.now is.stores)),
+            (fronts c.code c.config point is.records is.pending is.last is.now is.stores))
+            (barrier_bounds (promise.events + 1) (omega arith)),
       )
 
   module _ (all : StoresAll w.store after (medium disk) (medium disk')) where
@@ -234,6 +249,7 @@ module _ {D : Type 0} (medium : D → Medium) (c : Course) (promise : Promise) (
             process = p;
             done = made.done;
             onward = goes_told made.promise' made.adds made.stage' leaves;
+            bounded = barrier_bounds made.promise'.events adds.events;
             running = record {
               opened = leaves.opened ∙ owing.opened;
               texts = owing.texts;
@@ -274,6 +290,8 @@ module _ {D : Type 0} (medium : D → Medium) (c : Course) (promise : Promise) (
           subst (λ v. ShowsProcess v c.guest p) (sym some.same) owing.shows in
           let module_is : w'.process.machine.guest ≡ c.code =
           ap (λ (v : ProcessValue). v.machine.guest) some.same ∙ owing.module_is in
+          let adds = made.adds in
+          let more = adds.events in
           let is = owing.on_disk in (
             OfOutlet,
             refl,
@@ -282,7 +300,9 @@ module _ {D : Type 0} (medium : D → Medium) (c : Course) (promise : Promise) (
                 (Fails OfOutlet) (length promise.kept) made.done
                 (failed_end c made.promise' made.stage' p w' (Broken OfOutlet)
                 (length promise.kept) OfOutlet told.1 shown module_is refl tt)
-                (goes_told made.promise' made.adds made.stage' leaves) is.point after.journal
+                (goes_told made.promise' made.adds made.stage' leaves)
+                (barrier_bounds (made.promise'.events + 1) (omega (arith, more))) is.point
+                after.journal
                 (is.records ++ is.pending) [] is.now is.now
                 (lines_carried made.promise' made.adds)
                 (syncs_now made.promise' made.adds (w'.process.steps - 1))

@@ -21,9 +21,12 @@ use Rattle.worker.specs.rules.Refusals.{work_fault}
 use Rattle.worker.specs.rules.Slices.{Slices}
 use Rattle.worker.specs.Turns.{working, AsksOnce}
 use Rattle.durable_worker.specs.DurableTurns.{Hears, SettlesTurn, SettlesInVain, AsksTurn, WorksOn}
+use Rattle.durable_worker.specs.DurableTurns.{SettlesVainly, AsksVainly}
+use Rattle.durable_worker.specs.rules.DurableFailures.{SlicesOnDiskInVain}
 use Rattle.worker.proofs.Ending.{measure, Turning, turning_none, turning_counts, spent, over, owes}
 use Rattle.worker.proofs.Ending.{owes_less, asks, asks_counts, released_all, waiting, given}
-use Rattle.worker.proofs.Ending.{given_less, Wishing}
+use Rattle.worker.proofs.Ending.{given_less, Wishing, cannot_advance}
+use Rattle.durable_worker.proofs.DurableLemmas.InVain.{as_on_disk, settled_vainly, asked_vainly}
 use Rattle.durable_worker.proofs.DurableLemmas.Asking.{asks_once_of}
 use Rattle.durable_worker.proofs.DurableLemmas.Advancing.{with_process}
 use Rattle.durable_worker.proofs.DurableLemmas.Working.{SoFar, so_far_none, works_spent, works_over}
@@ -91,6 +94,14 @@ module _ {D S O : Type 0} (medium : D → Medium) (gives : Giving S) (takes : Ta
         works_in_vain medium gives takes old w v fuel left disk mid s t o q i.so_far left_there same
         same_guest why advances
 
+    -- as a worker without a disk
+    pub vain_so_far : (why : ProcessFault) → AdvancesProcess w.process left (Err why) v
+        → SlicesOnDiskInVain gives takes old.process fuel (Work (work_fault why)) v s t o q
+    vain_so_far why advances =
+        as_on_disk gives takes old.process v fuel why s t o q
+        (cannot_advance gives takes old.process w.process v fuel first left s t o q i.turning
+        left_is same why advances)
+
     module _ (advances : AdvancesProcess w.process left (Ok stops.Owes) v) (w' : Running)
         (disk' : D) (r : O) where
       pub settled_on : ReleasesAll takes v w'.process q r
@@ -120,6 +131,13 @@ module _ {D S O : Type 0} (medium : D → Medium) (gives : Giving S) (takes : Ta
       unsettled_on why settles =
           works_unsettled medium gives takes old w v fuel left disk mid s t o q i.so_far left_there
           same same_guest advances w' disk' r why settles
+
+      pub unsettled_so_far : (why : DurableFault) → SettlesVainly takes v why w'.process q r
+          → SlicesOnDiskInVain gives takes old.process fuel why w'.process s t o r
+      unsettled_so_far why vain =
+          settled_vainly gives takes old.process v fuel first s t o q
+          (owes gives takes old.process w.process v fuel first left s t o q i.turning left_is same
+          advances) why w'.process r vain
 
     module _ (kind : Kind) (advances : AdvancesProcess w.process left (Ok (stops.Asks kind)) v)
         (w' : Running) (disk' : D) (u : S) where
@@ -168,3 +186,10 @@ module _ {D S O : Type 0} (medium : D → Medium) (gives : Giving S) (takes : Ta
       unasked_on why asked =
           works_unasked medium gives takes old w v fuel left disk mid s t o q i.so_far left_there
           same same_guest kind advances w' disk' u why asked
+
+      pub unasked_so_far : (why : DurableFault)
+          → AsksVainly gives (with_process w v) kind why w' t u
+          → SlicesOnDiskInVain gives takes old.process fuel why w'.process s u o q
+      unasked_so_far why vain =
+          asked_vainly gives takes old.process v fuel first s t o q kind wishing (with_process w v)
+          w' why u refl vain

@@ -21,12 +21,13 @@ use Rattle.record_replay.proofs.Following.{exchanges_join}
 use Rattle.worker_rules.specs.Lives.{Act, Slice, Reply, Spent, Over, Waits, Fails, Ended}
 use Rattle.worker_rules.specs.Courses.{Stage, Open, phase_ended, next_stage, stage_after}
 use Rattle.worker_rules.specs.Promises.{Promise, promised}
-use Rattle.worker_rules.specs.Holds.{CarriesPromise}
+use Rattle.worker_rules.specs.Holds.{CarriesPromise, StaysWithin}
 use Rattle.worker_laws.specs.laws.Underway.{IsUnderWay}
 use Rattle.worker_laws.specs.laws.Pieces.{IsForetold}
+use Rattle.worker_laws.specs.laws.Turns.{LeavesBegun}
 use Rattle.worker_laws.proofs.CallEnds.{slices_begin}
 use Rattle.worker_laws.proofs.Pieces.{parts_join, parts_are_foretold, ends_join}
-use Rattle.worker_laws.proofs.TurnLemmas.{turns_join, turns_carry}
+use Rattle.worker_laws.proofs.TurnLemmas.{turns_join, turns_carry, parts_leave_begun}
 use Rattle.record_replay.proofs.Emitted.{released_whole}
 use Rattle.worker.specs.declared.now.Now.{Now}
 use Rattle.worker.specs.declared.now.Now.TheVariants as now
@@ -44,6 +45,7 @@ use Rattle.durable_worker.specs.DurableTurns.{TurnAsks}
 use Rattle.durable_worker.specs.DurableTurns.{AsksOutside, AsksTurn, WorksOn}
 use Rattle.worker.proofs.Joining.{tells_ask_nothing, releases_of_tells}
 use Rattle.durable_worker.proofs.DurableLemmas.OnDisk.{keeps_now}
+use Rattle.durable_worker.proofs.DurableLemmas.Bounds.{bounds_join, on_disk_still}
 use Rattle.durable_worker.proofs.DurableLemmas.Ends.{cause_before, done_nothing, stays_on, not_open}
 use Rattle.durable_worker.proofs.DurableLemmas.Advancing.{with_process, advance_owes, advance_asks}
 use Rattle.durable_worker.proofs.DurableLemmas.Advancing.{advance_spent, advance_over}
@@ -64,8 +66,13 @@ module _ {D : Type 0} (medium : D → Medium) (c : Course) (promise : Promise) (
         a.done b.done;
     onward = turns_join medium c.code c.config promise a.promise' b.promise' disk mid disk' a.onward
         b.onward;
+    bounded = bounds_join a.promise'.events b.promise'.events (medium disk) (medium mid)
+        (medium disk') begun.events a.bounded b.bounded;
     running = b.running;
   }
+    where
+      begun : LeavesBegun a.promise' b.promise' a.stage' b.stage'
+      begun = parts_leave_begun c.code c.config a.promise' b.promise' a.stage' b.stage' ys b.done
 
   ends_after : (reply : Reply)
       → TurnEnds c a.promise' a.stage' reply ys w' (medium mid) (medium disk')
@@ -79,9 +86,17 @@ module _ {D : Type 0} (medium : D → Medium) (c : Course) (promise : Promise) (
     ending = b.ending;
     onward = turns_join medium c.code c.config promise a.promise'
         (slice_end b.between c.fuel reply b.held w') disk mid disk' a.onward b.onward;
+    bounded = bounds_join a.promise'.events (b.between.events + 1) (medium disk) (medium mid)
+        (medium disk') (one_on begun.events) a.bounded b.bounded;
     keeps = b.keeps;
     goes_on = b.goes_on;
   }
+    where
+      begun : LeavesBegun a.promise' b.between a.stage' b.inside
+      begun = parts_leave_begun c.code c.config a.promise' b.between a.stage' b.inside ys b.done
+
+      one_on : a.promise'.events ≤ b.between.events → a.promise'.events ≤ b.between.events + 1
+      one_on le = omega (arith, le)
 
 -- a cause at a later moment is one at an earlier moment
 causes_before : (result : Result Now DurableFault) (guest : Guest) (config : Settings)
@@ -121,19 +136,19 @@ module _ {D S O : Type 0} (medium : D → Medium) (gives : Giving S) (takes : Ta
   -- the exchanges so far are those of a worker that goes on
   abbrev pub SoFar : Running → ℕ → Running → D → D → S → S → O → O → Type 0
   SoFar old fuel w disk disk' source source' outlet outlet' =
-      (c : Course) (promise : Promise) (stage : Stage) (p : ProcessState) → c.fuel ≡ fuel
-      → c.first ≡ old.process.steps → IsBetweenTurns c promise stage p old (medium disk)
-      → (exchanges : List Exchange)
+      (exchanges : List Exchange)
       × Exchanges gives takes source outlet exchanges source' outlet'
-      × (IsForetold stage exchanges
+      × ((c : Course) (promise : Promise) (stage : Stage) (p : ProcessState) → c.fuel ≡ fuel
+      → c.first ≡ old.process.steps → IsBetweenTurns c promise stage p old (medium disk)
+      → IsForetold stage exchanges
       → TurnGoes c promise stage exchanges w (medium disk) (medium disk'))
 
   pub so_far_none : (w : Running) (fuel : ℕ) (disk : D) (source : S) (outlet : O)
       → SoFar w fuel w disk disk source source outlet outlet
-  so_far_none w fuel disk source outlet c promise stage p fuel_is first_is between = (
+  so_far_none w fuel disk source outlet = (
     [],
     nothing_alone gives takes source outlet,
-    λ foretold. record {
+    λ c promise stage p fuel_is first_is between foretold. record {
       promise' = promise;
       stage' = stage;
       process = p;
@@ -141,6 +156,8 @@ module _ {D S O : Type 0} (medium : D → Medium) (gives : Giving S) (takes : Ta
       onward = stays_on medium c promise disk between.opened
           (keeps_now medium c.code c.config c.guest promise p p.steps promise.events w.store disk
           between.on_disk);
+      bounded = on_disk_still medium c.code c.config c.guest promise p p.steps promise.events
+          w.store disk between.on_disk promise.events (omega arith);
       running = between;
     },
   )
@@ -154,19 +171,18 @@ module _ {D S O : Type 0} (medium : D → Medium) (gives : Giving S) (takes : Ta
         → IsBetweenTurns c promise stage p w (medium mid) → IsForetold stage ys
         → TurnGoes c promise stage ys w' (medium mid) (medium disk'))
         → SoFar old fuel w' disk disk' s u o r
-    then_goes turn c promise stage p fuel_is first_is between =
-        let so = so_far c promise stage p fuel_is first_is between in (
-          so.0 ++ ys,
-          exchanges_join gives takes s u t o r q so.0 ys so.1 more,
-          λ foretold.
-              let first = parts_are_foretold c.code c.config promise promise stage stage so.0 ys
-              foretold in
-              let a = so.2 first.1 in
-              let both = parts_are_foretold c.code c.config promise a.promise' stage a.stage' so.0
-              ys foretold in
-              goes_after medium c promise stage so.0 ys w w' disk mid disk' a
-              (turn c a.promise' a.stage' a.process fuel_is first_is a.running (both.0 a.done)),
-        )
+    then_goes turn = (
+      so_far.0 ++ ys,
+      exchanges_join gives takes s u t o r q so_far.0 ys so_far.1 more,
+      λ c promise stage p fuel_is first_is between foretold.
+          let first = parts_are_foretold c.code c.config promise promise stage stage so_far.0 ys
+          foretold in
+          let a = so_far.2 c promise stage p fuel_is first_is between first.1 in
+          let both = parts_are_foretold c.code c.config promise a.promise' stage a.stage' so_far.0
+          ys foretold in
+          goes_after medium c promise stage so_far.0 ys w w' disk mid disk' a
+          (turn c a.promise' a.stage' a.process fuel_is first_is a.running (both.0 a.done)),
+    )
 
     -- it is over
     pub then_ends : (result : Result Now DurableFault)
@@ -177,27 +193,26 @@ module _ {D S O : Type 0} (medium : D → Medium) (gives : Giving S) (takes : Ta
         × HasCauseOf result c.guest c.config w'.process (medium mid) (medium disk')
         × TurnEnds c promise stage reply ys w' (medium mid) (medium disk'))
         → WorksOn gives takes old fuel result w' (medium disk) (medium disk') s u o r
-    then_ends result turn c promise stage p fuel_is first_is between =
-        let so = so_far c promise stage p fuel_is first_is between in (
-          so.0 ++ ys,
-          exchanges_join gives takes s u t o r q so.0 ys so.1 more,
-          λ foretold.
-              let first = parts_are_foretold c.code c.config promise promise stage stage so.0 ys
-              foretold in
-              let a = so.2 first.1 in
-              let both = parts_are_foretold c.code c.config promise a.promise' stage a.stage' so.0
-              ys foretold in
-              let last = turn c a.promise' a.stage' a.process fuel_is first_is a.running
-              (both.0 a.done) in
-              let onward = a.onward in
-              let leaves = onward.leaves in (
-                last.0,
-                last.1,
-                causes_before result c.guest c.config w'.process (medium disk) (medium mid) (medium disk')
-                    leaves.passes last.2,
-                ends_after medium c promise stage so.0 ys w w' disk mid disk' a last.0 last.3,
-              ),
-        )
+    then_ends result turn = (
+      so_far.0 ++ ys,
+      exchanges_join gives takes s u t o r q so_far.0 ys so_far.1 more,
+      λ c promise stage p fuel_is first_is between foretold.
+          let first = parts_are_foretold c.code c.config promise promise stage stage so_far.0 ys
+          foretold in
+          let a = so_far.2 c promise stage p fuel_is first_is between first.1 in
+          let both = parts_are_foretold c.code c.config promise a.promise' stage a.stage' so_far.0
+          ys foretold in
+          let last = turn c a.promise' a.stage' a.process fuel_is first_is a.running
+          (both.0 a.done) in
+          let onward = a.onward in
+          let leaves = onward.leaves in (
+            last.0,
+            last.1,
+            causes_before result c.guest c.config w'.process (medium disk) (medium mid)
+                (medium disk') leaves.passes last.2,
+            ends_after medium c promise stage so_far.0 ys w w' disk mid disk' a last.0 last.3,
+          ),
+    )
 
   -- ---- its turns
 
@@ -347,7 +362,8 @@ begins m config guest promise stage p acts running replayed fuel failed disk ope
 -- how a slice ends is how its call does
 module _ {D : Type 0} (medium : D → Medium) (c : Course) (promise : Promise) (stage : Stage)
     (reply : Reply) (exchanges : List Exchange) (w : Running) (replayed : ℕ) (failed : Bool)
-    (disk disk' : D) (ends : TurnEnds c promise stage reply exchanges w (medium disk) (medium disk'))
+    (disk disk' : D)
+    (ends : TurnEnds c promise stage reply exchanges w (medium disk) (medium disk'))
   where
     call_carries : (phase_ended reply ≡ Open → failed ≡ false)
         → CallCarries c.code c.config c.guest promise stage (Slice c.fuel) reply
@@ -364,6 +380,8 @@ module _ {D : Type 0} (medium : D → Medium) (c : Course) (promise : Promise) (
           carried = subst (λ z. CarriesPromise c.code c.config promise z (medium disk)
               (medium disk')) (sym joined.1)
               (turns_carry medium c.code c.config promise _ disk disk' ends.onward ends.keeps);
+          bounded = subst (λ (z : Promise). StaysWithin z.events (medium disk) (medium disk'))
+              (sym joined.1) ends.bounded;
           goes_on = λ over.
               let again = ends.goes_on over replayed in (
                 again.0,
@@ -390,28 +408,27 @@ module _ {D S O : Type 0} (medium : D → Medium) (gives : Giving S) (takes : Ta
       outlet'
       → SliceCarries gives takes (durable_of old replayed before) fuel result
       (durable_of new replayed after) (medium disk) (medium disk') source source' outlet outlet'
-  carries_by result works worked m config guest promise stage p acts open_on next_act =
-      let c : Course = record {
-        code = m;
-        config = config;
-        guest = guest;
-        fuel = fuel;
-        first = old.process.steps;
-      } in
-      let did = worked c promise stage p refl refl
-      (begins m config guest promise stage p acts old replayed fuel before (medium disk) open_on
-      next_act) in (
-        did.0,
-        did.1,
-        λ foretold.
-            let ended = did.2 foretold in (
-              ended.0,
-              ended.1,
-              ended.2,
-              call_carries medium c promise stage ended.0 did.0 new replayed after disk disk'
-                  ended.3 (works ended.0 ended.1),
-            ),
-      )
+  carries_by result works worked = (
+    worked.0,
+    worked.1,
+    λ m config guest promise stage p acts open_on next_act foretold.
+        let c : Course = record {
+          code = m;
+          config = config;
+          guest = guest;
+          fuel = fuel;
+          first = old.process.steps;
+        } in
+        let ended = worked.2 c promise stage p refl refl
+        (begins m config guest promise stage p acts old replayed fuel before (medium disk) open_on
+        next_act) foretold in (
+          ended.0,
+          ended.1,
+          ended.2,
+          call_carries medium c promise stage ended.0 worked.0 new replayed after disk disk'
+              ended.3 (works ended.0 ended.1),
+        ),
+  )
 
   pub slice_carries : (why : Now) → after ≡ false
       → WorksOn gives takes old fuel (Ok why) new (medium disk) (medium disk') source source'
@@ -431,9 +448,12 @@ module _ {D S O : Type 0} (medium : D → Medium) (gives : Giving S) (takes : Ta
 
 -- one that has failed is not open
 pub failed_carries : {S O : Type 0} (gives : Giving S) (takes : Taking O) (old new : DurableValue)
-    (fuel : ℕ) (result : Result Now DurableFault) (disk disk' : Medium) (source source' : S)
-    (outlet outlet' : O) → old.has_failed ≡ true
-    → SliceCarries gives takes old fuel result new disk disk' source source' outlet outlet'
-failed_carries gives takes old new fuel result disk disk' source source' outlet outlet' failed m
-    config guest promise stage p acts open_on next_act =
-    let works = open_on.works in absurd (cc)
+    (fuel : ℕ) (result : Result Now DurableFault) (disk disk' : Medium) (source : S) (outlet : O)
+    → old.has_failed ≡ true
+    → SliceCarries gives takes old fuel result new disk disk' source source outlet outlet
+failed_carries gives takes old new fuel result disk disk' source outlet failed = (
+  [],
+  nothing_alone gives takes source outlet,
+  λ m config guest promise stage p acts open_on next_act foretold.
+      let works = open_on.works in absurd (cc),
+)

@@ -16,7 +16,7 @@ use Rattle.worker_rules.specs.Lives.{OfOutlet, OfMemory, OfBounds, Reply, Spent,
 use Rattle.worker_rules.specs.Lives.{Fails, Event, Ended}
 use Rattle.worker_rules.specs.Courses.{Stage, Open, phase_ended, stage_after}
 use Rattle.worker_rules.specs.Promises.{Promise, promised, AreKept}
-use Rattle.worker_rules.specs.Holds.{CarriesPromise}
+use Rattle.worker_rules.specs.Holds.{CarriesPromise, StaysWithin}
 use Rattle.worker_rules.specs.Exchanges.{AreEvents}
 use Rattle.worker_laws.specs.laws.Pieces.{IsForetold}
 use Rattle.worker_store.specs.declared.fault.StoreFault.TheVariants as store
@@ -95,8 +95,9 @@ abbrev pub call_events : List Event → Act → Reply → ℕ → DurableValue �
 call_events events act reply held w = events ++ Ended act reply held (saved_of w.process) ∷ []
 
 -- The exchanges of a call, and its end, are events that keep what was promised. At any moment of it
--- the disk holds what was promised before, and in the end what is promised then. Without an error
--- the worker is open on it again.
+-- the disk holds what was promised before, and in the end what is promised then. No image that a
+-- cut leaves is of a later generation than as much has then happened, or of a worker for which
+-- there is no room. Without an error the worker is open on the disk again.
 pub record CallCarries (m : Module) (config : Settings) (guest : Guest) (promise : Promise)
     (stage : Stage) (act : Act) (reply : Reply) (new : DurableValue) (disk disk' : Medium)
     (exchanges : List Exchange) : Type 0 where
@@ -106,20 +107,23 @@ pub record CallCarries (m : Module) (config : Settings) (guest : Guest) (promise
   pub kept : AreKept m config promise stage (call_events events act reply held new)
   pub carried : CarriesPromise m config promise
       (promised promise (call_events events act reply held new)) disk disk'
+  pub bounded : StaysWithin (promised promise (call_events events act reply held new)).events disk
+      disk'
   pub goes_on : phase_ended reply ≡ Open → (q : ProcessState)
       × IsOpenOn m config guest (promised promise (call_events events act reply held new))
       (stage_after stage (call_events events act reply held new)) q new disk'
 
--- Whatever was promised of the worker that is open on this disk, and wherever a life stands whose
--- source and outlet will say what they now said, a slice keeps it.
+-- A slice has these exchanges with its source and its outlet. Whatever was promised of the worker
+-- that is open on this disk, and wherever a life stands whose source and outlet will say what they
+-- now said, it keeps it.
 abbrev pub SliceCarries : {S O : Type 0} → Giving S → Taking O → DurableValue → ℕ
     → Result Now DurableFault → DurableValue → Medium → Medium → S → S → O → O → Type 0
 SliceCarries gives takes old fuel result new disk disk' source source' outlet outlet' =
-    (m : Module) (config : Settings) (guest : Guest) (promise : Promise) (stage : Stage)
+    (exchanges : List Exchange) × Exchanges gives takes source outlet exchanges source' outlet'
+    × ((m : Module) (config : Settings) (guest : Guest) (promise : Promise) (stage : Stage)
     (p : ProcessState) (acts : List Act) → IsOpenOn m config guest promise stage p old disk
-    → stage.acts ≡ Slice fuel ∷ acts
-    → (exchanges : List Exchange) × Exchanges gives takes source outlet exchanges source' outlet'
-    × (IsForetold stage exchanges → (reply : Reply) × IsReplyOf result reply
+    → stage.acts ≡ Slice fuel ∷ acts → IsForetold stage exchanges
+    → (reply : Reply) × IsReplyOf result reply
     × HasCauseOf result guest config new.process disk disk'
     × CallCarries m config guest promise stage (Slice fuel) reply new disk disk' exchanges)
 

@@ -7,12 +7,14 @@ use Rattle.durable_worker.specs.rules.DurableValues.{DurableValue, durable_of, w
 use Rattle.durable_worker.specs.rules.DurableCalls.{SliceCarries}
 use Rattle.worker.proofs.Worked.{slices_of}
 use Rattle.durable_worker.proofs.DurableLemmas.Working.{slice_carries, slice_fails, failed_carries}
+use Rattle.durable_worker.specs.rules.DurableFailures.{SlicesOnDiskInVain}
+use Rattle.durable_worker.proofs.DurableLemmas.InVain.{not_both}
 use Rattle.durable_worker.proofs.durable.DurableWorker.slice.Goals as goal
 
 pub returns-then-self-clause-carries : goal.returns-then-self-clause-carries
 returns-then-self-clause-carries g c =
     failed_carries g.S.Source.gives g.O.Outlet.takes _ _ c.args.fuel
-    (Err (Work work.Failed)) _ _ _ _ _ _
+    (Err (Work work.Failed)) _ _ _ _
     (subst (λ (w : DurableValue). w.has_failed ≡ true) c.self.view_is c.if-self.true)
 
 pub returns-in-Ok-clause-done : goal.returns-in-Ok-clause-done
@@ -46,3 +48,14 @@ returns-in-Err-clause-carries g c =
     c.work.new.self c.self.inside.replayed c.args.fuel c.self.inside.has_failed true
     c.args.disk.now c.work.new.disk c.args.source.now c.work.new.source c.args.outlet.now
     c.work.new.outlet c.in-Err.fault c.in-Err.ensures.works)
+
+pub returns-then-self-clause-failed : goal.returns-then-self-clause-failed
+returns-then-self-clause-failed g c unfailed =
+    absurd (not_both c.args.self.now.has_failed
+    (subst (λ (w : DurableValue). w.has_failed ≡ true) c.self.view_is c.if-self.true) unfailed)
+
+pub returns-in-Err-clause-failed : goal.returns-in-Err-clause-failed
+returns-in-Err-clause-failed g c unfailed =
+    subst (λ (w : DurableValue). SlicesOnDiskInVain g.S.Source.gives g.O.Outlet.takes w.process
+    c.args.fuel c.in-Err.fault c.work.new.self.process c.args.source.now c.work.new.source
+    c.args.outlet.now c.work.new.outlet) c.self.view_is c.in-Err.ensures.failed

@@ -1,7 +1,8 @@
-use Rattle.std.proofs.Common.{◌+◌, ap}
+use Rattle.std.proofs.Common.{◌+◌, ap, refl, inl}
 use Rattle.std.proofs.lemmas.Result.{err_from_is_err_and}
 use Rattle.durable_worker.proofs.DurableLemmas.Asking.{asks_turn, asks_nothing}
 use Rattle.durable_worker.proofs.DurableLemmas.Slicing.{once_if_ok}
+use Rattle.durable_worker.proofs.DurableLemmas.InVain.{hears_in_vain}
 use Rattle.durable_worker.proofs.running.Running.ask.Goals as goal
 
 pub returns-in_err-make_room-clause-asks : goal.returns-in_err-make_room-clause-asks
@@ -24,3 +25,18 @@ returns-clause-asks g c =
     c.args.source.now c.hear.new.source c.in_ok-make_room.ensures.made
     c.in_ok-make_room.ensures.same (ap (λ n. n + 1) c.steps-step.ensures.value) c.hear.result
     c.hear.ensures.hears
+
+pub returns-in_err-make_room-clause-failed : goal.returns-in_err-make_room-clause-failed
+returns-in_err-make_room-clause-failed g c =
+    let p = err_from_is_err_and c.from_residual.result c.from_residual.ensures.1 in
+    rw (p.1, p.2) (inl (
+      c.in_err-make_room.ensures.failed,
+      c.in_err-make_room.ensures.same,
+      refl,
+    ))
+
+pub returns-clause-failed : goal.returns-clause-failed
+returns-clause-failed g c =
+    hears_in_vain g.S.Source.gives c.args.self.now c.make_room.new.self c.hear.new.self
+    c.args.kind (c.steps-step.result + 1) c.hear.result c.args.source.now c.hear.new.source
+    c.in_ok-make_room.ensures.same c.hear.ensures.hears

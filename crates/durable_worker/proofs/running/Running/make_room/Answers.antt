@@ -1,4 +1,4 @@
-use Rattle.std.proofs.Common.{arith}
+use Rattle.std.proofs.Common.{arith, refl}
 use Rattle.std.proofs.lemmas.Result.{err_from_is_err_and}
 use Rattle.durable_worker.proofs.DurableLemmas.Rooms.{has_room, makes_room, makes_no_room}
 use Rattle.durable_worker.proofs.running.Running.make_room.Goals as goal
@@ -21,3 +21,8 @@ pub returns-then-room-ge-LONGEST_RECORD-clause-made :
 returns-then-room-ge-LONGEST_RECORD-clause-made g c =
     has_room g.D.Disk.medium c.args.self.now c.args.disk.now
     (let test = c.if-room-ge-LONGEST_RECORD.true in let is = c.room.ensures in omega arith)
+
+pub returns-in_err-save-clause-failed : goal.returns-in_err-save-clause-failed
+returns-in_err-save-clause-failed g c =
+    let p = err_from_is_err_and c.from_residual.result c.from_residual.ensures.1 in
+    rw (p.1, p.2) (c.in_err-save.field-0.0, refl)

@@ -1,8 +1,9 @@
-use Rattle.std.proofs.Common.{refl}
+use Rattle.std.proofs.Common.{refl, inl, inr}
 use Rattle.std.proofs.lemmas.Result.{err_from_is_err_and}
 use Rattle.durable_worker.specs.declared.running.Running.{Running}
 use Rattle.durable_worker.proofs.DurableLemmas.Settling.{settles_not_stored, settles_all}
 use Rattle.durable_worker.proofs.DurableLemmas.Settling.{settles_some}
+use Rattle.durable_worker.proofs.DurableLemmas.InVain.{no_memory, no_number}
 use Rattle.durable_worker.proofs.running.Running.settle.Goals as goal
 
 pub returns-in_err-barrier-clause-fails : goal.returns-in_err-barrier-clause-fails
@@ -35,3 +36,26 @@ returns-clause-settles g c =
     c.args.disk.now c.barrier.new.disk c.in_ok-barrier.ensures.any_moment
     c.in_ok-barrier.ensures.durable new c.args.outlet.now c.release_waiting.new.outlet refl
     c.in_ok-release_waiting.ensures.all
+
+pub returns-in_err-barrier-clause-failed : goal.returns-in_err-barrier-clause-failed
+returns-in_err-barrier-clause-failed g c =
+    let p = err_from_is_err_and c.from_residual.result c.from_residual.ensures.1 in
+    rw (p.1, p.2) (inl (
+      c.in_err-barrier.field-0.0,
+      refl,
+      no_memory c.args.self.now.store (g.D.Disk.medium c.args.disk.now)
+          (g.D.Disk.medium c.barrier.new.disk) c.in_err-barrier.field-0.0
+          c.in_err-barrier.ensures.cause,
+      no_number c.args.self.now.store (g.D.Disk.medium c.args.disk.now)
+          (g.D.Disk.medium c.barrier.new.disk) c.in_err-barrier.field-0.0
+          c.in_err-barrier.ensures.cause,
+      refl,
+      refl,
+    ))
+
+pub returns-in_err-release_waiting-clause-failed :
+    goal.returns-in_err-release_waiting-clause-failed
+returns-in_err-release_waiting-clause-failed g c =
+    let p = err_from_is_err_and c.from_residual-in_err-release_waiting.result
+    c.from_residual-in_err-release_waiting.ensures.1 in
+    rw (p.1, p.2) (inr (refl, c.in_err-release_waiting.ensures.some))

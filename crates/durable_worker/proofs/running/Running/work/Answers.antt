@@ -7,6 +7,8 @@ use Rattle.durable_worker.proofs.DurableLemmas.Slicing.{settled_on, settled_less
 use Rattle.durable_worker.proofs.DurableLemmas.Slicing.{given_on}
 use Rattle.durable_worker.proofs.DurableLemmas.Slicing.{given_lower, waits_done, waits_on}
 use Rattle.durable_worker.proofs.DurableLemmas.Slicing.{unasked_on}
+use Rattle.durable_worker.proofs.DurableLemmas.Slicing.{vain_so_far, unsettled_so_far}
+use Rattle.durable_worker.proofs.DurableLemmas.Slicing.{unasked_so_far}
 use Rattle.durable_worker.proofs.running.Running.work.Goals as goal
 
 pub loop-self-init : goal.loop-self-init
@@ -141,3 +143,34 @@ loop-self-preserved g c =
     (rw c.in-Asks.is at c.in_ok-advance.ensures.advances) c.ask.new.self c.ask.new.disk
     c.ask.new.source (rw c.if-not-branch.false at done.once) done.released
     (rw c.if-not-branch.false at done.asks) done.places done.sectors
+
+pub returns-in_err-advance-clause-failed : goal.returns-in_err-advance-clause-failed
+returns-in_err-advance-clause-failed g c =
+    let p = err_from_is_err_and c.from_residual.result c.from_residual.ensures.1 in
+    rw (p.1, p.2) (vain_so_far _ _ _ _ _ c.advance.new.self _ _ _ _ _ _ _ _ _
+    c.loop-self.invariant
+    (ap (λ z. c.args.fuel - (z - c.steps-first.result)) c.steps.ensures.value)
+    c.in_err-advance.ensures.released c.in_err-advance.ensures.guest
+    c.in_err-advance.field-0.0 c.in_err-advance.ensures.advances)
+
+pub returns-in_err-settle-in-Owes-clause-failed : goal.returns-in_err-settle-in-Owes-clause-failed
+returns-in_err-settle-in-Owes-clause-failed g c =
+    let p = err_from_is_err_and c.from_residual-in_err-settle-in-Owes.result
+    c.from_residual-in_err-settle-in-Owes.ensures.1 in
+    rw (p.1, p.2) (unsettled_so_far _ _ _ _ _ c.advance.new.self _ _ _ _ _ _ _ _ _
+    c.loop-self.invariant
+    (ap (λ z. c.args.fuel - (z - c.steps-first.result)) c.steps.ensures.value)
+    c.in_ok-advance.ensures.released c.in_ok-advance.ensures.guest
+    (rw c.in-Owes.is at c.in_ok-advance.ensures.advances) c.settle.new.self c.settle.new.disk
+    c.settle.new.outlet c.in_err-settle-in-Owes.field-0.0 c.in_err-settle-in-Owes.ensures.failed)
+
+pub returns-in_err-ask-in-Asks-clause-failed : goal.returns-in_err-ask-in-Asks-clause-failed
+returns-in_err-ask-in-Asks-clause-failed g c =
+    let p = err_from_is_err_and c.from_residual-in_err-ask-in-Asks.result
+    c.from_residual-in_err-ask-in-Asks.ensures.1 in
+    rw (p.1, p.2) (unasked_so_far _ _ _ _ _ c.advance.new.self _ _ _ _ _ _ _ _ _
+    c.loop-self.invariant
+    (ap (λ z. c.args.fuel - (z - c.steps-first.result)) c.steps.ensures.value)
+    c.in_ok-advance.ensures.released c.in_ok-advance.ensures.guest c.in-Asks.kind
+    (rw c.in-Asks.is at c.in_ok-advance.ensures.advances) c.ask.new.self c.ask.new.disk
+    c.ask.new.source c.in_err-ask-in-Asks.field-0.0 c.in_err-ask-in-Asks.ensures.failed)

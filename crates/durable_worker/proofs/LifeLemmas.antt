@@ -1,0 +1,6 @@
+pub mod Joined
+pub mod Called
+pub mod Saving
+pub mod Making
+pub mod Opening
+pub mod Living

@@ -1,0 +1,21 @@
+use Rattle.std.proofs.Common.{◌≡◌}
+use Rattle.std.specs.Prelude.{Vec}
+use Rattle.std.specs.declared.alloc.Global.{Global}
+use Rattle.disk_layout.specs.rules.Journal.{Record}
+use Rattle.durable_worker.proofs.FindingLemmas.{found_at, unread_as}
+use Rattle.durable_worker.proofs.finding.find_records.Goals as goal
+
+pub returns-in-Ok-clause-finds : goal.returns-in-Ok-clause-finds
+returns-in-Ok-clause-finds g c =
+    λ image shown m config point records last at placed numbered restored.
+    found_at point c.args.geometry.now c.args.generation c.args.process placed numbered restored
+    c.in-Ok.records records
+    (c.in-Ok.ensures.scans image shown m config point records last at placed numbered)
+    c.is_process.ensures
+
+pub returns-in-Err-clause-finds : goal.returns-in-Err-clause-finds
+returns-in-Err-clause-finds g c =
+    λ image shown m config point records last at placed numbered restored.
+    unread_as (Vec Record Global) (λ found. found.items ≡ records) c.in-Err.fault c.from.result
+    c.from.ensures
+    (c.in-Err.ensures.scans image shown m config point records last at placed numbered)

@@ -1,0 +1,28 @@
+use Rattle.std.proofs.Common.{◌≡◌}
+use Rattle.sector_disk.proofs.Moments.{stays_shows}
+use Rattle.disk_layout.proofs.ReadLemmas.{reads_then}
+use Rattle.snapshot.specs.declared.newest.Snapshot.{Snapshot}
+use Rattle.state_image.specs.rules.Image.{image as image_of}
+use Rattle.durable_worker.proofs.FindingLemmas.{unread_as}
+use Rattle.durable_worker.proofs.finding.find_saved.Goals as goal
+
+pub returns-in-Ok-clause-reads : goal.returns-in-Ok-clause-reads
+returns-in-Ok-clause-reads g c =
+    reads_then (g.D.Disk.medium c.args.disk.now) (g.D.Disk.medium c.read_newest.new.disk)
+    (g.D.Disk.medium c.find_process.new.disk) c.in-Ok.ensures.reads c.find_process.ensures.reads
+
+pub returns-in-Ok-clause-finds : goal.returns-in-Ok-clause-finds
+returns-in-Ok-clause-finds g c = λ image shown m config point records last at linked.
+    let reads = c.find_process.ensures.reads in
+    let before = stays_shows (g.D.Disk.medium c.read_newest.new.disk)
+    (g.D.Disk.medium c.find_process.new.disk) reads.stays image shown in
+    let found = c.in-Ok.ensures.finds image before m config point records last at linked.placed in
+    c.find_process.ensures.finds image shown m config point records last at linked
+    (record { generation = found.0; bytes = found.1 })
+
+pub returns-in-Err-clause-finds : goal.returns-in-Err-clause-finds
+returns-in-Err-clause-finds g c = λ image shown m config point records last at linked.
+    unread_as Snapshot
+    (λ found. (found.generation ≡ point.generation) × (found.image.items ≡ image_of point.saved))
+    c.in-Err.fault c.from.result c.from.ensures
+    (c.in-Err.ensures.finds image shown m config point records last at linked.placed)

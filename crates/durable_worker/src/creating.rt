@@ -1,0 +1,106 @@
+//! A worker is created on a disk.
+
+ghost use Rattle.std.specs.Prelude.{◌≡◌, [], IfErr, IfOk};
+ghost use Rattle.wasi_abi.specs.rules.Configs.{AreSettingsWithinLimits};
+ghost use Rattle.wasi_calls_rules.specs.laws.Laws.{IsOfBytes};
+ghost use Rattle.process_rules.specs.Processes.{host_of};
+ghost use Rattle.process.specs.rules.Values.{waiting_in};
+ghost use Rattle.worker.specs.Turns.{working};
+ghost use Rattle.worker.specs.rules.Faults.{IsRefusedByWorker};
+ghost use Rattle.worker.specs.rules.Values.{IsCreated};
+ghost use Rattle.durable_worker.specs.Laying.{worker_laid};
+
+use crate::copying::copy_config;
+use crate::durable::DurableWorker;
+use crate::fault::DurableFault;
+use crate::running::Running;
+use crate::saving::is_process;
+use machine_loader::read;
+use process::Process;
+use sector_disk::Disk;
+use std::alloc::Global;
+use wasi_abi::Config;
+use worker::WorkFault;
+use worker_store::laws::images_fit_areas;
+use worker_store::{StoreFault, WorkerStore, lay_out};
+
+/// The process of the module that the bytes spell, as it begins. It has a configuration of its own.
+fn begin(alloc: Global, wasm: &[u8], config: &Config) -> Result<Process, WorkFault>
+    ensures begun { IfOk result (λ process. IsCreated wasm.now config.now (working process)) }
+    ensures within { IfOk result (λ _. AreSettingsWithinLimits config.now) }
+    ensures texts { IfOk result (λ _. IsOfBytes (host_of config.now)) }
+    ensures refused { IfErr result (IsRefusedByWorker config.now.pages wasm.now) }
+{
+    let Ok(copy) = copy_config(alloc, config) else {
+        return Err(WorkFault::Memory);
+    };
+    start(alloc, wasm, copy)
+}
+
+/// The process of the module that the bytes spell, as it begins.
+fn start(alloc: Global, wasm: &[u8], config: Config) -> Result<Process, WorkFault>
+    ensures begun { IfOk result (λ process. IsCreated wasm.now config (working process)) }
+    ensures refused { IfErr result (IsRefusedByWorker config.pages wasm.now) }
+{
+    let module = read(alloc, wasm)?;
+    let process = Process::start(alloc, module, config)?;
+    Ok(process)
+}
+
+/// The worker of this process and of the store that was laid out for it, if one was.
+fn worker_of(
+    alloc: Global,
+    process: Process,
+    laid: Result<WorkerStore, StoreFault>,
+) -> Result<DurableWorker, DurableFault>
+    requires { waiting_in process ≡ [] }
+    ensures { result ≡ worker_laid process laid }
+{
+    match laid {
+        Ok(store) => Ok(DurableWorker {
+            running: Running {
+                alloc,
+                process,
+                store,
+            },
+            replayed: 0,
+            has_failed: false,
+        }),
+        Err(fault) => Err(DurableFault::from(fault)),
+    }
+}
+
+impl DurableWorker {
+    ghost use Rattle.durable_worker.specs.rules.DurableCreations.{CreationCalls, CreationKeeps};
+    ghost use Rattle.durable_worker.specs.rules.DurableCreations.{IsCreatedOn, IsNotCreatedOn};
+    ghost use Rattle.durable_worker.specs.rules.DurableCreations.{IsRefusedAtFirst};
+
+    /// A fresh worker of the module that the bytes spell, on this disk. Whatever stood on it is
+    /// lost. A module that isn't accepted, and a disk with too few sectors, are refused before
+    /// anything is written. So is want of memory told.
+    pub fn create<D: Disk>(
+        alloc: Global,
+        disk: &mut D,
+        wasm: &[u8],
+        config: &Config,
+    ) -> Result<DurableWorker, DurableFault>
+        ensures created { IfOk result (λ w. IsCreatedOn wasm.now config.now w
+            (D.medium disk.new)) }
+        ensures refused { IfErr result (λ why. IsNotCreatedOn wasm.now config.now
+            (D.medium disk.old) (D.medium disk.new) why) }
+        ensures untouched { IfErr result (λ why. IsRefusedAtFirst why → disk.new ≡ disk.old) }
+
+        // Once it has answered Ok, the worker is open on the disk. Where no worker was on it
+        // before, a cut at any moment leaves none, or this one, of which nothing was promised.
+        ensures carries { CreationKeeps wasm.now config.now result (D.medium disk.old)
+            (D.medium disk.new) }
+        ensures calls { CreationCalls wasm.now config.now result (D.medium disk.old)
+            (D.medium disk.new) }
+    {
+        let process = begin(alloc, wasm, config)?;
+        images_fit_areas();
+        is_process(&process);
+        let laid = lay_out(alloc, disk, config, wasm, &process);
+        worker_of(alloc, process, laid)
+    }
+}

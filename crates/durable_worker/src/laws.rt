@@ -1,0 +1,21 @@
+//! Laws of a worker on its disk. The functions do nothing: what they ensure is the law.
+
+ghost use Rattle.durable_worker.specs.laws.Bounds.{OpenWorkersKeepBounds, StayingKeepsBounds};
+ghost use Rattle.durable_worker.specs.laws.OneLife.{CallsMakeLives, AnythingComesTrue};
+
+use record_replay::{Outlet, Source};
+use sector_disk::Disk;
+
+/// No image of an open worker's disk is of a later generation than as much has happened, and each
+/// has all sectors of its worker. What stays so at any moment of a call is so in its end.
+pub fn open_workers_keep_bounds<D: Disk>()
+    ensures keeps { OpenWorkersKeepBounds D.medium }
+    ensures stays { StayingKeepsBounds D.medium }
+{}
+
+/// The calls of one life, each as its clause says, make a life that goes on from all that was
+/// promised. Whatever its source and its outlet did may have been put into it.
+pub fn calls_make_lives<D: Disk, S: Source, O: Outlet>()
+    ensures made { CallsMakeLives D.medium S.gives O.takes }
+    ensures put_in { AnythingComesTrue }
+{}
