@@ -1,10 +1,10 @@
 //! The image of `hello` at its start, and a sink that takes no more.
 
+use crate::image_stop::ImageStop;
 use crate::processes::hello;
 use process::Process;
 use state_image::{Sink, write_image, write_image_to};
 use std::alloc::Global;
-use std::test::Fail;
 
 /// The mark; steps, answers, requests, lines and the last monotonic time; in `_start`; no input has
 /// ended, nothing is unread or unfinished; no globals; one frame, of function 2 at its first
@@ -42,7 +42,7 @@ impl Sink for Few {
 }
 
 /// Whether an image has this length and front.
-fn is_image_so(alloc: Global) -> Result<bool, Fail> {
+fn is_image_so(alloc: Global) -> Result<bool, ImageStop> {
     let process = hello(alloc)?;
     let written = write_image(alloc, &process);
     drop(process);
@@ -51,7 +51,7 @@ fn is_image_so(alloc: Global) -> Result<bool, Fail> {
 }
 
 #[test]
-fn image_of_hello(rt: HostRuntime) -> Result<(), Fail> {
+fn image_of_hello(rt: HostRuntime) -> Result<(), ImageStop> {
     assert!(rt; is_image_so(rt.alloc())?);
     Ok(())
 }
@@ -63,7 +63,7 @@ fn is_refused_once(process: &Process) -> bool {
 }
 
 #[test]
-fn nothing_is_pushed_after_a_refusal(rt: HostRuntime) -> Result<(), Fail> {
+fn nothing_is_pushed_after_a_refusal(rt: HostRuntime) -> Result<(), ImageStop> {
     let process = hello(rt.alloc())?;
     assert!(rt; is_refused_once(&process));
     drop(process);

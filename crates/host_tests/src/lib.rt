@@ -13,7 +13,11 @@ mod answers;
 #[cfg(test)]
 mod calls;
 #[cfg(test)]
+mod image_stop;
+#[cfg(test)]
 mod images;
+#[cfg(test)]
+mod large_images;
 #[cfg(test)]
 mod processes;
 #[cfg(test)]

@@ -1,9 +1,9 @@
 //! The module `hello`, from its start to its end.
 
-use machine_loader::read;
+use crate::image_stop::ImageStop;
+use machine_loader::{FrontFault, read};
 use process::{Process, ProcessEnd, ProcessFault, Stop};
 use std::alloc::Global;
-use std::test::Fail;
 use wasi_abi::{Answer, Config};
 use wasm_syntax::Row;
 
@@ -22,10 +22,18 @@ const HELLO: [u8; 168] = [
     0x00, 0x03, 0x00, 0x00, 0x00, 0x68, 0x69, 0x0a,
 ];
 
-pub(crate) fn hello(alloc: Global) -> Result<Process, Fail> {
+/// A process of the module that these bytes spell, at its start.
+pub(crate) fn started(alloc: Global, wasm: &[u8], config: Config) -> Result<Process, ImageStop> {
+    let module = read(alloc, wasm)?;
+    match Process::start(alloc, module, config) {
+        Ok(process) => Ok(process),
+        Err(fault) => Err(ImageStop::from(FrontFault::from(fault))),
+    }
+}
+
+pub(crate) fn hello(alloc: Global) -> Result<Process, ImageStop> {
     let config = Config::new(1, 1, 64, Row::new(alloc), Row::new(alloc))?;
-    let module = read(alloc, &HELLO)?;
-    Ok(Process::start(alloc, module, config)?)
+    started(alloc, &HELLO, config)
 }
 
 /// Why the process stops on so much fuel: 1 for spent, 2 for owing, and else 0. Then its steps, its
@@ -41,7 +49,7 @@ fn advance(process: &mut Process, fuel: u64) -> [u64; 4] {
 }
 
 #[test]
-fn hello_owes_its_line(rt: HostRuntime) -> Result<(), Fail> {
+fn hello_owes_its_line(rt: HostRuntime) -> Result<(), ImageStop> {
     let mut process = hello(rt.alloc())?;
     assert!(rt; advance(&mut process, 0) == [1, 0, 0, 0]);
     assert!(rt; advance(&mut process, 4) == [1, 4, 0, 0]);
@@ -57,7 +65,7 @@ fn refuses_an_answer(process: &mut Process) -> bool {
 }
 
 #[test]
-fn hello_takes_no_answer(rt: HostRuntime) -> Result<(), Fail> {
+fn hello_takes_no_answer(rt: HostRuntime) -> Result<(), ImageStop> {
     let mut process = hello(rt.alloc())?;
     assert!(rt; refuses_an_answer(&mut process));
     assert!(rt; advance(&mut process, 4) == [1, 4, 0, 0]);
@@ -87,7 +95,7 @@ fn has_exited(process: &mut Process) -> bool {
 }
 
 #[test]
-fn hello_exits(rt: HostRuntime) -> Result<(), Fail> {
+fn hello_exits(rt: HostRuntime) -> Result<(), ImageStop> {
     let mut process = hello(rt.alloc())?;
     assert!(rt; process.advance(100) == Ok(Stop::Owes));
     assert!(rt; owes_hi(&process));

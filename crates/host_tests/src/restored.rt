@@ -2,24 +2,33 @@
 
 ghost use Rattle.std.specs.Prelude.{◌<◌, length};
 
+use crate::image_stop::ImageStop;
+use crate::processes::started;
 use hex::decode;
 use machine_loader::read;
-use process::Process;
+use process::{Process, ProcessFault};
 use state_image::restoring::{RestoreFault, restore};
 use state_image::write_image;
 use std::alloc::Global;
-use std::test::Fail;
 use wasi_abi::{Answer, Config};
 use wasm_syntax::Row;
 
+/// `echo` up to the number of its pages, and behind it.
+const BEFORE_PAGES: &str = "\
+     0061736d01000000010c0260000060047f7f7f7f017f02440216776173695f736e617073686f745f\
+     70726576696577310766645f72656164000116776173695f736e617073686f745f70726576696577\
+     310866645f777269746500010302010005030100";
+
+const BEHIND_PAGES: &str = "\
+     071302065f73746172740002066d656d6f727902000a31012f000340410041004101411010001a41\
+     10280200450d01410c4110280200360200410141084101411410011a0c000b0b0b12010041000b0c\
+     400000000010000040000000";
+
 /// Reads a line, writes it, and goes on until nothing is read.
-const ECHO: [&str; 5] = [
-    "0061736d01000000010c0260000060047f7f7f7f017f02440216776173695f736e617073686f745f7072",
-    "6576696577310766645f72656164000116776173695f736e617073686f745f7072657669657731086664",
-    "5f77726974650001030201000503010001071302065f73746172740002066d656d6f727902000a31012f",
-    "000340410041004101411010001a4110280200450d01410c411028020036020041014108410141141001",
-    "1a0c000b0b0b12010041000b0c400000000010000040000000",
-];
+const ECHO: [&str; 3] = [BEFORE_PAGES, "01", BEHIND_PAGES];
+
+/// The same with 16 pages.
+pub(crate) const LARGE_ECHO: [&str; 3] = [BEFORE_PAGES, "10", BEHIND_PAGES];
 
 /// Makes directories and files, writes into both, and removes one that stays open. Then it leaves a
 /// line of stream 1 unfinished, and reads in a function that it calls.
@@ -40,6 +49,10 @@ const FILES: [&str; 14] = [
     "00",
 ];
 
+/// The bytes of its image: 98 up to the frames, 84 of two frames with seven slots, 65,540 of
+/// memory, 158 of five nodes, and 277 of seven descriptors.
+const FILES_BYTES: usize = 66_157;
+
 /// Where memory begins in the image of `echo` at its start, and once it has an operand.
 const FRESH_AT: usize = 90;
 
@@ -48,7 +61,7 @@ const ASKED_AT: usize = 98;
 /// The bytes of a page of memory.
 const PAGE_BYTES: usize = 65_536;
 
-fn bytes_of(alloc: Global, texts: &[&str]) -> Result<Vec<u8>, Fail> {
+pub(crate) fn bytes_of(alloc: Global, texts: &[&str]) -> Result<Vec<u8>, ImageStop> {
     let mut bytes = Vec::new(alloc);
     for text in texts {
         bytes.extend_from_slice(decode(alloc, *text)?.as_slice())?;
@@ -56,33 +69,46 @@ fn bytes_of(alloc: Global, texts: &[&str]) -> Result<Vec<u8>, Fail> {
     Ok(bytes)
 }
 
-fn config(alloc: Global) -> Result<Config, Fail> {
-    Ok(Config::new(1, 1, 64, Row::new(alloc), Row::new(alloc))?)
+fn config(alloc: Global, pages: u64) -> Result<Config, ImageStop> {
+    Ok(Config::new(pages, 1, 64, Row::new(alloc), Row::new(alloc))?)
 }
 
-fn begun(alloc: Global, wasm: &[u8]) -> Result<Process, Fail> {
-    let module = read(alloc, wasm)?;
-    Ok(Process::start(alloc, module, config(alloc)?)?)
+/// A process that begins, whose memory may have so many pages.
+pub(crate) fn begun_with(alloc: Global, wasm: &[u8], pages: u64) -> Result<Process, ImageStop> {
+    started(alloc, wasm, config(alloc, pages)?)
 }
 
-/// The process of an image, if there is one.
-fn restored(alloc: Global, wasm: &[u8], image: &[u8]) -> Result<Option<Process>, Fail> {
+/// The process of an image, if there is one, whose memory may have so many pages.
+pub(crate) fn restored_with(
+    alloc: Global,
+    wasm: &[u8],
+    image: &[u8],
+    pages: u64,
+) -> Result<Option<Process>, ImageStop> {
     let module = read(alloc, wasm)?;
-    match restore(alloc, module, config(alloc)?, image) {
+    match restore(alloc, module, config(alloc, pages)?, image) {
         Ok(process) => Ok(Some(process)),
         Err(RestoreFault::NotAnImage) => Ok(None),
-        Err(fault) => Err(Fail::from(fault)),
+        Err(fault) => Err(ImageStop::from(fault)),
     }
 }
 
+fn begun(alloc: Global, wasm: &[u8]) -> Result<Process, ImageStop> {
+    begun_with(alloc, wasm, 1)
+}
+
+fn restored(alloc: Global, wasm: &[u8], image: &[u8]) -> Result<Option<Process>, ImageStop> {
+    restored_with(alloc, wasm, image, 1)
+}
+
 /// Whether these bytes are the image of a process.
-fn is_image_of(alloc: Global, process: &Process, image: &[u8]) -> Result<bool, Fail> {
+fn is_image_of(alloc: Global, process: &Process, image: &[u8]) -> Result<bool, ImageStop> {
     let again = write_image(alloc, process)?;
     Ok(again.as_slice() == image)
 }
 
 /// What is made of bytes: 0 for nothing, 1 for a process whose image they are, and 2 for another.
-fn made_of(alloc: Global, wasm: &[u8], image: &[u8]) -> Result<u64, Fail> {
+fn made_of(alloc: Global, wasm: &[u8], image: &[u8]) -> Result<u64, ImageStop> {
     let Some(process) = restored(alloc, wasm, image)? else {
         return Ok(0);
     };
@@ -92,7 +118,7 @@ fn made_of(alloc: Global, wasm: &[u8], image: &[u8]) -> Result<u64, Fail> {
 }
 
 /// How many of four other bytes at a place make a process whose image is another one.
-fn wrong_at(alloc: Global, wasm: &[u8], image: &mut [u8], place: usize) -> Result<u32, Fail>
+fn wrong_at(alloc: Global, wasm: &[u8], image: &mut [u8], place: usize) -> Result<u32, ImageStop>
     requires { place < length image.old }
 {
     let byte = image[place];
@@ -113,7 +139,7 @@ fn wrong_outside(
     wasm: &[u8],
     image: &mut [u8],
     memory_at: usize,
-) -> Result<u32, Fail> {
+) -> Result<u32, ImageStop> {
     let mut wrong: u32 = 0;
     for place in 0..image.len() {
         if place < memory_at || place - memory_at >= PAGE_BYTES {
@@ -129,7 +155,7 @@ fn wrong_inside(
     wasm: &[u8],
     image: &mut [u8],
     memory_at: usize,
-) -> Result<u32, Fail> {
+) -> Result<u32, ImageStop> {
     let mut wrong: u32 = 0;
     for place in 0..image.len() {
         if place >= memory_at && place - memory_at < PAGE_BYTES && (place - memory_at) % 97 == 0 {
@@ -139,13 +165,13 @@ fn wrong_inside(
     Ok(wrong)
 }
 
-fn hello(alloc: Global) -> Result<Answer, Fail> {
+fn hello(alloc: Global) -> Result<Answer, ImageStop> {
     let text = Row::from_vec(Vec::from_slice(alloc, b"hello")?);
     Ok(Answer::Request { text })
 }
 
 #[test]
-fn fresh_echo_comes_back(rt: HostRuntime) -> Result<(), Fail> {
+fn fresh_echo_comes_back(rt: HostRuntime) -> Result<(), ImageStop> {
     let alloc = rt.alloc();
     let wasm = bytes_of(alloc, &ECHO)?;
     let image = fresh_echo(alloc, wasm.as_slice())?;
@@ -155,7 +181,7 @@ fn fresh_echo_comes_back(rt: HostRuntime) -> Result<(), Fail> {
 }
 
 #[test]
-fn a_byte_fewer_or_more_is_no_image(rt: HostRuntime) -> Result<(), Fail> {
+fn a_byte_fewer_or_more_is_no_image(rt: HostRuntime) -> Result<(), ImageStop> {
     let alloc = rt.alloc();
     let wasm = bytes_of(alloc, &ECHO)?;
     let mut image = fresh_echo(alloc, wasm.as_slice())?;
@@ -169,13 +195,13 @@ fn a_byte_fewer_or_more_is_no_image(rt: HostRuntime) -> Result<(), Fail> {
 }
 
 /// The image of `echo` once it has taken its first request: one operand more.
-fn ask(alloc: Global, process: &mut Process) -> Result<Vec<u8>, Fail> {
+fn ask(alloc: Global, process: &mut Process) -> Result<Vec<u8>, ImageStop> {
     let _stop = process.advance(100)?;
     process.give(hello(alloc)?)?;
     Ok(write_image(alloc, process)?)
 }
 
-fn asked_echo(alloc: Global, wasm: &[u8]) -> Result<Vec<u8>, Fail> {
+fn asked_echo(alloc: Global, wasm: &[u8]) -> Result<Vec<u8>, ImageStop> {
     let mut process = begun(alloc, wasm)?;
     let image = ask(alloc, &mut process);
     drop(process);
@@ -183,7 +209,7 @@ fn asked_echo(alloc: Global, wasm: &[u8]) -> Result<Vec<u8>, Fail> {
 }
 
 #[test]
-fn echo_comes_back_from_step_6(rt: HostRuntime) -> Result<(), Fail> {
+fn echo_comes_back_from_step_6(rt: HostRuntime) -> Result<(), ImageStop> {
     let alloc = rt.alloc();
     let wasm = bytes_of(alloc, &ECHO)?;
     let image = asked_echo(alloc, wasm.as_slice())?;
@@ -193,7 +219,7 @@ fn echo_comes_back_from_step_6(rt: HostRuntime) -> Result<(), Fail> {
 }
 
 /// The image of `echo` at its start.
-fn fresh_echo(alloc: Global, wasm: &[u8]) -> Result<Vec<u8>, Fail> {
+fn fresh_echo(alloc: Global, wasm: &[u8]) -> Result<Vec<u8>, ImageStop> {
     let process = begun(alloc, wasm)?;
     let image = write_image(alloc, &process);
     drop(process);
@@ -202,7 +228,7 @@ fn fresh_echo(alloc: Global, wasm: &[u8]) -> Result<Vec<u8>, Fail> {
 
 /// Other bytes are refused, or are the image of another process.
 #[test]
-fn fresh_images_are_refused_or_others(rt: HostRuntime) -> Result<(), Fail> {
+fn fresh_images_are_refused_or_others(rt: HostRuntime) -> Result<(), ImageStop> {
     let alloc = rt.alloc();
     let wasm = bytes_of(alloc, &ECHO)?;
     let mut image = fresh_echo(alloc, wasm.as_slice())?;
@@ -214,7 +240,7 @@ fn fresh_images_are_refused_or_others(rt: HostRuntime) -> Result<(), Fail> {
 }
 
 #[test]
-fn fresh_memories_are_others(rt: HostRuntime) -> Result<(), Fail> {
+fn fresh_memories_are_others(rt: HostRuntime) -> Result<(), ImageStop> {
     let alloc = rt.alloc();
     let wasm = bytes_of(alloc, &ECHO)?;
     let mut image = fresh_echo(alloc, wasm.as_slice())?;
@@ -226,7 +252,7 @@ fn fresh_memories_are_others(rt: HostRuntime) -> Result<(), Fail> {
 }
 
 #[test]
-fn images_of_step_6_are_refused_or_others(rt: HostRuntime) -> Result<(), Fail> {
+fn images_of_step_6_are_refused_or_others(rt: HostRuntime) -> Result<(), ImageStop> {
     let alloc = rt.alloc();
     let wasm = bytes_of(alloc, &ECHO)?;
     let mut image = asked_echo(alloc, wasm.as_slice())?;
@@ -238,7 +264,7 @@ fn images_of_step_6_are_refused_or_others(rt: HostRuntime) -> Result<(), Fail> {
 }
 
 #[test]
-fn memories_of_step_6_are_others(rt: HostRuntime) -> Result<(), Fail> {
+fn memories_of_step_6_are_others(rt: HostRuntime) -> Result<(), ImageStop> {
     let alloc = rt.alloc();
     let wasm = bytes_of(alloc, &ECHO)?;
     let mut image = asked_echo(alloc, wasm.as_slice())?;
@@ -251,12 +277,12 @@ fn memories_of_step_6_are_others(rt: HostRuntime) -> Result<(), Fail> {
 
 /// The image of a process with a directory in another, files, one of which is removed and open,
 /// descriptors, a global, two frames and an unfinished line.
-fn work(alloc: Global, process: &mut Process) -> Result<Vec<u8>, Fail> {
+fn work(alloc: Global, process: &mut Process) -> Result<Vec<u8>, ImageStop> {
     let _stop = process.advance(1_000)?;
     Ok(write_image(alloc, process)?)
 }
 
-fn filed(alloc: Global, wasm: &[u8]) -> Result<Vec<u8>, Fail> {
+fn filed(alloc: Global, wasm: &[u8]) -> Result<Vec<u8>, ImageStop> {
     let mut process = begun(alloc, wasm)?;
     let image = work(alloc, &mut process);
     drop(process);
@@ -264,16 +290,17 @@ fn filed(alloc: Global, wasm: &[u8]) -> Result<Vec<u8>, Fail> {
 }
 
 #[test]
-fn files_come_back(rt: HostRuntime) -> Result<(), Fail> {
+fn files_come_back(rt: HostRuntime) -> Result<(), ImageStop> {
     let alloc = rt.alloc();
     let wasm = bytes_of(alloc, &FILES)?;
     let image = filed(alloc, wasm.as_slice())?;
+    assert!(rt; image.len() == FILES_BYTES);
     assert_eq!(rt; made_of(alloc, wasm.as_slice(), image.as_slice())?, 1);
     Ok(())
 }
 
 /// The image behind one more step, with the answer to what is asked.
-fn go_on(alloc: Global, process: &mut Process) -> Result<Vec<u8>, Fail> {
+fn go_on(alloc: Global, process: &mut Process) -> Result<Vec<u8>, ImageStop> {
     let _stop = process.advance(1_000)?;
     process.give(hello(alloc)?)?;
     let _stop = process.advance(1)?;
@@ -281,7 +308,7 @@ fn go_on(alloc: Global, process: &mut Process) -> Result<Vec<u8>, Fail> {
 }
 
 /// The same of the process that is made of an image; of none nothing.
-fn gone_on(alloc: Global, wasm: &[u8], image: &[u8]) -> Result<Vec<u8>, Fail> {
+fn gone_on(alloc: Global, wasm: &[u8], image: &[u8]) -> Result<Vec<u8>, ImageStop> {
     let Some(mut process) = restored(alloc, wasm, image)? else {
         return Ok(Vec::new(alloc));
     };
@@ -291,7 +318,7 @@ fn gone_on(alloc: Global, wasm: &[u8], image: &[u8]) -> Result<Vec<u8>, Fail> {
 }
 
 /// The same of the process that runs from the start.
-fn run_on(alloc: Global, wasm: &[u8]) -> Result<Vec<u8>, Fail> {
+fn run_on(alloc: Global, wasm: &[u8]) -> Result<Vec<u8>, ImageStop> {
     let mut process = begun(alloc, wasm)?;
     let behind = go_on(alloc, &mut process);
     drop(process);
@@ -300,7 +327,7 @@ fn run_on(alloc: Global, wasm: &[u8]) -> Result<Vec<u8>, Fail> {
 
 /// What was made again asks as before, and takes the same answer to the same end.
 #[test]
-fn a_process_goes_on_where_it_was(rt: HostRuntime) -> Result<(), Fail> {
+fn a_process_goes_on_where_it_was(rt: HostRuntime) -> Result<(), ImageStop> {
     let alloc = rt.alloc();
     let wasm = bytes_of(alloc, &FILES)?;
     let image = filed(alloc, wasm.as_slice())?;
@@ -308,5 +335,56 @@ fn a_process_goes_on_where_it_was(rt: HostRuntime) -> Result<(), Fail> {
     let whole = run_on(alloc, wasm.as_slice())?;
     assert!(rt; behind.as_slice() == whole.as_slice());
     assert!(rt; behind.as_slice() != image.as_slice());
+    Ok(())
+}
+
+/// Whether a process that asks refuses another answer, has this image behind that, and then takes
+/// the answer.
+fn takes_its_answer(alloc: Global, process: &mut Process, image: &[u8]) -> Result<bool, ImageStop> {
+    let time = Answer::Realtime { nanoseconds: 1 };
+    let refused = process.give(time) == Err(ProcessFault::WrongAnswer);
+    let kept = is_image_of(alloc, process, image)?;
+    process.give(hello(alloc)?)?;
+    Ok(refused && kept)
+}
+
+/// The image of the process of an image, once it has refused one answer and taken another, without
+/// a step of its own.
+fn answered(alloc: Global, wasm: &[u8], image: &[u8]) -> Result<Option<Vec<u8>>, ImageStop> {
+    let Some(mut process) = restored(alloc, wasm, image)? else {
+        return Ok(None);
+    };
+    let behind = answered_image(alloc, &mut process, image);
+    drop(process);
+    behind
+}
+
+fn answered_image(
+    alloc: Global,
+    process: &mut Process,
+    image: &[u8],
+) -> Result<Option<Vec<u8>>, ImageStop> {
+    if !takes_its_answer(alloc, process, image)? {
+        return Ok(None);
+    }
+    Ok(Some(write_image(alloc, process)?))
+}
+
+/// The image of `echo` where it asks for its first request.
+fn asking_echo(alloc: Global, wasm: &[u8]) -> Result<Vec<u8>, ImageStop> {
+    let mut process = begun(alloc, wasm)?;
+    let image = work(alloc, &mut process);
+    drop(process);
+    image
+}
+
+#[test]
+fn what_is_made_again_takes_its_answer_at_once(rt: HostRuntime) -> Result<(), ImageStop> {
+    let alloc = rt.alloc();
+    let wasm = bytes_of(alloc, &ECHO)?;
+    let image = asking_echo(alloc, wasm.as_slice())?;
+    let behind = answered(alloc, wasm.as_slice(), image.as_slice())?;
+    let whole = asked_echo(alloc, wasm.as_slice())?;
+    assert!(rt; behind.is_some_and(|bytes| bytes.as_slice() == whole.as_slice()));
     Ok(())
 }

@@ -23,13 +23,27 @@ pub(crate) const ECHO: [&str; 9] = [
     "400000000010000040000000",
 ];
 
-pub(crate) fn config(alloc: Global) -> Result<Config, Fail> {
+/// One page, one file unit, 64 journal sectors and no argument.
+fn config(alloc: Global) -> Result<Config, Fail> {
     Ok(Config::new(1, 1, 64, Row::new(alloc), Row::new(alloc))?)
 }
 
+/// A worker of a module, before its first step.
+pub(crate) fn created(alloc: Global, wasm: &[u8]) -> Result<Worker, Fail> {
+    let config = config(alloc)?;
+    Ok(Worker::create(alloc, wasm, config)?)
+}
+
+/// A process of a module, before its first step.
+fn started(alloc: Global, wasm: &[u8]) -> Result<Process, Fail> {
+    let config = config(alloc)?;
+    let module = read(alloc, wasm)?;
+    Ok(Process::start(alloc, module, config)?)
+}
+
 fn echo(alloc: Global) -> Result<Process, Fail> {
-    let module = read(alloc, bytes_of(alloc, &ECHO)?.as_slice())?;
-    Ok(Process::start(alloc, module, config(alloc)?)?)
+    let wasm = bytes_of(alloc, &ECHO)?;
+    started(alloc, wasm.as_slice())
 }
 
 fn hello(alloc: Global) -> Result<Answer, Fail> {
@@ -37,51 +51,103 @@ fn hello(alloc: Global) -> Result<Answer, Fail> {
     Ok(Answer::Request { text })
 }
 
+/// Whether it asks for a request.
+fn asks(process: &mut Process) -> bool {
+    process.advance(100) == Ok(Stop::Asks(Kind::Request))
+}
+
+/// Whether it refuses a time.
+fn refuses_a_time(process: &mut Process) -> bool {
+    process.give(Answer::Realtime { nanoseconds: 1 }) == Err(ProcessFault::WrongAnswer)
+}
+
+/// Whether it has taken so many steps and answers.
+fn has_taken(process: &Process, steps: u64, answers: u64) -> bool {
+    process.steps() == steps && process.answers() == answers
+}
+
+/// Whether it owes one line, `hello` on stream 1.
+fn owes_hello(process: &mut Process) -> bool {
+    let stop = process.advance(100);
+    let waiting = process.waiting();
+    stop == Ok(Stop::Owes)
+        && waiting.len() == 1
+        && waiting.iter().all(|line| line.stream() == 1 && line.text() == b"hello".as_slice())
+}
+
+/// Whether it takes `hello`, and owes it.
+fn takes_hello(alloc: Global, process: &mut Process) -> Result<bool, Fail> {
+    let answer = hello(alloc)?;
+    Ok(process.give(answer) == Ok(()) && has_taken(process, 6, 1) && owes_hello(process))
+}
+
 /// An answer to something else is refused, and what waits goes on waiting.
 #[test]
 fn another_answer_is_refused(rt: HostRuntime) -> Result<(), Fail> {
     let mut process = echo(rt.alloc())?;
-    assert_eq!(rt; process.advance(100), Ok(Stop::Asks(Kind::Request)));
-    let time = Answer::Realtime { nanoseconds: 1 };
-    assert_eq!(rt; process.give(time), Err(ProcessFault::WrongAnswer));
-    assert_eq!(rt; (process.steps(), process.answers()), (5, 0));
-    assert_eq!(rt; process.advance(100), Ok(Stop::Asks(Kind::Request)));
-    assert_eq!(rt; process.give(hello(rt.alloc())?), Ok(()));
-    assert_eq!(rt; (process.steps(), process.answers()), (6, 1));
-    assert_eq!(rt; process.advance(100), Ok(Stop::Owes));
-    for line in process.waiting() {
-        assert_eq!(rt; (line.stream(), line.text()), (1, b"hello".as_slice()));
-    }
+    assert!(rt; asks(&mut process));
+    assert!(rt; refuses_a_time(&mut process));
+    assert!(rt; has_taken(&process, 5, 0));
+    assert!(rt; asks(&mut process));
+    let taken = takes_hello(rt.alloc(), &mut process);
+    drop(process);
+    assert!(rt; taken?);
     Ok(())
+}
+
+/// Whether it takes the end of input, and exits with 0.
+fn ends_with_input(process: &mut Process) -> bool {
+    process.give(Answer::End) == Ok(())
+        && process.advance(100) == Ok(Stop::Ended(ProcessEnd::Exited(0)))
 }
 
 /// The end of input: no line is written.
 #[test]
 fn input_ends(rt: HostRuntime) -> Result<(), Fail> {
     let mut process = echo(rt.alloc())?;
-    assert_eq!(rt; process.advance(100), Ok(Stop::Asks(Kind::Request)));
-    assert_eq!(rt; process.give(Answer::End), Ok(()));
-    assert_eq!(rt;
-        process.advance(100),
-        Ok(Stop::Ended(ProcessEnd::Exited(0)))
-    );
-    assert_eq!(rt; (process.steps(), process.lines()), (11, 0));
+    assert!(rt; asks(&mut process));
+    assert!(rt; ends_with_input(&mut process));
+    assert!(rt; process.steps() == 11 && process.lines() == 0);
+    drop(process);
     Ok(())
+}
+
+/// A source that hands a time over.
+fn one_time(alloc: Global) -> Result<AnswerList, Fail> {
+    let mut answers = Vec::new(alloc);
+    answers.push(Answer::Realtime { nanoseconds: 1 })?;
+    Ok(AnswerList::new(answers))
+}
+
+/// What slices fail with, one after another.
+static FAULTS: [WorkFault; 3] = [WorkFault::Source, WorkFault::Failed, WorkFault::Failed];
+
+/// Whether slices fail so.
+fn fail_so(worker: &mut Worker, source: &mut AnswerList, outlet: &mut LineList) -> bool {
+    for fault in &FAULTS {
+        if worker.slice(100, source, outlet) != Err(*fault) {
+            return false;
+        }
+    }
+    true
+}
+
+/// Whether slices on a time fail so.
+fn fail_on_a_time(alloc: Global, worker: &mut Worker) -> Result<bool, Fail> {
+    let mut source = one_time(alloc)?;
+    let mut outlet = LineList::new(alloc);
+    Ok(fail_so(worker, &mut source, &mut outlet))
 }
 
 /// A source that hands a time over where a request is asked for.
 #[test]
 fn a_wrong_source_ends_the_worker(rt: HostRuntime) -> Result<(), Fail> {
     let wasm = bytes_of(rt.alloc(), &ECHO)?;
-    let mut worker = Worker::create(rt.alloc(), wasm.as_slice(), config(rt.alloc())?)?;
-    let mut answers = Vec::new(rt.alloc());
-    answers.push(Answer::Realtime { nanoseconds: 1 })?;
-    let mut source = AnswerList::new(answers);
-    let mut outlet = LineList::new(rt.alloc());
-    for fault in [WorkFault::Source, WorkFault::Failed, WorkFault::Failed] {
-        let sliced = worker.slice(100, &mut source, &mut outlet);
-        assert_eq!(rt; sliced.err(), Some(fault));
-    }
-    assert_eq!(rt; worker.process().steps(), 5);
+    let mut worker = created(rt.alloc(), wasm.as_slice())?;
+    let failed = fail_on_a_time(rt.alloc(), &mut worker);
+    let steps = worker.process().steps();
+    drop(worker);
+    assert!(rt; failed?);
+    assert!(rt; steps == 5);
     Ok(())
 }

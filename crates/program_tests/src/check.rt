@@ -77,242 +77,242 @@ pub(crate) fn bytes_of(alloc: Global, texts: &[&str]) -> Result<Vec<u8>, Fail> {
     Ok(bytes)
 }
 
-/// Each row has texts, the status and the line.
-fn check(rt: &impl Abort, alloc: Global, rows: &[(&[&str], u8, &str)]) -> Result<(), Fail> {
-    for (texts, status, line) in rows {
-        let bytes = bytes_of(alloc, texts)?;
-        let mut out = Vec::new(alloc);
-        assert_eq!(rt;
-            check_bytes(alloc, bytes.as_slice(), &mut out),
-            *status,
-            "{texts:?}"
-        );
-        assert_eq!(rt; out.as_slice(), line.as_bytes(), "{texts:?}");
+/// Texts of a module, the status, and the line.
+type Row = (&'static [&'static str], u8, &'static str);
+
+fn is_told_so(alloc: Global, row: &Row) -> Result<bool, Fail> {
+    let bytes = bytes_of(alloc, row.0)?;
+    let mut out = Vec::new(alloc);
+    let status = check_bytes(alloc, bytes.as_slice(), &mut out);
+    Ok(status == row.1 && out.as_slice() == row.2.as_bytes())
+}
+
+fn check(rt: &impl Abort, alloc: Global, rows: &[Row]) -> Result<(), Fail> {
+    for row in rows {
+        assert!(rt; is_told_so(alloc, row)?, "{row:?}");
     }
     Ok(())
 }
 
+static MODULES: [Row; 4] = [
+    (&[], 3, "refused B1 Malformed at 0\n"),
+    (&[HEADER], 3, "refused L1 NoStart\n"),
+    (&[BEFORE_CODE, EMPTY_BODY], 0, "accepted\n"),
+    (&HELLO, 0, "accepted\n"),
+];
+
 #[test]
 fn modules(rt: HostRuntime) -> Result<(), Fail> {
-    check(
-        &rt,
-        rt.alloc(),
-        &[
-            (&[], 3, "refused B1 Malformed at 0\n"),
-            (&[HEADER], 3, "refused L1 NoStart\n"),
-            (&[BEFORE_CODE, EMPTY_BODY], 0, "accepted\n"),
-            (&HELLO, 0, "accepted\n"),
-        ],
-    )
+    check(&rt, rt.alloc(), &MODULES)
 }
+
+static SIZES: [Row; 3] = [
+    (
+        &[
+            HEADER,
+            "01848080800001600000",
+            FUNCTIONS,
+            MEMORIES,
+            EXPORTS,
+            EMPTY_BODY,
+        ],
+        0,
+        "accepted\n",
+    ),
+    (
+        &[
+            HEADER,
+            "0184808080800001600000",
+            FUNCTIONS,
+            MEMORIES,
+            EXPORTS,
+            EMPTY_BODY,
+        ],
+        3,
+        "refused B1 Malformed at 9\n",
+    ),
+    (
+        &[
+            HEADER,
+            "01848080801001600000",
+            FUNCTIONS,
+            MEMORIES,
+            EXPORTS,
+            EMPTY_BODY,
+        ],
+        3,
+        "refused B1 Malformed at 9\n",
+    ),
+];
 
 #[test]
 fn sizes(rt: HostRuntime) -> Result<(), Fail> {
-    check(
-        &rt,
-        rt.alloc(),
-        &[
-            (
-                &[
-                    HEADER,
-                    "01848080800001600000",
-                    FUNCTIONS,
-                    MEMORIES,
-                    EXPORTS,
-                    EMPTY_BODY,
-                ],
-                0,
-                "accepted\n",
-            ),
-            (
-                &[
-                    HEADER,
-                    "0184808080800001600000",
-                    FUNCTIONS,
-                    MEMORIES,
-                    EXPORTS,
-                    EMPTY_BODY,
-                ],
-                3,
-                "refused B1 Malformed at 9\n",
-            ),
-            (
-                &[
-                    HEADER,
-                    "01848080801001600000",
-                    FUNCTIONS,
-                    MEMORIES,
-                    EXPORTS,
-                    EMPTY_BODY,
-                ],
-                3,
-                "refused B1 Malformed at 9\n",
-            ),
-        ],
-    )
+    check(&rt, rt.alloc(), &SIZES)
 }
+
+static BODIES: [Row; 3] = [
+    (
+        &[BEFORE_CODE, "0a06010401017d0b"],
+        3,
+        "refused B2 Float at 50\n",
+    ),
+    (
+        &[BEFORE_CODE, "0a0c010a00 4101047f41010b1a0b"],
+        3,
+        "refused V1 Typing\n",
+    ),
+    (
+        &[BEFORE_CODE, "0a0a010800 41002803001a0b"],
+        3,
+        "refused V3 Limits\n",
+    ),
+];
 
 #[test]
 fn bodies(rt: HostRuntime) -> Result<(), Fail> {
-    check(
-        &rt,
-        rt.alloc(),
-        &[
-            (
-                &[BEFORE_CODE, "0a06010401017d0b"],
-                3,
-                "refused B2 Float at 50\n",
-            ),
-            (
-                &[BEFORE_CODE, "0a0c010a00 4101047f41010b1a0b"],
-                3,
-                "refused V1 Typing\n",
-            ),
-            (
-                &[BEFORE_CODE, "0a0a010800 41002803001a0b"],
-                3,
-                "refused V3 Limits\n",
-            ),
-        ],
-    )
+    check(&rt, rt.alloc(), &BODIES)
 }
 
 /// Other faults of the decoder and the validator, and a module without a memory for the host.
+static FAULTS: [Row; 6] = [
+    (&["0061736d02000000"], 3, "refused B1 Malformed at 4\n"),
+    (&[HEADER, "01050160017d00"], 3, "refused B2 Float at 13\n"),
+    (&[HEADER, "010401608102"], 3, "refused B3 Limit\n"),
+    (&[BEFORE_CODE, "0a0601040010050b"], 3, "refused V2 Index\n"),
+    (
+        &[BEFORE_EXPORTS, TWO_STARTS, EMPTY_BODY],
+        3,
+        "refused V4 DuplicateExport\n",
+    ),
+    (
+        &[BEFORE_EXPORTS, NO_MEMORY, EMPTY_BODY],
+        3,
+        "refused L2 NoMemory\n",
+    ),
+];
+
 #[test]
 fn faults(rt: HostRuntime) -> Result<(), Fail> {
-    check(
-        &rt,
-        rt.alloc(),
-        &[
-            (&["0061736d02000000"], 3, "refused B1 Malformed at 4\n"),
-            (&[HEADER, "01050160017d00"], 3, "refused B2 Float at 13\n"),
-            (&[HEADER, "010401608102"], 3, "refused B3 Limit\n"),
-            (&[BEFORE_CODE, "0a0601040010050b"], 3, "refused V2 Index\n"),
-            (
-                &[BEFORE_EXPORTS, TWO_STARTS, EMPTY_BODY],
-                3,
-                "refused V4 DuplicateExport\n",
-            ),
-            (
-                &[BEFORE_EXPORTS, NO_MEMORY, EMPTY_BODY],
-                3,
-                "refused L2 NoMemory\n",
-            ),
-        ],
-    )
+    check(&rt, rt.alloc(), &FAULTS)
 }
 
-/// Imports that the host doesn't offer, or with another type; a byte of data at the last place
-/// of memory, and
-/// one behind it; as many pages as `check` allows, and one more.
+/// Imports that the host doesn't offer, or with another type; a byte of data at the last place of
+/// memory, and one behind it; as many pages as `check` allows, and one more.
+static HOST: [Row; 6] = [
+    (
+        &[HEADER, TYPES, UNKNOWN_CALL, BEHIND_IMPORTS],
+        3,
+        "refused L3 UnknownImport\n",
+    ),
+    (
+        &[HEADER, TYPES, CALL_WITHOUT_CODE, BEHIND_IMPORTS],
+        3,
+        "refused L4 ImportType\n",
+    ),
+    (
+        &[BEFORE_CODE, EMPTY_BODY, "0b09010041ffff030b0100"],
+        0,
+        "accepted\n",
+    ),
+    (
+        &[BEFORE_CODE, EMPTY_BODY, "0b090100418080040b0100"],
+        3,
+        "refused L5 InitRange\n",
+    ),
+    (
+        &[
+            HEADER,
+            TYPES,
+            FUNCTIONS,
+            "050401008002",
+            EXPORTS,
+            EMPTY_BODY,
+        ],
+        0,
+        "accepted\n",
+    ),
+    (
+        &[
+            HEADER,
+            TYPES,
+            FUNCTIONS,
+            "050401008102",
+            EXPORTS,
+            EMPTY_BODY,
+        ],
+        3,
+        "refused L6 TooManyPages\n",
+    ),
+];
+
 #[test]
 fn host(rt: HostRuntime) -> Result<(), Fail> {
-    check(
-        &rt,
-        rt.alloc(),
-        &[
-            (
-                &[HEADER, TYPES, UNKNOWN_CALL, BEHIND_IMPORTS],
-                3,
-                "refused L3 UnknownImport\n",
-            ),
-            (
-                &[HEADER, TYPES, CALL_WITHOUT_CODE, BEHIND_IMPORTS],
-                3,
-                "refused L4 ImportType\n",
-            ),
-            (
-                &[BEFORE_CODE, EMPTY_BODY, "0b09010041ffff030b0100"],
-                0,
-                "accepted\n",
-            ),
-            (
-                &[BEFORE_CODE, EMPTY_BODY, "0b090100418080040b0100"],
-                3,
-                "refused L5 InitRange\n",
-            ),
-            (
-                &[
-                    HEADER,
-                    TYPES,
-                    FUNCTIONS,
-                    "050401008002",
-                    EXPORTS,
-                    EMPTY_BODY,
-                ],
-                0,
-                "accepted\n",
-            ),
-            (
-                &[
-                    HEADER,
-                    TYPES,
-                    FUNCTIONS,
-                    "050401008102",
-                    EXPORTS,
-                    EMPTY_BODY,
-                ],
-                3,
-                "refused L6 TooManyPages\n",
-            ),
-        ],
-    )
+    check(&rt, rt.alloc(), &HOST)
 }
 
+/// An empty custom section called `name`.
+const CUSTOM: &str = "0005046e616d65";
+
 /// Sections twice, out of order, too long and too short, and custom sections everywhere.
+static SECTIONS: [Row; 7] = [
+    (&[HEADER, "0cff"], 3, "refused B1 Malformed at 8\n"),
+    (&[HEADER, TYPES, TYPES], 3, "refused B1 Malformed at 14\n"),
+    (
+        &[BEFORE_EXPORTS, MEMORIES],
+        3,
+        "refused B1 Malformed at 23\n",
+    ),
+    (
+        &[HEADER, FUNCTIONS, TYPES],
+        3,
+        "refused B1 Malformed at 12\n",
+    ),
+    (&[HEADER, "010501600000"], 3, "refused B1 Malformed at 9\n"),
+    (&[HEADER, "010301600000"], 3, "refused B1 Malformed at 13\n"),
+    (
+        &[
+            HEADER, CUSTOM, TYPES, CUSTOM, FUNCTIONS, CUSTOM, MEMORIES, CUSTOM, EXPORTS, CUSTOM,
+            EMPTY_BODY, CUSTOM,
+        ],
+        0,
+        "accepted\n",
+    ),
+];
+
 #[test]
 fn sections(rt: HostRuntime) -> Result<(), Fail> {
-    let custom = "0005046e616d65";
-    check(
-        &rt,
-        rt.alloc(),
-        &[
-            (&[HEADER, "0cff"], 3, "refused B1 Malformed at 8\n"),
-            (&[HEADER, TYPES, TYPES], 3, "refused B1 Malformed at 14\n"),
-            (
-                &[BEFORE_EXPORTS, MEMORIES],
-                3,
-                "refused B1 Malformed at 23\n",
-            ),
-            (
-                &[HEADER, FUNCTIONS, TYPES],
-                3,
-                "refused B1 Malformed at 12\n",
-            ),
-            (&[HEADER, "010501600000"], 3, "refused B1 Malformed at 9\n"),
-            (&[HEADER, "010301600000"], 3, "refused B1 Malformed at 13\n"),
-            (
-                &[
-                    HEADER, custom, TYPES, custom, FUNCTIONS, custom, MEMORIES, custom, EXPORTS,
-                    custom, EMPTY_BODY, custom,
-                ],
-                0,
-                "accepted\n",
-            ),
-        ],
-    )
+    check(&rt, rt.alloc(), &SECTIONS)
+}
+
+/// The status of `check` on these bytes.
+fn status_of(alloc: Global, bytes: &[u8]) -> u8 {
+    let mut out = Vec::new(alloc);
+    check_bytes(alloc, bytes, &mut out)
 }
 
 /// Each front of a module that is accepted is refused.
 #[test]
 fn fronts(rt: HostRuntime) -> Result<(), Fail> {
-    let alloc = rt.alloc();
-    let bytes = bytes_of(alloc, &[BEFORE_CODE, EMPTY_BODY])?;
-    assert_eq!(rt; bytes.len(), 50);
+    let bytes = bytes_of(rt.alloc(), &[BEFORE_CODE, EMPTY_BODY])?;
+    assert!(rt; bytes.len() == 50);
     for end in 0..bytes.len() {
-        let mut out = Vec::new(alloc);
-        assert_eq!(rt; check_bytes(alloc, &bytes[..end], &mut out), 3, "{end}");
+        assert!(rt; status_of(rt.alloc(), &bytes[..end]) == 3, "{end}");
     }
     Ok(())
+}
+
+/// The statuses of the small module and of a front of it, both in one room of 8 bytes.
+fn statuses_without_room(alloc: Global) -> [u8; 2] {
+    let mut room = [0u8; 8];
+    let mut out: &mut [u8] = &mut room;
+    let accepted = check_bytes(alloc, &SMALL, &mut out);
+    [accepted, check_bytes(alloc, &SMALL[..9], &mut out)]
 }
 
 /// A line that can't be written whole.
 #[test]
 fn output_without_room(rt: HostRuntime) {
-    let mut room = [0u8; 8];
-    let mut out: &mut [u8] = &mut room;
-    assert_eq!(rt; check_bytes(rt.alloc(), &SMALL, &mut out), 7);
-    assert_eq!(rt; check_bytes(rt.alloc(), &SMALL[..9], &mut out), 7);
+    assert!(rt; statuses_without_room(rt.alloc()) == [7, 7]);
 }
 
 /// That the small module is accepted, in a room for its line that takes no memory.

@@ -1,6 +1,6 @@
 //! Slices of a worker, cut anywhere, come to one image and tell the same lines.
 
-use crate::asking::{ECHO, config};
+use crate::asking::{ECHO, created};
 use crate::check::bytes_of;
 use record_replay::{AnswerList, LineList, NumberedLine};
 use state_image::write_image;
@@ -8,7 +8,7 @@ use std::alloc::Global;
 use std::test::Fail;
 use wasi_abi::Answer;
 use wasm_syntax::Row;
-use worker::Worker;
+use worker::{WorkFault, Worker};
 
 /// Both requests are taken, and both lines are told, after so many steps.
 const STEPS: u64 = 42;
@@ -33,20 +33,40 @@ fn requests(alloc: Global) -> Result<AnswerList, Fail> {
 }
 
 /// Runs both slices.
-fn run(alloc: Global, worker: &mut Worker, first: u64) -> Result<Sliced, Fail> {
+fn slice_twice(
+    worker: &mut Worker,
+    first: u64,
+    source: &mut AnswerList,
+    told: &mut LineList,
+) -> Result<(), WorkFault> {
+    let _now = worker.slice(first, source, told)?;
+    let _now = worker.slice(STEPS.saturating_sub(first), source, told)?;
+    Ok(())
+}
+
+/// Runs both slices on both requests, and gives the image.
+fn run(
+    alloc: Global,
+    worker: &mut Worker,
+    first: u64,
+    told: &mut LineList,
+) -> Result<Vec<u8>, Fail> {
     let mut source = requests(alloc)?;
-    let mut told = LineList::new(alloc);
-    let _now = worker.slice(first, &mut source, &mut told)?;
-    let _now = worker.slice(STEPS.saturating_sub(first), &mut source, &mut told)?;
-    let image = write_image(alloc, worker.process())?;
-    Ok(Sliced { image, told })
+    let ran = slice_twice(worker, first, &mut source, told);
+    drop(source);
+    ran?;
+    Ok(write_image(alloc, worker.process())?)
 }
 
 fn in_two_slices(alloc: Global, wasm: &[u8], first: u64) -> Result<Sliced, Fail> {
-    let mut worker = Worker::create(alloc, wasm, config(alloc)?)?;
-    let done = run(alloc, &mut worker, first);
+    let mut worker = created(alloc, wasm)?;
+    let mut told = LineList::new(alloc);
+    let image = run(alloc, &mut worker, first, &mut told);
     drop(worker);
-    done
+    Ok(Sliced {
+        image: image?,
+        told,
+    })
 }
 
 fn is_same_line(one: &NumberedLine, other: &NumberedLine) -> bool {
@@ -64,15 +84,22 @@ fn are_alike(parts: &Sliced, whole: &Sliced) -> bool {
         && are_same_lines(parts.told.lines(), whole.told.lines())
 }
 
+/// Whether both slices, the first of so many steps, come to the same.
+fn is_as_whole(alloc: Global, wasm: &[u8], first: u64, whole: &Sliced) -> Result<bool, Fail> {
+    let parts = in_two_slices(alloc, wasm, first)?;
+    Ok(are_alike(&parts, whole))
+}
+
 #[test]
 fn two_slices_are_one(rt: HostRuntime) -> Result<(), Fail> {
-    let alloc = rt.alloc();
-    let wasm = bytes_of(alloc, &ECHO)?;
-    let whole = in_two_slices(alloc, wasm.as_slice(), STEPS)?;
-    assert_eq!(rt; whole.told.lines().len(), 2);
+    let wasm = bytes_of(rt.alloc(), &ECHO)?;
+    let whole = in_two_slices(rt.alloc(), wasm.as_slice(), STEPS)?;
+    assert!(rt; whole.told.lines().len() == 2);
     for first in 0..STEPS {
-        let parts = in_two_slices(alloc, wasm.as_slice(), first)?;
-        assert!(rt; are_alike(&parts, &whole), "{first}");
+        assert!(rt;
+            is_as_whole(rt.alloc(), wasm.as_slice(), first, &whole)?,
+            "{first}"
+        );
     }
     Ok(())
 }

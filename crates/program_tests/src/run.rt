@@ -1,16 +1,16 @@
 //! Workers that are run: what they print, how many steps they take, and that each allocation
 //! may be refused.
 
+use crate::asking::created;
 use crate::check::{BEFORE_CODE, EMPTY_BODY, HELLO, bytes_of};
 use crate::lines::{NoClock, OUTSIDE};
 use record_replay::{AnswerList, LineList};
-use std::alloc::Global;
+use std::alloc::{AllocError, Global};
+use std::io::Write;
 use std::num::NonZeroU64;
 use std::test::Fail;
-use wasi_abi::Config;
-use wasm_syntax::Row;
 use wasmhost_serve::{BufferedLines, LineOutlet, Options, RequestSource, serve};
-use worker::{Now, Worker};
+use worker::{Now, WorkFault, Worker};
 
 /// Modules of one body each, without imports.
 const UNREACHABLE: [&str; 2] = [BEFORE_CODE, "0a0501030000 0b"];
@@ -65,123 +65,151 @@ fn plain_options(fuel: NonZeroU64) -> Options<'static> {
     }
 }
 
+/// The status of a run of a module, by slices of so many steps.
+fn status_of<W: Write + Drop, E: Write>(
+    alloc: Global,
+    wasm: &[u8],
+    fuel: NonZeroU64,
+    outlet: &mut LineOutlet<W>,
+    err: &mut E,
+) -> u8 {
+    let mut source = empty_source(alloc);
+    let status = serve(alloc, wasm, plain_options(fuel), &mut source, outlet, err);
+    drop(source);
+    status
+}
+
 /// Texts of a module, steps of a slice, and what is printed: lines, last words, and the status.
-type Case<'a> = (&'a [&'a str], u64, &'a str, &'a str, u8);
+type Case = (&'static [&'static str], u64, &'static str, &'static str, u8);
+
+static PRINTED: [Case; 9] = [
+    (&HELLO, 100_000, "1 o hi\n", "exited 7\n", 0),
+    (&HELLO, 1, "1 o hi\n", "exited 7\n", 0),
+    (&EMPTY, 1, "", "exited 0\n", 0),
+    (&UNREACHABLE, 100, "", "trapped unreachable\n", 0),
+    (&QUOTIENT, 2, "", "trapped integer overflow\n", 0),
+    (&REMAINDER, 100, "", "exited 0\n", 0),
+    (
+        &FAR_LOAD,
+        100,
+        "",
+        "trapped out of bounds memory access\n",
+        0,
+    ),
+    (&ENDLESS, 100, "", "trapped stack exhausted\n", 0),
+    (&[BEFORE_CODE], 100, "", "failed B1 Malformed\n", 3),
+];
+
+fn prints_so(alloc: Global, case: &Case) -> Result<bool, Fail> {
+    let fuel = NonZeroU64::try_from(case.1)?;
+    let wasm = bytes_of(alloc, case.0)?;
+    let mut outlet = LineOutlet::new(alloc, Vec::new(alloc))?;
+    let mut err = Vec::new(alloc);
+    let status = status_of(alloc, wasm.as_slice(), fuel, &mut outlet, &mut err);
+    let lines = outlet.out.as_slice() == case.2.as_bytes();
+    Ok(lines && err.as_slice() == case.3.as_bytes() && status == case.4)
+}
 
 #[test]
 fn workers_print(rt: HostRuntime) -> Result<(), Fail> {
-    let alloc = rt.alloc();
-    let rows: [Case<'_>; 9] = [
-        (&HELLO, 100_000, "1 o hi\n", "exited 7\n", 0),
-        (&HELLO, 1, "1 o hi\n", "exited 7\n", 0),
-        (&EMPTY, 1, "", "exited 0\n", 0),
-        (&UNREACHABLE, 100, "", "trapped unreachable\n", 0),
-        (&QUOTIENT, 2, "", "trapped integer overflow\n", 0),
-        (&REMAINDER, 100, "", "exited 0\n", 0),
-        (
-            &FAR_LOAD,
-            100,
-            "",
-            "trapped out of bounds memory access\n",
-            0,
-        ),
-        (&ENDLESS, 100, "", "trapped stack exhausted\n", 0),
-        (&[BEFORE_CODE], 100, "", "failed B1 Malformed\n", 3),
-    ];
-    for (texts, fuel, lines, words, status) in rows {
-        let wasm = bytes_of(alloc, texts)?;
-        let mut source = empty_source(alloc);
-        let mut outlet = LineOutlet::new(alloc, Vec::new(alloc))?;
-        let mut err = Vec::new(alloc);
-        let fuel = NonZeroU64::try_from(fuel)?;
-        let options = plain_options(fuel);
-        let answered = serve(
-            alloc,
-            wasm.as_slice(),
-            options,
-            &mut source,
-            &mut outlet,
-            &mut err,
-        );
-        assert_eq!(rt; answered, status, "{texts:?}");
-        assert_eq!(rt; outlet.out.as_slice(), lines.as_bytes(), "{texts:?}");
-        assert_eq!(rt; err.as_slice(), words.as_bytes(), "{texts:?}");
+    for case in &PRINTED {
+        assert!(rt; prints_so(rt.alloc(), case)?, "{case:?}");
     }
     Ok(())
 }
 
-/// One page, one file unit, 64 journal sectors and no argument.
-fn config(alloc: Global) -> Result<Config, Fail> {
-    Ok(Config::new(1, 1, 64, Row::new(alloc), Row::new(alloc))?)
-}
-
-/// A worker that has ended, by slices of so many steps.
-fn run_to_end(alloc: Global, texts: &[&str], fuel: u64) -> Result<Worker, Fail> {
-    let wasm = bytes_of(alloc, texts)?;
-    let mut worker = Worker::create(alloc, wasm.as_slice(), config(alloc)?)?;
-    let mut source = AnswerList::new(Vec::new(alloc));
-    let mut outlet = LineList::new(alloc);
+/// Runs a worker by slices of so many steps, until it ends.
+fn run_to_end(
+    worker: &mut Worker,
+    fuel: u64,
+    source: &mut AnswerList,
+    outlet: &mut LineList,
+) -> Result<(), WorkFault> {
     for _ in 0..10_000 {
-        if let Now::Ended(_) = worker.slice(fuel, &mut source, &mut outlet)? {
+        if let Now::Ended(_) = worker.slice(fuel, source, outlet)? {
             break;
         }
     }
-    Ok(worker)
+    Ok(())
+}
+
+/// The same, where nothing is answered.
+fn run_alone(alloc: Global, worker: &mut Worker, fuel: u64) -> Result<(), WorkFault> {
+    let mut source = AnswerList::new(Vec::new(alloc));
+    let mut outlet = LineList::new(alloc);
+    run_to_end(worker, fuel, &mut source, &mut outlet)
+}
+
+/// What a worker of a module has in the end: its steps, and the number at 16.
+fn end_of(alloc: Global, texts: &[&str], fuel: u64) -> Result<(u64, Option<u32>), Fail> {
+    let wasm = bytes_of(alloc, texts)?;
+    let mut worker = created(alloc, wasm.as_slice())?;
+    let ended = run_alone(alloc, &mut worker, fuel);
+    let steps = worker.process().steps();
+    let number = worker.process().memory().load_u32(16, 0);
+    drop(worker);
+    ended?;
+    Ok((steps, number))
 }
 
 /// The count of bytes that `hello` has `fd_write` put at 16.
 #[test]
 fn hello_has_its_count(rt: HostRuntime) -> Result<(), Fail> {
-    let worker = run_to_end(rt.alloc(), &HELLO, 100)?;
-    assert_eq!(rt; worker.process().memory().load_u32(16, 0), Some(3));
+    assert!(rt; end_of(rt.alloc(), &HELLO, 100)?.1 == Some(3));
     Ok(())
+}
+
+/// Texts of a module, and the steps that it takes.
+type Steps = (&'static [&'static str], u64);
+
+static STEPS: [Steps; 7] = [
+    (&HELLO, 8),
+    (&EMPTY, 0),
+    (&UNREACHABLE, 1),
+    (&QUOTIENT, 3),
+    (&REMAINDER, 4),
+    (&FAR_LOAD, 2),
+    (&ENDLESS, 512),
+];
+
+fn takes_so(alloc: Global, row: &Steps, fuel: u64) -> Result<bool, Fail> {
+    Ok(end_of(alloc, row.0, fuel)?.0 == row.1)
 }
 
 #[test]
 fn workers_take_steps(rt: HostRuntime) -> Result<(), Fail> {
-    let rows: [(&[&str], u64); 7] = [
-        (&HELLO, 8),
-        (&EMPTY, 0),
-        (&UNREACHABLE, 1),
-        (&QUOTIENT, 3),
-        (&REMAINDER, 4),
-        (&FAR_LOAD, 2),
-        (&ENDLESS, 512),
-    ];
-    for (texts, steps) in rows {
+    for row in &STEPS {
         for fuel in [1, 3, 1_000] {
-            assert_eq!(rt;
-                run_to_end(rt.alloc(), texts, fuel)?.process().steps(),
-                steps,
-                "{texts:?} by {fuel}"
-            );
+            assert!(rt; takes_so(rt.alloc(), row, fuel)?, "{row:?} by {fuel}");
         }
     }
     Ok(())
 }
 
+/// The status of `hello` in rooms for its line and its last words, which take no memory.
+fn status_in(
+    alloc: Global,
+    fuel: NonZeroU64,
+    lines: &mut [u8],
+    words: &mut [u8],
+) -> Result<u8, AllocError> {
+    let mut outlet = LineOutlet::new(alloc, lines)?;
+    let mut err: &mut [u8] = words;
+    let status = status_of(alloc, &HELLO_BYTES, fuel, &mut outlet, &mut err);
+    drop(outlet);
+    Ok(status)
+}
+
 /// Runs `hello`, in rooms for its line and its last words that take no memory.
 fn run_hello(alloc: Global) -> Result<(), Refused> {
-    let mut source = empty_source(alloc);
     let mut lines = [0u8; 32];
     let mut words = [0u8; 32];
-    let Ok(mut outlet) = LineOutlet::new(alloc, lines.as_mut_slice()) else {
-        return Err(Refused::Memory);
-    };
-    let mut err: &mut [u8] = &mut words;
     let Some(fuel) = NonZeroU64::new(100_000) else {
         return Err(Refused::Otherwise);
     };
-    let options = plain_options(fuel);
-    let status = serve(
-        alloc,
-        &HELLO_BYTES,
-        options,
-        &mut source,
-        &mut outlet,
-        &mut err,
-    );
-    drop(outlet);
+    let Ok(status) = status_in(alloc, fuel, &mut lines, &mut words) else {
+        return Err(Refused::Memory);
+    };
     if status == 0 && lines.starts_with(b"1 o hi\n\0") && words.starts_with(b"exited 7\n\0") {
         return Ok(());
     }
@@ -202,22 +230,11 @@ fn whole_run(rt: HostRuntime) -> Result<(), Refused> {
 #[test]
 fn output_without_room(rt: HostRuntime) -> Result<(), Fail> {
     let fuel = NonZeroU64::try_from(100)?;
-    let options = plain_options(fuel);
-    let mut source = empty_source(rt.alloc());
     for (room, left, status) in [(4, 32, 7), (32, 4, 7), (32, 32, 0)] {
         let mut lines = [0u8; 32];
         let mut words = [0u8; 32];
-        let mut outlet = LineOutlet::new(rt.alloc(), &mut lines[..room])?;
-        let mut err: &mut [u8] = &mut words[..left];
-        let answered = serve(
-            rt.alloc(),
-            &HELLO_BYTES,
-            options,
-            &mut source,
-            &mut outlet,
-            &mut err,
-        );
-        assert_eq!(rt; answered, status, "{room} and {left}");
+        let answered = status_in(rt.alloc(), fuel, &mut lines[..room], &mut words[..left])?;
+        assert!(rt; answered == status, "{room} and {left}");
     }
     Ok(())
 }

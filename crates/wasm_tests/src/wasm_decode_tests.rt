@@ -344,12 +344,13 @@ fn kind_of(opcode: u8) -> Kind {
     Kind::Nothing
 }
 
-/// By the fault at place 51.
-fn kind_by(fault: Option<DecodeFault>) -> Kind {
+/// By the fault at place 51. Want of memory tells no kind.
+fn kind_by(fault: Option<DecodeFault>) -> Result<Kind, Refused> {
     match fault {
-        Some(Float(51)) => Kind::Floats,
-        Some(Malformed(51)) => Kind::Nothing,
-        _ => Kind::Integers,
+        Some(Float(51)) => Ok(Kind::Floats),
+        Some(Malformed(51)) => Ok(Kind::Nothing),
+        Some(DecodeFault::Memory) => Err(Refused::Memory),
+        _ => Ok(Kind::Integers),
     }
 }
 
@@ -358,7 +359,7 @@ fn kind_told(alloc: Global, opcode: u8) -> Result<Kind, Refused> {
     let mut bytes = spelled(alloc, BEFORE_CODE, "0a0a0108 00 0440")?;
     bytes.push(opcode)?;
     append(&mut bytes, "4000 0b0b")?;
-    Ok(kind_by(told(alloc, bytes.as_slice())))
+    kind_by(told(alloc, bytes.as_slice()))
 }
 
 #[test]
