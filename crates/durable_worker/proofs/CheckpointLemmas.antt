@@ -1,8 +1,8 @@
 -- A checkpoint, as an event of a life, and what its disk holds.
-use Rattle.std.proofs.Common.{◌≡◌, ◌⊎◌, ℕ, ◌+◌, ◌-◌, ◌*◌, ◌<◌, ◌≤◌, ◌^◌, max, List, [], ◌∷◌, ◌++◌}
+use Rattle.std.proofs.Common.{◌≡◌, ℕ, ◌+◌, ◌-◌, ◌*◌, ◌<◌, ◌≤◌, ◌^◌, max, List, [], ◌∷◌, ◌++◌}
 use Rattle.std.proofs.Common.{length, Bool, true, false, refl, sym, ap, ◌∙◌, subst, inl, inr, arith}
 use Rattle.std.proofs.lemmas.List.{append-nil}
-use Rattle.std.specs.Prelude.{Result, Ok, Err}
+use Rattle.std.specs.Prelude.{Ok, Err}
 use Rattle.wasm_syntax.specs.declared.module.Module.{Module}
 use Rattle.wasi_abi.specs.declared.numbers.TheConstants.{NUMBERS_END}
 use Rattle.wasi_abi.specs.rules.Configs.{Settings}
@@ -10,7 +10,7 @@ use Rattle.wasi_calls_rules.specs.laws.Laws.{IsOfBytes}
 use Rattle.process_rules.specs.Processes.{ProcessState, Guest, host_of}
 use Rattle.process_rules.specs.Runs.{Runs, none}
 use Rattle.process.specs.rules.Values.{ProcessValue, ShowsProcess, IsProcess}
-use Rattle.state_image.specs.rules.Image.{Saved, image}
+use Rattle.state_image.specs.rules.Image.{image}
 use Rattle.state_image.specs.rules.Saving.{saved_of}
 use Rattle.state_image.specs.rules.WellTyped.{IsWellTyped}
 use Rattle.state_image.proofs.ReachedWellTyped.{saved_is_well_typed}
@@ -24,13 +24,13 @@ use Rattle.journal.specs.rules.Steps.{barrier_calls}
 use Rattle.snapshot.specs.rules.Calls.{with_head}
 use Rattle.worker_rules.specs.Lives.{Act, Checkpoint, Reply, Done, Fails, Cause, OfDisk}
 use Rattle.worker_rules.specs.Lives.{OfBounds, Ended}
-use Rattle.worker_rules.specs.Courses.{Stage, Open, MayFail, phase_ended}
+use Rattle.worker_rules.specs.Courses.{Stage, Open, MayFail}
 use Rattle.worker_rules.specs.Promises.{Promise, after}
 use Rattle.worker_rules.specs.Holds.{StaysWithin}
 use Rattle.worker_rules.specs.Exchanges.{none as no_exchange}
 use Rattle.worker_laws.specs.laws.Savepoints.{Savepoint}
 use Rattle.worker_laws.specs.laws.CallEnds.{IsSavedAs, HasBound}
-use Rattle.worker_laws.specs.laws.Carried.{IsHeldAt, IsCarried}
+use Rattle.worker_laws.specs.laws.Carried.{IsCarried}
 use Rattle.worker_laws.specs.laws.AtHand.{IsNextOf}
 use Rattle.worker_laws.specs.laws.Saves.{SavesCheckpoint}
 use Rattle.worker_laws.proofs.CallEnds.{done_checkpoints_end, failed_checkpoints_end}

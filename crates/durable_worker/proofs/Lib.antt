@@ -7,4 +7,5 @@ mod CreationLemmas
 mod FindingLemmas
 pub mod LifeLemmas
 mod RestoringLemmas
+mod SurveyLemmas
 mod TextLemmas

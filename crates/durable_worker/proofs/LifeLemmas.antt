@@ -4,3 +4,5 @@ pub mod Saving
 pub mod Making
 pub mod Opening
 pub mod Living
+pub mod Heard
+pub mod Uncut

@@ -1,6 +1,6 @@
 -- An answer that fits what a process wants is short enough for a record.
-use Rattle.std.proofs.Common.{◌≡◌, ℕ, ◌+◌, ◌≤◌, List, [], ◌∷◌, length, refl, sym, ap, subst, arith}
-use Rattle.std.specs.Prelude.{Bool, true, false, if◌then◌else◌, nat_le, not, Option, Some, None, Ok}
+use Rattle.std.proofs.Common.{◌≡◌, ℕ, ◌≤◌, List, [], ◌∷◌, length, refl, ap, subst, arith}
+use Rattle.std.specs.Prelude.{Bool, true, false, if◌then◌else◌, nat_le, Option, Some, None, Ok}
 use Rattle.std.specs.Prelude.{Result, Err, ◌==◌, slice_get, reverse, map}
 use Rattle.std.proofs.lemmas.Bool.{leb-true}
 use Rattle.wasm_syntax.specs.declared.value.Value.{Value}
@@ -30,7 +30,7 @@ use Rattle.wasi_calls_rules.specs.Moving.{Got, input_taken, input_read, target_r
 use Rattle.wasi_calls_rules.specs.Rows.{row}
 use Rattle.wasi_calls_rules.proofs.Halting.{few_rows_ask}
 use Rattle.process_rules.specs.Processes.{ProcessState, Guest}
-use Rattle.process_rules.specs.Runs.{Next, On, Over, Wants, Nowhere, after_row, after_call}
+use Rattle.process_rules.specs.Runs.{Next, Wants, after_row, after_call}
 use Rattle.process_rules.specs.Runs.{after_rule, next_of}
 
 -- ---- what a rule asks for

@@ -1,10 +1,9 @@
 -- The turns of a slice of a worker on its disk.
 use Rattle.std.specs.Prelude.{◌≡◌, ◌≢◌, ℕ, ◌⊎◌, ◌+◌, ◌-◌, ◌<◌, ◌≤◌, Bool, true, false, List, []}
 use Rattle.std.specs.Prelude.{◌∷◌}
-use Rattle.std.specs.Prelude.{length, map, Option, Some, None, Result, Ok, Err}
+use Rattle.std.specs.Prelude.{length, map, Some, None, Result, Ok, Err}
 use Rattle.wasm_syntax.specs.declared.module.Module.{Module}
 use Rattle.wasi_abi.specs.declared.answer.Kind.{Kind}
-use Rattle.wasi_abi.specs.declared.answer.Answer.{Answer}
 use Rattle.wasi_abi.specs.rules.Configs.{Settings}
 use Rattle.wasi_calls_rules.specs.laws.Laws.{IsOfBytes}
 use Rattle.process_rules.specs.Processes.{ProcessState, Guest, host_of}
@@ -23,10 +22,10 @@ use Rattle.worker_store.specs.rules.Calls.{AppendFails}
 use Rattle.sector_disk.specs.rules.Medium.{Medium}
 use Rattle.state_image.specs.rules.Saving.{saved_of}
 use Rattle.journal.specs.rules.State.{room_of}
-use Rattle.record_replay.specs.rules.Calls.{Giving, Taking, Ask, Begun, Exchange, Asks, Tells}
+use Rattle.record_replay.specs.rules.Calls.{Giving, Taking, Begun, Exchange, Asks, Tells}
 use Rattle.record_replay.specs.rules.Calls.{Releases, Exchanges}
-use Rattle.worker_rules.specs.Lives.{Act, Slice, Reply, Fails, Waits, Cause, SourceSaid, Ended}
-use Rattle.worker_rules.specs.Courses.{Stage, Open, phase_ended, next_stage, first_said}
+use Rattle.worker_rules.specs.Lives.{Slice, Reply, Fails, Waits, Cause, SourceSaid, Ended}
+use Rattle.worker_rules.specs.Courses.{Stage, Open, phase_ended, next_stage}
 use Rattle.worker_rules.specs.Promises.{Promise, after, IsEnding}
 use Rattle.worker_rules.specs.Holds.{KeepsPromise, StaysWithin}
 use Rattle.worker_laws.specs.laws.Underway.{IsUnderWay}

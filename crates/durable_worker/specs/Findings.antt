@@ -1,11 +1,12 @@
 -- What is found on a disk, before anything is told or written.
-use Rattle.std.specs.Prelude.{◌≡◌, ℕ, ◌≤◌, List, [], Result, Ok, Err}
+use Rattle.std.specs.Prelude.{◌≡◌, ℕ, ◌≤◌, List, [], length, Result, Ok, Err}
 use Rattle.wasm_syntax.specs.declared.module.Module.{Module}
 use Rattle.wasi_abi.specs.rules.Configs.{Settings}
 use Rattle.wasi_calls_rules.specs.laws.Laws.{IsOfBytes}
 use Rattle.process_rules.specs.Processes.{ProcessState, host_of}
 use Rattle.machine.specs.rules.Values.{MachineValue}
 use Rattle.process.specs.rules.Values.{ProcessValue, ShowsProcess, IsProcess, waiting_in}
+use Rattle.process.specs.rules.Values.{lines_in}
 use Rattle.sector_disk.specs.rules.Image.{Image}
 use Rattle.sector_disk.specs.rules.Medium.{Medium}
 use Rattle.disk_layout.specs.declared.geometry.Geometry.{Geometry}
@@ -18,6 +19,7 @@ use Rattle.state_image.specs.rules.Saving.{saved_of}
 use Rattle.worker_laws.specs.laws.Savepoints.{Savepoint, places, StandsAtPoint}
 use Rattle.durable_worker.specs.declared.found.Found.{Found}
 use Rattle.durable_worker.specs.declared.recover_fault.RecoverFault.{RecoverFault}
+use Rattle.durable_worker.specs.declared.surveyed.Survey.{Survey}
 use Rattle.durable_worker.specs.rules.Recoveries.{SaysNothing}
 
 -- the process of this savepoint, of these bytes of a module, and these records
@@ -33,6 +35,16 @@ pub record IsFoundAt {m : Module} {config : Settings} (wasm : List ℕ) (point :
   pub some : IsProcess found.process
   pub none_waits : waiting_in found.process ≡ []
   pub texts : IsOfBytes (host_of config)
+
+-- the numbers of its process, and how many records there are
+abbrev pub numbers_of_found : Found → Survey
+numbers_of_found found = record {
+  generation = found.generation;
+  steps = found.process.steps;
+  answers = found.process.answers;
+  lines = lines_in found.process;
+  records = length found.records.items;
+}
 
 -- that, or an error that says nothing of what stands on the disk
 abbrev pub FindsPoint : {m : Module} {config : Settings} → List ℕ → Savepoint m config

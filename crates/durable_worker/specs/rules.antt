@@ -4,7 +4,9 @@ pub mod DurableCreations
 pub mod DurableFailures
 pub mod DurableFaults
 pub mod DurableValues
+pub mod LifeWords
 pub mod OpenWorkers
 pub mod RecoverFaults
 pub mod Recoveries
 pub mod Savings
+pub mod Surveys

@@ -2,6 +2,7 @@
 
 ghost use Rattle.durable_worker.specs.laws.Bounds.{OpenWorkersKeepBounds, StayingKeepsBounds};
 ghost use Rattle.durable_worker.specs.laws.OneLife.{CallsMakeLives, AnythingComesTrue};
+ghost use Rattle.durable_worker.specs.laws.Uncut.{LivesGoOnUncut};
 
 use record_replay::{Outlet, Source};
 use sector_disk::Disk;
@@ -18,4 +19,10 @@ pub fn open_workers_keep_bounds<D: Disk>()
 pub fn calls_make_lives<D: Disk, S: Source, O: Outlet>()
     ensures made { CallsMakeLives D.medium S.gives O.takes }
     ensures put_in { AnythingComesTrue }
+{}
+
+/// The calls of one life in which the power isn't cut make one that goes on from all that was
+/// promised. Its outlet has taken each line that was told, or it ended by one that was refused.
+pub fn uncut_lives_go_on<D: Disk, S: Source, O: Outlet>()
+    ensures { LivesGoOnUncut D.medium S.gives O.takes }
 {}

@@ -19,6 +19,9 @@
 //!   the lines and the opening are events that keep it, and a cut at any moment leaves what holds
 //!   all that was promised before. After Ok the worker is open on the disk, which has room for it
 //!   (`room`).
+//! - `survey`: nothing is written. The disk is synced, and what it then shows decides the result
+//!   (`Surveys`). Where it stands for a worker, its generation and the numbers of the saved process
+//!   are told, and how many records lie behind it; or an error that says nothing of them.
 //! - `carries` speaks of a disk whose answers fit an image in the end: of another one nothing is
 //!   known. Want of memory may end a recovery anywhere.
 //! - `DurableWorker::slice` runs as `worker: Worker::slice` does (`done`). Whatever was promised
@@ -42,6 +45,7 @@
 //! (`DurableCalls.antt`); `IsCreatedOn`, `IsNotCreatedOn`, `CreationCalls`, `CreationKeeps`
 //! (`DurableCreations.antt`); `Recovers`, `RecoversFrom`, `Revives`, `OpeningCalls`,
 //! `RecoveryCarries`, `Reopens`, `ReopensInVain`, `FindsNone` (`Recoveries.antt`);
+//! `Surveys`, `SurveysFrom`, `survey_of` (`Surveys.antt`);
 //! `SlicesOnDiskInVain`, `IsDiskCause` (`DurableFailures.antt`); `CheckpointCalls`,
 //! `CheckpointFails` (`Checkpoints.antt`); `fault_of_store` (`DurableFaults.antt`);
 //! `fault_of_restore`, `fault_of_replay` (`RecoverFaults.antt`). They speak in the words of
@@ -50,12 +54,11 @@
 //! # Who may touch what
 //!
 //! Only this crate decides when records are kept, when they are put on the disk, and when a process
-//! is saved. No code uses it yet; it is handed its disk at each call, and keeps none. It stands on
-//! `worker`, whose definitions of slices are its own, and on `worker_store`. A creation takes
-//! memory for the module, for a copy of the configuration and for its bytes; the process keeps the
-//! copy.
-//! A recovery takes memory for all that it reads. The other calls take none but what the process
-//! and the journal take.
+//! is saved. `wasmhost_serve` and `story` use it. It is handed its disk at each call, and keeps
+//! none. It stands on `worker`, whose definitions of slices are its own, and on `worker_store`. A
+//! creation takes memory for the module, for a copy of the configuration and for its bytes; the
+//! process keeps the copy. A recovery takes memory for all that it reads. The other calls take none
+//! but what the process and the journal take.
 #![tactic(auto)]
 
 mod checkpoints;
@@ -71,9 +74,13 @@ mod recovering;
 mod running;
 mod saving;
 mod slices;
+mod surveyed;
+mod surveying;
 mod turns;
 
 pub use durable::DurableWorker;
 pub use fault::DurableFault;
 pub use recover_fault::RecoverFault;
 pub use running::Running;
+pub use surveyed::Survey;
+pub use surveying::survey;

@@ -39,7 +39,7 @@
 //! # Who may touch what
 //!
 //! Only this crate knows an image that is in the middle of being written. It is handed the disk at
-//! each call. It stands on `disk_layout`, `sector_disk` and `block_lanes`; no code uses it yet.
+//! each call. It stands on `disk_layout`, `sector_disk` and `block_lanes`.
 //! Reading an image takes memory (`S4 Memory`), and writing one takes none.
 #![tactic(auto)]
 

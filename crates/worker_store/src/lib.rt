@@ -40,7 +40,7 @@
 //! # Who may touch what
 //!
 //! A store knows where things lie and which records wait for a barrier. It is handed the disk at
-//! each call, and keeps none. No code uses it yet. `append`, `lay_out` and the readings take
+//! each call, and keeps none. `append`, `lay_out` and the readings take
 //! memory; `barrier`, `commit` and `reopen` take none.
 #![tactic(auto)]
 

@@ -1,10 +1,10 @@
 -- Steps of a worker on its disk, up to where it stops.
-use Rattle.std.proofs.Common.{◌≡◌, ◌⊎◌, ℕ, suc, ◌+◌, ◌-◌, ◌<◌, ◌≤◌, List, [], length, refl, sym, ap}
-use Rattle.std.proofs.Common.{◌∙◌, subst, inl, inr, ⊎_elim, arith, Option, Some, None, Ok, Err}
-use Rattle.std.specs.Prelude.{Result, ◌≢◌}
+use Rattle.std.proofs.Common.{◌≡◌, ℕ, ◌+◌, ◌-◌, ◌<◌, ◌≤◌, [], length, refl, sym, ap}
+use Rattle.std.proofs.Common.{◌∙◌, subst, inl, ⊎_elim, arith, Some, None, Ok, Err}
+use Rattle.std.specs.Prelude.{◌≢◌}
 use Rattle.wasi_abi.specs.declared.answer.Kind.{Kind}
-use Rattle.process_rules.specs.Processes.{ProcessState, Guest, Ending}
-use Rattle.process_rules.specs.Runs.{Runs, Wants, next_of}
+use Rattle.process_rules.specs.Processes.{ProcessState, Ending}
+use Rattle.process_rules.specs.Runs.{Runs}
 use Rattle.process_rules.proofs.Growing.{runs_count, move_counts}
 use Rattle.process_rules.proofs.Quiet.{quiet_runs_are_runs}
 use Rattle.process.specs.declared.fault.ProcessFault.{ProcessFault}
@@ -18,7 +18,7 @@ use Rattle.record_replay.proofs.OnTheWay.{quiet_runs, owing_runs}
 use Rattle.sector_disk.specs.rules.Medium.{Medium}
 use Rattle.state_image.specs.rules.Saving.{saved_of}
 use Rattle.worker_rules.specs.Lives.{Slice, Reply, Spent, Over, Fails, Cause, OfMemory, OfBounds}
-use Rattle.worker_rules.specs.Courses.{Stage, Open, MayFail, phase_ended}
+use Rattle.worker_rules.specs.Courses.{Stage, Open, MayFail}
 use Rattle.worker_rules.specs.Promises.{Promise, IsEnding, synced_by}
 use Rattle.worker_rules.specs.Holds.{StaysWithin}
 use Rattle.worker_laws.specs.laws.Underway.{IsUnderWay}
@@ -26,14 +26,10 @@ use Rattle.worker_laws.specs.laws.CallEnds.{IsSliceOver, HasBound}
 use Rattle.worker_laws.proofs.AtHand.{shown_is_saved}
 use Rattle.worker_laws.proofs.CallEnds.{spent_slices_end, ended_slices_end}
 use Rattle.worker_laws.proofs.Underway.{steps_go_on}
-use Rattle.worker.specs.declared.now.Now.TheVariants as now
-use Rattle.worker.specs.declared.fault.WorkFault.TheVariants as work
-use Rattle.durable_worker.specs.declared.fault.DurableFault.{DurableFault}
 use Rattle.durable_worker.specs.declared.fault.DurableFault.TheVariants.{Work}
 use Rattle.durable_worker.specs.declared.running.Running.{Running}
-use Rattle.durable_worker.specs.rules.OpenWorkers.{IsOnDisk}
 use Rattle.worker.specs.rules.Refusals.{work_fault}
-use Rattle.durable_worker.specs.DurableTurns.{Course, IsRunningOn, IsBetweenTurns, IsOwingTurn}
+use Rattle.durable_worker.specs.DurableTurns.{Course, IsBetweenTurns, IsOwingTurn}
 use Rattle.durable_worker.specs.DurableTurns.{IsAskingOn}
 use Rattle.durable_worker.specs.DurableTurns.{TurnEnds, TurnFails}
 use Rattle.durable_worker.proofs.DurableLemmas.OnDisk.{keeps_now, fewer_syncs, lowered_to}

@@ -1,20 +1,16 @@
 -- Room is made, and the source is asked.
-use Rattle.std.proofs.Common.{◌≡◌, ◌⊎◌, ℕ, ◌+◌, ◌≤◌, List, [], refl, sym, ap, ◌∙◌, subst, inl, inr}
-use Rattle.std.proofs.Common.{⊎_elim, arith, Bool, true, false, Option, Some, None, Ok, Err}
+use Rattle.std.proofs.Common.{◌≡◌, ◌⊎◌, ℕ, ◌+◌, ◌≤◌, List, [], refl, sym, ap, ◌∙◌, subst, inl}
+use Rattle.std.proofs.Common.{⊎_elim, arith, Bool, true, false, Some, None, Ok, Err}
 use Rattle.std.specs.Prelude.{Result}
 use Rattle.wasi_abi.specs.declared.answer.Kind.{Kind}
 use Rattle.wasi_abi.specs.declared.answer.Answer.{Answer}
-use Rattle.process_rules.specs.Processes.{ProcessState}
-use Rattle.process.specs.rules.Values.{ProcessValue, ShowsProcess}
 use Rattle.sector_disk.specs.rules.Medium.{Medium}
-use Rattle.disk_layout.specs.rules.Journal.{Record}
 use Rattle.record_replay.specs.declared.fault.SourceFault.{SourceFault}
 use Rattle.record_replay.specs.rules.Calls.{Giving, Exchange}
 use Rattle.worker_rules.specs.Lives.{Reply, Fails, Waits, SourceSaid, OfSource}
 use Rattle.worker_rules.specs.Courses.{Stage}
 use Rattle.worker_rules.specs.Promises.{Promise}
 use Rattle.worker_rules.specs.Holds.{StaysWithin}
-use Rattle.worker_laws.specs.laws.Pieces.{IsForetold}
 use Rattle.worker_laws.specs.laws.Turns.{GoesOnFrom, LeavesBegun}
 use Rattle.worker_laws.proofs.TurnLemmas.{turns_join, parts_leave_begun}
 use Rattle.worker.specs.declared.fault.WorkFault.{WorkFault}
@@ -23,13 +19,12 @@ use Rattle.durable_worker.specs.declared.fault.DurableFault.{DurableFault}
 use Rattle.durable_worker.specs.declared.fault.DurableFault.TheVariants.{Work}
 use Rattle.durable_worker.specs.declared.running.Running.{Running}
 use Rattle.worker.specs.Turns.{AsksOnce, AnswersBy}
-use Rattle.durable_worker.specs.DurableTurns.{Course, IsAskingOn, TurnGoes, TurnEnds, TurnFails}
+use Rattle.durable_worker.specs.DurableTurns.{Course, TurnGoes, TurnEnds, TurnFails}
 use Rattle.durable_worker.specs.DurableTurns.{slice_end}
 use Rattle.durable_worker.specs.DurableTurns.{MakesRoom, MakesNoRoom, asks_once, TakesOnRecord}
 use Rattle.durable_worker.specs.DurableTurns.{TakesNone}
 use Rattle.durable_worker.specs.DurableTurns.{LacksRecord, IsNotTaken, IsMisfit, HearsBy, Hears}
-use Rattle.durable_worker.specs.DurableTurns.{TurnAsks}
-use Rattle.durable_worker.specs.DurableTurns.{AsksOutside, AsksTurn}
+use Rattle.durable_worker.specs.DurableTurns.{AsksTurn}
 use Rattle.durable_worker.proofs.DurableLemmas.Bounds.{bounds_join, question_counts}
 use Rattle.durable_worker.proofs.DurableLemmas.Ends.{cause_before}
 use Rattle.durable_worker.proofs.DurableLemmas.Hearing.{waits_once, source_fails, misfits}
@@ -90,7 +85,7 @@ module _ {D : Type 0} (medium : D → Medium) (c : Course) (promise : Promise) (
         turn.0,
         turn.1,
         cause_before why c.guest c.config w.process (medium disk) (medium mid) (medium disk')
-          passes.room passes.faults turn.2,
+            passes.room passes.faults turn.2,
         ends_behind (Fails turn.0) turn.3,
       )
 
@@ -169,7 +164,7 @@ module _ {D S : Type 0} (medium : D → Medium) (gives : Giving S) (old mid new 
         ⊎_elim
         (λ (h : LacksRecord mid kind (record { step = step; answer = a }) why new).
         lacks_record medium c promise stage p kind mid disk' made.0 a foretold step why new made.1
-          h)
+        h)
         (λ (h : IsNotTaken mid kind (record { step = step; answer = a }) why new).
         not_taken medium c promise stage p kind mid disk' made.0 a foretold step why new h)
         rest) none),

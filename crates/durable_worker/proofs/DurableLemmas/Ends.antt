@@ -1,10 +1,10 @@
 -- How a slice of a worker on its disk ends.
-use Rattle.std.proofs.Common.{◌≡◌, ℕ, ◌+◌, ◌-◌, ◌≤◌, List, [], ◌∷◌, ◌++◌, length, take, refl, sym}
-use Rattle.std.proofs.Common.{ap, ◌∙◌, subst, arith, true, false, None, Some, inl, inr, ◌*◌, ◌<◌}
+use Rattle.std.proofs.Common.{◌≡◌, ℕ, ◌+◌, ◌-◌, ◌≤◌, List, [], length, refl}
+use Rattle.std.proofs.Common.{ap, subst, arith, true, false, Some, inl, inr, ◌*◌}
 use Rattle.std.proofs.lemmas.List.{take_all}
 use Rattle.wasi_calls_rules.specs.laws.Laws.{IsOfBytes}
 use Rattle.process_rules.specs.Processes.{ProcessState, Guest, host_of}
-use Rattle.process_rules.specs.Runs.{Kept, Runs}
+use Rattle.process_rules.specs.Runs.{Runs}
 use Rattle.wasi_abi.specs.rules.Configs.{Settings}
 use Rattle.process.specs.rules.Values.{ProcessValue, ShowsProcess, waiting_in}
 use Rattle.sector_disk.specs.declared.fault.DiskFault.{DiskFault}
@@ -16,16 +16,16 @@ use Rattle.journal.specs.rules.Packed.{sectors_for}
 use Rattle.journal.specs.rules.State.{JournalState}
 use Rattle.state_image.specs.rules.Saving.{saved_of}
 use Rattle.record_replay.specs.rules.Calls.{Exchange}
-use Rattle.worker_rules.specs.Lives.{Slice, Reply, Cause, Fails, Event, Ended}
-use Rattle.worker_rules.specs.Courses.{Stage, Phase, Open, Closed, MayFail, phase_ended, next_stage}
+use Rattle.worker_rules.specs.Lives.{Slice, Reply, Cause, Fails, Ended}
+use Rattle.worker_rules.specs.Courses.{Stage, Phase, Open, MayFail, phase_ended, next_stage}
 use Rattle.worker_rules.specs.Promises.{Promise, synced_by, IsEnding}
 use Rattle.worker_rules.specs.Holds.{KeepsPromise, CarriesPromise, StaysWithin}
 use Rattle.worker_rules.specs.Exchanges.{none}
 use Rattle.worker_laws.specs.laws.Savepoints.{Savepoint, places}
 use Rattle.worker_laws.specs.laws.Underway.{IsInItsSlice, IsBroken}
-use Rattle.worker_laws.specs.laws.CallEnds.{IsSavedAs, HasBound}
+use Rattle.worker_laws.specs.laws.CallEnds.{HasBound}
 use Rattle.worker_laws.specs.laws.Pieces.{AreDone}
-use Rattle.worker_laws.specs.laws.Carried.{PromisesNoMore, count_at, IsCarried}
+use Rattle.worker_laws.specs.laws.Carried.{count_at, IsCarried}
 use Rattle.worker_laws.specs.laws.Raised.{SyncsAreHeld}
 use Rattle.worker_laws.specs.laws.Turns.{GoesOnFrom}
 use Rattle.worker_laws.proofs.AtHand.{shown_is_saved}

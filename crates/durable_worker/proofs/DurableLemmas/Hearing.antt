@@ -1,6 +1,6 @@
 -- What a source says to a question, as an event, and what becomes of an answer.
-use Rattle.std.proofs.Common.{◌≡◌, ◌⊎◌, ℕ, ◌+◌, ◌-◌, ◌<◌, ◌≤◌, List, [], ◌∷◌, ◌++◌, length, refl}
-use Rattle.std.proofs.Common.{sym, ap, ◌∙◌, subst, inl, inr, arith, Bool, true, false, Option, Some}
+use Rattle.std.proofs.Common.{◌≡◌, ◌⊎◌, ℕ, ◌+◌, ◌-◌, ◌<◌, ◌≤◌, [], ◌∷◌, ◌++◌, length, refl}
+use Rattle.std.proofs.Common.{sym, ap, ◌∙◌, subst, inl, inr, arith, Bool, true, false, Some}
 use Rattle.std.proofs.Common.{None, Ok, Err}
 use Rattle.std.proofs.lemmas.List.{append-nil}
 use Rattle.wasi_abi.specs.declared.answer.Kind.{Kind}
@@ -9,7 +9,7 @@ use Rattle.wasi_abi.specs.rules.Answers.{Fits}
 use Rattle.wasi_calls_rules.specs.Hosts.{Host}
 use Rattle.wasi_calls_rules.specs.declared.limits.TheConstants.{TEXT_BYTES}
 use Rattle.process_rules.specs.Processes.{ProcessState, Guest}
-use Rattle.process_rules.specs.Runs.{Kept, Given, Runs, Moves, Wants, next_of, none}
+use Rattle.process_rules.specs.Runs.{Moves, Wants, next_of, none}
 use Rattle.process_rules.proofs.Growing.{move_counts}
 use Rattle.process_rules.proofs.Hosted.{reached_are_configured}
 use Rattle.process.specs.declared.fault.ProcessFault.{ProcessFault}
@@ -21,18 +21,16 @@ use Rattle.state_image.specs.rules.Saving.{saved_of}
 use Rattle.disk_layout.specs.rules.Journal.{Record, record_bytes, payload_of}
 use Rattle.disk_layout.specs.declared.record.TheConstants.{LONGEST_PAYLOAD}
 use Rattle.journal.specs.rules.State.{room_of}
-use Rattle.journal.specs.rules.Steps.{RecordFits}
 use Rattle.record_replay.specs.declared.fault.SourceFault.{SourceFault}
 use Rattle.record_replay.proofs.Emitted.{released_whole}
-use Rattle.worker_rules.specs.Lives.{Slice, Fails, Waits, Cause, SourceSaid, Asked, kept_of_said}
+use Rattle.worker_rules.specs.Lives.{Fails, Waits, Cause, SourceSaid, Asked, kept_of_said}
 use Rattle.worker_rules.specs.Lives.{OfSource, OfAnswer, OfMemory, OfBounds}
 use Rattle.worker_rules.specs.Courses.{Stage, Phase, Open, Broken, NoneThere, MayFail, next_stage}
 use Rattle.worker_rules.specs.Courses.{first_said}
 use Rattle.worker_rules.specs.Promises.{Promise, after, IsFitting, IsInquiring}
 use Rattle.worker_rules.specs.Holds.{StaysWithin}
 use Rattle.worker_rules.specs.Exchanges.{none as no_exchange, asked}
-use Rattle.worker_laws.specs.laws.Savepoints.{Savepoint}
-use Rattle.worker_laws.specs.laws.Underway.{IsInItsSlice, IsUnderWay, IsBroken, IsAtQuestion}
+use Rattle.worker_laws.specs.laws.Underway.{IsUnderWay, IsBroken, IsAtQuestion}
 use Rattle.worker_laws.specs.laws.CallEnds.{HasBound}
 use Rattle.worker_laws.specs.laws.Pieces.{IsForetold, AreDone}
 use Rattle.worker_laws.specs.laws.Carried.{count_at, IsCarried}
@@ -49,7 +47,7 @@ use Rattle.worker_laws.proofs.Underway.{questions_are_asked, answers_go_on, answ
 use Rattle.worker_laws.proofs.Underway.{other_answers_break}
 use Rattle.worker_store.specs.declared.fault.StoreFault.{StoreFault}
 use Rattle.worker_store.specs.declared.fault.StoreFault.TheVariants as store
-use Rattle.worker_store.specs.rules.Stores.{IsStoreOf, with_record}
+use Rattle.worker_store.specs.rules.Stores.{IsStoreOf}
 use Rattle.worker_store.specs.rules.Calls.{AppendFails}
 use Rattle.worker_store.proofs.StoreLemmas.{append_stores}
 use Rattle.durable_worker.specs.declared.fault.DurableFault.{DurableFault}
@@ -59,7 +57,7 @@ use Rattle.durable_worker.specs.rules.DurableFaults.{fault_of_store}
 use Rattle.worker.specs.rules.Refusals.{work_fault}
 use Rattle.durable_worker.specs.rules.DurableCalls.{ComesOf, NeedsMemory, HasCauseAt}
 use Rattle.durable_worker.specs.rules.OpenWorkers.{IsOnDisk}
-use Rattle.durable_worker.specs.DurableTurns.{Course, IsRunningOn, IsAskingOn, HasRoom, TurnGoes}
+use Rattle.durable_worker.specs.DurableTurns.{Course, IsAskingOn, HasRoom, TurnGoes}
 use Rattle.durable_worker.specs.DurableTurns.{TurnEnds}
 use Rattle.durable_worker.specs.DurableTurns.{TurnFails, asks_once, TakesOnRecord, LacksRecord}
 use Rattle.durable_worker.specs.DurableTurns.{IsNotTaken}

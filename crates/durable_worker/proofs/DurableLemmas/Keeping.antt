@@ -1,5 +1,5 @@
 -- An answer that is kept on record, and taken, or not.
-use Rattle.std.proofs.Common.{◌≡◌, ◌⊎◌, ℕ, List, length, refl, sym, ap, ◌∙◌, inl, inr, Bool, true}
+use Rattle.std.proofs.Common.{◌≡◌, ℕ, length, refl, sym, inl, inr, Bool, true}
 use Rattle.std.proofs.Common.{false}
 use Rattle.std.proofs.Common.{Ok, Err, ◌≤◌, subst}
 use Rattle.std.specs.Prelude.{◌↔◌, IsTrue}

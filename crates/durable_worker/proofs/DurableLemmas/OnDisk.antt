@@ -1,21 +1,19 @@
 -- What is known of a worker whose disk holds what is promised.
-use Rattle.std.proofs.Common.{◌≡◌, ℕ, ◌+◌, ◌-◌, ◌≤◌, List, [], ◌++◌, length, refl, sym, ap, ◌∙◌}
-use Rattle.std.proofs.Common.{subst, arith, true}
-use Rattle.std.proofs.lemmas.List.{append-nil}
+use Rattle.std.proofs.Common.{◌≡◌, ℕ, ◌+◌, ◌≤◌, [], sym, ◌∙◌}
+use Rattle.std.proofs.Common.{subst, arith}
 use Rattle.wasm_syntax.specs.declared.module.Module.{Module}
 use Rattle.wasm_syntax_rules.specs.Validity.{IsValid}
 use Rattle.wasi_abi.specs.rules.Configs.{Settings}
 use Rattle.process_rules.specs.Processes.{ProcessState, Guest}
 use Rattle.process_rules.specs.Runs.{Runs, Reaches}
 use Rattle.process_rules.specs.Owing.{RunsQuietly}
-use Rattle.process_rules.proofs.Quiet.{runs_join, quiet_runs_are_runs}
-use Rattle.process_rules.proofs.Growing.{runs_count}
+use Rattle.process_rules.proofs.Quiet.{runs_join}
 use Rattle.sector_disk.specs.rules.Medium.{Medium}
 use Rattle.state_image.specs.rules.Image.{Saved}
 use Rattle.worker_rules.specs.Lives.{Act, Reply, Ended}
 use Rattle.worker_rules.specs.Promises.{Promise, after, saved_by, synced_by}
 use Rattle.worker_rules.specs.Holds.{KeepsPromise}
-use Rattle.worker_laws.specs.laws.Carried.{count_at, IsCarried}
+use Rattle.worker_laws.specs.laws.Carried.{count_at}
 use Rattle.worker_laws.specs.laws.Raised.{SyncsAreHeld}
 use Rattle.worker_laws.proofs.Carrying.{carried_keeps}
 use Rattle.worker_laws.proofs.Raising.{carried_is_reached, quiet_syncs_are_held, ended_carries}

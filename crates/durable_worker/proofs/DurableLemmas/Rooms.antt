@@ -1,19 +1,17 @@
 -- Room on the disk for the next answer.
-use Rattle.std.proofs.Common.{◌≡◌, ◌⊎◌, ℕ, ◌+◌, ◌-◌, ◌*◌, ◌<◌, ◌≤◌, List, [], ◌++◌, length, refl}
+use Rattle.std.proofs.Common.{◌≡◌, ℕ, ◌+◌, ◌-◌, ◌*◌, ◌≤◌, [], length, refl}
 use Rattle.std.proofs.Common.{sym, ap, ◌∙◌, subst, inl, inr, arith, false}
 use Rattle.std.proofs.lemmas.List.{append-nil}
 use Rattle.wasi_abi.specs.declared.answer.Kind.{Kind}
 use Rattle.wasi_abi.specs.declared.numbers.TheConstants.{NUMBERS_END}
-use Rattle.wasi_abi.specs.rules.Configs.{Settings}
 use Rattle.process_rules.specs.Processes.{ProcessState}
 use Rattle.process_rules.specs.Runs.{Runs, none}
-use Rattle.process.specs.rules.Values.{ProcessValue, ShowsProcess, IsProcess}
+use Rattle.process.specs.rules.Values.{ProcessValue, IsProcess}
 use Rattle.sector_disk.specs.rules.Medium.{Medium}
 use Rattle.state_image.specs.rules.Saving.{saved_of}
 use Rattle.disk_layout.specs.declared.geometry.Geometry.{Geometry}
 use Rattle.disk_layout.specs.declared.journal_sectors.TheConstants.{PAYLOAD_SIZE}
-use Rattle.disk_layout.specs.rules.Journal.{Record}
-use Rattle.journal.specs.rules.State.{JournalState, room_of, state}
+use Rattle.journal.specs.rules.State.{JournalState, state}
 use Rattle.record_replay.proofs.Emitted.{released_whole}
 use Rattle.worker_rules.specs.Lives.{Slice, Fails, Cause, OfDisk, OfBounds}
 use Rattle.worker_rules.specs.Courses.{Stage, Open, MayFail}
@@ -21,7 +19,7 @@ use Rattle.worker_rules.specs.Promises.{Promise}
 use Rattle.worker_rules.specs.Holds.{StaysWithin}
 use Rattle.worker_laws.specs.laws.Savepoints.{Savepoint}
 use Rattle.worker_laws.specs.laws.CallEnds.{HasBound}
-use Rattle.worker_laws.specs.laws.Carried.{IsHeldAt, count_at}
+use Rattle.worker_laws.specs.laws.Carried.{count_at}
 use Rattle.worker_laws.specs.laws.Raised.{AreOnRecord}
 use Rattle.worker_laws.specs.laws.Turns.{GoesOnFrom}
 use Rattle.worker_laws.proofs.Carrying.{begins_carried}
@@ -39,7 +37,7 @@ use Rattle.durable_worker.specs.rules.DurableFaults.{fault_of_store}
 use Rattle.durable_worker.specs.rules.DurableCalls.{ComesOf, HasCauseAt}
 use Rattle.durable_worker.specs.rules.OpenWorkers.{IsOnDisk}
 use Rattle.durable_worker.specs.rules.Savings.{LeavesFrontOrNext, IsSaveFault, SaveFails}
-use Rattle.durable_worker.specs.DurableTurns.{Course, IsRunningOn, IsAskingOn, HasRoom, MakesRoom}
+use Rattle.durable_worker.specs.DurableTurns.{Course, IsAskingOn, HasRoom, MakesRoom}
 use Rattle.durable_worker.specs.DurableTurns.{MakesNoRoom}
 use Rattle.durable_worker.specs.DurableTurns.{TurnFails, slice_end, longest_record}
 use Rattle.durable_worker.proofs.CheckpointLemmas.{CanSave, can_save}

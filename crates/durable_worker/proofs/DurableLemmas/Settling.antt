@@ -1,16 +1,15 @@
 -- What is owed for a step: records on the disk, and then lines that are released.
-use Rattle.std.proofs.Common.{◌≡◌, ℕ, suc, ◌+◌, ◌-◌, ◌≤◌, List, [], ◌∷◌, ◌++◌, length, map, drop}
-use Rattle.std.proofs.Common.{refl, sym, ap, ◌∙◌, subst, arith, true, false}
+use Rattle.std.proofs.Common.{◌≡◌, ℕ, suc, ◌+◌, ◌-◌, ◌≤◌, List, [], ◌++◌, length, drop}
+use Rattle.std.proofs.Common.{refl, sym, ap, ◌∙◌, subst, arith}
 use Rattle.std.proofs.lemmas.List.{append-nil}
-use Rattle.wasi_calls_rules.specs.Hosts.{Line}
 use Rattle.process_rules.specs.Processes.{ProcessState}
 use Rattle.process.specs.rules.Values.{ProcessValue, ShowsProcess, waiting_in}
 use Rattle.sector_disk.specs.rules.Medium.{Medium}
 use Rattle.state_image.specs.rules.Saving.{saved_of}
 use Rattle.disk_layout.specs.rules.Journal.{Record}
-use Rattle.record_replay.specs.rules.Calls.{Taking, Begun, Exchange, Tells, Releases, all_taken}
+use Rattle.record_replay.specs.rules.Calls.{Taking, Exchange, all_taken}
 use Rattle.record_replay.specs.rules.Calls.{last_refused}
-use Rattle.record_replay.specs.rules.Waiting.{first_waiting, ReleasesAll, ReleasesSome}
+use Rattle.record_replay.specs.rules.Waiting.{ReleasesAll, ReleasesSome}
 use Rattle.record_replay.proofs.Emitted.{waiting_behind, released_whole, released_none}
 use Rattle.worker_rules.specs.Lives.{Slice, Fails, OfDisk, OfOutlet}
 use Rattle.worker_rules.specs.Courses.{Stage, Broken}
@@ -39,7 +38,7 @@ use Rattle.durable_worker.specs.declared.running.Running.{Running}
 use Rattle.durable_worker.specs.rules.DurableFaults.{fault_of_store}
 use Rattle.durable_worker.specs.rules.OpenWorkers.{IsOnDisk}
 use Rattle.durable_worker.specs.rules.DurableCalls.{ComesOf, HasCauseAt}
-use Rattle.durable_worker.specs.DurableTurns.{Course, IsRunningOn, IsOwingTurn, TurnGoes, TurnEnds}
+use Rattle.durable_worker.specs.DurableTurns.{Course, IsOwingTurn, TurnGoes}
 use Rattle.durable_worker.specs.DurableTurns.{TurnFails, slice_end, told_lines_of, SettlesTurn}
 use Rattle.durable_worker.specs.DurableTurns.{SettlesInVain}
 use Rattle.durable_worker.proofs.SavingLemmas.{barrier_fault}

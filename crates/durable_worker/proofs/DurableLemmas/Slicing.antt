@@ -1,7 +1,7 @@
 -- What holds between two turns of a slice of a worker on its disk.
-use Rattle.std.proofs.Common.{◌≡◌, ℕ, ◌+◌, ◌-◌, ◌<◌, ◌≤◌, refl, sym, ap, ◌∙◌, subst, Bool, true}
+use Rattle.std.proofs.Common.{◌≡◌, ℕ, ◌-◌, ◌<◌, refl, ap, ◌∙◌, Bool, true}
 use Rattle.std.proofs.Common.{false}
-use Rattle.std.proofs.Common.{Ok, Err, [], arith}
+use Rattle.std.proofs.Common.{Ok, Err, []}
 use Rattle.std.specs.Prelude.{Result, IfOk}
 use Rattle.wasi_abi.specs.declared.answer.Kind.{Kind}
 use Rattle.process.specs.declared.fault.ProcessFault.{ProcessFault}
@@ -23,7 +23,7 @@ use Rattle.worker.specs.Turns.{working, AsksOnce}
 use Rattle.durable_worker.specs.DurableTurns.{Hears, SettlesTurn, SettlesInVain, AsksTurn, WorksOn}
 use Rattle.durable_worker.specs.DurableTurns.{SettlesVainly, AsksVainly}
 use Rattle.durable_worker.specs.rules.DurableFailures.{SlicesOnDiskInVain}
-use Rattle.worker.proofs.Ending.{measure, Turning, turning_none, turning_counts, spent, over, owes}
+use Rattle.worker.proofs.Ending.{measure, Turning, turning_none, owes}
 use Rattle.worker.proofs.Ending.{owes_less, asks, asks_counts, released_all, waiting, given}
 use Rattle.worker.proofs.Ending.{given_less, Wishing, cannot_advance}
 use Rattle.durable_worker.proofs.DurableLemmas.InVain.{as_on_disk, settled_vainly, asked_vainly}

@@ -1,5 +1,5 @@
 -- The turns of a slice of a worker on its disk, one after another.
-use Rattle.std.proofs.Common.{◌≡◌, ℕ, ◌+◌, ◌-◌, ◌≤◌, List, [], ◌∷◌, ◌++◌, length, refl, sym, ap}
+use Rattle.std.proofs.Common.{◌≡◌, ℕ, ◌+◌, ◌-◌, ◌≤◌, List, [], ◌∷◌, ◌++◌, refl, sym, ap}
 use Rattle.std.proofs.Common.{◌∙◌}
 use Rattle.std.proofs.Common.{subst, arith, Bool, true, false, Ok, Err}
 use Rattle.std.specs.Prelude.{Result}
@@ -20,7 +20,7 @@ use Rattle.record_replay.specs.rules.Calls.{Releases, AnswersInOrder}
 use Rattle.record_replay.proofs.Following.{exchanges_join}
 use Rattle.worker_rules.specs.Lives.{Act, Slice, Reply, Spent, Over, Waits, Fails, Ended}
 use Rattle.worker_rules.specs.Courses.{Stage, Open, phase_ended, next_stage, stage_after}
-use Rattle.worker_rules.specs.Promises.{Promise, promised}
+use Rattle.worker_rules.specs.Promises.{Promise}
 use Rattle.worker_rules.specs.Holds.{CarriesPromise, StaysWithin}
 use Rattle.worker_laws.specs.laws.Underway.{IsUnderWay}
 use Rattle.worker_laws.specs.laws.Pieces.{IsForetold}
@@ -39,9 +39,8 @@ use Rattle.durable_worker.specs.rules.DurableValues.{DurableValue, durable_of}
 use Rattle.durable_worker.specs.rules.OpenWorkers.{IsOpenOn}
 use Rattle.durable_worker.specs.rules.DurableCalls.{HasCauseOf, IsReplyOf, CallCarries}
 use Rattle.durable_worker.specs.rules.DurableCalls.{SliceCarries}
-use Rattle.durable_worker.specs.DurableTurns.{Course, IsBetweenTurns, TurnGoes, TurnEnds, TurnFails}
+use Rattle.durable_worker.specs.DurableTurns.{Course, IsBetweenTurns, TurnGoes, TurnEnds}
 use Rattle.durable_worker.specs.DurableTurns.{slice_end, told_lines_of, SettlesTurn, SettlesInVain}
-use Rattle.durable_worker.specs.DurableTurns.{TurnAsks}
 use Rattle.durable_worker.specs.DurableTurns.{AsksOutside, AsksTurn, WorksOn}
 use Rattle.worker.proofs.Joining.{tells_ask_nothing, releases_of_tells}
 use Rattle.durable_worker.proofs.DurableLemmas.OnDisk.{keeps_now}

@@ -1,7 +1,7 @@
 -- What one call of a worker that is open makes of a life.
-use Rattle.std.proofs.Common.{◌≡◌, ℕ, ◌+◌, ◌<◌, ◌≤◌, List, [], ◌∷◌, ◌++◌, refl, sym, ap, ◌∙◌}
-use Rattle.std.proofs.Common.{subst, inl, inr, ⊎_elim, arith, length}
-use Rattle.std.specs.Prelude.{◌⊎◌, Result, Ok, Err, None, true}
+use Rattle.std.proofs.Common.{◌≡◌, ℕ, ◌+◌, ◌<◌, List, [], ◌∷◌, ◌++◌, refl, sym, ap, ◌∙◌}
+use Rattle.std.proofs.Common.{subst, inl, inr, arith}
+use Rattle.std.specs.Prelude.{◌⊎◌, Ok, None, true}
 use Rattle.std.proofs.lemmas.List.{append-nil}
 use Rattle.wasm_syntax.specs.declared.module.Module.{Module}
 use Rattle.wasi_abi.specs.rules.Configs.{Settings}
@@ -12,15 +12,13 @@ use Rattle.process.specs.rules.Values.{ProcessValue}
 use Rattle.sector_disk.specs.rules.Image.{Image}
 use Rattle.sector_disk.specs.rules.Medium.{Medium, Passes}
 use Rattle.record_replay.specs.rules.Calls.{Exchange}
-use Rattle.worker_rules.specs.Lives.{Act, Slice, Checkpoint, Cause, Reply, Spent, Waits, Over, Done}
+use Rattle.worker_rules.specs.Lives.{Act, Cause, Reply}
 use Rattle.worker_rules.specs.Lives.{Fails, Event, Ended, told_in}
-use Rattle.worker_rules.specs.Courses.{Stage, Open, phase_ended, next_stage, stage_after}
+use Rattle.worker_rules.specs.Courses.{Stage, Open, phase_ended, stage_after}
 use Rattle.worker_rules.specs.Courses.{without_first}
-use Rattle.worker_rules.specs.Promises.{Promise, after, promised, IsKept, AreKept, saved_by}
-use Rattle.worker_rules.specs.Promises.{synced_by}
-use Rattle.worker_rules.specs.Holds.{ImageHolds, IsBounded, KeepsPromise, KeepsBounds}
+use Rattle.worker_rules.specs.Promises.{Promise, after, promised, IsKept, AreKept}
+use Rattle.worker_rules.specs.Holds.{IsBounded, KeepsPromise, KeepsBounds}
 use Rattle.worker_rules.specs.Holds.{StaysWithin}
-use Rattle.worker_laws.specs.laws.Carried.{PromisesNoMore}
 use Rattle.worker_laws.specs.laws.Pieces.{IsForetold}
 use Rattle.worker_laws.proofs.Pieces.{parts_are_foretold}
 use Rattle.worker_laws.proofs.Passing.{left_in_the_end}
@@ -32,10 +30,10 @@ use Rattle.durable_worker.specs.declared.recover_fault.RecoverFault.{RecoverFaul
 use Rattle.durable_worker.specs.declared.recover_fault.RecoverFault.TheVariants.{Worker}
 use Rattle.durable_worker.specs.rules.DurableValues.{DurableValue}
 use Rattle.durable_worker.specs.rules.OpenWorkers.{IsOpenOn}
-use Rattle.durable_worker.specs.rules.DurableCalls.{ComesOf, IsReplyOf, IsReplyOfSaving}
+use Rattle.durable_worker.specs.rules.DurableCalls.{ComesOf, IsReplyOf}
 use Rattle.durable_worker.specs.rules.DurableCalls.{TakesTooFew}
-use Rattle.durable_worker.specs.rules.DurableCalls.{HasCauseAt, CallCarries, call_events}
-use Rattle.durable_worker.specs.laws.OneLife.{IsLater, IsCauseOf, opened_in, released_in}
+use Rattle.durable_worker.specs.rules.DurableCalls.{HasCauseAt, CallCarries}
+use Rattle.durable_worker.specs.laws.OneLife.{IsLater, opened_in, released_in}
 use Rattle.durable_worker.proofs.LifeLemmas.Joined.{stage_join, promised_join, kept_split}
 use Rattle.durable_worker.proofs.LifeLemmas.Joined.{told_join, opened_behind, told_are, none_opens}
 use Rattle.durable_worker.proofs.LifeLemmas.Joined.{acts_stay, opened_stays}

@@ -1,11 +1,11 @@
 -- Events of a life, one list after another.
-use Rattle.std.proofs.Common.{◌≡◌, ℕ, ◌+◌, ◌≤◌, List, [], ◌∷◌, ◌++◌, refl, ap, arith}
+use Rattle.std.proofs.Common.{◌≡◌, ℕ, ◌≤◌, List, [], ◌∷◌, ◌++◌, refl, ap, arith}
 use Rattle.std.specs.Prelude.{Some, None}
 use Rattle.wasm_syntax.specs.declared.module.Module.{Module}
 use Rattle.wasi_abi.specs.rules.Configs.{Settings}
 use Rattle.state_image.specs.rules.Image.{Saved}
 use Rattle.record_replay.specs.rules.Calls.{Exchange, Asks, Tells}
-use Rattle.worker_rules.specs.Lives.{Act, Reply, SourceSaid, Event, Told, Asked, Opened, Ended}
+use Rattle.worker_rules.specs.Lives.{Act, Reply, Event, Told, Asked, Opened, Ended}
 use Rattle.worker_rules.specs.Lives.{told_in}
 use Rattle.worker_rules.specs.Courses.{Stage, next_stage, stage_after}
 use Rattle.worker_rules.specs.Promises.{Promise, after, promised, AreKept}

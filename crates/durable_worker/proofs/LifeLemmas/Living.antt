@@ -1,20 +1,17 @@
 -- The calls of one life make a life that goes on.
 use Rattle.std.proofs.Common.{◌≡◌, ℕ, ◌+◌, ◌<◌, ◌≤◌, List, [], ◌∷◌, ◌++◌, refl, sym, ap, ◌∙◌}
 use Rattle.std.proofs.Common.{length}
-use Rattle.std.proofs.Common.{subst, inl, inr, ⊎_elim, arith, max}
+use Rattle.std.proofs.Common.{subst, inl, inr, ⊎_elim, arith}
 use Rattle.std.proofs.lemmas.Bool.Decides.{nat_tests}
 use Rattle.std.proofs.lemmas.List.{append-nil, append_assoc}
 use Rattle.std.specs.Prelude.{◌⊎◌, Bool, Result, Ok, Err, Option, Some, None, true, false, nat_le}
 use Rattle.std.specs.Prelude.{map}
 use Rattle.wasm_syntax.specs.declared.module.Module.{Module}
-use Rattle.wasm_syntax_rules.specs.Acceptance.{IsAccepted}
 use Rattle.wasi_abi.specs.rules.Configs.{Settings}
-use Rattle.machine.specs.rules.Offers.{offer}
 use Rattle.state_image.specs.rules.Image.{Saved}
 use Rattle.state_image.specs.rules.Saving.{saved_of}
-use Rattle.sector_disk.specs.rules.Image.{Image}
 use Rattle.sector_disk.specs.rules.Medium.{Medium}
-use Rattle.disk_layout.specs.rules.Places.{Geometry, geometry_of, total_sectors}
+use Rattle.disk_layout.specs.rules.Places.{geometry_of, total_sectors}
 use Rattle.record_replay.specs.rules.Calls.{Giving, Taking, Begun, Exchange, Asks, Tells}
 use Rattle.record_replay.specs.rules.Calls.{Releases, AnswersInOrder, Exchanges}
 use Rattle.record_replay.proofs.Following.{exchanges_join}
@@ -27,14 +24,13 @@ use Rattle.worker_rules.specs.Courses.{Stage, Phase, Shut, Unheard, NoneThere, B
 use Rattle.worker_rules.specs.Courses.{Open, Closed, at_first, next_stage, stage_after}
 use Rattle.worker_rules.specs.Courses.{HasFailed, HasDiskFault, HasStopped, HasNotStopped, IsCutIn}
 use Rattle.worker_rules.specs.Courses.{MayEnd}
-use Rattle.worker_rules.specs.Promises.{Promise, nothing_yet, after, promised, promised_by, IsKept}
-use Rattle.worker_rules.specs.Promises.{AreKept, HoldsAll, OpensAnew, IsLived}
-use Rattle.worker_rules.specs.Holds.{HoldsPromise, IsNothingYet, ImageHolds, KeepsPromise}
-use Rattle.worker_rules.specs.Holds.{KeepsBounds, IsBounded}
+use Rattle.worker_rules.specs.Promises.{Promise, after, promised, IsKept}
+use Rattle.worker_rules.specs.Promises.{AreKept, OpensAnew}
+use Rattle.worker_rules.specs.Holds.{HoldsPromise, KeepsPromise}
+use Rattle.worker_rules.specs.Holds.{KeepsBounds}
 use Rattle.worker_rules.specs.Between.{IsLivedOn}
 use Rattle.worker_rules.proofs.Promised.{calls_join}
 use Rattle.worker_laws.specs.laws.Carried.{PromisesNoMore}
-use Rattle.worker_laws.specs.laws.Pieces.{Foretell, IsForetold}
 use Rattle.worker_laws.proofs.Carrying.{less_is_held}
 use Rattle.worker_laws.proofs.Pieces.{parts_are_foretold}
 use Rattle.worker_store.specs.declared.fault.StoreFault.TheVariants as store
@@ -44,15 +40,15 @@ use Rattle.durable_worker.specs.declared.fault.DurableFault.TheVariants.{Work, D
 use Rattle.durable_worker.specs.declared.recover_fault.RecoverFault.{RecoverFault}
 use Rattle.durable_worker.specs.declared.recover_fault.RecoverFault.TheVariants as recover
 use Rattle.durable_worker.specs.rules.DurableValues.{DurableValue}
-use Rattle.durable_worker.specs.laws.OneLife.{CallsInOrder, BeginsLife, IsOneLife, opened, unopened}
+use Rattle.durable_worker.specs.laws.OneLife.{opened, unopened}
 use Rattle.durable_worker.specs.laws.OneLife.{IsLater, CameTrue, IsLifeOver, opened_in, shown_first}
 use Rattle.durable_worker.specs.laws.OneLife.{released_in}
 use Rattle.durable_worker.specs.laws.OneLife.{IsCauseOf, EndsBy, IsLifeOf, CallsMakeLives}
-use Rattle.durable_worker.specs.laws.OneLife.{said_in, taken_in, AnythingComesTrue}
-use Rattle.durable_worker.proofs.LifeLemmas.Joined.{stage_join, promised_join, kept_split}
+use Rattle.durable_worker.specs.laws.OneLife.{AnythingComesTrue}
+use Rattle.durable_worker.proofs.LifeLemmas.Joined.{stage_join, promised_join}
 use Rattle.durable_worker.proofs.LifeLemmas.Joined.{told_join, opened_before, shown_before}
 use Rattle.durable_worker.proofs.LifeLemmas.Joined.{released_join}
-use Rattle.durable_worker.proofs.LifeLemmas.Called.{later_still, HasDiskCause, cause_since}
+use Rattle.durable_worker.proofs.LifeLemmas.Called.{later_still, HasDiskCause}
 use Rattle.durable_worker.proofs.LifeLemmas.Making.{IsGoing, HasBroken, ComeTo, CallsMake}
 use Rattle.durable_worker.proofs.LifeLemmas.Making.{calls_make}
 use Rattle.durable_worker.proofs.LifeLemmas.Making.{come_since}

@@ -1,5 +1,5 @@
 -- What calls of a worker that is open, one after another, make of a life.
-use Rattle.std.proofs.Common.{◌≡◌, ℕ, ◌+◌, ◌<◌, ◌≤◌, List, [], ◌∷◌, ◌++◌, refl, sym, ap, ◌∙◌}
+use Rattle.std.proofs.Common.{◌≡◌, ℕ, ◌+◌, List, [], ◌∷◌, ◌++◌, refl, sym, ap, ◌∙◌}
 use Rattle.std.proofs.Common.{subst, arith}
 use Rattle.std.specs.Prelude.{Result, Ok, Err, None, true}
 use Rattle.wasm_syntax.specs.declared.module.Module.{Module}
@@ -9,7 +9,7 @@ use Rattle.state_image.specs.rules.Image.{Saved}
 use Rattle.sector_disk.specs.rules.Medium.{Medium}
 use Rattle.record_replay.specs.rules.Calls.{Giving, Taking, Exchange, Exchanges}
 use Rattle.record_replay.proofs.Following.{exchanges_join}
-use Rattle.worker_rules.specs.Lives.{Act, Slice, Checkpoint, Cause, Reply, Done, Fails, Event}
+use Rattle.worker_rules.specs.Lives.{Act, Slice, Checkpoint, Cause, Reply, Fails, Event}
 use Rattle.worker_rules.specs.Lives.{Ended, told_in}
 use Rattle.worker_rules.specs.Courses.{Stage, Open, phase_ended, stage_after, without_first}
 use Rattle.worker_rules.specs.Promises.{Promise, after, promised, IsKept, AreKept}
@@ -17,17 +17,16 @@ use Rattle.worker_rules.specs.Holds.{KeepsPromise, KeepsBounds}
 use Rattle.worker_rules.proofs.Promised.{calls_join}
 use Rattle.worker_laws.specs.laws.Pieces.{IsForetold}
 use Rattle.worker_laws.proofs.Pieces.{parts_are_foretold}
-use Rattle.worker.specs.declared.now.Now.{Now}
 use Rattle.durable_worker.specs.declared.fault.DurableFault.{DurableFault}
 use Rattle.durable_worker.specs.declared.recover_fault.RecoverFault.{RecoverFault}
 use Rattle.durable_worker.specs.declared.recover_fault.RecoverFault.TheVariants.{Worker}
 use Rattle.durable_worker.specs.rules.DurableValues.{DurableValue}
 use Rattle.durable_worker.specs.rules.OpenWorkers.{IsOpenOn}
-use Rattle.durable_worker.specs.rules.DurableCalls.{ComesOf, CallCarries}
+use Rattle.durable_worker.specs.rules.DurableCalls.{CallCarries}
 use Rattle.durable_worker.specs.laws.OneLife.{IsLater, CallsInOrder, no_more, sliced, slice_failed}
 use Rattle.durable_worker.specs.laws.OneLife.{saved}
 use Rattle.durable_worker.specs.laws.OneLife.{saving_failed, IsCauseOf, opened_in, released_in}
-use Rattle.durable_worker.proofs.LifeLemmas.Joined.{stage_join, promised_join, told_join}
+use Rattle.durable_worker.proofs.LifeLemmas.Joined.{told_join}
 use Rattle.durable_worker.proofs.LifeLemmas.Joined.{released_join, opened_behind}
 use Rattle.durable_worker.proofs.LifeLemmas.Called.{later_still, HasDiskCause, cause_since}
 use Rattle.durable_worker.proofs.LifeLemmas.Called.{CallGoes}

@@ -19,14 +19,13 @@ use Rattle.record_replay.specs.rules.Calls.{Taking, Begun, Exchange, Tells, Rele
 use Rattle.worker_rules.specs.Lives.{Inputs, Cause, OfDisk, OfMemory, OfOutlet, OfBounds, Event}
 use Rattle.worker_rules.specs.Lives.{Beginning, Creates, Opened, told_in}
 use Rattle.worker_rules.specs.Lives.Beginning.{Recovers as recovers}
-use Rattle.worker_rules.specs.Courses.{Stage, Phase, Shut, Unheard, at_first, next_stage}
+use Rattle.worker_rules.specs.Courses.{Stage, Phase, Shut, at_first}
 use Rattle.worker_rules.specs.Courses.{stage_after, HasFailed, IsCutIn}
 use Rattle.worker_rules.specs.Promises.{Promise, after, promised, AreKept, OpensAnew}
 use Rattle.worker_rules.specs.Holds.{IsNothingYet, KeepsPromise, KeepsBounds}
 use Rattle.worker_laws.specs.laws.Pieces.{IsForetold}
 use Rattle.worker_laws.proofs.Pieces.{parts_are_foretold}
 use Rattle.worker_store.specs.declared.fault.StoreFault.TheVariants as store
-use Rattle.worker.specs.declared.fault.WorkFault.{WorkFault}
 use Rattle.worker.specs.declared.fault.WorkFault.TheVariants as work
 use Rattle.worker.specs.declared.fault.Refusal.TheVariants as refusal
 use Rattle.durable_worker.specs.declared.fault.DurableFault.{DurableFault}
@@ -37,9 +36,9 @@ use Rattle.durable_worker.specs.rules.DurableValues.{DurableValue}
 use Rattle.durable_worker.specs.rules.OpenWorkers.{IsOpenOn}
 use Rattle.durable_worker.specs.rules.DurableCreations.{CreationKeeps, IsNotCreatedOn, OpensOn}
 use Rattle.durable_worker.specs.rules.DurableCreations.{OpensOrNot, LeavesCreation}
-use Rattle.durable_worker.specs.rules.Recoveries.{SaysNoWorker, Recovers, RecoveryCarries}
+use Rattle.durable_worker.specs.rules.Recoveries.{SaysNoWorker, Recovers}
 use Rattle.durable_worker.specs.rules.Recoveries.{Reopens, ReopensInVain, FindsNone, ReopensOrNot}
-use Rattle.durable_worker.specs.rules.Recoveries.{EndsInVain, IsNoWorker}
+use Rattle.durable_worker.specs.rules.Recoveries.{EndsInVain}
 use Rattle.durable_worker.specs.rules.Recoveries.{MayNotReopen}
 use Rattle.durable_worker.specs.laws.OneLife.{BeginsLife, recovered, created, opened_by, IsCauseOf}
 use Rattle.durable_worker.specs.laws.OneLife.{IsLater, opened_in, released_in}

@@ -98,15 +98,20 @@ reads_none mid = record {
 
 -- ---- the disk couldn't be settled
 
+-- a sync fails only where the disk fails
+pub sync_faulted : {T : Type 0} (old new : Medium) (fault : DiskFault)
+    → SyncsMedium {T = T} (Err fault) old new → old.faults < new.faults
+sync_faulted old new fault syncs =
+    let cause = syncs.cause in
+    ⊎_elim (λ named. ⊎_elim (λ out. absurd out) (λ full. absurd full) named) (λ more. more)
+    (cause.fault refl)
+
 module _ {D O : Type 0} (medium : D → Medium) (takes : Taking O) (old new : D) (outlet : O)
     {T : Type 0} (fault : DiskFault)
     (syncs : SyncsMedium {T = T} (Err fault) (medium old) (medium new)) (why : RecoverFault)
     (is : why ≡ recover.Worker (Disk fault)) where
   failed : (medium old).faults < (medium new).faults
-  failed =
-      let cause = syncs.cause in
-      ⊎_elim (λ named. ⊎_elim (λ out. absurd out) (λ full. absurd full) named) (λ more. more)
-      (cause.fault refl)
+  failed = sync_faulted (medium old) (medium new) fault syncs
 
   pub unsettled_recovers : Recovers medium takes (Err why) old new outlet outlet
   unsettled_recovers =

@@ -1,5 +1,5 @@
 -- What a checkpoint does to a worker and its disk (this project's own).
-use Rattle.std.specs.Prelude.{◌≡◌, ◌⊎◌, ℕ, ◌+◌, ◌≤◌, ◌<◌, List, ◌++◌, length, true, Result}
+use Rattle.std.specs.Prelude.{◌≡◌, ◌⊎◌, ◌+◌, ◌≤◌, ◌<◌, List, ◌++◌, length, Result}
 use Rattle.wasm_syntax.specs.declared.module.Module.{Module}
 use Rattle.wasi_abi.specs.declared.numbers.TheConstants.{NUMBERS_END}
 use Rattle.wasi_abi.specs.rules.Configs.{Settings}
@@ -16,9 +16,8 @@ use Rattle.snapshot.specs.rules.Calls.{AreStores, with_head}
 use Rattle.worker_rules.specs.Courses.{Stage}
 use Rattle.worker_rules.specs.Promises.{Promise}
 use Rattle.worker_store.specs.declared.fault.StoreFault.TheVariants as store
-use Rattle.worker.specs.declared.fault.WorkFault.TheVariants as work
 use Rattle.durable_worker.specs.declared.fault.DurableFault.{DurableFault}
-use Rattle.durable_worker.specs.declared.fault.DurableFault.TheVariants.{Work, Disk, Store}
+use Rattle.durable_worker.specs.declared.fault.DurableFault.TheVariants.{Disk, Store}
 use Rattle.durable_worker.specs.rules.DurableValues.{DurableValue}
 use Rattle.durable_worker.specs.rules.OpenWorkers.{IsOpenOn}
 

@@ -1,7 +1,6 @@
-use Rattle.std.proofs.Common.{◌+◌, ap, ◌∙◌, arith}
+use Rattle.std.proofs.Common.{◌+◌, ap, ◌∙◌}
 use Rattle.std.proofs.lemmas.Result.{on_ok_weaker}
 use Rattle.sector_disk.proofs.Moments.{goes_on}
-use Rattle.worker_store.specs.rules.Calls.{StoresNext}
 use Rattle.durable_worker.proofs.SavingLemmas.{barrier_saves, commit_saves, commit_saved}
 use Rattle.durable_worker.proofs.SavingLemmas.{barrier_calls_begun, commit_calls_behind}
 use Rattle.durable_worker.proofs.SavingLemmas.{barrier_fails}

@@ -1,6 +1,5 @@
-use Rattle.std.proofs.Common.{◌-◌, ◌∙◌, ap, arith}
+use Rattle.std.proofs.Common.{◌-◌, ap, arith}
 use Rattle.std.proofs.lemmas.Result.{err_from_is_err_and}
-use Rattle.durable_worker.specs.declared.running.Running.{Running}
 use Rattle.worker.proofs.Ending.{turning_counts, spent, over}
 use Rattle.durable_worker.proofs.DurableLemmas.Slicing.{in_slice_none, spent_on, over_on, vain_on}
 use Rattle.durable_worker.proofs.DurableLemmas.Slicing.{settled_on, settled_less, unsettled_on}
