@@ -1,0 +1,5 @@
+mod ActLemmas
+mod OpeningLemmas
+mod HeardLemmas
+mod EndLemmas
+mod GoingLemmas

@@ -1,0 +1,5 @@
+pub mod rules
+pub mod Hearing
+pub mod LifeCalls
+pub mod Endings
+pub mod Going

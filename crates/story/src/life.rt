@@ -1,0 +1,29 @@
+//! What is put into a life of a worker.
+
+use sector_disk::Place;
+use wasi_abi::Answer;
+use wasm_syntax::Row;
+
+/// What the worker is told to do.
+#[derive(Clone, Copy, Debug, PartialEq, Eq)]
+pub enum PlannedAct {
+    /// To take at most so many steps.
+    Slice { fuel: u64 },
+    Checkpoint,
+}
+
+/// All that is put into one life.
+#[derive(Debug, Drop)]
+pub struct PlannedLife {
+    /// What its source hands out, one after another, whatever is asked for. From then on it has
+    /// none.
+    pub answers: Row<Answer>,
+    /// What the worker is told to do, one after another.
+    pub acts: Row<PlannedAct>,
+    /// The read, write or sync of this life, from 1 on, at which the power is cut, and the front
+    /// that it leaves if it is a write.
+    pub stop: Option<Place>,
+    /// The fronts, in bytes, that the cut keeps of the earlier writes since the last good sync, the
+    /// oldest first. Of a write without a number all is kept.
+    pub tears: Row<u16>,
+}
