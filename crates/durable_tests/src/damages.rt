@@ -1,0 +1,401 @@
+//! Disks that are too small, blank or damaged.
+
+use crate::halt::Halt;
+use crate::modules::{ECHO, SECTORS, blank};
+use crate::working::{Stand, create, open};
+use disk_layout::LayoutFault;
+use durable_worker::{DurableFault, RecoverFault};
+use sector_disk::{Disk, DiskFault, MemDisk};
+use std::alloc::Global;
+use worker_store::StoreFault;
+
+/// Bytes of a disk, from a place of a sector on.
+struct Piece {
+    sector: u64,
+    place: usize,
+    bytes: &'static [u8],
+}
+
+/// What is changed on a fresh disk of `ECHO`, and what a recovery then says.
+struct Damage {
+    name: &'static str,
+    pieces: &'static [Piece],
+    opens: Result<Stand, Halt>,
+}
+
+/// A fresh worker that was recovered.
+const FRESH: Stand = Stand {
+    generation: 2,
+    steps: 0,
+    answers: 0,
+    lines: 0,
+    replayed: 0,
+};
+
+const NO_WORKER: Halt = Halt::Work(DurableFault::Store(StoreFault::Layout(
+    LayoutFault::NotAWorker,
+)));
+
+const VERSION: Halt = Halt::Work(DurableFault::Store(StoreFault::Layout(LayoutFault::Version)));
+
+const TOO_SMALL: Halt = Halt::Work(DurableFault::Store(StoreFault::Layout(LayoutFault::TooSmall)));
+
+const FIELDS: Halt = Halt::Work(DurableFault::Store(StoreFault::Layout(LayoutFault::Damaged)));
+
+const SNAPSHOT: Halt = Halt::Work(DurableFault::Store(StoreFault::Damaged));
+
+const NO_IMAGE: Halt = Halt::Recovery(RecoverFault::NotAnImage);
+
+const DIVERGED: Halt = Halt::Recovery(RecoverFault::Diverged);
+
+/// The lengths and digests of the image of `ECHO` at its start, of all but its last byte, and of
+/// it with a zero behind it.
+const WHOLE: &[u8] = &[
+    0x13, 0x01, 0x01, 0x00, 0x00, 0x00, 0x00, 0x00, 0x5a, 0xd2, 0xa2, 0xbb, 0x20, 0x89, 0x86, 0x55,
+    0x43, 0x12, 0x22, 0x98, 0x9d, 0xe2, 0xca, 0x89, 0xed, 0x08, 0x24, 0x08, 0x5c, 0x16, 0x66, 0x78,
+    0x51, 0xcc, 0xe4, 0xf7, 0x49, 0xd8, 0xd7, 0x91,
+];
+
+const SHORT: &[u8] = &[
+    0x12, 0x01, 0x01, 0x00, 0x00, 0x00, 0x00, 0x00, 0x77, 0x74, 0xf6, 0xf5, 0xde, 0x2b, 0xfe, 0x65,
+    0x15, 0x84, 0x26, 0xea, 0x30, 0xc7, 0xa5, 0x4a, 0xcd, 0x02, 0xce, 0xc5, 0x2d, 0xb6, 0xf1, 0x20,
+    0x26, 0x08, 0xa1, 0xd6, 0x8e, 0x83, 0xdb, 0x83,
+];
+
+const LONG: &[u8] = &[
+    0x14, 0x01, 0x01, 0x00, 0x00, 0x00, 0x00, 0x00, 0xc1, 0x5c, 0xec, 0x9d, 0xe1, 0x99, 0x7d, 0x75,
+    0x78, 0xa9, 0x8d, 0xff, 0x46, 0xa0, 0x55, 0x05, 0x6a, 0x64, 0x87, 0x07, 0x72, 0xde, 0x38, 0x97,
+    0x1a, 0x0e, 0xbb, 0xb9, 0xf3, 0x51, 0x13, 0x96,
+];
+
+/// A record of a time, at the step of the first request.
+const TIME: &[u8] = &[
+    19, 0, 3, 6, 0, 0, 0, 0, 0, 0, 0, 8, 0, 1, 0, 0, 0, 0, 0, 0, 0,
+];
+
+/// Generation 1 and place 1.
+const STAMP: &[u8] = &[1, 0, 0, 0, 0, 0, 0, 0, 1, 0, 0, 0, 0, 0, 0, 0];
+
+/// Where things lie on the disk of a worker of `ECHO`.
+const SUPER: u64 = 0;
+
+const HEAD_1: u64 = 2;
+
+const MODULE: u64 = 3;
+
+const AREA_1: u64 = 2_308;
+
+const JOURNAL: u64 = 4_612;
+
+static DAMAGES: [Damage; 22] = [
+    Damage {
+        name: "nothing",
+        pieces: &[],
+        opens: Ok(FRESH),
+    },
+    Damage {
+        name: "the first mark",
+        pieces: &[Piece {
+            sector: SUPER,
+            place: 0,
+            bytes: &[0],
+        }],
+        opens: Err(NO_WORKER),
+    },
+    Damage {
+        name: "the last mark",
+        pieces: &[Piece {
+            sector: SUPER,
+            place: 511,
+            bytes: &[0],
+        }],
+        opens: Err(NO_WORKER),
+    },
+    Damage {
+        name: "another layout",
+        pieces: &[Piece {
+            sector: SUPER,
+            place: 8,
+            bytes: &[2],
+        }],
+        opens: Err(VERSION),
+    },
+    Damage {
+        name: "a length that fits no configuration",
+        pieces: &[Piece {
+            sector: SUPER,
+            place: 12,
+            bytes: &[27],
+        }],
+        opens: Err(FIELDS),
+    },
+    Damage {
+        name: "another number of module sectors",
+        pieces: &[Piece {
+            sector: SUPER,
+            place: 20,
+            bytes: &[2],
+        }],
+        opens: Err(FIELDS),
+    },
+    Damage {
+        name: "another length of the areas",
+        pieces: &[Piece {
+            sector: SUPER,
+            place: 25,
+            bytes: &[10],
+        }],
+        opens: Err(FIELDS),
+    },
+    Damage {
+        name: "another digest of the module",
+        pieces: &[Piece {
+            sector: SUPER,
+            place: 32,
+            bytes: &[0, 0],
+        }],
+        opens: Err(FIELDS),
+    },
+    Damage {
+        name: "another page limit",
+        pieces: &[Piece {
+            sector: MODULE,
+            place: 0,
+            bytes: &[2],
+        }],
+        opens: Err(FIELDS),
+    },
+    Damage {
+        name: "the last byte of the module",
+        pieces: &[Piece {
+            sector: MODULE,
+            place: 220,
+            bytes: &[1],
+        }],
+        opens: Err(FIELDS),
+    },
+    Damage {
+        name: "another version of the image",
+        pieces: &[Piece {
+            sector: HEAD_1,
+            place: 8,
+            bytes: &[2],
+        }],
+        opens: Err(VERSION),
+    },
+    Damage {
+        name: "no mark of a head",
+        pieces: &[Piece {
+            sector: HEAD_1,
+            place: 0,
+            bytes: &[0],
+        }],
+        opens: Err(SNAPSHOT),
+    },
+    Damage {
+        name: "another place of a head",
+        pieces: &[Piece {
+            sector: HEAD_1,
+            place: 504,
+            bytes: &[2],
+        }],
+        opens: Err(SNAPSHOT),
+    },
+    Damage {
+        name: "a generation of the other area",
+        pieces: &[Piece {
+            sector: HEAD_1,
+            place: 496,
+            bytes: &[2],
+        }],
+        opens: Err(SNAPSHOT),
+    },
+    Damage {
+        name: "a length beyond the area",
+        pieces: &[Piece {
+            sector: HEAD_1,
+            place: 18,
+            bytes: &[18],
+        }],
+        opens: Err(SNAPSHOT),
+    },
+    Damage {
+        name: "another digest of the image",
+        pieces: &[Piece {
+            sector: HEAD_1,
+            place: 24,
+            bytes: &[0, 0],
+        }],
+        opens: Err(SNAPSHOT),
+    },
+    Damage {
+        name: "a byte of memory in the image",
+        pieces: &[Piece {
+            sector: AREA_1,
+            place: 190,
+            bytes: &[1],
+        }],
+        opens: Err(SNAPSHOT),
+    },
+    Damage {
+        name: "the length and digest of the image",
+        pieces: &[Piece {
+            sector: HEAD_1,
+            place: 16,
+            bytes: WHOLE,
+        }],
+        opens: Ok(FRESH),
+    },
+    Damage {
+        name: "one byte of the image fewer",
+        pieces: &[Piece {
+            sector: HEAD_1,
+            place: 16,
+            bytes: SHORT,
+        }],
+        opens: Err(NO_IMAGE),
+    },
+    Damage {
+        name: "one byte of the image more",
+        pieces: &[Piece {
+            sector: HEAD_1,
+            place: 16,
+            bytes: LONG,
+        }],
+        opens: Err(NO_IMAGE),
+    },
+    Damage {
+        name: "a record that fits no question",
+        pieces: &[
+            Piece {
+                sector: JOURNAL,
+                place: 0,
+                bytes: TIME,
+            },
+            Piece {
+                sector: JOURNAL,
+                place: 496,
+                bytes: STAMP,
+            },
+        ],
+        opens: Err(DIVERGED),
+    },
+    Damage {
+        name: "the same without its stamp",
+        pieces: &[Piece {
+            sector: JOURNAL,
+            place: 0,
+            bytes: TIME,
+        }],
+        opens: Ok(FRESH),
+    },
+];
+
+/// A sector with these bytes from this place on.
+fn with_bytes(sector: [u8; 512], place: usize, bytes: &[u8]) -> [u8; 512] {
+    let mut sector = sector;
+    for (into, byte) in sector.iter_mut().skip(place).zip(bytes) {
+        *into = *byte;
+    }
+    sector
+}
+
+fn put(disk: &mut MemDisk, piece: &Piece) -> Result<(), DiskFault> {
+    let mut sector = [0; 512];
+    disk.read(piece.sector, &mut sector)?;
+    disk.write(piece.sector, &with_bytes(sector, piece.place, piece.bytes))
+}
+
+fn put_each(disk: &mut MemDisk, pieces: &[Piece]) -> Result<(), DiskFault> {
+    for piece in pieces {
+        put(disk, piece)?;
+    }
+    Ok(())
+}
+
+/// A disk with a fresh worker of `ECHO`.
+fn created(alloc: Global) -> Result<MemDisk, Halt> {
+    let mut disk = blank(alloc, SECTORS)?;
+    let worker = create(alloc, &mut disk, ECHO)?;
+    drop(worker);
+    Ok(disk)
+}
+
+/// What a recovery says, but for want of memory.
+fn says(alloc: Global, disk: &mut MemDisk) -> Result<Result<Stand, Halt>, Halt> {
+    match open(alloc, disk) {
+        Err(Halt::Memory) => Err(Halt::Memory),
+        opens => Ok(opens),
+    }
+}
+
+fn is_told_so(alloc: Global, damage: &Damage) -> Result<bool, Halt> {
+    let mut disk = created(alloc)?;
+    put_each(&mut disk, damage.pieces)?;
+    Ok(says(alloc, &mut disk)? == damage.opens)
+}
+
+#[test]
+fn damaged_disks_are_refused(rt: HostRuntime) -> Result<(), Halt> {
+    for damage in &DAMAGES {
+        assert!(rt; is_told_so(rt.alloc(), damage)?, "{}", damage.name);
+    }
+    Ok(())
+}
+
+/// The super, the heads and the module of one disk, put to another one.
+fn copy_front(from: &mut MemDisk, to: &mut MemDisk) -> Result<(), DiskFault> {
+    let mut bytes = [0; 512];
+    for sector in SUPER..=MODULE {
+        from.read(sector, &mut bytes)?;
+        to.write(sector, &bytes)?;
+    }
+    Ok(())
+}
+
+/// Whether a creation is refused for want of sectors, and writes nothing.
+fn is_refused(alloc: Global, disk: &mut MemDisk) -> Result<bool, Halt> {
+    match create(alloc, disk, ECHO) {
+        Ok(worker) => {
+            drop(worker);
+            Ok(false)
+        }
+        Err(Halt::Memory) => Err(Halt::Memory),
+        Err(halt) => Ok(halt == TOO_SMALL && disk.unsynced_count() == 0),
+    }
+}
+
+/// Whether a recovery is refused for want of sectors, once the front of a worker's disk stands
+/// there.
+fn shows_too_few(alloc: Global, disk: &mut MemDisk, whole: &mut MemDisk) -> Result<bool, Halt> {
+    copy_front(whole, disk)?;
+    Ok(says(alloc, disk)? == Err(TOO_SMALL))
+}
+
+/// Whether both are so on a disk with one sector too few.
+fn is_too_small(alloc: Global) -> Result<bool, Halt> {
+    let mut disk = blank(alloc, SECTORS - 1)?;
+    if !is_refused(alloc, &mut disk)? {
+        return Ok(false);
+    }
+    let mut whole = created(alloc)?;
+    shows_too_few(alloc, &mut disk, &mut whole)
+}
+
+#[test]
+fn small_disks_are_refused(rt: HostRuntime) -> Result<(), Halt> {
+    assert!(rt; is_too_small(rt.alloc())?);
+    Ok(())
+}
+
+/// Whether a disk on which no worker was made is told so.
+fn has_none(alloc: Global) -> Result<bool, Halt> {
+    let mut disk = blank(alloc, SECTORS)?;
+    Ok(says(alloc, &mut disk)? == Err(NO_WORKER))
+}
+
+#[test]
+fn blank_disks_have_no_worker(rt: HostRuntime) -> Result<(), Halt> {
+    assert!(rt; has_none(rt.alloc())?);
+    Ok(())
+}

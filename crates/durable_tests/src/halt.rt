@@ -1,0 +1,65 @@
+//! Why a story has nothing to compare: one name for each want of memory.
+
+use durable_worker::{DurableFault, RecoverFault};
+use sector_disk::DiskFault;
+use std::alloc::{AllocError, AllocFailed};
+use wasi_abi::ConfigFault;
+use worker::WorkFault;
+
+/// Want of memory, wherever it is found, or what else a step refuses.
+#[derive(Clone, Copy, Debug, PartialEq, Eq)]
+pub(crate) enum Halt {
+    Memory,
+    Settings(ConfigFault),
+    Disk(DiskFault),
+    Work(DurableFault),
+    Recovery(RecoverFault),
+    /// More answers were taken than there were requests.
+    Answers,
+}
+
+impl From<AllocError> for Halt {
+    fn from(_error: AllocError) -> Halt {
+        Halt::Memory
+    }
+}
+
+impl<T: Drop> From<AllocFailed<T>> for Halt {
+    fn from(_error: AllocFailed<T>) -> Halt {
+        Halt::Memory
+    }
+}
+
+impl From<ConfigFault> for Halt {
+    fn from(fault: ConfigFault) -> Halt {
+        Halt::Settings(fault)
+    }
+}
+
+impl From<DiskFault> for Halt {
+    fn from(fault: DiskFault) -> Halt {
+        match fault {
+            DiskFault::Memory => Halt::Memory,
+            _ => Halt::Disk(fault),
+        }
+    }
+}
+
+/// The outlet of the stories fails for want of memory alone.
+impl From<DurableFault> for Halt {
+    fn from(fault: DurableFault) -> Halt {
+        match fault {
+            DurableFault::Work(WorkFault::Memory | WorkFault::Outlet) => Halt::Memory,
+            _ => Halt::Work(fault),
+        }
+    }
+}
+
+impl From<RecoverFault> for Halt {
+    fn from(fault: RecoverFault) -> Halt {
+        match fault {
+            RecoverFault::Worker(fault) => Halt::from(fault),
+            RecoverFault::NotAnImage | RecoverFault::Diverged => Halt::Recovery(fault),
+        }
+    }
+}

@@ -1,0 +1,94 @@
+//! A worker with 16 pages, whose calls take long enough to be measured. `scripts/durable-cost`
+//! counts what they cost.
+
+use crate::halt::Halt;
+use crate::modules::{SPIN, blank};
+use crate::saves::work_on_each;
+use crate::working::{IDLE, Stand, Work, are_lines, create_with, live_on, stand_of};
+use record_replay::LineList;
+use sector_disk::MemDisk;
+use std::alloc::Global;
+
+/// The most pages of a worker, and the sectors of one that has them.
+const PAGES: u64 = 16;
+
+const SECTORS: u64 = 8_516;
+
+/// A checkpoint into each area. Then a request, of which the image that is saved behind it has a
+/// page that is another. Then two requests more.
+static PARTS: [Work; 4] = [
+    Work {
+        requests: &[],
+        fuel: 0,
+        is_saved: true,
+    },
+    Work {
+        requests: &[],
+        fuel: 0,
+        is_saved: true,
+    },
+    Work {
+        requests: &[b"hello"],
+        fuel: 1_000_000,
+        is_saved: true,
+    },
+    Work {
+        requests: &[b"again", b"world"],
+        fuel: 2_000_000,
+        is_saved: false,
+    },
+];
+
+/// The first question is asked behind 5 steps. A request takes 600,024, the next question included.
+const LEFT: Stand = Stand {
+    generation: 4,
+    steps: 1_800_077,
+    answers: 3,
+    lines: 3,
+    replayed: 0,
+};
+
+/// The snapshot was saved at step 600,029, and the last answer was taken by step 1,200,054.
+const OPENS: Stand = Stand {
+    generation: 5,
+    steps: 1_200_054,
+    answers: 3,
+    lines: 2,
+    replayed: 600_025,
+};
+
+/// Where the first life ends.
+fn first_life(alloc: Global, disk: &mut MemDisk) -> Result<Stand, Halt> {
+    match create_with(alloc, disk, SPIN, PAGES) {
+        Ok(mut worker) => {
+            let worked = work_on_each(alloc, &mut worker, disk, &PARTS);
+            let stands = stand_of(&worker);
+            drop(worker);
+            worked?;
+            Ok(stands)
+        }
+        Err(halt) => Err(halt),
+    }
+}
+
+/// Whether the second life opens so, and tells the second line.
+fn goes_on(alloc: Global, disk: &mut MemDisk) -> Result<bool, Halt> {
+    let mut told = LineList::new(alloc);
+    let mut told_then = LineList::new(alloc);
+    let opens = live_on(alloc, disk, &mut told, &IDLE, &mut told_then)?;
+    Ok(opens == OPENS && are_lines(&told, 2, &[b"again"]))
+}
+
+fn lives_so(alloc: Global) -> Result<bool, Halt> {
+    let mut disk = blank(alloc, SECTORS)?;
+    if first_life(alloc, &mut disk)? != LEFT {
+        return Ok(false);
+    }
+    goes_on(alloc, &mut disk)
+}
+
+#[test]
+fn a_large_worker_lives(rt: HostRuntime) -> Result<(), Halt> {
+    assert!(rt; lives_so(rt.alloc())?);
+    Ok(())
+}

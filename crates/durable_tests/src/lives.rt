@@ -1,0 +1,449 @@
+//! Two lives of a worker: the first is cut, and the second goes on.
+
+ghost use Rattle.std.specs.Prelude.{◌≤◌};
+ghost use Rattle.disk_layout.specs.rules.Places.{total_sectors};
+ghost use Rattle.sector_disk.specs.rules.Memory.{memory_medium};
+
+use crate::halt::Halt;
+use crate::modules::{ECHO, HELLO, SECTORS, SYNC_FOLDER, SYNC_OUTPUT, THREE, blank};
+use crate::working::{IDLE, Stand, Work, are_lines, create, live_on, open, was_stopped, work_on};
+use durable_worker::DurableWorker;
+use record_replay::LineList;
+use sector_disk::{FaultDisk, MemDisk, Place};
+use std::alloc::Global;
+
+/// Lines of the output, the first one with this number.
+#[derive(Clone, Copy)]
+struct Lines {
+    first: u64,
+    texts: &'static [&'static [u8]],
+}
+
+const NONE: Lines = Lines {
+    first: 1,
+    texts: &[],
+};
+
+/// A first life behind its creation, where it is stopped and what fronts are left. Then what the
+/// second one opens with, the lines that its recovery tells, what it does, and the lines of that.
+struct Story {
+    name: &'static str,
+    guest: &'static [u8],
+    work: Work,
+    stop: Option<Place>,
+    tears: &'static [u16],
+    opens: Stand,
+    told: Lines,
+    goes_on: Work,
+    told_then: Lines,
+}
+
+const LONG: &[u8] = &[97; 400];
+
+const LONGER: &[u8] = &[97; 483];
+
+/// Up to the line of the first request.
+const FIRST: Work = Work {
+    requests: &[b"hello"],
+    fuel: 20,
+    is_saved: false,
+};
+
+/// The same with another request.
+const OTHER: Work = Work {
+    requests: &[b"world"],
+    fuel: 20,
+    is_saved: false,
+};
+
+/// Up to the line of the second request.
+const BOTH: Work = Work {
+    requests: &[b"hello", b"world"],
+    fuel: 42,
+    is_saved: false,
+};
+
+/// From the answer to its line.
+const TELLS: Work = Work {
+    requests: &[],
+    fuel: 14,
+    is_saved: false,
+};
+
+/// Up to the step behind the sync.
+const SYNCED: Work = Work {
+    requests: &[b"hello"],
+    fuel: 9,
+    is_saved: false,
+};
+
+/// All that a guest does who asks for nothing.
+const ALONE: Work = Work {
+    requests: &[],
+    fuel: 100,
+    is_saved: false,
+};
+
+/// The record isn't whole.
+const TORN: Story = Story {
+    name: "the record isn't whole",
+    guest: ECHO,
+    work: FIRST,
+    stop: Some(Place {
+        call: 1,
+        front: 504,
+    }),
+    tears: &[],
+    opens: Stand {
+        generation: 2,
+        steps: 0,
+        answers: 0,
+        lines: 0,
+        replayed: 0,
+    },
+    told: NONE,
+    goes_on: OTHER,
+    told_then: Lines {
+        first: 1,
+        texts: &[b"world"],
+    },
+};
+
+const WHOLE: Story = Story {
+    name: "all of the record's bytes that aren't zero",
+    guest: ECHO,
+    work: FIRST,
+    stop: Some(Place {
+        call: 1,
+        front: 505,
+    }),
+    tears: &[],
+    opens: Stand {
+        generation: 2,
+        steps: 6,
+        answers: 1,
+        lines: 0,
+        replayed: 6,
+    },
+    told: NONE,
+    goes_on: TELLS,
+    told_then: Lines {
+        first: 1,
+        texts: &[b"hello"],
+    },
+};
+
+const AGAIN: Story = Story {
+    name: "a line is told again",
+    guest: ECHO,
+    work: FIRST,
+    stop: None,
+    tears: &[],
+    opens: Stand {
+        generation: 2,
+        steps: 6,
+        answers: 1,
+        lines: 0,
+        replayed: 6,
+    },
+    told: NONE,
+    goes_on: TELLS,
+    told_then: Lines {
+        first: 1,
+        texts: &[b"hello"],
+    },
+};
+
+const RECOVERED: Story = Story {
+    name: "a line is told in the recovery",
+    guest: ECHO,
+    work: BOTH,
+    stop: None,
+    tears: &[],
+    opens: Stand {
+        generation: 2,
+        steps: 28,
+        answers: 2,
+        lines: 1,
+        replayed: 28,
+    },
+    told: Lines {
+        first: 1,
+        texts: &[b"hello"],
+    },
+    goes_on: TELLS,
+    told_then: Lines {
+        first: 2,
+        texts: &[b"world"],
+    },
+};
+
+const SAVED: Story = Story {
+    name: "a snapshot was taken",
+    guest: ECHO,
+    work: Work {
+        requests: &[b"hello", b"world"],
+        fuel: 42,
+        is_saved: true,
+    },
+    stop: None,
+    tears: &[],
+    opens: Stand {
+        generation: 3,
+        steps: 42,
+        answers: 2,
+        lines: 2,
+        replayed: 0,
+    },
+    told: NONE,
+    goes_on: IDLE,
+    told_then: NONE,
+};
+
+const UNASKED: Story = Story {
+    name: "a guest that asks for nothing",
+    guest: HELLO,
+    work: ALONE,
+    stop: None,
+    tears: &[],
+    opens: Stand {
+        generation: 2,
+        steps: 0,
+        answers: 0,
+        lines: 0,
+        replayed: 0,
+    },
+    told: NONE,
+    goes_on: ALONE,
+    told_then: Lines {
+        first: 1,
+        texts: &[b"hi"],
+    },
+};
+
+const ENDED: Story = Story {
+    name: "a snapshot of its end",
+    guest: HELLO,
+    work: Work {
+        requests: &[],
+        fuel: 100,
+        is_saved: true,
+    },
+    stop: None,
+    tears: &[],
+    opens: Stand {
+        generation: 3,
+        steps: 8,
+        answers: 0,
+        lines: 1,
+        replayed: 0,
+    },
+    told: NONE,
+    goes_on: ALONE,
+    told_then: NONE,
+};
+
+/// Three records in three sectors. The stop is in the sync behind them.
+const SECOND_TORN: Story = Story {
+    name: "the second of three sectors isn't whole",
+    guest: THREE,
+    work: Work {
+        requests: &[LONG, LONG, LONG],
+        fuel: 100,
+        is_saved: false,
+    },
+    stop: Some(Place { call: 4, front: 0 }),
+    tears: &[512, 499, 512],
+    opens: Stand {
+        generation: 2,
+        steps: 5,
+        answers: 1,
+        lines: 0,
+        replayed: 5,
+    },
+    told: NONE,
+    goes_on: IDLE,
+    told_then: NONE,
+};
+
+const FULL_TORN: Story = Story {
+    name: "the second of three full sectors isn't whole",
+    guest: THREE,
+    work: Work {
+        requests: &[LONGER, LONGER, LONGER],
+        fuel: 100,
+        is_saved: false,
+    },
+    stop: Some(Place { call: 4, front: 0 }),
+    tears: &[512, 499, 512],
+    opens: Stand {
+        generation: 2,
+        steps: 5,
+        answers: 1,
+        lines: 0,
+        replayed: 5,
+    },
+    told: NONE,
+    goes_on: IDLE,
+    told_then: NONE,
+};
+
+const SYNCED_FOLDER: Story = Story {
+    name: "a sync of the guest",
+    guest: SYNC_FOLDER,
+    work: SYNCED,
+    stop: None,
+    tears: &[],
+    opens: Stand {
+        generation: 2,
+        steps: 5,
+        answers: 1,
+        lines: 0,
+        replayed: 5,
+    },
+    told: NONE,
+    goes_on: IDLE,
+    told_then: NONE,
+};
+
+const SYNCED_OUTPUT: Story = Story {
+    name: "a sync that the guest was refused",
+    guest: SYNC_OUTPUT,
+    work: SYNCED,
+    stop: None,
+    tears: &[],
+    opens: Stand {
+        generation: 2,
+        steps: 0,
+        answers: 0,
+        lines: 0,
+        replayed: 0,
+    },
+    told: NONE,
+    goes_on: IDLE,
+    told_then: NONE,
+};
+
+static STORIES: [Story; 11] = [
+    TORN,
+    WHOLE,
+    AGAIN,
+    RECOVERED,
+    SAVED,
+    UNASKED,
+    ENDED,
+    SECOND_TORN,
+    FULL_TORN,
+    SYNCED_FOLDER,
+    SYNCED_OUTPUT,
+];
+
+/// The disk that the worker leaves which was just made on this one, and whether it was stopped.
+fn left_by(
+    alloc: Global,
+    mut worker: DurableWorker,
+    disk: MemDisk,
+    story: &Story,
+) -> (MemDisk, Result<bool, Halt>)
+    requires { total_sectors worker.store.geometry ≤ (memory_medium disk).sectors }
+{
+    let mut told = LineList::new(alloc);
+    let mut stopping = FaultDisk::new(disk, story.stop, None);
+    let worked = work_on(alloc, &mut worker, &mut stopping, &story.work, &mut told);
+    drop(worker);
+    (stopping.into_inner(), was_stopped(worked))
+}
+
+/// What a cut leaves of this disk, if its life was stopped just where that is wanted.
+fn cut_so(
+    alloc: Global,
+    left: &MemDisk,
+    stopped: Result<bool, Halt>,
+    story: &Story,
+) -> Result<Option<MemDisk>, Halt> {
+    if stopped? != story.stop.is_some() {
+        return Ok(None);
+    }
+    match left.cut(alloc, story.tears) {
+        Ok(disk) => Ok(Some(disk)),
+        Err(fault) => Err(Halt::from(fault)),
+    }
+}
+
+fn first_life(alloc: Global, story: &Story) -> Result<Option<MemDisk>, Halt> {
+    let mut disk = blank(alloc, SECTORS)?;
+    match create(alloc, &mut disk, story.guest) {
+        Ok(worker) => {
+            let (left, stopped) = left_by(alloc, worker, disk, story);
+            cut_so(alloc, &left, stopped, story)
+        }
+        Err(halt) => Err(halt),
+    }
+}
+
+/// Whether a second life opens on this disk as the story tells, and goes on so.
+fn goes_on_so(alloc: Global, disk: &mut MemDisk, story: &Story) -> Result<bool, Halt> {
+    let mut told = LineList::new(alloc);
+    let mut told_then = LineList::new(alloc);
+    let opens = live_on(alloc, disk, &mut told, &story.goes_on, &mut told_then)?;
+    Ok(
+        opens == story.opens
+            && are_lines(&told, story.told.first, story.told.texts)
+            && are_lines(&told_then, story.told_then.first, story.told_then.texts),
+    )
+}
+
+fn is_told(alloc: Global, story: &Story) -> Result<bool, Halt> {
+    match first_life(alloc, story)? {
+        Some(mut disk) => goes_on_so(alloc, &mut disk, story),
+        None => Ok(false),
+    }
+}
+
+/// Whether a life that does nothing opens on this disk as the story tells, and another one behind
+/// it where that one did, with nothing to replay.
+fn opens_twice(alloc: Global, disk: &mut MemDisk, story: &Story) -> Result<bool, Halt> {
+    let opens = open(alloc, disk)?;
+    let again = open(alloc, disk)?;
+    let then = Stand {
+        generation: story.opens.generation.saturating_add(1),
+        replayed: 0,
+        ..story.opens
+    };
+    Ok(opens == story.opens && again == then)
+}
+
+fn is_opened_again(alloc: Global, story: &Story) -> Result<bool, Halt> {
+    match first_life(alloc, story)? {
+        Some(mut disk) => opens_twice(alloc, &mut disk, story),
+        None => Ok(false),
+    }
+}
+
+#[test]
+fn second_lives_go_on(rt: HostRuntime) -> Result<(), Halt> {
+    for story in &STORIES {
+        assert!(rt; is_told(rt.alloc(), story)?, "{}", story.name);
+    }
+    Ok(())
+}
+
+#[test]
+fn third_lives_open_as_the_second(rt: HostRuntime) -> Result<(), Halt> {
+    for story in &STORIES {
+        assert!(rt; is_opened_again(rt.alloc(), story)?, "{}", story.name);
+    }
+    Ok(())
+}
+
+/// A guest that asks for nothing, and one that asks.
+static TWO: [Story; 2] = [UNASKED, RECOVERED];
+
+/// For the refusal of each allocation.
+#[test]
+fn two_lives_with_memory(rt: HostRuntime) -> Result<(), Halt> {
+    for story in &TWO {
+        assert!(rt; is_told(rt.alloc(), story)?, "{}", story.name);
+    }
+    Ok(())
+}

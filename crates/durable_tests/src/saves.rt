@@ -1,0 +1,333 @@
+//! What saving a worker costs its disk, and when a journal that is full makes it do so.
+
+ghost use Rattle.std.specs.Prelude.{◌≤◌, OnOk};
+ghost use Rattle.disk_layout.specs.rules.Places.{total_sectors};
+ghost use Rattle.sector_disk.specs.rules.Memory.{memory_medium};
+
+use crate::halt::Halt;
+use crate::modules::{ECHO, SECTORS, THREE, blank};
+use crate::working::{Stand, Work, create, stand_of, work_on};
+use durable_worker::DurableWorker;
+use record_replay::LineList;
+use sector_disk::{Disk, DiskFault, FaultDisk, MemDisk};
+use std::alloc::Global;
+
+/// The first journal sector of a worker of `ECHO`, and a sector's first bytes once `hello` is on
+/// record: the length of the records, and one of step 6.
+const JOURNAL: u64 = 4_612;
+
+const HELLO_RECORD: [u8; 18] = [
+    16, 0, 1, 6, 0, 0, 0, 0, 0, 0, 0, 5, 0, b'h', b'e', b'l', b'l', b'o',
+];
+
+/// The head of each area, and the first and last sector of an image there. Generation 1 is in area
+/// 1.
+const HEAD_0: u64 = 1;
+
+const HEAD_1: u64 = 2;
+
+const AREA_0: u64 = 4;
+
+const LAST_0: u64 = 132;
+
+const AREA_1: u64 = 2_308;
+
+const LAST_1: u64 = 2_436;
+
+/// What is done behind a creation, one after another. Then the reads, writes and syncs of the last
+/// part, and the sectors that it changes.
+struct Cost {
+    name: &'static str,
+    guest: &'static [u8],
+    before: &'static [Work],
+    last: Work,
+    calls: (u64, u64, u64),
+    changes: &'static [u64],
+}
+
+/// A checkpoint and nothing else.
+const SAVE: Work = Work {
+    requests: &[],
+    fuel: 0,
+    is_saved: true,
+};
+
+/// A slice on one request, which the guest has taken.
+const ANSWERED: Work = Work {
+    requests: &[b"hello"],
+    fuel: 12,
+    is_saved: false,
+};
+
+/// Up to its line.
+const TOLD: Work = Work {
+    requests: &[b"hello"],
+    fuel: 20,
+    is_saved: false,
+};
+
+/// Three long requests, up to their line.
+const LONG_TOLD: Work = Work {
+    requests: &[&[97; 400], &[97; 400], &[97; 400]],
+    fuel: 27,
+    is_saved: false,
+};
+
+/// And one step behind it.
+const BEHIND: Work = Work {
+    requests: &[b"hello"],
+    fuel: 21,
+    is_saved: false,
+};
+
+/// Up to the next question.
+const ON: Work = Work {
+    requests: &[b"hello"],
+    fuel: 100,
+    is_saved: false,
+};
+
+/// An image of `ECHO` has 129 sectors. Its first sector has the counts and the frames, and the last
+/// one its operands and streams.
+static COSTS: [Cost; 7] = [
+    Cost {
+        name: "a line: one sector, one sync",
+        guest: ECHO,
+        before: &[],
+        last: TOLD,
+        calls: (0, 1, 1),
+        changes: &[JOURNAL],
+    },
+    Cost {
+        name: "three records of 411 bytes: as many sectors as hold them",
+        guest: THREE,
+        before: &[],
+        last: LONG_TOLD,
+        calls: (0, 3, 1),
+        changes: &[JOURNAL, 4_613, 4_614],
+    },
+    Cost {
+        name: "an answer alone: nothing yet",
+        guest: ECHO,
+        before: &[],
+        last: ANSWERED,
+        calls: (0, 0, 0),
+        changes: &[],
+    },
+    Cost {
+        name: "an area of zeros: a head, and what isn't zero of the image",
+        guest: ECHO,
+        before: &[],
+        last: SAVE,
+        calls: (129, 3, 2),
+        changes: &[HEAD_0, AREA_0, LAST_0],
+    },
+    Cost {
+        name: "an image that its area holds: a head",
+        guest: ECHO,
+        before: &[SAVE],
+        last: SAVE,
+        calls: (129, 1, 2),
+        changes: &[HEAD_1],
+    },
+    Cost {
+        name: "a head, and the first sector of the image",
+        guest: ECHO,
+        before: &[SAVE, BEHIND],
+        last: SAVE,
+        calls: (129, 2, 2),
+        changes: &[HEAD_1, AREA_1],
+    },
+    Cost {
+        name: "a head, and the first and last sector",
+        guest: ECHO,
+        before: &[SAVE, TOLD],
+        last: SAVE,
+        calls: (129, 3, 2),
+        changes: &[HEAD_1, AREA_1, LAST_1],
+    },
+];
+
+/// Does these parts, one after another.
+pub(crate) fn work_on_each(
+    alloc: Global,
+    worker: &mut DurableWorker,
+    disk: &mut MemDisk,
+    parts: &[Work],
+) -> Result<(), Halt>
+    requires { total_sectors worker.old.store.geometry ≤ (memory_medium disk.old).sectors }
+    ensures { OnOk result
+        (total_sectors worker.new.store.geometry ≤ (memory_medium disk.new).sectors) }
+{
+    let mut told = LineList::new(alloc);
+    for work in parts {
+        work_on(alloc, worker, disk, work, &mut told)?;
+    }
+    Ok(())
+}
+
+/// Whether a sector is the same on two disks.
+fn is_same(before: &mut MemDisk, after: &mut MemDisk, sector: u64) -> Result<bool, DiskFault> {
+    let mut was = [0; 512];
+    let mut is = [0; 512];
+    before.read(sector, &mut was)?;
+    after.read(sector, &mut is)?;
+    Ok(was == is)
+}
+
+/// Whether just these sectors differ.
+fn differ_at(
+    before: &mut MemDisk,
+    after: &mut MemDisk,
+    changes: &[u64],
+) -> Result<bool, DiskFault> {
+    for sector in 0..SECTORS {
+        if is_same(before, after, sector)? == changes.contains(&sector) {
+            return Ok(false);
+        }
+    }
+    Ok(true)
+}
+
+/// The disk behind the last part, and its calls.
+fn count_calls(
+    alloc: Global,
+    worker: &mut DurableWorker,
+    disk: MemDisk,
+    last: &Work,
+) -> Result<(MemDisk, (u64, u64, u64)), Halt>
+    requires { total_sectors worker.old.store.geometry ≤ (memory_medium disk).sectors }
+{
+    let mut told = LineList::new(alloc);
+    let mut counting = FaultDisk::new(disk, None, None);
+    work_on(alloc, worker, &mut counting, last, &mut told)?;
+    let calls = counting.calls();
+    Ok((counting.into_inner(), calls))
+}
+
+/// Whether the last part costs so much, on a disk that was so before.
+fn is_last_so(
+    alloc: Global,
+    worker: &mut DurableWorker,
+    mut before: MemDisk,
+    disk: MemDisk,
+    cost: &Cost,
+) -> Result<bool, Halt>
+    requires { total_sectors worker.old.store.geometry ≤ (memory_medium disk).sectors }
+{
+    let (mut after, calls) = count_calls(alloc, worker, disk, &cost.last)?;
+    Ok(calls == cost.calls && differ_at(&mut before, &mut after, cost.changes)?)
+}
+
+/// Whether the last part costs so much, behind the others.
+fn costs_so(
+    alloc: Global,
+    worker: &mut DurableWorker,
+    mut disk: MemDisk,
+    cost: &Cost,
+) -> Result<bool, Halt>
+    requires { total_sectors worker.old.store.geometry ≤ (memory_medium disk).sectors }
+{
+    work_on_each(alloc, worker, &mut disk, cost.before)?;
+    match disk.cut(alloc, &[]) {
+        Ok(before) => is_last_so(alloc, worker, before, disk, cost),
+        Err(fault) => Err(Halt::from(fault)),
+    }
+}
+
+fn is_cost(alloc: Global, cost: &Cost) -> Result<bool, Halt> {
+    let mut disk = blank(alloc, SECTORS)?;
+    let mut worker = create(alloc, &mut disk, cost.guest)?;
+    let is_so = costs_so(alloc, &mut worker, disk, cost);
+    drop(worker);
+    is_so
+}
+
+#[test]
+fn saving_costs_what_differs(rt: HostRuntime) -> Result<(), Halt> {
+    for cost in &COSTS {
+        assert!(rt; is_cost(rt.alloc(), cost)?, "{}", cost.name);
+    }
+    Ok(())
+}
+
+/// So many requests, one after another.
+fn answer_each(
+    alloc: Global,
+    worker: &mut DurableWorker,
+    disk: &mut MemDisk,
+    count: u64,
+) -> Result<(), Halt>
+    requires { total_sectors worker.old.store.geometry ≤ (memory_medium disk.old).sectors }
+{
+    let mut told = LineList::new(alloc);
+    for _request in 0..count {
+        work_on(alloc, worker, disk, &ON, &mut told)?;
+    }
+    Ok(())
+}
+
+/// Where a worker stands after so many requests.
+fn stand_after(alloc: Global, count: u64) -> Result<Stand, Halt> {
+    let mut disk = blank(alloc, SECTORS)?;
+    let mut worker = create(alloc, &mut disk, ECHO)?;
+    let worked = answer_each(alloc, &mut worker, &mut disk, count);
+    let stands = stand_of(&worker);
+    drop(worker);
+    worked?;
+    Ok(stands)
+}
+
+/// A journal has 64 sectors, of which each barrier takes one. The longest record has 4,107 bytes.
+/// So 56 sectors are taken, and then there is a snapshot before the next question. A request takes
+/// 22 steps, and the question behind it comes before another five.
+static FILLED: [(u64, u64, u64); 4] = [(1, 1, 27), (55, 1, 1_215), (56, 2, 1_237), (57, 2, 1_259)];
+
+/// Whether after so many requests the worker is in this generation, after so many steps.
+fn is_filled_so(alloc: Global, row: &(u64, u64, u64)) -> Result<bool, Halt> {
+    let stands = stand_after(alloc, row.0)?;
+    let wanted = Stand {
+        generation: row.1,
+        steps: row.2,
+        answers: row.0,
+        lines: row.0,
+        replayed: 0,
+    };
+    Ok(stands == wanted)
+}
+
+#[test]
+fn full_journals_are_saved(rt: HostRuntime) -> Result<(), Halt> {
+    for row in &FILLED {
+        assert!(rt; is_filled_so(rt.alloc(), row)?, "{row:?}");
+    }
+    Ok(())
+}
+
+/// A disk on which the line of `hello` was told.
+fn told_disk(alloc: Global) -> Result<MemDisk, Halt> {
+    let mut disk = blank(alloc, SECTORS)?;
+    let mut worker = create(alloc, &mut disk, ECHO)?;
+    let worked = work_on_each(alloc, &mut worker, &mut disk, &[TOLD]);
+    drop(worker);
+    worked?;
+    Ok(disk)
+}
+
+/// Whether the first journal sector begins with the record of `hello`.
+fn begins_so(disk: &mut MemDisk) -> Result<bool, DiskFault> {
+    let mut sector = [0; 512];
+    disk.read(JOURNAL, &mut sector)?;
+    Ok(sector.starts_with(&HELLO_RECORD))
+}
+
+fn is_spelled(alloc: Global) -> Result<bool, Halt> {
+    let mut disk = told_disk(alloc)?;
+    Ok(begins_so(&mut disk)?)
+}
+
+#[test]
+fn records_are_spelled(rt: HostRuntime) -> Result<(), Halt> {
+    assert!(rt; is_spelled(rt.alloc())?);
+    Ok(())
+}

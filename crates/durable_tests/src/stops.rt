@@ -1,0 +1,338 @@
+//! Disks that stop or fail at a call, allocations that are refused, and what comes then.
+
+ghost use Rattle.std.specs.Prelude.{◌≤◌, IfOk};
+ghost use Rattle.disk_layout.specs.rules.Places.{total_sectors};
+ghost use Rattle.sector_disk.specs.rules.Memory.{memory_medium};
+
+use crate::halt::Halt;
+use crate::modules::{ECHO, HELLO, SECTORS, blank};
+use crate::working::{Stand, Work, are_all_told, create, open, was_stopped, work_on};
+use disk_layout::LayoutFault;
+use durable_worker::{DurableFault, DurableWorker};
+use record_replay::{AnswerList, LineList};
+use sector_disk::{Disk, DiskFault, FaultDisk, MemDisk, Place};
+use std::alloc::Global;
+use worker::WorkFault;
+use worker_store::StoreFault;
+
+const CUT: Halt = Halt::Work(DurableFault::Disk(DiskFault::Cut));
+
+const NO_WORKER: Halt = Halt::Work(DurableFault::Store(StoreFault::Layout(
+    LayoutFault::NotAWorker,
+)));
+
+/// The first checkpoint of a fresh worker makes 129 reads, 3 writes and 2 syncs. This is the last.
+const HEAD_SYNC: u64 = 134;
+
+/// What two checkpoints and a slice then say.
+static SAID: [Option<DurableFault>; 3] = [
+    Some(DurableFault::Disk(DiskFault::Io)),
+    Some(DurableFault::Work(WorkFault::Failed)),
+    Some(DurableFault::Work(WorkFault::Failed)),
+];
+
+/// Generation 2 was found, and nothing was done yet.
+const SECOND: Stand = Stand {
+    generation: 3,
+    steps: 0,
+    answers: 0,
+    lines: 0,
+    replayed: 0,
+};
+
+/// How many calls of the disk were begun.
+fn count_of(disk: &FaultDisk<MemDisk>) -> u64 {
+    let (reads, writes, syncs) = disk.calls();
+    reads.saturating_add(writes).saturating_add(syncs)
+}
+
+/// What two checkpoints and a slice say, one after another.
+fn say_three<D: Disk>(
+    alloc: Global,
+    worker: &mut DurableWorker,
+    disk: &mut D,
+) -> [Option<DurableFault>; 3]
+    requires { total_sectors worker.old.store.geometry ≤ (D.medium disk.old).sectors }
+{
+    let mut source = AnswerList::new(Vec::new(alloc));
+    let mut told = LineList::new(alloc);
+    [
+        worker.checkpoint(disk).err(),
+        worker.checkpoint(disk).err(),
+        worker.slice(disk, 1, &mut source, &mut told).err(),
+    ]
+}
+
+/// The disk behind a checkpoint whose last call fails, if that and what follows say so.
+fn failed_disk(alloc: Global, worker: &mut DurableWorker, disk: MemDisk) -> Option<MemDisk>
+    requires { total_sectors worker.old.store.geometry ≤ (memory_medium disk).sectors }
+{
+    let fail = Place {
+        call: HEAD_SYNC,
+        front: 0,
+    };
+    let mut failing = FaultDisk::new(disk, None, Some(fail));
+    let said = say_three(alloc, worker, &mut failing);
+    let is_so = said == SAID && count_of(&failing) == HEAD_SYNC;
+    let left = failing.into_inner();
+    if is_so { Some(left) } else { None }
+}
+
+/// The same with a fresh worker of `ECHO`.
+fn failed_checkpoint(alloc: Global) -> Result<Option<MemDisk>, Halt> {
+    let mut disk = blank(alloc, SECTORS)?;
+    let mut worker = create(alloc, &mut disk, ECHO)?;
+    let left = failed_disk(alloc, &mut worker, disk);
+    drop(worker);
+    Ok(left)
+}
+
+/// How many calls a recovery of this disk begins, if it finds generation 2.
+fn calls_of_recovery(alloc: Global, disk: MemDisk) -> Result<Option<u64>, Halt> {
+    let mut counting = FaultDisk::new(disk, None, None);
+    if open(alloc, &mut counting)? == SECOND {
+        Ok(Some(count_of(&counting)))
+    } else {
+        Ok(None)
+    }
+}
+
+/// The disk that a recovery leaves which is stopped there, and what it says.
+fn stopped_recovery(alloc: Global, disk: MemDisk, stop: Place) -> (MemDisk, Result<Stand, Halt>) {
+    let mut stopping = FaultDisk::new(disk, Some(stop), None);
+    let opens = open(alloc, &mut stopping);
+    (stopping.into_inner(), opens)
+}
+
+/// Whether generation 2 is found once the power is cut.
+fn is_second(alloc: Global, disk: &MemDisk) -> Result<bool, Halt> {
+    let mut left = disk.cut(alloc, &[])?;
+    Ok(open(alloc, &mut left)? == SECOND)
+}
+
+/// Whether a recovery of this disk that is stopped at this call leaves generation 2.
+fn is_kept_over_a_stop(alloc: Global, disk: MemDisk, call: u64) -> Result<bool, Halt> {
+    let (left, opens) = stopped_recovery(alloc, disk, Place { call, front: 100 });
+    Ok(opens == Err(CUT) && is_second(alloc, &left)?)
+}
+
+/// Whether generation 2 is found behind a checkpoint whose last call fails, also where a recovery
+/// is stopped in the write of its head, which is its last call but one.
+fn is_found(alloc: Global) -> Result<bool, Halt> {
+    let Some(disk) = failed_checkpoint(alloc)? else {
+        return Ok(false);
+    };
+    let Some(calls) = calls_of_recovery(alloc, disk)? else {
+        return Ok(false);
+    };
+    match failed_checkpoint(alloc)? {
+        Some(disk) => is_kept_over_a_stop(alloc, disk, calls.saturating_sub(1)),
+        None => Ok(false),
+    }
+}
+
+/// The last call of a checkpoint is the sync of its head. If it fails, a recovery finds the new
+/// generation nevertheless, since reads give it.
+#[test]
+fn failed_head_syncs_are_recovered(rt: HostRuntime) -> Result<(), Halt> {
+    assert!(rt; is_found(rt.alloc())?);
+    Ok(())
+}
+
+/// A guest, all requests to it, and the texts of all its lines.
+struct Task {
+    guest: &'static [u8],
+    requests: &'static [&'static [u8]],
+    texts: &'static [&'static [u8]],
+}
+
+const ECHOES: Task = Task {
+    guest: ECHO,
+    requests: &[b"hello", b"world"],
+    texts: &[b"hello", b"world"],
+};
+
+static TASKS: [Task; 2] = [
+    Task {
+        guest: HELLO,
+        requests: &[],
+        texts: &[b"hi"],
+    },
+    ECHOES,
+];
+
+/// The worker that the disk stands for, or a new one where there is none.
+fn opened<D: Disk>(
+    alloc: Global,
+    disk: &mut D,
+    guest: &[u8],
+    told: &mut LineList,
+) -> Result<DurableWorker, Halt>
+    ensures { IfOk result (λ w. total_sectors w.store.geometry ≤ (D.medium disk.new).sectors) }
+{
+    match DurableWorker::recover(alloc, disk, told) {
+        Ok(worker) => Ok(worker),
+        Err(fault) => create_where(alloc, disk, guest, Halt::from(fault)),
+    }
+}
+
+/// A new worker where a recovery has found none.
+fn create_where<D: Disk>(
+    alloc: Global,
+    disk: &mut D,
+    guest: &[u8],
+    halt: Halt,
+) -> Result<DurableWorker, Halt>
+    ensures { IfOk result (λ w. total_sectors w.store.geometry ≤ (D.medium disk.new).sectors) }
+{
+    if halt == NO_WORKER {
+        create(alloc, disk, guest)
+    } else {
+        Err(halt)
+    }
+}
+
+/// Hands over the requests that are left, and saves the process.
+fn finish<D: Disk>(
+    alloc: Global,
+    worker: &mut DurableWorker,
+    disk: &mut D,
+    task: &Task,
+    told: &mut LineList,
+) -> Result<(), Halt>
+    requires { total_sectors worker.old.store.geometry ≤ (D.medium disk.old).sectors }
+{
+    let answers = worker.process().answers() as usize;
+    let Some(requests) = task.requests.get(answers..) else {
+        return Err(Halt::Answers);
+    };
+    let work = Work {
+        requests,
+        fuel: 100,
+        is_saved: true,
+    };
+    work_on(alloc, worker, disk, &work, told)
+}
+
+/// A life that does all that is left to do.
+fn live<D: Disk>(
+    alloc: Global,
+    disk: &mut D,
+    task: &Task,
+    told: &mut LineList,
+) -> Result<(), Halt> {
+    match opened(alloc, disk, task.guest, told) {
+        Ok(mut worker) => {
+            let worked = finish(alloc, &mut worker, disk, task, told);
+            drop(worker);
+            worked
+        }
+        Err(halt) => Err(halt),
+    }
+}
+
+/// The disk that a life leaves which is stopped there, whether it was, and how many calls of its
+/// disk it began.
+fn life_on(
+    alloc: Global,
+    disk: MemDisk,
+    stop: Option<Place>,
+    task: &Task,
+    told: &mut LineList,
+) -> (MemDisk, Result<bool, Halt>, u64) {
+    let mut stopping = FaultDisk::new(disk, stop, None);
+    let stopped = was_stopped(live(alloc, &mut stopping, task, told));
+    let count = count_of(&stopping);
+    (stopping.into_inner(), stopped, count)
+}
+
+/// The same of a first life, and what a cut leaves of its disk.
+fn stopped_life(
+    alloc: Global,
+    stop: Option<Place>,
+    task: &Task,
+    told: &mut LineList,
+) -> Result<(MemDisk, bool, u64), Halt> {
+    let disk = blank(alloc, SECTORS)?;
+    let (left, stopped, count) = life_on(alloc, disk, stop, task, told);
+    match left.cut(alloc, &[]) {
+        Ok(left) => Ok((left, stopped?, count)),
+        Err(fault) => Err(Halt::from(fault)),
+    }
+}
+
+/// How many calls of its disk a life of this task begins that isn't stopped.
+fn calls_of_life(alloc: Global, task: &Task) -> Result<u64, Halt> {
+    let mut told = LineList::new(alloc);
+    let (_left, _is_stopped, count) = stopped_life(alloc, None, task, &mut told)?;
+    Ok(count)
+}
+
+/// Whether a life is stopped at this call, and once another one has gone on, all lines are told.
+fn goes_on_after(alloc: Global, call: u64, task: &Task) -> Result<bool, Halt> {
+    let mut told = LineList::new(alloc);
+    let stop = Place { call, front: 505 };
+    let (mut disk, is_stopped, _count) = stopped_life(alloc, Some(stop), task, &mut told)?;
+    live(alloc, &mut disk, task, &mut told)?;
+    Ok(is_stopped && are_all_told(&told, task.texts))
+}
+
+/// A sync and a read find no worker. A creation has 198 writes and 6 syncs. Each of two lines has a
+/// write and a sync, and the checkpoint has 129 reads, 3 writes and 2 syncs.
+const CALLS: u64 = 344;
+
+#[test]
+fn lives_make_so_many_calls(rt: HostRuntime) -> Result<(), Halt> {
+    assert!(rt; calls_of_life(rt.alloc(), &ECHOES)? == CALLS);
+    Ok(())
+}
+
+/// Whatever the call at which the power fails, each number has one text, and both lines are told.
+#[test]
+fn lives_go_on_after_any_stop(rt: HostRuntime) -> Result<(), Halt> {
+    for call in 1..=CALLS {
+        assert!(rt; goes_on_after(rt.alloc(), call, &ECHOES)?, "{call}");
+    }
+    Ok(())
+}
+
+/// What three lives say, of which one ends for want of memory where an allocation is refused.
+fn three_lives(
+    alloc: Global,
+    disk: &mut MemDisk,
+    task: &Task,
+    told: &mut LineList,
+) -> [Result<(), Halt>; 3] {
+    [
+        live(alloc, disk, task, told),
+        live(alloc, disk, task, told),
+        live(alloc, disk, task, told),
+    ]
+}
+
+/// What the first of them says that ended so.
+fn said_by(lives: [Result<(), Halt>; 3]) -> Result<(), Halt> {
+    for life in &lives {
+        (*life)?;
+    }
+    Ok(())
+}
+
+/// Whether three lives tell all lines, and what they say.
+fn are_told_in_three(alloc: Global, task: &Task) -> Result<(bool, Result<(), Halt>), Halt> {
+    let mut disk = blank(alloc, SECTORS)?;
+    let mut told = LineList::new(alloc);
+    let lives = three_lives(alloc, &mut disk, task, &mut told);
+    Ok((are_all_told(&told, task.texts), said_by(lives)))
+}
+
+/// For the refusal of each allocation: the last life with memory gives all lines.
+#[test]
+fn lives_go_on_after_want_of_memory(rt: HostRuntime) -> Result<(), Halt> {
+    for task in &TASKS {
+        let (are_told, said) = are_told_in_three(rt.alloc(), task)?;
+        assert!(rt; are_told, "{said:?}");
+        said?;
+    }
+    Ok(())
+}

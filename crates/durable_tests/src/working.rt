@@ -1,0 +1,220 @@
+//! What the lives of the stories do: a worker is created or recovered, runs on requests, and is
+//! saved.
+
+ghost use Rattle.std.specs.Prelude.{◌≤◌, IfOk, OnOk};
+ghost use Rattle.disk_layout.specs.rules.Places.{total_sectors};
+
+use crate::halt::Halt;
+use crate::modules::config_of;
+use durable_worker::{DurableFault, DurableWorker};
+use record_replay::{AnswerList, LineList, NumberedLine};
+use sector_disk::{Disk, DiskFault};
+use std::alloc::Global;
+use wasi_abi::Answer;
+use wasm_syntax::Row;
+
+/// Where a worker stands.
+#[derive(Clone, Copy, Debug, PartialEq, Eq)]
+pub(crate) struct Stand {
+    pub(crate) generation: u64,
+    pub(crate) steps: u64,
+    pub(crate) answers: u64,
+    pub(crate) lines: u64,
+    pub(crate) replayed: u64,
+}
+
+pub(crate) fn stand_of(worker: &DurableWorker) -> Stand {
+    let process = worker.process();
+    Stand {
+        generation: worker.generation(),
+        steps: process.steps(),
+        answers: process.answers(),
+        lines: process.lines(),
+        replayed: worker.replayed(),
+    }
+}
+
+/// What a worker is told to do: requests are there, so many steps may be taken, and then it is
+/// saved or not.
+#[derive(Clone, Copy)]
+pub(crate) struct Work {
+    pub(crate) requests: &'static [&'static [u8]],
+    pub(crate) fuel: u64,
+    pub(crate) is_saved: bool,
+}
+
+/// Nothing at all.
+pub(crate) const IDLE: Work = Work {
+    requests: &[],
+    fuel: 0,
+    is_saved: false,
+};
+
+fn request(alloc: Global, text: &[u8]) -> Result<Answer, Halt> {
+    let text = Row::from_vec(Vec::from_slice(alloc, text)?);
+    Ok(Answer::Request { text })
+}
+
+fn requests(alloc: Global, texts: &[&[u8]]) -> Result<AnswerList, Halt> {
+    let mut answers = Vec::new(alloc);
+    for text in texts {
+        answers.push(request(alloc, *text)?)?;
+    }
+    Ok(AnswerList::new(answers))
+}
+
+/// A worker of this guest with one page, on this disk.
+pub(crate) fn create<D: Disk>(
+    alloc: Global,
+    disk: &mut D,
+    guest: &[u8],
+) -> Result<DurableWorker, Halt>
+    ensures { IfOk result (λ w. total_sectors w.store.geometry ≤ (D.medium disk.new).sectors) }
+{
+    create_with(alloc, disk, guest, 1)
+}
+
+/// A worker of this guest with so many pages, on this disk.
+pub(crate) fn create_with<D: Disk>(
+    alloc: Global,
+    disk: &mut D,
+    guest: &[u8],
+    pages: u64,
+) -> Result<DurableWorker, Halt>
+    ensures { IfOk result (λ w. total_sectors w.store.geometry ≤ (D.medium disk.new).sectors) }
+{
+    let settings = config_of(alloc, pages)?;
+    match DurableWorker::create(alloc, disk, guest, &settings) {
+        Ok(worker) => Ok(worker),
+        Err(fault) => Err(Halt::from(fault)),
+    }
+}
+
+/// Saves the process, where that is wanted.
+fn save<D: Disk>(worker: &mut DurableWorker, disk: &mut D, is_saved: bool) -> Result<(), Halt>
+    requires { total_sectors worker.old.store.geometry ≤ (D.medium disk.old).sectors }
+    ensures { total_sectors worker.new.store.geometry ≤ (D.medium disk.new).sectors }
+{
+    if !is_saved {
+        return Ok(());
+    }
+    match worker.checkpoint(disk) {
+        Ok(()) => Ok(()),
+        Err(fault) => Err(Halt::from(fault)),
+    }
+}
+
+/// Runs a slice on these answers, and saves the process where that is wanted.
+fn run<D: Disk>(
+    worker: &mut DurableWorker,
+    disk: &mut D,
+    work: &Work,
+    source: &mut AnswerList,
+    told: &mut LineList,
+) -> Result<(), Halt>
+    requires { total_sectors worker.old.store.geometry ≤ (D.medium disk.old).sectors }
+    ensures { OnOk result (total_sectors worker.new.store.geometry ≤ (D.medium disk.new).sectors) }
+{
+    match worker.slice(disk, work.fuel, source, told) {
+        Ok(_now) => save(worker, disk, work.is_saved),
+        Err(fault) => Err(Halt::from(fault)),
+    }
+}
+
+/// Does the work, and puts the lines to those that were told.
+pub(crate) fn work_on<D: Disk>(
+    alloc: Global,
+    worker: &mut DurableWorker,
+    disk: &mut D,
+    work: &Work,
+    told: &mut LineList,
+) -> Result<(), Halt>
+    requires { total_sectors worker.old.store.geometry ≤ (D.medium disk.old).sectors }
+    ensures { OnOk result (total_sectors worker.new.store.geometry ≤ (D.medium disk.new).sectors) }
+{
+    let mut source = requests(alloc, work.requests)?;
+    run(worker, disk, work, &mut source, told)
+}
+
+/// A life of the worker that the disk stands for. What it opens with; the lines of its recovery and
+/// those behind that are put to the two lists.
+pub(crate) fn live_on<D: Disk>(
+    alloc: Global,
+    disk: &mut D,
+    told: &mut LineList,
+    work: &Work,
+    told_then: &mut LineList,
+) -> Result<Stand, Halt> {
+    match DurableWorker::recover(alloc, disk, told) {
+        Ok(mut worker) => {
+            let opens = stand_of(&worker);
+            let worked = work_on(alloc, &mut worker, disk, work, told_then);
+            drop(worker);
+            worked?;
+            Ok(opens)
+        }
+        Err(fault) => Err(Halt::from(fault)),
+    }
+}
+
+/// What a life opens with that does nothing.
+pub(crate) fn open<D: Disk>(alloc: Global, disk: &mut D) -> Result<Stand, Halt> {
+    let mut told = LineList::new(alloc);
+    match DurableWorker::recover(alloc, disk, &mut told) {
+        Ok(worker) => {
+            let opens = stand_of(&worker);
+            drop(worker);
+            Ok(opens)
+        }
+        Err(fault) => Err(Halt::from(fault)),
+    }
+}
+
+/// Whether a life was stopped. It ends so, or by itself.
+pub(crate) fn was_stopped(worked: Result<(), Halt>) -> Result<bool, Halt> {
+    match worked {
+        Ok(()) => Ok(false),
+        Err(Halt::Work(DurableFault::Disk(DiskFault::Cut))) => Ok(true),
+        Err(halt) => Err(halt),
+    }
+}
+
+/// Whether the line is one of the output and has the text of its number, from 1 on.
+fn has_its_text(line: &NumberedLine, texts: &[&[u8]]) -> bool {
+    let Some(place) = line.number.checked_sub(1) else {
+        return false;
+    };
+    match texts.get(place as usize) {
+        Some(text) => line.stream == 1 && line.text.as_slice() == *text,
+        None => false,
+    }
+}
+
+/// Whether each line has the text of its number, and each text was told, where those before it
+/// were told before.
+pub(crate) fn are_all_told(told: &LineList, texts: &[&[u8]]) -> bool {
+    let mut count = 0;
+    for line in told.lines() {
+        if !has_its_text(line, texts) || line.number.saturating_sub(1) > count {
+            return false;
+        }
+        count = line.number.max(count);
+    }
+    count == texts.len() as u64
+}
+
+/// Whether just these lines of the output were told, the first one with this number.
+pub(crate) fn are_lines(told: &LineList, first: u64, texts: &[&[u8]]) -> bool {
+    let lines = told.lines();
+    if lines.len() != texts.len() {
+        return false;
+    }
+    let mut number = first;
+    for (line, text) in lines.iter().zip(texts) {
+        if line.number != number || line.stream != 1 || line.text.as_slice() != *text {
+            return false;
+        }
+        number = number.saturating_add(1);
+    }
+    true
+}
