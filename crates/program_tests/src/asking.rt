@@ -24,7 +24,7 @@ pub(crate) const ECHO: [&str; 9] = [
 ];
 
 /// One page, one file unit, 64 journal sectors and no argument.
-fn config(alloc: Global) -> Result<Config, Fail> {
+pub(crate) fn config(alloc: Global) -> Result<Config, Fail> {
     Ok(Config::new(1, 1, 64, Row::new(alloc), Row::new(alloc))?)
 }
 
@@ -46,7 +46,7 @@ fn echo(alloc: Global) -> Result<Process, Fail> {
     started(alloc, wasm.as_slice())
 }
 
-fn hello(alloc: Global) -> Result<Answer, Fail> {
+pub(crate) fn hello(alloc: Global) -> Result<Answer, Fail> {
     let text = Row::from_vec(Vec::from_slice(alloc, b"hello")?);
     Ok(Answer::Request { text })
 }

@@ -1,6 +1,7 @@
 //! What tests alone can show of the program's commands: the words of the command line, the lines in
-//! and out, what `check` prints of modules, and what `run` prints, tells and exits with. Also, how
-//! a worker that asks takes its answers, and that its slices may be cut anywhere.
+//! and out, what `check` prints of modules and `show` of disks, what a creation prints and tells,
+//! and what `run` prints, tells and exits with. Also, how a worker that asks takes its answers, and
+//! that its slices may be cut anywhere.
 //!
 //! Each test is a table of rows whose expected values come from outside. Those that take memory
 //! return their error, so that `scripts/refused-allocations` can refuse each allocation in turn.
@@ -11,10 +12,14 @@ mod asking;
 #[cfg(test)]
 mod check;
 #[cfg(test)]
+mod creating;
+#[cfg(test)]
 mod images;
 #[cfg(test)]
 mod lines;
 #[cfg(test)]
 mod run;
+#[cfg(test)]
+mod show;
 #[cfg(test)]
 mod words;

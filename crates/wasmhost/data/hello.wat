@@ -1,6 +1,6 @@
 ;; Writes the line `hi` to descriptor 1 and exits with code 7.
 ;;
-;; `wasmhost run hello.wasm` prints `1 o hi`, and `exited 7` on the error output. It takes 8 steps.
+;; Created on a disk, its run prints `1 o hi`, and `exited 7` on the error output. It takes 8 steps.
 ;; `wat2wasm hello.wat` (wabt 1.0.32) gives exactly the bytes of hello.wasm.
 (module
   (type $start (func))

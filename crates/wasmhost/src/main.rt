@@ -6,14 +6,17 @@
 //! - Each function that answers an exit status answers 7 at most. No clause says more of the
 //!   program.
 //!
-//! What the commands promise of bytes, readers and writers is said in `wasmhost_serve`. This crate
-//! brings these to them:
+//! What the commands promise of bytes, disks, readers and writers is said in `wasmhost_serve`. This
+//! crate brings these to them:
 //!
-//! - It reads the command line, and opens a module's file (`read_module`).
-//! - `check` hands over the file's bytes, and `run` also the lines of the standard input, the
-//!   machine's clock, and what the words say of seed, clock, environment and arguments.
-//! - What keeps a command from beginning is told by `report`, and a fault of the words by
-//!   `report_words`.
+//! - It reads the command line, and opens the files that it names.
+//! - `check` and `create` hand over a module's bytes. `create` makes the disk's file once the
+//!   module and its configuration are accepted.
+//! - `run` and `show` open the disk's file, which one host holds at a time. `run` also hands over
+//!   the lines of the standard input, the machine's clock, and what the words say of seed and
+//!   clock.
+//! - What keeps a command from beginning is told by `report`, `report_open` and
+//!   `report_unprepared`, and a fault of the words by `report_words`.
 //!
 //! # Definitions to read
 //!
@@ -22,13 +25,14 @@
 //! # Who may touch what
 //!
 //! Of the crates here only this one has the runtime's handle: the words of the command line,
-//! files, standard streams, the clock and the allocator. All else is lent to `wasmhost_serve`, the
-//! only crate that it stands on. It takes memory for the words, the file, the reader's buffer and a
-//! line.
+//! files, standard streams, the clock and the allocator. All else is lent to `wasmhost_serve`. A
+//! disk in a file is `sector_disk`'s. It takes memory for the words, the file, the reader's buffer
+//! and a line.
 #![tactic(auto)]
 
-ghost use Rattle.std.specs.Prelude.{◌≤◌};
+ghost use Rattle.std.specs.Prelude.{◌≤◌, IfErr};
 
+use sector_disk::{FileDisk, rewrite};
 use std::alloc::Global;
 use std::env;
 use std::fs::File;
@@ -37,8 +41,9 @@ use std::process::ExitCode;
 use std::rt::{Env, Files};
 use std::time::Clock;
 use wasmhost_serve::{
-    BufferedLines, LineOutlet, Obstacle, Options, Order, Outside, RequestSource, RunOrder,
-    check_bytes, obstacle_of, read_module, read_seed, read_words, report, report_words, serve,
+    BufferedLines, CreateOrder, LineOutlet, Obstacle, Order, Outside, Pace, RequestSource,
+    RunOrder, Sizes, check_bytes, create_on, obstacle_of, prepare, read_module, read_seed,
+    read_words, report, report_open, report_unprepared, report_words, serve_on, show_on,
 };
 
 /// The first bytes of a file.
@@ -61,6 +66,44 @@ fn check<R: Files, W: Write, E: Write>(
     }
 }
 
+/// Makes the disk's file, once module and configuration are accepted, and a worker on it.
+fn create<R: Files<File = File>, W: Write, E: Write>(
+    rt: &R,
+    alloc: Global,
+    order: &CreateOrder<'_>,
+    out: &mut W,
+    err: &mut E,
+) -> u8
+    ensures { result ≤ 7 }
+{
+    let wasm = match read_file(rt, alloc, order.module) {
+        Ok(wasm) => wasm,
+        Err(error) => return report(err, obstacle_of(&error)),
+    };
+    let sizes = Sizes {
+        pages: order.pages,
+        files: order.files,
+        journal: order.journal,
+    };
+    let arguments = order.arguments.as_slice();
+    let environment = order.environment.as_slice();
+    let prepared = match prepare(alloc, wasm.as_slice(), sizes, arguments, environment) {
+        Ok(prepared) => prepared,
+        Err(fault) => return report_unprepared(err, fault),
+    };
+    match FileDisk::create(rt, order.disk, prepared.sectors) {
+        Ok(mut disk) => create_on(
+            alloc,
+            &mut disk,
+            wasm.as_slice(),
+            &prepared.config,
+            out,
+            err,
+        ),
+        Err(fault) => report_open(err, fault),
+    }
+}
+
 /// The seed that the words give, or zeros, which anyone can foresee.
 fn seed_of(order: &RunOrder<'_>) -> Option<[u8; 32]> {
     match order.seed {
@@ -69,8 +112,26 @@ fn seed_of(order: &RunOrder<'_>) -> Option<[u8; 32]> {
     }
 }
 
-/// Runs a worker of a file's module on the lines of the standard input and the machine's clock.
-fn run<R: Files + Input + Clock, W: Write, E: Write>(
+/// Opens the disk's file, and writes every sector back first where the words say so.
+fn open<R: Files<File = File>, E: Write>(
+    rt: &R,
+    order: &RunOrder<'_>,
+    err: &mut E,
+) -> Result<FileDisk<File>, u8>
+    ensures { IfErr result (λ status. status ≤ 7) }
+{
+    match FileDisk::open(rt, order.disk) {
+        Ok(mut disk) if order.rewrites => match rewrite(&mut disk) {
+            Ok(()) => Ok(disk),
+            Err(_) => Err(report(err, Obstacle::Unread)),
+        },
+        Ok(disk) => Ok(disk),
+        Err(fault) => Err(report_open(err, fault)),
+    }
+}
+
+/// Runs the worker of a disk on the lines of the standard input and the machine's clock.
+fn run<R: Files<File = File> + Input + Clock, W: Write, E: Write>(
     rt: &R,
     alloc: Global,
     order: &RunOrder<'_>,
@@ -82,9 +143,9 @@ fn run<R: Files + Input + Clock, W: Write, E: Write>(
     let Some(seed) = seed_of(order) else {
         return report(err, Obstacle::NoSeed);
     };
-    let wasm = match read_file(rt, alloc, order.path) {
-        Ok(wasm) => wasm,
-        Err(error) => return report(err, obstacle_of(&error)),
+    let mut disk = match open(rt, order, err) {
+        Ok(disk) => disk,
+        Err(status) => return status,
     };
     let reader = match BufReader::new(alloc, rt.reader()) {
         Ok(reader) => reader,
@@ -98,25 +159,33 @@ fn run<R: Files + Input + Clock, W: Write, E: Write>(
     let Ok(mut outlet) = LineOutlet::new(alloc, out) else {
         return report(err, Obstacle::Memory);
     };
-    let options = Options {
+    let pace = Pace {
         fuel: order.fuel,
-        arguments: order.arguments.as_slice(),
-        environment: order.environment.as_slice(),
+        every: order.every,
     };
-    serve(
-        alloc,
-        wasm.as_slice(),
-        options,
-        &mut source,
-        &mut outlet,
-        err,
-    )
+    serve_on(alloc, &mut disk, pace, &mut source, &mut outlet, err)
+}
+
+/// Shows what stands on a disk.
+fn show<R: Files<File = File>, W: Write, E: Write>(
+    rt: &R,
+    alloc: Global,
+    path: &str,
+    out: &mut W,
+    err: &mut E,
+) -> u8
+    ensures { result ≤ 7 }
+{
+    match FileDisk::open(rt, path) {
+        Ok(mut disk) => show_on(alloc, &mut disk, out, err),
+        Err(fault) => report_open(err, fault),
+    }
 }
 
 /// Runs the command line, and answers the exit status.
 fn status_of<R, W: Write, E: Write>(rt: &R, out: &mut W, err: &mut E) -> u8
 where
-    R: AllocGlobal + Clock + Env + Files + Input,
+    R: AllocGlobal + Clock + Env + Files<File = File> + Input,
     ensures { result ≤ 7 }
 {
     let alloc = rt.alloc();
@@ -132,7 +201,9 @@ where
     };
     match read_words(alloc, words.as_slice()) {
         Ok(Order::Check { path }) => check(rt, alloc, path, out, err),
+        Ok(Order::Create(order)) => create(rt, alloc, &order, out, err),
         Ok(Order::Run(order)) => run(rt, alloc, &order, out, err),
+        Ok(Order::Show { path }) => show(rt, alloc, path, out, err),
         Err(fault) => report_words(&fault, out, err),
     }
 }

@@ -1,6 +1,12 @@
 pub mod Told
 pub mod SeedLemmas
 pub mod Serving
+pub mod ShowingLemmas
 pub mod Starting
 pub mod LineLemmas
+pub mod LivingLemmas
+pub mod ReleasedLemmas
+pub mod ShownLemmas
+pub mod OnDiskLemmas
 pub mod WordLemmas
+pub mod CreationLemmas

@@ -38,7 +38,7 @@ use Rattle.worker.proofs.Failing.{slices_add_in_vain}
 use Rattle.worker.proofs.Joining.{handed_of_both}
 use Rattle.wasmhost_serve.specs.declared.lines.fault.LineFault.{LineFault}
 use Rattle.wasmhost_serve.specs.declared.lines.outside.Outside.{Outside}
-use Rattle.wasmhost_serve.specs.rules.Outside.{requests_in, words_of}
+use Rattle.wasmhost_serve.specs.rules.Outside.{random_stream, requests_in, words_of}
 use Rattle.wasmhost_serve.specs.Lines.Answers.{HandsAnswer, Finds, IsRefusedFor, Standing, standing}
 use Rattle.wasmhost_serve.specs.rules.Prints.{PrintsOneLine as PrintsLine}
 use Rattle.wasmhost_serve.specs.rules.Printed.{all_printed}
@@ -49,9 +49,9 @@ use Rattle.wasmhost_serve.proofs.LineLemmas.Passing.{up_to_map}
 use Rattle.wasmhost_serve.proofs.LineLemmas.Printed.{taken_are_printed}
 use Rattle.wasmhost_serve.specs.declared.run.RunFault.{RunFault}
 use Rattle.wasmhost_serve.specs.declared.run.RunFault.TheVariants as run
-use Rattle.wasmhost_serve.specs.rules.Served.{WantsAnswer, IsOver, IsSpent}
+use Rattle.wasmhost_serve.specs.rules.Served.{WantsAnswer, IsOver, IsSpent, ended_by}
 use Rattle.wasmhost_serve.specs.Runs.{SlicesSome, SlicesSomeInVain, Prints, IsWorkerRun}
-use Rattle.wasmhost_serve.specs.Runs.{IsRunInVain, FailsAs, IsToldAs, ended_by}
+use Rattle.wasmhost_serve.specs.Runs.{IsRunInVain, FailsAs, IsToldAs}
 
 -- ---- slices so far
 
@@ -135,15 +135,17 @@ fewer_left gives takes old new fuel s t o p is some slices =
 
 -- a source of which nothing was taken yet
 abbrev pub fresh : Outside → Option (List ℕ) → Bool → Standing
-fresh outside lines failed = standing outside 0 0 lines failed None
+fresh outside lines failed = standing outside random_stream 0 0 lines failed None
 
 -- a reader of which nothing is read
 module _ {R : Type 0} (unread : R → Option (List ℕ)) (failed : R → Bool) where
-  pub is_fresh : {outside outside' : Outside} {taken place : ℕ} {reader reader' : R}
-      {found : Option LineFault} → outside ≡ outside' → taken ≡ 0 → place ≡ 0 → reader ≡ reader'
-      → found ≡ None → standing outside taken place (unread reader) (failed reader) found
+  pub is_fresh : {outside outside' : Outside} {stream taken place : ℕ} {reader reader' : R}
+      {found : Option LineFault} → outside ≡ outside' → stream ≡ random_stream
+      → taken ≡ 0 → place ≡ 0
+      → reader ≡ reader' → found ≡ None
+      → standing outside stream taken place (unread reader) (failed reader) found
       ≡ fresh outside' (unread reader') (failed reader')
-  is_fresh same none first is unspoilt = rw (same, none, first, is, unspoilt) refl
+  is_fresh same first none start is unspoilt = rw (same, first, none, start, is, unspoilt) refl
 
 -- an answer that doesn't fit is a text, and one that is too long
 module _ (limit : ℕ) where

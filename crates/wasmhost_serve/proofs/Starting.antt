@@ -26,10 +26,10 @@ use Rattle.wasmhost_serve.specs.declared.configuring.Unconfigured.TheVariants as
 use Rattle.wasmhost_serve.specs.rules.Statuses.{IsUnconfigured, status_of}
 use Rattle.wasmhost_serve.specs.rules.Requests.{BeginsWithOther, BeginsWithLater, BeginsWithNumber}
 use Rattle.wasmhost_serve.specs.rules.Served.{Job, WantsAnswer, MeetsBadLine, LacksAnswer}
-use Rattle.wasmhost_serve.specs.rules.Served.{HasPrinted, IsRefusal, Serves, last_words}
+use Rattle.wasmhost_serve.specs.rules.Served.{HasPrinted, IsRefusal, Serves, ended_by, last_words}
 use Rattle.wasmhost_serve.specs.rules.Outside.{requests_in, words_of}
 use Rattle.wasmhost_serve.specs.Lines.Answers.{IsRefusedFor, MissesNext, IsClockless, IsWordless}
-use Rattle.wasmhost_serve.specs.Runs.{Prints, IsWorkerRun, IsRunInVain, FailsAs, ended_by}
+use Rattle.wasmhost_serve.specs.Runs.{Prints, IsWorkerRun, IsRunInVain, FailsAs}
 use Rattle.wasmhost_serve.proofs.LineLemmas.Passing.{up_to_map}
 
 -- ---- the start

@@ -3,27 +3,26 @@ use Rattle.std.specs.Prelude.{◌≡◌, ◌⊎◌, ℕ, ◌<◌, ⊤, Bool, fal
 use Rattle.std.specs.Io.KnownBytes.{Appends}
 use Rattle.wasi_abi.specs.declared.answer.Kind.{Kind}
 use Rattle.wasi_calls_rules.specs.declared.limits.TheConstants.{TEXT_BYTES}
-use Rattle.process_rules.specs.Processes.{Ending, ProcessState, Guest}
+use Rattle.process_rules.specs.Processes.{ProcessState, Guest}
 use Rattle.process_rules.specs.Runs.{Kept, Runs}
 use Rattle.record_replay.specs.rules.Calls.{Giving, Taking}
-use Rattle.process.specs.rules.Values.{ShowsProcess, ending_of}
+use Rattle.process.specs.rules.Values.{ShowsProcess}
 use Rattle.worker.specs.declared.fault.WorkFault.{WorkFault}
 use Rattle.worker.specs.declared.fault.WorkFault.TheVariants as fault
 use Rattle.worker.specs.declared.fault.Refusal.TheVariants as refusal
 use Rattle.worker.specs.declared.now.Now.{Now}
-use Rattle.worker.specs.declared.now.Now.TheVariants as now
 use Rattle.worker.specs.rules.Values.{WorkerValue}
 use Rattle.worker.specs.rules.Slices.{Slices}
 use Rattle.worker.specs.rules.Faults.{SlicesInVain}
 use Rattle.wasmhost_serve.specs.declared.lines.fault.LineFault.{LineFault}
 use Rattle.wasmhost_serve.specs.Lines.Answers.{IsRefusedFor}
 use Rattle.wasmhost_serve.specs.declared.lines.outside.Outside.{Outside}
-use Rattle.wasmhost_serve.specs.rules.Outside.{ComeFrom, requests_in, words_of}
+use Rattle.wasmhost_serve.specs.rules.Outside.{ComeFrom, random_stream, requests_in, words_of}
 use Rattle.wasmhost_serve.specs.rules.Printed.{all_printed}
 use Rattle.wasmhost_serve.specs.rules.Requests.{GiveUpTo}
 use Rattle.wasmhost_serve.specs.declared.run.RunFault.{RunFault}
 use Rattle.wasmhost_serve.specs.declared.run.RunFault.TheVariants as run
-use Rattle.wasmhost_serve.specs.rules.Served.{WantsAnswer, IsOver, IsSpent}
+use Rattle.wasmhost_serve.specs.rules.Served.{WantsAnswer, IsOver, IsSpent, ended_by}
 
 -- some slice, of so much fuel
 pub record SlicesSome {S O : Type 0} (gives : Giving S) (takes : Taking O) (old : WorkerValue)
@@ -38,19 +37,13 @@ pub record SlicesSomeInVain {S O : Type 0} (gives : Giving S) (takes : Taking O)
   pub fuel : ℕ
   pub slices : SlicesInVain gives takes old fuel why new source source' outlet outlet'
 
--- how a worker that is over has ended, if it has
-abbrev pub ended_by : Now → Option Ending
-ended_by now.Spent = None
-ended_by now.Waiting = None
-ended_by (now.Ended how) = Some (ending_of how)
-
 -- On answers from outside a process that had emitted no line comes to another one, and all lines of
 -- that were printed. The requests among the answers are those that lines of a reader give.
 pub record Prints (guest : Guest) (p : ProcessState) (outside : Outside)
     (lines old new : Option (List ℕ)) : Type 0 where
   pub kept : List Kept
   pub requests : GiveUpTo 0 lines (requests_in kept) (λ _. ⊤)
-  pub others : ComeFrom outside 0 kept
+  pub others : ComeFrom outside random_stream 0 kept
   pub steps : ℕ
   pub process : ProcessState
   pub runs : Runs guest p kept steps process

@@ -1,6 +1,7 @@
 //! What a worker is configured with.
 
 ghost use Rattle.std.specs.Prelude.{◌≡◌, ◌∷◌, ◌++◌, [], map, codes, IfOk, IfErr, OnOk};
+ghost use Rattle.wasmhost_serve.specs.rules.Creations.{IsMisconfigured, config_as};
 ghost use Rattle.wasmhost_serve.specs.rules.Served.{config_of, texts_in};
 ghost use Rattle.wasmhost_serve.specs.rules.Statuses.{IsUnconfigured};
 
@@ -9,19 +10,30 @@ use thiserror::Error;
 use wasi_abi::{Config, ConfigFault};
 use wasm_syntax::Row;
 
-/// Pages of 65,536 bytes that the guest's memory may have.
-const PAGES: u64 = 16;
+/// Pages of 65,536 bytes that the guest's memory may have, where no number is given.
+pub(crate) const PAGES: u64 = 16;
 
-/// Units of 65,536 bytes that all files may have.
-const FILES: u64 = 16;
+/// Units of 65,536 bytes that all files may have, where no number is given.
+pub(crate) const FILES: u64 = 16;
 
-/// Sectors of the journal.
-const JOURNAL: u64 = 256;
+/// Sectors of the journal, where no number is given.
+pub(crate) const JOURNAL: u64 = 256;
+
+/// How large a worker may grow.
+#[derive(Clone, Copy, Debug, PartialEq, Eq)]
+pub struct Sizes {
+    /// Pages of 65,536 bytes that the guest's memory may have.
+    pub pages: u64,
+    /// Units of 65,536 bytes that all files may have.
+    pub files: u64,
+    /// Sectors of the journal.
+    pub journal: u64,
+}
 
 /// Why a worker isn't configured.
 #[derive(Clone, Copy, Debug, PartialEq, Eq, Error)]
 pub(crate) enum Unconfigured {
-    /// A text, or the count of texts, is out of the limits.
+    /// A number, a text or the count of texts is out of the limits.
     #[error("{0}")]
     Limits(ConfigFault),
     #[error("N4 Memory")]
@@ -59,7 +71,29 @@ fn arguments_of(alloc: Global, arguments: &[&str]) -> Result<Row<Row<u8>>, Alloc
     Ok(list)
 }
 
-/// The configuration of a worker with these arguments and this environment.
+/// The configuration of a worker of these sizes, with these arguments and this environment.
+pub(crate) fn configure_as(
+    alloc: Global,
+    sizes: Sizes,
+    arguments: &[&str],
+    environment: &[&str],
+) -> Result<Config, Unconfigured>
+    ensures made { IfOk result (λ config. config
+        ≡ config_as sizes (texts_in arguments.now) (texts_in environment.now)) }
+    ensures failed { IfErr result (IsMisconfigured
+        (config_as sizes (texts_in arguments.now) (texts_in environment.now))) }
+{
+    let arguments = arguments_of(alloc, arguments)?;
+    let mut entries = Row::new(alloc);
+    push_texts(alloc, &mut entries, environment)?;
+    match Config::new(sizes.pages, sizes.files, sizes.journal, arguments, entries) {
+        Ok(config) => Ok(config),
+        Err(fault) => Err(Unconfigured::Limits(fault)),
+    }
+}
+
+/// The configuration of a worker of which no sizes are given, with these arguments and this
+/// environment.
 pub(crate) fn configure(
     alloc: Global,
     arguments: &[&str],
@@ -70,11 +104,10 @@ pub(crate) fn configure(
     ensures failed { IfErr result (IsUnconfigured
         (config_of (texts_in arguments.now) (texts_in environment.now))) }
 {
-    let arguments = arguments_of(alloc, arguments)?;
-    let mut entries = Row::new(alloc);
-    push_texts(alloc, &mut entries, environment)?;
-    match Config::new(PAGES, FILES, JOURNAL, arguments, entries) {
-        Ok(config) => Ok(config),
-        Err(fault) => Err(Unconfigured::Limits(fault)),
-    }
+    let sizes = Sizes {
+        pages: PAGES,
+        files: FILES,
+        journal: JOURNAL,
+    };
+    configure_as(alloc, sizes, arguments, environment)
 }

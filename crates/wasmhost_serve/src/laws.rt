@@ -1,9 +1,15 @@
 //! Laws of printed lines. The functions do nothing: what they ensure is the law.
 
+ghost use Rattle.durable_worker.specs.laws.Uncut.{LivesGoOnUncut};
 ghost use Rattle.wasmhost_serve.specs.rules.Printed.{TakenLinesArePrinted};
-ghost use Rattle.wasmhost_serve.specs.laws.Examples.{HelpExamples, MistakeExamples, OrderExamples};
+ghost use Rattle.wasmhost_serve.specs.rules.ServedOnDisk.{handing, printing};
+ghost use Rattle.wasmhost_serve.specs.rules.ServedOnDisk.{ReleasedLinesArePrinted};
+ghost use Rattle.wasmhost_serve.specs.laws.Examples.{CreateOrderExamples, HelpExamples};
+ghost use Rattle.wasmhost_serve.specs.laws.Examples.{OptionMistakes, PathExamples, PathMistakes};
+ghost use Rattle.wasmhost_serve.specs.laws.Examples.{RunOrderExamples};
 ghost use Rattle.wasmhost_serve.specs.laws.Words.{FaultlessWordsMean};
 
+use sector_disk::Disk;
 use std::io::Write;
 
 /// A printer that took each of some lines has printed them, and nothing else.
@@ -11,12 +17,22 @@ pub fn taken_lines_are_printed<W: Write>()
     ensures { TakenLinesArePrinted W.contents }
 {}
 
+/// All that `serve_on` does of a worker that it has opened is one life. Where the power isn't cut
+/// in it, it goes on from all that was promised. Its lines were printed.
+pub fn lives_on_disk_go_on<D: Disk>()
+    ensures goes_on { LivesGoOnUncut D.medium handing printing }
+    ensures printed { ReleasedLinesArePrinted }
+{}
+
 // Laws of the command line. The functions do nothing: what they ensure is the law.
 
 /// Command lines, and what they mean.
 pub fn worked_examples()
-    ensures orders { OrderExamples }
-    ensures mistakes { MistakeExamples }
+    ensures paths { PathExamples }
+    ensures creations { CreateOrderExamples }
+    ensures runs { RunOrderExamples }
+    ensures wrong_paths { PathMistakes }
+    ensures wrong_options { OptionMistakes }
     ensures help { HelpExamples }
 {}
 

@@ -9,8 +9,26 @@
 //! - `serve`: what each status of a run says of the module, its configuration, the answers from
 //!   outside, the lines that were printed, and the last words (`serves`). Up to any status but 7
 //!   whatever was printed is true. No status is above 7 (`known`).
+//! - `prepare`: an error says that the configuration is out of its limits, that the module isn't
+//!   accepted, or that memory ran out (`refused`). Else the module is accepted with the pages of
+//!   the configuration, and the sectors are those that its worker needs (`prepared`). It knows no
+//!   disk, so the program refuses a module before it makes one.
+//! - `create_on`: status 0 says that the worker of these bytes and this configuration is created on
+//!   the disk, at its start, and that `created N sectors` was printed. What the other statuses say
+//!   is said too, and what a cut at any moment leaves (`creates`). `report_unprepared` answers the
+//!   status of what it tells, or 7.
+//! - `serve_on`: what each status of a run of the worker on a disk says (`serves`). Where the
+//!   worker was recovered, all that was done of the disk, the source and the outlet are the calls
+//!   of one life, in order: slices of its fuel, and checkpoints at its pace (`IsPaced`). The source
+//!   begins behind the requests that the worker has taken, and at the first word of the seed's
+//!   stream of its generation (`stands_behind`). `laws::lives_on_disk_go_on`: such calls are a life
+//!   that goes on from all that was promised, and its lines were printed. Where the disk shows no
+//!   worker nothing is written or printed. No status is above 7 (`known`).
+//! - `show_on`: the survey of a worker's disk is printed, or what keeps it from that is told
+//!   (`shows`). Of a disk that stands for a worker the line is that worker's (`stands`). Nothing is
+//!   changed on the disk, but that it is synced.
 //! - `RequestSource` answers requests as the lines of its reader say, in their order, clocks with
-//!   the fixed time, and wishes for random bytes with the next words of its seed. It says why it
+//!   the fixed time, and wishes for random bytes with the next words of its stream. It says why it
 //!   refuses (`HandsNext`). A failed read it tells only of a reader that has failed.
 //! - `read_seed`, `seeded`: which texts are seeds, and which bytes a seed gives (`seeded_bytes`).
 //! - `LineReader` is what request lines are read from. `BufferedLines` is one over any `BufRead`.
@@ -23,23 +41,28 @@
 //!   output.
 //! - `read_words`: an order is exactly what the words mean. A fault is one that the rules
 //!   of the command line list for them, or want of memory (`IsReading`).
-//! - `laws::faultless_words_mean`, `laws::worked_examples`: words without a fault mean an order;
-//!   twenty-five command lines.
+//! - `laws::faultless_words_mean`, `laws::worked_examples`: words without a fault mean an order,
+//!   with numbers in their ranges; fifty-three command lines.
 //!
 //! # Definitions to read
 //!
 //! In `specs/rules/`: `Serves`, `HasPrinted`, `config_of`, `last_words` (`Served.antt`);
 //! `GivesAnswers`, `GiveUpTo` (`Requests.antt`); `ComeFrom`, `requests_in` (`Outside.antt`);
 //! `seeded_bytes` (`Seeds.antt`); `printed`, `request_line` (`Texts.antt`);
-//! `wasmhost`, `meaning_in`, `IsReading`, `IsStatusOf` (`Commands.antt`). Beside these:
+//! `CreatesOn`, `IsPreparedAs`, `IsUnprepared`, `config_as` (`Creations.antt`);
+//! `wasmhost` (`CommandLine.antt`); `meaning_in`, `IsReading`, `IsStatusOf` (`Commands.antt`);
+//! `ShowsDisk`, `ShowsSurvey`, `survey_line` (`Showings.antt`); `open_words` (`Openings.antt`);
+//! `ServesOnDisk`, `LivesOnDisk`, `stands_behind` (`ServedOnDisk.antt`); `IsPaced` (`Paces.antt`);
+//! `status_on_disk`, `told_of_opening`, `IsToldOnDisk` (`DiskStatuses.antt`). Beside these:
 //! `all_printed` (`specs/rules/Printed.antt`), and `PrintsOneLine` (`specs/rules/Prints.antt`).
 //!
 //! # Who may touch what
 //!
 //! Only this crate knows how lines, requests and last words are spelled, and the exit statuses
-//! (`status`). `wasmhost` calls it. It stands on `worker` and `machine_loader`. Want of memory is
-//! status 5. Then nothing was printed, or all lines of a process that the module reaches
-//! (`Serves`). Nothing here opens a file.
+//! (`status`). `wasmhost` calls it. It stands on `worker`, `durable_worker` and `machine_loader`.
+//! Want of memory is status 5. Of a worker without a disk nothing was printed then, or all lines of
+//! a process that the module reaches (`Serves`). A disk is lent to each call of a worker on it, and
+//! nothing else here touches one. Nothing here opens a file.
 #![tactic(auto)]
 
 mod check;
@@ -47,6 +70,8 @@ mod configuring;
 pub mod laws;
 mod lines;
 mod module_bytes;
+mod on_disk;
+mod preparing;
 mod run;
 mod seed;
 pub mod status;
@@ -54,12 +79,15 @@ mod telling;
 mod words;
 
 pub use check::check_bytes;
+pub use configuring::Sizes;
 pub use lines::{
     BufferedLines, LineFault, LineOutlet, LineReader, Outside, Request, RequestSource,
     read_request, trap_name,
 };
 pub use module_bytes::read_module;
+pub use on_disk::{Pace, create_on, report_open, serve_on, show_on};
+pub use preparing::{Prepared, Unprepared, prepare, report_unprepared};
 pub use run::{Options, serve};
 pub use seed::{read_seed, seeded};
 pub use telling::{Obstacle, obstacle_of, report, report_words, say_line};
-pub use words::{Order, RunOrder, WordsFault, read_words};
+pub use words::{CreateOrder, Order, RunOrder, WordsFault, read_words};

@@ -4,14 +4,15 @@ ghost use Rattle.std.specs.Prelude.{◌≡◌, ◌≢◌, ◌⊎◌, ◌≤◌, 
 ghost use Rattle.std.specs.Io.KnownBytes.{Appends};
 ghost use Rattle.process.specs.rules.Values.{IsProcess};
 ghost use Rattle.worker.specs.declared.now.Now.TheVariants.{Spent};
-ghost use Rattle.wasmhost_serve.specs.rules.Served.{Serves, config_of, job, last_words, texts_in};
+ghost use Rattle.wasmhost_serve.specs.rules.Served.{Serves, config_of, ended_by, job};
+ghost use Rattle.wasmhost_serve.specs.rules.Served.{last_words, texts_in};
 ghost use Rattle.wasmhost_serve.specs.Runs.{SlicesSome, SlicesSomeInVain, IsWorkerRun, IsRunInVain};
-ghost use Rattle.wasmhost_serve.specs.Runs.{IsToldAs, ended_by};
+ghost use Rattle.wasmhost_serve.specs.Runs.{IsToldAs};
 ghost use Rattle.wasmhost_serve.specs.rules.Statuses.{status_of};
 
 use crate::configuring::{Unconfigured, configure};
 use crate::lines::{LineFault, LineOutlet, LineReader, RequestSource, trap_name};
-use crate::status::{BAD_LINE, NO_MEMORY, REFUSED, UNREAD, UNWRITTEN};
+use crate::status::{NO_MEMORY, REFUSED, UNWRITTEN, status_of_line, status_of_work};
 use process::ProcessEnd;
 use record_replay::{Outlet, Source};
 use std::alloc::Global;
@@ -52,12 +53,8 @@ impl RunFault {
         match self {
             RunFault::Config(Unconfigured::Limits(_)) => REFUSED,
             RunFault::Config(Unconfigured::Memory) => NO_MEMORY,
-            RunFault::Work(WorkFault::Refused(_)) => REFUSED,
-            RunFault::Work(WorkFault::Source | WorkFault::Failed) => UNREAD,
-            RunFault::Line(LineFault::Read | LineFault::Clock | LineFault::Words) => UNREAD,
-            RunFault::Work(WorkFault::Memory) | RunFault::Line(LineFault::Memory) => NO_MEMORY,
-            RunFault::Line(LineFault::Number { .. } | LineFault::Form) => BAD_LINE,
-            RunFault::Work(WorkFault::Outlet) => UNWRITTEN,
+            RunFault::Work(fault) => status_of_work(fault),
+            RunFault::Line(fault) => status_of_line(fault),
         }
     }
 }
@@ -140,7 +137,7 @@ fn print_last_words<E: Write>(err: &mut E, now: Now) -> io::Result<()>
 }
 
 /// Says how a worker is over, and answers the exit status.
-fn say<E: Write>(err: &mut E, now: Now) -> u8
+pub(crate) fn say<E: Write>(err: &mut E, now: Now) -> u8
     ensures known { (result ≡ 0) ⊎ (result ≡ 7) }
     ensures told { result ≡ 0 → Appends (E.contents err.old) (E.contents err.new)
         (last_words (ended_by now)) }

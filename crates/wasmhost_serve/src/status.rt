@@ -1,5 +1,11 @@
 //! The exit statuses of the program, beside 0.
 
+ghost use Rattle.std.specs.Prelude.{◌≡◌};
+ghost use Rattle.wasmhost_serve.specs.rules.Statuses.{status_of_line, status_of_work};
+
+use crate::lines::LineFault;
+use worker::WorkFault;
+
 /// A command line that isn't understood.
 pub const USAGE: u8 = 2;
 
@@ -17,3 +23,26 @@ pub const BAD_LINE: u8 = 6;
 
 /// The output can't be written.
 pub const UNWRITTEN: u8 = 7;
+
+/// The exit status of what a worker's call says.
+pub(crate) fn status_of_work(fault: WorkFault) -> u8
+    ensures { result ≡ status_of_work fault }
+{
+    match fault {
+        WorkFault::Refused(_) => REFUSED,
+        WorkFault::Source | WorkFault::Failed => UNREAD,
+        WorkFault::Memory => NO_MEMORY,
+        WorkFault::Outlet => UNWRITTEN,
+    }
+}
+
+/// The exit status of a request line that isn't taken, or of its reader.
+pub(crate) fn status_of_line(fault: LineFault) -> u8
+    ensures { result ≡ status_of_line fault }
+{
+    match fault {
+        LineFault::Read | LineFault::Clock | LineFault::Words => UNREAD,
+        LineFault::Memory => NO_MEMORY,
+        LineFault::Number { .. } | LineFault::Form => BAD_LINE,
+    }
+}

@@ -31,7 +31,7 @@ use Rattle.wasmhost_serve.proofs.LineLemmas.Passing.{passed_nothing, up_to_on}
 record HandsOver (s t : Standing) (a : Answer) : Type 0 where
   counted : t.taken ≡ s.taken + length (request_in a)
   drawn : t.place ≡ s.place + words_in a
-  comes : ComesFrom s.outside s.place a
+  comes : ComesFrom s.outside s.stream s.place a
   given : GiveUpTo s.taken s.unread (request_in a) (λ rest. t.unread ≡ Some rest)
 
 -- the answer of a request line
@@ -84,9 +84,10 @@ pub record HasAnswered (s t : Standing) (kept : List Kept) : Type 0 where
   pub unspoilt : t.fault ≡ None
   pub steady : t.failed ≡ s.failed
   pub same : t.outside ≡ s.outside
+  pub same_stream : t.stream ≡ s.stream
   pub counted : t.taken ≡ s.taken + length (requests_in kept)
   pub drawn : t.place ≡ s.place + words_of kept
-  pub come : ComeFrom s.outside s.place kept
+  pub come : ComeFrom s.outside s.stream s.place kept
   pub given : GiveUpTo s.taken s.unread (requests_in kept) (λ rest. t.unread ≡ Some rest)
 
 answered_nothing : (s : Standing) → s.fault ≡ None → HasAnswered s s []
@@ -94,6 +95,7 @@ answered_nothing s none = record {
   unspoilt = none;
   steady = refl;
   same = refl;
+  same_stream = refl;
   counted = omega arith;
   drawn = omega arith;
   come = tt;
@@ -113,12 +115,14 @@ answered_first kind s t u a more hands others =
       unspoilt = others.unspoilt;
       steady = others.steady ∙ hands.steady;
       same = others.same ∙ hands.same;
+      same_stream = others.same_stream ∙ hands.same_stream;
       counted = omega (arith, count, counts, long);
       drawn = omega (arith, place, places);
       come = (
         one.comes,
-        subst (λ o. ComeFrom o (s.place + words_in a) more) hands.same
-            (subst (λ k. ComeFrom t.outside k more) place others.come),
+        subst (λ o. ComeFrom o s.stream (s.place + words_in a) more) hands.same
+            (subst (λ v. ComeFrom t.outside v (s.place + words_in a) more) hands.same_stream
+            (subst (λ k. ComeFrom t.outside t.stream k more) place others.come)),
       );
       given = up_to_on s.taken s.unread t.unread (request_in a) (requests_in more)
           (λ rest. u.unread ≡ Some rest) one.given
@@ -196,7 +200,7 @@ module _ (s u t : Standing) (kept : List Kept) (before : HasAnswered s u kept) (
   refused_behind (kinds.Random n) why h = (wordless_behind n why h.0, h.1 ∙ before.steady)
 
   left_by : (e : SourceFault) → HandsNext kind u (Err e) t → LeavesFault kind u t None
-  left_by e h = subst (LeavesFault kind u t) before.unspoilt h.3
+  left_by e h = subst (LeavesFault kind u t) before.unspoilt h.4
 
   pub refused_for : (e : SourceFault) (why : LineFault) → t.fault ≡ Some why
       → HandsNext kind u (Err e) t → IsRefused kind why

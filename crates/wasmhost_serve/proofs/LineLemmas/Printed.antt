@@ -6,11 +6,11 @@ use Rattle.std.proofs.lemmas.List.{append_assoc, append-nil}
 use Rattle.wasmhost_serve.specs.rules.Texts.{printed}
 use Rattle.wasmhost_serve.specs.rules.Printed.{all_printed, TakenLinesArePrinted}
 
-appends_nothing : (o : Option (List ℕ)) → Appends o o []
+pub appends_nothing : (o : Option (List ℕ)) → Appends o o []
 appends_nothing None = tt
 appends_nothing (Some xs) = sym (append-nil xs)
 
-appends_both : (a b c : Option (List ℕ)) (front rest : List ℕ) → Appends a b front
+pub appends_both : (a b c : Option (List ℕ)) (front rest : List ℕ) → Appends a b front
     → Appends b c rest → Appends a c (front ++ rest)
 appends_both None b c front rest h k = tt
 appends_both (Some xs) None c front rest h k = absurd h

@@ -1,44 +1,88 @@
 -- The examples, computed.
 use Rattle.std.proofs.Common.{refl}
 use Rattle.clap.proofs.OnLiterals.{clap_on_literals}
-use Rattle.wasmhost_serve.specs.laws.Examples.{HelpExamples, MistakeExamples, OrderExamples}
+use Rattle.wasmhost_serve.specs.laws.Examples.{CreateOrderExamples, HelpExamples, OptionMistakes}
+use Rattle.wasmhost_serve.specs.laws.Examples.{PathExamples, PathMistakes, RunOrderExamples}
 
-pub order_examples : OrderExamples
+pub path_examples : PathExamples
 unfolding clap_on_literals
-order_examples = record {
+path_examples = record {
   checks = (refl, refl, refl);
-  runs = (refl, refl, refl);
-  runs_with_fuel = (refl, refl, refl);
-  runs_with_the_most_fuel = (refl, refl, refl);
-  option_first = (refl, refl, refl);
-  seed = (refl, refl, refl);
-  clock = (refl, refl, refl);
+  path_like_an_option = (refl, refl, refl);
+  shows = (refl, refl, refl);
+}
+
+pub create_examples : CreateOrderExamples
+unfolding clap_on_literals
+create_examples = record {
+  creates = (refl, refl, refl);
+  pages = (refl, refl, refl);
+  files = (refl, refl, refl);
+  journal = (refl, refl, refl);
+  no_pages = (refl, refl, refl);
+  the_most_pages = (refl, refl, refl);
   environment = (refl, refl, refl);
   arguments = (refl, refl, refl);
   no_arguments = (refl, refl, refl);
-  path_like_an_option = (refl, refl, refl);
 }
 
-pub mistake_examples : MistakeExamples
+pub run_examples : RunOrderExamples
 unfolding clap_on_literals
-mistake_examples = record {
+run_examples = record {
+  runs = (refl, refl, refl);
+  fuel = (refl, refl, refl);
+  the_most_fuel = (refl, refl, refl);
+  option_first = (refl, refl, refl);
+  every = (refl, refl, refl);
+  seed = (refl, refl, refl);
+  clock = (refl, refl, refl);
+  rewrites = (refl, refl, refl);
+  dashes = (refl, refl, refl);
+}
+
+pub path_mistakes : PathMistakes
+unfolding clap_on_literals
+path_mistakes = record {
   no_command = refl;
   unknown_command = refl;
-  no_module = refl;
-  two_modules = refl;
+  check_of_none = refl;
+  create_of_no_module = refl;
+  module_behind_dashes = refl;
+  create_of_two_modules = refl;
+  run_of_none = refl;
+  run_of_two = refl;
+  run_with_arguments = refl;
+  show_of_none = refl;
+  show_of_two = refl;
+}
+
+pub option_mistakes : OptionMistakes
+unfolding clap_on_literals
+option_mistakes = record {
   no_number = refl;
   zero_fuel = refl;
   too_much_fuel = refl;
   fuel_twice = refl;
+  every_of_zero = refl;
+  every_of_no_number = refl;
   clock_below_zero = refl;
   seed_twice = refl;
-  path_behind_dashes = refl;
+  rewrite_with_a_value = refl;
+  rewrite_twice = refl;
+  too_many_pages = refl;
+  files_of_no_number = refl;
+  journal_below_zero = refl;
+  no_entry = refl;
   fuel_of_a_check = refl;
+  fuel_of_a_creation = refl;
+  pages_of_a_run = refl;
+  entry_of_a_run = refl;
 }
 
 pub help_examples : HelpExamples
 unfolding clap_on_literals
 help_examples = record {
   of_the_program = refl;
-  of_a_command = refl;
+  of_a_creation = refl;
+  of_a_run = refl;
 }

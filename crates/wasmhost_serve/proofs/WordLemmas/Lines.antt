@@ -1,260 +1,79 @@
--- Words for which no fault is listed name one of the two commands, with what it needs.
-use Rattle.std.proofs.Common.{◌≡◌, ◌<◌, ◌≤◌, ◌^◌, ◌-◌, ℕ, Bool, ◌||◌, not, cond, true, false, arith}
-use Rattle.std.proofs.Common.{refl, ap, sym, ◌∙◌, subst, List, [], ◌∷◌, ◌++◌, Option, Some, None}
-use Rattle.std.proofs.Common.{length, codes, eqb-true, true≢false, inl, inr, ◌⊎◌}
+-- Words for which no fault is listed name one of the four commands, with what it needs.
+use Rattle.std.proofs.Common.{◌≡◌, ◌<◌, ◌≤◌, ◌^◌, ℕ, Bool, ◌||◌, not, cond, true, false, arith}
+use Rattle.std.proofs.Common.{refl, sym, subst, List, [], ◌∷◌, Option, Some, None}
+use Rattle.std.proofs.Common.{codes, true≢false, inl, inr}
 use Rattle.std.specs.List.{AllByRecursion as Each, find, fold}
 use Rattle.std.specs.Option.{is_some, IsSomeAnd, option_map, option_map_or}
 use Rattle.std.specs.Str.{bytes_eq}
 use Rattle.std.specs.Cmp.Lexicographic.{bytes_decides}
-use Rattle.std.specs.Prelude.{◌==◌, IfSome, slice_get, option_and_then}
-use Rattle.clap.specs.Walk.{Held, Names, one_of, Row, Rule, Text, Walk, at_row, default_rows}
-use Rattle.clap.specs.Walk.{reading_by, finished, has_row, more_values, nothing_held, row_text}
-use Rattle.clap.specs.Walk.{settled, walk, walk_from, with_default, with_values, without}
-use Rattle.clap.specs.Walk.{answers_to}
+use Rattle.std.specs.Prelude.{IfSome, option_and_then}
+use Rattle.clap.specs.Walk.{Held, Names, one_of, Row, Rule, Text, Walk, default_rows}
+use Rattle.clap.specs.Walk.{reading_by, finished, has_row, nothing_held}
+use Rattle.clap.specs.Walk.{settled, walk, walk_from, with_default}
+use Rattle.clap.specs.Walk.{answers_to, with_values}
 use Rattle.clap.specs.Simple.{App, Shape, argument_words, built, entered, label_of, names_of}
-use Rattle.clap.specs.Simple.{rows_at, subcommand_of, filled, help_rule, with_index}
-use Rattle.clap.specs.Values.{IsUnsignedIn, read_as}
-use Rattle.clap.specs.ValueTests.{accepts}
-use Rattle.clap.specs.Kinds.{or_else, range_kinds, value_kinds}
+use Rattle.clap.specs.Simple.{rows_at, subcommand_of}
+use Rattle.clap.specs.Words.{first_of}
+use Rattle.clap.specs.Kinds.{or_else}
 use Rattle.clap.specs.Takes.{is_given}
-use Rattle.clap.specs.Facts.{explicit_source}
 use Rattle.clap.specs.Faults.{check_fault, defaults_fault, entered_fault, fault_of, level_fault}
-use Rattle.clap.specs.Faults.{repeat_fault, settle_fault, walk_fault}
+use Rattle.clap.specs.Faults.{settle_fault, walk_fault}
 use Rattle.clap.specs.declared.builder.value_parser.Reading.TheVariants.{AsWritten}
-use Rattle.clap.specs.declared.builder.value_parser.ValueParser.{ValueParser}
-use Rattle.clap.specs.declared.builder.value_parser.ValueParser.TheVariants.{Unsigned}
-use Rattle.clap.specs.declared.parser.matches.ValueSource.TheVariants.{CommandLine}
+use Rattle.clap.specs.declared.parser.matches.ValueSource.TheVariants.{DefaultValue}
 use Rattle.clap.specs.declared.error.kind.ErrorKind.TheVariants as kind
-use Rattle.clap.proofs.ValueTestLemmas.{accepts-Accepts}
-use Rattle.std.specs.Str.Parse.{digits_value, without_leading_plus}
-use Rattle.wasmhost_serve.specs.rules.Commands.{IsClockText, IsFuelText, IsTaken, Meaning}
-use Rattle.wasmhost_serve.specs.rules.Commands.{TakesClock, TakesFuel, check, clock_rule, env_rule}
-use Rattle.wasmhost_serve.specs.rules.Commands.{fuel_rule, fuel_text_in, guest_words, meaning_below}
-use Rattle.wasmhost_serve.specs.rules.Commands.{module_rule, spelled_number, own_words, path_in}
-use Rattle.wasmhost_serve.specs.rules.Commands.{run, run_in, seed_rule, wasmhost}
-use Rattle.wasmhost_serve.specs.laws.Words.{FaultlessWordsMean, HasFuel}
-use Rattle.wasmhost_serve.proofs.WordLemmas.Walks.{Keeps, each_append, found_each, no_first}
+use Rattle.wasmhost_serve.specs.rules.CommandLine.{wasmhost}
+use Rattle.wasmhost_serve.specs.rules.Commands.{HasPaths, IsNumberFrom, IsTaken, Meaning, check}
+use Rattle.wasmhost_serve.specs.rules.Commands.{create, create_in, disk_in}
+use Rattle.wasmhost_serve.specs.rules.Commands.{guest_words, meaning_below, module_in, number_or}
+use Rattle.wasmhost_serve.specs.rules.Commands.{own_words, run, run_in, show, spelled_number}
+use Rattle.wasmhost_serve.specs.rules.Commands.{TakesOptions}
+use Rattle.wasmhost_serve.specs.laws.Words.{FaultlessWordsMean, NumbersFit}
+use Rattle.wasmhost_serve.proofs.WordLemmas.Walks.{Keeps, found_each, no_first}
 use Rattle.wasmhost_serve.proofs.WordLemmas.Walks.{no_second, settled_good, some_kind, walk_good}
 use Rattle.wasmhost_serve.proofs.WordLemmas.Stops.{NoHelp, walk_on}
-
--- ---- rows
-
--- what the value of an argument has to be
-record Passes (id text : Text) : Type 0 where
-  fuel : bytes_eq id (codes "fuel") ≡ true → IsFuelText text
-  clock : bytes_eq id (codes "clock") ≡ true → IsClockText text
-
--- the row has a value, and the first one passes
-record IsGood (r : Row) : Type 0 where
-  some : is_some (slice_get r.values 0) ≡ true
-  passes : IfSome (row_text r) (Passes r.id)
-
-good_at_row : (id : Text) (change : Row → List Row) (missing rows : List Row)
-    → ((r : Row) → IsGood r → Each IsGood (change r)) → Each IsGood missing
-    → Each IsGood rows → Each IsGood (at_row id change missing rows)
-good_at_row id change missing [] changed absent good = absent
-good_at_row id change missing (r ∷ rs) changed absent good =
-    go (bytes_eq r.id id) (good_at_row id change missing rs changed absent good.1)
-  where
-    go : (b : Bool) → Each IsGood (at_row id change missing rs)
-        → Each IsGood (cond b (change r ++ rs) (r ∷ at_row id change missing rs))
-    go true later = each_append IsGood (change r) rs (changed r good.0) good.1
-    go false later = (good.0, later)
-
-first_stays : (vs more : List Text) → is_some (slice_get vs 0) ≡ true
-    → slice_get (vs ++ more) 0 ≡ slice_get vs 0
-first_stays [] more e = absurd (true≢false (sym e))
-first_stays (v ∷ vs) more e = refl
-
-more_good : (values : List Text) (r : Row) → IsGood r
-    → Each IsGood (more_values CommandLine values r)
-more_good values r good =
-    let stays : slice_get (r.values ++ values) 0 ≡ slice_get r.values 0 =
-    first_stays r.values values good.some in (
-      record {
-        some = ap is_some stays ∙ good.some;
-        passes = subst (λ o. IfSome (option_map (read_as r.reading) o) (Passes r.id)) (sym stays)
-            good.passes;
-      },
-      tt,
-    )
-
--- a use with one value, behind those before it
-added_good : (id v : Text) (rows : List Row) → Passes id v → Each IsGood rows
-    → Each IsGood (with_values id AsWritten CommandLine (v ∷ []) rows)
-added_good id v rows passes good =
-    good_at_row id (more_values CommandLine (v ∷ [])) _ rows (more_good (v ∷ []))
-    (record { some = refl; passes = passes }, tt) good
-
--- one in place of those before it
-with_good : (id v : Text) (rows : List Row) → Passes id v → Each IsGood rows
-    → Each IsGood (with_values id AsWritten CommandLine (v ∷ []) (without id rows))
-with_good id v rows passes good =
-    added_good id v (without id rows) passes
-    (good_at_row id (λ _. []) [] rows (λ r h. tt) tt good)
-
-accepted : (parser : ValueParser) (v : Text) → value_kinds false parser v ≡ []
-    → accepts false parser v ≡ true
-accepted parser v e = go (accepts false parser v) e
-  where
-    go : (b : Bool) → cond b [] (Rattle.clap.specs.Values.refused_kind parser ∷ []) ≡ [] → b ≡ true
-    go true e = refl
-    go false e = absurd (some_kind _ [] e)
-
--- ---- the arguments of the two commands
-
-abbrev module_built : Rule
-module_built = with_index 1 (filled module_rule)
-
-abbrev fuel_built : Rule
-fuel_built = with_index 2 (filled fuel_rule)
-
-abbrev seed_built : Rule
-seed_built = with_index 2 (filled seed_rule)
-
-abbrev clock_built : Rule
-clock_built = with_index 2 (filled clock_rule)
-
-abbrev env_built : Rule
-env_built = with_index 2 (filled env_rule)
-
-abbrev help_built : Rule
-help_built = filled help_rule
-
--- exactly one value is wanted
-one_value : (n : ℕ) → range_kinds 1 1 n ≡ [] → 1 ≡ n
-one_value n e = go (n == 0) (1 == n) refl e
-  where
-    go : (a b : Bool) → (1 == n) ≡ b
-        → cond a (kind.InvalidValue ∷ []) (cond b [] (kind.WrongNumberOfValues ∷ [])) ≡ [] → 1 ≡ n
-    go true b is e = absurd (some_kind _ [] e)
-    go false true is e = eqb-true 1 n is
-    go false false is e = absurd (some_kind _ [] e)
-
--- several values are too many
-too_many : (v w : Text) (vs : List Text) → range_kinds 1 1 (length (v ∷ w ∷ vs)) ≡ [] → ⊥
-too_many v w vs e =
-    let one = one_value (length (v ∷ w ∷ vs)) e in omega (arith, one)
-
--- a text of an argument of which nothing is asked
-free : (id v : Text) → bytes_eq id (codes "fuel") ≡ false → bytes_eq id (codes "clock") ≡ false
-    → Passes id v
-free id v no_fuel no_clock = record {
-  fuel = λ is. absurd (true≢false (sym is ∙ no_fuel));
-  clock = λ is. absurd (true≢false (sym is ∙ no_clock));
-}
-
-keeps_module : Keeps IsGood false module_built
-keeps_module [] rows e good = absurd (some_kind _ _ e)
-keeps_module (v ∷ []) rows e good =
-    with_good (codes "MODULE") v rows (free (codes "MODULE") v refl refl) good
-keeps_module (v ∷ w ∷ vs) rows e good =
-    absurd (too_many v w vs (no_first (range_kinds 1 1 (length (v ∷ w ∷ vs))) _ e))
-
-keeps_fuel : Keeps IsGood false fuel_built
-keeps_fuel [] rows e good = absurd (some_kind _ _ e)
-keeps_fuel (v ∷ []) rows e good =
-    let parser : ValueParser = Unsigned 1 (2 ^ 64 - 1) in
-    let read : or_else (value_kinds false parser v) [] ≡ [] =
-    no_second (repeat_fault false (codes "fuel") rows) _ e in
-    let fits : IsFuelText v = accepts-Accepts false parser v
-    (accepted parser v (no_first (value_kinds false parser v) [] read)) in
-    with_good (codes "fuel") v rows (record {
-      fuel = λ is. fits;
-      clock = λ is. absurd (true≢false (sym is));
-    }) good
-keeps_fuel (v ∷ w ∷ vs) rows e good =
-    absurd (too_many v w vs (no_first (range_kinds 1 1 (length (v ∷ w ∷ vs))) _ e))
-
-keeps_seed : Keeps IsGood false seed_built
-keeps_seed [] rows e good = absurd (some_kind _ _ e)
-keeps_seed (v ∷ []) rows e good =
-    with_good (codes "seed") v rows (free (codes "seed") v refl refl) good
-keeps_seed (v ∷ w ∷ vs) rows e good =
-    absurd (too_many v w vs (no_first (range_kinds 1 1 (length (v ∷ w ∷ vs))) _ e))
-
-keeps_clock : Keeps IsGood false clock_built
-keeps_clock [] rows e good = absurd (some_kind _ _ e)
-keeps_clock (v ∷ []) rows e good =
-    let parser : ValueParser = Unsigned 0 (2 ^ 64 - 1) in
-    let read : or_else (value_kinds false parser v) [] ≡ [] =
-    no_second (repeat_fault false (codes "clock") rows) _ e in
-    let fits : IsClockText v = accepts-Accepts false parser v
-    (accepted parser v (no_first (value_kinds false parser v) [] read)) in
-    with_good (codes "clock") v rows (record {
-      fuel = λ is. absurd (true≢false (sym is));
-      clock = λ is. fits;
-    }) good
-keeps_clock (v ∷ w ∷ vs) rows e good =
-    absurd (too_many v w vs (no_first (range_kinds 1 1 (length (v ∷ w ∷ vs))) _ e))
-
-keeps_env : Keeps IsGood false env_built
-keeps_env [] rows e good = absurd (some_kind _ _ e)
-keeps_env (v ∷ []) rows e good =
-    added_good (codes "env") v rows (free (codes "env") v refl refl) good
-keeps_env (v ∷ w ∷ vs) rows e good =
-    absurd (too_many v w vs (no_first (range_kinds 1 1 (length (v ∷ w ∷ vs))) _ e))
-
-keeps_help : Keeps IsGood false help_built
-keeps_help values rows e good = good
+use Rattle.wasmhost_serve.proofs.WordLemmas.Rows.{IsGood, added_good, options_are_taken}
+use Rattle.wasmhost_serve.proofs.WordLemmas.Rows.{path_is_there}
+use Rattle.wasmhost_serve.proofs.WordLemmas.Uses.{keeps_env, keeps_help, keeps_number, keeps_path}
+use Rattle.wasmhost_serve.proofs.WordLemmas.Uses.{keeps_rewrite, keeps_seed}
 
 -- ---- one level
 
-undefaulted : (c : List Rule) (rows : List Row) → Each (λ a. a.defaults ≡ []) c
-    → fold with_default rows c ≡ rows
-undefaulted [] rows h = refl
-undefaulted (a ∷ c) rows h =
-    let same : with_default rows a ≡ rows = go (has_row a.id rows) in
-    ap (λ (rs : List Row). fold with_default rs c) same ∙ undefaulted c rows h.1
+-- what stands for an argument that isn't used is good
+abbrev HasGoodDefault : Rule → Type 0
+HasGoodDefault a = (rows : List Row) → Each IsGood rows
+    → Each IsGood (default_rows a.id (reading_by a) a.defaults rows)
+
+defaults_good : (c : List Rule) (rows : List Row) → Each HasGoodDefault c → Each IsGood rows
+    → Each IsGood (fold with_default rows c)
+defaults_good [] rows h good = good
+defaults_good (a ∷ c) rows h good =
+    defaults_good c (with_default rows a) h.1 (go (has_row a.id rows))
   where
-    go : (b : Bool) → cond b rows (default_rows a.id (reading_by a) a.defaults rows) ≡ rows
-    go true = refl
-    go false = rw h.0 refl
+    go : (b : Bool)
+        → Each IsGood (cond b rows (default_rows a.id (reading_by a) a.defaults rows))
+    go true = good
+    go false = h.0 rows good
 
-path_is_there : (rows : List Row) → Each IsGood rows → is_given (codes "MODULE") rows ≡ true
-    → is_some (path_in rows) ≡ true
-path_is_there rows good e =
-    go (find (λ r. bytes_eq r.id (codes "MODULE")) rows)
-    (found_each IsGood (λ r. bytes_eq r.id (codes "MODULE")) rows good) e
-  where
-    go : (o : Option Row) → IfSome o (λ r. IsGood r × (bytes_eq r.id (codes "MODULE") ≡ true))
-        → option_map_or (λ r. explicit_source r.source) o false ≡ true
-        → is_some (option_and_then (λ (r : Row). slice_get r.values 0) o) ≡ true
-    go None h e = absurd (true≢false (sym e))
-    go (Some r) h e = h.0.some
+-- none stands for it
+unused : (rows : List Row) → Each IsGood rows → Each IsGood rows
+unused rows good = good
 
--- the first value of an argument passes
-first_passes : (id : Text) (Q : Text → Type 0) (rows : List Row)
-    → ((r : Row) (text : Text) → bytes_eq r.id id ≡ true → Passes r.id text → Q text)
-    → Each IsGood rows → IfSome (one_of id rows) Q
-first_passes id Q rows says good =
-    go (find (λ r. bytes_eq r.id id) rows) (found_each IsGood (λ r. bytes_eq r.id id) rows good)
-  where
-    text_passes : (r : Row) → bytes_eq r.id id ≡ true → (text : Option Text)
-        → IfSome text (Passes r.id) → IfSome text Q
-    text_passes r is None h = tt
-    text_passes r is (Some text) h = says r text is h
+-- for the flag a no stands
+no_rewrite : (rows : List Row) → Each IsGood rows
+    → Each IsGood (with_values (codes "rewrite") AsWritten DefaultValue (codes "false" ∷ []) rows)
+no_rewrite rows good =
+    added_good DefaultValue (codes "rewrite") (codes "false") rows (inr refl) good
 
-    go : (o : Option Row) → IfSome o (λ r. IsGood r × (bytes_eq r.id id ≡ true))
-        → IfSome (option_and_then row_text o) Q
-    go None h = tt
-    go (Some r) h = text_passes r h.1 (row_text r) h.0.passes
-
-fuel_is_taken : (rows : List Row) → Each IsGood rows → TakesFuel rows
-fuel_is_taken rows good =
-    first_passes (codes "fuel") IsFuelText rows (λ r text is passes. passes.fuel is) good
-
-clock_is_taken : (rows : List Row) → Each IsGood rows → TakesClock rows
-clock_is_taken rows good =
-    first_passes (codes "clock") IsClockText rows (λ r text is passes. passes.clock is) good
+-- good rows for which no fault is listed in the end have the paths of their command
+abbrev AsksForPaths : Shape → Type 0
+AsksForPaths s = (rows : List Row) → Each IsGood rows → check_fault s rows false ≡ []
+    → HasPaths s.name rows
 
 -- a subcommand for whose own words no fault is listed
-below_taken : (s : Shape) (words : List Text) → (s.name ≡ codes "check") ⊎ (s.name ≡ codes "run")
-    → Each (Keeps IsGood s.args_override_self) s.rules
-    → Each (λ a. a.defaults ≡ []) s.rules → ((rows : List Row) → check_fault s rows false ≡ []
-    → is_given (codes "MODULE") rows ≡ true)
+below_taken : (s : Shape) (words : List Text) → Each (Keeps IsGood s.args_override_self) s.rules
+    → Each HasGoodDefault s.rules → AsksForPaths s
     → level_fault s [] nothing_held words false [] ≡ [] → IsTaken (rows_at s words)
-below_taken s words named keeps plain asks e =
+below_taken s words keeps plain asks e =
     let end : Held = (walk s.rules [] nothing_held words).held in
     let walks : walk_fault s [] (walk_from nothing_held) words ≡ [] =
     no_first (walk_fault s [] (walk_from nothing_held) words) _ e in
@@ -270,20 +89,46 @@ below_taken s words named keeps plain asks e =
     settled_good IsGood s.rules s.args_override_self keeps end settles
     (walk_good IsGood s [] keeps (walk_from nothing_held) words walks tt) in
     let finished_good : Each IsGood (finished s.rules end) =
-    subst (Each IsGood) (sym (undefaulted s.rules (settled s.rules end).rows plain)) good in (
-      named,
-      path_is_there (finished s.rules end) finished_good (asks (finished s.rules end) checks),
-      fuel_is_taken (finished s.rules end) finished_good,
-      clock_is_taken (finished s.rules end) finished_good,
+    defaults_good s.rules (settled s.rules end).rows plain good in (
+      asks (finished s.rules end) finished_good checks,
+      options_are_taken (finished s.rules end) finished_good,
     )
 
-or_false : (b : Bool) → (b || false) ≡ true → b ≡ true
-or_false true e = refl
-or_false false e = e
+-- ---- arguments that have to be given
 
 wants : (b : Bool) → cond (not b || false) (kind.MissingRequiredArgument ∷ []) [] ≡ [] → b ≡ true
 wants true e = refl
 wants false e = absurd (some_kind _ [] e)
+
+wants_first : (a b : Bool)
+    → cond (not a || (not b || false)) (kind.MissingRequiredArgument ∷ []) [] ≡ [] → a ≡ true
+wants_first true b e = refl
+wants_first false b e = absurd (some_kind _ [] e)
+
+wants_second : (a b : Bool)
+    → cond (not a || (not b || false)) (kind.MissingRequiredArgument ∷ []) [] ≡ [] → b ≡ true
+wants_second true b e = wants b e
+wants_second false b e = absurd (some_kind _ [] e)
+
+-- the argument is there, where no fault is listed
+one_path : (name : Text) (rows : List Row) → Each IsGood rows
+    → cond (not (is_given name rows) || false) (kind.MissingRequiredArgument ∷ []) [] ≡ []
+    → is_some (first_of name rows) ≡ true
+one_path name rows good e = path_is_there name rows good (wants (is_given name rows) e)
+
+-- both arguments of a creation
+two_paths : (rows : List Row) → Each IsGood rows
+    → cond (not (is_given (codes "DISK") rows) || (not (is_given (codes "MODULE") rows) || false))
+    (kind.MissingRequiredArgument ∷ []) [] ≡ []
+    → (codes "create" ≡ codes "create") × (is_some (disk_in rows) ≡ true)
+    × (is_some (module_in rows) ≡ true)
+two_paths rows good e =
+    let disk = is_given (codes "DISK") rows in
+    let wasm = is_given (codes "MODULE") rows in (
+      refl,
+      path_is_there (codes "DISK") rows good (wants_first disk wasm e),
+      path_is_there (codes "MODULE") rows good (wants_second disk wasm e),
+    )
 
 -- ---- the whole line
 
@@ -295,19 +140,63 @@ abbrev Leads : Text → List Text → Shape → Type 0
 Leads name words s = answers_to name (label_of s) ≡ true
     → level_fault s [] nothing_held words false [] ≡ [] → IsTaken (rows_at s words)
 
+or_false : (b : Bool) → (b || false) ≡ true → b ≡ true
+or_false true e = refl
+or_false false e = e
+
 module _ (name : Text) (words : List Text) (no_help : bytes_eq name (codes "help") ≡ false) where
   each_leads : Each (Leads name words) app.subs
   each_leads = (
-    λ here e. below_taken _ words (inl refl) (keeps_module, (keeps_help, tt)) (
-      refl,
-      (refl, tt),
-    ) (λ rows. wants (is_given (codes "MODULE") rows)) e,
+    λ here e. below_taken _ words (keeps_path 1 (codes "MODULE") (λ v. tt), (keeps_help, tt))
+        (unused, (unused, tt))
+        (λ rows good e. inl (refl, one_path (codes "MODULE") rows good e)) e,
     (
-      λ here e. below_taken _ words (inr refl)
-          (keeps_module, (keeps_fuel, (keeps_seed, (keeps_clock, (keeps_env, (keeps_help, tt))))))
-          (refl, (refl, (refl, (refl, (refl, (refl, tt))))))
-          (λ rows. wants (is_given (codes "MODULE") rows)) e,
-      (λ here e. absurd (is_help (or_false (bytes_eq (codes "help") name) here)), tt),
+      λ here e. below_taken _ words (
+        keeps_path 1 (codes "DISK") (λ v. tt),
+        (
+          keeps_path 2 (codes "MODULE") (λ v. tt),
+          (
+            keeps_number 3 (codes "pages") 0 (λ v is. is),
+            (
+              keeps_number 3 (codes "files") 0 (λ v is. is),
+              (
+                keeps_number 3 (codes "journal") 0
+                    (λ v is. is),
+                (keeps_env 3, (keeps_help, tt)),
+              ),
+            ),
+          ),
+        ),
+      )
+          (unused, (unused, (unused, (unused, (unused, (unused, (unused, tt)))))))
+          (λ rows good e. inr (inl (two_paths rows good e))) e,
+      (
+        λ here e. below_taken _ words (
+          keeps_path 1 (codes "DISK") (λ v. tt),
+          (
+            keeps_number 2 (codes "fuel") 1 (λ v is. is),
+            (
+              keeps_number 2 (codes "every") 1
+                  (λ v is. is),
+              (
+                keeps_seed 2,
+                (
+                  keeps_number 2 (codes "clock") 0 (λ v is. is),
+                  (keeps_rewrite 2, (keeps_help, tt)),
+                ),
+              ),
+            ),
+          ),
+        )
+            (unused, (unused, (unused, (unused, (unused, (no_rewrite, (unused, tt)))))))
+            (λ rows good e. inr (inr (inl (refl, one_path (codes "DISK") rows good e)))) e,
+        (
+          λ here e. below_taken _ words (keeps_path 1 (codes "DISK") (λ v. tt), (keeps_help, tt))
+              (unused, (unused, tt))
+              (λ rows good e. inr (inr (inr (refl, one_path (codes "DISK") rows good e)))) e,
+          (λ here e. absurd (is_help (or_false (bytes_eq (codes "help") name) here)), tt),
+        ),
+      ),
     ),
   )
     where
@@ -358,29 +247,62 @@ words_taken words e =
 
 -- ---- what they mean
 
-run_has_fuel : (rows : List Row) (arguments : List Text) (path : Text) → TakesFuel rows
-    → HasFuel (run (run_in rows arguments path))
-run_has_fuel rows arguments path fits = go (fuel_text_in rows) fits
+-- the number of an option that takes such a one, or another such one
+number_fits : (least other : ℕ) (name : Text) (rows : List Row) → IfSome (one_of name rows)
+    (IsNumberFrom least) → least ≤ other → other < 2 ^ 64
+    → (least ≤ number_or name other rows) × (number_or name other rows < 2 ^ 64)
+number_fits least other name rows fits from below = go (one_of name rows) fits
   where
-    go : (text : Option Text) → IfSome text IsFuelText
-        → (1 ≤ option_map_or spelled_number text 100000)
-        × (option_map_or spelled_number text 100000 < 2 ^ 64)
-    go None fits = (omega arith, omega arith)
+    go : (text : Option Text) → IfSome text (IsNumberFrom least)
+        → (least ≤ option_map_or spelled_number text other)
+        × (option_map_or spelled_number text other < 2 ^ 64)
+    go None fits = (from, below)
     go (Some text) fits = (fits.2, fits.1)
 
+run_has_numbers : (rows : List Row) (path : Text) → TakesOptions rows
+    → NumbersFit (run (run_in rows path))
+run_has_numbers rows path taken =
+    let fuel = number_fits 1 100000 (codes "fuel") rows taken.fuel (omega arith) (omega arith) in
+    let every = number_fits 1 100 (codes "every") rows taken.every (omega arith) (omega arith) in
+    (fuel.0, fuel.1, every.0, every.1)
+
+create_has_numbers : (rows : List Row) (arguments : List Text) (disk path : Text)
+    → TakesOptions rows → NumbersFit (create (create_in rows arguments disk path))
+create_has_numbers rows arguments disk path taken =
+    let pages = number_fits 0 16 (codes "pages") rows taken.pages (omega arith) (omega arith) in
+    let files = number_fits 0 16 (codes "files") rows taken.files (omega arith) (omega arith) in
+    let journal =
+    number_fits 0 256 (codes "journal") rows taken.journal (omega arith) (omega arith) in
+    (pages.1, files.1, journal.1)
+
 path_means : (means : Text → Meaning) (path : Option Text) → is_some path ≡ true
-    → ((text : Text) → HasFuel (means text)) → IsSomeAnd (option_map means path) HasFuel
+    → ((text : Text) → NumbersFit (means text)) → IsSomeAnd (option_map means path) NumbersFit
 path_means means None e has = absurd (true≢false (sym e))
 path_means means (Some path) e has = has path
 
+paths_mean : (means : Text → Text → Meaning) (disk path : Option Text) → is_some disk ≡ true
+    → is_some path ≡ true → ((d text : Text) → NumbersFit (means d text))
+    → IsSomeAnd (option_and_then (λ d. option_map (means d) path) disk) NumbersFit
+paths_mean means None path d e has = absurd (true≢false (sym d))
+paths_mean means (Some disk) path d e has = path_means (means disk) path e (has disk)
+
 taken_means : (arguments : List Text) (name : Text) (rows : List Row) → IsTaken (name, rows)
-    → IsSomeAnd (meaning_below arguments (name, rows)) HasFuel
+    → IsSomeAnd (meaning_below arguments (name, rows)) NumbersFit
 taken_means arguments name rows taken = elim taken.0 [
-  | inl is ↦ subst (λ (t : Text). IsSomeAnd (meaning_below arguments (t, rows)) HasFuel) (sym is)
-      (path_means check (path_in rows) taken.1 (λ path. tt))
-  | inr is ↦ subst (λ (t : Text). IsSomeAnd (meaning_below arguments (t, rows)) HasFuel) (sym is)
-      (path_means (λ path. run (run_in rows arguments path)) (path_in rows) taken.1
-      (λ path. run_has_fuel rows arguments path taken.2))
+  | inl p ↦ subst (λ (t : Text). IsSomeAnd (meaning_below arguments (t, rows)) NumbersFit)
+      (sym p.0) (path_means check (module_in rows) p.1 (λ path. tt))
+  | inr others ↦ elim others [
+    | inl p ↦ subst (λ (t : Text). IsSomeAnd (meaning_below arguments (t, rows)) NumbersFit)
+        (sym p.0) (paths_mean (λ d path. create (create_in rows arguments d path)) (disk_in rows)
+        (module_in rows) p.1 p.2 (λ d path. create_has_numbers rows arguments d path taken.1))
+    | inr later ↦ elim later [
+      | inl p ↦ subst (λ (t : Text). IsSomeAnd (meaning_below arguments (t, rows)) NumbersFit)
+          (sym p.0) (path_means (λ path. run (run_in rows path)) (disk_in rows) p.1
+          (λ path. run_has_numbers rows path taken.1))
+      | inr p ↦ subst (λ (t : Text). IsSomeAnd (meaning_below arguments (t, rows)) NumbersFit)
+          (sym p.0) (path_means show (disk_in rows) p.1 (λ path. tt))
+    ]
+  ]
 ]
 
 pub faultless_words_mean : FaultlessWordsMean
@@ -388,6 +310,6 @@ faultless_words_mean words e =
     go (subcommand_of wasmhost (own_words words)) (words_taken (own_words words) e)
   where
     go : (o : Option (Text × List Row)) → IsSomeAnd o IsTaken
-        → IsSomeAnd (option_and_then (meaning_below (guest_words words)) o) HasFuel
+        → IsSomeAnd (option_and_then (meaning_below (guest_words words)) o) NumbersFit
     go None h = absurd h
     go (Some met) h = taken_means (guest_words words) met.0 met.1 h

@@ -1,14 +1,17 @@
 -- From what `clap` says of its matches to what the words mean.
-use Rattle.std.proofs.Common.{◌≡◌, ◌<◌, ℕ, true, false, arith, refl, ap, ap₂, sym, ◌∙◌, subst, List}
-use Rattle.std.proofs.Common.{[], Option, Some, None, Result, Ok, Err, codes, true≢false, inl, inr}
+use Rattle.std.proofs.Common.{◌≡◌, ◌<◌, ◌≤◌, ℕ, Bool, true, false, refl, ap, ap₂, sym, ◌∙◌, subst}
+use Rattle.std.proofs.Common.{List, [], Option, Some, None, Result, Ok, Err, codes, true≢false, inl}
+use Rattle.std.proofs.Common.{inr}
 use Rattle.std.specs.Option.{IsSomeAnd, is_some, option_map, option_map_or, unwrap_or}
 use Rattle.std.specs.Prelude.{Box, IfSome, option_and_then}
-use Rattle.std.specs.Str.Parse.{ParsesUnsigned, digits_value, without_leading_plus}
+use Rattle.std.specs.Str.{bytes_eq}
+use Rattle.std.specs.Str.Parse.{ParsesUnsigned}
 use Rattle.std.specs.Box.{box_value}
-use Rattle.clap.specs.Words.{App, ReadsOne, Row, Text, fault_of, first_value, has_subcommand}
-use Rattle.clap.specs.Words.{is_simple_and_free, kind_of, matched_of, one_text, raw_values, rows_of}
-use Rattle.clap.specs.Words.{subcommand_name_of, subcommand_of, subcommand_rows, subcommand_rows_of}
-use Rattle.clap.specs.Words.{takes, HasKind, IsAmong}
+use Rattle.clap.specs.Words.{App, ReadsOne, Row, Text, fault_of, first_of, first_value}
+use Rattle.clap.specs.Words.{has_subcommand, is_simple_and_free, kind_of, matched_of, one_of}
+use Rattle.clap.specs.Words.{HasMatchesOf, is_simple}
+use Rattle.clap.specs.Words.{one_text, raw_values, rows_of, subcommand_name_of, subcommand_of}
+use Rattle.clap.specs.Words.{subcommand_rows, subcommand_rows_of, takes, HasKind, IsAmong}
 use Rattle.clap.specs.declared.error.Error.{Error}
 use Rattle.clap.specs.declared.error.ErrorKind.TheVariants as kind
 use Rattle.clap.specs.declared.parser.matches.ArgMatches.{ArgMatches}
@@ -16,67 +19,81 @@ use Rattle.clap.specs.declared.parser.matches.ArgMatches.TheViews.{out-ArgMatche
 use Rattle.clap.specs.declared.parser.matches.SubCommand.{SubCommand}
 use Rattle.clap.specs.declared.parser.matches.Found.{Found}
 use Rattle.clap.proofs.WalkLemmas.{first_value-rows, one_text-rows, raw_values-rows}
-use Rattle.wasmhost_serve.specs.rules.Commands.{IsClockText, IsFaultOf, IsFuelText, IsTaken}
-use Rattle.wasmhost_serve.specs.rules.Commands.{IsWordsFault, Meaning, RunMeaning, TakesClock}
-use Rattle.wasmhost_serve.specs.rules.Commands.{TakesFuel, check, clock_in, clock_text_in}
-use Rattle.wasmhost_serve.specs.rules.Commands.{environment_in, faults_in_words, fuel_in}
-use Rattle.wasmhost_serve.specs.rules.Commands.{fuel_text_in, guest_words, meaning_below}
-use Rattle.wasmhost_serve.specs.rules.Commands.{meaning_in, spelled_number, own_words, path_in, run}
-use Rattle.wasmhost_serve.specs.rules.Commands.{run_in, wasmhost}
+use Rattle.wasmhost_serve.specs.rules.CommandLine.{wasmhost}
+use Rattle.wasmhost_serve.specs.rules.Commands.{IsFaultOf, IsNumberFrom}
+use Rattle.wasmhost_serve.specs.rules.Commands.{IsFlagText, TakesFlag, flag_in}
+use Rattle.wasmhost_serve.specs.rules.Commands.{IsTaken, IsWordsFault, Meaning}
+use Rattle.wasmhost_serve.specs.rules.Commands.{TakesNumber}
+use Rattle.wasmhost_serve.specs.rules.Commands.{environment_in, faults_in_words, guest_words}
+use Rattle.wasmhost_serve.specs.rules.Commands.{meaning_below, meaning_in, number_given}
+use Rattle.wasmhost_serve.specs.rules.Commands.{number_or, own_words}
+use Rattle.wasmhost_serve.specs.rules.Commands.{spelled_number}
 use Rattle.wasmhost_serve.specs.declared.words.WordsFault.{WordsFault}
 use Rattle.wasmhost_serve.specs.declared.words.WordsFault.TheVariants as fault
 use Rattle.wasmhost_serve.proofs.WordLemmas.Lines.{words_taken}
 
--- ---- the fuel
+-- ---- numbers
 
--- what `get_one` gives of `--fuel`, or 100,000, is the fuel, and not zero
-pub fuel_is_read : (E : Type 0) (Gives : Text → Result ℕ E
-    → Type 0) (found : Found) (given : Option ℕ)
-    → ((text : Text) (r : Result ℕ E) → Gives text r → ParsesUnsigned 64 10 text r)
-    → (one_text found (codes "fuel") ≡ None → given ≡ None)
-    → ((text : Text) → one_text found (codes "fuel") ≡ Some text → ReadsOne Gives text given)
-    → TakesFuel (rows_of found)
-    → (unwrap_or given 100000 ≡ fuel_in (rows_of found)) × (0 < unwrap_or given 100000)
-fuel_is_read E Gives found given parses none some fits =
-    go (fuel_text_in (rows_of found)) (one_text-rows found (codes "fuel")) fits
+-- what `get_one` gives of an option is its number
+pub number_is_read : (least : ℕ) (E : Type 0) (Gives : Text → Result ℕ E → Type 0) (found : Found)
+    (name : Text) (given : Option ℕ) → ((text : Text) (r : Result ℕ E) → Gives text r
+    → ParsesUnsigned 64 10 text r) → (one_text found name ≡ None → given ≡ None)
+    → ((text : Text) → one_text found name ≡ Some text → ReadsOne Gives text given)
+    → TakesNumber least name (rows_of found) → given ≡ number_given name (rows_of found)
+number_is_read least E Gives found name given parses none some fits =
+    go (one_of name (rows_of found)) (one_text-rows found name) fits
   where
-    number : (text : Text) (given : Option ℕ) → IsFuelText text → ReadsOne Gives text given
-        → (unwrap_or given 100000 ≡ digits_value 10 (without_leading_plus text))
-        × (0 < unwrap_or given 100000)
-    number text (Some n) fits read =
-        let same : n ≡ digits_value 10 (without_leading_plus text) = (parses text (Ok n) read).1 in
-        (same, omega (arith, fits.2, same))
-    number text None fits read = absurd (parses text (Err read.0) read.1 (fits.0, fits.1))
-
-    go : (text : Option Text) → one_text found (codes "fuel") ≡ text → IfSome text IsFuelText
-        → (unwrap_or given 100000
-        ≡ option_map_or (λ t. digits_value 10 (without_leading_plus t)) text 100000)
-        × (0 < unwrap_or given 100000)
-    go None is fits = let absent : given ≡ None = none is in rw absent (refl, omega arith)
-    go (Some text) is fits = number text given fits (some text is)
-
--- ---- the clock
-
--- what `get_one` gives of `--clock` is the clock
-pub clock_is_read : (E : Type 0) (Gives : Text → Result ℕ E → Type 0) (found : Found)
-    (given : Option ℕ) → ((text : Text) (r : Result ℕ E) → Gives text r
-    → ParsesUnsigned 64 10 text r) → (one_text found (codes "clock") ≡ None → given ≡ None)
-    → ((text : Text) → one_text found (codes "clock") ≡ Some text → ReadsOne Gives text given)
-    → TakesClock (rows_of found) → given ≡ clock_in (rows_of found)
-clock_is_read E Gives found given parses none some fits =
-    go (clock_text_in (rows_of found)) (one_text-rows found (codes "clock")) fits
-  where
-    number : (text : Text) (given : Option ℕ) → IsClockText text → ReadsOne Gives text given
+    number : (text : Text) (given : Option ℕ) → IsNumberFrom least text → ReadsOne Gives text given
         → given ≡ Some (spelled_number text)
     number text (Some n) fits read = ap Some (parses text (Ok n) read).1
     number text None fits read = absurd (parses text (Err read.0) read.1 (fits.0, fits.1))
 
-    go : (text : Option Text) → one_text found (codes "clock") ≡ text → IfSome text IsClockText
+    go : (text : Option Text) → one_text found name ≡ text → IfSome text (IsNumberFrom least)
         → given ≡ option_map spelled_number text
     go None is fits = none is
     go (Some text) is fits = number text given fits (some text is)
 
--- ---- the environment
+-- and where it isn't there, it is another one
+pub number_or_is : (name : Text) (other : ℕ) (rows : List Row)
+    → unwrap_or (number_given name rows) other ≡ number_or name other rows
+number_or_is name other rows = go (one_of name rows)
+  where
+    go : (text : Option Text) → unwrap_or (option_map spelled_number text) other
+        ≡ option_map_or spelled_number text other
+    go None = refl
+    go (Some text) = refl
+
+pub number_is_positive : (name : Text) (other : ℕ) (rows : List Row) → TakesNumber 1 name rows
+    → 1 ≤ other → 0 < number_or name other rows
+number_is_positive name other rows fits from = go (one_of name rows) fits
+  where
+    go : (text : Option Text) → IfSome text (IsNumberFrom 1)
+        → 0 < option_map_or spelled_number text other
+    go None fits = from
+    go (Some text) fits = fits.2
+
+-- ---- flags
+
+-- what `get_flag` gives
+pub flag_is_read : (found : Found) (name : Text) (given : Bool)
+    → (one_text found name ≡ None → given ≡ false)
+    → (one_text found name ≡ Some (codes "true") → given ≡ true)
+    → (one_text found name ≡ Some (codes "false") → given ≡ false)
+    → TakesFlag name (rows_of found) → given ≡ flag_in name (rows_of found)
+flag_is_read found name given absent on off takes =
+    go (one_of name (rows_of found)) (one_text-rows found name) takes
+  where
+    go : (text : Option Text) → one_text found name ≡ text → IfSome text IsFlagText
+        → given ≡ option_map_or (λ t. bytes_eq t (codes "true")) text false
+    go None is says = absent is
+    go (Some text) is says = elim says [
+      | inl e ↦ subst (λ (t : Text). given ≡ bytes_eq t (codes "true")) (sym e)
+          (on (is ∙ ap Some e))
+      | inr e ↦ subst (λ (t : Text). given ≡ bytes_eq t (codes "true")) (sym e)
+          (off (is ∙ ap Some e))
+    ]
+
+-- ---- texts
 
 -- the entries that `get_strs` gives
 pub entries_are_read : (found : Found) (given : Option (List Text))
@@ -85,25 +102,9 @@ pub entries_are_read : (found : Found) (given : Option (List Text))
 entries_are_read found given is =
     ap (λ o. unwrap_or o []) (is ∙ raw_values-rows found (codes "env"))
 
--- ---- orders
-
-pub path_is_some : (found : Found) (path : Option Text) → path ≡ first_value found (codes "MODULE")
-    → path_in (rows_of found) ≡ path
-path_is_some found path is = sym (is ∙ first_value-rows found (codes "MODULE"))
-
-pub means_check : (arguments : List Text) (name path : Text) (rows : List Row)
-    → name ≡ codes "check" → path_in rows ≡ Some path
-    → meaning_below arguments (name, rows) ≡ Some (check path)
-means_check arguments name path rows is found =
-    subst (λ (t : Text). meaning_below arguments (t, rows) ≡ Some (check path)) (sym is)
-    (ap (option_map check) found)
-
-pub means_run : (arguments : List Text) (name path : Text) (said : RunMeaning) (rows : List Row)
-    → name ≡ codes "run" → path_in rows ≡ Some path → said ≡ run_in rows arguments path
-    → meaning_below arguments (name, rows) ≡ Some (run said)
-means_run arguments name path said rows is found same =
-    subst (λ (t : Text). meaning_below arguments (t, rows) ≡ Some (run said)) (sym is)
-    (ap (option_map (λ p. run (run_in rows arguments p))) found ∙ ap (λ m. Some (run m)) (sym same))
+pub path_is_some : (found : Found) (name : Text) (path : Option Text)
+    → path ≡ first_value found name → first_of name (rows_of found) ≡ path
+path_is_some found name path is = sym (is ∙ first_value-rows found name)
 
 -- ---- the subcommand
 
@@ -158,6 +159,17 @@ reads_so words own guest arguments name rows meaning own-is guest-is same faultl
       (sym (same ∙ guest-is))
       ∙ ap (λ o. option_and_then (meaning_below arguments) (subcommand_of wasmhost o)) (sym own-is)
       ∙ ap (option_and_then (meaning_below arguments)) met ∙ means,
+)
+
+-- ---- parses
+
+-- the matches of the program are those of the words
+pub parse_of : (words : List Text) (app : App) (m : ArgMatches) → app ≡ wasmhost
+    → (is_simple_and_free app ≡ true → fault_of app words ≡ []) → HasMatchesOf app words m
+    → (fault_of wasmhost words ≡ []) × (subcommand_rows_of m ≡ subcommand_of wasmhost words)
+parse_of words app m is kinds has = (
+  subst (λ a. fault_of a words ≡ []) is (kinds (ap is_simple_and_free is)),
+  subst (λ a. subcommand_rows_of m ≡ subcommand_of a words) is (has (ap is_simple is)).1,
 )
 
 -- ---- faults

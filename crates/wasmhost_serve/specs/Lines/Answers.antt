@@ -43,19 +43,22 @@ MissesNext before lines kept failed failed' why =
 
 -- ---- all that is asked for
 
--- Where a source stands: how many requests it took, how many words of the seed, the bytes that are
--- still to come, whether a read of them has failed, and why it refuses, if it does.
+-- Where a source stands: which stream of the seed it takes words of, how many requests and how many
+-- words it took, the bytes that are still to come, whether a read of them has failed, and why it
+-- refuses, if it does.
 pub record Standing : Type 0 where
   pub outside : Outside
+  pub stream : ℕ
   pub taken : ℕ
   pub place : ℕ
   pub unread : Option (List ℕ)
   pub failed : Bool
   pub fault : Option LineFault
 
-abbrev pub standing : Outside → ℕ → ℕ → Option (List ℕ) → Bool → Option LineFault → Standing
-standing outside taken place unread failed fault = record {
+abbrev pub standing : Outside → ℕ → ℕ → ℕ → Option (List ℕ) → Bool → Option LineFault → Standing
+standing outside stream taken place unread failed fault = record {
   outside = outside;
+  stream = stream;
   taken = taken;
   place = place;
   unread = unread;
@@ -99,7 +102,7 @@ LeavesFault kind old new None = IsSomeAnd new.fault (IsRefusedAt kind old new.fa
 
 -- An answer that no request line gives. It fits, and takes its words of the seed.
 pub record TakesOther (kind : Kind) (old : Standing) (a : Answer) (new : Standing) : Type 0 where
-  pub comes : ComesFrom old.outside old.place a
+  pub comes : ComesFrom old.outside old.stream old.place a
   pub other : request_in a ≡ []
   pub fits : (limit : ℕ) → Fits limit kind a
   pub place : new.place ≡ old.place + words_in a
@@ -117,6 +120,7 @@ Finds kind old None new = ⊥
 pub record HandsAnswer (kind : Kind) (old : Standing) (answered : Option Answer) (new : Standing) :
     Type 0 where
   pub same : new.outside ≡ old.outside
+  pub same_stream : new.stream ≡ old.stream
   pub unfailed : old.fault ≡ None
   pub unspoilt : new.fault ≡ None
   pub steady : new.failed ≡ old.failed
@@ -125,5 +129,5 @@ pub record HandsAnswer (kind : Kind) (old : Standing) (answered : Option Answer)
 -- A refusal takes nothing, and leaves its fault. Then all is refused.
 abbrev pub HandsNext : Kind → Standing → Result (Option Answer) SourceFault → Standing → Type 0
 HandsNext kind old (Ok answered) new = HandsAnswer kind old answered new
-HandsNext kind old (Err e) new = (new.outside ≡ old.outside) × (new.taken ≡ old.taken)
-    × (new.place ≡ old.place) × LeavesFault kind old new old.fault
+HandsNext kind old (Err e) new = (new.outside ≡ old.outside) × (new.stream ≡ old.stream)
+    × (new.taken ≡ old.taken) × (new.place ≡ old.place) × LeavesFault kind old new old.fault

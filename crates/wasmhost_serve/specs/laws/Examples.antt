@@ -1,30 +1,43 @@
 -- Worked examples of command lines.
-use Rattle.std.specs.Prelude.{◌≡◌, ◌-◌, ◌^◌, ℕ, true, List, [], ◌∷◌, Some, None, codes}
+use Rattle.std.specs.Prelude.{◌≡◌, ◌-◌, ◌^◌, ℕ, true, false, List, [], ◌∷◌, Some, None, codes}
 use Rattle.clap.specs.Words.{Text, takes}
 use Rattle.clap.specs.Kinds.{Kinds}
 use Rattle.clap.specs.declared.error.ErrorKind.TheVariants as kind
-use Rattle.wasmhost_serve.specs.rules.Commands.{Meaning, RunMeaning, check, faults_in_words}
-use Rattle.wasmhost_serve.specs.rules.Commands.{meaning_in, own_words, run, wasmhost}
+use Rattle.wasmhost_serve.specs.rules.CommandLine.{wasmhost}
+use Rattle.wasmhost_serve.specs.rules.Commands.{CreateMeaning, Meaning, RunMeaning, check, create}
+use Rattle.wasmhost_serve.specs.rules.Commands.{faults_in_words, meaning_in, own_words, run, show}
 
 -- the program's name, and words behind it
 abbrev pub line : List Text → List Text
 line words = codes "wasmhost" ∷ words
 
-abbrev pub run_line : List Text → List Text
-run_line options = line (codes "run" ∷ codes "a.wasm" ∷ options)
+abbrev pub create_line : List Text → List Text
+create_line options = line (codes "create" ∷ codes "a.disk" ∷ codes "a.wasm" ∷ options)
 
-abbrev pub with_fuel : Text → List Text
-with_fuel fuel = run_line (codes "--fuel" ∷ fuel ∷ [])
-
--- a run of `a.wasm`, of which nothing else is said
-abbrev pub plain_run : RunMeaning
-plain_run = record {
-  path = codes "a.wasm";
-  fuel = 100000;
-  seed = None;
-  clock = None;
+-- a creation of which nothing else is said
+abbrev pub plain_creation : CreateMeaning
+plain_creation = record {
+  disk = codes "a.disk";
+  «module» = codes "a.wasm";
+  pages = 16;
+  files = 16;
+  journal = 256;
   environment = [];
   arguments = [];
+}
+
+abbrev pub run_line : List Text → List Text
+run_line options = line (codes "run" ∷ codes "a.disk" ∷ options)
+
+-- a run of which nothing else is said
+abbrev pub plain_run : RunMeaning
+plain_run = record {
+  disk = codes "a.disk";
+  fuel = 100000;
+  every = 100;
+  seed = None;
+  clock = None;
+  rewrites = false;
 }
 
 -- one with so many steps a slice
@@ -36,54 +49,117 @@ abbrev pub Means : List Text → Meaning → Type 0
 Means words meaning = (faults_in_words words ≡ []) × (takes wasmhost (own_words words) ≡ true)
     × (meaning_in words ≡ Some meaning)
 
-pub record OrderExamples : Type 0 where
+-- lines for a module's file, or for a disk that is only shown
+pub record PathExamples : Type 0 where
   pub checks : Means (line (codes "check" ∷ codes "a.wasm" ∷ [])) (check (codes "a.wasm"))
+  pub path_like_an_option : Means (line (codes "check" ∷ codes "--" ∷ codes "--fuel" ∷ []))
+      (check (codes "--fuel"))
+  pub shows : Means (line (codes "show" ∷ codes "a.disk" ∷ [])) (show (codes "a.disk"))
+
+pub record CreateOrderExamples : Type 0 where
+  pub creates : Means (create_line []) (create plain_creation)
+  pub pages : Means (create_line (codes "--pages" ∷ codes "1" ∷ []))
+      (create (record plain_creation { pages = 1 }))
+  pub files : Means (create_line (codes "--files=2" ∷ []))
+      (create (record plain_creation { files = 2 }))
+  pub journal : Means (create_line (codes "--journal" ∷ codes "64" ∷ []))
+      (create (record plain_creation { journal = 64 }))
+  pub no_pages : Means (create_line (codes "--pages" ∷ codes "0" ∷ []))
+      (create (record plain_creation { pages = 0 }))
+  pub the_most_pages : Means (create_line (codes "--pages" ∷ codes "18446744073709551615" ∷ []))
+      (create (record plain_creation { pages = 2 ^ 64 - 1 }))
+  pub environment : Means
+      (create_line (codes "--env" ∷ codes "a=b" ∷ codes "--env" ∷ codes "c=" ∷ []))
+      (create (record plain_creation { environment = codes "a=b" ∷ codes "c=" ∷ [] }))
+  pub arguments : Means
+      (create_line (codes "--" ∷ codes "--pages" ∷ codes "--" ∷ codes "b" ∷ []))
+      (create (record plain_creation { arguments = codes "--pages" ∷ codes "--" ∷ codes "b" ∷ [] }))
+  pub no_arguments : Means (create_line (codes "--" ∷ [])) (create plain_creation)
+
+pub record RunOrderExamples : Type 0 where
   pub runs : Means (run_line []) (run plain_run)
-  pub runs_with_fuel : Means (with_fuel (codes "7")) (run (fuelled_run 7))
-  pub runs_with_the_most_fuel : Means (with_fuel (codes "18446744073709551615"))
+  pub fuel : Means (run_line (codes "--fuel" ∷ codes "7" ∷ [])) (run (fuelled_run 7))
+  pub the_most_fuel : Means (run_line (codes "--fuel" ∷ codes "18446744073709551615" ∷ []))
       (run (fuelled_run (2 ^ 64 - 1)))
-  pub option_first : Means (line (codes "run" ∷ codes "--fuel=7" ∷ codes "a.wasm" ∷ []))
+  pub option_first : Means (line (codes "run" ∷ codes "--fuel=7" ∷ codes "a.disk" ∷ []))
       (run (fuelled_run 7))
+  pub every : Means (run_line (codes "--every" ∷ codes "1" ∷ []))
+      (run (record plain_run { every = 1 }))
   pub seed : Means (run_line (codes "--seed" ∷ codes "0A" ∷ []))
       (run (record plain_run { seed = Some (codes "0A") }))
   pub clock : Means (run_line (codes "--clock=0" ∷ []))
       (run (record plain_run { clock = Some 0 }))
-  pub environment : Means (run_line (codes "--env" ∷ codes "a=b" ∷ codes "--env" ∷ codes "c=" ∷ []))
-      (run (record plain_run { environment = codes "a=b" ∷ codes "c=" ∷ [] }))
-  pub arguments : Means
-      (run_line (codes "--" ∷ codes "--fuel" ∷ codes "--" ∷ codes "b" ∷ []))
-      (run (record plain_run { arguments = codes "--fuel" ∷ codes "--" ∷ codes "b" ∷ [] }))
-  pub no_arguments : Means (run_line (codes "--" ∷ [])) (run plain_run)
-  pub path_like_an_option : Means (line (codes "check" ∷ codes "--" ∷ codes "--fuel" ∷ []))
-      (check (codes "--fuel"))
+  pub rewrites : Means (run_line (codes "--rewrite" ∷ []))
+      (run (record plain_run { rewrites = true }))
+  pub dashes : Means (line (codes "run" ∷ codes "--" ∷ codes "a.disk" ∷ [])) (run plain_run)
 
 -- the kinds of fault that are listed for the words
 abbrev pub WordsFail : List Text → Kinds → Type 0
 WordsFail words kinds = faults_in_words words ≡ kinds
 
-pub record MistakeExamples : Type 0 where
+-- no command, another one, or too few or too many paths
+pub record PathMistakes : Type 0 where
   pub no_command : WordsFail (line []) (kind.MissingSubcommand ∷ [])
   pub unknown_command : WordsFail (line (codes "open" ∷ codes "a" ∷ [])) (kind.UnknownArgument
       ∷ kind.InvalidSubcommand ∷ [])
-  pub no_module : WordsFail (line (codes "run" ∷ [])) (kind.MissingRequiredArgument ∷ [])
-  pub two_modules : WordsFail (run_line (codes "b.wasm" ∷ [])) (kind.UnknownArgument ∷ [])
+  pub check_of_none : WordsFail (line (codes "check" ∷ [])) (kind.MissingRequiredArgument ∷ [])
+  pub create_of_no_module : WordsFail (line (codes "create" ∷ codes "a.disk" ∷ []))
+      (kind.MissingRequiredArgument ∷ [])
+  pub module_behind_dashes : WordsFail
+      (line (codes "create" ∷ codes "a.disk" ∷ codes "--" ∷ codes "a.wasm" ∷ []))
+      (kind.MissingRequiredArgument ∷ [])
+  pub create_of_two_modules : WordsFail (create_line (codes "b.wasm" ∷ []))
+      (kind.UnknownArgument ∷ [])
+  pub run_of_none : WordsFail (line (codes "run" ∷ [])) (kind.MissingRequiredArgument ∷ [])
+  pub run_of_two : WordsFail (run_line (codes "b.disk" ∷ [])) (kind.UnknownArgument ∷ [])
+  pub run_with_arguments : WordsFail (run_line (codes "--" ∷ codes "b" ∷ []))
+      (kind.UnknownArgument ∷ [])
+  pub show_of_none : WordsFail (line (codes "show" ∷ [])) (kind.MissingRequiredArgument ∷ [])
+  pub show_of_two : WordsFail (line (codes "show" ∷ codes "a.disk" ∷ codes "b.disk" ∷ []))
+      (kind.UnknownArgument ∷ [])
+
+-- an option without its value, with another one, twice, or of another command
+pub record OptionMistakes : Type 0 where
   pub no_number : WordsFail (run_line (codes "--fuel" ∷ [])) (kind.InvalidValue ∷ [])
-  pub zero_fuel : WordsFail (with_fuel (codes "0")) (kind.ValueValidation ∷ [])
-  pub too_much_fuel : WordsFail (with_fuel (codes "18446744073709551616")) (kind.ValueValidation
-      ∷ [])
+  pub zero_fuel : WordsFail (run_line (codes "--fuel" ∷ codes "0" ∷ []))
+      (kind.ValueValidation ∷ [])
+  pub too_much_fuel : WordsFail (run_line (codes "--fuel" ∷ codes "18446744073709551616" ∷ []))
+      (kind.ValueValidation ∷ [])
   pub fuel_twice : WordsFail (run_line (codes "--fuel" ∷ codes "1" ∷ codes "--fuel" ∷ codes "2"
       ∷ [])) (kind.ArgumentConflict ∷ [])
+  pub every_of_zero : WordsFail (run_line (codes "--every" ∷ codes "0" ∷ []))
+      (kind.ValueValidation ∷ [])
+  pub every_of_no_number : WordsFail (run_line (codes "--every" ∷ codes "a" ∷ []))
+      (kind.ValueValidation ∷ [])
   pub clock_below_zero : WordsFail (run_line (codes "--clock=-1" ∷ []))
       (kind.ValueValidation ∷ [])
   pub seed_twice : WordsFail
       (run_line (codes "--seed" ∷ codes "0" ∷ codes "--seed" ∷ codes "1" ∷ []))
       (kind.ArgumentConflict ∷ [])
-  pub path_behind_dashes : WordsFail (line (codes "run" ∷ codes "--" ∷ codes "a.wasm" ∷ []))
-      (kind.MissingRequiredArgument ∷ [])
+  pub rewrite_with_a_value : WordsFail (run_line (codes "--rewrite=yes" ∷ []))
+      (kind.TooManyValues ∷ [])
+  pub rewrite_twice : WordsFail (run_line (codes "--rewrite" ∷ codes "--rewrite" ∷ []))
+      (kind.ArgumentConflict ∷ [])
+  pub too_many_pages : WordsFail
+      (create_line (codes "--pages" ∷ codes "18446744073709551616" ∷ []))
+      (kind.ValueValidation ∷ [])
+  pub files_of_no_number : WordsFail (create_line (codes "--files" ∷ codes "one" ∷ []))
+      (kind.ValueValidation ∷ [])
+  pub journal_below_zero : WordsFail (create_line (codes "--journal=-1" ∷ []))
+      (kind.ValueValidation ∷ [])
+  pub no_entry : WordsFail (create_line (codes "--env" ∷ [])) (kind.InvalidValue ∷ [])
   pub fuel_of_a_check : WordsFail (line (codes "check" ∷ codes "a.wasm" ∷ codes "--fuel" ∷ codes "7"
       ∷ [])) (kind.UnknownArgument ∷ [])
+  pub fuel_of_a_creation : WordsFail (create_line (codes "--fuel" ∷ codes "7" ∷ []))
+      (kind.UnknownArgument ∷ [])
+  pub pages_of_a_run : WordsFail (run_line (codes "--pages" ∷ codes "1" ∷ []))
+      (kind.UnknownArgument ∷ [])
+  pub entry_of_a_run : WordsFail (run_line (codes "--env" ∷ codes "a=b" ∷ []))
+      (kind.UnknownArgument ∷ [])
 
 -- help is asked for
 pub record HelpExamples : Type 0 where
   pub of_the_program : WordsFail (line (codes "--help" ∷ [])) (kind.DisplayHelp ∷ [])
-  pub of_a_command : WordsFail (line (codes "run" ∷ codes "-h" ∷ [])) (kind.DisplayHelp ∷ [])
+  pub of_a_creation : WordsFail (line (codes "create" ∷ codes "--help" ∷ []))
+      (kind.DisplayHelp ∷ [])
+  pub of_a_run : WordsFail (line (codes "run" ∷ codes "-h" ∷ [])) (kind.DisplayHelp ∷ [])

@@ -1,100 +1,31 @@
--- The program's command line, and the order that its words give.
-use Rattle.std.specs.Prelude.{◌≡◌, ◌⊎◌, ⊤, ℕ, ◌-◌, ◌^◌, Bool, List, [], ◌∷◌, true, false, Option}
+-- The order that the words of a command line give.
+use Rattle.std.specs.Prelude.{◌≡◌, ◌⊎◌, ⊤, ℕ, Bool, List, [], ◌∷◌, true, false, Option}
 use Rattle.std.specs.Prelude.{Some, None, Result, option_map, option_and_then, unwrap_or, slice_get}
-use Rattle.std.specs.Prelude.{if◌then◌else◌, codes, ◌≢◌, IfSome, IsSome, MatchResult}
+use Rattle.std.specs.Prelude.{if◌then◌else◌, codes, ◌≢◌, ◌-◌, ◌^◌, IfSome, IsSome, MatchResult}
 use Rattle.std.specs.Option.{option_map_or}
 use Rattle.std.specs.Int.NonZero.{non_zero_u64_get}
 use Rattle.std.specs.Str.{bytes_eq}
 use Rattle.std.specs.Str.Parse.{digits_value, without_leading_plus}
-use Rattle.clap.specs.Words.{App, IsAmong, IsUnsignedIn, Kinds, Row, Rule, Text, all_of, app_of}
-use Rattle.clap.specs.Words.{fault_of, first_of, is_broken, kind_of, new_app, new_rule, one_of}
-use Rattle.clap.specs.Words.{rule_of, subcommand_of, subcommand_rows_of, takes, with_rule}
-use Rattle.clap.specs.Words.{with_subcommand}
-use Rattle.clap.specs.Simple.{on_top}
+use Rattle.clap.specs.Words.{IsAmong, IsUnsignedIn, Kinds, Row, Text, all_of, fault_of, first_of}
+use Rattle.clap.specs.Words.{kind_of, one_of, subcommand_of, subcommand_rows_of, takes}
 use Rattle.clap.specs.declared.error.ErrorKind.TheVariants as kind
 use Rattle.clap.specs.declared.error.Error.{Error}
-use Rattle.clap.specs.declared.builder.action.ArgAction.TheVariants.{Append, Set}
 use Rattle.clap.specs.declared.parser.matches.ArgMatches.{ArgMatches}
-use Rattle.clap.specs.declared.builder.arg.Arg.{Arg}
-use Rattle.clap.specs.declared.builder.command.Command.TheViews.{out-Command}
-use Rattle.clap.specs.declared.builder.command.Command.{Command}
-use Rattle.clap.specs.declared.builder.value_parser.ValueParser.TheVariants.{Unsigned}
+use Rattle.wasmhost_serve.specs.rules.CommandLine.{wasmhost}
 use Rattle.wasmhost_serve.specs.rules.Served.{texts_in}
+use Rattle.wasmhost_serve.specs.declared.words.CreateOrder.{CreateOrder}
 use Rattle.wasmhost_serve.specs.declared.words.RunOrder.{RunOrder}
 use Rattle.wasmhost_serve.specs.declared.words.Order.{Order}
-use Rattle.wasmhost_serve.specs.declared.words.Order.TheVariants.{Check, Run}
+use Rattle.wasmhost_serve.specs.declared.words.Order.TheVariants.{Check, Create, Run, Show}
 use Rattle.wasmhost_serve.specs.declared.words.WordsFault.{WordsFault}
 use Rattle.wasmhost_serve.specs.declared.words.WordsFault.TheVariants as fault
 
--- ---- the command line
-
--- the argument MODULE, which has to be given
-abbrev pub module_rule : Rule
-module_rule = record (new_rule (codes "MODULE")) { required = true; action = Some Set }
-
--- the option `--fuel`, with a number from 1 to 2^64 - 1
-abbrev pub fuel_rule : Rule
-fuel_rule = record (new_rule (codes "fuel")) {
-  long = Some (codes "fuel");
-  value_names = 1;
-  parser = Some (Unsigned 1 (2 ^ 64 - 1));
-}
-
--- `check MODULE`
-abbrev pub check_app : App
-check_app = with_rule (new_app (codes "check")) module_rule
-
--- the option `--seed`, with any text
-abbrev pub seed_rule : Rule
-seed_rule = record (new_rule (codes "seed")) { long = Some (codes "seed"); value_names = 1 }
-
--- the option `--clock`, with a number below 2^64
-abbrev pub clock_rule : Rule
-clock_rule = record (new_rule (codes "clock")) {
-  long = Some (codes "clock");
-  value_names = 1;
-  parser = Some (Unsigned 0 (2 ^ 64 - 1));
-}
-
--- the option `--env`, which may be repeated
-abbrev pub env_rule : Rule
-env_rule = record (new_rule (codes "env")) {
-  long = Some (codes "env");
-  value_names = 1;
-  action = Some Append;
-}
-
--- `run MODULE`, with `--fuel` where it is wanted
-abbrev pub fuelled_app : App
-fuelled_app = with_rule (with_rule (new_app (codes "run")) module_rule) fuel_rule
-
--- the same, with `--seed` and `--clock` where they are wanted
-abbrev pub seeded_app : App
-seeded_app = with_rule (with_rule fuelled_app seed_rule) clock_rule
-
--- the same, with `--env` as often as it is wanted
-abbrev pub run_app : App
-run_app = with_rule seeded_app env_rule
-
--- the program, which requires one of the two
-abbrev pub wasmhost : App
-wasmhost = on_top (λ top. record top { subcommand_required = true })
-    (with_subcommand (with_subcommand (new_app (codes "wasmhost")) check_app.top) run_app.top)
-
--- the argument has this rule, and belongs to its command alone
-abbrev pub IsArgument : Rule → Arg → Type 0
-IsArgument rule argument = (rule_of argument ≡ rule) × (argument.global ≡ false)
-
--- the command is this one, whole, and none of its arguments is global
-abbrev pub IsCommand : App → Command → Type 0
-IsCommand app command = (app_of command ≡ app) × (is_broken command ≡ false)
-    × ((out-Command command).has_globals ≡ false)
-
 -- ---- the words behind `--`
 
--- a line for a run, as its second word says
-abbrev pub is_run : List Text → Bool
-is_run words = option_map_or (λ word. bytes_eq word (codes "run")) (slice_get words 1) false
+-- a line for a creation, as its second word says
+abbrev pub is_create : List Text → Bool
+is_create words =
+    option_map_or (λ word. bytes_eq word (codes "create")) (slice_get words 1) false
 
 -- the words in front of the first `--`
 abbrev pub before_dashes : List Text → List Text
@@ -108,11 +39,11 @@ behind_dashes (word ∷ words) = if bytes_eq word (codes "--") then words else b
 
 -- the words that the command reads
 abbrev pub own_words : List Text → List Text
-own_words words = if is_run words then before_dashes words else words
+own_words words = if is_create words then before_dashes words else words
 
--- the words that a run hands to its guest
+-- the words that a creation hands to its guest
 abbrev pub guest_words : List Text → List Text
-guest_words words = if is_run words then behind_dashes words else []
+guest_words words = if is_create words then behind_dashes words else []
 
 -- the kinds of fault that are listed for the words of a line
 abbrev pub faults_in_words : List Text → Kinds
@@ -120,76 +51,127 @@ faults_in_words words = fault_of wasmhost (own_words words)
 
 -- ---- orders
 
--- What a run says: the path, the seed, the environment and the arguments as texts, and the others
--- as numbers.
-pub record RunMeaning : Type 0 where
-  pub path : Text
-  pub fuel : ℕ
-  pub seed : Option Text
-  pub clock : Option ℕ
+-- What a creation says: the paths of the disk and of the module, the environment and the arguments
+-- as texts, and the others as numbers.
+pub record CreateMeaning : Type 0 where
+  pub disk : Text
+  pub «module» : Text
+  pub pages : ℕ
+  pub files : ℕ
+  pub journal : ℕ
   pub environment : List Text
   pub arguments : List Text
+
+-- What a run says: the disk's path and the seed as texts, whether it writes all sectors back first,
+-- and the others as numbers.
+pub record RunMeaning : Type 0 where
+  pub disk : Text
+  pub fuel : ℕ
+  pub every : ℕ
+  pub seed : Option Text
+  pub clock : Option ℕ
+  pub rewrites : Bool
 
 -- what an order says
 pub data Meaning : Type 0 where
   check : Text → Meaning
+  create : CreateMeaning → Meaning
   run : RunMeaning → Meaning
+  show : Text → Meaning
 
-abbrev pub run_said : RunOrder → RunMeaning
-run_said order = record {
-  path = order.path.now;
-  fuel = non_zero_u64_get order.fuel;
-  seed = option_map (λ text. text.now) order.seed;
-  clock = order.clock;
+abbrev pub create_said : CreateOrder → CreateMeaning
+create_said order = record {
+  disk = order.disk.now;
+  «module» = order.module.now;
+  pages = order.pages;
+  files = order.files;
+  journal = order.journal;
   environment = texts_in order.environment.items;
   arguments = texts_in order.arguments.items;
 }
 
+abbrev pub run_said : RunOrder → RunMeaning
+run_said order = record {
+  disk = order.disk.now;
+  fuel = non_zero_u64_get order.fuel;
+  every = non_zero_u64_get order.every;
+  seed = option_map (λ text. text.now) order.seed;
+  clock = order.clock;
+  rewrites = order.rewrites;
+}
+
 abbrev pub meaning_of : Order → Meaning
 meaning_of (Check path) = check path.now
+meaning_of (Create order) = create (create_said order)
 meaning_of (Run order) = run (run_said order)
+meaning_of (Show path) = show path.now
+
+-- ---- what stands behind a command
 
 abbrev pub spelled_number : Text → ℕ
 spelled_number text = digits_value 10 (without_leading_plus text)
 
-abbrev pub path_in : List Row → Option Text
-path_in = first_of (codes "MODULE")
+-- the number that an option gives, if it is there
+abbrev pub number_given : Text → List Row → Option ℕ
+number_given name rows = option_map spelled_number (one_of name rows)
 
-abbrev pub fuel_text_in : List Row → Option Text
-fuel_text_in = one_of (codes "fuel")
+-- or another one
+abbrev pub number_or : Text → ℕ → List Row → ℕ
+number_or name other rows = option_map_or spelled_number (one_of name rows) other
 
--- the number that `--fuel` gives, or 100,000
-abbrev pub fuel_in : List Row → ℕ
-fuel_in rows = option_map_or spelled_number (fuel_text_in rows) 100000
+-- the flag is there
+abbrev pub flag_in : Text → List Row → Bool
+flag_in name rows = option_map_or (λ text. bytes_eq text (codes "true")) (one_of name rows) false
 
-abbrev pub clock_text_in : List Row → Option Text
-clock_text_in = one_of (codes "clock")
+abbrev pub disk_in : List Row → Option Text
+disk_in = first_of (codes "DISK")
 
--- the number that `--clock` gives, if it is there
-abbrev pub clock_in : List Row → Option ℕ
-clock_in rows = option_map spelled_number (clock_text_in rows)
+abbrev pub module_in : List Row → Option Text
+module_in = first_of (codes "MODULE")
 
 -- the texts that `--env` gives, in their order
 abbrev pub environment_in : List Row → List Text
 environment_in rows = unwrap_or (all_of (codes "env") rows) []
 
--- what a run means with this path, the rows of what stands before `--`, and the words behind it
-abbrev pub run_in : List Row → List Text → Text → RunMeaning
-run_in rows arguments path = record {
-  path = path;
-  fuel = fuel_in rows;
-  seed = first_of (codes "seed") rows;
-  clock = clock_in rows;
+-- What a creation means with these paths, the rows of what stands before `--`, and the words
+-- behind it. Where no number is given, there are 16 pages, 16 units of files and 256 sectors of the
+-- journal.
+abbrev pub create_in : List Row → List Text → Text → Text → CreateMeaning
+create_in rows arguments disk wasm = record {
+  disk = disk;
+  «module» = wasm;
+  pages = number_or (codes "pages") 16 rows;
+  files = number_or (codes "files") 16 rows;
+  journal = number_or (codes "journal") 256 rows;
   environment = environment_in rows;
   arguments = arguments;
 }
 
--- what `check` and `run` mean, with the rows of what stands behind them, and the words behind `--`
+-- What a run means with this path and the rows of what stands behind it. Where no number is given,
+-- there are 100,000 steps a slice, and a checkpoint after each 100 slices.
+abbrev pub run_in : List Row → Text → RunMeaning
+run_in rows disk = record {
+  disk = disk;
+  fuel = number_or (codes "fuel") 100000 rows;
+  every = number_or (codes "every") 100 rows;
+  seed = first_of (codes "seed") rows;
+  clock = number_given (codes "clock") rows;
+  rewrites = flag_in (codes "rewrite") rows;
+}
+
+-- a creation, where both paths are there
+abbrev pub creation_below : List Text → List Row → Option Meaning
+creation_below arguments rows = option_and_then (λ disk. option_map (λ wasm.
+    create (create_in rows arguments disk wasm)) (module_in rows)) (disk_in rows)
+
+-- what each command means, with the rows of what stands behind it, and the words behind `--`
 abbrev pub meaning_below : List Text → Text × List Row → Option Meaning
 meaning_below arguments met =
-    if bytes_eq met.0 (codes "check") then option_map check (path_in met.1)
+    if bytes_eq met.0 (codes "check") then option_map check (module_in met.1)
+    else if bytes_eq met.0 (codes "create") then creation_below arguments met.1
     else if bytes_eq met.0 (codes "run")
-    then option_map (λ path. run (run_in met.1 arguments path)) (path_in met.1)
+    then option_map (λ disk. run (run_in met.1 disk)) (disk_in met.1)
+    else if bytes_eq met.0 (codes "show") then option_map show (disk_in met.1)
     else None
 
 -- what the words of a command line mean
@@ -218,26 +200,42 @@ abbrev pub IsParse : List Text → Result ArgMatches WordsFault → Type 0
 IsParse words result = MatchResult result (λ matches. (fault_of wasmhost words ≡ [])
     × (subcommand_rows_of matches ≡ subcommand_of wasmhost words)) (IsFaultOf words)
 
--- a number from 1 to 2^64 - 1
-abbrev pub IsFuelText : Text → Type 0
-IsFuelText = IsUnsignedIn 1 (2 ^ 64 - 1)
+-- a number from the least one to 2^64 - 1
+abbrev pub IsNumberFrom : ℕ → Text → Type 0
+IsNumberFrom least = IsUnsignedIn least (2 ^ 64 - 1)
 
--- the text of `--fuel`, where it is there, is such a number
-abbrev pub TakesFuel : List Row → Type 0
-TakesFuel rows = IfSome (fuel_text_in rows) IsFuelText
+-- the text of an option, where it is there, is such a number
+abbrev pub TakesNumber : ℕ → Text → List Row → Type 0
+TakesNumber least name rows = IfSome (one_of name rows) (IsNumberFrom least)
 
--- a number below 2^64
-abbrev pub IsClockText : Text → Type 0
-IsClockText = IsUnsignedIn 0 (2 ^ 64 - 1)
+-- a flag says yes or no
+abbrev pub IsFlagText : Text → Type 0
+IsFlagText text = (text ≡ codes "true") ⊎ (text ≡ codes "false")
 
--- the text of `--clock`, where it is there, is such a number
-abbrev pub TakesClock : List Row → Type 0
-TakesClock rows = IfSome (clock_text_in rows) IsClockText
+-- the text of a flag, where it has one, is such a text
+abbrev pub TakesFlag : Text → List Row → Type 0
+TakesFlag name rows = IfSome (one_of name rows) IsFlagText
 
--- one of the two commands, with a path, and a fuel and a clock where they are there
+-- each number that is there is in its range, and the flag says yes or no
+pub record TakesOptions (rows : List Row) : Type 0 where
+  pub pages : TakesNumber 0 (codes "pages") rows
+  pub files : TakesNumber 0 (codes "files") rows
+  pub journal : TakesNumber 0 (codes "journal") rows
+  pub fuel : TakesNumber 1 (codes "fuel") rows
+  pub every : TakesNumber 1 (codes "every") rows
+  pub clock : TakesNumber 0 (codes "clock") rows
+  pub rewrite : TakesFlag (codes "rewrite") rows
+
+-- one of the four commands, with the paths that it needs
+abbrev pub HasPaths : Text → List Row → Type 0
+HasPaths name rows = ((name ≡ codes "check") × IsSome (module_in rows))
+    ⊎ ((name ≡ codes "create") × IsSome (disk_in rows) × IsSome (module_in rows))
+    ⊎ ((name ≡ codes "run") × IsSome (disk_in rows))
+    ⊎ ((name ≡ codes "show") × IsSome (disk_in rows))
+
+-- such a command, with options whose texts it takes
 abbrev pub IsTaken : Text × List Row → Type 0
-IsTaken met = ((met.0 ≡ codes "check") ⊎ (met.0 ≡ codes "run")) × IsSome (path_in met.1)
-    × TakesFuel met.1 × TakesClock met.1
+IsTaken met = HasPaths met.0 met.1 × TakesOptions met.1
 
 -- ---- faults
 

@@ -6,7 +6,7 @@ use Rattle.process_rules.specs.Runs.{Kept, Given}
 use Rattle.wasmhost_serve.specs.declared.lines.outside.Outside.{Outside}
 use Rattle.wasmhost_serve.specs.rules.Seeds.{seeded_bytes, words_for}
 
--- the stream of a seed's words
+-- the stream of a seed's words for a worker that keeps no disk
 abbrev pub random_stream : ℕ
 random_stream = 1
 
@@ -24,20 +24,20 @@ abbrev pub words_of : List Kept → ℕ
 words_of [] = 0
 words_of (Given a ∷ kept) = words_in a + words_of kept
 
--- A time is one of the clock, and random bytes are those of the next words of the seed's stream,
--- where so many were taken before.
-abbrev pub ComesFrom : Outside → ℕ → Answer → Type 0
-ComesFrom outside place (answer.Realtime n) = IsTimeOf outside n
-ComesFrom outside place (answer.Monotonic n) = IsTimeOf outside n
-ComesFrom outside place (answer.Random bytes) =
-    bytes ≡ seeded_bytes outside.seed random_stream place (length bytes)
-ComesFrom outside place _ = ⊤
+-- A time is one of the clock, and random bytes are those of the next words of this stream of the
+-- seed, where so many were taken before.
+abbrev pub ComesFrom : Outside → ℕ → ℕ → Answer → Type 0
+ComesFrom outside stream place (answer.Realtime n) = IsTimeOf outside n
+ComesFrom outside stream place (answer.Monotonic n) = IsTimeOf outside n
+ComesFrom outside stream place (answer.Random bytes) =
+    bytes ≡ seeded_bytes outside.seed stream place (length bytes)
+ComesFrom outside stream place _ = ⊤
 
 -- so does each of these answers, in their order
-abbrev pub ComeFrom : Outside → ℕ → List Kept → Type 0
-ComeFrom outside place [] = ⊤
-ComeFrom outside place (Given a ∷ kept) =
-    ComesFrom outside place a × ComeFrom outside (place + words_in a) kept
+abbrev pub ComeFrom : Outside → ℕ → ℕ → List Kept → Type 0
+ComeFrom outside stream place [] = ⊤
+ComeFrom outside stream place (Given a ∷ kept) =
+    ComesFrom outside stream place a × ComeFrom outside stream (place + words_in a) kept
 
 -- an answer that a request line gives
 abbrev pub request_in : Answer → List Kept

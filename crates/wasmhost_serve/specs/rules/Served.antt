@@ -15,9 +15,12 @@ use Rattle.machine.specs.rules.Offers.{offer}
 use Rattle.machine_loader.specs.rules.Acceptance.{HasNoAcceptedModule}
 use Rattle.process_rules.specs.Processes.{Ending, Exited, Trapped, ProcessState, Guest}
 use Rattle.process_rules.specs.Runs.{Wants, next_of, Kept, Reaches}
+use Rattle.process.specs.rules.Values.{ending_of}
 use Rattle.process.specs.rules.Stops.{IsBeyond}
+use Rattle.worker.specs.declared.now.Now.{Now}
+use Rattle.worker.specs.declared.now.Now.TheVariants as now
 use Rattle.wasmhost_serve.specs.declared.lines.outside.Outside.{Outside}
-use Rattle.wasmhost_serve.specs.rules.Outside.{ComeFrom, requests_in, words_of}
+use Rattle.wasmhost_serve.specs.rules.Outside.{ComeFrom, random_stream, requests_in, words_of}
 use Rattle.wasmhost_serve.specs.rules.Printed.{all_printed}
 use Rattle.wasmhost_serve.specs.rules.Requests.{GiveUpTo, BeginsWithOther, BeginsWithLater}
 use Rattle.wasmhost_serve.specs.rules.Seeds.{words_for}
@@ -106,11 +109,17 @@ pub record HasPrinted (given : Job) (old new : Option (List ℕ)) : Type 0 where
   pub accepted : IsAccepted offer given.config.pages given.bytes spelled
   pub kept : List Kept
   pub requests : GiveUpTo 0 given.lines (requests_in kept) (λ _. ⊤)
-  pub others : ComeFrom given.outside 0 kept
+  pub others : ComeFrom given.outside random_stream 0 kept
   pub steps : ℕ
   pub process : ProcessState
   pub reached : Reaches spelled given.config kept steps process
   pub printed : Appends old new (all_printed 1 process.host.lines)
+
+-- how a worker that is over has ended, if it has
+abbrev pub ended_by : Now → Option Ending
+ended_by now.Spent = None
+ended_by now.Waiting = None
+ended_by (now.Ended how) = Some (ending_of how)
 
 -- the last words of a worker that is over: how it has ended, or that it waits
 abbrev pub last_words : Option Ending → List ℕ

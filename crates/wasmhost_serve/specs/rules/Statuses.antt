@@ -3,7 +3,9 @@ use Rattle.std.specs.Prelude.{ℕ, List, Result, Ok, Err, ⊤, if◌then◌else�
 use Rattle.machine_loader.specs.declared.fault.FrontFault.{FrontFault}
 use Rattle.machine_loader.specs.rules.Acceptance.{HasAcceptedModule, HasNoAcceptedModule}
 use Rattle.machine_loader.specs.rules.Acceptance.{FrontDenies, is_want}
+use Rattle.worker.specs.declared.fault.WorkFault.{WorkFault}
 use Rattle.worker.specs.declared.fault.WorkFault.TheVariants as fault
+use Rattle.wasmhost_serve.specs.declared.lines.fault.LineFault.{LineFault}
 use Rattle.wasmhost_serve.specs.declared.lines.fault.LineFault.TheVariants as line
 use Rattle.wasi_abi.specs.rules.Configs.{Settings, AreSettingsWithinLimits}
 use Rattle.wasmhost_serve.specs.declared.configuring.Unconfigured.{Unconfigured}
@@ -27,18 +29,26 @@ abbrev pub status_by : Result ⊤ FrontFault → ℕ
 status_by (Ok done) = 0
 status_by (Err fault) = if is_want fault then 5 else 3
 
+-- the exit status of what a worker's call says
+abbrev pub status_of_work : WorkFault → ℕ
+status_of_work fault.Source = 4
+status_of_work fault.Outlet = 7
+status_of_work fault.Memory = 5
+status_of_work fault.Failed = 4
+status_of_work (fault.Refused why) = 3
+
+-- the exit status of a request line that isn't taken, or of its reader
+abbrev pub status_of_line : LineFault → ℕ
+status_of_line line.Read = 4
+status_of_line line.Clock = 4
+status_of_line line.Words = 4
+status_of_line line.Memory = 5
+status_of_line (line.Number given wanted) = 6
+status_of_line line.Form = 6
+
 -- the exit status of a worker that doesn't run to its end, where that is printed
 abbrev pub status_of : RunFault → ℕ
 status_of (run.Config (unconfigured.Limits why)) = 3
 status_of (run.Config unconfigured.Memory) = 5
-status_of (run.Work fault.Source) = 4
-status_of (run.Work fault.Outlet) = 7
-status_of (run.Work fault.Memory) = 5
-status_of (run.Work fault.Failed) = 4
-status_of (run.Work (fault.Refused why)) = 3
-status_of (run.Line line.Read) = 4
-status_of (run.Line line.Clock) = 4
-status_of (run.Line line.Words) = 4
-status_of (run.Line line.Memory) = 5
-status_of (run.Line (line.Number given wanted)) = 6
-status_of (run.Line line.Form) = 6
+status_of (run.Work why) = status_of_work why
+status_of (run.Line why) = status_of_line why

@@ -57,12 +57,12 @@ impl<R: LineReader + Drop> NumberedRequests<R> {
         }
     }
 
-    /// As where no request is taken. It reads on where it is.
-    pub(crate) fn begin_again(&mut self)
+    /// As where so many requests were taken. It reads on where it is.
+    pub(crate) fn go_on_behind(&mut self, taken: u64)
         ensures reader { self.new.reader ≡ self.old.reader }
-        ensures taken { self.new.taken ≡ 0 }
+        ensures taken { self.new.taken ≡ taken }
     {
-        self.taken = 0;
+        self.taken = taken;
     }
 
     /// The answer of a request.

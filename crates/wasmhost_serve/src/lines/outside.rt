@@ -3,7 +3,7 @@
 ghost use Rattle.std.specs.Prelude.{◌≡◌, IfOk, IfErr, IfSome};
 ghost use Rattle.wasi_abi.specs.declared.answer.Answer.TheVariants as answers;
 ghost use Rattle.wasi_abi.specs.rules.Answers.{IsTime};
-ghost use Rattle.wasmhost_serve.specs.rules.Outside.{IsTimeOf, random_stream};
+ghost use Rattle.wasmhost_serve.specs.rules.Outside.{IsTimeOf};
 ghost use Rattle.wasmhost_serve.specs.rules.Seeds.{seeded_bytes};
 ghost use Rattle.wasmhost_serve.specs.Lines.Answers.{IsClockless};
 ghost use Rattle.wasmhost_serve.specs.declared.lines.fault.LineFault.TheVariants.{Memory};
@@ -15,8 +15,8 @@ use std::time::Clock;
 use wasi_abi::Answer;
 use wasm_syntax::Row;
 
-/// The stream of a seed's words.
-const STREAM: u64 = 1;
+/// The stream of a seed's words for a worker that keeps no disk.
+pub(crate) const STREAM: u64 = 1;
 
 /// Where times and random bytes come from.
 #[derive(Clone, Copy, Debug, PartialEq, Eq)]
@@ -52,18 +52,19 @@ pub(crate) fn time_of<C: Clock>(outside: Outside, clock: &C) -> Result<u64, Line
     }
 }
 
-/// So many random bytes of a seed, from the word at `place` on.
+/// So many random bytes of a stream of a seed, from the word at `place` on.
 pub(crate) fn random_answer(
     alloc: Global,
     seed: [u8; 32],
+    stream: u64,
     place: u64,
     length: u32,
 ) -> Result<Answer, LineFault>
     ensures is { IfOk result (λ answer. answer
-        ≡ answers.Random (seeded_bytes seed random_stream place length)) }
+        ≡ answers.Random (seeded_bytes seed stream place length)) }
     ensures failed { IfErr result (λ fault. fault ≡ Memory) }
 {
-    let Ok(bytes) = seeded(alloc, seed, STREAM, place, length as usize) else {
+    let Ok(bytes) = seeded(alloc, seed, stream, place, length as usize) else {
         return Err(LineFault::Memory);
     };
     let bytes = Row::from_vec(bytes);

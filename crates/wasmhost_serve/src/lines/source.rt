@@ -9,7 +9,7 @@ ghost use Rattle.wasmhost_serve.specs.rules.Seeds.{seeded_bytes, words_for};
 
 use crate::lines::fault::LineFault;
 use crate::lines::numbered::NumberedRequests;
-use crate::lines::outside::{Outside, random_answer, time_of};
+use crate::lines::outside::{Outside, STREAM, random_answer, time_of};
 use crate::lines::reader::LineReader;
 use record_replay::{Source, SourceFault};
 use std::alloc::Global;
@@ -27,7 +27,9 @@ pub struct RequestSource<R: LineReader + Drop, C: Clock + Drop> {
     /// The machine's clock.
     clock: C,
     outside: Outside,
-    /// How many words of the seed were taken.
+    /// The stream of the seed whose words are random bytes.
+    stream: u64,
+    /// How many words of it were taken.
     place: u64,
     fault: Option<LineFault>,
 }
@@ -38,6 +40,7 @@ impl<R: LineReader + Drop, C: Clock + Drop> RequestSource<R, C> {
         ensures reader { result.requests.reader ≡ reader }
         ensures taken { result.requests.taken ≡ taken }
         ensures outside { result.outside ≡ outside }
+        ensures stream { result.stream ≡ random_stream }
         ensures place { result.place ≡ 0 }
         ensures unfailed { result.fault ≡ None }
     {
@@ -46,6 +49,7 @@ impl<R: LineReader + Drop, C: Clock + Drop> RequestSource<R, C> {
             requests: NumberedRequests::new(alloc, reader, taken),
             clock,
             outside,
+            stream: STREAM,
             place: 0,
             fault: None,
         }
@@ -56,10 +60,26 @@ impl<R: LineReader + Drop, C: Clock + Drop> RequestSource<R, C> {
         ensures reader { self.new.requests.reader ≡ self.old.requests.reader }
         ensures taken { self.new.requests.taken ≡ 0 }
         ensures outside { self.new.outside ≡ self.old.outside }
+        ensures stream { self.new.stream ≡ random_stream }
         ensures place { self.new.place ≡ 0 }
         ensures unfailed { self.new.fault ≡ None }
     {
-        self.requests.begin_again();
+        self.go_on_behind(0, STREAM);
+    }
+
+    /// As for a worker that has taken so many requests: these are passed over. Random bytes are
+    /// those of this stream of the seed, from its first word on, and there is no fault. It reads on
+    /// where it is.
+    pub(crate) fn go_on_behind(&mut self, taken: u64, stream: u64)
+        ensures reader { self.new.requests.reader ≡ self.old.requests.reader }
+        ensures taken { self.new.requests.taken ≡ taken }
+        ensures outside { self.new.outside ≡ self.old.outside }
+        ensures stream { self.new.stream ≡ stream }
+        ensures place { self.new.place ≡ 0 }
+        ensures unfailed { self.new.fault ≡ None }
+    {
+        self.requests.go_on_behind(taken);
+        self.stream = stream;
         self.place = 0;
         self.fault = None;
     }
@@ -74,7 +94,7 @@ impl<R: LineReader + Drop, C: Clock + Drop> RequestSource<R, C> {
     /// The next random bytes.
     fn draw(&mut self, length: u32) -> Result<Answer, LineFault>
         ensures is { IfOk result (λ answer. answer ≡ answers.Random
-            (seeded_bytes self.old.outside.seed random_stream self.old.place length)) }
+            (seeded_bytes self.old.outside.seed self.old.stream self.old.place length)) }
         ensures drawn { OnOk result (self.new ≡ record self.old {
           place = self.old.place + words_for length;
         }) }
@@ -84,7 +104,8 @@ impl<R: LineReader + Drop, C: Clock + Drop> RequestSource<R, C> {
         let Some(place) = self.place.checked_add(u64::from(length).div_ceil(4)) else {
             return Err(LineFault::Words);
         };
-        let answer = random_answer(self.alloc, self.outside.seed, self.place, length)?;
+        let seed = self.outside.seed;
+        let answer = random_answer(self.alloc, seed, self.stream, self.place, length)?;
         self.place = place;
         Ok(answer)
     }
@@ -92,20 +113,21 @@ impl<R: LineReader + Drop, C: Clock + Drop> RequestSource<R, C> {
     /// The answer to a question, or none where the lines have come to their end.
     fn find(&mut self, kind: Kind) -> Result<Option<Answer>, LineFault>
         ensures found { IfOk result (λ found. Finds kind
-            (standing self.old.outside self.old.requests.taken self.old.place
+            (standing self.old.outside self.old.stream self.old.requests.taken self.old.place
             (R.unread self.old.requests.reader) (R.has_failed self.old.requests.reader) None)
             found
-            (standing self.new.outside self.new.requests.taken self.new.place
+            (standing self.new.outside self.new.stream self.new.requests.taken self.new.place
             (R.unread self.new.requests.reader) (R.has_failed self.new.requests.reader) None)) }
         ensures steady { OnOk result
             (R.has_failed self.new.requests.reader ≡ R.has_failed self.old.requests.reader) }
         ensures failed { IfErr result (IsRefusedAt kind
-            (standing self.old.outside self.old.requests.taken self.old.place
+            (standing self.old.outside self.old.stream self.old.requests.taken self.old.place
             (R.unread self.old.requests.reader) (R.has_failed self.old.requests.reader) None)
             (R.has_failed self.new.requests.reader)) }
         ensures taken { OnErr result (self.new.requests.taken ≡ self.old.requests.taken) }
         ensures place { OnErr result (self.new.place ≡ self.old.place) }
         ensures outside { self.new.outside ≡ self.old.outside }
+        ensures stream { self.new.stream ≡ self.old.stream }
         ensures fault { self.new.fault ≡ self.old.fault }
     {
         match kind {
@@ -130,10 +152,10 @@ impl<R: LineReader + Drop, C: Clock + Drop> Source for RequestSource<R, C> {
     ghost use Rattle.wasmhost_serve.specs.Lines.Answers.{HandsNext, standing};
 
     ghost gives = { λ old kind said new. HandsNext kind
-        (standing old.outside old.requests.taken old.place (R.unread old.requests.reader)
+        (standing old.outside old.stream old.requests.taken old.place (R.unread old.requests.reader)
         (R.has_failed old.requests.reader) old.fault)
         said
-        (standing new.outside new.requests.taken new.place (R.unread new.requests.reader)
+        (standing new.outside new.stream new.requests.taken new.place (R.unread new.requests.reader)
         (R.has_failed new.requests.reader) new.fault) };
 
     fn answer(&mut self, kind: Kind) -> Result<Option<Answer>, SourceFault> {

@@ -1,20 +1,20 @@
-//! The words of a run, cut at the first `--`.
+//! The words of a creation, cut at the first `--`.
 
 ghost use Rattle.std.specs.Prelude.{◌≡◌, IfOk, codes, map};
 ghost use Rattle.std.specs.Str.{bytes_eq};
 ghost use Rattle.wasmhost_serve.specs.rules.Commands.{behind_dashes, before_dashes, guest_words};
-ghost use Rattle.wasmhost_serve.specs.rules.Commands.{is_run, own_words};
+ghost use Rattle.wasmhost_serve.specs.rules.Commands.{is_create, own_words};
 ghost use Rattle.wasmhost_serve.specs.rules.Served.{texts_in};
 
 use std::alloc::{AllocError, Global};
 use std::convert::AsStr;
 
-/// Whether the second word is that of a run.
-fn is_for_run<S: AsStr>(words: &[S]) -> bool
-    ensures { result ≡ is_run (map S.text words.now) }
+/// Whether the second word is that of a creation.
+fn is_for_create<S: AsStr>(words: &[S]) -> bool
+    ensures { result ≡ is_create (map S.text words.now) }
 {
     match words {
-        [_, command, ..] => command.as_str() == "run",
+        [_, command, ..] => command.as_str() == "create",
         _ => false,
     }
 }
@@ -41,12 +41,12 @@ fn cut_at_dashes<'a, S: AsStr>(words: &'a [S]) -> (&'a [S], &'a [S])
     (words, &words[at..])
 }
 
-/// The words that the command reads, and those that a run hands to its guest.
+/// The words that the command reads, and those that a creation hands to its guest.
 pub(crate) fn cut_words<'a, S: AsStr>(words: &'a [S]) -> (&'a [S], &'a [S])
     ensures own { map S.text result.0.now ≡ own_words (map S.text words.entry.now) }
     ensures guest { map S.text result.1.now ≡ guest_words (map S.text words.entry.now) }
 {
-    if is_for_run(words) {
+    if is_for_create(words) {
         return cut_at_dashes(words);
     }
     (words, &words[..0])

@@ -1,12 +1,22 @@
-use Rattle.wasmhost_serve.proofs.WordLemmas.ExamplesHold.{help_examples, mistake_examples}
-use Rattle.wasmhost_serve.proofs.WordLemmas.ExamplesHold.{order_examples}
+use Rattle.wasmhost_serve.proofs.WordLemmas.ExamplesHold.{create_examples, help_examples}
+use Rattle.wasmhost_serve.proofs.WordLemmas.ExamplesHold.{option_mistakes, path_examples}
+use Rattle.wasmhost_serve.proofs.WordLemmas.ExamplesHold.{path_mistakes, run_examples}
 use Rattle.wasmhost_serve.proofs.laws.worked_examples.Goals as goal
 
-pub returns-clause-orders : goal.returns-clause-orders
-returns-clause-orders c = order_examples
+pub returns-clause-paths : goal.returns-clause-paths
+returns-clause-paths c = path_examples
 
-pub returns-clause-mistakes : goal.returns-clause-mistakes
-returns-clause-mistakes c = mistake_examples
+pub returns-clause-creations : goal.returns-clause-creations
+returns-clause-creations c = create_examples
+
+pub returns-clause-runs : goal.returns-clause-runs
+returns-clause-runs c = run_examples
+
+pub returns-clause-wrong_paths : goal.returns-clause-wrong_paths
+returns-clause-wrong_paths c = path_mistakes
+
+pub returns-clause-wrong_options : goal.returns-clause-wrong_options
+returns-clause-wrong_options c = option_mistakes
 
 pub returns-clause-help : goal.returns-clause-help
 returns-clause-help c = help_examples

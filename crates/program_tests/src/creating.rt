@@ -1,0 +1,115 @@
+//! Creations: what is found before a disk is made, and what is told and printed of one that is.
+
+use crate::asking::ECHO;
+use crate::check::{HELLO, bytes_of};
+use sector_disk::MemDisk;
+use std::alloc::Global;
+use std::test::Fail;
+use wasmhost_serve::{Prepared, Sizes, create_on, prepare, report_unprepared};
+
+/// Texts of a module, and pages, units of files and sectors of the journal of its worker.
+type Asked = (&'static [&'static str], [u64; 3]);
+
+fn sizes_of(numbers: [u64; 3]) -> Sizes {
+    let [pages, files, journal] = numbers;
+    Sizes {
+        pages,
+        files,
+        journal,
+    }
+}
+
+/// A creation with one argument and no environment, and how many sectors it needs.
+type Found = (Asked, u64);
+
+static FOUND: [Found; 2] = [
+    ((&ECHO, [1, 1, 64]), 4676),
+    ((&HELLO, [16, 16, 256]), 12_548),
+];
+
+fn is_found_so(alloc: Global, row: &Found) -> Result<bool, Fail> {
+    let wasm = bytes_of(alloc, row.0.0)?;
+    let prepared = prepare(alloc, wasm.as_slice(), sizes_of(row.0.1), &[], &[])?;
+    let is_so = prepared.sectors == row.1;
+    drop(prepared);
+    Ok(is_so)
+}
+
+#[test]
+fn a_creation_is_prepared(rt: HostRuntime) -> Result<(), Fail> {
+    for row in &FOUND {
+        assert!(rt; is_found_so(rt.alloc(), row)?, "{row:?}");
+    }
+    Ok(())
+}
+
+/// A creation that is refused, an entry of its environment, and the line that says why.
+type Refused = (Asked, &'static str, &'static str);
+
+static REFUSED: [Refused; 7] = [
+    ((&[], [1, 1, 64]), "a=b", "failed B1 Malformed\n"),
+    (
+        (&["0061736d01000000"], [1, 1, 64]),
+        "a=b",
+        "failed L1 NoStart\n",
+    ),
+    ((&ECHO, [0, 1, 64]), "a=b", "failed C1 Range\n"),
+    ((&ECHO, [1, 65, 64]), "a=b", "failed C1 Range\n"),
+    ((&ECHO, [1, 1, 63]), "a=b", "failed C1 Range\n"),
+    ((&ECHO, [1, 1, 64]), "=b", "failed C2 Text\n"),
+    ((&[], [0, 1, 64]), "a=b", "failed C1 Range\n"),
+];
+
+fn is_refused_so(alloc: Global, row: &Refused) -> Result<bool, Fail> {
+    let wasm = bytes_of(alloc, row.0.0)?;
+    let mut err = Vec::new(alloc);
+    let status = match prepare(alloc, wasm.as_slice(), sizes_of(row.0.1), &[], &[row.1]) {
+        Ok(_prepared) => 0,
+        Err(fault) => report_unprepared(&mut err, fault),
+    };
+    Ok(status == 3 && err.as_slice() == row.2.as_bytes())
+}
+
+#[test]
+fn a_creation_is_refused_before_its_disk_is_made(rt: HostRuntime) -> Result<(), Fail> {
+    for row in &REFUSED {
+        assert!(rt; is_refused_so(rt.alloc(), row)?, "{row:?}");
+    }
+    Ok(())
+}
+
+/// Sectors of a disk; and the status, the output and the error output of a creation on it.
+type Created = (u64, u8, &'static str, &'static str);
+
+static CREATED: [Created; 2] = [
+    (4676, 0, "created 4676 sectors\n", ""),
+    (4675, 3, "", "failed Y3 TooSmall\n"),
+];
+
+/// Whether a creation on such a disk ends so.
+fn ends_so(alloc: Global, wasm: &[u8], prepared: &Prepared, row: &Created) -> Result<bool, Fail> {
+    let mut disk = MemDisk::new(alloc, row.0, 5000)?;
+    let mut out = Vec::new(alloc);
+    let mut err = Vec::new(alloc);
+    let status = create_on(alloc, &mut disk, wasm, &prepared.config, &mut out, &mut err);
+    let is_so = status == row.1
+        && out.as_slice() == row.2.as_bytes()
+        && err.as_slice() == row.3.as_bytes();
+    Ok(is_so)
+}
+
+fn is_created_so(alloc: Global, row: &Created) -> Result<bool, Fail> {
+    let wasm = bytes_of(alloc, &ECHO)?;
+    let prepared = prepare(alloc, wasm.as_slice(), sizes_of([1, 1, 64]), &[], &[])?;
+    let ends = ends_so(alloc, wasm.as_slice(), &prepared, row);
+    drop(prepared);
+    ends
+}
+
+#[test]
+fn a_worker_is_created_on_a_disk(rt: HostRuntime) -> Result<(), Fail> {
+    for row in &CREATED {
+        assert!(rt; is_created_so(rt.alloc(), row)?, "{row:?}");
+    }
+    Ok(())
+}

@@ -1,0 +1,285 @@
+//! What `show` prints of a worker's disk.
+
+ghost use Rattle.std.specs.Prelude.{◌≤◌, IfOk};
+ghost use Rattle.disk_layout.specs.rules.Places.{total_sectors};
+
+use crate::asking::{ECHO, config, hello};
+use crate::check::bytes_of;
+use durable_worker::DurableWorker;
+use record_replay::{AnswerList, LineList};
+use sector_disk::{Disk, FaultDisk, MemDisk, Place};
+use std::alloc::Global;
+use std::test::Fail;
+use wasmhost_serve::show_on;
+
+/// Sectors of the disk of `echo`, and how many writes it has room for between two syncs.
+const SECTORS: u64 = 4_676;
+
+const WRITES: usize = 2_371;
+
+/// A line on the output, or on the error output, and the status.
+#[derive(Clone, Copy, Debug)]
+struct Shown {
+    out: &'static str,
+    err: &'static str,
+    status: u8,
+}
+
+/// Whether just that is shown of a disk.
+fn shows<D: Disk>(alloc: Global, disk: &mut D, shown: &Shown) -> bool {
+    let mut out = Vec::new(alloc);
+    let mut err = Vec::new(alloc);
+    let status = show_on(alloc, disk, &mut out, &mut err);
+    status == shown.status
+        && out.as_slice() == shown.out.as_bytes()
+        && err.as_slice() == shown.err.as_bytes()
+}
+
+fn zeros(alloc: Global) -> Result<MemDisk, Fail> {
+    match MemDisk::new(alloc, SECTORS, WRITES) {
+        Ok(disk) => Ok(disk),
+        Err(fault) => Err(Fail::from(fault)),
+    }
+}
+
+/// A worker of `echo` on this disk.
+fn create<D: Disk>(alloc: Global, disk: &mut D) -> Result<DurableWorker, Fail>
+    ensures { IfOk result (λ w. total_sectors w.store.geometry ≤ (D.medium disk.new).sectors) }
+{
+    let wasm = bytes_of(alloc, &ECHO)?;
+    let config = config(alloc)?;
+    match DurableWorker::create(alloc, disk, wasm.as_slice(), &config) {
+        Ok(worker) => Ok(worker),
+        Err(fault) => Err(Fail::from(fault)),
+    }
+}
+
+/// How far `echo` comes on its disk: so many steps on one request, saved then or not, and whether a
+/// second life is opened. Then what is shown.
+struct Course {
+    fuel: u64,
+    is_saved: bool,
+    is_recovered: bool,
+    shown: Shown,
+}
+
+/// Runs one slice on one request, and saves the process where that is wanted.
+fn run<D: Disk>(
+    alloc: Global,
+    worker: &mut DurableWorker,
+    disk: &mut D,
+    course: &Course,
+) -> Result<(), Fail>
+    requires { total_sectors worker.old.store.geometry ≤ (D.medium disk.old).sectors }
+{
+    let mut answers = Vec::new(alloc);
+    answers.push(hello(alloc)?)?;
+    let mut source = AnswerList::new(answers);
+    let mut told = LineList::new(alloc);
+    match worker.slice(disk, course.fuel, &mut source, &mut told) {
+        Ok(_now) => save(worker, disk, course.is_saved),
+        Err(fault) => Err(Fail::from(fault)),
+    }
+}
+
+fn save<D: Disk>(worker: &mut DurableWorker, disk: &mut D, is_saved: bool) -> Result<(), Fail>
+    requires { total_sectors worker.old.store.geometry ≤ (D.medium disk.old).sectors }
+{
+    if !is_saved {
+        return Ok(());
+    }
+    match worker.checkpoint(disk) {
+        Ok(()) => Ok(()),
+        Err(fault) => Err(Fail::from(fault)),
+    }
+}
+
+/// A first life of `echo`.
+fn live<D: Disk>(alloc: Global, disk: &mut D, course: &Course) -> Result<(), Fail> {
+    let mut worker = create(alloc, disk)?;
+    let ran = run(alloc, &mut worker, disk, course);
+    drop(worker);
+    ran
+}
+
+/// A second one, which does nothing, where that is wanted.
+fn open_again<D: Disk>(alloc: Global, disk: &mut D, is_wanted: bool) -> Result<(), Fail> {
+    if !is_wanted {
+        return Ok(());
+    }
+    let mut told = LineList::new(alloc);
+    match DurableWorker::recover(alloc, disk, &mut told) {
+        Ok(worker) => {
+            drop(worker);
+            Ok(())
+        }
+        Err(fault) => Err(Fail::from(fault)),
+    }
+}
+
+/// Whether that is shown of its disk then, and the same once more.
+fn is_shown(alloc: Global, course: &Course) -> Result<bool, Fail> {
+    let mut disk = zeros(alloc)?;
+    live(alloc, &mut disk, course)?;
+    open_again(alloc, &mut disk, course.is_recovered)?;
+    Ok(shows(alloc, &mut disk, &course.shown) && shows(alloc, &mut disk, &course.shown))
+}
+
+/// The request is taken in step 6, and its line is told in step 20. A record stands behind the
+/// snapshot until the next one is taken.
+static COURSES: [Course; 5] = [
+    Course {
+        fuel: 0,
+        is_saved: false,
+        is_recovered: false,
+        shown: Shown {
+            out: "generation 1 steps 0 answers 0 lines 0 records 0\n",
+            err: "",
+            status: 0,
+        },
+    },
+    Course {
+        fuel: 20,
+        is_saved: false,
+        is_recovered: false,
+        shown: Shown {
+            out: "generation 1 steps 0 answers 0 lines 0 records 1\n",
+            err: "",
+            status: 0,
+        },
+    },
+    Course {
+        fuel: 20,
+        is_saved: false,
+        is_recovered: true,
+        shown: Shown {
+            out: "generation 2 steps 6 answers 1 lines 0 records 0\n",
+            err: "",
+            status: 0,
+        },
+    },
+    Course {
+        fuel: 20,
+        is_saved: true,
+        is_recovered: false,
+        shown: Shown {
+            out: "generation 2 steps 20 answers 1 lines 1 records 0\n",
+            err: "",
+            status: 0,
+        },
+    },
+    Course {
+        fuel: 20,
+        is_saved: true,
+        is_recovered: true,
+        shown: Shown {
+            out: "generation 3 steps 20 answers 1 lines 1 records 0\n",
+            err: "",
+            status: 0,
+        },
+    },
+];
+
+#[test]
+fn the_saved_process_is_shown(rt: HostRuntime) -> Result<(), Fail> {
+    for course in &COURSES {
+        assert!(rt; is_shown(rt.alloc(), course)?, "{:?}", course.shown);
+    }
+    Ok(())
+}
+
+/// What is shown of a disk of zeros, which stops or fails at a call.
+struct Trouble {
+    stop: Option<Place>,
+    fail: Option<Place>,
+    shown: Shown,
+}
+
+static TROUBLES: [Trouble; 4] = [
+    Trouble {
+        stop: None,
+        fail: None,
+        shown: Shown {
+            out: "",
+            err: "failed Y1 NotAWorker\n",
+            status: 3,
+        },
+    },
+    Trouble {
+        stop: None,
+        fail: Some(Place { call: 1, front: 0 }),
+        shown: Shown {
+            out: "",
+            err: "failed K2 Io\n",
+            status: 4,
+        },
+    },
+    Trouble {
+        stop: Some(Place { call: 1, front: 0 }),
+        fail: None,
+        shown: Shown {
+            out: "",
+            err: "failed K3 Cut\n",
+            status: 4,
+        },
+    },
+    Trouble {
+        stop: Some(Place { call: 2, front: 0 }),
+        fail: None,
+        shown: Shown {
+            out: "",
+            err: "failed K3 Cut\n",
+            status: 4,
+        },
+    },
+];
+
+fn is_told(alloc: Global, trouble: &Trouble) -> Result<bool, Fail> {
+    let mut disk = FaultDisk::new(zeros(alloc)?, trouble.stop, trouble.fail);
+    Ok(shows(alloc, &mut disk, &trouble.shown))
+}
+
+#[test]
+fn a_disk_without_a_worker_is_refused(rt: HostRuntime) -> Result<(), Fail> {
+    for trouble in &TROUBLES {
+        assert!(rt; is_told(rt.alloc(), trouble)?, "{:?}", trouble.shown);
+    }
+    Ok(())
+}
+
+/// The status where the output, or the error output, has so much room.
+fn status_in(alloc: Global, disk: &mut MemDisk, out: &mut [u8], err: &mut [u8]) -> u8 {
+    let mut out: &mut [u8] = out;
+    let mut err: &mut [u8] = err;
+    show_on(alloc, disk, &mut out, &mut err)
+}
+
+/// The status of a disk of zeros, in so much room.
+fn refused_in(alloc: Global, room: usize) -> Result<u8, Fail>
+    requires { room ≤ 32 }
+{
+    let mut disk = zeros(alloc)?;
+    let mut err = [0u8; 32];
+    Ok(status_in(alloc, &mut disk, &mut [], &mut err[..room]))
+}
+
+/// The status of a fresh worker's disk, in so much room.
+fn shown_in(alloc: Global, room: usize) -> Result<u8, Fail>
+    requires { room ≤ 64 }
+{
+    let mut disk = zeros(alloc)?;
+    let worker = create(alloc, &mut disk)?;
+    drop(worker);
+    let mut out = [0u8; 64];
+    Ok(status_in(alloc, &mut disk, &mut out[..room], &mut []))
+}
+
+/// The line has 49 bytes, and the fault 21.
+#[test]
+fn what_cant_be_printed_is_told(rt: HostRuntime) -> Result<(), Fail> {
+    assert!(rt; shown_in(rt.alloc(), 49)? == 0);
+    assert!(rt; shown_in(rt.alloc(), 48)? == 7);
+    assert!(rt; refused_in(rt.alloc(), 21)? == 3);
+    assert!(rt; refused_in(rt.alloc(), 20)? == 7);
+    Ok(())
+}

@@ -1,0 +1,233 @@
+-- From the calls of a worker on its disk to what a run of it says.
+use Rattle.std.proofs.Common.{◌≡◌, ◌≢◌, inl, inr, ℕ, Bool, List, [], Option, None}
+use Rattle.std.proofs.Common.{Ok, Err}
+use Rattle.std.proofs.Common.{refl, ap, subst, ◌≤◌, lit≤, arith}
+use Rattle.std.specs.Prelude.{Result}
+use Rattle.std.specs.Io.KnownBytes.{Appends}
+use Rattle.sector_disk.specs.declared.fault.DiskFault.{DiskFault}
+use Rattle.sector_disk.specs.declared.fault.DiskFault.TheVariants as disk
+use Rattle.sector_disk.specs.rules.Medium.{Medium}
+use Rattle.record_replay.specs.rules.Calls.{Taking}
+use Rattle.worker.specs.declared.fault.WorkFault.TheVariants as work
+use Rattle.worker.specs.declared.now.Now.{Now}
+use Rattle.worker.specs.declared.now.Now.TheVariants as now
+use Rattle.durable_worker.specs.declared.fault.DurableFault.{DurableFault}
+use Rattle.durable_worker.specs.declared.fault.DurableFault.TheVariants as durable
+use Rattle.durable_worker.specs.declared.recover_fault.RecoverFault.{RecoverFault}
+use Rattle.durable_worker.specs.declared.recover_fault.RecoverFault.TheVariants as recover
+use Rattle.durable_worker.specs.rules.DurableValues.{DurableValue}
+use Rattle.durable_worker.specs.rules.LifeWords.{Act}
+use Rattle.durable_worker.specs.rules.Recoveries.{IsNoWorker, Recovers, RecoveryCarries}
+use Rattle.durable_worker.specs.laws.OneLife.{recovered, opened, unopened}
+use Rattle.wasmhost_serve.specs.declared.lines.fault.LineFault.{LineFault}
+use Rattle.wasmhost_serve.specs.declared.lines.fault.LineFault.TheVariants as line
+use Rattle.wasmhost_serve.specs.declared.lines.outside.Outside.{Outside}
+use Rattle.wasmhost_serve.specs.declared.on_disk.fault.OnDiskFault.{OnDiskFault}
+use Rattle.wasmhost_serve.specs.declared.on_disk.fault.OnDiskFault.TheVariants as is_told
+use Rattle.wasmhost_serve.specs.Lines.Answers.{Standing, standing}
+use Rattle.wasmhost_serve.specs.Livings.{scene, AreCalled, LivesAtPace, HasGoneOn}
+use Rattle.wasmhost_serve.specs.rules.DiskStatuses.{IsToldOnDisk, told_of_opening, status_on_disk}
+use Rattle.wasmhost_serve.specs.rules.DiskStatuses.{status_of_disk, status_of_call}
+use Rattle.wasmhost_serve.specs.rules.Statuses.{status_of_line}
+use Rattle.wasmhost_serve.specs.rules.Served.{ended_by, last_words}
+use Rattle.wasmhost_serve.specs.rules.ServedOnDisk.{DiskJob, stands_behind, handing}
+use Rattle.wasmhost_serve.specs.rules.ServedOnDisk.{printing, IsLeftAlone, IsUnopenedRun}
+use Rattle.wasmhost_serve.specs.rules.ServedOnDisk.{LivesOnDisk}
+use Rattle.wasmhost_serve.specs.rules.ServedOnDisk.{IsSaid, ServesOnDisk, unopened as is_unopened}
+use Rattle.wasmhost_serve.specs.rules.ServedOnDisk.{over, broken}
+use Rattle.wasmhost_serve.proofs.ShownLemmas.{gives_so, takes_so, recovery_so, calls_so}
+
+-- ---- an open worker
+
+-- where a source stands that goes on behind the requests that a worker has taken
+module _ {R : Type 0} (unread : R → Option (List ℕ)) (failed : R → Bool) where
+  pub is_behind : {outside outside' : Outside} {stream stream' taken taken' place : ℕ}
+      {reader reader' : R} {found : Option LineFault} → outside ≡ outside' → stream ≡ stream'
+      → taken ≡ taken' → place ≡ 0 → reader ≡ reader' → found ≡ None
+      → standing outside stream taken place (unread reader) (failed reader) found
+      ≡ standing outside' stream' taken' 0 (unread reader') (failed reader') None
+  is_behind same first behind start is unspoilt =
+      rw (same, first, behind, start, is, unspoilt) refl
+
+module _ {D S O : Type 0} (medium : D → Medium) (stands : S → Standing)
+    (shows : O → Option (List ℕ)) where
+  -- what was done of a worker, seen by where its source stands and by what is printed
+  lives_so : (given : DiskJob) (w : DurableValue) (disk last : D) (s t : S) (o p : O)
+      (left : Result (List Act) RecoverFault) → stands s ≡ stands_behind given w
+      → LivesAtPace medium (gives_so stands shows handing printing)
+      (takes_so stands shows handing printing) given.fuel given.every (scene w disk s o) left last t
+      p
+      → LivesAtPace medium handing printing given.fuel given.every
+      (scene w disk (stands_behind given w) (shows o)) left last (stands t) (shows p)
+  lives_so given w disk last s t o p left is lives = record {
+    acts = lives.acts;
+    paced = lives.paced;
+    done = subst (λ (z : Standing). AreCalled medium handing printing lives.acts
+        (scene w disk z (shows o)) left last (stands t) (shows p)) is
+        (calls_so stands shows handing printing medium lives.acts w disk last s t o p left
+        lives.done);
+  }
+
+  module _ (given : DiskJob) (w : DurableValue) (disk last : D) (s t : S) (o p : O)
+      (is : stands s ≡ stands_behind given w) where
+    pub has_gone : (why : Now) → why ≢ now.Spent
+        → LivesAtPace medium (gives_so stands shows handing printing)
+        (takes_so stands shows handing printing) given.fuel given.every (scene w disk s o) (Ok [])
+        last t p
+        → HasGoneOn medium given w disk last (shows o) (shows p) (stands t).failed (Ok why)
+    has_gone why gone lives =
+        (stands t, gone, refl, lives_so given w disk last s t o p (Ok []) is lives)
+
+    pub has_failed : (why : DurableFault) (told : OnDiskFault)
+        → IsToldOnDisk why (stands t).fault told
+        → LivesAtPace medium (gives_so stands shows handing printing)
+        (takes_so stands shows handing printing) given.fuel given.every (scene w disk s o)
+        (Err (recover.Worker why)) last t p
+        → HasGoneOn medium given w disk last (shows o) (shows p) (stands t).failed (Err told)
+    has_failed why told tells lives = (
+      stands t,
+      why,
+      tells,
+      refl,
+      lives_so given w disk last s t o p (Err (recover.Worker why)) is lives,
+    )
+
+-- ---- a recovery
+
+module _ {D O : Type 0} (medium : D → Medium) (shows : O → Option (List ℕ)) where
+  -- what an outlet takes
+  abbrev pub prints_so : Taking O
+  prints_so old number line said new = printing (shows old) number line said (shows new)
+
+  -- where there is no worker, nothing is written or told
+  left_alone : (why : RecoverFault) (found last : D) (o p : O)
+      → Recovers medium prints_so (Err why) found last o p → IsNoWorker why
+      → IsLeftAlone medium found last (shows o) (shows p)
+  left_alone why found last o p (inl unsettled) none =
+      absurd (not_a_disk why (error_is unsettled.is) none)
+    where
+      not_a_disk : (why : RecoverFault) {fault : DiskFault}
+          → why ≡ recover.Worker (durable.Disk fault) → IsNoWorker why → ⊥
+      not_a_disk why is none = subst IsNoWorker is none
+
+      error_is : {fault : DiskFault}
+          → ◌≡◌ {A = Result DurableValue RecoverFault} (Err why)
+          (Err (recover.Worker (durable.Disk fault)))
+          → why ≡ recover.Worker (durable.Disk fault)
+      error_is is = cc
+  left_alone why found last o p (inr settled) none =
+      let alone = settled.3 none in
+      record {
+        settled = settled.0;
+        synced = settled.1;
+        read = alone.0;
+        same = ap shows alone.1;
+      }
+
+  -- a worker that isn't opened
+  pub opens_none : (why : RecoverFault) (found last : D) (o p : O)
+      → Recovers medium prints_so (Err why) found last o p
+      → RecoveryCarries prints_so (Err why) (medium found) (medium last) o p
+      → IsUnopenedRun medium why found last (shows o) (shows p)
+  opens_none why found last o p recovers carries = record {
+    none = left_alone why found last o p recovers;
+    life = λ some image leaves bytes config acts source.
+        unopened (recovered image leaves some
+        (recovery_so {S = Standing} (λ (z : Standing). z) shows handing printing (Err why)
+        (medium found) (medium last)
+        o p carries));
+  }
+
+  -- one that is, and lives
+  lives_on : (given : DiskJob) (w : DurableValue) (left : Result (List Act) RecoverFault)
+      (found opening last : D) (o p : O) (out' : Option (List ℕ)) (source' : Standing)
+      → RecoveryCarries prints_so (Ok w) (medium found) (medium opening) o p
+      → LivesAtPace medium handing printing given.fuel given.every
+      (scene w opening (stands_behind given w) (shows p)) left last source' out'
+      → LivesOnDisk medium given left found last (shows o) out' source'
+  lives_on given w left found opening last o p out' source' carries lives = record {
+    worker = w;
+    opening = opening;
+    acts = lives.acts;
+    paced = lives.paced;
+    life = λ image leaves bytes config.
+        opened (recovered image leaves (λ none. none)
+        (recovery_so {S = Standing} (λ (z : Standing). z) shows handing printing (Ok w)
+        (medium found) (medium opening)
+        o p carries)) lives.done;
+  }
+
+  -- ---- what the status says
+
+  module _ (given : DiskJob) (found last : D) (o : O) (out' err err' : Option (List ℕ))
+      (failed' : Bool) (status : ℕ) where
+    abbrev Serves : Type 0
+    Serves = ServesOnDisk medium given found last (shows o) out' err err' failed' status
+
+    pub serves_none : (why : RecoverFault) (told : OnDiskFault) (p : O) → shows p ≡ out'
+        → failed' ≡ given.failed
+        → Recovers medium prints_so (Err why) found last o p
+        → RecoveryCarries prints_so (Err why) (medium found) (medium last) o p
+        → told ≡ told_of_opening why → IsSaid (status_on_disk told) status → Serves
+    serves_none why told p same heeded recovers carries tells says =
+        is_unopened why
+        (subst (IsUnopenedRun medium why found last (shows o)) same
+        (opens_none why found last o p recovers carries)) heeded
+        (subst (λ t. IsSaid (status_on_disk t) status) tells says)
+
+    module _ (w : DurableValue) (opening : D) (p : O)
+        (carries : RecoveryCarries prints_so (Ok w) (medium found) (medium opening) o p) where
+      pub serves_over : (why : Now)
+          → HasGoneOn medium given w opening last (shows p) out' failed' (Ok why)
+          → IsSaid 0 status → (status ≡ 0 → Appends err err' (last_words (ended_by why))) → Serves
+      serves_over why gone says told =
+          over why gone.0 gone.1
+          (lives_on given w (Ok []) found opening last o p out' gone.0 carries gone.3) gone.2 says
+          told
+
+      pub serves_broken : (told : OnDiskFault)
+          → HasGoneOn medium given w opening last (shows p) out' failed' (Err told)
+          → IsSaid (status_on_disk told) status → Serves
+      serves_broken told gone says =
+          broken gone.1 told gone.0
+          (lives_on given w (Err (recover.Worker gone.1)) found opening last o p out' gone.0
+          carries gone.4) gone.3 gone.2 says
+
+-- ---- statuses
+
+few_of_call : (fault : DurableFault) → status_of_call fault ≤ 7
+few_of_call (durable.Work work.Source) = lit≤ tt
+few_of_call (durable.Work work.Outlet) = lit≤ tt
+few_of_call (durable.Work work.Memory) = lit≤ tt
+few_of_call (durable.Work work.Failed) = lit≤ tt
+few_of_call (durable.Work (work.Refused why)) = lit≤ tt
+few_of_call (durable.Disk fault) = lit≤ tt
+few_of_call (durable.Store fault) = lit≤ tt
+
+few_of_disk : (fault : DiskFault) → status_of_disk fault ≤ 7
+few_of_disk disk.Range = lit≤ tt
+few_of_disk disk.Io = lit≤ tt
+few_of_disk disk.Cut = lit≤ tt
+few_of_disk disk.Memory = lit≤ tt
+
+few_of_line : (fault : LineFault) → status_of_line fault ≤ 7
+few_of_line line.Read = lit≤ tt
+few_of_line line.Clock = lit≤ tt
+few_of_line line.Words = lit≤ tt
+few_of_line line.Memory = lit≤ tt
+few_of_line (line.Number given wanted) = lit≤ tt
+few_of_line line.Form = lit≤ tt
+
+few_on_disk : (told : OnDiskFault) → status_on_disk told ≤ 7
+few_on_disk (is_told.Disk fault) = few_of_disk fault
+few_on_disk is_told.Replay = lit≤ tt
+few_on_disk (is_told.Recovery (recover.Worker fault)) = few_of_call fault
+few_on_disk (is_told.Recovery recover.NotAnImage) = lit≤ tt
+few_on_disk (is_told.Recovery recover.Diverged) = lit≤ tt
+few_on_disk (is_told.Call fault) = few_of_call fault
+few_on_disk (is_told.Line fault) = few_of_line fault
+
+pub few_said : (told : OnDiskFault) (status : ℕ) → IsSaid (status_on_disk told) status
+    → status ≤ 7
+few_said told status (inl is) = let few = few_on_disk told in omega (arith, is, few)
+few_said told status (inr is) = omega (arith, is)

@@ -1,0 +1,142 @@
+-- What is printed of a disk, by its survey.
+use Rattle.std.proofs.Common.{◌≡◌, ◌⊎◌, inl, inr, ⊎_elim, ℕ, ◌<◌, ◌≤◌, List, ◌++◌, refl, sym, ap}
+use Rattle.std.proofs.Common.{◌∙◌}
+use Rattle.std.proofs.Common.{subst, arith}
+use Rattle.std.specs.Prelude.{Option, Result, Ok, Err}
+use Rattle.std.specs.Io.KnownBytes.{Appends}
+use Rattle.sector_disk.specs.declared.fault.DiskFault.{DiskFault}
+use Rattle.sector_disk.specs.declared.fault.DiskFault.TheVariants as disk
+use Rattle.sector_disk.specs.rules.Image.{Image}
+use Rattle.sector_disk.specs.rules.Medium.{Medium}
+use Rattle.worker.specs.declared.fault.WorkFault.TheVariants as work
+use Rattle.durable_worker.specs.declared.fault.DurableFault.TheVariants as durable
+use Rattle.durable_worker.specs.declared.recover_fault.RecoverFault.{RecoverFault}
+use Rattle.durable_worker.specs.declared.recover_fault.RecoverFault.TheVariants as recover
+use Rattle.durable_worker.specs.declared.surveyed.Survey.{Survey}
+use Rattle.durable_worker.specs.rules.Recoveries.{SaysNothing}
+use Rattle.durable_worker.specs.rules.Surveys.{Surveys, EachSurvey, TellsSurvey, survey_of}
+use Rattle.wasmhost_serve.specs.declared.on_disk.fault.OnDiskFault.{OnDiskFault}
+use Rattle.wasmhost_serve.specs.rules.DiskStatuses.{told_of_opening, status_on_disk}
+use Rattle.wasmhost_serve.specs.rules.Showings.{SaysSurvey, SaysResult, ShowsSurvey, ShowsDisk}
+use Rattle.wasmhost_serve.proofs.LineLemmas.Printed.{appends_both}
+
+-- ---- the line
+
+-- six texts that were printed one behind the other
+pub appends_six : (a b c d e f g : Option (List ℕ)) (p q r s t u : List ℕ) → Appends a b p
+    → Appends b c q → Appends c d r → Appends d e s → Appends e f t → Appends f g u
+    → Appends a g (p ++ q ++ r ++ s ++ t ++ u)
+appends_six a b c d e f g p q r s t u h i j k l m =
+    appends_both a f g (p ++ q ++ r ++ s ++ t) u
+    (appends_both a e f (p ++ q ++ r ++ s) t
+    (appends_both a d e (p ++ q ++ r) s
+    (appends_both a c d (p ++ q) r (appends_both a b c p q h i) j) k) l) m
+
+-- ---- statuses
+
+-- what says nothing of the disk is told by 4, where the disk has failed, or by 5
+status_of_nothing : (old new : Medium) (why : RecoverFault) → SaysNothing why
+    → ((fault : DiskFault) → why ≡ recover.Worker (durable.Disk fault) → old.faults < new.faults)
+    → ((status_on_disk (told_of_opening why) ≡ 4) × (old.faults < new.faults))
+    ⊎ (status_on_disk (told_of_opening why) ≡ 5)
+status_of_nothing old new recover.NotAnImage says failed = absurd says
+status_of_nothing old new recover.Diverged says failed = absurd says
+status_of_nothing old new (recover.Worker (durable.Work work.Memory)) says failed = inr refl
+status_of_nothing old new (recover.Worker (durable.Work work.Source)) says failed = absurd says
+status_of_nothing old new (recover.Worker (durable.Work work.Outlet)) says failed = absurd says
+status_of_nothing old new (recover.Worker (durable.Work work.Failed)) says failed = absurd says
+status_of_nothing old new (recover.Worker (durable.Work (work.Refused why))) says failed =
+    absurd says
+status_of_nothing old new (recover.Worker (durable.Disk disk.Memory)) says failed = inr refl
+status_of_nothing old new (recover.Worker (durable.Disk disk.Range)) says failed =
+    inl (refl, failed disk.Range refl)
+status_of_nothing old new (recover.Worker (durable.Disk disk.Io)) says failed =
+    inl (refl, failed disk.Io refl)
+status_of_nothing old new (recover.Worker (durable.Disk disk.Cut)) says failed =
+    inl (refl, failed disk.Cut refl)
+status_of_nothing old new (recover.Worker (durable.Store fault)) says failed = absurd says
+
+-- no status is above 7
+opening_known : (why : RecoverFault) → status_on_disk (told_of_opening why) ≤ 7
+opening_known recover.NotAnImage = omega arith
+opening_known recover.Diverged = omega arith
+opening_known (recover.Worker (durable.Work work.Source)) = omega arith
+opening_known (recover.Worker (durable.Work work.Outlet)) = omega arith
+opening_known (recover.Worker (durable.Work work.Memory)) = omega arith
+opening_known (recover.Worker (durable.Work work.Failed)) = omega arith
+opening_known (recover.Worker (durable.Work (work.Refused why))) = omega arith
+opening_known (recover.Worker (durable.Disk disk.Memory)) = omega arith
+opening_known (recover.Worker (durable.Disk disk.Range)) = omega arith
+opening_known (recover.Worker (durable.Disk disk.Io)) = omega arith
+opening_known (recover.Worker (durable.Disk disk.Cut)) = omega arith
+opening_known (recover.Worker (durable.Store fault)) = omega arith
+
+says_known : (result : Result Survey RecoverFault) (old : Option (List ℕ)) (status : ℕ)
+    (new : Option (List ℕ)) → SaysResult result old status new → status ≤ 7
+says_known (Ok survey) old status new (inl said) = (let zero = said.0 in omega (arith, zero))
+says_known (Ok survey) old status new (inr unsaid) = omega (arith, unsaid)
+says_known (Err why) old status new says =
+    ⊎_elim (λ said. subst (λ n. n ≤ 7) (sym said) (opening_known why))
+    (λ unsaid. omega (arith, unsaid)) says.0
+
+-- ---- what is shown of a worker
+
+-- Whatever the disk shows, the survey tells it. A fault of the disk comes of one that has failed.
+module _ (old new : Medium) where
+  tells_each : (result : Result Survey RecoverFault) → Surveys result old new → (image : Image)
+      → new.shows image → EachSurvey old.sectors image (TellsSurvey result)
+  tells_each result (inl unsettled) image shows m config kept n stands room =
+      subst (λ (r : Result Survey RecoverFault). TellsSurvey r (survey_of stands))
+      (sym unsettled.is) tt
+  tells_each result (inr settled) image shows m config kept n stands room =
+      let from = settled.2 image shows in from.tells m config kept n stands room
+
+  fails_so : (result : Result Survey RecoverFault) → Surveys result old new
+      → (fault : DiskFault) → result ≡ Err (recover.Worker (durable.Disk fault))
+      → old.faults < new.faults
+  fails_so result (inl unsettled) fault is = unsettled.faulted
+  fails_so result (inr settled) fault is = settled.1 fault is
+
+module _ (old new : Medium) (out : Option (List ℕ)) (status : ℕ) (out' : Option (List ℕ)) where
+  pub shows_survey : (survey : Survey) → Surveys (Ok survey) old new
+      → SaysSurvey survey out status out' → ShowsDisk old new out status out'
+  shows_survey survey surveys says =
+      record { result = Ok survey; surveys = surveys; says = says }
+
+  -- of a fault the output knows nothing
+  pub shows_fault : (why : RecoverFault) (told : OnDiskFault) → Surveys (Err why) old new
+      → told ≡ told_of_opening why → (status ≡ status_on_disk told) ⊎ (status ≡ 7) → out' ≡ out
+      → ShowsDisk old new out status out'
+  shows_fault why told surveys is said stays = record {
+    result = Err why;
+    surveys = surveys;
+    says = (
+      subst (λ (f : OnDiskFault). (status ≡ status_on_disk f) ⊎ (status ≡ 7)) is said,
+      stays,
+    );
+  }
+
+  pub shows_known : ShowsDisk old new out status out' → status ≤ 7
+  shows_known shown = says_known shown.result out status out' shown.says
+
+  says_as : (survey : Survey) (result : Result Survey RecoverFault)
+      → TellsSurvey result survey
+      → ((fault : DiskFault) → result ≡ Err (recover.Worker (durable.Disk fault))
+      → old.faults < new.faults)
+      → SaysResult result out status out' → ShowsSurvey old new out status out' survey
+  says_as survey (Ok told) is failed says =
+      inl (subst (λ (s : Survey). SaysSurvey s out status out') is says)
+  says_as survey (Err why) nothing failed says =
+      ⊎_elim
+      (λ (said : status ≡ status_on_disk (told_of_opening why)).
+      ⊎_elim (λ four. inr (inl (said ∙ four.0, four.1))) (λ five. inr (inr (said ∙ five)))
+      (status_of_nothing old new why nothing
+      (λ fault is. failed fault (ap (λ e. Err e) is))))
+      (λ unsaid. inl (inr unsaid)) says.0
+
+  pub shows_each : ShowsDisk old new out status out' → (image : Image) → new.shows image
+      → EachSurvey old.sectors image (ShowsSurvey old new out status out')
+  shows_each shown image shows m config kept n stands room =
+      says_as (survey_of stands) shown.result
+      (tells_each old new shown.result shown.surveys image shows m config kept n stands room)
+      (fails_so old new shown.result shown.surveys) shown.says

@@ -1,0 +1,10 @@
+use Rattle.durable_worker.proofs.LifeLemmas.Uncut.{lives_go_on_uncut}
+use Rattle.wasmhost_serve.specs.rules.ServedOnDisk.{handing, printing}
+use Rattle.wasmhost_serve.proofs.ReleasedLemmas.{released_are_printed}
+use Rattle.wasmhost_serve.proofs.laws.lives_on_disk_go_on.Goals as goal
+
+pub returns-clause-goes_on : goal.returns-clause-goes_on
+returns-clause-goes_on g c = lives_go_on_uncut g.D.Disk.medium handing printing
+
+pub returns-clause-printed : goal.returns-clause-printed
+returns-clause-printed g c = released_are_printed

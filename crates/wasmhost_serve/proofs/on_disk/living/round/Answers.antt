@@ -1,0 +1,51 @@
+use Rattle.std.proofs.Common.{arith}
+use Rattle.wasmhost_serve.proofs.LivingLemmas.{within_breaks, within_rests, within_broken}
+use Rattle.wasmhost_serve.proofs.LivingLemmas.{within_more}
+use Rattle.wasmhost_serve.proofs.LivingLemmas.{within_fewer, slice_fewer}
+use Rattle.wasmhost_serve.proofs.on_disk.living.round.Goals as goal
+use Rattle.wasmhost_serve.proofs.on_disk.living.round.Goals.{then-taken-every-via-then-taken-every}
+use Rattle.wasmhost_serve.proofs.on_disk.living.round.Goals.{then-taken-every-via-else-taken-every+then-not-is_spent}
+
+pub returns-in-Err-clause-failed : goal.returns-in-Err-clause-failed
+returns-in-Err-clause-failed g c =
+    within_breaks g.D.Disk.medium g.S.Source.gives g.O.Outlet.takes _ _ _ _ _ c.loop-now.invariant
+    c.get.result c.get.ensures.value _ _ _ _ _ c.get-every.ensures.value c.in-Err.fault
+    c.in-Err.ensures.carries
+
+pub returns-then-taken-every-clause-done : goal.returns-then-taken-every-clause-done
+returns-then-taken-every-clause-done g c =
+    within_rests g.D.Disk.medium g.S.Source.gives g.O.Outlet.takes _ _ _ _ _ c.loop-now.invariant
+    c.get.result c.get.ensures.value _ _ _ _ _ c.get-every.ensures.value c.in-Ok.now
+    c.in-Ok.ensures.carries c.rest_on.result _ _ c.rest_on.ensures.rested
+    (λ spent. elim c.then-taken-every.branch [
+      | then-taken-every-via-then-taken-every w ↦ w.if-taken-every.true
+      | then-taken-every-via-else-taken-every+then-not-is_spent w ↦
+          let told = w.is_spent.ensures.1 spent in let other = w.if-not-is_spent.true in absurd (cc)
+    ])
+
+pub returns-then-taken-every-clause-failed : goal.returns-then-taken-every-clause-failed
+returns-then-taken-every-clause-failed g c =
+    within_broken g.D.Disk.medium g.S.Source.gives g.O.Outlet.takes _ _ _ _ _ c.loop-now.invariant
+    c.get.result c.get.ensures.value _ _ _ _ _ c.get-every.ensures.value c.in-Ok.now
+    c.in-Ok.ensures.carries c.rest_on.result _ _ c.rest_on.ensures.rested
+
+pub loop-now-preserved : goal.loop-now-preserved
+loop-now-preserved g c =
+    let before = c.loop-now.invariant.fewer in
+    let other = c.if-taken-every.false in
+    within_more g.D.Disk.medium g.S.Source.gives g.O.Outlet.takes _ _ _ _ _ c.loop-now.invariant
+    c.get.result c.get.ensures.value _ _ _ _ c.in-Ok.now c.in-Ok.ensures.carries
+    (omega (arith, before, other))
+    (slice_fewer g.D.Disk.medium g.S.Source.gives g.O.Outlet.takes c.loop-now.worker
+    c.slice.new.self c.get.result c.in-Ok.now _ _ _ _
+    c.is_process.ensures c.get.ensures.nonzero c.in-Ok.ensures.done
+    (c.is_spent.ensures.0 c.if-not-is_spent.false)) c.in-Ok.ensures.room
+
+pub returns-then-taken-every-clause-fewer : goal.returns-then-taken-every-clause-fewer
+returns-then-taken-every-clause-fewer g c =
+    within_fewer g.D.Disk.medium g.S.Source.gives g.O.Outlet.takes _ _ _ _ _ c.loop-now.invariant
+    c.get.result c.get.ensures.value _ _ _ _ _ c.get-every.ensures.value c.in-Ok.now
+    c.in-Ok.ensures.carries c.rest_on.result _ _ c.rest_on.ensures.rested
+    (slice_fewer g.D.Disk.medium g.S.Source.gives g.O.Outlet.takes c.loop-now.worker
+    c.slice.new.self c.get.result c.in-Ok.now _ _ _ _
+    c.is_process.ensures c.get.ensures.nonzero c.in-Ok.ensures.done)

@@ -1,0 +1,32 @@
+use Rattle.std.proofs.Common.{refl}
+use Rattle.wasmhost_serve.proofs.ShowingLemmas.{shows_survey, shows_fault, shows_known, shows_each}
+use Rattle.wasmhost_serve.proofs.on_disk.showing.show_on.Goals as goal
+
+pub returns-in-Ok : goal.returns-in-Ok
+returns-in-Ok g c =
+    let old = g.D.Disk.medium c.args.disk.now in
+    let new = g.D.Disk.medium c.survey.new.disk in
+    let out = g.W.Write.contents c.args.out.now in
+    let out' = g.W.Write.contents c.say_survey.new.out in
+    let status = c.say_survey.result in
+    let shown = shows_survey old new out status out' c.in-Ok.survey c.in-Ok.ensures
+    c.say_survey.ensures in
+    record {
+      shows = shown;
+      stands = shows_each old new out status out' shown;
+      known = shows_known old new out status out' shown;
+    }
+
+pub returns-in-Err : goal.returns-in-Err
+returns-in-Err g c =
+    let old = g.D.Disk.medium c.args.disk.now in
+    let new = g.D.Disk.medium c.survey.new.disk in
+    let out = g.W.Write.contents c.args.out.now in
+    let status = c.say_disk_fault.result in
+    let shown = shows_fault old new out status out c.in-Err.fault c.from.result c.in-Err.ensures
+    c.from.ensures c.say_disk_fault.ensures refl in
+    record {
+      shows = shown;
+      stands = shows_each old new out status out shown;
+      known = shows_known old new out status out shown;
+    }

@@ -1,0 +1,56 @@
+-- What is told of a worker on its disk that isn't opened, or that fails, and the exit status that
+-- says it (this project's own).
+use Rattle.std.specs.Prelude.{◌≡◌, ◌⊎◌, ℕ, Option, Some, None}
+use Rattle.sector_disk.specs.declared.fault.DiskFault.{DiskFault}
+use Rattle.sector_disk.specs.declared.fault.DiskFault.TheVariants as disk
+use Rattle.worker.specs.declared.fault.WorkFault.TheVariants as work
+use Rattle.durable_worker.specs.declared.fault.DurableFault.{DurableFault}
+use Rattle.durable_worker.specs.declared.fault.DurableFault.TheVariants as durable
+use Rattle.durable_worker.specs.declared.recover_fault.RecoverFault.{RecoverFault}
+use Rattle.durable_worker.specs.declared.recover_fault.RecoverFault.TheVariants as recover
+use Rattle.wasmhost_serve.specs.declared.lines.fault.LineFault.{LineFault}
+use Rattle.wasmhost_serve.specs.declared.on_disk.fault.OnDiskFault.{OnDiskFault}
+use Rattle.wasmhost_serve.specs.declared.on_disk.fault.OnDiskFault.TheVariants as told
+use Rattle.wasmhost_serve.specs.rules.Statuses.{status_of_work, status_of_line}
+
+-- While it is opened, a fault of the disk is told as that, and one of the output as one of a
+-- replay. Any other is told as it is.
+abbrev pub told_of_opening : RecoverFault → OnDiskFault
+told_of_opening (recover.Worker (durable.Disk fault)) = told.Disk fault
+told_of_opening (recover.Worker (durable.Work work.Outlet)) = told.Replay
+told_of_opening other = told.Recovery other
+
+-- a fault of a call is told as it is
+abbrev pub told_of_call : DurableFault → OnDiskFault
+told_of_call fault = told.Call fault
+
+-- A fault of a call is told as it is; or, where it is the source's, as that of a line, where there
+-- is one.
+abbrev pub IsToldOnDisk : DurableFault → Option LineFault → OnDiskFault → Type 0
+IsToldOnDisk why found is =
+    ((is ≡ told_of_call why) × (why ≡ durable.Work work.Source → found ≡ None))
+    ⊎ ((line : LineFault) × (why ≡ durable.Work work.Source) × (found ≡ Some line)
+    × (is ≡ told.Line line))
+
+-- ---- exit statuses
+
+-- a disk that failed before the worker was open
+abbrev pub status_of_disk : DiskFault → ℕ
+status_of_disk disk.Memory = 5
+status_of_disk other = 4
+
+-- What a call of a worker on its disk says. What a store refuses is neither want of memory nor a
+-- fault of the disk.
+abbrev pub status_of_call : DurableFault → ℕ
+status_of_call (durable.Work fault) = status_of_work fault
+status_of_call (durable.Disk fault) = 4
+status_of_call (durable.Store fault) = 3
+
+-- all that is told, where that is printed
+abbrev pub status_on_disk : OnDiskFault → ℕ
+status_on_disk (told.Disk fault) = status_of_disk fault
+status_on_disk told.Replay = 7
+status_on_disk (told.Recovery (recover.Worker fault)) = status_of_call fault
+status_on_disk (told.Recovery other) = 3
+status_on_disk (told.Call fault) = status_of_call fault
+status_on_disk (told.Line fault) = status_of_line fault

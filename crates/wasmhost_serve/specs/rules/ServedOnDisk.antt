@@ -1,0 +1,129 @@
+-- What `wasmhost run` does with the worker on a disk (this project's own).
+use Rattle.std.specs.Prelude.{◌≡◌, ◌≢◌, ◌⊎◌, ℕ, Bool, List, [], ◌∷◌, ◌++◌, Option, Some, None}
+use Rattle.std.specs.Prelude.{Result, Ok, Err}
+use Rattle.std.specs.Io.KnownBytes.{Appends}
+use Rattle.wasi_abi.specs.rules.Configs.{Settings}
+use Rattle.sector_disk.specs.rules.Image.{Image}
+use Rattle.sector_disk.specs.rules.Medium.{Medium}
+use Rattle.disk_layout.specs.rules.Stored.{OnlyReads}
+use Rattle.record_replay.specs.rules.Calls.{Giving, Taking, Exchange, Exchanges}
+use Rattle.worker.specs.declared.now.Now.{Now}
+use Rattle.worker.specs.declared.now.Now.TheVariants.{Spent}
+use Rattle.durable_worker.specs.declared.fault.DurableFault.{DurableFault}
+use Rattle.durable_worker.specs.declared.recover_fault.RecoverFault.{RecoverFault}
+use Rattle.durable_worker.specs.declared.recover_fault.RecoverFault.TheVariants as recover
+use Rattle.durable_worker.specs.rules.DurableValues.{DurableValue}
+use Rattle.durable_worker.specs.rules.LifeWords.{Act, Release, by_recovery}
+use Rattle.durable_worker.specs.rules.Recoveries.{IsNoWorker, IsSettledBy}
+use Rattle.durable_worker.specs.laws.OneLife.{IsOneLife, released_in, taken_in}
+use Rattle.durable_worker.specs.laws.Uncut.{AreTrue}
+use Rattle.wasmhost_serve.specs.declared.lines.outside.Outside.{Outside}
+use Rattle.wasmhost_serve.specs.declared.on_disk.fault.OnDiskFault.{OnDiskFault}
+use Rattle.wasmhost_serve.specs.Lines.Answers.{Standing, standing, HandsNext}
+use Rattle.wasmhost_serve.specs.rules.DiskStatuses.{IsToldOnDisk, told_of_opening, status_on_disk}
+use Rattle.wasmhost_serve.specs.rules.Paces.{IsPaced}
+use Rattle.wasmhost_serve.specs.rules.Prints.{PrintsOneLine}
+use Rattle.wasmhost_serve.specs.rules.Served.{ended_by, last_words}
+use Rattle.wasmhost_serve.specs.rules.Texts.{printed}
+
+-- What such a run is given: the steps of a slice, the slices between two checkpoints, the lines of
+-- a reader, where times and random bytes come from, and whether a read of the reader has failed.
+pub record DiskJob : Type 0 where
+  pub fuel : ℕ
+  pub every : ℕ
+  pub lines : Option (List ℕ)
+  pub outside : Outside
+  pub failed : Bool
+
+abbrev pub disk_job : ℕ → ℕ → Option (List ℕ) → Outside → Bool → DiskJob
+disk_job fuel every lines outside failed = record {
+  fuel = fuel;
+  every = every;
+  lines = lines;
+  outside = outside;
+  failed = failed;
+}
+
+-- Where the source of a worker stands that was just opened: behind the requests that the worker
+-- has taken, and before the first word of the seed's stream of its generation.
+abbrev pub stands_behind : DiskJob → DurableValue → Standing
+stands_behind given w = standing given.outside w.store.journal.generation w.process.requests 0
+    given.lines given.failed None
+
+-- what the source gives
+abbrev pub handing : Giving Standing
+handing old kind said new = HandsNext kind old said new
+
+-- what is printed of a line
+abbrev pub printing : Taking (Option (List ℕ))
+printing old number line said new = PrintsOneLine old number line said new
+
+-- The disk was settled by one sync and then only read, and nothing was printed.
+pub record IsLeftAlone {D : Type 0} (medium : D → Medium) (found last : D)
+    (out out' : Option (List ℕ)) : Type 0 where
+  pub settled : D
+  pub synced : IsSettledBy (medium found) (medium settled)
+  pub read : OnlyReads (medium settled) (medium last)
+  pub same : out' ≡ out
+
+-- The worker isn't opened. Where there is none, that is all. Else all that was done is a life that
+-- failed while it was opened, if the answers of the disk fit an image.
+pub record IsUnopenedRun {D : Type 0} (medium : D → Medium) (why : RecoverFault) (found last : D)
+    (out out' : Option (List ℕ)) : Type 0 where
+  pub none : IsNoWorker why → IsLeftAlone medium found last out out'
+  pub life : (IsNoWorker why → ⊥) → (image : Image) → (medium last).may_leave image
+      → (bytes : List ℕ) (config : Settings) (acts : List Act) (source : Standing)
+      → IsOneLife medium handing printing bytes config acts found source out by_recovery None
+      (Err why) last source out'
+
+-- The worker was recovered, and this disk was left. All that was done is one life, at this pace,
+-- if the answers of that disk fit an image.
+pub record LivesOnDisk {D : Type 0} (medium : D → Medium) (given : DiskJob)
+    (left : Result (List Act) RecoverFault) (found last : D) (out out' : Option (List ℕ))
+    (source' : Standing) : Type 0 where
+  pub worker : DurableValue
+  pub opening : D
+  pub acts : List Act
+  pub paced : IsPaced given.fuel given.every acts
+  pub life : (image : Image) → (medium opening).may_leave image
+      → (bytes : List ℕ) (config : Settings)
+      → IsOneLife medium handing printing bytes config acts found (stands_behind given worker) out
+      by_recovery (Some worker) left last source' out'
+
+-- ---- what is printed in a life
+
+-- these lines, as they are printed
+abbrev pub released_lines : List Release → List ℕ
+released_lines [] = []
+released_lines (r ∷ others) = printed r.number r.line ++ released_lines others
+
+-- Where each line that was released was taken, just these were printed, in order.
+abbrev pub ReleasedLinesArePrinted : Type 0
+ReleasedLinesArePrinted = (exchanges : List Exchange) (source source' : Standing)
+    (out out' : Option (List ℕ)) → Exchanges handing printing source out exchanges source' out'
+    → AreTrue (taken_in exchanges) → Appends out out' (released_lines (released_in exchanges))
+
+-- ---- what each exit status says
+
+-- a status is this one, or what it says can't be printed
+abbrev pub IsSaid : ℕ → ℕ → Type 0
+IsSaid status answered = (answered ≡ status) ⊎ (answered ≡ 7)
+
+-- The worker isn't opened, and the status says why. Or it lives until it is over, and the last
+-- words are those of its last slice. Or a call of it fails, and the status says why: a fault of
+-- the source is told as that of a request line, where there is one.
+pub data ServesOnDisk {D : Type 0} (medium : D → Medium) (given : DiskJob) (found last : D)
+    (out out' err err' : Option (List ℕ)) (failed' : Bool) (status : ℕ) : Type 0 where
+  unopened : (why : RecoverFault) → IsUnopenedRun medium why found last out out'
+      → failed' ≡ given.failed
+      → IsSaid (status_on_disk (told_of_opening why)) status
+      → ServesOnDisk medium given found last out out' err err' failed' status
+  over : (now : Now) (source' : Standing) → now ≢ Spent
+      → LivesOnDisk medium given (Ok []) found last out out' source' → source'.failed ≡ failed'
+      → IsSaid 0 status → (status ≡ 0 → Appends err err' (last_words (ended_by now)))
+      → ServesOnDisk medium given found last out out' err err' failed' status
+  broken : (why : DurableFault) (told : OnDiskFault) (source' : Standing)
+      → LivesOnDisk medium given (Err (recover.Worker why)) found last out out' source'
+      → source'.failed ≡ failed' → IsToldOnDisk why source'.fault told
+      → IsSaid (status_on_disk told) status
+      → ServesOnDisk medium given found last out out' err err' failed' status

@@ -1,0 +1,104 @@
+//! Why a worker on its disk isn't opened, or doesn't go on, and the exit status that says it.
+
+ghost use Rattle.std.specs.Prelude.{◌≡◌, ◌⊎◌};
+ghost use Rattle.wasmhost_serve.specs.rules.DiskStatuses.{told_of_opening, told_of_call};
+ghost use Rattle.wasmhost_serve.specs.rules.DiskStatuses.{status_of_disk, status_of_call};
+ghost use Rattle.wasmhost_serve.specs.rules.DiskStatuses.{status_on_disk};
+
+use crate::lines::LineFault;
+use crate::status::{NO_MEMORY, REFUSED, UNREAD, UNWRITTEN, status_of_line, status_of_work};
+use durable_worker::{DurableFault, RecoverFault};
+use sector_disk::DiskFault;
+use std::io::Write;
+use thiserror::Error;
+use worker::WorkFault;
+
+/// What is told of a worker on its disk that isn't opened, or that fails.
+#[derive(Clone, Copy, Debug, PartialEq, Eq, Error)]
+pub(crate) enum OnDiskFault {
+    /// The disk failed before the worker was open.
+    #[error("failed {0}")]
+    Disk(DiskFault),
+    /// A line that is told once more couldn't be printed.
+    #[error("failed Q3 Outlet")]
+    Replay,
+    /// Another fault of a recovery.
+    #[error("failed {0}")]
+    Recovery(RecoverFault),
+    /// What a call of the worker says.
+    #[error("failed {0}")]
+    Call(DurableFault),
+    /// What is wrong with a request line, or with its reader.
+    #[error("{0}")]
+    Line(LineFault),
+}
+
+impl From<RecoverFault> for OnDiskFault {
+    ghost from_gives = { λ fault told. told ≡ told_of_opening fault };
+
+    fn from(fault: RecoverFault) -> Self {
+        match fault {
+            RecoverFault::Worker(DurableFault::Disk(fault)) => OnDiskFault::Disk(fault),
+            RecoverFault::Worker(DurableFault::Work(WorkFault::Outlet)) => OnDiskFault::Replay,
+            other => OnDiskFault::Recovery(other),
+        }
+    }
+}
+
+impl From<DurableFault> for OnDiskFault {
+    ghost from_gives = { λ fault told. told ≡ told_of_call fault };
+
+    fn from(fault: DurableFault) -> Self {
+        OnDiskFault::Call(fault)
+    }
+}
+
+/// The exit status of a disk that failed before a worker was open.
+fn status_of_disk(fault: DiskFault) -> u8
+    ensures { result ≡ status_of_disk fault }
+{
+    match fault {
+        DiskFault::Memory => NO_MEMORY,
+        DiskFault::Range | DiskFault::Io | DiskFault::Cut => UNREAD,
+    }
+}
+
+/// The exit status of what a call of a worker on its disk says.
+fn status_of_call(fault: DurableFault) -> u8
+    ensures { result ≡ status_of_call fault }
+{
+    match fault {
+        DurableFault::Work(fault) => status_of_work(fault),
+        DurableFault::Disk(_) => UNREAD,
+        DurableFault::Store(_) => REFUSED,
+    }
+}
+
+impl OnDiskFault {
+    /// The exit status.
+    pub(crate) fn status(self) -> u8
+        ensures { result ≡ status_on_disk self }
+    {
+        match self {
+            OnDiskFault::Disk(fault) => status_of_disk(fault),
+            OnDiskFault::Replay => UNWRITTEN,
+            OnDiskFault::Recovery(RecoverFault::NotAnImage | RecoverFault::Diverged) => REFUSED,
+            OnDiskFault::Recovery(RecoverFault::Worker(fault)) | OnDiskFault::Call(fault) => {
+                status_of_call(fault)
+            }
+            OnDiskFault::Line(fault) => status_of_line(fault),
+        }
+    }
+}
+
+/// Writes why a worker on its disk isn't opened, or fails, and answers the exit status.
+pub(crate) fn say_disk_fault<E: Write>(err: &mut E, fault: OnDiskFault) -> u8
+    ensures { (result ≡ status_on_disk fault) ⊎ (result ≡ 7) }
+{
+    let said = writeln!(err, "{fault}");
+    if said.is_ok() && err.flush().is_ok() {
+        fault.status()
+    } else {
+        UNWRITTEN
+    }
+}

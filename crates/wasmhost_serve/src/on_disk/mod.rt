@@ -1,0 +1,14 @@
+//! Commands on a worker that is kept on a disk.
+
+mod creation;
+mod fault;
+mod living;
+mod opening;
+mod serving;
+mod showing;
+
+pub use creation::create_on;
+pub use living::Pace;
+pub use opening::report_open;
+pub use serving::serve_on;
+pub use showing::show_on;

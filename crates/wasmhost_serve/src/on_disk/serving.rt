@@ -1,0 +1,86 @@
+//! `wasmhost run` of a worker on a disk.
+
+ghost use Rattle.std.specs.Prelude.{◌≡◌, ◌⊎◌, ◌≤◌};
+ghost use Rattle.std.specs.Int.NonZero.{non_zero_u64_get};
+ghost use Rattle.disk_layout.specs.rules.Places.{total_sectors};
+ghost use Rattle.wasmhost_serve.specs.rules.DiskStatuses.{IsToldOnDisk};
+ghost use Rattle.wasmhost_serve.specs.rules.ServedOnDisk.{ServesOnDisk, disk_job};
+ghost use Rattle.wasmhost_serve.specs.Livings.{HasGoneOn};
+
+use crate::lines::{LineFault, LineOutlet, LineReader, RequestSource};
+use crate::on_disk::fault::{OnDiskFault, say_disk_fault};
+use crate::on_disk::living::{Pace, live};
+use crate::run::say;
+use durable_worker::{DurableFault, DurableWorker};
+use sector_disk::Disk;
+use std::alloc::Global;
+use std::io::Write;
+use std::time::Clock;
+use worker::{Now, WorkFault};
+
+/// A fault of the source is that of a request line, where there is one.
+fn call_fault_of(fault: DurableFault, line: Option<LineFault>) -> OnDiskFault
+    ensures { IsToldOnDisk fault line result }
+{
+    match line {
+        Some(line) if fault == DurableFault::Work(WorkFault::Source) => OnDiskFault::Line(line),
+        _ => OnDiskFault::from(fault),
+    }
+}
+
+/// Runs a worker that is open on its disk: request lines behind those that it has taken, random
+/// bytes of its generation.
+fn go_on<D: Disk, R: LineReader + Drop, C: Clock + Drop, W: Write + Drop>(
+    worker: &mut DurableWorker,
+    disk: &mut D,
+    pace: Pace,
+    source: &mut RequestSource<R, C>,
+    outlet: &mut LineOutlet<W>,
+) -> Result<Now, OnDiskFault>
+    requires { total_sectors worker.old.store.geometry ≤ (D.medium disk.old).sectors }
+    ensures { HasGoneOn D.medium (disk_job (non_zero_u64_get pace.fuel)
+        (non_zero_u64_get pace.every) (R.unread source.old.requests.reader) source.old.outside
+        (R.has_failed source.old.requests.reader)) worker.old disk.old disk.new
+        (W.contents outlet.old.out) (W.contents outlet.new.out)
+        (R.has_failed source.new.requests.reader) result }
+{
+    let taken = worker.process().requests();
+    source.go_on_behind(taken, worker.generation());
+    match live(worker, disk, pace, source, outlet) {
+        Ok(now) => Ok(now),
+        Err(fault) => Err(call_fault_of(fault, source.fault())),
+    }
+}
+
+/// The worker on a disk goes on: it is recovered, and then runs slices at this pace until it is
+/// over, with a checkpoint behind the last one. Its lines go to the outlet, last words to `err`.
+/// Request lines that it has taken are passed over, and random bytes are those of the seed's stream
+/// of its generation. Answers the exit status: 0 where the worker has ended, trapped or waits at
+/// the end of the lines, 3 for a disk that shows no worker that can go on and where a number is at
+/// its end, 4 where the disk, the reader or the clock fails, 5 for want of memory, 6 for a refused
+/// request line, 7 where nothing can be printed.
+pub fn serve_on<D: Disk, R: LineReader + Drop, C: Clock + Drop, W: Write + Drop, E: Write>(
+    alloc: Global,
+    disk: &mut D,
+    pace: Pace,
+    source: &mut RequestSource<R, C>,
+    outlet: &mut LineOutlet<W>,
+    err: &mut E,
+) -> u8
+    ensures serves { ServesOnDisk D.medium (disk_job (non_zero_u64_get pace.fuel)
+        (non_zero_u64_get pace.every) (R.unread source.old.requests.reader) source.old.outside
+        (R.has_failed source.old.requests.reader)) disk.old disk.new
+        (W.contents outlet.old.out) (W.contents outlet.new.out)
+        (E.contents err.old) (E.contents err.new)
+        (R.has_failed source.new.requests.reader) result }
+    ensures known { result ≤ 7 }
+{
+    let mut worker = match DurableWorker::recover(alloc, disk, outlet) {
+        Ok(worker) => worker,
+        Err(fault) => return say_disk_fault(err, OnDiskFault::from(fault)),
+    };
+    match go_on(&mut worker, disk, pace, source, outlet) {
+        Ok(now) => say(err, now),
+        Err(fault) => say_disk_fault(err, fault),
+    }
+}

@@ -1,0 +1,131 @@
+//! What a creation needs, looked at before its disk is made.
+
+ghost use Rattle.std.specs.Prelude.{◌≡◌, ◌⊎◌, ◌<◌, ◌≤◌, ◌^◌, IfErr, IfOk, OnOk, length};
+ghost use Rattle.wasi_abi.specs.rules.Configs.{AreSettingsWithinLimits};
+ghost use Rattle.machine_loader.specs.rules.Acceptance.{HasAcceptedModule};
+ghost use Rattle.wasmhost_serve.specs.rules.Served.{texts_in};
+ghost use Rattle.wasmhost_serve.specs.rules.Creations.{IsMeasured, IsPreparedAs, IsUnaccepted};
+ghost use Rattle.wasmhost_serve.specs.rules.Creations.{IsUnprepared, config_as, prepared_with};
+ghost use Rattle.wasmhost_serve.specs.rules.Creations.{disk_sectors, status_unprepared};
+
+use crate::configuring::{Sizes, Unconfigured, configure_as};
+use crate::status::{NO_MEMORY, REFUSED, UNWRITTEN};
+use disk_layout::Geometry;
+use machine_loader::{FrontFault, accept};
+use std::alloc::Global;
+use std::io::Write;
+use thiserror::Error;
+use wasi_abi::{Config, ConfigFault};
+
+/// What a worker is created with.
+#[derive(Debug, Drop)]
+pub struct Prepared {
+    /// The configuration of the worker.
+    pub config: Config,
+    /// How many sectors its disk needs.
+    pub sectors: u64,
+}
+
+/// Why no worker is created.
+#[derive(Clone, Copy, Debug, PartialEq, Eq, Error)]
+pub enum Unprepared {
+    /// A number, a text or the count of texts is out of the limits.
+    #[error("failed {0}")]
+    Config(ConfigFault),
+    /// The module isn't accepted.
+    #[error("failed {0}")]
+    Module(FrontFault),
+    #[error("failed N4 Memory")]
+    Memory,
+}
+
+impl Unprepared {
+    /// The exit status.
+    fn status(self) -> u8
+        ensures { result ≡ status_unprepared self }
+    {
+        match self {
+            Unprepared::Config(_) | Unprepared::Module(_) => REFUSED,
+            Unprepared::Memory => NO_MEMORY,
+        }
+    }
+}
+
+/// Whether the bytes spell a module that is accepted with so many pages.
+fn judge(alloc: Global, wasm: &[u8], pages: u32) -> Result<(), Unprepared>
+    requires { pages ≤ 2 ^ 16 }
+    ensures accepted { OnOk result (HasAcceptedModule pages wasm.now) }
+    ensures refused { IfErr result (IsUnaccepted pages wasm.now) }
+{
+    match accept(alloc, wasm, pages) {
+        Ok(_machine) => Ok(()),
+        Err(fault) if fault.is_want_of_memory() => Err(Unprepared::Memory),
+        Err(fault) => Err(Unprepared::Module(fault)),
+    }
+}
+
+/// How many sectors the disk of a worker of these bytes needs.
+pub(crate) fn sectors_of(config: &Config, wasm: &[u8]) -> u64
+    requires { length wasm.now < 2 ^ 32 }
+    ensures { result ≡ disk_sectors config.now wasm.now }
+{
+    Geometry::of(config, wasm.len() as u32).total_sectors()
+}
+
+/// The sectors that a worker of these bytes needs, where they spell an accepted module.
+fn measure(alloc: Global, wasm: &[u8], config: &Config) -> Result<u64, Unprepared>
+    ensures measured { IfOk result (IsMeasured config.now wasm.now) }
+    ensures refused { IfErr result (IsUnaccepted config.now.pages wasm.now) }
+    ensures within { AreSettingsWithinLimits config.now }
+{
+    match judge(alloc, wasm, config.pages()) {
+        Ok(()) => Ok(sectors_of(config, wasm)),
+        Err(fault) => Err(fault),
+    }
+}
+
+/// A configuration with the sectors of its disk, if they were found.
+fn with_sectors(config: Config, measured: Result<u64, Unprepared>) -> Result<Prepared, Unprepared>
+    ensures { result ≡ prepared_with config measured }
+{
+    match measured {
+        Ok(sectors) => Ok(Prepared { config, sectors }),
+        Err(fault) => Err(fault),
+    }
+}
+
+/// What a worker of these bytes is created with, where it is of these sizes, and has these
+/// arguments and this environment. The configuration is looked at before the module.
+pub fn prepare(
+    alloc: Global,
+    wasm: &[u8],
+    sizes: Sizes,
+    arguments: &[&str],
+    environment: &[&str],
+) -> Result<Prepared, Unprepared>
+    ensures prepared { IfOk result (IsPreparedAs
+        (config_as sizes (texts_in arguments.now) (texts_in environment.now)) wasm.now) }
+    ensures refused { IfErr result (IsUnprepared
+        (config_as sizes (texts_in arguments.now) (texts_in environment.now)) wasm.now) }
+{
+    let config = match configure_as(alloc, sizes, arguments, environment) {
+        Ok(config) => config,
+        Err(Unconfigured::Limits(fault)) => return Err(Unprepared::Config(fault)),
+        Err(Unconfigured::Memory) => return Err(Unprepared::Memory),
+    };
+    let measured = measure(alloc, wasm, &config);
+    with_sectors(config, measured)
+}
+
+/// Writes why no worker is created, and answers the exit status, or 7 where it can't be written.
+pub fn report_unprepared<E: Write>(err: &mut E, fault: Unprepared) -> u8
+    ensures status { (result ≡ status_unprepared fault) ⊎ (result ≡ 7) }
+    ensures known { result ≤ 7 }
+{
+    let said = writeln!(err, "{fault}");
+    if said.is_ok() && err.flush().is_ok() {
+        fault.status()
+    } else {
+        UNWRITTEN
+    }
+}

@@ -1,0 +1,181 @@
+//! The commands of the program, as `clap` is told of them.
+
+ghost use Rattle.std.specs.Prelude.{IfOk, codes};
+ghost use Rattle.wasmhost_serve.specs.rules.CommandLine.{IsArgument, IsCommand, bare_app};
+ghost use Rattle.wasmhost_serve.specs.rules.CommandLine.{bare_create_app, check_app, create_app};
+ghost use Rattle.wasmhost_serve.specs.rules.CommandLine.{disk_app, env_rule, half_app, number_rule};
+ghost use Rattle.wasmhost_serve.specs.rules.CommandLine.{paced_run_app, path_rule, rewrite_rule};
+ghost use Rattle.wasmhost_serve.specs.rules.CommandLine.{run_app, seed_rule, seeded_run_app};
+ghost use Rattle.wasmhost_serve.specs.rules.CommandLine.{show_app, sized_create_app, wasmhost};
+
+use clap::{Arg, ArgAction, Command, value_parser};
+use std::alloc::{AllocError, Global};
+
+/// A path, which has to be given.
+fn path_argument<'a>(alloc: Global, name: &'a str) -> Arg<'a>
+    ensures { IsArgument (path_rule name.entry.now) result }
+{
+    Arg::new(alloc, name).required(true).action(ArgAction::Set)
+}
+
+/// An option with any number of 64 bits.
+fn number_option<'a>(alloc: Global, name: &'a str, help: &'a str) -> Arg<'a>
+    ensures { IsArgument (number_rule name.entry.now 0) result }
+{
+    Arg::new(alloc, name)
+        .long(name)
+        .help(help)
+        .value_name("N")
+        .value_parser(value_parser!(u64))
+}
+
+/// An option with a number from 1 on.
+fn positive_option<'a>(alloc: Global, name: &'a str, help: &'a str) -> Arg<'a>
+    ensures { IsArgument (number_rule name.entry.now 1) result }
+{
+    Arg::new(alloc, name)
+        .long(name)
+        .help(help)
+        .value_name("N")
+        .value_parser(value_parser!(u64).range(1..))
+}
+
+/// The flag `--rewrite`.
+fn rewrite_flag<'a>(alloc: Global) -> Arg<'a>
+    ensures { IsArgument rewrite_rule result }
+{
+    Arg::new(alloc, "rewrite")
+        .long("rewrite")
+        .help("Write every sector back first, after a disk fault")
+        .action(ArgAction::SetTrue)
+}
+
+/// The option `--seed`.
+fn seed_option<'a>(alloc: Global) -> Arg<'a>
+    ensures { IsArgument seed_rule result }
+{
+    Arg::new(alloc, "seed")
+        .long("seed")
+        .help("Seed of random bytes, 64 hexadecimal digits; zeros where none is given")
+        .value_name("HEX")
+}
+
+/// The option `--env`, which may be repeated.
+fn env_option<'a>(alloc: Global) -> Arg<'a>
+    ensures { IsArgument env_rule result }
+{
+    Arg::new(alloc, "env")
+        .long("env")
+        .help("An entry of the guest's environment; may be repeated")
+        .value_name("NAME=VALUE")
+        .action(ArgAction::Append)
+}
+
+fn check_command<'a>(alloc: Global) -> Result<Command<'a>, AllocError>
+    ensures { IfOk result (IsCommand check_app) }
+{
+    Command::new(alloc, "check")
+        .about("Say whether a module is accepted")
+        .arg(path_argument(alloc, "MODULE"))
+}
+
+/// A command with the path of a disk.
+fn disk_command<'a>(alloc: Global, name: &'a str, about: &'a str) -> Result<Command<'a>, AllocError>
+    ensures { IfOk result (IsCommand (disk_app name.entry.now)) }
+{
+    Command::new(alloc, name)
+        .about(about)
+        .arg(path_argument(alloc, "DISK"))
+}
+
+/// The command `create`, with its paths.
+fn bare_create_command<'a>(alloc: Global) -> Result<Command<'a>, AllocError>
+    ensures { IfOk result (IsCommand bare_create_app) }
+{
+    disk_command(
+        alloc,
+        "create",
+        "Make a disk with a fresh worker; words behind -- are its own",
+    )?
+    .arg(path_argument(alloc, "MODULE"))
+}
+
+/// The same with the options `--pages`, `--files` and `--journal`.
+fn sized_create_command<'a>(alloc: Global) -> Result<Command<'a>, AllocError>
+    ensures { IfOk result (IsCommand sized_create_app) }
+{
+    let pages = "Pages of 65536 bytes of its memory, 16 where none are given";
+    let files = "Units of 65536 bytes of its files, 16 where none are given";
+    let journal = "Sectors of its journal, 256 where none are given";
+    bare_create_command(alloc)?
+        .arg(number_option(alloc, "pages", pages))?
+        .arg(number_option(alloc, "files", files))?
+        .arg(number_option(alloc, "journal", journal))
+}
+
+fn create_command<'a>(alloc: Global) -> Result<Command<'a>, AllocError>
+    ensures { IfOk result (IsCommand create_app) }
+{
+    sized_create_command(alloc)?.arg(env_option(alloc))
+}
+
+/// The command `run`, with its path and the options `--fuel` and `--every`.
+fn paced_run_command<'a>(alloc: Global) -> Result<Command<'a>, AllocError>
+    ensures { IfOk result (IsCommand paced_run_app) }
+{
+    let about = "Run the worker of a disk: request lines in, its lines out";
+    let fuel = "Steps of a slice, 100000 where none are given";
+    let every = "Slices between two checkpoints, 100 where none are given";
+    disk_command(alloc, "run", about)?
+        .arg(positive_option(alloc, "fuel", fuel))?
+        .arg(positive_option(alloc, "every", every))
+}
+
+/// The same with the options `--seed` and `--clock`.
+fn seeded_run_command<'a>(alloc: Global) -> Result<Command<'a>, AllocError>
+    ensures { IfOk result (IsCommand seeded_run_app) }
+{
+    let clock = "Nanoseconds of both clocks, the machine's time where none are given";
+    paced_run_command(alloc)?
+        .arg(seed_option(alloc))?
+        .arg(number_option(alloc, "clock", clock))
+}
+
+fn run_command<'a>(alloc: Global) -> Result<Command<'a>, AllocError>
+    ensures { IfOk result (IsCommand run_app) }
+{
+    seeded_run_command(alloc)?.arg(rewrite_flag(alloc))
+}
+
+fn show_command<'a>(alloc: Global) -> Result<Command<'a>, AllocError>
+    ensures { IfOk result (IsCommand show_app) }
+{
+    disk_command(alloc, "show", "Say where the worker of a disk stands")
+}
+
+/// The program, without its commands.
+fn bare_command<'a>(alloc: Global) -> Command<'a>
+    ensures { IsCommand bare_app result }
+{
+    Command::new(alloc, "wasmhost")
+        .about("Durable WebAssembly workers")
+        .subcommand_required(true)
+}
+
+/// The program, with the commands for modules.
+fn half_command<'a>(alloc: Global) -> Result<Command<'a>, AllocError>
+    ensures { IfOk result (IsCommand half_app) }
+{
+    bare_command(alloc)
+        .subcommand(check_command(alloc)?)?
+        .subcommand(create_command(alloc)?)
+}
+
+/// The program, with all its commands.
+pub(crate) fn command<'a>(alloc: Global) -> Result<Command<'a>, AllocError>
+    ensures { IfOk result (IsCommand wasmhost) }
+{
+    half_command(alloc)?
+        .subcommand(run_command(alloc)?)?
+        .subcommand(show_command(alloc)?)
+}
