@@ -2,18 +2,21 @@
 import os
 import re
 import subprocess
-import tempfile
+
+from guest_runs import scratch
 
 
 def instructions(program, module, *options):
-    """The machine instructions of a run of a module, given as bytes. It has to exit with 0."""
-    with tempfile.TemporaryDirectory() as room:
-        path = os.path.join(room, "module.wasm")
+    """The machine instructions of a run of a module, given as bytes, on a new disk. It has to exit
+    with 0. The creation of the disk isn't counted, its opening is."""
+    with scratch() as room:
+        path, disk = os.path.join(room, "module.wasm"), os.path.join(room, "disk")
         with open(path, "wb") as file:
             file.write(module)
+        subprocess.run([program, "create", disk, path], capture_output=True, check=True)
         words = ["valgrind", "--tool=callgrind", "--callgrind-out-file=/dev/null", program]
         run = subprocess.run(
-            [*words, "run", path, *options], stdin=subprocess.DEVNULL, capture_output=True,
+            [*words, "run", disk, *options], stdin=subprocess.DEVNULL, capture_output=True,
             text=True, check=True)
     assert "exited 0\n" in run.stderr, run.stderr
     return int(re.search(r"Collected : (\d+)", run.stderr)[1])

@@ -1,18 +1,24 @@
-"""Runs of guests by the built program, and each allocation of a run refused in turn."""
+"""Runs of guests by the built program, each on a disk of its own, and refused allocations."""
 import concurrent.futures
 import functools
 import os
+import re
+import shutil
 import subprocess
+import tempfile
 
 HERE = os.path.dirname(os.path.abspath(__file__))
 PROGRAM = os.path.join(HERE, "..", "crates", "wasmhost", "out", "wasmhost")
 EXAMPLES = os.path.join(HERE, "..", "examples")
 
-# How a run ends that has no memory: its exit status and last words.
-WANT_OF_MEMORY = 5, b"failed N4 Memory\n"
+# How a run ends that has no memory: its exit status, and its last words.
+NO_MEMORY, WANT_OF_MEMORY = 5, re.compile(rb"failed [A-Z][0-9] Memory\n")
 
 # How long one run may take.
 SECONDS = 60
+
+# A folder in memory, where syncs cost nothing, and how many bytes have to be free there.
+IN_MEMORY, FREE = "/dev/shm", 1 << 30
 
 # Reads descriptor 0, and writes what it read to descriptor 1, until it reads nothing.
 ECHO = bytes.fromhex(
@@ -23,6 +29,12 @@ ECHO = bytes.fromhex(
     "0a31012f000340 410041004101411010001a 4110280200450d01 410c4110280200360200"
     "410141084101411410011a 0c000b0b"
     "0b12010041000b0c400000000010000040000000")
+
+
+def scratch():
+    """A new folder for disks, which is removed behind its `with`. It lies in memory if it can."""
+    can = os.access(IN_MEMORY, os.W_OK) and shutil.disk_usage(IN_MEMORY).free >= FREE
+    return tempfile.TemporaryDirectory(dir=IN_MEMORY if can else None)
 
 
 def request_lines(requests):
@@ -38,29 +50,70 @@ def printed(lines):
     return b"".join(b"%d %s %s\n" % row for row in rows)
 
 
-def option_words(outside):
-    """The words behind a module that give a process its texts, a time and a seed."""
+def creation_words(outside):
+    """The words of a creation, behind disk and module, that give a process its texts."""
     if outside is None:
         return []
-    words = ["--clock", str(outside.clock), "--seed", outside.seed.hex()]
-    for entry in outside.environment:
-        words += ["--env", entry]
+    words = [word for entry in outside.environment for word in ("--env", entry)]
     return words + ["--", *outside.arguments]
 
 
+def life_words(outside):
+    """The words of a run, behind the disk, that give a process a time and a seed."""
+    if outside is None:
+        return []
+    return ["--clock", str(outside.clock), "--seed", outside.seed.hex()]
+
+
+def ended(words, given=b"", seconds=SECONDS, **environment):
+    """How a command ends: its exit status, its output and its error output."""
+    ran = subprocess.run(
+        words, input=given, capture_output=True, check=False, timeout=seconds,
+        env={**os.environ, **environment})
+    return ran.returncode, ran.stdout, ran.stderr
+
+
+def wants_memory(found):
+    """Whether a command has ended in its own want of memory."""
+    return found[0] == NO_MEMORY and WANT_OF_MEMORY.fullmatch(found[2]) is not None
+
+
+def whole_run(program, disk, module, creating=(), running=(), given=b"", seconds=SECONDS):
+    """Creates a worker on a new disk and runs it once. Answers how the run ends, or the creation
+    where that is refused. The disk is removed."""
+    made = ended([program, "create", disk, module, *creating], seconds=seconds)
+    if made[0]:
+        return made
+    try:
+        return ended([program, "run", disk, *running], given, seconds)
+    finally:
+        os.remove(disk)
+
+
 class Run:
-    """A guest with its request lines, and how it has to end: status, output and error output."""
+    """A guest with its request lines, and how its run has to end: status, output, error output.
 
-    def __init__(self, name, program, words, requests, right):
-        self.name, self.right = name, right
-        self.words, self.given = [program, "run", *words], request_lines(requests)
+    It is created once, on a disk that nothing writes again. Each run is on a copy.
+    """
 
-    def ended(self, **environment):
-        """How the program ends."""
-        ran = subprocess.run(
-            self.words, input=self.given, capture_output=True, check=False,
-            env={**os.environ, **environment}, timeout=SECONDS)
-        return ran.returncode, ran.stdout, ran.stderr
+    def __init__(self, name, program, folder, module, requests, right, outside=None):
+        self.name, self.program, self.right = name, program, right
+        self.disk, self.words = os.path.join(folder, f"{name}.disk"), life_words(outside)
+        self.given = request_lines(requests)
+        self.made = ended([program, "create", self.disk, module, *creation_words(outside)])
+
+    def ran(self, disk, **environment):
+        """How a run on some disk ends."""
+        return ended([self.program, "run", disk, *self.words], self.given, **environment)
+
+    def on_copy(self, name, act):
+        """What a function answers of a copy of the fresh disk, which is then removed."""
+        copy = f"{self.disk}.{name}"
+        shutil.copyfile(self.disk, copy)
+        try:
+            return act(copy)
+        finally:
+            os.remove(copy)
 
     def difference(self, output):
         """The first line of an output that isn't the right one."""
@@ -72,30 +125,45 @@ class Run:
 
     def fault(self):
         """What is wrong where nothing is refused, or none."""
-        ended = self.ended()
-        if ended == self.right:
+        if self.made[0]:
+            return f"it isn't created: {self.made}"
+        found = self.on_copy("whole", self.ran)
+        if found == self.right:
             return None
-        same = ended[1] == self.right[1]
-        last = f"status {ended[0]}, {ended[2]}"
-        return f"{last}; " + ("the right lines" if same else self.difference(ended[1]))
+        same = found[1] == self.right[1]
+        last = f"status {found[0]}, {found[2]}"
+        return f"{last}; " + ("the right lines" if same else self.difference(found[1]))
 
-    def allocations(self, folder, library):
+    def allocations(self, library):
         """How many allocations the whole run makes."""
-        path = os.path.join(folder, "allocations")
-        self.ended(LD_PRELOAD=library, ALLOCATIONS=path)
-        with open(path, encoding="ascii") as file:
-            return int(file.read())
+        return self.on_copy("counted", lambda disk: allocations(
+            [self.program, "run", disk, *self.words], library, disk, self.given))
 
-    def refused(self, library, number):
-        """What is wrong where an allocation is refused, or none."""
-        status, output, words = self.ended(LD_PRELOAD=library, REFUSED_ALLOCATION=str(number))
-        if (status, output, words) == self.right:
-            return None
+    def refused(self, library, number, goes_on=False):
+        """What is wrong where an allocation is refused, or none. The same disk may then be asked
+        to go on, with memory enough."""
+        return self.on_copy(str(number), lambda disk: self.fault_on(disk, library, number, goes_on))
+
+    def fault_on(self, disk, library, number, goes_on):
+        """What is wrong where an allocation is refused on a disk, or none."""
+        found = self.ran(disk, LD_PRELOAD=library, REFUSED_ALLOCATION=str(number))
+        status, output, words = found
         is_part = self.right[1].startswith(output) and output[-1:] in (b"", b"\n")
-        if (status, words) == WANT_OF_MEMORY and is_part:
+        if found != self.right and not (wants_memory(found) and is_part):
+            last = f"status {status}, {words}"
+            return f"allocation {number} refused: {last}; " + self.difference(output)
+        if not goes_on:
             return None
-        last = f"status {status}, {words}"
-        return f"allocation {number} refused: {last}; " + self.difference(output)
+        status, more, words = self.ran(disk)
+        if (status, words) == (self.right[0], self.right[2]) and self.joins(output, more):
+            return None
+        last = f"status {status}, {words}, {output} and {more}"
+        return f"allocation {number} refused, then it doesn't go on: {last}"
+
+    def joins(self, output, more):
+        """Whether two outputs together are the right lines, of which the second may repeat some."""
+        ends = [0, *(place + 1 for place, byte in enumerate(output) if byte == ord("\n"))]
+        return any(output[:end] + more == self.right[1] for end in ends)
 
 
 def built_library(folder):
@@ -106,12 +174,20 @@ def built_library(folder):
     return path
 
 
-def refusals(runs, folder):
+def allocations(words, library, path, given=b""):
+    """How many allocations a command makes. They are counted in a file beside a path."""
+    path = f"{path}.allocations"
+    ended(words, given, LD_PRELOAD=library, ALLOCATIONS=path)
+    with open(path, encoding="ascii") as file:
+        return int(file.read())
+
+
+def refusals(runs, folder, goes_on=False):
     """Refuses each allocation of each run. Yields the run, and what is wrong or none."""
     library = built_library(folder)
     with concurrent.futures.ThreadPoolExecutor(os.cpu_count()) as pool:
         for run in runs:
-            count = run.allocations(folder, library)
-            numbers = range(1, count + 1)
-            for fault in pool.map(functools.partial(run.refused, library), numbers):
+            numbers = range(1, run.allocations(library) + 1)
+            refused = functools.partial(run.refused, library, goes_on=goes_on)
+            for fault in pool.map(refused, numbers):
                 yield run, fault

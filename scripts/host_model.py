@@ -62,7 +62,11 @@ UNIT = 65536
 MOVED, IOVECS, LINE, PATH, NAME = 65536, 1024, 4096, 4096, 255
 FILE_SIZE, NODES, DESCRIPTORS = 1 << 20, 1024, 64
 PREOPENED, ROOT = 3, 1
-LAST_CLOCK, RESOLUTION, RANDOM, STREAM = 1, 1, 4096, 1
+LAST_CLOCK, RESOLUTION, RANDOM = 1, 1, 4096
+
+# The stream of random words of the first run of a worker: the generation that its opening commits.
+# The creation has committed generation 1.
+STREAM = 2
 
 
 @dataclass

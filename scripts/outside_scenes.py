@@ -14,15 +14,16 @@ MEMORY, WORD = 65_536, 1 << 32
 # The most random bytes that one call gives.
 MOST = 4_096
 
-# The first 64 bytes that ChaCha20 gives for the key of zeros, in stream 1, as they were published.
+# The first 64 bytes that ChaCha20 gives for the key of zeros, in stream 2. That is the stream of the
+# first run of a worker. `openssl enc -chacha20 -iv 00000000000000000200000000000000` has the same.
 ZEROS = bytes.fromhex(
-    "ef3fdfd6c61578fb f5cf35bd3dd33b80 09631634d21e42ac 33960bd138e50d32"
-    "111e4caf237ee53c a8ad6426194a8854 5ddc497a0b466e7d 6bbdb0041b2f586b")
+    "d0c5b9b744287072 8d812f034c635e81 92b02c311c794763 3ee40f1f04bf1812"
+    "3672a895a95cc2d4 45d09465426062b2 3f1319d65a573da4 30e4e47a9f8d121c")
 
-# The same of the key of the bytes 0 to 31, as `openssl enc -chacha20` has it.
+# The same of the key of the bytes 0 to 31.
 RISING = bytes.fromhex(
-    "2fa4f10250808e89 a25231e50fdf6ee0 71c65f21ef9eee78 4c3f2d89061ae895"
-    "1eebde59042784fa 271fb5de37896daf 0004e4f47d05fe33 bc141d746f04fa09")
+    "54b275d14c65d817 4ac3a499cf3e8406 a93cc77ac646cbca 744fdf1876ad1a39"
+    "c2f88e38d3a5f4c6 8837941559488324 5ac338934071cb6e efcfbdb4235499d2")
 
 
 def sizes(call, count, size):

@@ -1,0 +1,144 @@
+"""The bytes of a worker's disk, written from docs/FORMATS.md and from no code."""
+import hashlib
+import struct
+
+SECTOR = 512
+
+# The least area, and what it has more for each page of memory and each unit of files.
+AREA, AREA_PER_UNIT = 2_048, 128
+
+# The defaults of `create`.
+PAGES, FILES, JOURNAL = 16, 16, 256
+
+# Bytes of records in a sector of the journal, and where its stamp stands.
+PAYLOAD, STAMP = 494, 496
+
+# Kinds of records.
+REQUEST, END, REALTIME, MONOTONIC, RANDOM = range(1, 6)
+
+# Where fields of the super and of a head stand.
+LAYOUT, MODULE_SECTORS, AREA_SECTORS, JOURNAL_SECTORS, DIGEST, LAST_MARK = 8, 20, 24, 28, 32, 504
+HEAD_VERSION, IMAGE_LENGTH, IMAGE_DIGEST = 8, 16, 24
+
+
+def sectors(length):
+    """So many bytes in sectors, rounded up."""
+    return (length + SECTOR - 1) // SECTOR
+
+
+def padded(data, count=1):
+    """Bytes with zeros behind them, so many sectors in all."""
+    return data + bytes(count * SECTOR - len(data))
+
+
+def texts(items):
+    """A count, and each text behind its length."""
+    return struct.pack("<I", len(items)) + b"".join(
+        struct.pack("<H", len(it)) + it for it in items)
+
+
+class Form:
+    """The disk of a worker of some module and configuration."""
+
+    def __init__(self, module, pages=PAGES, files=FILES, journal=JOURNAL,
+                 arguments=(), environment=()):
+        numbers = struct.pack("<III", pages, files, journal)
+        self.module, self.journal_sectors = module, journal
+        self.configuration = numbers + texts([b"worker", *arguments]) + texts(environment)
+        self.contents = self.configuration + module
+        self.content_sectors = sectors(len(self.contents))
+        self.area_sectors = AREA + AREA_PER_UNIT * (pages + files)
+        first = 3 + self.content_sectors
+        self.areas = [first, first + self.area_sectors]
+        self.journal = first + 2 * self.area_sectors
+        self.total = self.journal + journal
+
+    def super(self):
+        """The first sector."""
+        counts = (1, len(self.configuration), len(self.module), self.content_sectors,
+                  self.area_sectors, self.journal_sectors)
+        fields = b"DWORKER!" + struct.pack("<6I", *counts)
+        fields += hashlib.sha256(self.contents).digest()
+        return fields + bytes(LAST_MARK - len(fields)) + b"!REKROWD"
+
+    def commit(self, disk, generation, image):
+        """Writes an image and its head into the bytes of a disk."""
+        area = generation % 2
+        put(disk, self.areas[area], padded(image, sectors(len(image))))
+        put(disk, 1 + area, head(generation, image))
+
+    def keep(self, disk, generation, place, records):
+        """Writes the bytes of records into a sector of the journal."""
+        put(disk, self.journal + place - 1, journal_sector(generation, place, records))
+
+    def created(self, image):
+        """All bytes of the disk of a worker that was just created, with its first image."""
+        disk = bytearray(self.total * SECTOR)
+        put(disk, 0, self.super())
+        put(disk, 3, padded(self.contents, self.content_sectors))
+        self.commit(disk, 1, image)
+        return disk
+
+
+def put(disk, sector, data):
+    """Writes bytes to sectors from one on."""
+    disk[sector * SECTOR : sector * SECTOR + len(data)] = data
+
+
+def head(generation, image):
+    """The head of an image."""
+    fields = b"DWAREA.." + struct.pack("<IxxxxQ", 1, len(image)) + hashlib.sha256(image).digest()
+    return fields + bytes(STAMP - len(fields)) + struct.pack("<QQ", generation, 1)
+
+
+def record(step, kind, payload=b""):
+    """The record of an answer that a step has taken."""
+    return struct.pack("<BQH", kind, step, len(payload)) + payload
+
+
+def journal_sector(generation, place, records):
+    """A sector of the journal."""
+    assert 1 <= len(records) <= PAYLOAD
+    used = struct.pack("<H", len(records)) + records
+    return used + bytes(STAMP - len(used)) + struct.pack("<QQ", generation, place)
+
+
+def stream(number, rights):
+    """A descriptor of a stream in an image."""
+    return struct.pack("<IBQQHQQ", number, number, 0, 0, 0, rights, 0)
+
+
+def echo_image(texts_taken=None):
+    """The image of `echo` with one page: a fresh one, or one that has written back some texts and
+    asks for the next.
+
+    Then its frame stands at the call of `fd_read`, the opcode 5, with four arguments. It asks for
+    the first time behind 5 steps, and 22 steps later for each next text.
+    """
+    is_fresh, texts_taken = texts_taken is None, texts_taken or []
+    count = len(texts_taken)
+    steps, position, slots = (0, 0, ()) if is_fresh else (5 + 22 * count, 5, (0, 0, 1, 16))
+    # The iovec of the reads, that of the writes, and the two counts that the calls put.
+    memory = bytearray(65_536)
+    memory[:12] = struct.pack("<III", 64, 4_096, 64)
+    for text in texts_taken:
+        length = struct.pack("<I", len(text) + 1)
+        memory[12:24] = length * 3
+        memory[64 : 64 + len(text) + 1] = text + b"\n"
+    image = b"DWIMAGE1" + struct.pack("<5QBIB", steps, count, count, count, 0, 1, 0, 0)
+    # Nothing unread, no unfinished lines, no globals, one frame.
+    image += struct.pack("<5I", 0, 0, 0, 0, 1)
+    image += struct.pack("<3I", 2, position, len(slots))
+    image += struct.pack(f"<{len(slots)}Q", *slots)
+    image += struct.pack("<I", 1) + memory
+    # The next node has number 2, and the root has no entries.
+    image += struct.pack("<QIQBI", 2, 1, 1, 3, 0)
+    rights = [0x00200002, 0x00200040, 0x00200040]
+    image += struct.pack("<I", 4) + b"".join(stream(*it) for it in enumerate(rights))
+    return image + struct.pack("<IBQQHQQ", 3, 3, 1, 0, 0, 0x062F6611, 0x066F667F)
+
+
+# What docs/FORMATS.md has of the disk of a worker of `echo`: lengths, and the digest of its image.
+_FRESH = echo_image()
+assert len(_FRESH) == 65_811
+assert hashlib.sha256(_FRESH).hexdigest().startswith("5ad2a2bb20898655431222989de2ca89ed082408")
