@@ -4,10 +4,9 @@ use crate::halt::Halt;
 use crate::modules::{ECHO, SECTORS, blank};
 use crate::working::{Stand, create, open};
 use disk_layout::LayoutFault;
-use durable_worker::{DurableFault, RecoverFault};
+use durable_worker::{DurableFault, RecoverFault, StoreFault};
 use sector_disk::{Disk, DiskFault, MemDisk};
 use std::alloc::Global;
-use worker_store::StoreFault;
 
 /// Bytes of a disk, from a place of a sector on.
 struct Piece {

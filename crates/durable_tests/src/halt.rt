@@ -1,10 +1,9 @@
 //! Why a story has nothing to compare: one name for each want of memory.
 
-use durable_worker::{DurableFault, RecoverFault};
+use durable_worker::{DurableFault, RecoverFault, WorkFault};
 use sector_disk::DiskFault;
 use std::alloc::{AllocError, AllocFailed};
 use wasi_abi::ConfigFault;
-use worker::WorkFault;
 
 /// Want of memory, wherever it is found, or what else a step refuses.
 #[derive(Clone, Copy, Debug, PartialEq, Eq)]

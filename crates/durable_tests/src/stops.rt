@@ -8,12 +8,10 @@ use crate::halt::Halt;
 use crate::modules::{ECHO, HELLO, SECTORS, blank};
 use crate::working::{Stand, Work, are_all_told, create, open, was_stopped, work_on};
 use disk_layout::LayoutFault;
-use durable_worker::{DurableFault, DurableWorker};
+use durable_worker::{DurableFault, DurableWorker, StoreFault, WorkFault};
 use record_replay::{AnswerList, LineList};
 use sector_disk::{Disk, DiskFault, FaultDisk, MemDisk, Place};
 use std::alloc::Global;
-use worker::WorkFault;
-use worker_store::StoreFault;
 
 const CUT: Halt = Halt::Work(DurableFault::Disk(DiskFault::Cut));
 

@@ -9,3 +9,8 @@ pub mod LifeLemmas
 mod RestoringLemmas
 mod SurveyLemmas
 mod TextLemmas
+mod ActLemmas
+mod OpeningLemmas
+mod HeardLemmas
+mod EndLemmas
+mod GoingLemmas

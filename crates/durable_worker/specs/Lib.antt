@@ -4,3 +4,7 @@ pub mod DurableTurns
 pub mod Findings
 pub mod Revivals
 pub mod Laying
+pub mod Hearing
+pub mod LifeCalls
+pub mod Endings
+pub mod Going

@@ -6,7 +6,9 @@ pub mod DurableFaults
 pub mod DurableValues
 pub mod LifeWords
 pub mod OpenWorkers
+pub mod Planned
 pub mod RecoverFaults
 pub mod Recoveries
 pub mod Savings
 pub mod Surveys
+pub mod Told

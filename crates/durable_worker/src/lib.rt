@@ -37,6 +37,8 @@
 //! - No image that a cut leaves is of a later generation than as much has happened, and the disk
 //!   has all sectors of its worker (`carries`, and `laws::open_workers_keep_bounds`).
 //! - After an error no call does anything (`fails`, `refused`).
+//! - `story` (module `story`) runs any list of lives on one disk in memory, with a cut of the power
+//!   or an error behind each, and tells them (`TellsLives`).
 //!
 //! # Definitions to read
 //!
@@ -48,13 +50,13 @@
 //! `Surveys`, `SurveysFrom`, `survey_of` (`Surveys.antt`);
 //! `SlicesOnDiskInVain`, `IsDiskCause` (`DurableFailures.antt`); `CheckpointCalls`,
 //! `CheckpointFails` (`Checkpoints.antt`); `fault_of_store` (`DurableFaults.antt`);
-//! `fault_of_restore`, `fault_of_replay` (`RecoverFaults.antt`). They speak in the words of
-//! `worker_rules` and `worker_laws`.
+//! `fault_of_restore`, `fault_of_replay` (`RecoverFaults.antt`); `inputs_of` (`Planned.antt`),
+//! `TellsLives` (`Told.antt`). They speak in the words of `worker_rules` and `worker_laws`.
 //!
 //! # Who may touch what
 //!
 //! Only this crate decides when records are kept, when they are put on the disk, and when a process
-//! is saved. `wasmhost_serve` and `story` use it. It is handed its disk at each call, and keeps
+//! is saved. `wasmhost_serve` uses it. It is handed its disk at each call, and keeps
 //! none. It stands on `worker`, whose definitions of slices are its own, and on `worker_store`. A
 //! creation takes memory for the module, for a copy of the configuration and for its bytes; the
 //! process keeps the copy. A recovery takes memory for all that it reads. The other calls take none
@@ -74,6 +76,7 @@ mod recovering;
 mod running;
 mod saving;
 mod slices;
+pub mod story;
 mod surveyed;
 mod surveying;
 mod turns;
@@ -84,3 +87,5 @@ pub use recover_fault::RecoverFault;
 pub use running::Running;
 pub use surveyed::Survey;
 pub use surveying::survey;
+pub use worker::WorkFault;
+pub use worker_store::StoreFault;

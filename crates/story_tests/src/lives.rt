@@ -1,10 +1,10 @@
 //! Lives that tests put together, and what is told of them.
 
 use crate::story_stop::StoryStop;
+use durable_worker::story::{LifeEnd, LifeReport, Opening, PlannedAct, PlannedLife, Report, story};
 use hex::decode;
 use sector_disk::Place;
 use std::alloc::Global;
-use story::{LifeEnd, LifeReport, Opening, PlannedAct, PlannedLife, Report, story};
 use wasi_abi::{Answer, Config};
 use wasm_syntax::Row;
 

@@ -1,8 +1,8 @@
 //! Why a test of lives has nothing to compare: one name for each want of memory.
 
+use durable_worker::story::StoryFault;
 use hex::FromHexError;
 use std::alloc::{AllocError, AllocFailed};
-use story::StoryFault;
 use wasi_abi::ConfigFault;
 
 /// Want of memory, wherever it is found, or what else a step refuses.

@@ -1,5 +1,0 @@
-mod ActLemmas
-mod OpeningLemmas
-mod HeardLemmas
-mod EndLemmas
-mod GoingLemmas
