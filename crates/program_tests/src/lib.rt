@@ -22,4 +22,6 @@ mod run;
 #[cfg(test)]
 mod show;
 #[cfg(test)]
+mod stories;
+#[cfg(test)]
 mod words;

@@ -5,12 +5,11 @@ ghost use Rattle.disk_layout.specs.rules.Places.{total_sectors};
 
 use crate::asking::{ECHO, config, hello};
 use crate::check::bytes_of;
-use durable_worker::DurableWorker;
 use record_replay::{AnswerList, LineList};
 use sector_disk::{Disk, FaultDisk, MemDisk, Place};
 use std::alloc::Global;
 use std::test::Fail;
-use wasmhost_serve::show_on;
+use wasmhost_serve::{DurableWorker, show_on};
 
 /// Sectors of the disk of `echo`, and how many writes it has room for between two syncs.
 const SECTORS: u64 = 4_676;

@@ -2,12 +2,12 @@
 
 use std::alloc::Global;
 use std::test::Fail;
-use wasmhost_serve::{CreateOrder, Order, RunOrder, WordsFault, read_words};
+use wasmhost_serve::{CreateOrder, Order, RunOrder, StoryOrder, WordsFault, read_words};
 
 /// Words, and the status of what is read: 0 for an order.
 type StatusRow = (&'static [&'static str], u8);
 
-static STATUSES: [StatusRow; 18] = [
+static STATUSES: [StatusRow; 25] = [
     (&["wasmhost"], 2),
     (&["wasmhost", "open", "a"], 2),
     (&["wasmhost", "check"], 2),
@@ -31,6 +31,16 @@ static STATUSES: [StatusRow; 18] = [
     (&["wasmhost", "run", "a.disk", "--", "b"], 2),
     (&["wasmhost", "show", "a.disk"], 0),
     (&["wasmhost", "show"], 2),
+    (&["wasmhost", "story", "a.story", "a.wasm"], 0),
+    (&["wasmhost", "story"], 2),
+    (&["wasmhost", "story", "a.story"], 2),
+    (&["wasmhost", "story", "a.story", "a.wasm", "b"], 2),
+    (&["wasmhost", "story", "a.story", "a.wasm", "--pages=a"], 2),
+    (
+        &["wasmhost", "story", "a.story", "a.wasm", "--fuel", "1"],
+        2,
+    ),
+    (&["wasmhost", "story", "--help"], 0),
     (&["wasmhost", "--help"], 0),
 ];
 
@@ -61,7 +71,7 @@ fn tells_orders_mistakes_and_help_apart(rt: HostRuntime) -> Result<(), Fail> {
 fn is_check_of(order: &Order<'_>, wanted: &str) -> bool {
     match order {
         Order::Check { path } => *path == wanted,
-        Order::Create(_) | Order::Run(_) | Order::Show { .. } => false,
+        Order::Create(_) | Order::Run(_) | Order::Show { .. } | Order::Story(_) => false,
     }
 }
 
@@ -77,7 +87,7 @@ fn reads_check(rt: HostRuntime) -> Result<(), Fail> {
 fn is_show_of(order: &Order<'_>, wanted: &str) -> bool {
     match order {
         Order::Show { path } => *path == wanted,
-        Order::Check { .. } | Order::Create(_) | Order::Run(_) => false,
+        Order::Check { .. } | Order::Create(_) | Order::Run(_) | Order::Story(_) => false,
     }
 }
 
@@ -153,7 +163,7 @@ fn is_created_so(alloc: Global, row: &CreateRow) -> Result<bool, WordsFault> {
     let order = read_words(alloc, row.0)?;
     let is_so = match &order {
         Order::Create(order) => is_creation(order, row),
-        Order::Check { .. } | Order::Run(_) | Order::Show { .. } => false,
+        Order::Check { .. } | Order::Run(_) | Order::Show { .. } | Order::Story(_) => false,
     };
     drop(order);
     Ok(is_so)
@@ -228,7 +238,7 @@ fn is_run_so(alloc: Global, row: &RunRow) -> Result<bool, WordsFault> {
     let order = read_words(alloc, row.0)?;
     let is_so = match &order {
         Order::Run(order) => is_run(order, row),
-        Order::Check { .. } | Order::Create(_) | Order::Show { .. } => false,
+        Order::Check { .. } | Order::Create(_) | Order::Show { .. } | Order::Story(_) => false,
     };
     drop(order);
     Ok(is_so)
@@ -238,6 +248,71 @@ fn is_run_so(alloc: Global, row: &RunRow) -> Result<bool, WordsFault> {
 fn reads_run(rt: HostRuntime) -> Result<(), Fail> {
     for row in &RUNS {
         assert!(rt; is_run_so(rt.alloc(), row)?, "{row:?}");
+    }
+    Ok(())
+}
+
+/// Words of a story that `a.story` tells of `a.wasm`, and its pages, units of files and sectors of
+/// the journal.
+type StoryRow = (&'static [&'static str], [u64; 3]);
+
+static STORIES: [StoryRow; 4] = [
+    (&["wasmhost", "story", "a.story", "a.wasm"], [1, 1, 64]),
+    (
+        &[
+            "wasmhost",
+            "story",
+            "--pages",
+            "2",
+            "a.story",
+            "--files=3",
+            "a.wasm",
+            "--journal",
+            "65",
+        ],
+        [2, 3, 65],
+    ),
+    (
+        &[
+            "wasmhost",
+            "story",
+            "a.story",
+            "a.wasm",
+            "--pages=18446744073709551615",
+            "--files=0",
+        ],
+        [u64::MAX, 0, 64],
+    ),
+    (
+        &[
+            "wasmhost", "story", "--files", "2", "--", "a.story", "a.wasm",
+        ],
+        [1, 2, 64],
+    ),
+];
+
+/// Whether a story is that of a row.
+fn is_story(order: &StoryOrder<'_>, row: &StoryRow) -> bool {
+    order.script == "a.story"
+        && order.module == "a.wasm"
+        && [order.pages, order.files, order.journal] == row.1
+}
+
+/// Whether the words of a row mean its story.
+fn is_told_so(alloc: Global, row: &StoryRow) -> Result<bool, WordsFault> {
+    let order = read_words(alloc, row.0)?;
+    let is_so = match &order {
+        Order::Story(order) => is_story(order, row),
+        Order::Check { .. } | Order::Create(_) | Order::Run(_) | Order::Show { .. } => false,
+    };
+    drop(order);
+    Ok(is_so)
+}
+
+#[test]
+fn reads_story(rt: HostRuntime) -> Result<(), Fail> {
+    for row in &STORIES {
+        assert!(rt; is_told_so(rt.alloc(), row)?, "{row:?}");
     }
     Ok(())
 }

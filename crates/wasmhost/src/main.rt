@@ -12,6 +12,7 @@
 //! - It reads the command line, and opens the files that it names.
 //! - `check` and `create` hand over a module's bytes. `create` makes the disk's file once the
 //!   module and its configuration are accepted.
+//! - `story` hands over all bytes of a script, and a module's bytes. It reads them in this order.
 //! - `run` and `show` open the disk's file, which one host holds at a time. `run` also hands over
 //!   the lines of the standard input, the machine's clock, and what the words say of seed and
 //!   clock.
@@ -36,19 +37,27 @@ use sector_disk::{FileDisk, rewrite};
 use std::alloc::Global;
 use std::env;
 use std::fs::File;
-use std::io::{self, BufReader, ErrorKind, Input, Write};
+use std::io::{self, BufReader, ErrorKind, Input, Read, Write};
 use std::process::ExitCode;
 use std::rt::{Env, Files};
 use std::time::Clock;
 use wasmhost_serve::{
     BufferedLines, CreateOrder, LineOutlet, Obstacle, Order, Outside, Pace, RequestSource,
-    RunOrder, Sizes, check_bytes, create_on, obstacle_of, prepare, read_module, read_seed,
-    read_words, report, report_open, report_unprepared, report_words, serve_on, show_on,
+    RunOrder, Sizes, StoryOrder, check_bytes, create_on, obstacle_of, prepare, read_module,
+    read_script, read_seed, read_words, report, report_open, report_script, report_unprepared,
+    report_words, serve_on, show_on, tell,
 };
 
 /// The first bytes of a file.
 fn read_file<R: Files>(rt: &R, alloc: Global, path: &str) -> io::Result<Vec<u8>> {
     read_module(alloc, File::open(rt, path)?)
+}
+
+/// All bytes of a file.
+fn read_whole_file<R: Files>(rt: &R, alloc: Global, path: &str) -> io::Result<Vec<u8>> {
+    let mut bytes = Vec::new(alloc);
+    File::open(rt, path)?.read_to_end(&mut bytes)?;
+    Ok(bytes)
 }
 
 fn check<R: Files, W: Write, E: Write>(
@@ -182,6 +191,42 @@ fn show<R: Files<File = File>, W: Write, E: Write>(
     }
 }
 
+/// Tells that the module of a story can't be read, but first what is wrong with the script.
+fn report_unread<E: Write>(alloc: Global, script: &[u8], obstacle: Obstacle, err: &mut E) -> u8
+    ensures { result ≤ 7 }
+{
+    match read_script(alloc, script) {
+        Ok(_) => report(err, obstacle),
+        Err(fault) => report_script(err, fault),
+    }
+}
+
+/// Tells the lives of a worker on a disk in memory, as a script says.
+fn story<R: Files, W: Write, E: Write>(
+    rt: &R,
+    alloc: Global,
+    order: &StoryOrder<'_>,
+    out: &mut W,
+    err: &mut E,
+) -> u8
+    ensures { result ≤ 7 }
+{
+    let script = match read_whole_file(rt, alloc, order.script) {
+        Ok(script) => script,
+        Err(error) => return report(err, obstacle_of(&error)),
+    };
+    let wasm = match read_file(rt, alloc, order.module) {
+        Ok(wasm) => wasm,
+        Err(error) => return report_unread(alloc, script.as_slice(), obstacle_of(&error), err),
+    };
+    let sizes = Sizes {
+        pages: order.pages,
+        files: order.files,
+        journal: order.journal,
+    };
+    tell(alloc, script.as_slice(), wasm.as_slice(), sizes, out, err)
+}
+
 /// Runs the command line, and answers the exit status.
 fn status_of<R, W: Write, E: Write>(rt: &R, out: &mut W, err: &mut E) -> u8
 where
@@ -204,6 +249,7 @@ where
         Ok(Order::Create(order)) => create(rt, alloc, &order, out, err),
         Ok(Order::Run(order)) => run(rt, alloc, &order, out, err),
         Ok(Order::Show { path }) => show(rt, alloc, path, out, err),
+        Ok(Order::Story(order)) => story(rt, alloc, &order, out, err),
         Err(fault) => report_words(&fault, out, err),
     }
 }

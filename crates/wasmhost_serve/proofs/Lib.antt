@@ -10,3 +10,7 @@ pub mod ShownLemmas
 pub mod OnDiskLemmas
 pub mod WordLemmas
 pub mod CreationLemmas
+pub mod AnsweredLemmas
+pub mod ScriptLemmas
+pub mod StoryLemmas
+pub mod TellingLemmas

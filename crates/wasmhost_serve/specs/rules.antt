@@ -1,3 +1,4 @@
+pub mod Answered
 pub mod CommandLine
 pub mod Commands
 pub mod Creations
@@ -16,3 +17,6 @@ pub mod ServedOnDisk
 pub mod Showings
 pub mod Statuses
 pub mod Texts
+pub mod Pieces
+pub mod Scripts
+pub mod Stories

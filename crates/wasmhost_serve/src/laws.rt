@@ -1,12 +1,13 @@
-//! Laws of printed lines. The functions do nothing: what they ensure is the law.
+//! Laws of answers and printed lines. The functions do nothing: what they ensure is the law.
 
 ghost use Rattle.durable_worker.specs.laws.Uncut.{LivesGoOnUncut};
+ghost use Rattle.wasmhost_serve.specs.rules.Answered.{AnswersComeFromTheLines};
 ghost use Rattle.wasmhost_serve.specs.rules.Printed.{TakenLinesArePrinted};
 ghost use Rattle.wasmhost_serve.specs.rules.ServedOnDisk.{handing, printing};
 ghost use Rattle.wasmhost_serve.specs.rules.ServedOnDisk.{ReleasedLinesArePrinted};
 ghost use Rattle.wasmhost_serve.specs.laws.Examples.{CreateOrderExamples, HelpExamples};
 ghost use Rattle.wasmhost_serve.specs.laws.Examples.{OptionMistakes, PathExamples, PathMistakes};
-ghost use Rattle.wasmhost_serve.specs.laws.Examples.{RunOrderExamples};
+ghost use Rattle.wasmhost_serve.specs.laws.Examples.{RunOrderExamples, StoryOrderExamples};
 ghost use Rattle.wasmhost_serve.specs.laws.Words.{FaultlessWordsMean};
 
 use sector_disk::Disk;
@@ -24,6 +25,13 @@ pub fn lives_on_disk_go_on<D: Disk>()
     ensures printed { ReleasedLinesArePrinted }
 {}
 
+/// Of all that is asked in a life on a disk, the answered requests are those of the reader's lines
+/// behind the ones that the worker has taken, in order and none left out. Times are the clock's,
+/// and random bytes the next ones of the stream of the worker's generation.
+pub fn answers_come_from_the_lines()
+    ensures { AnswersComeFromTheLines }
+{}
+
 // Laws of the command line. The functions do nothing: what they ensure is the law.
 
 /// Command lines, and what they mean.
@@ -31,6 +39,7 @@ pub fn worked_examples()
     ensures paths { PathExamples }
     ensures creations { CreateOrderExamples }
     ensures runs { RunOrderExamples }
+    ensures stories { StoryOrderExamples }
     ensures wrong_paths { PathMistakes }
     ensures wrong_options { OptionMistakes }
     ensures help { HelpExamples }

@@ -41,8 +41,13 @@
 //!   output.
 //! - `read_words`: an order is exactly what the words mean. A fault is one that the rules
 //!   of the command line list for them, or want of memory (`IsReading`).
+//! - `read_script`: the lives that a script of a story spells (`IsScript`). A fault names the first
+//!   line behind which the lines are no script (`IsFaultAt`), or it is want of memory.
+//! - `tell`: status 0 says that a whole story was printed: of lives that go on as one that was never
+//!   stopped, with what the script put into each. What the other statuses say is said too
+//!   (`TellsStory`). `report_script` tells a fault of a script.
 //! - `laws::faultless_words_mean`, `laws::worked_examples`: words without a fault mean an order,
-//!   with numbers in their ranges; fifty-three command lines.
+//!   with numbers in their ranges; sixty-eight command lines.
 //!
 //! # Definitions to read
 //!
@@ -53,7 +58,9 @@
 //! `wasmhost` (`CommandLine.antt`); `meaning_in`, `IsReading`, `IsStatusOf` (`Commands.antt`);
 //! `ShowsDisk`, `ShowsSurvey`, `survey_line` (`Showings.antt`); `open_words` (`Openings.antt`);
 //! `ServesOnDisk`, `LivesOnDisk`, `stands_behind` (`ServedOnDisk.antt`); `IsPaced` (`Paces.antt`);
-//! `status_on_disk`, `told_of_opening`, `IsToldOnDisk` (`DiskStatuses.antt`). Beside these:
+//! `status_on_disk`, `told_of_opening`, `IsToldOnDisk` (`DiskStatuses.antt`);
+//! `said_by`, `AreLivesOf`, `IsScript` (`Scripts.antt`); `lines_of` (`Pieces.antt`); `story_text`,
+//! `TellsStory` (`Stories.antt`). Beside these:
 //! `all_printed` (`specs/rules/Printed.antt`), and `PrintsOneLine` (`specs/rules/Prints.antt`).
 //!
 //! # Who may touch what
@@ -75,11 +82,13 @@ mod preparing;
 mod run;
 mod seed;
 pub mod status;
+mod stories;
 mod telling;
 mod words;
 
 pub use check::check_bytes;
 pub use configuring::Sizes;
+pub use durable_worker::DurableWorker;
 pub use lines::{
     BufferedLines, LineFault, LineOutlet, LineReader, Outside, Request, RequestSource,
     read_request, trap_name,
@@ -89,5 +98,6 @@ pub use on_disk::{Pace, create_on, report_open, serve_on, show_on};
 pub use preparing::{Prepared, Unprepared, prepare, report_unprepared};
 pub use run::{Options, serve};
 pub use seed::{read_seed, seeded};
+pub use stories::{ScriptFault, ScriptLine, read_script, report_script, tell};
 pub use telling::{Obstacle, obstacle_of, report, report_words, say_line};
-pub use words::{CreateOrder, Order, RunOrder, WordsFault, read_words};
+pub use words::{CreateOrder, Order, RunOrder, StoryOrder, WordsFault, read_words};

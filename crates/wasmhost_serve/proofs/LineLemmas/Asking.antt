@@ -28,11 +28,11 @@ use Rattle.wasmhost_serve.proofs.LineLemmas.Passing.{passed_nothing, up_to_on}
 -- ---- one answer
 
 -- From one standing to another an answer was handed over, of whichever kind.
-record HandsOver (s t : Standing) (a : Answer) : Type 0 where
-  counted : t.taken ≡ s.taken + length (request_in a)
-  drawn : t.place ≡ s.place + words_in a
-  comes : ComesFrom s.outside s.stream s.place a
-  given : GiveUpTo s.taken s.unread (request_in a) (λ rest. t.unread ≡ Some rest)
+pub record HandsOver (s t : Standing) (a : Answer) : Type 0 where
+  pub counted : t.taken ≡ s.taken + length (request_in a)
+  pub drawn : t.place ≡ s.place + words_in a
+  pub comes : ComesFrom s.outside s.stream s.place a
+  pub given : GiveUpTo s.taken s.unread (request_in a) (λ rest. t.unread ≡ Some rest)
 
 -- the answer of a request line
 next_hands : (s t : Standing) (a : Answer) → t.place ≡ s.place
@@ -70,7 +70,7 @@ other_hands kind s t a other =
           (sym other.unread) (passed_nothing s.taken s.unread));
     }
 
-finds_hands : (kind : Kind) (s t : Standing) (a : Answer) → Finds kind s (Some a) t
+pub finds_hands : (kind : Kind) (s t : Standing) (a : Answer) → Finds kind s (Some a) t
     → HandsOver s t a
 finds_hands kinds.Request s t a h = next_hands s t a h.0 h.1
 finds_hands kinds.Realtime s t a h = other_hands kinds.Realtime s t a h

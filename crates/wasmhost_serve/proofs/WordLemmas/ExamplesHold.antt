@@ -3,6 +3,7 @@ use Rattle.std.proofs.Common.{refl}
 use Rattle.clap.proofs.OnLiterals.{clap_on_literals}
 use Rattle.wasmhost_serve.specs.laws.Examples.{CreateOrderExamples, HelpExamples, OptionMistakes}
 use Rattle.wasmhost_serve.specs.laws.Examples.{PathExamples, PathMistakes, RunOrderExamples}
+use Rattle.wasmhost_serve.specs.laws.Examples.{StoryOrderExamples}
 
 pub path_examples : PathExamples
 unfolding clap_on_literals
@@ -40,6 +41,16 @@ run_examples = record {
   dashes = (refl, refl, refl);
 }
 
+pub story_examples : StoryOrderExamples
+unfolding clap_on_literals
+story_examples = record {
+  tells = (refl, refl, refl);
+  whole = (refl, refl, refl);
+  no_pages = (refl, refl, refl);
+  the_longest_journal = (refl, refl, refl);
+  paths_like_options = (refl, refl, refl);
+}
+
 pub path_mistakes : PathMistakes
 unfolding clap_on_literals
 path_mistakes = record {
@@ -54,6 +65,10 @@ path_mistakes = record {
   run_with_arguments = refl;
   show_of_none = refl;
   show_of_two = refl;
+  story_of_none = refl;
+  story_of_no_module = refl;
+  story_of_two_modules = refl;
+  story_with_arguments = refl;
 }
 
 pub option_mistakes : OptionMistakes
@@ -77,6 +92,11 @@ option_mistakes = record {
   fuel_of_a_creation = refl;
   pages_of_a_run = refl;
   entry_of_a_run = refl;
+  pages_of_no_number = refl;
+  too_long_a_journal = refl;
+  files_twice = refl;
+  fuel_of_a_story = refl;
+  entry_of_a_story = refl;
 }
 
 pub help_examples : HelpExamples
@@ -85,4 +105,5 @@ help_examples = record {
   of_the_program = refl;
   of_a_creation = refl;
   of_a_run = refl;
+  of_a_story = refl;
 }

@@ -1,4 +1,4 @@
--- Words for which no fault is listed name one of the four commands, with what it needs.
+-- Words for which no fault is listed name one of the five commands, with what it needs.
 use Rattle.std.proofs.Common.{◌≡◌, ◌<◌, ◌≤◌, ◌^◌, ℕ, Bool, ◌||◌, not, cond, true, false, arith}
 use Rattle.std.proofs.Common.{refl, sym, subst, List, [], ◌∷◌, Option, Some, None}
 use Rattle.std.proofs.Common.{codes, true≢false, inl, inr}
@@ -25,8 +25,8 @@ use Rattle.wasmhost_serve.specs.rules.CommandLine.{wasmhost}
 use Rattle.wasmhost_serve.specs.rules.Commands.{HasPaths, IsNumberFrom, IsTaken, Meaning, check}
 use Rattle.wasmhost_serve.specs.rules.Commands.{create, create_in, disk_in}
 use Rattle.wasmhost_serve.specs.rules.Commands.{guest_words, meaning_below, module_in, number_or}
-use Rattle.wasmhost_serve.specs.rules.Commands.{own_words, run, run_in, show, spelled_number}
-use Rattle.wasmhost_serve.specs.rules.Commands.{TakesOptions}
+use Rattle.wasmhost_serve.specs.rules.Commands.{own_words, run, run_in, script_in, show}
+use Rattle.wasmhost_serve.specs.rules.Commands.{spelled_number, story, story_in, TakesOptions}
 use Rattle.wasmhost_serve.specs.laws.Words.{FaultlessWordsMean, NumbersFit}
 use Rattle.wasmhost_serve.proofs.WordLemmas.Walks.{Keeps, found_each, no_first}
 use Rattle.wasmhost_serve.proofs.WordLemmas.Walks.{no_second, settled_good, some_kind, walk_good}
@@ -116,18 +116,18 @@ one_path : (name : Text) (rows : List Row) → Each IsGood rows
     → is_some (first_of name rows) ≡ true
 one_path name rows good e = path_is_there name rows good (wants (is_given name rows) e)
 
--- both arguments of a creation
-two_paths : (rows : List Row) → Each IsGood rows
-    → cond (not (is_given (codes "DISK") rows) || (not (is_given (codes "MODULE") rows) || false))
+-- both arguments of a command are there
+two_paths : (name first second : Text) (rows : List Row) → Each IsGood rows
+    → cond (not (is_given first rows) || (not (is_given second rows) || false))
     (kind.MissingRequiredArgument ∷ []) [] ≡ []
-    → (codes "create" ≡ codes "create") × (is_some (disk_in rows) ≡ true)
-    × (is_some (module_in rows) ≡ true)
-two_paths rows good e =
-    let disk = is_given (codes "DISK") rows in
-    let wasm = is_given (codes "MODULE") rows in (
+    → (name ≡ name) × (is_some (first_of first rows) ≡ true)
+    × (is_some (first_of second rows) ≡ true)
+two_paths name first second rows good e =
+    let here = is_given first rows in
+    let there = is_given second rows in (
       refl,
-      path_is_there (codes "DISK") rows good (wants_first disk wasm e),
-      path_is_there (codes "MODULE") rows good (wants_second disk wasm e),
+      path_is_there first rows good (wants_first here there e),
+      path_is_there second rows good (wants_second here there e),
     )
 
 -- ---- the whole line
@@ -169,7 +169,8 @@ module _ (name : Text) (words : List Text) (no_help : bytes_eq name (codes "help
         ),
       )
           (unused, (unused, (unused, (unused, (unused, (unused, (unused, tt)))))))
-          (λ rows good e. inr (inl (two_paths rows good e))) e,
+          (λ rows good e. inr (inl (two_paths (codes "create") (codes "DISK") (codes "MODULE")
+          rows good e))) e,
       (
         λ here e. below_taken _ words (
           keeps_path 1 (codes "DISK") (λ v. tt),
@@ -193,8 +194,26 @@ module _ (name : Text) (words : List Text) (no_help : bytes_eq name (codes "help
         (
           λ here e. below_taken _ words (keeps_path 1 (codes "DISK") (λ v. tt), (keeps_help, tt))
               (unused, (unused, tt))
-              (λ rows good e. inr (inr (inr (refl, one_path (codes "DISK") rows good e)))) e,
-          (λ here e. absurd (is_help (or_false (bytes_eq (codes "help") name) here)), tt),
+              (λ rows good e. inr (inr (inr (inl (refl, one_path (codes "DISK") rows good e))))) e,
+          (
+            λ here e. below_taken _ words (
+              keeps_path 1 (codes "SCRIPT") (λ v. tt),
+              (
+                keeps_path 2 (codes "MODULE") (λ v. tt),
+                (
+                  keeps_number 3 (codes "pages") 0 (λ v is. is),
+                  (
+                    keeps_number 3 (codes "files") 0 (λ v is. is),
+                    (keeps_number 3 (codes "journal") 0 (λ v is. is), (keeps_help, tt)),
+                  ),
+                ),
+              ),
+            )
+                (unused, (unused, (unused, (unused, (unused, (unused, tt))))))
+                (λ rows good e. inr (inr (inr (inr (two_paths (codes "story")
+                (codes "SCRIPT") (codes "MODULE") rows good e))))) e,
+            (λ here e. absurd (is_help (or_false (bytes_eq (codes "help") name) here)), tt),
+          ),
         ),
       ),
     ),
@@ -275,6 +294,15 @@ create_has_numbers rows arguments disk path taken =
     number_fits 0 256 (codes "journal") rows taken.journal (omega arith) (omega arith) in
     (pages.1, files.1, journal.1)
 
+story_has_numbers : (rows : List Row) (script path : Text) → TakesOptions rows
+    → NumbersFit (story (story_in rows script path))
+story_has_numbers rows script path taken =
+    let pages = number_fits 0 1 (codes "pages") rows taken.pages (omega arith) (omega arith) in
+    let files = number_fits 0 1 (codes "files") rows taken.files (omega arith) (omega arith) in
+    let journal =
+    number_fits 0 64 (codes "journal") rows taken.journal (omega arith) (omega arith) in
+    (pages.1, files.1, journal.1)
+
 path_means : (means : Text → Meaning) (path : Option Text) → is_some path ≡ true
     → ((text : Text) → NumbersFit (means text)) → IsSomeAnd (option_map means path) NumbersFit
 path_means means None e has = absurd (true≢false (sym e))
@@ -299,8 +327,13 @@ taken_means arguments name rows taken = elim taken.0 [
       | inl p ↦ subst (λ (t : Text). IsSomeAnd (meaning_below arguments (t, rows)) NumbersFit)
           (sym p.0) (path_means (λ path. run (run_in rows path)) (disk_in rows) p.1
           (λ path. run_has_numbers rows path taken.1))
-      | inr p ↦ subst (λ (t : Text). IsSomeAnd (meaning_below arguments (t, rows)) NumbersFit)
-          (sym p.0) (path_means show (disk_in rows) p.1 (λ path. tt))
+      | inr last ↦ elim last [
+        | inl p ↦ subst (λ (t : Text). IsSomeAnd (meaning_below arguments (t, rows)) NumbersFit)
+            (sym p.0) (path_means show (disk_in rows) p.1 (λ path. tt))
+        | inr p ↦ subst (λ (t : Text). IsSomeAnd (meaning_below arguments (t, rows)) NumbersFit)
+            (sym p.0) (paths_mean (λ d path. story (story_in rows d path)) (script_in rows)
+            (module_in rows) p.1 p.2 (λ d path. story_has_numbers rows d path taken.1))
+      ]
     ]
   ]
 ]

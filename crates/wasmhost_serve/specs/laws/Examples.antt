@@ -5,7 +5,8 @@ use Rattle.clap.specs.Kinds.{Kinds}
 use Rattle.clap.specs.declared.error.ErrorKind.TheVariants as kind
 use Rattle.wasmhost_serve.specs.rules.CommandLine.{wasmhost}
 use Rattle.wasmhost_serve.specs.rules.Commands.{CreateMeaning, Meaning, RunMeaning, check, create}
-use Rattle.wasmhost_serve.specs.rules.Commands.{faults_in_words, meaning_in, own_words, run, show}
+use Rattle.wasmhost_serve.specs.rules.Commands.{StoryMeaning, faults_in_words, meaning_in}
+use Rattle.wasmhost_serve.specs.rules.Commands.{own_words, run, show, story}
 
 -- the program's name, and words behind it
 abbrev pub line : List Text → List Text
@@ -43,6 +44,19 @@ plain_run = record {
 -- one with so many steps a slice
 abbrev pub fuelled_run : ℕ → RunMeaning
 fuelled_run fuel = record plain_run { fuel = fuel }
+
+abbrev pub story_line : List Text → List Text
+story_line options = line (codes "story" ∷ codes "a.story" ∷ codes "a.wasm" ∷ options)
+
+-- a story of which nothing else is said
+abbrev pub plain_story : StoryMeaning
+plain_story = record {
+  script = codes "a.story";
+  «module» = codes "a.wasm";
+  pages = 1;
+  files = 1;
+  journal = 64;
+}
 
 -- no fault is listed for the words, and they mean this
 abbrev pub Means : List Text → Meaning → Type 0
@@ -93,6 +107,19 @@ pub record RunOrderExamples : Type 0 where
       (run (record plain_run { rewrites = true }))
   pub dashes : Means (line (codes "run" ∷ codes "--" ∷ codes "a.disk" ∷ [])) (run plain_run)
 
+pub record StoryOrderExamples : Type 0 where
+  pub tells : Means (story_line []) (story plain_story)
+  pub whole : Means
+      (line (codes "story" ∷ codes "--pages" ∷ codes "2" ∷ codes "a.story" ∷ codes "--files=3"
+      ∷ codes "a.wasm" ∷ codes "--journal" ∷ codes "65" ∷ []))
+      (story (record plain_story { pages = 2; files = 3; journal = 65 }))
+  pub no_pages : Means (story_line (codes "--pages" ∷ codes "0" ∷ []))
+      (story (record plain_story { pages = 0 }))
+  pub the_longest_journal : Means (story_line (codes "--journal=18446744073709551615" ∷ []))
+      (story (record plain_story { journal = 2 ^ 64 - 1 }))
+  pub paths_like_options : Means (line (codes "story" ∷ codes "--" ∷ codes "--pages" ∷ codes "--"
+      ∷ [])) (story (record plain_story { script = codes "--pages"; «module» = codes "--" }))
+
 -- the kinds of fault that are listed for the words
 abbrev pub WordsFail : List Text → Kinds → Type 0
 WordsFail words kinds = faults_in_words words ≡ kinds
@@ -116,6 +143,13 @@ pub record PathMistakes : Type 0 where
       (kind.UnknownArgument ∷ [])
   pub show_of_none : WordsFail (line (codes "show" ∷ [])) (kind.MissingRequiredArgument ∷ [])
   pub show_of_two : WordsFail (line (codes "show" ∷ codes "a.disk" ∷ codes "b.disk" ∷ []))
+      (kind.UnknownArgument ∷ [])
+  pub story_of_none : WordsFail (line (codes "story" ∷ [])) (kind.MissingRequiredArgument ∷ [])
+  pub story_of_no_module : WordsFail (line (codes "story" ∷ codes "a.story" ∷ []))
+      (kind.MissingRequiredArgument ∷ [])
+  pub story_of_two_modules : WordsFail (story_line (codes "b.wasm" ∷ []))
+      (kind.UnknownArgument ∷ [])
+  pub story_with_arguments : WordsFail (story_line (codes "--" ∷ codes "b" ∷ []))
       (kind.UnknownArgument ∷ [])
 
 -- an option without its value, with another one, twice, or of another command
@@ -156,6 +190,17 @@ pub record OptionMistakes : Type 0 where
       (kind.UnknownArgument ∷ [])
   pub entry_of_a_run : WordsFail (run_line (codes "--env" ∷ codes "a=b" ∷ []))
       (kind.UnknownArgument ∷ [])
+  pub pages_of_no_number : WordsFail (story_line (codes "--pages" ∷ codes "one" ∷ []))
+      (kind.ValueValidation ∷ [])
+  pub too_long_a_journal : WordsFail
+      (story_line (codes "--journal" ∷ codes "18446744073709551616" ∷ []))
+      (kind.ValueValidation ∷ [])
+  pub files_twice : WordsFail (story_line (codes "--files=1" ∷ codes "--files=2" ∷ []))
+      (kind.ArgumentConflict ∷ [])
+  pub fuel_of_a_story : WordsFail (story_line (codes "--fuel" ∷ codes "7" ∷ []))
+      (kind.UnknownArgument ∷ [])
+  pub entry_of_a_story : WordsFail (story_line (codes "--env" ∷ codes "a=b" ∷ []))
+      (kind.UnknownArgument ∷ [])
 
 -- help is asked for
 pub record HelpExamples : Type 0 where
@@ -163,3 +208,5 @@ pub record HelpExamples : Type 0 where
   pub of_a_creation : WordsFail (line (codes "create" ∷ codes "--help" ∷ []))
       (kind.DisplayHelp ∷ [])
   pub of_a_run : WordsFail (line (codes "run" ∷ codes "-h" ∷ [])) (kind.DisplayHelp ∷ [])
+  pub of_a_story : WordsFail (line (codes "story" ∷ codes "--help" ∷ []))
+      (kind.DisplayHelp ∷ [])

@@ -82,6 +82,16 @@ run_app = with_rule seeded_run_app rewrite_rule
 abbrev pub show_app : App
 show_app = disk_app (codes "show")
 
+-- `story SCRIPT MODULE`
+abbrev pub bare_story_app : App
+bare_story_app = with_rule (with_rule (new_app (codes "story")) (path_rule (codes "SCRIPT")))
+    (path_rule (codes "MODULE"))
+
+-- the same, with `--pages`, `--files` and `--journal` where they are wanted
+abbrev pub story_app : App
+story_app = with_rule (with_rule (with_rule bare_story_app (number_rule (codes "pages") 0))
+    (number_rule (codes "files") 0)) (number_rule (codes "journal") 0)
+
 -- the program, which requires a command
 abbrev pub bare_app : App
 bare_app = on_top (λ top. record top { subcommand_required = true }) (new_app (codes "wasmhost"))
@@ -91,8 +101,12 @@ abbrev pub half_app : App
 half_app = with_subcommand (with_subcommand bare_app check_app.top) create_app.top
 
 -- the same, with the commands for disks
+abbrev pub disks_app : App
+disks_app = with_subcommand (with_subcommand half_app run_app.top) show_app.top
+
+-- the same, with the command for stories
 abbrev pub wasmhost : App
-wasmhost = with_subcommand (with_subcommand half_app run_app.top) show_app.top
+wasmhost = with_subcommand disks_app story_app.top
 
 -- ---- what the code makes of them
 

@@ -15,8 +15,9 @@ use Rattle.wasmhost_serve.specs.rules.CommandLine.{wasmhost}
 use Rattle.wasmhost_serve.specs.rules.Served.{texts_in}
 use Rattle.wasmhost_serve.specs.declared.words.CreateOrder.{CreateOrder}
 use Rattle.wasmhost_serve.specs.declared.words.RunOrder.{RunOrder}
+use Rattle.wasmhost_serve.specs.declared.words.StoryOrder.{StoryOrder}
 use Rattle.wasmhost_serve.specs.declared.words.Order.{Order}
-use Rattle.wasmhost_serve.specs.declared.words.Order.TheVariants.{Check, Create, Run, Show}
+use Rattle.wasmhost_serve.specs.declared.words.Order.TheVariants.{Check, Create, Run, Show, Story}
 use Rattle.wasmhost_serve.specs.declared.words.WordsFault.{WordsFault}
 use Rattle.wasmhost_serve.specs.declared.words.WordsFault.TheVariants as fault
 
@@ -72,12 +73,21 @@ pub record RunMeaning : Type 0 where
   pub clock : Option ℕ
   pub rewrites : Bool
 
+-- what a story says: the paths of the script and of the module, and its sizes
+pub record StoryMeaning : Type 0 where
+  pub script : Text
+  pub «module» : Text
+  pub pages : ℕ
+  pub files : ℕ
+  pub journal : ℕ
+
 -- what an order says
 pub data Meaning : Type 0 where
   check : Text → Meaning
   create : CreateMeaning → Meaning
   run : RunMeaning → Meaning
   show : Text → Meaning
+  story : StoryMeaning → Meaning
 
 abbrev pub create_said : CreateOrder → CreateMeaning
 create_said order = record {
@@ -100,11 +110,21 @@ run_said order = record {
   rewrites = order.rewrites;
 }
 
+abbrev pub story_said : StoryOrder → StoryMeaning
+story_said order = record {
+  script = order.script.now;
+  «module» = order.module.now;
+  pages = order.pages;
+  files = order.files;
+  journal = order.journal;
+}
+
 abbrev pub meaning_of : Order → Meaning
 meaning_of (Check path) = check path.now
 meaning_of (Create order) = create (create_said order)
 meaning_of (Run order) = run (run_said order)
 meaning_of (Show path) = show path.now
+meaning_of (Story order) = story (story_said order)
 
 -- ---- what stands behind a command
 
@@ -128,6 +148,9 @@ disk_in = first_of (codes "DISK")
 
 abbrev pub module_in : List Row → Option Text
 module_in = first_of (codes "MODULE")
+
+abbrev pub script_in : List Row → Option Text
+script_in = first_of (codes "SCRIPT")
 
 -- the texts that `--env` gives, in their order
 abbrev pub environment_in : List Row → List Text
@@ -159,10 +182,26 @@ run_in rows disk = record {
   rewrites = flag_in (codes "rewrite") rows;
 }
 
+-- What a story means with these paths and the rows of what stands behind its word. Where no number
+-- is given, there are 1 page, 1 unit of files and 64 sectors of the journal.
+abbrev pub story_in : List Row → Text → Text → StoryMeaning
+story_in rows script wasm = record {
+  script = script;
+  «module» = wasm;
+  pages = number_or (codes "pages") 1 rows;
+  files = number_or (codes "files") 1 rows;
+  journal = number_or (codes "journal") 64 rows;
+}
+
 -- a creation, where both paths are there
 abbrev pub creation_below : List Text → List Row → Option Meaning
 creation_below arguments rows = option_and_then (λ disk. option_map (λ wasm.
     create (create_in rows arguments disk wasm)) (module_in rows)) (disk_in rows)
+
+-- a story, where both paths are there
+abbrev pub story_below : List Row → Option Meaning
+story_below rows = option_and_then (λ script. option_map (λ wasm.
+    story (story_in rows script wasm)) (module_in rows)) (script_in rows)
 
 -- what each command means, with the rows of what stands behind it, and the words behind `--`
 abbrev pub meaning_below : List Text → Text × List Row → Option Meaning
@@ -172,6 +211,7 @@ meaning_below arguments met =
     else if bytes_eq met.0 (codes "run")
     then option_map (λ disk. run (run_in met.1 disk)) (disk_in met.1)
     else if bytes_eq met.0 (codes "show") then option_map show (disk_in met.1)
+    else if bytes_eq met.0 (codes "story") then story_below met.1
     else None
 
 -- what the words of a command line mean
@@ -226,12 +266,13 @@ pub record TakesOptions (rows : List Row) : Type 0 where
   pub clock : TakesNumber 0 (codes "clock") rows
   pub rewrite : TakesFlag (codes "rewrite") rows
 
--- one of the four commands, with the paths that it needs
+-- one of the five commands, with the paths that it needs
 abbrev pub HasPaths : Text → List Row → Type 0
 HasPaths name rows = ((name ≡ codes "check") × IsSome (module_in rows))
     ⊎ ((name ≡ codes "create") × IsSome (disk_in rows) × IsSome (module_in rows))
     ⊎ ((name ≡ codes "run") × IsSome (disk_in rows))
     ⊎ ((name ≡ codes "show") × IsSome (disk_in rows))
+    ⊎ ((name ≡ codes "story") × IsSome (script_in rows) × IsSome (module_in rows))
 
 -- such a command, with options whose texts it takes
 abbrev pub IsTaken : Text × List Row → Type 0

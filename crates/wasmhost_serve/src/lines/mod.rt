@@ -17,6 +17,7 @@ pub use buffered::BufferedLines;
 pub use fault::LineFault;
 pub use outlet::LineOutlet;
 pub use outside::Outside;
+pub(crate) use printing::spell_line;
 pub use reader::LineReader;
 pub use request::{Request, read_request};
 pub use source::RequestSource;

@@ -7,7 +7,12 @@ ghost use Rattle.wasmhost_serve.specs.rules.Texts.{printed};
 use std::io::{self, Write};
 
 /// Spells a line: its number, `o` or `e` for stream 2, its text and a newline.
-fn spell_line<W: Write>(out: &mut W, number: u64, stream: u8, text: &[u8]) -> io::Result<()>
+pub(crate) fn spell_line<W: Write>(
+    out: &mut W,
+    number: u64,
+    stream: u8,
+    text: &[u8],
+) -> io::Result<()>
     ensures { OnOk result (Appends (W.contents out.old) (W.contents out.new)
         (printed number (record { stream = stream; text = text.now }))) }
 {

@@ -2,11 +2,13 @@
 
 ghost use Rattle.std.specs.Prelude.{IfOk, codes};
 ghost use Rattle.wasmhost_serve.specs.rules.CommandLine.{IsArgument, IsCommand, bare_app};
-ghost use Rattle.wasmhost_serve.specs.rules.CommandLine.{bare_create_app, check_app, create_app};
-ghost use Rattle.wasmhost_serve.specs.rules.CommandLine.{disk_app, env_rule, half_app, number_rule};
-ghost use Rattle.wasmhost_serve.specs.rules.CommandLine.{paced_run_app, path_rule, rewrite_rule};
-ghost use Rattle.wasmhost_serve.specs.rules.CommandLine.{run_app, seed_rule, seeded_run_app};
-ghost use Rattle.wasmhost_serve.specs.rules.CommandLine.{show_app, sized_create_app, wasmhost};
+ghost use Rattle.wasmhost_serve.specs.rules.CommandLine.{bare_create_app, bare_story_app};
+ghost use Rattle.wasmhost_serve.specs.rules.CommandLine.{check_app, create_app, disk_app};
+ghost use Rattle.wasmhost_serve.specs.rules.CommandLine.{disks_app, env_rule, half_app};
+ghost use Rattle.wasmhost_serve.specs.rules.CommandLine.{number_rule, paced_run_app, path_rule};
+ghost use Rattle.wasmhost_serve.specs.rules.CommandLine.{rewrite_rule, run_app, seed_rule};
+ghost use Rattle.wasmhost_serve.specs.rules.CommandLine.{seeded_run_app, show_app};
+ghost use Rattle.wasmhost_serve.specs.rules.CommandLine.{sized_create_app, story_app, wasmhost};
 
 use clap::{Arg, ArgAction, Command, value_parser};
 use std::alloc::{AllocError, Global};
@@ -153,6 +155,29 @@ fn show_command<'a>(alloc: Global) -> Result<Command<'a>, AllocError>
     disk_command(alloc, "show", "Say where the worker of a disk stands")
 }
 
+/// The command `story`, with its paths.
+fn bare_story_command<'a>(alloc: Global) -> Result<Command<'a>, AllocError>
+    ensures { IfOk result (IsCommand bare_story_app) }
+{
+    Command::new(alloc, "story")
+        .about("Tell the lives of a worker on a disk in memory, as a script says")
+        .arg(path_argument(alloc, "SCRIPT"))?
+        .arg(path_argument(alloc, "MODULE"))
+}
+
+/// The same with the options `--pages`, `--files` and `--journal`.
+fn story_command<'a>(alloc: Global) -> Result<Command<'a>, AllocError>
+    ensures { IfOk result (IsCommand story_app) }
+{
+    let pages = "Pages of 65536 bytes of its memory, 1 where none are given";
+    let files = "Units of 65536 bytes of its files, 1 where none are given";
+    let journal = "Sectors of its journal, 64 where none are given";
+    bare_story_command(alloc)?
+        .arg(number_option(alloc, "pages", pages))?
+        .arg(number_option(alloc, "files", files))?
+        .arg(number_option(alloc, "journal", journal))
+}
+
 /// The program, without its commands.
 fn bare_command<'a>(alloc: Global) -> Command<'a>
     ensures { IsCommand bare_app result }
@@ -171,11 +196,18 @@ fn half_command<'a>(alloc: Global) -> Result<Command<'a>, AllocError>
         .subcommand(create_command(alloc)?)
 }
 
-/// The program, with all its commands.
-pub(crate) fn command<'a>(alloc: Global) -> Result<Command<'a>, AllocError>
-    ensures { IfOk result (IsCommand wasmhost) }
+/// The program, with the commands for modules and for disks.
+fn disks_command<'a>(alloc: Global) -> Result<Command<'a>, AllocError>
+    ensures { IfOk result (IsCommand disks_app) }
 {
     half_command(alloc)?
         .subcommand(run_command(alloc)?)?
         .subcommand(show_command(alloc)?)
+}
+
+/// The program, with all its commands.
+pub(crate) fn command<'a>(alloc: Global) -> Result<Command<'a>, AllocError>
+    ensures { IfOk result (IsCommand wasmhost) }
+{
+    disks_command(alloc)?.subcommand(story_command(alloc)?)
 }

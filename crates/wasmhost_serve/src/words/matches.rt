@@ -8,9 +8,9 @@ ghost use Rattle.wasmhost_serve.specs.rules.Commands.{IsTaken, TakesFlag, TakesN
 ghost use Rattle.wasmhost_serve.specs.rules.Commands.{TakesOptions, create_in, create_said};
 ghost use Rattle.wasmhost_serve.specs.rules.Commands.{environment_in, flag_in, meaning_below};
 ghost use Rattle.wasmhost_serve.specs.rules.Commands.{meaning_of, number_given, number_or, run_in};
-ghost use Rattle.wasmhost_serve.specs.rules.Commands.{run_said};
+ghost use Rattle.wasmhost_serve.specs.rules.Commands.{run_said, story_in, story_said};
 
-use super::{CreateOrder, Order, RunOrder};
+use super::{CreateOrder, Order, RunOrder, StoryOrder};
 use crate::configuring::{FILES, JOURNAL, PAGES};
 use clap::ArgMatches;
 use std::alloc::{AllocError, Global};
@@ -21,6 +21,15 @@ const FUEL: u64 = 100_000;
 
 /// The slices between two checkpoints, where no number is given.
 const EVERY: u64 = 100;
+
+/// Pages of 65,536 bytes that the guest of a story may have, where no number is given.
+const STORY_PAGES: u64 = 1;
+
+/// Units of 65,536 bytes of its files, where no number is given.
+const STORY_FILES: u64 = 1;
+
+/// Sectors of its journal, where no number is given.
+const STORY_JOURNAL: u64 = 64;
 
 /// The path that stands at an argument which has to be given.
 fn path_of<'a>(matches: &ArgMatches<'a>, name: &str) -> &'a str
@@ -128,6 +137,21 @@ fn run_of<'a>(matches: &ArgMatches<'a>, disk: &'a str) -> RunOrder<'a>
     }
 }
 
+/// The order of a story.
+fn story_of<'a>(matches: &ArgMatches<'a>, script: &'a str, module: &'a str) -> StoryOrder<'a>
+    requires { TakesOptions (rows_of (found_of matches.now)) }
+    ensures { story_said result
+        ≡ story_in (rows_of (found_of matches.now)) script.now «module».now }
+{
+    StoryOrder {
+        script,
+        module,
+        pages: number_or_else(matches, "pages", STORY_PAGES),
+        files: number_or_else(matches, "files", STORY_FILES),
+        journal: number_or_else(matches, "journal", STORY_JOURNAL),
+    }
+}
+
 /// The order of a command, from what was read in front of `--`, and with the words behind it.
 pub(crate) fn order_of<'a>(
     alloc: Global,
@@ -149,8 +173,13 @@ pub(crate) fn order_of<'a>(
             Ok(Order::Create(create_of(alloc, matches, disk, module, arguments)?))
         }
         "run" => Ok(Order::Run(run_of(matches, path_of(matches, "DISK")))),
-        _ => Ok(Order::Show {
+        "show" => Ok(Order::Show {
             path: path_of(matches, "DISK"),
         }),
+        _ => {
+            let script = path_of(matches, "SCRIPT");
+            let wasm = path_of(matches, "MODULE");
+            Ok(Order::Story(story_of(matches, script, wasm)))
+        }
     }
 }

@@ -54,6 +54,21 @@ pub struct RunOrder<'a> {
     pub rewrites: bool,
 }
 
+/// What the words say of a story.
+#[derive(Debug, Drop)]
+pub struct StoryOrder<'a> {
+    /// The file of the script.
+    pub script: &'a str,
+    /// The file of the module.
+    pub module: &'a str,
+    /// Pages of 65,536 bytes that the guest's memory may have.
+    pub pages: u64,
+    /// Units of 65,536 bytes that all files may have.
+    pub files: u64,
+    /// Sectors of the journal.
+    pub journal: u64,
+}
+
 /// A command with its options, borrowed from the words.
 #[derive(Debug, Drop)]
 pub enum Order<'a> {
@@ -65,6 +80,8 @@ pub enum Order<'a> {
     Run(RunOrder<'a>),
     /// Says where the worker of the disk in this file stands.
     Show { path: &'a str },
+    /// Tells the lives of a worker on a disk in memory, as a script says.
+    Story(StoryOrder<'a>),
 }
 
 /// Why the words give no order.

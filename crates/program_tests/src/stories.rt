@@ -1,0 +1,178 @@
+//! Stories of a worker: scripts of its lives, and what is printed of them.
+
+use crate::asking::ECHO;
+use crate::check::bytes_of;
+use std::alloc::Global;
+use std::test::Fail;
+use wasmhost_serve::{ScriptFault, Sizes, read_script, tell};
+
+/// Texts of a module, and pages, units of files and sectors of the journal of its worker.
+type Asked = (&'static [&'static str], [u64; 3]);
+
+/// A worker of `echo` of the least sizes.
+const SMALL_ECHO: Asked = (&ECHO, [1, 1, 64]);
+
+/// A script of a worker; the exit status, and the output and the error output of its story.
+type Told = (Asked, &'static str, u8, &'static str, &'static str);
+
+/// The disk of `echo` takes 206 calls until its worker is created. The next one writes the first
+/// sector of the journal, in which the record of `hello` ends at byte 505.
+///
+/// The images are those of a fresh worker, and of one that has taken `hello` in its sixth step.
+static TOLD: [Told; 10] = [
+    (SMALL_ECHO, "", 0, "", ""),
+    (
+        SMALL_ECHO,
+        "life\nrequest hello\nslice 20\nlife\n",
+        0,
+        "life 1 created\n\
+         1 o hello\n\
+         life 2 recovered generation 2 steps 6 answers 1 lines 0 \
+         image 5cbdfc1d641493c2a7bb501dacac8c5c45cedec86d2557d8f1f96db1ea6e7cfe\n",
+        "",
+    ),
+    (
+        SMALL_ECHO,
+        "life\nrequest hello\nslice 20\nstop 207 504\nlife\nrequest world\nslice 20\n",
+        0,
+        "life 1 created\n\
+         life 2 recovered generation 2 steps 0 answers 0 lines 0 \
+         image 5ad2a2bb20898655431222989de2ca89ed0824085c16667851cce4f749d8d791\n\
+         1 o world\n",
+        "",
+    ),
+    (
+        SMALL_ECHO,
+        "life\nrequest hello\nslice 20\nstop 207 505\nlife\nslice 0\n",
+        0,
+        "life 1 created\n\
+         life 2 recovered generation 2 steps 6 answers 1 lines 0 \
+         image 5cbdfc1d641493c2a7bb501dacac8c5c45cedec86d2557d8f1f96db1ea6e7cfe\n",
+        "",
+    ),
+    (
+        SMALL_ECHO,
+        "life\nslice 20\nrequest hello\nlife\nslice 14",
+        0,
+        "life 1 created\n\
+         1 o hello\n\
+         life 2 recovered generation 2 steps 6 answers 1 lines 0 \
+         image 5cbdfc1d641493c2a7bb501dacac8c5c45cedec86d2557d8f1f96db1ea6e7cfe\n\
+         1 o hello\n",
+        "",
+    ),
+    (
+        SMALL_ECHO,
+        "life\nstop 1 0\nlife\n",
+        0,
+        "life 1 not opened\nlife 2 created\n",
+        "",
+    ),
+    (
+        SMALL_ECHO,
+        "life\nslice 20\nhello\n",
+        2,
+        "",
+        "failed script line 3\n",
+    ),
+    (
+        (&[], [0, 1, 64]),
+        "slice 20\nlife\n",
+        2,
+        "",
+        "failed script line 1\n",
+    ),
+    ((&[], [0, 1, 64]), "life\n", 3, "", "failed C1 Range\n"),
+    ((&[], [1, 1, 64]), "life\n", 3, "", "failed B1 Malformed\n"),
+];
+
+/// A script, and its first faulty line if there is one.
+type Read = (&'static str, Option<u64>);
+
+static READ: [Read; 30] = [
+    ("life", None),
+    ("life\nlife\n", None),
+    ("life\nrequest \nend\nrealtime 0\nmonotonic 007\n", None),
+    ("life\nrandom\nrandom \nrandom 00aF\ncheckpoint\n", None),
+    (
+        "life\ntears 0 512\nstop 1 512\nlife\nstop 9 0\ntears 1\n",
+        None,
+    ),
+    ("life\nslice 18446744073709551615\n", None),
+    ("life\nslice 18446744073709551616\n", Some(2)),
+    ("life\nslice\n", Some(2)),
+    ("life\nslice \n", Some(2)),
+    ("life\nslice  1\n", Some(2)),
+    ("life\nslice 1 \n", Some(2)),
+    ("life\nslice +1\n", Some(2)),
+    ("life\nrealtime -1\n", Some(2)),
+    ("life\nmonotonic a\n", Some(2)),
+    ("life\n\nlife\n", Some(2)),
+    ("life \n", Some(1)),
+    ("LIFE\n", Some(1)),
+    ("request a\nlife\n", Some(1)),
+    ("life\nrequest\n", Some(2)),
+    ("life\nend 1\n", Some(2)),
+    ("life\ncheckpoint \n", Some(2)),
+    ("life\nrandom 0\n", Some(2)),
+    ("life\nrandom 0g\n", Some(2)),
+    ("life\nstop 0 0\n", Some(2)),
+    ("life\nstop 1\n", Some(2)),
+    ("life\nstop 1 513\n", Some(2)),
+    ("life\nstop 1 0\nslice 1\nstop 1 0\n", Some(4)),
+    ("life\ntears\n", Some(2)),
+    ("life\ntears 513\n", Some(2)),
+    ("life\ntears 1\ntears 1\n", Some(3)),
+];
+
+fn is_read_so(alloc: Global, row: &Read) -> bool {
+    match read_script(alloc, row.0.as_bytes()) {
+        Ok(_) => row.1.is_none(),
+        Err(ScriptFault::Line { number }) => row.1 == Some(number),
+        Err(ScriptFault::Memory) => false,
+    }
+}
+
+fn sizes_of(numbers: [u64; 3]) -> Sizes {
+    let [pages, files, journal] = numbers;
+    Sizes {
+        pages,
+        files,
+        journal,
+    }
+}
+
+fn is_told_so(alloc: Global, row: &Told) -> Result<bool, Fail> {
+    let (asked, script, status, said, said_of_errors) = *row;
+    let wasm = bytes_of(alloc, asked.0)?;
+    let mut out = Vec::new(alloc);
+    let mut err = Vec::new(alloc);
+    let sizes = sizes_of(asked.1);
+    let told = tell(
+        alloc,
+        script.as_bytes(),
+        wasm.as_slice(),
+        sizes,
+        &mut out,
+        &mut err,
+    );
+    let is_so = told == status
+        && out.as_slice() == said.as_bytes()
+        && err.as_slice() == said_of_errors.as_bytes();
+    Ok(is_so)
+}
+
+#[test]
+fn a_story_is_told(rt: HostRuntime) -> Result<(), Fail> {
+    for row in &TOLD {
+        assert!(rt; is_told_so(rt.alloc(), row)?, "{row:?}");
+    }
+    Ok(())
+}
+
+#[test]
+fn a_faulty_line_is_found(rt: HostRuntime) {
+    for row in &READ {
+        assert!(rt; is_read_so(rt.alloc(), row), "{row:?}");
+    }
+}

@@ -1,0 +1,25 @@
+-- Which answers a worker on a disk is given in a life: those of its reader's lines, in order, and
+-- the times and random bytes of the outside (this project's own).
+use Rattle.std.specs.Prelude.{◌≡◌, ℕ, ◌+◌, ⊤, List, length, Option}
+use Rattle.process_rules.specs.Runs.{Kept}
+use Rattle.record_replay.specs.rules.Calls.{Exchange, Exchanges, asks_of}
+use Rattle.worker.specs.rules.Slices.{handed}
+use Rattle.wasmhost_serve.specs.Lines.Answers.{Standing}
+use Rattle.wasmhost_serve.specs.rules.Outside.{ComeFrom, requests_in, words_of}
+use Rattle.wasmhost_serve.specs.rules.Requests.{GiveUpTo}
+use Rattle.wasmhost_serve.specs.rules.ServedOnDisk.{handing, printing}
+
+-- A source that stood here has given these answers, and stands there. The requests among them are
+-- those that its lines spell behind the requests it had taken, in order and none left out. The
+-- others are times and the next random bytes of its stream. Both are counted.
+pub record AreOfLines (old : Standing) (kept : List Kept) (new : Standing) : Type 0 where
+  pub requests : GiveUpTo old.taken old.unread (requests_in kept) (λ _. ⊤)
+  pub others : ComeFrom old.outside old.stream old.place kept
+  pub taken : new.taken ≡ old.taken + length (requests_in kept)
+  pub drawn : new.place ≡ old.place + words_of kept
+
+-- Whatever a source and an outlet of the program have exchanged, all answers are such.
+abbrev pub AnswersComeFromTheLines : Type 0
+AnswersComeFromTheLines = (exchanges : List Exchange) (source source' : Standing)
+    (out out' : Option (List ℕ)) → Exchanges handing printing source out exchanges source' out'
+    → AreOfLines source (handed (asks_of exchanges)) source'

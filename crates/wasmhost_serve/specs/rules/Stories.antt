@@ -1,0 +1,111 @@
+-- What `wasmhost story` prints of lives, and what its exit status says (this project's own).
+use Rattle.std.specs.Prelude.{◌≡◌, ◌⊎◌, ℕ, ◌+◌, List, [], ◌∷◌, ◌++◌, Option, codes}
+use Rattle.std.specs.Fmt.{decimal}
+use Rattle.std.specs.Io.KnownBytes.{Appends}
+use Rattle.hex.specs.Hex.{encode_lower}
+use Rattle.sha2.specs.Sha256.{sha256}
+use Rattle.record_replay.specs.declared.line_list.NumberedLine.{NumberedLine}
+use Rattle.durable_worker.specs.declared.story.life.PlannedLife.{PlannedLife}
+use Rattle.durable_worker.specs.declared.story.report.Opening.{Opening}
+use Rattle.durable_worker.specs.declared.story.report.Opening.TheVariants.{Created, Recovered, Unopened}
+use Rattle.durable_worker.specs.declared.story.report.LifeReport.{LifeReport}
+use Rattle.durable_worker.specs.rules.Told.{TellsLives}
+use Rattle.wasmhost_serve.specs.declared.configuring.Sizes.{Sizes}
+use Rattle.wasmhost_serve.specs.declared.preparing.Prepared.{Prepared}
+use Rattle.wasmhost_serve.specs.declared.preparing.Unprepared.{Unprepared}
+use Rattle.wasi_abi.specs.rules.Configs.{Settings}
+use Rattle.wasmhost_serve.specs.rules.Creations.{IsPreparedAs, IsUnprepared, config_as}
+use Rattle.wasmhost_serve.specs.rules.Creations.{status_unprepared}
+use Rattle.wasmhost_serve.specs.rules.Pieces.{lines_of}
+use Rattle.wasmhost_serve.specs.rules.Scripts.{IsScript, IsFaultAt}
+use Rattle.wasmhost_serve.specs.rules.Showings.{named_number}
+use Rattle.wasmhost_serve.specs.rules.Texts.{printed}
+
+-- ---- the text
+
+-- the SHA-256 of an image, in hexadecimal digits, at the end of a line
+abbrev pub image_text : List ℕ → List ℕ
+image_text image = codes " image " ++ encode_lower (sha256 image) ++ codes "\n"
+
+-- how a life was opened, as it is printed: of a recovered one its numbers and its image
+abbrev pub opening_line : ℕ → Opening → List ℕ
+opening_line number (Created image) = named_number (codes "life ") number ++ codes " created\n"
+opening_line number (Recovered generation steps answers lines image) =
+    named_number (codes "life ") number
+    ++ named_number (codes " recovered generation ") generation
+    ++ named_number (codes " steps ") steps
+    ++ named_number (codes " answers ") answers
+    ++ named_number (codes " lines ") lines
+    ++ image_text image
+opening_line number Unopened = named_number (codes "life ") number ++ codes " not opened\n"
+
+-- a released line, as a run prints it
+abbrev pub release_text : NumberedLine → List ℕ
+release_text line = printed line.number (record { stream = line.stream; text = line.text })
+
+abbrev pub releases_text : List NumberedLine → List ℕ
+releases_text [] = []
+releases_text (line ∷ lines) = release_text line ++ releases_text lines
+
+-- how a life was opened, and its lines
+abbrev pub life_text : ℕ → LifeReport → List ℕ
+life_text number report = opening_line number report.opened ++ releases_text report.releases
+
+-- lives with the numbers from `first` on
+abbrev pub story_text : ℕ → List LifeReport → List ℕ
+story_text first [] = []
+story_text first (report ∷ reports) = life_text first report ++ story_text (first + 1) reports
+
+-- ---- the exit status
+
+-- what a worker of a story is configured with: its name is its one argument
+abbrev pub story_config : Sizes → Settings
+story_config sizes = config_as sizes [] []
+
+-- the line that tells of a faulty line of the script
+abbrev pub script_line : ℕ → List ℕ
+script_line number = named_number (codes "failed script line ") number ++ codes "\n"
+
+-- The script spells lives, the module is accepted, and the text of what the worker's lives were is
+-- printed whole.
+pub record IsStoryTold (script wasm : List ℕ) (sizes : Sizes) (out out' : Option (List ℕ))
+    : Type 0 where
+  pub lives : List PlannedLife
+  pub spelled : IsScript (lines_of script) lives
+  pub prepared : Prepared
+  pub prepares : IsPreparedAs (story_config sizes) wasm prepared
+  pub reports : List LifeReport
+  pub tells : TellsLives wasm (story_config sizes) lives reports
+  pub printed_whole : Appends out out' (story_text 1 reports)
+
+-- the text of these lives is printed, or memory is wanted for it, or something can't be printed
+abbrev pub SaysLives : List LifeReport → Option (List ℕ) → Option (List ℕ) → Option (List ℕ)
+    → Option (List ℕ) → ℕ → Type 0
+SaysLives reports out out' err err' status =
+    ((status ≡ 0) × Appends out out' (story_text 1 reports) × (err' ≡ err))
+    ⊎ ((status ≡ 5) × (out' ≡ out)) ⊎ (status ≡ 7)
+
+-- A line of the script is faulty, and its number is told.
+pub record IsLineTold (script : List ℕ) (err err' : Option (List ℕ)) : Type 0 where
+  pub number : ℕ
+  pub faulty : IsFaultAt (lines_of script) number
+  pub said : Appends err err' (script_line number)
+
+-- The script spells lives, and the configuration is out of its limits or the module isn't accepted.
+pub record IsStoryRefused (script wasm : List ℕ) (sizes : Sizes) : Type 0 where
+  pub lives : List PlannedLife
+  pub spelled : IsScript (lines_of script) lives
+  pub why : Unprepared
+  pub unprepared : IsUnprepared (story_config sizes) wasm why
+  pub refused : status_unprepared why ≡ 3
+
+-- 0: the story is told. 2: a line of the script is faulty. 3: the worker is refused. 5: there is no
+-- memory. 7: something can't be printed. Nothing is printed on the output but a whole story, and
+-- nothing on the error output beside one.
+pub record TellsStory (script wasm : List ℕ) (sizes : Sizes) (out out' err err' : Option (List ℕ))
+    (status : ℕ) : Type 0 where
+  pub told : status ≡ 0 → IsStoryTold script wasm sizes out out' × (err' ≡ err)
+  pub faulty : status ≡ 2 → IsLineTold script err err' × (out' ≡ out)
+  pub refused : status ≡ 3 → IsStoryRefused script wasm sizes × (out' ≡ out)
+  pub starved : status ≡ 5 → out' ≡ out
+  pub known : (status ≡ 0) ⊎ (status ≡ 2) ⊎ (status ≡ 3) ⊎ (status ≡ 5) ⊎ (status ≡ 7)

@@ -1,0 +1,20 @@
+//! What a line of a script says.
+
+use durable_worker::story::PlannedAct;
+use sector_disk::Place;
+use wasi_abi::Answer;
+use wasm_syntax::Row;
+
+#[derive(Debug, Drop)]
+pub enum ScriptLine {
+    /// Another life begins.
+    Life,
+    /// The source has this answer, behind those before.
+    Answer { answer: Answer },
+    /// The worker is told to do this, behind what it was told before.
+    Act { act: PlannedAct },
+    /// The power is cut at this call.
+    Stop { place: Place },
+    /// So much the cut keeps of the earlier writes, in bytes. There is at least one number.
+    Tears { fronts: Row<u16> },
+}

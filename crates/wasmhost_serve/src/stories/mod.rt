@@ -1,0 +1,17 @@
+//! Stories of a worker: scripts of lives, and what is printed of them.
+
+mod draft;
+mod fault;
+mod line;
+mod lives;
+mod numbers;
+mod pieces;
+mod script;
+mod spelling;
+mod telling;
+mod words;
+
+pub use fault::ScriptFault;
+pub use line::ScriptLine;
+pub use script::read_script;
+pub use telling::{report_script, tell};
