@@ -28,17 +28,19 @@ use Rattle.worker_rules.specs.Courses.{Stage, Open, MayFail}
 use Rattle.worker_rules.specs.Promises.{Promise, after}
 use Rattle.worker_rules.specs.Holds.{StaysWithin}
 use Rattle.worker_rules.specs.Exchanges.{none as no_exchange}
-use Rattle.worker_laws.specs.laws.Savepoints.{Savepoint}
-use Rattle.worker_laws.specs.laws.CallEnds.{IsSavedAs, HasBound}
-use Rattle.worker_laws.specs.laws.Carried.{IsCarried}
-use Rattle.worker_laws.specs.laws.AtHand.{IsNextOf}
-use Rattle.worker_laws.specs.laws.Saves.{SavesCheckpoint}
-use Rattle.worker_laws.proofs.CallEnds.{done_checkpoints_end, failed_checkpoints_end}
-use Rattle.worker_laws.proofs.CallEnds.{calls_leave_between}
-use Rattle.worker_laws.proofs.Carrying.{all_is_held, begins_carried}
-use Rattle.worker_laws.proofs.Raising.{all_syncs_are_held, ended_carries, carried_is_reached}
-use Rattle.worker_laws.proofs.AtHand.{shown_is_saved, next_is_at_hand}
-use Rattle.worker_laws.proofs.Saving.{saving_checkpoints, save_carries, ends_promise_no_less}
+use Rattle.worker_store.specs.laws.Savepoints.{Savepoint}
+use Rattle.worker_store.specs.laws.CallEnds.{IsSavedAs, HasBound}
+use Rattle.worker_store.specs.laws.Carried.{IsCarried}
+use Rattle.worker_store.specs.laws.AtHand.{IsNextOf}
+use Rattle.worker_store.specs.laws.Saves.{SavesCheckpoint}
+use Rattle.worker_store.proofs.LawLemmas.CallEnds.{done_checkpoints_end, failed_checkpoints_end}
+use Rattle.worker_store.proofs.LawLemmas.CallEnds.{calls_leave_between}
+use Rattle.worker_store.proofs.LawLemmas.Carrying.{all_is_held, begins_carried}
+use Rattle.worker_store.proofs.LawLemmas.Raising.{all_syncs_are_held, ended_carries}
+use Rattle.worker_store.proofs.LawLemmas.Raising.{carried_is_reached}
+use Rattle.worker_store.proofs.LawLemmas.AtHand.{shown_is_saved, next_is_at_hand}
+use Rattle.worker_store.proofs.LawLemmas.Saving.{saving_checkpoints, save_carries}
+use Rattle.worker_store.proofs.LawLemmas.Saving.{ends_promise_no_less}
 use Rattle.worker_store.specs.declared.fault.StoreFault.{StoreFault}
 use Rattle.worker_store.specs.declared.fault.StoreFault.TheVariants as store
 use Rattle.worker_store.specs.declared.store.WorkerStore.{WorkerStore}

@@ -1,5 +1,6 @@
 -- A worker that is created on a disk.
-use Rattle.std.proofs.Common.{◌≡◌, ◌⊎◌, ℕ, ◌+◌, ◌*◌, ◌<◌, ◌≤◌, ◌^◌, max, List, [], ◌∷◌, ◌++◌, length}
+use Rattle.std.proofs.Common.{◌≡◌, ◌⊎◌, ℕ, ◌+◌, ◌*◌, ◌<◌, ◌≤◌, ◌^◌, max, List, [], ◌∷◌, ◌++◌}
+use Rattle.std.proofs.Common.{length}
 use Rattle.std.proofs.Common.{take, refl, sym, ap, ◌∙◌, subst, inl, ⊎_elim, arith}
 use Rattle.std.proofs.lemmas.Bool.{cases_lt}
 use Rattle.std.proofs.lemmas.List.{append-nil}
@@ -34,20 +35,20 @@ use Rattle.worker_rules.specs.Courses.{at_first}
 use Rattle.worker_rules.specs.Promises.{Promise, after}
 use Rattle.worker_rules.specs.Holds.{IsNothingYet, ImageHolds, IsBounded, StaysWithin}
 use Rattle.worker_rules.proofs.Disks.{blank_is_within, stands_within}
-use Rattle.worker_laws.specs.laws.Savepoints.{Savepoint, places}
-use Rattle.worker_laws.specs.laws.Commits.{BeginsAtPoint}
-use Rattle.worker_laws.specs.laws.Carried.{IsHeldAt}
-use Rattle.worker_laws.specs.laws.CallEnds.{IsSavedAs}
-use Rattle.worker_laws.specs.laws.AtHand.{IsFirstOf}
-use Rattle.worker_laws.specs.laws.Anew.{OpensAtFirst}
-use Rattle.worker_laws.proofs.Anew.{creation_opens}
-use Rattle.worker_laws.proofs.AtHand.{first_is_at_hand, shown_is_saved}
-use Rattle.worker_laws.proofs.Carrying.{creation_carries, begins_carried}
-use Rattle.worker_laws.proofs.Carrying.{fresh_is_held, opening_is_held}
-use Rattle.worker_laws.proofs.Points.{start_counts, point_stands_alone}
-use Rattle.worker_laws.proofs.Raising.{all_syncs_are_held}
-use Rattle.worker_laws.proofs.Reopening.{no_lines, lives_open, fresh_holds_nothing}
-use Rattle.worker_laws.proofs.Reopening.{fresh_lives_begin}
+use Rattle.worker_store.specs.laws.Savepoints.{Savepoint, places}
+use Rattle.worker_store.specs.laws.Commits.{BeginsAtPoint}
+use Rattle.worker_store.specs.laws.Carried.{IsHeldAt}
+use Rattle.worker_store.specs.laws.CallEnds.{IsSavedAs}
+use Rattle.worker_store.specs.laws.AtHand.{IsFirstOf}
+use Rattle.worker_store.specs.laws.Anew.{OpensAtFirst}
+use Rattle.worker_store.proofs.LawLemmas.Anew.{creation_opens}
+use Rattle.worker_store.proofs.LawLemmas.AtHand.{first_is_at_hand, shown_is_saved}
+use Rattle.worker_store.proofs.LawLemmas.Carrying.{creation_carries, begins_carried}
+use Rattle.worker_store.proofs.LawLemmas.Carrying.{fresh_is_held, opening_is_held}
+use Rattle.worker_store.proofs.LawLemmas.Points.{start_counts, point_stands_alone}
+use Rattle.worker_store.proofs.LawLemmas.Raising.{all_syncs_are_held}
+use Rattle.worker_store.proofs.LawLemmas.Reopening.{no_lines, lives_open, fresh_holds_nothing}
+use Rattle.worker_store.proofs.LawLemmas.Reopening.{fresh_lives_begin}
 use Rattle.worker_store.specs.declared.fault.StoreFault.{StoreFault}
 use Rattle.worker_store.specs.declared.fault.StoreFault.TheVariants as store
 use Rattle.worker_store.specs.declared.store.WorkerStore.{WorkerStore}

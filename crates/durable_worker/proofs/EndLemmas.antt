@@ -21,7 +21,8 @@ use Rattle.worker_rules.specs.Between.{NextFinds, IsFoundAfterCut}
 use Rattle.durable_worker.specs.declared.recover_fault.RecoverFault.{RecoverFault}
 use Rattle.durable_worker.specs.laws.OneLife.{EndsBy, IsCauseOf, IsLater}
 use Rattle.durable_worker.specs.declared.story.report.LifeEnd.{LifeEnd}
-use Rattle.durable_worker.specs.declared.story.report.LifeEnd.TheVariants.{Finished, Stopped, Failed}
+use Rattle.durable_worker.specs.declared.story.report.LifeEnd.TheVariants.{Finished, Stopped}
+use Rattle.durable_worker.specs.declared.story.report.LifeEnd.TheVariants.{Failed}
 use Rattle.durable_worker.specs.rules.Planned.{stop_call}
 use Rattle.durable_worker.specs.rules.Told.{TellsLifeEnd}
 use Rattle.durable_worker.specs.LifeCalls.{left_undone, LeavesSome}

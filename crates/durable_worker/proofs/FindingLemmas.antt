@@ -13,7 +13,7 @@ use Rattle.disk_layout.specs.declared.reading.contents.Contents.{Contents}
 use Rattle.disk_layout.specs.rules.Journal.{Record}
 use Rattle.worker_rules.specs.Stands.{IsNumbered}
 use Rattle.worker_rules.proofs.NumbersKept.{records_keep_numbers}
-use Rattle.worker_laws.specs.laws.Savepoints.{Savepoint, places, StandsAtPoint}
+use Rattle.worker_store.specs.laws.Savepoints.{Savepoint, places, StandsAtPoint}
 use Rattle.worker_store.specs.declared.fault.StoreFault.{StoreFault}
 use Rattle.worker_store.specs.declared.fault.StoreFault.TheVariants as store
 use Rattle.worker_store.specs.rules.Readings.{GivesOr, DeniesWorker, DeniesWorkerOr, TellsMarks}

@@ -45,11 +45,13 @@ use Rattle.durable_worker.specs.declared.story.report.Opening.{Opening}
 use Rattle.durable_worker.specs.declared.story.report.LifeEnd.{LifeEnd}
 use Rattle.durable_worker.specs.declared.story.report.LifeReport.{LifeReport}
 use Rattle.durable_worker.specs.rules.Planned.{inputs_of, act_of}
-use Rattle.durable_worker.specs.rules.Told.{TellsLife, TellsEach, TellsOpening, TellsLifeEnd, TellsLives}
+use Rattle.durable_worker.specs.rules.Told.{TellsLife, TellsEach, TellsOpening, TellsLifeEnd}
+use Rattle.durable_worker.specs.rules.Told.{TellsLives}
 use Rattle.durable_worker.specs.rules.Told.{told_line}
 use Rattle.durable_worker.specs.LifeCalls.{LivesOnce, LeavesSome, left_undone}
 use Rattle.durable_worker.specs.Endings.{EndsLife}
-use Rattle.durable_worker.specs.Going.{IsEmptyDisk, HasAllRoom, IsKeptOn, IsToldOn, LivesOn, promised_by_all}
+use Rattle.durable_worker.specs.Going.{IsEmptyDisk, HasAllRoom, IsKeptOn, IsToldOn, LivesOn}
+use Rattle.durable_worker.specs.Going.{promised_by_all}
 use Rattle.durable_worker.specs.Going.{GoneOn}
 use Rattle.durable_worker.proofs.HeardLemmas.{hands_out, hears, said_so, heard_all}
 use Rattle.durable_worker.proofs.EndLemmas.{stopping_medium, tells_end, next_finds, faults_at_stop}

@@ -9,7 +9,7 @@ use Rattle.record_replay.specs.rules.Calls.{Giving, Taking, Begun, Exchange, Ask
 use Rattle.record_replay.specs.rules.Calls.{AnswersInOrder, asks_of, releases_of}
 use Rattle.record_replay.specs.rules.Lists.{HandsOut, KeepsLine}
 use Rattle.worker_rules.specs.Exchanges.{was_taken, release_of}
-use Rattle.worker_laws.specs.laws.Pieces.{Foretell}
+use Rattle.worker_store.specs.laws.Pieces.{Foretell}
 use Rattle.durable_worker.specs.laws.OneLife.{released_in}
 use Rattle.durable_worker.specs.declared.story.hearing.HeardLines.{HeardLines}
 use Rattle.durable_worker.specs.rules.Planned.{said_of}

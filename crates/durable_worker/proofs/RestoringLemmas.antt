@@ -27,7 +27,7 @@ use Rattle.state_image.specs.rules.Image.{Saved, image}
 use Rattle.state_image.specs.rules.Restored.{IsRestored}
 use Rattle.state_image.specs.rules.WellTyped.{IsWellTyped}
 use Rattle.worker_rules.specs.Stands.{IsNumbered}
-use Rattle.worker_laws.specs.laws.Savepoints.{Savepoint}
+use Rattle.worker_store.specs.laws.Savepoints.{Savepoint}
 use Rattle.worker.specs.rules.Refusals.{refusal_by, refusal_of}
 use Rattle.durable_worker.specs.declared.fault.DurableFault.TheVariants.{Work}
 use Rattle.durable_worker.specs.declared.recover_fault.RecoverFault.{RecoverFault}

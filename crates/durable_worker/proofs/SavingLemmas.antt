@@ -20,10 +20,10 @@ use Rattle.disk_layout.specs.rules.Journal.{Record}
 use Rattle.journal.specs.rules.Packed.{sectors_for}
 use Rattle.journal.specs.rules.Steps.{barrier_calls}
 use Rattle.snapshot.specs.rules.Calls.{SomeRising, with_head}
-use Rattle.worker_laws.specs.laws.Barriers.{StandsAtFront}
-use Rattle.worker_laws.specs.laws.Savepoints.{Savepoint}
-use Rattle.worker_laws.specs.laws.Saves.{StandsAtFrontOrNext}
-use Rattle.worker_laws.proofs.Saving.{save_at_any_moment}
+use Rattle.worker_store.specs.laws.Barriers.{StandsAtFront}
+use Rattle.worker_store.specs.laws.Savepoints.{Savepoint}
+use Rattle.worker_store.specs.laws.Saves.{StandsAtFrontOrNext}
+use Rattle.worker_store.proofs.LawLemmas.Saving.{save_at_any_moment}
 use Rattle.worker_store.specs.declared.fault.StoreFault.{StoreFault}
 use Rattle.worker_store.specs.declared.fault.StoreFault.TheVariants as store
 use Rattle.worker_store.specs.declared.store.WorkerStore.{WorkerStore}

@@ -12,8 +12,8 @@ use Rattle.sector_disk.specs.rules.Medium.{Medium, SyncsMedium}
 use Rattle.disk_layout.specs.rules.Journal.{Record}
 use Rattle.disk_layout.specs.rules.Stored.{OnlyReads}
 use Rattle.worker_rules.specs.Stands.{StandsFor}
-use Rattle.worker_laws.specs.laws.Savepoints.{point_of}
-use Rattle.worker_laws.proofs.Points.{stands_at_its_point}
+use Rattle.worker_store.specs.laws.Savepoints.{point_of}
+use Rattle.worker_store.proofs.LawLemmas.Points.{stands_at_its_point}
 use Rattle.durable_worker.specs.declared.fault.DurableFault.TheVariants.{Disk}
 use Rattle.durable_worker.specs.declared.found.Found.{Found}
 use Rattle.durable_worker.specs.declared.recover_fault.RecoverFault.{RecoverFault}

@@ -28,9 +28,9 @@ use Rattle.worker_rules.specs.Lives.{Slice, Reply, Fails, Waits, Cause, SourceSa
 use Rattle.worker_rules.specs.Courses.{Stage, Open, phase_ended, next_stage}
 use Rattle.worker_rules.specs.Promises.{Promise, after, IsEnding}
 use Rattle.worker_rules.specs.Holds.{KeepsPromise, StaysWithin}
-use Rattle.worker_laws.specs.laws.Underway.{IsUnderWay}
-use Rattle.worker_laws.specs.laws.Pieces.{IsForetold, AreDone}
-use Rattle.worker_laws.specs.laws.Turns.{GoesOnFrom}
+use Rattle.worker_store.specs.laws.Underway.{IsUnderWay}
+use Rattle.worker_store.specs.laws.Pieces.{IsForetold, AreDone}
+use Rattle.worker_store.specs.laws.Turns.{GoesOnFrom}
 use Rattle.worker.specs.declared.now.Now.{Now}
 use Rattle.worker.specs.declared.fault.WorkFault.TheVariants as work
 use Rattle.durable_worker.specs.declared.fault.DurableFault.{DurableFault}

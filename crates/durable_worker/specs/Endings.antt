@@ -12,7 +12,8 @@ use Rattle.durable_worker.specs.declared.story.hearing.HeardLines.{HeardLines}
 use Rattle.durable_worker.specs.declared.story.life.PlannedLife.{PlannedLife}
 use Rattle.durable_worker.specs.declared.story.living.LivedOnce.{LivedOnce}
 use Rattle.durable_worker.specs.declared.story.report.LifeEnd.{LifeEnd}
-use Rattle.durable_worker.specs.declared.story.report.LifeEnd.TheVariants.{Finished, Stopped, Failed}
+use Rattle.durable_worker.specs.declared.story.report.LifeEnd.TheVariants.{Finished, Stopped}
+use Rattle.durable_worker.specs.declared.story.report.LifeEnd.TheVariants.{Failed}
 use Rattle.durable_worker.specs.declared.story.report.LifeReport.{LifeReport}
 use Rattle.durable_worker.specs.rules.Planned.{stop_call}
 

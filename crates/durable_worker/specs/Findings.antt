@@ -16,7 +16,7 @@ use Rattle.disk_layout.specs.rules.Places.{total_sectors}
 use Rattle.snapshot.specs.declared.newest.Snapshot.{Snapshot}
 use Rattle.state_image.specs.rules.Image.{image}
 use Rattle.state_image.specs.rules.Saving.{saved_of}
-use Rattle.worker_laws.specs.laws.Savepoints.{Savepoint, places, StandsAtPoint}
+use Rattle.worker_store.specs.laws.Savepoints.{Savepoint, places, StandsAtPoint}
 use Rattle.durable_worker.specs.declared.found.Found.{Found}
 use Rattle.durable_worker.specs.declared.recover_fault.RecoverFault.{RecoverFault}
 use Rattle.durable_worker.specs.declared.surveyed.Survey.{Survey}

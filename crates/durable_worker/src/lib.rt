@@ -51,7 +51,7 @@
 //! `SlicesOnDiskInVain`, `IsDiskCause` (`DurableFailures.antt`); `CheckpointCalls`,
 //! `CheckpointFails` (`Checkpoints.antt`); `fault_of_store` (`DurableFaults.antt`);
 //! `fault_of_restore`, `fault_of_replay` (`RecoverFaults.antt`); `inputs_of` (`Planned.antt`),
-//! `TellsLives` (`Told.antt`). They speak in the words of `worker_rules` and `worker_laws`.
+//! `TellsLives` (`Told.antt`). They speak in the words of `worker_rules` and `worker_store`.
 //!
 //! # Who may touch what
 //!

@@ -5,11 +5,10 @@ use crate::lives::{
 };
 use crate::story_stop::StoryStop;
 use durable_worker::story::{LifeEnd, Report};
-use durable_worker::{DurableFault, RecoverFault};
+use durable_worker::{DurableFault, RecoverFault, WorkFault};
 use std::alloc::Global;
 use wasi_abi::Answer;
 use wasm_syntax::Row;
-use worker::WorkFault;
 
 /// The last call of the disk with which `echo` is created, behind two of the recovery that found
 /// no worker: 72 of zeros, contents and syncs, 129 of the image, and five behind it.

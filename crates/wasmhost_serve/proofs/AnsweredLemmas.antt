@@ -159,8 +159,8 @@ all_of_lines (ask ∷ asks) s t leads =
     u : Standing
     u = leads.0
 
-    by_said : AreOfLines u (handed asks) t → (said : Result (Option Answer) SourceFault) → ask.said ≡ said
-        → HandsNext ask.kind s ask.said u → AreOfLines s (handed (ask ∷ asks)) t
+    by_said : AreOfLines u (handed asks) t → (said : Result (Option Answer) SourceFault)
+        → ask.said ≡ said → HandsNext ask.kind s ask.said u → AreOfLines s (handed (ask ∷ asks)) t
     by_said more (Ok (Some a)) e hands =
         let h : HandsAnswer ask.kind s (Some a) u =
         subst (λ r. HandsNext ask.kind s r u) e hands in

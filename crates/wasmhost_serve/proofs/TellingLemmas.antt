@@ -60,8 +60,8 @@ module _ (script wasm : List ℕ) (sizes : Sizes) (out out' err err' : Option (L
     known = inr (inr (inl refl));
   }
 
-  says_two : (number : ℕ) → IsFaultAt (lines_of script) number → Appends err err' (script_line number)
-      → out' ≡ out → Says 2
+  says_two : (number : ℕ) → IsFaultAt (lines_of script) number
+      → Appends err err' (script_line number) → out' ≡ out → Says 2
   says_two number faulty said stays = record {
     told = λ is. absurd (omega (arith, is));
     faulty = λ is. (record { number = number; faulty = faulty; said = said }, stays);
@@ -95,17 +95,17 @@ module _ (script wasm : List ℕ) (sizes : Sizes) (out out' err err' : Option (L
       says_three lives spelled (unprepared.Module fault) is refl stays
   by_why lives spelled unprepared.Memory is stays = says_five stays
 
-  pub refused_told : (lives : List PlannedLife) → IsScript (lines_of script) lives → (why : Unprepared)
-      → IsUnprepared (story_config sizes) wasm why → (status : ℕ)
+  pub refused_told : (lives : List PlannedLife) → IsScript (lines_of script) lives
+      → (why : Unprepared) → IsUnprepared (story_config sizes) wasm why → (status : ℕ)
       → (status ≡ status_unprepared why) ⊎ (status ≡ 7) → out' ≡ out → Says status
   refused_told lives spelled why unprepared status (inl said) stays =
       subst Says (sym said) (by_why lives spelled why unprepared stays)
   refused_told lives spelled why unprepared status (inr seven) stays =
       subst Says (sym seven) says_seven
 
-  pub lives_told : (lives : List PlannedLife) → IsScript (lines_of script) lives → (prepared : Prepared)
-      → IsPreparedAs (story_config sizes) wasm prepared → (reports : List LifeReport)
-      → TellsLives wasm prepared.config lives reports → (status : ℕ)
+  pub lives_told : (lives : List PlannedLife) → IsScript (lines_of script) lives
+      → (prepared : Prepared) → IsPreparedAs (story_config sizes) wasm prepared
+      → (reports : List LifeReport) → TellsLives wasm prepared.config lives reports → (status : ℕ)
       → SaysLives reports out out' err err' status → Says status
   lives_told lives spelled prepared prepares reports tells status (inl said) =
       subst Says (sym said.0) (record {
@@ -116,7 +116,8 @@ module _ (script wasm : List ℕ) (sizes : Sizes) (out out' err err' : Option (L
             prepared = prepared;
             prepares = prepares;
             reports = reports;
-            tells = subst (λ (c : Settings). TellsLives wasm c lives reports) prepares.config_is tells;
+            tells =
+                subst (λ (c : Settings). TellsLives wasm c lives reports) prepares.config_is tells;
             printed_whole = said.1;
           },
           said.2,

@@ -43,8 +43,8 @@
 //!   of the command line list for them, or want of memory (`IsReading`).
 //! - `read_script`: the lives that a script of a story spells (`IsScript`). A fault names the first
 //!   line behind which the lines are no script (`IsFaultAt`), or it is want of memory.
-//! - `tell`: status 0 says that a whole story was printed: of lives that go on as one that was never
-//!   stopped, with what the script put into each. What the other statuses say is said too
+//! - `tell`: status 0 says that a whole story was printed: of lives that go on as one that was
+//!   never stopped, with what the script put into each. What the other statuses say is said too
 //!   (`TellsStory`). `report_script` tells a fault of a script.
 //! - `laws::faultless_words_mean`, `laws::worked_examples`: words without a fault mean an order,
 //!   with numbers in their ranges; sixty-eight command lines.

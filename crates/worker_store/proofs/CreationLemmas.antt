@@ -21,12 +21,13 @@ use Rattle.disk_layout.specs.rules.Sectors.{SectorsHold}
 use Rattle.disk_layout.specs.rules.Contents.{contents_sectors}
 use Rattle.disk_layout.proofs.ContentsLemmas.{holds_what_is_written}
 use Rattle.worker_rules.specs.Stands.{IsBlank}
-use Rattle.worker_laws.specs.laws.Creations.{AwaitsHead, HasNoSuper, zero_sector}
-use Rattle.worker_laws.specs.laws.Moments.{LeavesAll}
-use Rattle.worker_laws.proofs.Creating.{zeros_keep_blank, zeros_take_super, runs_keep_no_super}
-use Rattle.worker_laws.proofs.Creating.{no_super_is_blank, zero_runs_await_head}
+use Rattle.worker_store.specs.laws.Creations.{AwaitsHead, HasNoSuper, zero_sector}
+use Rattle.worker_store.specs.laws.Moments.{LeavesAll}
+use Rattle.worker_store.proofs.LawLemmas.Creating.{zeros_keep_blank, zeros_take_super}
+use Rattle.worker_store.proofs.LawLemmas.Creating.{runs_keep_no_super}
+use Rattle.worker_store.proofs.LawLemmas.Creating.{no_super_is_blank, zero_runs_await_head}
 use Rattle.worker_store.specs.rules.Creations.{behind_calls, contents_calls}
-use Rattle.worker_laws.proofs.Passing.{step_at_any_moment, left_in_the_end}
+use Rattle.worker_store.proofs.LawLemmas.Passing.{step_at_any_moment, left_in_the_end}
 
 -- one call, and then another
 pub leaves_on : (a b c : Medium) (P Q R : Image → Type 0) → LeavesOnly a b P → LeavesOnly b c Q

@@ -26,13 +26,15 @@ use Rattle.snapshot.specs.rules.Steps.{Commits, Replaces}
 use Rattle.state_image.specs.rules.Image.{image}
 use Rattle.state_image.specs.rules.Saving.{saved_of}
 use Rattle.worker_rules.specs.Stands.{IsBlank}
-use Rattle.worker_laws.specs.laws.Savepoints.{Savepoint, places}
-use Rattle.worker_laws.specs.laws.Commits.{BeginsAtPoint}
-use Rattle.worker_laws.specs.laws.Creations.{AwaitsHead, AwaitsSuper, HasNoSuper, super_of_point}
-use Rattle.worker_laws.specs.laws.Moments.{LeavesAll}
-use Rattle.worker_laws.proofs.Creating.{first_commit_keeps_no_super, first_commit_awaits_super}
-use Rattle.worker_laws.proofs.Creating.{super_begins, whole_super_begins}
-use Rattle.worker_laws.proofs.Passing.{step_at_any_moment, step_in_the_end, shown_in_the_end}
+use Rattle.worker_store.specs.laws.Savepoints.{Savepoint, places}
+use Rattle.worker_store.specs.laws.Commits.{BeginsAtPoint}
+use Rattle.worker_store.specs.laws.Creations.{AwaitsHead, AwaitsSuper, HasNoSuper, super_of_point}
+use Rattle.worker_store.specs.laws.Moments.{LeavesAll}
+use Rattle.worker_store.proofs.LawLemmas.Creating.{first_commit_keeps_no_super}
+use Rattle.worker_store.proofs.LawLemmas.Creating.{first_commit_awaits_super}
+use Rattle.worker_store.proofs.LawLemmas.Creating.{super_begins, whole_super_begins}
+use Rattle.worker_store.proofs.LawLemmas.Passing.{step_at_any_moment, step_in_the_end}
+use Rattle.worker_store.proofs.LawLemmas.Passing.{shown_in_the_end}
 use Rattle.worker_store.specs.declared.store.WorkerStore.{WorkerStore}
 use Rattle.worker_store.specs.rules.Creations.{IsFirstPoint, LeavesBlankOrFirst, contents_calls}
 use Rattle.worker_store.specs.rules.Creations.{creation_calls}

@@ -1,3 +1,4 @@
+pub mod LawLemmas
 mod FillLemmas
 mod SinkLemmas
 mod SavingLemmas

@@ -23,9 +23,9 @@ use Rattle.snapshot.specs.declared.snapshots.State.TheVariants as state
 use Rattle.snapshot.specs.declared.snapshots.Snapshots.{Snapshots}
 use Rattle.snapshot.specs.rules.Newest.{FindsNewest}
 use Rattle.snapshot.specs.rules.Snapshots.{has_failed, is_failed, is_idle, is_idle_state}
-use Rattle.worker_laws.specs.laws.Readings.{FindsSaved}
-use Rattle.worker_laws.specs.laws.Savepoints.{Savepoint, places, StandsAtPoint}
-use Rattle.worker_laws.proofs.Reading.{reads_the_module, finds_newest_point}
+use Rattle.worker_store.specs.laws.Readings.{FindsSaved}
+use Rattle.worker_store.specs.laws.Savepoints.{Savepoint, places, StandsAtPoint}
+use Rattle.worker_store.proofs.LawLemmas.Reading.{reads_the_module, finds_newest_point}
 use Rattle.worker_store.specs.declared.fault.StoreFault.{StoreFault}
 use Rattle.worker_store.specs.rules.Faults.{fault_of_layout, fault_of_snapshot}
 use Rattle.worker_store.specs.rules.Readings.{ReadsContents, ReadsNewest}

@@ -19,14 +19,15 @@ use Rattle.disk_layout.specs.rules.Places.{geometry_of}
 use Rattle.wasm_syntax.specs.declared.module.Module.{Module}
 use Rattle.wasi_abi.specs.rules.Configs.{Settings}
 use Rattle.worker_rules.specs.Stands.{IsNumbered}
-use Rattle.worker_laws.specs.laws.Commits.{BeginsAtPoint}
-use Rattle.worker_laws.specs.laws.Moments.{LeavesAll}
-use Rattle.worker_laws.specs.laws.Savepoints.{Savepoint, places}
-use Rattle.worker_laws.specs.laws.Journaled.{IsJournaled}
-use Rattle.worker_laws.proofs.Keeping.{barrier_at_any_moment, barrier_in_the_end}
-use Rattle.worker_laws.proofs.Keeping.{append_goes_on, begins_journaled}
-use Rattle.worker_laws.proofs.Passing.{commit_at_any_moment, commit_in_the_end}
-use Rattle.worker_laws.proofs.Passing.{commit_keeps_at_any_moment, commit_keeps_in_the_end}
+use Rattle.worker_store.specs.laws.Commits.{BeginsAtPoint}
+use Rattle.worker_store.specs.laws.Moments.{LeavesAll}
+use Rattle.worker_store.specs.laws.Savepoints.{Savepoint, places}
+use Rattle.worker_store.specs.laws.Journaled.{IsJournaled}
+use Rattle.worker_store.proofs.LawLemmas.Keeping.{barrier_at_any_moment, barrier_in_the_end}
+use Rattle.worker_store.proofs.LawLemmas.Keeping.{append_goes_on, begins_journaled}
+use Rattle.worker_store.proofs.LawLemmas.Passing.{commit_at_any_moment, commit_in_the_end}
+use Rattle.worker_store.proofs.LawLemmas.Passing.{commit_keeps_at_any_moment}
+use Rattle.worker_store.proofs.LawLemmas.Passing.{commit_keeps_in_the_end}
 use Rattle.worker_store.specs.declared.store.WorkerStore.{WorkerStore}
 use Rattle.worker_store.specs.laws.Laws.{AppendStores}
 use Rattle.worker_store.specs.rules.Stores.{IsStoreOf}

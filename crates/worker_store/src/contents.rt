@@ -8,8 +8,8 @@ ghost use Rattle.sector_disk.specs.rules.Medium.{spare};
 ghost use Rattle.disk_layout.specs.rules.Places.{config_bytes, geometry_of, rounded_up};
 ghost use Rattle.disk_layout.specs.rules.Places.{total_sectors};
 ghost use Rattle.worker_rules.specs.Stands.{IsBlank};
-ghost use Rattle.worker_laws.specs.laws.Creations.{AwaitsHead, HasNoSuper};
-ghost use Rattle.worker_laws.specs.laws.Moments.{LeavesAll};
+ghost use Rattle.worker_store.specs.laws.Creations.{AwaitsHead, HasNoSuper};
+ghost use Rattle.worker_store.specs.laws.Moments.{LeavesAll};
 ghost use Rattle.worker_store.specs.rules.Creations.{behind_calls, contents_calls, behind_sectors};
 
 use crate::zeros::write_zeros;

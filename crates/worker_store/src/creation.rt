@@ -8,9 +8,9 @@ ghost use Rattle.disk_layout.specs.rules.Places.{config_bytes, geometry_of, roun
 ghost use Rattle.disk_layout.specs.rules.Places.{total_sectors};
 ghost use Rattle.state_image.specs.rules.Image.{image};
 ghost use Rattle.state_image.specs.rules.Saving.{saved_of};
-ghost use Rattle.worker_laws.specs.laws.Savepoints.{Savepoint};
-ghost use Rattle.worker_laws.specs.laws.Commits.{BeginsAtPoint};
-ghost use Rattle.worker_laws.specs.laws.Moments.{LeavesAll};
+ghost use Rattle.worker_store.specs.laws.Savepoints.{Savepoint};
+ghost use Rattle.worker_store.specs.laws.Commits.{BeginsAtPoint};
+ghost use Rattle.worker_store.specs.laws.Moments.{LeavesAll};
 ghost use Rattle.worker_store.specs.rules.Creations.{LeavesBlankOrFirst, StoresFirst, IsFirstPoint};
 ghost use Rattle.worker_store.specs.rules.Creations.{CreationFails, creation_calls};
 

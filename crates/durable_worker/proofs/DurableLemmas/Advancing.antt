@@ -21,11 +21,11 @@ use Rattle.worker_rules.specs.Lives.{Slice, Reply, Spent, Over, Fails, Cause, Of
 use Rattle.worker_rules.specs.Courses.{Stage, Open, MayFail}
 use Rattle.worker_rules.specs.Promises.{Promise, IsEnding, synced_by}
 use Rattle.worker_rules.specs.Holds.{StaysWithin}
-use Rattle.worker_laws.specs.laws.Underway.{IsUnderWay}
-use Rattle.worker_laws.specs.laws.CallEnds.{IsSliceOver, HasBound}
-use Rattle.worker_laws.proofs.AtHand.{shown_is_saved}
-use Rattle.worker_laws.proofs.CallEnds.{spent_slices_end, ended_slices_end}
-use Rattle.worker_laws.proofs.Underway.{steps_go_on}
+use Rattle.worker_store.specs.laws.Underway.{IsUnderWay}
+use Rattle.worker_store.specs.laws.CallEnds.{IsSliceOver, HasBound}
+use Rattle.worker_store.proofs.LawLemmas.AtHand.{shown_is_saved}
+use Rattle.worker_store.proofs.LawLemmas.CallEnds.{spent_slices_end, ended_slices_end}
+use Rattle.worker_store.proofs.LawLemmas.Underway.{steps_go_on}
 use Rattle.durable_worker.specs.declared.fault.DurableFault.TheVariants.{Work}
 use Rattle.durable_worker.specs.declared.running.Running.{Running}
 use Rattle.worker.specs.rules.Refusals.{work_fault}

@@ -11,8 +11,8 @@ use Rattle.worker_rules.specs.Lives.{Reply, Fails, Waits, SourceSaid, OfSource}
 use Rattle.worker_rules.specs.Courses.{Stage}
 use Rattle.worker_rules.specs.Promises.{Promise}
 use Rattle.worker_rules.specs.Holds.{StaysWithin}
-use Rattle.worker_laws.specs.laws.Turns.{GoesOnFrom, LeavesBegun}
-use Rattle.worker_laws.proofs.TurnLemmas.{turns_join, parts_leave_begun}
+use Rattle.worker_store.specs.laws.Turns.{GoesOnFrom, LeavesBegun}
+use Rattle.worker_store.proofs.LawLemmas.TurnLemmas.{turns_join, parts_leave_begun}
 use Rattle.worker.specs.declared.fault.WorkFault.{WorkFault}
 use Rattle.worker.specs.declared.fault.WorkFault.TheVariants as work
 use Rattle.durable_worker.specs.declared.fault.DurableFault.{DurableFault}

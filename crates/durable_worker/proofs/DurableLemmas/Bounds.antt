@@ -18,12 +18,12 @@ use Rattle.worker_rules.specs.Promises.{Promise, promised}
 use Rattle.worker_rules.specs.Exchanges.{AreEvents, none, asked}
 use Rattle.worker_rules.specs.Holds.{IsBounded, KeepsBounds, StaysWithin}
 use Rattle.worker_rules.proofs.Disks.{stands_within}
-use Rattle.worker_laws.specs.laws.Savepoints.{Savepoint, places, StandsAtPoint}
-use Rattle.worker_laws.specs.laws.Barriers.{StandsAtFront}
-use Rattle.worker_laws.specs.laws.Commits.{IsNextPoint, BeginsAtPoint}
-use Rattle.worker_laws.specs.laws.Saves.{StandsAtFrontOrNext}
-use Rattle.worker_laws.specs.laws.Pieces.{AreDone}
-use Rattle.worker_laws.proofs.Points.{point_stands}
+use Rattle.worker_store.specs.laws.Savepoints.{Savepoint, places, StandsAtPoint}
+use Rattle.worker_store.specs.laws.Barriers.{StandsAtFront}
+use Rattle.worker_store.specs.laws.Commits.{IsNextPoint, BeginsAtPoint}
+use Rattle.worker_store.specs.laws.Saves.{StandsAtFrontOrNext}
+use Rattle.worker_store.specs.laws.Pieces.{AreDone}
+use Rattle.worker_store.proofs.LawLemmas.Points.{point_stands}
 use Rattle.worker_store.specs.declared.store.WorkerStore.{WorkerStore}
 use Rattle.durable_worker.specs.laws.Bounds.{OpenWorkersKeepBounds, StayingKeepsBounds}
 use Rattle.durable_worker.specs.rules.OpenWorkers.{IsOnDisk}

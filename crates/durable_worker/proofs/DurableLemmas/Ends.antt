@@ -21,20 +21,20 @@ use Rattle.worker_rules.specs.Courses.{Stage, Phase, Open, MayFail, phase_ended,
 use Rattle.worker_rules.specs.Promises.{Promise, synced_by, IsEnding}
 use Rattle.worker_rules.specs.Holds.{KeepsPromise, CarriesPromise, StaysWithin}
 use Rattle.worker_rules.specs.Exchanges.{none}
-use Rattle.worker_laws.specs.laws.Savepoints.{Savepoint, places}
-use Rattle.worker_laws.specs.laws.Underway.{IsInItsSlice, IsBroken}
-use Rattle.worker_laws.specs.laws.CallEnds.{HasBound}
-use Rattle.worker_laws.specs.laws.Pieces.{AreDone}
-use Rattle.worker_laws.specs.laws.Carried.{count_at, IsCarried}
-use Rattle.worker_laws.specs.laws.Raised.{SyncsAreHeld}
-use Rattle.worker_laws.specs.laws.Turns.{GoesOnFrom}
-use Rattle.worker_laws.proofs.AtHand.{shown_is_saved}
-use Rattle.worker_laws.proofs.CallEnds.{failed_slices_end, calls_leave_between}
-use Rattle.worker_laws.proofs.Carrying.{carried_keeps}
-use Rattle.worker_laws.proofs.Raising.{ended_carries}
-use Rattle.worker_laws.proofs.Saving.{ends_promise_no_less}
-use Rattle.worker_laws.proofs.TurnLemmas.{ended_still_holds, rests_go_on, turns_join}
-use Rattle.worker_laws.proofs.TurnLemmas.{same_no_more}
+use Rattle.worker_store.specs.laws.Savepoints.{Savepoint, places}
+use Rattle.worker_store.specs.laws.Underway.{IsInItsSlice, IsBroken}
+use Rattle.worker_store.specs.laws.CallEnds.{HasBound}
+use Rattle.worker_store.specs.laws.Pieces.{AreDone}
+use Rattle.worker_store.specs.laws.Carried.{count_at, IsCarried}
+use Rattle.worker_store.specs.laws.Raised.{SyncsAreHeld}
+use Rattle.worker_store.specs.laws.Turns.{GoesOnFrom}
+use Rattle.worker_store.proofs.LawLemmas.AtHand.{shown_is_saved}
+use Rattle.worker_store.proofs.LawLemmas.CallEnds.{failed_slices_end, calls_leave_between}
+use Rattle.worker_store.proofs.LawLemmas.Carrying.{carried_keeps}
+use Rattle.worker_store.proofs.LawLemmas.Raising.{ended_carries}
+use Rattle.worker_store.proofs.LawLemmas.Saving.{ends_promise_no_less}
+use Rattle.worker_store.proofs.LawLemmas.TurnLemmas.{ended_still_holds, rests_go_on, turns_join}
+use Rattle.worker_store.proofs.LawLemmas.TurnLemmas.{same_no_more}
 use Rattle.worker_store.specs.declared.fault.StoreFault.TheVariants as store
 use Rattle.worker_store.specs.declared.store.WorkerStore.{WorkerStore}
 use Rattle.worker.specs.declared.fault.WorkFault.TheVariants as work

@@ -30,21 +30,24 @@ use Rattle.worker_rules.specs.Courses.{first_said}
 use Rattle.worker_rules.specs.Promises.{Promise, after, IsFitting, IsInquiring}
 use Rattle.worker_rules.specs.Holds.{StaysWithin}
 use Rattle.worker_rules.specs.Exchanges.{none as no_exchange, asked}
-use Rattle.worker_laws.specs.laws.Underway.{IsUnderWay, IsBroken, IsAtQuestion}
-use Rattle.worker_laws.specs.laws.CallEnds.{HasBound}
-use Rattle.worker_laws.specs.laws.Pieces.{IsForetold, AreDone}
-use Rattle.worker_laws.specs.laws.Carried.{count_at, IsCarried}
-use Rattle.worker_laws.specs.laws.Raised.{SyncsAreHeld, AreOnRecord}
-use Rattle.worker_laws.specs.laws.Turns.{GoesOnFrom}
-use Rattle.worker_laws.proofs.AtHand.{shown_is_saved, shown_is_numbered}
-use Rattle.worker_laws.proofs.CallEnds.{waiting_slices_end}
-use Rattle.worker_laws.proofs.Carrying.{carried_keeps}
-use Rattle.worker_laws.proofs.Raising.{asked_carries, append_carries, answer_is_on_record}
-use Rattle.worker_laws.proofs.Raising.{answered_syncs_are_held}
-use Rattle.worker_laws.proofs.TurnLemmas.{asked_still_holds, parts_leave_begun, rests_go_on}
-use Rattle.worker_laws.proofs.TurnLemmas.{syncs_of_more}
-use Rattle.worker_laws.proofs.Underway.{questions_are_asked, answers_go_on, answers_are_kept}
-use Rattle.worker_laws.proofs.Underway.{other_answers_break}
+use Rattle.worker_store.specs.laws.Underway.{IsUnderWay, IsBroken, IsAtQuestion}
+use Rattle.worker_store.specs.laws.CallEnds.{HasBound}
+use Rattle.worker_store.specs.laws.Pieces.{IsForetold, AreDone}
+use Rattle.worker_store.specs.laws.Carried.{count_at, IsCarried}
+use Rattle.worker_store.specs.laws.Raised.{SyncsAreHeld, AreOnRecord}
+use Rattle.worker_store.specs.laws.Turns.{GoesOnFrom}
+use Rattle.worker_store.proofs.LawLemmas.AtHand.{shown_is_saved, shown_is_numbered}
+use Rattle.worker_store.proofs.LawLemmas.CallEnds.{waiting_slices_end}
+use Rattle.worker_store.proofs.LawLemmas.Carrying.{carried_keeps}
+use Rattle.worker_store.proofs.LawLemmas.Raising.{asked_carries, append_carries}
+use Rattle.worker_store.proofs.LawLemmas.Raising.{answer_is_on_record}
+use Rattle.worker_store.proofs.LawLemmas.Raising.{answered_syncs_are_held}
+use Rattle.worker_store.proofs.LawLemmas.TurnLemmas.{asked_still_holds, parts_leave_begun}
+use Rattle.worker_store.proofs.LawLemmas.TurnLemmas.{rests_go_on}
+use Rattle.worker_store.proofs.LawLemmas.TurnLemmas.{syncs_of_more}
+use Rattle.worker_store.proofs.LawLemmas.Underway.{questions_are_asked, answers_go_on}
+use Rattle.worker_store.proofs.LawLemmas.Underway.{answers_are_kept}
+use Rattle.worker_store.proofs.LawLemmas.Underway.{other_answers_break}
 use Rattle.worker_store.specs.declared.fault.StoreFault.{StoreFault}
 use Rattle.worker_store.specs.declared.fault.StoreFault.TheVariants as store
 use Rattle.worker_store.specs.rules.Stores.{IsStoreOf}

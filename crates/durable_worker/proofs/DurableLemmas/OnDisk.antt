@@ -13,10 +13,11 @@ use Rattle.state_image.specs.rules.Image.{Saved}
 use Rattle.worker_rules.specs.Lives.{Act, Reply, Ended}
 use Rattle.worker_rules.specs.Promises.{Promise, after, saved_by, synced_by}
 use Rattle.worker_rules.specs.Holds.{KeepsPromise}
-use Rattle.worker_laws.specs.laws.Carried.{count_at}
-use Rattle.worker_laws.specs.laws.Raised.{SyncsAreHeld}
-use Rattle.worker_laws.proofs.Carrying.{carried_keeps}
-use Rattle.worker_laws.proofs.Raising.{carried_is_reached, quiet_syncs_are_held, ended_carries}
+use Rattle.worker_store.specs.laws.Carried.{count_at}
+use Rattle.worker_store.specs.laws.Raised.{SyncsAreHeld}
+use Rattle.worker_store.proofs.LawLemmas.Carrying.{carried_keeps}
+use Rattle.worker_store.proofs.LawLemmas.Raising.{carried_is_reached, quiet_syncs_are_held}
+use Rattle.worker_store.proofs.LawLemmas.Raising.{ended_carries}
 use Rattle.worker_store.specs.declared.store.WorkerStore.{WorkerStore}
 use Rattle.durable_worker.specs.rules.OpenWorkers.{IsOnDisk}
 

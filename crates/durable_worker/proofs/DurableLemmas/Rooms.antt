@@ -17,15 +17,15 @@ use Rattle.worker_rules.specs.Lives.{Slice, Fails, Cause, OfDisk, OfBounds}
 use Rattle.worker_rules.specs.Courses.{Stage, Open, MayFail}
 use Rattle.worker_rules.specs.Promises.{Promise}
 use Rattle.worker_rules.specs.Holds.{StaysWithin}
-use Rattle.worker_laws.specs.laws.Savepoints.{Savepoint}
-use Rattle.worker_laws.specs.laws.CallEnds.{HasBound}
-use Rattle.worker_laws.specs.laws.Carried.{count_at}
-use Rattle.worker_laws.specs.laws.Raised.{AreOnRecord}
-use Rattle.worker_laws.specs.laws.Turns.{GoesOnFrom}
-use Rattle.worker_laws.proofs.Carrying.{begins_carried}
-use Rattle.worker_laws.proofs.Raising.{all_syncs_are_held, ended_carries}
-use Rattle.worker_laws.proofs.Saving.{next_held, save_carries, ends_promise_no_less}
-use Rattle.worker_laws.proofs.TurnLemmas.{same_no_more}
+use Rattle.worker_store.specs.laws.Savepoints.{Savepoint}
+use Rattle.worker_store.specs.laws.CallEnds.{HasBound}
+use Rattle.worker_store.specs.laws.Carried.{count_at}
+use Rattle.worker_store.specs.laws.Raised.{AreOnRecord}
+use Rattle.worker_store.specs.laws.Turns.{GoesOnFrom}
+use Rattle.worker_store.proofs.LawLemmas.Carrying.{begins_carried}
+use Rattle.worker_store.proofs.LawLemmas.Raising.{all_syncs_are_held, ended_carries}
+use Rattle.worker_store.proofs.LawLemmas.Saving.{next_held, save_carries, ends_promise_no_less}
+use Rattle.worker_store.proofs.LawLemmas.TurnLemmas.{same_no_more}
 use Rattle.worker_store.specs.declared.fault.StoreFault.{StoreFault}
 use Rattle.worker_store.specs.declared.fault.StoreFault.TheVariants as store
 use Rattle.worker_store.specs.declared.store.WorkerStore.{WorkerStore}

@@ -15,18 +15,20 @@ use Rattle.worker_rules.specs.Lives.{Slice, Fails, OfDisk, OfOutlet}
 use Rattle.worker_rules.specs.Courses.{Stage, Broken}
 use Rattle.worker_rules.specs.Promises.{Promise}
 use Rattle.worker_rules.specs.Holds.{StaysWithin}
-use Rattle.worker_laws.specs.laws.Underway.{IsUnderWay}
-use Rattle.worker_laws.specs.laws.Pieces.{IsForetold}
-use Rattle.worker_laws.specs.laws.Telling.{AddsLines}
-use Rattle.worker_laws.specs.laws.Carried.{count_at, IsCarried}
-use Rattle.worker_laws.specs.laws.Raised.{SyncsAreHeld, AreOnRecord}
-use Rattle.worker_laws.specs.laws.Turns.{GoesOnFrom, LeavesBegun}
-use Rattle.worker_laws.proofs.Carrying.{carried_keeps, barrier_carries, barrier_carries_on}
-use Rattle.worker_laws.proofs.Raising.{all_syncs_are_held, ended_carries}
-use Rattle.worker_laws.proofs.Saving.{ends_promise_no_less}
-use Rattle.worker_laws.proofs.Telling.{all_lines_are_told, lines_are_told_in_vain}
-use Rattle.worker_laws.proofs.TurnLemmas.{told_still_holds, parts_leave_begun, turns_join}
-use Rattle.worker_laws.proofs.TurnLemmas.{rests_go_on, lines_carry, same_no_more}
+use Rattle.worker_store.specs.laws.Underway.{IsUnderWay}
+use Rattle.worker_store.specs.laws.Pieces.{IsForetold}
+use Rattle.worker_store.specs.laws.Telling.{AddsLines}
+use Rattle.worker_store.specs.laws.Carried.{count_at, IsCarried}
+use Rattle.worker_store.specs.laws.Raised.{SyncsAreHeld, AreOnRecord}
+use Rattle.worker_store.specs.laws.Turns.{GoesOnFrom, LeavesBegun}
+use Rattle.worker_store.proofs.LawLemmas.Carrying.{carried_keeps, barrier_carries}
+use Rattle.worker_store.proofs.LawLemmas.Carrying.{barrier_carries_on}
+use Rattle.worker_store.proofs.LawLemmas.Raising.{all_syncs_are_held, ended_carries}
+use Rattle.worker_store.proofs.LawLemmas.Saving.{ends_promise_no_less}
+use Rattle.worker_store.proofs.LawLemmas.Telling.{all_lines_are_told, lines_are_told_in_vain}
+use Rattle.worker_store.proofs.LawLemmas.TurnLemmas.{told_still_holds, parts_leave_begun}
+use Rattle.worker_store.proofs.LawLemmas.TurnLemmas.{turns_join}
+use Rattle.worker_store.proofs.LawLemmas.TurnLemmas.{rests_go_on, lines_carry, same_no_more}
 use Rattle.worker_store.specs.declared.fault.StoreFault.{StoreFault}
 use Rattle.worker_store.specs.declared.fault.StoreFault.TheVariants as store
 use Rattle.worker_store.specs.declared.store.WorkerStore.{WorkerStore}

@@ -22,12 +22,12 @@ use Rattle.worker_rules.specs.Lives.{Act, Slice, Reply, Spent, Over, Waits, Fail
 use Rattle.worker_rules.specs.Courses.{Stage, Open, phase_ended, next_stage, stage_after}
 use Rattle.worker_rules.specs.Promises.{Promise}
 use Rattle.worker_rules.specs.Holds.{CarriesPromise, StaysWithin}
-use Rattle.worker_laws.specs.laws.Underway.{IsUnderWay}
-use Rattle.worker_laws.specs.laws.Pieces.{IsForetold}
-use Rattle.worker_laws.specs.laws.Turns.{LeavesBegun}
-use Rattle.worker_laws.proofs.CallEnds.{slices_begin}
-use Rattle.worker_laws.proofs.Pieces.{parts_join, parts_are_foretold, ends_join}
-use Rattle.worker_laws.proofs.TurnLemmas.{turns_join, turns_carry, parts_leave_begun}
+use Rattle.worker_store.specs.laws.Underway.{IsUnderWay}
+use Rattle.worker_store.specs.laws.Pieces.{IsForetold}
+use Rattle.worker_store.specs.laws.Turns.{LeavesBegun}
+use Rattle.worker_store.proofs.LawLemmas.CallEnds.{slices_begin}
+use Rattle.worker_store.proofs.LawLemmas.Pieces.{parts_join, parts_are_foretold, ends_join}
+use Rattle.worker_store.proofs.LawLemmas.TurnLemmas.{turns_join, turns_carry, parts_leave_begun}
 use Rattle.record_replay.proofs.Emitted.{released_whole}
 use Rattle.worker.specs.declared.now.Now.{Now}
 use Rattle.worker.specs.declared.now.Now.TheVariants as now

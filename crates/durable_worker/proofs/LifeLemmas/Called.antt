@@ -19,9 +19,9 @@ use Rattle.worker_rules.specs.Courses.{without_first}
 use Rattle.worker_rules.specs.Promises.{Promise, after, promised, IsKept, AreKept}
 use Rattle.worker_rules.specs.Holds.{IsBounded, KeepsPromise, KeepsBounds}
 use Rattle.worker_rules.specs.Holds.{StaysWithin}
-use Rattle.worker_laws.specs.laws.Pieces.{IsForetold}
-use Rattle.worker_laws.proofs.Pieces.{parts_are_foretold}
-use Rattle.worker_laws.proofs.Passing.{left_in_the_end}
+use Rattle.worker_store.specs.laws.Pieces.{IsForetold}
+use Rattle.worker_store.proofs.LawLemmas.Pieces.{parts_are_foretold}
+use Rattle.worker_store.proofs.LawLemmas.Passing.{left_in_the_end}
 use Rattle.worker.specs.declared.now.Now.{Now}
 use Rattle.worker.specs.declared.now.Now.TheVariants as now
 use Rattle.durable_worker.specs.declared.fault.DurableFault.{DurableFault}

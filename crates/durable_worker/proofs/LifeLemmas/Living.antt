@@ -30,9 +30,9 @@ use Rattle.worker_rules.specs.Holds.{HoldsPromise, KeepsPromise}
 use Rattle.worker_rules.specs.Holds.{KeepsBounds}
 use Rattle.worker_rules.specs.Between.{IsLivedOn}
 use Rattle.worker_rules.proofs.Promised.{calls_join}
-use Rattle.worker_laws.specs.laws.Carried.{PromisesNoMore}
-use Rattle.worker_laws.proofs.Carrying.{less_is_held}
-use Rattle.worker_laws.proofs.Pieces.{parts_are_foretold}
+use Rattle.worker_store.specs.laws.Carried.{PromisesNoMore}
+use Rattle.worker_store.proofs.LawLemmas.Carrying.{less_is_held}
+use Rattle.worker_store.proofs.LawLemmas.Pieces.{parts_are_foretold}
 use Rattle.worker_store.specs.declared.fault.StoreFault.TheVariants as store
 use Rattle.worker.specs.declared.fault.WorkFault.TheVariants as work
 use Rattle.worker.specs.declared.fault.Refusal.TheVariants as refusal

@@ -15,8 +15,8 @@ use Rattle.worker_rules.specs.Courses.{Stage, Open, phase_ended, stage_after, wi
 use Rattle.worker_rules.specs.Promises.{Promise, after, promised, IsKept, AreKept}
 use Rattle.worker_rules.specs.Holds.{KeepsPromise, KeepsBounds}
 use Rattle.worker_rules.proofs.Promised.{calls_join}
-use Rattle.worker_laws.specs.laws.Pieces.{IsForetold}
-use Rattle.worker_laws.proofs.Pieces.{parts_are_foretold}
+use Rattle.worker_store.specs.laws.Pieces.{IsForetold}
+use Rattle.worker_store.proofs.LawLemmas.Pieces.{parts_are_foretold}
 use Rattle.durable_worker.specs.declared.fault.DurableFault.{DurableFault}
 use Rattle.durable_worker.specs.declared.recover_fault.RecoverFault.{RecoverFault}
 use Rattle.durable_worker.specs.declared.recover_fault.RecoverFault.TheVariants.{Worker}

@@ -23,8 +23,8 @@ use Rattle.worker_rules.specs.Courses.{Stage, Phase, Shut, at_first}
 use Rattle.worker_rules.specs.Courses.{stage_after, HasFailed, IsCutIn}
 use Rattle.worker_rules.specs.Promises.{Promise, after, promised, AreKept, OpensAnew}
 use Rattle.worker_rules.specs.Holds.{IsNothingYet, KeepsPromise, KeepsBounds}
-use Rattle.worker_laws.specs.laws.Pieces.{IsForetold}
-use Rattle.worker_laws.proofs.Pieces.{parts_are_foretold}
+use Rattle.worker_store.specs.laws.Pieces.{IsForetold}
+use Rattle.worker_store.proofs.LawLemmas.Pieces.{parts_are_foretold}
 use Rattle.worker_store.specs.declared.fault.StoreFault.TheVariants as store
 use Rattle.worker.specs.declared.fault.WorkFault.TheVariants as work
 use Rattle.worker.specs.declared.fault.Refusal.TheVariants as refusal

@@ -26,14 +26,14 @@ use Rattle.worker_rules.specs.Promises.{Promise}
 use Rattle.worker_rules.specs.Holds.{ImageHolds, KeepsPromise, CarriesPromise, IsBounded}
 use Rattle.worker_rules.specs.Holds.{KeepsBounds, StaysWithin}
 use Rattle.worker_rules.specs.Exchanges.{none as no_event}
-use Rattle.worker_laws.specs.laws.Pieces.{IsForetold}
-use Rattle.worker_laws.specs.laws.Telling.{AreMade, AddsLines}
-use Rattle.worker_laws.specs.laws.Reopening.{IsReviving}
-use Rattle.worker_laws.specs.laws.Carried.{count_at, IsHeldAt}
-use Rattle.worker_laws.proofs.Carrying.{held_at_stands}
-use Rattle.worker_laws.proofs.Passing.{left_in_the_end}
-use Rattle.worker_laws.proofs.Recovering.{retold_is_held}
-use Rattle.worker_laws.proofs.Reopening.{lines_are_retold, lines_are_retold_in_vain}
+use Rattle.worker_store.specs.laws.Pieces.{IsForetold}
+use Rattle.worker_store.specs.laws.Telling.{AreMade, AddsLines}
+use Rattle.worker_store.specs.laws.Reopening.{IsReviving}
+use Rattle.worker_store.specs.laws.Carried.{count_at, IsHeldAt}
+use Rattle.worker_store.proofs.LawLemmas.Carrying.{held_at_stands}
+use Rattle.worker_store.proofs.LawLemmas.Passing.{left_in_the_end}
+use Rattle.worker_store.proofs.LawLemmas.Recovering.{retold_is_held}
+use Rattle.worker_store.proofs.LawLemmas.Reopening.{lines_are_retold, lines_are_retold_in_vain}
 use Rattle.worker_store.specs.declared.fault.StoreFault.{StoreFault}
 use Rattle.worker_store.specs.declared.fault.StoreFault.TheVariants as store
 use Rattle.worker_store.specs.laws.Laws.{ImagesFitAreas}

@@ -26,11 +26,11 @@ use Rattle.record_replay.proofs.Recordings.{recorded_runs}
 use Rattle.worker_rules.specs.Lives.{Inputs}
 use Rattle.worker_rules.specs.Courses.{at_first}
 use Rattle.worker_rules.specs.Promises.{Promise}
-use Rattle.worker_laws.specs.laws.Savepoints.{Savepoint, places}
-use Rattle.worker_laws.specs.laws.Carried.{answers_at, count_at, IsHeldAt}
-use Rattle.worker_laws.specs.laws.Reopening.{IsReviving}
-use Rattle.worker_laws.proofs.Fronts.{front_kept}
-use Rattle.worker_laws.proofs.Points.{start_counts}
+use Rattle.worker_store.specs.laws.Savepoints.{Savepoint, places}
+use Rattle.worker_store.specs.laws.Carried.{answers_at, count_at, IsHeldAt}
+use Rattle.worker_store.specs.laws.Reopening.{IsReviving}
+use Rattle.worker_store.proofs.LawLemmas.Fronts.{front_kept}
+use Rattle.worker_store.proofs.LawLemmas.Points.{start_counts}
 use Rattle.worker_store.specs.laws.Laws.{ImagesFitAreas}
 use Rattle.durable_worker.specs.declared.found.Found.{Found}
 use Rattle.durable_worker.specs.Findings.{IsFoundAt}

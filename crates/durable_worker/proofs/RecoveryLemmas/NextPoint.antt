@@ -19,12 +19,12 @@ use Rattle.record_replay.specs.rules.Calls.{Taking}
 use Rattle.record_replay.specs.rules.Replays.{Replays, ReplaysInVain}
 use Rattle.worker_rules.specs.Promises.{Promise}
 use Rattle.worker_rules.specs.Holds.{IsBounded}
-use Rattle.worker_laws.specs.laws.Savepoints.{Savepoint, StandsAtPoint, StandsBySaved}
-use Rattle.worker_laws.specs.laws.Commits.{BeginsAtPoint, StandsBefore}
-use Rattle.worker_laws.specs.laws.Carried.{answers_at}
-use Rattle.worker_laws.specs.laws.AtHand.{IsNextOf}
-use Rattle.worker_laws.proofs.AtHand.{next_is_at_hand}
-use Rattle.worker_laws.proofs.Points.{by_point}
+use Rattle.worker_store.specs.laws.Savepoints.{Savepoint, StandsAtPoint, StandsBySaved}
+use Rattle.worker_store.specs.laws.Commits.{BeginsAtPoint, StandsBefore}
+use Rattle.worker_store.specs.laws.Carried.{answers_at}
+use Rattle.worker_store.specs.laws.AtHand.{IsNextOf}
+use Rattle.worker_store.proofs.LawLemmas.AtHand.{next_is_at_hand}
+use Rattle.worker_store.proofs.LawLemmas.Points.{by_point}
 use Rattle.worker_store.specs.declared.fault.StoreFault.{StoreFault}
 use Rattle.worker_store.specs.declared.fault.StoreFault.TheVariants as store
 use Rattle.worker_store.specs.declared.store.WorkerStore.{WorkerStore}

@@ -14,16 +14,16 @@ use Rattle.worker_rules.specs.Courses.{Stage, at_first, next_stage, stage_after}
 use Rattle.worker_rules.specs.Promises.{Promise, after, IsOpening}
 use Rattle.worker_rules.specs.Holds.{ImageHolds, KeepsPromise, CarriesPromise, KeepsBounds}
 use Rattle.worker_rules.specs.Holds.{StaysWithin}
-use Rattle.worker_laws.specs.laws.Savepoints.{Savepoint}
-use Rattle.worker_laws.specs.laws.CallEnds.{IsSavedAs, IsBetween}
-use Rattle.worker_laws.specs.laws.Carried.{answers_at, count_at}
-use Rattle.worker_laws.specs.laws.Recovered.{OpensAtNext}
-use Rattle.worker_laws.proofs.AtHand.{shown_is_saved}
-use Rattle.worker_laws.proofs.Carrying.{answers_count, begins_carried}
-use Rattle.worker_laws.proofs.Pieces.{ends_join}
-use Rattle.worker_laws.proofs.Raising.{all_syncs_are_held}
-use Rattle.worker_laws.proofs.Recovering.{recovery_opens}
-use Rattle.worker_laws.proofs.Reopening.{lives_open}
+use Rattle.worker_store.specs.laws.Savepoints.{Savepoint}
+use Rattle.worker_store.specs.laws.CallEnds.{IsSavedAs, IsBetween}
+use Rattle.worker_store.specs.laws.Carried.{answers_at, count_at}
+use Rattle.worker_store.specs.laws.Recovered.{OpensAtNext}
+use Rattle.worker_store.proofs.LawLemmas.AtHand.{shown_is_saved}
+use Rattle.worker_store.proofs.LawLemmas.Carrying.{answers_count, begins_carried}
+use Rattle.worker_store.proofs.LawLemmas.Pieces.{ends_join}
+use Rattle.worker_store.proofs.LawLemmas.Raising.{all_syncs_are_held}
+use Rattle.worker_store.proofs.LawLemmas.Recovering.{recovery_opens}
+use Rattle.worker_store.proofs.LawLemmas.Reopening.{lives_open}
 use Rattle.worker_store.specs.rules.Stores.{IsStoreOf}
 use Rattle.durable_worker.specs.declared.found.Found.{Found}
 use Rattle.durable_worker.specs.rules.DurableValues.{DurableValue}

@@ -34,9 +34,9 @@ use Rattle.worker_rules.specs.Courses.{Shut}
 use Rattle.worker_rules.specs.Promises.{Promise}
 use Rattle.worker_rules.specs.Holds.{HoldsPromise, IsUnopened, KeepsPromise}
 use Rattle.worker_rules.specs.Holds.{IsBounded, KeepsBounds}
-use Rattle.worker_laws.specs.laws.Savepoints.{point_of}
-use Rattle.worker_laws.proofs.Carrying.{blank_is_unopened}
-use Rattle.worker_laws.proofs.Points.{stands_at_its_point}
+use Rattle.worker_store.specs.laws.Savepoints.{point_of}
+use Rattle.worker_store.proofs.LawLemmas.Carrying.{blank_is_unopened}
+use Rattle.worker_store.proofs.LawLemmas.Points.{stands_at_its_point}
 use Rattle.worker_store.specs.declared.fault.StoreFault.{StoreFault}
 use Rattle.worker_store.specs.declared.fault.StoreFault.TheVariants as store
 use Rattle.worker_store.specs.rules.Calls.{ReopeningFails}

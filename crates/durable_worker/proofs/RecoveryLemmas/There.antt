@@ -17,12 +17,12 @@ use Rattle.worker_rules.specs.Promises.{Promise}
 use Rattle.worker_rules.specs.Holds.{HoldsPromise, IsUnopened, KeepsPromise}
 use Rattle.worker_rules.specs.Holds.{IsBounded, KeepsBounds}
 use Rattle.worker_rules.proofs.Disks.{stands_within}
-use Rattle.worker_laws.specs.laws.Savepoints.{Savepoint, places, point_of, StandsAtPoint}
-use Rattle.worker_laws.specs.laws.Savepoints.{StandsBySaved}
-use Rattle.worker_laws.specs.laws.Moments.{LeavesAll}
-use Rattle.worker_laws.specs.laws.Carried.{answers_at, IsHeldAt}
-use Rattle.worker_laws.proofs.Carrying.{stands_held_at}
-use Rattle.worker_laws.proofs.Points.{by_point, stands_at_its_point, read_alike_stands}
+use Rattle.worker_store.specs.laws.Savepoints.{Savepoint, places, point_of, StandsAtPoint}
+use Rattle.worker_store.specs.laws.Savepoints.{StandsBySaved}
+use Rattle.worker_store.specs.laws.Moments.{LeavesAll}
+use Rattle.worker_store.specs.laws.Carried.{answers_at, IsHeldAt}
+use Rattle.worker_store.proofs.LawLemmas.Carrying.{stands_held_at}
+use Rattle.worker_store.proofs.LawLemmas.Points.{by_point, stands_at_its_point, read_alike_stands}
 use Rattle.durable_worker.specs.declared.found.Found.{Found}
 use Rattle.durable_worker.specs.rules.Recoveries.{MarksDecide, IsSettledBy}
 use Rattle.durable_worker.specs.Findings.{IsFoundAt, FindsWorker}

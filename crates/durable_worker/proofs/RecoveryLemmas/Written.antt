@@ -15,16 +15,17 @@ use Rattle.worker_rules.specs.Courses.{at_first}
 use Rattle.worker_rules.specs.Promises.{Promise}
 use Rattle.worker_rules.specs.Holds.{ImageHolds, KeepsPromise, CarriesPromise, IsBounded}
 use Rattle.worker_rules.specs.Holds.{KeepsBounds}
-use Rattle.worker_laws.specs.laws.Savepoints.{Savepoint, StandsAtPoint}
-use Rattle.worker_laws.specs.laws.Commits.{BeginsAtPoint}
-use Rattle.worker_laws.specs.laws.Pieces.{IsForetold}
-use Rattle.worker_laws.specs.laws.Telling.{AreMade, AddsLines}
-use Rattle.worker_laws.specs.laws.Carried.{count_at, IsHeldAt, PromisesNoMore}
-use Rattle.worker_laws.specs.laws.Reopening.{IsReviving}
-use Rattle.worker_laws.proofs.Carrying.{commit_carries}
-use Rattle.worker_laws.proofs.Recovering.{retold_is_held}
-use Rattle.worker_laws.proofs.Reopening.{lines_are_retold}
-use Rattle.worker_laws.proofs.TurnLemmas.{told_still_holds, parts_leave_begun, same_no_more}
+use Rattle.worker_store.specs.laws.Savepoints.{Savepoint, StandsAtPoint}
+use Rattle.worker_store.specs.laws.Commits.{BeginsAtPoint}
+use Rattle.worker_store.specs.laws.Pieces.{IsForetold}
+use Rattle.worker_store.specs.laws.Telling.{AreMade, AddsLines}
+use Rattle.worker_store.specs.laws.Carried.{count_at, IsHeldAt, PromisesNoMore}
+use Rattle.worker_store.specs.laws.Reopening.{IsReviving}
+use Rattle.worker_store.proofs.LawLemmas.Carrying.{commit_carries}
+use Rattle.worker_store.proofs.LawLemmas.Recovering.{retold_is_held}
+use Rattle.worker_store.proofs.LawLemmas.Reopening.{lines_are_retold}
+use Rattle.worker_store.proofs.LawLemmas.TurnLemmas.{told_still_holds, parts_leave_begun}
+use Rattle.worker_store.proofs.LawLemmas.TurnLemmas.{same_no_more}
 use Rattle.durable_worker.specs.declared.found.Found.{Found}
 use Rattle.durable_worker.specs.rules.Recoveries.{IsSettledBy}
 use Rattle.durable_worker.proofs.RecoveryLemmas.There.{IsThere, within_more, leaves_join}

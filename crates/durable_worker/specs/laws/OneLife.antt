@@ -20,7 +20,7 @@ use Rattle.worker_rules.specs.Promises.{Promise}
 use Rattle.worker_rules.specs.Holds.{KeepsPromise, KeepsBounds}
 use Rattle.worker_rules.specs.Between.{IsLivedOn}
 use Rattle.worker_rules.specs.Exchanges.{was_taken, release_of}
-use Rattle.worker_laws.specs.laws.Pieces.{Foretell}
+use Rattle.worker_store.specs.laws.Pieces.{Foretell}
 use Rattle.worker.specs.declared.now.Now.{Now}
 use Rattle.durable_worker.specs.declared.fault.DurableFault.{DurableFault}
 use Rattle.durable_worker.specs.declared.recover_fault.RecoverFault.{RecoverFault}

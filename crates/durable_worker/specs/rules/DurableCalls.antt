@@ -18,7 +18,7 @@ use Rattle.worker_rules.specs.Courses.{Stage, Open, phase_ended, stage_after}
 use Rattle.worker_rules.specs.Promises.{Promise, promised, AreKept}
 use Rattle.worker_rules.specs.Holds.{CarriesPromise, StaysWithin}
 use Rattle.worker_rules.specs.Exchanges.{AreEvents}
-use Rattle.worker_laws.specs.laws.Pieces.{IsForetold}
+use Rattle.worker_store.specs.laws.Pieces.{IsForetold}
 use Rattle.worker_store.specs.declared.fault.StoreFault.TheVariants as store
 use Rattle.worker.specs.declared.now.Now.{Now}
 use Rattle.worker.specs.declared.now.Now.TheVariants as now

@@ -29,7 +29,7 @@ use Rattle.worker_rules.specs.Promises.{Promise, promised, AreKept}
 use Rattle.worker_rules.specs.Holds.{IsUnopened, ImageHolds, KeepsPromise, CarriesPromise}
 use Rattle.worker_rules.specs.Holds.{KeepsBounds, StaysWithin}
 use Rattle.worker_rules.specs.Exchanges.{AreEvents}
-use Rattle.worker_laws.specs.laws.Pieces.{IsForetold}
+use Rattle.worker_store.specs.laws.Pieces.{IsForetold}
 use Rattle.worker_store.specs.declared.fault.StoreFault.TheVariants as store
 use Rattle.worker.specs.declared.fault.WorkFault.TheVariants as work
 use Rattle.durable_worker.specs.declared.fault.DurableFault.TheVariants.{Work, Disk, Store}

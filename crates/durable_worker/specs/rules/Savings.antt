@@ -17,9 +17,9 @@ use Rattle.journal.specs.rules.Packed.{sectors_for}
 use Rattle.journal.specs.rules.Steps.{barrier_calls}
 use Rattle.snapshot.specs.declared.writing.Writing.TheVariants.{Changes}
 use Rattle.snapshot.specs.rules.Calls.{AreStores, with_head}
-use Rattle.worker_laws.specs.laws.Savepoints.{Savepoint}
-use Rattle.worker_laws.specs.laws.Commits.{IsNextPoint}
-use Rattle.worker_laws.specs.laws.Saves.{StandsAtFrontOrNext}
+use Rattle.worker_store.specs.laws.Savepoints.{Savepoint}
+use Rattle.worker_store.specs.laws.Commits.{IsNextPoint}
+use Rattle.worker_store.specs.laws.Saves.{StandsAtFrontOrNext}
 use Rattle.worker_store.specs.declared.fault.StoreFault.{StoreFault}
 use Rattle.worker_store.specs.declared.fault.StoreFault.TheVariants.{TooBig, Disk}
 use Rattle.worker_store.specs.declared.store.WorkerStore.{WorkerStore}

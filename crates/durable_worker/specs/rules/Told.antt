@@ -14,7 +14,8 @@ use Rattle.worker_rules.specs.Promises.{GoesOn}
 use Rattle.durable_worker.specs.laws.OneLife.{opened_in, IsCauseOf}
 use Rattle.durable_worker.specs.declared.story.life.PlannedLife.{PlannedLife}
 use Rattle.durable_worker.specs.declared.story.report.Opening.{Opening}
-use Rattle.durable_worker.specs.declared.story.report.Opening.TheVariants.{Created, Recovered, Unopened}
+use Rattle.durable_worker.specs.declared.story.report.Opening.TheVariants.{Created, Recovered}
+use Rattle.durable_worker.specs.declared.story.report.Opening.TheVariants.{Unopened}
 use Rattle.durable_worker.specs.declared.story.report.LifeEnd.{LifeEnd}
 use Rattle.durable_worker.specs.declared.story.report.LifeEnd.TheVariants as told
 use Rattle.durable_worker.specs.declared.story.report.LifeReport.{LifeReport}

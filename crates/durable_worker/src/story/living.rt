@@ -6,7 +6,8 @@ ghost use Rattle.disk_layout.specs.rules.Places.{total_sectors};
 ghost use Rattle.durable_worker.specs.laws.OneLife.{CallsInOrder};
 ghost use Rattle.durable_worker.specs.rules.Planned.{act_of};
 ghost use Rattle.durable_worker.specs.rules.Told.{TellsOpening};
-ghost use Rattle.durable_worker.specs.LifeCalls.{LeavesSome, DoesAct, LivesOnce, left_undone, beginning_of};
+ghost use Rattle.durable_worker.specs.LifeCalls.{LeavesSome, DoesAct, LivesOnce, left_undone};
+ghost use Rattle.durable_worker.specs.LifeCalls.{beginning_of};
 
 use crate::story::life::PlannedAct;
 use crate::story::opening::{OpenedWorker, open_worker};

@@ -7,7 +7,8 @@ use Rattle.sha2.specs.Sha256.{sha256}
 use Rattle.record_replay.specs.declared.line_list.NumberedLine.{NumberedLine}
 use Rattle.durable_worker.specs.declared.story.life.PlannedLife.{PlannedLife}
 use Rattle.durable_worker.specs.declared.story.report.Opening.{Opening}
-use Rattle.durable_worker.specs.declared.story.report.Opening.TheVariants.{Created, Recovered, Unopened}
+use Rattle.durable_worker.specs.declared.story.report.Opening.TheVariants.{Created, Recovered}
+use Rattle.durable_worker.specs.declared.story.report.Opening.TheVariants.{Unopened}
 use Rattle.durable_worker.specs.declared.story.report.LifeReport.{LifeReport}
 use Rattle.durable_worker.specs.rules.Told.{TellsLives}
 use Rattle.wasmhost_serve.specs.declared.configuring.Sizes.{Sizes}

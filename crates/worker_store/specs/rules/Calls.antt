@@ -19,10 +19,10 @@ use Rattle.disk_layout.specs.rules.Places.{area_place, rounded_up}
 use Rattle.snapshot.specs.declared.writing.Writing.TheVariants.{Changes}
 use Rattle.snapshot.specs.rules.Calls.{MakesStoresAndHead}
 use Rattle.worker_rules.specs.Stands.{IsNumbered}
-use Rattle.worker_laws.specs.laws.Savepoints.{Savepoint, StandsAtPoint, places}
-use Rattle.worker_laws.specs.laws.Moments.{LeavesAll}
-use Rattle.worker_laws.specs.laws.Barriers.{StandsAtFront}
-use Rattle.worker_laws.specs.laws.Commits.{BeginsAtPoint, IsNextPoint, StandsBefore}
+use Rattle.worker_store.specs.laws.Savepoints.{Savepoint, StandsAtPoint, places}
+use Rattle.worker_store.specs.laws.Moments.{LeavesAll}
+use Rattle.worker_store.specs.laws.Barriers.{StandsAtFront}
+use Rattle.worker_store.specs.laws.Commits.{BeginsAtPoint, IsNextPoint, StandsBefore}
 use Rattle.worker_store.specs.declared.fault.StoreFault.{StoreFault}
 use Rattle.worker_store.specs.declared.fault.StoreFault.TheVariants.{Full, TooLong, TooBig, Disk}
 use Rattle.worker_store.specs.declared.fault.StoreFault.TheVariants.{Memory, Failed}

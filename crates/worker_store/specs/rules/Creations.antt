@@ -17,9 +17,9 @@ use Rattle.disk_layout.specs.rules.Places.{area_place, journal_place, rounded_up
 use Rattle.disk_layout.specs.rules.Places.{total_sectors}
 use Rattle.snapshot.specs.rules.Calls.{with_head}
 use Rattle.worker_rules.specs.Stands.{IsBlank, IsNumbered}
-use Rattle.worker_laws.specs.laws.Savepoints.{Savepoint}
-use Rattle.worker_laws.specs.laws.Commits.{BeginsAtPoint}
-use Rattle.worker_laws.specs.laws.Moments.{LeavesAll}
+use Rattle.worker_store.specs.laws.Savepoints.{Savepoint}
+use Rattle.worker_store.specs.laws.Commits.{BeginsAtPoint}
+use Rattle.worker_store.specs.laws.Moments.{LeavesAll}
 use Rattle.worker_store.specs.declared.fault.StoreFault.{StoreFault}
 use Rattle.worker_store.specs.declared.fault.StoreFault.TheVariants.{Layout, TooBig, Disk, Memory}
 use Rattle.worker_store.specs.declared.store.WorkerStore.{WorkerStore}

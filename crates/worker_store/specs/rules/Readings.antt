@@ -14,7 +14,7 @@ use Rattle.disk_layout.specs.declared.fault.LayoutFault.TheVariants.{NotAWorker}
 use Rattle.disk_layout.specs.rules.Places.{total_sectors}
 use Rattle.snapshot.specs.declared.newest.Snapshot.{Snapshot}
 use Rattle.worker_rules.specs.Stands.{IsBlank}
-use Rattle.worker_laws.specs.laws.Savepoints.{Savepoint, places, StandsAtPoint}
+use Rattle.worker_store.specs.laws.Savepoints.{Savepoint, places, StandsAtPoint}
 use Rattle.worker_store.specs.declared.fault.StoreFault.{StoreFault}
 use Rattle.worker_store.specs.declared.fault.StoreFault.TheVariants.{Layout, Memory, Disk}
 

@@ -8,8 +8,8 @@ use Rattle.disk_layout.specs.declared.journal_sectors.TheConstants.{PAYLOAD_SIZE
 use Rattle.disk_layout.specs.rules.Places.{total_sectors}
 use Rattle.disk_layout.specs.rules.Journal.{Record, record_bytes}
 use Rattle.journal.specs.rules.State.{state}
-use Rattle.worker_laws.specs.laws.Savepoints.{Savepoint, places}
-use Rattle.worker_laws.specs.laws.Journaled.{IsJournaled}
+use Rattle.worker_store.specs.laws.Savepoints.{Savepoint, places}
+use Rattle.worker_store.specs.laws.Journaled.{IsJournaled}
 use Rattle.worker_store.specs.declared.store.WorkerStore.{WorkerStore}
 
 -- No call has failed. Whatever a cut leaves of the disk stands at this savepoint, with these

@@ -2,7 +2,7 @@ use Rattle.std.proofs.Common.{◌≡◌, []}
 use Rattle.sector_disk.proofs.Moments.{stays_shows}
 use Rattle.disk_layout.proofs.ReadLemmas.{reads_then}
 use Rattle.disk_layout.specs.declared.reading.contents.Contents.{Contents}
-use Rattle.worker_laws.specs.laws.Savepoints.{places}
+use Rattle.worker_store.specs.laws.Savepoints.{places}
 use Rattle.durable_worker.proofs.FindingLemmas.{unread_as, marks_there, marks_unread}
 use Rattle.durable_worker.proofs.finding.find.Goals as goal
 

@@ -7,7 +7,7 @@ use Rattle.sector_disk.specs.rules.Calls.{rising_writes}
 use Rattle.sector_disk.specs.rules.Medium.{BeginsCalls, MakesCalls}
 use Rattle.sector_disk.proofs.Moments.{shows_follow}
 use Rattle.disk_layout.specs.rules.Contents.{contents_sectors}
-use Rattle.worker_laws.specs.laws.Creations.{zero_sector}
+use Rattle.worker_store.specs.laws.Creations.{zero_sector}
 use Rattle.worker_store.specs.rules.Creations.{behind_calls}
 use Rattle.worker_store.proofs.CreationLemmas.{two_leave_none, three_leave_none, behind_awaits}
 use Rattle.worker_store.proofs.CreationLemmas.{err_calls, behind_first, behind_second, behind_all}

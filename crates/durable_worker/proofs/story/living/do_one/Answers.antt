@@ -1,4 +1,5 @@
-use Rattle.durable_worker.proofs.ActLemmas.{slice_is_done, slice_fails, saving_is_done, saving_fails}
+use Rattle.durable_worker.proofs.ActLemmas.{slice_is_done, slice_fails, saving_is_done}
+use Rattle.durable_worker.proofs.ActLemmas.{saving_fails}
 use Rattle.durable_worker.proofs.story.living.do_one.Goals as goal
 
 pub returns-in-Ok-clause-does : goal.returns-in-Ok-clause-does

@@ -1,6 +1,7 @@
 use Rattle.worker_rules.specs.Lives.Beginning.{Recovers as recovers}
 use Rattle.worker_rules.specs.Lives.{Creates}
-use Rattle.durable_worker.proofs.OpeningLemmas.{opens_again, opens_not, opens_anew, opens_none, is_none}
+use Rattle.durable_worker.proofs.OpeningLemmas.{opens_again, opens_not, opens_anew, opens_none}
+use Rattle.durable_worker.proofs.OpeningLemmas.{is_none}
 use Rattle.durable_worker.proofs.OpeningLemmas.{is_other}
 use Rattle.durable_worker.proofs.story.opening.open_worker.Goals as goal
 

@@ -8,7 +8,7 @@ use Rattle.snapshot.specs.declared.fault.SnapshotFault.{SnapshotFault}
 use Rattle.snapshot.specs.declared.writing.Writing.TheVariants.{Changes}
 use Rattle.state_image.specs.rules.Image.{image}
 use Rattle.state_image.specs.rules.Saving.{saved_of}
-use Rattle.worker_laws.proofs.Passing.{left_in_the_end}
+use Rattle.worker_store.proofs.LawLemmas.Passing.{left_in_the_end}
 use Rattle.worker_store.specs.declared.fault.StoreFault.{StoreFault}
 use Rattle.worker_store.proofs.SavingLemmas.{stored_err, stored_ok}
 use Rattle.worker_store.specs.declared.store.WorkerStore.{WorkerStore}

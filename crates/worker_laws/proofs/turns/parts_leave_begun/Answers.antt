@@ -1,5 +1,0 @@
-use Rattle.worker_laws.proofs.TurnLemmas.{parts_leave_begun}
-use Rattle.worker_laws.proofs.turns.parts_leave_begun.Goals as goal
-
-pub returns : goal.returns
-returns c = parts_leave_begun

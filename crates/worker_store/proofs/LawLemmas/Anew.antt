@@ -1,0 +1,63 @@
+-- A worker that is created, and opens.
+use Rattle.std.proofs.Common.{◌≡◌, ◌⊎◌, ℕ, ◌≤◌, List, [], length, refl, ap, subst, inl, inr, ⊎_elim}
+use Rattle.std.proofs.Common.{arith}
+use Rattle.std.proofs.Math.Nat.{le-max_right}
+use Rattle.wasm_syntax.specs.declared.module.Module.{Module}
+use Rattle.wasi_abi.specs.rules.Configs.{Settings}
+use Rattle.process_rules.specs.Runs.{Kept}
+use Rattle.state_image.specs.rules.Image.{Saved}
+use Rattle.sector_disk.specs.rules.Image.{Image}
+use Rattle.sector_disk.specs.rules.Medium.{Medium}
+use Rattle.sector_disk.proofs.Moments.{leaves_weaker}
+use Rattle.worker_rules.specs.Stands.{IsBlank}
+use Rattle.worker_rules.specs.Lives.{Opened}
+use Rattle.worker_rules.specs.Promises.{Promise, after}
+use Rattle.worker_rules.specs.Holds.{IsNothingYet, ImageHolds}
+use Rattle.worker_store.specs.laws.Savepoints.{Savepoint}
+use Rattle.worker_store.specs.laws.Commits.{BeginsAtPoint}
+use Rattle.worker_store.specs.laws.Carried.{IsHeldAt, PromisesNoMore}
+use Rattle.worker_store.specs.laws.Anew.{CreationOpens}
+use Rattle.worker_store.proofs.LawLemmas.Carrying.{held_at_stands, fresh_is_held, opening_is_held}
+use Rattle.worker_store.proofs.LawLemmas.Carrying.{less_is_held}
+
+-- where nothing was promised, an opening takes nothing back
+pub opening_promises_no_less : (promise : Promise) (shown : Saved) → IsNothingYet promise
+    → PromisesNoMore promise (after promise (Opened 0 shown))
+opening_promises_no_less promise shown nothing =
+    let none_synced : promise.synced ≡ 0 = ap (λ (p : Promise). p.synced) nothing in
+    record {
+      answers = le-max_right 0 promise.answers;
+      steps = le-max_right shown.steps promise.steps;
+      passed = le-max_right shown.lines promise.passed;
+      begun = omega arith;
+      synced = omega (arith, none_synced);
+    }
+
+module _ {D : Type 0} (medium : D → Medium) where
+  pub creation_opens : CreationOpens medium
+  creation_opens m config promise shown first old new nothing empty no_lines same leaves stands =
+      let none_taken : length first.front ≡ 0 = ap (λ (l : List Kept). length l) empty in
+      let more : Promise = after promise (Opened 0 shown) in
+      let held : IsHeldAt (after promise (Opened 0 shown)) first [] first.process =
+      subst (λ (s : Saved). IsHeldAt (after promise (Opened 0 s)) first [] first.process) same
+      (subst (λ n. IsHeldAt (after promise (Opened n first.saved)) first [] first.process)
+      none_taken
+      (opening_is_held m config promise first
+      (fresh_is_held m config promise first nothing empty no_lines))) in
+      let P : Image → Type 0 = λ disk. IsBlank disk ⊎ BeginsAtPoint first disk in
+      let holds : (disk : Image) → P disk → ImageHolds m config promise more disk =
+      λ disk at. ⊎_elim
+      (λ (blank : IsBlank disk). inl (nothing, blank))
+      (λ (begins : BeginsAtPoint first disk).
+      inr (less_is_held m config promise more more disk
+      (opening_promises_no_less promise shown nothing)
+      (held_at_stands m config more first [] first.process disk held begins.at))) at in
+      record {
+        carries = record {
+          at_any_moment = leaves_weaker (medium old) (medium new) P
+              (ImageHolds m config promise more) leaves holds;
+          in_the_end = λ disk left. inr
+              (held_at_stands m config more first [] first.process disk held (stands disk left));
+        };
+        held = held;
+      }

@@ -1,0 +1,534 @@
+-- What a worker's disk holds of a promise.
+use Rattle.std.proofs.Common.{◌≡◌, ◌⊎◌, ℕ, ◌+◌, ◌≤◌, List, [], ◌++◌, length, take, refl, sym, ap}
+use Rattle.std.proofs.Common.{◌∙◌, subst, inl, inr, ⊎_elim, arith, length-append, length-take}
+use Rattle.std.specs.Prelude.{map}
+use Rattle.std.proofs.lemmas.List.{append-nil, length-take-le, take-take}
+use Rattle.wasm_syntax.specs.declared.module.Module.{Module}
+use Rattle.wasi_abi.specs.rules.Configs.{Settings}
+use Rattle.wasi_calls_rules.specs.Hosts.{Host}
+use Rattle.wasi_calls_rules.specs.laws.Laws.{Emits}
+use Rattle.process_rules.specs.Processes.{ProcessState}
+use Rattle.process_rules.specs.Runs.{Kept, Runs, Reaches}
+use Rattle.process_rules.specs.Behind.{AnswersBehindLine}
+use Rattle.process_rules.proofs.Growing.{runs_count, runs_emit}
+use Rattle.sector_disk.specs.rules.Image.{Image}
+use Rattle.sector_disk.specs.rules.Medium.{Medium, LeavesOnly}
+use Rattle.sector_disk.proofs.Moments.{leaves_weaker}
+use Rattle.disk_layout.specs.rules.Journal.{Record}
+use Rattle.journal.specs.rules.State.{JournalState}
+use Rattle.record_replay.specs.rules.Records.{none, given_in}
+use Rattle.record_replay.proofs.Recordings.{recorded_count, recorded_emit, recorded_join}
+use Rattle.worker_rules.specs.Stands.{IsBlank}
+use Rattle.worker_rules.specs.Promises.{Promise, HoldsAll}
+use Rattle.worker_rules.specs.Holds.{HoldsPromise, IsUnopened, ImageHolds, CarriesPromise}
+use Rattle.worker_rules.proofs.Disks.{blank_stands_for_none}
+use Rattle.worker_store.specs.laws.Savepoints.{Savepoint, point_of, StandsAtPoint, StandsBySaved}
+use Rattle.worker_store.specs.laws.Barriers.{StandsAtFront}
+use Rattle.worker_store.specs.laws.Commits.{BeginsAtPoint}
+use Rattle.worker_store.specs.laws.Carried.{answers_at, count_at, IsHeldAt, IsCarried}
+use Rattle.worker_store.specs.laws.Carried.{HeldAtStands}
+use Rattle.worker_store.specs.laws.Carried.{MarkedIsHeld, BlankIsUnopened, StaysCarried}
+use Rattle.worker_store.specs.laws.Carried.{StandsHeldAt, PromisesNoMore, LessIsHeld}
+use Rattle.worker_store.specs.laws.Carried.{NextIsHeld, FreshIsHeld, CheckpointIsHeld}
+use Rattle.worker_store.specs.laws.Carried.{OpeningIsHeld, PointIsAt, PointOpens, CarriedKeeps}
+use Rattle.worker_store.specs.laws.Carried.{BarrierCarries, BarrierCarriesOn, CommitCarries}
+use Rattle.worker_store.specs.laws.Carried.{StandingCarries, CreationCarries, BeginsCarried}
+use Rattle.worker_store.proofs.LawLemmas.Points.{by_point, steps_of}
+use Rattle.worker_store.proofs.LawLemmas.Fronts.{front_kept, length_of_map}
+use Rattle.worker_store.proofs.LawLemmas.Passing.{left_in_the_end}
+use Rattle.worker_store.proofs.LawLemmas.Keeping.{stays_journaled}
+
+-- ---- counts
+
+pub within_of : {X : Type 0} (n : ℕ) (xs ys : List X) → take n xs ≡ ys → length ys ≡ n
+    → n ≤ length xs
+within_of n xs ys e long =
+    let cut : length (take n xs) ≡ length ys = ap (λ l. length l) e in
+    omega (arith, length-take n xs, cut, long)
+
+pub answers_count : {m : Module} {config : Settings} (point : Savepoint m config)
+    (records : List Record) → length (answers_at point records) ≡ count_at point records
+answers_count point records =
+    length-append point.front (map given_in records)
+    ∙ ap (λ n. length point.front + n) (length_of_map records)
+
+more_lines : (g h : Host) → Emits g h → length g.lines ≤ length h.lines
+more_lines g h emits =
+    let long : length h.lines ≡ length g.lines + length emits.lines =
+    ap (λ l. length l) emits.are ∙ length-append g.lines emits.lines in
+    omega (arith, long)
+
+-- ---- what is held
+
+pub holds_grow : (m : Module) (config : Settings) (kept : List Kept) (promise : Promise)
+    (held more steps later : ℕ) → HoldsAll m config kept promise held steps → held ≤ more
+    → more ≤ length kept → steps ≤ later → HoldsAll m config kept promise more later
+holds_grow m config kept promise held more steps later holds le within on =
+    let answers : promise.answers ≤ held = holds.answers in
+    let counted : promise.steps ≤ steps = holds.steps_held in
+    record {
+      within = within;
+      answers = omega (arith, answers, le);
+      steps_held = omega (arith, counted, on);
+      lines = λ i below.
+          let line = holds.lines i below in
+          let few : line.0 ≤ held = line.1 in (line.0, omega (arith, few, le), line.2);
+      syncs = λ k a below behind.
+          let few : a ≤ held = holds.syncs k a below behind in
+          omega (arith, few, le);
+    }
+
+holds_less : (m : Module) (config : Settings) (kept : List Kept) (less more : Promise)
+    (held steps : ℕ) → PromisesNoMore less more → HoldsAll m config kept more held steps
+    → HoldsAll m config kept less held steps
+holds_less m config kept less more held steps no_more holds =
+    let answers : more.answers ≤ held = holds.answers in
+    let few_answers : less.answers ≤ more.answers = no_more.answers in
+    let counted : more.steps ≤ steps = holds.steps_held in
+    let few_steps : less.steps ≤ more.steps = no_more.steps in
+    record {
+      within = holds.within;
+      answers = omega (arith, answers, few_answers);
+      steps_held = omega (arith, counted, few_steps);
+      lines = λ i below. holds.lines i (not_above i less.begun more.begun below no_more.begun);
+      syncs = λ k a below behind.
+          holds.syncs k a (not_above k less.synced more.synced below no_more.synced) behind;
+    }
+  where
+    not_above : (i less more : ℕ) → i ≤ less → less ≤ more → i ≤ more
+    not_above i less more below le = omega (arith, below, le)
+
+pub less_is_held : LessIsHeld
+less_is_held m config less more now disk no_more holds =
+    let few : less.passed ≤ more.passed = no_more.passed in
+    record {
+      held = holds.held;
+      steps = holds.steps;
+      stands = holds.stands;
+      holds = holds_less m config now.kept less more holds.held holds.steps no_more holds.holds;
+      snapshot_heard = holds.snapshot_heard;
+      snapshot_passed = below _ _ _ few holds.snapshot_passed;
+    }
+  where
+    below : (a b c : ℕ) → a ≤ b → b ≤ c → a ≤ c
+    below a b c x y = omega (arith, x, y)
+
+-- ---- an image
+
+pub held_at_stands : HeldAtStands
+held_at_stands m config promise point records last disk held at =
+    let by : StandsBySaved point (take (count_at point records) promise.kept) last.steps disk =
+    by_point m config point records last disk (take (count_at point records) promise.kept)
+    last.steps at held.front refl in
+    record {
+      held = count_at point records;
+      steps = last.steps;
+      stands = by.stands;
+      holds = held.holds;
+      snapshot_heard = subst (λ s. s.lines ≤ promise.heard) (sym by.saved) held.heard;
+      snapshot_passed = subst (λ s. promise.passed ≤ s.lines) (sym by.saved) held.passed;
+    }
+
+pub stands_held_at : StandsHeldAt
+stands_held_at m config promise disk holds =
+    let stands = holds.stands in
+    let all = holds.holds in
+    let point : Savepoint m config = point_of stands in
+    let count : count_at point stands.records ≡ holds.held =
+    sym (answers_count point stands.records) ∙ ap (λ l. length l) (sym stands.rest)
+    ∙ length-take-le holds.held promise.kept all.within in
+    let there : HoldsAll m config promise.kept promise holds.held stands.last.steps =
+    subst (λ n. HoldsAll m config promise.kept promise holds.held n) stands.at_step all in
+    record {
+      front = subst (λ n. take n promise.kept ≡ answers_at point stands.records) (sym count)
+          stands.rest;
+      recorded = stands.recorded;
+      holds = subst (λ n. HoldsAll m config promise.kept promise n stands.last.steps) (sym count)
+          there;
+      heard = holds.snapshot_heard;
+      passed = holds.snapshot_passed;
+    }
+
+-- ---- fronts of the records
+
+-- with so many of the pending ones
+module _ (m : Module) (config : Settings) (promise : Promise) (point : Savepoint m config)
+    (records pending : List Record) (last : ProcessState)
+    (held : IsHeldAt promise point records last)
+    (answers : take (count_at point (records ++ pending)) promise.kept
+    ≡ answers_at point (records ++ pending)) where
+  all_count : ℕ
+  all_count = count_at point (records ++ pending)
+
+  all_within : count_at point (records ++ pending) ≤ length promise.kept
+  all_within = within_of (count_at point (records ++ pending)) promise.kept
+      (answers_at point (records ++ pending)) answers (answers_count point (records ++ pending))
+
+  pub front_is_held : (disk : Image) → StandsAtFront point records last pending disk
+      → HoldsPromise m config promise promise disk
+  front_is_held disk at =
+      let some : List Record = take at.count pending in
+      let now : List Record = records ++ some in
+      let within : at.count ≤ length pending = at.within in
+      let few : length some ≡ at.count = length-take-le at.count pending within in
+      let counted : length now ≡ length records + at.count =
+      length-append records some ∙ ap (λ n. length records + n) few in
+      let count : count_at point now ≡ length point.front + length records + at.count =
+      omega (arith, counted) in
+      let all : length (records ++ pending) ≡ length records + length pending =
+      length-append records pending in
+      let bound : count_at point (records ++ pending) ≤ length promise.kept = all_within in
+      let front : take (count_at point now) promise.kept ≡ answers_at point now =
+      sym (take-take (count_at point now) (count_at point (records ++ pending)) promise.kept
+      (omega (arith, count, all, within)))
+      ∙ ap (λ l. take (count_at point now) l) answers
+      ∙ ap (λ n. take n (answers_at point (records ++ pending))) count
+      ∙ front_kept point.front records pending at.count in
+      held_at_stands m config promise point now at.process disk (record {
+        front = front;
+        recorded = recorded_join point.reached.guest point.process last at.process records some
+            held.recorded at.recorded;
+        holds = holds_grow m config promise.kept promise (count_at point records)
+            (count_at point now) last.steps at.process.steps held.holds (omega (arith, count))
+            (omega (arith, count, all, within, bound))
+            (recorded_count point.reached.guest last at.process some at.recorded);
+        heard = held.heard;
+        passed = held.passed;
+      }) at.at
+
+-- ---- what a recovery finds
+
+pub marked_is_held : MarkedIsHeld
+marked_is_held m config promise disk found marks =
+    ⊎_elim
+    (λ (unopened : IsUnopened promise disk). absurd (unopened.1 marks))
+    (λ (holds : HoldsPromise m config promise promise disk). holds)
+    found
+
+pub blank_is_unopened : BlankIsUnopened
+blank_is_unopened m config promise disk found blank =
+    ⊎_elim
+    (λ (unopened : IsUnopened promise disk). unopened.0)
+    (λ (holds : HoldsPromise m config promise promise disk).
+    absurd (blank_stands_for_none disk m config (take holds.held promise.kept) holds.steps blank
+    holds.stands))
+    found
+
+-- ---- savepoints
+
+pub next_is_held : NextIsHeld
+next_is_held m config promise point next records last held saves =
+    let guest = point.reached.guest in
+    let all = held.holds in
+    let bound : count_at point records ≤ length promise.kept = all.within in
+    let long : length next.front ≡ count_at point records =
+    ap (λ l. length l) saves.front ∙ answers_count point records in
+    let same : count_at point records ≡ count_at next [] = omega (arith, long) in
+    let run : next.process.steps ≡ last.steps + saves.steps =
+    runs_count guest last next.process [] saves.steps saves.runs in
+    let told : point.saved.lines ≡ length point.process.host.lines = point.shown.lines in
+    let tells : next.saved.lines ≡ length next.process.host.lines = next.shown.lines in
+    let first : length point.process.host.lines ≤ length last.host.lines =
+    more_lines point.process.host last.host
+    (recorded_emit guest point.process last records held.recorded) in
+    let later : length last.host.lines ≤ length next.process.host.lines =
+    more_lines last.host next.process.host
+    (runs_emit guest last next.process [] saves.steps saves.runs) in
+    let few : promise.passed ≤ point.saved.lines = held.passed in
+    record {
+      front = subst (λ n. take n promise.kept ≡ next.front ++ []) same
+          (held.front ∙ sym saves.front ∙ sym (append-nil next.front));
+      recorded = none;
+      holds = holds_grow m config promise.kept promise (count_at point records)
+          (count_at next []) last.steps next.process.steps all (omega (arith, same))
+          (omega (arith, same, bound)) (omega (arith, run));
+      heard = saves.heard;
+      passed = omega (arith, few, told, tells, first, later);
+    }
+
+pub fresh_is_held : FreshIsHeld
+fresh_is_held m config promise point nothing empty no_lines =
+    let none_kept : promise.kept ≡ [] = ap (λ (p : Promise). p.kept) nothing in
+    let no_answers : promise.answers ≡ 0 = ap (λ (p : Promise). p.answers) nothing in
+    let no_steps : promise.steps ≡ 0 = ap (λ (p : Promise). p.steps) nothing in
+    let none_passed : promise.passed ≡ 0 = ap (λ (p : Promise). p.passed) nothing in
+    let none_begun : promise.begun ≡ 0 = ap (λ (p : Promise). p.begun) nothing in
+    let kept_length : length promise.kept ≡ 0 = ap (λ l. length l) none_kept in
+    let front_length : length point.front ≡ 0 = ap (λ l. length l) empty in
+    record {
+      front = both_empty point.front promise.kept empty none_kept;
+      recorded = none;
+      holds = record {
+        within = omega (arith, front_length);
+        answers = omega (arith, no_answers);
+        steps_held = omega (arith, no_steps);
+        lines = λ i below. (0, omega arith, at_first i (none_of i promise.begun below none_begun));
+        syncs = λ k a below behind. few a (length promise.kept) behind.within kept_length;
+      };
+      heard = at_zero point.saved.lines promise.heard no_lines;
+      passed = at_zero promise.passed point.saved.lines none_passed;
+    }
+  where
+    both_empty : (front kept : List Kept) → front ≡ [] → kept ≡ []
+        → take (length front + 0) kept ≡ front ++ []
+    both_empty front kept e k = rw e refl
+
+    at_zero : (n k : ℕ) → n ≡ 0 → n ≤ k
+    at_zero n k e = omega (arith, e)
+
+    none_of : (i n : ℕ) → i ≤ n → n ≡ 0 → i ≡ 0
+    none_of i n below e = omega (arith, below, e)
+
+    few : {x : ℕ} (a n : ℕ) → a ≤ n → n ≡ 0 → a ≤ x
+    few a n below e = omega (arith, below, e)
+
+    at_first : (i : ℕ) → i ≡ 0 → AnswersBehindLine m config promise.kept i 0
+    at_first i e = record {
+      within = omega arith;
+      steps = point.steps;
+      process = point.process;
+      reached = subst (λ l. Reaches m config l point.steps point.process) empty point.reached;
+      emitted = at_zero i (length point.process.host.lines) e;
+    }
+
+pub checkpoint_is_held : CheckpointIsHeld
+checkpoint_is_held m config promise point held all =
+    let holds = held.holds in
+    let long : length point.front ≡ length promise.kept = ap (λ l. length l) all in
+    let answers : promise.answers ≤ length point.front + 0 = holds.answers in
+    let counted : promise.steps ≤ point.process.steps = holds.steps_held in
+    let same : point.saved.steps ≡ point.process.steps = point.shown.steps in
+    let passed : promise.passed ≤ point.saved.lines = held.passed in
+    record {
+      front = held.front;
+      recorded = held.recorded;
+      holds = record {
+        within = holds.within;
+        answers = omega (arith, answers);
+        steps_held = omega (arith, counted, same);
+        lines = holds.lines;
+        syncs = λ k a below behind. few a (length promise.kept) (length point.front)
+            behind.within long;
+      };
+      heard = held.heard;
+      passed = omega (arith, passed);
+    }
+  where
+    few : (a n k : ℕ) → a ≤ n → k ≡ n → a ≤ k + 0
+    few a n k below e = omega (arith, below, e)
+
+pub opening_is_held : OpeningIsHeld
+opening_is_held m config promise point held =
+    let holds = held.holds in
+    let n : ℕ = length point.front in
+    let kept : List Kept = take n promise.kept in
+    let bound : n + 0 ≤ length promise.kept = holds.within in
+    let within : n ≤ length promise.kept = omega (arith, bound) in
+    let long : length kept ≡ n = length-take-le n promise.kept within in
+    let answers : promise.answers ≤ n + 0 = holds.answers in
+    let counted : promise.steps ≤ point.process.steps = holds.steps_held in
+    let same : point.saved.steps ≡ point.process.steps = point.shown.steps in
+    let passed : promise.passed ≤ point.saved.lines = held.passed in
+    record {
+      front = take-take (n + 0) n promise.kept (omega arith) ∙ held.front;
+      recorded = held.recorded;
+      holds = record {
+        within = omega (arith, long);
+        answers = omega (arith, answers);
+        steps_held = omega (arith, counted, same);
+        lines = λ i below.
+            let line = holds.lines i below in
+            (line.0, line.1, shorter i line.0 (at_most line.0 n line.1) long line.2);
+        syncs = λ k a below behind. few a (length kept) n behind.within long;
+      };
+      heard = held.heard;
+      passed = omega (arith, passed);
+    }
+  where
+    few : (a n k : ℕ) → a ≤ n → n ≡ k → a ≤ k + 0
+    few a n k below e = omega (arith, below, e)
+
+    at_most : (a n : ℕ) → a ≤ n + 0 → a ≤ n
+    at_most a n below = omega (arith, below)
+
+    enough : (a n k : ℕ) → a ≤ n → k ≡ n → a ≤ k
+    enough a n k below e = omega (arith, below, e)
+
+    shorter : (i a : ℕ) → a ≤ length point.front
+        → length (take (length point.front) promise.kept) ≡ length point.front
+        → AnswersBehindLine m config promise.kept i a
+        → AnswersBehindLine m config (take (length point.front) promise.kept) i a
+    shorter i a few long behind = record {
+      within = enough a (length point.front) (length (take (length point.front) promise.kept)) few
+          long;
+      steps = behind.steps;
+      process = behind.process;
+      reached = subst (λ l. Reaches m config l behind.steps behind.process)
+          (sym (take-take a (length point.front) promise.kept few)) behind.reached;
+      emitted = behind.emitted;
+    }
+
+-- ---- a process
+
+pub point_is_at : PointIsAt
+point_is_at m config point =
+    let reached = point.reached in
+    let counted : point.steps ≡ point.saved.steps =
+    sym (steps_of m config point) ∙ sym point.shown.steps in
+    record {
+      process = point.process;
+      reached = record {
+        guest = reached.guest;
+        start = reached.start;
+        begins = reached.begins;
+        runs = subst (λ n. Runs reached.guest reached.start point.front n point.process) counted
+            reached.runs;
+      };
+      functions = point.functions;
+      function_types = point.function_types;
+      table = point.table;
+      shown = point.shown;
+    }
+
+pub point_opens : PointOpens
+point_opens m config promise point stage held shut last =
+    let reached = point.reached in
+    let all = held.holds in
+    let n : ℕ = length point.front in
+    let bound : n + 0 ≤ length promise.kept = all.within in
+    let none_more : n + 0 ≡ n = omega arith in
+    let front : point.front ≡ take n promise.kept =
+    sym (append-nil point.front) ∙ sym held.front ∙ ap (λ k. take k promise.kept) none_more in
+    let counted : point.steps ≡ point.saved.steps =
+    sym (steps_of m config point) ∙ sym point.shown.steps in
+    let same : point.saved.steps ≡ point.process.steps = point.shown.steps in
+    record {
+      shut = shut;
+      at = record {
+        process = point.process;
+        reached = record {
+          guest = reached.guest;
+          start = reached.start;
+          begins = reached.begins;
+          runs = subst (λ l. Runs reached.guest reached.start l point.saved.steps point.process)
+              front
+              (subst (λ k. Runs reached.guest reached.start point.front k point.process) counted
+              reached.runs);
+        };
+        functions = point.functions;
+        function_types = point.function_types;
+        table = point.table;
+        shown = point.shown;
+      };
+      holds = holds_grow m config promise.kept promise (n + 0) n point.process.steps
+          point.saved.steps all (omega arith) (omega (arith, bound)) (omega (arith, same));
+      all_heard = held.heard;
+      none_beyond = last;
+    }
+
+-- ---- a disk
+
+-- all records on it and in memory hold what is promised
+pub all_is_held : (m : Module) (config : Settings) (promise : Promise)
+    (point : Savepoint m config) (journal : JournalState) (records pending : List Record)
+    (last now : ProcessState) (disk : Medium)
+    → IsCarried promise point journal records pending last now disk
+    → IsHeldAt promise point (records ++ pending) now
+all_is_held m config promise point journal records pending last now disk is =
+    let guest = point.reached.guest in
+    let journaled = is.journaled in
+    let held = is.held in
+    let all : List Record = records ++ pending in
+    let long : length all ≡ length records + length pending = length-append records pending in
+    record {
+      front = is.answers;
+      recorded = recorded_join guest point.process last now records pending held.recorded
+          journaled.recorded;
+      holds = holds_grow m config promise.kept promise (count_at point records)
+          (count_at point all) last.steps now.steps held.holds (omega (arith, long))
+          (all_within m config promise point records pending last held is.answers)
+          (recorded_count guest last now pending journaled.recorded);
+      heard = held.heard;
+      passed = held.passed;
+    }
+
+-- where each image that is left holds it, a call carries it
+pub carries : (m : Module) (config : Settings) (less promise : Promise) (old new : Medium)
+    (P : Image → Type 0) → PromisesNoMore less promise
+    → ((disk : Image) → P disk → HoldsPromise m config promise promise disk)
+    → LeavesOnly old new P → CarriesPromise m config less promise old new
+carries m config less promise old new P no_more holds leaves = record {
+  at_any_moment = leaves_weaker old new P (ImageHolds m config less promise) leaves
+      (λ image at.
+      inr (less_is_held m config less promise promise image no_more (holds image at)));
+  in_the_end = λ image left. inr (holds image (left_in_the_end old new P leaves image left));
+}
+
+module _ {D : Type 0} (medium : D → Medium) where
+  pub carried_keeps : CarriedKeeps medium
+  carried_keeps m config promise point journal records pending last now disk is image left =
+      let journaled = is.journaled in
+      inr (held_at_stands m config promise point records last image is.held
+      (journaled.stands image left))
+
+  pub stays_carried : StaysCarried medium
+  stays_carried m config promise point journal records pending last now old new is stays = record {
+    journaled = stays_journaled medium m config point journal records pending last now old new
+        is.journaled stays;
+    held = is.held;
+    answers = is.answers;
+  }
+
+  pub barrier_carries : BarrierCarries medium
+  barrier_carries m config less promise point journal records pending last now old new no_more is
+      leaves =
+      carries m config less promise (medium old) (medium new) _ no_more
+      (λ disk at. front_is_held m config promise point records pending last is.held is.answers disk
+      at) leaves
+
+  pub barrier_carries_on : BarrierCarriesOn medium
+  barrier_carries_on m config promise point before later records pending last now old new is goes =
+      record {
+        journaled = goes;
+        held = all_is_held m config promise point before records pending last now (medium old) is;
+        answers = subst (λ (l : List Record). take (count_at point l) promise.kept
+            ≡ answers_at point l) (sym (append-nil (records ++ pending))) is.answers;
+      }
+
+  pub commit_carries : CommitCarries medium
+  commit_carries m config less promise point next records last old new no_more held saves leaves =
+      let there = next_is_held m config promise point next records last held saves in
+      carries m config less promise (medium old) (medium new) _ no_more
+      (λ disk at. ⊎_elim
+      (λ (stands : StandsAtPoint point records last disk).
+      held_at_stands m config promise point records last disk held stands)
+      (λ (begins : BeginsAtPoint next disk).
+      held_at_stands m config promise next [] next.process disk there begins.at) at) leaves
+
+  pub standing_carries : StandingCarries medium
+  standing_carries m config less promise point records last old new no_more held leaves =
+      carries m config less promise (medium old) (medium new) _ no_more
+      (λ disk stands. held_at_stands m config promise point records last disk held stands) leaves
+
+  pub creation_carries : CreationCarries medium
+  creation_carries m config promise point old new nothing empty no_lines leaves =
+      let held = fresh_is_held m config promise point nothing empty no_lines in
+      let P : Image → Type 0 = λ disk. IsBlank disk ⊎ BeginsAtPoint point disk in
+      let holds : (disk : Image) → P disk → ImageHolds m config promise promise disk =
+      λ disk at. ⊎_elim
+      (λ (blank : IsBlank disk). inl (nothing, blank))
+      (λ (begins : BeginsAtPoint point disk).
+      inr (held_at_stands m config promise point [] point.process disk held begins.at)) at in
+      record {
+        at_any_moment = leaves_weaker (medium old) (medium new) P
+            (ImageHolds m config promise promise) leaves holds;
+        in_the_end = λ image left.
+            holds image (left_in_the_end (medium old) (medium new) P leaves image left);
+      }
+
+  pub begins_carried : BeginsCarried medium
+  begins_carried m config promise point journal disk held goes = record {
+    journaled = goes;
+    held = held;
+    answers = held.front;
+  }

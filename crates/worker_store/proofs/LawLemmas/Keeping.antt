@@ -1,0 +1,127 @@
+-- What calls of a journal leave of a disk that stands for a worker.
+use Rattle.std.proofs.Common.{◌≡◌, ◌^◌, ◌<◌, List, [], ◌∷◌, ◌++◌, refl, sym, ap, ◌∙◌}
+use Rattle.std.proofs.Common.{subst}
+use Rattle.std.proofs.lemmas.List.{append-nil}
+use Rattle.std.proofs.lemmas.Grind.{flat_map-append}
+use Rattle.sector_disk.specs.rules.Medium.{Medium}
+use Rattle.disk_layout.specs.rules.Places.{Geometry}
+use Rattle.disk_layout.specs.rules.Journal.{Record, record_bytes}
+use Rattle.journal.specs.rules.State.{JournalState}
+use Rattle.journal.specs.rules.Steps.{AppendsFront, RecordsStand, RecordFits, records_bytes, IsOn}
+use Rattle.record_replay.specs.rules.Records.{none}
+use Rattle.worker_store.specs.laws.Savepoints.{places}
+use Rattle.worker_store.specs.laws.Journaled.{BarrierAtAnyMoment, BarrierInTheEnd}
+use Rattle.worker_store.specs.laws.Journaled.{AppendGoesOn, StaysJournaled, BeginsJournaled}
+use Rattle.worker_store.proofs.LawLemmas.Fronts.{recorded_once, both_fit, barrier_leaves_front}
+use Rattle.worker_store.proofs.LawLemmas.Fronts.{barrier_leaves_all}
+use Rattle.worker_store.proofs.LawLemmas.Replacing.{no_records}
+use Rattle.worker_store.proofs.LawLemmas.Passing.{step_at_any_moment, left_in_the_end}
+
+-- ---- the bytes in memory
+
+one_more : (pending : List Record) (r : Record)
+    → records_bytes pending ++ record_bytes r ≡ records_bytes (pending ++ r ∷ [])
+one_more pending r = ap (λ l. records_bytes pending ++ l) (sym (append-nil (record_bytes r)))
+    ∙ sym (flat_map-append record_bytes pending (r ∷ []))
+
+appended_on : (geometry : Geometry) (journal : JournalState) (records pending : List Record)
+    (r : Record) (disk : Medium)
+    → IsOn geometry journal.generation journal.used journal.kept records pending disk.may_leave
+    → RecordFits r
+    → IsOn geometry journal.generation journal.used (journal.kept ++ record_bytes r) records
+    (pending ++ r ∷ []) disk.may_leave
+appended_on geometry journal records pending r disk on fits = record {
+  stands = on.stands;
+  spells = ap (λ l. l ++ record_bytes r) on.spells ∙ one_more pending r;
+  fit = on.fit;
+  fit_kept = both_fit pending (r ∷ []) on.fit_kept (fits, tt);
+  generation = on.generation;
+}
+
+module _ {D : Type 0} (medium : D → Medium) where
+  pub barrier_at_any_moment : BarrierAtAnyMoment medium
+  barrier_at_any_moment m config point journal records pending last now old new is leaves =
+      step_at_any_moment (medium old) (medium new) _ _ _ is.stands
+      (λ a b at appends.
+      barrier_leaves_front m config point records pending last now journal.used a b at
+      is.recorded is.numbers
+      (subst (λ g. AppendsFront (places point) g journal.used records pending a b)
+      is.generation appends)) leaves
+
+  pub barrier_in_the_end : BarrierInTheEnd medium
+  barrier_in_the_end m config point before after records pending last now used old new is leaves
+      e stand =
+      let same : after.generation ≡ before.generation =
+      ap (λ (j : JournalState). j.generation) e in
+      let on = is.on in
+      record {
+        generation = same ∙ is.generation;
+        stands = λ image left.
+            let step = left_in_the_end (medium old) (medium new) _ leaves image left in
+            barrier_leaves_all m config point records pending last now before.used after.used
+            step.0 image (is.stands step.0 step.1) is.recorded is.numbers
+            (subst (λ g. AppendsFront (places point) g before.used records pending step.0 image)
+            is.generation step.2)
+            on.fit on.fit_kept
+            (subst (λ g. RecordsStand (places point) g after.used (records ++ pending) image)
+            (same ∙ is.generation) (stand image left));
+        on = record {
+          stands = stand;
+          spells = ap (λ (j : JournalState). j.kept) e;
+          fit = both_fit records pending on.fit on.fit_kept;
+          fit_kept = tt;
+          generation = subst (λ g. g < 2 ^ 64) (sym same) on.generation;
+        };
+        recorded = none;
+        numbers = is.numbers;
+      }
+
+  pub append_goes_on : AppendGoesOn medium
+  append_goes_on m config point before after records pending last now asks next a n disk is runs
+      moves fits numbers e =
+      let r : Record = record { step = next.steps; answer = a } in
+      let grown = appended_on (places point) before records pending r (medium disk) is.on fits in
+      record {
+        generation = ap (λ (j : JournalState). j.generation) e ∙ is.generation;
+        stands = is.stands;
+        on = subst (λ (j : JournalState).
+            IsOn (places point) j.generation j.used j.kept records (pending ++ r ∷ [])
+            (medium disk).may_leave) (sym e) grown;
+        recorded = recorded_once point.reached.guest last now asks next pending a n is.recorded
+            runs moves;
+        numbers = numbers;
+      }
+
+  pub stays_journaled : StaysJournaled medium
+  stays_journaled m config point journal records pending last now old new is stays =
+      let on = is.on in
+      record {
+        generation = is.generation;
+        stands = λ image left. is.stands image (stays image left);
+        on = record {
+          stands = λ image left. on.stands image (stays image left);
+          spells = on.spells;
+          fit = on.fit;
+          fit_kept = on.fit_kept;
+          generation = on.generation;
+        };
+        recorded = is.recorded;
+        numbers = is.numbers;
+      }
+
+  pub begins_journaled : BeginsJournaled medium
+  begins_journaled m config point disk begins below numbers = record {
+    generation = refl;
+    stands = λ image left. (let begun = begins image left in begun.at);
+    on = record {
+      stands = λ image left.
+          let begun = begins image left in
+          no_records (places point) point.generation image begun.earlier;
+      spells = refl;
+      fit = tt;
+      fit_kept = tt;
+      generation = below;
+    };
+    recorded = none;
+    numbers = numbers;
+  }

@@ -1,0 +1,169 @@
+-- What an image stands by, and what it stands for by that.
+use Rattle.std.proofs.Common.{◌≡◌, ℕ, zero, suc, ◌+◌, List, [], ◌∷◌, ◌++◌, refl, sym, ap, ◌∙◌}
+use Rattle.std.proofs.Common.{subst, arith}
+use Rattle.std.specs.Prelude.{map, take, length}
+use Rattle.std.proofs.lemmas.List.{append-nil}
+use Rattle.wasm_syntax.specs.declared.module.Module.{Module}
+use Rattle.wasm_syntax_rules.specs.Configuration.{Thread}
+use Rattle.wasi_abi.specs.rules.Configs.{Settings}
+use Rattle.wasi_calls_rules.specs.declared.limits.TheConstants.{TEXT_BYTES}
+use Rattle.process_rules.specs.Processes.{ProcessState, Guest, IsStart, closed_at}
+use Rattle.process_rules.specs.Runs.{Kept}
+use Rattle.process_rules.proofs.Growing.{runs_count}
+use Rattle.state_image.specs.rules.Image.{image}
+use Rattle.sector_disk.specs.rules.Image.{Image}
+use Rattle.disk_layout.specs.rules.Places.{Geometry, geometry_of}
+use Rattle.disk_layout.specs.rules.Sectors.{HasWorker, HoldsImage}
+use Rattle.disk_layout.specs.rules.Journal.{Record, scan}
+use Rattle.disk_layout.specs.declared.head.TheConstants.{IMAGE_VERSION}
+use Rattle.record_replay.specs.rules.Records.{Recorded, none, more, given_in}
+use Rattle.worker_rules.specs.Stands.{ShowsNoneLater}
+use Rattle.worker_store.specs.laws.Savepoints.{Savepoint, StandsAtPoint, StandsBySaved}
+use Rattle.worker_store.specs.laws.Savepoints.{StandsAtItsPoint, PointStands, ReadAlikeStands}
+use Rattle.worker_store.specs.laws.Savepoints.{PointStandsAlone}
+
+-- ---- records, one after another
+
+pub recorded_join : (guest : Guest) (p q r : ProcessState) (front rest : List Record)
+    → Recorded guest p front q → Recorded guest q rest r → Recorded guest p (front ++ rest) r
+recorded_join guest p q r front rest (none {p = p'}) b = b
+recorded_join guest p q r front rest (more {p = p'} {q = before} {r = after} {s = last} {a = a}
+    {n = n} {records = records} first moves recorded) b =
+    more first moves (recorded_join guest after last r records rest recorded b)
+
+-- so many of the first of them lead to a process from which others lead on
+pub record HasFront (guest : Guest) (p q : ProcessState) (records : List Record) (count : ℕ)
+    : Type 0 where
+  pub process : ProcessState
+  pub recorded : Recorded guest p (take count records) process
+  pub others : List Record
+  pub on : Recorded guest process others q
+
+pub recorded_front : (guest : Guest) (p q : ProcessState) (records : List Record) (count : ℕ)
+    → Recorded guest p records q → HasFront guest p q records count
+recorded_front guest p q records count (none {p = p'}) =
+    record {
+      process = p';
+      recorded = subst (λ l. Recorded guest p' l p') (no_front count) none;
+      others = [];
+      on = none;
+    }
+  where
+    no_front : (count : ℕ) → (let l : List Record = [] in l) ≡ take count []
+    no_front zero = refl
+    no_front (suc count) = refl
+recorded_front guest p q records zero (more {p = p'} first moves recorded) = record {
+  process = p';
+  recorded = none;
+  others = _;
+  on = more first moves recorded;
+}
+recorded_front guest p q records (suc count) (more {p = p'} {q = before} {r = after} {s = last}
+    {a = a} {n = n} {records = rest} first moves recorded) =
+    let on = recorded_front guest after last rest count recorded in
+    record {
+      process = on.process;
+      recorded = more first moves on.recorded;
+      others = on.others;
+      on = on.on;
+    }
+
+-- ---- steps
+
+closed_counts : (thread : Thread) (later : List ℕ) (p : ProcessState)
+    → (closed_at thread later p).steps ≡ p.steps
+closed_counts [] [] p = refl
+closed_counts [] (f ∷ later) p = refl
+closed_counts (frame ∷ frames) [] p = refl
+closed_counts (frame ∷ frames) (f ∷ later) p = refl
+
+pub start_counts : (m : Module) (config : Settings) (guest : Guest) (p : ProcessState)
+    → IsStart m config guest p → p.steps ≡ 0
+start_counts m config guest p start = ap (λ (z : ProcessState). z.steps) start.is
+    ∙ closed_counts start.first.thread start.first.later _
+
+pub steps_of : (m : Module) (config : Settings) (point : Savepoint m config)
+    → point.process.steps ≡ point.steps
+steps_of m config point =
+    let reached = point.reached in
+    let counted : point.process.steps ≡ reached.start.steps + point.steps =
+    runs_count reached.guest reached.start point.process point.front point.steps reached.runs in
+    let from_none = start_counts m config reached.guest reached.start reached.begins in
+    omega (arith, counted, from_none)
+
+-- ---- what an image stands for
+
+pub stands_at_its_point : StandsAtItsPoint
+stands_at_its_point disk m config kept n stands = record {
+  worker = stands.worker;
+  holds = stands.holds;
+  scanned = stands.scanned;
+  recorded = stands.recorded;
+  numbers = stands.numbers;
+  none_later = stands.none_later;
+}
+
+pub by_point : (m : Module) (config : Settings) (point : Savepoint m config)
+    (records : List Record) (last : ProcessState) (disk : Image) (kept : List Kept) (n : ℕ)
+    → StandsAtPoint point records last disk → kept ≡ point.front ++ map given_in records
+    → n ≡ last.steps → StandsBySaved point kept n disk
+by_point m config point records last disk kept n at rest step = record {
+  stands = record {
+    wasm = point.wasm;
+    accepted = point.accepted;
+    settings = point.settings;
+    worker = at.worker;
+    generation = point.generation;
+    saved = point.saved;
+    holds = at.holds;
+    front = point.front;
+    steps = point.steps;
+    process = point.process;
+    reached = point.reached;
+    functions = point.functions;
+    function_types = point.function_types;
+    table = point.table;
+    shown = point.shown;
+    records = records;
+    scanned = at.scanned;
+    rest = rest;
+    last = last;
+    recorded = at.recorded;
+    numbers = at.numbers;
+    at_step = step;
+    none_later = at.none_later;
+  };
+  saved = refl;
+  generation = refl;
+  wasm = refl;
+}
+
+pub point_stands : PointStands
+point_stands m config point records last disk kept at rest =
+    by_point m config point records last disk kept last.steps at rest refl
+
+pub point_stands_alone : PointStandsAlone
+point_stands_alone m config point disk at =
+    by_point m config point [] point.process disk point.front point.steps at
+    (sym (append-nil point.front)) (sym (steps_of m config point))
+
+pub read_alike_stands : ReadAlikeStands
+read_alike_stands m config point other records last q disk found at there wasm generation bytes =
+    let place : List ℕ → Geometry = λ w. geometry_of config (length w) in
+    let holds : HoldsImage (place point.wasm) found point.generation IMAGE_VERSION
+    (image point.saved) =
+    subst (λ l. HoldsImage (place point.wasm) found point.generation IMAGE_VERSION l) bytes
+    (subst (λ g. HoldsImage (place point.wasm) found g IMAGE_VERSION (image other.saved)) generation
+    (subst (λ w. HoldsImage (place w) found other.generation IMAGE_VERSION (image other.saved)) wasm
+    there.holds)) in
+    record {
+      worker = subst (λ w. HasWorker config w found) wasm there.worker;
+      holds = holds;
+      scanned = subst (λ g. scan (place point.wasm) TEXT_BYTES found g ≡ records) generation
+          (subst (λ w. scan (place w) TEXT_BYTES found other.generation ≡ records) wasm
+          there.scanned);
+      recorded = at.recorded;
+      numbers = at.numbers;
+      none_later = subst (λ g. ShowsNoneLater (place point.wasm) found g) generation
+          (subst (λ w. ShowsNoneLater (place w) found other.generation) wasm there.none_later);
+    }

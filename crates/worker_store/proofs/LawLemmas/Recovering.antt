@@ -1,0 +1,211 @@
+-- A worker that is recovered, and opens.
+use Rattle.std.proofs.Common.{◌≡◌, ◌⊎◌, ℕ, ◌+◌, ◌<◌, ◌≤◌, max, List, [], ◌++◌, length, take, refl}
+use Rattle.std.proofs.Common.{sym}
+use Rattle.std.proofs.Common.{ap, ◌∙◌, subst, inr, ⊎_elim, arith}
+use Rattle.std.specs.Prelude.{map}
+use Rattle.std.proofs.lemmas.Bool.{cases_lt}
+use Rattle.std.proofs.lemmas.List.{append-nil, length-take-le, take-take}
+use Rattle.wasm_syntax.specs.declared.module.Module.{Module}
+use Rattle.wasi_abi.specs.rules.Configs.{Settings}
+use Rattle.process_rules.specs.Processes.{ProcessState, Guest}
+use Rattle.process_rules.specs.Runs.{Kept, Runs, Reaches}
+use Rattle.process_rules.specs.Behind.{AnswersBehindLine}
+use Rattle.process_rules.proofs.Quiet.{runs_join}
+use Rattle.state_image.specs.rules.Image.{Saved}
+use Rattle.sector_disk.specs.rules.Image.{Image}
+use Rattle.sector_disk.specs.rules.Medium.{Medium}
+use Rattle.sector_disk.proofs.Moments.{leaves_weaker}
+use Rattle.disk_layout.specs.rules.Journal.{Record}
+use Rattle.record_replay.specs.rules.Records.{Recorded, given_in}
+use Rattle.record_replay.proofs.Recordings.{recorded_runs}
+use Rattle.worker_rules.specs.Lives.{Opened}
+use Rattle.worker_rules.specs.Promises.{Promise, after, HoldsAll}
+use Rattle.worker_rules.specs.Holds.{HoldsPromise, ImageHolds}
+use Rattle.worker_store.specs.laws.Savepoints.{Savepoint, StandsAtPoint, StandsBySaved}
+use Rattle.worker_store.specs.laws.Commits.{BeginsAtPoint}
+use Rattle.worker_store.specs.laws.Carried.{answers_at, count_at, IsHeldAt}
+use Rattle.worker_store.specs.laws.Recovered.{RetoldIsHeld, RecoveryOpens}
+use Rattle.worker_store.proofs.LawLemmas.Points.{by_point}
+use Rattle.worker_store.proofs.LawLemmas.Carrying.{held_at_stands, less_is_held, next_is_held}
+use Rattle.worker_store.proofs.LawLemmas.Carrying.{opening_is_held, answers_count}
+
+-- ---- lines
+
+-- what a savepoint and its records lead to
+recorded_is_reached : (m : Module) (config : Settings) (point : Savepoint m config)
+    (records : List Record) (last : ProcessState) (kept : List Kept)
+    → Recorded point.reached.guest point.process records last → kept ≡ answers_at point records
+    → (n : ℕ) × Reaches m config kept n last
+recorded_is_reached m config point records last kept recorded same =
+    let guest : Guest = point.reached.guest in
+    let start : ProcessState = point.reached.start in
+    let on = recorded_runs guest point.process last records recorded in
+    let runs : Runs guest start (answers_at point records) (point.steps + on.steps) last =
+    runs_join guest start point.process last point.front (map given_in records) point.steps
+    on.steps point.reached.runs on.runs in (
+      point.steps + on.steps,
+      record {
+        guest = guest;
+        start = start;
+        begins = point.reached.begins;
+        runs = subst (λ (l : List Kept). Runs guest start l (point.steps + on.steps) last)
+            (sym same) runs;
+      },
+    )
+
+pub retold_is_held : RetoldIsHeld
+retold_is_held m config promise promise' point records last held adds =
+    let all = held.holds in
+    let n : ℕ = count_at point records in
+    let answers : promise.answers ≤ n = all.answers in
+    let counted : promise.steps ≤ last.steps = all.steps_held in
+    let few_answers : promise'.answers ≡ promise.answers = adds.answers in
+    let few_steps : promise'.steps ≡ promise.steps = adds.steps in
+    let none_passed : promise'.passed ≡ promise.passed = adds.passed in
+    let passed : promise.passed ≤ point.saved.lines = held.passed in
+    let heard : point.saved.lines ≤ promise.heard = held.heard in
+    let more_heard : promise.heard ≤ promise'.heard = adds.heard in
+    record {
+      front = ap (λ (l : List Kept). take (count_at point records) l) adds.kept ∙ held.front;
+      recorded = held.recorded;
+      holds = subst (λ (l : List Kept).
+          HoldsAll m config l promise' (count_at point records) last.steps) (sym adds.kept)
+          (record {
+            within = all.within;
+            answers = omega (arith, answers, few_answers);
+            steps_held = omega (arith, counted, few_steps);
+            lines = λ i below. ⊎_elim
+                (λ (late : promise.begun < i). later i (told i promise'.begun
+                (length last.host.lines) promise.begun below adds.begun late))
+                (λ (early : i ≤ promise.begun). all.lines i early)
+                (cases_lt promise.begun i);
+            syncs = λ k a below behind.
+                all.syncs k a (same_below k promise'.synced promise.synced below adds.synced)
+                behind;
+          });
+      heard = omega (arith, heard, more_heard);
+      passed = omega (arith, passed, none_passed);
+    }
+  where
+    told : (i begun line before : ℕ) → i ≤ begun → begun ≤ max line before → before < i → i ≤ line
+    told i begun line before below most late = omega (arith, below, most, late)
+
+    same_below : (k a b : ℕ) → k ≤ a → a ≡ b → k ≤ b
+    same_below k a b below e = omega (arith, below, e)
+
+    later : (i : ℕ) → i ≤ length last.host.lines
+        → (a : ℕ) × (a ≤ count_at point records) × AnswersBehindLine m config promise.kept i a
+    later i few =
+        let reached = recorded_is_reached m config point records last
+        (take (count_at point records) promise.kept) held.recorded held.front in (
+          count_at point records,
+          omega arith,
+          record {
+            within = held.holds.within;
+            steps = reached.0;
+            process = last;
+            reached = reached.1;
+            emitted = few;
+          },
+        )
+
+-- ---- the opening
+
+-- what is held is held by as many answers as the opening keeps
+held_of_front : (m : Module) (config : Settings) (promise : Promise) (kept : List Kept)
+    (n held steps : ℕ) → n ≤ length kept → held ≡ n → HoldsAll m config kept promise held steps
+    → HoldsAll m config (take n kept) promise held steps
+held_of_front m config promise kept n held steps within same holds =
+    let long : length (take n kept) ≡ n = length-take-le n kept within in
+    record {
+      within = omega (arith, same, long);
+      answers = holds.answers;
+      steps_held = holds.steps_held;
+      lines = λ i below.
+          let line = holds.lines i below in
+          (line.0, line.1, shorter i line.0 (enough line.0 held n line.1 same) long line.2);
+      syncs = λ k a below behind. few a (length (take n kept)) n held behind.within long same;
+    }
+  where
+    enough : (a held n : ℕ) → a ≤ held → held ≡ n → a ≤ n
+    enough a held n below e = omega (arith, below, e)
+
+    few : (a l n held : ℕ) → a ≤ l → l ≡ n → held ≡ n → a ≤ held
+    few a l n held below e f = omega (arith, below, e, f)
+
+    within_of : (a n l : ℕ) → a ≤ n → l ≡ n → a ≤ l
+    within_of a n l below e = omega (arith, below, e)
+
+    shorter : (i a : ℕ) → a ≤ n → length (take n kept) ≡ n → AnswersBehindLine m config kept i a
+        → AnswersBehindLine m config (take n kept) i a
+    shorter i a few long behind = record {
+      within = within_of a n (length (take n kept)) few long;
+      steps = behind.steps;
+      process = behind.process;
+      reached = subst (λ l. Reaches m config l behind.steps behind.process)
+          (sym (take-take a n kept few)) behind.reached;
+      emitted = behind.emitted;
+    }
+
+-- What stands there holds what was promised, of the answers that the opening keeps.
+front_opened : (m : Module) (config : Settings) (promise : Promise) (point : Savepoint m config)
+    (records : List Record) (last : ProcessState) (n : ℕ) (shown : Saved) (disk : Image)
+    → IsHeldAt promise point records last → StandsAtPoint point records last disk
+    → count_at point records ≡ n
+    → HoldsPromise m config promise (after promise (Opened n shown)) disk
+front_opened m config promise point records last n shown disk held at same =
+    let all = held.holds in
+    let bound : count_at point records ≤ length promise.kept = all.within in
+    let within : n ≤ length promise.kept = omega (arith, bound, same) in
+    let front : take (count_at point records) (take n promise.kept) ≡ answers_at point records =
+    take-take (count_at point records) n promise.kept (omega (arith, same)) ∙ held.front in
+    let by : StandsBySaved point (take (count_at point records) (take n promise.kept)) last.steps
+    disk =
+    by_point m config point records last disk
+    (take (count_at point records) (take n promise.kept)) last.steps at front refl in
+    record {
+      held = count_at point records;
+      steps = last.steps;
+      stands = by.stands;
+      holds = held_of_front m config promise promise.kept n (count_at point records) last.steps
+          within same all;
+      snapshot_heard = subst (λ s. s.lines ≤ promise.heard) (sym by.saved) held.heard;
+      snapshot_passed = subst (λ s. promise.passed ≤ s.lines) (sym by.saved) held.passed;
+    }
+
+module _ {D : Type 0} (medium : D → Medium) where
+  pub recovery_opens : RecoveryOpens medium
+  recovery_opens m config less promise shown point next records last old new no_more held saves same
+      leaves stands =
+      let n : ℕ = length next.front in
+      let more : Promise = after promise (Opened (length next.front) shown) in
+      let there : IsHeldAt promise next [] next.process =
+      next_is_held m config promise point next records last held saves in
+      let opened : IsHeldAt (after promise (Opened (length next.front) shown)) next []
+      next.process =
+      subst (λ (s : Saved).
+      IsHeldAt (after promise (Opened (length next.front) s)) next [] next.process) same
+      (opening_is_held m config promise next there) in
+      let long : length next.front ≡ length (answers_at point records) =
+      ap (λ (l : List Kept). length l) saves.front in
+      let P : Image → Type 0 = λ disk.
+      StandsAtPoint point records last disk ⊎ BeginsAtPoint next disk in
+      let holds : (disk : Image) → P disk → HoldsPromise m config less more disk =
+      λ disk at. ⊎_elim
+      (λ (stood : StandsAtPoint point records last disk).
+      less_is_held m config less promise more disk no_more
+      (front_opened m config promise point records last (length next.front) shown disk held stood
+      (sym (long ∙ answers_count point records))))
+      (λ (begins : BeginsAtPoint next disk).
+      less_is_held m config less promise more disk no_more
+      (front_opened m config promise next [] next.process (length next.front) shown disk there
+      begins.at (omega arith))) at in
+      record {
+        carries = record {
+          at_any_moment = leaves_weaker (medium old) (medium new) P (ImageHolds m config less more)
+              leaves (λ disk at. inr (holds disk at));
+          in_the_end = λ disk left. inr
+              (held_at_stands m config more next [] next.process disk opened (stands disk left));
+        };
+        held = opened;
+      }

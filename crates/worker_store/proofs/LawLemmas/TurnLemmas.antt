@@ -1,0 +1,433 @@
+-- Parts of a call, one after another: what they make of what was promised, and of the disk.
+use Rattle.std.proofs.Common.{◌≡◌, ◌⊎◌, ℕ, ◌+◌, ◌<◌, ◌≤◌, Bool, true, false, List, [], ◌∷◌, ◌++◌}
+use Rattle.std.proofs.Common.{length, take, refl, sym, ap, ◌∙◌, subst, inl, inr, ⊎_elim, arith}
+use Rattle.std.proofs.Common.{length-append}
+use Rattle.std.specs.Prelude.{max}
+use Rattle.std.proofs.lemmas.Bool.{cases_lt}
+use Rattle.std.proofs.lemmas.List.{take_all, take-append-le, length-take-le}
+use Rattle.wasm_syntax.specs.declared.module.Module.{Module}
+use Rattle.wasm_syntax_rules.specs.Validity.{IsValid}
+use Rattle.wasi_abi.specs.declared.answer.Kind.{Kind}
+use Rattle.wasi_abi.specs.rules.Configs.{Settings}
+use Rattle.process_rules.specs.Processes.{ProcessState}
+use Rattle.process_rules.specs.Runs.{Kept, Reaches}
+use Rattle.process_rules.specs.Behind.{AnswersBehindSync}
+use Rattle.sector_disk.specs.rules.Image.{Image}
+use Rattle.sector_disk.specs.rules.Medium.{Medium, LeavesOnly}
+use Rattle.sector_disk.proofs.Moments.{started, leaves_only, leaves_weaker}
+use Rattle.record_replay.specs.rules.Calls.{Exchange}
+use Rattle.worker_rules.specs.Stands.{StandsFor}
+use Rattle.worker_rules.specs.Lives.{SourceSaid, Release, Event, Told, Asked, Ended, kept_of_said}
+use Rattle.worker_rules.specs.Courses.{Stage, next_stage, stage_after}
+use Rattle.worker_rules.specs.Promises.{Promise, after, promised, HoldsAll}
+use Rattle.worker_rules.specs.Holds.{HoldsPromise, IsUnopened, ImageHolds}
+use Rattle.worker_rules.specs.Exchanges.{was_taken, release_of, AreEvents, none, told, asked}
+use Rattle.worker_store.specs.laws.Carried.{PromisesNoMore, count_at, IsCarried}
+use Rattle.worker_store.specs.laws.Raised.{SyncsAreHeld}
+use Rattle.worker_store.specs.laws.Turns.{StillHolds, ToldStillHolds, AskedStillHolds}
+use Rattle.worker_store.specs.laws.Turns.{EndedStillHolds, LeavesBegun, PartsLeaveBegun, GoesOnFrom}
+use Rattle.worker_store.specs.laws.Turns.{TurnsJoin, TurnsCarry, RestsGoOn, LinesCarry}
+use Rattle.worker_store.proofs.LawLemmas.Carrying.{less_is_held, answers_count}
+use Rattle.worker_store.proofs.LawLemmas.Raising.{later_step, behind_front, line_of_more}
+
+-- ---- what an image holds
+
+-- an image that stands for these answers, with the lines of its snapshot within these bounds
+record IsStood (m : Module) (config : Settings) (kept : List Kept) (n heard passed : ℕ)
+    (disk : Image) : Type 0 where
+  pub stands : StandsFor disk m config kept n
+  pub heard_is : stands.saved.lines ≤ heard
+  pub passed_is : passed ≤ stands.saved.lines
+
+-- Where the front is the same, and all is held that was promised first, it holds that.
+holds_still : (m : Module) (config : Settings) (first then now : Promise) (image : Image)
+    (holds : HoldsPromise m config first then image) → then.heard ≤ now.heard
+    → take holds.held then.kept ≡ take holds.held now.kept
+    → HoldsAll m config now.kept first holds.held holds.steps
+    → HoldsPromise m config first now image
+holds_still m config first then now image holds more same all =
+    let here : IsStood m config (take holds.held then.kept) holds.steps now.heard first.passed
+    image = record {
+      stands = holds.stands;
+      heard_is = above holds.stands.saved.lines then.heard now.heard holds.snapshot_heard more;
+      passed_is = holds.snapshot_passed;
+    } in
+    let there = subst (λ l. IsStood m config l holds.steps now.heard first.passed image) same here
+    in
+    record {
+      held = holds.held;
+      steps = holds.steps;
+      stands = there.stands;
+      holds = all;
+      snapshot_heard = there.heard_is;
+      snapshot_passed = there.passed_is;
+    }
+  where
+    above : (a b c : ℕ) → a ≤ b → b ≤ c → a ≤ c
+    above a b c x y = omega (arith, x, y)
+
+-- what has no worker has none
+still : (m : Module) (config : Settings) (first then now : Promise) (image : Image)
+    → (HoldsPromise m config first then image → HoldsPromise m config first now image)
+    → ImageHolds m config first then image → ImageHolds m config first now image
+still m config first then now image goes held =
+    ⊎_elim
+    (λ (unopened : IsUnopened first image). inl unopened)
+    (λ (holds : HoldsPromise m config first then image). inr (goes holds))
+    held
+
+pub told_still_holds : ToldStillHolds
+told_still_holds m config promise promise' line adds first image no_more held =
+    still m config first promise promise' image
+    (λ holds. holds_still m config first promise promise' image holds adds.heard
+    (ap (λ l. take holds.held l) (sym adds.kept))
+    (subst (λ l. HoldsAll m config l first holds.held holds.steps) (sym adds.kept) holds.holds))
+    held
+
+pub ended_still_holds : EndedStillHolds
+ended_still_holds m config promise act reply n shown first image no_more held =
+    still m config first promise (after promise (Ended act reply n shown)) image
+    (λ holds. record {
+      held = holds.held;
+      steps = holds.steps;
+      stands = holds.stands;
+      holds = holds.holds;
+      snapshot_heard = holds.snapshot_heard;
+      snapshot_passed = holds.snapshot_passed;
+    }) held
+
+-- No sync up to a step needs an answer that comes behind it.
+module _ (m : Module) (config : Settings) (kept more_kept : List Kept) (n : ℕ) (p : ProcessState)
+    (valid : IsValid m) (reached : Reaches m config kept n p) where
+  here_reached : Reaches m config (take (length kept) (kept ++ more_kept)) n p
+  here_reached =
+      subst (λ l. Reaches m config l n p)
+      (sym (take-append-le (length kept) kept more_kept (omega arith)
+      ∙ take_all (length kept) kept (omega arith))) reached
+
+  not_behind : (k b : ℕ) → k ≤ n → length kept < b
+      → AnswersBehindSync m config (kept ++ more_kept) k b → ⊥
+  not_behind k b below all behind =
+      let some : b ≤ length (kept ++ more_kept) = behind.within in
+      let long = length-append kept more_kept in
+      let one : length (take (length kept) (kept ++ more_kept)) ≡ length kept =
+      length-take-le (length kept) (kept ++ more_kept) (omega (arith, long)) in
+      let two : length (take b (kept ++ more_kept)) ≡ b =
+      length-take-le b (kept ++ more_kept) some in
+      let later : n < behind.before =
+      later_step m config (kept ++ more_kept) (length kept) b n behind.before p
+      behind.process valid (omega (arith, one, two, all)) here_reached behind.reached in
+      let next : k ≡ behind.before + 1 = behind.next in
+      omega (arith, later, next, below)
+
+  -- so those behind earlier ones stay held
+  pub syncs_of_more : (held : ℕ) → SyncsAreHeld m config kept held n
+      → SyncsAreHeld m config (kept ++ more_kept) held n
+  syncs_of_more held syncs k b below behind = ⊎_elim
+      (λ (all : length kept < b). absurd (not_behind k b below all behind))
+      (λ (few : b ≤ length kept).
+      syncs k b below (behind_front m config kept more_kept k b few behind))
+      (cases_lt (length kept) b)
+
+  all_of_more : (first : Promise) (held steps : ℕ) → first.synced ≤ n
+      → HoldsAll m config kept first held steps
+      → HoldsAll m config (kept ++ more_kept) first held steps
+  all_of_more first held steps early holds =
+      let within : held ≤ length kept = holds.within in
+      let long = length-append kept more_kept in
+      record {
+        within = omega (arith, within, long);
+        answers = holds.answers;
+        steps_held = holds.steps_held;
+        lines = λ i below.
+            let line = holds.lines i below in
+            (line.0, line.1, line_of_more m config kept more_kept i line.0 line.2);
+        syncs = λ k b below behind. ⊎_elim
+            (λ (all : length kept < b).
+            absurd (not_behind k b (up_to k first.synced below early) all behind))
+            (λ (few : b ≤ length kept).
+            holds.syncs k b below (behind_front m config kept more_kept k b few behind))
+            (cases_lt (length kept) b);
+      }
+    where
+      up_to : (k synced : ℕ) → k ≤ synced → synced ≤ n → k ≤ n
+      up_to k synced below early = omega (arith, below, early)
+
+pub asked_still_holds : AskedStillHolds
+asked_still_holds m config promise p kind said fits valid reached synced first image no_more held =
+    still m config first promise (after promise (Asked p.steps kind said fits)) image
+    (λ holds.
+    let all = holds.holds in
+    let before : first.synced ≤ promise.synced = no_more.synced in
+    holds_still m config first promise (after promise (Asked p.steps kind said fits)) image holds
+    (omega arith)
+    (sym (take-append-le holds.held promise.kept (kept_of_said said fits) all.within))
+    (all_of_more m config promise.kept (kept_of_said said fits) p.steps p valid reached first
+    holds.held holds.steps (omega (arith, before, synced)) all)) held
+
+-- ---- what parts leave alone
+
+begun_join : (first between last : Promise) (stage inside stage' : Stage)
+    → LeavesBegun first between stage inside → LeavesBegun between last inside stage'
+    → LeavesBegun first last stage stage'
+begun_join first between last stage inside stage' a b =
+    let x = a.no_more in
+    let y = b.no_more in
+    record {
+      opened = b.opened ∙ a.opened;
+      step = b.step ∙ a.step;
+      acts = b.acts ∙ a.acts;
+      no_more = record {
+        answers = omega (arith, x.answers, y.answers);
+        steps = omega (arith, x.steps, y.steps);
+        passed = omega (arith, x.passed, y.passed);
+        begun = omega (arith, x.begun, y.begun);
+        synced = omega (arith, x.synced, y.synced);
+      };
+      events = omega (arith, a.events, b.events);
+    }
+
+told_begun : (promise : Promise) (stage : Stage) (r : Release) (is_taken : Bool)
+    → LeavesBegun promise (after promise (Told r is_taken)) stage
+    (next_stage stage (Told r is_taken))
+told_begun promise stage r is_taken = record {
+  opened = refl;
+  step = refl;
+  acts = refl;
+  no_more = record {
+    answers = omega arith;
+    steps = omega arith;
+    passed = omega arith;
+    begun = omega arith;
+    synced = omega arith;
+  };
+  events = omega arith;
+}
+
+asked_begun : (promise : Promise) (stage : Stage) (steps : ℕ) (kind : Kind) (said : SourceSaid)
+    (fits : Bool)
+    → LeavesBegun promise (after promise (Asked steps kind said fits)) stage
+    (next_stage stage (Asked steps kind said fits))
+asked_begun promise stage steps kind said fits = record {
+  opened = refl;
+  step = refl;
+  acts = refl;
+  no_more = record {
+    answers = omega arith;
+    steps = omega arith;
+    passed = omega arith;
+    begun = omega arith;
+    synced = omega arith;
+  };
+  events = omega arith;
+}
+
+begun_of : (promise : Promise) (stage : Stage) (exchanges : List Exchange) (events : List Event)
+    → AreEvents exchanges events
+    → LeavesBegun promise (promised promise events) stage (stage_after stage events)
+begun_of promise stage exchanges events none = record {
+  opened = refl;
+  step = refl;
+  acts = refl;
+  no_more = record {
+    answers = omega arith;
+    steps = omega arith;
+    passed = omega arith;
+    begun = omega arith;
+    synced = omega arith;
+  };
+  events = omega arith;
+}
+begun_of promise stage exchanges events (told {begun = begun} {exchanges = rest} {events = others}
+    are) =
+    let e : Event = Told (release_of begun) (was_taken begun.said) in
+    begun_join promise (after promise e) (promised (after promise e) others) stage
+    (next_stage stage e) (stage_after (next_stage stage e) others)
+    (told_begun promise stage (release_of begun) (was_taken begun.said))
+    (begun_of (after promise e) (next_stage stage e) rest others are)
+begun_of promise stage exchanges events (asked {ask = ask} {steps = steps} {fits = fits}
+    {exchanges = rest} {events = others} are) =
+    let e : Event = Asked steps ask.kind ask.said fits in
+    begun_join promise (after promise e) (promised (after promise e) others) stage
+    (next_stage stage e) (stage_after (next_stage stage e) others)
+    (asked_begun promise stage steps ask.kind ask.said fits)
+    (begun_of (after promise e) (next_stage stage e) rest others are)
+
+pub parts_leave_begun : PartsLeaveBegun
+parts_leave_begun m config promise promise' stage stage' exchanges done =
+    subst (λ z. LeavesBegun promise z stage stage') (sym done.promised_is)
+    (subst (λ z. LeavesBegun promise (promised promise done.events) stage z) (sym done.stage_is)
+    (begun_of promise stage exchanges done.events done.are))
+
+-- ---- a disk
+
+-- a promise that has opened isn't one of nothing
+not_unopened : (promise : Promise) (image : Image) → promise.has_opened ≡ true
+    → IsUnopened promise image → ⊥
+not_unopened promise image opened unopened =
+    let never : promise.has_opened ≡ false = ap (λ (p : Promise). p.has_opened) unopened.0 in
+    absurd (cc)
+
+-- what holds the more holds the less
+lowered : (m : Module) (config : Settings) (less more now : Promise) (image : Image)
+    → more.has_opened ≡ true → PromisesNoMore less more → ImageHolds m config more now image
+    → ImageHolds m config less now image
+lowered m config less more now image opened no_more held =
+    ⊎_elim
+    (λ (unopened : IsUnopened more image). absurd (not_unopened more image opened unopened))
+    (λ (holds : HoldsPromise m config more now image).
+    inr (less_is_held m config less more now image no_more holds))
+    held
+
+no_more_join : (a b c : Promise) → PromisesNoMore a b → PromisesNoMore b c → PromisesNoMore a c
+no_more_join a b c x y = record {
+  answers = omega (arith, x.answers, y.answers);
+  steps = omega (arith, x.steps, y.steps);
+  passed = omega (arith, x.passed, y.passed);
+  begun = omega (arith, x.begun, y.begun);
+  synced = omega (arith, x.synced, y.synced);
+}
+
+pub same_no_more : (promise : Promise) → PromisesNoMore promise promise
+same_no_more promise = record {
+  answers = omega arith;
+  steps = omega arith;
+  passed = omega arith;
+  begun = omega arith;
+  synced = omega arith;
+}
+
+module _ (m : Module) (config : Settings) (first between last : Promise) (old inside new : Medium)
+    (a : GoesOnFrom m config first between old inside)
+    (b : GoesOnFrom m config between last inside new) where
+  -- a cut in the second part
+  from_second : (image : Image) → ImageHolds m config between last image
+      → ImageHolds m config first last image
+  from_second image held =
+      lowered m config first between last image a.opened_now a.no_more held
+
+  -- and one in the first, once the second is over
+  from_first : (image : Image) → ImageHolds m config first between image
+      → ImageHolds m config first last image
+  from_first image held = b.still first image a.no_more held
+
+  leaves_joined : LeavesOnly old new (ImageHolds m config first last)
+  leaves_joined =
+      let one = a.leaves in
+      let two = b.leaves in
+      let x = one.passes in
+      let y = two.passes in
+      record {
+        each = λ image left. ⊎_elim
+            (λ past. from_first image (one.each image past))
+            (λ now. from_second image now)
+            (y.nothing_else old.moment image x.later left);
+        passes = record {
+          sectors = y.sectors ∙ x.sectors;
+          told = y.told ∙ x.told;
+          room = y.room ∙ x.room;
+          faults = omega (arith, x.faults, y.faults);
+          later = omega (arith, x.later, y.later);
+          nothing_else = λ t image le left. ⊎_elim
+              (λ past. ⊎_elim
+              (λ before. inl before)
+              (λ now. inr (from_first image now))
+              (x.nothing_else t image le past))
+              (λ now. inr (from_second image now))
+              (y.nothing_else t image (up_to t le x.later) left);
+        };
+      }
+    where
+      up_to : (t : ℕ) → t ≤ old.moment → old.moment ≤ inside.moment → t ≤ inside.moment
+      up_to t le later = omega (arith, le, later)
+
+module _ {D : Type 0} (medium : D → Medium) where
+  pub turns_join : TurnsJoin medium
+  turns_join m config first between last old inside new a b = record {
+    opened = a.opened;
+    opened_now = b.opened_now;
+    no_more = no_more_join first between last a.no_more b.no_more;
+    still = λ promise image no_more held.
+        b.still promise image (no_more_join promise first between no_more a.no_more)
+        (a.still promise image no_more held);
+    leaves = leaves_joined m config first between last (medium old) (medium inside) (medium new) a
+        b;
+  }
+
+  pub turns_carry : TurnsCarry medium
+  turns_carry m config then now old new goes keeps = record {
+    at_any_moment = goes.leaves;
+    in_the_end = keeps;
+  }
+
+  pub rests_go_on : RestsGoOn medium
+  rests_go_on m config then now disk opened opened_now no_more goes keeps = record {
+    opened = opened;
+    opened_now = opened_now;
+    no_more = no_more;
+    still = goes;
+    leaves = leaves_only (medium disk) (medium disk) (ImageHolds m config then now)
+        (started (medium disk) (ImageHolds m config then now))
+        (λ image left. lowered m config then now now image opened_now no_more
+        (keeps image left));
+  }
+
+  pub lines_carry : LinesCarry medium
+  lines_carry m config promise promise' point journal records pending last now p n disk is
+      on_record reached adds =
+      let held = is.held in
+      let holds = held.holds in
+      let long : length promise.kept ≡ count_at point records =
+      ap (λ l. length l) on_record ∙ answers_count point records in
+      let here : HoldsAll m config promise.kept promise' (count_at point records) last.steps =
+      record {
+        within = holds.within;
+        answers = no_later _ _ _ adds.answers holds.answers;
+        steps_held = no_later _ _ _ adds.steps holds.steps_held;
+        lines = λ i below. ⊎_elim
+            (λ (late : promise.begun < i). (
+              length promise.kept,
+              at_most _ _ long,
+              record {
+                within = omega arith;
+                steps = n;
+                process = p;
+                reached = subst (λ l. Reaches m config l n p)
+                    (sym (take_all (length promise.kept) promise.kept (omega arith))) reached;
+                emitted = not_above i promise'.begun promise.begun (length p.host.lines) below
+                    late adds.begun;
+              },
+            ))
+            (λ (early : i ≤ promise.begun). holds.lines i early)
+            (cases_lt promise.begun i);
+        syncs = λ k a below behind.
+            holds.syncs k a (same_bound k _ _ below adds.synced) behind;
+      } in
+      record {
+        journaled = is.journaled;
+        held = record {
+          front = ap (λ l. take (count_at point records) l) adds.kept ∙ held.front;
+          recorded = held.recorded;
+          holds = subst (λ l. HoldsAll m config l promise' (count_at point records) last.steps)
+              (sym adds.kept) here;
+          heard = below_more _ _ _ held.heard adds.heard;
+          passed = no_later _ _ _ adds.passed held.passed;
+        };
+        answers = ap (λ l. take (count_at point (records ++ pending)) l) adds.kept ∙ is.answers;
+      }
+    where
+      at_most : (a b : ℕ) → a ≡ b → a ≤ b
+      at_most a b e = omega (arith, e)
+
+      no_later : (a b c : ℕ) → a ≡ b → b ≤ c → a ≤ c
+      no_later a b c e x = omega (arith, e, x)
+
+      below_more : (a b c : ℕ) → a ≤ b → b ≤ c → a ≤ c
+      below_more a b c x y = omega (arith, x, y)
+
+      same_bound : (k a b : ℕ) → k ≤ a → a ≡ b → k ≤ b
+      same_bound k a b below e = omega (arith, below, e)
+
+      not_above : (i now begun lines : ℕ) → i ≤ now → begun < i → now ≤ max lines begun
+          → i ≤ lines
+      not_above i now begun lines below late few = omega (arith, below, late, few)

@@ -1,0 +1,258 @@
+-- A worker in the middle of a slice: its steps, its lines and its questions.
+use Rattle.std.proofs.Common.{◌≡◌, ℕ, zero, suc, ◌+◌, ◌≤◌, ◌<◌, Bool, true, false, List, [], ◌∷◌}
+use Rattle.std.proofs.Common.{◌++◌, length, take, max, refl, sym, ap, ◌∙◌, subst, arith, Option}
+use Rattle.std.proofs.Common.{Some, None, Ok, Err}
+use Rattle.std.specs.Prelude.{slice_get}
+use Rattle.std.proofs.Math.Nat.{le-max_left}
+use Rattle.std.proofs.Math.Seq.{take-length, take-append_seam}
+use Rattle.std.proofs.lemmas.Option.{slice_get_within}
+use Rattle.std.proofs.lemmas.List.{append-nil, length-append}
+use Rattle.wasm_syntax.specs.declared.module.Module.{Module}
+use Rattle.wasi_abi.specs.declared.answer.Kind.{Kind}
+use Rattle.wasi_abi.specs.declared.answer.Answer.{Answer}
+use Rattle.wasi_abi.specs.rules.Configs.{Settings}
+use Rattle.wasi_calls_rules.specs.Hosts.{Line}
+use Rattle.wasi_calls_rules.specs.laws.Laws.{Emits}
+use Rattle.process_rules.specs.Processes.{ProcessState, Guest, IsStart}
+use Rattle.process_rules.specs.Runs.{Kept, Given, Runs, none, take as takes, Moves, Reaches}
+use Rattle.process_rules.proofs.Quiet.{runs_join}
+use Rattle.process_rules.proofs.Growing.{runs_count, runs_emit, move_counts, move_emits}
+use Rattle.record_replay.specs.declared.fault.SourceFault.{SourceFault}
+use Rattle.worker_rules.specs.Lives.{Act, Slice, SourceSaid, Release, Told, Asked}
+use Rattle.worker_rules.specs.Lives.{OfSource, OfAnswer, OfOutlet, kept_of_said}
+use Rattle.worker_rules.specs.Courses.{Stage, Phase, Open, NoneThere, Broken, next_stage}
+use Rattle.worker_rules.specs.Courses.{first_said, first_taken, phase_refused, IsToldIn, IsAskedIn}
+use Rattle.worker_rules.specs.Courses.{ComesAfter}
+use Rattle.worker_rules.specs.Courses.{IsWithinSlice}
+use Rattle.worker_rules.specs.Promises.{Promise, after, IsTelling, IsInquiring, IsFitting}
+use Rattle.worker_store.specs.laws.Underway.{IsInItsSlice, IsUnderWay, IsBroken, IsAtQuestion}
+use Rattle.worker_store.specs.laws.Underway.{StepsGoOn, LinesAreTold, TakenLinesGoOn}
+use Rattle.worker_store.specs.laws.Underway.{RefusedLinesBreak, QuestionsAreAsked, AnswersGoOn}
+use Rattle.worker_store.specs.laws.Underway.{AnswersAreKept, OthersBreak, OtherAnswersBreak}
+use Rattle.worker_store.specs.laws.Underway.{promise_asked, stage_asked}
+
+module _ (m : Module) (config : Settings) (guest : Guest) where
+  -- ---- all kept answers
+
+  all_runs : (promise : Promise) (stage : Stage) (fuel : ℕ) (p : ProcessState)
+      (at : IsInItsSlice m config guest promise stage fuel (length promise.kept) p)
+      → Runs guest at.start promise.kept p.steps p
+  all_runs promise stage fuel p at =
+      subst (λ kept. Runs guest at.start kept p.steps p) (take-length promise.kept) at.runs
+
+  reached : (promise : Promise) (stage : Stage) (fuel : ℕ) (p : ProcessState)
+      → IsInItsSlice m config guest promise stage fuel (length promise.kept) p
+      → Reaches m config promise.kept p.steps p
+  reached promise stage fuel p at = record {
+    guest = guest;
+    start = at.start;
+    begins = at.begins;
+    runs = all_runs promise stage fuel p at;
+  }
+
+  -- ---- steps
+
+  pub steps_go_on : StepsGoOn m config guest
+  steps_go_on promise stage fuel told n p q way runs within =
+      let at = way.in_slice in
+      let counted : q.steps ≡ p.steps + n = runs_count guest p q [] n runs in
+      let more : Emits p.host q.host = runs_emit guest p q [] n runs in
+      let kept : List Kept = take (length promise.kept) promise.kept in
+      let joined : Runs guest at.start (kept ++ []) (p.steps + n) q =
+      runs_join guest at.start p q kept [] p.steps n at.runs runs in
+      record {
+        in_slice = record {
+          acts = at.acts;
+          slice = at.slice;
+          within = at.within;
+          start = at.start;
+          begins = at.begins;
+          runs = subst (λ k. Runs guest at.start kept k q) (sym counted)
+              (subst (λ l. Runs guest at.start l (p.steps + n) q) (append-nil kept) joined);
+          begun = (let b = at.begun in omega (arith, b, counted));
+          in_time = omega (arith, within, counted);
+        };
+        is_open = way.is_open;
+        line = way.line;
+        emitted = (let e = way.emitted in
+            let long : length q.host.lines ≡ length p.host.lines + length more.lines =
+            ap length more.are ∙ length-append p.host.lines more.lines in
+            omega (arith, e, long));
+        heard = way.heard;
+        passed = way.passed;
+      }
+
+  -- ---- lines
+
+  told_in : (stage : Stage) (fuel : ℕ) (acts : List Act) (steps : ℕ) → stage.phase ≡ Open
+      → stage.acts ≡ Slice fuel ∷ acts → stage.step ≤ steps → steps ≤ stage.step + fuel
+      → IsToldIn stage.phase stage.acts stage.step steps
+  told_in stage fuel acts steps runs is begun in_time =
+      subst (λ z. IsToldIn z stage.acts stage.step steps) (sym runs)
+      (subst (λ z. IsWithinSlice z stage.step steps) (sym is) (begun, in_time))
+
+  pub lines_are_told : LinesAreTold m config guest
+  lines_are_told promise stage fuel told p line way is =
+      let at = way.in_slice in
+      record {
+        is_line = record {
+          answers = length promise.kept;
+          steps = p.steps;
+          process = p;
+          reached = record {
+            guest = guest;
+            start = at.start;
+            begins = at.begins;
+            runs = at.runs;
+          };
+          place = told;
+          counted = refl;
+          is = is;
+        };
+        in_time = told_in stage fuel at.acts p.steps way.is_open at.slice at.begun at.in_time;
+        follows = subst (λ z. ComesAfter z (told + 1)) (sym way.line) refl;
+        none_skipped = (let h = way.heard in omega (arith, h));
+        not_passed = (let h = way.passed in omega (arith, h));
+        heard = refl;
+      }
+
+  -- where a slice has come to, of another promise that has the same front of answers
+  still_in : (promise promise' : Promise) (stage stage' : Stage) (fuel held : ℕ)
+      (p : ProcessState) → take held promise'.kept ≡ take held promise.kept
+      → held ≤ length promise'.kept → stage'.acts ≡ stage.acts → stage'.step ≡ stage.step
+      → IsInItsSlice m config guest promise stage fuel held p
+      → IsInItsSlice m config guest promise' stage' fuel held p
+  still_in promise promise' stage stage' fuel held p same within acts first at = record {
+    acts = at.acts;
+    slice = acts ∙ at.slice;
+    within = within;
+    start = at.start;
+    begins = at.begins;
+    runs = subst (λ z. Runs guest at.start z p.steps p) (sym same) at.runs;
+    begun = (let b = at.begun in omega (arith, b, first));
+    in_time = (let b = at.in_time in omega (arith, b, first));
+  }
+
+  pub taken_lines_go_on : TakenLinesGoOn m config guest
+  taken_lines_go_on promise stage fuel told p line way is =
+      let r : Release = record { number = told + 1; line = line } in
+      let inside : told < length p.host.lines = slice_get_within p.host.lines told line is in
+      record {
+        in_slice = still_in promise (after promise (Told r true)) stage
+            (next_stage stage (Told r true)) fuel (length promise.kept) p refl
+            way.in_slice.within refl refl way.in_slice;
+        is_open = way.is_open;
+        line = refl;
+        emitted = omega (arith, inside);
+        heard = le-max_left (told + 1) promise.heard;
+        passed = (let h = way.passed in omega (arith, h));
+      }
+
+  pub refused_lines_break : RefusedLinesBreak m config guest
+  refused_lines_break promise stage fuel told p r way = record {
+    in_slice = still_in promise (after promise (Told r false)) stage
+        (next_stage stage (Told r false)) fuel (length promise.kept) p refl
+        way.in_slice.within refl refl way.in_slice;
+    is = ap phase_refused way.is_open;
+  }
+
+  -- ---- questions
+
+  asked_in : (stage : Stage) (fuel : ℕ) (acts : List Act) (steps : ℕ) → stage.phase ≡ Open
+      → stage.acts ≡ Slice fuel ∷ acts → stage.step ≤ steps → steps < stage.step + fuel
+      → IsAskedIn stage.phase stage.acts stage.step steps
+  asked_in stage fuel acts steps runs is begun in_time =
+      subst (λ z. IsAskedIn z stage.acts stage.step steps) (sym runs)
+      (subst (λ z. IsWithinSlice z stage.step steps × IsWithinSlice z stage.step (steps + 1))
+      (sym is) ((begun, omega (arith, in_time)), (omega (arith, begun), omega (arith, in_time))))
+
+  pub questions_are_asked : QuestionsAreAsked m config guest
+  questions_are_asked promise stage fuel p kind fits asks fitting =
+      let at = asks.way.in_slice in
+      record {
+        process = p;
+        reached = record {
+          guest = guest;
+          start = at.start;
+          begins = at.begins;
+          runs = all_runs promise stage fuel p at;
+        };
+        running = asks.running;
+        wants = asks.wants;
+        in_time = asked_in stage fuel at.acts p.steps asks.way.is_open at.slice at.begun asks.room;
+        all_told = asks.way.line;
+        fitting = fitting;
+        heard = refl;
+      }
+
+  -- a front of a longer list
+  front_of_more : (kept more : List Kept)
+      → take (length kept) (kept ++ more) ≡ take (length kept) kept
+  front_of_more kept more = take-append_seam kept more ∙ sym (take-length kept)
+
+  no_longer : (kept more : List Kept) → length kept ≤ length (kept ++ more)
+  no_longer kept more = omega (arith, length-append kept more)
+
+  -- where the process has taken none of what was said
+  not_taken : (promise : Promise) (stage : Stage) (fuel : ℕ) (p : ProcessState) (kind : Kind)
+      (said : SourceSaid) (fits : Bool) → IsAtQuestion m config guest promise stage fuel p kind
+      → IsInItsSlice m config guest (promise_asked m config guest promise p kind said fits)
+      (stage_asked m config guest stage p kind said fits) fuel (length promise.kept) p
+  not_taken promise stage fuel p kind said fits asks =
+      still_in promise (after promise (Asked p.steps kind said fits)) stage
+      (next_stage stage (Asked p.steps kind said fits)) fuel (length promise.kept) p
+      (front_of_more promise.kept (kept_of_said said fits))
+      (no_longer promise.kept (kept_of_said said fits)) refl refl asks.way.in_slice
+
+  pub answers_are_kept : AnswersAreKept m config guest
+  answers_are_kept promise stage fuel p kind a asks = record {
+    in_slice = not_taken promise stage fuel p kind (Ok (Some a)) true asks;
+    is = refl;
+  }
+
+  pub other_answers_break : OtherAnswersBreak m config guest
+  other_answers_break promise stage fuel p kind asks = record {
+    misfit = λ a. record {
+      in_slice = not_taken promise stage fuel p kind (Ok (Some a)) false asks;
+      is = refl;
+    };
+    none_there = λ fits. record {
+      in_slice = not_taken promise stage fuel p kind (Ok None) fits asks;
+      is = refl;
+    };
+    fault = λ e fits. record {
+      in_slice = not_taken promise stage fuel p kind (Err e) fits asks;
+      is = refl;
+    };
+  }
+
+  pub answers_go_on : AnswersGoOn m config guest
+  answers_go_on promise stage fuel p q kind a asks moves =
+      let at = asks.way.in_slice in
+      let counted : q.steps ≡ p.steps + 1 = move_counts guest p q (Some a) moves in
+      let more : Emits p.host q.host = move_emits guest p q (Some a) moves in
+      let kept : List Kept = promise.kept ++ Given a ∷ [] in
+      let one : Runs guest p (Given a ∷ []) 1 q = takes moves none in
+      let joined : Runs guest at.start kept (p.steps + 1) q =
+      runs_join guest at.start p q promise.kept (Given a ∷ []) p.steps 1
+      (all_runs promise stage fuel p at) one in
+      record {
+        in_slice = record {
+          acts = at.acts;
+          slice = at.slice;
+          within = omega arith;
+          start = at.start;
+          begins = at.begins;
+          runs = subst (λ l. Runs guest at.start l q.steps q) (sym (take-length kept))
+              (subst (λ k. Runs guest at.start kept k q) (sym counted) joined);
+          begun = (let b = at.begun in omega (arith, b, counted));
+          in_time = (let r = asks.room in omega (arith, r, counted));
+        };
+        is_open = refl;
+        line = asks.way.line;
+        emitted = (let long : length q.host.lines ≡ length p.host.lines + length more.lines =
+            ap length more.are ∙ length-append p.host.lines more.lines in
+            omega (arith, long));
+        heard = asks.way.heard;
+        passed = asks.way.passed;
+      }

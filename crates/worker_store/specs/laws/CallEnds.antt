@@ -1,0 +1,146 @@
+-- How a worker's call ends, as an event of a life.
+use Rattle.std.specs.Prelude.{◌≡◌, ◌⊎◌, ℕ, suc, ◌+◌, ◌≤◌, ◌<◌, List, [], ◌∷◌, length, take}
+use Rattle.std.specs.Prelude.{Option, Some, None}
+use Rattle.wasm_syntax.specs.declared.module.Module.{Module}
+use Rattle.wasm_syntax.specs.declared.types.FunctionType.{FunctionType}
+use Rattle.wasm_syntax_rules.specs.Validity.{module_context, AreFunctionTypes}
+use Rattle.wasi_abi.specs.declared.numbers.TheConstants.{NUMBERS_END}
+use Rattle.wasi_abi.specs.declared.answer.Answer.{Answer}
+use Rattle.wasi_abi.specs.rules.Configs.{Settings}
+use Rattle.process_rules.specs.Processes.{Ending, ProcessState, Guest, IsStart}
+use Rattle.process_rules.specs.Runs.{Runs}
+use Rattle.process.specs.rules.Stops.{IsBeyond}
+use Rattle.state_image.specs.rules.Image.{Saved, SavedShowsProcess}
+use Rattle.worker_rules.specs.Lives.{Act, Slice, Checkpoint, Reply, Spent, Waits, Over, Done}
+use Rattle.worker_rules.specs.Lives.{Fails, Cause, OfBounds, Ended}
+use Rattle.worker_rules.specs.Courses.{Stage, Phase, Open, NoneThere, MayFail, next_stage}
+use Rattle.worker_rules.specs.Courses.{phase_ended}
+use Rattle.worker_rules.specs.Promises.{Promise, after, IsEnding}
+use Rattle.worker_store.specs.laws.Underway.{IsInItsSlice, IsUnderWay, IsBroken}
+
+module _ (m : Module) (config : Settings) (guest : Guest) where
+  -- this is the process as it is saved
+  pub record IsSavedAs (p : ProcessState) (shown : Saved) : Type 0 where
+    pub functions : List FunctionType
+    pub function_types : AreFunctionTypes m functions
+    pub table : List (Option ℕ)
+    pub shows : SavedShowsProcess (module_context m functions) guest.program table shown p
+
+  -- ---- a slice
+
+  -- A slice that is over, all of whose lines were told.
+  pub record IsSliceOver (promise : Promise) (stage : Stage) (fuel : ℕ) (p : ProcessState)
+      (shown : Saved) : Type 0 where
+    pub way : IsUnderWay m config guest promise stage fuel (length p.host.lines) p
+    pub saved : IsSavedAs p shown
+
+  abbrev pub SpentSlicesEnd : Type 0
+  SpentSlicesEnd =
+      (promise : Promise) (stage : Stage) (fuel : ℕ) (p : ProcessState) (shown : Saved)
+      → IsSliceOver promise stage fuel p shown → p.steps ≡ stage.step + fuel → p.ended ≡ None
+      → IsEnding m config promise stage (record {
+        act = Slice fuel;
+        reply = Spent;
+        held = length promise.kept;
+        shown = shown;
+      })
+
+  abbrev pub EndedSlicesEnd : Type 0
+  EndedSlicesEnd =
+      (promise : Promise) (stage : Stage) (fuel : ℕ) (p : ProcessState) (shown : Saved)
+      (why : Ending) → IsSliceOver promise stage fuel p shown → p.ended ≡ Some why
+      → IsEnding m config promise stage (record {
+        act = Slice fuel;
+        reply = Over why;
+        held = length promise.kept;
+        shown = shown;
+      })
+
+  -- Where an answer isn't there, all lines were told before the question.
+  abbrev pub WaitingSlicesEnd : Type 0
+  WaitingSlicesEnd =
+      (promise : Promise) (stage : Stage) (fuel : ℕ) (p : ProcessState) (shown : Saved)
+      → IsBroken m config guest promise stage fuel (length promise.kept) p (NoneThere p.steps)
+      → IsSavedAs p shown → stage.line ≡ Some (length p.host.lines) → p.ended ≡ None
+      → p.steps < stage.step + fuel
+      → IsEnding m config promise stage (record {
+        act = Slice fuel;
+        reply = Waits;
+        held = length promise.kept;
+        shown = shown;
+      })
+
+  -- where a number is at its end, it is that of the next step or of its lines, or so much has
+  -- happened
+  abbrev pub HasBound : Promise → ProcessState → Cause → Type 0
+  HasBound promise p OfBounds = ((given : Option Answer) × IsBeyond guest p given)
+      ⊎ (NUMBERS_END ≤ promise.events + 1)
+  HasBound promise p _ = Unit {0}
+
+  -- An error ends it, where something may come from that.
+  abbrev pub FailedSlicesEnd : Type 0
+  FailedSlicesEnd =
+      (promise : Promise) (stage : Stage) (fuel held : ℕ) (p : ProcessState) (shown : Saved)
+      (phase : Phase) (cause : Cause)
+      → IsBroken m config guest promise stage fuel held p phase → IsSavedAs p shown
+      → MayFail phase cause → HasBound promise p cause
+      → IsEnding m config promise stage (record {
+        act = Slice fuel;
+        reply = Fails cause;
+        held = held;
+        shown = shown;
+      })
+
+  -- ---- a checkpoint
+
+  -- The process between two calls: it has taken all kept answers, and all its lines were told.
+  pub record IsBetween (promise : Promise) (stage : Stage) (p : ProcessState) : Type 0 where
+    pub start : ProcessState
+    pub begins : IsStart m config guest start
+    pub runs : Runs guest start promise.kept p.steps p
+    pub is_open : stage.phase ≡ Open
+    pub step : stage.step ≡ p.steps
+    pub line : stage.line ≡ Some (length p.host.lines)
+
+  abbrev pub DoneCheckpointsEnd : Type 0
+  DoneCheckpointsEnd =
+      (promise : Promise) (stage : Stage) (acts : List Act) (p : ProcessState) (shown : Saved)
+      → IsBetween promise stage p → IsSavedAs p shown → stage.acts ≡ Checkpoint ∷ acts
+      → IsEnding m config promise stage (record {
+        act = Checkpoint;
+        reply = Done;
+        held = length promise.kept;
+        shown = shown;
+      })
+
+  abbrev pub FailedCheckpointsEnd : Type 0
+  FailedCheckpointsEnd =
+      (promise : Promise) (stage : Stage) (acts : List Act) (p : ProcessState) (shown : Saved)
+      (cause : Cause) → IsBetween promise stage p → IsSavedAs p shown
+      → stage.acts ≡ Checkpoint ∷ acts → MayFail Open cause → HasBound promise p cause
+      → IsEnding m config promise stage (record {
+        act = Checkpoint;
+        reply = Fails cause;
+        held = length promise.kept;
+        shown = shown;
+      })
+
+  -- ---- from call to call
+
+  -- What is between two calls is under way in the next one, if that is a slice.
+  abbrev pub SlicesBegin : Type 0
+  SlicesBegin =
+      (promise : Promise) (stage : Stage) (fuel : ℕ) (acts : List Act) (p : ProcessState)
+      → IsBetween promise stage p → stage.acts ≡ Slice fuel ∷ acts
+      → length p.host.lines ≤ promise.heard → promise.passed ≤ length p.host.lines
+      → IsUnderWay m config guest promise stage fuel (length p.host.lines) p
+
+  -- After a call without an error it is between two calls again.
+  abbrev pub CallsLeaveBetween : Type 0
+  CallsLeaveBetween =
+      (promise : Promise) (stage : Stage) (act : Act) (reply : Reply) (held : ℕ)
+      (p : ProcessState) (shown : Saved) (start : ProcessState) → IsStart m config guest start
+      → Runs guest start promise.kept p.steps p → stage.line ≡ Some (length p.host.lines)
+      → shown.steps ≡ p.steps → phase_ended reply ≡ Open
+      → IsBetween (after promise (Ended act reply held shown))
+      (next_stage stage (Ended act reply held shown)) p

@@ -1,0 +1,224 @@
+-- What a worker's disk holds of what was promised, between the calls of the disk and within each.
+use Rattle.std.specs.Prelude.{◌≡◌, ◌⊎◌, ℕ, ◌+◌, ◌≤◌, List, [], ◌++◌, length, map, take}
+use Rattle.wasm_syntax.specs.declared.module.Module.{Module}
+use Rattle.wasi_abi.specs.rules.Configs.{Settings}
+use Rattle.process_rules.specs.Processes.{ProcessState}
+use Rattle.process_rules.specs.Runs.{Kept, Runs}
+use Rattle.sector_disk.specs.rules.Image.{Image}
+use Rattle.sector_disk.specs.rules.Medium.{Medium, LeavesOnly}
+use Rattle.disk_layout.specs.rules.Sectors.{HasMarks}
+use Rattle.disk_layout.specs.rules.Journal.{Record}
+use Rattle.journal.specs.rules.State.{JournalState}
+use Rattle.record_replay.specs.rules.Records.{Recorded, given_in}
+use Rattle.worker_rules.specs.Stands.{IsBlank}
+use Rattle.worker_rules.specs.Lives.{Checkpoint, Done, Opened, Ended}
+use Rattle.worker_rules.specs.Courses.{Stage, Shut, IsLast}
+use Rattle.worker_rules.specs.Promises.{Promise, after, HoldsAll, IsAt, IsOpening}
+use Rattle.worker_rules.specs.Holds.{HoldsPromise, IsNothingYet, ImageHolds, KeepsPromise}
+use Rattle.worker_rules.specs.Holds.{CarriesPromise}
+use Rattle.worker_store.specs.laws.Savepoints.{Savepoint, point_of, StandsAtPoint}
+use Rattle.worker_store.specs.laws.Barriers.{StandsAtFront}
+use Rattle.worker_store.specs.laws.Commits.{BeginsAtPoint}
+use Rattle.worker_store.specs.laws.Journaled.{IsJournaled}
+
+-- ---- a savepoint and its records
+
+-- the answers of a savepoint and of these records
+abbrev pub answers_at : {m : Module} {config : Settings} → Savepoint m config → List Record
+    → List Kept
+answers_at point records = point.front ++ map given_in records
+
+-- how many they are
+abbrev pub count_at : {m : Module} {config : Settings} → Savepoint m config → List Record → ℕ
+count_at point records = length point.front + length records
+
+-- A savepoint and its records, which lead to this process, hold all that is promised. They have the
+-- first of the kept answers. An outlet has taken the lines of the savepoint, and those that are
+-- told no more are among them.
+pub record IsHeldAt {m : Module} {config : Settings} (promise : Promise)
+    (point : Savepoint m config) (records : List Record) (last : ProcessState) : Type 0 where
+  pub front : take (count_at point records) promise.kept ≡ answers_at point records
+  pub recorded : Recorded point.reached.guest point.process records last
+  pub holds : HoldsAll m config promise.kept promise (count_at point records) last.steps
+  pub heard : point.saved.lines ≤ promise.heard
+  pub passed : promise.passed ≤ point.saved.lines
+
+-- What stands there holds what is promised,
+abbrev pub HeldAtStands : Type 0
+HeldAtStands =
+    (m : Module) (config : Settings) (promise : Promise) (point : Savepoint m config)
+    (records : List Record) (last : ProcessState) (disk : Image)
+    → IsHeldAt promise point records last → StandsAtPoint point records last disk
+    → HoldsPromise m config promise promise disk
+
+-- and what holds it stands there.
+abbrev pub StandsHeldAt : Type 0
+StandsHeldAt =
+    (m : Module) (config : Settings) (promise : Promise) (disk : Image)
+    → (holds : HoldsPromise m config promise promise disk)
+    → IsHeldAt promise (point_of holds.stands) holds.stands.records holds.stands.last
+
+-- What a recovery finds with the marks of a worker holds what is promised,
+abbrev pub MarkedIsHeld : Type 0
+MarkedIsHeld =
+    (m : Module) (config : Settings) (promise : Promise) (disk : Image)
+    → ImageHolds m config promise promise disk → HasMarks disk
+    → HoldsPromise m config promise promise disk
+
+-- and where it finds no worker, nothing has been promised.
+abbrev pub BlankIsUnopened : Type 0
+BlankIsUnopened =
+    (m : Module) (config : Settings) (promise : Promise) (disk : Image)
+    → ImageHolds m config promise promise disk → IsBlank disk → IsNothingYet promise
+
+-- no more is promised by the first than by the second
+pub record PromisesNoMore (less more : Promise) : Type 0 where
+  pub answers : less.answers ≤ more.answers
+  pub steps : less.steps ≤ more.steps
+  pub passed : less.passed ≤ more.passed
+  pub begun : less.begun ≤ more.begun
+  pub synced : less.synced ≤ more.synced
+
+-- So what holds the more holds the less.
+abbrev pub LessIsHeld : Type 0
+LessIsHeld =
+    (m : Module) (config : Settings) (less more now : Promise) (disk : Image)
+    → PromisesNoMore less more → HoldsPromise m config more now disk
+    → HoldsPromise m config less now disk
+
+-- ---- savepoints
+
+-- A savepoint is of a process to which the last one has come without an answer. It has the answers
+-- that are on record, and an outlet has taken all its lines.
+pub record SavesFront {m : Module} {config : Settings} (promise : Promise)
+    (point next : Savepoint m config) (records : List Record) (last : ProcessState) : Type 0 where
+  pub front : next.front ≡ answers_at point records
+  pub steps : ℕ
+  pub runs : Runs point.reached.guest last [] steps next.process
+  pub heard : next.saved.lines ≤ promise.heard
+
+-- It holds what the last one and the records behind that hold.
+abbrev pub NextIsHeld : Type 0
+NextIsHeld =
+    (m : Module) (config : Settings) (promise : Promise) (point next : Savepoint m config)
+    (records : List Record) (last : ProcessState) → IsHeldAt promise point records last
+    → SavesFront promise point next records last → IsHeldAt promise next [] next.process
+
+-- A fresh savepoint without lines holds all where nothing has been promised.
+abbrev pub FreshIsHeld : Type 0
+FreshIsHeld =
+    (m : Module) (config : Settings) (promise : Promise) (point : Savepoint m config)
+    → IsNothingYet promise → point.front ≡ [] → point.saved.lines ≡ 0
+    → IsHeldAt promise point [] point.process
+
+-- It holds also what the end of a checkpoint promises, where it has all kept answers,
+abbrev pub CheckpointIsHeld : Type 0
+CheckpointIsHeld =
+    (m : Module) (config : Settings) (promise : Promise) (point : Savepoint m config)
+    → IsHeldAt promise point [] point.process → point.front ≡ promise.kept
+    → IsHeldAt (after promise (Ended Checkpoint Done (length point.front) point.saved)) point []
+    point.process
+
+-- and what a life promises that opens there.
+abbrev pub OpeningIsHeld : Type 0
+OpeningIsHeld =
+    (m : Module) (config : Settings) (promise : Promise) (point : Savepoint m config)
+    → IsHeldAt promise point [] point.process
+    → IsHeldAt (after promise (Opened (length point.front) point.saved)) point [] point.process
+
+-- what is saved is what its answers lead to
+abbrev pub PointIsAt : Type 0
+PointIsAt =
+    (m : Module) (config : Settings) (point : Savepoint m config)
+    → IsAt m config point.front point.saved.steps point.saved
+
+-- So a life may open there that has told no line beyond.
+abbrev pub PointOpens : Type 0
+PointOpens =
+    (m : Module) (config : Settings) (promise : Promise) (point : Savepoint m config)
+    (stage : Stage) → IsHeldAt promise point [] point.process → stage.phase ≡ Shut
+    → IsLast stage.line point.saved.lines
+    → IsOpening m config promise stage (length point.front) point.saved
+
+-- ---- a disk
+
+-- An open worker between two calls of its disk. All that is promised is held by the savepoint and
+-- the records on the disk. These, and then the pending ones, are of the first of the kept answers.
+pub record IsCarried {m : Module} {config : Settings} (promise : Promise)
+    (point : Savepoint m config) (journal : JournalState) (records pending : List Record)
+    (last now : ProcessState) (disk : Medium) : Type 0 where
+  pub journaled : IsJournaled point journal records pending last now disk
+  pub held : IsHeldAt promise point records last
+  pub answers : take (count_at point (records ++ pending)) promise.kept
+      ≡ answers_at point (records ++ pending)
+
+-- a cut now leaves what holds all that is promised
+abbrev pub CarriedKeeps : {D : Type 0} → (D → Medium) → Type 0
+CarriedKeeps {D} medium =
+    (m : Module) (config : Settings) (promise : Promise) (point : Savepoint m config)
+    (journal : JournalState) (records pending : List Record) (last now : ProcessState) (disk : D)
+    → IsCarried promise point journal records pending last now (medium disk)
+    → KeepsPromise m config promise (medium disk)
+
+-- where a cut leaves no other image than before
+abbrev pub StaysCarried : {D : Type 0} → (D → Medium) → Type 0
+StaysCarried {D} medium =
+    (m : Module) (config : Settings) (promise : Promise) (point : Savepoint m config)
+    (journal : JournalState) (records pending : List Record) (last now : ProcessState)
+    (old new : D) → IsCarried promise point journal records pending last now (medium old)
+    → ((image : Image) → (medium new).may_leave image → (medium old).may_leave image)
+    → IsCarried promise point journal records pending last now (medium new)
+
+-- A barrier leaves it so, by Ok or by any error, whatever less was promised when the call began.
+abbrev pub BarrierCarries : {D : Type 0} → (D → Medium) → Type 0
+BarrierCarries {D} medium =
+    (m : Module) (config : Settings) (less promise : Promise) (point : Savepoint m config)
+    (journal : JournalState) (records pending : List Record) (last now : ProcessState)
+    (old new : D) → PromisesNoMore less promise
+    → IsCarried promise point journal records pending last now (medium old)
+    → LeavesOnly (medium old) (medium new) (StandsAtFront point records last pending)
+    → CarriesPromise m config less promise (medium old) (medium new)
+
+-- once it has answered Ok
+abbrev pub BarrierCarriesOn : {D : Type 0} → (D → Medium) → Type 0
+BarrierCarriesOn {D} medium =
+    (m : Module) (config : Settings) (promise : Promise) (point : Savepoint m config)
+    (before later : JournalState) (records pending : List Record) (last now : ProcessState)
+    (old new : D) → IsCarried promise point before records pending last now (medium old)
+    → IsJournaled point later (records ++ pending) [] now now (medium new)
+    → IsCarried promise point later (records ++ pending) [] now now (medium new)
+
+-- A commit leaves it so, of a worker that is open or recovers, and so does all that fills an area.
+abbrev pub CommitCarries : {D : Type 0} → (D → Medium) → Type 0
+CommitCarries {D} medium =
+    (m : Module) (config : Settings) (less promise : Promise) (point next : Savepoint m config)
+    (records : List Record) (last : ProcessState) (old new : D) → PromisesNoMore less promise
+    → IsHeldAt promise point records last → SavesFront promise point next records last
+    → LeavesOnly (medium old) (medium new)
+    (λ disk. StandsAtPoint point records last disk ⊎ BeginsAtPoint next disk)
+    → CarriesPromise m config less promise (medium old) (medium new)
+
+-- where it leaves nothing but what stands at the old savepoint
+abbrev pub StandingCarries : {D : Type 0} → (D → Medium) → Type 0
+StandingCarries {D} medium =
+    (m : Module) (config : Settings) (less promise : Promise) (point : Savepoint m config)
+    (records : List Record) (last : ProcessState) (old new : D) → PromisesNoMore less promise
+    → IsHeldAt promise point records last
+    → LeavesOnly (medium old) (medium new) (StandsAtPoint point records last)
+    → CarriesPromise m config less promise (medium old) (medium new)
+
+-- a creation, while nothing has been promised
+abbrev pub CreationCarries : {D : Type 0} → (D → Medium) → Type 0
+CreationCarries {D} medium =
+    (m : Module) (config : Settings) (promise : Promise) (point : Savepoint m config)
+    (old new : D) → IsNothingYet promise → point.front ≡ [] → point.saved.lines ≡ 0
+    → LeavesOnly (medium old) (medium new) (λ disk. IsBlank disk ⊎ BeginsAtPoint point disk)
+    → CarriesPromise m config promise promise (medium old) (medium new)
+
+-- A worker is carried at a savepoint that its disk begins at.
+abbrev pub BeginsCarried : {D : Type 0} → (D → Medium) → Type 0
+BeginsCarried {D} medium =
+    (m : Module) (config : Settings) (promise : Promise) (point : Savepoint m config)
+    (journal : JournalState) (disk : D) → IsHeldAt promise point [] point.process
+    → IsJournaled point journal [] [] point.process point.process (medium disk)
+    → IsCarried promise point journal [] [] point.process point.process (medium disk)

@@ -1,0 +1,85 @@
+-- What calls of a journal leave of a disk that stands for a worker, whatever a cut leaves.
+use Rattle.std.specs.Prelude.{◌≡◌, ℕ, ◌^◌, ◌<◌, List, [], ◌∷◌, ◌++◌, false, Some}
+use Rattle.wasm_syntax.specs.declared.module.Module.{Module}
+use Rattle.wasi_abi.specs.declared.answer.Answer.{Answer}
+use Rattle.wasi_abi.specs.rules.Configs.{Settings}
+use Rattle.process_rules.specs.Processes.{ProcessState}
+use Rattle.process_rules.specs.Runs.{Runs, Moves}
+use Rattle.sector_disk.specs.rules.Image.{Image}
+use Rattle.sector_disk.specs.rules.Medium.{Medium, After, LeavesOnly}
+use Rattle.disk_layout.specs.rules.Journal.{Record, record_bytes}
+use Rattle.journal.specs.rules.State.{JournalState, state}
+use Rattle.journal.specs.rules.Steps.{AppendsFront, RecordsStand, RecordFits, IsOn}
+use Rattle.record_replay.specs.rules.Records.{Recorded}
+use Rattle.worker_rules.specs.Stands.{IsNumbered}
+use Rattle.worker_store.specs.laws.Savepoints.{Savepoint, places, StandsAtPoint}
+use Rattle.worker_store.specs.laws.Barriers.{StandsAtFront}
+use Rattle.worker_store.specs.laws.Commits.{BeginsAtPoint}
+
+-- Whatever a cut leaves of the disk stands at this savepoint, with these records, which lead to
+-- the first process. The journal holds them, and in memory those behind them, which lead on to the
+-- second process. Its numbers are below their ends.
+pub record IsJournaled {m : Module} {config : Settings} (point : Savepoint m config)
+    (journal : JournalState) (records pending : List Record) (last now : ProcessState)
+    (disk : Medium) : Type 0 where
+  pub generation : journal.generation ≡ point.generation
+  pub stands : (image : Image) → disk.may_leave image → StandsAtPoint point records last image
+  pub on : IsOn (places point) journal.generation journal.used journal.kept records pending
+      disk.may_leave
+  pub recorded : Recorded point.reached.guest last pending now
+  pub numbers : IsNumbered now
+
+-- a cut at any moment of a barrier leaves a front of the pending records
+abbrev pub BarrierAtAnyMoment : {D : Type 0} → (D → Medium) → Type 0
+BarrierAtAnyMoment {D} medium =
+    (m : Module) (config : Settings) (point : Savepoint m config) (journal : JournalState)
+    (records pending : List Record) (last now : ProcessState) (old new : D)
+    → IsJournaled point journal records pending last now (medium old)
+    → LeavesOnly (medium old) (medium new)
+    (After (AppendsFront (places point) journal.generation journal.used records pending)
+    (medium old).may_leave)
+    → LeavesOnly (medium old) (medium new) (StandsAtFront point records last pending)
+
+-- Once it has answered Ok, all of them are on the disk, and none is pending.
+abbrev pub BarrierInTheEnd : {D : Type 0} → (D → Medium) → Type 0
+BarrierInTheEnd {D} medium =
+    (m : Module) (config : Settings) (point : Savepoint m config) (before after : JournalState)
+    (records pending : List Record) (last now : ProcessState) (used : ℕ) (old new : D)
+    → IsJournaled point before records pending last now (medium old)
+    → LeavesOnly (medium old) (medium new)
+    (After (AppendsFront (places point) before.generation before.used records pending)
+    (medium old).may_leave)
+    → after ≡ state before.generation used [] false
+    → ((image : Image) → (medium new).may_leave image
+    → RecordsStand (places point) after.generation after.used (records ++ pending) image)
+    → IsJournaled point after (records ++ pending) [] now now (medium new)
+
+-- the record of an answer that a process has taken is appended
+abbrev pub AppendGoesOn : {D : Type 0} → (D → Medium) → Type 0
+AppendGoesOn {D} medium =
+    (m : Module) (config : Settings) (point : Savepoint m config) (before after : JournalState)
+    (records pending : List Record) (last now asks next : ProcessState) (a : Answer) (n : ℕ)
+    (disk : D) → (let r : Record = record { step = next.steps; answer = a } in
+    IsJournaled point before records pending last now (medium disk)
+    → Runs point.reached.guest now [] n asks → Moves point.reached.guest asks (Some a) next
+    → RecordFits r → IsNumbered next
+    → after ≡ state before.generation before.used (before.kept ++ record_bytes r) false
+    → IsJournaled point after records (pending ++ r ∷ []) last next (medium disk))
+
+-- where a cut leaves no other image than before
+abbrev pub StaysJournaled : {D : Type 0} → (D → Medium) → Type 0
+StaysJournaled {D} medium =
+    (m : Module) (config : Settings) (point : Savepoint m config) (journal : JournalState)
+    (records pending : List Record) (last now : ProcessState) (old new : D)
+    → IsJournaled point journal records pending last now (medium old)
+    → ((image : Image) → (medium new).may_leave image → (medium old).may_leave image)
+    → IsJournaled point journal records pending last now (medium new)
+
+-- the fresh journal of a disk that begins at a savepoint
+abbrev pub BeginsJournaled : {D : Type 0} → (D → Medium) → Type 0
+BeginsJournaled {D} medium =
+    (m : Module) (config : Settings) (point : Savepoint m config) (disk : D)
+    → ((image : Image) → (medium disk).may_leave image → BeginsAtPoint point image)
+    → point.generation < 2 ^ 64 → IsNumbered point.process
+    → IsJournaled point (state point.generation 0 [] false) [] [] point.process point.process
+    (medium disk)
