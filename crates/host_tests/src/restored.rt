@@ -78,19 +78,26 @@ pub(crate) fn begun_with(alloc: Global, wasm: &[u8], pages: u64) -> Result<Proce
     started(alloc, wasm, config(alloc, pages)?)
 }
 
-/// The process of an image, if there is one, whose memory may have so many pages.
+/// The process that was made, if the bytes were an image.
+fn process_of(made: Result<Process, RestoreFault>) -> Result<Option<Process>, ImageStop> {
+    match made {
+        Ok(process) => Ok(Some(process)),
+        Err(RestoreFault::NotAnImage) => Ok(None),
+        Err(fault) => Err(ImageStop::from(fault)),
+    }
+}
+
+/// The process of an image, if there is one, whose memory may have so many pages. No `?` stands
+/// while the module is owned.
 pub(crate) fn restored_with(
     alloc: Global,
     wasm: &[u8],
     image: &[u8],
     pages: u64,
 ) -> Result<Option<Process>, ImageStop> {
+    let settings = config(alloc, pages)?;
     let module = read(alloc, wasm)?;
-    match restore(alloc, module, config(alloc, pages)?, image) {
-        Ok(process) => Ok(Some(process)),
-        Err(RestoreFault::NotAnImage) => Ok(None),
-        Err(fault) => Err(ImageStop::from(fault)),
-    }
+    process_of(restore(alloc, module, settings, image))
 }
 
 fn begun(alloc: Global, wasm: &[u8]) -> Result<Process, ImageStop> {

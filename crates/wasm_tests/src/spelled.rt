@@ -108,6 +108,19 @@ fn append_code(bytes: &mut Vec<u8>, others: &[u8], last: &[u8]) -> Result<(), Re
     Ok(())
 }
 
+/// Appends a code section whose entries two texts spell: their number and some of them, and a last
+/// one.
+fn append_spelled_code(
+    alloc: Global,
+    bytes: &mut Vec<u8>,
+    others: &str,
+    last: &str,
+) -> Result<(), Refused> {
+    let others = spelled(alloc, others, "")?;
+    let last = spelled(alloc, last, "")?;
+    append_code(bytes, others.as_slice(), last.as_slice())
+}
+
 /// What stands before a module's code section, that section without sizes, as its number of entries
 /// with some of them and a last entry, and what stands behind it.
 pub fn with_code(
@@ -117,10 +130,8 @@ pub fn with_code(
     last: &str,
     rest: &str,
 ) -> Result<Vec<u8>, Refused> {
-    let others = spelled(alloc, others, "")?;
-    let last = spelled(alloc, last, "")?;
     let mut bytes = spelled(alloc, front, "")?;
-    append_code(&mut bytes, others.as_slice(), last.as_slice())?;
+    append_spelled_code(alloc, &mut bytes, others, last)?;
     append(&mut bytes, rest)?;
     Ok(bytes)
 }

@@ -425,11 +425,18 @@ fn told_of_module(alloc: Global, made: Module) -> Option<ValidFault> {
 /// A type from nothing to nothing.
 const TYPED: &[u8] = b"\0asm\x01\0\0\0\x01\x04\x01\x60\0\0";
 
-/// The fault of a module with this function alone.
+fn add_function(made: &mut Module, own: Function) -> Result<(), Refused> {
+    made.functions.push(own)?;
+    Ok(())
+}
+
+/// The fault of a module with this function alone. No `?` stands while the module is owned.
 fn told_of_function(alloc: Global, own: Function) -> Result<Option<ValidFault>, Refused> {
     let mut made = decode(alloc, TYPED)?;
-    made.functions.push(own)?;
-    Ok(told_of_module(alloc, made))
+    let added = add_function(&mut made, own);
+    let told = told_of_module(alloc, made);
+    added?;
+    Ok(told)
 }
 
 static ILL_FORMED: [&[u8]; 6] = [
@@ -456,11 +463,18 @@ fn ill_formed_bodies_are_not_typed(rt: HostRuntime) -> Result<(), Refused> {
     Ok(())
 }
 
-/// The fault of a module with this table alone.
+fn add_table(made: &mut Module, limits: Limits) -> Result<(), Refused> {
+    made.tables.push(TableType { limits })?;
+    Ok(())
+}
+
+/// The fault of a module with this table alone. No `?` stands while the module is owned.
 fn told_of_table(alloc: Global, limits: Limits) -> Result<Option<ValidFault>, Refused> {
     let mut made = decode(alloc, TYPED)?;
-    made.tables.push(TableType { limits })?;
-    Ok(told_of_module(alloc, made))
+    let added = add_table(&mut made, limits);
+    let told = told_of_module(alloc, made);
+    added?;
+    Ok(told)
 }
 
 /// The least and the greatest size of a table, beyond what the decoder lets through, and the fault.
