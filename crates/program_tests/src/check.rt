@@ -4,7 +4,7 @@ use hex::decode;
 use std::alloc::Global;
 use std::process::Abort;
 use std::test::Fail;
-use wasmhost_serve::check_bytes;
+use wasmhost_serve::{Printer, check_bytes};
 
 const HEADER: &str = "0061736d01000000";
 
@@ -83,7 +83,7 @@ type Row = (&'static [&'static str], u8, &'static str);
 fn is_told_so(alloc: Global, row: &Row) -> Result<bool, Fail> {
     let bytes = bytes_of(alloc, row.0)?;
     let mut out = Vec::new(alloc);
-    let status = check_bytes(alloc, bytes.as_slice(), &mut out);
+    let status = check_bytes(alloc, bytes.as_slice(), &mut Printer::new(&mut out, false));
     Ok(status == row.1 && out.as_slice() == row.2.as_bytes())
 }
 
@@ -286,8 +286,7 @@ fn sections(rt: HostRuntime) -> Result<(), Fail> {
 
 /// The status of `check` on these bytes.
 fn status_of(alloc: Global, bytes: &[u8]) -> u8 {
-    let mut out = Vec::new(alloc);
-    check_bytes(alloc, bytes, &mut out)
+    check_bytes(alloc, bytes, &mut Printer::new(Vec::new(alloc), false))
 }
 
 /// Each front of a module that is accepted is refused.
@@ -304,7 +303,8 @@ fn fronts(rt: HostRuntime) -> Result<(), Fail> {
 /// The statuses of the small module and of a front of it, both in one room of 8 bytes.
 fn statuses_without_room(alloc: Global) -> [u8; 2] {
     let mut room = [0u8; 8];
-    let mut out: &mut [u8] = &mut room;
+    let room: &mut [u8] = &mut room;
+    let mut out = Printer::new(room, false);
     let accepted = check_bytes(alloc, &SMALL, &mut out);
     [accepted, check_bytes(alloc, &SMALL[..9], &mut out)]
 }
@@ -318,8 +318,8 @@ fn output_without_room(rt: HostRuntime) {
 /// That the small module is accepted, in a room for its line that takes no memory.
 fn accept_small(alloc: Global) -> Result<(), Refused> {
     let mut room = [0u8; 32];
-    let mut out: &mut [u8] = &mut room;
-    match check_bytes(alloc, &SMALL, &mut out) {
+    let room: &mut [u8] = &mut room;
+    match check_bytes(alloc, &SMALL, &mut Printer::new(room, false)) {
         0 => Ok(()),
         5 => Err(Refused::Memory),
         _ => Err(Refused::Otherwise),

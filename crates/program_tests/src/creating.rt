@@ -5,7 +5,7 @@ use crate::check::{HELLO, bytes_of};
 use sector_disk::MemDisk;
 use std::alloc::Global;
 use std::test::Fail;
-use wasmhost_serve::{Prepared, Sizes, create_on, prepare, report_unprepared};
+use wasmhost_serve::{Prepared, Printer, Sizes, create_on, prepare, report_unprepared};
 
 /// Texts of a module, and pages, units of files and sectors of the journal of its worker.
 type Asked = (&'static [&'static str], [u64; 3]);
@@ -65,7 +65,7 @@ fn is_refused_so(alloc: Global, row: &Refused) -> Result<bool, Fail> {
     let mut err = Vec::new(alloc);
     let status = match prepare(alloc, wasm.as_slice(), sizes_of(row.0.1), &[], &[row.1]) {
         Ok(_prepared) => 0,
-        Err(fault) => report_unprepared(&mut err, fault),
+        Err(fault) => report_unprepared(&mut Printer::new(&mut err, false), fault),
     };
     Ok(status == 3 && err.as_slice() == row.2.as_bytes())
 }
@@ -91,7 +91,14 @@ fn ends_so(alloc: Global, wasm: &[u8], prepared: &Prepared, row: &Created) -> Re
     let mut disk = MemDisk::new(alloc, row.0, 5000)?;
     let mut out = Vec::new(alloc);
     let mut err = Vec::new(alloc);
-    let status = create_on(alloc, &mut disk, wasm, &prepared.config, &mut out, &mut err);
+    let status = create_on(
+        alloc,
+        &mut disk,
+        wasm,
+        &prepared.config,
+        &mut Printer::new(&mut out, false),
+        &mut Printer::new(&mut err, false),
+    );
     let is_so = status == row.1
         && out.as_slice() == row.2.as_bytes()
         && err.as_slice() == row.3.as_bytes();

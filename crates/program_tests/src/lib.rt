@@ -1,7 +1,7 @@
 //! What tests alone can show of the program's commands: the words of the command line, the lines in
 //! and out, what `check` prints of modules and `show` of disks, what a creation prints and tells,
-//! and what `run` prints, tells and exits with. Also, how a worker that asks takes its answers, and
-//! that its slices may be cut anywhere.
+//! and what `run` prints, tells and exits with, also of a worker on its disk. Also, how a worker
+//! that asks takes its answers, and that its slices may be cut anywhere.
 //!
 //! Each test is a table of rows whose expected values come from outside. Those that take memory
 //! return their error, so that `scripts/refused-allocations` can refuse each allocation in turn.
@@ -19,6 +19,8 @@ mod images;
 mod lines;
 #[cfg(test)]
 mod run;
+#[cfg(test)]
+mod serving;
 #[cfg(test)]
 mod show;
 #[cfg(test)]

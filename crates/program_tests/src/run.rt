@@ -9,7 +9,7 @@ use std::alloc::{AllocError, Global};
 use std::io::Write;
 use std::num::NonZeroU64;
 use std::test::Fail;
-use wasmhost_serve::{BufferedLines, LineOutlet, Options, RequestSource, serve};
+use wasmhost_serve::{BufferedLines, LineOutlet, Options, Printer, RequestSource, serve};
 use worker::{Now, WorkFault, Worker};
 
 /// Modules of one body each, without imports.
@@ -51,7 +51,7 @@ enum Refused {
 }
 
 /// A source without lines.
-fn empty_source(alloc: Global) -> RequestSource<BufferedLines<&'static [u8]>, NoClock> {
+pub(crate) fn empty_source(alloc: Global) -> RequestSource<BufferedLines<&'static [u8]>, NoClock> {
     let reader = BufferedLines::new(b"".as_slice());
     RequestSource::new(alloc, reader, NoClock, OUTSIDE, 0)
 }
@@ -66,12 +66,12 @@ fn plain_options(fuel: NonZeroU64) -> Options<'static> {
 }
 
 /// The status of a run of a module, by slices of so many steps.
-fn status_of<W: Write + Drop, E: Write>(
+fn status_of<W: Write + Drop, E: Write + Drop>(
     alloc: Global,
     wasm: &[u8],
     fuel: NonZeroU64,
     outlet: &mut LineOutlet<W>,
-    err: &mut E,
+    err: &mut Printer<E>,
 ) -> u8 {
     let mut source = empty_source(alloc);
     let status = serve(alloc, wasm, plain_options(fuel), &mut source, outlet, err);
@@ -105,7 +105,8 @@ fn prints_so(alloc: Global, case: &Case) -> Result<bool, Fail> {
     let wasm = bytes_of(alloc, case.0)?;
     let mut outlet = LineOutlet::new(alloc, Vec::new(alloc))?;
     let mut err = Vec::new(alloc);
-    let status = status_of(alloc, wasm.as_slice(), fuel, &mut outlet, &mut err);
+    let told = &mut Printer::new(&mut err, false);
+    let status = status_of(alloc, wasm.as_slice(), fuel, &mut outlet, told);
     let lines = outlet.out.as_slice() == case.2.as_bytes();
     Ok(lines && err.as_slice() == case.3.as_bytes() && status == case.4)
 }
@@ -194,7 +195,7 @@ fn status_in(
     words: &mut [u8],
 ) -> Result<u8, AllocError> {
     let mut outlet = LineOutlet::new(alloc, lines)?;
-    let mut err: &mut [u8] = words;
+    let mut err = Printer::new(words, false);
     let status = status_of(alloc, &HELLO_BYTES, fuel, &mut outlet, &mut err);
     drop(outlet);
     Ok(status)

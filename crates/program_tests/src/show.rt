@@ -9,7 +9,7 @@ use record_replay::{AnswerList, LineList};
 use sector_disk::{Disk, FaultDisk, MemDisk, Place};
 use std::alloc::Global;
 use std::test::Fail;
-use wasmhost_serve::{DurableWorker, show_on};
+use wasmhost_serve::{DurableWorker, Printer, show_on};
 
 /// Sectors of the disk of `echo`, and how many writes it has room for between two syncs.
 const SECTORS: u64 = 4_676;
@@ -28,7 +28,12 @@ struct Shown {
 fn shows<D: Disk>(alloc: Global, disk: &mut D, shown: &Shown) -> bool {
     let mut out = Vec::new(alloc);
     let mut err = Vec::new(alloc);
-    let status = show_on(alloc, disk, &mut out, &mut err);
+    let status = show_on(
+        alloc,
+        disk,
+        &mut Printer::new(&mut out, false),
+        &mut Printer::new(&mut err, false),
+    );
     status == shown.status
         && out.as_slice() == shown.out.as_bytes()
         && err.as_slice() == shown.err.as_bytes()
@@ -114,6 +119,14 @@ fn open_again<D: Disk>(alloc: Global, disk: &mut D, is_wanted: bool) -> Result<(
         }
         Err(fault) => Err(Fail::from(fault)),
     }
+}
+
+/// The disk of `echo` behind one slice, in which it has taken a request and told its line. Nothing
+/// was saved since the creation.
+pub(crate) fn after_one_slice(alloc: Global) -> Result<MemDisk, Fail> {
+    let mut disk = zeros(alloc)?;
+    live(alloc, &mut disk, &COURSES[1])?;
+    Ok(disk)
 }
 
 /// Whether that is shown of its disk then, and the same once more.
@@ -248,8 +261,8 @@ fn a_disk_without_a_worker_is_refused(rt: HostRuntime) -> Result<(), Fail> {
 
 /// The status where the output, or the error output, has so much room.
 fn status_in(alloc: Global, disk: &mut MemDisk, out: &mut [u8], err: &mut [u8]) -> u8 {
-    let mut out: &mut [u8] = out;
-    let mut err: &mut [u8] = err;
+    let mut out = Printer::new(out, false);
+    let mut err = Printer::new(err, false);
     show_on(alloc, disk, &mut out, &mut err)
 }
 

@@ -4,7 +4,7 @@ use crate::asking::ECHO;
 use crate::check::bytes_of;
 use std::alloc::Global;
 use std::test::Fail;
-use wasmhost_serve::{ScriptFault, Sizes, read_script, tell};
+use wasmhost_serve::{Printer, ScriptFault, Sizes, read_script, tell};
 
 /// Texts of a module, and pages, units of files and sectors of the journal of its worker.
 type Asked = (&'static [&'static str], [u64; 3]);
@@ -153,8 +153,8 @@ fn is_told_so(alloc: Global, row: &Told) -> Result<bool, Fail> {
         script.as_bytes(),
         wasm.as_slice(),
         sizes,
-        &mut out,
-        &mut err,
+        &mut Printer::new(&mut out, false),
+        &mut Printer::new(&mut err, false),
     );
     let is_so = told == status
         && out.as_slice() == said.as_bytes()

@@ -18,6 +18,8 @@
 //!   clock.
 //! - What keeps a command from beginning is told by `report`, `report_open` and
 //!   `report_unprepared`, and a fault of the words by `report_words`.
+//! - Each command is handed fresh printers, of which no write has failed. That of the error output
+//!   is told whether it is a terminal.
 //!
 //! # Definitions to read
 //!
@@ -37,12 +39,12 @@ use sector_disk::{FileDisk, rewrite};
 use std::alloc::Global;
 use std::env;
 use std::fs::File;
-use std::io::{self, BufReader, ErrorKind, Input, Read, Write};
+use std::io::{self, BufReader, ErrorKind, Input, IsTerminal, Read, Write};
 use std::process::ExitCode;
 use std::rt::{Env, Files};
 use std::time::Clock;
 use wasmhost_serve::{
-    BufferedLines, CreateOrder, LineOutlet, Obstacle, Order, Outside, Pace, RequestSource,
+    BufferedLines, CreateOrder, LineOutlet, Obstacle, Order, Outside, Pace, Printer, RequestSource,
     RunOrder, Sizes, StoryOrder, check_bytes, create_on, obstacle_of, prepare, read_module,
     read_script, read_seed, read_words, report, report_open, report_script, report_unprepared,
     report_words, serve_on, show_on, tell,
@@ -60,28 +62,28 @@ fn read_whole_file<R: Files>(rt: &R, alloc: Global, path: &str) -> io::Result<Ve
     Ok(bytes)
 }
 
-fn check<R: Files, W: Write, E: Write>(
+fn check<R: Files, W: Write + Drop, E: Write + Drop>(
     rt: &R,
     alloc: Global,
     path: &str,
     out: &mut W,
-    err: &mut E,
+    err: &mut Printer<E>,
 ) -> u8
     ensures { result ≤ 7 }
 {
     match read_file(rt, alloc, path) {
-        Ok(wasm) => check_bytes(alloc, wasm.as_slice(), out),
+        Ok(wasm) => check_bytes(alloc, wasm.as_slice(), &mut Printer::new(out, false)),
         Err(error) => report(err, obstacle_of(&error)),
     }
 }
 
 /// Makes the disk's file, once module and configuration are accepted, and a worker on it.
-fn create<R: Files<File = File>, W: Write, E: Write>(
+fn create<R: Files<File = File>, W: Write + Drop, E: Write + Drop>(
     rt: &R,
     alloc: Global,
     order: &CreateOrder<'_>,
     out: &mut W,
-    err: &mut E,
+    err: &mut Printer<E>,
 ) -> u8
     ensures { result ≤ 7 }
 {
@@ -106,7 +108,7 @@ fn create<R: Files<File = File>, W: Write, E: Write>(
             &mut disk,
             wasm.as_slice(),
             &prepared.config,
-            out,
+            &mut Printer::new(out, false),
             err,
         ),
         Err(fault) => report_open(err, fault),
@@ -122,10 +124,10 @@ fn seed_of(order: &RunOrder<'_>) -> Option<[u8; 32]> {
 }
 
 /// Opens the disk's file, and writes every sector back first where the words say so.
-fn open<R: Files<File = File>, E: Write>(
+fn open<R: Files<File = File>, E: Write + Drop>(
     rt: &R,
     order: &RunOrder<'_>,
-    err: &mut E,
+    err: &mut Printer<E>,
 ) -> Result<FileDisk<File>, u8>
     ensures { IfErr result (λ status. status ≤ 7) }
 {
@@ -140,12 +142,12 @@ fn open<R: Files<File = File>, E: Write>(
 }
 
 /// Runs the worker of a disk on the lines of the standard input and the machine's clock.
-fn run<R: Files<File = File> + Input + Clock, W: Write, E: Write>(
+fn run<R: Files<File = File> + Input + Clock, W: Write + Drop, E: Write + Drop>(
     rt: &R,
     alloc: Global,
     order: &RunOrder<'_>,
     out: &mut W,
-    err: &mut E,
+    err: &mut Printer<E>,
 ) -> u8
     ensures { result ≤ 7 }
 {
@@ -176,23 +178,28 @@ fn run<R: Files<File = File> + Input + Clock, W: Write, E: Write>(
 }
 
 /// Shows what stands on a disk.
-fn show<R: Files<File = File>, W: Write, E: Write>(
+fn show<R: Files<File = File>, W: Write + Drop, E: Write + Drop>(
     rt: &R,
     alloc: Global,
     path: &str,
     out: &mut W,
-    err: &mut E,
+    err: &mut Printer<E>,
 ) -> u8
     ensures { result ≤ 7 }
 {
     match FileDisk::open(rt, path) {
-        Ok(mut disk) => show_on(alloc, &mut disk, out, err),
+        Ok(mut disk) => show_on(alloc, &mut disk, &mut Printer::new(out, false), err),
         Err(fault) => report_open(err, fault),
     }
 }
 
 /// Tells that the module of a story can't be read, but first what is wrong with the script.
-fn report_unread<E: Write>(alloc: Global, script: &[u8], obstacle: Obstacle, err: &mut E) -> u8
+fn report_unread<E: Write + Drop>(
+    alloc: Global,
+    script: &[u8],
+    obstacle: Obstacle,
+    err: &mut Printer<E>,
+) -> u8
     ensures { result ≤ 7 }
 {
     match read_script(alloc, script) {
@@ -202,12 +209,12 @@ fn report_unread<E: Write>(alloc: Global, script: &[u8], obstacle: Obstacle, err
 }
 
 /// Tells the lives of a worker on a disk in memory, as a script says.
-fn story<R: Files, W: Write, E: Write>(
+fn story<R: Files, W: Write + Drop, E: Write + Drop>(
     rt: &R,
     alloc: Global,
     order: &StoryOrder<'_>,
     out: &mut W,
-    err: &mut E,
+    err: &mut Printer<E>,
 ) -> u8
     ensures { result ≤ 7 }
 {
@@ -224,11 +231,12 @@ fn story<R: Files, W: Write, E: Write>(
         files: order.files,
         journal: order.journal,
     };
+    let out = &mut Printer::new(out, false);
     tell(alloc, script.as_slice(), wasm.as_slice(), sizes, out, err)
 }
 
 /// Runs the command line, and answers the exit status.
-fn status_of<R, W: Write, E: Write>(rt: &R, out: &mut W, err: &mut E) -> u8
+fn status_of<R, W: Write + Drop, E: Write + Drop>(rt: &R, out: &mut W, err: &mut Printer<E>) -> u8
 where
     R: AllocGlobal + Clock + Env + Files<File = File> + Input,
     ensures { result ≤ 7 }
@@ -250,10 +258,13 @@ where
         Ok(Order::Run(order)) => run(rt, alloc, &order, out, err),
         Ok(Order::Show { path }) => show(rt, alloc, path, out, err),
         Ok(Order::Story(order)) => story(rt, alloc, &order, out, err),
-        Err(fault) => report_words(&fault, out, err),
+        Err(fault) => report_words(&fault, &mut Printer::new(out, false), err),
     }
 }
 
 fn main(rt: HostRuntime) -> ExitCode {
-    ExitCode::from(status_of(&rt, &mut rt.stdout(), &mut rt.stderr()))
+    let err = rt.stderr();
+    let is_terminal = err.is_terminal();
+    let err = &mut Printer::new(err, is_terminal);
+    ExitCode::from(status_of(&rt, &mut rt.stdout(), err))
 }

@@ -8,6 +8,7 @@ pub mod LivingLemmas
 pub mod ReleasedLemmas
 pub mod ShownLemmas
 pub mod OnDiskLemmas
+pub mod PrinterLemmas
 pub mod WordLemmas
 pub mod CreationLemmas
 pub mod AnsweredLemmas

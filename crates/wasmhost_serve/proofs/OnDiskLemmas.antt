@@ -1,9 +1,8 @@
 -- From the calls of a worker on its disk to what a run of it says.
 use Rattle.std.proofs.Common.{◌≡◌, ◌≢◌, inl, inr, ℕ, Bool, List, [], Option, None}
 use Rattle.std.proofs.Common.{Ok, Err}
-use Rattle.std.proofs.Common.{refl, ap, subst, ◌≤◌, lit≤, arith}
+use Rattle.std.proofs.Common.{refl, ap, subst, ◌≤◌, lit≤}
 use Rattle.std.specs.Prelude.{Result}
-use Rattle.std.specs.Io.KnownBytes.{Appends}
 use Rattle.sector_disk.specs.declared.fault.DiskFault.{DiskFault}
 use Rattle.sector_disk.specs.declared.fault.DiskFault.TheVariants as disk
 use Rattle.sector_disk.specs.rules.Medium.{Medium}
@@ -33,8 +32,11 @@ use Rattle.wasmhost_serve.specs.rules.Served.{ended_by, last_words}
 use Rattle.wasmhost_serve.specs.rules.ServedOnDisk.{DiskJob, stands_behind, handing}
 use Rattle.wasmhost_serve.specs.rules.ServedOnDisk.{printing, IsLeftAlone, IsUnopenedRun}
 use Rattle.wasmhost_serve.specs.rules.ServedOnDisk.{LivesOnDisk}
-use Rattle.wasmhost_serve.specs.rules.ServedOnDisk.{IsSaid, ServesOnDisk, unopened as is_unopened}
+use Rattle.wasmhost_serve.specs.rules.Printers.{PrinterState, IsSaid, SaysText, TellsPerson}
+use Rattle.wasmhost_serve.specs.rules.ServedOnDisk.{ServesOnDisk, recovered_line}
+use Rattle.wasmhost_serve.specs.rules.ServedOnDisk.{unopened as is_unopened}
 use Rattle.wasmhost_serve.specs.rules.ServedOnDisk.{over, broken}
+use Rattle.wasmhost_serve.proofs.PrinterLemmas.{few_said}
 use Rattle.wasmhost_serve.proofs.ShownLemmas.{gives_so, takes_so, recovery_so, calls_so}
 
 -- ---- an open worker
@@ -159,8 +161,8 @@ module _ {D O : Type 0} (medium : D → Medium) (shows : O → Option (List ℕ)
 
   -- ---- what the status says
 
-  module _ (given : DiskJob) (found last : D) (o : O) (out' err err' : Option (List ℕ))
-      (failed' : Bool) (status : ℕ) where
+  module _ (given : DiskJob) (found last : D) (o : O) (out' : Option (List ℕ))
+      (err err' : PrinterState) (failed' : Bool) (status : ℕ) where
     abbrev Serves : Type 0
     Serves = ServesOnDisk medium given found last (shows o) out' err err' failed' status
 
@@ -168,30 +170,33 @@ module _ {D O : Type 0} (medium : D → Medium) (shows : O → Option (List ℕ)
         → failed' ≡ given.failed
         → Recovers medium prints_so (Err why) found last o p
         → RecoveryCarries prints_so (Err why) (medium found) (medium last) o p
-        → told ≡ told_of_opening why → IsSaid (status_on_disk told) status → Serves
+        → told ≡ told_of_opening why → IsSaid (status_on_disk told) err status err' → Serves
     serves_none why told p same heeded recovers carries tells says =
         is_unopened why
         (subst (IsUnopenedRun medium why found last (shows o)) same
         (opens_none why found last o p recovers carries)) heeded
-        (subst (λ t. IsSaid (status_on_disk t) status) tells says)
+        (subst (λ t. IsSaid (status_on_disk t) err status err') tells says)
 
-    module _ (w : DurableValue) (opening : D) (p : O)
-        (carries : RecoveryCarries prints_so (Ok w) (medium found) (medium opening) o p) where
+    module _ (w : DurableValue) (opening : D) (p : O) (between : PrinterState)
+        (carries : RecoveryCarries prints_so (Ok w) (medium found) (medium opening) o p)
+        (tells : TellsPerson (recovered_line w) err between) where
       pub serves_over : (why : Now)
           → HasGoneOn medium given w opening last (shows p) out' failed' (Ok why)
-          → IsSaid 0 status → (status ≡ 0 → Appends err err' (last_words (ended_by why))) → Serves
-      serves_over why gone says told =
-          over why gone.0 gone.1
-          (lives_on given w (Ok []) found opening last o p out' gone.0 carries gone.3) gone.2 says
-          told
+          → SaysText (last_words (ended_by why)) 0 between status err' → Serves
+      unfolding lives_on
+      serves_over why gone says =
+          over why gone.0 between gone.1
+          (lives_on given w (Ok []) found opening last o p out' gone.0 carries gone.3) gone.2
+          tells says
 
       pub serves_broken : (told : OnDiskFault)
           → HasGoneOn medium given w opening last (shows p) out' failed' (Err told)
-          → IsSaid (status_on_disk told) status → Serves
+          → IsSaid (status_on_disk told) between status err' → Serves
+      unfolding lives_on
       serves_broken told gone says =
-          broken gone.1 told gone.0
+          broken gone.1 told gone.0 between
           (lives_on given w (Err (recover.Worker gone.1)) found opening last o p out' gone.0
-          carries gone.4) gone.3 gone.2 says
+          carries gone.4) gone.3 gone.2 tells says
 
 -- ---- statuses
 
@@ -227,7 +232,7 @@ few_on_disk (is_told.Recovery recover.Diverged) = lit≤ tt
 few_on_disk (is_told.Call fault) = few_of_call fault
 few_on_disk (is_told.Line fault) = few_of_line fault
 
-pub few_said : (told : OnDiskFault) (status : ℕ) → IsSaid (status_on_disk told) status
-    → status ≤ 7
-few_said told status (inl is) = let few = few_on_disk told in omega (arith, is, few)
-few_said told status (inr is) = omega (arith, is)
+pub few_told : (told : OnDiskFault) (err : PrinterState) (status : ℕ) (err' : PrinterState)
+    → IsSaid (status_on_disk told) err status err' → status ≤ 7
+few_told told err status err' says =
+    few_said (status_on_disk told) err status err' (few_on_disk told) says

@@ -1,9 +1,8 @@
 -- What is printed of a disk, by its survey.
-use Rattle.std.proofs.Common.{◌≡◌, ◌⊎◌, inl, inr, ⊎_elim, ℕ, ◌<◌, ◌≤◌, List, ◌++◌, refl, sym, ap}
+use Rattle.std.proofs.Common.{◌≡◌, ◌⊎◌, inl, inr, ℕ, ◌<◌, ◌≤◌, List, ◌++◌, refl, sym, ap}
 use Rattle.std.proofs.Common.{◌∙◌}
 use Rattle.std.proofs.Common.{subst, arith}
-use Rattle.std.specs.Prelude.{Option, Result, Ok, Err}
-use Rattle.std.specs.Io.KnownBytes.{Appends}
+use Rattle.std.specs.Prelude.{Result, Ok, Err}
 use Rattle.sector_disk.specs.declared.fault.DiskFault.{DiskFault}
 use Rattle.sector_disk.specs.declared.fault.DiskFault.TheVariants as disk
 use Rattle.sector_disk.specs.rules.Image.{Image}
@@ -17,20 +16,10 @@ use Rattle.durable_worker.specs.rules.Recoveries.{SaysNothing}
 use Rattle.durable_worker.specs.rules.Surveys.{Surveys, EachSurvey, TellsSurvey, survey_of}
 use Rattle.wasmhost_serve.specs.declared.on_disk.fault.OnDiskFault.{OnDiskFault}
 use Rattle.wasmhost_serve.specs.rules.DiskStatuses.{told_of_opening, status_on_disk}
+use Rattle.wasmhost_serve.specs.rules.Printers.{PrinterState, IsSaid}
 use Rattle.wasmhost_serve.specs.rules.Showings.{SaysSurvey, SaysResult, ShowsSurvey, ShowsDisk}
-use Rattle.wasmhost_serve.proofs.LineLemmas.Printed.{appends_both}
-
--- ---- the line
-
--- six texts that were printed one behind the other
-pub appends_six : (a b c d e f g : Option (List ℕ)) (p q r s t u : List ℕ) → Appends a b p
-    → Appends b c q → Appends c d r → Appends d e s → Appends e f t → Appends f g u
-    → Appends a g (p ++ q ++ r ++ s ++ t ++ u)
-appends_six a b c d e f g p q r s t u h i j k l m =
-    appends_both a f g (p ++ q ++ r ++ s ++ t) u
-    (appends_both a e f (p ++ q ++ r ++ s) t
-    (appends_both a d e (p ++ q ++ r) s
-    (appends_both a c d (p ++ q) r (appends_both a b c p q h i) j) k) l) m
+use Rattle.wasmhost_serve.specs.rules.Showings.{survey_line}
+use Rattle.wasmhost_serve.proofs.PrinterLemmas.{few_said, text_is_said}
 
 -- ---- statuses
 
@@ -71,13 +60,13 @@ opening_known (recover.Worker (durable.Disk disk.Io)) = omega arith
 opening_known (recover.Worker (durable.Disk disk.Cut)) = omega arith
 opening_known (recover.Worker (durable.Store fault)) = omega arith
 
-says_known : (result : Result Survey RecoverFault) (old : Option (List ℕ)) (status : ℕ)
-    (new : Option (List ℕ)) → SaysResult result old status new → status ≤ 7
-says_known (Ok survey) old status new (inl said) = (let zero = said.0 in omega (arith, zero))
-says_known (Ok survey) old status new (inr unsaid) = omega (arith, unsaid)
-says_known (Err why) old status new says =
-    ⊎_elim (λ said. subst (λ n. n ≤ 7) (sym said) (opening_known why))
-    (λ unsaid. omega (arith, unsaid)) says.0
+says_known : (result : Result Survey RecoverFault) (out out' err err' : PrinterState) (status : ℕ)
+    → SaysResult result out out' err err' status → status ≤ 7
+says_known (Ok survey) out out' err err' status says =
+    few_said 0 out status out' (omega arith)
+    (text_is_said 0 out status out' (survey_line survey) says.0)
+says_known (Err why) out out' err err' status says =
+    few_said (status_on_disk (told_of_opening why)) err status err' (opening_known why) says.0
 
 -- ---- what is shown of a worker
 
@@ -97,45 +86,51 @@ module _ (old new : Medium) where
   fails_so result (inl unsettled) fault is = unsettled.faulted
   fails_so result (inr settled) fault is = settled.1 fault is
 
-module _ (old new : Medium) (out : Option (List ℕ)) (status : ℕ) (out' : Option (List ℕ)) where
+module _ (old new : Medium) (out out' err err' : PrinterState) (status : ℕ) where
   pub shows_survey : (survey : Survey) → Surveys (Ok survey) old new
-      → SaysSurvey survey out status out' → ShowsDisk old new out status out'
-  shows_survey survey surveys says =
-      record { result = Ok survey; surveys = surveys; says = says }
+      → SaysSurvey survey out status out' → err' ≡ err → ShowsDisk old new out out' err err' status
+  shows_survey survey surveys says stays =
+      record { result = Ok survey; surveys = surveys; says = (says, stays) }
 
   -- of a fault the output knows nothing
   pub shows_fault : (why : RecoverFault) (told : OnDiskFault) → Surveys (Err why) old new
-      → told ≡ told_of_opening why → (status ≡ status_on_disk told) ⊎ (status ≡ 7) → out' ≡ out
-      → ShowsDisk old new out status out'
+      → told ≡ told_of_opening why → IsSaid (status_on_disk told) err status err' → out' ≡ out
+      → ShowsDisk old new out out' err err' status
   shows_fault why told surveys is said stays = record {
     result = Err why;
     surveys = surveys;
     says = (
-      subst (λ (f : OnDiskFault). (status ≡ status_on_disk f) ⊎ (status ≡ 7)) is said,
+      subst (λ (f : OnDiskFault). IsSaid (status_on_disk f) err status err') is said,
       stays,
     );
   }
 
-  pub shows_known : ShowsDisk old new out status out' → status ≤ 7
-  shows_known shown = says_known shown.result out status out' shown.says
+  pub shows_known : ShowsDisk old new out out' err err' status → status ≤ 7
+  shows_known shown = says_known shown.result out out' err err' status shown.says
+
+  -- nothing but the status is told of what says nothing of the disk
+  says_nothing : (survey : Survey) (told : ℕ)
+      → ((told ≡ 4) × (old.faults < new.faults)) ⊎ (told ≡ 5)
+      → IsSaid told err status err' → ShowsSurvey old new out out' err' status survey
+  says_nothing survey told is (inr unsaid) = inr (inr (inr unsaid))
+  says_nothing survey told (inl four) (inl said) = inr (inl (said.0 ∙ four.0, four.1))
+  says_nothing survey told (inr five) (inl said) = inr (inr (inl (said.0 ∙ five)))
 
   says_as : (survey : Survey) (result : Result Survey RecoverFault)
       → TellsSurvey result survey
       → ((fault : DiskFault) → result ≡ Err (recover.Worker (durable.Disk fault))
       → old.faults < new.faults)
-      → SaysResult result out status out' → ShowsSurvey old new out status out' survey
+      → SaysResult result out out' err err' status
+      → ShowsSurvey old new out out' err' status survey
   says_as survey (Ok told) is failed says =
-      inl (subst (λ (s : Survey). SaysSurvey s out status out') is says)
+      inl (subst (λ (s : Survey). SaysSurvey s out status out') is says.0)
   says_as survey (Err why) nothing failed says =
-      ⊎_elim
-      (λ (said : status ≡ status_on_disk (told_of_opening why)).
-      ⊎_elim (λ four. inr (inl (said ∙ four.0, four.1))) (λ five. inr (inr (said ∙ five)))
+      says_nothing survey (status_on_disk (told_of_opening why))
       (status_of_nothing old new why nothing
-      (λ fault is. failed fault (ap (λ e. Err e) is))))
-      (λ unsaid. inl (inr unsaid)) says.0
+      (λ fault is. failed fault (ap (λ e. Err e) is))) says.0
 
-  pub shows_each : ShowsDisk old new out status out' → (image : Image) → new.shows image
-      → EachSurvey old.sectors image (ShowsSurvey old new out status out')
+  pub shows_each : ShowsDisk old new out out' err err' status → (image : Image) → new.shows image
+      → EachSurvey old.sectors image (ShowsSurvey old new out out' err' status)
   shows_each shown image shows m config kept n stands room =
       says_as (survey_of stands) shown.result
       (tells_each old new shown.result shown.surveys image shows m config kept n stands room)

@@ -8,6 +8,7 @@ pub mod Openings
 pub mod Outside
 pub mod Paces
 pub mod Printed
+pub mod Printers
 pub mod Prints
 pub mod Reports
 pub mod Requests

@@ -1,10 +1,12 @@
 //! `wasmhost check`.
 
-ghost use Rattle.std.specs.Prelude.{◌≡◌, ◌⊎◌, OnOk, IsOk, codes};
+ghost use Rattle.std.specs.Prelude.{◌≡◌, ◌⊎◌, true, IsOk, OnErr, OnOk, codes};
 ghost use Rattle.std.specs.Io.KnownBytes.{Appends};
 ghost use Rattle.machine_loader.specs.rules.Acceptance.{HasAcceptedModule, HasNoAcceptedModule};
+ghost use Rattle.wasmhost_serve.specs.rules.Printers.{HeedsWrites};
 ghost use Rattle.wasmhost_serve.specs.rules.Statuses.{IsRight, status_by};
 
+use crate::printer::Printer;
 use crate::status::{NO_MEMORY, REFUSED, UNWRITTEN};
 use machine_loader::{FrontFault, accept};
 use std::alloc::Global;
@@ -25,9 +27,14 @@ fn verdict_on(alloc: Global, wasm: &[u8]) -> Result<(), FrontFault>
 
 /// Prints a verdict: `accepted`, or `refused` with the fault's code and name, and its place if it
 /// has one.
-fn print_verdict<W: Write>(verdict: Result<(), FrontFault>, out: &mut W) -> io::Result<()>
-    ensures { IsOk verdict
-        → OnOk result (Appends (W.contents out.old) (W.contents out.new) (codes "accepted\n")) }
+fn print_verdict<W: Write + Drop>(
+    verdict: Result<(), FrontFault>,
+    out: &mut Printer<W>,
+) -> io::Result<()>
+    ensures accepted { IsOk verdict
+        → OnOk result (Appends out.old.contents out.new.contents (codes "accepted\n")) }
+    ensures steady { OnOk result (out.new.failed ≡ out.old.failed) }
+    ensures failed { OnErr result (out.new.failed ≡ true) }
 {
     match verdict {
         Ok(()) => writeln!(out, "accepted"),
@@ -50,12 +57,13 @@ fn status_of(verdict: Result<(), FrontFault>) -> u8
 }
 
 /// Says whether a module is accepted: prints a line, and answers the exit status, 0, 3 where it is
-/// refused, 5 for want of memory, 7 where nothing can be printed.
-pub fn check_bytes<W: Write>(alloc: Global, wasm: &[u8], out: &mut W) -> u8
+/// refused, 5 for want of memory, 7 where a write has failed.
+pub fn check_bytes<W: Write + Drop>(alloc: Global, wasm: &[u8], out: &mut Printer<W>) -> u8
     ensures accepted { result ≡ 0 → HasAcceptedModule PAGES wasm.now }
     ensures printed { result ≡ 0
-        → Appends (W.contents out.old) (W.contents out.new) (codes "accepted\n") }
+        → Appends out.old.contents out.new.contents (codes "accepted\n") }
     ensures refused { result ≡ 3 → HasNoAcceptedModule PAGES wasm.now }
+    ensures heeded { HeedsWrites out.old result out.new }
     ensures known { (result ≡ 0) ⊎ (result ≡ 3) ⊎ (result ≡ 5) ⊎ (result ≡ 7) }
 {
     let verdict = verdict_on(alloc, wasm);

@@ -5,7 +5,10 @@
 //!
 //! - `check_bytes`: status 0 says that the bytes spell an accepted module (`accepted`), and that
 //!   `accepted` was printed (`printed`). 3 says that they spell none (`refused`). All others are 5
-//!   and 7 (`known`).
+//!   and 7 (`known`), and 7 comes just where a write has failed (`heeded`).
+//! - `Printer`: what the program says goes through one. It keeps whether a write has failed, and no
+//!   other code can make that true. So each status 7 below comes with a failed write (`IsSaid`,
+//!   `SaysText`, `HeedsBoth`).
 //! - `serve`: what each status of a run says of the module, its configuration, the answers from
 //!   outside, the lines that were printed, and the last words (`serves`). Up to any status but 7
 //!   whatever was printed is true. No status is above 7 (`known`).
@@ -21,9 +24,10 @@
 //!   worker was recovered, all that was done of the disk, the source and the outlet are the calls
 //!   of one life, in order: slices of its fuel, and checkpoints at its pace (`IsPaced`). The source
 //!   begins behind the requests that the worker has taken, and at the first word of the seed's
-//!   stream of its generation (`stands_behind`). `laws::lives_on_disk_go_on`: such calls are a life
-//!   that goes on from all that was promised, and its lines were printed. Where the disk shows no
-//!   worker nothing is written or printed. No status is above 7 (`known`).
+//!   stream of its generation (`stands_behind`). Where `err` is a terminal, its first line says how
+//!   the worker was recovered (`recovered_line`). `laws::lives_on_disk_go_on`: such calls are a
+//!   life that goes on from all that was promised, and its lines were printed. Where the disk shows
+//!   no worker nothing is written or printed. No status is above 7 (`known`).
 //! - `show_on`: the survey of a worker's disk is printed, or what keeps it from that is told
 //!   (`shows`). Of a disk that stands for a worker the line is that worker's (`stands`). Nothing is
 //!   changed on the disk, but that it is synced.
@@ -36,9 +40,9 @@
 //!   (`PrintsOneLine`). `laws::taken_lines_are_printed`: the lines that it took are printed, and
 //!   nothing else.
 //! - `read_module`: the bytes of a reader, where they are known, up to one more than the longest
-//!   module has. `say_line`, `report`: the line was written and the status is the one given, or it
-//!   is 7 (`SaysLine`). `report_words`: help leaves the error output as it was, and a mistake the
-//!   output.
+//!   module has. `say_line`, `report`: the line was written and the status is the one given, or a
+//!   write has failed and it is 7 (`SaysLine`). `report_words`: help leaves the error output as it
+//!   was, and a mistake the output.
 //! - `read_words`: an order is exactly what the words mean. A fault is one that the rules
 //!   of the command line list for them, or want of memory (`IsReading`).
 //! - `read_script`: the lives that a script of a story spells (`IsScript`). A fault names the first
@@ -59,6 +63,7 @@
 //! `ShowsDisk`, `ShowsSurvey`, `survey_line` (`Showings.antt`); `open_words` (`Openings.antt`);
 //! `ServesOnDisk`, `LivesOnDisk`, `stands_behind` (`ServedOnDisk.antt`); `IsPaced` (`Paces.antt`);
 //! `status_on_disk`, `told_of_opening`, `IsToldOnDisk` (`DiskStatuses.antt`);
+//! `PrinterState`, `IsSaid`, `SaysText`, `HeedsBoth`, `TellsPerson` (`Printers.antt`);
 //! `said_by`, `AreLivesOf`, `IsScript` (`Scripts.antt`); `lines_of` (`Pieces.antt`); `story_text`,
 //! `TellsStory` (`Stories.antt`). Beside these:
 //! `all_printed` (`specs/rules/Printed.antt`), and `PrintsOneLine` (`specs/rules/Prints.antt`).
@@ -79,6 +84,7 @@ mod lines;
 mod module_bytes;
 mod on_disk;
 mod preparing;
+mod printer;
 mod run;
 mod seed;
 pub mod status;
@@ -96,6 +102,7 @@ pub use lines::{
 pub use module_bytes::read_module;
 pub use on_disk::{Pace, create_on, report_open, serve_on, show_on};
 pub use preparing::{Prepared, Unprepared, prepare, report_unprepared};
+pub use printer::Printer;
 pub use run::{Options, serve};
 pub use seed::{read_seed, seeded};
 pub use stories::{ScriptFault, ScriptLine, read_script, report_script, tell};

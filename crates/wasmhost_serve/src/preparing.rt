@@ -1,14 +1,16 @@
 //! What a creation needs, looked at before its disk is made.
 
-ghost use Rattle.std.specs.Prelude.{◌≡◌, ◌⊎◌, ◌<◌, ◌≤◌, ◌^◌, IfErr, IfOk, OnOk, length};
+ghost use Rattle.std.specs.Prelude.{◌≡◌, ◌<◌, ◌≤◌, ◌^◌, IfErr, IfOk, OnOk, length};
 ghost use Rattle.wasi_abi.specs.rules.Configs.{AreSettingsWithinLimits};
 ghost use Rattle.machine_loader.specs.rules.Acceptance.{HasAcceptedModule};
 ghost use Rattle.wasmhost_serve.specs.rules.Served.{texts_in};
 ghost use Rattle.wasmhost_serve.specs.rules.Creations.{IsMeasured, IsPreparedAs, IsUnaccepted};
 ghost use Rattle.wasmhost_serve.specs.rules.Creations.{IsUnprepared, config_as, prepared_with};
 ghost use Rattle.wasmhost_serve.specs.rules.Creations.{disk_sectors, status_unprepared};
+ghost use Rattle.wasmhost_serve.specs.rules.Printers.{IsSaid};
 
 use crate::configuring::{Sizes, Unconfigured, configure_as};
+use crate::printer::Printer;
 use crate::status::{NO_MEMORY, REFUSED, UNWRITTEN};
 use disk_layout::Geometry;
 use machine_loader::{FrontFault, accept};
@@ -117,9 +119,9 @@ pub fn prepare(
     with_sectors(config, measured)
 }
 
-/// Writes why no worker is created, and answers the exit status, or 7 where it can't be written.
-pub fn report_unprepared<E: Write>(err: &mut E, fault: Unprepared) -> u8
-    ensures status { (result ≡ status_unprepared fault) ⊎ (result ≡ 7) }
+/// Prints why no worker is created, and answers the exit status, or 7 where a write has failed.
+pub fn report_unprepared<E: Write + Drop>(err: &mut Printer<E>, fault: Unprepared) -> u8
+    ensures status { IsSaid (status_unprepared fault) err.old result err.new }
     ensures known { result ≤ 7 }
 {
     let said = writeln!(err, "{fault}");

@@ -1,9 +1,9 @@
 //! `wasmhost run`.
 
-ghost use Rattle.std.specs.Prelude.{◌≡◌, ◌≢◌, ◌⊎◌, ◌≤◌, IfOk, IfErr, OnOk};
-ghost use Rattle.std.specs.Io.KnownBytes.{Appends};
+ghost use Rattle.std.specs.Prelude.{◌≡◌, ◌≢◌, ◌⊎◌, ◌≤◌, true, IfOk, IfErr, OnErr, OnOk};
 ghost use Rattle.process.specs.rules.Values.{IsProcess};
 ghost use Rattle.worker.specs.declared.now.Now.TheVariants.{Spent};
+ghost use Rattle.wasmhost_serve.specs.rules.Printers.{IsPrinted, IsSaid, SaysText};
 ghost use Rattle.wasmhost_serve.specs.rules.Served.{Serves, config_of, ended_by, job};
 ghost use Rattle.wasmhost_serve.specs.rules.Served.{last_words, texts_in};
 ghost use Rattle.wasmhost_serve.specs.Runs.{SlicesSome, SlicesSomeInVain, IsWorkerRun, IsRunInVain};
@@ -12,6 +12,7 @@ ghost use Rattle.wasmhost_serve.specs.rules.Statuses.{status_of};
 
 use crate::configuring::{Unconfigured, configure};
 use crate::lines::{LineFault, LineOutlet, LineReader, RequestSource, trap_name};
+use crate::printer::Printer;
 use crate::status::{NO_MEMORY, REFUSED, UNWRITTEN, status_of_line, status_of_work};
 use process::ProcessEnd;
 use record_replay::{Outlet, Source};
@@ -124,9 +125,9 @@ fn run<R: LineReader + Drop, C: Clock + Drop, W: Write + Drop>(
 }
 
 /// Writes the last words of a worker that is over.
-fn print_last_words<E: Write>(err: &mut E, now: Now) -> io::Result<()>
-    ensures { OnOk result (Appends (E.contents err.old) (E.contents err.new)
-        (last_words (ended_by now))) }
+fn print_last_words<E: Write + Drop>(err: &mut Printer<E>, now: Now) -> io::Result<()>
+    ensures printed { OnOk result (IsPrinted err.old err.new (last_words (ended_by now))) }
+    ensures failed { OnErr result (err.new.failed ≡ true) }
 {
     match now {
         Now::Ended(ProcessEnd::Exited(code)) => writeln!(err, "exited {code}")?,
@@ -137,10 +138,8 @@ fn print_last_words<E: Write>(err: &mut E, now: Now) -> io::Result<()>
 }
 
 /// Says how a worker is over, and answers the exit status.
-pub(crate) fn say<E: Write>(err: &mut E, now: Now) -> u8
-    ensures known { (result ≡ 0) ⊎ (result ≡ 7) }
-    ensures told { result ≡ 0 → Appends (E.contents err.old) (E.contents err.new)
-        (last_words (ended_by now)) }
+pub(crate) fn say<E: Write + Drop>(err: &mut Printer<E>, now: Now) -> u8
+    ensures { SaysText (last_words (ended_by now)) 0 err.old result err.new }
 {
     match print_last_words(err, now) {
         Ok(()) => 0,
@@ -149,8 +148,8 @@ pub(crate) fn say<E: Write>(err: &mut E, now: Now) -> u8
 }
 
 /// Writes why a worker doesn't run to its end, and answers the exit status.
-fn say_fault<E: Write>(err: &mut E, fault: RunFault) -> u8
-    ensures { (result ≡ status_of fault) ⊎ (result ≡ 7) }
+fn say_fault<E: Write + Drop>(err: &mut Printer<E>, fault: RunFault) -> u8
+    ensures { IsSaid (status_of fault) err.old result err.new }
 {
     let said = writeln!(err, "{fault}");
     if said.is_ok() && err.flush().is_ok() {
@@ -166,20 +165,21 @@ fn say_fault<E: Write>(err: &mut E, fault: RunFault) -> u8
 /// worker has ended, trapped or waits at the end of the lines, 3 for a refused configuration or
 /// module and where steps or lines can't be counted further, 4 where the reader or the clock
 /// fails, 5 for want of memory, 6 for a refused request line, 7 where nothing can be printed.
-pub fn serve<R: LineReader + Drop, C: Clock + Drop, W: Write + Drop, E: Write>(
+pub fn serve<R: LineReader + Drop, C: Clock + Drop, W: Write + Drop, E: Write + Drop>(
     alloc: Global,
     wasm: &[u8],
     options: Options<'_>,
     source: &mut RequestSource<R, C>,
     outlet: &mut LineOutlet<W>,
-    err: &mut E,
+    err: &mut Printer<E>,
 ) -> u8
     ensures serves { Serves (job wasm.now
         (config_of (texts_in options.entry.arguments.now) (texts_in options.entry.environment.now))
         (R.unread source.old.requests.reader) source.old.outside)
         (R.has_failed source.old.requests.reader) (R.has_failed source.new.requests.reader)
         (W.contents outlet.old.out) (W.contents outlet.new.out)
-        (E.contents err.old) (E.contents err.new) result }
+        err.old.contents err.new.contents result }
+    ensures heeded { err.new.failed ≡ err.old.failed ⊎ ((result ≡ 7) × (err.new.failed ≡ true)) }
     ensures known { result ≤ 7 }
 {
     let config = match configure(alloc, options.arguments, options.environment) {

@@ -3,11 +3,14 @@
 ghost use Rattle.std.specs.Prelude.{◌≡◌, ◌≤◌, ◌⊎◌};
 ghost use Rattle.std.specs.IoError.{error_kind};
 ghost use Rattle.wasmhost_serve.specs.rules.Commands.{IsStatusOf};
+ghost use Rattle.wasmhost_serve.specs.rules.Printers.{IsSaid, HeedsBoth};
 ghost use Rattle.wasmhost_serve.specs.rules.Reports.{SaysLine, IsFileFault, status_told};
 ghost use Rattle.wasmhost_serve.specs.rules.Reports.{words_told};
 
+use crate::printer::Printer;
 use crate::status::{NO_MEMORY, UNREAD, UNWRITTEN, USAGE};
 use crate::words::WordsFault;
+use std::fmt::Display;
 use std::io::{Error, ErrorKind, Write};
 
 /// Why a command isn't begun.
@@ -22,9 +25,9 @@ pub enum Obstacle {
     NoSeed,
 }
 
-/// Writes a line. Answers the status, or 7 where the line can't be written.
-pub fn say_line<W: Write>(out: &mut W, status: u8, line: &str) -> u8
-    ensures { SaysLine line.now status (W.contents out.old) result (W.contents out.new) }
+/// Prints a line. Answers the status, or 7 where a write has failed.
+pub fn say_line<W: Write + Drop>(out: &mut Printer<W>, status: u8, line: &str) -> u8
+    ensures { SaysLine line.now status out.old result out.new }
 {
     match writeln!(out, "{line}") {
         Ok(()) => status,
@@ -43,10 +46,9 @@ pub fn obstacle_of(error: &Error) -> Obstacle
     }
 }
 
-/// Writes why a command isn't begun, and answers the exit status.
-pub fn report<E: Write>(err: &mut E, obstacle: Obstacle) -> u8
-    ensures said { SaysLine (words_told obstacle) (status_told obstacle)
-        (E.contents err.old) result (E.contents err.new) }
+/// Prints why a command isn't begun, and answers the exit status.
+pub fn report<E: Write + Drop>(err: &mut Printer<E>, obstacle: Obstacle) -> u8
+    ensures said { SaysLine (words_told obstacle) (status_told obstacle) err.old result err.new }
     ensures known { result ≤ 7 }
 {
     match obstacle {
@@ -57,25 +59,36 @@ pub fn report<E: Write>(err: &mut E, obstacle: Obstacle) -> u8
     }
 }
 
-/// Writes the text of a fault of the words: help to the output, all else to the error output.
-/// Answers the exit status, or 7 where it can't be written.
-pub fn report_words<W: Write, E: Write>(fault: &WordsFault, out: &mut W, err: &mut E) -> u8
+/// Prints a text as it is. Answers the status, or 7 where a write has failed.
+fn say_text<W: Write + Drop, T: Display>(out: &mut Printer<W>, status: u8, text: &T) -> u8
+    ensures { IsSaid status out.old result out.new }
+{
+    match write!(out, "{text}") {
+        Ok(()) => status,
+        Err(_) => UNWRITTEN,
+    }
+}
+
+/// Prints the text of a fault of the words: help on the output, all else on the error output.
+/// Answers the exit status, or 7 where a write has failed.
+pub fn report_words<W: Write + Drop, E: Write + Drop>(
+    fault: &WordsFault,
+    out: &mut Printer<W>,
+    err: &mut Printer<E>,
+) -> u8
     ensures status { IsStatusOf fault.now result ⊎ (result ≡ 7) }
-    ensures help { result ≡ 0 → E.contents err.new ≡ E.contents err.old }
-    ensures mistake { result ≡ 2 → W.contents out.new ≡ W.contents out.old }
+    ensures heeded { HeedsBoth out.old out.new err.old err.new result }
+    ensures help { result ≡ 0 → err.new ≡ err.old }
+    ensures mistake { result ≡ 2 → out.new ≡ out.old }
     ensures known { result ≤ 7 }
 {
     let WordsFault::Words(text) = fault else {
         return report(err, Obstacle::Memory);
     };
     let status = fault.status();
-    let told = if status == 0 {
-        write!(out, "{text}")
+    if status == 0 {
+        say_text(out, status, text)
     } else {
-        write!(err, "{text}")
-    };
-    match told {
-        Ok(()) => status,
-        Err(_) => UNWRITTEN,
+        say_text(err, status, text)
     }
 }

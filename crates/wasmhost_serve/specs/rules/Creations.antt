@@ -20,6 +20,7 @@ use Rattle.wasmhost_serve.specs.declared.configuring.Unconfigured.TheVariants as
 use Rattle.wasmhost_serve.specs.declared.preparing.Prepared.{Prepared}
 use Rattle.wasmhost_serve.specs.declared.preparing.Unprepared.{Unprepared}
 use Rattle.wasmhost_serve.specs.declared.preparing.Unprepared.TheVariants as unprepared
+use Rattle.wasmhost_serve.specs.rules.Printers.{PrinterState, HeedsBoth}
 
 -- ---- before the disk is made
 
@@ -104,16 +105,18 @@ HasDiskFailed bytes config old new = (spare old ≡ 0) ⊎ (old.room < disk_sect
     ⊎ (old.faults < new.faults)
 
 -- 0: the worker is created. 3: it is refused. 4: the disk failed. 5: there is no memory. A refused
--- worker and want of memory leave the disk as it was. 7: something can't be printed, and whether
--- the worker was created isn't known. Whatever the status, nothing that was promised of a disk
--- without a worker is lost, and a cut at any moment leaves no worker on it, or this one.
+-- worker and want of memory leave the disk as it was. 7: a write of a printer has failed, and
+-- whether the worker was created isn't known. Whatever the status, nothing that was promised of a
+-- disk without a worker is lost, and a cut at any moment leaves no worker on it, or this one.
 pub record CreatesOn {D : Type 0} (medium : D → Medium) (bytes : List ℕ) (config : Settings)
-    (old new : D) (out out' : Option (List ℕ)) (status : ℕ) : Type 0 where
+    (old new : D) (out out' err err' : PrinterState) (status : ℕ) : Type 0 where
   pub answer : Result DurableValue DurableFault
   pub keeps : CreationKeeps bytes config answer (medium old) (medium new)
-  pub made : status ≡ 0 → IsCreatedAndTold bytes config answer (medium new) out out'
+  pub made : status ≡ 0
+      → IsCreatedAndTold bytes config answer (medium new) out.contents out'.contents
   pub refused : status ≡ 3 → IsCreationRefused bytes config (medium old) × (new ≡ old)
       × (out' ≡ out)
   pub failed : status ≡ 4 → HasDiskFailed bytes config (medium old) (medium new) × (out' ≡ out)
   pub starved : status ≡ 5 → (new ≡ old) × (out' ≡ out)
+  pub heeded : HeedsBoth out out' err err' status
   pub known : (status ≡ 0) ⊎ (status ≡ 3) ⊎ (status ≡ 4) ⊎ (status ≡ 5) ⊎ (status ≡ 7)

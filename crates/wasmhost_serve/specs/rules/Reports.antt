@@ -1,16 +1,17 @@
 -- What the program says beside the lines of a worker (this project's own).
-use Rattle.std.specs.Prelude.{◌≡◌, ◌≢◌, ◌⊎◌, ℕ, List, [], ◌∷◌, ◌++◌, Option, codes}
-use Rattle.std.specs.Io.KnownBytes.{Appends}
+use Rattle.std.specs.Prelude.{◌≡◌, ◌≢◌, ◌⊎◌, ℕ, List, [], ◌∷◌, ◌++◌, codes}
 use Rattle.std.specs.declared.io.ErrorKind.{ErrorKind}
 use Rattle.std.specs.declared.io.ErrorKind.TheVariants.{OutOfMemory}
 use Rattle.wasi_abi.specs.rules.Answers.{newline}
 use Rattle.wasmhost_serve.specs.declared.telling.Obstacle.{Obstacle}
 use Rattle.wasmhost_serve.specs.declared.telling.Obstacle.TheVariants as obstacle
+use Rattle.wasmhost_serve.specs.rules.Printers.{PrinterState, SaysText}
 
--- The line was written, with its newline, and the status is this one; or the status is 7.
-abbrev pub SaysLine : List ℕ → ℕ → Option (List ℕ) → ℕ → Option (List ℕ) → Type 0
+-- The line is printed, with its newline, and the status is this one; or it is 7, and a write has
+-- failed.
+abbrev pub SaysLine : List ℕ → ℕ → PrinterState → ℕ → PrinterState → Type 0
 SaysLine line status old answered new =
-    ((answered ≡ status) × Appends old new (line ++ newline ∷ [])) ⊎ (answered ≡ 7)
+    SaysText (line ++ newline ∷ []) status old answered new
 
 -- the exit status of a command that isn't begun
 abbrev pub status_told : Obstacle → ℕ

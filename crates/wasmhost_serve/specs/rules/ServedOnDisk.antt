@@ -1,5 +1,5 @@
 -- What `wasmhost run` does with the worker on a disk (this project's own).
-use Rattle.std.specs.Prelude.{◌≡◌, ◌≢◌, ◌⊎◌, ℕ, Bool, List, [], ◌∷◌, ◌++◌, Option, Some, None}
+use Rattle.std.specs.Prelude.{◌≡◌, ◌≢◌, ℕ, Bool, List, [], ◌∷◌, ◌++◌, Option, Some, None, codes}
 use Rattle.std.specs.Prelude.{Result, Ok, Err}
 use Rattle.std.specs.Io.KnownBytes.{Appends}
 use Rattle.wasi_abi.specs.rules.Configs.{Settings}
@@ -22,8 +22,10 @@ use Rattle.wasmhost_serve.specs.declared.on_disk.fault.OnDiskFault.{OnDiskFault}
 use Rattle.wasmhost_serve.specs.Lines.Answers.{Standing, standing, HandsNext}
 use Rattle.wasmhost_serve.specs.rules.DiskStatuses.{IsToldOnDisk, told_of_opening, status_on_disk}
 use Rattle.wasmhost_serve.specs.rules.Paces.{IsPaced}
+use Rattle.wasmhost_serve.specs.rules.Printers.{PrinterState, IsSaid, SaysText, TellsPerson}
 use Rattle.wasmhost_serve.specs.rules.Prints.{PrintsOneLine}
 use Rattle.wasmhost_serve.specs.rules.Served.{ended_by, last_words}
+use Rattle.wasmhost_serve.specs.rules.Showings.{named_number}
 use Rattle.wasmhost_serve.specs.rules.Texts.{printed}
 
 -- What such a run is given: the steps of a slice, the slices between two checkpoints, the lines of
@@ -103,27 +105,36 @@ ReleasedLinesArePrinted = (exchanges : List Exchange) (source source' : Standing
     (out out' : Option (List ℕ)) → Exchanges handing printing source out exchanges source' out'
     → AreTrue (taken_in exchanges) → Appends out out' (released_lines (released_in exchanges))
 
+-- ---- what a person is told
+
+-- the line once a worker is recovered: its generation, where it stands, and how far it was replayed
+abbrev pub recovered_line : DurableValue → List ℕ
+recovered_line w =
+    named_number (codes "recovered generation ") w.store.journal.generation
+    ++ named_number (codes " at step ") w.process.steps
+    ++ named_number (codes ", replayed ") w.replayed ++ codes " steps\n"
+
 -- ---- what each exit status says
 
--- a status is this one, or what it says can't be printed
-abbrev pub IsSaid : ℕ → ℕ → Type 0
-IsSaid status answered = (answered ≡ status) ⊎ (answered ≡ 7)
-
--- The worker isn't opened, and the status says why. Or it lives until it is over, and the last
--- words are those of its last slice. Or a call of it fails, and the status says why: a fault of
--- the source is told as that of a request line, where there is one.
+-- The worker isn't opened, and the status says why. Or a person is told that it is recovered, where
+-- one reads along. Then it lives until it is over, and the last words are those of its last slice.
+-- Or a call of it fails, and the status says why: a fault of the source is told as that of a
+-- request line, where there is one.
 pub data ServesOnDisk {D : Type 0} (medium : D → Medium) (given : DiskJob) (found last : D)
-    (out out' err err' : Option (List ℕ)) (failed' : Bool) (status : ℕ) : Type 0 where
+    (out out' : Option (List ℕ)) (err err' : PrinterState) (failed' : Bool) (status : ℕ)
+    : Type 0 where
   unopened : (why : RecoverFault) → IsUnopenedRun medium why found last out out'
       → failed' ≡ given.failed
-      → IsSaid (status_on_disk (told_of_opening why)) status
+      → IsSaid (status_on_disk (told_of_opening why)) err status err'
       → ServesOnDisk medium given found last out out' err err' failed' status
-  over : (now : Now) (source' : Standing) → now ≢ Spent
-      → LivesOnDisk medium given (Ok []) found last out out' source' → source'.failed ≡ failed'
-      → IsSaid 0 status → (status ≡ 0 → Appends err err' (last_words (ended_by now)))
+  over : (now : Now) (source' : Standing) (between : PrinterState) → now ≢ Spent
+      → (lives : LivesOnDisk medium given (Ok []) found last out out' source')
+      → source'.failed ≡ failed' → TellsPerson (recovered_line lives.worker) err between
+      → SaysText (last_words (ended_by now)) 0 between status err'
       → ServesOnDisk medium given found last out out' err err' failed' status
-  broken : (why : DurableFault) (told : OnDiskFault) (source' : Standing)
-      → LivesOnDisk medium given (Err (recover.Worker why)) found last out out' source'
+  broken : (why : DurableFault) (told : OnDiskFault) (source' : Standing) (between : PrinterState)
+      → (lives : LivesOnDisk medium given (Err (recover.Worker why)) found last out out' source')
       → source'.failed ≡ failed' → IsToldOnDisk why source'.fault told
-      → IsSaid (status_on_disk told) status
+      → TellsPerson (recovered_line lives.worker) err between
+      → IsSaid (status_on_disk told) between status err'
       → ServesOnDisk medium given found last out out' err err' failed' status

@@ -18,6 +18,7 @@ use Rattle.wasi_abi.specs.rules.Configs.{Settings}
 use Rattle.wasmhost_serve.specs.rules.Creations.{IsPreparedAs, IsUnprepared, config_as}
 use Rattle.wasmhost_serve.specs.rules.Creations.{status_unprepared}
 use Rattle.wasmhost_serve.specs.rules.Pieces.{lines_of}
+use Rattle.wasmhost_serve.specs.rules.Printers.{PrinterState, IsPrinted, HasOneFailed, HeedsBoth}
 use Rattle.wasmhost_serve.specs.rules.Scripts.{IsScript, IsFaultAt}
 use Rattle.wasmhost_serve.specs.rules.Showings.{named_number}
 use Rattle.wasmhost_serve.specs.rules.Texts.{printed}
@@ -79,12 +80,13 @@ pub record IsStoryTold (script wasm : List ℕ) (sizes : Sizes) (out out' : Opti
   pub tells : TellsLives wasm (story_config sizes) lives reports
   pub printed_whole : Appends out out' (story_text 1 reports)
 
--- the text of these lives is printed, or memory is wanted for it, or something can't be printed
-abbrev pub SaysLives : List LifeReport → Option (List ℕ) → Option (List ℕ) → Option (List ℕ)
-    → Option (List ℕ) → ℕ → Type 0
+-- the text of these lives is printed, or memory is wanted for it, or a write has failed
+abbrev pub SaysLives : List LifeReport → PrinterState → PrinterState → PrinterState → PrinterState
+    → ℕ → Type 0
 SaysLives reports out out' err err' status =
-    ((status ≡ 0) × Appends out out' (story_text 1 reports) × (err' ≡ err))
-    ⊎ ((status ≡ 5) × (out' ≡ out)) ⊎ (status ≡ 7)
+    ((status ≡ 0) × IsPrinted out out' (story_text 1 reports) × (err' ≡ err))
+    ⊎ ((status ≡ 5) × (out' ≡ out) × (err'.failed ≡ err.failed))
+    ⊎ ((status ≡ 7) × HasOneFailed out' err')
 
 -- A line of the script is faulty, and its number is told.
 pub record IsLineTold (script : List ℕ) (err err' : Option (List ℕ)) : Type 0 where
@@ -101,12 +103,13 @@ pub record IsStoryRefused (script wasm : List ℕ) (sizes : Sizes) : Type 0 wher
   pub refused : status_unprepared why ≡ 3
 
 -- 0: the story is told. 2: a line of the script is faulty. 3: the worker is refused. 5: there is no
--- memory. 7: something can't be printed. Nothing is printed on the output but a whole story, and
--- nothing on the error output beside one.
-pub record TellsStory (script wasm : List ℕ) (sizes : Sizes) (out out' err err' : Option (List ℕ))
+-- memory. 7: a write of a printer has failed. Nothing is printed on the output but a whole story,
+-- and nothing on the error output beside one.
+pub record TellsStory (script wasm : List ℕ) (sizes : Sizes) (out out' err err' : PrinterState)
     (status : ℕ) : Type 0 where
-  pub told : status ≡ 0 → IsStoryTold script wasm sizes out out' × (err' ≡ err)
-  pub faulty : status ≡ 2 → IsLineTold script err err' × (out' ≡ out)
+  pub told : status ≡ 0 → IsStoryTold script wasm sizes out.contents out'.contents × (err' ≡ err)
+  pub faulty : status ≡ 2 → IsLineTold script err.contents err'.contents × (out' ≡ out)
   pub refused : status ≡ 3 → IsStoryRefused script wasm sizes × (out' ≡ out)
   pub starved : status ≡ 5 → out' ≡ out
+  pub heeded : HeedsBoth out out' err err' status
   pub known : (status ≡ 0) ⊎ (status ≡ 2) ⊎ (status ≡ 3) ⊎ (status ≡ 5) ⊎ (status ≡ 7)

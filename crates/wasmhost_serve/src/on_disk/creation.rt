@@ -1,11 +1,12 @@
 //! `wasmhost create`, on a disk that was made.
 
-ghost use Rattle.std.specs.Prelude.{◌≡◌, ◌⊎◌, ◌≤◌, OnOk};
-ghost use Rattle.std.specs.Io.KnownBytes.{Appends};
+ghost use Rattle.std.specs.Prelude.{◌≡◌, ◌≤◌, true, OnErr, OnOk};
 ghost use Rattle.wasmhost_serve.specs.rules.Creations.{CreatesOn, created_line};
+ghost use Rattle.wasmhost_serve.specs.rules.Printers.{IsPrinted, SaysText};
 
 use crate::on_disk::fault::{OnDiskFault, say_disk_fault};
 use crate::preparing::sectors_of;
+use crate::printer::Printer;
 use crate::status::UNWRITTEN;
 use durable_worker::DurableWorker;
 use sector_disk::Disk;
@@ -14,19 +15,17 @@ use std::io::{self, Write};
 use wasi_abi::Config;
 
 /// Prints how many sectors a worker has.
-fn print_created<W: Write>(out: &mut W, sectors: u64) -> io::Result<()>
-    ensures { OnOk result (Appends (W.contents out.old) (W.contents out.new)
-        (created_line sectors)) }
+fn print_created<W: Write + Drop>(out: &mut Printer<W>, sectors: u64) -> io::Result<()>
+    ensures printed { OnOk result (IsPrinted out.old out.new (created_line sectors)) }
+    ensures failed { OnErr result (out.new.failed ≡ true) }
 {
     writeln!(out, "created {sectors} sectors")?;
     out.flush()
 }
 
 /// Says how many sectors a worker has, and answers the exit status.
-fn say_created<W: Write>(out: &mut W, sectors: u64) -> u8
-    ensures known { (result ≡ 0) ⊎ (result ≡ 7) }
-    ensures told { result ≡ 0 → Appends (W.contents out.old) (W.contents out.new)
-        (created_line sectors) }
+fn say_created<W: Write + Drop>(out: &mut Printer<W>, sectors: u64) -> u8
+    ensures { SaysText (created_line sectors) 0 out.old result out.new }
 {
     match print_created(out, sectors) {
         Ok(()) => 0,
@@ -36,18 +35,18 @@ fn say_created<W: Write>(out: &mut W, sectors: u64) -> u8
 
 /// Creates a worker of the module that the bytes spell, on this disk, and says how many sectors it
 /// has. Answers the exit status: 0 where it is created, 3 for a module that isn't accepted and a
-/// disk with too few sectors, 4 where the disk fails, 5 for want of memory, 7 where nothing can be
-/// printed.
-pub fn create_on<D: Disk, W: Write, E: Write>(
+/// disk with too few sectors, 4 where the disk fails, 5 for want of memory, 7 where a write of a
+/// printer has failed.
+pub fn create_on<D: Disk, W: Write + Drop, E: Write + Drop>(
     alloc: Global,
     disk: &mut D,
     wasm: &[u8],
     config: &Config,
-    out: &mut W,
-    err: &mut E,
+    out: &mut Printer<W>,
+    err: &mut Printer<E>,
 ) -> u8
     ensures creates { CreatesOn D.medium wasm.now config.now disk.old disk.new
-        (W.contents out.old) (W.contents out.new) result }
+        out.old out.new err.old err.new result }
     ensures known { result ≤ 7 }
 {
     match DurableWorker::create(alloc, disk, wasm, config) {

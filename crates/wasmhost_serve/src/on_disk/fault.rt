@@ -1,11 +1,13 @@
 //! Why a worker on its disk isn't opened, or doesn't go on, and the exit status that says it.
 
-ghost use Rattle.std.specs.Prelude.{◌≡◌, ◌⊎◌};
+ghost use Rattle.std.specs.Prelude.{◌≡◌};
 ghost use Rattle.wasmhost_serve.specs.rules.DiskStatuses.{told_of_opening, told_of_call};
 ghost use Rattle.wasmhost_serve.specs.rules.DiskStatuses.{status_of_disk, status_of_call};
 ghost use Rattle.wasmhost_serve.specs.rules.DiskStatuses.{status_on_disk};
+ghost use Rattle.wasmhost_serve.specs.rules.Printers.{IsSaid};
 
 use crate::lines::LineFault;
+use crate::printer::Printer;
 use crate::status::{NO_MEMORY, REFUSED, UNREAD, UNWRITTEN, status_of_line, status_of_work};
 use durable_worker::{DurableFault, RecoverFault};
 use sector_disk::DiskFault;
@@ -91,9 +93,10 @@ impl OnDiskFault {
     }
 }
 
-/// Writes why a worker on its disk isn't opened, or fails, and answers the exit status.
-pub(crate) fn say_disk_fault<E: Write>(err: &mut E, fault: OnDiskFault) -> u8
-    ensures { (result ≡ status_on_disk fault) ⊎ (result ≡ 7) }
+/// Prints why a worker on its disk isn't opened, or fails, and answers the exit status, or 7 where
+/// a write has failed.
+pub(crate) fn say_disk_fault<E: Write + Drop>(err: &mut Printer<E>, fault: OnDiskFault) -> u8
+    ensures { IsSaid (status_on_disk fault) err.old result err.new }
 {
     let said = writeln!(err, "{fault}");
     if said.is_ok() && err.flush().is_ok() {

@@ -4,6 +4,7 @@ ghost use Rattle.std.specs.Prelude.{◌≡◌, ◌≤◌};
 ghost use Rattle.wasmhost_serve.specs.rules.Openings.{open_words};
 ghost use Rattle.wasmhost_serve.specs.rules.Reports.{SaysLine};
 
+use crate::printer::Printer;
 use crate::status::UNREAD;
 use crate::telling::say_line;
 use sector_disk::{OpenCause, OpenFault};
@@ -24,11 +25,10 @@ fn words_of_cause(cause: OpenCause) -> &'static str
     }
 }
 
-/// Writes why a file isn't made or opened as a disk: the fault, and on a line of its own what the
-/// operating system says of the path. Answers the exit status, or 7 where it can't be written.
-pub fn report_open<E: Write>(err: &mut E, fault: OpenFault) -> u8
-    ensures said { SaysLine (open_words fault) 4 (E.contents err.old) result
-        (E.contents err.new) }
+/// Prints why a file isn't made or opened as a disk: the fault, and on a line of its own what the
+/// operating system says of the path. Answers the exit status, or 7 where a write has failed.
+pub fn report_open<E: Write + Drop>(err: &mut Printer<E>, fault: OpenFault) -> u8
+    ensures said { SaysLine (open_words fault) 4 err.old result err.new }
     ensures known { result ≤ 7 }
 {
     match fault {

@@ -1,13 +1,14 @@
 //! `wasmhost show`.
 
-ghost use Rattle.std.specs.Prelude.{◌≡◌, ◌≤◌, OnOk};
-ghost use Rattle.std.specs.Io.KnownBytes.{Appends};
+ghost use Rattle.std.specs.Prelude.{◌≡◌, ◌≤◌, true, OnErr, OnOk};
 ghost use Rattle.sector_disk.specs.rules.Image.{Image};
 ghost use Rattle.durable_worker.specs.rules.Surveys.{EachSurvey};
+ghost use Rattle.wasmhost_serve.specs.rules.Printers.{IsPrinted};
 ghost use Rattle.wasmhost_serve.specs.rules.Showings.{named_number, survey_line};
 ghost use Rattle.wasmhost_serve.specs.rules.Showings.{ShowsDisk, ShowsSurvey, SaysSurvey};
 
 use crate::on_disk::fault::{OnDiskFault, say_disk_fault};
+use crate::printer::Printer;
 use crate::status::UNWRITTEN;
 use durable_worker::{Survey, survey};
 use sector_disk::Disk;
@@ -15,17 +16,21 @@ use std::alloc::Global;
 use std::io::{self, Write};
 
 /// Writes a name, and a number.
-fn print_number<W: Write>(out: &mut W, name: &str, number: u64) -> io::Result<()>
-    ensures { OnOk result (Appends (W.contents out.old) (W.contents out.new)
-        (named_number name.now number)) }
+pub(super) fn print_number<W: Write + Drop>(
+    out: &mut Printer<W>,
+    name: &str,
+    number: u64,
+) -> io::Result<()>
+    ensures printed { OnOk result (IsPrinted out.old out.new (named_number name.now number)) }
+    ensures failed { OnErr result (out.new.failed ≡ true) }
 {
     write!(out, "{name}{number}")
 }
 
 /// Writes the line of a survey.
-fn spell_survey<W: Write>(out: &mut W, survey: &Survey) -> io::Result<()>
-    ensures { OnOk result (Appends (W.contents out.old) (W.contents out.new)
-        (survey_line survey.now)) }
+fn spell_survey<W: Write + Drop>(out: &mut Printer<W>, survey: &Survey) -> io::Result<()>
+    ensures printed { OnOk result (IsPrinted out.old out.new (survey_line survey.now)) }
+    ensures failed { OnErr result (out.new.failed ≡ true) }
 {
     print_number(out, "generation ", survey.generation)?;
     print_number(out, " steps ", survey.steps)?;
@@ -36,17 +41,17 @@ fn spell_survey<W: Write>(out: &mut W, survey: &Survey) -> io::Result<()>
 }
 
 /// The same, and flushes the writer.
-fn print_survey<W: Write>(out: &mut W, survey: &Survey) -> io::Result<()>
-    ensures { OnOk result (Appends (W.contents out.old) (W.contents out.new)
-        (survey_line survey.now)) }
+fn print_survey<W: Write + Drop>(out: &mut Printer<W>, survey: &Survey) -> io::Result<()>
+    ensures printed { OnOk result (IsPrinted out.old out.new (survey_line survey.now)) }
+    ensures failed { OnErr result (out.new.failed ≡ true) }
 {
     spell_survey(out, survey)?;
     out.flush()
 }
 
 /// Prints a survey, and answers the exit status.
-fn say_survey<W: Write>(out: &mut W, survey: &Survey) -> u8
-    ensures { SaysSurvey survey.now (W.contents out.old) result (W.contents out.new) }
+fn say_survey<W: Write + Drop>(out: &mut Printer<W>, survey: &Survey) -> u8
+    ensures { SaysSurvey survey.now out.old result out.new }
 {
     match print_survey(out, survey) {
         Ok(()) => 0,
@@ -57,21 +62,21 @@ fn say_survey<W: Write>(out: &mut W, survey: &Survey) -> u8
 /// Prints what stands on a worker's disk: the numbers of the process that was saved last, and how
 /// many records lie behind it. Nothing is changed on the disk, but that it is synced. Answers the
 /// exit status: 0 where the line is printed, 3 for a disk that is refused, 4 where it fails, 5 for
-/// want of memory, 7 where nothing can be printed.
-pub fn show_on<D: Disk, W: Write, E: Write>(
+/// want of memory, 7 where a write of a printer has failed.
+pub fn show_on<D: Disk, W: Write + Drop, E: Write + Drop>(
     alloc: Global,
     disk: &mut D,
-    out: &mut W,
-    err: &mut E,
+    out: &mut Printer<W>,
+    err: &mut Printer<E>,
 ) -> u8
     // The survey of the disk is printed, or why there is none.
-    ensures shows { ShowsDisk (D.medium disk.old) (D.medium disk.new) (W.contents out.old) result
-        (W.contents out.new) }
+    ensures shows { ShowsDisk (D.medium disk.old) (D.medium disk.new) out.old out.new err.old
+        err.new result }
 
     // Of whatever worker the disk stands for, that is the line of its survey.
     ensures stands { (image : Image) → (D.medium disk.new).shows image
         → EachSurvey (D.medium disk.old).sectors image (ShowsSurvey (D.medium disk.old)
-        (D.medium disk.new) (W.contents out.old) result (W.contents out.new)) }
+        (D.medium disk.new) out.old out.new err.new result) }
     ensures known { result ≤ 7 }
 {
     match survey(alloc, disk) {

@@ -1,13 +1,14 @@
 //! `wasmhost story`.
 
-ghost use Rattle.std.specs.Prelude.{◌≡◌, ◌⊎◌, ◌≤◌, ℕ, IfOk, OnOk};
-ghost use Rattle.std.specs.Io.KnownBytes.{Appends};
+ghost use Rattle.std.specs.Prelude.{◌≡◌, ◌≤◌, ℕ, true, IfOk, OnErr, OnOk};
 ghost use Rattle.wasmhost_serve.specs.declared.stories.fault.ScriptFault.TheVariants.{Line, Memory};
+ghost use Rattle.wasmhost_serve.specs.rules.Printers.{IsPrinted, IsSaid, SaysText};
 ghost use Rattle.wasmhost_serve.specs.rules.Stories.{SaysLives, TellsStory, script_line};
 ghost use Rattle.wasmhost_serve.specs.rules.Stories.{story_text};
 
 use crate::configuring::Sizes;
 use crate::preparing::{prepare, report_unprepared};
+use crate::printer::Printer;
 use crate::status::{NO_MEMORY, UNWRITTEN, USAGE};
 use crate::stories::fault::ScriptFault;
 use crate::stories::script::read_script;
@@ -27,17 +28,17 @@ fn text_of(alloc: Global, reports: &[LifeReport]) -> io::Result<Vec<u8>>
 }
 
 /// Writes a text whole, and flushes the writer.
-fn print_text<W: Write>(out: &mut W, text: &[u8]) -> io::Result<()>
-    ensures { OnOk result (Appends (W.contents out.old) (W.contents out.new) text.now) }
+fn print_text<W: Write + Drop>(out: &mut Printer<W>, text: &[u8]) -> io::Result<()>
+    ensures printed { OnOk result (IsPrinted out.old out.new text.now) }
+    ensures failed { OnErr result (out.new.failed ≡ true) }
 {
     out.write_all(text)?;
     out.flush()
 }
 
 /// Writes a text whole. Answers the exit status.
-fn say_text<W: Write>(out: &mut W, text: &[u8]) -> u8
-    ensures said { ((result ≡ 0) × Appends (W.contents out.old) (W.contents out.new) text.now)
-        ⊎ (result ≡ 7) }
+fn say_text<W: Write + Drop>(out: &mut Printer<W>, text: &[u8]) -> u8
+    ensures said { SaysText text.now 0 out.old result out.new }
     ensures known { result ≤ 7 }
 {
     match print_text(out, text) {
@@ -47,9 +48,8 @@ fn say_text<W: Write>(out: &mut W, text: &[u8]) -> u8
 }
 
 /// Writes which line of the script is faulty, and answers the exit status.
-fn say_faulty_line<E: Write>(err: &mut E, number: u64) -> u8
-    ensures said { ((result ≡ 2) × Appends (E.contents err.old) (E.contents err.new)
-        (script_line number)) ⊎ (result ≡ 7) }
+fn say_faulty_line<E: Write + Drop>(err: &mut Printer<E>, number: u64) -> u8
+    ensures said { SaysText (script_line number) 2 err.old result err.new }
     ensures known { result ≤ 7 }
 {
     match writeln!(err, "failed script line {number}") {
@@ -59,11 +59,10 @@ fn say_faulty_line<E: Write>(err: &mut E, number: u64) -> u8
 }
 
 /// Writes what is wrong with a script, and answers the exit status.
-pub fn report_script<E: Write>(err: &mut E, fault: ScriptFault) -> u8
-    ensures faulty { (number : ℕ) → fault ≡ Line number → ((result ≡ 2)
-        × Appends (E.contents err.old) (E.contents err.new) (script_line number))
-        ⊎ (result ≡ 7) }
-    ensures starved { fault ≡ Memory → (result ≡ 5) ⊎ (result ≡ 7) }
+pub fn report_script<E: Write + Drop>(err: &mut Printer<E>, fault: ScriptFault) -> u8
+    ensures faulty { (number : ℕ) → fault ≡ Line number
+        → SaysText (script_line number) 2 err.old result err.new }
+    ensures starved { fault ≡ Memory → IsSaid 5 err.old result err.new }
 {
     match fault {
         ScriptFault::Line { number } => say_faulty_line(err, number),
@@ -72,8 +71,8 @@ pub fn report_script<E: Write>(err: &mut E, fault: ScriptFault) -> u8
 }
 
 /// Writes why there is no report, and answers the exit status.
-fn say_story_fault<E: Write>(err: &mut E, fault: StoryFault) -> u8
-    ensures said { (result ≡ 5) ⊎ (result ≡ 7) }
+fn say_story_fault<E: Write + Drop>(err: &mut Printer<E>, fault: StoryFault) -> u8
+    ensures said { IsSaid 5 err.old result err.new }
     ensures known { result ≤ 7 }
 {
     match writeln!(err, "failed {fault}") {
@@ -83,14 +82,13 @@ fn say_story_fault<E: Write>(err: &mut E, fault: StoryFault) -> u8
 }
 
 /// Prints lives on the output, or why there is no room for their text.
-fn say_lives<W: Write, E: Write>(
+fn say_lives<W: Write + Drop, E: Write + Drop>(
     alloc: Global,
     reports: &[LifeReport],
-    out: &mut W,
-    err: &mut E,
+    out: &mut Printer<W>,
+    err: &mut Printer<E>,
 ) -> u8
-    ensures says { SaysLives reports.now (W.contents out.old) (W.contents out.new)
-        (E.contents err.old) (E.contents err.new) result }
+    ensures says { SaysLives reports.now out.old out.new err.old err.new result }
     ensures known { result ≤ 7 }
 {
     match text_of(alloc, reports) {
@@ -103,19 +101,18 @@ fn say_lives<W: Write, E: Write>(
 /// these sizes, and its name is its one argument. Each life's line on the output says how it was
 /// opened, and behind that are its lines as a run prints them. Nothing is printed there before the
 /// last life is over. Answers the exit status: 0 where the story is told, 2 for a faulty line of
-/// the script, 3 for a refused configuration or module, 5 for want of memory, 7 where nothing can
-/// be printed.
+/// the script, 3 for a refused configuration or module, 5 for want of memory, 7 where a write of
+/// a printer has failed.
 #[tactic(auto, using(crate::proofs::TellingLemmas::line_told, crate::proofs::TellingLemmas::refused_told, crate::proofs::TellingLemmas::lives_told, crate::proofs::TellingLemmas::memory_told, crate::proofs::TellingLemmas::starved_told))]
-pub fn tell<W: Write, E: Write>(
+pub fn tell<W: Write + Drop, E: Write + Drop>(
     alloc: Global,
     script: &[u8],
     wasm: &[u8],
     sizes: Sizes,
-    out: &mut W,
-    err: &mut E,
+    out: &mut Printer<W>,
+    err: &mut Printer<E>,
 ) -> u8
-    ensures tells { TellsStory script.now wasm.now sizes (W.contents out.old) (W.contents out.new)
-        (E.contents err.old) (E.contents err.new) result }
+    ensures tells { TellsStory script.now wasm.now sizes out.old out.new err.old err.new result }
     ensures known { result ≤ 7 }
 {
     let lives = match read_script(alloc, script) {

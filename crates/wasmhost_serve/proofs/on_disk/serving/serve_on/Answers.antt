@@ -1,7 +1,7 @@
 use Rattle.std.specs.Int.NonZero.{non_zero_u64_get}
 use Rattle.std.proofs.Common.{refl}
 use Rattle.wasmhost_serve.specs.rules.ServedOnDisk.{disk_job}
-use Rattle.wasmhost_serve.proofs.OnDiskLemmas.{serves_none, serves_over, serves_broken, few_said}
+use Rattle.wasmhost_serve.proofs.OnDiskLemmas.{serves_none, serves_over, serves_broken, few_told}
 use Rattle.wasmhost_serve.proofs.on_disk.serving.serve_on.Goals as goal
 
 pub returns-in-Err-clause-serves : goal.returns-in-Err-clause-serves
@@ -23,8 +23,9 @@ returns-in-Ok-go_on-clause-serves g c =
     (g.R.LineReader.has_failed c.args.source.now.requests.reader))
     c.args.disk.now c.go_on.new.disk c.args.outlet.now
     (g.W.Write.contents c.go_on.new.outlet.out) _ _ _ c.say.result
-    c.in-Ok.worker c.recover.new.disk c.recover.new.outlet c.in-Ok.ensures.carries
-    c.in-Ok-go_on.now c.in-Ok-go_on.ensures c.say.ensures.known c.say.ensures.told
+    c.in-Ok.worker c.recover.new.disk c.recover.new.outlet c.tell_recovered.new.err
+    c.in-Ok.ensures.carries c.tell_recovered.ensures c.in-Ok-go_on.now c.in-Ok-go_on.ensures
+    c.say.ensures
 
 pub returns-clause-serves : goal.returns-clause-serves
 returns-clause-serves g c =
@@ -34,10 +35,11 @@ returns-clause-serves g c =
     (g.R.LineReader.has_failed c.args.source.now.requests.reader))
     c.args.disk.now c.go_on.new.disk c.args.outlet.now
     (g.W.Write.contents c.go_on.new.outlet.out) _ _ _ c.say_disk_fault-in-Err-go_on.result
-    c.in-Ok.worker c.recover.new.disk c.recover.new.outlet c.in-Ok.ensures.carries
-    c.in-Err-go_on.fault c.in-Err-go_on.ensures c.say_disk_fault-in-Err-go_on.ensures
+    c.in-Ok.worker c.recover.new.disk c.recover.new.outlet c.tell_recovered.new.err
+    c.in-Ok.ensures.carries c.tell_recovered.ensures c.in-Err-go_on.fault
+    c.in-Err-go_on.ensures c.say_disk_fault-in-Err-go_on.ensures
 
 pub returns-clause-known : goal.returns-clause-known
 returns-clause-known g c =
-    few_said c.in-Err-go_on.fault c.say_disk_fault-in-Err-go_on.result
-    c.say_disk_fault-in-Err-go_on.ensures
+    few_told c.in-Err-go_on.fault c.tell_recovered.new.err c.say_disk_fault-in-Err-go_on.result
+    c.say_disk_fault-in-Err-go_on.new.err c.say_disk_fault-in-Err-go_on.ensures

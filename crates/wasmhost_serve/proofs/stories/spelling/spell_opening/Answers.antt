@@ -2,8 +2,7 @@ use Rattle.std.proofs.Common.{codes}
 use Rattle.std.proofs.lemmas.Result.{on_ok_weaker}
 use Rattle.wasmhost_serve.specs.rules.Showings.{named_number}
 use Rattle.wasmhost_serve.specs.rules.Stories.{image_text}
-use Rattle.wasmhost_serve.proofs.LineLemmas.Printed.{appends_both}
-use Rattle.wasmhost_serve.proofs.ShowingLemmas.{appends_six}
+use Rattle.wasmhost_serve.proofs.LineLemmas.Printed.{appends_both, appends_six}
 use Rattle.wasmhost_serve.proofs.stories.spelling.spell_opening.Goals as goal
 
 pub returns-in_ok-spell_number-in-Recovered-4 : goal.returns-in_ok-spell_number-in-Recovered-4

@@ -9,10 +9,10 @@ use Rattle.wasmhost_serve.proofs.stories.telling.tell.Goals as goal
 pub returns-in-Ok-story-clause-tells : goal.returns-in-Ok-story-clause-tells
 returns-in-Ok-story-clause-tells g c =
     let wasm = c.args.wasm.now in
-    let out = g.W.Write.contents c.args.out.now in
-    let out' = g.W.Write.contents c.say_lives.new.out in
-    let err = g.E.Write.contents c.args.err.now in
-    let err' = g.E.Write.contents c.say_lives.new.err in
+    let out = c.args.out.now in
+    let out' = c.say_lives.new.out in
+    let err = c.args.err.now in
+    let err' = c.say_lives.new.err in
     let prepared = c.in-Ok-prepare.prepared in
     let told = c.in-Ok-story.told in
     let status = c.say_lives.result in
