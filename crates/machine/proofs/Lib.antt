@@ -12,7 +12,6 @@ pub mod Finished
 pub mod Stopped
 pub mod Telling
 pub mod Placed
-pub mod FrameLemmas
 pub mod RoutineLemmas
 pub mod TurnLemmas
 pub mod InstanceLemmas

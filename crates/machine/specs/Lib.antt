@@ -1,5 +1,4 @@
 pub mod Insides
-pub mod Frame
 pub mod Routines
 pub mod Turns
 pub mod Hosting

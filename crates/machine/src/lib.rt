@@ -46,14 +46,13 @@
 //!
 //! # Who may touch what
 //!
-//! No code but this crate's and that of `machine_slots`, `machine_jumps` and `machine_rules`
-//! changes frames, slots or positions. Callers have `Machine`, `Pause`, `HostCall` with its
-//! `Arguments`, and `FramePlace`, which lends a frame. `machine_loader`, `process` and `worker` use
-//! it. `link` takes all memory that running needs; where it fails the module is gone. The other
-//! calls take none and have no errors.
+//! No code but this crate's and that of `machine_frame`, `machine_slots`, `machine_jumps` and
+//! `machine_rules` changes frames, slots or positions. Callers have `Machine`, `Pause`, `HostCall`
+//! with its `Arguments`, and `FramePlace`, which lends a frame. `machine_loader`, `process` and
+//! `worker` use it. `link` takes all memory that running needs, and translates bodies into forms;
+//! where it fails the module is gone. The other calls take none and have no errors.
 #![tactic(auto)]
 
-mod frame;
 mod frames;
 mod hosting;
 mod instance;

@@ -1,4 +1,5 @@
 pub mod Frames
+pub mod Lends
 pub mod Outcomes
 pub mod Words
 pub mod laws

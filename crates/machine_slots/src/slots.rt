@@ -2,6 +2,9 @@
 
 ghost use Rattle.std.specs.Prelude.{◌≡◌, ◌+◌, ◌<◌, ◌≤◌, ◌↔◌, ℕ, List, [], ◌∷◌, ◌++◌, length};
 ghost use Rattle.std.specs.Prelude.{reverse, replicate, slice_get, slice_set, Some, IfOk, IsTrue};
+ghost use Rattle.std.specs.Prelude.{drop};
+ghost use Rattle.std.specs.Borrow.{sem};
+ghost use Rattle.machine_slots.specs.Lends.{LendsWords};
 
 use std::alloc::{AllocError, Global};
 use std::marker::Model;
@@ -130,6 +133,25 @@ impl Slots {
             self.words[height] = kept;
             self.height = height + 1;
         }
+    }
+
+    /// Shows so many more words on top, whatever they are.
+    #[inline(always)]
+    pub fn raise(&mut self, count: usize)
+        requires { count + length self.old ≤ SLOTS }
+        ensures { (more : List ℕ) × (length more ≡ count) × (self.new ≡ more ++ self.old) }
+    {
+        self.height += count;
+    }
+
+    /// Lends all words from a place on, which counts from the bottom.
+    #[inline(always)]
+    pub fn from_mut(&mut self, place: usize) -> &mut [u64]
+        requires { place ≤ length self.old }
+        ensures* writes_back { sem 𝓛 (LendsWords self.entry place result) }
+        ensures words { result.now ≡ drop place (reverse self.old) }
+    {
+        self.words.slice_mut(place..self.height)
     }
 
     /// Puts zeros on top.

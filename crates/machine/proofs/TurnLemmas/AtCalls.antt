@@ -26,7 +26,7 @@ use Rattle.machine_rules.specs.laws.Threads.{Top, HasTaken}
 use Rattle.machine_rules.proofs.Threads.Entering.{IsCalling, taken, under}
 use Rattle.machine_rules.proofs.Threads.Calling.{direct, indirect}
 use Rattle.machine.specs.Routines.Routines.{opcodes_in, tables_in}
-use Rattle.machine.proofs.FrameLemmas.Effects.{has_room}
+use Rattle.machine_frame.proofs.FrameLemmas.Effects.{has_room}
 use Rattle.machine.specs.declared.turns.code.Executable.{Executable}
 use Rattle.machine.specs.declared.turns.state.State.{State}
 use Rattle.machine.specs.Turns.Codes.{HasKind, HasOwnFunction, parts_of_state}

@@ -18,6 +18,7 @@ use Rattle.wasm_syntax_rules.specs.Configuration.{Program}
 use Rattle.machine.specs.rules.Offers.{offer, imported_call}
 use Rattle.machine_rules.specs.Threads.{IsOwn}
 use Rattle.machine.specs.declared.routines.routine.Routine.{Routine}
+use Rattle.machine_frame.specs.Frame.ByForms.{CodeFits}
 use Rattle.machine.specs.Routines.Routines.{imported_count, HasCounts, opcodes_in, tables_in}
 use Rattle.machine.specs.declared.turns.code.Executable.{Executable}
 use Rattle.machine.specs.Turns.Codes.{IsExecutable, HasOwnFunction}
@@ -79,6 +80,7 @@ module _ (code : Executable) (functions : List FunctionType) (program : Program)
     pub opcodes : opcodes_in code.«module» f ≡ function.code.body
     pub table : tables_in code.«module» code.routines.items f ≡ routine.table
     pub counts : HasCounts own.kind own.declared routine
+    pub code_fits : CodeFits routine.code function.code.body routine.table routine.locals
 
   pub has_own : (f : ℕ) (own : IsOwn program f) → HasOwn f own
   has_own f own =
@@ -98,6 +100,7 @@ module _ (code : Executable) (functions : List FunctionType) (program : Program)
         opcodes = h.opcodes;
         table = h.table;
         counts = h.counts;
+        code_fits = h.code;
       }
 
 -- ---- looking it up
