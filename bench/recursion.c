@@ -1,0 +1,26 @@
+// Functions that call themselves, turn after turn: Fibonacci's and Ackermann's. The line is made of
+// what they give.
+
+#include "kernel.h"
+
+enum { FIBONACCI = 21, ACKERMANN = 60 };
+
+NOT_INLINED static u32 fibonacci(u32 n) {
+    return n < 2 ? n : fibonacci(n - 1) + fibonacci(n - 2);
+}
+
+NOT_INLINED static u32 ackermann(u32 m, u32 n) {
+    if (m == 0) {
+        return n + 1;
+    }
+    return ackermann(m - 1, n ? ackermann(m, n - 1) : 1);
+}
+
+void _start(void) {
+    u32 sum = 0;
+    for (u32 left = turns(); left; left--) {
+        sum = 31 * sum + fibonacci(FIBONACCI);
+        sum = 31 * sum + ackermann(2, ACKERMANN);
+    }
+    print(&sum, 1);
+}
