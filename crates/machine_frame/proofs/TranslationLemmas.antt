@@ -12,6 +12,7 @@ pub mod ComputingForms
 pub mod UnformedLemmas
 pub mod Pushing
 pub mod Stepping
+pub mod Fusing
 pub mod TableJumps
 pub mod Traces
 pub mod TracePlaces
