@@ -7,7 +7,9 @@
 enum { REGISTERS = 16, LIMIT = 512 };
 
 // Operations. Those with an `N` take a small number as their last operand, not a register.
-enum code { STOP, SET, MOVE, ADD, ADD_N, MUL, MUL_N, AND_N, SHIFT_N, EQUAL_N, LESS, LOAD, STORE, GO, GO_IF };
+enum code {
+    STOP, SET, MOVE, ADD, ADD_N, MUL, MUL_N, AND_N, SHIFT_N, EQUAL_N, LESS, LOAD, STORE, GO, GO_IF
+};
 
 struct operation {
     u8 code, to, left, right;

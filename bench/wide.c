@@ -14,7 +14,7 @@ static u64 reduced(u64 number) {
     return number >= PRIME ? number - PRIME : number;
 }
 
-// The product of two numbers below the prime, modulo it. Since 2^61 is 1, so are 2^64 = 8 and so on.
+// The product of two numbers below the prime, modulo it. There 2^61 is 1, and so 2^64 is 8.
 NOT_INLINED static u64 product(u64 a, u64 b) {
     u64 a_low = (u32)a, a_high = a >> 32, b_low = (u32)b, b_high = b >> 32;
     u64 middle = a_low * b_high + a_high * b_low, low = a_low * b_low;

@@ -49,3 +49,19 @@ def of(counts, *names):
             sys.exit(f"{os.path.basename(sys.argv[0])}: callgrind counts no function {name}")
         total += sum(some)
     return total
+
+
+def calls(out, name):
+    """How often a function is called, from the file of a run."""
+    words = ["callgrind_annotate", "--threshold=100", "--inclusive=yes", "--tree=caller", out]
+    lines = subprocess.run(words, capture_output=True, text=True, check=True).stdout.splitlines()
+    total = 0
+    for line in lines:
+        found = re.search(r" < .* \(([\d,]+)x\)", line)
+        if found:
+            total += int(found[1].replace(",", ""))
+        elif re.search(rf" \* .*:{re.escape(name)} ", line):
+            return total
+        else:
+            total = 0
+    return 0
