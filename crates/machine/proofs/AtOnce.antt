@@ -3,8 +3,8 @@ use Rattle.std.proofs.Common.{◌≡◌, ℕ, List, subst, arith}
 use Rattle.wasm_syntax.specs.declared.types.FunctionType.{FunctionType}
 use Rattle.wasm_syntax_rules.specs.Configuration.{Program, Configuration}
 use Rattle.wasm_syntax_rules.specs.Steps.{IsSettled, Settles}
-use Rattle.machine_rules.specs.Walks.{Walks}
-use Rattle.machine_rules.proofs.Standing.Walking.{walks_settle}
+use Rattle.machine_frame.specs.rules.Walks.{Walks}
+use Rattle.machine_frame.proofs.Standing.Walking.{walks_settle}
 use Rattle.machine.specs.declared.turns.code.Executable.{Executable}
 use Rattle.machine.specs.declared.turns.state.State.{State}
 use Rattle.machine.specs.declared.turns.pause.Pause.{Pause}

@@ -8,7 +8,7 @@ use Rattle.wasm_syntax_rules.specs.Validity.{module_context}
 use Rattle.wasm_syntax_rules.specs.Configuration.{Program, Configuration}
 use Rattle.wasm_syntax_rules.specs.Steps.{IsSettled}
 use Rattle.wasm_syntax_rules.specs.Typed.{IsTypedMemory}
-use Rattle.machine_rules.proofs.Threads.Showing.{settled_is_shown, shown_stands}
+use Rattle.machine_frame.proofs.Threads.Showing.{settled_is_shown, shown_stands}
 use Rattle.machine.specs.Routines.Routines.{opcodes_in, tables_in}
 use Rattle.machine.specs.declared.turns.code.Executable.{Executable}
 use Rattle.machine.specs.declared.turns.state.State.{State}

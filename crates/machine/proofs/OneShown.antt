@@ -19,7 +19,7 @@ use Rattle.wasm_syntax_rules.proofs.Soundness.Values.{are_both, reverse_are}
 use Rattle.machine_slots.specs.rules.Places.{ShownFrame, MachineState, HaveShape, all_below}
 use Rattle.machine_slots.specs.rules.Places.{slots_of, IsCallOf, ShowsRunning, ShowsWaiting}
 use Rattle.machine_slots.specs.rules.Places.{IsFrameOf, ShowsCallers, ShowsThread, Shows}
-use Rattle.machine_rules.proofs.Threads.Words.{same_parts, values_count}
+use Rattle.machine_frame.proofs.Threads.Words.{same_parts, values_count}
 use Rattle.machine.specs.laws.Laws.{MachineShowsOne}
 use Rattle.machine.proofs.OneProgram.{one_program, one_list}
 

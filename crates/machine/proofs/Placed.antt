@@ -8,8 +8,8 @@ use Rattle.guest_memory.specs.rules.Memories.{LinearMemory}
 use Rattle.wasm_syntax_rules.specs.Configuration.{Program}
 use Rattle.wasm_syntax_rules.specs.Instantiation.{most_pages_of}
 use Rattle.wasm_syntax_rules.specs.Validity.{module_context, memories_of}
-use Rattle.machine_rules.specs.Stacked.{AreStacked}
-use Rattle.machine_rules.proofs.Threads.Showing.{frames_stacked}
+use Rattle.machine_frame.specs.rules.Stacked.{AreStacked}
+use Rattle.machine_frame.proofs.Threads.Showing.{frames_stacked}
 use Rattle.machine.specs.declared.turns.code.Executable.{Executable}
 use Rattle.machine.specs.declared.turns.state.State.{State}
 use Rattle.machine.specs.rules.Values.{IsProgramIn}

@@ -7,7 +7,7 @@ use Rattle.wasm_syntax_rules.specs.Validity.{module_context}
 use Rattle.wasm_syntax_rules.specs.Configuration.{Program}
 use Rattle.wasm_syntax_rules.specs.Steps.{stopped}
 use Rattle.machine_slots.specs.rules.Places.{ShownFrame, ShowsThread}
-use Rattle.machine_rules.specs.Threads.{places_of}
+use Rattle.machine_frame.specs.rules.Threads.{places_of}
 use Rattle.machine.specs.declared.turns.code.Executable.{Executable}
 use Rattle.machine.specs.declared.turns.state.State.{State}
 use Rattle.machine.specs.Turns.Turns.{IsCleared}

@@ -11,8 +11,8 @@ use Rattle.wasm_syntax_rules.specs.Configuration.{Program, Store, Thread, Config
 use Rattle.wasm_syntax_rules.specs.Steps.{left_by}
 use Rattle.wasm_syntax_rules.specs.Typed.{IsEntry}
 use Rattle.machine_slots.specs.rules.Places.{ShowsThread}
-use Rattle.machine_rules.specs.declared.frame.StackFrame.{StackFrame}
-use Rattle.machine_rules.specs.Threads.{places_of}
+use Rattle.machine_frame.specs.declared.rules.frame.StackFrame.{StackFrame}
+use Rattle.machine_frame.specs.rules.Threads.{places_of}
 use Rattle.machine.specs.declared.turns.code.Executable.{Executable}
 use Rattle.machine.specs.declared.turns.state.State.{State}
 use Rattle.machine.specs.declared.turns.pause.HostCall.{HostCall}

@@ -7,8 +7,8 @@ use Rattle.guest_memory.specs.rules.Memories.{LinearMemory, IsWithinLimit}
 use Rattle.wasm_syntax_rules.specs.Configuration.{Program, Configuration}
 use Rattle.wasm_syntax_rules.specs.Steps.{IsSettled}
 use Rattle.wasm_syntax_rules.specs.Typed.{IsTypedEntry}
-use Rattle.machine_rules.specs.Stacked.{AreStacked}
-use Rattle.machine_rules.specs.Threads.{machine_state_of}
+use Rattle.machine_frame.specs.rules.Stacked.{AreStacked}
+use Rattle.machine_frame.specs.rules.Threads.{machine_state_of}
 use Rattle.machine.specs.declared.turns.code.Executable.{Executable}
 use Rattle.machine.specs.declared.turns.state.State.{State}
 use Rattle.machine.specs.Turns.Codes.{parts_of_state, IsExecutable, Stands}

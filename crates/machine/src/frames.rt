@@ -2,9 +2,9 @@
 
 ghost use Rattle.std.specs.Prelude.{◌≡◌, ◌<◌, ◌≤◌, ◌↔◌, List, [], ◌∷◌, length, reverse, slice_get};
 ghost use Rattle.std.specs.Prelude.{Some, IfOk, IsTrue};
-ghost use Rattle.machine_rules.specs.declared.frame.StackFrame.{StackFrame as OneFrame};
+ghost use Rattle.machine_frame.specs.declared.rules.frame.StackFrame.{StackFrame as OneFrame};
 
-use machine_rules::StackFrame;
+use machine_frame::StackFrame;
 use machine_slots::limits::FRAMES;
 use std::alloc::{AllocError, Global};
 use std::marker::Model;
@@ -26,7 +26,7 @@ pub struct Frames {
 
 impl Model for Frames {
     ghost use Rattle.std.specs.Prelude.{List, ◌≡◌, ◌≤◌, length, reverse, take};
-    ghost use Rattle.machine_rules.specs.declared.frame.StackFrame.{StackFrame as OneFrame};
+    ghost use Rattle.machine_frame.specs.declared.rules.frame.StackFrame.{StackFrame as OneFrame};
 
     ghost Value = { List OneFrame };
 

@@ -46,9 +46,9 @@
 //!
 //! # Who may touch what
 //!
-//! No code but this crate's and that of `machine_frame`, `machine_slots`, `machine_jumps` and
-//! `machine_rules` changes frames, slots or positions. Callers have `Machine`, `Pause`, `HostCall`
-//! with its `Arguments`, and `FramePlace`, which lends a frame. `machine_loader`, `process` and
+//! No code but this crate's and that of `machine_frame`, `machine_slots` and `machine_jumps`
+//! changes frames, slots or positions. Callers have `Machine`, `Pause`, `HostCall` with its
+//! `Arguments`, and `FramePlace`, which lends a frame. `machine_loader`, `process` and
 //! `worker` use it. `link` takes all memory that running needs, and translates bodies into forms;
 //! where it fails the module is gone. The other calls take none and have no errors.
 #![tactic(auto)]

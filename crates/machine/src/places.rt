@@ -4,9 +4,9 @@
 ghost use Rattle.std.specs.Prelude.{◌≡◌, ◌≢◌, ◌↔◌, ◌<◌, ◌≤◌, ◌-◌, IsTrue, Some, [], length, drop};
 ghost use Rattle.std.specs.Prelude.{reverse, slice_get, take};
 ghost use Rattle.machine_slots.specs.declared.slots.TheConstants.{SLOTS};
-ghost use Rattle.machine_rules.specs.Fitting.{slots_held};
-ghost use Rattle.machine_rules.specs.Stacked.{AreStacked, slots_end};
-ghost use Rattle.machine_rules.specs.Threads.{places_of};
+ghost use Rattle.machine_frame.specs.rules.Fitting.{slots_held};
+ghost use Rattle.machine_frame.specs.rules.Stacked.{AreStacked, slots_end};
+ghost use Rattle.machine_frame.specs.rules.Threads.{places_of};
 ghost use Rattle.machine.specs.rules.LentFrames.{lent_frame};
 
 use crate::frames::Frames;

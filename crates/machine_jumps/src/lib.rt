@@ -24,7 +24,7 @@
 //! # Who may touch what
 //!
 //! Only this crate knows how jumps are stored and found. `machine` makes and reads tables, and
-//! `machine_rules` cites the definitions. It stands on `wasm_validate`, for what typing looks up
+//! `machine_frame` cites the definitions. It stands on `wasm_validate`, for what typing looks up
 //! and for the stack that a walk uses. `branch_table` takes memory, and want of it is its only
 //! error. Looking up a jump takes none.
 #![tactic(auto)]

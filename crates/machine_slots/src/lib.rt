@@ -27,7 +27,7 @@
 //! # Who may touch what
 //!
 //! Only this crate knows that the words lie in one vector of fixed size. `machine` uses it;
-//! `machine_rules` and `state_image` cite its definitions. It stands on `int_ops` and
+//! `machine_frame` and `state_image` cite its definitions. It stands on `int_ops` and
 //! `guest_memory`. `Slots::new` takes all memory. Want of it is the only error beside traps, which
 //! leave globals and memory as they were.
 #![tactic(auto)]

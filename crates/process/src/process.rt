@@ -46,7 +46,8 @@ impl Model for Process {
 
     ghost view = { λ p. process_of p.machine p.host p.steps p.answers p.requests p.ended };
 
-    ghost invariant = { λ p. IsProcess (process_of p.machine p.host p.steps p.answers p.requests p.ended) };
+    ghost invariant = { λ p. IsProcess
+        (process_of p.machine p.host p.steps p.answers p.requests p.ended) };
 }
 
 impl Process {

@@ -27,7 +27,8 @@ impl Outlet for AnyOutlet {
     ghost use Rattle.std.specs.Prelude.{◌≡◌};
 
     // The outlet in the box took the line, and the box holds what it became.
-    ghost takes = { λ o number line said after. (x : _) × (Outlet-box o.0).takes o.0.value number line said x
+    ghost takes = { λ o number line said after. (x : _)
+        × (Outlet-box o.0).takes o.0.value number line said x
         × (after ≡ record o { 0 = record o.0 { value = x } }) };
 
     fn release(&mut self, number: u64, stream: u8, text: &[u8]) -> Result<(), OutletFault> {

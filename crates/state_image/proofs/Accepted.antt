@@ -20,7 +20,7 @@ use Rattle.wasm_syntax_rules.specs.Typed.{IsTypedMemory}
 use Rattle.wasm_syntax_rules.proofs.Soundness.Beginning.{programs_typed}
 use Rattle.machine_slots.specs.declared.slots.TheConstants.{SLOTS}
 use Rattle.machine_slots.specs.rules.Places.{ShownFrame, MachineState}
-use Rattle.machine_rules.specs.Fitting.{slots_held}
+use Rattle.machine_frame.specs.rules.Fitting.{slots_held}
 use Rattle.machine.specs.rules.Loading.{ShowsSome}
 use Rattle.machine.specs.rules.Values.{MachineValue}
 use Rattle.process_rules.specs.Processes.{Ending}

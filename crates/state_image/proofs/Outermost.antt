@@ -23,7 +23,7 @@ use Rattle.wasm_syntax_rules.specs.Steps.{called, calls, kind_of, calls_entry, a
 use Rattle.wasm_syntax_rules.specs.Steps.{execute, goes_on, rule_of, rule, returned, left, begun}
 use Rattle.wasm_syntax_rules.specs.Steps.{left_by, Settles, here, on}
 use Rattle.machine_slots.specs.rules.Places.{ShownFrame, ShowsCallers, ShowsThread}
-use Rattle.machine_rules.proofs.Standing.Effects.{table_stays}
+use Rattle.machine_frame.proofs.Standing.Effects.{table_stays}
 use Rattle.wasi_abi.specs.declared.answer.Answer.{Answer}
 use Rattle.wasi_abi.specs.declared.call.Call.{Call}
 use Rattle.wasi_abi.specs.rules.Configs.{Settings}

@@ -16,7 +16,7 @@ use Rattle.wasm_syntax_rules.specs.Configuration.{Program, Thread}
 use Rattle.wasm_syntax_rules.specs.Typed.{IsTypedProgram}
 use Rattle.wasm_syntax_rules.proofs.Soundness.Beginning.{programs_typed}
 use Rattle.machine_slots.specs.rules.Places.{ShownFrame, ShowsThread}
-use Rattle.machine_rules.proofs.Threads.Fitting.{shown_fits}
+use Rattle.machine_frame.proofs.Threads.Fitting.{shown_fits}
 use Rattle.machine.specs.rules.Offers.{offer}
 use Rattle.machine.proofs.InstanceLemmas.Offered.{no_entry}
 use Rattle.wasi_abi.specs.rules.Configs.{Settings}

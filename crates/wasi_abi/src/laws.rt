@@ -28,7 +28,8 @@ pub fn rights_have_their_bits()
         Rights.PATH_FILESTAT_GET ∷ Rights.PATH_FILESTAT_SET_SIZE ∷
         Rights.PATH_FILESTAT_SET_TIMES ∷ Rights.FD_FILESTAT_GET ∷ Rights.FD_FILESTAT_SET_SIZE ∷
         Rights.FD_FILESTAT_SET_TIMES ∷ Rights.PATH_SYMLINK ∷ Rights.PATH_REMOVE_DIRECTORY ∷
-        Rights.PATH_UNLINK_FILE ∷ Rights.POLL_FD_READWRITE ∷ Rights.SOCK_SHUTDOWN ∷ []) ≡ right_masks }
+        Rights.PATH_UNLINK_FILE ∷ Rights.POLL_FD_READWRITE ∷ Rights.SOCK_SHUTDOWN ∷ [])
+        ≡ right_masks }
 {}
 
 /// The sets of rights have the numbers of the profile, and `ALL` is `FILE` and `DIRECTORY`

@@ -58,9 +58,9 @@
 //!   does at each moment of a barrier, of a commit and of a creation, and behind their errors.
 //! - `processes_are_savepoints`: the process at hand is the next savepoint, wherever the records of
 //!   the last one have led (`IsNextOf`); one that begins is a first savepoint.
-//! - `saves_carry_promises`: a barrier and a commit, one after the other, keep what is promised, and
-//!   in the end what a checkpoint promises. `creations_open_workers`: so does a creation, and in the
-//!   end what its opening promises.
+//! - `saves_carry_promises`: a barrier and a commit, one after the other, keep what is promised,
+//!   and in the end what a checkpoint promises. `creations_open_workers`: so does a creation, and
+//!   in the end what its opening promises.
 //! - `events_carry_promises`, `syncs_are_held`: so it is behind each event. Which syncs of the
 //!   guest need no answer but those on the disk follows from the steps between two barriers.
 //!

@@ -10,9 +10,9 @@ use Rattle.wasm_syntax_rules.specs.Validity.{module_context}
 use Rattle.wasm_syntax_rules.specs.Configuration.{Host, Program, Thread, Configuration, Asks}
 use Rattle.wasm_syntax_rules.specs.Steps.{rule, answered}
 use Rattle.wasm_syntax_rules.specs.Typed.{IsTypedMemory}
-use Rattle.machine_rules.specs.declared.frame.StackFrame.{StackFrame}
-use Rattle.machine_rules.specs.laws.Threads.{HasTaken}
-use Rattle.machine_rules.proofs.Threads.Hosting.{answers_lead}
+use Rattle.machine_frame.specs.declared.rules.frame.StackFrame.{StackFrame}
+use Rattle.machine_frame.specs.rules.laws.Threads.{HasTaken}
+use Rattle.machine_frame.proofs.Threads.Hosting.{answers_lead}
 use Rattle.machine.specs.Routines.Routines.{opcodes_in, tables_in}
 use Rattle.machine.specs.declared.turns.code.Executable.{Executable}
 use Rattle.machine.specs.declared.turns.state.State.{State}

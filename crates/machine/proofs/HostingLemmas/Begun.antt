@@ -13,7 +13,7 @@ use Rattle.machine.specs.declared.instance.instance.Instance.{Instance}
 use Rattle.machine.specs.rules.Offers.{offer}
 use Rattle.machine.specs.rules.Instances.{IsLinked}
 use Rattle.machine.proofs.InstanceLemmas.Offered.{no_entry}
-use Rattle.machine_rules.specs.Threads.{AreFrames, PartsStandFor}
+use Rattle.machine_frame.specs.rules.Threads.{AreFrames, PartsStandFor}
 use Rattle.machine.specs.Turns.Codes.{IsExecutable, Stands, parts_of_state}
 use Rattle.machine.specs.declared.hosting.starting.MachineStart.{MachineStart}
 use Rattle.machine.specs.Hosting.Beginnings.{first, IsOfInstance, StartStands}

@@ -10,10 +10,10 @@ use Rattle.wasm_syntax_rules.specs.Typing.{Context}
 use Rattle.wasm_syntax_rules.specs.Validity.{module_context}
 use Rattle.wasm_syntax_rules.specs.Configuration.{Program}
 use Rattle.wasm_syntax_rules.specs.Typed.{IsEntry}
-use Rattle.machine_rules.specs.Fitting.{FitFrames, FitsProgram}
-use Rattle.machine_rules.specs.Threads.{places_of, machine_state_of}
-use Rattle.machine_rules.proofs.Threads.Fitting.{shown_fits, fits_shown}
-use Rattle.machine_rules.proofs.Threads.Showing.{places_count, shown_frames}
+use Rattle.machine_frame.specs.rules.Fitting.{FitFrames, FitsProgram}
+use Rattle.machine_frame.specs.rules.Threads.{places_of, machine_state_of}
+use Rattle.machine_frame.proofs.Threads.Fitting.{shown_fits, fits_shown}
+use Rattle.machine_frame.proofs.Threads.Showing.{places_count, shown_frames}
 use Rattle.machine.specs.declared.turns.code.Executable.{Executable}
 use Rattle.machine.specs.declared.turns.state.State.{State}
 use Rattle.machine.specs.Turns.Codes.{Stands, parts_of_state}

@@ -12,11 +12,12 @@ use Rattle.wasm_syntax_rules.specs.Typing.{Context}
 use Rattle.wasm_syntax_rules.specs.Configuration.{Own, Program}
 use Rattle.machine_slots.specs.rules.Places.{ShownFrame}
 use Rattle.machine_slots.specs.declared.limits.TheConstants.{HELD_VALUES}
-use Rattle.machine_rules.specs.declared.frame.StackFrame.{StackFrame}
-use Rattle.machine_rules.specs.Stacked.{AreStacked}
-use Rattle.machine_rules.specs.Threads.{places_of}
-use Rattle.machine_rules.specs.Fitting.{IsOwnPlace, FitCallers, FitFrames, FewHeld, slots_held}
-use Rattle.machine_rules.proofs.Threads.Showing.{parts_of}
+use Rattle.machine_frame.specs.declared.rules.frame.StackFrame.{StackFrame}
+use Rattle.machine_frame.specs.rules.Stacked.{AreStacked}
+use Rattle.machine_frame.specs.rules.Threads.{places_of}
+use Rattle.machine_frame.specs.rules.Fitting.{IsOwnPlace, FitCallers, FitFrames, FewHeld}
+use Rattle.machine_frame.specs.rules.Fitting.{slots_held}
+use Rattle.machine_frame.proofs.Threads.Showing.{parts_of}
 use Rattle.machine.specs.Loading.Checks.{FitsTop, FitsBelow}
 use Rattle.machine.proofs.LoadingLemmas.Words.{front_there}
 

@@ -8,10 +8,10 @@ use Rattle.std.proofs.lemmas.List.{reverse-append}
 use Rattle.wasm_syntax_rules.specs.Typed.{IsTypedEntry}
 use Rattle.machine_slots.specs.rules.Places.{ShownFrame}
 use Rattle.machine_slots.specs.declared.slots.TheConstants.{SLOTS}
-use Rattle.machine_rules.specs.declared.frame.StackFrame.{StackFrame}
-use Rattle.machine_rules.specs.Stacked.{AreStacked}
-use Rattle.machine_rules.specs.Threads.{places_of}
-use Rattle.machine_rules.specs.Fitting.{slots_held}
+use Rattle.machine_frame.specs.declared.rules.frame.StackFrame.{StackFrame}
+use Rattle.machine_frame.specs.rules.Stacked.{AreStacked}
+use Rattle.machine_frame.specs.rules.Threads.{places_of}
+use Rattle.machine_frame.specs.rules.Fitting.{slots_held}
 use Rattle.machine.specs.declared.turns.code.Executable.{Executable}
 use Rattle.machine.specs.declared.turns.state.State.{State}
 use Rattle.machine.specs.declared.loading.fault.LoadFault.{LoadFault}

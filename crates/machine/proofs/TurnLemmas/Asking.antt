@@ -17,7 +17,7 @@ use Rattle.wasm_syntax_rules.specs.Effects.{Effect, Gives, Fails, Wrong, effect}
 use Rattle.wasm_syntax_rules.specs.Steps.{where_some, topmost, branch, returned, called}
 use Rattle.wasm_syntax_rules.specs.Steps.{calls_entry, kind_of, entered, is_exhausted, after_effect}
 use Rattle.wasm_syntax_rules.specs.Steps.{goes_on, execute, rule_of}
-use Rattle.machine_rules.proofs.Threads.Calling.{same_kind}
+use Rattle.machine_frame.proofs.Threads.Calling.{same_kind}
 
 -- the instructions that call
 abbrev pub IsCall : Instruction → Type 0

@@ -20,11 +20,11 @@ use Rattle.wasm_syntax_rules.specs.Steps.{topmost, kind_of, rule_of}
 use Rattle.machine_jumps.specs.Jumps.{HasShape}
 use Rattle.machine_jumps.specs.Moves.{HasOpcode, IsFirst, IsTypedBody}
 use Rattle.machine_jumps.proofs.MovesHold.{opcodes_first, no_opcode_behind}
-use Rattle.machine_rules.specs.declared.frame.StackFrame.{StackFrame}
-use Rattle.machine_rules.specs.Threads.{AreFrames, context_of}
-use Rattle.machine_rules.specs.laws.Threads.{Top, HasTaken}
-use Rattle.machine_rules.proofs.Threads.Entering.{IsCalling, taken, under}
-use Rattle.machine_rules.proofs.Threads.Calling.{direct, indirect}
+use Rattle.machine_frame.specs.declared.rules.frame.StackFrame.{StackFrame}
+use Rattle.machine_frame.specs.rules.Threads.{AreFrames, context_of}
+use Rattle.machine_frame.specs.rules.laws.Threads.{Top, HasTaken}
+use Rattle.machine_frame.proofs.Threads.Entering.{IsCalling, taken, under}
+use Rattle.machine_frame.proofs.Threads.Calling.{direct, indirect}
 use Rattle.machine.specs.Routines.Routines.{opcodes_in, tables_in}
 use Rattle.machine_frame.proofs.FrameLemmas.Effects.{has_room}
 use Rattle.machine.specs.declared.turns.code.Executable.{Executable}

@@ -25,14 +25,14 @@ use Rattle.wasm_syntax_rules.specs.Configuration.{Asks, Traps}
 use Rattle.wasm_syntax_rules.specs.Steps.{rule, IsCounted}
 use Rattle.machine_slots.specs.declared.limits.TheConstants.{FRAMES, HELD_VALUES}
 use Rattle.machine.specs.rules.Offers.{offer, offered_call, imported_call}
-use Rattle.machine_rules.specs.Threads.{IsOwn, MachineParts, PartsStandFor}
-use Rattle.machine_rules.specs.laws.Threads.{CallLeads}
+use Rattle.machine_frame.specs.rules.Threads.{IsOwn, MachineParts, PartsStandFor}
+use Rattle.machine_frame.specs.rules.laws.Threads.{CallLeads}
 use Rattle.machine.specs.laws.Routines.{IsNumberedCallee}
 use Rattle.machine.proofs.RoutineLemmas.Numbers.{functions_numbered}
 use Rattle.machine.specs.declared.turns.code.Executable.{Executable}
 use Rattle.machine.specs.Turns.Codes.{IsExecutable}
 use Rattle.machine.proofs.TurnLemmas.Codes.{calls_count}
-use Rattle.machine_rules.proofs.Threads.Words.{values_count}
+use Rattle.machine_frame.proofs.Threads.Words.{values_count}
 
 -- ---- a function of the host's
 

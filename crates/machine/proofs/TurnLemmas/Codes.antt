@@ -16,7 +16,7 @@ use Rattle.wasm_syntax_rules.specs.Types.{imported_functions, with_function_inde
 use Rattle.wasm_syntax_rules.specs.Linking.{IsItemOffered, IsOffered}
 use Rattle.wasm_syntax_rules.specs.Configuration.{Program}
 use Rattle.machine.specs.rules.Offers.{offer, imported_call}
-use Rattle.machine_rules.specs.Threads.{IsOwn}
+use Rattle.machine_frame.specs.rules.Threads.{IsOwn}
 use Rattle.machine.specs.declared.routines.routine.Routine.{Routine}
 use Rattle.machine_frame.specs.Frame.ByForms.{CodeFits}
 use Rattle.machine.specs.Routines.Routines.{imported_count, HasCounts, opcodes_in, tables_in}

@@ -16,12 +16,13 @@ use Rattle.wasm_syntax_rules.specs.Configuration.{Program, FrameOf, Thread, Conf
 use Rattle.wasm_syntax_rules.specs.Steps.{IsCounted, IsUncounted, IsEnded}
 use Rattle.machine_jumps.specs.Moves.{opcodes_of}
 use Rattle.machine_slots.specs.laws.Laws.{Falls}
-use Rattle.machine_rules.specs.Walks.{here, uncounted}
-use Rattle.machine_rules.specs.declared.frame.StackFrame.{StackFrame}
-use Rattle.machine_rules.specs.Threads.{IsOwn, PartsStandFor, AreFrames, AreWaiting, context_of}
-use Rattle.machine_rules.specs.laws.Threads.{frames_behind, results_left}
-use Rattle.machine_rules.proofs.Threads.Hosting.{host_calls}
-use Rattle.machine_rules.proofs.Threads.Returning.{bodies_end, returns_lead}
+use Rattle.machine_frame.specs.rules.Walks.{here, uncounted}
+use Rattle.machine_frame.specs.declared.rules.frame.StackFrame.{StackFrame}
+use Rattle.machine_frame.specs.rules.Threads.{IsOwn, PartsStandFor, AreFrames, AreWaiting}
+use Rattle.machine_frame.specs.rules.Threads.{context_of}
+use Rattle.machine_frame.specs.rules.laws.Threads.{frames_behind, results_left}
+use Rattle.machine_frame.proofs.Threads.Hosting.{host_calls}
+use Rattle.machine_frame.proofs.Threads.Returning.{bodies_end, returns_lead}
 use Rattle.machine.specs.declared.routines.routine.Routine.{Routine}
 use Rattle.machine.specs.Routines.Routines.{opcodes_in, tables_in}
 use Rattle.machine.specs.declared.turns.code.Executable.{Executable}

@@ -9,8 +9,8 @@ use Rattle.wasi_abi.specs.declared.call.Call.{Call}
 use Rattle.wasm_syntax_rules.specs.Validity.{module_context}
 use Rattle.wasm_syntax_rules.specs.Configuration.{Callee, Program, Configuration, Traps}
 use Rattle.wasm_syntax_rules.specs.Steps.{rule, kind_of}
-use Rattle.machine_rules.specs.laws.Threads.{CallLeads, EntryLeads}
-use Rattle.machine_rules.proofs.Threads.Calling.{indirect_calls_lead}
+use Rattle.machine_frame.specs.rules.laws.Threads.{CallLeads, EntryLeads}
+use Rattle.machine_frame.proofs.Threads.Calling.{indirect_calls_lead}
 use Rattle.machine.specs.Routines.Routines.{opcodes_in, tables_in}
 use Rattle.machine.specs.declared.turns.code.Executable.{Executable}
 use Rattle.machine.specs.declared.turns.state.State.{State}

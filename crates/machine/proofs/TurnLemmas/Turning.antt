@@ -13,10 +13,10 @@ use Rattle.wasm_syntax_rules.specs.Validity.{module_context}
 use Rattle.wasm_syntax_rules.specs.Configuration.{Callee, Program, Configuration, Traps}
 use Rattle.wasm_syntax_rules.specs.Steps.{rule, IsEnded}
 use Rattle.machine_slots.specs.declared.limits.TheConstants.{FRAMES, HELD_VALUES}
-use Rattle.machine_rules.specs.Walks.{here, counted}
-use Rattle.machine_rules.specs.Threads.{PartsStandFor}
-use Rattle.machine_rules.specs.laws.Threads.{CallLeads}
-use Rattle.machine_rules.proofs.Threads.Calling.{calls_lead}
+use Rattle.machine_frame.specs.rules.Walks.{here, counted}
+use Rattle.machine_frame.specs.rules.Threads.{PartsStandFor}
+use Rattle.machine_frame.specs.rules.laws.Threads.{CallLeads}
+use Rattle.machine_frame.proofs.Threads.Calling.{calls_lead}
 use Rattle.machine.specs.Routines.Routines.{opcodes_in, tables_in}
 use Rattle.machine.specs.declared.routines.routine.Routine.{Routine}
 use Rattle.machine.specs.declared.turns.code.Executable.{Executable}

@@ -12,8 +12,8 @@ use Rattle.wasm_syntax_rules.specs.Types.{number_in}
 use Rattle.wasm_syntax_rules.specs.Configuration.{Program, Configuration, Traps, Goes}
 use Rattle.wasm_syntax_rules.specs.Steps.{rule}
 use Rattle.machine_slots.specs.declared.limits.TheConstants.{FRAMES, HELD_VALUES}
-use Rattle.machine_rules.specs.declared.frame.StackFrame.{StackFrame}
-use Rattle.machine_rules.specs.Threads.{MachineParts}
+use Rattle.machine_frame.specs.declared.rules.frame.StackFrame.{StackFrame}
+use Rattle.machine_frame.specs.rules.Threads.{MachineParts}
 use Rattle.machine.specs.Routines.Routines.{opcodes_in}
 use Rattle.machine.specs.declared.turns.code.Executable.{Executable}
 use Rattle.machine.specs.declared.turns.state.State.{State}

@@ -10,9 +10,9 @@ use Rattle.wasm_syntax_rules.specs.Typed.{IsEntry}
 use Rattle.wasm_validate.specs.declared.parts.context.ModuleContext.{ModuleContext}
 use Rattle.wasm_validate.specs.Parts.Contexts.{IsContextOf}
 use Rattle.machine_slots.specs.rules.Places.{ShownFrame}
-use Rattle.machine_rules.specs.Fitting.{AreWordsOf, IsOwnPlace, place_context, FitsRunning}
-use Rattle.machine_rules.specs.Fitting.{FitsWaiting, FewHeld}
-use Rattle.machine_rules.specs.Threads.{places_of}
+use Rattle.machine_frame.specs.rules.Fitting.{AreWordsOf, IsOwnPlace, place_context, FitsRunning}
+use Rattle.machine_frame.specs.rules.Fitting.{FitsWaiting, FewHeld}
+use Rattle.machine_frame.specs.rules.Threads.{places_of}
 use Rattle.machine.specs.declared.turns.code.Executable.{Executable}
 use Rattle.machine.specs.declared.turns.state.State.{State}
 use Rattle.machine.specs.Turns.Codes.{IsExecutable}

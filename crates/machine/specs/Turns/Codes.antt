@@ -10,7 +10,7 @@ use Rattle.wasm_syntax_rules.specs.Instantiation.{IsProgram}
 use Rattle.wasm_syntax_rules.specs.Linking.{IsOffered}
 use Rattle.wasm_syntax_rules.specs.Configuration.{Program, Configuration}
 use Rattle.machine.specs.rules.Offers.{offer, AreImportedCalls}
-use Rattle.machine_rules.specs.Threads.{IsOwn, MachineParts, PartsStandFor}
+use Rattle.machine_frame.specs.rules.Threads.{IsOwn, MachineParts, PartsStandFor}
 use Rattle.machine.specs.Routines.Routines.{AreRoutines}
 use Rattle.machine.specs.declared.turns.code.Executable.{Executable}
 use Rattle.machine.specs.declared.turns.state.State.{State}

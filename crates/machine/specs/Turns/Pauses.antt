@@ -8,7 +8,7 @@ use Rattle.wasi_abi.specs.rules.Calls.{call_type_of}
 use Rattle.wasm_syntax_rules.specs.Types.{AreOf, number_in, takes_of}
 use Rattle.wasm_syntax_rules.specs.Configuration.{Host, Program, Thread, Configuration, Asks, Traps}
 use Rattle.wasm_syntax_rules.specs.Steps.{rule, stopped, IsSettled, IsEnded}
-use Rattle.machine_rules.specs.Walks.{Walks}
+use Rattle.machine_frame.specs.rules.Walks.{Walks}
 use Rattle.machine.specs.declared.turns.code.Executable.{Executable}
 use Rattle.machine.specs.declared.turns.state.State.{State}
 use Rattle.machine.specs.declared.turns.pause.Pause.{Pause}

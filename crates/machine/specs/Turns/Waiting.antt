@@ -7,7 +7,7 @@ use Rattle.wasi_abi.specs.declared.call.Call.{Call}
 use Rattle.wasi_abi.specs.rules.Calls.{parameters_of}
 use Rattle.wasm_syntax_rules.specs.Configuration.{Program, Thread, Configuration, Asks}
 use Rattle.wasm_syntax_rules.specs.Steps.{rule}
-use Rattle.machine_rules.specs.laws.Threads.{HasTaken}
+use Rattle.machine_frame.specs.rules.laws.Threads.{HasTaken}
 use Rattle.machine.specs.declared.turns.code.Executable.{Executable}
 use Rattle.machine.specs.declared.turns.state.State.{State}
 use Rattle.machine.specs.declared.turns.pause.HostCall.{HostCall}

@@ -4,9 +4,9 @@ ghost use Rattle.std.specs.Prelude.{◌≡◌, ◌↔◌, List, [], IsTrue, IfOk
 ghost use Rattle.wasm_syntax.specs.declared.types.FunctionType.{FunctionType as Kind};
 ghost use Rattle.wasm_syntax_rules.specs.Configuration.{Program};
 ghost use Rattle.wasm_syntax_rules.specs.Validity.{module_context};
-ghost use Rattle.machine_rules.specs.Fitting.{FitsProgram};
-ghost use Rattle.machine_rules.specs.Stacked.{AreStacked};
-ghost use Rattle.machine_rules.specs.Threads.{machine_state_of};
+ghost use Rattle.machine_frame.specs.rules.Fitting.{FitsProgram};
+ghost use Rattle.machine_frame.specs.rules.Stacked.{AreStacked};
+ghost use Rattle.machine_frame.specs.rules.Threads.{machine_state_of};
 ghost use Rattle.machine.specs.Turns.Codes.{IsExecutable, parts_of_state};
 ghost use Rattle.machine.specs.Loading.Checks.{FitsAround, IsSomeCode, TellsFit};
 

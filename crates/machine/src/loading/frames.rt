@@ -1,9 +1,9 @@
 //! Whether frames fit the program, each with the one above it.
 
 ghost use Rattle.std.specs.Prelude.{◌≡◌, IfOk};
-ghost use Rattle.machine_rules.specs.Fitting.{FitFrames};
-ghost use Rattle.machine_rules.specs.Stacked.{AreStacked};
-ghost use Rattle.machine_rules.specs.Threads.{places_of};
+ghost use Rattle.machine_frame.specs.rules.Fitting.{FitFrames};
+ghost use Rattle.machine_frame.specs.rules.Stacked.{AreStacked};
+ghost use Rattle.machine_frame.specs.rules.Threads.{places_of};
 ghost use Rattle.machine.specs.rules.LentFrames.{lent_frame};
 ghost use Rattle.machine.specs.Loading.Checks.{CanLookUp, FitsBelow, FitsTop, TellsFit};
 

@@ -3,9 +3,9 @@
 ghost use Rattle.std.specs.Prelude.{◌≡◌, [], reverse};
 ghost use Rattle.std.specs.List.{AllByRecursion};
 ghost use Rattle.wasm_syntax_rules.specs.Typed.{IsEntry};
-ghost use Rattle.machine_rules.specs.Fitting.{FewHeld};
-ghost use Rattle.machine_rules.specs.Stacked.{AreStacked};
-ghost use Rattle.machine_rules.specs.Threads.{places_of};
+ghost use Rattle.machine_frame.specs.rules.Fitting.{FewHeld};
+ghost use Rattle.machine_frame.specs.rules.Stacked.{AreStacked};
+ghost use Rattle.machine_frame.specs.rules.Threads.{places_of};
 ghost use Rattle.machine.specs.Loading.Checks.{TellsFit};
 
 use crate::frames::Frames;

@@ -64,7 +64,7 @@ impl Loading {
     ghost use Rattle.machine_slots.specs.rules.Places.{ShownFrame};
     ghost use Rattle.machine_slots.specs.declared.limits.TheConstants.{FRAMES};
     ghost use Rattle.machine_slots.specs.declared.slots.TheConstants.{SLOTS};
-    ghost use Rattle.machine_rules.specs.Fitting.{slots_held};
+    ghost use Rattle.machine_frame.specs.rules.Fitting.{slots_held};
     ghost use Rattle.machine.specs.declared.loading.fault.LoadFault.TheVariants.{Unfit};
     ghost use Rattle.machine.specs.rules.Values.{with_memory};
     ghost use Rattle.machine.specs.rules.Loading.{BytesDenied, IsSlotPushed, LoadDenies, ShowsSome};

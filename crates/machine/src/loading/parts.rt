@@ -10,7 +10,7 @@ ghost use Rattle.machine.specs.Loading.States.{IsFramePushed};
 use crate::loading::fault::LoadFault;
 use crate::turns::State;
 use guest_memory::{Memory, MemoryFault, PAGE_SIZE};
-use machine_rules::StackFrame;
+use machine_frame::StackFrame;
 use machine_slots::SLOTS;
 use machine_slots::limits::FRAMES;
 use std::alloc::Global;

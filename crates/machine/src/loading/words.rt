@@ -4,7 +4,7 @@ ghost use Rattle.std.specs.Prelude.{◌≡◌, ◌≤◌, ◌↔◌, ◌++◌, L
 ghost use Rattle.std.specs.Prelude.{slice_get, take};
 ghost use Rattle.wasm_syntax.specs.declared.types.ValueType.{ValueType as Kind};
 ghost use Rattle.wasm_syntax_rules.specs.Types.{IsOf, value_of, value_type_of};
-ghost use Rattle.machine_rules.specs.Fitting.{AreWordsOf};
+ghost use Rattle.machine_frame.specs.rules.Fitting.{AreWordsOf};
 
 use wasm_syntax::{GlobalType, ValueType};
 use wasm_validate::OperandTypes;

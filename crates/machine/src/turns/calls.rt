@@ -8,7 +8,7 @@ use crate::routines::Routine;
 use crate::turns::pause::{Pause, Paused};
 use crate::turns::state::State;
 use crate::turns::turn::Turn;
-use machine_rules::StackFrame;
+use machine_frame::StackFrame;
 use machine_slots::limits::{FRAMES, HELD_VALUES};
 use wasm_syntax::Trap;
 

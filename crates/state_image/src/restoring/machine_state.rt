@@ -7,7 +7,7 @@ ghost use Rattle.wasm_syntax_rules.specs.Validity.{IsValid};
 ghost use Rattle.wasi_abi.specs.rules.Layouts.{u64_bytes};
 ghost use Rattle.machine_slots.specs.declared.slots.TheConstants.{SLOTS};
 ghost use Rattle.machine_slots.specs.rules.Places.{ShownFrame};
-ghost use Rattle.machine_rules.specs.Fitting.{slots_held};
+ghost use Rattle.machine_frame.specs.rules.Fitting.{slots_held};
 ghost use Rattle.machine.specs.rules.Loading.{emptied, ShowsSome};
 ghost use Rattle.machine.specs.rules.Values.{MachineValue, HoldsMemory};
 ghost use Rattle.state_image.specs.declared.restoring.fault.RestoreFault.TheVariants as fault;

@@ -116,8 +116,8 @@ impl Host {
         requires open { (d : Opened) × (open_descriptor self.old.host fd ≡ Ok d) }
         requires few { descriptor_flags_number flags ≤ 31 }
         ensures set { (d : Opened) → open_descriptor self.old.host fd ≡ Ok d
-            → self.new.host
-            ≡ with_descriptor fd (record d { flags = descriptor_flags_number flags }) self.old.host }
+            → self.new.host ≡ with_descriptor fd
+            (record d { flags = descriptor_flags_number flags }) self.old.host }
         ensures released { self.new.released ≡ self.old.released }
     {
         let changed = self.opened(fd).with_flags(flags);

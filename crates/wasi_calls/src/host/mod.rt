@@ -60,11 +60,11 @@ impl Model for Host {
 
     ghost Value = { HeldHost };
 
-    ghost view = { λ h. held_host_of h.config h.limit h.tree h.descriptors.items h.unread.items h.input_ended
-        h.last_monotonic h.streams };
+    ghost view = { λ h. held_host_of h.config h.limit h.tree h.descriptors.items h.unread.items
+        h.input_ended h.last_monotonic h.streams };
 
-    ghost invariant = { λ h. IsHost (held_host_of h.config h.limit h.tree h.descriptors.items h.unread.items
-        h.input_ended h.last_monotonic h.streams).host };
+    ghost invariant = { λ h. IsHost (held_host_of h.config h.limit h.tree h.descriptors.items
+        h.unread.items h.input_ended h.last_monotonic h.streams).host };
 }
 
 impl Host {

@@ -121,7 +121,8 @@ br_table_sound : (bytes : List ℕ) (i : Instruction) (rest : List ℕ)
 br_table_sound bytes i rest e =
     let labels = bind_some (vector_at leb_u32_at bytes) _ _ e in
     let last = bind_some (leb_u32_at labels.0.1) _ _ labels.2 in
-    carry (IsInstruction (0x0e ∷ bytes)) (instr.BrTable labels.0.0 last.0.0) i last.0.1 rest last.2 (
+    let table = instr.BrTable labels.0.0 last.0.0 in
+    carry (IsInstruction (0x0e ∷ bytes)) table i last.0.1 rest last.2 (
       bytes,
       refl,
       (

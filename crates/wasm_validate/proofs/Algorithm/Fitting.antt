@@ -287,7 +287,8 @@ applied_back (Jump takes) l l' h types f =
     let same : level_left o.0 ≡ l' = let s = o.2 in cc in
     let fit = some_fit o.0.is_reached o.0.operands in
     let r = all_taken_back takes l o.0 o.1 fit.0 fit.1 in
-    let end : Keeps o.0 (level_left o.0) = record { takes = refl; gives = refl; is_first = refl } in (
+    let end : Keeps o.0 (level_left o.0) =
+    record { takes = refl; gives = refl; is_first = refl } in (
       takes ++ fit.0,
       types,
       [],

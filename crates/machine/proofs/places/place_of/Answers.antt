@@ -1,4 +1,4 @@
-use Rattle.machine_rules.proofs.Threads.Placing.{placed}
+use Rattle.machine_frame.proofs.Threads.Placing.{placed}
 use Rattle.machine.proofs.places.place_of.Goals as goal
 
 pub words_between-requires-clause-order : goal.words_between-requires-clause-order

@@ -2,8 +2,8 @@ use Rattle.std.proofs.Common.{◌≡◌, suc, ◌+◌, ◌-◌, length, refl, su
 use Rattle.std.proofs.lemmas.Bool.Decides.{nat_tests}
 use Rattle.wasm_syntax_rules.specs.Validity.{module_context}
 use Rattle.wasm_validate.proofs.PartLemmas.Lookups.{is_false}
-use Rattle.machine_rules.specs.Threads.{places_of}
-use Rattle.machine_rules.proofs.Threads.Showing.{places_count}
+use Rattle.machine_frame.specs.rules.Threads.{places_of}
+use Rattle.machine_frame.proofs.Threads.Showing.{places_count}
 use Rattle.machine.specs.rules.LentFrames.{lent_frame}
 use Rattle.machine.specs.Loading.Checks.{FitsBelow}
 use Rattle.machine.proofs.LoadingLemmas.Bodies.{own_kind}

@@ -1,6 +1,6 @@
 use Rattle.std.proofs.Common.{length, sym, ap, ◌∙◌}
 use Rattle.machine.specs.rules.Values.{MachineValue}
-use Rattle.machine_rules.proofs.Threads.Showing.{places_count}
+use Rattle.machine_frame.proofs.Threads.Showing.{places_count}
 use Rattle.machine.proofs.running.Machine.frame_count.Goals as goal
 
 pub returns : goal.returns

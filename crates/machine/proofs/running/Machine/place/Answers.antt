@@ -1,7 +1,7 @@
 use Rattle.std.proofs.Common.{◌<◌, length, sym, subst}
 use Rattle.machine.specs.rules.Values.{MachineValue}
-use Rattle.machine_rules.specs.Threads.{places_of}
-use Rattle.machine_rules.proofs.Threads.Showing.{places_count}
+use Rattle.machine_frame.specs.rules.Threads.{places_of}
+use Rattle.machine_frame.proofs.Threads.Showing.{places_count}
 use Rattle.machine.proofs.Placed.{stacked}
 use Rattle.machine.proofs.running.Machine.place.Goals as goal
 

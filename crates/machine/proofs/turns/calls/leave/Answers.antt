@@ -1,6 +1,6 @@
 use Rattle.std.proofs.Common.{◌≡◌, List, [], ◌∷◌, Some, ap, arith}
 use Rattle.std.specs.Prelude.{slice_get}
-use Rattle.machine_rules.specs.declared.frame.StackFrame.{StackFrame}
+use Rattle.machine_frame.specs.declared.rules.frame.StackFrame.{StackFrame}
 use Rattle.machine.proofs.turns.calls.leave.Goals as goal
 
 first_of : (frames : List StackFrame) (frame : StackFrame) → slice_get frames 0 ≡ Some frame

@@ -1,6 +1,6 @@
 use Rattle.std.proofs.Common.{◌≡◌, length, IfErr, ◌∙◌, subst}
 use Rattle.machine_slots.specs.declared.limits.TheConstants.{FRAMES}
-use Rattle.machine_rules.proofs.Threads.Showing.{places_count}
+use Rattle.machine_frame.proofs.Threads.Showing.{places_count}
 use Rattle.machine.specs.declared.loading.fault.LoadFault.TheVariants.{Unfit}
 use Rattle.machine.specs.rules.Values.{MachineValue}
 use Rattle.machine.proofs.LoadingLemmas.Parts.{if_err}

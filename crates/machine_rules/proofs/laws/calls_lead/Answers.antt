@@ -1,8 +1,0 @@
-use Rattle.machine_rules.proofs.Threads.Calling.{calls_lead, indirect_calls_lead}
-use Rattle.machine_rules.proofs.laws.calls_lead.Goals as goal
-
-pub returns-clause-direct : goal.returns-clause-direct
-returns-clause-direct c = calls_lead
-
-pub returns-clause-indirect : goal.returns-clause-indirect
-returns-clause-indirect c = indirect_calls_lead

@@ -1,8 +1,0 @@
-use Rattle.machine_rules.proofs.Threads.Hosting.{host_calls, answers_lead}
-use Rattle.machine_rules.proofs.laws.hosts_lead.Goals as goal
-
-pub returns-clause-calls : goal.returns-clause-calls
-returns-clause-calls c = host_calls
-
-pub returns-clause-answers : goal.returns-clause-answers
-returns-clause-answers c = answers_lead
