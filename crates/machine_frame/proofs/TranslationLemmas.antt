@@ -10,7 +10,9 @@ pub mod EndingForms
 pub mod Translations
 pub mod ComputingForms
 pub mod UnformedLemmas
+pub mod Placed
 pub mod Pushing
+pub mod PlacingLemmas
 pub mod Stepping
 pub mod Fusing
 pub mod TableJumps

@@ -1,8 +1,5 @@
 -- How many labels and values there are where their shapes and types are known.
 use Rattle.std.proofs.Common.{◌≡◌, suc, List, [], ◌∷◌, length, refl, ap, arith, length-append}
-use Rattle.wasm_syntax.specs.declared.types.ValueType.{ValueType}
-use Rattle.wasm_syntax.specs.declared.value.Value.{Value}
-use Rattle.wasm_syntax_rules.specs.Types.{AreOf}
 use Rattle.wasm_syntax_rules.specs.Configuration.{Label, LabelOf}
 use Rattle.wasm_syntax_rules.specs.Shapes.{LabelShape, ShapeOf}
 use Rattle.wasm_syntax_rules.specs.laws.Laws.{labels_height}

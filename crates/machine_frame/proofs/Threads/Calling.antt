@@ -1,11 +1,11 @@
 -- What a call opcode leads to.
-use Rattle.std.proofs.Common.{◌≡◌, ◌≢◌, ℕ, zero, suc, ◌<◌, Bool, true, false, List, [], ◌∷◌, ◌++◌}
-use Rattle.std.proofs.Common.{length, Option, Some, None, refl, sym, ap, ◌∙◌, subst, arith}
+use Rattle.std.proofs.Common.{◌≡◌, ◌≢◌, ℕ, zero, suc, Bool, true, false, List, [], ◌∷◌, ◌++◌}
+use Rattle.std.proofs.Common.{Option, Some, None, refl, sym, ap, ◌∙◌, subst}
 use Rattle.std.specs.Prelude.{map, reverse, slice_get}
 use Rattle.std.specs.List.{AllByRecursion}
 use Rattle.std.proofs.lemmas.List.{reverse-reverse}
 use Rattle.wasm_syntax.specs.declared.types.ValueType.{ValueType}
-use Rattle.wasm_syntax.specs.declared.types.ValueType.TheVariants.{I32, I64}
+use Rattle.wasm_syntax.specs.declared.types.ValueType.TheVariants.{I32}
 use Rattle.wasm_syntax.specs.declared.types.FunctionType.{FunctionType}
 use Rattle.wasm_syntax.specs.declared.value.Value.{Value}
 use Rattle.wasm_syntax.specs.declared.value.Value.TheVariants as value
@@ -13,7 +13,7 @@ use Rattle.wasm_syntax.specs.declared.value.Trap.TheVariants as trap
 use Rattle.wasm_syntax.specs.declared.instruction.Instruction.{Instruction}
 use Rattle.wasm_syntax.specs.declared.instruction.Instruction.TheVariants as instr
 use Rattle.wasm_syntax.specs.rules.Sequence.{Sequence, Plain}
-use Rattle.wasm_syntax_rules.specs.Types.{AreOf, number_in, takes_of, are_same_types}
+use Rattle.wasm_syntax_rules.specs.Types.{AreOf, number_in, takes_of}
 use Rattle.wasm_syntax_rules.specs.Types.{is_same_function_type}
 use Rattle.wasm_syntax_rules.specs.Typing.{Context}
 use Rattle.wasm_syntax_rules.specs.Configuration.{Callee, Program, Label, Frame, FrameOf, Thread}

@@ -1,6 +1,6 @@
 -- The rules of calls, returns and ends at a running frame, and that they lead to typed
 -- configurations.
-use Rattle.std.proofs.Common.{◌≡◌, ◌⊎◌, inl, inr, ℕ, List, [], ◌∷◌, length, Some, refl, ap, ◌∙◌}
+use Rattle.std.proofs.Common.{◌≡◌, ℕ, List, [], ◌∷◌, length, Some, refl, ap, ◌∙◌}
 use Rattle.std.specs.Prelude.{slice_get}
 use Rattle.wasm_syntax.specs.declared.types.FunctionType.{FunctionType}
 use Rattle.wasm_syntax.specs.declared.value.Value.{Value}
@@ -11,11 +11,11 @@ use Rattle.wasm_syntax.specs.rules.Sequence.{Sequence, Stop, Plain}
 use Rattle.wasm_syntax_rules.specs.Types.{gives_of}
 use Rattle.wasm_syntax_rules.specs.Typing.{Context}
 use Rattle.wasm_syntax_rules.specs.Configuration.{Callee, Program, Label, FrameOf, Thread}
-use Rattle.wasm_syntax_rules.specs.Configuration.{Configuration, Stuck}
+use Rattle.wasm_syntax_rules.specs.Configuration.{Configuration}
 use Rattle.wasm_syntax_rules.specs.Steps.{topmost, returned, called, calls_entry, kind_of, rule}
-use Rattle.wasm_syntax_rules.specs.Steps.{rule_of, left_by, IsSettled, IsEnded, IsCounted}
+use Rattle.wasm_syntax_rules.specs.Steps.{rule_of, left_by, IsSettled, IsCounted}
 use Rattle.wasm_syntax_rules.specs.Steps.{IsUncounted}
-use Rattle.wasm_syntax_rules.specs.Typed.{IsTypedProgram, IsTyped, IsSound}
+use Rattle.wasm_syntax_rules.specs.Typed.{IsTypedProgram, IsTyped}
 use Rattle.wasm_syntax_rules.proofs.Soundness.LeaveSound.{never_stuck_holds}
 use Rattle.wasm_syntax_rules.proofs.Soundness.LeaveSound.{goes_typed as sound_typed}
 
