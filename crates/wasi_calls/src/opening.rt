@@ -180,7 +180,7 @@ fn writes(wish: CheckedWish) -> bool
 }
 
 /// The descriptor of a node that is opened. Its rights are cut to what a node of its kind may have.
-fn opened(node: u64, is_directory: bool, wish: CheckedWish) -> Descriptor
+fn new_descriptor(node: u64, is_directory: bool, wish: CheckedWish) -> Descriptor
     ensures new { result ≡ new_descriptor is_directory node (checked_wish wish).fdflags
         (checked_wish wish).base (checked_wish wish).inheriting }
     ensures is { (fs : Files) → IsThere fs (Node node) → (checked_wish wish).fdflags ≤ 31
@@ -212,7 +212,7 @@ fn open_there(host: &mut Host, node: u64, wish: CheckedWish) -> Result<u32, Call
     check_there(is_directory, wish)?;
     let number = host.free_number()?;
     cut_if(host, node, wish.flags.has(OpenFlags::TRUNCATE))?;
-    host.open(number, opened(node, is_directory, wish));
+    host.open(number, new_descriptor(node, is_directory, wish));
     Ok(number)
 }
 
@@ -264,7 +264,7 @@ fn open_new(
     let number = host.free_number()?;
     host.check_free_node()?;
     let node = host.create(alloc, directory, name, NodeKind::File)?;
-    host.open(number, opened(node, false, wish));
+    host.open(number, new_descriptor(node, false, wish));
     Ok(number)
 }
 

@@ -89,7 +89,7 @@ impl Host {
     }
 
     /// The descriptor that is open under this number.
-    fn opened(&self, fd: u32) -> &Descriptor
+    fn known_descriptor(&self, fd: u32) -> &Descriptor
         requires { (d : Opened) × (open_descriptor self.now.host fd ≡ Ok d) }
         ensures { slice_get self.now.host.descriptors fd ≡ Some (Some result.now) }
     {
@@ -107,7 +107,7 @@ impl Host {
             → self.new.host ≡ with_descriptor fd (record d { offset = offset }) self.old.host }
         ensures released { self.new.released ≡ self.old.released }
     {
-        let moved = self.opened(fd).at_offset(offset);
+        let moved = self.known_descriptor(fd).at_offset(offset);
         self.descriptors[fd as usize] = Some(moved);
     }
 
@@ -120,7 +120,7 @@ impl Host {
             (record d { flags = descriptor_flags_number flags }) self.old.host }
         ensures released { self.new.released ≡ self.old.released }
     {
-        let changed = self.opened(fd).with_flags(flags);
+        let changed = self.known_descriptor(fd).with_flags(flags);
         self.descriptors[fd as usize] = Some(changed);
     }
 
@@ -136,7 +136,7 @@ impl Host {
             } }
         ensures released { self.new.released ≡ self.old.released }
     {
-        let names = self.opened(fd).names();
+        let names = self.known_descriptor(fd).names();
         self.descriptors[fd as usize] = None;
         sweep(&mut self.tree, &self.descriptors, names);
     }

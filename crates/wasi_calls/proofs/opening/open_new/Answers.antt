@@ -11,4 +11,4 @@ open-requires-clause-is c =
     let there = made_there fs c.create.new.self.host.files path c.in_ok-node.node
     (ap (λ (x : HeldHost). x.host.files) c.in_ok-node.ensures.created)
     c.in_ok-node.ensures.number in
-    c.opened.ensures.is c.create.new.self.host.files there c.requires.few
+    c.new_descriptor.ensures.is c.create.new.self.host.files there c.requires.few

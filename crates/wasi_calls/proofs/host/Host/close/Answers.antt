@@ -10,8 +10,8 @@ invariant_of-self c =
     let held = held_host_of s.config s.limit s.tree s.descriptors.items s.unread.items
     s.input_ended s.last_monotonic s.streams in
     let h = held.host in
-    let d = c.opened.result.now in
-    let there = (rw (← c.self.view_is) at c.opened.ensures) in
+    let d = c.known_descriptor.result.now in
+    let there = (rw (← c.self.view_is) at c.known_descriptor.ensures) in
     let stood = closed_stands h.files h.descriptors h.room c.args.fd d
     (stands h c.self.invariant) there c.requires.not_root in
     rw (c.sweep.ensures, c.names-names.ensures, c.deref.ensures.value)

@@ -7,7 +7,7 @@ invariant_of-self c =
     let s = c.self.inside in
     let held = held_host_of s.config s.limit s.tree s.descriptors.items s.unread.items
     s.input_ended s.last_monotonic s.streams in
-    let there = (rw (← c.self.view_is) at c.opened.ensures) in
+    let there = (rw (← c.self.view_is) at c.known_descriptor.ensures) in
     rw c.at_offset-moved.ensures
-    (moved_host held.host c.args.fd c.args.offset c.opened.result.now c.self.invariant there
+    (moved_host held.host c.args.fd c.args.offset c.known_descriptor.result.now c.self.invariant there
     c.requires.small)

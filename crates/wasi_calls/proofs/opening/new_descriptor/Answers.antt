@@ -1,7 +1,7 @@
 use Rattle.wasi_abi.specs.rules.Numbers.{rights_number, descriptor_flags_number}
 use Rattle.std.specs.Prelude.{true, false}
 use Rattle.wasi_calls_rules.proofs.KeepsHosts.{opened_is}
-use Rattle.wasi_calls.proofs.opening.opened.Goals as goal
+use Rattle.wasi_calls.proofs.opening.new_descriptor.Goals as goal
 
 pub returns-then-is_directory-clause-is : goal.returns-then-is_directory-clause-is
 returns-then-is_directory-clause-is c = λ fs there few.
