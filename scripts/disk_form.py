@@ -13,6 +13,10 @@ PAGES, FILES, JOURNAL = 16, 16, 256
 # Bytes of records in a sector of the journal, and where its stamp stands.
 PAYLOAD, STAMP = 494, 496
 
+# A page of memory, and phases of a process.
+PAGE = 65_536
+RUNNING, EXITED, TRAPPED = 1, 2, 3
+
 # Kinds of records.
 REQUEST, END, REALTIME, MONOTONIC, RANDOM = range(1, 6)
 
@@ -108,6 +112,53 @@ def stream(number, rights):
     return struct.pack("<IBQQHQQ", number, number, 0, 0, 0, rights, 0)
 
 
+def image(counts, state, frames, memory):
+    """The image of a process without globals, files and unfinished lines, which has read all of
+    its requests. Its counts are steps, answers, requests, lines and the last monotonic time. Its
+    state is a phase, the code of its end, and whether the requests are at their end."""
+    data = b"DWIMAGE1" + struct.pack("<5QBIB", *counts, *state)
+    data += struct.pack("<5I", 0, 0, 0, 0, len(frames))
+    for function, position, slots in frames:
+        data += struct.pack(f"<3I{len(slots)}Q", function, position, len(slots), *slots)
+    data += struct.pack("<I", len(memory) // PAGE) + memory
+    # The next node has number 2, and the root has no entries.
+    data += struct.pack("<QIQBI", 2, 1, 1, 3, 0)
+    rights = [0x00200002, 0x00200040, 0x00200040]
+    data += struct.pack("<I", 4) + b"".join(stream(*it) for it in enumerate(rights))
+    return data + struct.pack("<IBQQHQQ", 3, 3, 1, 0, 0, 0x062F6611, 0x066F667F)
+
+
+def fresh_image():
+    """The image of a process that has just begun, of a module whose `_start` is its function 0 and
+    whose memory has a page of zeros."""
+    return image((0,) * 5, (RUNNING, 0, 0), [(0, 0, ())], bytes(PAGE))
+
+
+def trapped_image(steps, number):
+    """The image of such a process that has trapped."""
+    return image((steps, 0, 0, 0, 0), (TRAPPED, number, 0), [], bytes(PAGE))
+
+
+def echo_memory(texts_taken, text_read=None):
+    """The memory of `echo` behind texts that it has written back, and one that it has just read."""
+    # The iovec of the reads, that of the writes, and the two counts that the calls put.
+    memory = bytearray(PAGE)
+    memory[:12] = struct.pack("<III", 64, 4_096, 64)
+    for text in texts_taken:
+        memory[12:24] = struct.pack("<I", len(text) + 1) * 3
+        memory[64 : 64 + len(text) + 1] = text + b"\n"
+    if text_read is not None:
+        memory[16:20] = struct.pack("<I", len(text_read) + 1)
+        memory[64 : 64 + len(text_read) + 1] = text_read + b"\n"
+    return bytes(memory)
+
+
+def echo_process(steps, answers, lines, position, slots, memory):
+    """The image of `echo` somewhere in its `_start`, its function 2, behind so many requests."""
+    counts = steps, answers, answers, lines, 0
+    return image(counts, (RUNNING, 0, 0), [(2, position, slots)], memory)
+
+
 def echo_image(texts_taken=None):
     """The image of `echo` with one page: a fresh one, or one that has written back some texts and
     asks for the next.
@@ -115,30 +166,30 @@ def echo_image(texts_taken=None):
     Then its frame stands at the call of `fd_read`, the opcode 5, with four arguments. It asks for
     the first time behind 5 steps, and 22 steps later for each next text.
     """
-    is_fresh, texts_taken = texts_taken is None, texts_taken or []
+    if texts_taken is None:
+        return echo_process(0, 0, 0, 0, (), echo_memory([]))
     count = len(texts_taken)
-    steps, position, slots = (0, 0, ()) if is_fresh else (5 + 22 * count, 5, (0, 0, 1, 16))
-    # The iovec of the reads, that of the writes, and the two counts that the calls put.
-    memory = bytearray(65_536)
-    memory[:12] = struct.pack("<III", 64, 4_096, 64)
-    for text in texts_taken:
-        length = struct.pack("<I", len(text) + 1)
-        memory[12:24] = length * 3
-        memory[64 : 64 + len(text) + 1] = text + b"\n"
-    image = b"DWIMAGE1" + struct.pack("<5QBIB", steps, count, count, count, 0, 1, 0, 0)
-    # Nothing unread, no unfinished lines, no globals, one frame.
-    image += struct.pack("<5I", 0, 0, 0, 0, 1)
-    image += struct.pack("<3I", 2, position, len(slots))
-    image += struct.pack(f"<{len(slots)}Q", *slots)
-    image += struct.pack("<I", 1) + memory
-    # The next node has number 2, and the root has no entries.
-    image += struct.pack("<QIQBI", 2, 1, 1, 3, 0)
-    rights = [0x00200002, 0x00200040, 0x00200040]
-    image += struct.pack("<I", 4) + b"".join(stream(*it) for it in enumerate(rights))
-    return image + struct.pack("<IBQQHQQ", 3, 3, 1, 0, 0, 0x062F6611, 0x066F667F)
+    memory = echo_memory(texts_taken)
+    return echo_process(5 + 22 * count, count, count, 5, (0, 0, 1, 16), memory)
+
+
+def echo_image_behind(texts_taken, text_read):
+    """The image of `echo` right behind the step that has read one more text. The answer of that
+    call, 0, is the one slot of its frame."""
+    count = len(texts_taken)
+    memory = echo_memory(texts_taken, text_read)
+    return echo_process(6 + 22 * count, count + 1, count, 6, (0,), memory)
+
+
+def echo_image_at_end():
+    """The image of `echo` that has ended in its eleventh step: the first thing it read was the end
+    of the requests."""
+    return image((11, 1, 1, 0, 0), (EXITED, 0, 1), [], echo_memory([]))
 
 
 # What docs/FORMATS.md has of the disk of a worker of `echo`: lengths, and the digest of its image.
 _FRESH = echo_image()
 assert len(_FRESH) == 65_811
 assert hashlib.sha256(_FRESH).hexdigest().startswith("5ad2a2bb20898655431222989de2ca89ed082408")
+# One slot more has eight bytes.
+assert len(echo_image_behind([], b"hello")) == 65_819
