@@ -1,5 +1,5 @@
 -- All answers of a source are those of its lines, its clock and its stream.
-use Rattle.std.proofs.Common.{◌≡◌, ℕ, ◌+◌, List, [], ◌∷◌, ◌++◌, length, Some, None, Ok, Err, refl}
+use Rattle.std.proofs.Common.{◌≡◌, ℕ, ◌+◌, List, [], ◌∷◌, ◌++◌, Some, None, Ok, Err, refl}
 use Rattle.std.proofs.Common.{sym, ap, subst, ◌∙◌, arith, length-append}
 use Rattle.std.specs.Prelude.{Option, Result, ⊤}
 use Rattle.std.specs.Option.{IsSomeAnd}
@@ -12,7 +12,7 @@ use Rattle.record_replay.specs.rules.Calls.{Ask, AnswersInOrder, asks_of}
 use Rattle.worker.specs.rules.Slices.{handed_by, handed}
 use Rattle.wasmhost_serve.specs.declared.lines.fault.LineFault.{LineFault}
 use Rattle.wasmhost_serve.specs.rules.Outside.{ComeFrom, request_in, requests_in}
-use Rattle.wasmhost_serve.specs.rules.Outside.{words_in, words_of}
+use Rattle.wasmhost_serve.specs.rules.Outside.{words_in}
 use Rattle.wasmhost_serve.specs.rules.Requests.{GiveUpTo}
 use Rattle.wasmhost_serve.specs.rules.Answered.{AreOfLines, AnswersComeFromTheLines}
 use Rattle.wasmhost_serve.specs.rules.ServedOnDisk.{handing}
@@ -112,11 +112,11 @@ ended_first s u t kept same stream place taken passed others =
     }
 
 -- what is left where no request comes
-abbrev IsAtEnd : Standing → Standing → Type 0
+abbrev pub IsAtEnd : Standing → Standing → Type 0
 IsAtEnd s u = (u.place ≡ s.place) × (u.taken ≡ s.taken)
     × GiveUpTo s.taken s.unread [] (λ rest. u.unread ≡ Some rest)
 
-at_end : (kind : Kind) (s u : Standing) → Finds kind s None u → IsAtEnd s u
+pub at_end : (kind : Kind) (s u : Standing) → Finds kind s None u → IsAtEnd s u
 at_end kinds.Request s u found = (
   found.0,
   found.1.0,

@@ -15,3 +15,5 @@ pub mod AnsweredLemmas
 pub mod ScriptLemmas
 pub mod StoryLemmas
 pub mod TellingLemmas
+pub mod RefusalLemmas
+pub mod CauseLemmas

@@ -4,6 +4,7 @@ use Rattle.std.proofs.Common.{◌++◌, Ok, Err, refl, sym, ap, ◌∙◌, subst
 use Rattle.std.proofs.Common.{append-nil}
 use Rattle.std.specs.Prelude.{Result, IfOk, IfErr, replicate}
 use Rattle.std.proofs.lemmas.List.{replicate_more}
+use mathlib.Core.Path.{subst_refl, path_j}
 use Rattle.sector_disk.specs.rules.Medium.{Medium}
 use Rattle.disk_layout.specs.rules.Places.{total_sectors}
 use Rattle.record_replay.specs.rules.Calls.{Giving, Taking}
@@ -19,9 +20,10 @@ use Rattle.durable_worker.specs.rules.DurableCalls.{SliceCarries, CheckpointCarr
 use Rattle.durable_worker.specs.rules.LifeWords.{Act, Slice, Checkpoint}
 use Rattle.durable_worker.specs.laws.OneLife.{no_more, sliced, slice_failed, saved}
 use Rattle.durable_worker.specs.laws.OneLife.{saving_failed}
+use Rattle.wasmhost_serve.specs.rules.Outcomes.{outcome_after}
 use Rattle.wasmhost_serve.specs.rules.Paces.{round_of, IsPaced, last, more}
-use Rattle.wasmhost_serve.specs.Livings.{Scene, scene, steps_left, AreCalled, ActsLead, IsRested}
-use Rattle.wasmhost_serve.specs.Livings.{IsRound, IsBrokenRound, LivesAtPace}
+use Rattle.wasmhost_serve.specs.Livings.{Scene, scene, left_after, steps_left, AreCalled, ActsLead}
+use Rattle.wasmhost_serve.specs.Livings.{IsRested, IsRound, IsBrokenRound, LivesAtPace}
 use Rattle.wasmhost_serve.proofs.Serving.{fewer_left}
 
 -- one more of the same, in front of the rest
@@ -30,34 +32,72 @@ turned : {X : Type 0} (n : ℕ) (x : X) (rest : List X)
 turned n x rest = sym (append_assoc (replicate n x) (x ∷ []) rest)
     ∙ ap (λ z. z ++ rest) (replicate_more n x)
 
+-- what is made of a value stays, where the value is one of equal types
+pub carried_over : {A B : Type 0} (P : A → Type 0) (made : (a : A) → P a → B) (a b : A)
+    (same : a ≡ b) (value : P a) → made b (subst P same value) ≡ made a value
+carried_over P made a b same value =
+    path_j (λ c e. made c (subst P e value) ≡ made a value)
+    (ap (λ v. made a v) (subst_refl P value)) same
+
 module _ {D S O : Type 0} (medium : D → Medium) (gives : Giving S) (takes : Taking O) where
   -- ---- calls one after another
 
-  pub stands_still : (here : Scene D S O) → ActsLead medium gives takes [] here here
-  stands_still here = record { behind = λ rest left disk source outlet done. done }
+  pub stands_still : (here : Scene D S O) → ActsLead medium gives takes [] here now.Spent here
+  stands_still here = record {
+    behind = λ rest left disk source outlet done. done;
+    says = λ rest left disk source outlet done. refl;
+  }
 
-  -- where nothing follows
-  pub leads_out : (acts : List Act) (from to : Scene D S O)
-      → ActsLead medium gives takes acts from to
-      → AreCalled medium gives takes acts from (Ok []) to.disk to.source to.outlet
-  leads_out acts from to leads =
-      subst (λ z. AreCalled medium gives takes z from (Ok []) to.disk to.source to.outlet)
-      (append-nil acts) (leads.behind [] (Ok []) to.disk to.source to.outlet no_more)
+  module _ (from : Scene D S O) (left : Result (List Act) RecoverFault) (disk : D) (source : S)
+      (outlet : O) (acts acts' : List Act) (same : acts ≡ acts') where
+    -- the calls of equal acts
+    pub called_as : AreCalled medium gives takes acts from left disk source outlet
+        → AreCalled medium gives takes acts' from left disk source outlet
+    called_as done = subst (λ z. AreCalled medium gives takes z from left disk source outlet) same
+        done
+
+    -- they say the same
+    pub says_as : (before : Now) (done : AreCalled medium gives takes acts from left disk source
+        outlet) → outcome_after before (called_as done) ≡ outcome_after before done
+    unfolding called_as
+    says_as before done =
+        carried_over (λ z. AreCalled medium gives takes z from left disk source outlet)
+        (λ z calls. outcome_after before calls) acts acts' same done
+
+  module _ (acts : List Act) (from : Scene D S O) (said : Now) (to : Scene D S O)
+      (leads : ActsLead medium gives takes acts from said to) where
+    -- where nothing follows
+    pub leads_out : AreCalled medium gives takes acts from (Ok []) to.disk to.source to.outlet
+    leads_out = called_as from (Ok []) to.disk to.source to.outlet (acts ++ []) acts
+        (append-nil acts) (leads.behind [] (Ok []) to.disk to.source to.outlet no_more)
+
+    pub says_out : outcome_after now.Spent leads_out ≡ said
+    unfolding leads_out
+    says_out =
+        says_as from (Ok []) to.disk to.source to.outlet (acts ++ []) acts (append-nil acts)
+        now.Spent (leads.behind [] (Ok []) to.disk to.source to.outlet no_more)
+        ∙ leads.says [] (Ok []) to.disk to.source to.outlet no_more
 
   module _ (fuel n : ℕ) (from : Scene D S O) (w w' : DurableValue) (disk disk' : D)
       (source source' : S) (outlet outlet' : O)
-      (leads : ActsLead medium gives takes (replicate n (Slice fuel)) from
+      (leads : ActsLead medium gives takes (replicate n (Slice fuel)) from now.Spent
       (scene w disk source outlet)) where
     -- a slice more
     slices_lead : (said : Now)
         → SliceCarries gives takes w fuel (Ok said) w' (medium disk) (medium disk') source source'
         outlet outlet'
-        → ActsLead medium gives takes (replicate (n + 1) (Slice fuel)) from
+        → ActsLead medium gives takes (replicate (n + 1) (Slice fuel)) from said
         (scene w' disk' source' outlet')
     slices_lead said carries = record {
       behind = λ rest left end s o done.
-          subst (λ z. AreCalled medium gives takes z from left end s o) (turned n (Slice fuel) rest)
+          called_as from left end s o (replicate n (Slice fuel) ++ (Slice fuel ∷ rest))
+          (replicate (n + 1) (Slice fuel) ++ rest) (turned n (Slice fuel) rest)
           (leads.behind (Slice fuel ∷ rest) left end s o (sliced said carries done));
+      says = λ rest left end s o done.
+          says_as from left end s o (replicate n (Slice fuel) ++ (Slice fuel ∷ rest))
+          (replicate (n + 1) (Slice fuel) ++ rest) (turned n (Slice fuel) rest) now.Spent
+          (leads.behind (Slice fuel ∷ rest) left end s o (sliced said carries done))
+          ∙ leads.says (Slice fuel ∷ rest) left end s o (sliced said carries done);
     }
 
     -- one that fails, in a round
@@ -73,39 +113,47 @@ module _ {D S O : Type 0} (medium : D → Medium) (gives : Giving S) (takes : Ta
         outlet' (slice_failed carries))
 
   module _ (fuel every n : ℕ) (from : Scene D S O) (w w' : DurableValue) (disk disk' : D)
-      (source : S) (outlet : O)
-      (leads : ActsLead medium gives takes (replicate n (Slice fuel)) from
+      (source : S) (outlet : O) (said : Now)
+      (leads : ActsLead medium gives takes (replicate n (Slice fuel)) from said
       (scene w disk source outlet)) where
     -- a checkpoint behind so many slices
     round_leads : CheckpointCarries w (Ok tt) w' (medium disk) (medium disk')
-        → ActsLead medium gives takes (round_of fuel n) from (scene w' disk' source outlet)
+        → ActsLead medium gives takes (round_of fuel n) from said (scene w' disk' source outlet)
     round_leads carries = record {
       behind = λ rest left end s o done.
-          subst (λ z. AreCalled medium gives takes z from left end s o)
+          called_as from left end s o (replicate n (Slice fuel) ++ (Checkpoint ∷ rest))
+          (round_of fuel n ++ rest)
           (sym (append_assoc (replicate n (Slice fuel)) (Checkpoint ∷ []) rest))
           (leads.behind (Checkpoint ∷ rest) left end s o (saved carries done));
+      says = λ rest left end s o done.
+          says_as from left end s o (replicate n (Slice fuel) ++ (Checkpoint ∷ rest))
+          (round_of fuel n ++ rest)
+          (sym (append_assoc (replicate n (Slice fuel)) (Checkpoint ∷ []) rest)) now.Spent
+          (leads.behind (Checkpoint ∷ rest) left end s o (saved carries done))
+          ∙ leads.says (Checkpoint ∷ rest) left end s o (saved carries done);
     }
 
-    rested : (some : 1 ≤ n) (within : n ≤ every) (said : Now) (result : Result Now DurableFault)
+    rested : (some : 1 ≤ n) (within : n ≤ every) (result : Result Now DurableFault)
         → (said ≡ now.Spent → n ≡ every)
         → IsRested said result w w' (medium disk) (medium disk')
         → IfOk result (λ why. IsRound medium gives takes fuel every from why
         (scene w' disk' source outlet))
-    rested some within said (Ok told) whole rests = record {
+    rested some within (Ok told) whole rests = record {
       count = n;
       some = some;
       within = within;
       whole = λ spent. whole (sym rests.0 ∙ spent);
-      leads = round_leads rests.1;
+      leads = subst (λ z. ActsLead medium gives takes (round_of fuel n) from z
+          (scene w' disk' source outlet)) (sym rests.0) (round_leads rests.1);
     }
-    rested some within said (Err fault) whole rests = tt
+    rested some within (Err fault) whole rests = tt
 
-    broken : (some : 1 ≤ n) (within : n ≤ every) (said : Now) (result : Result Now DurableFault)
+    broken : (some : 1 ≤ n) (within : n ≤ every) (result : Result Now DurableFault)
         → IsRested said result w w' (medium disk) (medium disk')
         → IfErr result (λ why. IsBrokenRound medium gives takes fuel every from why disk' source
         outlet)
-    broken some within said (Ok told) rests = tt
-    broken some within said (Err fault) rests = record {
+    broken some within (Ok told) rests = tt
+    broken some within (Err fault) rests = record {
       count = n;
       some = some;
       within = within;
@@ -116,9 +164,19 @@ module _ {D S O : Type 0} (medium : D → Medium) (gives : Giving S) (takes : Ta
   -- So many slices were taken in a round from there on, each of which has spent its fuel.
   pub record IsWithin (fuel every n : ℕ) (from here : Scene D S O) : Type 0 where
     pub fewer : n < every
-    pub leads : ActsLead medium gives takes (replicate n (Slice fuel)) from here
+    pub leads : ActsLead medium gives takes (replicate n (Slice fuel)) from now.Spent here
     pub steps : steps_left here.worker ≤ steps_left from.worker
     pub room : total_sectors here.worker.store.geometry ≤ (medium here.disk).sectors
+
+  pub none_taken : (fuel every : ℕ) (here : Scene D S O) → 0 < every
+      → total_sectors here.worker.store.geometry ≤ (medium here.disk).sectors
+      → IsWithin fuel every 0 here here
+  none_taken fuel every here some room = record {
+    fewer = some;
+    leads = stands_still here;
+    steps = omega arith;
+    room = room;
+  }
 
   -- a slice whose fuel is spent leaves fewer steps
   pub slice_fewer : (w w' : DurableValue) (fuel : ℕ) (said : Now) (s t : S) (o p : O)
@@ -140,7 +198,7 @@ module _ {D S O : Type 0} (medium : D → Medium) (gives : Giving S) (takes : Ta
 
     -- the slices so far and this one
     leads_more : (said : Now) → Slicing (Ok said)
-        → ActsLead medium gives takes (replicate (n + 1) (Slice fuel)) from
+        → ActsLead medium gives takes (replicate (n + 1) (Slice fuel)) from said
         (scene w' disk' source' outlet')
     leads_more said carries =
         slices_lead fuel n from here.worker w' here.disk disk' here.source source' here.outlet
@@ -149,15 +207,16 @@ module _ {D S O : Type 0} (medium : D → Medium) (gives : Giving S) (takes : Ta
         (medium disk') here.source source' here.outlet outlet') same carries)
 
     -- one more, behind which others come
-    pub within_more : (said : Now) → Slicing (Ok said) → n + 1 < every
+    pub within_more : (said : Now) → Slicing (Ok said) → said ≡ now.Spent → n + 1 < every
         → steps_left w' < steps_left here.worker
         → total_sectors w'.store.geometry ≤ (medium disk').sectors
         → IsWithin fuel every (n + 1) from (scene w' disk' source' outlet')
-    within_more said carries few fewer room =
+    within_more said carries spent few fewer room =
         let before = so_far.steps in
         record {
           fewer = few;
-          leads = leads_more said carries;
+          leads = subst (λ z. ActsLead medium gives takes (replicate (n + 1) (Slice fuel)) from z
+              (scene w' disk' source' outlet')) spent (leads_more said carries);
           steps = omega (arith, before, fewer);
           room = room;
         }
@@ -190,14 +249,14 @@ module _ {D S O : Type 0} (medium : D → Medium) (gives : Giving S) (takes : Ta
             → IfOk result (λ why. IsRound medium gives takes fuel most from why
             (scene w'' disk'' source' outlet'))
         within_rests whole =
-            rested fuel most (n + 1) from w' w'' disk' disk'' source' outlet'
-            (leads_more said carries) some within said result (λ e. whole e ∙ is_most) rests
+            rested fuel most (n + 1) from w' w'' disk' disk'' source' outlet' said
+            (leads_more said carries) some within result (λ e. whole e ∙ is_most) rests
 
         pub within_broken : IfErr result (λ why. IsBrokenRound medium gives takes fuel most from why
             disk'' source' outlet')
         within_broken =
-            broken fuel most (n + 1) from w' w'' disk' disk'' source' outlet'
-            (leads_more said carries) some within said result rests
+            broken fuel most (n + 1) from w' w'' disk' disk'' source' outlet' said
+            (leads_more said carries) some within result rests
 
         pub within_fewer : (said ≡ now.Spent → steps_left w' < steps_left here.worker)
             → IfOk result (λ why. why ≡ now.Spent → steps_left w'' < steps_left from.worker)
@@ -219,47 +278,73 @@ module _ {D S O : Type 0} (medium : D → Medium) (gives : Giving S) (takes : Ta
   -- there on.
   pub record SoFar (fuel every : ℕ) (from here : Scene D S O) : Type 0 where
     pub room : total_sectors here.worker.store.geometry ≤ (medium here.disk).sectors
-    pub on : (rest : List Act) (left : Result (List Act) RecoverFault) (disk : D) (source : S)
+    pub on : (rest : List Act) (result : Result Now DurableFault) (disk : D) (source : S)
         (outlet : O) → IsPaced fuel every rest
-        → AreCalled medium gives takes rest here left disk source outlet
-        → LivesAtPace medium gives takes fuel every from left disk source outlet
+        → (done : AreCalled medium gives takes rest here (left_after result) disk source outlet)
+        → IfOk result (λ told. outcome_after now.Spent done ≡ told)
+        → LivesAtPace medium gives takes fuel every from result disk source outlet
 
   pub none_yet : (fuel every : ℕ) (here : Scene D S O)
       → total_sectors here.worker.store.geometry ≤ (medium here.disk).sectors
       → SoFar fuel every here here
   none_yet fuel every here room = record {
     room = room;
-    on = λ rest left disk source outlet paced done. record {
+    on = λ rest result disk source outlet paced done says. record {
       acts = rest;
       paced = paced;
       done = done;
+      says = says;
     };
   }
 
   module _ (fuel every : ℕ) (from here : Scene D S O) (so_far : SoFar fuel every from here) where
+    -- what is done behind a round whose fuel is spent
+    module _ (there : Scene D S O) (r : IsRound medium gives takes fuel every here now.Spent there)
+        (rest : List Act) (result : Result Now DurableFault) (disk : D) (source : S) (outlet : O)
+        (done : AreCalled medium gives takes rest there (left_after result) disk source outlet)
+      where
+        is_whole : round_of fuel r.count ++ rest ≡ round_of fuel every ++ rest
+        is_whole = ap (λ n. round_of fuel n ++ rest) (r.whole refl)
+
+        then_done : AreCalled medium gives takes (round_of fuel every ++ rest) here
+            (left_after result) disk source outlet
+        then_done = called_as here (left_after result) disk source outlet
+            (round_of fuel r.count ++ rest) (round_of fuel every ++ rest) is_whole
+            (r.leads.behind rest (left_after result) disk source outlet done)
+
+        then_says : IfOk result (λ told. outcome_after now.Spent done ≡ told)
+            → IfOk result (λ told. outcome_after now.Spent then_done ≡ told)
+        unfolding then_done
+        then_says says =
+            subst (λ z. IfOk result (λ told. z ≡ told))
+            (sym (says_as here (left_after result) disk source outlet
+            (round_of fuel r.count ++ rest) (round_of fuel every ++ rest) is_whole now.Spent
+            (r.leads.behind rest (left_after result) disk source outlet done)
+            ∙ r.leads.says rest (left_after result) disk source outlet done)) says
+
     pub round_more : (there : Scene D S O)
         → total_sectors there.worker.store.geometry ≤ (medium there.disk).sectors
         → IsRound medium gives takes fuel every here now.Spent there → SoFar fuel every from there
     round_more there room r = record {
       room = room;
-      on = λ rest left disk source outlet paced done.
-          so_far.on (round_of fuel every ++ rest) left disk source outlet (more rest paced)
-          (subst (λ n. AreCalled medium gives takes (round_of fuel n ++ rest) here left disk source
-          outlet) (r.whole refl) (r.leads.behind rest left disk source outlet done));
+      on = λ rest result disk source outlet paced done says.
+          so_far.on (round_of fuel every ++ rest) result disk source outlet (more rest paced)
+          (then_done there r rest result disk source outlet done)
+          (then_says there r rest result disk source outlet done says);
     }
 
     pub round_last : (why : Now) (there : Scene D S O)
         → IsRound medium gives takes fuel every here why there
-        → LivesAtPace medium gives takes fuel every from (Ok []) there.disk there.source
+        → LivesAtPace medium gives takes fuel every from (Ok why) there.disk there.source
         there.outlet
     round_last why there r =
-        so_far.on (round_of fuel r.count) (Ok []) there.disk there.source there.outlet
-        (last r.count r.some r.within) (leads_out (round_of fuel r.count) here there r.leads)
+        so_far.on (round_of fuel r.count) (Ok why) there.disk there.source there.outlet
+        (last r.count r.some r.within) (leads_out (round_of fuel r.count) here why there r.leads)
+        (says_out (round_of fuel r.count) here why there r.leads)
 
     pub round_broken : (why : DurableFault) (disk : D) (source : S) (outlet : O)
         → IsBrokenRound medium gives takes fuel every here why disk source outlet
-        → LivesAtPace medium gives takes fuel every from (Err (recover.Worker why)) disk source
-        outlet
+        → LivesAtPace medium gives takes fuel every from (Err why) disk source outlet
     round_broken why disk source outlet r =
-        so_far.on (round_of fuel r.count) (Err (recover.Worker why)) disk source outlet
-        (last r.count r.some r.within) r.done
+        so_far.on (round_of fuel r.count) (Err why) disk source outlet
+        (last r.count r.some r.within) r.done tt

@@ -1,8 +1,8 @@
 -- From the calls of a worker on its disk to what a run of it says.
-use Rattle.std.proofs.Common.{◌≡◌, ◌≢◌, inl, inr, ℕ, Bool, List, [], Option, None}
+use Rattle.std.proofs.Common.{◌≡◌, ◌≢◌, inl, inr, ℕ, Bool, List, Option, None}
 use Rattle.std.proofs.Common.{Ok, Err}
-use Rattle.std.proofs.Common.{refl, ap, subst, ◌≤◌, lit≤}
-use Rattle.std.specs.Prelude.{Result}
+use Rattle.std.proofs.Common.{refl, sym, ap, ◌∙◌, subst, ◌≤◌, lit≤}
+use Rattle.std.specs.Prelude.{Result, IfOk}
 use Rattle.sector_disk.specs.declared.fault.DiskFault.{DiskFault}
 use Rattle.sector_disk.specs.declared.fault.DiskFault.TheVariants as disk
 use Rattle.sector_disk.specs.rules.Medium.{Medium}
@@ -15,7 +15,6 @@ use Rattle.durable_worker.specs.declared.fault.DurableFault.TheVariants as durab
 use Rattle.durable_worker.specs.declared.recover_fault.RecoverFault.{RecoverFault}
 use Rattle.durable_worker.specs.declared.recover_fault.RecoverFault.TheVariants as recover
 use Rattle.durable_worker.specs.rules.DurableValues.{DurableValue}
-use Rattle.durable_worker.specs.rules.LifeWords.{Act}
 use Rattle.durable_worker.specs.rules.Recoveries.{IsNoWorker, Recovers, RecoveryCarries}
 use Rattle.durable_worker.specs.laws.OneLife.{recovered, opened, unopened}
 use Rattle.wasmhost_serve.specs.declared.lines.fault.LineFault.{LineFault}
@@ -24,11 +23,12 @@ use Rattle.wasmhost_serve.specs.declared.lines.outside.Outside.{Outside}
 use Rattle.wasmhost_serve.specs.declared.on_disk.fault.OnDiskFault.{OnDiskFault}
 use Rattle.wasmhost_serve.specs.declared.on_disk.fault.OnDiskFault.TheVariants as is_told
 use Rattle.wasmhost_serve.specs.Lines.Answers.{Standing, standing}
-use Rattle.wasmhost_serve.specs.Livings.{scene, AreCalled, LivesAtPace, HasGoneOn}
+use Rattle.wasmhost_serve.specs.Livings.{scene, left_after, AreCalled, LivesAtPace, HasGoneOn}
 use Rattle.wasmhost_serve.specs.rules.DiskStatuses.{IsToldOnDisk, told_of_opening, status_on_disk}
 use Rattle.wasmhost_serve.specs.rules.DiskStatuses.{status_of_disk, status_of_call}
 use Rattle.wasmhost_serve.specs.rules.Statuses.{status_of_line}
 use Rattle.wasmhost_serve.specs.rules.Served.{ended_by, last_words}
+use Rattle.wasmhost_serve.specs.rules.Outcomes.{outcome_after}
 use Rattle.wasmhost_serve.specs.rules.ServedOnDisk.{DiskJob, stands_behind, handing}
 use Rattle.wasmhost_serve.specs.rules.ServedOnDisk.{printing, IsLeftAlone, IsUnopenedRun}
 use Rattle.wasmhost_serve.specs.rules.ServedOnDisk.{LivesOnDisk}
@@ -36,8 +36,9 @@ use Rattle.wasmhost_serve.specs.rules.Printers.{PrinterState, IsSaid, SaysText, 
 use Rattle.wasmhost_serve.specs.rules.ServedOnDisk.{ServesOnDisk, recovered_line}
 use Rattle.wasmhost_serve.specs.rules.ServedOnDisk.{unopened as is_unopened}
 use Rattle.wasmhost_serve.specs.rules.ServedOnDisk.{over, broken}
+use Rattle.wasmhost_serve.proofs.LivingLemmas.{carried_over}
 use Rattle.wasmhost_serve.proofs.PrinterLemmas.{few_said}
-use Rattle.wasmhost_serve.proofs.ShownLemmas.{gives_so, takes_so, recovery_so, calls_so}
+use Rattle.wasmhost_serve.proofs.ShownLemmas.{gives_so, takes_so, recovery_so, calls_so, outcome_so}
 
 -- ---- an open worker
 
@@ -55,43 +56,50 @@ module _ {D S O : Type 0} (medium : D → Medium) (stands : S → Standing)
     (shows : O → Option (List ℕ)) where
   -- what was done of a worker, seen by where its source stands and by what is printed
   lives_so : (given : DiskJob) (w : DurableValue) (disk last : D) (s t : S) (o p : O)
-      (left : Result (List Act) RecoverFault) → stands s ≡ stands_behind given w
+      (result : Result Now DurableFault) → stands s ≡ stands_behind given w
       → LivesAtPace medium (gives_so stands shows handing printing)
-      (takes_so stands shows handing printing) given.fuel given.every (scene w disk s o) left last t
-      p
+      (takes_so stands shows handing printing) given.fuel given.every (scene w disk s o) result last
+      t p
       → LivesAtPace medium handing printing given.fuel given.every
-      (scene w disk (stands_behind given w) (shows o)) left last (stands t) (shows p)
-  lives_so given w disk last s t o p left is lives = record {
-    acts = lives.acts;
-    paced = lives.paced;
-    done = subst (λ (z : Standing). AreCalled medium handing printing lives.acts
-        (scene w disk z (shows o)) left last (stands t) (shows p)) is
-        (calls_so stands shows handing printing medium lives.acts w disk last s t o p left
-        lives.done);
-  }
+      (scene w disk (stands_behind given w) (shows o)) result last (stands t) (shows p)
+  lives_so given w disk last s t o p result is lives =
+      let calls = calls_so stands shows handing printing medium lives.acts w disk last s t o p
+      (left_after result) lives.done in
+      record {
+        acts = lives.acts;
+        paced = lives.paced;
+        done = subst (λ (z : Standing). AreCalled medium handing printing lives.acts
+            (scene w disk z (shows o)) (left_after result) last (stands t) (shows p)) is calls;
+        says = subst (λ z. IfOk result (λ told. z ≡ told))
+            (sym (carried_over (λ (z : Standing). AreCalled medium handing printing lives.acts
+            (scene w disk z (shows o)) (left_after result) last (stands t) (shows p))
+            (λ z done. outcome_after now.Spent done) (stands s) (stands_behind given w) is calls
+            ∙ outcome_so stands shows handing printing medium now.Spent lives.acts w disk last s t o
+            p (left_after result) lives.done)) lives.says;
+      }
 
   module _ (given : DiskJob) (w : DurableValue) (disk last : D) (s t : S) (o p : O)
       (is : stands s ≡ stands_behind given w) where
     pub has_gone : (why : Now) → why ≢ now.Spent
         → LivesAtPace medium (gives_so stands shows handing printing)
-        (takes_so stands shows handing printing) given.fuel given.every (scene w disk s o) (Ok [])
+        (takes_so stands shows handing printing) given.fuel given.every (scene w disk s o) (Ok why)
         last t p
         → HasGoneOn medium given w disk last (shows o) (shows p) (stands t).failed (Ok why)
     has_gone why gone lives =
-        (stands t, gone, refl, lives_so given w disk last s t o p (Ok []) is lives)
+        (stands t, gone, refl, lives_so given w disk last s t o p (Ok why) is lives)
 
     pub has_failed : (why : DurableFault) (told : OnDiskFault)
         → IsToldOnDisk why (stands t).fault told
         → LivesAtPace medium (gives_so stands shows handing printing)
         (takes_so stands shows handing printing) given.fuel given.every (scene w disk s o)
-        (Err (recover.Worker why)) last t p
+        (Err why) last t p
         → HasGoneOn medium given w disk last (shows o) (shows p) (stands t).failed (Err told)
     has_failed why told tells lives = (
       stands t,
       why,
       tells,
       refl,
-      lives_so given w disk last s t o p (Err (recover.Worker why)) is lives,
+      lives_so given w disk last s t o p (Err why) is lives,
     )
 
 -- ---- a recovery
@@ -141,13 +149,13 @@ module _ {D O : Type 0} (medium : D → Medium) (shows : O → Option (List ℕ)
   }
 
   -- one that is, and lives
-  lives_on : (given : DiskJob) (w : DurableValue) (left : Result (List Act) RecoverFault)
+  lives_on : (given : DiskJob) (w : DurableValue) (result : Result Now DurableFault)
       (found opening last : D) (o p : O) (out' : Option (List ℕ)) (source' : Standing)
       → RecoveryCarries prints_so (Ok w) (medium found) (medium opening) o p
       → LivesAtPace medium handing printing given.fuel given.every
-      (scene w opening (stands_behind given w) (shows p)) left last source' out'
-      → LivesOnDisk medium given left found last (shows o) out' source'
-  lives_on given w left found opening last o p out' source' carries lives = record {
+      (scene w opening (stands_behind given w) (shows p)) result last source' out'
+      → LivesOnDisk medium given (left_after result) found last (shows o) out' source'
+  lives_on given w result found opening last o p out' source' carries lives = record {
     worker = w;
     opening = opening;
     acts = lives.acts;
@@ -186,8 +194,8 @@ module _ {D O : Type 0} (medium : D → Medium) (shows : O → Option (List ℕ)
       unfolding lives_on
       serves_over why gone says =
           over why gone.0 between gone.1
-          (lives_on given w (Ok []) found opening last o p out' gone.0 carries gone.3) gone.2
-          tells says
+          (lives_on given w (Ok why) found opening last o p out' gone.0 carries gone.3)
+          (λ image leaves bytes config. gone.3.says) gone.2 tells says
 
       pub serves_broken : (told : OnDiskFault)
           → HasGoneOn medium given w opening last (shows p) out' failed' (Err told)
@@ -195,8 +203,8 @@ module _ {D O : Type 0} (medium : D → Medium) (shows : O → Option (List ℕ)
       unfolding lives_on
       serves_broken told gone says =
           broken gone.1 told gone.0 between
-          (lives_on given w (Err (recover.Worker gone.1)) found opening last o p out' gone.0
-          carries gone.4) gone.3 gone.2 tells says
+          (lives_on given w (Err gone.1) found opening last o p out' gone.0 carries gone.4)
+          gone.3 gone.2 tells says
 
 -- ---- statuses
 

@@ -1,15 +1,17 @@
 -- Calls of a life, seen by where its source stands and by what is printed.
-use Rattle.std.proofs.Common.{List, [], ◌∷◌, ap}
+use Rattle.std.proofs.Common.{◌≡◌, List, [], ◌∷◌, refl, ap}
 use Rattle.std.specs.Prelude.{Result}
 use Rattle.sector_disk.specs.rules.Medium.{Medium}
 use Rattle.record_replay.specs.rules.Calls.{Giving, Taking, Ask, Begun, Exchange, Exchanges}
 use Rattle.record_replay.specs.rules.Calls.{AnswersInOrder, Releases, asks_of, releases_of}
+use Rattle.worker.specs.declared.now.Now.{Now}
 use Rattle.durable_worker.specs.declared.recover_fault.RecoverFault.{RecoverFault}
 use Rattle.durable_worker.specs.rules.DurableValues.{DurableValue}
 use Rattle.durable_worker.specs.rules.Recoveries.{RecoveryCarries}
 use Rattle.durable_worker.specs.rules.LifeWords.{Act}
 use Rattle.durable_worker.specs.laws.OneLife.{CallsInOrder, no_more, sliced, slice_failed, saved}
 use Rattle.durable_worker.specs.laws.OneLife.{saving_failed}
+use Rattle.wasmhost_serve.specs.rules.Outcomes.{outcome_after}
 
 module _ {S T O P : Type 0} (stands : S → T) (shows : O → P) (gives : Giving T) (takes : Taking P)
   where
@@ -64,3 +66,20 @@ module _ {S T O P : Type 0} (stands : S → T) (shows : O → P) (gives : Giving
           saved carries (calls_so others w' mid last s t o p left more)
       calls_so acts w disk last s t o p left (saving_failed carries cause) =
           saving_failed carries cause
+
+      -- they say the same
+      pub outcome_so : (before : Now) (acts : List Act) (w : DurableValue) (disk last : D) (s t : S)
+          (o p : O) (left : Result (List Act) RecoverFault)
+          (calls : CallsInOrder medium gives_so takes_so acts w disk s o left last t p)
+          → outcome_after before (calls_so acts w disk last s t o p left calls)
+          ≡ outcome_after before calls
+      unfolding calls_so
+      outcome_so before acts w disk last s t o p left no_more = refl
+      outcome_so before acts w disk last s t o p left
+          (sliced {fuel = fuel} {acts = others} {w' = w'} {disk' = mid} {source' = u} {outlet' = q}
+          said slice more) = outcome_so said others w' mid last u t q p left more
+      outcome_so before acts w disk last s t o p left (slice_failed slice) = refl
+      outcome_so before acts w disk last s t o p left
+          (saved {acts = others} {w' = w'} {disk' = mid} carries more) =
+          outcome_so before others w' mid last s t o p left more
+      outcome_so before acts w disk last s t o p left (saving_failed carries cause) = refl

@@ -1,6 +1,6 @@
 -- The parts of a life on a disk: calls that were made of an open worker, and those that may follow.
 use Rattle.std.specs.Prelude.{◌≡◌, ◌≢◌, ℕ, ◌-◌, ◌^◌, ◌≤◌, Bool, List, [], ◌++◌, Option, Result, Ok}
-use Rattle.std.specs.Prelude.{Err}
+use Rattle.std.specs.Prelude.{Err, IfOk}
 use Rattle.sector_disk.specs.rules.Medium.{Medium}
 use Rattle.record_replay.specs.rules.Calls.{Giving, Taking}
 use Rattle.worker.specs.declared.now.Now.{Now}
@@ -16,6 +16,7 @@ use Rattle.durable_worker.specs.laws.OneLife.{CallsInOrder}
 use Rattle.wasmhost_serve.specs.declared.on_disk.fault.OnDiskFault.{OnDiskFault}
 use Rattle.wasmhost_serve.specs.Lines.Answers.{Standing}
 use Rattle.wasmhost_serve.specs.rules.DiskStatuses.{IsToldOnDisk}
+use Rattle.wasmhost_serve.specs.rules.Outcomes.{outcome_after}
 use Rattle.wasmhost_serve.specs.rules.Paces.{round_of, IsPaced}
 use Rattle.wasmhost_serve.specs.rules.ServedOnDisk.{DiskJob, stands_behind, handing, printing}
 
@@ -34,6 +35,11 @@ scene worker disk source outlet = record {
   outlet = outlet;
 }
 
+-- nothing is left to be done, or there was this error
+abbrev pub left_after : Result Now DurableFault → Result (List Act) RecoverFault
+left_after (Ok now) = Ok []
+left_after (Err why) = Err (recover.Worker why)
+
 -- the steps that can still be counted
 abbrev pub steps_left : DurableValue → ℕ
 steps_left w = 2 ^ 63 - w.process.steps
@@ -46,21 +52,27 @@ module _ {D S O : Type 0} (medium : D → Medium) (gives : Giving S) (takes : Ta
       CallsInOrder medium gives takes acts from.worker from.disk from.source from.outlet left disk
       source outlet
 
-  -- These acts lead from there to there: whatever is done then is done behind them.
-  pub record ActsLead (acts : List Act) (from to : Scene D S O) : Type 0 where
+  -- These acts lead from there to there: whatever is done then is done behind them. Their last
+  -- slice has answered this; where there is none, it is that the worker goes on.
+  pub record ActsLead (acts : List Act) (from : Scene D S O) (said : Now) (to : Scene D S O)
+      : Type 0 where
     pub behind : (rest : List Act) (left : Result (List Act) RecoverFault) (disk : D) (source : S)
         (outlet : O) → AreCalled rest to left disk source outlet
         → AreCalled (acts ++ rest) from left disk source outlet
+    pub says : (rest : List Act) (left : Result (List Act) RecoverFault) (disk : D) (source : S)
+        (outlet : O) (done : AreCalled rest to left disk source outlet)
+        → outcome_after now.Spent (behind rest left disk source outlet done)
+        ≡ outcome_after said done
 
-  -- At most so many slices of this fuel, with a checkpoint behind them; just as many where the
-  -- fuel of the last one is spent.
+  -- At most so many slices of this fuel, with a checkpoint behind them. The last one has answered
+  -- this. They are just as many where its fuel is spent.
   pub record IsRound (fuel every : ℕ) (from : Scene D S O) (why : Now) (to : Scene D S O)
       : Type 0 where
     pub count : ℕ
     pub some : 1 ≤ count
     pub within : count ≤ every
     pub whole : why ≡ now.Spent → count ≡ every
-    pub leads : ActsLead (round_of fuel count) from to
+    pub leads : ActsLead (round_of fuel count) from why to
 
   -- one within which there was an error
   pub record IsBrokenRound (fuel every : ℕ) (from : Scene D S O) (why : DurableFault) (disk : D)
@@ -70,17 +82,14 @@ module _ {D S O : Type 0} (medium : D → Medium) (gives : Giving S) (takes : Ta
     pub within : count ≤ every
     pub done : AreCalled (round_of fuel count) from (Err (recover.Worker why)) disk source outlet
 
-  -- All that a worker is told at this pace, done or up to the first error.
-  pub record LivesAtPace (fuel every : ℕ) (from : Scene D S O)
-      (left : Result (List Act) RecoverFault) (disk : D) (source : S) (outlet : O) : Type 0 where
+  -- All that a worker is told at this pace is done, and the last slice has answered this; or it is
+  -- done up to this error.
+  pub record LivesAtPace (fuel every : ℕ) (from : Scene D S O) (result : Result Now DurableFault)
+      (disk : D) (source : S) (outlet : O) : Type 0 where
     pub acts : List Act
     pub paced : IsPaced fuel every acts
-    pub done : AreCalled acts from left disk source outlet
-
--- nothing is left to be done, or there was this error
-abbrev pub left_after : Result Now DurableFault → Result (List Act) RecoverFault
-left_after (Ok now) = Ok []
-left_after (Err why) = Err (recover.Worker why)
+    pub done : AreCalled acts from (left_after result) disk source outlet
+    pub says : IfOk result (λ told. outcome_after now.Spent done ≡ told)
 
 -- a checkpoint of a worker whose slice has answered this
 abbrev pub IsRested : Now → Result Now DurableFault → DurableValue → DurableValue → Medium → Medium
@@ -91,14 +100,14 @@ IsRested why (Err fault) old new disk disk' = CheckpointCarries old (Err fault) 
     × CheckpointFails old disk disk' fault
 
 -- An open worker has lived at its pace, on answers of a source that begins behind the requests that
--- it has taken. It is over, or an error is told.
+-- it has taken. It is over, as its last slice has answered, or an error is told.
 abbrev pub HasGoneOn : {D : Type 0} → (D → Medium) → DiskJob → DurableValue → D → D
     → Option (List ℕ) → Option (List ℕ) → Bool → Result Now OnDiskFault → Type 0
 HasGoneOn medium given w disk disk' out out' failed' (Ok why) = (source' : Standing)
     × (why ≢ now.Spent) × (source'.failed ≡ failed')
     × LivesAtPace medium handing printing given.fuel given.every
-    (scene w disk (stands_behind given w) out) (Ok []) disk' source' out'
+    (scene w disk (stands_behind given w) out) (Ok why) disk' source' out'
 HasGoneOn medium given w disk disk' out out' failed' (Err told) = (source' : Standing)
     × (why : DurableFault) × IsToldOnDisk why source'.fault told × (source'.failed ≡ failed')
     × LivesAtPace medium handing printing given.fuel given.every
-    (scene w disk (stands_behind given w) out) (Err (recover.Worker why)) disk' source' out'
+    (scene w disk (stands_behind given w) out) (Err why) disk' source' out'

@@ -2,9 +2,11 @@ pub mod Answered
 pub mod CommandLine
 pub mod Commands
 pub mod Creations
+pub mod DiskCauses
 pub mod DiskStatuses
 pub mod Numbers
 pub mod Openings
+pub mod Outcomes
 pub mod Outside
 pub mod Paces
 pub mod Printed

@@ -2,6 +2,7 @@
 
 ghost use Rattle.durable_worker.specs.laws.Uncut.{LivesGoOnUncut};
 ghost use Rattle.wasmhost_serve.specs.rules.Answered.{AnswersComeFromTheLines};
+ghost use Rattle.wasmhost_serve.specs.rules.DiskCauses.{RefusalsHaveReasons, StatusesHaveCauses};
 ghost use Rattle.wasmhost_serve.specs.rules.Printed.{TakenLinesArePrinted};
 ghost use Rattle.wasmhost_serve.specs.rules.ServedOnDisk.{handing, printing};
 ghost use Rattle.wasmhost_serve.specs.rules.ServedOnDisk.{ReleasedLinesArePrinted};
@@ -30,6 +31,17 @@ pub fn lives_on_disk_go_on<D: Disk>()
 /// and random bytes the next ones of the stream of the worker's generation.
 pub fn answers_come_from_the_lines()
     ensures { AnswersComeFromTheLines }
+{}
+
+/// Where a source of the program refuses a question in a life, it has a reason. The next line can't
+/// be taken, its reader has failed, or memory is wanting; or there is no clock, or no word is left.
+pub fn refusals_have_reasons()
+    ensures { RefusalsHaveReasons }
+{}
+
+/// Of each exit status of a run on a disk, what it comes from.
+pub fn statuses_have_causes<D: Disk>()
+    ensures { StatusesHaveCauses D.medium }
 {}
 
 // Laws of the command line. The functions do nothing: what they ensure is the law.

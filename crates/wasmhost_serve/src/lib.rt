@@ -26,8 +26,11 @@
 //!   begins behind the requests that the worker has taken, and at the first word of the seed's
 //!   stream of its generation (`stands_behind`). Where `err` is a terminal, its first line says how
 //!   the worker was recovered (`recovered_line`). `laws::lives_on_disk_go_on`: such calls are a
-//!   life that goes on from all that was promised, and its lines were printed. Where the disk shows
-//!   no worker nothing is written or printed. No status is above 7 (`known`).
+//!   life that goes on from all that was promised, and its lines were printed. The last words are
+//!   those of what its last slice has answered (`HasOutcome`). Where the disk shows no worker
+//!   nothing is written or printed. No status is above 7 (`known`).
+//! - `laws::statuses_have_causes`: what each of these statuses comes from (`SaysOnDisk`).
+//!   `laws::refusals_have_reasons`: why the source of a run refuses a question.
 //! - `show_on`: the survey of a worker's disk is printed, or what keeps it from that is told
 //!   (`shows`). Of a disk that stands for a worker the line is that worker's (`stands`). Nothing is
 //!   changed on the disk, but that it is synced.
@@ -61,7 +64,8 @@
 //! `CreatesOn`, `IsPreparedAs`, `IsUnprepared`, `config_as` (`Creations.antt`);
 //! `wasmhost` (`CommandLine.antt`); `meaning_in`, `IsReading`, `IsStatusOf` (`Commands.antt`);
 //! `ShowsDisk`, `ShowsSurvey`, `survey_line` (`Showings.antt`); `open_words` (`Openings.antt`);
-//! `ServesOnDisk`, `LivesOnDisk`, `stands_behind` (`ServedOnDisk.antt`); `IsPaced` (`Paces.antt`);
+//! `ServesOnDisk`, `LivesOnDisk`, `HasOutcome`, `stands_behind` (`ServedOnDisk.antt`);
+//! `life_outcome` (`Outcomes.antt`); `SaysOnDisk` (`DiskCauses.antt`); `IsPaced` (`Paces.antt`);
 //! `status_on_disk`, `told_of_opening`, `IsToldOnDisk` (`DiskStatuses.antt`);
 //! `PrinterState`, `IsSaid`, `SaysText`, `HeedsBoth`, `TellsPerson` (`Printers.antt`);
 //! `said_by`, `AreLivesOf`, `IsScript` (`Scripts.antt`); `lines_of` (`Pieces.antt`); `story_text`,

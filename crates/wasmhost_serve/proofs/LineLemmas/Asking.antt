@@ -90,7 +90,7 @@ pub record HasAnswered (s t : Standing) (kept : List Kept) : Type 0 where
   pub come : ComeFrom s.outside s.stream s.place kept
   pub given : GiveUpTo s.taken s.unread (requests_in kept) (λ rest. t.unread ≡ Some rest)
 
-answered_nothing : (s : Standing) → s.fault ≡ None → HasAnswered s s []
+pub answered_nothing : (s : Standing) → s.fault ≡ None → HasAnswered s s []
 answered_nothing s none = record {
   unspoilt = none;
   steady = refl;
@@ -102,7 +102,7 @@ answered_nothing s none = record {
   given = passed_nothing s.taken s.unread;
 }
 
-answered_first : (kind : Kind) (s t u : Standing) (a : Answer) (more : List Kept)
+pub answered_first : (kind : Kind) (s t u : Standing) (a : Answer) (more : List Kept)
     → HandsAnswer kind s (Some a) t → HasAnswered t u more → HasAnswered s u (Given a ∷ more)
 answered_first kind s t u a more hands others =
     let one = finds_hands kind s t a hands.finds in

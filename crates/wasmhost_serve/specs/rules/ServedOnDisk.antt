@@ -21,6 +21,7 @@ use Rattle.wasmhost_serve.specs.declared.lines.outside.Outside.{Outside}
 use Rattle.wasmhost_serve.specs.declared.on_disk.fault.OnDiskFault.{OnDiskFault}
 use Rattle.wasmhost_serve.specs.Lines.Answers.{Standing, standing, HandsNext}
 use Rattle.wasmhost_serve.specs.rules.DiskStatuses.{IsToldOnDisk, told_of_opening, status_on_disk}
+use Rattle.wasmhost_serve.specs.rules.Outcomes.{life_outcome}
 use Rattle.wasmhost_serve.specs.rules.Paces.{IsPaced}
 use Rattle.wasmhost_serve.specs.rules.Printers.{PrinterState, IsSaid, SaysText, TellsPerson}
 use Rattle.wasmhost_serve.specs.rules.Prints.{PrintsOneLine}
@@ -92,6 +93,14 @@ pub record LivesOnDisk {D : Type 0} (medium : D → Medium) (given : DiskJob)
       → IsOneLife medium handing printing bytes config acts found (stands_behind given worker) out
       by_recovery (Some worker) left last source' out'
 
+-- The last slice of that life has answered this.
+abbrev pub HasOutcome : {D : Type 0} {medium : D → Medium} {given : DiskJob}
+    {left : Result (List Act) RecoverFault} {found last : D} {out out' : Option (List ℕ)}
+    {source' : Standing} → LivesOnDisk medium given left found last out out' source' → Now → Type 0
+HasOutcome {medium = medium} lives now =
+    (image : Image) (leaves : (medium lives.opening).may_leave image) (bytes : List ℕ)
+    (config : Settings) → life_outcome (lives.life image leaves bytes config) ≡ now
+
 -- ---- what is printed in a life
 
 -- these lines, as they are printed
@@ -117,9 +126,9 @@ recovered_line w =
 -- ---- what each exit status says
 
 -- The worker isn't opened, and the status says why. Or a person is told that it is recovered, where
--- one reads along. Then it lives until it is over, and the last words are those of its last slice.
--- Or a call of it fails, and the status says why: a fault of the source is told as that of a
--- request line, where there is one.
+-- one reads along. Then it lives until a slice doesn't just spend its fuel, which is the last one.
+-- The last words are those of what that slice has answered. Or a call of it fails, and the status
+-- says why: a fault of the source is told as that of a request line, where there is one.
 pub data ServesOnDisk {D : Type 0} (medium : D → Medium) (given : DiskJob) (found last : D)
     (out out' : Option (List ℕ)) (err err' : PrinterState) (failed' : Bool) (status : ℕ)
     : Type 0 where
@@ -129,7 +138,8 @@ pub data ServesOnDisk {D : Type 0} (medium : D → Medium) (given : DiskJob) (fo
       → ServesOnDisk medium given found last out out' err err' failed' status
   over : (now : Now) (source' : Standing) (between : PrinterState) → now ≢ Spent
       → (lives : LivesOnDisk medium given (Ok []) found last out out' source')
-      → source'.failed ≡ failed' → TellsPerson (recovered_line lives.worker) err between
+      → HasOutcome lives now → source'.failed ≡ failed'
+      → TellsPerson (recovered_line lives.worker) err between
       → SaysText (last_words (ended_by now)) 0 between status err'
       → ServesOnDisk medium given found last out out' err err' failed' status
   broken : (why : DurableFault) (told : OnDiskFault) (source' : Standing) (between : PrinterState)

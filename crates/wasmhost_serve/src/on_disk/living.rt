@@ -5,7 +5,7 @@ ghost use Rattle.std.specs.Int.NonZero.{non_zero_u64_get};
 ghost use Rattle.disk_layout.specs.rules.Places.{total_sectors};
 ghost use Rattle.process.specs.rules.Values.{IsProcess};
 ghost use Rattle.worker.specs.declared.now.Now.TheVariants.{Spent};
-ghost use Rattle.wasmhost_serve.specs.Livings.{scene, steps_left, left_after, IsRested};
+ghost use Rattle.wasmhost_serve.specs.Livings.{scene, steps_left, IsRested};
 ghost use Rattle.wasmhost_serve.specs.Livings.{IsRound, IsBrokenRound, LivesAtPace};
 
 use durable_worker::{DurableFault, DurableWorker};
@@ -101,7 +101,7 @@ pub(crate) fn live<D: Disk, S: Source, O: Outlet>(
     requires { total_sectors worker.old.store.geometry ≤ (D.medium disk.old).sectors }
     ensures lives { LivesAtPace D.medium S.gives O.takes
         (non_zero_u64_get pace.fuel) (non_zero_u64_get pace.every)
-        (scene worker.old disk.old source.old outlet.old) (left_after result)
+        (scene worker.old disk.old source.old outlet.old) result
         disk.new source.new outlet.new }
     ensures over { IfOk result (λ now. now ≢ Spent) }
 {

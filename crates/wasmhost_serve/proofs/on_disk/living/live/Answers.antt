@@ -1,3 +1,5 @@
+use Rattle.worker.specs.declared.now.Now.TheVariants.{Waiting, Ended}
+use Rattle.wasmhost_serve.specs.Livings.{scene}
 use Rattle.wasmhost_serve.proofs.LivingLemmas.{round_more, round_last, round_broken}
 use Rattle.wasmhost_serve.proofs.on_disk.living.live.Goals as goal
 
@@ -10,12 +12,15 @@ loop-how-preserved g c =
 pub returns-in-Ok-Waiting-clause-lives : goal.returns-in-Ok-Waiting-clause-lives
 returns-in-Ok-Waiting-clause-lives g c =
     round_last g.D.Disk.medium g.S.Source.gives g.O.Outlet.takes _ _ _ _ c.loop-how.invariant
-    c.in-Ok-Waiting.field-0 _ c.in-Ok-Waiting.ensures.done
+    Waiting (scene c.round.new.worker c.round.new.disk c.round.new.source c.round.new.outlet)
+    (rw c.in-Ok-Waiting.field-0-is at c.in-Ok-Waiting.ensures.done)
 
 pub returns-in-Ok-Ended-clause-lives : goal.returns-in-Ok-Ended-clause-lives
 returns-in-Ok-Ended-clause-lives g c =
     round_last g.D.Disk.medium g.S.Source.gives g.O.Outlet.takes _ _ _ _ c.loop-how.invariant
-    c.in-Ok-Ended.field-0 _ c.in-Ok-Ended.ensures.done
+    (Ended c.in-Ok-Ended.how)
+    (scene c.round.new.worker c.round.new.disk c.round.new.source c.round.new.outlet)
+    (rw c.in-Ok-Ended.field-0-is at c.in-Ok-Ended.ensures.done)
 
 pub returns-in-Err-clause-lives : goal.returns-in-Err-clause-lives
 returns-in-Err-clause-lives g c =

@@ -1,10 +1,15 @@
 use Rattle.std.proofs.Common.{arith}
 use Rattle.wasmhost_serve.proofs.LivingLemmas.{within_breaks, within_rests, within_broken}
-use Rattle.wasmhost_serve.proofs.LivingLemmas.{within_more}
+use Rattle.wasmhost_serve.proofs.LivingLemmas.{within_more, none_taken}
 use Rattle.wasmhost_serve.proofs.LivingLemmas.{within_fewer, slice_fewer}
 use Rattle.wasmhost_serve.proofs.on_disk.living.round.Goals as goal
 use Rattle.wasmhost_serve.proofs.on_disk.living.round.Goals.{then-taken-every-via-then-taken-every}
 use Rattle.wasmhost_serve.proofs.on_disk.living.round.Goals.{then-taken-every-via-else-taken-every+then-not-is_spent}
+
+pub loop-now-init : goal.loop-now-init
+loop-now-init g c =
+    none_taken g.D.Disk.medium g.S.Source.gives g.O.Outlet.takes _ _ _ c.get-every.ensures.nonzero
+    c.requires
 
 pub returns-in-Err-clause-failed : goal.returns-in-Err-clause-failed
 returns-in-Err-clause-failed g c =
@@ -35,7 +40,7 @@ loop-now-preserved g c =
     let other = c.if-taken-every.false in
     within_more g.D.Disk.medium g.S.Source.gives g.O.Outlet.takes _ _ _ _ _ c.loop-now.invariant
     c.get.result c.get.ensures.value _ _ _ _ c.in-Ok.now c.in-Ok.ensures.carries
-    (omega (arith, before, other))
+    (c.is_spent.ensures.0 c.if-not-is_spent.false) (omega (arith, before, other))
     (slice_fewer g.D.Disk.medium g.S.Source.gives g.O.Outlet.takes c.loop-now.worker
     c.slice.new.self c.get.result c.in-Ok.now _ _ _ _
     c.is_process.ensures c.get.ensures.nonzero c.in-Ok.ensures.done

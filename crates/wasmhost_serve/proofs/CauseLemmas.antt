@@ -1,0 +1,324 @@
+-- From what a run on a disk does to the cause of its exit status.
+use Rattle.std.proofs.Common.{◌≡◌, ◌⊎◌, inl, inr, ℕ, ◌+◌, ◌<◌, Bool, true, List, [], length}
+use Rattle.std.proofs.Common.{Some, Err, refl, sym, subst, arith}
+use Rattle.std.specs.Prelude.{Option, Result}
+use Rattle.wasi_abi.specs.rules.Configs.{Settings}
+use Rattle.wasi_abi.specs.declared.answer.Kind.{Kind}
+use Rattle.wasi_abi.specs.declared.answer.Kind.TheVariants as kinds
+use Rattle.process_rules.specs.Runs.{Kept}
+use Rattle.sector_disk.specs.rules.Medium.{Medium}
+use Rattle.sector_disk.specs.declared.fault.DiskFault.TheVariants as disk
+use Rattle.record_replay.specs.rules.Calls.{Exchange, Exchanges, asks_of}
+use Rattle.worker.specs.declared.fault.WorkFault.TheVariants as work
+use Rattle.worker.specs.rules.Slices.{handed}
+use Rattle.durable_worker.specs.declared.fault.DurableFault.{DurableFault}
+use Rattle.durable_worker.specs.declared.fault.DurableFault.TheVariants as durable
+use Rattle.durable_worker.specs.declared.recover_fault.RecoverFault.{RecoverFault}
+use Rattle.durable_worker.specs.declared.recover_fault.RecoverFault.TheVariants as recover
+use Rattle.durable_worker.specs.rules.DurableValues.{DurableValue}
+use Rattle.durable_worker.specs.rules.LifeWords.{Act, Beginning}
+use Rattle.durable_worker.specs.laws.OneLife.{IsOneLife, opened, unopened}
+use Rattle.durable_worker.proofs.LifeLemmas.Making.{calls_make}
+use Rattle.wasmhost_serve.specs.declared.lines.fault.LineFault.{LineFault}
+use Rattle.wasmhost_serve.specs.declared.lines.fault.LineFault.TheVariants as line
+use Rattle.wasmhost_serve.specs.declared.on_disk.fault.OnDiskFault.{OnDiskFault}
+use Rattle.wasmhost_serve.specs.declared.on_disk.fault.OnDiskFault.TheVariants as is_told
+use Rattle.wasmhost_serve.specs.Lines.Answers.{Standing, IsRefusedFor}
+use Rattle.wasmhost_serve.specs.rules.DiskStatuses.{IsToldOnDisk, told_of_opening, status_on_disk}
+use Rattle.wasmhost_serve.specs.rules.DiskStatuses.{status_of_call}
+use Rattle.wasmhost_serve.specs.rules.Outside.{requests_in, words_of}
+use Rattle.wasmhost_serve.specs.rules.Printers.{PrinterState, IsSaid}
+use Rattle.wasmhost_serve.specs.rules.Requests.{BeginsWithOther, BeginsWithLater, BeginsWithNumber}
+use Rattle.wasmhost_serve.specs.rules.Served.{config_of}
+use Rattle.wasmhost_serve.specs.rules.ServedOnDisk.{DiskJob, stands_behind, handing, printing}
+use Rattle.wasmhost_serve.specs.rules.ServedOnDisk.{LivesOnDisk, ServesOnDisk, over, broken}
+use Rattle.wasmhost_serve.specs.rules.ServedOnDisk.{unopened as is_unopened}
+use Rattle.wasmhost_serve.specs.rules.DiskCauses.{HasRefused, MeetsBadLineAt, LacksAnswerAt}
+use Rattle.wasmhost_serve.specs.rules.DiskCauses.{LacksMemoryAt}
+use Rattle.wasmhost_serve.specs.rules.DiskCauses.{IsStuck, IsFailing, IsWanting, IsUntaken}
+use Rattle.wasmhost_serve.specs.rules.DiskCauses.{IsOverOnDisk, FailsOnDisk, opening, calling}
+use Rattle.wasmhost_serve.specs.rules.DiskCauses.{AsksInVain, SaysOnDisk, StatusesHaveCauses}
+use Rattle.wasmhost_serve.proofs.LineLemmas.Passing.{up_to_map}
+use Rattle.wasmhost_serve.proofs.RefusalLemmas.{refusals_have_reasons}
+
+-- ---- what a line's fault comes to
+
+module _ (old : Standing) (kept : List Kept) (failed' : Bool) where
+  abbrev IsFor : Kind → LineFault → Type 0
+  IsFor kind why = IsRefusedFor kind old.outside (old.place + words_of kept) old.taken old.unread
+      (requests_in kept) old.failed failed' why
+
+  lacks_read : (kind : Kind) → IsFor kind line.Read → LacksAnswerAt old kept failed'
+  lacks_read kinds.Request h = inl h
+  lacks_read kinds.Realtime h = absurd h.0
+  lacks_read kinds.Monotonic h = absurd h.0
+  lacks_read (kinds.Random n) h = absurd h.0
+
+  lacks_clock : (kind : Kind) → IsFor kind line.Clock → LacksAnswerAt old kept failed'
+  lacks_clock kinds.Request h = absurd h
+  lacks_clock kinds.Realtime h = inr (inl h.0)
+  lacks_clock kinds.Monotonic h = inr (inl h.0)
+  lacks_clock (kinds.Random n) h = absurd h.0
+
+  lacks_words : (kind : Kind) → IsFor kind line.Words → LacksAnswerAt old kept failed'
+  lacks_words kinds.Request h = absurd h
+  lacks_words kinds.Realtime h = absurd h.0
+  lacks_words kinds.Monotonic h = absurd h.0
+  lacks_words (kinds.Random n) h = inr (inr (n, h.0))
+
+  -- the next line of a reader can't be taken
+  abbrev IsBad : List ℕ → Type 0
+  IsBad rest = BeginsWithOther rest
+      ⊎ BeginsWithLater (old.taken + length (requests_in kept)) rest
+
+  meets_other : (kind : Kind) → IsFor kind line.Form → MeetsBadLineAt old kept failed'
+  meets_other kinds.Request h = (
+    up_to_map old.taken old.unread (requests_in kept) BeginsWithOther IsBad (λ rest is. inl is) h.0,
+    h.1,
+  )
+  meets_other kinds.Realtime h = absurd h.0
+  meets_other kinds.Monotonic h = absurd h.0
+  meets_other (kinds.Random n) h = absurd h.0
+
+  meets_later : (number wanted : ℕ) (kind : Kind) → IsFor kind (line.Number number wanted)
+      → MeetsBadLineAt old kept failed'
+  meets_later number wanted kinds.Request h =
+      let next = h.0 in
+      let beyond = h.1 in
+      let later : (old.taken + length (requests_in kept)) + 1 < number =
+      omega (arith, next, beyond) in (
+        up_to_map old.taken old.unread (requests_in kept) (BeginsWithNumber number) IsBad
+            (λ rest is. inr (number, later, is)) h.2,
+        h.3,
+      )
+  meets_later number wanted kinds.Realtime h = absurd h.0
+  meets_later number wanted kinds.Monotonic h = absurd h.0
+  meets_later number wanted (kinds.Random n) h = absurd h.0
+
+-- ---- what is read off a life
+
+module _ {D : Type 0} (medium : D → Medium) where
+  -- what source and outlet exchange in a life that opens
+  life_exchanges : (bytes : List ℕ) (config : Settings) (acts : List Act) (found last : D)
+      (source source' : Standing) (out out' : Option (List ℕ)) (begins : Beginning)
+      (worker : Option DurableValue) (left : Result (List Act) RecoverFault)
+      → IsOneLife medium handing printing bytes config acts found source out begins worker left last
+      source' out' → (w : DurableValue) → worker ≡ Some w
+      → (mid : Option (List ℕ)) × (exchanges : List Exchange)
+      × Exchanges handing printing source mid exchanges source' out'
+  life_exchanges bytes config acts found last source source' out out' begins worker left
+      (opened {disk = here} {outlet' = mid} {w = v} begun calls) w is =
+      let made = calls_make medium handing printing acts v here last source source' mid out' left
+      calls in (mid, made.0, made.1)
+  life_exchanges bytes config acts found last source source' out out' begins worker left
+      (unopened begun) w is = absurd (cc)
+
+  module _ (given : DiskJob) (found last : D) (out out' : Option (List ℕ)) (failed' : Bool) where
+    abbrev Fails : (RecoverFault → Type 0) → Type 0
+    Fails IsKind = FailsOnDisk medium given found last out out' failed' IsKind
+
+    abbrev Asks : (Standing → List Kept → Bool → Type 0) → Type 0
+    Asks Holds = AsksInVain medium given found last out out' failed' Holds
+
+    -- a question was refused for this
+    vain : (source' : Standing) (why : LineFault)
+        → LivesOnDisk medium given (Err (recover.Worker (durable.Work work.Source))) found last out
+        out' source' → source'.failed ≡ failed' → source'.fault ≡ Some why
+        → Asks (λ old kept failed. HasRefused old kept failed why)
+    vain source' why lives heeded is = record {
+      source' = source';
+      lives = lives;
+      heeded = heeded;
+      behind = λ image leaves.
+          let x = life_exchanges [] (config_of [] []) lives.acts found last
+          (stands_behind given lives.worker) source' out out' _ (Some lives.worker) _
+          (lives.life image leaves [] (config_of [] [])) lives.worker refl in (
+            x.0,
+            x.1,
+            x.2,
+            subst (λ f. HasRefused (stands_behind given lives.worker) (handed (asks_of x.1)) f why)
+                heeded (refusals_have_reasons x.1 (stands_behind given lives.worker) source' x.0
+                out' why x.2 refl is),
+          );
+    }
+
+    -- what follows from it
+    in_vain : (P Q : Standing → List Kept → Bool → Type 0)
+        → ((old : Standing) (kept : List Kept) → P old kept failed' → Q old kept failed')
+        → Asks P → Asks Q
+    in_vain P Q f asks = record {
+      source' = asks.source';
+      lives = asks.lives;
+      heeded = asks.heeded;
+      behind = λ image leaves. let b = asks.behind image leaves in
+          (b.0, b.1, b.2, f (stands_behind given asks.lives.worker) (handed (asks_of b.1)) b.3);
+    }
+
+    -- ---- statuses
+
+    module _ (err err' : PrinterState) where
+      abbrev Says : ℕ → Type 0
+      Says status = SaysOnDisk medium given found last out out' failed' err err' status
+
+      zero : IsOverOnDisk medium given found last out out' failed' err err' → Says 0
+      zero h = record {
+        over = λ e. h;
+        stuck = λ e. absurd (omega (arith, e));
+        unanswered = λ e. absurd (omega (arith, e));
+        starved = λ e. absurd (omega (arith, e));
+        bad_line = λ e. absurd (omega (arith, e));
+        unprinted = λ e. absurd (omega (arith, e));
+        known = inl refl;
+      }
+
+      three : Fails IsStuck → Says 3
+      three h = record {
+        over = λ e. absurd (omega (arith, e));
+        stuck = λ e. h;
+        unanswered = λ e. absurd (omega (arith, e));
+        starved = λ e. absurd (omega (arith, e));
+        bad_line = λ e. absurd (omega (arith, e));
+        unprinted = λ e. absurd (omega (arith, e));
+        known = inr (omega arith, omega arith);
+      }
+
+      four : Fails IsFailing ⊎ Asks LacksAnswerAt → Says 4
+      four h = record {
+        over = λ e. absurd (omega (arith, e));
+        stuck = λ e. absurd (omega (arith, e));
+        unanswered = λ e. h;
+        starved = λ e. absurd (omega (arith, e));
+        bad_line = λ e. absurd (omega (arith, e));
+        unprinted = λ e. absurd (omega (arith, e));
+        known = inr (omega arith, omega arith);
+      }
+
+      five : Fails IsWanting ⊎ Asks LacksMemoryAt → Says 5
+      five h = record {
+        over = λ e. absurd (omega (arith, e));
+        stuck = λ e. absurd (omega (arith, e));
+        unanswered = λ e. absurd (omega (arith, e));
+        starved = λ e. h;
+        bad_line = λ e. absurd (omega (arith, e));
+        unprinted = λ e. absurd (omega (arith, e));
+        known = inr (omega arith, omega arith);
+      }
+
+      six : Asks MeetsBadLineAt → Says 6
+      six h = record {
+        over = λ e. absurd (omega (arith, e));
+        stuck = λ e. absurd (omega (arith, e));
+        unanswered = λ e. absurd (omega (arith, e));
+        starved = λ e. absurd (omega (arith, e));
+        bad_line = λ e. h;
+        unprinted = λ e. absurd (omega (arith, e));
+        known = inr (omega arith, omega arith);
+      }
+
+      seven : Fails IsUntaken ⊎ (err'.failed ≡ true) → Says 7
+      seven h = record {
+        over = λ e. absurd (omega (arith, e));
+        stuck = λ e. absurd (omega (arith, e));
+        unanswered = λ e. absurd (omega (arith, e));
+        starved = λ e. absurd (omega (arith, e));
+        bad_line = λ e. absurd (omega (arith, e));
+        unprinted = λ e. h;
+        known = inr (omega arith, omega arith);
+      }
+
+      -- a fault of the recovery
+      by_opening : (why : RecoverFault)
+          → ((IsKind : RecoverFault → Type 0) → IsKind why → Fails IsKind)
+          → Says (status_on_disk (told_of_opening why))
+      by_opening recover.NotAnImage f = three (f IsStuck tt)
+      by_opening recover.Diverged f = three (f IsStuck tt)
+      by_opening (recover.Worker (durable.Store why)) f = three (f IsStuck tt)
+      by_opening (recover.Worker (durable.Disk disk.Memory)) f = five (inl (f IsWanting tt))
+      by_opening (recover.Worker (durable.Disk disk.Range)) f = four (inl (f IsFailing tt))
+      by_opening (recover.Worker (durable.Disk disk.Io)) f = four (inl (f IsFailing tt))
+      by_opening (recover.Worker (durable.Disk disk.Cut)) f = four (inl (f IsFailing tt))
+      by_opening (recover.Worker (durable.Work work.Source)) f = four (inl (f IsFailing tt))
+      by_opening (recover.Worker (durable.Work work.Failed)) f = four (inl (f IsFailing tt))
+      by_opening (recover.Worker (durable.Work work.Memory)) f = five (inl (f IsWanting tt))
+      by_opening (recover.Worker (durable.Work work.Outlet)) f = seven (inl (f IsUntaken tt))
+      by_opening (recover.Worker (durable.Work (work.Refused why))) f = three (f IsStuck tt)
+
+      -- one of a call
+      by_calling : (why : DurableFault)
+          → ((IsKind : RecoverFault → Type 0) → IsKind (recover.Worker why) → Fails IsKind)
+          → Says (status_of_call why)
+      by_calling (durable.Store why) f = three (f IsStuck tt)
+      by_calling (durable.Disk why) f = four (inl (f IsFailing tt))
+      by_calling (durable.Work work.Source) f = four (inl (f IsFailing tt))
+      by_calling (durable.Work work.Failed) f = four (inl (f IsFailing tt))
+      by_calling (durable.Work work.Memory) f = five (inl (f IsWanting tt))
+      by_calling (durable.Work work.Outlet) f = seven (inl (f IsUntaken tt))
+      by_calling (durable.Work (work.Refused why)) f = three (f IsStuck tt)
+
+      -- one of a request line
+      by_line : (why : LineFault) → Asks (λ old kept failed. HasRefused old kept failed why)
+          → Says (status_on_disk (is_told.Line why))
+      by_line line.Read asks =
+          four (inr (in_vain (λ old kept failed. HasRefused old kept failed line.Read) LacksAnswerAt
+          (λ old kept r. lacks_read old kept failed' r.kind r.reason) asks))
+      by_line line.Clock asks =
+          four (inr (in_vain (λ old kept failed. HasRefused old kept failed line.Clock)
+          LacksAnswerAt (λ old kept r. lacks_clock old kept failed' r.kind r.reason) asks))
+      by_line line.Words asks =
+          four (inr (in_vain (λ old kept failed. HasRefused old kept failed line.Words)
+          LacksAnswerAt (λ old kept r. lacks_words old kept failed' r.kind r.reason) asks))
+      by_line line.Memory asks = five (inr asks)
+      by_line line.Form asks =
+          six (in_vain (λ old kept failed. HasRefused old kept failed line.Form) MeetsBadLineAt
+          (λ old kept r. meets_other old kept failed' r.kind r.reason) asks)
+      by_line (line.Number number wanted) asks =
+          six (in_vain (λ old kept failed. HasRefused old kept failed (line.Number number wanted))
+          MeetsBadLineAt
+          (λ old kept r. meets_later old kept failed' number wanted r.kind r.reason) asks)
+
+      -- that is said, or nothing can be
+      said_as : (between : PrinterState) (status told : ℕ) → IsSaid told between status err'
+          → Says told → Says status
+      said_as between status told (inl said) says = subst Says (sym said.0) says
+      said_as between status told (inr unsaid) says =
+          subst Says (sym unsaid.0) (seven (inr unsaid.1))
+
+      by_told : (why : DurableFault) (told : OnDiskFault) (source' : Standing)
+          → LivesOnDisk medium given (Err (recover.Worker why)) found last out out' source'
+          → source'.failed ≡ failed' → IsToldOnDisk why source'.fault told
+          → Says (status_on_disk told)
+      by_told why told source' lives heeded (inl e) =
+          subst (λ t. Says (status_on_disk t)) (sym e.0)
+          (by_calling why (λ IsKind is. calling why source' lives heeded is))
+      by_told why told source' lives heeded (inr e) =
+          subst (λ t. Says (status_on_disk t)) (sym e.3)
+          (by_line e.0 (vain source' e.0
+          (subst (λ f. LivesOnDisk medium given (Err (recover.Worker f)) found last out out'
+          source') e.1 lives) heeded e.2))
+
+      says_why : (status : ℕ)
+          → ServesOnDisk medium given found last out out' err err' failed' status → Says status
+      says_why status (is_unopened why run heeded said) =
+          said_as err status (status_on_disk (told_of_opening why)) said
+          (by_opening why (λ IsKind is. opening why run heeded is))
+      says_why status (over now source' between done lives outcome heeded tells (inl said)) =
+          subst Says (sym said.0) (zero (record {
+            now = now;
+            source' = source';
+            between = between;
+            done = done;
+            lives = lives;
+            outcome = outcome;
+            heeded = heeded;
+            told = tells;
+            printed = said.1;
+          }))
+      says_why status (over now source' between done lives outcome heeded tells (inr unsaid)) =
+          subst Says (sym unsaid.0) (seven (inr unsaid.1))
+      says_why status (broken why told source' between lives heeded is tells said) =
+          said_as between status (status_on_disk told) said
+          (by_told why told source' lives heeded is)
+
+  pub statuses_have_causes : StatusesHaveCauses medium
+  statuses_have_causes given found last out out' err err' failed' status serves =
+      says_why given found last out out' failed' err err' status serves

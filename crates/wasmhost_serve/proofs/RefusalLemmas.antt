@@ -1,0 +1,178 @@
+-- Why a source of the program refuses, behind all that it has answered.
+use Rattle.std.proofs.Common.{◌≡◌, ◌+◌, List, [], ◌∷◌, ◌++◌, Some, None, Ok, Err, refl}
+use Rattle.std.proofs.Common.{sym, ap, subst, ◌∙◌, arith}
+use Rattle.std.specs.Prelude.{Option, Result}
+use Rattle.wasi_abi.specs.declared.answer.Answer.{Answer}
+use Rattle.wasi_abi.specs.declared.answer.Kind.{Kind}
+use Rattle.process_rules.specs.Runs.{Kept}
+use Rattle.record_replay.specs.declared.fault.SourceFault.{SourceFault}
+use Rattle.record_replay.specs.rules.Calls.{Ask, AnswersInOrder, asks_of}
+use Rattle.worker.specs.rules.Slices.{handed_by, handed}
+use Rattle.wasmhost_serve.specs.declared.lines.fault.LineFault.{LineFault}
+use Rattle.wasmhost_serve.specs.rules.Outside.{ComeFrom, requests_in, words_of}
+use Rattle.wasmhost_serve.specs.rules.Requests.{GiveUpTo}
+use Rattle.wasmhost_serve.specs.rules.ServedOnDisk.{handing}
+use Rattle.wasmhost_serve.specs.rules.DiskCauses.{HasRefused, RefusalsHaveReasons}
+use Rattle.wasmhost_serve.specs.Lines.Answers.{Standing, HandsNext, HandsAnswer, LeavesFault}
+use Rattle.wasmhost_serve.specs.Lines.Answers.{IsRefusedFor}
+use Rattle.wasmhost_serve.proofs.AnsweredLemmas.{at_end}
+use Rattle.wasmhost_serve.proofs.LineLemmas.Asking.{HasAnswered, answered_nothing, answered_first}
+use Rattle.wasmhost_serve.proofs.LineLemmas.Asking.{refused_for, refused_so}
+use Rattle.wasmhost_serve.proofs.LineLemmas.Passing.{behind_passed}
+
+-- no request came, and the answers behind that
+ended_before : (kind : Kind) (s v u : Standing) (more : List Kept) → HandsAnswer kind s None v
+    → HasAnswered v u more → HasAnswered s u more
+ended_before kind s v u more hands others =
+    let here = at_end kind s v hands.finds in
+    let count = here.1 in
+    let counts = others.counted in
+    let place = here.0 in
+    let places = others.drawn in
+    record {
+      unspoilt = others.unspoilt;
+      steady = others.steady ∙ hands.steady;
+      same = others.same ∙ hands.same;
+      same_stream = others.same_stream ∙ hands.same_stream;
+      counted = omega (arith, count, counts);
+      drawn = omega (arith, place, places);
+      come = subst (λ o. ComeFrom o s.stream s.place more) hands.same
+          (subst (λ v'. ComeFrom v.outside v' s.place more) hands.same_stream
+          (subst (λ k. ComeFrom v.outside v.stream k more) place others.come));
+      given = behind_passed s.taken s.unread v.unread (requests_in more)
+          (λ rest. u.unread ≡ Some rest) here.2
+          (subst (λ n. GiveUpTo n v.unread (requests_in more) (λ rest. u.unread ≡ Some rest)) count
+          others.given);
+    }
+
+-- a source with a fault keeps it, and answers nothing more
+stays_refused : (why : LineFault) (asks : List Ask) (s t : Standing) → s.fault ≡ Some why
+    → AnswersInOrder handing s asks t
+    → (handed asks ≡ []) × (t.fault ≡ Some why) × (t.failed ≡ s.failed)
+stays_refused why [] s t is leads =
+    (refl, ap (λ (z : Standing). z.fault) leads ∙ is, ap (λ (z : Standing). z.failed) leads)
+stays_refused why (ask ∷ asks) s t is leads =
+    by_said (λ now. stays_refused why asks leads.0 t now leads.2) ask.said refl leads.1
+  where
+    u : Standing
+    u = leads.0
+
+    by_said : (u.fault ≡ Some why
+        → (handed asks ≡ []) × (t.fault ≡ Some why) × (t.failed ≡ u.failed))
+        → (said : Result (Option Answer) SourceFault) → ask.said ≡ said
+        → HandsNext ask.kind s ask.said u
+        → (handed (ask ∷ asks) ≡ []) × (t.fault ≡ Some why) × (t.failed ≡ s.failed)
+    by_said more (Ok answered) e hands =
+        let h : HandsAnswer ask.kind s answered u =
+        subst (λ r. HandsNext ask.kind s r u) e hands in
+        let none = h.unfailed in absurd (cc)
+    by_said more (Err fault) e hands =
+        let h : HandsNext ask.kind s (Err fault) u =
+        subst (λ r. HandsNext ask.kind s r u) e hands in
+        let stays : LeavesFault ask.kind s u (Some why) =
+        subst (LeavesFault ask.kind s u) is h.4 in
+        let others = more stays.0 in (
+          subst (λ r. handed_by r ++ handed asks ≡ []) (sym e) others.0,
+          others.1,
+          others.2 ∙ stays.1,
+        )
+
+-- Behind these answers a question was refused, which has left this fault.
+record IsRefusedThere (s t : Standing) (kept : List Kept) (why : LineFault) : Type 0 where
+  kind : Kind
+  fault : SourceFault
+  between : Standing
+  after : Standing
+  before : HasAnswered s between kept
+  hands : HandsNext kind between (Err fault) after
+  left : after.fault ≡ Some why
+  steady : t.failed ≡ after.failed
+
+-- the first question is refused
+refused_now : (why : LineFault) (kind : Kind) (fault : SourceFault) (asks : List Ask)
+    (s u t : Standing) → s.fault ≡ None → HandsNext kind s (Err fault) u
+    → AnswersInOrder handing u asks t → t.fault ≡ Some why
+    → (handed asks ≡ []) × IsRefusedThere s t [] why
+refused_now why kind fault asks s u t none hands leads is = by_left u.fault refl
+  where
+    by_left : (left : Option LineFault) → u.fault ≡ left
+        → (handed asks ≡ []) × IsRefusedThere s t [] why
+    by_left None e =
+        absurd (refused_so s s u [] (answered_nothing s none) kind fault e hands)
+    by_left (Some first) e =
+        let stays = stays_refused first asks u t e leads in (
+          stays.0,
+          record {
+            kind = kind;
+            fault = fault;
+            between = s;
+            after = u;
+            before = answered_nothing s none;
+            hands = hands;
+            left = e ∙ sym stays.1 ∙ is;
+            steady = stays.2;
+          },
+        )
+
+refused_there : (why : LineFault) (asks : List Ask) (s t : Standing) → s.fault ≡ None
+    → AnswersInOrder handing s asks t → t.fault ≡ Some why
+    → IsRefusedThere s t (handed asks) why
+refused_there why [] s t none leads is =
+    let same = ap (λ (z : Standing). z.fault) leads in absurd (cc)
+refused_there why (ask ∷ asks) s t none leads is =
+    by_said (λ now. refused_there why asks leads.0 t now leads.2 is) ask.said refl leads.1
+  where
+    u : Standing
+    u = leads.0
+
+    by_said : (u.fault ≡ None → IsRefusedThere u t (handed asks) why)
+        → (said : Result (Option Answer) SourceFault) → ask.said ≡ said
+        → HandsNext ask.kind s ask.said u → IsRefusedThere s t (handed (ask ∷ asks)) why
+    by_said more (Ok (Some a)) e hands =
+        let h : HandsAnswer ask.kind s (Some a) u =
+        subst (λ r. HandsNext ask.kind s r u) e hands in
+        let r = more h.unspoilt in
+        subst (λ z. IsRefusedThere s t (handed_by z ++ handed asks) why) (sym e) (record {
+          kind = r.kind;
+          fault = r.fault;
+          between = r.between;
+          after = r.after;
+          before = answered_first ask.kind s u r.between a (handed asks) h r.before;
+          hands = r.hands;
+          left = r.left;
+          steady = r.steady;
+        })
+    by_said more (Ok None) e hands =
+        let h : HandsAnswer ask.kind s None u =
+        subst (λ r. HandsNext ask.kind s r u) e hands in
+        let r = more h.unspoilt in
+        subst (λ z. IsRefusedThere s t (handed_by z ++ handed asks) why) (sym e) (record {
+          kind = r.kind;
+          fault = r.fault;
+          between = r.between;
+          after = r.after;
+          before = ended_before ask.kind s u r.between (handed asks) h r.before;
+          hands = r.hands;
+          left = r.left;
+          steady = r.steady;
+        })
+    by_said more (Err fault) e hands =
+        let h : HandsNext ask.kind s (Err fault) u =
+        subst (λ r. HandsNext ask.kind s r u) e hands in
+        let r = refused_now why ask.kind fault asks s u t none h leads.2 is in
+        subst (λ z. IsRefusedThere s t (handed_by z ++ handed asks) why) (sym e)
+        (subst (λ z. IsRefusedThere s t z why) (sym r.0) r.1)
+
+reason_of : (s t : Standing) (kept : List Kept) (why : LineFault) → IsRefusedThere s t kept why
+    → HasRefused s kept t.failed why
+reason_of s t kept why r = record {
+  kind = r.kind;
+  reason = subst (λ f. IsRefusedFor r.kind s.outside (s.place + words_of kept) s.taken s.unread
+      (requests_in kept) s.failed f why) (sym r.steady)
+      (refused_for s r.between r.after kept r.before r.kind r.fault why r.left r.hands);
+}
+
+pub refusals_have_reasons : RefusalsHaveReasons
+refusals_have_reasons exchanges source source' out out' why exchanged none is =
+    reason_of source source' (handed (asks_of exchanges)) why
+    (refused_there why (asks_of exchanges) source source' none exchanged.asked is)

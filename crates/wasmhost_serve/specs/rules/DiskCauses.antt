@@ -1,0 +1,147 @@
+-- What each exit status of a run on a disk comes from (this project's own).
+use Rattle.std.specs.Prelude.{◌≡◌, ◌≢◌, ◌⊎◌, ℕ, ◌+◌, ◌≤◌, ◌^◌, ⊤, Bool, true, List, [], length}
+use Rattle.std.specs.Prelude.{Option, Some, None, Ok, Err}
+use Rattle.wasi_abi.specs.declared.answer.Kind.{Kind}
+use Rattle.process_rules.specs.Runs.{Kept}
+use Rattle.sector_disk.specs.rules.Image.{Image}
+use Rattle.sector_disk.specs.rules.Medium.{Medium}
+use Rattle.sector_disk.specs.declared.fault.DiskFault.TheVariants as disk
+use Rattle.record_replay.specs.rules.Calls.{Exchange, Exchanges, asks_of}
+use Rattle.worker.specs.declared.fault.WorkFault.TheVariants as work
+use Rattle.worker.specs.declared.now.Now.{Now}
+use Rattle.worker.specs.declared.now.Now.TheVariants.{Spent}
+use Rattle.worker.specs.rules.Slices.{handed}
+use Rattle.durable_worker.specs.declared.fault.DurableFault.{DurableFault}
+use Rattle.durable_worker.specs.declared.fault.DurableFault.TheVariants as durable
+use Rattle.durable_worker.specs.declared.recover_fault.RecoverFault.{RecoverFault}
+use Rattle.durable_worker.specs.declared.recover_fault.RecoverFault.TheVariants as recover
+use Rattle.wasmhost_serve.specs.declared.lines.fault.LineFault.{LineFault}
+use Rattle.wasmhost_serve.specs.declared.lines.fault.LineFault.TheVariants as line
+use Rattle.wasmhost_serve.specs.Lines.Answers.{Standing, IsRefusedFor}
+use Rattle.wasmhost_serve.specs.rules.Outside.{requests_in, words_of}
+use Rattle.wasmhost_serve.specs.rules.Requests.{GiveUpTo, BeginsWithOther, BeginsWithLater}
+use Rattle.wasmhost_serve.specs.rules.Printers.{PrinterState, IsPrinted, TellsPerson}
+use Rattle.wasmhost_serve.specs.rules.Seeds.{words_for}
+use Rattle.wasmhost_serve.specs.rules.Served.{ended_by, last_words}
+use Rattle.wasmhost_serve.specs.rules.ServedOnDisk.{DiskJob, stands_behind, handing, printing}
+use Rattle.wasmhost_serve.specs.rules.ServedOnDisk.{IsUnopenedRun, LivesOnDisk, HasOutcome}
+use Rattle.wasmhost_serve.specs.rules.ServedOnDisk.{ServesOnDisk, recovered_line}
+
+-- ---- a source that refuses
+
+-- A question behind these answers was refused for this, by a source that had stood here.
+pub record HasRefused (old : Standing) (kept : List Kept) (failed' : Bool) (why : LineFault)
+    : Type 0 where
+  pub kind : Kind
+  pub reason : IsRefusedFor kind old.outside (old.place + words_of kept) old.taken old.unread
+      (requests_in kept) old.failed failed' why
+
+-- Whatever a source and an outlet of the program have exchanged: where the source had no fault and
+-- now has one, a question behind all answers was refused for it.
+abbrev pub RefusalsHaveReasons : Type 0
+RefusalsHaveReasons = (exchanges : List Exchange) (source source' : Standing)
+    (out out' : Option (List ℕ)) (why : LineFault)
+    → Exchanges handing printing source out exchanges source' out' → source.fault ≡ None
+    → source'.fault ≡ Some why
+    → HasRefused source (handed (asks_of exchanges)) source'.failed why
+
+-- Behind these answers one was refused for want of memory.
+abbrev pub LacksMemoryAt : Standing → List Kept → Bool → Type 0
+LacksMemoryAt old kept failed' = HasRefused old kept failed' line.Memory
+
+-- Behind these answers the next line can't be taken: it is no request line, or that of a request
+-- beyond the next one.
+abbrev pub MeetsBadLineAt : Standing → List Kept → Bool → Type 0
+MeetsBadLineAt old kept failed' = GiveUpTo old.taken old.unread (requests_in kept)
+    (λ rest. BeginsWithOther rest ⊎ BeginsWithLater (old.taken + length (requests_in kept)) rest)
+    × (failed' ≡ old.failed)
+
+-- Behind these answers none is to be had. The reader has failed; the machine's clock can't be read,
+-- and no time is fixed; or the words of the seed can't be counted further.
+abbrev pub LacksAnswerAt : Standing → List Kept → Bool → Type 0
+LacksAnswerAt old kept failed' = (failed' ≡ true) ⊎ (old.outside.clock ≡ None)
+    ⊎ ((n : ℕ) × (2 ^ 64 ≤ old.place + words_of kept + words_for n))
+
+-- ---- faults of a recovery or of a call
+
+-- no worker that can go on, or a number at its end
+abbrev pub IsStuck : RecoverFault → Type 0
+IsStuck recover.NotAnImage = ⊤
+IsStuck recover.Diverged = ⊤
+IsStuck (recover.Worker (durable.Work (work.Refused why))) = ⊤
+IsStuck (recover.Worker (durable.Store why)) = ⊤
+IsStuck other = ⊥
+
+-- a disk or a source that fails
+abbrev pub IsFailing : RecoverFault → Type 0
+IsFailing (recover.Worker (durable.Disk why)) = ⊤
+IsFailing (recover.Worker (durable.Work work.Source)) = ⊤
+IsFailing (recover.Worker (durable.Work work.Failed)) = ⊤
+IsFailing other = ⊥
+
+-- memory that was refused
+abbrev pub IsWanting : RecoverFault → Type 0
+IsWanting (recover.Worker (durable.Work work.Memory)) = ⊤
+IsWanting (recover.Worker (durable.Disk disk.Memory)) = ⊤
+IsWanting other = ⊥
+
+-- a line that the outlet refused
+abbrev pub IsUntaken : RecoverFault → Type 0
+IsUntaken (recover.Worker (durable.Work work.Outlet)) = ⊤
+IsUntaken other = ⊥
+
+-- ---- what each exit status says
+
+module _ {D : Type 0} (medium : D → Medium) (given : DiskJob) (found last : D)
+    (out out' : Option (List ℕ)) (failed' : Bool) where
+  -- The worker was recovered, and a person was told so. Then it has lived until a slice didn't just
+  -- spend its fuel, and the last words are those of what that slice has answered.
+  pub record IsOverOnDisk (err err' : PrinterState) : Type 0 where
+    pub now : Now
+    pub source' : Standing
+    pub between : PrinterState
+    pub done : now ≢ Spent
+    pub lives : LivesOnDisk medium given (Ok []) found last out out' source'
+    pub outcome : HasOutcome lives now
+    pub heeded : source'.failed ≡ failed'
+    pub told : TellsPerson (recovered_line lives.worker) err between
+    pub printed : IsPrinted between err' (last_words (ended_by now))
+
+  -- The recovery has failed, or a call of the life, by a fault of this kind.
+  pub data FailsOnDisk (IsKind : RecoverFault → Type 0) : Type 0 where
+    opening : (why : RecoverFault) → IsUnopenedRun medium why found last out out'
+        → failed' ≡ given.failed → IsKind why → FailsOnDisk IsKind
+    calling : (why : DurableFault) (source' : Standing)
+        → LivesOnDisk medium given (Err (recover.Worker why)) found last out out' source'
+        → source'.failed ≡ failed' → IsKind (recover.Worker why) → FailsOnDisk IsKind
+
+  -- A call of the life has failed since the source refused a question. If the answers of the disk
+  -- fit an image, this holds behind all that source and outlet have exchanged in the life.
+  pub record AsksInVain (Holds : Standing → List Kept → Bool → Type 0) : Type 0 where
+    pub source' : Standing
+    pub lives : LivesOnDisk medium given (Err (recover.Worker (durable.Work work.Source))) found
+        last out out' source'
+    pub heeded : source'.failed ≡ failed'
+    pub behind : (image : Image) → (medium lives.opening).may_leave image
+        → (begun : Option (List ℕ)) × (exchanges : List Exchange)
+        × Exchanges handing printing (stands_behind given lives.worker) begun exchanges source' out'
+        × Holds (stands_behind given lives.worker) (handed (asks_of exchanges)) failed'
+
+  -- 0: it is over. 3: the disk shows no worker that can go on, or a number is at its end. 4: the
+  -- disk or the source has failed. 5: memory was refused. 6: the next line is refused. 7: a line of
+  -- the worker was refused, or what is said couldn't be written.
+  pub record SaysOnDisk (err err' : PrinterState) (status : ℕ) : Type 0 where
+    pub over : status ≡ 0 → IsOverOnDisk err err'
+    pub stuck : status ≡ 3 → FailsOnDisk IsStuck
+    pub unanswered : status ≡ 4 → FailsOnDisk IsFailing ⊎ AsksInVain LacksAnswerAt
+    pub starved : status ≡ 5 → FailsOnDisk IsWanting ⊎ AsksInVain LacksMemoryAt
+    pub bad_line : status ≡ 6 → AsksInVain MeetsBadLineAt
+    pub unprinted : status ≡ 7 → FailsOnDisk IsUntaken ⊎ (err'.failed ≡ true)
+    pub known : (status ≡ 0) ⊎ ((3 ≤ status) × (status ≤ 7))
+
+-- so it is of each run
+abbrev pub StatusesHaveCauses : {D : Type 0} → (D → Medium) → Type 0
+StatusesHaveCauses {D} medium = (given : DiskJob) (found last : D) (out out' : Option (List ℕ))
+    (err err' : PrinterState) (failed' : Bool) (status : ℕ)
+    → ServesOnDisk medium given found last out out' err err' failed' status
+    → SaysOnDisk medium given found last out out' failed' err err' status
