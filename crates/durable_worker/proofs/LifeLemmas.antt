@@ -6,3 +6,4 @@ pub mod Opening
 pub mod Living
 pub mod Heard
 pub mod Uncut
+pub mod Replying

@@ -1,3 +1,5 @@
 pub mod Bounds
 pub mod OneLife
+pub mod Outcomes
+pub mod Replies
 pub mod Uncut

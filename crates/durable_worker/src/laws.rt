@@ -2,6 +2,7 @@
 
 ghost use Rattle.durable_worker.specs.laws.Bounds.{OpenWorkersKeepBounds, StayingKeepsBounds};
 ghost use Rattle.durable_worker.specs.laws.OneLife.{CallsMakeLives, AnythingComesTrue};
+ghost use Rattle.durable_worker.specs.laws.Replies.{LivesEndAsSaid};
 ghost use Rattle.durable_worker.specs.laws.Uncut.{LivesGoOnUncut};
 
 use record_replay::{Outlet, Source};
@@ -25,4 +26,10 @@ pub fn calls_make_lives<D: Disk, S: Source, O: Outlet>()
 /// promised. Its outlet has taken each line that was told, or it ended by one that was refused.
 pub fn uncut_lives_go_on<D: Disk, S: Source, O: Outlet>()
     ensures { LivesGoOnUncut D.medium S.gives O.takes }
+{}
+
+/// In a life without an error, in which the power isn't cut, the last slice has answered what its
+/// clause says: the process that all kept answers lead to has ended so, or waits, or goes on.
+pub fn lives_end_as_said<D: Disk, S: Source, O: Outlet>()
+    ensures { LivesEndAsSaid D.medium S.gives O.takes }
 {}

@@ -20,7 +20,7 @@ use Rattle.durable_worker.specs.rules.DurableCalls.{SliceCarries, CheckpointCarr
 use Rattle.durable_worker.specs.rules.LifeWords.{Act, Slice, Checkpoint}
 use Rattle.durable_worker.specs.laws.OneLife.{no_more, sliced, slice_failed, saved}
 use Rattle.durable_worker.specs.laws.OneLife.{saving_failed}
-use Rattle.wasmhost_serve.specs.rules.Outcomes.{outcome_after}
+use Rattle.durable_worker.specs.laws.Outcomes.{outcome_after}
 use Rattle.wasmhost_serve.specs.rules.Paces.{round_of, IsPaced, last, more}
 use Rattle.wasmhost_serve.specs.Livings.{Scene, scene, left_after, steps_left, AreCalled, ActsLead}
 use Rattle.wasmhost_serve.specs.Livings.{IsRested, IsRound, IsBrokenRound, LivesAtPace}

@@ -28,7 +28,7 @@ use Rattle.wasmhost_serve.specs.rules.DiskStatuses.{IsToldOnDisk, told_of_openin
 use Rattle.wasmhost_serve.specs.rules.DiskStatuses.{status_of_disk, status_of_call}
 use Rattle.wasmhost_serve.specs.rules.Statuses.{status_of_line}
 use Rattle.wasmhost_serve.specs.rules.Served.{ended_by, last_words}
-use Rattle.wasmhost_serve.specs.rules.Outcomes.{outcome_after}
+use Rattle.durable_worker.specs.laws.Outcomes.{outcome_after}
 use Rattle.wasmhost_serve.specs.rules.ServedOnDisk.{DiskJob, stands_behind, handing}
 use Rattle.wasmhost_serve.specs.rules.ServedOnDisk.{printing, IsLeftAlone, IsUnopenedRun}
 use Rattle.wasmhost_serve.specs.rules.ServedOnDisk.{LivesOnDisk}

@@ -11,7 +11,7 @@ use Rattle.durable_worker.specs.rules.Recoveries.{RecoveryCarries}
 use Rattle.durable_worker.specs.rules.LifeWords.{Act}
 use Rattle.durable_worker.specs.laws.OneLife.{CallsInOrder, no_more, sliced, slice_failed, saved}
 use Rattle.durable_worker.specs.laws.OneLife.{saving_failed}
-use Rattle.wasmhost_serve.specs.rules.Outcomes.{outcome_after}
+use Rattle.durable_worker.specs.laws.Outcomes.{outcome_after}
 
 module _ {S T O P : Type 0} (stands : S → T) (shows : O → P) (gives : Giving T) (takes : Taking P)
   where

@@ -16,7 +16,7 @@ use Rattle.durable_worker.specs.laws.OneLife.{CallsInOrder}
 use Rattle.wasmhost_serve.specs.declared.on_disk.fault.OnDiskFault.{OnDiskFault}
 use Rattle.wasmhost_serve.specs.Lines.Answers.{Standing}
 use Rattle.wasmhost_serve.specs.rules.DiskStatuses.{IsToldOnDisk}
-use Rattle.wasmhost_serve.specs.rules.Outcomes.{outcome_after}
+use Rattle.durable_worker.specs.laws.Outcomes.{outcome_after}
 use Rattle.wasmhost_serve.specs.rules.Paces.{round_of, IsPaced}
 use Rattle.wasmhost_serve.specs.rules.ServedOnDisk.{DiskJob, stands_behind, handing, printing}
 

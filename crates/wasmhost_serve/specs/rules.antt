@@ -6,7 +6,6 @@ pub mod DiskCauses
 pub mod DiskStatuses
 pub mod Numbers
 pub mod Openings
-pub mod Outcomes
 pub mod Outside
 pub mod Paces
 pub mod Printed

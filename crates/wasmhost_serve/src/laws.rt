@@ -1,5 +1,6 @@
 //! Laws of answers and printed lines. The functions do nothing: what they ensure is the law.
 
+ghost use Rattle.durable_worker.specs.laws.Replies.{LivesEndAsSaid};
 ghost use Rattle.durable_worker.specs.laws.Uncut.{LivesGoOnUncut};
 ghost use Rattle.wasmhost_serve.specs.rules.Answered.{AnswersComeFromTheLines};
 ghost use Rattle.wasmhost_serve.specs.rules.DiskCauses.{RefusalsHaveReasons, StatusesHaveCauses};
@@ -20,10 +21,12 @@ pub fn taken_lines_are_printed<W: Write>()
 {}
 
 /// All that `serve_on` does of a worker that it has opened is one life. Where the power isn't cut
-/// in it, it goes on from all that was promised. Its lines were printed.
+/// in it, it goes on from all that was promised. Its lines were printed. Where there is no error,
+/// its last slice has answered how the process stands that all kept answers lead to.
 pub fn lives_on_disk_go_on<D: Disk>()
     ensures goes_on { LivesGoOnUncut D.medium handing printing }
     ensures printed { ReleasedLinesArePrinted }
+    ensures ended { LivesEndAsSaid D.medium handing printing }
 {}
 
 /// Of all that is asked in a life on a disk, the answered requests are those of the reader's lines

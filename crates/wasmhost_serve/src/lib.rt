@@ -65,7 +65,7 @@
 //! `wasmhost` (`CommandLine.antt`); `meaning_in`, `IsReading`, `IsStatusOf` (`Commands.antt`);
 //! `ShowsDisk`, `ShowsSurvey`, `survey_line` (`Showings.antt`); `open_words` (`Openings.antt`);
 //! `ServesOnDisk`, `LivesOnDisk`, `HasOutcome`, `stands_behind` (`ServedOnDisk.antt`);
-//! `life_outcome` (`Outcomes.antt`); `SaysOnDisk` (`DiskCauses.antt`); `IsPaced` (`Paces.antt`);
+//! `SaysOnDisk` (`DiskCauses.antt`); `IsPaced` (`Paces.antt`);
 //! `status_on_disk`, `told_of_opening`, `IsToldOnDisk` (`DiskStatuses.antt`);
 //! `PrinterState`, `IsSaid`, `SaysText`, `HeedsBoth`, `TellsPerson` (`Printers.antt`);
 //! `said_by`, `AreLivesOf`, `IsScript` (`Scripts.antt`); `lines_of` (`Pieces.antt`); `story_text`,

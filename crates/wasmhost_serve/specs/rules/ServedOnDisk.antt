@@ -21,7 +21,7 @@ use Rattle.wasmhost_serve.specs.declared.lines.outside.Outside.{Outside}
 use Rattle.wasmhost_serve.specs.declared.on_disk.fault.OnDiskFault.{OnDiskFault}
 use Rattle.wasmhost_serve.specs.Lines.Answers.{Standing, standing, HandsNext}
 use Rattle.wasmhost_serve.specs.rules.DiskStatuses.{IsToldOnDisk, told_of_opening, status_on_disk}
-use Rattle.wasmhost_serve.specs.rules.Outcomes.{life_outcome}
+use Rattle.durable_worker.specs.laws.Outcomes.{life_outcome}
 use Rattle.wasmhost_serve.specs.rules.Paces.{IsPaced}
 use Rattle.wasmhost_serve.specs.rules.Printers.{PrinterState, IsSaid, SaysText, TellsPerson}
 use Rattle.wasmhost_serve.specs.rules.Prints.{PrintsOneLine}

@@ -1,3 +1,4 @@
+use Rattle.durable_worker.proofs.LifeLemmas.Replying.{lives_end_as_said}
 use Rattle.durable_worker.proofs.LifeLemmas.Uncut.{lives_go_on_uncut}
 use Rattle.wasmhost_serve.specs.rules.ServedOnDisk.{handing, printing}
 use Rattle.wasmhost_serve.proofs.ReleasedLemmas.{released_are_printed}
@@ -8,3 +9,6 @@ returns-clause-goes_on g c = lives_go_on_uncut g.D.Disk.medium handing printing
 
 pub returns-clause-printed : goal.returns-clause-printed
 returns-clause-printed g c = released_are_printed
+
+pub returns-clause-ended : goal.returns-clause-ended
+returns-clause-ended g c = lives_end_as_said g.D.Disk.medium handing printing
