@@ -1,13 +1,14 @@
-//! What `run` tells of a worker on its disk, where a person reads along and where none does.
+//! What `run` prints and tells of a worker on its disk, also where a person reads along.
 
+use crate::lines::{NoClock, OUTSIDE};
 use crate::run::empty_source;
-use crate::show::after_one_slice;
+use crate::show::{Shown, after_one_slice, fresh_disk, shows};
 use sector_disk::MemDisk;
 use std::alloc::Global;
 use std::io::Write;
 use std::num::NonZeroU64;
 use std::test::Fail;
-use wasmhost_serve::{LineOutlet, Pace, Printer, serve_on};
+use wasmhost_serve::{BufferedLines, LineOutlet, Pace, Printer, RequestSource, serve_on};
 
 /// Steps of a slice, and slices between two checkpoints.
 const FUEL: u64 = 100;
@@ -70,5 +71,61 @@ fn a_worker_runs_on_untold(rt: HostRuntime) -> Result<(), Fail> {
     let room: &mut [u8] = &mut [];
     let status = status_on(rt.alloc(), &mut disk, &mut Printer::new(room, true))?;
     assert!(rt; status == Some(7));
+    Ok(())
+}
+
+/// Request lines of a run, the lines that it prints, what it tells, and its status.
+type Run = (&'static [u8], &'static [u8], &'static str, u8);
+
+/// A line that was taken is dropped by its number. One that is ahead of its number ends the run.
+static ON_ONE_DISK: [Run; 2] = [
+    (b"1 r a\n", b"1 o a\n", "parked\n", 0),
+    (b"1 r a\n2 r b\n", b"2 o b\n", "parked\n", 0),
+];
+
+static AHEAD: Run = (
+    b"1 r hello\n1 r other\n3 r x\n",
+    b"1 o hello\n",
+    "refused request 3, wanted 2\n",
+    6,
+);
+
+/// What stands on the disk behind both runs: each of them saves as it opens and as it ends.
+const BEHIND: Shown = Shown {
+    out: "generation 5 steps 49 answers 2 lines 2 records 0\n",
+    err: "",
+    status: 0,
+};
+
+/// Whether a run on the disk does so.
+fn runs_so(alloc: Global, disk: &mut MemDisk, run: &Run) -> Result<bool, Fail> {
+    let pace = Pace {
+        fuel: NonZeroU64::try_from(FUEL)?,
+        every: NonZeroU64::try_from(EVERY)?,
+    };
+    let mut source = RequestSource::new(alloc, BufferedLines::new(run.0), NoClock, OUTSIDE, 0);
+    let mut outlet = LineOutlet::new(alloc, Vec::new(alloc))?;
+    let mut err = Vec::new(alloc);
+    let told = &mut Printer::new(&mut err, false);
+    let status = serve_on(alloc, disk, pace, &mut source, &mut outlet, told);
+    drop(source);
+    let lines = outlet.out.as_slice() == run.1;
+    Ok(lines && err.as_slice() == run.2.as_bytes() && status == run.3)
+}
+
+#[test]
+fn a_taken_line_is_dropped(rt: HostRuntime) -> Result<(), Fail> {
+    let mut disk = fresh_disk(rt.alloc())?;
+    for run in &ON_ONE_DISK {
+        assert!(rt; runs_so(rt.alloc(), &mut disk, run)?, "{run:?}");
+    }
+    assert!(rt; shows(rt.alloc(), &mut disk, &BEHIND));
+    Ok(())
+}
+
+#[test]
+fn a_line_ahead_is_refused(rt: HostRuntime) -> Result<(), Fail> {
+    let mut disk = fresh_disk(rt.alloc())?;
+    assert!(rt; runs_so(rt.alloc(), &mut disk, &AHEAD)?);
     Ok(())
 }

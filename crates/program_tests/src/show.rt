@@ -18,14 +18,14 @@ const WRITES: usize = 2_371;
 
 /// A line on the output, or on the error output, and the status.
 #[derive(Clone, Copy, Debug)]
-struct Shown {
-    out: &'static str,
-    err: &'static str,
-    status: u8,
+pub(crate) struct Shown {
+    pub out: &'static str,
+    pub err: &'static str,
+    pub status: u8,
 }
 
 /// Whether just that is shown of a disk.
-fn shows<D: Disk>(alloc: Global, disk: &mut D, shown: &Shown) -> bool {
+pub(crate) fn shows<D: Disk>(alloc: Global, disk: &mut D, shown: &Shown) -> bool {
     let mut out = Vec::new(alloc);
     let mut err = Vec::new(alloc);
     let status = show_on(
@@ -119,6 +119,14 @@ fn open_again<D: Disk>(alloc: Global, disk: &mut D, is_wanted: bool) -> Result<(
         }
         Err(fault) => Err(Fail::from(fault)),
     }
+}
+
+/// The disk of `echo` as it was created.
+pub(crate) fn fresh_disk(alloc: Global) -> Result<MemDisk, Fail> {
+    let mut disk = zeros(alloc)?;
+    let worker = create(alloc, &mut disk)?;
+    drop(worker);
+    Ok(disk)
 }
 
 /// The disk of `echo` behind one slice, in which it has taken a request and told its line. Nothing
