@@ -5,10 +5,9 @@ use Rattle.std.specs.Prelude.{Option, Result}
 use Rattle.wasi_abi.specs.rules.Configs.{Settings}
 use Rattle.wasi_abi.specs.declared.answer.Kind.{Kind}
 use Rattle.wasi_abi.specs.declared.answer.Kind.TheVariants as kinds
-use Rattle.process_rules.specs.Runs.{Kept}
 use Rattle.sector_disk.specs.rules.Medium.{Medium}
 use Rattle.sector_disk.specs.declared.fault.DiskFault.TheVariants as disk
-use Rattle.record_replay.specs.rules.Calls.{Exchange, Exchanges, asks_of}
+use Rattle.record_replay.specs.rules.Calls.{Ask, Exchange, Exchanges, asks_of}
 use Rattle.worker.specs.declared.fault.WorkFault.TheVariants as work
 use Rattle.worker.specs.rules.Slices.{handed}
 use Rattle.durable_worker.specs.declared.fault.DurableFault.{DurableFault}
@@ -33,8 +32,8 @@ use Rattle.wasmhost_serve.specs.rules.Served.{config_of}
 use Rattle.wasmhost_serve.specs.rules.ServedOnDisk.{DiskJob, stands_behind, handing, printing}
 use Rattle.wasmhost_serve.specs.rules.ServedOnDisk.{LivesOnDisk, ServesOnDisk, over, broken}
 use Rattle.wasmhost_serve.specs.rules.ServedOnDisk.{unopened as is_unopened}
-use Rattle.wasmhost_serve.specs.rules.DiskCauses.{HasRefused, MeetsBadLineAt, LacksAnswerAt}
-use Rattle.wasmhost_serve.specs.rules.DiskCauses.{LacksMemoryAt}
+use Rattle.wasmhost_serve.specs.rules.DiskCauses.{IsRefusedAmong, HasRefused, MeetsBadLineAt}
+use Rattle.wasmhost_serve.specs.rules.DiskCauses.{LacksAnswerAt, LacksMemoryAt}
 use Rattle.wasmhost_serve.specs.rules.DiskCauses.{IsStuck, IsFailing, IsWanting, IsUntaken}
 use Rattle.wasmhost_serve.specs.rules.DiskCauses.{IsOverOnDisk, FailsOnDisk, opening, calling}
 use Rattle.wasmhost_serve.specs.rules.DiskCauses.{AsksInVain, SaysOnDisk, StatusesHaveCauses}
@@ -43,57 +42,64 @@ use Rattle.wasmhost_serve.proofs.RefusalLemmas.{refusals_have_reasons}
 
 -- ---- what a line's fault comes to
 
-module _ (old : Standing) (kept : List Kept) (failed' : Bool) where
+module _ (old : Standing) (asks : List Ask) (failed' : Bool) where
   abbrev IsFor : Kind → LineFault → Type 0
-  IsFor kind why = IsRefusedFor kind old.outside (old.place + words_of kept) old.taken old.unread
-      (requests_in kept) old.failed failed' why
+  IsFor kind why = IsRefusedFor kind old.outside (old.place + words_of (handed asks)) old.taken
+      old.unread (requests_in (handed asks)) old.failed failed' why
 
-  lacks_read : (kind : Kind) → IsFor kind line.Read → LacksAnswerAt old kept failed'
-  lacks_read kinds.Request h = inl h
-  lacks_read kinds.Realtime h = absurd h.0
-  lacks_read kinds.Monotonic h = absurd h.0
-  lacks_read (kinds.Random n) h = absurd h.0
+  lacks_read : (kind : Kind) → IsRefusedAmong asks kind → IsFor kind line.Read
+      → LacksAnswerAt old asks failed'
+  lacks_read kinds.Request r h = inl (r, h)
+  lacks_read kinds.Realtime r h = absurd h.0
+  lacks_read kinds.Monotonic r h = absurd h.0
+  lacks_read (kinds.Random n) r h = absurd h.0
 
-  lacks_clock : (kind : Kind) → IsFor kind line.Clock → LacksAnswerAt old kept failed'
-  lacks_clock kinds.Request h = absurd h
-  lacks_clock kinds.Realtime h = inr (inl h.0)
-  lacks_clock kinds.Monotonic h = inr (inl h.0)
-  lacks_clock (kinds.Random n) h = absurd h.0
+  lacks_clock : (kind : Kind) → IsRefusedAmong asks kind → IsFor kind line.Clock
+      → LacksAnswerAt old asks failed'
+  lacks_clock kinds.Request r h = absurd h
+  lacks_clock kinds.Realtime r h = inr (inl (inl r, h.0))
+  lacks_clock kinds.Monotonic r h = inr (inl (inr r, h.0))
+  lacks_clock (kinds.Random n) r h = absurd h.0
 
-  lacks_words : (kind : Kind) → IsFor kind line.Words → LacksAnswerAt old kept failed'
-  lacks_words kinds.Request h = absurd h
-  lacks_words kinds.Realtime h = absurd h.0
-  lacks_words kinds.Monotonic h = absurd h.0
-  lacks_words (kinds.Random n) h = inr (inr (n, h.0))
+  lacks_words : (kind : Kind) → IsRefusedAmong asks kind → IsFor kind line.Words
+      → LacksAnswerAt old asks failed'
+  lacks_words kinds.Request r h = absurd h
+  lacks_words kinds.Realtime r h = absurd h.0
+  lacks_words kinds.Monotonic r h = absurd h.0
+  lacks_words (kinds.Random n) r h = inr (inr (n, r, h.0))
 
   -- the next line of a reader can't be taken
   abbrev IsBad : List ℕ → Type 0
   IsBad rest = BeginsWithOther rest
-      ⊎ BeginsWithLater (old.taken + length (requests_in kept)) rest
+      ⊎ BeginsWithLater (old.taken + length (requests_in (handed asks))) rest
 
-  meets_other : (kind : Kind) → IsFor kind line.Form → MeetsBadLineAt old kept failed'
-  meets_other kinds.Request h = (
-    up_to_map old.taken old.unread (requests_in kept) BeginsWithOther IsBad (λ rest is. inl is) h.0,
+  meets_other : (kind : Kind) → IsRefusedAmong asks kind → IsFor kind line.Form
+      → MeetsBadLineAt old asks failed'
+  meets_other kinds.Request r h = (
+    r,
+    up_to_map old.taken old.unread (requests_in (handed asks)) BeginsWithOther IsBad
+        (λ rest is. inl is) h.0,
     h.1,
   )
-  meets_other kinds.Realtime h = absurd h.0
-  meets_other kinds.Monotonic h = absurd h.0
-  meets_other (kinds.Random n) h = absurd h.0
+  meets_other kinds.Realtime r h = absurd h.0
+  meets_other kinds.Monotonic r h = absurd h.0
+  meets_other (kinds.Random n) r h = absurd h.0
 
-  meets_later : (number wanted : ℕ) (kind : Kind) → IsFor kind (line.Number number wanted)
-      → MeetsBadLineAt old kept failed'
-  meets_later number wanted kinds.Request h =
+  meets_later : (number wanted : ℕ) (kind : Kind) → IsRefusedAmong asks kind
+      → IsFor kind (line.Number number wanted) → MeetsBadLineAt old asks failed'
+  meets_later number wanted kinds.Request r h =
       let next = h.0 in
       let beyond = h.1 in
-      let later : (old.taken + length (requests_in kept)) + 1 < number =
+      let later : (old.taken + length (requests_in (handed asks))) + 1 < number =
       omega (arith, next, beyond) in (
-        up_to_map old.taken old.unread (requests_in kept) (BeginsWithNumber number) IsBad
-            (λ rest is. inr (number, later, is)) h.2,
+        r,
+        up_to_map old.taken old.unread (requests_in (handed asks)) (BeginsWithNumber number)
+            IsBad (λ rest is. inr (number, later, is)) h.2,
         h.3,
       )
-  meets_later number wanted kinds.Realtime h = absurd h.0
-  meets_later number wanted kinds.Monotonic h = absurd h.0
-  meets_later number wanted (kinds.Random n) h = absurd h.0
+  meets_later number wanted kinds.Realtime r h = absurd h.0
+  meets_later number wanted kinds.Monotonic r h = absurd h.0
+  meets_later number wanted (kinds.Random n) r h = absurd h.0
 
 -- ---- what is read off a life
 
@@ -117,14 +123,14 @@ module _ {D : Type 0} (medium : D → Medium) where
     abbrev Fails : (RecoverFault → Type 0) → Type 0
     Fails IsKind = FailsOnDisk medium given found last out out' failed' IsKind
 
-    abbrev Asks : (Standing → List Kept → Bool → Type 0) → Type 0
+    abbrev Asks : (Standing → List Ask → Bool → Type 0) → Type 0
     Asks Holds = AsksInVain medium given found last out out' failed' Holds
 
     -- a question was refused for this
     vain : (source' : Standing) (why : LineFault)
         → LivesOnDisk medium given (Err (recover.Worker (durable.Work work.Source))) found last out
         out' source' → source'.failed ≡ failed' → source'.fault ≡ Some why
-        → Asks (λ old kept failed. HasRefused old kept failed why)
+        → Asks (λ old asks failed. HasRefused old asks failed why)
     vain source' why lives heeded is = record {
       source' = source';
       lives = lives;
@@ -136,22 +142,22 @@ module _ {D : Type 0} (medium : D → Medium) where
             x.0,
             x.1,
             x.2,
-            subst (λ f. HasRefused (stands_behind given lives.worker) (handed (asks_of x.1)) f why)
+            subst (λ f. HasRefused (stands_behind given lives.worker) (asks_of x.1) f why)
                 heeded (refusals_have_reasons x.1 (stands_behind given lives.worker) source' x.0
                 out' why x.2 refl is),
           );
     }
 
     -- what follows from it
-    in_vain : (P Q : Standing → List Kept → Bool → Type 0)
-        → ((old : Standing) (kept : List Kept) → P old kept failed' → Q old kept failed')
+    in_vain : (P Q : Standing → List Ask → Bool → Type 0)
+        → ((old : Standing) (asks : List Ask) → P old asks failed' → Q old asks failed')
         → Asks P → Asks Q
     in_vain P Q f asks = record {
       source' = asks.source';
       lives = asks.lives;
       heeded = asks.heeded;
       behind = λ image leaves. let b = asks.behind image leaves in
-          (b.0, b.1, b.2, f (stands_behind given asks.lives.worker) (handed (asks_of b.1)) b.3);
+          (b.0, b.1, b.2, f (stands_behind given asks.lives.worker) (asks_of b.1) b.3);
     }
 
     -- ---- statuses
@@ -256,25 +262,25 @@ module _ {D : Type 0} (medium : D → Medium) where
       by_calling (durable.Work (work.Refused why)) f = three (f IsStuck tt)
 
       -- one of a request line
-      by_line : (why : LineFault) → Asks (λ old kept failed. HasRefused old kept failed why)
+      by_line : (why : LineFault) → Asks (λ old asked failed. HasRefused old asked failed why)
           → Says (status_on_disk (is_told.Line why))
       by_line line.Read asks =
-          four (inr (in_vain (λ old kept failed. HasRefused old kept failed line.Read) LacksAnswerAt
-          (λ old kept r. lacks_read old kept failed' r.kind r.reason) asks))
+          four (inr (in_vain (λ old asked failed. HasRefused old asked failed line.Read) LacksAnswerAt
+          (λ old asked r. lacks_read old asked failed' r.kind r.asked r.reason) asks))
       by_line line.Clock asks =
-          four (inr (in_vain (λ old kept failed. HasRefused old kept failed line.Clock)
-          LacksAnswerAt (λ old kept r. lacks_clock old kept failed' r.kind r.reason) asks))
+          four (inr (in_vain (λ old asked failed. HasRefused old asked failed line.Clock)
+          LacksAnswerAt (λ old asked r. lacks_clock old asked failed' r.kind r.asked r.reason) asks))
       by_line line.Words asks =
-          four (inr (in_vain (λ old kept failed. HasRefused old kept failed line.Words)
-          LacksAnswerAt (λ old kept r. lacks_words old kept failed' r.kind r.reason) asks))
+          four (inr (in_vain (λ old asked failed. HasRefused old asked failed line.Words)
+          LacksAnswerAt (λ old asked r. lacks_words old asked failed' r.kind r.asked r.reason) asks))
       by_line line.Memory asks = five (inr asks)
       by_line line.Form asks =
-          six (in_vain (λ old kept failed. HasRefused old kept failed line.Form) MeetsBadLineAt
-          (λ old kept r. meets_other old kept failed' r.kind r.reason) asks)
+          six (in_vain (λ old asked failed. HasRefused old asked failed line.Form) MeetsBadLineAt
+          (λ old asked r. meets_other old asked failed' r.kind r.asked r.reason) asks)
       by_line (line.Number number wanted) asks =
-          six (in_vain (λ old kept failed. HasRefused old kept failed (line.Number number wanted))
+          six (in_vain (λ old asked failed. HasRefused old asked failed (line.Number number wanted))
           MeetsBadLineAt
-          (λ old kept r. meets_later old kept failed' number wanted r.kind r.reason) asks)
+          (λ old asked r. meets_later old asked failed' number wanted r.kind r.asked r.reason) asks)
 
       -- that is said, or nothing can be
       said_as : (between : PrinterState) (status told : ℕ) → IsSaid told between status err'
@@ -289,7 +295,7 @@ module _ {D : Type 0} (medium : D → Medium) where
           → Says (status_on_disk told)
       by_told why told source' lives heeded (inl e) =
           subst (λ t. Says (status_on_disk t)) (sym e.0)
-          (by_calling why (λ IsKind is. calling why source' lives heeded is))
+          (by_calling why (λ IsKind is. calling why source' lives e.1 heeded is))
       by_told why told source' lives heeded (inr e) =
           subst (λ t. Says (status_on_disk t)) (sym e.3)
           (by_line e.0 (vain source' e.0

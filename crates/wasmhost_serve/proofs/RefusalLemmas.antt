@@ -12,7 +12,8 @@ use Rattle.wasmhost_serve.specs.declared.lines.fault.LineFault.{LineFault}
 use Rattle.wasmhost_serve.specs.rules.Outside.{ComeFrom, requests_in, words_of}
 use Rattle.wasmhost_serve.specs.rules.Requests.{GiveUpTo}
 use Rattle.wasmhost_serve.specs.rules.ServedOnDisk.{handing}
-use Rattle.wasmhost_serve.specs.rules.DiskCauses.{HasRefused, RefusalsHaveReasons}
+use Rattle.wasmhost_serve.specs.rules.DiskCauses.{IsRefusedAmong, HasRefused}
+use Rattle.wasmhost_serve.specs.rules.DiskCauses.{RefusalsHaveReasons}
 use Rattle.wasmhost_serve.specs.Lines.Answers.{Standing, HandsNext, HandsAnswer, LeavesFault}
 use Rattle.wasmhost_serve.specs.Lines.Answers.{IsRefusedFor}
 use Rattle.wasmhost_serve.proofs.AnsweredLemmas.{at_end}
@@ -77,9 +78,11 @@ stays_refused why (ask ∷ asks) s t is leads =
           others.2 ∙ stays.1,
         )
 
--- Behind these answers a question was refused, which has left this fault.
-record IsRefusedThere (s t : Standing) (kept : List Kept) (why : LineFault) : Type 0 where
+-- Behind these answers one of these questions was refused, which has left this fault.
+record IsRefusedThere (s t : Standing) (asks : List Ask) (kept : List Kept) (why : LineFault)
+    : Type 0 where
   kind : Kind
+  asked : IsRefusedAmong asks kind
   fault : SourceFault
   between : Standing
   after : Standing
@@ -88,15 +91,28 @@ record IsRefusedThere (s t : Standing) (kept : List Kept) (why : LineFault) : Ty
   left : after.fault ≡ Some why
   steady : t.failed ≡ after.failed
 
+-- one question more before them, whatever was said
+refused_later : (ask : Ask) (asks : List Ask) (kind : Kind) → IsRefusedAmong asks kind
+    → IsRefusedAmong (ask ∷ asks) kind
+refused_later ask asks kind r = record {
+  front = ask ∷ r.front;
+  back = r.back;
+  fault = r.fault;
+  is = ap (λ z. ask ∷ z) r.is;
+  unanswered = r.unanswered;
+}
+
 -- the first question is refused
 refused_now : (why : LineFault) (kind : Kind) (fault : SourceFault) (asks : List Ask)
     (s u t : Standing) → s.fault ≡ None → HandsNext kind s (Err fault) u
     → AnswersInOrder handing u asks t → t.fault ≡ Some why
-    → (handed asks ≡ []) × IsRefusedThere s t [] why
+    → (handed asks ≡ [])
+    × IsRefusedThere s t (record { kind = kind; said = Err fault } ∷ asks) [] why
 refused_now why kind fault asks s u t none hands leads is = by_left u.fault refl
   where
     by_left : (left : Option LineFault) → u.fault ≡ left
-        → (handed asks ≡ []) × IsRefusedThere s t [] why
+        → (handed asks ≡ [])
+        × IsRefusedThere s t (record { kind = kind; said = Err fault } ∷ asks) [] why
     by_left None e =
         absurd (refused_so s s u [] (answered_nothing s none) kind fault e hands)
     by_left (Some first) e =
@@ -104,6 +120,13 @@ refused_now why kind fault asks s u t none hands leads is = by_left u.fault refl
           stays.0,
           record {
             kind = kind;
+            asked = record {
+              front = [];
+              back = asks;
+              fault = fault;
+              is = refl;
+              unanswered = stays.0;
+            };
             fault = fault;
             between = s;
             after = u;
@@ -116,7 +139,7 @@ refused_now why kind fault asks s u t none hands leads is = by_left u.fault refl
 
 refused_there : (why : LineFault) (asks : List Ask) (s t : Standing) → s.fault ≡ None
     → AnswersInOrder handing s asks t → t.fault ≡ Some why
-    → IsRefusedThere s t (handed asks) why
+    → IsRefusedThere s t asks (handed asks) why
 refused_there why [] s t none leads is =
     let same = ap (λ (z : Standing). z.fault) leads in absurd (cc)
 refused_there why (ask ∷ asks) s t none leads is =
@@ -125,15 +148,18 @@ refused_there why (ask ∷ asks) s t none leads is =
     u : Standing
     u = leads.0
 
-    by_said : (u.fault ≡ None → IsRefusedThere u t (handed asks) why)
+    by_said : (u.fault ≡ None → IsRefusedThere u t asks (handed asks) why)
         → (said : Result (Option Answer) SourceFault) → ask.said ≡ said
-        → HandsNext ask.kind s ask.said u → IsRefusedThere s t (handed (ask ∷ asks)) why
+        → HandsNext ask.kind s ask.said u
+        → IsRefusedThere s t (ask ∷ asks) (handed (ask ∷ asks)) why
     by_said more (Ok (Some a)) e hands =
         let h : HandsAnswer ask.kind s (Some a) u =
         subst (λ r. HandsNext ask.kind s r u) e hands in
         let r = more h.unspoilt in
-        subst (λ z. IsRefusedThere s t (handed_by z ++ handed asks) why) (sym e) (record {
+        subst (λ z. IsRefusedThere s t (ask ∷ asks) (handed_by z ++ handed asks) why) (sym e)
+        (record {
           kind = r.kind;
+          asked = refused_later ask asks r.kind r.asked;
           fault = r.fault;
           between = r.between;
           after = r.after;
@@ -146,8 +172,10 @@ refused_there why (ask ∷ asks) s t none leads is =
         let h : HandsAnswer ask.kind s None u =
         subst (λ r. HandsNext ask.kind s r u) e hands in
         let r = more h.unspoilt in
-        subst (λ z. IsRefusedThere s t (handed_by z ++ handed asks) why) (sym e) (record {
+        subst (λ z. IsRefusedThere s t (ask ∷ asks) (handed_by z ++ handed asks) why) (sym e)
+        (record {
           kind = r.kind;
+          asked = refused_later ask asks r.kind r.asked;
           fault = r.fault;
           between = r.between;
           after = r.after;
@@ -160,19 +188,23 @@ refused_there why (ask ∷ asks) s t none leads is =
         let h : HandsNext ask.kind s (Err fault) u =
         subst (λ r. HandsNext ask.kind s r u) e hands in
         let r = refused_now why ask.kind fault asks s u t none h leads.2 is in
-        subst (λ z. IsRefusedThere s t (handed_by z ++ handed asks) why) (sym e)
-        (subst (λ z. IsRefusedThere s t z why) (sym r.0) r.1)
+        let same : record { kind = ask.kind; said = Err fault } ≡ ask =
+        ap (λ z. record { kind = ask.kind; said = z }) (sym e) in
+        subst (λ z. IsRefusedThere s t (ask ∷ asks) (handed_by z ++ handed asks) why) (sym e)
+        (subst (λ z. IsRefusedThere s t (ask ∷ asks) z why) (sym r.0)
+        (subst (λ z. IsRefusedThere s t (z ∷ asks) [] why) same r.1))
 
-reason_of : (s t : Standing) (kept : List Kept) (why : LineFault) → IsRefusedThere s t kept why
-    → HasRefused s kept t.failed why
-reason_of s t kept why r = record {
+reason_of : (s t : Standing) (asks : List Ask) (why : LineFault)
+    → IsRefusedThere s t asks (handed asks) why → HasRefused s asks t.failed why
+reason_of s t asks why r = record {
   kind = r.kind;
-  reason = subst (λ f. IsRefusedFor r.kind s.outside (s.place + words_of kept) s.taken s.unread
-      (requests_in kept) s.failed f why) (sym r.steady)
-      (refused_for s r.between r.after kept r.before r.kind r.fault why r.left r.hands);
+  asked = r.asked;
+  reason = subst (λ f. IsRefusedFor r.kind s.outside (s.place + words_of (handed asks)) s.taken
+      s.unread (requests_in (handed asks)) s.failed f why) (sym r.steady)
+      (refused_for s r.between r.after (handed asks) r.before r.kind r.fault why r.left r.hands);
 }
 
 pub refusals_have_reasons : RefusalsHaveReasons
 refusals_have_reasons exchanges source source' out out' why exchanged none is =
-    reason_of source source' (handed (asks_of exchanges)) why
+    reason_of source source' (asks_of exchanges) why
     (refused_there why (asks_of exchanges) source source' none exchanged.asked is)

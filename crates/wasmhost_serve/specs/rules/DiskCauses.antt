@@ -1,12 +1,13 @@
 -- What each exit status of a run on a disk comes from (this project's own).
-use Rattle.std.specs.Prelude.{◌≡◌, ◌≢◌, ◌⊎◌, ℕ, ◌+◌, ◌≤◌, ◌^◌, ⊤, Bool, true, List, [], length}
-use Rattle.std.specs.Prelude.{Option, Some, None, Ok, Err}
+use Rattle.std.specs.Prelude.{◌≡◌, ◌≢◌, ◌⊎◌, ℕ, ◌+◌, ◌≤◌, ◌^◌, ⊤, Bool, true, List, [], ◌∷◌}
+use Rattle.std.specs.Prelude.{◌++◌, length, Option, Some, None, Ok, Err}
 use Rattle.wasi_abi.specs.declared.answer.Kind.{Kind}
-use Rattle.process_rules.specs.Runs.{Kept}
+use Rattle.wasi_abi.specs.declared.answer.Kind.TheVariants as kinds
 use Rattle.sector_disk.specs.rules.Image.{Image}
 use Rattle.sector_disk.specs.rules.Medium.{Medium}
 use Rattle.sector_disk.specs.declared.fault.DiskFault.TheVariants as disk
-use Rattle.record_replay.specs.rules.Calls.{Exchange, Exchanges, asks_of}
+use Rattle.record_replay.specs.declared.fault.SourceFault.{SourceFault}
+use Rattle.record_replay.specs.rules.Calls.{Ask, Exchange, Exchanges, asks_of}
 use Rattle.worker.specs.declared.fault.WorkFault.TheVariants as work
 use Rattle.worker.specs.declared.now.Now.{Now}
 use Rattle.worker.specs.declared.now.Now.TheVariants.{Spent}
@@ -29,38 +30,53 @@ use Rattle.wasmhost_serve.specs.rules.ServedOnDisk.{ServesOnDisk, recovered_line
 
 -- ---- a source that refuses
 
--- A question behind these answers was refused for this, by a source that had stood here.
-pub record HasRefused (old : Standing) (kept : List Kept) (failed' : Bool) (why : LineFault)
+-- One of these questions was refused, and was of this kind. None behind it was answered.
+pub record IsRefusedAmong (asks : List Ask) (kind : Kind) : Type 0 where
+  pub front : List Ask
+  pub back : List Ask
+  pub fault : SourceFault
+  pub is : asks ≡ front ++ (record { kind = kind; said = Err fault } ∷ back)
+  pub unanswered : handed back ≡ []
+
+-- One of these questions was refused for this, behind all answers of a source that had stood here.
+pub record HasRefused (old : Standing) (asks : List Ask) (failed' : Bool) (why : LineFault)
     : Type 0 where
   pub kind : Kind
-  pub reason : IsRefusedFor kind old.outside (old.place + words_of kept) old.taken old.unread
-      (requests_in kept) old.failed failed' why
+  pub asked : IsRefusedAmong asks kind
+  pub reason : IsRefusedFor kind old.outside (old.place + words_of (handed asks)) old.taken
+      old.unread (requests_in (handed asks)) old.failed failed' why
 
 -- Whatever a source and an outlet of the program have exchanged: where the source had no fault and
--- now has one, a question behind all answers was refused for it.
+-- now has one, one of its questions was refused for it.
 abbrev pub RefusalsHaveReasons : Type 0
 RefusalsHaveReasons = (exchanges : List Exchange) (source source' : Standing)
     (out out' : Option (List ℕ)) (why : LineFault)
     → Exchanges handing printing source out exchanges source' out' → source.fault ≡ None
     → source'.fault ≡ Some why
-    → HasRefused source (handed (asks_of exchanges)) source'.failed why
+    → HasRefused source (asks_of exchanges) source'.failed why
 
--- Behind these answers one was refused for want of memory.
-abbrev pub LacksMemoryAt : Standing → List Kept → Bool → Type 0
-LacksMemoryAt old kept failed' = HasRefused old kept failed' line.Memory
+-- One of these questions was refused for want of memory.
+abbrev pub LacksMemoryAt : Standing → List Ask → Bool → Type 0
+LacksMemoryAt old asks failed' = HasRefused old asks failed' line.Memory
 
--- Behind these answers the next line can't be taken: it is no request line, or that of a request
--- beyond the next one.
-abbrev pub MeetsBadLineAt : Standing → List Kept → Bool → Type 0
-MeetsBadLineAt old kept failed' = GiveUpTo old.taken old.unread (requests_in kept)
-    (λ rest. BeginsWithOther rest ⊎ BeginsWithLater (old.taken + length (requests_in kept)) rest)
+-- A request was asked for. Behind the answers to these questions the next line can't be taken: it
+-- is no request line, or that of a request beyond the next one.
+abbrev pub MeetsBadLineAt : Standing → List Ask → Bool → Type 0
+MeetsBadLineAt old asks failed' = IsRefusedAmong asks kinds.Request
+    × GiveUpTo old.taken old.unread (requests_in (handed asks))
+    (λ rest. BeginsWithOther rest
+    ⊎ BeginsWithLater (old.taken + length (requests_in (handed asks))) rest)
     × (failed' ≡ old.failed)
 
--- Behind these answers none is to be had. The reader has failed; the machine's clock can't be read,
--- and no time is fixed; or the words of the seed can't be counted further.
-abbrev pub LacksAnswerAt : Standing → List Kept → Bool → Type 0
-LacksAnswerAt old kept failed' = (failed' ≡ true) ⊎ (old.outside.clock ≡ None)
-    ⊎ ((n : ℕ) × (2 ^ 64 ≤ old.place + words_of kept + words_for n))
+-- A request was asked for, and the reader has failed. Or a time was asked for, where the machine's
+-- clock can't be read and no time is fixed. Or so many random bytes were asked for that the words
+-- of the seed can't be counted as far.
+abbrev pub LacksAnswerAt : Standing → List Ask → Bool → Type 0
+LacksAnswerAt old asks failed' = (IsRefusedAmong asks kinds.Request × (failed' ≡ true))
+    ⊎ ((IsRefusedAmong asks kinds.Realtime ⊎ IsRefusedAmong asks kinds.Monotonic)
+    × (old.outside.clock ≡ None))
+    ⊎ ((n : ℕ) × IsRefusedAmong asks (kinds.Random n)
+    × (2 ^ 64 ≤ old.place + words_of (handed asks) + words_for n))
 
 -- ---- faults of a recovery or of a call
 
@@ -107,17 +123,19 @@ module _ {D : Type 0} (medium : D → Medium) (given : DiskJob) (found last : D)
     pub told : TellsPerson (recovered_line lives.worker) err between
     pub printed : IsPrinted between err' (last_words (ended_by now))
 
-  -- The recovery has failed, or a call of the life, by a fault of this kind.
+  -- The recovery has failed, or a call of the life, by a fault of this kind. Where that is the
+  -- source's, it isn't one of a request line.
   pub data FailsOnDisk (IsKind : RecoverFault → Type 0) : Type 0 where
     opening : (why : RecoverFault) → IsUnopenedRun medium why found last out out'
         → failed' ≡ given.failed → IsKind why → FailsOnDisk IsKind
     calling : (why : DurableFault) (source' : Standing)
         → LivesOnDisk medium given (Err (recover.Worker why)) found last out out' source'
-        → source'.failed ≡ failed' → IsKind (recover.Worker why) → FailsOnDisk IsKind
+        → (why ≡ durable.Work work.Source → source'.fault ≡ None) → source'.failed ≡ failed'
+        → IsKind (recover.Worker why) → FailsOnDisk IsKind
 
   -- A call of the life has failed since the source refused a question. If the answers of the disk
   -- fit an image, this holds behind all that source and outlet have exchanged in the life.
-  pub record AsksInVain (Holds : Standing → List Kept → Bool → Type 0) : Type 0 where
+  pub record AsksInVain (Holds : Standing → List Ask → Bool → Type 0) : Type 0 where
     pub source' : Standing
     pub lives : LivesOnDisk medium given (Err (recover.Worker (durable.Work work.Source))) found
         last out out' source'
@@ -125,7 +143,7 @@ module _ {D : Type 0} (medium : D → Medium) (given : DiskJob) (found last : D)
     pub behind : (image : Image) → (medium lives.opening).may_leave image
         → (begun : Option (List ℕ)) × (exchanges : List Exchange)
         × Exchanges handing printing (stands_behind given lives.worker) begun exchanges source' out'
-        × Holds (stands_behind given lives.worker) (handed (asks_of exchanges)) failed'
+        × Holds (stands_behind given lives.worker) (asks_of exchanges) failed'
 
   -- 0: it is over. 3: the disk shows no worker that can go on, or a number is at its end. 4: the
   -- disk or the source has failed. 5: memory was refused. 6: the next line is refused. 7: a line of
