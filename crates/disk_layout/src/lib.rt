@@ -3,10 +3,13 @@
 //!
 //! # Promises
 //!
-//! - `Geometry` gives the places and sizes of the definitions: heads, areas, journal, and the
-//!   whole.
-//! - `Super`, `Head`, `Stamp`, `journal_sector` and `record_head` are laid out byte by byte as
-//!   defined. Their readers give the fields that the definitions read.
+//! - `Geometry::of` gives the places and sizes of the definitions. `head_place`, `area_place`,
+//!   `journal_place` and `total_sectors` are those of heads, areas, journal, and the whole.
+//! - `Super`, `Head`, `Stamp`, `journal_sector`, `record_head` and `clock_bytes` are laid out byte
+//!   by byte as defined. Their readers give the fields that the definitions read: `read`,
+//!   `shown_at`, `is_complete`, `is_of`, `used_length`, `payload_length`, `record_step`,
+//!   `clock_from`, `u16_from` and `u32_from`. `digest_of` is the SHA-256 of configuration and
+//!   module.
 //! - `write_super`, `write_contents`: a cut at any moment leaves of each sector some front, and
 //!   all others as they were (`any_moment`). An error says that the disk failed, or had no room
 //!   for the writes (`cause`). There are never more unsynced writes than before and these
@@ -18,8 +21,11 @@
 //! - `config_bytes_of` gives a configuration's bytes. `config_from` finds the configuration that
 //!   any bytes spell, or that there is none.
 //! - `read_contents` reads configuration and module back, or says why it can't (`gives`).
-//! - `laws`: torn stamps, fields that are read back, one right answer of a disk, heads that are
-//!   complete. Also what each number and mark is (`layout_numbers_are`), and worked examples.
+//! - `laws`: torn stamps, fields that are read back, heads that are complete (`torn_stamps`,
+//!   `fields_are_read_back`, `heads_are_complete`). A configuration has bytes of its own
+//!   (`one_spelling`), and of a disk one answer is right (`one_answer`). What is written is what is
+//!   held and read (`contents_are_held`, `what_is_written_is_read`). Also what each number and mark
+//!   is (`layout_numbers_are`), and `worked_examples`.
 //!
 //! # Definitions to read
 //!
@@ -31,10 +37,10 @@
 //! # Who may touch what
 //!
 //! The marks, and the places of fields in supers, heads and stamps, are known here alone, each as
-//! one constant.
-//! `journal`, `snapshot` and the definitions of `worker_rules` use it. It stands on `sector_disk`
-//! and `wasi_abi`. Reading back and `config_bytes_of` take memory. Whatever fails, a read leaves
-//! the disk unwritten.
+//! one constant, as `IMAGE_VERSION` and `LONGEST_PAYLOAD`. `journal`, `snapshot` and `worker_store`
+//! use it, and `record_replay` its `Record`. `worker_rules` cites the definitions. It stands on
+//! `sector_disk` and `wasi_abi`. Reading back and `config_bytes_of` take memory. Whatever fails, a
+//! read leaves the disk unwritten.
 #![tactic(auto)]
 
 mod configuration;

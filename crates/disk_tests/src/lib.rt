@@ -1,5 +1,6 @@
-//! What tests alone can show of the layers of a worker's disk: sectors that are cut, stopped and
-//! failed, super and heads as literal bytes, journals and snapshots after a stop at each disk call.
+//! What tests alone can show of the layers of a worker's disk. Sectors are cut, stopped and failed.
+//! Super and heads are compared with literal bytes. Journals and snapshots are stopped at each call
+//! of the disk.
 //!
 //! Each test is a table of rows whose expected values come from outside. Those that take memory
 //! return their error, so that `scripts/refused-allocations` can refuse each allocation in turn.

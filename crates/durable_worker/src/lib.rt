@@ -1,4 +1,4 @@
-//! A worker on its disk (this project's own): its answers are recorded, its lines are released
+//! A worker on its disk (this project's own). Its answers are recorded, its lines are released
 //! behind a barrier, and its process is saved from time to time. `DurableWorker::create` makes one,
 //! and `DurableWorker::recover` one that a disk stands for. What is proved of the other calls holds
 //! of any that is open on its disk (`IsOpenOn`).
@@ -24,8 +24,8 @@
 //!   are told, and how many records lie behind it; or an error that says nothing of them.
 //! - `carries` speaks of a disk whose answers fit an image in the end: of another one nothing is
 //!   known. Want of memory may end a recovery anywhere.
-//! - `DurableWorker::slice` runs as `worker: Worker::slice` does (`done`). Whatever was promised
-//!   of the worker that is open on its disk is kept (`carries`): its exchanges, and its end by Ok
+//! - `DurableWorker::slice` runs as `worker: Worker::slice` does (`done`). Whatever was promised of
+//!   the worker that is open on its disk is kept (`carries`). For its exchanges, and its end by Ok
 //!   or by any error, are events that keep it. A cut at any moment leaves what holds all that was
 //!   promised before. Without an error the worker is open on the disk again.
 //! - Where a slice fails, it has run so far as `worker: Worker::slice` does, and it stops at what
@@ -34,11 +34,15 @@
 //! - `DurableWorker::checkpoint` keeps it too (`carries`), and after its Ok no later life comes
 //!   behind it (`saved`). Its calls of the disk are told (`calls`), and each error has its cause
 //!   (`cause`).
-//! - No image that a cut leaves is of a later generation than as much has happened, and the disk
-//!   has all sectors of its worker (`carries`, and `laws::open_workers_keep_bounds`).
+//! - No image that a cut leaves is of a later generation than as much has happened. The disk has
+//!   all sectors of its worker (`carries`, and `laws::open_workers_keep_bounds`).
+//! - `laws::calls_make_lives`: the calls of one life make one that goes on from all that was
+//!   promised. `laws::uncut_lives_go_on`: where the power isn't cut in it, its outlet has taken
+//!   each line, or it ended by one that was refused. `laws::lives_end_as_said`: where no call has
+//!   failed either, it has ended or waits as its last slice says.
 //! - After an error no call does anything (`fails`, `refused`).
-//! - `story` (module `story`) runs any list of lives on one disk in memory, with a cut of the power
-//!   or an error behind each, and tells them (`TellsLives`).
+//! - `story` (module `story`) runs any list of lives on one disk in memory, and tells them
+//!   (`TellsLives`). Behind each comes a cut of the power, or an error.
 //!
 //! # Definitions to read
 //!

@@ -8,7 +8,8 @@
 //! - `is_directory`, `size`, `used_bytes`, `chunks`, `has_node`, `has_path`, `child`, `entry`,
 //!   `entry_count`, `is_empty`, `is_within`, `number_at`, `next` and `len` answer what the
 //!   definitions do. `entry` goes by the order of names, `number_at` by rising numbers.
-//! - `chunk` lends the bytes of a file that lie in one of its chunks.
+//! - `entry_after` is the entry behind a name, whether or not an entry has that (`after`, `next`,
+//!   `first`). `chunk` lends the bytes of a file that lie in one of its chunks.
 //! - `parent` gives the directory above a node (`above`), or says that there is none (`none`).
 //!   `name` gives the last name of its path (`last`). `read` copies as many bytes as there are and
 //!   fit (`bytes`).
@@ -19,13 +20,16 @@
 //!   first.
 //! - By `create_removed`, `hang` and `raise_next` a tree is built anew from what was told of it.
 //!   Laws say what each leaves of entries and bytes (`laws::hanging_adds_an_entry`,
-//!   `laws::others_keep_entries`, `laws::entries_come_in_order`, `laws::filled_files`), that
-//!   entries tell paths (`laws::entries_tell_paths`), and that a tree of the same nodes and entries
-//!   is the same one (`laws::entries_tell_files`).
+//!   `laws::others_keep_entries`, `laws::entries_come_in_order`, `laws::filled_files`).
+//! - `laws::entries_tell_paths`, `laws::children_are_listed`, `laws::entries_differ`: entries tell
+//!   paths, and names lead to nodes. `laws::entries_tell_files`: a tree of the same nodes and
+//!   entries is the same one.
 //! - Files lie in chunks of 4,096 bytes, as many as their bytes need. `chunks` counts them.
 //! - Whoever changes a tree has tested first what the `requires` clauses ask, as `free` and
 //!   `room`.
 //! - `laws::renaming_moves_a_subtree`: a rename moves what lies below a path, and no other path.
+//! - `limits` has the numbers that code and definitions share, as `NODES` and `FILE_BYTES`
+//!   (`laws::file_limits_are`). `NodeKind` is a directory or a file.
 //!
 //! # Definitions to read
 //!
@@ -38,13 +42,12 @@
 //!
 //! # Who may touch what
 //!
-//! Only this crate knows that nodes lie in a slab with two orders beside it, by number and by name,
-//! that each names its directory by number, and that a file's bytes lie in chunks, which the file
-//! owns.
-//! `wasi_calls_rules`, `wasi_calls`, `process_rules` and `state_image` use its definitions. No
-//! crate of this repository calls the code yet, and it stands on none. `new`, `create`,
-//! `create_removed`, `resize` and `ByteList::copy_of` take memory, and want of it is the only
-//! error.
+//! Only this crate knows that nodes lie in a slab, with two orders beside it, by number and by
+//! name. Each node names its directory by number. A file's bytes lie in chunks, which the file
+//! owns. `wasi_calls` changes a tree, and `state_image` reads one and builds it anew. They,
+//! `process_rules` and `wasi_calls_rules` cite the definitions. The crate stands on no other one of
+//! this repository. `new`, `create`, `create_removed`, `resize` and `ByteList::copy_of` take
+//! memory, and want of it is the only error.
 #![tactic(auto)]
 
 mod children;

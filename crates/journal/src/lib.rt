@@ -31,7 +31,7 @@
 //! # Who may touch what
 //!
 //! Only this crate knows which bytes wait for a barrier. It is handed the disk at each call, and
-//! keeps none. It stands on `disk_layout` and `sector_disk`. `append` and
+//! keeps none. `worker_store` uses it. It stands on `disk_layout` and `sector_disk`. `append` and
 //! `scan` take memory, `fresh` and `barrier` take none (`no_memory`). A failed barrier leaves its
 //! records in memory (`err`), and of the disk what `any_moment` says.
 #![tactic(auto)]

@@ -14,15 +14,15 @@
 //!   asks for, or that it asks for nothing. `has_ended` tells whether the program is over. Neither
 //!   runs anything.
 //! - `stop` drops the thread. What was shown is shown without it (`stops`).
-//! - `globals`, `frame_count`, `place` and `is_starting` tell what a machine shows beside memory:
-//!   the numbers of the globals, the frames from the outermost one in, and whether `_start` is
-//!   still to be called. None of them runs anything or takes memory.
+//! - `globals`, `frame_count`, `place` and `is_starting` tell what a machine shows beside memory.
+//!   That is the numbers of the globals, the frames from the outermost one in, and whether `_start`
+//!   is still to be called. None of them runs anything or takes memory.
 //! - `slot_count`: how many slots the frames have together, at most 69,632 (`count`, `bound`).
 //! - `into_loading` takes frames, slots, globals and calls to come away, so that others can be put
-//!   in their place: `push_frame` and `push_slot` from the outermost frame in, `push_global`,
-//!   `push_start` and `set_memory`. Each does exactly that (`pushed`, `set`), or changes nothing
-//!   (`kept`). `Unfit` is told at once where there is no room (`full`), or no such function or
-//!   memory (`none`, `refused`).
+//!   in their place. `push_frame` and `push_slot` do so from the outermost frame in, and so do
+//!   `push_global`, `push_start` and `set_memory`. Each does exactly that (`pushed`, `set`), or
+//!   changes nothing (`kept`). `Unfit` is told at once where there is no room (`full`), or no such
+//!   function or memory (`none`, `refused`).
 //! - `finish` of `Loading` gives the machine with these parts (`same`), which then shows some
 //!   configuration (`shows`). `Unfit` comes only where they show none (`refused`). Types, heights
 //!   and calls that wait are those of typing at each frame's position.
@@ -33,7 +33,8 @@
 //! - `laws`: a machine shows one configuration at most (`shows_one`). Two machines that show one
 //!   configuration have one value, and run to one value again (`run_alike`). While a call waits
 //!   memory may be written (`memory_may_be_written`). No call of the host is an entry
-//!   (`no_call_is_an_entry`).
+//!   (`no_call_is_an_entry`). The host's functions have the first numbers
+//!   (`functions_are_numbered`).
 //!
 //! # Definitions to read
 //!
@@ -49,8 +50,8 @@
 //! No code but this crate's and that of `machine_frame`, `machine_slots` and `machine_jumps`
 //! changes frames, slots or positions. Callers have `Machine`, `Pause`, `HostCall` with its
 //! `Arguments`, and `FramePlace`, which lends a frame. `machine_loader`, `process` and
-//! `worker` use it. `link` takes all memory that running needs, and translates bodies into forms;
-//! where it fails the module is gone. The other calls take none and have no errors.
+//! `state_image` use it. `link` takes all memory that running needs, and translates bodies into
+//! forms; where it fails the module is gone. The other calls take none and have no errors.
 #![tactic(auto)]
 
 mod frames;

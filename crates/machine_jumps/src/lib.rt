@@ -1,5 +1,5 @@
 //! The branch table of a function's body: where execution goes on after each branch, `if` and
-//! `else`, and which values it keeps. It does what sections 4.4.5 and 4.4.8 of the Core
+//! `else`, and which values it keeps. It does what sections 4.4.5 and 4.4.6 of the Core
 //! Specification 1.0 say, without labels at run time.
 //!
 //! # Promises
@@ -23,10 +23,10 @@
 //!
 //! # Who may touch what
 //!
-//! Only this crate knows how jumps are stored and found. `machine` makes and reads tables, and
-//! `machine_frame` cites the definitions. It stands on `wasm_validate`, for what typing looks up
-//! and for the stack that a walk uses. `branch_table` takes memory, and want of it is its only
-//! error. Looking up a jump takes none.
+//! Only this crate knows how jumps are stored and found. `machine` makes tables, and
+//! `machine_frame` reads them. It stands on `wasm_validate`, for what typing looks up and for the
+//! stack that a walk uses. `branch_table` takes memory, and want of it is its only error. Looking
+//! up a jump takes none.
 #![tactic(auto)]
 
 mod body;

@@ -8,14 +8,18 @@
 //!   its trap is answered. An instruction that leads elsewhere changes nothing (`HasEffect`). It
 //!   asks for room for one word more, and for a frame that has its operands (`room`, `ready`).
 //! - `Slots` is a list of words, the top first. `push`, `pop`, `top`, `get`, `set`, `truncate`,
-//!   `fall` and `push_zeros` do to that list what their clauses say.
-//! - Each kind of instruction has its own call, as `load` or `apply_binary`. That does to the
-//!   words on top what the definitions say, or names the trap.
+//!   `fall`, `push_zeros`, `raise` and `from_mut` do to that list what their clauses say.
+//! - Each kind of instruction has its own call. That does to the words on top what the definitions
+//!   say, or names the trap (`EffectOutcome`). They are `eqz`, `apply_unary`, `apply_binary`,
+//!   `apply_comparison`, `apply_conversion`, `constant`, `drop_top`, `select`, `local_get`,
+//!   `local_set`, `local_tee`, `global_get`, `global_set`, `load`, `store`, `memory_size` and
+//!   `memory_grow`.
 //! - `typed_frames_are_ready`: a typed frame that is shown has the operands of its instruction.
 //! - `words_are_slots`, `jumps_are_falls`: words and slots are the same list in either order, and
 //!   branches, returns and entries are moves of words.
 //! - `shapes_tell_positions`: no two positions of a body have one shape, so that what stands in a
 //!   frame tells its position.
+//! - `limits` has the limits of the stack, and `SLOTS` is how many words there is room for.
 //!
 //! # Definitions to read
 //!
@@ -26,8 +30,8 @@
 //!
 //! # Who may touch what
 //!
-//! Only this crate knows that the words lie in one vector of fixed size. `machine` uses it;
-//! `machine_frame` and `state_image` cite its definitions. It stands on `int_ops` and
+//! Only this crate knows that the words lie in one vector of fixed size. `machine` and
+//! `machine_frame` use it, and `state_image` cites its definitions. It stands on `int_ops` and
 //! `guest_memory`. `Slots::new` takes all memory. Want of it is the only error beside traps, which
 //! leave globals and memory as they were.
 #![tactic(auto)]

@@ -32,10 +32,10 @@
 //! # Who may touch what
 //!
 //! Only this crate puts the machine and its host together, and lends the guest's memory to a call.
-//! `worker` uses it, and `wasmhost_serve` and `state_image` read what it holds. It stands on
-//! `machine`, `wasi_calls` and `process_rules`. `start` takes all memory that the machine needs.
-//! Later only a step of the host's calls takes any. After an error the process is as it was after
-//! its last whole step.
+//! `record_replay`, `worker` and `durable_worker` run it. `state_image` reads what it holds, and
+//! makes it again of its parts. It stands on `machine`, `wasi_calls` and `process_rules`. `start`
+//! takes all memory that the machine needs. Later only a step of the host's calls takes any. After
+//! an error the process is as it was after its last whole step.
 #![tactic(auto)]
 
 mod answering;

@@ -11,9 +11,9 @@
 //!   line (`emit`).
 //! - `reached_processes_have_hosts`: what a valid module reaches has a host, and host and memory
 //!   hold bytes, where the configuration's texts are bytes.
-//! - `reached_hosts_are_bounded`: a reached host is configured as at the beginning (`configured`),
-//!   has one node a step at most, beside the root (`few`), and one request at most that waits to
-//!   be read (`input`).
+//! - `reached_hosts_are_bounded`: a reached host is configured as at the beginning (`configured`).
+//!   It has one node a step at most, beside the root (`few`). One request at most waits to be read
+//!   (`input`).
 //! - `reached_processes_are_counted`: a reached process has counted its steps and its answers, one
 //!   a step at most (`counted`). It has ended exactly where its program has (`closed`).
 //! - `reached_processes_are_typed`: what a valid module reaches that can be linked is typed and

@@ -1,7 +1,7 @@
-//! What tests alone can show of the program's commands: the words of the command line, the lines in
-//! and out, what `check` prints of modules and `show` of disks, what a creation prints and tells,
-//! and what `run` prints, tells and exits with, also of a worker on its disk. Also, how a worker
-//! that asks takes its answers, and that its slices may be cut anywhere.
+//! What tests alone can show of the program's commands. They are of the words of the command line,
+//! and of the lines in and out. They show what `check` prints of modules and `show` of disks, and
+//! what a creation prints and tells. They show what `run` prints, tells and exits with, also of a
+//! worker on its disk. A worker that asks takes its answers, and its slices may be cut anywhere.
 //!
 //! Each test is a table of rows whose expected values come from outside. Those that take memory
 //! return their error, so that `scripts/refused-allocations` can refuse each allocation in turn.

@@ -9,9 +9,10 @@
 //!   (`calls`).
 //! - `MemDisk` answers exactly as its state says (`answer`, `done`). `cut` leaves the told front
 //!   of each write since the last good sync (`cut`). Each image that a cut may leave is had so
-//!   (`every`).
+//!   (`every`). `unsynced_count` is how many such writes there were.
 //! - `FaultDisk` stops or fails at the call that it is told (`trouble`, `stops`, `fails`), and
-//!   hands all others on (`passed_on`).
+//!   hands all others on (`passed_on`). `has_left_front` says whether it stopped within a
+//!   write, and `into_inner` gives the disk below.
 //! - `FileDisk` logs each call that it made of its file, with the answer. After a write or a sync
 //!   that failed every call answers `Io`, and the file isn't asked (`logged`). `create` gives a
 //!   disk of so many sectors (`sectors`). It and `open` begin with an empty log (`fresh`), and
@@ -24,24 +25,25 @@
 //!   leaves of each some front (`any_moment`). After Ok each cut leaves all of them (`stored`).
 //!   There are never more unsynced writes than before and these (`counts`). They are written in
 //!   rising order, and `store_run` then syncs once (`calls`).
-//! - `laws`: how many bytes a sector has (`sector_size_is`), and worked examples.
+//! - `laws`: how many bytes a sector has (`sector_size_is`, of `SECTOR_SIZE`), and
+//!   `worked_examples`.
 //!
 //! # Definitions to read
 //!
 //! In `specs/rules/`: `Image`, `with_front`, `IsTorn` (`Image.antt`); `Medium`, `LeavesOnly`,
 //! `Reads`, `Writes`, `SyncsMedium`, `MakesCalls` (`Medium.antt`); `rising_writes`
-//! (`Calls.antt`); `IsTornRun` (`Run.antt`); `AddsNothing` (`Rewrite.antt`); the state of a
-//! `MemDisk` (`Memory.antt`, `Pending.antt`), of a `FaultDisk` (`Trouble.antt`,
-//! `FaultDisk.antt`) and of a `FileDisk` (`Answered.antt`, `Counts.antt`, `File.antt`); which
-//! error of the operating system is which cause (`Open.antt`).
+//! (`Calls.antt`); `IsTornRun` (`Run.antt`); `AddsNothing` (`Rewrite.antt`). Three disks have a
+//! state: `MemDisk` (`Memory.antt`, `Pending.antt`), `FaultDisk` (`Trouble.antt`,
+//! `FaultDisk.antt`) and `FileDisk` (`Answered.antt`, `Counts.antt`, `File.antt`). Which error of
+//! the operating system is which cause stands in `Open.antt`.
 //!
 //! # Who may touch what
 //!
-//! What a cut may leave is defined here alone. `disk_layout`, `journal` and `snapshot` use any
-//! `Disk`. The crate stands on no other one of this repository. A `MemDisk` takes memory in `new`
-//! and `cut` alone. That a file behaves as a disk of the model is a premise: of one that doesn't,
-//! clauses say nothing. A file is locked as long as its `FileDisk` lives, so that no second host
-//! reads or writes it.
+//! What a cut may leave is defined here alone. All crates above that write on a disk use any
+//! `Disk`, and `wasmhost` opens a `FileDisk`. The crate stands on no other one of this repository.
+//! A `MemDisk` takes memory in `new` and `cut` alone. That a file behaves as a disk of the model is
+//! a premise: of one that doesn't, clauses say nothing. A file is locked as long as its `FileDisk`
+//! lives, so that no second host reads or writes it.
 #![tactic(auto)]
 
 mod disk;

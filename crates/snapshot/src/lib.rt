@@ -3,9 +3,9 @@
 //!
 //! # Promises
 //!
-//! - `newest_head`, `image_of`, `newest`: what the two heads and the areas of the disk say
-//!   (`finds`). An image is given only under the digest that its head names (`image`). They only
-//!   read (`reads`).
+//! - `Snapshots::new` has begun no image (`idle`). `newest_head`, `image_of`, `newest`: what the
+//!   two heads and the areas of the disk say (`finds`). An image is given only under the digest
+//!   that its head names (`image`). They only read (`reads`).
 //! - `begin`, `push`, `finish` write an image piece by piece, and `commit` is all three. A cut at
 //!   any moment leaves the newest image that there was, or from `finish` on this one. No sector
 //!   but those of its area and its head is changed (`any_moment`). After Ok of `finish` or
@@ -27,6 +27,7 @@
 //!   `laws::next_can_follow`: once an image is the newest one, a disk is ready for the next. Where
 //!   a commit left the one before it, it is ready for the same generation again.
 //!   `laws::failures_are_for_good`: from the first error on each call fails.
+//!   `laws::worked_examples`: heads, calls and areas.
 //!
 //! # Definitions to read
 //!
@@ -39,7 +40,7 @@
 //! # Who may touch what
 //!
 //! Only this crate knows an image that is in the middle of being written. It is handed the disk at
-//! each call. It stands on `disk_layout`, `sector_disk` and `block_lanes`.
+//! each call. `worker_store` uses it. It stands on `disk_layout`, `sector_disk` and `block_lanes`.
 //! Reading an image takes memory (`S4 Memory`), and writing one takes none.
 #![tactic(auto)]
 

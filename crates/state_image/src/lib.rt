@@ -3,9 +3,9 @@
 //!
 //! # Promises
 //!
-//! - `write_image_to` pushes exactly the bytes of `image` into a sink, in some pieces. Where a
-//!   piece is refused, a front of the bytes was taken, nothing is pushed after it, and its fault
-//!   is the one that is given (`Pushes`). It takes no memory, and copies none of the guest's.
+//! - `write_image_to` pushes exactly the bytes of `image` into a sink, in some pieces (`Pushes`).
+//!   Where a piece is refused, a front of the bytes was taken, and nothing is pushed after it. Its
+//!   fault is the one that is given. It takes no memory, and copies none of the guest's.
 //! - `write_image` gives these bytes in a vector.
 //! - `reading` reads the fields of an image from the front of bytes, one by one. Each reader gives
 //!   the field in range whose bytes, as `image` spells it, are in front. It leaves those behind it.
@@ -16,15 +16,15 @@
 //!   this field, and to what is behind it.
 //! - `laws::images_are_in_order`: bytes are an image where its fields are in their order, and only
 //!   there.
-//! - `restoring::restore_files` reads the tree whose files stand next in an image (`made`), or says
-//!   that no files with a next number of 64 bits stand there (`refused`).
+//! - `restoring::restore_files` reads the tree whose files stand next in an image (`made`). Or it
+//!   says that no files with a next number of 64 bits stand there (`refused`).
 //! - `restoring::tree_of` makes a tree again of its next number and of what was told of its nodes
-//!   (`made`), or says that no files are told so (`refused`). `AreNamedNodes` says what is told of
-//!   files.
+//!   (`made`). Or it says that no files are told so (`refused`). `AreNamedNodes` says what is told
+//!   of files.
 //! - `restoring::descriptor_of` makes the descriptor of which a record is told (`made`), or says
 //!   that there is none (`none`): `IsReadAs` of `Opened.antt`.
 //! - `restoring::restore_machine` puts the globals, frames and memory that stand next in an image
-//!   into a linked machine, with `_start` to come in the start function (`made`). The machine shows
+//!   into a linked machine (`made`). In the start function `_start` is to come. The machine shows
 //!   some configuration (`shows`), on a stack that has room (`slots`). Or it says that no machine
 //!   of this module that does so has these bytes in front (`refused`).
 //! - `restoring::restore_host` reads the host whose files and open descriptors stand next in an
@@ -32,10 +32,10 @@
 //!   by rising numbers, and no line of it waits. Or it says that no such host of this configuration
 //!   stands there (`refused`).
 //! - `restoring::restore_into` makes the process again whose image the bytes are, of a machine that
-//!   `link` gave, under a configuration (`restored`). The bytes are its whole image, it is well
-//!   typed, no line waits, and it shows every process of the rules that the image shows
-//!   (`IsRestored`). Or it says that no well-typed process has this image (`refused`). `restore`
-//!   does the same of a valid module, which it links.
+//!   `link` gave, under a configuration (`restored`: `IsRestored`). The bytes are its whole image.
+//!   It is well typed, and no line waits. It shows every process of the rules that the image shows.
+//!   Or it says that no well-typed process has this image (`refused`). `restore` does the same of a
+//!   valid module, which it links.
 //! - `laws::restored_processes_are_the_saved`: what is restored of the image of a process that an
 //!   accepted module has reached has what was saved of it, and shows it.
 //! - `Sink` is a trait. What one push does is known by one relation, `takes`, which each
@@ -77,20 +77,20 @@
 //! - `Parts.antt`, `LentFrames.antt`, `Fronts.antt` and `RawDescriptors.antt`: what readers give of
 //!   a process, a frame, a node and a descriptor.
 //!
-//! In `specs/restoring/` stands what is told of nodes (`Named.antt`), when files are told so
-//! (`IsToldOf` of `Told.antt`), what is told of a descriptor (`Opened.antt`), and which machine is
-//! read (`IsReadMachine` of `Machines.antt`). `ToldHosts.antt` says which host is read, and
-//! `Descriptors.antt` which descriptors it may have. `Processes.antt` says what is read of a
+//! In `specs/restoring/` stands what is told of nodes (`Named.antt`), and when files are told so
+//! (`IsToldOf` of `Told.antt`). So does what is told of a descriptor (`Opened.antt`), and which
+//! machine is read (`IsReadMachine` of `Machines.antt`). `ToldHosts.antt` says which host is read,
+//! and `Descriptors.antt` which descriptors it may have. `Processes.antt` says what is read of a
 //! process before its machine, and what is left to be asked of it at last.
 //!
 //! # Who may touch what
 //!
-//! Only these definitions and this code say which byte of an image means what. `worker_rules`
-//! cites the definitions, for the disk that stands for a worker. `worker_store` writes images, and
-//! nobody restores them yet. A process is read by the questions of `process`, `machine`,
-//! `wasi_calls` and `file_tree`, and nothing of it is changed. The image has no lines that wait:
-//! whoever writes one has released them. Only `write_image`, `ByteSink` and `restoring` take
-//! memory. Want of it is the only error of the first two.
+//! Only these definitions and this code say which byte of an image means what. `worker_rules` cites
+//! the definitions, for the disk that stands for a worker. `worker_store` writes images, and
+//! `durable_worker` makes processes of them again, by `restore_into`. A process is read by the
+//! questions of `process`, `machine`, `wasi_calls` and `file_tree`, and nothing of it is changed.
+//! The image has no lines that wait: whoever writes one has released them. Only `write_image`,
+//! `ByteSink` and `restoring` take memory. Want of it is the only error of the first two.
 #![tactic(auto)]
 
 mod byte_sink;

@@ -1,5 +1,5 @@
-//! What tests alone can show of lists of lives: what reports say of cuts at each kind of call, of
-//! torn writes, and of lives that meet no stop.
+//! What tests alone can show of lists of lives. Reports are compared of cuts at each kind of call,
+//! of torn writes, and of lives that meet no stop.
 //!
 //! Expected values come from outside. Want of memory inside of a life is told in its report, so
 //! that these tests are none of `scripts/refused-allocations`.

@@ -13,10 +13,12 @@
 //! - `fits` is true exactly where an answer is one to what was asked (`Fits`).
 //! - `Config::new` answers Ok exactly within the limits (`ok`), and else `C1 Range` (`range`) or
 //!   `C2 Text` (`text`). A `Config` is within its limits by its type (`within`).
-//! - Nine calls that do nothing ensure laws: numbers of rights, of errors and of calls
-//!   (`calls_differ`), sizes of layouts (`layouts_have_their_sizes`), bytes and numbers
-//!   (`bytes_spell_numbers`), limits (`configuration_limits_are`), and the end of the numbers of
-//!   steps, lines and generations (`numbers_end_is`).
+//! - Nine calls that do nothing ensure laws. Rights, sets of rights, errors and calls have numbers
+//!   and names of their own (`rights_have_their_bits`, `sets_have_their_rights`,
+//!   `errors_are_no_success`, `calls_differ`). Layouts have their sizes and bytes
+//!   (`layouts_have_their_sizes`, `bytes_spell_numbers`, `worked_directory`). A configuration has
+//!   its limits (`configuration_limits_are`), and the numbers of steps, lines and generations their
+//!   end (`numbers_end_is`, of `NUMBERS_END`).
 //!
 //! # Definitions to read
 //!

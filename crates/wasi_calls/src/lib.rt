@@ -36,14 +36,14 @@
 //! # Who may touch what
 //!
 //! Only this crate knows how descriptors, streams and unfinished lines are kept. Its files are a
-//! `Tree` of `file_tree`, which it alone changes. `process` uses it. It stands on
-//! `wasi_calls_rules`, `file_tree`, `wasi_abi` and `guest_memory`.
+//! `Tree` of `file_tree`, which it alone changes. `process` uses it, and `state_image` makes hosts
+//! of their parts. It stands on `wasi_calls_rules`, `file_tree`, `wasi_abi` and `guest_memory`.
 //!
-//! Memory is taken by `Host::new`, by `Host::from_parts` once all tests have passed, for the two
-//! lines that an end may emit, and by a call once all of its checks have passed: for lines, for the
-//! bytes of files, for new nodes and their names, and for a request's line. Without it nothing
-//! changes. Bytes go straight from the guest's buffers into lines and files, and back: none are
-//! joined first.
+//! Memory is taken by `Host::new`, and by `Host::from_parts` once all tests have passed. It is
+//! taken for the two lines that an end may emit. A call takes some once all of its checks have
+//! passed. That is for lines, for the bytes of files, for new nodes and their names, and for a
+//! request's line. Without it nothing changes. Bytes go straight from the guest's buffers into
+//! lines and files, and back: none are joined first.
 #![tactic(auto)]
 
 mod arguments;

@@ -10,7 +10,8 @@
 //!   bytes where there were bytes (`bytes`).
 //! - `calls_emit_lines`: a call that is done emits lines behind those that were there.
 //! - `calls_keep_hosts`: where memory holds bytes, a call that is done leaves `IsHost` as it was,
-//!   whatever its arguments are: files, room, descriptors, streams, times and unfinished lines.
+//!   whatever its arguments are. That is of files, room, descriptors, streams, times and unfinished
+//!   lines.
 //! - `calls_keep_hosts_of_bytes`: whatever the host can copy into memory stays bytes.
 //! - `calls_make_one_node_at_most`: a call that is done makes one node at most.
 //! - `calls_keep_input_short`: at most one request's text and its newline wait to be read, and a
@@ -21,14 +22,17 @@
 //! - `answers_are_taken_that_fit`: the rules take an answer exactly where it fits what is asked.
 //! - `few_calls_ask_and_once`: three calls may want an answer, and none once it has one that fits.
 //! - `one_call_ends`: no call but `proc_exit` ends the process.
-//! - `worked_examples`: openings, moves, writes, small calls and directories on examples.
-//! - `limits` has five numbers that definitions and code share, as `LINE_BYTES` and `TEXT_BYTES`.
+//! - `worked_examples`: openings, moves, writes, small calls and directories on examples. Each of
+//!   the 31 calls has its whole outcome in one of the laws `.._on_examples`, as
+//!   `reads_on_examples`.
+//! - `limits` has five numbers that definitions and code share, as `LINE_BYTES` and `TEXT_BYTES`
+//!   (`call_limits_are`). `errors_have_their_numbers` says the same of errors.
 //!
 //! # Definitions to read
 //!
 //! In `specs/`: `Host`, `first_host`, `IsHost` (`Hosts.antt`); the checks that all calls share,
-//! and `>>=` (`Checks.antt`); lines (`Lines.antt`); paths and `walk` (`Paths.antt`); one
-//! definition for each call (`Small.antt`, `Moving.antt`, `Entries.antt`). `row` joins them, and
+//! and `>>=` (`Checks.antt`); lines (`Lines.antt`); paths and `walk` (`Paths.antt`). Each call has
+//! one definition (`Small.antt`, `Moving.antt`, `Entries.antt`). `row` joins them, and
 //! `TellsRow` is what a caller is told (`Rows.antt`). The laws and examples are in `specs/laws/`;
 //! nobody has to believe them.
 //!

@@ -15,7 +15,8 @@
 //!   steps lead to one configuration at most (`one_run`).
 //! - `reached_shapes_are_typed`, `heights_are_small`: each position that typing reaches has a
 //!   typed shape, and no more values than opcodes before it.
-//! - `worked_examples`: typing, and the first steps of programs.
+//! - `worked_examples`, `limits_on_examples`: typing, and the first steps of programs. The limits
+//!   of the stack from both sides, and memory that grows up to its limit.
 //!
 //! # Definitions to read
 //!

@@ -1,5 +1,5 @@
-//! What tests alone can show of modules: what bytes decode, validate and link to, where their
-//! branches lead, and what they do when they run, a row an instruction.
+//! What tests alone can show of modules. That is what bytes decode, validate and link to, and where
+//! their branches lead. It is also what they do when they run, a row an instruction.
 //!
 //! Each test is a table of rows whose expected values come from outside. Those that take memory
 //! return their error, so that `scripts/refused-allocations` can refuse each allocation in turn.

@@ -9,8 +9,9 @@
 //! - `ValidModule` is a valid module by its type. `module` lends it (`same`, `valid`).
 //! - inside, `check_types`: of types and imports the first fault is told (`refused`).
 //!   `check_before_data` and `check_data` judge all other parts but bodies.
-//! - `ModuleContext` looks up what typing looks up, each in constant time. `BodyChecker::check`
-//!   judges one body after another (`typed`, `fault`).
+//! - `ModuleContext` looks up what typing looks up, each in constant time.
+//!   `function_type_indices` has the index of the type of each function, imported ones first.
+//!   `BodyChecker::check` judges one body after another (`typed`, `fault`).
 //! - `BodyChecker::operand_types`: the types of a function's operands at a position of its typed
 //!   body, or `None` where typing doesn't reach the position (`types_at`). Want of memory is its
 //!   only error. It lends them: `OperandTypes::len`, and `get`, the first operand's being 0.
@@ -33,10 +34,11 @@
 //!
 //! # Who may touch what
 //!
-//! Only this crate makes a `ValidModule`. `machine_loader` calls `validate`; `machine`,
-//! `machine_jumps` and `process` use the type, the context and the stack of `body`. It stands on
-//! `wasm_syntax` and `wasm_syntax_rules`. Memory is taken in proportion to functions, globals,
-//! exports and the longest body. Want of it is `V5 Memory`. After any fault the module is gone.
+//! Only this crate makes a `ValidModule`. `machine_loader` calls `validate`. `machine`, `process`
+//! and `state_image` use the type. `machine`, `machine_jumps` and `machine_frame` use the context,
+//! and `machine_jumps` the `Stack` of `body`. It stands on `wasm_syntax` and `wasm_syntax_rules`.
+//! Memory is taken in proportion to functions, globals, exports and the longest body. Want of it is
+//! `V5 Memory`. After any fault the module is gone.
 #![tactic(auto)]
 
 mod bodies;

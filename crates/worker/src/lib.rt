@@ -1,5 +1,5 @@
 //! A worker: a process that is run slice by slice, answered from outside, and whose lines are
-//! released (this project's own). It keeps no disk yet.
+//! released (this project's own). It keeps no disk: `durable_worker` has one that does.
 //!
 //! # Promises
 //!
@@ -24,9 +24,10 @@
 //!
 //! # Who may touch what
 //!
-//! Only this crate decides when lines are released and answers asked for. `wasmhost_serve` uses
-//! it. It stands on `process`, `machine_loader` and `record_replay`. It takes no memory but what
-//! loading and the process take. After an error of `slice` the process has taken whole steps
+//! Only this crate decides when lines are released and answers asked for, of a worker without a
+//! disk. `wasmhost_serve` runs one, and `durable_worker` uses its faults and its definitions of
+//! slices. It stands on `process`, `machine_loader` and `record_replay`. It takes no memory but
+//! what loading and the process take. After an error of `slice` the process has taken whole steps
 //! alone, and each slice answers `N5 Failed`.
 #![tactic(auto)]
 

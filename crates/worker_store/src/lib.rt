@@ -9,7 +9,7 @@
 //!
 //! - `WorkerStore::append` keeps a record in memory (`appended`). The store is then that of the
 //!   worker that has taken the answer (`laws::appends_carry_stores`). An error says which limit it
-//!   meets (`cause`).
+//!   meets (`cause`). `room` is how many more bytes of records fit, before the next commit.
 //! - `WorkerStore::barrier`: a cut at any moment leaves a front of the pending records
 //!   (`any_moment`). After Ok each cut leaves all of them (`durable`). It writes each sector once,
 //!   and syncs once (`calls`). Without pending records it leaves the disk alone (`quiet`).
@@ -24,7 +24,7 @@
 //!   what it stands by (`gives`, `finds`, `scans`). They only read (`reads`). That there is no
 //!   worker is said by `read_worker` alone, only where a mark of one is missing, and always there
 //!   (`marks`, `own`).
-//! - `WorkerStore::reopen` commits the next generation on whatever stands for the worker: a cut at
+//! - `WorkerStore::reopen` commits the next generation on whatever stands for the worker. A cut at
 //!   any moment leaves what stands for the same answers, or the new snapshot (`any_moment`,
 //!   `durable`).
 //! - `laws::images_fit_areas`: the image of a well-typed process is never too big.
@@ -46,8 +46,8 @@
 //! - `creations_begin_blank`, `creations_end_fresh`: until its super is whole, a disk on which a
 //!   worker is created is blank. Then it stands for no answers at step 0.
 //! - `journals_carry_workers`, `commits_carry_workers`, `recoveries_carry_workers`,
-//!   `creations_carry_none`: the same of all that a cut may leave of a disk, in the form of the
-//!   clauses of `journal`, `snapshot` and `disk_layout`.
+//!   `creations_carry_none`: the same of all that a cut may leave of a disk. They are in the form
+//!   of the clauses of `journal`, `snapshot` and `disk_layout`.
 //! - `disks_give_what_they_stand_by`: what is read of a disk that stands for a worker is what it
 //!   stands by.
 //! - `savepoints_hold_promises`: what stands at a savepoint with its records holds of a promise
@@ -57,10 +57,10 @@
 //! - `disks_carry_promises`: the disk of an open worker (`IsCarried`) keeps what is promised. So it
 //!   does at each moment of a barrier, of a commit and of a creation, and behind their errors.
 //! - `processes_are_savepoints`: the process at hand is the next savepoint, wherever the records of
-//!   the last one have led (`IsNextOf`); one that begins is a first savepoint.
+//!   the last one have led (`IsNextOf`). One that begins is a first savepoint.
 //! - `saves_carry_promises`: a barrier and a commit, one after the other, keep what is promised,
 //!   and in the end what a checkpoint promises. `creations_open_workers`: so does a creation, and
-//!   in the end what its opening promises.
+//!   in the end what its opening promises. `recoveries_open_workers`: so does a recovery.
 //! - `events_carry_promises`, `syncs_are_held`: so it is behind each event. Which syncs of the
 //!   guest need no answer but those on the disk follows from the steps between two barriers.
 //!
@@ -91,15 +91,15 @@
 //! (`Commits.antt`).
 //!
 //! All else in `specs/laws/` are second forms of what `worker_rules`, `journal`, `snapshot` and
-//! `disk_layout` define, and nobody has to believe them: `AwaitsHead` and `AwaitsSuper`
+//! `disk_layout` define. Nobody has to believe them. They are `AwaitsHead` and `AwaitsSuper`
 //! (`Creations.antt`), `IsJournaled` (`Journaled.antt`), `IsHeldAt`, `SavesFront` and `IsCarried`
 //! (`Carried.antt`), `SyncsAreHeld` and `AreOnRecord` (`Raised.antt`).
 //!
 //! # Who may touch what
 //!
 //! A store knows where things lie and which records wait for a barrier. It is handed the disk at
-//! each call, and keeps none. `append`, `lay_out` and the readings take memory;
-//! `barrier`, `commit` and `reopen` take none.
+//! each call, and keeps none. `durable_worker` uses it. `append`, `lay_out` and the readings take
+//! memory; `barrier`, `commit` and `reopen` take none.
 #![tactic(auto)]
 
 mod area_sink;
