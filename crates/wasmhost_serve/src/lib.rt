@@ -17,7 +17,7 @@
 //!   the configuration, and the sectors are those that its worker needs (`prepared`). It knows no
 //!   disk, so the program refuses a module before it makes one.
 //! - `create_on`: status 0 says that the worker of these bytes and this configuration is created on
-//!   the disk, at its start, and that `created N sectors` was printed. What the other statuses say
+//!   the disk, at its start. `created N sectors` was printed then. What the other statuses say
 //!   is said too, and what a cut at any moment leaves (`creates`). `report_unprepared` answers the
 //!   status of what it tells, or 7.
 //! - `serve_on`: what each status of a run of the worker on a disk says (`serves`). Where the
@@ -34,9 +34,11 @@
 //! - `show_on`: the survey of a worker's disk is printed, or what keeps it from that is told
 //!   (`shows`). Of a disk that stands for a worker the line is that worker's (`stands`). Nothing is
 //!   changed on the disk, but that it is synced.
-//! - `RequestSource` answers requests as the lines of its reader say, in their order, clocks with
-//!   the fixed time, and wishes for random bytes with the next words of its stream. It says why it
-//!   refuses (`HandsNext`). A failed read it tells only of a reader that has failed.
+//! - `RequestSource` answers requests as the lines of its reader say, in their order (`HandsNext`).
+//!   It answers clocks with the fixed time, and wishes for random bytes with the next words of its
+//!   stream. It says why it refuses. A failed read it tells only of a reader that has failed.
+//! - `read_request`: what one line says, where it is a request line (`spelled`, `found`).
+//!   `trap_name`: how last words call a trap.
 //! - `read_seed`, `seeded`: which texts are seeds, and which bytes a seed gives (`seeded_bytes`).
 //! - `LineReader` is what request lines are read from. `BufferedLines` is one over any `BufRead`.
 //! - `LineOutlet` prints each line that it takes, with its number and the letter of its stream
@@ -44,14 +46,15 @@
 //!   nothing else.
 //! - `read_module`: the bytes of a reader, where they are known, up to one more than the longest
 //!   module has. `say_line`, `report`: the line was written and the status is the one given, or a
-//!   write has failed and it is 7 (`SaysLine`). `report_words`: help leaves the error output as it
-//!   was, and a mistake the output.
+//!   write has failed and it is 7 (`SaysLine`). `report_open` does so of a disk's file, and
+//!   `obstacle_of` tells what an error of a file is. `report_words`: help leaves the error output
+//!   as it was, and a mistake the output.
 //! - `read_words`: an order is exactly what the words mean. A fault is one that the rules
 //!   of the command line list for them, or want of memory (`IsReading`).
 //! - `read_script`: the lives that a script of a story spells (`IsScript`). A fault names the first
 //!   line behind which the lines are no script (`IsFaultAt`), or it is want of memory.
-//! - `tell`: status 0 says that a whole story was printed: of lives that go on as one that was
-//!   never stopped, with what the script put into each. What the other statuses say is said too
+//! - `tell`: status 0 says that a whole story was printed. It is of lives that go on as one that
+//!   was never stopped, with what the script put into each. What the other statuses say is said too
 //!   (`TellsStory`). `report_script` tells a fault of a script.
 //! - `laws::faultless_words_mean`, `laws::worked_examples`: words without a fault mean an order,
 //!   with numbers in their ranges; sixty-eight command lines.
