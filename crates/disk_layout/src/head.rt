@@ -62,8 +62,8 @@ impl Head {
         }
     }
 
-    /// Whether a sector is a complete head of this area, 0 or 1: it has the mark and place 1, and a
-    /// generation from 1 on of the area's parity.
+    /// Whether a sector is a complete head of this area, 0 or 1. It has the mark and place 1 then,
+    /// and a generation from 1 on of the area's parity.
     pub fn is_complete(area: u64, sector: &[u8; SECTOR_SIZE]) -> bool
         ensures { IsTrue result ↔ IsComplete area sector.now }
     {

@@ -69,9 +69,9 @@ pub fn write_super<D: Disk>(disk: &mut D, contents: &Super) -> Result<(), DiskFa
 }
 
 /// Reads the super, and the configuration and the module behind it. It fails where a mark of the
-/// super is missing (`NotAWorker`), where the layout is none that is known (`Version`), where the
-/// super's numbers disagree or the digest differs (`Damaged`), where the disk ends before the
-/// module does (`TooSmall`), and for want of memory.
+/// super is missing (`NotAWorker`), and where the layout is none that is known (`Version`). It
+/// fails where the super's numbers disagree or the digest differs (`Damaged`), and where the disk
+/// ends before the module does (`TooSmall`). It also fails for want of memory.
 pub fn read_super<D: Disk>(alloc: Global, disk: &mut D) -> Result<Stored, LayoutFault>
     ensures reads { OnlyReads (D.medium disk.old) (D.medium disk.new) }
     ensures finds { (image : Image) → (D.medium disk.new).shows image

@@ -376,8 +376,9 @@ fn run<D: Disk>(alloc: Global, journal: &mut Journal, disk: &mut D) -> Result<us
     Ok(10)
 }
 
-/// A call of the disk, how many records were acknowledged before it, and how many are kept where it
-/// leaves a front of at most 504 bytes, and of 505 and more: with 505 bytes a sector has its stamp.
+/// A call of the disk, and how many records were acknowledged before it. Then how many are kept
+/// where it leaves a front of at most 504 bytes, and of more. With 505 bytes a sector has its
+/// stamp.
 type Kept = (u64, usize, usize, usize);
 
 /// Each pair takes two writes and a sync. The second record begins in the first sector.
@@ -467,8 +468,8 @@ fn a_failed_call_keeps_what_was_acknowledged(rt: HostRuntime) -> Result<(), Jour
     Ok(())
 }
 
-/// Whether a barrier without a record calls the disk for nothing, and one with a request of this
-/// length for so many writes and one sync.
+/// Whether a barrier without a record calls the disk for nothing. One with a request of this length
+/// calls it for so many writes and one sync.
 fn is_written_by<D: Disk>(
     alloc: Global,
     journal: &mut Journal,

@@ -112,9 +112,9 @@ fn is_found<D: Disk>(alloc: Global, disk: &mut D, want: Newest) -> Result<bool, 
     }
 }
 
-/// A call at which a disk stops, which of the two commits are acknowledged, and the newest image
-/// where the call leaves a front of at most 504 bytes, and of 505 and more: with 505 bytes a head
-/// has its stamp.
+/// A call at which a disk stops, and which of the two commits are acknowledged. Then the newest
+/// image where the call leaves a front of at most 504 bytes, and of more. With 505 bytes a head has
+/// its stamp.
 type Stop = (u64, (bool, bool), Newest, Newest);
 
 /// The first commit reads and writes two sectors, syncs, writes a head and syncs; the second one

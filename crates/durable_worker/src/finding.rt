@@ -32,9 +32,9 @@ use wasm_syntax::Row;
 use worker_store::{read_newest, read_records, read_worker};
 
 /// The process that was saved last, made again, and the records behind it. It only reads: what is
-/// found is what stands on the image that the disk shows. What is wrong is found in this order: the
-/// super, the configuration and the module; whether the module is accepted; the newest head and its
-/// image; whether that is the image of a process; the records.
+/// found is what stands on the image that the disk shows. What is wrong is found in one order.
+/// First come the super, the configuration and the module, and whether the module is accepted. Then
+/// come the newest head and its image, whether that is the image of a process, and the records.
 pub(crate) fn find<D: Disk>(alloc: Global, disk: &mut D) -> Result<Found, RecoverFault>
     ensures reads { OnlyReads (D.medium disk.old) (D.medium disk.new) }
     ensures finds { FindsOne (D.medium disk.old).sectors (D.medium disk.new) result }

@@ -18,7 +18,7 @@ use worker::{Now, WorkFault};
 
 impl Running {
     /// Takes at most `fuel` steps. Each line is released, and each answer asked for, before the
-    /// next step: a line behind a barrier, and an answer where the journal has room for it.
+    /// next step. A line comes behind a barrier, and an answer where the journal has room for it.
     fn work<D: Disk, S: Source, O: Outlet>(
         &mut self,
         disk: &mut D,

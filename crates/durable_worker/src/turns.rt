@@ -1,5 +1,5 @@
-//! The turns of a slice of a worker on its disk: steps up to where something is owed or asked, and
-//! what that wants of the disk and of the outside.
+//! The turns of a slice of a worker on its disk. Each takes steps up to where something is owed or
+//! asked, and does what that wants of the disk and of the outside.
 
 ghost use Rattle.std.specs.Prelude.{◌≡◌, ◌≤◌, IfErr, IfOk, OnErr, OnOk, Ok};
 ghost use Rattle.process.specs.rules.Values.{IsProcess};

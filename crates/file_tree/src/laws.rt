@@ -17,7 +17,7 @@ pub fn file_limits_are()
     ensures { FileLimitNumbers }
 {}
 
-/// Each node but the root that has a path is an entry of one directory, and its path is that of the
+/// Each node but the root that has a path is an entry of one directory. Its path is that of the
 /// directory with the name behind it.
 pub fn entries_tell_paths()
     ensures { EntriesTellPaths }

@@ -169,7 +169,7 @@ impl Tree {
     }
 
     /// The number of the node of a directory with the least name after this one, by the order of
-    /// names: what stands right behind the entry of this name. No bytes come before any name, so
+    /// names. It stands right behind the entry of this name. No bytes come before any name, so
     /// they lead to the first entry. It takes no memory.
     pub fn entry_after(&self, directory: u64, name: &[u8]) -> Option<u64>
         ensures after { result ≡ number_after self.now directory name.now }
@@ -230,9 +230,9 @@ impl Tree {
     }
 
     /// Makes a node under a name in a directory, and gives its number. The caller has tested that
-    /// the directory is one and has a path (`is_directory`, `has_path`), that the name is one
-    /// (`is_name`) under which nothing is (`child`), and that there is room (`len`, `next`). Only
-    /// want of memory makes it fail, and then nothing is changed.
+    /// the directory is one and has a path (`is_directory`, `has_path`). The name is one
+    /// (`is_name`) under which nothing is (`child`), and there is room (`len`, `next`). Only want
+    /// of memory makes it fail, and then nothing is changed.
     pub fn create(
         &mut self,
         alloc: Global,
@@ -260,7 +260,7 @@ impl Tree {
     }
 
     /// Puts bytes in the place of others of a file. The caller has tested that it is no directory
-    /// (`is_directory`), and that all of them lie within its size (`size`): else he makes room
+    /// (`is_directory`), and that all of them lie within its size (`size`). Else room is made
     /// first (`resize`). It takes no memory, and can't fail. Where no node has the number there are
     /// no bytes to put, and nothing is changed.
     pub fn write(&mut self, number: u64, from: u64, bytes: &[u8])
@@ -370,8 +370,8 @@ impl Tree {
     }
 
     /// Moves a node, with all that lies below it, to a name in a directory. The caller has tested
-    /// that it isn't the root and has a path (`has_path`), that the name is free as for a new node,
-    /// and that the directory isn't below the node (`is_within`).
+    /// that it isn't the root and has a path (`has_path`). The name is free as for a new node, and
+    /// the directory isn't below the node (`is_within`).
     pub fn rename(&mut self, number: u64, directory: u64, name: ByteList)
         requires { CanMove self.old number directory name }
         ensures { self.new ≡ renamed (path_at self.old number) (path_at self.old directory

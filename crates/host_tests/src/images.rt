@@ -6,9 +6,10 @@ use process::Process;
 use state_image::{Sink, write_image, write_image_to};
 use std::alloc::Global;
 
-/// The mark; steps, answers, requests, lines and the last monotonic time; in `_start`; no input has
-/// ended, nothing is unread or unfinished; no globals; one frame, of function 2 at its first
-/// instruction, without slots; one page, and the bytes of its segment.
+/// The mark, steps, answers, requests, lines and the last monotonic time. It is in `_start`, no
+/// input has ended, and nothing is unread or unfinished. There are no globals. One frame is of
+/// function 2 at its first instruction, without slots. One page stands there, with the bytes of its
+/// segment.
 const FRONT: [u8; 101] = [
     0x44, 0x57, 0x49, 0x4d, 0x41, 0x47, 0x45, 0x31, 0, 0, 0, 0, 0, 0, 0, 0, 0, 0, 0, 0, 0, 0, 0, 0,
     0, 0, 0, 0, 0, 0, 0, 0, 0, 0, 0, 0, 0, 0, 0, 0, 0, 0, 0, 0, 0, 0, 0, 0, 1, 0, 0, 0, 0, 0, 0, 0,

@@ -10,8 +10,8 @@ use disk_layout::{Geometry, PAYLOAD_AT, is_of, used_length};
 use sector_disk::{Disk, DiskFault, SECTOR_SIZE};
 use std::alloc::Global;
 
-/// The payloads of a generation, one after another: from the first sector on, up to the first that
-/// isn't one of the generation at its place.
+/// The payloads of a generation, one after another. They go from the first sector on, up to the
+/// first that isn't one of the generation at its place.
 pub(crate) fn read_payloads<D: Disk>(
     alloc: Global,
     disk: &mut D,

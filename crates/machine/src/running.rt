@@ -50,7 +50,7 @@ impl Machine {
     ghost use Rattle.machine.specs.rules.Lends.{LendsMemory};
 
     /// Applies rules until the program has ended or trapped, a call of the host waits, or so much
-    /// fuel is spent: one unit for each counted rule.
+    /// fuel is spent. A counted rule takes one unit.
     pub fn run(&mut self, fuel: u64) -> Paused
         requires { HoldsMemory self.old }
         ensures same { IsSameMachine self.old self.new }
@@ -71,8 +71,9 @@ impl Machine {
         clear(&mut self.state);
     }
 
-    /// Answers the call of the host that waits: puts its result, if the call gives one, in the
-    /// place of what the call took, and applies the rules that aren't counted. Takes no memory.
+    /// Answers the call of the host that waits. If the call gives a result, that is put in the
+    /// place of what the call took. Then the rules are applied that aren't counted. Takes no
+    /// memory.
     pub fn finish(&mut self, answer: Option<u32>)
         requires waits { WaitsFor (call_results answer) self.old }
         ensures same { IsSameMachine self.old self.new }

@@ -24,8 +24,8 @@ pub fn jumps_are_falls()
     ensures entries { EntryPushesZeros }
 {}
 
-/// The shape at a position of a body tells which position it is, and so do the labels of a frame
-/// there, with how many opcodes remain.
+/// The shape at a position of a body tells which position it is. So do the labels of a frame there,
+/// with how many opcodes remain.
 pub fn shapes_tell_positions()
     ensures shapes { ShapesTellPositions }
     ensures labels { LabelsTellPositions }

@@ -9,8 +9,8 @@ ghost use Rattle.machine_slots.specs.Lends.{LendsWords};
 use std::alloc::{AllocError, Global};
 use std::marker::Model;
 
-/// How many words there is room for: the locals and operands that a thread may hold, and the
-/// operands of the running frame beside them, which its body's length bounds.
+/// How many words there is room for. They are the locals and operands that a thread may hold, and
+/// the operands of the running frame beside them. Its body's length bounds those.
 pub const SLOTS: usize = 69_632;
 
 /// Words, which contracts see as a list from the top down. All of their memory is taken at once.

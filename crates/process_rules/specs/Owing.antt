@@ -1,4 +1,4 @@
--- Steps after which something is owed to the outside (this project's own): a line that was emitted
+-- Steps after which something is owed to the outside (this project's own). A line that was emitted
 -- has to be released, and a sync of the guest has to be one of the disk.
 use Rattle.std.specs.Prelude.{◌≡◌, ◌≢◌, ◌⊎◌, ℕ, suc, None}
 use Rattle.process_rules.specs.Processes.{ProcessState, Guest}

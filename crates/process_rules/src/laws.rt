@@ -52,7 +52,7 @@ pub fn trap_ends()
     ensures { TrapEnds }
 {}
 
-/// A reached process is configured as at the beginning, and has few nodes: one a step at most,
+/// A reached process is configured as at the beginning. It has few nodes: one a step at most,
 /// beside the root and the number that comes next. At most one request waits to be read.
 pub fn reached_hosts_are_bounded()
     ensures configured { ReachedAreConfigured }
@@ -78,8 +78,8 @@ pub fn reached_processes_have_hosts()
     ensures { ReachedHaveHosts }
 {}
 
-/// Whole modules come to their ends, under any configuration: one that writes a line and exits with
-/// a code, one that writes what it reads, one that does nothing, and one that traps.
+/// Whole modules come to their ends, under any configuration. One writes a line and exits with a
+/// code, and one writes what it reads. One does nothing, and one traps.
 pub fn worked_examples()
     ensures hello { (config : Settings) → HelloEnds config }
     ensures echo { (config : Settings) → EchoEnds config }

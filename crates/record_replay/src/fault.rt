@@ -22,7 +22,7 @@ pub struct OutletFault;
 /// Why a replay is refused.
 #[derive(Clone, Copy, Debug, PartialEq, Eq, Error)]
 pub enum ReplayFault {
-    /// The answer of a record fits nothing that the process asks for at its step; or a step up to
+    /// The answer of a record fits nothing that the process asks for at its step. Or a step up to
     /// there, or a line, would have a number that is too large.
     #[error("Q1 Diverged")]
     Diverged,

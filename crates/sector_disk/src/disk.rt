@@ -5,8 +5,8 @@ ghost use Rattle.sector_disk.specs.rules.Medium.{Medium, Reads, Writes, SyncsMed
 use crate::{DiskFault, SECTOR_SIZE};
 
 /// Sectors of `SECTOR_SIZE` bytes that are read, written and synced, numbered from 0. What a
-/// contract says of a disk it says of its `medium`: what reads give, what a cut now may leave, and
-/// what a cut may have left since an earlier moment.
+/// contract says of a disk it says of its `medium`. That is what reads give, what a cut now may
+/// leave, and what a cut may have left since an earlier moment.
 pub trait Disk {
     ghost medium: { Self → Medium };
 

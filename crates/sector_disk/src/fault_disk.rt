@@ -8,10 +8,10 @@ use crate::log::Log;
 use crate::trouble::Trouble;
 use crate::{Disk, DiskFault, Place, SECTOR_SIZE};
 
-/// Hands calls on to the disk below, and counts them. It stops at one that it is told: that call
-/// and each later one is `Cut`, and none of them reaches the disk below, but that of a stopped
-/// write the told front is left there. Or it fails one that it is told (`Io`, and of a write the
-/// told front is left), and later calls work.
+/// Hands calls on to the disk below, and counts them. It stops at one that it is told. That call
+/// and each later one is `Cut`, and none of them reaches the disk below. But of a stopped write the
+/// told front is left there. Or it fails one that it is told (`Io`, and of a write the told front
+/// is left), and later calls work.
 #[derive(Drop)]
 pub struct FaultDisk<D> {
     inner: D,

@@ -14,9 +14,9 @@ use std::rt::Files;
 /// Once a write or a sync has failed it is given up: every later call answers `Io`, and the file
 /// isn't asked.
 ///
-/// That the file is a disk of the model is a premise, and no flag says so: what a contract says of
-/// it, it says of each image from which a disk of the model gives the answers that the file gave
-/// since it was opened. Where it gave others, there is no such image.
+/// That the file is a disk of the model is a premise, and no flag says so. A contract speaks of
+/// each image from which a disk of the model gives the answers that the file gave since it was
+/// opened. Where it gave others, there is no such image.
 #[derive(Drop)]
 pub struct FileDisk<F> {
     file: F,

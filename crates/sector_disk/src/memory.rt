@@ -15,9 +15,9 @@ use std::alloc::Global;
 
 type Sector = [u8; SECTOR_SIZE];
 
-/// A disk in memory, which a cut can be tried on. It fails only where it is asked for a sector that
-/// it lacks (`Range`) or for more writes between two syncs than it has room for (`Io`). No read,
-/// write or sync takes memory.
+/// A disk in memory, which a cut can be tried on. It fails only if asked for a sector that it lacks
+/// (`Range`), or for more writes between two syncs than it has room for (`Io`). No read, write or
+/// sync takes memory.
 #[derive(Drop)]
 pub struct MemDisk {
     /// What the last good sync left.

@@ -30,7 +30,7 @@ fn write_all_back<D: Disk>(disk: &mut D) -> Result<(), DiskFault>
 }
 
 /// Writes each sector back as it reads it, in rising order, and syncs. It is for a disk whose write
-/// or sync failed in an earlier life: what reads give may then never have reached the device, and a
+/// or sync failed in an earlier life. What reads give may then never have reached the device, and a
 /// sync alone would answer well all the same. It ends at the first error.
 pub fn rewrite<D: Disk>(disk: &mut D) -> Result<(), DiskFault>
     // Reads give what they gave, and with it a cut leaves only what it could have left before.

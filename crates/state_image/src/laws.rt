@@ -71,8 +71,8 @@ pub fn reached_processes_are_well_typed()
     ensures saved { SavedIsWellTyped }
 {}
 
-/// A process that was made again of the image of one that an accepted module has reached has what
-/// was saved of that, and shows it.
+/// Take the image of a process that an accepted module has reached. A process that was made again
+/// of it has what was saved of that one, and shows it.
 pub fn restored_processes_are_the_saved()
     ensures { RestoredShowsReached }
 {}

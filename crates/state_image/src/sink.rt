@@ -1,7 +1,7 @@
 //! Where the bytes of an image go.
 
 /// Whoever takes bytes, piece by piece. What a contract says of a sink it says by one relation of
-/// each push, `takes`; the pushes of a call follow one another by `Pushes`.
+/// each push, `takes`. The pushes of a call follow one another by `Pushes`.
 pub trait Sink {
     /// Why a piece was refused.
     type Fault;

@@ -110,8 +110,8 @@ impl Descriptor {
         }
     }
 
-    /// What has these numbers, or nothing where one of them is out of its bounds: an offset from
-    /// 2^63 on, flags that there are not, or rights that the profile does not have.
+    /// What has these numbers, or nothing where one of them is out of its bounds. That is an offset
+    /// from 2^63 on, flags that there are not, or rights that the profile does not have.
     pub fn from_numbers(
         names: Names,
         offset: u64,
@@ -159,8 +159,8 @@ impl Descriptor {
             && self.inheriting.is_within(Rights::ALL)
     }
 
-    /// Whether it may stand under this number, where it names a stream: it is the stream of that
-    /// number, with its rights, and hands none on.
+    /// Whether it may stand under this number, where it names a stream. It is then the stream of
+    /// that number, with its rights, and hands none on.
     pub(crate) fn is_own_stream(&self, number: usize) -> bool
         ensures { IsTrue result ↔ IsOwnStream number self.now }
     {

@@ -1,5 +1,6 @@
--- The checks that all calls share, in their order: the descriptor, its kind, rights, numbers and
--- flags, guest ranges, the form of paths, and the rest (this project's profile). A call ends at the
+-- The checks that all calls share, in their order (this project's profile). They are of the
+-- descriptor, its kind, rights, numbers and flags, guest ranges, the form of paths, and the rest. A
+-- call ends at the
 -- first that fails, and changes nothing then.
 use Rattle.std.specs.Prelude.{ℕ, zero, suc, ◌+◌, ◌*◌, ◌==◌, not, ◌&&◌, ◌||◌, nat_le, nat_lt, ◌^◌}
 use Rattle.std.specs.Prelude.{min, Bool, true, false, if◌then◌else◌, List, [], ◌∷◌, ◌++◌, length}

@@ -14,7 +14,7 @@ pub data Callee : Type 0 where
   Own : (kind : FunctionType) (declared : List ValueType) (body : Sequence) → Callee
 
 -- What a module's instance looks up (4.2.5): the types, the functions, imported ones first, and how
--- many pages memory may have, which is its own maximum or the configured limit, whichever is less.
+-- many pages memory may have. That is its own maximum or the configured limit, whichever is less.
 pub record Program : Type 0 where
   pub types : List FunctionType
   pub functions : List Callee
@@ -34,16 +34,16 @@ pub data Part : Type 0 where
   Main : Part
   Second : Part
 
--- A label (4.2.12): how many values a branch to it keeps, and what is executed after such a branch;
--- then the values below its block, what follows the block, and which part of its instruction this
+-- A label (4.2.12): how many values a branch to it keeps, and what is executed after such a branch.
+-- Then the values below its block, what follows the block, and which part of its instruction this
 -- is.
 pub data Label : Type 0 where
   LabelOf : (keeps : ℕ) (target : Sequence) (below : List Value) (after : Sequence) (which : Part)
       → Label
 
--- A frame (4.2.12): its function, its locals, the labels around its next instruction, the innermost
--- first, the values above the innermost label, the last one first, and the instructions that remain
--- there.
+-- A frame (4.2.12): its function, its locals, and the labels around its next instruction, the
+-- innermost first. Then the values above the innermost label, the last one first, and the
+-- instructions that remain there.
 pub data Frame : Type 0 where
   FrameOf : (function : ℕ) (locals : List Value) (labels : List Label) (values : List Value)
       (rest : Sequence) → Frame
@@ -60,9 +60,8 @@ pub record Configuration : Type 0 where
   pub thread : Thread
   pub later : List ℕ
 
--- What the next rule leads to: a configuration, a trap, or a function of the host that is called
--- with these arguments, the last one first, and the thread that waits for its results. Or no rule
--- applies.
+-- What the next rule leads to: a configuration, a trap, or a call of the host's function. That has
+-- these arguments, the last one first, and a thread that waits for its results. Or no rule applies.
 pub data Outcome : Type 0 where
   Goes : (next : Configuration) → Outcome
   Traps : (why : Trap) → Outcome

@@ -1,6 +1,6 @@
--- The shape that typing gives to each position of a body that it reaches: the labels around it, the
--- types of the operands, and what remains of the innermost sequence. Code behind `unreachable`,
--- `br`, `br_table` and `return`, up to the end of its block, is not reached.
+-- The shape that typing gives to each position of a body that it reaches. It has the labels around
+-- it, the types of the operands, and what remains of the innermost sequence. Code behind
+-- `unreachable`, `br`, `br_table` and `return`, up to the end of its block, is not reached.
 use Rattle.std.specs.Prelude.{◌≡◌, ℕ, zero, suc, ◌+◌, ◌-◌, nat_le, ◌==◌, List, [], ◌∷◌, ◌++◌}
 use Rattle.std.specs.Prelude.{length, drop, Option, Some, None, option_map, slice_get}
 use Rattle.std.specs.Prelude.{if◌then◌else◌}
@@ -19,8 +19,8 @@ use Rattle.wasm_syntax_rules.specs.Types.{conversion_gives, loaded_type, takes_o
 use Rattle.wasm_syntax_rules.specs.Types.{results_of}
 use Rattle.wasm_syntax_rules.specs.Typing.{Context, HasType}
 
--- A label: what a branch to it takes, what is executed then, the types of the values below its
--- block, what follows the block, and which part of its instruction this is.
+-- A label: what a branch to it takes, and what is executed then. Then the types of the values below
+-- its block, what follows the block, and which part of its instruction this is.
 pub data LabelShape : Type 0 where
   ShapeOf : (takes : List ValueType) (target : Sequence) (below : List ValueType) (after : Sequence)
       (which : Part) → LabelShape

@@ -1,7 +1,7 @@
-//! Where jumps of small bodies lead, derived from the standard: a branch to the label of a block or
-//! an `if` goes on behind its `end`, one to that of a loop at the loop, and one to the function's
-//! own behind the last `end`. It keeps what the label takes, above the operands that were below the
-//! block.
+//! Where jumps of small bodies lead, derived from the standard. A branch to the label of a block or
+//! an `if` goes on behind its `end`. One to that of a loop goes on at the loop, and one to the
+//! function's own behind the last `end`. It keeps what the label takes, above the operands that
+//! were below the block.
 
 ghost use Rattle.std.specs.Prelude.{IfOk};
 ghost use Rattle.machine_jumps.specs.Contexts.{GivesOnes};

@@ -52,10 +52,10 @@ fn check(alloc: Global, module: &Module) -> Result<(), ValidFault>
 }
 
 /// Decides whether a module is valid. A fault other than `Memory` says that it is not, and is the
-/// first one: types, imports, functions' types, tables, memories, globals, exports, the start
-/// function, element segments and data segments come before bodies, and each is checked from the
-/// front. It takes time in proportion to the module, but for the names of exports, whose bytes take
-/// n log n, and each call in a body takes time in proportion to its parameters. Memory is taken in
+/// first one. Types, imports, functions' types, tables, memories, globals, exports, the start
+/// function, element segments and data segments come before bodies. Each is checked from the front.
+/// It takes time in proportion to the module, but for the names of exports, whose bytes take
+/// n log n. Each call in a body takes time in proportion to its parameters. Memory is taken in
 /// proportion to the functions, globals, exports and the longest body.
 pub fn validate(alloc: Global, module: Module) -> Result<ValidModule, ValidFault>
     ensures same { IfOk result (λ v. v ≡ «module») }

@@ -21,8 +21,9 @@ pub record IsFoundAfterCut (left found : Medium) : Type 0 where
   pub fresh : IsFresh image found
   pub sectors : found.sectors ≡ left.sectors
 
--- The disk that a life leaves, and the one that the next life finds: after a cut one of the images
--- that it may leave, after an error the same disk, with what was written and never settled.
+-- The disk that a life leaves, and the one that the next life finds. After a cut that is one of the
+-- images that it may leave. After an error it is the same disk, with what was written and never
+-- settled.
 abbrev pub NextFinds : {D : Type 0} → (D → Medium) → End → D → D → Type 0
 NextFinds medium Finished left found = IsFoundAfterCut (medium left) (medium found)
 NextFinds medium Stopped left found = IsFoundAfterCut (medium left) (medium found)
@@ -32,8 +33,8 @@ NextFinds medium (Failed cause) left found = found ≡ left
 abbrev pub FindsNoWorker : Medium → Type 0
 FindsNoWorker disk = (image : Image) → disk.may_leave image → IsBlank image
 
--- What the calls of one life are proved to do, from its recovery or creation to its end: where
--- the disk that it found keeps the promise, its events are those of a worker that goes on, and
+-- What the calls of one life are proved to do, from its recovery or creation to its end. Where the
+-- disk that it found keeps the promise, its events are those of a worker that goes on. In that case
 -- the disk that it leaves keeps what is promised then. No disk is of a later generation than as
 -- much has happened, and each has all sectors of its worker.
 abbrev pub IsLivedOn : Module → Settings → Promise → Inputs → Life → Medium → Medium → Type 0

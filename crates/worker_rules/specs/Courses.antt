@@ -148,8 +148,8 @@ IsNextAct act (first ∷ acts) = act ≡ first
 
 -- ---- errors, and ends
 
--- What an error of the call that is under way may come from: a source or an outlet that failed it,
--- and nothing else then; or the disk, memory, or a number at its end.
+-- What an error of the call that is under way may come from. If a source or an outlet failed it, it
+-- is from that and from nothing else. Or it is from the disk, memory, or a number at its end.
 abbrev pub MayFail : Phase → Cause → Type 0
 MayFail (Broken why) cause = cause ≡ why
 MayFail Open OfDisk = Unit {0}

@@ -28,8 +28,8 @@ IsNothingYet promise = promise ≡ record nothing_yet { events = promise.events 
 abbrev pub IsUnopened : Promise → Image → Type 0
 IsUnopened promise disk = IsNothingYet promise × IsBlank disk
 
--- The one predicate that joins promise and disk: an image that a cut may leave within a call
--- holds all that was promised when the call began. The answers and the lines of a snapshot may be
+-- The one predicate that joins promise and disk. An image that a cut may leave within a call holds
+-- all that was promised when the call began. The answers and the lines of a snapshot may be
 -- those of the call itself.
 abbrev pub ImageHolds : Module → Settings → Promise → Promise → Image → Type 0
 ImageHolds m config then now disk = IsUnopened then disk ⊎ HoldsPromise m config then now disk
@@ -39,8 +39,8 @@ abbrev pub KeepsPromise : Module → Settings → Promise → Medium → Type 0
 KeepsPromise m config promise disk =
     (image : Image) → disk.may_leave image → ImageHolds m config promise promise image
 
--- What a call leaves of a promise, by Ok or by any error: a cut at any moment of it leaves what
--- holds all that was promised when it began, and a cut now what holds all that is promised now.
+-- What a call leaves of a promise, by Ok or by any error. A cut at any moment of it leaves what
+-- holds all that was promised when it began. A cut now leaves what holds all that is promised now.
 pub record CarriesPromise (m : Module) (config : Settings) (then now : Promise)
     (old new : Medium) : Type 0 where
   pub at_any_moment : LeavesOnly old new (ImageHolds m config then now)

@@ -78,8 +78,8 @@ pub data Beginning : Type 0 where
   Recovers : Beginning
   Creates : Beginning
 
--- How a life ends: all that it was told to do is done, and then the power is cut; the stop that
--- was put into it came; or a call answered another error.
+-- How a life ends. All that it was told to do is done, and then the power is cut. Or the stop that
+-- was put into it came. Or a call answered another error.
 pub data End : Type 0 where
   Finished : End
   Stopped : End

@@ -73,9 +73,9 @@ abbrev pub heard_by : Bool → ℕ → ℕ
 heard_by true number = number
 heard_by false number = 0
 
--- What is promised after an event. A life that opens stands where it opened: what an earlier one
--- did beyond that is undone, the guest's syncs there included, and their answers are among those
--- that every later life opens with. A process that asks has all its syncs behind it.
+-- What is promised after an event. A life that opens stands where it opened. What an earlier one
+-- did beyond that is undone, the guest's syncs there included. Their answers are among those that
+-- every later life opens with. A process that asks has all its syncs behind it.
 abbrev pub after : Promise → Event → Promise
 after so_far (Told r is_taken) = record so_far {
   begun = max r.number so_far.begun;
@@ -167,9 +167,9 @@ pub record IsInquiring (m : Module) (config : Settings) (so_far : Promise) (stag
   pub fitting : IsFitting process.host.limit question.kind question.said question.fits
   pub heard : question.said ≡ first_said stage.says
 
--- A front of so many kept answers, with a process of so many steps, holds all that was promised:
--- as many answers and steps, the answers behind each line whose release was begun, and those
--- behind each sync of the guest that returned.
+-- A front of so many kept answers, with a process of so many steps, holds all that was promised. It
+-- has as many answers and steps. It has the answers behind each line whose release was begun, and
+-- those behind each sync of the guest that returned.
 pub record HoldsAll (m : Module) (config : Settings) (kept : List Kept) (so_far : Promise)
     (held steps : ℕ) : Type 0 where
   pub within : held ≤ length kept
@@ -201,9 +201,9 @@ abbrev pub fuel_of : Act → ℕ
 fuel_of (Slice fuel) = fuel
 fuel_of Checkpoint = 0
 
--- A slice says that its steps are taken after exactly its fuel; that an answer isn't there where
--- the source has just said so; that the process has ended where it has. A checkpoint takes no
--- step. An error has a cause.
+-- A slice says that its steps are taken after exactly its fuel. It says that an answer isn't there
+-- where the source has just said so, and that the process has ended where it has. A checkpoint
+-- takes no step. An error has a cause.
 abbrev pub IsReply : Promise → Stage → ℕ → Saved → Act → Reply → Type 0
 IsReply so_far stage held shown (Slice fuel) Spent =
     (stage.phase ≡ Open) × (shown.steps ≡ stage.step + fuel) × (shown.ended ≡ None)
@@ -229,7 +229,7 @@ pub record HasLastLines {m : Module} {config : Settings} {kept : List Kept} {ste
   pub leads : next_of at.reached.guest at.process given ≡ On configuration host
   pub no_numbers : HasLineNumbers host → ⊥
 
--- Where a call says that a number is at its end, it is that of the next step, or of its lines, or
+-- Where a call says that a number is at its end, it is that of the next step, or of its lines. Or
 -- so much has happened that it may be that of a generation.
 abbrev pub IsAtBound : {m : Module} {config : Settings} {kept : List Kept} {steps : ℕ}
     {saved : Saved} → Promise → IsAt m config kept steps saved → Reply → Type 0
@@ -295,7 +295,7 @@ GoOn m config so_far (inputs ∷ others) (life ∷ lives) = IsLived m config so_
 GoOn m config so_far [] (life ∷ lives) = ⊥
 GoOn m config so_far (inputs ∷ others) [] = ⊥
 
--- The restart theorem of a list of lives, and of what was put into each: restart after restart,
--- the worker goes on as one that was never stopped.
+-- The restart theorem of a list of lives, and of what was put into each. Restart after restart, the
+-- worker goes on as one that was never stopped.
 abbrev pub GoesOn : Module → Settings → List Inputs → List Life → Type 0
 GoesOn m config inputs lives = GoOn m config nothing_yet inputs lives

@@ -29,11 +29,11 @@ pub record IsNumbered (p : ProcessState) : Type 0 where
   pub steps : p.steps < 2 ^ 63
   pub lines : HasLineNumbers p.host
 
--- On the disk stand a configuration within its limits, bytes that are accepted as the module, and
--- an image that the newest complete head names, of a process to which the module comes on the
+-- On the disk stand a configuration within its limits, and bytes that are accepted as the module.
+-- The newest complete head names an image there, of a process to which the module comes on the
 -- first of the kept answers. All others are the records of the journal of that generation, one by
 -- one, each at its step. Step n is that of the last record, or, if there are no records, of the
--- image; up to there all numbers are below their ends.
+-- image. Up to there all numbers are below their ends.
 pub record StandsFor (disk : Image) (m : Module) (config : Settings) (kept : List Kept) (n : ℕ)
     : Type 0 where
   pub wasm : List ℕ

@@ -35,8 +35,8 @@ pub fn no_number_has_two_texts()
     ensures { NoNumberHasTwoTexts }
 {}
 
-/// Where it holds, each later life has at least what an earlier one opened with, what a checkpoint
-/// held, and the answers behind a guest sync that returned.
+/// Where it holds, each later life has at least what an earlier one opened with and what a
+/// checkpoint held. So it has the answers behind a guest sync that returned.
 pub fn promises_are_for_good()
     ensures openings { OpeningsAreForGood }
     ensures checkpoints { CheckpointsAreForGood }
@@ -108,8 +108,8 @@ pub fn refused_workers()
     ensures { (m : Module) (config : Settings) → RefusedWorkers m config }
 {}
 
-/// Honest stories are satisfied: a restart from the journal, one behind a checkpoint, one behind a
-/// recovery that was cut, and a refused line told again.
+/// Honest stories are satisfied. They have a restart from the journal, one behind a checkpoint, one
+/// behind a recovery that was cut, and a refused line told again.
 pub fn honest_stories()
     ensures { (m : Module) (config : Settings) (t : Teller m config) → HonestStories t }
 {}

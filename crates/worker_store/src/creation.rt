@@ -27,10 +27,13 @@ use std::alloc::Global;
 use wasi_abi::Config;
 
 /// Lays a disk out for a worker of this configuration and the bytes of this module, that begins as
-/// this process. In this order: zeros over the super, and a sync; configuration and module, zeros
-/// over the heads and over the journal, and a sync; the image of the process, a sync, its head, and
-/// a sync; the super, and a sync. A disk with too few sectors is refused before anything is
-/// written, and so is want of memory told.
+/// this process. A disk with too few sectors is refused before anything is written, and so is want
+/// of memory told. This is written, in this order:
+///
+/// - zeros over the super, and a sync
+/// - configuration and module, zeros over the heads and over the journal, and a sync
+/// - the image of the process, a sync, its head, and a sync
+/// - the super, and a sync
 pub fn lay_out<D: Disk>(
     alloc: Global,
     disk: &mut D,

@@ -169,8 +169,8 @@ pub fn savepoints_hold_promises()
     ensures opens { PointOpens }
 {}
 
-/// The disk of an open worker keeps what is promised, between its calls, while each goes on and
-/// when it has ended, by Ok or by any error.
+/// The disk of an open worker keeps what is promised. So it does between its calls, while each goes
+/// on, and when it has ended, by Ok or by any error.
 pub fn disks_carry_promises<D: Disk>()
     ensures keeps { CarriedKeeps D.medium }
     ensures stays { StaysCarried D.medium }
@@ -209,7 +209,7 @@ pub fn processes_are_savepoints()
     ensures first { FirstIsAtHand }
 {}
 
-/// A barrier and a commit, one after the other, save a worker: at each moment its disk keeps what
+/// A barrier and a commit, one after the other, save a worker. At each moment its disk keeps what
 /// is promised, and in the end what a checkpoint promises.
 pub fn saves_carry_promises<D: Disk>()
     ensures moment { SaveAtAnyMoment D.medium }

@@ -33,7 +33,7 @@ pub fn read_worker<D: Disk>(alloc: Global, disk: &mut D) -> Result<Contents, Sto
 }
 
 /// The newest snapshot of the worker. It is `Damaged` where no head is complete, or where the
-/// newest one names an image that its area doesn't hold, and `Layout` with `Version` where the
+/// newest one names an image that its area doesn't hold. It is `Layout` with `Version` where the
 /// image is of a version that isn't known. It never says that there is no worker.
 pub fn read_newest<D: Disk>(
     alloc: Global,

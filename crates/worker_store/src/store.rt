@@ -36,7 +36,7 @@ impl WorkerStore {
     ghost use Rattle.wasi_abi.specs.declared.numbers.TheConstants.{NUMBERS_END};
 
     /// Opens the store of a worker that a recovery has brought back to this process, from the disk
-    /// that stands for it: commits it as this generation, one more than that of the newest
+    /// that stands for it. It is committed as this generation, one more than that of the newest
     /// snapshot. Lines that wait in the process have been released by the caller.
     pub fn reopen<D: Disk>(
         alloc: Global,

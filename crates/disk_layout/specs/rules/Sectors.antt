@@ -125,7 +125,7 @@ head_of sector = record {
   generation = number_of (part sector GENERATION_AT 8);
 }
 
--- A complete head: it begins with the mark, its stamp names a head's place, and its generation,
+-- A complete head. It begins with the mark, and its stamp names a head's place. Its generation,
 -- never 0, is odd or even as its area is.
 pub record IsComplete (area : ℕ) (sector : List ℕ) : Type 0 where
   pub mark : take 8 sector ≡ HEAD_MARK

@@ -22,11 +22,17 @@ pub struct Contents {
 }
 
 /// Reads the super, and the configuration and the module behind it. What is wrong is found in this
-/// order: a mark of the super is missing (`NotAWorker`); the layout is none that is known
-/// (`Version`); the super's lengths and sectors disagree (`Damaged`); the disk ends before the
-/// module does (`TooSmall`); the digest differs, the bytes are no configuration's, or the super's
-/// sectors aren't those of the configuration (`Damaged`); the disk ends before the journal does
-/// (`TooSmall`). Want of memory and a fault of the disk may come before any of these.
+/// order:
+///
+/// - a mark of the super is missing (`NotAWorker`)
+/// - the layout is none that is known (`Version`)
+/// - the super's lengths and sectors disagree (`Damaged`)
+/// - the disk ends before the module does (`TooSmall`)
+/// - the digest differs, the bytes are no configuration's, or the super's sectors aren't those of
+///   the configuration (`Damaged`)
+/// - the disk ends before the journal does (`TooSmall`)
+///
+/// Want of memory and a fault of the disk may come before any of these.
 pub fn read_contents<D: Disk>(alloc: Global, disk: &mut D) -> Result<Contents, LayoutFault>
     ensures reads { OnlyReads (D.medium disk.old) (D.medium disk.new) }
     ensures gives { (image : Image) → (D.medium disk.new).shows image

@@ -94,8 +94,8 @@ pub data BeginsLife {D O : Type 0} (medium : D → Medium) (takes : Taking O) (b
         → IfErr result (IsNotCreatedOn bytes config (medium mid) (medium disk))
         → BeginsLife medium takes bytes config found outlet Creates (opened_by result) disk outlet'
 
--- The calls of one life: how it begins, the worker with which it opens, and what is still to be
--- done in the end, or the error that ended it.
+-- The calls of one life: how it begins, and the worker with which it opens. Then what is still to
+-- be done in the end, or the error that ended it.
 pub data IsOneLife {D S O : Type 0} (medium : D → Medium) (gives : Giving S) (takes : Taking O)
     (bytes : List ℕ) (config : Settings) (acts : List Act) : D → S → O → Beginning
     → Option DurableValue → Result (List Act) RecoverFault → D → S → O → Type 0 where
@@ -183,9 +183,9 @@ pub record IsLifeOf (inputs : Inputs) (begins : Beginning) (exchanges : List Exc
 
 -- ---- the law
 
--- The calls of one life, each as its clause says, on a disk that keeps what was promised: what they
--- exchange with source and outlet, and, whatever was put in that this makes true, a life that goes
--- on from all that was promised, and leaves a disk that keeps what is promised then.
+-- Take the calls of one life, each as its clause says, on a disk that keeps what was promised. They
+-- exchange something with source and outlet. Whatever was put in that this makes true, they are a
+-- life that goes on from all that was promised. It leaves a disk that keeps what is promised then.
 abbrev pub CallsMakeLives : {D S O : Type 0} → (D → Medium) → Giving S → Taking O → Type 0
 CallsMakeLives {D} {S} {O} medium gives takes =
     (m : Module) (config : Settings) (bytes : List ℕ) (so_far : Promise) (acts : List Act)

@@ -34,8 +34,8 @@ uncut acts exchanges = record {
 }
 
 -- The calls are a life that goes on from all that was promised, and leave a disk that keeps what is
--- promised then. The lines told in it are those that were released, and the outlet has taken each
--- of them, or the life ended by one that it refused. It ends as its last call says.
+-- promised then. The lines told in it are those that were released. The outlet has taken each of
+-- them, or the life ended by one that it refused. It ends as its last call says.
 pub record GoesOnUncut {D S O : Type 0} (medium : D → Medium) (gives : Giving S) (takes : Taking O)
     (m : Module) (config : Settings) (so_far : Promise) (acts : List Act) (begins : Beginning)
     (left : Result (List Act) RecoverFault) (found last : D) (source source' : S)

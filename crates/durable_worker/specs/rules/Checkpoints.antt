@@ -28,9 +28,9 @@ pub record IsSavedIn (old new : DurableValue) : Type 0 where
   pub unfailed : new.has_failed ≡ old.has_failed
   pub generation : new.store.journal.generation ≡ old.store.journal.generation + 1
 
--- The pending records are written, and synced. Then some sectors of the image are, in rising order
--- and each once at most, and behind a sync the head of the next generation, and a sync. After an
--- error these calls are begun.
+-- The pending records are written, and synced. Then some sectors of the image are written, in
+-- rising order and each once at most. Behind a sync come the head of the next generation, and a
+-- sync. After an error these calls are begun.
 abbrev pub CheckpointCalls : {T E : Type 0} → DurableValue → Result T E → Medium → Medium → Type 0
 CheckpointCalls w result old new = (stores : List DiskCall)
     × AreStores Changes (area_place w.store.geometry (w.store.journal.generation + 1))
@@ -38,7 +38,7 @@ CheckpointCalls w result old new = (stores : List DiskCall)
     × MakesCalls (with_head (w.store.journal.generation + 1) stores
     ++ barrier_calls w.store.geometry w.store.journal) result old new
 
--- When each error comes of a worker that is open: the number of the generation is at its end, or
+-- When each error comes of a worker that is open. The number of the generation is at its end, or
 -- the disk failed, or it surely takes too few writes between two syncs.
 abbrev pub IsCheckpointFault : DurableValue → Medium → Medium → DurableFault → Type 0
 IsCheckpointFault w old new (Store store.TooBig) = NUMBERS_END ≤ w.store.journal.generation + 1

@@ -31,7 +31,7 @@ use Rattle.durable_worker.specs.rules.OpenWorkers.{IsOpenOn}
 
 -- ---- what a call answers
 
--- What an error of an open worker is in a life. A source fails, or hands over what doesn't fit; a
+-- What an error of an open worker is in a life. A source fails, or hands over what doesn't fit. A
 -- number at its end is that of a step, of a line or of a generation. No other error comes.
 abbrev pub ComesOf : DurableFault → Cause → Type 0
 ComesOf (Work work.Source) cause = (cause ≡ OfSource) ⊎ (cause ≡ OfAnswer)

@@ -49,8 +49,8 @@ pub record IsCreatedOn (bytes : List ℕ) (config : Settings) (w : DurableValue)
   pub contents : (image : Image) → disk.may_leave image → HasWorker config bytes image
   pub room : total_sectors w.store.geometry ≤ disk.sectors
 
--- When each error comes: the module isn't accepted, or the host has no room; the disk has too few
--- sectors; it failed, or it surely takes too few writes between two syncs.
+-- When each error comes. The module isn't accepted, or the host has no room. Or the disk has too
+-- few sectors. Or it failed, or it surely takes too few writes between two syncs.
 abbrev pub IsNotCreatedOn : List ℕ → Settings → Medium → Medium → DurableFault → Type 0
 IsNotCreatedOn bytes config old new (Work why) = IsRefusedByWorker config.pages bytes why
 IsNotCreatedOn bytes config old new (Store (store.Layout TooSmall)) =
@@ -77,8 +77,8 @@ CreationCalls bytes config (Err why) old new = (count : ℕ)
 
 -- ---- what is promised
 
--- A cut at any moment leaves no worker, or one that has begun: what holds all that is promised, of
--- a generation with an event of its own, with all its sectors on the disk.
+-- A cut at any moment leaves no worker, or one that has begun. That holds all that is promised, is
+-- of a generation with an event of its own, and has all its sectors on the disk.
 pub record LeavesCreation (m : Module) (config : Settings) (promise now : Promise)
     (old new : Medium) : Type 0 where
   pub carried : CarriesPromise m config promise now old new

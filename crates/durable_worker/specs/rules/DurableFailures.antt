@@ -1,5 +1,5 @@
--- Why a slice of a worker on its disk fails, and what it has done until then, in the words of a
--- worker that has no disk (this project's own).
+-- Why a slice of a worker on its disk fails, and what it has done until then (this project's own).
+-- It is said in the words of a worker that has no disk.
 use Rattle.std.specs.Prelude.{◌≡◌, ◌⊎◌, ℕ, ◌<◌, ◌≤◌, List, Option, Some, None}
 use Rattle.wasi_abi.specs.declared.answer.Kind.{Kind}
 use Rattle.wasi_calls_rules.specs.Hosts.{Line}

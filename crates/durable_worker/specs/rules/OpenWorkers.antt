@@ -19,7 +19,7 @@ use Rattle.worker_store.specs.rules.Stores.{IsStoreOf}
 use Rattle.durable_worker.specs.rules.DurableValues.{DurableValue}
 
 -- The disk of a worker, and its store, which hold what is promised. The answers of a savepoint, of
--- the records behind it and of those that are pending are all kept answers, and lead to p without
+-- the records behind it and of those that are pending are all kept answers. They lead to p without
 -- another one. The answers behind the guest's syncs up to this step are among those on the disk.
 -- The savepoint's generation is at most this one.
 pub record IsOnDisk (m : Module) (config : Settings) (guest : Guest) (promise : Promise)

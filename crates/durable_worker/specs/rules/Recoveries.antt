@@ -85,7 +85,7 @@ pub record IsRevived {disk : Image} {m : Module} {config : Settings} {kept : Lis
   pub unfailed : w.has_failed ≡ false
 
 -- Some of the lines of p behind the first so many were released, each once, in their order, with
--- their numbers, and the outlet took them.
+-- their numbers. The outlet took them.
 pub record TellsSome {O : Type 0} (takes : Taking O) (released : ℕ) (p : ProcessState)
     (outlet outlet' : O) : Type 0 where
   pub told : List Line
@@ -93,7 +93,7 @@ pub record TellsSome {O : Type 0} (takes : Taking O) (released : ℕ) (p : Proce
   pub are : drop released p.host.lines ≡ told ++ others
   pub releases : Releases takes outlet (all_taken (suc released) told) outlet'
 
--- An error of it comes for want of memory, from the outlet or the disk, or where the number of the
+-- An error of it comes for want of memory, or from the outlet or the disk. Or the number of the
 -- next generation is at its end.
 abbrev pub RevivesInVain : {O : Type 0} {disk : Image} {m : Module} {config : Settings}
     {kept : List Kept} {n : ℕ} → Taking O → StandsFor disk m config kept n → RecoverFault → O → O
@@ -145,8 +145,8 @@ pub record IsUnsettled {T O : Type 0} (result : Result T RecoverFault) (old new 
   pub faulted : old.faults < new.faults
   pub none_told : outlet' ≡ outlet
 
--- The calls of the disk behind the reads, once the worker is open: some sectors of its image, in
--- rising order and each once at most, a sync, the head of its generation, and a sync.
+-- The calls of the disk behind the reads, once the worker is open. They are some sectors of its
+-- image, in rising order and each once at most, a sync, the head of its generation, and a sync.
 abbrev pub OpeningCalls : DurableValue → Medium → Medium → Type 0
 OpeningCalls w mid new = (stores : List DiskCall)
     × AreStores Changes (area_place w.store.geometry w.store.journal.generation)
@@ -187,8 +187,8 @@ pub record Reopens (m : Module) (config : Settings) (promise : Promise) (inputs 
   pub opened : IsOpenOn m config guest (promised promise (recovery_events events held w))
       (stage_after (at_first inputs) (recovery_events events held w)) process w new
 
--- Where a life stands whose recovery fails so: the disk failed since, or takes too few writes;
--- memory was refused; the outlet took a line no more; or so much has happened that the number of
+-- Where a life stands whose recovery fails so. The disk failed since, or takes too few writes. Or
+-- memory was refused, or the outlet took a line no more. Or so much has happened that the number of
 -- a generation may be at its end. No other error comes.
 abbrev pub MayNotReopen : Settings → Promise → Phase → RecoverFault → Medium → Medium → Type 0
 MayNotReopen config promise phase (Worker (Work work.Memory)) old new = phase ≡ Shut

@@ -34,8 +34,8 @@ LeavesFrontOrNext store process old new =
     → next.saved ≡ saved_of process
     → LeavesOnly old new (StandsAtFrontOrNext point next records last pending)
 
--- The records that are pending are written, and synced. Then some sectors of the image are, in
--- rising order and each once at most, and behind a sync the head of the next generation, and a
+-- The records that are pending are written, and synced. Then some sectors of the image are written,
+-- in rising order and each once at most. Behind a sync come the head of the next generation, and a
 -- sync. After an error these calls are begun.
 abbrev pub SaveCalls : {T : Type 0} → WorkerStore → ProcessValue → Result T StoreFault → Medium
     → Medium → Type 0
@@ -45,7 +45,7 @@ SaveCalls store process result old new = (stores : List DiskCall)
     × MakesCalls (with_head (store.journal.generation + 1) stores
     ++ barrier_calls store.geometry store.journal) result old new
 
--- When each error comes: the generation or the image is too big, or the disk failed, or it surely
+-- When each error comes. The generation or the image is too big, or the disk failed, or it surely
 -- takes too few writes between two syncs.
 abbrev pub IsSaveFault : WorkerStore → ProcessValue → Medium → Medium → StoreFault → Type 0
 IsSaveFault store process old new TooBig = (NUMBERS_END ≤ store.journal.generation + 1)

@@ -15,8 +15,8 @@ use Rattle.durable_worker.specs.declared.surveyed.Survey.{Survey}
 use Rattle.durable_worker.specs.rules.Recoveries.{SaysNothing, MarksDecide, IsSettledBy}
 use Rattle.durable_worker.specs.rules.Recoveries.{IsUnsettled}
 
--- The numbers of the process that an image has saved, and not of the one to which its records
--- lead; and how many records there are.
+-- The numbers of the process that an image has saved, and not of the one to which its records lead.
+-- Also how many records there are.
 abbrev pub survey_of : {disk : Image} {m : Module} {config : Settings} {kept : List Kept} {n : ℕ}
     → StandsFor disk m config kept n → Survey
 survey_of stands = record {

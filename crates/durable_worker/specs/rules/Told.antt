@@ -57,7 +57,7 @@ TellsEach (life ∷ lives) (report ∷ reports) = TellsLife life report × Tells
 TellsEach _ _ = ⊥
 
 -- Where the bytes spell an accepted module, the report tells lives that go on as one that was never
--- stopped: of this module, and with what was put into each.
+-- stopped. They are of this module, and with what was put into each.
 abbrev pub TellsLives : List ℕ → Settings → List PlannedLife → List LifeReport → Type 0
 TellsLives bytes config planned reports = (m : Module) → IsAccepted offer config.pages bytes m
     → (lives : List Life) × GoesOn m config (map inputs_of planned) lives

@@ -20,8 +20,8 @@ pub struct PlannedLife {
     pub answers: Row<Answer>,
     /// What the worker is told to do, one after another.
     pub acts: Row<PlannedAct>,
-    /// The read, write or sync of this life, from 1 on, at which the power is cut, and the front
-    /// that it leaves if it is a write.
+    /// The read, write or sync of this life, from 1 on, at which the power is cut. Also the front
+    /// that it leaves, if it is a write.
     pub stop: Option<Place>,
     /// The fronts, in bytes, that the cut keeps of the earlier writes since the last good sync, the
     /// oldest first. Of a write without a number all is kept.

@@ -5,8 +5,9 @@
 //!
 //! - `story` runs any list of lives, and tells them. Where the bytes spell an accepted module,
 //!   there are lives with just these inputs that go on as one that was never stopped (`GoesOn`).
-//!   The report tells each (`TellsLives`): how it was opened, the image and the numbers of the
-//!   process then, all its lines in order, how it ended, and with how many calls of the disk.
+//!   The report tells each (`TellsLives`). It says how it was opened, and the image and the numbers
+//!   of the process then. It has all its lines in order, and says how it ended, and with how many
+//!   calls of the disk.
 //! - So a life isn't opened, or leaves an act undone, only where its stop came first, or an error
 //!   with its cause. That is want of memory, an answer that doesn't fit, or a number at its end
 //!   (`MayEnd` of `worker_rules`).
@@ -17,8 +18,8 @@
 //!   that a cut keeps are those that are told, in order, of all writes but the front of a stop
 //!   (`cut_by`).
 //!
-//! Nothing is said of a module that isn't accepted, nor of the generation that a report names, nor
-//! of how many calls of the disk a life takes.
+//! Nothing is said of a module that isn't accepted. Nor is the generation that a report names, or
+//! how many calls of the disk a life takes.
 //!
 //! # Definitions to read
 //!
@@ -30,8 +31,9 @@
 //! # Who may touch what
 //!
 //! It makes its disk, its sources and its outlets itself, and hands out none. It makes the four
-//! calls of a `DurableWorker`, over the disks of `sector_disk`. It takes memory for the disk, for
-//! what a cut leaves of it, for copies of the answers, and for the lines and images that it tells.
+//! calls of a `DurableWorker`, over the disks of `sector_disk`. It takes memory for the disk, and
+//! for what a cut leaves of it. It takes some for copies of the answers, and for the lines and
+//! images that it tells.
 
 ghost use Rattle.std.specs.Prelude.{◌≡◌, ◌<◌, ◌^◌, IfOk, length};
 ghost use Rattle.disk_layout.specs.rules.Places.{geometry_of, total_sectors};

@@ -46,8 +46,8 @@ within_path (Some above) (Some p) = is_some (path_behind above p)
 abbrev pub is_within : Files → ℕ → ℕ → Bool
 is_within fs k d = within_path (path_of fs k) (path_of fs d)
 
--- a node that can be moved to a name in a directory: it isn't the root, has a path, and the
--- directory is no part of it
+-- A node that can be moved to a name in a directory. It isn't the root, has a path, and the
+-- directory is no part of it.
 pub record CanMove (fs : Files) (k d : ℕ) (name : Name) : Type 0 where
   pub not_root : k ≢ 1
   pub there : is_some (path_of fs k) ≡ true

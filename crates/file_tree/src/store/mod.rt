@@ -1,5 +1,5 @@
-//! What a file tree is stored in: nodes in a slab, which contracts see as a list in the order in
-//! which they were pushed, the bytes of files in chunks, and the bytes of names.
+//! What a file tree is stored in. Nodes are in a slab, which contracts see as a list in the order
+//! in which they were pushed. The bytes of files are in chunks. Names have bytes of their own.
 
 mod bytes;
 mod chunks;

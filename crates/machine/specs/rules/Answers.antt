@@ -30,8 +30,8 @@ pub record IsWaiting (results : List Value) (code : Executable) (s : State) : Ty
   pub is_host : slice_get program.functions function ≡ Some (Host kind)
   pub gives : AreOf (gives_of kind) results
 
--- Whichever call of the host it waited at that gives such results, it stands for what the answer
--- makes of that, with the memory that it has.
+-- Take any call of the host that gives such results, at which it waited. It stands for what the
+-- answer makes of that, with the memory that it has.
 abbrev pub IsAnswered : List Value → Executable → State → State → Type 0
 IsAnswered results code old new =
     (functions : List FunctionType) (program : Program) (d : Configuration) (f : ℕ)

@@ -21,7 +21,7 @@ use Rattle.machine.specs.rules.Values.{MachineValue, HoldsMemory, ShowsIn}
 
 -- ---- the beginning
 
--- The machine is of this module, and has begun: for each program of the module under so many pages,
+-- The machine is of this module, and has begun. For each program of the module under so many pages,
 -- of which there is one, it shows where that begins.
 pub record HasBegun (pages : ℕ) (m : Module) (v : MachineValue) : Type 0 where
   pub guest : v.guest ≡ m
@@ -68,8 +68,8 @@ pub record TrapsAfter (new : MachineValue) (program : Program) (d : Configuratio
   pub traps : rule program configuration ≡ Traps why
   pub shows : ShowsIn new program (stopped configuration)
 
--- Why it pauses: the fuel is spent and the program has not ended; some is left, and a call of the
--- host waits; it has ended; or it has trapped.
+-- Why it pauses. The fuel is spent and the program has not ended. Or some is left, and a call of
+-- the host waits. Or it has ended, or it has trapped.
 abbrev pub RunsFor : MachineValue → Program → Configuration → ℕ → ℕ → Pause → Type 0
 RunsFor new program d fuel left pause.Spent = (a : Arrives new program d fuel left)
     × (a.configuration.thread ≢ []) × (left ≡ 0)

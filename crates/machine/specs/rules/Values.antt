@@ -9,7 +9,7 @@ use Rattle.wasm_syntax_rules.specs.Instantiation.{IsProgram}
 use Rattle.wasm_syntax_rules.specs.Configuration.{Program, Configuration}
 use Rattle.machine_slots.specs.rules.Places.{MachineState, Shows}
 
--- The module, how many pages memory may have in its program, its table, the state, and how many
+-- The module, how many pages memory may have in its program, its table and the state. Also how many
 -- pages the memory that the machine holds may have. The last is the second, unless another memory
 -- was put into its place.
 pub record MachineValue : Type 0 where

@@ -20,8 +20,8 @@ fn replace(slots: &mut Slots, taken: usize, given: Option<u32>)
     }
 }
 
-/// Answers the call of the host that waits: puts its result, if the call gives one, in the place of
-/// what the call took, and goes on behind the call. Takes no memory.
+/// Answers the call of the host that waits, and goes on behind it. If the call gives a result, that
+/// is put in the place of what the call took. Takes no memory.
 pub fn answer(code: &Executable, state: &mut State, given: Option<u32>)
     requires { IsWaiting (call_results given) code.now state.old }
     ensures { IsAnswered (call_results given) code.now state.old state.new }

@@ -1,6 +1,6 @@
-//! Linking a valid module to the host: its calls, its entry, and the memory, globals and table
-//! that it begins with (Core Specification 1.0, section 4.5.4). `LinkFault` says why a module
-//! can't be linked.
+//! Linking a valid module to the host (Core Specification 1.0, section 4.5.4). It finds calls and
+//! entry, and the memory, globals and table with which the module begins. `LinkFault` says why a
+//! module can't be linked.
 
 mod calls;
 mod constants;

@@ -17,8 +17,8 @@ use std::alloc::AllocError;
 use wasm_syntax::FunctionType;
 use wasm_validate::{BodyChecker, ModuleContext};
 
-/// Whether the running frame fits: typing reaches its position, where something is left to
-/// execute, and its slots are of the types of its locals and of the operands there.
+/// Whether the running frame fits. Typing reaches its position then, where something is left to
+/// execute. Its slots are of the types of its locals and of the operands there.
 fn fits_running(
     code: &Executable,
     context: &ModuleContext,
@@ -47,8 +47,8 @@ fn fits_running(
     Ok(are_slots(parameters, locals, &operands, operands.len(), place.slots))
 }
 
-/// Whether a frame fits that waits for a function of this type: its position is that of a call of
-/// such a function, and its slots are of the types of its locals and of the operands that the call
+/// Whether a frame fits that waits for a function of this type. Its position is then that of a call
+/// of such a function. Its slots are of the types of its locals and of the operands that the call
 /// leaves.
 fn fits_waiting(
     code: &Executable,

@@ -92,8 +92,8 @@ fn parameters_in(code: &Executable, function_type: u32) -> usize
     types[function_type as usize].parameters.len()
 }
 
-/// How many words the call takes at which the innermost frame waits: its arguments, and where it is
-/// a `call_indirect` the entry's place, which is above them.
+/// How many words the call takes at which the innermost frame waits. They are its arguments, and of
+/// a `call_indirect` also the entry's place, which is above them.
 pub fn words_taken(code: &Executable, state: &State) -> usize
     requires { IsAsking code.now state.now }
     ensures { TakesWords code.now state.now result }

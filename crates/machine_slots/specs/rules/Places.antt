@@ -16,9 +16,9 @@ use Rattle.wasm_syntax_rules.specs.Shapes.{Shape, LabelShape, ShapeOf, body_shap
 use Rattle.wasm_syntax_rules.specs.Typed.{IsTyped}
 use Rattle.machine_slots.specs.declared.limits.TheConstants.{FRAMES, HELD_VALUES}
 
--- A frame: its function, the position of an opcode in its body, counted from 0 with each `else` and
--- `end`, and its slots, which are its parameters, its locals and its operands, the first one first.
--- The position is that of the next counted instruction, or in a frame that waits of its call, whose
+-- A frame: its function, and the position of an opcode in its body, counted from 0 with each `else`
+-- and `end`. Its slots are its parameters, its locals and its operands, the first one first. The
+-- position is that of the next counted instruction, or in a frame that waits of its call, whose
 -- arguments are no slots any more.
 pub record ShownFrame : Type 0 where
   pub function : ℕ

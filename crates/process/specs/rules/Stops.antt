@@ -36,9 +36,9 @@ pub record ComesOwing (new : ProcessValue) (guest : Guest) (p : ProcessState) : 
   pub owing : IsOwing guest before process
   pub shows : ShowsProcess new guest process
 
--- Why a process stops that was given so much fuel: a line waited before, and nothing was done; the
--- last step is the first one after which something is owed; it has ended; the fuel is spent; or
--- some is left, and the next step wants an answer.
+-- Why a process stops that was given so much fuel. A line waited before, and nothing was done. Or
+-- the last step is the first one after which something is owed. Or it has ended, or the fuel is
+-- spent. Or some is left, and the next step wants an answer.
 abbrev pub StopsFor : ProcessValue → ProcessValue → Guest → ProcessState → ℕ → Stop → Type 0
 StopsFor old new guest p fuel stop.Owes =
     ((waiting_in old ≢ []) × (new ≡ old)) ⊎ ((waiting_in old ≡ []) × (come : ComesOwing new guest p)
@@ -117,7 +117,7 @@ pub record TakesAnswer (new : ProcessValue) (guest : Guest) (p : ProcessState) (
   pub moves : Moves guest p (Some answer) process
   pub shows : ShowsProcess new guest process
 
--- The answer is taken, where no line waits; or it isn't what is wanted, there is no memory for the
+-- The answer is taken, where no line waits. Or it isn't what is wanted, there is no memory for the
 -- step, or that can't be counted, and nothing changes. While a line waits, and once the process has
 -- ended, none is wanted.
 abbrev pub GivesFor : ProcessValue → ProcessValue → Guest → ProcessState → Answer

@@ -29,9 +29,9 @@ at_rest memory = record {
 
 -- ---- a line and an exit
 
--- The memory of `hello` at its end: where its text is and how long, the text and its newline, zeros
--- up to the bytes 16 to 19, into which the call has put the number 3, and zeros to the end of the
--- page.
+-- The memory of `hello` at its end. It has where its text is and how long, the text and its
+-- newline, and zeros up to the bytes 16 to 19. Into these the call has put the number 3. Zeros
+-- stand from there to the end of the page.
 abbrev pub hello_memory : List ℕ
 hello_memory = (8 ∷ 0 ∷ 0 ∷ 0 ∷ 3 ∷ 0 ∷ 0 ∷ 0 ∷ []) ++ (codes "hi" ++ 10 ∷ []) ++ replicate 5 0
     ++ (3 ∷ 0 ∷ 0 ∷ 0 ∷ []) ++ replicate 65516 0
@@ -61,9 +61,9 @@ pub record HelloEnds (config : Settings) : Type 0 where
 abbrev pub abc_and_end : List Kept
 abc_and_end = Given (answer.Request (codes "abc")) ∷ Given answer.End ∷ []
 
--- The memory of `echo` at its end: the buffer that it reads into, 4,096 bytes from 64 on, and the
--- one that it writes from, of which four were there; the count of the last read, 0, and of the last
--- write, 4; then from 64 on the text and its newline.
+-- The memory of `echo` at its end. It has the buffer that it reads into, 4,096 bytes from 64 on,
+-- and the one that it writes from, of which four were there. Then come the count of the last read,
+-- 0, and of the last write, 4. From 64 on stand the text and its newline.
 abbrev pub echo_memory : List ℕ
 echo_memory =
     (64 ∷ 0 ∷ 0 ∷ 0 ∷ 0 ∷ 16 ∷ 0 ∷ 0 ∷ []) ++ (64 ∷ 0 ∷ 0 ∷ 0 ∷ 4 ∷ 0 ∷ 0 ∷ 0 ∷ [])

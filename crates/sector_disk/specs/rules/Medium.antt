@@ -1,5 +1,5 @@
--- A disk at a moment, as the contracts see it: what reads give, what a cut may leave, and what a
--- cut may have left since.
+-- A disk at a moment, as the contracts see it. It has what reads give, what a cut may leave, and
+-- what a cut may have left since.
 use Rattle.std.specs.Prelude.{◌≡◌, ◌⊎◌, ◌<◌, ◌≤◌, ◌+◌, ◌-◌, ◌^◌, ℕ, List, [], ◌∷◌, ◌++◌, drop}
 use Rattle.std.specs.Prelude.{Result, OnOk, OnErr, IsErr, IsErrOf}
 use Rattle.sector_disk.specs.rules.Image.{Image, sector_at, with_front, IsImage, IsTorn, IsWritten}

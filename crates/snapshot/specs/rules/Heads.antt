@@ -16,8 +16,8 @@ heads_to image =
     max (shown_generation HEAD_STAMP_PLACE (sector_at image 1)) (shown_generation HEAD_STAMP_PLACE
     (sector_at image 2))
 
--- The newest complete head is of the generation before this one (before the first there is none),
--- and no head's sector shows this one or a later one.
+-- The newest complete head is of the generation before this one (before the first there is none).
+-- No head's sector shows this one or a later one.
 pub record IsReadyForHead (g : ℕ) (image : Image) : Type 0 where
   pub before : ((g ≡ 1) × HasNone image) ⊎ ((h : Head) × IsNewest image (g - 1) h)
   pub none_later : heads_to image < g

@@ -37,8 +37,8 @@ ReadsImage geometry image h (Err Failed) = Unit {0}
 ReadsImage geometry image h (Err Memory) = Unit {0}
 ReadsImage geometry image h (Err (Disk fault)) = Unit {0}
 
--- what is found on a disk: no complete head, or the newest one with the image that it names, or one
--- that names none that is there
+-- What is found on a disk: no complete head, or the newest one with the image that it names. Or the
+-- newest one names an image that isn't there.
 abbrev pub FindsNewest : Geometry → Image → Result (Option Snapshot) SnapshotFault → Type 0
 FindsNewest geometry image (Ok None) = HasNone image
 FindsNewest geometry image (Ok (Some s)) =

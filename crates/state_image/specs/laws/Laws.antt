@@ -65,8 +65,8 @@ SavedIsWellTyped =
     → (reached : Reaches m config kept n p) → v.machine.guest ≡ m → IsProcess v
     → ShowsProcess v reached.guest p → IsWellTyped m config (saved_of v)
 
--- A process that was made again of the image of one that an accepted module has reached has what
--- was saved of that, and shows it, with the texts of all its lines.
+-- Take the image of a process that an accepted module has reached. A process that was made again of
+-- it has what was saved of that one, and shows it, with the texts of all its lines.
 abbrev pub RestoredShowsReached : Type 0
 RestoredShowsReached =
     (bytes : List ℕ) (m : Module) (config : Settings) (functions : List FunctionType)

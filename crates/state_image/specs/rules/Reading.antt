@@ -21,7 +21,7 @@ abbrev pub ReadsField : {X : Type 0} → (X → List ℕ) → (X → Type 0) →
 ReadsField bytes InRange (Some x) old new = HasField bytes InRange x old new
 ReadsField bytes InRange None old new = LacksField bytes InRange old new
 
--- The same where the image spells a part of a process: it gives the part, and each process with
+-- The same where the image spells a part of a process. It gives the part, and each process with
 -- this part has its bytes in front.
 abbrev pub ReadsPart : {V : Type 0} → (Saved → V) → (Saved → List ℕ) → (Saved → Type 0)
     → Option V → List ℕ → List ℕ → Type 0

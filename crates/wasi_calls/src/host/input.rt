@@ -11,7 +11,7 @@ use crate::host::Host;
 use wasi_abi::Kind;
 
 impl Host {
-    /// What a read of so many bytes asks for before it can be made: a request, where it is of
+    /// What a read of so many bytes asks for before it can be made. It is a request where it reads
     /// input, nothing is left to be read, and input hasn't ended.
     pub(crate) fn wanted_input(&self, fd: u32, len: usize) -> Option<Kind>
         requires { (d : Opened) × (open_descriptor self.now.host fd ≡ Ok d) }

@@ -49,8 +49,8 @@ impl Levels {
         self.push_results(takes)
     }
 
-    /// Whether each of these labels takes what the default one of a table takes: `Index` where
-    /// there is no such label, and `Typing` where it takes something else.
+    /// Whether each of these labels takes what the default one of a table takes. It is `Index`
+    /// where there is no such label, and `Typing` where it takes something else.
     fn expect_labels(&self, labels: &[u32], takes: Option<ValueType>) -> Result<(), ValidFault>
         ensures { Tests result (are_labels (labels_of self.now) (results_of takes) labels.now)
             (labels_fault (labels_of self.now) (results_of takes) labels.now) }

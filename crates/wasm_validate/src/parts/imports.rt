@@ -57,8 +57,8 @@ fn fault_of(import: &Import) -> ValidFault
 }
 
 /// Each import is valid, and there is one table and one memory at most. Otherwise the fault of the
-/// first that isn't: `Index` for a function whose type doesn't exist, `Limits` for a table's or a
-/// memory's limits, and for a second one.
+/// first that isn't. It is `Index` for a function whose type doesn't exist, and `Limits` for a
+/// table's or a memory's limits, and for a second one.
 pub fn check_imports(types: &[FunctionType], imports: &[Import]) -> Result<(), ValidFault>
     ensures valid { OnOk result (AreImportsValid types.now nothing_before imports.now) }
     ensures refused { IfErr result (IsFirstImportFault types.now nothing_before imports.now) }

@@ -1,6 +1,6 @@
-//! The checks of a whole module but the bodies (section 3.4.10), in this order: types, imports,
-//! functions, tables, memories, globals, exports, the start function, element segments, data
-//! segments.
+//! The checks of a whole module but the bodies (section 3.4.10). They go in this order: types,
+//! imports, functions, tables, memories, globals, exports, the start function, element segments,
+//! data segments.
 
 ghost use Rattle.std.specs.Prelude.{List, IfErr, OnOk};
 ghost use Rattle.std.specs.List.{AllByRecursion};
@@ -39,8 +39,8 @@ pub fn check_types(module: &Module) -> Result<(), ValidFault>
 
 /// What is checked before data segments: tables, memories, globals, exports, the start function and
 /// element segments. The context is the module's own. It takes time in proportion to the module,
-/// but for the names of exports, whose bytes take n log n, and memory for as many slices as there
-/// are exports.
+/// but for the names of exports, whose bytes take n log n. It takes memory for as many slices as
+/// there are exports.
 pub fn check_before_data(
     alloc: Global,
     module: &Module,

@@ -9,8 +9,8 @@ use Rattle.worker.specs.declared.fault.WorkFault.{WorkFault}
 use Rattle.worker.specs.rules.Slices.{handed, SliceLeadsTo, IsNow, Slices}
 use Rattle.worker.specs.rules.Faults.{SlicesInVain}
 
--- A slice whose fuel is spent and another one are one slice of the fuel of both: the same process,
--- and the same calls of source and outlet.
+-- A slice whose fuel is spent and another one are one slice of the fuel of both. It has the same
+-- process, and the same calls of source and outlet.
 abbrev pub SlicesAdd : {S O : Type 0} → Giving S → Taking O → Type 0
 SlicesAdd {S} {O} gives takes =
     (first second third : WorkerValue) (f g : ℕ) (why : Now) (s t u : S) (o p q : O)
@@ -26,9 +26,9 @@ SlicesAddInVain {S} {O} gives takes =
     → SlicesInVain gives takes second g why third t u p q
     → SlicesInVain gives takes first (f + g) why third s u o q
 
--- Two slices of the same fuel from the same process, to which the same answers were handed over,
--- come to the same process, are over for the same reason, and have released the same lines under
--- the same numbers.
+-- Take two slices of the same fuel from the same process, to which the same answers were handed
+-- over. They come to the same process, and are over for the same reason. They have released the
+-- same lines under the same numbers.
 abbrev pub OneSlice : Type 0
 OneSlice =
     (guest : Guest) (p q r : ProcessState) (xs ys : List Exchange) (n m fuel : ℕ) (why other : Now)

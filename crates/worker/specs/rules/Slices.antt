@@ -64,7 +64,7 @@ AreWanted guest p exchanges =
 -- ---- a slice
 
 module _ {S O : Type 0} (gives : Giving S) (takes : Taking O) where
-  -- The process that the worker showed has gone on to one that it then shows, and all lines that it
+  -- The process that the worker showed has gone on to one that it then shows. All lines that it
   -- emitted on the way were released.
   pub record Works (old new : WorkerValue) (guest : Guest) (p : ProcessState) (source source' : S)
       (outlet outlet' : O) : Type 0 where

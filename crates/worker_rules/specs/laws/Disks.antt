@@ -100,9 +100,9 @@ StandsWithin =
 abbrev pub BlankIsWithin : Type 0
 BlankIsWithin = (disk : Image) (latest sectors : ℕ) → IsBlank disk → IsBounded latest sectors disk
 
--- What a disk stands by, with its numbers: the module that its bytes spell, at most 2 MiB of them,
--- an image of version 1, and records of at most 4,096 bytes each. The kept answers are those of the
--- image and of these. A worker has between 1 and 256 pages, and fewer than 2 ^ 63 steps.
+-- What a disk stands by, with its numbers. It is the module that its bytes spell, at most 2 MiB of
+-- them, an image of version 1, and records of at most 4,096 bytes each. The kept answers are those
+-- of the image and of these. A worker has between 1 and 256 pages, and fewer than 2 ^ 63 steps.
 pub record StandsBy (disk : Image) (m : Module) (config : Settings) (kept : List Kept) (n : ℕ)
     (stands : StandsFor disk m config kept n) : Type 0 where
   pub spelled : IsModule stands.wasm m

@@ -59,7 +59,7 @@ NextLifeIsWithin {D} medium = (latest : ℕ) (ends : End) (left found : D)
     → KeepsBounds latest (medium left) → NextFinds medium ends left found
     → KeepsBounds latest (medium found)
 
--- The restart theorem from the contracts of calls: lives that do what the calls are proved to do,
+-- The restart theorem from the contracts of calls. Lives that do what the calls are proved to do,
 -- one after another on a disk that held no worker, go on.
 abbrev pub LivesGoOn : {D : Type 0} → (D → Medium) → Type 0
 LivesGoOn {D} medium =

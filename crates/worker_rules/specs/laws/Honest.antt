@@ -1,6 +1,6 @@
 -- Honest stories, of which the restart theorem holds. A worker tells two requests again. Whatever
--- the module, it reads the first request when it has come to step 5, and tells its line; reads the
--- second at 27; and tells that one's line by step 42.
+-- the module, it reads the first request when it has come to step 5, and tells its line. It reads
+-- the second at 27, and tells that one's line by step 42.
 use Rattle.std.specs.Prelude.{◌≡◌, ◌≤◌, ℕ, true, false, List, [], ◌∷◌, length, Some, None}
 use Rattle.std.specs.Prelude.{Ok, slice_get}
 use Rattle.wasm_syntax.specs.declared.module.Module.{Module}
