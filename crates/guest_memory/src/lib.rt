@@ -1,5 +1,5 @@
 //! The linear memory of a guest: bytes in whole pages, and a limit on pages (Core Specification
-//! 1.0, sections 4.2.8 and 4.3.1.2).
+//! 1.0, sections 4.2.8 and 4.3.1.3).
 //!
 //! # Promises
 //!
@@ -17,13 +17,14 @@
 //!   (`refused`).
 //! - `grow` puts pages of zeros behind the others (`grown`), exactly where the limit allows it
 //!   (`there`).
-//! - `laws::are_bytes`: each `u8` is a number below 256.
+//! - `laws::are_bytes`: each `u8` is a number below 256. `laws::page_limits_are`: what `PAGE_SIZE`
+//!   and `MOST_PAGES` are.
 //!
 //! # Definitions to read
 //!
 //! In `specs/rules/`: `number_of`, `bytes_of`, `part`, `with_part`, `page_size` (`Bytes.antt`);
 //! `LinearMemory`, `IsWithinLimit`, `zeroed`, `grown_by`, `with_bytes` (`Memories.antt`). What a
-//! lent range ends as is `LendsRange` (`specs/Lends.antt`).
+//! lent range ends as is `LendsRange` (`Lends.antt`).
 //!
 //! # Who may touch what
 //!

@@ -5,10 +5,12 @@
 //!
 //! - `Module` and its parts, `Instruction`, the operators and the types are plain data. `Value`
 //!   and `Trap` are those of execution.
-//! - `Row` is the list of its items. `from_vec` and `into_vec` take and give a vector as it is.
-//!   `push` puts an item behind the others (`pushed`), or leaves all as it was (`unchanged`).
+//! - `Row` is the list of its items, as `as_slice`, `len`, `is_empty` and `get` say. `new` is
+//!   empty. `from_vec` and `into_vec` take and give a vector as it is. `push` puts an item behind
+//!   the others (`pushed`), or leaves all as it was (`unchanged`).
+//! - `Opener` is what an `end` closes.
 //! - `limits` has this project's limits on modules, as `MODULE_BYTES` and `INSTRUCTIONS`. The
-//!   definitions cite the same constants.
+//!   definitions cite the same constants (`laws::module_limits_are`).
 //! - `laws::bytes_spell_at_most_one_module`: two modules that the same bytes spell are equal.
 //! - `laws::worked_examples`: whole modules beside their bytes, other spellings of one of them,
 //!   and bytes that spell none.

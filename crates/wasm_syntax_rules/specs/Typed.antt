@@ -97,8 +97,8 @@ pub record IsTyped (c : Context) (program : Program) (configuration : Configurat
   pub thread : IsTypedThread c program [] configuration.thread
   pub later : AllByRecursion (IsEntry program) configuration.later
 
--- What a rule leads to is typed: a configuration, or a call of the host's function with arguments
--- of its parameters' types, for which a typed thread waits.
+-- What a rule leads to is typed. It is a configuration, or a call of the host's function with
+-- arguments of its parameters' types, for which a typed thread waits.
 abbrev pub IsSound : Context → Program → Outcome → Type 0
 IsSound c program (Goes next) = IsTyped c program next
 IsSound c program (Traps why) = Unit {0}
@@ -107,7 +107,7 @@ IsSound c program (Asks f arguments waits) =
     × AreOf (takes_of kind) arguments × IsTypedThread c program (gives_of kind) waits
 IsSound c program Stuck = ⊥
 
--- ---- type soundness (A.5.3)
+-- ---- type soundness (A.5)
 
 -- A settled configuration that is typed has ended, or a rule applies, and what it leads to is
 -- typed.

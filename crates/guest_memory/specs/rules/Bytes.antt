@@ -1,5 +1,5 @@
 -- Bytes of a memory, and the numbers that they spell, the lowest byte first (Core Specification
--- 1.0, sections 4.2.8 and 4.3.1.2).
+-- 1.0, sections 4.2.8 and 4.3.1.3).
 use Rattle.std.specs.Prelude.{ℕ, zero, suc, ◌+◌, ◌*◌, ◌/◌, ◌%◌, ◌<◌, List, [], ◌∷◌, ◌++◌, length}
 use Rattle.std.specs.Prelude.{take, drop}
 
