@@ -165,7 +165,7 @@ impl Tree {
     pub fn entry(&self, directory: u64, place: usize) -> Option<u64>
         ensures { result ≡ number_at_place self.now directory place }
     {
-        number_held(self.nodes.listed(directory, place))
+        number_held(self.nodes.entry(directory, place))
     }
 
     /// The number of the node of a directory with the least name after this one, by the order of

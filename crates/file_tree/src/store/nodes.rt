@@ -119,7 +119,7 @@ impl Nodes {
     }
 
     /// The node at a place in a directory, by the order of names.
-    pub fn listed(&self, directory: u64, place: usize) -> Option<&Node>
+    pub fn entry(&self, directory: u64, place: usize) -> Option<&Node>
         ensures { option_copied result ≡ node_listed self.now directory place }
     {
         let names = self.names.as_slice();

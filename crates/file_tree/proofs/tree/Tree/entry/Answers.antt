@@ -8,7 +8,7 @@ use Rattle.file_tree.proofs.tree.Tree.entry.Goals as goal
 
 pub returns : goal.returns
 returns c =
-    c.number_held.ensures ∙ ap (option_map (λ (n : Node). n.number)) c.listed.ensures
+    c.number_held.ensures ∙ ap (option_map (λ (n : Node). n.number)) c.entry.ensures
     ∙ listed_shown c.self.inside.nodes c.self.inside.next c.args.directory c.args.place
     c.self.invariant.0
     ∙ ap (λ (fs : Files). number_at_place fs c.args.directory c.args.place) c.self.view_is

@@ -1,6 +1,6 @@
 use Rattle.std.proofs.Common.{sym, ◌∙◌, arith}
 use Rattle.file_tree.proofs.StoreLemmas.NamedLookups.{keys_in_order, listed_at, none_listed_at}
-use Rattle.file_tree.proofs.store.nodes.Nodes.listed.Goals as goal
+use Rattle.file_tree.proofs.store.nodes.Nodes.entry.Goals as goal
 
 pub count_up_to-first-requires : goal.count_up_to-first-requires
 count_up_to-first-requires c =
