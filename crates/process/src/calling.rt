@@ -76,7 +76,7 @@ fn has_numbers(machine: &Machine, host: &Host, call: Call, arguments: &[u64]) ->
     ensures few { result ≡ true → HasNumbers machine.now host.now call arguments.now }
     ensures many { result ≡ false → HasNoNumbers machine.now host.now call arguments.now }
 {
-    let unfinished = host.unfinished_lines() as u64;
+    let unfinished = host.unfinished_line_count() as u64;
     let lines = host.released_count() + host.waiting_lines().len() as u64 + unfinished;
     if lines < LINES_END - MOVED_BYTES as u64 {
         return true;

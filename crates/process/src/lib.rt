@@ -16,9 +16,9 @@
 //!   waiting call with it, as one step, and runs nothing else. After an error nothing has changed.
 //! - `advance` and `give` keep the machine's module (`guest`).
 //! - `released` takes the first lines off that wait, and changes nothing else.
-//! - `steps`, `answers`, `requests`, `lines`, `waiting`, `memory`, `machine`, `host` and `ended`
-//!   say what it holds. Steps are below 2^63, and lines below 2^63 - 2, unfinished ones counted.
-//!   `P3 StepsSpent` is told where the next step would go beyond.
+//! - `steps`, `answers`, `requests`, `lines`, `waiting`, `memory`, `machine`, `host` and
+//!   `reached_end` say what it holds. Steps are below 2^63, and lines below 2^63 - 2, unfinished
+//!   ones counted. `P3 StepsSpent` is told where the next step would go beyond.
 //! - `laws::lines_run_out_by_calls_alone`: of all steps, a call alone that is done may add a line
 //!   without a number.
 //!

@@ -132,7 +132,7 @@ impl Process {
     }
 
     /// How it has ended, if it has.
-    pub fn ended(&self) -> Option<ProcessEnd>
+    pub fn reached_end(&self) -> Option<ProcessEnd>
         ensures { option_map ending_of result ≡ self.now.ended }
     {
         self.ended

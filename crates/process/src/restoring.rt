@@ -48,7 +48,7 @@ fn has_few_lines(host: &Host) -> bool
     ensures { IsTrue result ↔ HasFewLines host.now }
 {
     let waiting = host.waiting_lines().len() as u64;
-    let unfinished = host.unfinished_lines() as u64;
+    let unfinished = host.unfinished_line_count() as u64;
     host.released_count()
         .saturating_add(waiting)
         .saturating_add(unfinished)

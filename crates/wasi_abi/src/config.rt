@@ -2,6 +2,7 @@
 
 ghost use Rattle.std.specs.Prelude.{◌≡◌, ◌↔◌, ◌≤◌, length, IfOk, IsOk, IsTrue};
 ghost use Rattle.std.specs.List.{AllByRecursion};
+ghost use Rattle.wasi_abi.specs.declared.config.TheConstants.{MOST_TEXTS};
 ghost use Rattle.wasi_abi.specs.rules.Configs.{Settings, settings, IsInRange, HasTexts};
 ghost use Rattle.wasi_abi.specs.rules.Configs.{AreSettingsWithinLimits, IsShortText, IsText};
 ghost use Rattle.wasi_abi.specs.rules.Configs.{HasEquals, IsNamed, IsEnvironmentEntry};
@@ -10,17 +11,22 @@ use std::marker::Model;
 use thiserror::Error;
 use wasm_syntax::Row;
 
+/// The most pages of a memory.
 const MOST_PAGES: u64 = 256;
 
+/// The most units of files.
 const MOST_FILES: u64 = 64;
 
+/// The fewest sectors of a journal.
 const LEAST_JOURNAL: u64 = 64;
 
+/// The most sectors of a journal.
 const MOST_JOURNAL: u64 = 65_536;
 
 /// The most arguments, and the most entries of an environment.
 pub const MOST_TEXTS: usize = 64;
 
+/// The most bytes of a text.
 const LONGEST_TEXT: usize = 1024;
 
 /// Why a worker can't be configured so.
@@ -133,7 +139,8 @@ impl Config {
 }
 
 fn are_few_and_short(texts: &[Row<u8>]) -> bool
-    ensures { IsTrue result ↔ ((length texts.now ≤ 64) × AllByRecursion IsShortText texts.now) }
+    ensures { IsTrue result
+        ↔ ((length texts.now ≤ MOST_TEXTS) × AllByRecursion IsShortText texts.now) }
 {
     texts.len() <= MOST_TEXTS && texts.iter().all(|text| text.len() <= LONGEST_TEXT)
 }

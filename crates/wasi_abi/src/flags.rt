@@ -4,8 +4,19 @@ ghost use Rattle.std.specs.Prelude.{⊤, ◌≡◌, ◌↔◌, ◌≤◌, ◌^�
 ghost use Rattle.wasi_abi.specs.rules.Numbers.{open_flags_number, descriptor_flags_number};
 ghost use Rattle.wasi_abi.specs.rules.Numbers.{has_flag, whence_number};
 ghost use Rattle.wasi_abi.specs.Bits.{bit_of};
+ghost use Rattle.wasi_abi.specs.declared.flags.TheConstants.{ALL_OPEN_FLAGS};
+ghost use Rattle.wasi_abi.specs.declared.flags.TheConstants.{ALL_DESCRIPTOR_FLAGS};
 
 use bitflags::{Flag, Flags, bitflag_items};
+
+/// The number of all flags of a path's lookup together.
+pub const ALL_LOOKUP_FLAGS: u32 = 1;
+
+/// The number of all flags of an opening together.
+pub const ALL_OPEN_FLAGS: u32 = 15;
+
+/// The number of all flags of a descriptor together.
+pub const ALL_DESCRIPTOR_FLAGS: u32 = 31;
 
 /// What opening a path does beside opening.
 #[derive(Clone, Copy, PartialEq, Eq, Debug)]
@@ -48,10 +59,10 @@ impl Flags for OpenFlags {
 impl OpenFlags {
     /// The flags whose bits an argument has, or nothing where it has others.
     pub fn from_number(number: u32) -> Option<Self>
-        ensures there { IsSome result ↔ (number ≤ 15) }
+        ensures there { IsSome result ↔ (number ≤ ALL_OPEN_FLAGS) }
         ensures number { IfSome result (λ f. open_flags_number f ≡ number) }
     {
-        if number <= 15 {
+        if number <= ALL_OPEN_FLAGS {
             Some(OpenFlags(number as u16))
         } else {
             None
@@ -113,10 +124,10 @@ impl DescriptorFlags {
 
     /// The flags whose bits an argument has, or nothing where it has others.
     pub fn from_number(number: u32) -> Option<Self>
-        ensures there { IsSome result ↔ (number ≤ 31) }
+        ensures there { IsSome result ↔ (number ≤ ALL_DESCRIPTOR_FLAGS) }
         ensures number { IfSome result (λ f. descriptor_flags_number f ≡ number) }
     {
-        if number <= 31 {
+        if number <= ALL_DESCRIPTOR_FLAGS {
             Some(DescriptorFlags(number as u16))
         } else {
             None

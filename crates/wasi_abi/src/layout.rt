@@ -9,6 +9,21 @@ ghost use Rattle.wasi_abi.specs.rules.Layouts.{u64_at};
 use crate::rights::Rights;
 use byteorder::{ByteOrder, LittleEndian};
 
+/// Bytes of an `fdstat`.
+pub const FDSTAT_BYTES: usize = 24;
+
+/// Bytes of a `filestat`.
+pub const FILESTAT_BYTES: usize = 64;
+
+/// Bytes of a `dirent`, behind which its name stands.
+pub const DIRENT_BYTES: usize = 24;
+
+/// Bytes of a `prestat`.
+pub const PRESTAT_BYTES: usize = 8;
+
+/// Bytes of an `iovec`.
+pub const IOVEC_BYTES: usize = 8;
+
 /// What a descriptor is and may do.
 #[derive(Clone, Copy, Debug, PartialEq, Eq)]
 pub struct Fdstat {
@@ -56,10 +71,10 @@ impl Fdstat {
     ghost use Rattle.wasi_abi.specs.rules.Layouts.{fdstat_layout, fdstat_of, FdstatFits};
 
     /// Lays it out over all of these bytes.
-    pub fn write(&self, bytes: &mut [u8; 24])
+    pub fn write(&self, bytes: &mut [u8; FDSTAT_BYTES])
         ensures { bytes.new ≡ fdstat_layout self.now }
     {
-        *bytes = [0; 24];
+        *bytes = [0; FDSTAT_BYTES];
         bytes[0] = self.file_type;
         put_u16(bytes, 2, self.flags);
         put_u64(bytes, 8, self.base.number());
@@ -67,7 +82,7 @@ impl Fdstat {
     }
 
     /// The fields that lie there. Bytes between them are not looked at.
-    pub fn read(bytes: &[u8; 24]) -> Self
+    pub fn read(bytes: &[u8; FDSTAT_BYTES]) -> Self
         ensures fields { result ≡ fdstat_of bytes.now }
         ensures written { (s : Fdstat) → FdstatFits s → bytes.now ≡ fdstat_layout s → result ≡ s }
     {
@@ -85,10 +100,10 @@ impl Filestat {
     ghost use Rattle.wasi_abi.specs.rules.Layouts.{filestat_layout, filestat_of, FilestatFits};
 
     /// Lays it out over all of these bytes.
-    pub fn write(&self, bytes: &mut [u8; 64])
+    pub fn write(&self, bytes: &mut [u8; FILESTAT_BYTES])
         ensures { bytes.new ≡ filestat_layout self.now }
     {
-        *bytes = [0; 64];
+        *bytes = [0; FILESTAT_BYTES];
         put_u64(bytes, 8, self.node);
         bytes[16] = self.file_type;
         put_u64(bytes, 24, self.links);
@@ -96,7 +111,7 @@ impl Filestat {
     }
 
     /// The fields that lie there. Bytes between them are not looked at.
-    pub fn read(bytes: &[u8; 64]) -> Self
+    pub fn read(bytes: &[u8; FILESTAT_BYTES]) -> Self
         ensures fields { result ≡ filestat_of bytes.now }
         ensures written { (s : Filestat) → FilestatFits s → bytes.now ≡ filestat_layout s
             → result ≡ s }
@@ -115,10 +130,10 @@ impl Dirent {
     ghost use Rattle.wasi_abi.specs.rules.Layouts.{dirent_layout, dirent_of, DirentFits};
 
     /// Lays it out over all of these bytes.
-    pub fn write(&self, bytes: &mut [u8; 24])
+    pub fn write(&self, bytes: &mut [u8; DIRENT_BYTES])
         ensures { bytes.new ≡ dirent_layout self.now }
     {
-        *bytes = [0; 24];
+        *bytes = [0; DIRENT_BYTES];
         put_u64(bytes, 0, self.next);
         put_u64(bytes, 8, self.node);
         put_u32(bytes, 16, self.name_length);
@@ -126,7 +141,7 @@ impl Dirent {
     }
 
     /// The fields that lie there. Bytes between them are not looked at.
-    pub fn read(bytes: &[u8; 24]) -> Self
+    pub fn read(bytes: &[u8; DIRENT_BYTES]) -> Self
         ensures fields { result ≡ dirent_of bytes.now }
         ensures written { (s : Dirent) → DirentFits s → bytes.now ≡ dirent_layout s → result ≡ s }
     {
@@ -144,15 +159,15 @@ impl Prestat {
     ghost use Rattle.wasi_abi.specs.rules.Layouts.{prestat_layout, prestat_of, PrestatFits};
 
     /// Lays it out over all of these bytes.
-    pub fn write(&self, bytes: &mut [u8; 8])
+    pub fn write(&self, bytes: &mut [u8; PRESTAT_BYTES])
         ensures { bytes.new ≡ prestat_layout self.now }
     {
-        *bytes = [0; 8];
+        *bytes = [0; PRESTAT_BYTES];
         put_u32(bytes, 4, self.name_length);
     }
 
     /// The fields that lie there. The tag is not looked at.
-    pub fn read(bytes: &[u8; 8]) -> Self
+    pub fn read(bytes: &[u8; PRESTAT_BYTES]) -> Self
         ensures fields { result ≡ prestat_of bytes.now }
         ensures written { (s : Prestat) → PrestatFits s → bytes.now ≡ prestat_layout s
             → result ≡ s }
@@ -168,16 +183,16 @@ impl Iovec {
     ghost use Rattle.wasi_abi.specs.rules.Layouts.{iovec_layout, iovec_of, IovecFits};
 
     /// Lays it out over all of these bytes.
-    pub fn write(&self, bytes: &mut [u8; 8])
+    pub fn write(&self, bytes: &mut [u8; IOVEC_BYTES])
         ensures { bytes.new ≡ iovec_layout self.now }
     {
-        *bytes = [0; 8];
+        *bytes = [0; IOVEC_BYTES];
         put_u32(bytes, 0, self.from);
         put_u32(bytes, 4, self.length);
     }
 
     /// The fields that lie there.
-    pub fn read(bytes: &[u8; 8]) -> Self
+    pub fn read(bytes: &[u8; IOVEC_BYTES]) -> Self
         ensures fields { result ≡ iovec_of bytes.now }
         ensures written { (s : Iovec) → IovecFits s → bytes.now ≡ iovec_layout s → result ≡ s }
     {

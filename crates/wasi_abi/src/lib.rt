@@ -49,12 +49,17 @@ pub use call::{Call, MODULE_NAME};
 pub use config::{Config, ConfigFault, MOST_TEXTS};
 pub use errno::Errno;
 pub use file_type::FileType;
-pub use flags::{DescriptorFlags, OpenFlags, Whence};
+pub use flags::{
+    ALL_DESCRIPTOR_FLAGS, ALL_LOOKUP_FLAGS, ALL_OPEN_FLAGS, DescriptorFlags, OpenFlags, Whence,
+};
 pub use laws::{
     bytes_spell_numbers, calls_differ, configuration_limits_are, errors_are_no_success,
     layouts_have_their_sizes, numbers_end_is, rights_have_their_bits, sets_have_their_rights,
     worked_directory,
 };
-pub use layout::{Dirent, Fdstat, Filestat, Iovec, Prestat};
+pub use layout::{
+    DIRENT_BYTES, Dirent, FDSTAT_BYTES, FILESTAT_BYTES, Fdstat, Filestat, IOVEC_BYTES, Iovec,
+    PRESTAT_BYTES, Prestat,
+};
 pub use numbers::NUMBERS_END;
 pub use rights::Rights;

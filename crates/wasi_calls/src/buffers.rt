@@ -3,6 +3,7 @@
 ghost use Rattle.std.specs.Prelude.{◌≡◌, ◌≤◌, ◌+◌, ◌-◌, ◌*◌, ◌<◌, ◌^◌};
 ghost use Rattle.std.specs.Prelude.{min, [], ◌∷◌, ◌++◌, length, IfOk, Ok};
 ghost use Rattle.guest_memory.specs.rules.Bytes.{part};
+ghost use Rattle.wasi_abi.specs.declared.layout.TheConstants.{IOVEC_BYTES};
 ghost use Rattle.wasi_abi.specs.rules.Layouts.{u32_at};
 ghost use Rattle.wasi_calls_rules.specs.Checks.{Buffer as GuestRange, buffers_at, is_inside};
 ghost use Rattle.wasi_calls_rules.specs.Checks.{check_or};
@@ -15,7 +16,7 @@ use crate::memory::in_range;
 use arrayvec::ArrayVec;
 use guest_memory::Memory;
 use std::marker::Model;
-use wasi_abi::Errno;
+use wasi_abi::{Errno, IOVEC_BYTES};
 use wasi_calls_rules::limits::{IOVECS, MOVED_BYTES};
 
 /// A range of a guest's memory.
@@ -38,8 +39,8 @@ impl Model for Buffer {
 impl Buffer {
     /// The one that the iovec at `iovecs + offset` names, or `Fault` where it reaches beyond
     /// memory.
-    fn named(memory: &Memory, iovecs: u32, offset: u32) -> Result<Buffer, Errno>
-        requires within { iovecs + (offset + 8) ≤ length memory.now.bytes }
+    fn from_iovec(memory: &Memory, iovecs: u32, offset: u32) -> Result<Buffer, Errno>
+        requires within { iovecs + (offset + IOVEC_BYTES) ≤ length memory.now.bytes }
         requires small { offset < 65536 }
         ensures gives { GivesValue (λ _. tt) result (check_or (is_inside memory.now.bytes (record {
           from = u32_at memory.now.bytes (iovecs + offset);
@@ -134,17 +135,17 @@ impl Buffers {
     /// Those that so many iovecs name. `Inval` where they are too many, and `Fault` where their
     /// array or
     /// a buffer reaches beyond memory.
-    pub fn named(memory: &Memory, iovecs: u32, count: u32) -> Result<Buffers, Errno>
+    pub fn from_iovecs(memory: &Memory, iovecs: u32, count: u32) -> Result<Buffers, Errno>
         ensures gives { GivesValue (λ b. b) result (moved_buffers memory.now.bytes iovecs count) }
         ensures inside { IfOk result (λ b. AreInside memory.now.bytes b) }
     {
         if count as usize > IOVECS {
             return Err(Errno::Inval);
         }
-        in_range(memory, iovecs, 8 * count)?;
+        in_range(memory, iovecs, IOVEC_BYTES as u32 * count)?;
         let mut buffers = Buffers::new();
         for place in 0..count {
-            buffers.push(Buffer::named(memory, iovecs, 8 * place)?);
+            buffers.push(Buffer::from_iovec(memory, iovecs, IOVEC_BYTES as u32 * place)?);
         }
         Ok(buffers)
     }

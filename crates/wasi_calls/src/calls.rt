@@ -76,84 +76,94 @@ fn make(
     match call {
         Call::ArgsGet => {
             let (array, buffer) = two(arguments);
-            checked(texts::get(host.arguments(), memory, array, buffer))
+            check_outcome(texts::get(host.arguments(), memory, array, buffer))
         }
         Call::ArgsSizesGet => {
             let (count, size) = two(arguments);
-            checked(texts::get_sizes(host.arguments(), memory, count, size))
+            check_outcome(texts::get_sizes(host.arguments(), memory, count, size))
         }
         Call::EnvironGet => {
             let (array, buffer) = two(arguments);
-            checked(texts::get(host.environment(), memory, array, buffer))
+            check_outcome(texts::get(host.environment(), memory, array, buffer))
         }
         Call::EnvironSizesGet => {
             let (count, size) = two(arguments);
-            checked(texts::get_sizes(host.environment(), memory, count, size))
+            check_outcome(texts::get_sizes(host.environment(), memory, count, size))
         }
         Call::ClockResGet => {
             let (clock, ret) = two(arguments);
-            checked(clocks::get_resolution(memory, clock, ret))
+            check_outcome(clocks::get_resolution(memory, clock, ret))
         }
-        Call::ClockTimeGet => stopped(clocks::get_time(host, memory, of_time(arguments), answer)),
-        Call::FdClose => checked(changes::close(host, one(arguments))),
-        Call::FdDatasync => checked(changes::sync(host, one(arguments), Rights::FD_DATASYNC)),
+        Call::ClockTimeGet => call_outcome(clocks::get_time(
+            host,
+            memory,
+            of_time(arguments),
+            answer,
+        )),
+        Call::FdClose => check_outcome(changes::close(host, one(arguments))),
+        Call::FdDatasync => check_outcome(changes::sync(host, one(arguments), Rights::FD_DATASYNC)),
         Call::FdFilestatSetSize => {
             let (fd, size) = one_and_long(arguments);
-            stopped(changes::set_size(host, fd, size))
+            call_outcome(changes::set_size(host, fd, size))
         }
-        Call::FdPread => checked(read::read_at(host, memory, of_placed_move(arguments))),
-        Call::FdPwrite => stopped(write::write_at(host, memory, of_placed_move(arguments))),
-        Call::FdRead => stopped(read::read(host, memory, of_move(arguments), answer)),
-        Call::FdReaddir => checked(listing::list(host, memory, of_list(arguments))),
-        Call::FdSeek => checked(offsets::seek(host, memory, of_seek(arguments))),
-        Call::FdSync => checked(changes::sync(host, one(arguments), Rights::FD_SYNC)),
-        Call::FdWrite => stopped(write::write(alloc, host, memory, of_move(arguments))),
+        Call::FdPread => check_outcome(read::read_at(host, memory, of_placed_move(arguments))),
+        Call::FdPwrite => call_outcome(write::write_at(host, memory, of_placed_move(arguments))),
+        Call::FdRead => call_outcome(read::read(host, memory, of_move(arguments), answer)),
+        Call::FdReaddir => check_outcome(listing::list(host, memory, of_list(arguments))),
+        Call::FdSeek => check_outcome(offsets::seek(host, memory, of_seek(arguments))),
+        Call::FdSync => check_outcome(changes::sync(host, one(arguments), Rights::FD_SYNC)),
+        Call::FdWrite => call_outcome(write::write(alloc, host, memory, of_move(arguments))),
         Call::PathCreateDirectory => {
             let (fd, path, len) = three(arguments);
-            stopped(entries::create_directory(alloc, host, memory, fd, path, len))
+            call_outcome(entries::create_directory(alloc, host, memory, fd, path, len))
         }
         Call::PathFilestatGet => {
-            checked(entries::get_path_filestat(host, memory, of_path_filestat(arguments)))
+            check_outcome(entries::get_path_filestat(host, memory, of_path_filestat(arguments)))
         }
-        Call::PathOpen => stopped(opening::open(alloc, host, memory, of_open(arguments))),
+        Call::PathOpen => call_outcome(opening::open(alloc, host, memory, of_open(arguments))),
         Call::PathRemoveDirectory => {
             let (fd, path, len) = three(arguments);
-            checked(entries::remove_directory(host, memory, fd, path, len))
+            check_outcome(entries::remove_directory(host, memory, fd, path, len))
         }
-        Call::PathRename => stopped(renaming::rename(alloc, host, memory, of_rename(arguments))),
+        Call::PathRename => call_outcome(renaming::rename(
+            alloc,
+            host,
+            memory,
+            of_rename(arguments),
+        )),
         Call::PathUnlinkFile => {
             let (fd, path, len) = three(arguments);
-            checked(entries::unlink_file(host, memory, fd, path, len))
+            check_outcome(entries::unlink_file(host, memory, fd, path, len))
         }
         Call::ProcExit => CallOutcome::Exit(one(arguments)),
         Call::SchedYield => CallOutcome::Done(None),
         Call::FdFdstatGet => {
             let (fd, ret) = two(arguments);
-            checked(status::get_fdstat(host, memory, fd, ret))
+            check_outcome(status::get_fdstat(host, memory, fd, ret))
         }
         Call::FdFdstatSetFlags => {
             let (fd, flags) = two(arguments);
-            checked(status::set_flags(host, fd, flags))
+            check_outcome(status::set_flags(host, fd, flags))
         }
         Call::FdFilestatGet => {
             let (fd, ret) = two(arguments);
-            checked(status::get_filestat(host, memory, fd, ret))
+            check_outcome(status::get_filestat(host, memory, fd, ret))
         }
         Call::FdPrestatGet => {
             let (fd, ret) = two(arguments);
-            checked(status::get_prestat(host, memory, fd, ret))
+            check_outcome(status::get_prestat(host, memory, fd, ret))
         }
         Call::FdPrestatDirName => {
             let (fd, path, len) = three(arguments);
-            checked(status::get_prestat_name(host, memory, fd, path, len))
+            check_outcome(status::get_prestat_name(host, memory, fd, path, len))
         }
         Call::FdTell => {
             let (fd, ret) = two(arguments);
-            checked(offsets::tell(host, memory, fd, ret))
+            check_outcome(offsets::tell(host, memory, fd, ret))
         }
         Call::RandomGet => {
             let (buffer, len) = two(arguments);
-            stopped(random::get(host, memory, buffer, len, answer))
+            call_outcome(random::get(host, memory, buffer, len, answer))
         }
     }
 }
@@ -176,7 +186,7 @@ pub fn lines_begun(host: &Host, memory: &Memory, call: Call, arguments: &[u64]) 
 }
 
 /// How a call ends that takes no memory.
-fn checked(ended: Result<(), Errno>) -> CallOutcome
+fn check_outcome(ended: Result<(), Errno>) -> CallOutcome
     ensures { result ≡ check_outcome ended }
 {
     match ended {
@@ -186,7 +196,7 @@ fn checked(ended: Result<(), Errno>) -> CallOutcome
 }
 
 /// How a call ends that may want memory or an answer.
-fn stopped(ended: Result<(), CallStop>) -> CallOutcome
+fn call_outcome(ended: Result<(), CallStop>) -> CallOutcome
     ensures { result ≡ call_outcome ended }
 {
     match ended {

@@ -8,12 +8,10 @@ ghost use Rattle.wasi_calls_rules.specs.Checks.{Bytes, Refuses};
 ghost use Rattle.wasi_calls_rules.specs.Small.{fd_close, fd_syncs, fd_filestat_set_size};
 ghost use Rattle.wasi_calls.specs.Steps.{StopsStep};
 
+use crate::descriptor::PREOPENED;
 use crate::host::Host;
 use crate::stop::CallStop;
 use wasi_abi::{Errno, Rights};
-
-/// The number of the root's descriptor, which stays open.
-const ROOT_DESCRIPTOR: u32 = 3;
 
 /// `fd_close`.
 pub fn close(host: &mut Host, fd: u32) -> Result<(), Errno>
@@ -25,7 +23,7 @@ pub fn close(host: &mut Host, fd: u32) -> Result<(), Errno>
     ensures released { host.new.released ≡ host.old.released }
 {
     host.descriptor(fd)?;
-    if fd == ROOT_DESCRIPTOR {
+    if fd == PREOPENED {
         return Err(Errno::Notcapable);
     }
     host.close(fd);

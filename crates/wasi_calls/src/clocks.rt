@@ -73,7 +73,7 @@ pub fn get_time(
 {
     let kind = kind_of(arguments.clock)?;
     in_range(memory, arguments.ret, 8)?;
-    let answer = host.fitting(kind, answer)?;
+    let answer = host.fitting_answer(kind, answer)?;
     let time = host.see_time(answer);
     memory.store_u64(arguments.ret, 0, time).unwrap();
     Ok(())

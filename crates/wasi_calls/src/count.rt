@@ -30,7 +30,8 @@ impl LineCount {
         }
     }
 
-    pub fn begun(&self) -> usize
+    /// How many lines were begun.
+    pub fn count(&self) -> usize
         ensures { result ≡ self.now.begun }
     {
         self.begun
@@ -76,5 +77,5 @@ pub fn count_begun(memory: &Memory, buffers: &Buffers, unfinished: usize) -> usi
     for buffer in buffers.as_slice() {
         lines.put(buffer.bytes(memory));
     }
-    lines.begun()
+    lines.count()
 }

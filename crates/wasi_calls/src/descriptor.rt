@@ -10,16 +10,16 @@ ghost use Rattle.wasi_calls.specs.Steps.{GivesValue};
 ghost use Rattle.wasi_calls.specs.rules.Restored.{IsBoundedDescriptor};
 
 use std::marker::Model;
-use wasi_abi::{DescriptorFlags, Errno, Rights};
+use wasi_abi::{ALL_DESCRIPTOR_FLAGS, DescriptorFlags, Errno, Rights};
 
-/// Offsets are below.
-const OFFSETS: u64 = 1 << 63;
+/// Offsets are below this one.
+pub const OFFSETS_END: u64 = 1 << 63;
 
-/// The number of all flags together.
-const FLAGS: u16 = 31;
+/// The number of the root's descriptor, which is open before a process begins and stays open.
+pub const PREOPENED: u32 = 3;
 
 /// The number of the last stream.
-const LAST_STREAM: u8 = 2;
+pub const LAST_STREAM: u8 = 2;
 
 /// What a descriptor names: a stream by its number, or a node of the file system by its number.
 #[derive(Clone, Copy, Debug, PartialEq, Eq)]
@@ -153,8 +153,8 @@ impl Descriptor {
     pub(crate) fn is_bounded(&self) -> bool
         ensures { IsTrue result ↔ IsBoundedDescriptor self.now }
     {
-        self.offset < OFFSETS
-            && self.flags.number() <= FLAGS
+        self.offset < OFFSETS_END
+            && u32::from(self.flags.number()) <= ALL_DESCRIPTOR_FLAGS
             && self.base.is_within(Rights::ALL)
             && self.inheriting.is_within(Rights::ALL)
     }
@@ -248,7 +248,7 @@ impl Descriptor {
     }
 
     /// What descriptors that are opened through it may have.
-    pub fn inheriting(&self) -> Rights
+    pub fn inheriting_rights(&self) -> Rights
         ensures { rights_number result ≡ self.now.inheriting }
     {
         self.inheriting

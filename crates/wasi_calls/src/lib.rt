@@ -75,8 +75,8 @@ mod wish;
 mod write;
 
 pub use calls::{call, lines_begun};
-pub use descriptor::{Descriptor, Names};
-pub use host::{Host, HostParts, PartsFault};
+pub use descriptor::{Descriptor, LAST_STREAM, Names};
+pub use host::{Host, HostParts, PartsFault, ROOT};
 pub use line::Line;
 pub use outcome::CallOutcome;
 pub use wish::wanted_answer;

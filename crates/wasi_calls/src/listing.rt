@@ -14,10 +14,7 @@ use crate::host::Host;
 use crate::memory::{front, in_range};
 use file_tree::limits::NODES;
 use guest_memory::Memory;
-use wasi_abi::{Dirent, Errno, Rights};
-
-/// Bytes of an entry before its name.
-const HEAD_BYTES: usize = 24;
+use wasi_abi::{DIRENT_BYTES, Dirent, Errno, Rights};
 
 /// The arguments of `fd_readdir`.
 #[derive(Clone, Copy)]
@@ -55,7 +52,7 @@ fn put_entry(into: &mut [u8], done: usize, entry: Dirent, name: &[u8]) -> usize
         ≡ done + length (take (length into.old - done) (dirent_layout entry ++ name.now)) }
     ensures within { result ≤ length into.old }
 {
-    let mut head = [0; HEAD_BYTES];
+    let mut head = [0; DIRENT_BYTES];
     entry.write(&mut head);
     let named = put(into, done, &head);
     put(into, named, name)

@@ -64,7 +64,7 @@ pub fn check(
     let descriptor = host.descriptor(arguments.fd)?;
     host.no_directory(descriptor)?;
     descriptor.check_right(right)?;
-    let buffers = Buffers::named(memory, arguments.iovecs, arguments.count)?;
+    let buffers = Buffers::from_iovecs(memory, arguments.iovecs, arguments.count)?;
     in_range(memory, arguments.ret, 4)?;
     Ok(buffers)
 }
@@ -91,7 +91,7 @@ pub fn check_placed(
     let node = host.a_file(descriptor)?;
     descriptor.check_right(right)?;
     descriptor.check_right(Rights::FD_SEEK)?;
-    let buffers = Buffers::named(memory, arguments.iovecs, arguments.count)?;
+    let buffers = Buffers::from_iovecs(memory, arguments.iovecs, arguments.count)?;
     in_range(memory, arguments.ret, 4)?;
     Ok(PlacedMove { node, buffers })
 }

@@ -9,11 +9,11 @@ ghost use Rattle.wasi_abi.specs.rules.Numbers.{whence_number};
 ghost use Rattle.wasi_calls.specs.Steps.{GivesValue};
 ghost use Rattle.wasi_calls.specs.rules.Calls.{IsAsLarge};
 
-use crate::descriptor::Descriptor;
+use crate::descriptor::{Descriptor, OFFSETS_END};
 use crate::host::Host;
 use crate::memory::in_range;
 use guest_memory::Memory;
-use wasi_abi::{Errno, NUMBERS_END, Rights, Whence};
+use wasi_abi::{Errno, Rights, Whence};
 
 /// The arguments of `fd_seek`.
 #[derive(Clone, Copy)]
@@ -33,13 +33,13 @@ fn offset_by(base: u64, delta: u64) -> Result<u64, Errno>
     ensures gives { GivesValue (λ x. x) result (file_offset (pos base +ℤ cast_signed w64 delta)) }
     ensures small { IfOk result (λ offset. offset < 2 ^ 63) }
 {
-    let offset = if delta < NUMBERS_END {
+    let offset = if delta < OFFSETS_END {
         base + delta
     } else {
         // The way back has two's complement, and is at most 2^63.
         base.checked_sub(u64::MAX - delta + 1).ok_or(Errno::Inval)?
     };
-    if offset < NUMBERS_END {
+    if offset < OFFSETS_END {
         Ok(offset)
     } else {
         Err(Errno::Inval)

@@ -4,6 +4,7 @@ ghost use Rattle.std.specs.Prelude.{◌≡◌, ◌&&◌, ◌||◌, ◌<◌, ◌�
 ghost use Rattle.std.specs.Prelude.{OnOk, OnErr, IfOk, IfErr};
 ghost use Rattle.guest_memory.specs.rules.Bytes.{with_part};
 ghost use Rattle.wasi_abi.specs.Bits.{bit_of};
+ghost use Rattle.wasi_abi.specs.declared.flags.TheConstants.{ALL_DESCRIPTOR_FLAGS};
 ghost use Rattle.wasi_abi.specs.rules.Layouts.{u32_bytes};
 ghost use Rattle.wasi_abi.specs.rules.Numbers.{rights_number, has_flag, has_right, fd_write_right};
 ghost use Rattle.wasi_abi.specs.rules.Numbers.{create_flag, exclusive_flag, truncate_flag};
@@ -22,15 +23,12 @@ ghost use Rattle.wasi_calls.specs.rules.Calls.{IsAsLarge};
 use crate::descriptor::{Descriptor, Names};
 use crate::host::Host;
 use crate::memory::in_range;
-use crate::paths::{PathNames, Place, path_bytes, placed};
+use crate::paths::{PathNames, Place, find_place, path_bytes};
 use crate::stop::CallStop;
 use file_tree::NodeKind;
 use guest_memory::Memory;
 use std::alloc::{AllocError, Global};
-use wasi_abi::{DescriptorFlags, Errno, OpenFlags, Rights};
-
-/// The most that `dirflags` may be: one flag.
-const MOST_LOOKUP_FLAGS: u32 = 1;
+use wasi_abi::{ALL_LOOKUP_FLAGS, DescriptorFlags, Errno, OpenFlags, Rights};
 
 /// The bits of `oflags` for which the descriptor needs a right.
 const CREATE_BIT: u32 = 0;
@@ -109,20 +107,18 @@ fn check_rights(descriptor: &Descriptor, wish: OpenWish) -> Result<(), Errno>
     check_need(descriptor, creates, Rights::PATH_CREATE_FILE)?;
     let truncates = has_bit(wish.oflags, TRUNCATE_BIT);
     check_need(descriptor, truncates, Rights::PATH_FILESTAT_SET_SIZE)?;
-    check_within(Rights::from_number(wish.base), descriptor.inheriting())?;
-    check_within(
-        Rights::from_number(wish.inheriting),
-        descriptor.inheriting(),
-    )
+    let inheriting = descriptor.inheriting_rights();
+    check_within(Rights::from_number(wish.base), inheriting)?;
+    check_within(Rights::from_number(wish.inheriting), inheriting)
 }
 
 /// What is asked for, or `Inval` where flags are none, or a directory is to be made.
 fn check_flags(dirflags: u32, wish: OpenWish) -> Result<CheckedWish, Errno>
     ensures gives { GivesValue (λ _. tt) result (right_flags dirflags (asked_for wish)) }
     ensures wish { IfOk result (λ a. checked_wish a ≡ asked_for wish) }
-    ensures few { IfOk result (λ a. (checked_wish a).fdflags ≤ 31) }
+    ensures few { IfOk result (λ a. (checked_wish a).fdflags ≤ ALL_DESCRIPTOR_FLAGS) }
 {
-    if dirflags > MOST_LOOKUP_FLAGS {
+    if dirflags > ALL_LOOKUP_FLAGS {
         return Err(Errno::Inval);
     }
     let flags = OpenFlags::from_number(wish.oflags).ok_or(Errno::Inval)?;
@@ -183,8 +179,8 @@ fn writes(wish: CheckedWish) -> bool
 fn new_descriptor(node: u64, is_directory: bool, wish: CheckedWish) -> Descriptor
     ensures new { result ≡ new_descriptor is_directory node (checked_wish wish).fdflags
         (checked_wish wish).base (checked_wish wish).inheriting }
-    ensures is { (fs : Files) → IsThere fs (Node node) → (checked_wish wish).fdflags ≤ 31
-        → IsDescriptor fs result }
+    ensures is { (fs : Files) → IsThere fs (Node node)
+        → (checked_wish wish).fdflags ≤ ALL_DESCRIPTOR_FLAGS → IsDescriptor fs result }
 {
     if is_directory {
         let base = wish.base.intersection(Rights::DIRECTORY);
@@ -199,7 +195,7 @@ fn new_descriptor(node: u64, is_directory: bool, wish: CheckedWish) -> Descripto
 /// Opens a node that is there, and gives the number of its descriptor.
 fn open_there(host: &mut Host, node: u64, wish: CheckedWish) -> Result<u32, CallStop>
     requires there { IsThere host.old.host.files (Node node) }
-    requires few { (checked_wish wish).fdflags ≤ 31 }
+    requires few { (checked_wish wish).fdflags ≤ ALL_DESCRIPTOR_FLAGS }
     ensures done { (ret : ℕ) (m : Bytes) → IfOk result (λ n.
         opened_there node (checked_wish wish) ret m host.old.host
         ≡ Ok (record { memory = with_part m ret (u32_bytes n); host = host.new.host })) }
@@ -244,7 +240,7 @@ fn open_new(
 ) -> Result<u32, CallStop>
     requires well { IsWellPlaced host.old.host.files (walk_end_of place) }
     requires free { node_at host.old.host.files (walk_end_of place) ≡ None }
-    requires few { (checked_wish wish).fdflags ≤ 31 }
+    requires few { (checked_wish wish).fdflags ≤ ALL_DESCRIPTOR_FLAGS }
     ensures done { (ret : ℕ) (m : Bytes) → IfOk result (λ n.
         opened_new (walk_end_of place.entry) (checked_wish wish) ret m host.old.host
         ≡ Ok (record { memory = with_part m ret (u32_bytes n); host = host.new.host })) }
@@ -276,7 +272,7 @@ fn open_at(
     wish: CheckedWish,
 ) -> Result<u32, CallStop>
     requires well { IsWellPlaced host.old.host.files (walk_end_of place) }
-    requires few { (checked_wish wish).fdflags ≤ 31 }
+    requires few { (checked_wish wish).fdflags ≤ ALL_DESCRIPTOR_FLAGS }
     ensures done { (ret : ℕ) (m : Bytes) → IfOk result (λ n.
         opened_at (node_at host.old.host.files (walk_end_of place.entry)) (walk_end_of place.entry)
         (checked_wish wish) ret m host.old.host
@@ -318,7 +314,7 @@ pub fn open(
     let bytes = path_bytes(memory, arguments.path, arguments.len)?;
     in_range(memory, arguments.ret, 4)?;
     let names = PathNames::of(bytes)?;
-    let place = placed(host, descriptor, names)?;
+    let place = find_place(host, descriptor, names)?;
     let number = open_at(alloc, host, place, wish)?;
     memory.store_u32(arguments.ret, 0, number).unwrap();
     Ok(())

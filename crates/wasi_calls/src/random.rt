@@ -38,7 +38,7 @@ pub fn get(
     if len == 0 {
         return Ok(());
     }
-    let answer = host.fitting(Kind::Random { length: len }, answer)?;
+    let answer = host.fitting_answer(Kind::Random { length: len }, answer)?;
     put(memory, buffer, len, answer);
     Ok(())
 }

@@ -12,7 +12,7 @@ ghost use Rattle.wasi_calls.specs.Steps.{GivesValue, StopsStep};
 
 use crate::descriptor::Names;
 use crate::host::Host;
-use crate::paths::{PathNames, Place, path_bytes, placed};
+use crate::paths::{PathNames, Place, find_place, path_bytes};
 use crate::stop::CallStop;
 use file_tree::ByteList;
 use guest_memory::Memory;
@@ -151,8 +151,8 @@ pub fn rename(
     let new_bytes = path_bytes(memory, arguments.new_path, arguments.new_len)?;
     let old_names = PathNames::of(old_bytes)?;
     let new_names = PathNames::of(new_bytes)?;
-    let source = placed(host, old, old_names)?;
-    let target = placed(host, new, new_names)?;
+    let source = find_place(host, old, old_names)?;
+    let target = find_place(host, new, new_names)?;
     rename_place(alloc, host, source, target)?;
     Ok(())
 }

@@ -3,6 +3,7 @@
 
 ghost use Rattle.std.specs.Prelude.{◌≡◌, ◌+◌, ◌≤◌, length, OnOk, IfErr, Ok, Err};
 ghost use Rattle.guest_memory.specs.rules.Memories.{with_bytes};
+ghost use Rattle.wasi_abi.specs.declared.layout.TheConstants.{FILESTAT_BYTES};
 ghost use Rattle.wasi_calls_rules.specs.Checks.{Bytes, Refuses};
 ghost use Rattle.wasi_calls_rules.specs.Small.{fd_fdstat_get, fd_fdstat_set_flags};
 ghost use Rattle.wasi_calls_rules.specs.Small.{fd_filestat_get, fd_prestat_get};
@@ -10,14 +11,13 @@ ghost use Rattle.wasi_calls_rules.specs.Small.{fd_prestat_dir_name, filestat_byt
 ghost use Rattle.wasi_calls.specs.Views.{target_of};
 ghost use Rattle.wasi_calls.specs.rules.Calls.{IsAsLarge};
 
-use crate::descriptor::Names;
+use crate::descriptor::{Names, PREOPENED};
 use crate::host::Host;
 use crate::memory::in_range;
 use guest_memory::Memory;
-use wasi_abi::{DescriptorFlags, Errno, Fdstat, Prestat, Rights};
-
-/// The number of the directory that is open before the process begins.
-const PREOPENED: u32 = 3;
+use wasi_abi::{
+    DescriptorFlags, Errno, FDSTAT_BYTES, FILESTAT_BYTES, Fdstat, PRESTAT_BYTES, Prestat, Rights,
+};
 
 /// `fd_fdstat_get`.
 pub fn get_fdstat(host: &Host, memory: &mut Memory, fd: u32, ret: u32) -> Result<(), Errno>
@@ -29,14 +29,14 @@ pub fn get_fdstat(host: &Host, memory: &mut Memory, fd: u32, ret: u32) -> Result
     ensures large { IsAsLarge memory.old memory.new }
 {
     let descriptor = host.descriptor(fd)?;
-    in_range(memory, ret, 24)?;
+    in_range(memory, ret, FDSTAT_BYTES as u32)?;
     let stat = Fdstat {
         file_type: host.file_type(descriptor.names()).number(),
         flags: descriptor.flags().number(),
         base: descriptor.base(),
-        inheriting: descriptor.inheriting(),
+        inheriting: descriptor.inheriting_rights(),
     };
-    let mut bytes = [0; 24];
+    let mut bytes = [0; FDSTAT_BYTES];
     stat.write(&mut bytes);
     memory.write(ret, &bytes).unwrap();
     Ok(())
@@ -69,19 +69,19 @@ pub fn get_filestat(host: &Host, memory: &mut Memory, fd: u32, ret: u32) -> Resu
 {
     let descriptor = host.descriptor(fd)?;
     descriptor.check_right(Rights::FD_FILESTAT_GET)?;
-    in_range(memory, ret, 64)?;
+    in_range(memory, ret, FILESTAT_BYTES as u32)?;
     put_filestat(host, memory, descriptor.names(), ret);
     Ok(())
 }
 
 /// Puts what is told of what is named where there is room.
 pub fn put_filestat(host: &Host, memory: &mut Memory, names: Names, ret: u32)
-    requires { ret + 64 ≤ length memory.old.bytes }
+    requires { ret + FILESTAT_BYTES ≤ length memory.old.bytes }
     ensures put { memory.new
         ≡ with_bytes ret (filestat_bytes_of host.now.host (target_of names)) memory.old }
     ensures large { IsAsLarge memory.old memory.new }
 {
-    let mut bytes = [0; 64];
+    let mut bytes = [0; FILESTAT_BYTES];
     host.filestat(names).write(&mut bytes);
     memory.write(ret, &bytes).unwrap();
 }
@@ -96,11 +96,11 @@ pub fn get_prestat(host: &Host, memory: &mut Memory, fd: u32, ret: u32) -> Resul
     ensures large { IsAsLarge memory.old memory.new }
 {
     host.descriptor(fd)?;
-    in_range(memory, ret, 8)?;
+    in_range(memory, ret, PRESTAT_BYTES as u32)?;
     if fd != PREOPENED {
         return Err(Errno::Badf);
     }
-    let mut bytes = [0; 8];
+    let mut bytes = [0; PRESTAT_BYTES];
     Prestat { name_length: 1 }.write(&mut bytes);
     memory.write(ret, &bytes).unwrap();
     Ok(())

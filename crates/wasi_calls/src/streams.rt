@@ -155,7 +155,7 @@ impl Streams {
     }
 
     /// The unfinished line of stream 1, or else of 2.
-    pub fn unfinished(&self, stream: u8) -> &[u8]
+    pub fn unfinished_line(&self, stream: u8) -> &[u8]
         ensures { result.now ≡ (if stream == 1 then self.now.first else self.now.second) }
     {
         if stream == 1 {
@@ -166,7 +166,7 @@ impl Streams {
     }
 
     /// How many lines are unfinished.
-    pub fn unfinished_lines(&self) -> usize
+    pub fn unfinished_line_count(&self) -> usize
         ensures value { result ≡ length (left_lines self.now) }
         ensures few { result ≤ 2 }
     {

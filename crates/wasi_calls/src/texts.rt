@@ -2,6 +2,7 @@
 
 ghost use Rattle.std.specs.Prelude.{◌≡◌, ◌+◌, ◌*◌, ◌≤◌, ◌^◌, length, OnOk, IfErr, Ok, Err};
 ghost use Rattle.guest_memory.specs.rules.Memories.{with_bytes};
+ghost use Rattle.wasi_abi.specs.declared.config.TheConstants.{MOST_TEXTS};
 ghost use Rattle.wasi_calls_rules.specs.Hosts.{Host as TheHost};
 ghost use Rattle.wasi_calls_rules.specs.Checks.{Refuses};
 ghost use Rattle.wasi_calls_rules.specs.Small.{with_zeros, pointers_to};
@@ -65,7 +66,7 @@ fn size_of(texts: &[Row<u8>]) -> u32
 
 /// Puts into an array where each text begins, the first one at `buffer`.
 fn put_pointers(texts: &[Row<u8>], memory: &mut Memory, array: u32, buffer: u32)
-    requires few { length texts.now ≤ 64 }
+    requires few { length texts.now ≤ MOST_TEXTS }
     requires room { array + 4 * length texts.now ≤ length memory.old.bytes }
     requires inside { buffer + length (with_zeros texts.now) ≤ 2 ^ 32 }
     ensures put { memory.new ≡ with_bytes array (pointers_to buffer texts.now) memory.old }

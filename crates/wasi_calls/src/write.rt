@@ -34,7 +34,7 @@ pub fn lines_begun(host: &Host, memory: &Memory, arguments: MoveArguments) -> us
         return 0;
     };
     match host.descriptor(arguments.fd).unwrap().names() {
-        Names::Stream(stream) => count_begun(memory, &buffers, host.unfinished(stream).len()),
+        Names::Stream(stream) => count_begun(memory, &buffers, host.unfinished_line(stream).len()),
         Names::Node(_) => 0,
     }
 }

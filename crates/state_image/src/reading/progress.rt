@@ -8,6 +8,7 @@ ghost use Rattle.state_image.specs.rules.Reading.{ReadsPart};
 ghost use Rattle.state_image.specs.laws.Phases.{IsTrapFrom, IsPhaseFrom};
 
 use crate::reading::cursor::ImageReader;
+use crate::writing::{EXITED, RUNNING, STARTING, TRAPPED};
 use wasm_syntax::Trap;
 
 /// What an image counts, and the last monotonic time in it.
@@ -76,10 +77,10 @@ fn phase_from(number: u8, code: u32) -> Option<ReadPhase>
     ensures { IsPhaseFrom number code result }
 {
     match number {
-        0 if code == 0 => Some(ReadPhase::Starting),
-        1 if code == 0 => Some(ReadPhase::Running),
-        2 => Some(ReadPhase::Exited(code)),
-        3 => Some(ReadPhase::Trapped(trap_from(code)?)),
+        STARTING if code == 0 => Some(ReadPhase::Starting),
+        RUNNING if code == 0 => Some(ReadPhase::Running),
+        EXITED => Some(ReadPhase::Exited(code)),
+        TRAPPED => Some(ReadPhase::Trapped(trap_from(code)?)),
         _ => None,
     }
 }

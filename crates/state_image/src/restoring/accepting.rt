@@ -62,7 +62,7 @@ fn is_outermost(machine: &Machine) -> bool
 fn is_alive(process: &Process) -> bool
     ensures { IsTrue result ↔ IsAlive process.now.ended (saved_of process.now) }
 {
-    match process.ended() {
+    match process.reached_end() {
         None => process.machine().frame_count() > 0,
         Some(_) => is_over(process),
     }
@@ -110,7 +110,7 @@ fn is_within_bounds(process: &Process) -> bool
     let machine = process.machine();
     let _module = machine.module().module();
     let _slots = machine.slot_count();
-    has_code(process.ended());
+    has_code(process.reached_end());
     machine.globals().len() <= GLOBALS && are_places_within(machine)
 }
 
@@ -134,7 +134,7 @@ fn is_code(code: u32)
 fn is_unread_short(process: &Process) -> bool
     ensures { IsTrue result ↔ (length process.now.host.host.unread ≤ TEXT_BYTES + 1) }
 {
-    process.host().unread().len() <= TEXT_BYTES + 1
+    process.host().unread_bytes().len() <= TEXT_BYTES + 1
 }
 
 /// Whether no more nodes were made than steps were taken.

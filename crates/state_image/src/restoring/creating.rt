@@ -15,6 +15,7 @@ use file_tree::limits::{FILE_BYTES, NODES};
 use file_tree::{NodeKind, Tree};
 use guest_memory::laws::are_bytes;
 use std::alloc::{AllocError, Global};
+use wasi_calls::ROOT;
 
 /// Makes the nodes behind the root of a fresh tree.
 pub(crate) fn create_nodes(
@@ -48,7 +49,7 @@ fn begins_with_root(nodes: &[WholeNode]) -> bool
 fn is_root(node: &WholeNode) -> bool
     ensures { IsTrue result ↔ BeginsWithRoot (lent_whole node.now ∷ []) }
 {
-    node.number == 1 && is_directory(&node.content)
+    node.number == ROOT && is_directory(&node.content)
 }
 
 fn is_directory(content: &WholeContent) -> bool

@@ -18,6 +18,7 @@ use crate::restoring::fault::RestoreFault;
 use crate::restoring::whole_node::{WholeContent, WholeNode};
 use file_tree::{ByteList, Tree, is_name};
 use std::alloc::{AllocError, Global};
+use wasi_calls::ROOT;
 
 /// Hangs the nodes of a tree in their directories, from the root on.
 pub(crate) fn hang_all(
@@ -44,7 +45,7 @@ fn root_alone(alloc: Global) -> Result<Vec<u64>, AllocError>
     ensures { IfOk result (λ numbers. numbers.items ≡ 1 ∷ []) }
 {
     let mut numbers = Vec::new(alloc);
-    numbers.push(1)?;
+    numbers.push(ROOT)?;
     Ok(numbers)
 }
 

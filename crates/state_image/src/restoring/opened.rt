@@ -8,10 +8,7 @@ ghost use Rattle.state_image.specs.restoring.Opened.{IsTargetOf, IsReadAs};
 use crate::reading::ReadDescriptor;
 use crate::writing::kind_of;
 use file_tree::Tree;
-use wasi_calls::{Descriptor, Names};
-
-/// The number of the last stream.
-const LAST_STREAM: u8 = 2;
+use wasi_calls::{Descriptor, LAST_STREAM, Names};
 
 /// The descriptor of which this is told, where there is one that is within its bounds. Of a node
 /// the kind is told, which is that of the tree's. Whether it is there is not tested.

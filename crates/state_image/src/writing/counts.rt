@@ -13,14 +13,17 @@ use process::{Process, ProcessEnd};
 use wasi_calls::Host;
 use wasm_syntax::Trap;
 
-/// The phases: in the start function, in `_start`, exited and trapped.
-const STARTING: u8 = 0;
+/// The phase of a process in its start function.
+pub(crate) const STARTING: u8 = 0;
 
-const RUNNING: u8 = 1;
+/// The phase of a process in `_start`.
+pub(crate) const RUNNING: u8 = 1;
 
-const EXITED: u8 = 2;
+/// The phase of a process that has exited with a code.
+pub(crate) const EXITED: u8 = 2;
 
-const TRAPPED: u8 = 3;
+/// The phase of a process that was ended by a trap.
+pub(crate) const TRAPPED: u8 = 3;
 
 /// Steps, answers, requests, lines, and the last monotonic time.
 pub(crate) fn push_counts<S: Sink>(process: &Process, sink: &mut S) -> Result<(), S::Fault>
@@ -38,7 +41,7 @@ pub(crate) fn push_phase<S: Sink>(process: &Process, sink: &mut S) -> Result<(),
     ensures { Pushes S.takes sink.old (phase_bytes (saved_of process.now)) result sink.new }
 {
     push_u8(phase_of(process), sink)?;
-    push_u32(code_of(process.ended()), sink)?;
+    push_u32(code_of(process.reached_end()), sink)?;
     push_u8(flag_of(process.host().has_input_ended()), sink)
 }
 
@@ -47,7 +50,7 @@ pub(crate) fn push_streams<S: Sink>(process: &Process, sink: &mut S) -> Result<(
     ensures { Pushes S.takes sink.old (streams_bytes (saved_of process.now)) result sink.new }
 {
     let host = process.host();
-    push_text(host.unread(), sink)?;
+    push_text(host.unread_bytes(), sink)?;
     push_text(host.first(), sink)?;
     push_text(host.second(), sink)
 }
@@ -55,7 +58,7 @@ pub(crate) fn push_streams<S: Sink>(process: &Process, sink: &mut S) -> Result<(
 fn phase_of(process: &Process) -> u8
     ensures { result ≡ phase_of process.now.ended process.now.machine.state.later }
 {
-    match process.ended() {
+    match process.reached_end() {
         Some(ProcessEnd::Exited(_)) => EXITED,
         Some(ProcessEnd::Trapped(_)) => TRAPPED,
         None if process.machine().is_starting() => STARTING,

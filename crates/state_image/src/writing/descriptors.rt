@@ -82,7 +82,7 @@ fn push_descriptor<S: Sink>(
     push_u64(descriptor.offset(), sink)?;
     push_u16(descriptor.flags().number(), sink)?;
     push_u64(descriptor.base().number(), sink)?;
-    push_u64(descriptor.inheriting().number(), sink)
+    push_u64(descriptor.inheriting_rights().number(), sink)
 }
 
 /// A stream by its number and no node, or a node by its kind and number.

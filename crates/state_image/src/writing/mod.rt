@@ -13,6 +13,7 @@ ghost use Rattle.state_image.specs.rules.Sinks.{Pushes};
 
 use crate::byte_sink::ByteSink;
 use crate::sink::Sink;
+pub(crate) use crate::writing::counts::{EXITED, RUNNING, STARTING, TRAPPED};
 use crate::writing::counts::{push_counts, push_phase, push_streams};
 use crate::writing::descriptors::push_descriptors;
 pub(crate) use crate::writing::files::kind_of;

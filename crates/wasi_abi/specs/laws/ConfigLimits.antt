@@ -1,5 +1,5 @@
 -- The limits of a configuration: the last value inside, and the first outside.
-use Rattle.std.specs.Prelude.{ℕ, List, [], replicate}
+use Rattle.std.specs.Prelude.{ℕ, [], replicate}
 use Rattle.wasi_abi.specs.rules.Configs.{Settings, settings, IsInRange}
 
 -- settings with these numbers, and no texts

@@ -14,7 +14,7 @@ use wasi_abi::{Answer, Kind, fits};
 
 impl Host {
     /// The answer, where there is one that fits what is asked for. Else that is asked for.
-    pub(crate) fn fitting<'a>(
+    pub(crate) fn fitting_answer<'a>(
         &self,
         kind: Kind,
         answer: Option<&'a Answer>,

@@ -8,6 +8,7 @@ ghost use Rattle.wasi_calls_rules.specs.Hosts.{IsHost};
 ghost use Rattle.wasi_calls_rules.specs.Checks.{open_descriptor, names_directory};
 ghost use Rattle.wasi_calls_rules.specs.Checks.{no_directory, a_file, a_directory};
 ghost use Rattle.std.specs.List.{list_any};
+ghost use Rattle.wasi_abi.specs.declared.flags.TheConstants.{ALL_DESCRIPTOR_FLAGS};
 ghost use Rattle.wasi_abi.specs.rules.Numbers.{descriptor_flags_number};
 ghost use Rattle.wasi_calls_rules.specs.Small.{names, swept, with_descriptor};
 ghost use Rattle.wasi_calls.specs.Steps.{GivesValue};
@@ -114,7 +115,7 @@ impl Host {
     /// Gives an open descriptor other flags.
     pub(crate) fn set_flags(&mut self, fd: u32, flags: DescriptorFlags)
         requires open { (d : Opened) × (open_descriptor self.old.host fd ≡ Ok d) }
-        requires few { descriptor_flags_number flags ≤ 31 }
+        requires few { descriptor_flags_number flags ≤ ALL_DESCRIPTOR_FLAGS }
         ensures set { (d : Opened) → open_descriptor self.old.host fd ≡ Ok d
             → self.new.host ≡ with_descriptor fd
             (record d { flags = descriptor_flags_number flags }) self.old.host }

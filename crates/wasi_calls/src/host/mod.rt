@@ -35,7 +35,7 @@ use wasi_abi::{Config, Rights};
 use wasi_calls_rules::limits::DESCRIPTORS;
 
 /// The number of the root.
-const ROOT: u64 = 1;
+pub const ROOT: u64 = 1;
 
 /// Descriptors that a process begins with: three streams and the root.
 const OPENED: usize = 4;
@@ -114,19 +114,19 @@ impl Host {
     }
 
     /// The unfinished line of stream 1, or else of 2.
-    pub(crate) fn unfinished(&self, stream: u8) -> &[u8]
+    pub(crate) fn unfinished_line(&self, stream: u8) -> &[u8]
         ensures { result.now ≡ unfinished_of stream self.now.host }
     {
-        self.streams.unfinished(stream)
+        self.streams.unfinished_line(stream)
     }
 
     /// How many lines are unfinished: an end would emit them.
-    pub fn unfinished_lines(&self) -> usize
+    pub fn unfinished_line_count(&self) -> usize
         ensures value { length (lines_ended self.now.host).lines
             ≡ length self.now.host.lines + result }
         ensures few { result ≤ 2 }
     {
-        self.streams.unfinished_lines()
+        self.streams.unfinished_line_count()
     }
 
     /// The files and directories.
@@ -144,7 +144,7 @@ impl Host {
     }
 
     /// Bytes of requests that were not read yet.
-    pub fn unread(&self) -> &[u8]
+    pub fn unread_bytes(&self) -> &[u8]
         ensures { result.now ≡ self.now.host.unread }
     {
         self.unread.as_slice()
@@ -168,14 +168,14 @@ impl Host {
     pub fn first(&self) -> &[u8]
         ensures { result.now ≡ self.now.host.first }
     {
-        self.streams.unfinished(1)
+        self.streams.unfinished_line(1)
     }
 
     /// The unfinished line of stream 2.
     pub fn second(&self) -> &[u8]
         ensures { result.now ≡ self.now.host.second }
     {
-        self.streams.unfinished(2)
+        self.streams.unfinished_line(2)
     }
 
     /// The most bytes of a request's text, and of the random bytes that a call may want.

@@ -50,7 +50,7 @@ impl Host {
 
     /// The directory under a name in another. `Noent` where nothing is there, and `Notdir` where a
     /// file is.
-    pub(crate) fn entered(&self, directory: u64, name: &[u8]) -> Result<u64, Errno>
+    pub(crate) fn subdirectory(&self, directory: u64, name: &[u8]) -> Result<u64, Errno>
         ensures gives { GivesValue (λ k. k) result
             (directory_entered self.now.host.files (child self.now.host.files directory name.now)) }
         ensures child { IfOk result (λ k. child self.now.host.files directory name.now ≡ Some k) }

@@ -12,7 +12,7 @@ ghost use Rattle.wasi_calls.specs.Restoring.{IsDescriptorTable};
 ghost use Rattle.wasi_calls.specs.rules.Restored.{held_host_from};
 ghost use Rattle.wasi_calls.specs.Views.{target_of};
 
-use crate::descriptor::{Descriptor, Names};
+use crate::descriptor::{Descriptor, Names, PREOPENED};
 use crate::host::descriptors::{is_named, names_node};
 use crate::host::{Host, ROOT};
 use crate::streams::{Streams, is_without_newline};
@@ -22,9 +22,6 @@ use guest_memory::laws::are_bytes;
 use std::alloc::{AllocError, Global};
 use wasi_abi::Config;
 use wasi_calls_rules::limits::{DESCRIPTORS, LINE_BYTES};
-
-/// The number under which the root is open.
-const PREOPENED: usize = 3;
 
 /// What an image has of the host's side of a process. No line waits: all that were emitted were
 /// released.
@@ -100,7 +97,7 @@ fn may_all_be_open(tree: &Tree, descriptors: &[Option<Descriptor>]) -> bool
 fn has_root(descriptors: &[Option<Descriptor>]) -> bool
     ensures { IsTrue result ↔ HasRoot descriptors.now }
 {
-    match descriptors.get(PREOPENED) {
+    match descriptors.get(PREOPENED as usize) {
         Some(descriptor) => names_node(descriptor, ROOT),
         None => false,
     }

@@ -11,16 +11,13 @@ ghost use Rattle.wasi_calls.specs.rules.Calls.{IsAsLarge};
 use crate::descriptor::Names;
 use crate::host::Host;
 use crate::memory::in_range;
-use crate::paths::{PathNames, Place, path_bytes, placed};
+use crate::paths::{PathNames, Place, find_place, path_bytes};
 use crate::status::put_filestat;
 use crate::stop::CallStop;
 use file_tree::NodeKind;
 use guest_memory::Memory;
 use std::alloc::Global;
-use wasi_abi::{Errno, Rights};
-
-/// The largest lookup flags: whether a link is followed, and there is none.
-const LOOKUP_FLAGS: u32 = 1;
+use wasi_abi::{ALL_LOOKUP_FLAGS, Errno, FILESTAT_BYTES, Rights};
 
 /// The arguments of `path_filestat_get`.
 #[derive(Clone, Copy)]
@@ -51,13 +48,13 @@ pub fn get_path_filestat(
     let descriptor = host.descriptor(arguments.fd)?;
     host.a_directory(descriptor)?;
     descriptor.check_right(Rights::PATH_FILESTAT_GET)?;
-    if arguments.flags > LOOKUP_FLAGS {
+    if arguments.flags > ALL_LOOKUP_FLAGS {
         return Err(Errno::Inval);
     }
     let bytes = path_bytes(memory, arguments.path, arguments.len)?;
-    in_range(memory, arguments.ret, 64)?;
+    in_range(memory, arguments.ret, FILESTAT_BYTES as u32)?;
     let names = PathNames::of(bytes)?;
-    let place = placed(host, descriptor, names)?;
+    let place = find_place(host, descriptor, names)?;
     let node = host.node_at(place).ok_or(Errno::Noent)?;
     put_filestat(host, memory, Names::Node(node), arguments.ret);
     Ok(())
@@ -84,7 +81,7 @@ pub fn create_directory(
     descriptor.check_right(Rights::PATH_CREATE_DIRECTORY)?;
     let bytes = path_bytes(memory, path, len)?;
     let names = PathNames::of(bytes)?;
-    let Place::Leaf(directory, name) = placed(host, descriptor, names)? else {
+    let Place::Leaf(directory, name) = find_place(host, descriptor, names)? else {
         return Err(CallStop::Refused(Errno::Inval));
     };
     if host.child(directory, name).is_some() {
@@ -116,7 +113,7 @@ pub fn remove_directory(
     descriptor.check_right(Rights::PATH_REMOVE_DIRECTORY)?;
     let bytes = path_bytes(memory, path, len)?;
     let names = PathNames::of(bytes)?;
-    let Place::Leaf(directory, name) = placed(host, descriptor, names)? else {
+    let Place::Leaf(directory, name) = find_place(host, descriptor, names)? else {
         return Err(Errno::Inval);
     };
     let node = host.child(directory, name).ok_or(Errno::Noent)?;
@@ -150,7 +147,7 @@ pub fn unlink_file(
     descriptor.check_right(Rights::PATH_UNLINK_FILE)?;
     let bytes = path_bytes(memory, path, len)?;
     let names = PathNames::of(bytes)?;
-    let Place::Leaf(directory, name) = placed(host, descriptor, names)? else {
+    let Place::Leaf(directory, name) = find_place(host, descriptor, names)? else {
         return Err(Errno::Inval);
     };
     let node = host.child(directory, name).ok_or(Errno::Noent)?;

@@ -22,7 +22,7 @@ pub enum Place<'a> {
 
 /// Where the names lead from an open directory. `Notcapable` where they leave it, `Noent` where one
 /// but the last isn't there, and `Notdir` where it is no directory.
-pub fn placed<'a>(
+pub fn find_place<'a>(
     host: &Host,
     descriptor: &Descriptor,
     names: PathNames<'a>,
@@ -57,7 +57,7 @@ fn walk<'a>(host: &Host, start: u64, names: PathNames<'a>) -> Result<Place<'a>, 
         } else if names.is_empty() {
             return Ok(Place::Leaf(directory, name));
         } else {
-            directory = host.entered(directory, name)?;
+            directory = host.subdirectory(directory, name)?;
         }
     }
     Ok(Place::Directory(directory))

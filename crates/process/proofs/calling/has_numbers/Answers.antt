@@ -14,7 +14,7 @@ returns-then-lines-clause-few c = λ e given h done s row.
     c.args.machine.now.state.memory h done row in
     let lines = all_shown c.args.host.now h s in
     let waits = ap (λ (ls : List Line). length ls) c.waiting_lines.ensures.lines in
-    let left = c.unfinished_lines-unfinished.ensures.value in
+    let left = c.unfinished_line_count-unfinished.ensures.value in
     let released = c.released_count.ensures in
     let less = c.if-lines.true in
     omega (arith, few, lines, waits, left, released, less)
@@ -26,7 +26,7 @@ returns-clause-few c = λ e given h done s row.
     c.memory.ensures ∙ row) in
     let lines = all_shown c.args.host.now h s in
     let waits = ap (λ (ls : List Line). length ls) c.waiting_lines.ensures.lines in
-    let left = c.unfinished_lines-unfinished.ensures.value in
+    let left = c.unfinished_line_count-unfinished.ensures.value in
     let released = c.released_count.ensures in
     let less = less_when _ _ e in
     omega (arith, count, lines, waits, left, released, less)
@@ -34,7 +34,7 @@ returns-clause-few c = λ e given h done s row.
 pub returns-clause-many : goal.returns-clause-many
 returns-clause-many c = λ e.
     let waits = ap (λ (ls : List Line). length ls) c.waiting_lines.ensures.lines in
-    let left = c.unfinished_lines-unfinished.ensures.value in
+    let left = c.unfinished_line_count-unfinished.ensures.value in
     let released = c.released_count.ensures in
     let more = more_when _ _ e in
     record {

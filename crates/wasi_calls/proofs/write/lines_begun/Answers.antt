@@ -26,7 +26,7 @@ returns-in-Stream-clause-count c = λ h done s e.
     in
     let w : Wanted = record { descriptor = d; buffers = bs } in
     let counted = c.count_begun.ensures.value
-    ∙ ap (λ (x : Bytes). count_begun (length x) (gathered m bs)) c.unfinished.ensures
+    ∙ ap (λ (x : Bytes). count_begun (length x) (gathered m bs)) c.unfinished_line.ensures
     ∙ ap (λ (t : Target). begun_on t (gathered m bs) old.host) (sym named) in
     write_adds a.fd a.iovecs a.count a.ret m old h s w passed.is done c.count_begun.result e counted
 

@@ -20,7 +20,7 @@ returns-then-globals-le-GLOBALS c =
     let places = rw c.machine-machine.ensures at c.are_places_within.ensures in (
       λ told. bounds_of (saved_of c.args.process.now) v refl
           (subst IsValid same c.module-module.ensures.valid) c.requires
-          (subst (λ (o : Option Ending). ending_code o < 2 ^ 32) c.ended.ensures
+          (subst (λ (o : Option Ending). ending_code o < 2 ^ 32) c.reached_end.ensures
           c.has_code.ensures)
           (omega (arith, slots, c.slot_count-slots.ensures.bound))
           (omega (arith, ap length globals, c.if-globals-le-GLOBALS.true)) (places.0 told),

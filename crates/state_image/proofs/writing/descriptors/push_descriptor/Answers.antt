@@ -45,7 +45,7 @@ returns-in_err-push_u64-2 g c =
 pub returns : goal.returns
 returns g c =
     let base = c.number-2.ensures ∙ c.base.ensures in
-    let inheriting = c.number-3.ensures ∙ c.inheriting.ensures in
+    let inheriting = c.number-3.ensures ∙ c.inheriting_rights.ensures in
     pushes_on c.in_ok-push_count.ensures
     (pushes_on (pushes_of (λ t. target_bytes c.args.tree.now t) c.names.ensures
     c.in_ok-push_target.ensures)

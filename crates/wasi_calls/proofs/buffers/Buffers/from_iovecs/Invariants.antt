@@ -2,7 +2,7 @@ use Rattle.std.proofs.Common.{◌≡◌, ◌≤◌, ◌+◌, ◌-◌, ◌*◌, [
 use Rattle.wasi_calls_rules.specs.declared.limits.TheConstants.{MOVED_BYTES}
 use Rattle.wasi_calls.specs.Moves.{total_len, AreInside}
 use Rattle.wasi_calls.proofs.Fronts.{named_on}
-use Rattle.wasi_calls.proofs.buffers.Buffers.named.Given as goal
+use Rattle.wasi_calls.proofs.buffers.Buffers.from_iovecs.Given as goal
 
 abbrev pub invariant-loop-place : goal.invariant-loop-place
 invariant-loop-place l =
