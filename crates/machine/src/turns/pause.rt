@@ -13,7 +13,7 @@ pub const MOST_ARGUMENTS: usize = 9;
 /// memory.
 #[derive(Debug, Drop)]
 pub struct Arguments {
-    words: [u64; 9],
+    words: [u64; MOST_ARGUMENTS],
     count: usize,
 }
 
@@ -33,7 +33,7 @@ impl Arguments {
         requires { length numbers.now ≤ MOST_ARGUMENTS }
         ensures { result ≡ numbers.now }
     {
-        let mut words = [0; 9];
+        let mut words = [0; MOST_ARGUMENTS];
         words[..numbers.len()].copy_from_slice(numbers);
         Arguments {
             words,

@@ -16,7 +16,7 @@ use wasi_abi::Call;
 use wasm_syntax::Instruction;
 
 /// This call, whose arguments lie below so many words.
-pub fn asked(state: &State, call: Call, above: usize) -> HostCall
+pub fn call_below(state: &State, call: Call, above: usize) -> HostCall
     requires { length (parameters_of call) + above ≤ length state.now.slots }
     ensures { IsCallBelow state.now.slots call above result }
 {
@@ -34,7 +34,7 @@ fn waiting_direct(code: &Executable, state: &State, function: u32) -> Option<Hos
     ensures { TellsOfState code.now state.now result }
 {
     match code.calls.as_slice().get(function as usize) {
-        Some(call) => Some(asked(state, *call, 0)),
+        Some(call) => Some(call_below(state, *call, 0)),
         None => None,
     }
 }
@@ -56,7 +56,7 @@ fn waiting_indirect(code: &Executable, state: &State, function_type: u32) -> Opt
         return None;
     }
     match code.calls.as_slice().get(function as usize) {
-        Some(call) => Some(asked(state, *call, 1)),
+        Some(call) => Some(call_below(state, *call, 1)),
         None => None,
     }
 }

@@ -9,4 +9,4 @@ returns-clause-asks c = λ over arguments under words count typed.
     ap (λ (told : HostCall). turn.Waits (record {
       why = pause.Host told;
       left = c.args.fuel;
-    })) (c.asked.ensures over arguments under words count typed)
+    })) (c.call_below.ensures over arguments under words count typed)

@@ -4,8 +4,8 @@ use Rattle.machine.proofs.TurnLemmas.Turning.{direct_host, direct_own, arguments
 use Rattle.machine.proofs.TurnLemmas.WaitingCalls.{none_where_own, told_asked}
 use Rattle.machine.proofs.turns.waiting.waiting_direct.Goals as goal
 
-pub asked-requires : goal.asked-requires
-asked-requires c =
+pub call_below-requires : goal.call_below-requires
+call_below-requires c =
     let r = c.requires.stands in
     let at = read_at c.as_slice.result.now c.args.code.now.calls.items c.args.function
     c.in-Some.call.now c.as_slice.ensures.value c.in-Some.ensures.lookup.3.0
@@ -21,9 +21,9 @@ returns-in-Some c = λ functions program d stands.
     c.in-Some.call.now c.as_slice.ensures.value c.in-Some.ensures.lookup.3.0
     c.in-Some.ensures.lookup.1 in
     told_asked c.args.code.now c.args.state.now functions program d stands c.args.function
-    c.args.state.now.slots [] c.in-Some.call.now 0 c.asked.result at
+    c.args.state.now.slots [] c.in-Some.call.now 0 c.call_below.result at
     (direct_host c.args.code.now c.args.state.now functions program d stands c.args.function
-    c.in-Some.call.now c.requires.here at) refl refl c.asked.ensures
+    c.in-Some.call.now c.requires.here at) refl refl c.call_below.ensures
 
 pub returns-in-None : goal.returns-in-None
 returns-in-None c = λ functions program d stands.

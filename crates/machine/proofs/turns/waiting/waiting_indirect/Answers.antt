@@ -51,8 +51,8 @@ returns-then-not-has_kind c = λ functions program d stands.
     c.requires.here c.top-place.result c.top-place.ensures c.in-Some-entry.function named
     c.has_kind.result c.has_kind.ensures c.if-not-has_kind.true)
 
-pub asked-requires : goal.asked-requires
-asked-requires c =
+pub call_below-requires : goal.call_below-requires
+call_below-requires c =
     let r = c.requires.stands in
     let named = names_at c.as_slice.result.now c.args.code.now.table.items c.top-place.result
     c.in-Some.entry.now c.in-Some-entry.function c.as_slice.ensures.value
@@ -83,12 +83,12 @@ returns-in-Some-get c = λ functions program d stands.
     told_asked c.args.code.now c.args.state.now functions program d stands c.in-Some-entry.function
     (entry c.args.code.now c.args.state.now functions program d stands c.args.function_type
     c.requires.here c.top-place.result c.top-place.ensures).words (c.top-place.result
-    ∷ []) c.in-Some-get.call.now 1 c.asked.result there
+    ∷ []) c.in-Some-get.call.now 1 c.call_below.result there
     (indirect_host c.args.code.now c.args.state.now functions program d stands c.args.function_type
     c.requires.here c.top-place.result c.top-place.ensures c.in-Some-entry.function named
     c.has_kind.result c.has_kind.ensures c.in-Some-get.call.now c.if-not-has_kind.false there)
     (entry c.args.code.now c.args.state.now functions program d stands c.args.function_type
-    c.requires.here c.top-place.result c.top-place.ensures).words_are refl c.asked.ensures
+    c.requires.here c.top-place.result c.top-place.ensures).words_are refl c.call_below.ensures
 
 pub returns-in-None : goal.returns-in-None
 returns-in-None c = λ functions program d stands.
