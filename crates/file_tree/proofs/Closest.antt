@@ -3,6 +3,7 @@ use Rattle.std.proofs.Common.{◌≡◌, ◌≢◌, ℕ, zero, suc, ◌⊎◌, i
 use Rattle.std.proofs.Common.{[], ◌∷◌, Option, Some, None, refl, ap, subst, ◌∙◌}
 use Rattle.std.specs.Prelude.{slice_get, option_map, find, ◌&&◌}
 use Rattle.std.specs.List.{AllByRecursion}
+use Rattle.std.proofs.lemmas.Option.{same_Some}
 use Rattle.file_tree.specs.rules.Files.{Name, Entry, is_before, inserted, sorted}
 use Rattle.file_tree.proofs.Order.{Before, Ordered, HaveDistinctNames, before_or_not, not_itself}
 use Rattle.file_tree.proofs.Order.{before_both, one_before, in_front, not_in_front, all_sorted}
@@ -132,14 +133,11 @@ closest_ordered name (e ∷ es) h =
 
 -- ---- which is the one behind the entry of that name
 
-some_name : (a b : Name) → Some a ≡ Some b → a ≡ b
-some_name a b e = cc
-
 before_named : (x name : Name) (es : List Entry) (i : ℕ)
     → AllByRecursion (λ (f : Entry). Before x f.name) es
     → option_map (λ (f : Entry). f.name) (slice_get es i) ≡ Some name → Before x name
 before_named x name [] i h is = absurd cc
-before_named x name (f ∷ es) zero h is = subst (Before x) (some_name f.name name is) h.0
+before_named x name (f ∷ es) zero h is = subst (Before x) (same_Some f.name name is) h.0
 before_named x name (f ∷ es) (suc i) h is = before_named x name es i h.1 is
 
 skipped : (name : Name) (e : Entry) (es : List Entry) → (Before name e.name → ⊥)
@@ -161,7 +159,7 @@ pub found_behind : (name : Name) (es : List Entry) (i : ℕ) → Ordered es
     → find (λ (e : Entry). is_before name e.name) es ≡ slice_get es (suc i)
 found_behind name [] i h is = absurd cc
 found_behind name (e ∷ es) zero h is =
-    let same : e.name ≡ name = some_name e.name name is in
+    let same : e.name ≡ name = same_Some e.name name is in
     skipped name e es (λ k. not_itself name (subst (Before name) same k))
     ∙ at_head name es (subst (λ (x : Name). AllByRecursion (λ (f : Entry). Before x f.name) es) same
     h.0)

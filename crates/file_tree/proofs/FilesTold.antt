@@ -19,11 +19,9 @@ use Rattle.file_tree.proofs.Lookups.{path_shown, hung_has_path}
 use Rattle.file_tree.proofs.EntriesTell.{entry_of_hook, hook_of_entry, all_told}
 use Rattle.file_tree.proofs.Rebuilt.{rebuilt, rebuilt_are, rebuilt_show, own_nodes, IsFoundIn}
 use Rattle.file_tree.specs.rules.Files.{entries_of, is_directory}
+use Rattle.file_tree.proofs.SameNames.{heads}
 
 -- ---- lists of nodes with the same numbers and contents
-
-heads : {A : Type 0} (a b : A) (xs ys : List A) → a ∷ xs ≡ b ∷ ys → (a ≡ b) × (xs ≡ ys)
-heads a b xs ys e = (cc, cc)
 
 same_directory : (ns ms : List FileNode) (k : ℕ) → map node_number ns ≡ map node_number ms
     → map content_of ns ≡ map content_of ms
@@ -50,7 +48,7 @@ same_directory (n ∷ ns) (m ∷ ms) k numbers contents =
 node_with : ℕ → Option Path → Content → FileNode
 node_with number path content = record { number = number; path = path; content = content }
 
-same_node : (n m : FileNode) → n.number ≡ m.number → n.path ≡ m.path → n.content ≡ m.content
+pub same_node : (n m : FileNode) → n.number ≡ m.number → n.path ≡ m.path → n.content ≡ m.content
     → n ≡ m
 unfolding node_with
 same_node n m a b c =
@@ -72,7 +70,7 @@ same_nodes path (n ∷ ns) (m ∷ ms) h g numbers contents =
     ap (λ (x : FileNode). x ∷ ns) (same_node n m number.0 paths content.0)
     ∙ ap (λ (xs : List FileNode). m ∷ xs) (same_nodes path ns ms h.1 g.1 number.1 content.1)
 
-own_paths : (fs : Files) → IsFiles fs
+pub own_paths : (fs : Files) → IsFiles fs
     → AllByRecursion (λ (n : FileNode). path_of fs n.number ≡ n.path) fs.nodes
 own_paths fs are = go fs.nodes (own_nodes 1 fs.nodes fs.next are.rising) where
   go : (ns : List FileNode) → AllByRecursion (IsFoundIn fs.nodes) ns

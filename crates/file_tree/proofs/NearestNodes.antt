@@ -6,6 +6,7 @@ use Rattle.std.proofs.Common.{sym, ap, subst, ◌∙◌, arith}
 use Rattle.std.specs.Prelude.{slice_get, option_map, option_copied, is_some, find, ◌&&◌}
 use Rattle.std.specs.List.{AllByRecursion}
 use Rattle.std.proofs.lemmas.Bool.{cases_eq, cases_lt, eq-eqb, ne_eqb}
+use Rattle.std.proofs.lemmas.Option.{same_Some}
 use Rattle.file_tree.specs.declared.store.node.Hook.{Hook}
 use Rattle.file_tree.specs.declared.store.node.Hook.TheVariants.{Root, Removed, In}
 use Rattle.file_tree.specs.declared.store.node.Node.{Node}
@@ -325,9 +326,6 @@ count_shown ns next d count are counted = by (cases_lt (length es) count) where
 
 -- ---- the name of the one at a place
 
-some_number : (a b : ℕ) → Some a ≡ Some b → a ≡ b
-some_number a b e = cc
-
 pub name_at_place : (ns : List Node) (next d i k : ℕ) → AreNodes ns next
     → number_at_place (files ns next) d i ≡ Some k
     → HasNameAtPlace (files ns next) d i (name_of_hook (hook_of ns k))
@@ -342,4 +340,4 @@ name_at_place ns next d i k are is = by (slice_get es i) refl is where
       let hung : hook_of ns e.number ≡ In d e.name =
       all_at (IsHung d (hook_of ns)) es i e (all_hung ns next d are) at in
       ap (λ (h : Hook). Some (name_of_hook h)) (sym hung)
-      ∙ ap (λ (j : ℕ). Some (name_of_hook (hook_of ns j))) (some_number e.number k is)
+      ∙ ap (λ (j : ℕ). Some (name_of_hook (hook_of ns j))) (same_Some e.number k is)

@@ -6,6 +6,7 @@ use Rattle.std.specs.List.{AllByRecursion}
 use Rattle.std.proofs.lemmas.Bool.{cases_eq, ne_eqb, eq-eqb}
 use mathlib.Core.List.{reverse-cons}
 use Rattle.std.proofs.lemmas.List.{same_from_push}
+use Rattle.std.proofs.lemmas.Option.{same_Some}
 use Rattle.file_tree.specs.declared.store.node.Hook.{Hook}
 use Rattle.file_tree.specs.declared.store.node.Hook.TheVariants.{Root, Removed, In}
 use Rattle.file_tree.specs.declared.store.node.Node.{Node}
@@ -18,9 +19,6 @@ use Rattle.file_tree.proofs.Climbs.{path_is, no_path, in_is}
 use Rattle.file_tree.proofs.Lookups.{path_shown}
 use Rattle.file_tree.proofs.Grows.{removed_or_not, way_up}
 use Rattle.file_tree.proofs.Seen.{own_hooks, child_shown, some_path, not_nil}
-
-some_number : (j k : ℕ) → Some j ≡ Some k → j ≡ k
-some_number j k e = cc
 
 pub path_at_way : (ns : List Node) (next k : ℕ) (a : Path) → AreNodes ns next → Up (hook_of ns) k a
     → path_of (files ns next) k ≡ Some (reverse a)
@@ -98,7 +96,7 @@ child_hook hook (n ∷ ns) d name k own e =
       by : (b : Bool) → is_hooked d name n.hook ≡ b
           → (child_in ns d name ≡ Some k → hook k ≡ In d name)
           → cond b (Some n.number) (child_in ns d name) ≡ Some k → hook k ≡ In d name
-      by true is later e = ap hook (sym (some_number n.number k e)) ∙ own.0
+      by true is later e = ap hook (sym (same_Some n.number k e)) ∙ own.0
           ∙ is_hooked_so d name n.hook is
       by false is later e = later e
 

@@ -48,7 +48,7 @@ found_number (x ∷ ns) k n e = by_test (eqb x.number k) refl (found_number ns k
       sym (ap (λ (y : FileNode). y.number) same) ∙ eqb-true x.number k is
   by_test false is later e = later e
 
-has_path : (o : Option Path) (p : Path) → o ≡ Some p → HasPath o p
+pub has_path : (o : Option Path) (p : Path) → o ≡ Some p → HasPath o p
 has_path None p e = absurd (cc)
 has_path (Some q) p e = cc
 

@@ -1,8 +1,9 @@
 -- A node that loses its path.
-use Rattle.std.proofs.Common.{◌≡◌, ◌≢◌, ℕ, inl, inr, Bool, true, false, not, eqb, List, [], ◌∷◌}
+use Rattle.std.proofs.Common.{◌≡◌, ◌≢◌, ℕ, inl, inr, true, not, eqb, List, [], ◌∷◌}
 use Rattle.std.proofs.Common.{length, reverse, get_or, Option, Some, None, refl, sym, ap, subst}
 use Rattle.std.proofs.Common.{◌∙◌}
 use Rattle.std.specs.Prelude.{option_map}
+use Rattle.std.proofs.lemmas.Bool.{not-true}
 use Rattle.file_tree.specs.declared.store.node.Hook.{Hook}
 use Rattle.file_tree.specs.declared.store.node.Hook.TheVariants.{Root, Removed, In}
 use Rattle.file_tree.specs.declared.store.node.NodeContent.TheVariants as content
@@ -69,10 +70,6 @@ pub record IsLost (ns : List Node) (next k i : ℕ) (fs : Files) : Type 0 where
   pub used : used_in (changed (with_hook Removed) i ns) ≡ used_in ns
   pub chunks : chunks_in (changed (with_hook Removed) i ns) ≡ chunks_in ns
 
-not_false : (b : Bool) → not b ≡ true → b ≡ false
-not_false true e = absurd cc
-not_false false e = refl
-
 nothing_hangs : (ns : List Node) (next k : ℕ) (fs : Files) → files ns next ≡ fs → AreNodes ns next
     → CanLose fs k → (j : ℕ) (name : Name) → hook_of ns j ≢ In k name
 nothing_hangs ns next k fs e are can j name h =
@@ -80,7 +77,7 @@ nothing_hangs ns next k fs e are can j name h =
     ∙ directory_shown ns next k ∙ are.placed j k name h in
     let none : not (has_child ns k) ≡ true = sym (empty_shown ns next k are)
     ∙ ap (λ (x : Files). eqb (length (entries_of x k)) 0) e ∙ can.empty inside in
-    no_child ns k (not_false (has_child ns k) none) j name h
+    no_child ns k (not-true (has_child ns k) none) j name h
 
 pub is_lost : (ns : List Node) (next k i : ℕ) (fs : Files) → files ns next ≡ fs → AreNodes ns next
     → IsPlace ns k i → CanLose fs k → IsLost ns next k i fs

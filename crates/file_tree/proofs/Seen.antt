@@ -7,6 +7,7 @@ use Rattle.std.specs.Option.{option_and_then}
 use Rattle.std.specs.List.{AllByRecursion}
 use Rattle.std.proofs.lemmas.Bool.{cases_eq, eq-eqb, ne_eqb}
 use Rattle.std.proofs.lemmas.List.{same_from_push}
+use Rattle.std.proofs.lemmas.Option.{same_Some}
 use mathlib.Core.List.{reverse-cons, reverse-reverse}
 use Rattle.file_tree.specs.declared.store.node.Hook.{Hook}
 use Rattle.file_tree.specs.declared.store.node.Hook.TheVariants.{Root, Removed, In}
@@ -225,16 +226,13 @@ child_shown ns next d name are = by_path (path_of (files ns next) d) refl where
 
 -- ---- the entries of a directory
 
-front_name : (p : Path) (name : Name) → name_behind p (p ++ name ∷ []) ≡ Some name
+pub front_name : (p : Path) (name : Name) → name_behind p (p ++ name ∷ []) ≡ Some name
 front_name [] name = refl
 front_name (x ∷ p) name = rw (same_name x) (front_name p name)
 
-some_name : (a b : Name) → Some a ≡ Some b → a ≡ b
-some_name a b e = cc
-
-name_is_behind : (p q : Path) (name : Name) → name_behind p q ≡ Some name → q ≡ p ++ name ∷ []
+pub name_is_behind : (p q : Path) (name : Name) → name_behind p q ≡ Some name → q ≡ p ++ name ∷ []
 name_is_behind [] [] name e = absurd cc
-name_is_behind [] (x ∷ []) name e = ap (λ (n : Name). n ∷ []) (some_name x name e)
+name_is_behind [] (x ∷ []) name e = ap (λ (n : Name). n ∷ []) (same_Some x name e)
 name_is_behind [] (x ∷ y ∷ q) name e = absurd cc
 name_is_behind (x ∷ p) [] name e = absurd cc
 name_is_behind (x ∷ p) (y ∷ q) name e = by (name_or_not x y) (name_is_behind p q name) e where
@@ -325,13 +323,17 @@ entries_shown ns next d are = by_path (path_of (files ns next) d) refl where
 
 -- ---- whether there are any
 
-length-inserted : (e : Entry) (es : List Entry) → length (inserted e es) ≡ suc (length es)
+pub length-inserted : (e : Entry) (es : List Entry) → length (inserted e es) ≡ suc (length es)
 length-inserted e [] = refl
 length-inserted e (f ∷ es) = by (is_before e.name f.name) (length-inserted e es) where
   by : (b : Bool) → length (inserted e es) ≡ suc (length es)
       → length (cond b (e ∷ f ∷ es) (f ∷ inserted e es)) ≡ suc (suc (length es))
   by true later = refl
   by false later = ap suc later
+
+pub length-sorted : (es : List Entry) → length (sorted es) ≡ length es
+length-sorted [] = refl
+length-sorted (e ∷ es) = length-inserted e (sorted es) ∙ ap suc (length-sorted es)
 
 some_inserted : (e : Entry) (es : List Entry) → eqb (length (inserted e es)) 0 ≡ false
 some_inserted e es =

@@ -1,16 +1,16 @@
 -- What stretches of steps count, and what a process then shows.
 use Rattle.std.proofs.Common.{◌≡◌, inl, inr, ℕ, suc, ◌+◌, ◌<◌, ◌≤◌, ◌^◌, Bool, true, false, List}
-use Rattle.std.proofs.Common.{[], ◌∷◌, Option, Some, None, refl, sym, ap, ◌∙◌, subst, arith}
+use Rattle.std.proofs.Common.{[], Option, Some, None, refl, sym, ap, ◌∙◌, subst, arith}
 use Rattle.std.specs.Prelude.{Result, Ok, Err}
-use Rattle.wasm_syntax_rules.specs.Configuration.{Thread}
 use Rattle.wasi_abi.specs.declared.answer.Answer.{Answer}
 use Rattle.wasi_calls_rules.specs.Hosts.{Line}
 use Rattle.wasi_calls.specs.rules.Held.{HeldHost}
 use Rattle.machine.specs.rules.Values.{MachineValue}
-use Rattle.process_rules.specs.Processes.{ProcessState, Guest, closed_at}
+use Rattle.process_rules.specs.Processes.{ProcessState, Guest}
 use Rattle.process_rules.specs.Runs.{Next, On, Over, Wants, Nowhere, next_of, taken, request_taken}
 use Rattle.process_rules.specs.Runs.{stepped, LeadsTo, Moves}
 use Rattle.process_rules.specs.Owing.{RunsQuietly, none, more}
+use Rattle.process_rules.proofs.Counted.{closed_answers, closed_requests}
 use Rattle.process_rules.proofs.Growing.{move_counts}
 use Rattle.process.specs.declared.stop.ProcessEnd.{ProcessEnd}
 use Rattle.process.specs.declared.stop.Stop.{Stop}
@@ -29,20 +29,6 @@ pub record Counted (p q : ProcessState) (n : ℕ) : Type 0 where
   pub steps : q.steps ≡ p.steps + n
   pub answers : q.answers ≡ p.answers
   pub requests : q.requests ≡ p.requests
-
-closed_answers : (thread : Thread) (later : List ℕ) (p : ProcessState)
-    → (closed_at thread later p).answers ≡ p.answers
-closed_answers [] [] p = refl
-closed_answers [] (f ∷ later) p = refl
-closed_answers (frame ∷ frames) [] p = refl
-closed_answers (frame ∷ frames) (f ∷ later) p = refl
-
-closed_requests : (thread : Thread) (later : List ℕ) (p : ProcessState)
-    → (closed_at thread later p).requests ≡ p.requests
-closed_requests [] [] p = refl
-closed_requests [] (f ∷ later) p = refl
-closed_requests (frame ∷ frames) [] p = refl
-closed_requests (frame ∷ frames) (f ∷ later) p = refl
 
 leads_answers : (guest : Guest) (next : Next) (given : Option Answer) (p q : ProcessState)
     → LeadsTo guest next given p q → q.answers ≡ p.answers + taken given

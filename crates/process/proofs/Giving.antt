@@ -10,6 +10,7 @@ use Rattle.wasi_calls.specs.rules.Held.{HeldHost}
 use Rattle.machine.specs.rules.Values.{MachineValue}
 use Rattle.process_rules.specs.Processes.{ProcessState, Guest}
 use Rattle.process_rules.specs.Runs.{request_taken, Moves, IsWanted}
+use Rattle.process_rules.proofs.Counted.{one_request}
 use Rattle.process.specs.declared.calling.Called.TheVariants as called
 use Rattle.process.specs.declared.fault.ProcessFault.{ProcessFault}
 use Rattle.process.specs.declared.fault.ProcessFault.TheVariants as fault
@@ -55,11 +56,6 @@ pub running_when : (ended : Option ProcessEnd) → is_some ended ≡ false
     → option_map ending_of ended ≡ None
 running_when None e = refl
 running_when (Some how) e = absurd (cc)
-
-one_request : (a : Answer) → request_taken (Some a) ≤ 1
-one_request (answer.Request text) = omega arith
-one_request answer.End = omega arith
-one_request _ = omega arith
 
 module _ (m new : MachineValue) (h held : HeldHost) (steps answers requests : ℕ)
     (ended : Option ProcessEnd) (answer : Answer) (guest : Guest) (p : ProcessState) where

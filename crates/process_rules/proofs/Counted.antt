@@ -1,6 +1,6 @@
 -- What is reached counts its steps and its answers, and has ended where its program has.
 use Rattle.std.proofs.Common.{◌≡◌, ℕ, suc, ◌+◌, ◌≤◌, List, [], ◌∷◌, length, Option, Some, None}
-use Rattle.std.proofs.Common.{refl, sym, ap, ◌∙◌, subst, arith}
+use Rattle.std.proofs.Common.{refl, sym, subst, arith}
 use Rattle.std.specs.Prelude.{Ok, Err, reverse, map, slice_get}
 use Rattle.wasm_syntax.specs.declared.value.Value.{Value}
 use Rattle.wasm_syntax.specs.declared.module.Module.{Module}
@@ -20,7 +20,7 @@ use Rattle.process_rules.specs.Runs.{Next, On, Over, Wants, Nowhere, after_row, 
 use Rattle.process_rules.specs.Runs.{after_rule, next_of, taken, request_taken, stepped, LeadsTo}
 use Rattle.process_rules.specs.Runs.{Moves, Kept, Runs, none, step, take}
 use Rattle.process_rules.specs.laws.Laws.{ReachedAreCounted, IsClosed, ReachedAreClosed}
-use Rattle.process_rules.proofs.Growing.{move_counts, runs_count}
+use Rattle.process_rules.proofs.Growing.{move_counts, runs_count, start_counts}
 use Rattle.process_rules.proofs.Hosted.{beginning}
 
 -- ---- where a process ends
@@ -83,14 +83,14 @@ record CountsOn (given : Option Answer) (p q : ProcessState) : Type 0 where
   requests : q.requests ≡ p.requests + request_taken given
   closed : IsClosedHere q
 
-closed_answers : (thread : Thread) (later : List ℕ) (p : ProcessState)
+pub closed_answers : (thread : Thread) (later : List ℕ) (p : ProcessState)
     → (closed_at thread later p).answers ≡ p.answers
 closed_answers [] [] p = refl
 closed_answers [] (f ∷ later) p = refl
 closed_answers (frame ∷ frames) [] p = refl
 closed_answers (frame ∷ frames) (f ∷ later) p = refl
 
-closed_requests : (thread : Thread) (later : List ℕ) (p : ProcessState)
+pub closed_requests : (thread : Thread) (later : List ℕ) (p : ProcessState)
     → (closed_at thread later p).requests ≡ p.requests
 closed_requests [] [] p = refl
 closed_requests [] (f ∷ later) p = refl
@@ -119,7 +119,7 @@ move_counted guest p q given moves =
     (rule_stops guest (rule guest.program p.configuration) given p.configuration p.host)
     moves.leads
 
-one_request : (a : Answer) → request_taken (Some a) ≤ 1
+pub one_request : (a : Answer) → request_taken (Some a) ≤ 1
 one_request (answer.Request text) = omega arith
 one_request answer.End = omega arith
 one_request (answer.Realtime n) = omega arith
@@ -195,21 +195,9 @@ start_taken m config guest p start =
     (closed_taken start.first.thread start.first.later (beginning start.first config) refl refl
     refl refl refl)
 
-start_steps : (m : Module) (config : Settings) (guest : Guest) (p : ProcessState)
-    → IsStart m config guest p → p.steps ≡ 0
-start_steps m config guest p start =
-    ap (λ (z : ProcessState). z.steps) start.is
-    ∙ no_step start.first.thread start.first.later where
-      no_step : (thread : Thread) (later : List ℕ)
-          → (closed_at thread later (beginning start.first config)).steps ≡ 0
-      no_step [] [] = refl
-      no_step [] (x ∷ later) = refl
-      no_step (frame ∷ frames) [] = refl
-      no_step (frame ∷ frames) (x ∷ later) = refl
-
 pub reached_are_counted : ReachedAreCounted
 reached_are_counted m config kept n p r =
-    let first = start_steps m config r.guest r.start r.begins in
+    let first = start_counts m config r.guest r.start r.begins in
     let counted = runs_count r.guest r.start p kept n r.runs in
     let t = runs_taken r.guest 0 r.start p kept n r.runs
     (start_taken m config r.guest r.start r.begins) in

@@ -2,6 +2,7 @@
 use Rattle.std.proofs.Common.{◌≡◌, ℕ, ◌+◌, List, [], ◌∷◌, ◌++◌, Option, Some, None, refl, ◌∙◌, ap}
 use Rattle.std.proofs.Common.{arith, append_assoc}
 use Rattle.std.specs.Prelude.{Ok, Err, reverse, map, slice_get}
+use Rattle.wasm_syntax.specs.declared.module.Module.{Module}
 use Rattle.wasm_syntax.specs.declared.value.Value.{Value}
 use Rattle.wasm_syntax_rules.specs.Types.{number_in}
 use Rattle.wasm_syntax_rules.specs.Configuration.{Configuration, Thread, Outcome, Goes, Traps, Asks}
@@ -9,13 +10,14 @@ use Rattle.wasm_syntax_rules.specs.Configuration.{Stuck}
 use Rattle.wasm_syntax_rules.specs.Steps.{rule}
 use Rattle.wasi_abi.specs.declared.answer.Answer.{Answer}
 use Rattle.wasi_abi.specs.declared.call.Call.{Call}
+use Rattle.wasi_abi.specs.rules.Configs.{Settings}
 use Rattle.wasi_calls_rules.specs.Hosts.{Host}
 use Rattle.wasi_calls_rules.specs.Checks.{Refuses, Ends, Asks as Wishes, Done, Ruling}
 use Rattle.wasi_calls_rules.specs.Lines.{lines_ended}
 use Rattle.wasi_calls_rules.specs.Rows.{row}
 use Rattle.wasi_calls_rules.specs.laws.Laws.{Emits}
 use Rattle.wasi_calls_rules.proofs.EmitsLines.{emits_none, rows_emit}
-use Rattle.process_rules.specs.Processes.{ProcessState, Guest, closed, closed_at}
+use Rattle.process_rules.specs.Processes.{ProcessState, Guest, IsStart, closed, closed_at}
 use Rattle.process_rules.specs.Runs.{Next, On, Over, Wants, Nowhere, after_row, after_call}
 use Rattle.process_rules.specs.Runs.{after_rule, next_of, stepped, LeadsTo, Moves, none, step, take}
 use Rattle.process_rules.specs.laws.Laws.{RunsCount, RunsEmit}
@@ -116,6 +118,12 @@ pub move_emits : (guest : Guest) (p q : ProcessState) (given : Option Answer)
 move_emits guest p q given moves = (move_grows guest p q given moves).emits
 
 -- ---- runs
+
+-- nothing was counted at the start
+pub start_counts : (m : Module) (config : Settings) (guest : Guest) (p : ProcessState)
+    → IsStart m config guest p → p.steps ≡ 0
+start_counts m config guest p start = ap (λ (z : ProcessState). z.steps) start.is
+    ∙ closed_counts start.first.thread start.first.later _
 
 pub runs_count : RunsCount
 runs_count guest p q kept n (none {p = p'}) = omega arith

@@ -3,17 +3,15 @@ use Rattle.std.proofs.Common.{◌≡◌, ◌≢◌, inl, inr, ℕ, List, [], ◌
 use Rattle.std.proofs.Common.{ap, ◌∙◌, subst, if◌then◌else◌}
 use Rattle.std.specs.Prelude.{codes}
 use Rattle.std.specs.List.{AllByRecursion}
-use Rattle.wasm_syntax.specs.declared.value.Value.{Value}
 use Rattle.wasm_syntax.specs.declared.module.Module.{Module}
 use Rattle.wasm_syntax.specs.declared.module.Import.{Import}
-use Rattle.wasm_syntax.specs.declared.module.Global.{Global}
 use Rattle.wasm_syntax.specs.declared.module.Export.{Export}
 use Rattle.wasm_syntax.specs.declared.module.ExportItem.{ExportItem}
 use Rattle.wasm_syntax.specs.declared.module.ExportItem.TheVariants as export
 use Rattle.wasm_syntax_rules.specs.Validity.{HaveDistinctNames, IsValid}
 use Rattle.wasm_syntax_rules.specs.Configuration.{Program, Store, Configuration}
-use Rattle.wasm_syntax_rules.specs.Instantiation.{IsProgram, constant_of, AreInitial}
-use Rattle.wasm_syntax_rules.specs.Instantiation.{IsInitialStore, calls_of, Begins}
+use Rattle.wasm_syntax_rules.specs.Instantiation.{IsProgram}
+use Rattle.wasm_syntax_rules.specs.Instantiation.{calls_of, Begins}
 use Rattle.wasm_syntax_rules.specs.Steps.{Settles}
 use Rattle.wasm_syntax_rules.specs.Linking.{Exports}
 use Rattle.wasm_syntax_rules.proofs.OneProgram.{one_program}

@@ -9,7 +9,7 @@ use Rattle.std.proofs.lemmas.Grind.{reverse_onto}
 use Rattle.std.proofs.lemmas.List.{reverse-reverse, length-reverse}
 use Rattle.std.proofs.lemmas.Bool.{both_ways, eqb-true}
 use Rattle.std.proofs.lemmas.List.Sums.{sum_by-cons}
-use Rattle.std.proofs.lemmas.Option.{slice_get_within}
+use Rattle.std.proofs.lemmas.Option.{slice_get_within, same_Some}
 use borrow.Author.Count.{below_more}
 use Rattle.wasm_syntax.specs.declared.limits.TheConstants.{GLOBALS}
 use Rattle.wasm_syntax.specs.declared.module.Module.{Module}
@@ -52,16 +52,13 @@ called_first m valid later f n told (inr come) some has tells =
     subst P (sym come.2)
     (λ is. (same_entry m valid come.0 n come.1 has, tells.0 is), λ is. tells.1 is.1)
 
-same_some : (a b : ℕ) → Some a ≡ Some b → a ≡ b
-same_some a b e = cc
-
 by_entry : (m : Module) → IsValid m → (f n : ℕ) (told : Bool) (found : Option ℕ) → HasEntry m n
     → IfSome found (HasEntry m) → IfNone found ((k : ℕ) → HasEntry m k → ⊥)
     → (IsTrue told ↔ (found ≡ Some f)) → IsTrue told ↔ (f ≡ n)
 by_entry m valid f n told None has some none tells = absurd (none n has)
 by_entry m valid f n told (Some k) has some none tells =
     let same : k ≡ n = same_entry m valid k n some has in (
-      λ is. sym (same_some k f (tells.0 is)) ∙ same,
+      λ is. sym (same_Some k f (tells.0 is)) ∙ same,
       λ is. tells.1 (ap (λ (x : ℕ). Some x) (same ∙ sym is)),
     )
 

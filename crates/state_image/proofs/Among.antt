@@ -1,16 +1,16 @@
 -- Nodes among the nodes of a file system, and entries among those of a directory.
-use Rattle.std.proofs.Common.{◌≡◌, ◌≢◌, ◌⊎◌, inl, inr, ℕ, ◌+◌, ◌<◌, ◌≤◌, Bool, true, false, cond}
+use Rattle.std.proofs.Common.{◌≡◌, ◌⊎◌, inl, inr, ℕ, ◌+◌, ◌<◌, ◌≤◌, Bool, true, false, cond}
 use Rattle.std.proofs.Common.{eqb, List, [], ◌∷◌, ◌++◌, Option, Some, None, refl, sym, ap, subst}
 use Rattle.std.proofs.Common.{◌∙◌, arith}
 use Rattle.std.specs.Prelude.{find, option_map}
 use Rattle.std.specs.Option.{option_and_then}
 use Rattle.std.specs.List.{AllByRecursion}
 use Rattle.std.proofs.lemmas.Bool.{eqb-true, eq-eqb, ne_eqb}
-use Rattle.file_tree.specs.rules.Files.{Name, Path, FileNode, Entry, is_same_name, is_before}
+use Rattle.file_tree.specs.rules.Files.{Name, Path, FileNode, Entry, is_before}
 use Rattle.file_tree.specs.rules.Files.{name_behind, entry_of, entries_in, inserted, sorted}
 use Rattle.file_tree.specs.rules.Files.{AreRising, HasPath, HaveDistinctPaths}
-use Rattle.file_tree.proofs.SameNames.{name_or_not}
 use Rattle.file_tree.proofs.Order.{all_sorted}
+use Rattle.file_tree.proofs.Seen.{front_name, name_is_behind}
 
 -- x is in the list
 abbrev pub IsAmong : {X : Type 0} → X → List X → Type 0
@@ -92,35 +92,6 @@ one_path (x ∷ ns) n m p d (inr a) (inl b) h k =
     p (subst (λ (y : FileNode). HasPath y.path p) b k) h)
 one_path (x ∷ ns) n m p d (inr a) (inr b) h k = one_path ns n m p d.1 a b h k
 
--- ---- names behind a path
-
-pub name_is_behind : (p : Path) (name : Name) → name_behind p (p ++ name ∷ []) ≡ Some name
-name_is_behind [] name = refl
-name_is_behind (a ∷ p) name = elim (name_or_not a a)
-    [ inl h ↦ rw h.0 (name_is_behind p name) | inr h ↦ absurd (h.1 refl) ]
-
-some_name : (a b : Name) → Some a ≡ Some b → a ≡ b
-some_name a b e = cc
-
-pub behind_is : (p q : Path) (name : Name) → name_behind p q ≡ Some name → q ≡ p ++ name ∷ []
-behind_is [] [] name e = absurd cc
-behind_is [] (a ∷ []) name e = ap (λ (x : Name). x ∷ []) (some_name a name e)
-behind_is [] (a ∷ b ∷ q) name e = absurd cc
-behind_is (a ∷ p) [] name e = absurd cc
-behind_is (a ∷ p) (b ∷ q) name e = by (name_or_not a b) (behind_is p q name) e where
-  none_some : None ≡ Some name → ⊥
-  none_some t = absurd cc
-
-  by : ((is_same_name a b ≡ true) × (a ≡ b)) ⊎ ((is_same_name a b ≡ false) × (a ≢ b))
-      → (name_behind p q ≡ Some name → q ≡ p ++ name ∷ [])
-      → cond (is_same_name a b) (name_behind p q) None ≡ Some name → b ∷ q ≡ a ∷ (p ++ name ∷ [])
-  by (inl h) later e =
-      let here : name_behind p q ≡ Some name = sym
-      (ap (λ (t : Bool). cond t (name_behind p q) None) h.0) ∙ e in
-      ap (λ (x : Name). x ∷ q) (sym h.1) ∙ ap (λ (x : Path). a ∷ x) (later here)
-  by (inr h) later e = absurd
-      (none_some (sym (ap (λ (t : Bool). cond t (name_behind p q) None) h.0) ∙ e))
-
 -- ---- entries
 
 abbrev pub entry_with : Name → ℕ → Entry
@@ -144,7 +115,7 @@ has_entry p name (m ∷ ns) n (inl e) is =
     (sym (next_entries p m ns (Some (entry_with name n.number)) entry_is)) (inl refl) where
       of_path : (o : Option Path) → o ≡ Some (p ++ name ∷ [])
           → option_and_then (name_behind p) o ≡ Some name
-      of_path o e = ap (option_and_then (name_behind p)) e ∙ name_is_behind p name
+      of_path o e = ap (option_and_then (name_behind p)) e ∙ front_name p name
 
       entry_is : entry_of p m ≡ Some (entry_with name n.number)
       entry_is = subst (λ (x : FileNode). entry_of p x ≡ Some (entry_with name n.number)) e
@@ -177,7 +148,7 @@ entry_is_of p n e is = by n.path is where
       let same = some_entry (entry_with name n.number) e is in (
         ap (λ (x : Entry). x.number) same,
         ap (λ (x : Path). Some x)
-            (behind_is p q name b ∙ ap (λ (x : Entry). p ++ x.name ∷ []) same),
+            (name_is_behind p q name b ∙ ap (λ (x : Entry). p ++ x.name ∷ []) same),
       )
 
   by : (o : Option Path)

@@ -3,6 +3,7 @@ use Rattle.std.proofs.Common.{◌≡◌, ℕ, ◌+◌, ◌≤◌, List, [], ◌�
 use Rattle.std.proofs.Common.{Some, None, refl, sym, ap, ◌∙◌, arith}
 use Rattle.std.specs.List.{AllByRecursion}
 use Rattle.std.proofs.lemmas.List.{append_cancel_right}
+use Rattle.std.proofs.lemmas.Option.{same_Some}
 use Rattle.file_tree.specs.rules.Files.{Name, Path, FileNode, Entry, entry_of, entries_in, HasPath}
 use Rattle.file_tree.specs.rules.Files.{HaveDistinctPaths}
 use Rattle.state_image.proofs.Among.{next_entries, entry_is_of}
@@ -36,16 +37,13 @@ same_front_path a b x y e =
     append_cancel_right a b (x ∷ [])
     (e ∙ ap (λ (z : Name). b ++ z ∷ []) (sym (one_last a b x y e)))
 
-some_path : (p q : Path) → Some p ≡ Some q → p ≡ q
-some_path p q e = cc
-
 -- not of two paths
 not_both : (n : FileNode) (p q : Path) (e f : Entry) → entry_of p n ≡ Some e
     → entry_of q n ≡ Some f → p ≡ q
 not_both n p q e f h k =
     let a = (entry_is_of p n e h).1 in
     let b = (entry_is_of q n f k).1 in
-    same_front_path p q e.name f.name (some_path (p ++ e.name ∷ []) (q ++ f.name ∷ []) (sym a ∙ b))
+    same_front_path p q e.name f.name (same_Some (p ++ e.name ∷ []) (q ++ f.name ∷ []) (sym a ∙ b))
 
 none_beside : (n : FileNode) (p : Path) (e : Entry) → entry_of p n ≡ Some e → (ms : List FileNode)
     → AllByRecursion (λ (other : FileNode). (q : Path) → HasPath (Some p) q → HasPath other.path q

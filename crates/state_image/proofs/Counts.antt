@@ -10,6 +10,7 @@ use Rattle.state_image.specs.rules.Image.{Saved, trap_number, phase_of, ending_c
 use Rattle.state_image.specs.rules.Image.{text_bytes, counts_bytes, phase_bytes, streams_bytes}
 use Rattle.state_image.specs.rules.Ranges.{IsIn, IsShort, FitsCounts, FitsStreams}
 use Rattle.state_image.proofs.Fields.{cut, number_field, text_field}
+use Rattle.file_tree.proofs.SameNames.{heads}
 
 -- ---- counts
 
@@ -110,18 +111,15 @@ pub record SamePhase (s t : Saved) : Type 0 where
   pub ended : s.ended ≡ t.ended
   pub input_ended : s.input_ended ≡ t.input_ended
 
-tails_are : (a b : ℕ) (xs ys : List ℕ) → a ∷ xs ≡ b ∷ ys → (a ≡ b) × (xs ≡ ys)
-tails_are a b xs ys e = (cc, cc)
-
 pub same_phase : (s t : Saved) (rest other : List ℕ) → IsIn 4 (ending_code s.ended)
     → IsIn 4 (ending_code t.ended)
     → phase_bytes s ++ rest ≡ phase_bytes t ++ other → SamePhase s t × (rest ≡ other)
 same_phase s t rest other p q e =
-    let first = tails_are _ _ _ _ e in
+    let first = heads _ _ _ _ e in
     let code = cut ℕ (IsIn 4) u32_bytes (number_field 4) (ending_code s.ended)
     (ending_code t.ended) (flag_of s.input_ended ∷ []) (flag_of t.input_ended ∷ []) rest other
     p q first.1 in
-    let last = tails_are (flag_of s.input_ended) (flag_of t.input_ended) rest other code.1 in (
+    let last = heads (flag_of s.input_ended) (flag_of t.input_ended) rest other code.1 in (
       record {
         phase = first.0;
         ended = same_ending s.ended t.ended s.machine.later t.machine.later first.0 code.0;

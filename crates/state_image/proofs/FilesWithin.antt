@@ -1,14 +1,15 @@
 -- The numbers of a file system are within the fields that an image has for them.
-use Rattle.std.proofs.Common.{◌≡◌, inl, inr, ℕ, suc, ◌<◌, ◌≤◌, Bool, true, false, cond, List, []}
+use Rattle.std.proofs.Common.{◌≡◌, inl, inr, ℕ, suc, ◌<◌, ◌≤◌, List, []}
 use Rattle.std.proofs.Common.{◌∷◌, ◌++◌, length, length-append, map, Option, Some, None, refl, ap}
-use Rattle.std.proofs.Common.{◌∙◌, arith, subst, sym}
+use Rattle.std.proofs.Common.{arith, subst, sym}
 use Rattle.std.specs.List.{AllByRecursion}
 use Rattle.std.proofs.lemmas.List.{length-map}
 use Rattle.file_tree.specs.rules.Files.{IsNodeName, Name, Path, Files, FileNode, Content}
-use Rattle.file_tree.specs.rules.Files.{Directory, File, Entry, is_before, path_of, entry_of}
-use Rattle.file_tree.specs.rules.Files.{entries_in, inserted, sorted, entries_under, entries_of}
+use Rattle.file_tree.specs.rules.Files.{Directory, File, Entry, path_of, entry_of}
+use Rattle.file_tree.specs.rules.Files.{entries_in, sorted, entries_under, entries_of}
 use Rattle.file_tree.specs.rules.Files.{IsPlaced, IsSmallContent, IsFiles}
 use Rattle.file_tree.proofs.Order.{all_sorted}
+use Rattle.file_tree.proofs.Seen.{length-sorted}
 use Rattle.state_image.specs.rules.Ranges.{IsIn, AreFew, IsEntryIn}
 use Rattle.state_image.specs.restoring.Named.{held_of, named}
 use Rattle.state_image.proofs.Named.{IsHeldIn, IsNamedIn, AreNamedIn}
@@ -17,18 +18,6 @@ use Rattle.state_image.proofs.Among.{is_entry_of}
 use Rattle.state_image.proofs.PathsTold.{placed_at}
 
 -- ---- how many entries
-
-length-inserted : (e : Entry) (es : List Entry) → length (inserted e es) ≡ suc (length es)
-length-inserted e [] = refl
-length-inserted e (f ∷ es) = by (is_before e.name f.name) (length-inserted e es) where
-  by : (b : Bool) → length (inserted e es) ≡ suc (length es)
-      → length (cond b (e ∷ f ∷ es) (f ∷ inserted e es)) ≡ suc (suc (length es))
-  by true later = refl
-  by false later = ap suc later
-
-pub length-sorted : (es : List Entry) → length (sorted es) ≡ length es
-length-sorted [] = refl
-length-sorted (e ∷ es) = length-inserted e (sorted es) ∙ ap suc (length-sorted es)
 
 no_more_entries : (p : Path) (ns : List FileNode) → length (entries_in p ns) ≤ length ns
 no_more_entries p [] = omega arith

@@ -19,6 +19,7 @@ use Rattle.wasi_abi.specs.rules.Configs.{Settings}
 use Rattle.process_rules.specs.Processes.{ProcessState, Guest, IsStart, host_of}
 use Rattle.process_rules.proofs.ExamplesValid.{hello_spells, hello_is_valid}
 use Rattle.machine_slots.specs.rules.Places.{Shows}
+use Rattle.state_image.specs.rules.Image.{SavedShowsProcess}
 use Rattle.state_image.specs.rules.WellTyped.{IsWellTyped}
 use Rattle.state_image.specs.laws.Examples.{fresh_process}
 use Rattle.state_image.specs.laws.WellTypedExamples.{hello_first_memory, HelloBeginsWellTyped}
@@ -26,19 +27,19 @@ use Rattle.wasi_calls_rules.proofs.FirstHosts.{first_is_host}
 
 -- ---- memory
 
-memory : List ℕ
-memory = hello_first_memory
+pub first_memory : List ℕ
+first_memory = hello_first_memory
 
-is_first : memory ≡ hello_first_memory
-unfolding memory
+pub is_first : first_memory ≡ hello_first_memory
+unfolding first_memory
 is_first = refl
 
-filled : filled_memory [] hello.data_segments (empty_memory (memories_of hello)) ≡ Some memory
-unfolding memory
+filled : filled_memory [] hello.data_segments (empty_memory (memories_of hello)) ≡ Some first_memory
+unfolding first_memory
 filled = refl
 
-one_page_long : length memory ≡ 65536
-unfolding memory
+one_page_long : length first_memory ≡ 65536
+unfolding first_memory
 one_page_long = omega (arith, length-replicate {A = ℕ} 65525 0)
 
 zeros : (n : ℕ) → AllByRecursion IsByte (replicate n 0)
@@ -48,8 +49,8 @@ zeros (suc n) = (omega arith, zeros n)
 low : (n : ℕ) → n ≤ 255 → IsByte n
 low n le = omega (arith, le)
 
-memory_bytes : AllByRecursion IsByte memory
-unfolding memory
+memory_bytes : AllByRecursion IsByte first_memory
+unfolding first_memory
 memory_bytes = (
   low 8 (lit≤ tt),
   (
@@ -81,17 +82,17 @@ memory_bytes = (
 
 -- ---- how it begins
 
-abbrev program_under : Settings → Program
+abbrev pub program_under : Settings → Program
 program_under config = record program_of_hello { most_pages = config.pages }
 
-abbrev first : Configuration
-first = in_hello (record { memory = memory; globals = []; table = [] }) [] hello_sequence
+abbrev pub first : Configuration
+first = in_hello (record { memory = first_memory; globals = []; table = [] }) [] hello_sequence
 
-abbrev guest_of : Settings → Guest
+abbrev pub guest_of : Settings → Guest
 guest_of config = record
     { program = program_under config; calls = call.FdWrite ∷ call.ProcExit ∷ [] }
 
-abbrev first_of : Settings → ProcessState
+abbrev pub first_of : Settings → ProcessState
 first_of config = record {
   configuration = first;
   host = host_of config;
@@ -108,7 +109,7 @@ is_program config = record {
   most_pages = refl;
 }
 
-begins : (config : Settings) → IsStart hello config (guest_of config) (first_of config)
+pub begins : (config : Settings) → IsStart hello config (guest_of config) (first_of config)
 begins config = record {
   entry = 2;
   first = first;
@@ -116,7 +117,7 @@ begins config = record {
   calls = (refl, refl, (refl, refl, tt));
   begins = record {
     is_program = is_program config;
-    store = record { memory = memory; globals = []; table = [] };
+    store = record { memory = first_memory; globals = []; table = [] };
     is_store = record { globals = tt; table = refl; memory = filled };
     settles = on refl (here refl);
   };
@@ -125,10 +126,10 @@ begins config = record {
 
 -- ---- what it shows
 
-abbrev functions : List FunctionType
+abbrev pub functions : List FunctionType
 functions = transfer_type ∷ exit_type ∷ no_type ∷ []
 
-abbrev context : Context
+abbrev pub context : Context
 context = module_context hello functions
 
 body_typed : (config : Settings) → config.pages ≤ 2 ^ 16
@@ -166,7 +167,7 @@ typed config some few = record {
 }
 
 shows : (config : Settings) → 1 ≤ config.pages → config.pages ≤ 2 ^ 16
-    → Shows context (program_under config) [] (fresh_process memory).machine first
+    → Shows context (program_under config) [] (fresh_process first_memory).machine first
 shows config some few = record {
   typed = typed config some few;
   settled = refl;
@@ -198,10 +199,29 @@ shows config some few = record {
   few_values = omega arith;
 }
 
+pub first_shown : (config : Settings) → 1 ≤ config.pages → config.pages ≤ 2 ^ 16
+    → SavedShowsProcess context (program_under config) [] (fresh_process first_memory)
+    (first_of config)
+first_shown config some few = record {
+  machine = shows config some few;
+  files = refl;
+  descriptors = refl;
+  unread = refl;
+  input_ended = refl;
+  last_monotonic = refl;
+  first = refl;
+  second = refl;
+  steps = refl;
+  answers = refl;
+  requests = refl;
+  lines = refl;
+  ended = refl;
+}
+
 -- ---- it is well typed
 
 well_typed : (config : Settings) → 1 ≤ config.pages → config.pages ≤ 2 ^ 16
-    → IsWellTyped hello config (fresh_process memory)
+    → IsWellTyped hello config (fresh_process first_memory)
 unfolding begins
 well_typed config some few = record {
   valid = hello_is_valid;
@@ -211,21 +231,7 @@ well_typed config some few = record {
   functions = functions;
   function_types = (refl, (refl, (refl, tt)));
   process = first_of config;
-  shown = record {
-    machine = shows config some few;
-    files = refl;
-    descriptors = refl;
-    unread = refl;
-    input_ended = refl;
-    last_monotonic = refl;
-    first = refl;
-    second = refl;
-    steps = refl;
-    answers = refl;
-    requests = refl;
-    lines = refl;
-    ended = refl;
-  };
+  shown = first_shown config some few;
   host = first_is_host _ _ _ _;
   configured = record { room = refl; limit = refl; arguments = refl; environment = refl };
   outermost = refl;

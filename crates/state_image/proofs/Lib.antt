@@ -17,7 +17,7 @@ mod MachineWithin
 mod Whole
 mod ExamplesHold
 mod RefusalsHold
-mod HelloWellTyped
+pub mod HelloWellTyped
 mod Children
 mod Room
 mod Texts

@@ -5,6 +5,7 @@ use Rattle.std.specs.List.{flat_map}
 use Rattle.std.proofs.lemmas.List.{length-map}
 use Rattle.wasi_abi.specs.rules.Layouts.{u16_bytes, u32_bytes, u64_bytes}
 use Rattle.file_tree.specs.rules.Files.{Name, Files, FileNode, Content, Directory, File, Entry}
+use Rattle.file_tree.proofs.SameNames.{heads}
 use Rattle.state_image.specs.rules.Image.{items_bytes, entry_bytes, content_bytes, node_bytes}
 use Rattle.state_image.specs.rules.Image.{files_bytes}
 use Rattle.state_image.specs.restoring.Named.{Held, Entries, Bytes, NamedNode, held_of, named}
@@ -69,9 +70,6 @@ entry_field = record { front = told } where
 abbrev pub IsHeldIn : Held → Type 0
 IsHeldIn (Entries es) = AreFew Entry IsEntryIn es
 IsHeldIn (Bytes bytes) = IsIn 8 (length bytes)
-
-heads : (a b : ℕ) (xs ys : List ℕ) → a ∷ xs ≡ b ∷ ys → (a ≡ b) × (xs ≡ ys)
-heads a b xs ys e = (cc, cc)
 
 same_held : (a b : Held) (rest other : List ℕ) → IsHeldIn a → IsHeldIn b
     → held_bytes a ++ rest ≡ held_bytes b ++ other → (a ≡ b) × (rest ≡ other)

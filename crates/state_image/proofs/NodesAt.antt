@@ -2,25 +2,24 @@
 use Rattle.std.proofs.Common.{◌≡◌, inl, inr, ℕ, zero, suc, ◌<◌, ◌++◌, true, false, List, [], ◌∷◌}
 use Rattle.std.proofs.Common.{length, Option, Some, None, refl, sym, ap, subst, ◌∙◌}
 use Rattle.std.specs.Prelude.{Result, IsSome, slice_get, option_map}
+use Rattle.std.proofs.lemmas.Option.{same_Some}
 use Rattle.wasi_abi.specs.rules.Layouts.{u16_bytes, u64_bytes}
 use Rattle.file_tree.specs.rules.Files.{Name, Files, FileNode, Content, Directory, File, Entry}
 use Rattle.file_tree.specs.rules.Files.{IsFiles, node_of, is_directory, holds_directory}
 use Rattle.file_tree.specs.rules.Files.{is_directory_content, bytes_of_node, bytes_held}
-use Rattle.file_tree.specs.rules.Files.{bytes_of_content, entries_of}
+use Rattle.file_tree.specs.rules.Files.{entries_of}
 use Rattle.file_tree.specs.rules.Listings.{number_at, number_at_place, HasNameAtPlace}
+use Rattle.file_tree.proofs.Sizes.{file_is}
 use Rattle.state_image.specs.rules.Image.{entry_bytes}
 use Rattle.state_image.specs.rules.Sinks.{TakingPieces, Pushes}
 use Rattle.state_image.proofs.Among.{IsAmong, found_own}
 use Rattle.state_image.proofs.PushedItems.{item_at}
 
-some_is : {X : Type 0} (x y : X) → Some x ≡ Some y → x ≡ y
-some_is x y e = cc
-
 -- ---- nodes
 
 among_at : (ns : List FileNode) (i : ℕ) (n : FileNode) → slice_get ns i ≡ Some n → IsAmong n ns
 among_at [] i n e = absurd cc
-among_at (m ∷ ns) zero n e = inl (sym (some_is m n e))
+among_at (m ∷ ns) zero n e = inl (sym (same_Some m n e))
 among_at (m ∷ ns) (suc i) n e = inr (among_at ns i n e)
 
 -- the node at a place is the one of its number
@@ -47,15 +46,11 @@ numbered ns i k e = by (slice_get ns i) refl e where
       → option_map (λ (n : FileNode). n.number) o ≡ Some k
       → (n : FileNode) × (slice_get ns i ≡ Some n) × (n.number ≡ k)
   by None is e = absurd cc
-  by (Some n) is e = (n, is, some_is n.number k e)
+  by (Some n) is e = (n, is, same_Some n.number k e)
 
-directory_content : (c : Content) → is_directory_content c ≡ true → c ≡ Directory
+pub directory_content : (c : Content) → is_directory_content c ≡ true → c ≡ Directory
 directory_content Directory e = refl
 directory_content (File bytes) e = absurd cc
-
-file_content : (c : Content) → is_directory_content c ≡ false → c ≡ File (bytes_of_content c)
-file_content Directory e = absurd cc
-file_content (File bytes) e = refl
 
 pub directory_held : (fs : Files) (k : ℕ) (n : FileNode) → node_of fs k ≡ Some n
     → is_directory fs k ≡ true → n.content ≡ Directory
@@ -65,7 +60,7 @@ directory_held fs k n found is =
 pub file_held : (fs : Files) (k : ℕ) (n : FileNode) → node_of fs k ≡ Some n
     → is_directory fs k ≡ false → n.content ≡ File (bytes_of_node fs k)
 file_held fs k n found is =
-    file_content n.content (sym (ap holds_directory found) ∙ is)
+    file_is n.content (sym (ap holds_directory found) ∙ is)
     ∙ ap (λ (o : Option FileNode). File (bytes_held o)) (sym found)
 
 -- ---- entries
@@ -84,9 +79,9 @@ pub entry_pushed : {S F : Type 0} {takes : TakingPieces S F} {a z : S} {said : R
     → Pushes takes a (u16_bytes (length name) ++ (name ++ u64_bytes k)) said z
     → Pushes takes a (entry_bytes e) said z
 entry_pushed {S} {F} {takes} {a} {z} {said} fs d i e at k name numbered named pushed =
-    let same : k ≡ e.number = some_is k e.number
+    let same : k ≡ e.number = same_Some k e.number
     (sym numbered ∙ ap (option_map (λ (x : Entry). x.number)) at) in
-    let called : name ≡ e.name = some_is name e.name
+    let called : name ≡ e.name = same_Some name e.name
     (sym named ∙ ap (option_map (λ (x : Entry). x.name)) at) in
     subst (λ x. Pushes takes a (u16_bytes (length x) ++ (x ++ u64_bytes e.number)) said z) called
     (subst (λ j. Pushes takes a (u16_bytes (length name) ++ (name ++ u64_bytes j)) said z) same

@@ -8,10 +8,13 @@ use Rattle.std.specs.List.{AllByRecursion}
 use Rattle.file_tree.specs.rules.Files.{Name, Path, Files, FileNode, Content, Directory, File}
 use Rattle.file_tree.specs.rules.Files.{Entry, node_of, path_of, is_directory, holds_directory}
 use Rattle.file_tree.specs.rules.Files.{is_directory_content, entries_in, sorted, entries_under}
-use Rattle.file_tree.specs.rules.Files.{entries_of, IsPlaced, HasPath, IsFiles}
+use Rattle.file_tree.specs.rules.Files.{entries_of, IsPlaced, IsFiles}
+use Rattle.file_tree.proofs.SameNames.{heads}
+use Rattle.file_tree.proofs.Rebuilt.{has_path}
+use Rattle.file_tree.proofs.FilesTold.{same_node, own_paths}
 use Rattle.state_image.specs.restoring.Named.{Entries, Bytes, NamedNode, held_of, named}
 use Rattle.state_image.proofs.Named.{SameNamed}
-use Rattle.state_image.proofs.Among.{IsAmong, all_among, among_all, found_among, found_own}
+use Rattle.state_image.proofs.Among.{IsAmong, all_among, found_among, found_own}
 use Rattle.state_image.proofs.Among.{one_path, entry_with, has_entry, is_entry_of, among_sorted}
 use Rattle.state_image.proofs.Among.{sorted_among}
 
@@ -88,10 +91,6 @@ is_at fs k p e = by (node_of fs k) refl e where
   by None is e = absurd cc
   by (Some n) is e = (let found = found_among k fs.nodes n is in record
       { node = n; among = found.0; number = found.1; path = e })
-
-has_path : (o : Option Path) (p : Path) → o ≡ Some p → HasPath o p
-has_path None p e = absurd cc
-has_path (Some q) p e = cc
 
 -- the node without names in its path is the root
 root_is : (fs : Files) → IsFiles fs → (k : ℕ) → path_of fs k ≡ Some [] → k ≡ 1
@@ -185,18 +184,6 @@ same_content fs gs j k (File a) (File b) e =
       some_bytes : (x y : List ℕ) → Bytes x ≡ Bytes y → x ≡ y
       some_bytes x y e = cc
 
-node_with : ℕ → Option Path → Content → FileNode
-node_with number path content = record { number = number; path = path; content = content }
-
-same_node : (n m : FileNode) → n.number ≡ m.number → n.path ≡ m.path → n.content ≡ m.content
-    → n ≡ m
-unfolding node_with
-same_node n m a b c = let whole : node_with n.number n.path n.content ≡ node_with m.number m.path
-    m.content = rw (a, b, c) refl in whole
-
-named_heads : (a b : NamedNode) (xs ys : List NamedNode) → a ∷ xs ≡ b ∷ ys → (a ≡ b) × (xs ≡ ys)
-named_heads a b xs ys e = (cc, cc)
-
 same_nodes : (fs gs : Files) → ((k : ℕ) → path_of fs k ≡ path_of gs k) → (ns ms : List FileNode)
     → AllByRecursion (λ (n : FileNode). path_of fs n.number ≡ n.path) ns
     → AllByRecursion (λ (m : FileNode). path_of gs m.number ≡ m.path) ms
@@ -205,28 +192,23 @@ same_nodes fs gs paths [] [] h k e = refl
 same_nodes fs gs paths [] (m ∷ ms) h k e = absurd cc
 same_nodes fs gs paths (n ∷ ns) [] h k e = absurd cc
 same_nodes fs gs paths (n ∷ ns) (m ∷ ms) h k e =
-    let both = named_heads (named fs n) (named gs m) (map (named fs) ns) (map (named gs) ms) e in
+    let both = heads (named fs n) (named gs m) (map (named fs) ns) (map (named gs) ms) e in
     let numbers : n.number ≡ m.number = ap (λ (x : NamedNode). x.number) both.0 in
     let path : n.path ≡ m.path = sym h.0 ∙ paths n.number ∙ ap (path_of gs) numbers ∙ k.0 in
     let content : n.content ≡ m.content = same_content fs gs n.number m.number n.content m.content
     (ap (λ (x : NamedNode). x.held) both.0) in
-    let heads : n ≡ m = same_node n m numbers path content in
+    let front : n ≡ m = same_node n m numbers path content in
     let tails : ns ≡ ms = same_nodes fs gs paths ns ms h.1 k.1 both.1 in
     cc
 
 files_with : List FileNode → ℕ → Files
 files_with nodes next = record { nodes = nodes; next = next }
 
-all_own : (fs : Files) → IsFiles fs
-    → AllByRecursion (λ (n : FileNode). path_of fs n.number ≡ n.path) fs.nodes
-all_own fs is = among_all FileNode (λ (n : FileNode). path_of fs n.number ≡ n.path) fs.nodes
-    (own_path fs is)
-
 pub same_files : (fs gs : Files) → IsFiles fs → IsFiles gs → SameNamed fs gs → fs ≡ gs
 unfolding files_with
 same_files fs gs a b same =
-    let nodes = same_nodes fs gs (same_paths fs gs a b same) fs.nodes gs.nodes (all_own fs a)
-    (all_own gs b) same.nodes in
+    let nodes = same_nodes fs gs (same_paths fs gs a b same) fs.nodes gs.nodes (own_paths fs a)
+    (own_paths gs b) same.nodes in
     let next = same.next in
     let whole : files_with fs.nodes fs.next ≡ files_with gs.nodes gs.next = rw (nodes, next)
     refl in

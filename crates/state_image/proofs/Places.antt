@@ -6,6 +6,7 @@ use Rattle.std.specs.List.{AllByRecursion}
 use Rattle.wasi_abi.specs.rules.Layouts.{u16_bytes, u32_bytes, u64_bytes}
 use Rattle.wasi_abi.specs.rules.Numbers.{directory_type, regular_file}
 use Rattle.file_tree.specs.rules.Files.{Files, is_directory}
+use Rattle.file_tree.proofs.SameNames.{heads}
 use Rattle.wasi_calls_rules.specs.Hosts.{Target, Stream, Node, Descriptor}
 use Rattle.state_image.specs.rules.Image.{target_bytes, Numbered, open_from, descriptor_bytes}
 use Rattle.state_image.specs.rules.Image.{items_bytes}
@@ -21,9 +22,6 @@ kind_of directory = if directory then directory_type else regular_file
 least_kind : (b : Bool) → 3 ≤ kind_of b
 least_kind true = omega arith
 least_kind false = omega arith
-
-heads : (a b : ℕ) (xs ys : List ℕ) → a ∷ xs ≡ b ∷ ys → (a ≡ b) × (xs ≡ ys)
-heads a b xs ys e = (cc, cc)
 
 same_target : (fs : Files) (a b : Target) (rest other : List ℕ) → IsTargetIn a → IsTargetIn b
     → target_bytes fs a ++ rest ≡ target_bytes fs b ++ other → (a ≡ b) × (rest ≡ other)

@@ -21,6 +21,7 @@ use Rattle.file_tree.specs.rules.Files.{Path, Files, FileNode, Content, Director
 use Rattle.file_tree.specs.rules.Files.{bytes_of_content, used, entries_in, sorted, entries_under}
 use Rattle.file_tree.specs.rules.Files.{entries_of, IsFiles}
 use Rattle.file_tree.proofs.Order.{all_sorted}
+use Rattle.file_tree.proofs.Seen.{length-sorted}
 use Rattle.wasi_calls_rules.specs.Hosts.{Target, Stream, Node, Descriptor}
 use Rattle.machine_slots.specs.rules.Places.{ShownFrame, MachineState}
 use Rattle.state_image.specs.rules.Image.{Saved, text_bytes, items_bytes, place_bytes}
@@ -32,7 +33,7 @@ use Rattle.state_image.specs.rules.WellTyped.{slots_in, IsWellTyped}
 use Rattle.state_image.proofs.Among.{IsAmong, among_all}
 use Rattle.state_image.proofs.PathsTold.{own_path}
 use Rattle.state_image.proofs.Places.{few_open}
-use Rattle.state_image.proofs.FilesWithin.{length-sorted, IsNameShort, name_short}
+use Rattle.state_image.proofs.FilesWithin.{IsNameShort, name_short}
 use Rattle.state_image.proofs.Children.{children, all_children, few_children}
 use Rattle.state_image.proofs.Whole.{is_within}
 

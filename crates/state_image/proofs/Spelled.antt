@@ -13,9 +13,8 @@ use Rattle.file_tree.specs.rules.Files.{is_directory, path_of, entries_in, entri
 use Rattle.file_tree.specs.rules.Files.{entries_of, IsSmallContent, IsFiles}
 use Rattle.file_tree.proofs.Order.{all_sorted}
 use Rattle.wasi_calls_rules.specs.Hosts.{Target, Stream, Node}
-use Rattle.process_rules.specs.Processes.{Ending, Exited, Trapped}
 use Rattle.machine_slots.specs.rules.Places.{ShownFrame, MachineState}
-use Rattle.state_image.specs.rules.Image.{Saved, phase_of, ending_code, flag_of, text_bytes}
+use Rattle.state_image.specs.rules.Image.{Saved, ending_code, flag_of, text_bytes}
 use Rattle.state_image.specs.rules.Image.{items_bytes, place_bytes, entry_bytes}
 use Rattle.state_image.specs.rules.Image.{content_bytes, node_bytes, files_bytes, target_bytes}
 use Rattle.state_image.specs.rules.Image.{Numbered, open_from, descriptor_bytes, image_mark}
@@ -29,6 +28,7 @@ use Rattle.state_image.proofs.Places.{IsNumberedIn, open_in}
 use Rattle.state_image.proofs.FilesWithin.{entry_name}
 use Rattle.state_image.proofs.Texts.{text_of_bytes}
 use Rattle.state_image.proofs.Whole.{is_within}
+use Rattle.state_image.proofs.PartReads.{phase_small}
 
 record Spelled (bytes : List ℕ) : Type 0 where
   pub each : AllByRecursion IsByte bytes
@@ -80,19 +80,13 @@ counts s =
     joined (field 8 s.steps) (joined (field 8 s.answers) (joined (field 8 s.requests)
     (joined (field 8 s.lines) (field 8 s.last_monotonic))))
 
-phase_low : (o : Option Ending) (later : List ℕ) → phase_of o later < 256
-phase_low None [] = omega arith
-phase_low None (f ∷ later) = omega arith
-phase_low (Some (Exited code)) later = omega arith
-phase_low (Some (Trapped why)) later = omega arith
-
 flag_low : (b : Bool) → flag_of b < 256
 flag_low true = omega arith
 flag_low false = omega arith
 
 phase : (s : Saved) → Spelled (phase_bytes s)
 phase s =
-    byte (phase_low s.ended s.machine.later)
+    byte (phase_small s.ended s.machine.later)
     (joined (field 4 (ending_code s.ended)) (byte (flag_low s.input_ended) none))
 
 streams : (s : Saved) → Spelled s.unread → Spelled s.first → Spelled s.second

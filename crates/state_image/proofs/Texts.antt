@@ -1,10 +1,9 @@
 -- UTF-8 is of bytes.
-use Rattle.std.proofs.Common.{◌≡◌, ◌⊎◌, inl, inr, ℕ, ◌<◌, ◌≤◌, Bool, true, false}
-use Rattle.std.proofs.Common.{List, [], ◌∷◌, refl, subst, arith}
-use Rattle.std.specs.Prelude.{◌&&◌}
+use Rattle.std.proofs.Common.{◌≡◌, ◌⊎◌, inl, inr, ℕ, ◌<◌, ◌≤◌, true}
+use Rattle.std.proofs.Common.{List, [], ◌∷◌, subst, arith}
 use Rattle.std.specs.List.{AllByRecursion}
 use Rattle.std.specs.Str.{IsUtf8}
-use Rattle.std.proofs.lemmas.Bool.{cases_lt, lt-ltb, le-ltb}
+use Rattle.std.proofs.lemmas.Bool.{cases_lt, lt-ltb, le-ltb, and_parts}
 use Rattle.std.proofs.Math.Utf8.{scalar, scalars, encode, encodes, scalar_cases}
 use Rattle.guest_memory.specs.rules.Bytes.{IsByte}
 use Rattle.state_image.proofs.Machines.{all_behind}
@@ -23,11 +22,6 @@ encode_bytes c lt = by (cases_lt c 128) (cases_lt c 2048) (cases_lt c 65536) whe
       rw (le-ltb c 128 h, le-ltb c 2048 k, le-ltb c 65536 l)
       (omega (arith, lt), (omega arith, (omega arith, (omega arith, tt))))
 
-both : (a b : Bool) → (a && b) ≡ true → (a ≡ true) × (b ≡ true)
-both true true e = (refl, refl)
-both true false e = absurd cc
-both false b e = absurd cc
-
 below : (c : ℕ) → (c < 55296) ⊎ ((57344 ≤ c) × (c < 1114112)) → c < 1114112
 below c (inl h) = omega (arith, h)
 below c (inr h) = h.1
@@ -35,7 +29,7 @@ below c (inr h) = h.1
 encodes_bytes : (cs : List ℕ) → scalars cs ≡ true → AllByRecursion IsByte (encodes cs)
 encodes_bytes [] e = tt
 encodes_bytes (c ∷ cs) e =
-    let parts = both (scalar c) (scalars cs) e in
+    let parts = and_parts (scalar c) (scalars cs) e in
     all_behind ℕ IsByte (encode c) (encodes cs)
     (encode_bytes c (below c (scalar_cases c parts.0))) (encodes_bytes cs parts.1)
 

@@ -117,7 +117,3 @@ cut_onto stream lines text (b ∷ bytes) few none =
     (omega (arith, few, length-append text (b ∷ []))) both.1
     ∙ ap (λ (xs : List ℕ). record { lines = lines; unfinished = xs })
     (append_assoc text (b ∷ []) bytes)
-
-pub both_true : (p q : Bool) → (p && q) ≡ true → (p ≡ true) × (q ≡ true)
-both_true true q e = (refl, e)
-both_true false q e = absurd (cc)

@@ -11,9 +11,6 @@ use Rattle.std.proofs.lemmas.List.{append-nil, take-append-le, take_all, take-ta
 use Rattle.std.proofs.Math.Seq.{take-append-add}
 use Rattle.guest_memory.specs.rules.Bytes.{part, with_part}
 use Rattle.guest_memory.proofs.Ranges.{length-part}
-use Rattle.guest_memory.specs.rules.Bytes.{IsByte}
-use Rattle.guest_memory.proofs.Lists.{all_both, all_take, all_drop}
-use Rattle.wasi_abi.specs.rules.Answers.{AreBytes}
 use Rattle.wasi_abi.specs.declared.errno.Errno.TheVariants.{Fault}
 use Rattle.wasi_abi.specs.rules.Layouts.{u32_at}
 use Rattle.wasi_calls_rules.specs.Checks.{Bytes, Halt, Refuses, ◌>>=◌, check_or, in_memory, Buffer}
@@ -213,10 +210,3 @@ named_first m iovs count =
     rw (at, all) refl
 
 -- ---- bytes
-
-pub gathered_bytes : (m : Bytes) (bs : List Buffer) → AreBytes m → AreBytes (gathered m bs)
-gathered_bytes m [] low = tt
-gathered_bytes m (b ∷ bs) low =
-    all_both IsByte (part m b.from b.len) (gathered m bs)
-    (all_take IsByte b.len (drop b.from m) (all_drop IsByte b.from m low))
-    (gathered_bytes m bs low)

@@ -7,15 +7,17 @@ use Rattle.std.specs.Option.{option_and_then}
 use Rattle.std.specs.List.{AllByRecursion}
 use Rattle.std.proofs.lemmas.List.{take_at, drop_at, drop_all, drop-drop, drop-append-le}
 use Rattle.std.proofs.lemmas.List.{take-append-drop, same_from_push}
+use Rattle.std.proofs.lemmas.Option.{same_Some}
 use Rattle.guest_memory.specs.rules.Bytes.{part, with_part}
 use Rattle.guest_memory.specs.rules.Memories.{LinearMemory, with_bytes, with_lent}
 use Rattle.guest_memory.proofs.Ranges.{length-with_part, with_lent-with_bytes}
 use Rattle.file_tree.specs.declared.limits.TheConstants.{NODES, NAME_BYTES}
 use Rattle.file_tree.specs.rules.Files.{Name, Path, FileNode, Files, Entry, IsFiles, IsPlaced}
-use Rattle.file_tree.specs.rules.Files.{is_same_name, is_before, path_of, name_behind, entry_of}
-use Rattle.file_tree.specs.rules.Files.{entries_in, entries_under, entries_of, inserted, sorted}
+use Rattle.file_tree.specs.rules.Files.{is_same_name, path_of, name_behind, entry_of}
+use Rattle.file_tree.specs.rules.Files.{entries_in, entries_under, entries_of, sorted}
 use Rattle.file_tree.specs.rules.Listings.{number_at_place, HasNameAtPlace}
 use Rattle.file_tree.proofs.Order.{all_sorted, all_at}
+use Rattle.file_tree.proofs.Seen.{length-sorted}
 use Rattle.wasi_abi.specs.rules.Layouts.{dirent_bytes}
 use Rattle.wasi_calls_rules.specs.Entries.{node_type, listed}
 use Rattle.wasi_calls.specs.Listings.{entries_behind}
@@ -213,12 +215,6 @@ drop_none [] (suc i) is = refl
 drop_none (f ∷ es) zero is = absurd (cc)
 drop_none (f ∷ es) (suc i) is = drop_none es i is
 
-some_number : (a b : ℕ) → Some a ≡ Some b → a ≡ b
-some_number a b e = cc
-
-some_name : (a b : Name) → Some a ≡ Some b → a ≡ b
-some_name a b e = cc
-
 -- the entry at a place, and those behind it
 pub entry_first : (fs : Files) (d place node : ℕ) (name : Name)
     → number_at_place fs d place ≡ Some node → HasNameAtPlace fs d place name
@@ -238,9 +234,9 @@ entry_first fs d place node name number named =
         ∙ ap (λ (k : ℕ). dirent_bytes (place + 1) e.number (node_type fs e.number) e.name
         ++ listed fs (place + 1) (drop k (entries_of fs d))) (sym (add-one place))
         ∙ ap (λ (k : ℕ). dirent_bytes (place + 1) k (node_type fs k) e.name
-        ++ entries_behind fs d (place + 1)) (some_number e.number node one)
+        ++ entries_behind fs d (place + 1)) (same_Some e.number node one)
         ∙ ap (λ (x : Name). dirent_bytes (place + 1) node (node_type fs node) x
-        ++ entries_behind fs d (place + 1)) (some_name e.name name two)
+        ++ entries_behind fs d (place + 1)) (same_Some e.name name two)
 
 pub no_entries : (fs : Files) (d place : ℕ) → number_at_place fs d place ≡ None
     → entries_behind fs d place ≡ []
@@ -251,18 +247,6 @@ no_entries fs d place none = by (slice_get (entries_of fs d) place) refl none wh
   by (Some x) is e = absurd (cc)
 
 -- ---- they are few
-
-length-inserted : (e : Entry) (es : List Entry) → length (inserted e es) ≡ suc (length es)
-length-inserted e [] = refl
-length-inserted e (f ∷ es) = by (is_before e.name f.name) (length-inserted e es) where
-  by : (b : Bool) → length (inserted e es) ≡ suc (length es)
-      → length (if b then e ∷ f ∷ es else f ∷ inserted e es) ≡ suc (suc (length es))
-  by true later = refl
-  by false later = ap suc later
-
-length-sorted : (es : List Entry) → length (sorted es) ≡ length es
-length-sorted [] = refl
-length-sorted (e ∷ es) = length-inserted e (sorted es) ∙ ap suc (length-sorted es)
 
 few_in : (p : Path) (nodes : List FileNode) → length (entries_in p nodes) ≤ length nodes
 few_in p [] = omega arith
@@ -359,7 +343,7 @@ short_name fs d place name are named = by (slice_get (entries_of fs d) place) re
   by None is e = absurd (cc)
   by (Some x) is e =
       let short = all_at IsShort (entries_of fs d) place x (short_under fs (path_of fs d) are) is in
-      omega (arith, short, ap (λ (y : Name). length y) (some_name x.name name e))
+      omega (arith, short, ap (λ (y : Name). length y) (same_Some x.name name e))
 
 -- ---- a directory's entries, one after another
 

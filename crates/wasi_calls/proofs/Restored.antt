@@ -3,32 +3,24 @@ use Rattle.std.proofs.Common.{◌≡◌, ◌≢◌, ◌⊎◌, ℕ, zero, suc, �
 use Rattle.std.proofs.Common.{cond, eqb, List}
 use Rattle.std.proofs.Common.{[], ◌∷◌, length, Option, Some, None, inl, inr, refl, sym, ap, subst}
 use Rattle.std.proofs.Common.{◌∙◌, arith}
-use Rattle.std.specs.Prelude.{◌==◌, ◌||◌, not, is_some, find, IfSome, option_map}
+use Rattle.std.specs.Prelude.{◌||◌, not, is_some, find, IfSome, option_map}
 use Rattle.std.specs.Prelude.{slice_get}
 use Rattle.std.specs.Bool.{Decides}
 use Rattle.std.specs.List.{AllByRecursion, list_any}
 use Rattle.std.specs.Option.{option_and_then}
 use Rattle.std.proofs.lemmas.Bool.{cases_eq, eqb-true, eq-eqb, or_parts}
-use Rattle.std.proofs.lemmas.Bool.Decides.{Decides-and, Decides-eqb, Decides-not}
 use Rattle.std.proofs.lemmas.Map.Keys.{any_passes_from_place}
 use Rattle.std.proofs.lemmas.Option.{slice_get_within}
-use Rattle.wasi_abi.specs.rules.Answers.{newline, IsNoNewline, AreBytes, IsTime}
+use Rattle.wasi_abi.specs.rules.Answers.{AreBytes, IsTime}
 use Rattle.file_tree.specs.rules.Files.{Path, FileNode, Files, IsFiles, node_of, path_of, used}
 use Rattle.file_tree.specs.rules.Listings.{number_at}
 use Rattle.wasi_calls_rules.specs.Hosts.{Descriptor, Host, IsDescriptor}
 use Rattle.wasi_calls_rules.specs.Hosts.{IsUnfinished, IsHost}
-use Rattle.wasi_calls_rules.specs.Checks.{Bytes, has_no_newline}
 use Rattle.wasi_calls_rules.specs.Small.{is_node, names}
 use Rattle.wasi_calls_rules.proofs.KeepsHosts.{stands}
 use Rattle.wasi_calls_rules.proofs.Tables.{Table, NamesNode, is_descriptor, named_by}
 use Rattle.wasi_calls.specs.Restoring.{MayBeOpen, MayAllBeOpen, is_kept, AreRemovedNamed}
 use Rattle.wasi_calls.specs.Restoring.{IsDescriptorTable}
-
-pub no_newline : (text : Bytes) → Decides (has_no_newline text) (AllByRecursion IsNoNewline text)
-no_newline [] = (λ _. tt, λ _. refl)
-no_newline (b ∷ text) =
-    Decides-and (not (b == newline)) (has_no_newline text)
-    (Decides-not (b == newline) (Decides-eqb b newline)) (no_newline text)
 
 -- ---- descriptors
 

@@ -13,7 +13,7 @@ use Rattle.wasi_abi.specs.rules.Answers.{AreSoManyBytes}
 use Rattle.wasi_calls_rules.specs.Checks.{Bytes, has_bytes_alone, has_no_newline}
 use Rattle.wasi_calls_rules.specs.laws.Laws.{TestsTellWhatFits}
 
-no_newline : (text : Bytes) → Decides (has_no_newline text) (AllByRecursion IsNoNewline text)
+pub no_newline : (text : Bytes) → Decides (has_no_newline text) (AllByRecursion IsNoNewline text)
 no_newline [] = (λ _. tt, λ _. refl)
 no_newline (b ∷ text) =
     Decides-and (not (b == newline)) (has_no_newline text) (Decides-not (b

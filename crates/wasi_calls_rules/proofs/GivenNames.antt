@@ -2,12 +2,12 @@
 use Rattle.std.proofs.Common.{◌≡◌, ◌≢◌, ◌⊎◌, inl, inr, ℕ, suc, ◌+◌, ◌<◌, Bool, true, false}
 use Rattle.std.proofs.Common.{eqb, List, [], ◌∷◌, ◌++◌, length, take, drop, filter, get_or, Option}
 use Rattle.std.proofs.Common.{Some, None, refl, sym, ap, subst, ◌∙◌, arith, append_assoc}
-use Rattle.std.specs.Prelude.{◌==◌, not, ◌&&◌, ◌||◌, if◌then◌else◌, nat_le, Result}
+use Rattle.std.specs.Prelude.{◌==◌, not, ◌||◌, if◌then◌else◌, nat_le, Result}
 use Rattle.std.specs.List.{AllByRecursion, list_all, list_any}
 use Rattle.std.specs.Str.{IsUtf8, is_utf8}
 use Rattle.std.proofs.lemmas.Str.{IsUtf8-take, IsUtf8-drop, IsUtf8-from_is_utf8}
 use Rattle.std.proofs.lemmas.Str.{IsCharBoundary-before_ascii, IsCharBoundary-after_ascii}
-use Rattle.std.proofs.lemmas.Bool.{eqb-true, leb-true, eq-eqb}
+use Rattle.std.proofs.lemmas.Bool.{eqb-true, leb-true, eq-eqb, and_parts, not-true}
 use Rattle.std.proofs.lemmas.List.{append-nil, length-append}
 use Rattle.wasi_abi.specs.declared.errno.Errno.TheVariants.{Ilseq, Inval, Nametoolong, Noent}
 use Rattle.wasi_abi.specs.declared.errno.Errno.TheVariants.{Notcapable, Notdir}
@@ -151,10 +151,6 @@ neither true b e = absurd (cc)
 neither false true e = absurd (cc)
 neither false false e = (refl, refl)
 
-both : (a b : Bool) → (a && b) ≡ true → (a ≡ true) × (b ≡ true)
-both true b e = (refl, e)
-both false b e = absurd (cc)
-
 all_with : {X : Type 0} (P Q R : X → Type 0) (xs : List X) → ((x : X) → P x → Q x → R x)
     → AllByRecursion P xs → AllByRecursion Q xs → AllByRecursion R xs
 all_with P Q R [] f p q = tt
@@ -176,7 +172,7 @@ all_tested : {X : Type 0} (test : X → Bool) (xs : List X) → list_all test xs
     → AllByRecursion (λ (x : X). test x ≡ true) xs
 all_tested test [] e = tt
 all_tested test (x ∷ xs) e =
-    let parts = both (test x) (list_all test xs) e in
+    let parts = and_parts (test x) (list_all test xs) e in
     (parts.0, all_tested test xs parts.1)
 
 -- what is known of each part
@@ -227,10 +223,6 @@ is_given bytes name known kept short =
       are_bytes = known.are_bytes;
     }
 
-false_of : (b : Bool) → not b ≡ true → b ≡ false
-false_of true e = absurd (cc)
-false_of false e = refl
-
 pub names_are_given : (bytes : Bytes)
     → HoldsAfter (AllByRecursion (IsGiven bytes)) (formed bytes)
 names_are_given bytes =
@@ -245,7 +237,7 @@ names_are_given bytes =
     (names_of bytes)) Nametoolong) _
     (λ w short.
     let parts = parts_are bytes (IsUtf8-from_is_utf8 bytes (passed (is_utf8 bytes) Ilseq u text))
-    (no_zeros bytes (false_of zeros (passed (not zeros) Inval v none))) in
+    (no_zeros bytes (not-true zeros (passed (not zeros) Inval v none))) in
     done_with (AllByRecursion (IsGiven bytes)) (names_of bytes)
     (all_with (λ (x : Name). IsPart bytes x × (not (is_dropped x) ≡ true))
     (λ (x : Name). long x ≡ true) (IsGiven bytes) (names_of bytes)

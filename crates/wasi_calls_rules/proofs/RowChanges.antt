@@ -5,7 +5,7 @@ use Rattle.std.specs.Prelude.{Bool, true, false, if◌then◌else◌, ◌==◌, 
 use Rattle.std.specs.Prelude.{nat_le, Option, Some, None, is_some, Result, Ok, Err, ℤ, pos, negsuc}
 use Rattle.std.specs.Prelude.{◌+ℤ◌, slice_get, replicate}
 use Rattle.std.specs.Int.{w64, cast_signed}
-use Rattle.std.proofs.lemmas.Bool.{leb-true, ltb-true}
+use Rattle.std.proofs.lemmas.Bool.{leb-true, ltb-true, and_parts, not-true}
 use Rattle.wasi_abi.specs.declared.errno.Errno.TheVariants.{Badf, Exist, Fbig, Inval, Isdir}
 use Rattle.wasi_abi.specs.declared.errno.Errno.TheVariants.{Nametoolong, Noent, Nospc}
 use Rattle.wasi_abi.specs.declared.errno.Errno.TheVariants.{Notcapable, Notdir, Notempty, Spipe}
@@ -83,10 +83,6 @@ is_opened h fd d e =
     flat_there (slice_get h.descriptors fd) d
     (some_there Badf (flat (slice_get h.descriptors fd)) d e)
 
-is_false : (b : Bool) → not b ≡ true → b ≡ false
-is_false true e = absurd (cc)
-is_false false e = refl
-
 -- a file is a node that is no directory
 pub record IsFile (h : Host) (d : Descriptor) : Type 0 where
   pub target : d.target ≡ Node (node_named d.target)
@@ -99,7 +95,7 @@ file_named h d (Node k) e a b =
     let named : node_named d.target ≡ k = ap node_named e in
     record {
       target = e ∙ ap (λ x. Node x) (sym named);
-      file = ap (is_directory h.files) named ∙ is_false (is_directory h.files k) b;
+      file = ap (is_directory h.files) named ∙ not-true (is_directory h.files k) b;
     }
 
 a_file_is : (h : Host) (d : Descriptor) → HoldsAfter (λ (_ : Unit {0}). IsFile h d) (a_file h d)
@@ -136,10 +132,6 @@ offset_is (pos n) = by_size (nat_lt n (2 ^ 63)) refl where
   by_size true e = done_with (λ (offset : ℕ). offset < 2 ^ 63) n (ltb-true n (2 ^ 63) e)
   by_size false e = refused _ (Refuses Inval)
 offset_is (negsuc n) = refused _ (Refuses Inval)
-
-both : (a b : Bool) → (a && b) ≡ true → (a ≡ true) × (b ≡ true)
-both true b e = (refl, e)
-both false b e = absurd (cc)
 
 third : (a b c d : Bool) → (a && b && c && d) ≡ true → c ≡ true
 third true true true d e = refl
@@ -179,7 +171,7 @@ written_bytes old from bytes k b =
     (all_take IsByte from (old ++ replicate from 0) (with_zeros_behind old from k))
     (all_both IsByte bytes behind b (all_drop IsByte (from + length bytes) old k))
 
-gathered_bytes : (m : Bytes) (bs : List Buffer) → AreBytes m → AreBytes (gathered m bs)
+pub gathered_bytes : (m : Bytes) (bs : List Buffer) → AreBytes m → AreBytes (gathered m bs)
 gathered_bytes m [] k = tt
 gathered_bytes m (b ∷ bs) k =
     all_both IsByte (part m b.from b.len) (gathered m bs)
@@ -256,7 +248,7 @@ module _ (m : Bytes) (h : Host) where
       next_is (open_descriptor h fd) _ (λ d o.
       next_is (check_or (not (fd == 3)) Notcapable) _ (λ u c.
       left m _ (closes fd d (is_opened h fd d o)
-      (is_false (fd == 3) (passed (not (fd == 3)) Notcapable u c)))))
+      (not-true (fd == 3) (passed (not (fd == 3)) Notcapable u c)))))
 
   fd_syncs_changes : (right fd : ℕ) → HoldsAfter BecomesBy (fd_syncs right fd m h)
   fd_syncs_changes right fd =
@@ -346,9 +338,9 @@ module _ (m : Bytes) (h : Host) where
 
   text_fits : (a : Answer) → does_fit h.limit kind.Request a ≡ true → IsShortText a
   text_fits (answer.Request text) e =
-      let all = both (nat_le (length text) h.limit) (has_bytes_alone text && has_no_newline text) e
-      in (
-        (both (has_bytes_alone text) (has_no_newline text) all.1).0,
+      let all = and_parts (nat_le (length text) h.limit)
+      (has_bytes_alone text && has_no_newline text) e in (
+        (and_parts (has_bytes_alone text) (has_no_newline text) all.1).0,
         leb-true (length text) h.limit all.0,
       )
   text_fits answer.End e = tt
@@ -464,7 +456,7 @@ module _ (m : Bytes) (h : Host) where
   target_written_changes (Node k) fd d bytes o e file sent =
       let offset = write_offset h k d in
       step (WrittenOrNone k offset bytes) (file_written k offset bytes h) _
-      (file_written_changes fd k offset d bytes o e (is_false (is_directory h.files k) file) sent)
+      (file_written_changes fd k offset d bytes o e (not-true (is_directory h.files k) file) sent)
       (λ after w. done_with (Becomes m h) _ (wrote_and_moved fd k offset d bytes after o w))
 
   fd_write_changes : (fd iovs count ret : ℕ)
@@ -604,7 +596,7 @@ module _ (m : Bytes) (h : Host) where
         name = name;
         reached = r;
         there = sym is ∙ some_there Noent (node_at h.files place) k there;
-        empty = λ dir. absurd (let no = is_false (is_directory h.files k)
+        empty = λ dir. absurd (let no = not-true (is_directory h.files k)
             (passed (not (is_directory h.files k)) Isdir v file) in cc);
       })))))))))))
 
@@ -633,7 +625,7 @@ module _ (m : Bytes) (h : Host) where
         over = sym target_is;
         old_path = old;
         new_path = new;
-        outside = is_false (is_within_node h.files k e)
+        outside = not-true (is_within_node h.files k e)
             (passed (not (is_within_node h.files k e)) Inval u outside);
         differ = differ;
         way = way;

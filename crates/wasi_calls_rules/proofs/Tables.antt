@@ -5,6 +5,7 @@ use Rattle.std.proofs.Common.{sym, ap, subst, ◌∙◌, arith}
 use Rattle.std.specs.Prelude.{◌||◌, if◌then◌else◌, nat_lt, slice_get, slice_set, IfSome, Ok}
 use Rattle.std.specs.List.{AllByRecursion, list_any}
 use Rattle.std.proofs.lemmas.Bool.{cases_eq, eqb-true, eq-eqb}
+use Rattle.std.proofs.lemmas.Option.{same_Some}
 use Rattle.wasi_abi.specs.rules.Numbers.{are_within, all_rights}
 use Rattle.wasi_abi.specs.declared.errno.Errno.TheVariants.{Mfile}
 use Rattle.file_tree.specs.rules.Files.{Files}
@@ -108,9 +109,6 @@ pub record IsLike (old new : Descriptor) : Type 0 where
   pub offset : new.offset < 2 ^ 63
   pub flags : new.flags ≤ 31
 
-some_is : (d e : Descriptor) → Some d ≡ Some e → d ≡ e
-some_is d e same = cc
-
 module _ (fs : Files) (ds : Table) (are : AreOpen fs ds) where
   module _ (fd : ℕ) (old : Descriptor) (there : slice_get ds fd ≡ Some (Some old)) where
     -- a descriptor that is like the one that was there
@@ -138,7 +136,7 @@ module _ (fs : Files) (ds : Table) (are : AreOpen fs ds) where
           → IsStreamAt n s d
       stream n s d t (inr other) = are.streams n s d other.1 t
       stream n s d t (inl here) =
-          let same : new ≡ d = some_is new d here.1 in
+          let same : new ≡ d = same_Some new d here.1 in
           let was = are.streams fd s old there
           (sym like.target ∙ ap (λ (x : Descriptor). x.target) same ∙ t) in
           record {
@@ -217,7 +215,7 @@ module _ (fs : Files) (ds : Table) (are : AreOpen fs ds) where
       stream : (i s : ℕ) (d : Descriptor) → d.target ≡ Stream s → SetAt ds n (Some new) i d
           → IsStreamAt i s d
       stream i s d t (inl here) =
-          let same : new ≡ d = some_is new d here.1 in
+          let same : new ≡ d = same_Some new d here.1 in
           absurd (let clash : Node k ≡ Stream s =
           sym target ∙ ap (λ (x : Descriptor). x.target) same ∙ t in cc)
       stream i s d t (inr other) = are.streams i s d other.1 t

@@ -9,6 +9,7 @@ use Rattle.file_tree.specs.rules.Files.{AreRising, path_of, is_directory, is_dir
 use Rattle.file_tree.specs.rules.Files.{holds_directory, entries_of, entries_under}
 use Rattle.file_tree.specs.laws.Laws.{node_number, content_of}
 use Rattle.file_tree.proofs.FilesTold.{entries_tell_files}
+use Rattle.file_tree.proofs.SameNames.{heads}
 use Rattle.state_image.specs.restoring.Named.{Held, Entries, Bytes, NamedNode, held_of, named}
 use Rattle.state_image.specs.restoring.Named.{AreNamedNodes}
 use Rattle.state_image.specs.declared.restoring.whole_node.WholeNode.{WholeNode}
@@ -25,9 +26,6 @@ use Rattle.state_image.proofs.RestoreLemmas.Told.{one_directory, told_as, told_l
 abbrev AreRisingTold : ℕ → List NamedNode → Type 0
 AreRisingTold least [] = Unit {0}
 AreRisingTold least (n ∷ ns) = (least ≤ n.number) × AreRisingTold (n.number + 1) ns
-
-heads : (a b : ℕ) (xs ys : List ℕ) → a ∷ xs ≡ b ∷ ys → (a ≡ b) × (xs ≡ ys)
-heads a b xs ys e = (cc, cc)
 
 rising_told : (least : ℕ) (ms : List FileNode) (next : ℕ) (ns : List NamedNode)
     → AreRising least ms next → map node_number ms ≡ map told_number ns → AreRisingTold least ns
@@ -84,9 +82,6 @@ named_pair fs m n same content own fits =
     (held_same fs m.number n.number m.content n.held same content
     (λ is. fits (sym (ap (is_directory fs) same) ∙ own ∙ is)))
 
-content_heads : (a b : Content) (xs ys : List Content) → a ∷ xs ≡ b ∷ ys → (a ≡ b) × (xs ≡ ys)
-content_heads a b xs ys e = (cc, cc)
-
 named_pairs : (fs : Files) (ms : List FileNode) (ns : List NamedNode)
     → map node_number ms ≡ map told_number ns → map content_of ms ≡ map content_of_told ns
     → AllByRecursion (IsOwn fs) ms → AllByRecursion (Fits fs) ns → map (named fs) ms ≡ ns
@@ -95,7 +90,7 @@ named_pairs fs [] (n ∷ ns) e f own fits = absurd cc
 named_pairs fs (m ∷ ms) [] e f own fits = absurd cc
 named_pairs fs (m ∷ ms) (n ∷ ns) e f own fits =
     let numbers = heads m.number n.number (map node_number ms) (map told_number ns) e in
-    let contents = content_heads m.content (told_content n.held) (map content_of ms)
+    let contents = heads m.content (told_content n.held) (map content_of ms)
     (map content_of_told ns) f in
     ap (λ (x : NamedNode). x ∷ map (named fs) ms)
     (named_pair fs m n numbers.0 contents.0 own.0 fits.0)
@@ -141,9 +136,6 @@ named_again fs next nodes h is stay =
 
 -- ---- files that are told are these
 
-named_heads : (a b : NamedNode) (xs ys : List NamedNode) → a ∷ xs ≡ b ∷ ys → (a ≡ b) × (xs ≡ ys)
-named_heads a b xs ys e = (cc, cc)
-
 pub all_stay : (fs gs : Files) (next : ℕ) (nodes : List WholeNode)
     → IsHung (map lent_whole nodes) fs → fs.next ≡ next → IsToldOf gs next (map lent_whole nodes)
     → MayAllStay fs nodes
@@ -175,7 +167,7 @@ all_stay fs gs next nodes h is t = each gs.nodes nodes t.told.nodes where
   each ms [] e = tt
   each [] (x ∷ xs) e = absurd cc
   each (m ∷ ms) (x ∷ xs) e =
-      let both = named_heads (named gs m) (lent_whole x) (map (named gs) ms)
+      let both = heads (named gs m) (lent_whole x) (map (named gs) ms)
       (map lent_whole xs) e in (
         subst (MayStay fs) both.0 (stays m.number m.content),
         each ms xs both.1,

@@ -4,7 +4,7 @@ use Rattle.std.proofs.Common.{false, cond, eqb, List, [], ◌∷◌, ◌++◌, l
 use Rattle.std.proofs.Common.{Some, None, refl, sym, ap, subst, ◌∙◌, arith}
 use Rattle.std.specs.Prelude.{find, is_some, option_map, slice_get}
 use Rattle.std.proofs.lemmas.Bool.{eqb-true, eqb-false}
-use Rattle.std.proofs.lemmas.Option.{slice_get_within}
+use Rattle.std.proofs.lemmas.Option.{slice_get_within, same_Some}
 use Rattle.file_tree.specs.rules.Files.{Files, Entry, is_before, inserted, hung}
 use Rattle.file_tree.specs.rules.Files.{path_of, is_directory, entries_of}
 use Rattle.file_tree.specs.rules.Changes.{path_at, CanHang}
@@ -17,9 +17,6 @@ use Rattle.state_image.proofs.PushedItems.{front_more}
 use Rattle.state_image.proofs.RestoreLemmas.Told.{one_directory, still_as}
 
 -- ---- places of lists
-
-pub some_is : {X : Type 0} (x y : X) → Some x ≡ Some y → x ≡ y
-some_is x y e = cc
 
 -- at a place of two lists stands what one of them has
 pub at_either : {X : Type 0} (xs ys : List X) (j : ℕ) (x : X) → slice_get (xs ++ ys) j ≡ Some x
@@ -45,7 +42,7 @@ at_end (y ∷ xs) x = at_end xs x
 
 alone_at : (b : Bool) (k p e : ℕ) → slice_get (directory_alone b k) p ≡ Some e
     → (p ≡ 0) × (e ≡ k) × (b ≡ true)
-alone_at true k zero e is = (refl, sym (some_is k e is), refl)
+alone_at true k zero e is = (refl, sym (same_Some k e is), refl)
 alone_at true k (suc p) e is = absurd cc
 alone_at false k p e is = absurd cc
 
@@ -130,7 +127,7 @@ module _ (ns : List NamedNode) (fs gs : Files) (ws : List ℕ) (at i d : ℕ) (e
   begun : (x : ℕ) → slice_get (ws ++ directory_alone b e.number) at ≡ Some x
       → entries_of gs x ≡ take (i + 1) (listed_node ns x)
   begun x is =
-      let same : d ≡ x = some_is d x
+      let same : d ≡ x = same_Some d x
       (sym (at_front ws (directory_alone b e.number) at d here) ∙ is) in
       subst (λ (y : ℕ). entries_of gs y ≡ take (i + 1) (listed_node ns y)) same more
     where

@@ -7,18 +7,19 @@ use Rattle.std.specs.List.{AllByRecursion}
 use Rattle.std.proofs.lemmas.Bool.{eqb-true, eq-eqb, ne_eqb}
 use Rattle.std.proofs.lemmas.List.{length-map, map-append, length-take-le}
 use Rattle.std.proofs.lemmas.List.{length-replicate, drop_all, append-nil}
+use Rattle.std.proofs.lemmas.Option.{same_Some}
 use Rattle.file_tree.specs.declared.kind.NodeKind.TheVariants as kind
 use Rattle.file_tree.specs.rules.Files.{FileNode, Files, Content, Directory, File, IsFiles}
 use Rattle.file_tree.specs.rules.Files.{AreRising, IsSmallContent, node_of, path_of, is_directory}
 use Rattle.file_tree.specs.rules.Files.{entries_of, fresh, created_removed, with_file_bytes}
 use Rattle.file_tree.specs.rules.Files.{with_next, bytes_of_node, holds_directory, bytes_held}
-use Rattle.file_tree.specs.rules.Files.{is_directory_content}
 use Rattle.file_tree.specs.rules.Bytes.{written, resized}
 use Rattle.file_tree.specs.declared.limits.TheConstants.{NODES}
 use Rattle.file_tree.specs.laws.Laws.{node_number, content_of}
 use Rattle.file_tree.specs.laws.Rebuilding.{HaveSameEntries}
 use Rattle.file_tree.proofs.KeptEntries.{others_keep_entries}
 use Rattle.file_tree.proofs.Filled.{filled_files}
+use Rattle.file_tree.proofs.SameNames.{heads}
 use Rattle.state_image.specs.restoring.Named.{NamedNode}
 use Rattle.state_image.specs.restoring.Told.{told_number, told_content, content_of_told, AreAs}
 use Rattle.state_image.specs.restoring.Told.{IsToldOf, CanCreate, BeginsWithRoot, next_behind}
@@ -27,7 +28,7 @@ use Rattle.state_image.specs.restoring.Hanging.{HangsUpTo}
 use Rattle.state_image.proofs.Among.{all_among, found_among, numbers_below, numbers_from}
 use Rattle.state_image.proofs.PushedItems.{front_more}
 use Rattle.state_image.proofs.RestoreLemmas.Told.{told_as}
-use Rattle.state_image.proofs.RestoreLemmas.Hung.{some_is}
+use Rattle.state_image.proofs.NodesAt.{directory_content}
 
 -- ---- a new node is found
 
@@ -200,12 +201,6 @@ root_made (n ∷ ns) fs is h = subst (IsMadeOf (n ∷ [])) (sym is) (record {
 
 -- ---- what is told of files at the same place
 
-number_heads : (a b : ℕ) (xs ys : List ℕ) → a ∷ xs ≡ b ∷ ys → (a ≡ b) × (xs ≡ ys)
-number_heads a b xs ys e = (cc, cc)
-
-content_heads : (a b : Content) (xs ys : List Content) → a ∷ xs ≡ b ∷ ys → (a ≡ b) × (xs ≡ ys)
-content_heads a b xs ys e = (cc, cc)
-
 rising_behind : (least : ℕ) (ms : List FileNode) (next : ℕ) (ns : List NamedNode) (n : NamedNode)
     (more : List NamedNode) → AreRising least ms next
     → map node_number ms ≡ map told_number (ns ++ n ∷ more)
@@ -213,11 +208,11 @@ rising_behind : (least : ℕ) (ms : List FileNode) (next : ℕ) (ns : List Named
 rising_behind least [] next [] n more h e = absurd cc
 rising_behind least [] next (a ∷ ns) n more h e = absurd cc
 rising_behind least (m ∷ ms) next [] n more h e =
-    let same = (number_heads m.number n.number (map node_number ms) (map told_number more) e).0 in
+    let same = (heads m.number n.number (map node_number ms) (map told_number more) e).0 in
     let below = (numbers_below (m.number + 1) ms next h.1).0 in
     (omega (arith, same, h.0), omega (arith, same, below))
 rising_behind least (m ∷ ms) next (a ∷ ns) n more h e =
-    let both = number_heads m.number a.number (map node_number ms)
+    let both = heads m.number a.number (map node_number ms)
     (map told_number (ns ++ n ∷ more)) e in
     let later = rising_behind (m.number + 1) ms next ns n more h.1 both.1 in
     (subst (λ (k : ℕ). next_behind (k + 1) ns ≤ n.number) both.0 later.0, later.1)
@@ -229,7 +224,7 @@ all_behind_told least [] next [] h e = h
 all_behind_told least [] next (a ∷ ns) h e = absurd cc
 all_behind_told least (m ∷ ms) next [] h e = absurd cc
 all_behind_told least (m ∷ ms) next (a ∷ ns) h e =
-    let both = number_heads m.number a.number (map node_number ms) (map told_number ns) e in
+    let both = heads m.number a.number (map node_number ms) (map told_number ns) e in
     subst (λ (k : ℕ). next_behind (k + 1) ns ≤ next) both.0
     (all_behind_told (m.number + 1) ms next ns h.1 both.1)
 
@@ -241,17 +236,17 @@ small_told [] [] n more h e = absurd cc
 small_told [] (a ∷ ns) n more h e = absurd cc
 small_told (m ∷ ms) [] n more h e =
     subst IsSmallContent
-    (content_heads m.content (told_content n.held) (map content_of ms)
+    (heads m.content (told_content n.held) (map content_of ms)
     (map content_of_told more) e).0 h.0
 small_told (m ∷ ms) (a ∷ ns) n more h e =
     small_told ms ns n more h.1
-    (content_heads m.content (told_content a.held) (map content_of ms)
+    (heads m.content (told_content a.held) (map content_of ms)
     (map content_of_told (ns ++ n ∷ more)) e).1
 
 split_at : (ns : List NamedNode) (i : ℕ) (n : NamedNode) → slice_get ns i ≡ Some n
     → ns ≡ take i ns ++ n ∷ drop (suc i) ns
 split_at [] i n e = absurd cc
-split_at (m ∷ ns) zero n e = ap (λ (x : NamedNode). x ∷ ns) (some_is m n e)
+split_at (m ∷ ns) zero n e = ap (λ (x : NamedNode). x ∷ ns) (same_Some m n e)
 split_at (m ∷ ns) (suc i) n e = ap (λ (xs : List NamedNode). m ∷ xs) (split_at ns i n e)
 
 -- the node at a place can be made, if files are told so
@@ -308,10 +303,6 @@ root_first n ns next o h found some = by (eqb n.number 1) refl found where
   by false is e = absurd (gone o e some (λ same.
       let t : false ≡ true = sym is ∙ eq-eqb n.number 1 same in absurd cc))
 
-directory_is : (c : Content) → is_directory_content c ≡ true → c ≡ Directory
-directory_is Directory e = refl
-directory_is (File bytes) e = absurd cc
-
 holds_some : (o : Option FileNode) → holds_directory o ≡ true → is_some o ≡ true
 holds_some None e = absurd cc
 holds_some (Some n) e = refl
@@ -333,12 +324,12 @@ told_begins ns gs next t = by gs.nodes ns t.are.rising t.are.root_is_directory a
       by (m ∷ ms) (n ∷ ns) h d e f =
           let first = root_first m ms gs.next (find (λ (x : FileNode). eqb x.number 1) (m ∷ ms)) h
           refl (holds_some (find (λ (x : FileNode). eqb x.number 1) (m ∷ ms)) d) in
-          let numbers = number_heads m.number n.number (map node_number ms) (map told_number ns) e
+          let numbers = heads m.number n.number (map node_number ms) (map told_number ns) e
           in
-          let contents = content_heads m.content (told_content n.held) (map content_of ms)
+          let contents = heads m.content (told_content n.held) (map content_of ms)
           (map content_of_told ns) f in (
             sym numbers.0 ∙ first.0,
-            sym contents.0 ∙ directory_is m.content (sym (ap holds_directory first.1) ∙ d),
+            sym contents.0 ∙ directory_content m.content (sym (ap holds_directory first.1) ∙ d),
           )
 
 pub next_told : (ns : List NamedNode) (fs gs : Files) (next : ℕ) → IsMadeOf ns fs
@@ -367,7 +358,7 @@ fresh_path d = by (eqb 1 d) refl where
     no = rw is refl
 
 alone_at : (j d : ℕ) → slice_get (1 ∷ []) j ≡ Some d → (j ≡ 0) × (1 ≡ d)
-alone_at zero d e = (refl, some_is 1 d e)
+alone_at zero d e = (refl, same_Some 1 d e)
 alone_at (suc j) d e = absurd cc
 
 -- nothing hangs yet, and the root waits

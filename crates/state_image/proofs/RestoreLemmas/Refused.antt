@@ -6,7 +6,7 @@ use Rattle.std.specs.Prelude.{find, is_some, option_map, slice_get}
 use Rattle.std.specs.Option.{option_and_then}
 use Rattle.std.proofs.lemmas.Bool.{cases_lt}
 use Rattle.std.proofs.lemmas.List.{take_all}
-use Rattle.std.proofs.lemmas.Option.{slice_get_within}
+use Rattle.std.proofs.lemmas.Option.{slice_get_within, same_Some}
 use Rattle.file_tree.specs.rules.Files.{Name, Path, FileNode, Files, Entry, is_before, inserted}
 use Rattle.file_tree.specs.rules.Files.{IsNodeName, node_of, path_of, child, is_directory}
 use Rattle.file_tree.specs.rules.Files.{entries_of}
@@ -21,7 +21,6 @@ use Rattle.state_image.specs.restoring.Told.{listed_node, AreAs, IsToldOf, CanTa
 use Rattle.state_image.specs.restoring.Hanging.{HangsUpTo, IsHung}
 use Rattle.state_image.proofs.PushedItems.{front_more}
 use Rattle.state_image.proofs.RestoreLemmas.Told.{one_directory, one_there, told_as, told_listed}
-use Rattle.state_image.proofs.RestoreLemmas.Hung.{some_is}
 
 -- ---- fronts of lists
 
@@ -110,7 +109,7 @@ module _ (ns : List NamedNode) (fs gs : Files) (next : ℕ) (ws : List ℕ) (at 
 
     now : j ≡ at → ⊥
     now same =
-        let mine : x ≡ d = some_is x d
+        let mine : x ≡ d = same_Some x d
         (sym waits ∙ ap (λ (y : ℕ). slice_get ws y) same ∙ here) in
         let place = before hangs.place (entry_under name e.number)
         (ap (λ (y : ℕ). slice_get (entries_of fs y) hangs.place) (sym mine) ∙ hangs.is) in
@@ -194,7 +193,7 @@ next_directory ns fs ws at n d h here whole = record {
   now : (j x : ℕ) → slice_get ws j ≡ Some x → j ≡ at → entries_of fs x ≡ listed_node ns x
   now j x is same =
       let waits : slice_get ws at ≡ Some x = ap (λ (y : ℕ). slice_get ws y) (sym same) ∙ is in
-      let mine : d ≡ x = some_is d x (sym here ∙ waits) in
+      let mine : d ≡ x = same_Some d x (sym here ∙ waits) in
       h.begun x waits
       ∙ take_all n (listed_node ns x) (subst (λ (y : ℕ). length (listed_node ns y) ≤ n) mine whole)
 

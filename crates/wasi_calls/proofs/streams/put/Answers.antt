@@ -1,11 +1,11 @@
 use Rattle.std.proofs.Common.{◌≡◌, ◌+◌, [], ◌∙◌, sym, length, arith}
 use Rattle.std.specs.Prelude.{true, nat_le, ◌&&◌}
-use Rattle.std.proofs.lemmas.Bool.{leb-true}
+use Rattle.std.proofs.lemmas.Bool.{leb-true, and_parts}
 use Rattle.wasi_calls_rules.specs.Checks.{gathered, has_no_newline}
 use Rattle.wasi_calls_rules.specs.Lines.{cut_all}
 use Rattle.wasi_calls_rules.specs.declared.limits.TheConstants.{LINE_BYTES}
 use Rattle.wasi_calls.specs.Moves.{total_len}
-use Rattle.wasi_calls.proofs.Cuts.{written_cut, cut_onto, both_true}
+use Rattle.wasi_calls.proofs.Cuts.{written_cut, cut_onto}
 use Rattle.wasi_calls.proofs.Fronts.{length_gathered}
 use Rattle.wasi_calls.proofs.streams.put.Goals as goal
 
@@ -16,7 +16,7 @@ returns-then-ends_no_line-clause-written c =
     let bytes = gathered c.args.memory.now.bytes bs in
     let test : (nat_le (length text + total_len bs) LINE_BYTES && has_no_newline bytes) ≡ true =
     sym (rw c.deref.ensures.value at c.ends_no_line.ensures) ∙ c.if-ends_no_line.true in
-    let both = both_true (nat_le (length text + total_len bs) LINE_BYTES) (has_no_newline bytes)
+    let both = and_parts (nat_le (length text + total_len bs) LINE_BYTES) (has_no_newline bytes)
     test in
     let few = leb-true (length text + total_len bs) LINE_BYTES both.0 in
     let size = length_gathered c.args.memory.now.bytes bs c.requires in

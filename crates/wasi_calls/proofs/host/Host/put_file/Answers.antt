@@ -5,9 +5,10 @@ use Rattle.file_tree.proofs.Sizes.{length-written, small_written}
 use Rattle.wasi_abi.specs.rules.Answers.{AreBytes}
 use Rattle.wasi_calls_rules.specs.Checks.{gathered}
 use Rattle.wasi_calls_rules.proofs.KeepsHosts.{small_file}
+use Rattle.wasi_calls_rules.proofs.RowChanges.{gathered_bytes}
 use Rattle.wasi_calls.specs.rules.Held.{held_host_of}
 use Rattle.wasi_calls.proofs.Files.{rewritten_host}
-use Rattle.wasi_calls.proofs.Fronts.{length_gathered, gathered_bytes}
+use Rattle.wasi_calls.proofs.Fronts.{length_gathered}
 use Rattle.wasi_calls.proofs.WrittenFiles.{own_bytes}
 use Rattle.wasi_calls.proofs.host.Host.put_file.Goals as goal
 

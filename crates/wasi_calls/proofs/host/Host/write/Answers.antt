@@ -1,9 +1,9 @@
 use Rattle.std.proofs.Common.{◌≡◌}
 use Rattle.wasi_abi.specs.rules.Answers.{AreBytes}
 use Rattle.wasi_calls_rules.specs.Checks.{gathered}
+use Rattle.wasi_calls_rules.proofs.RowChanges.{gathered_bytes}
 use Rattle.wasi_calls.specs.rules.Outputs.{output_written}
 use Rattle.wasi_calls.specs.rules.Held.{held_host_of}
-use Rattle.wasi_calls.proofs.Fronts.{gathered_bytes}
 use Rattle.wasi_calls.proofs.Hosts.{with_lines, written_short}
 use Rattle.wasi_calls.proofs.host.Host.write.Goals as goal
 

@@ -1,5 +1,5 @@
 use Rattle.std.proofs.Common.{sym, ◌∙◌, arith}
-use Rattle.wasi_calls.proofs.Restored.{no_newline}
+use Rattle.wasi_calls_rules.proofs.Fitting.{no_newline}
 use Rattle.wasi_calls.proofs.host.restoring.is_unfinished.Goals as goal
 
 pub returns-then-text-le-LINE_BYTES : goal.returns-then-text-le-LINE_BYTES
