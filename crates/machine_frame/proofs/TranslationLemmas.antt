@@ -23,3 +23,4 @@ pub mod CheckLemmas
 pub mod Translated
 pub mod Taking
 pub mod MovedWords
+pub mod StepLemmas
