@@ -2,6 +2,7 @@
 
 ghost use Rattle.std.specs.Prelude.{◌≡◌, ◌≤◌, ◌++◌, length, IfOk, OnOk};
 ghost use Rattle.std.specs.List.{AllByRecursion};
+ghost use Rattle.wasi_abi.specs.declared.config.TheConstants.{MOST_TEXTS};
 ghost use Rattle.wasi_abi.specs.rules.Configs.{IsShortText};
 ghost use Rattle.wasi_abi.specs.rules.Layouts.{u16_bytes, u32_bytes};
 ghost use Rattle.disk_layout.specs.rules.Places.{config_bytes, texts_bytes};
@@ -10,6 +11,9 @@ use crate::fields::{put_u16, put_u32};
 use std::alloc::{AllocError, Global};
 use wasi_abi::Config;
 use wasm_syntax::Row;
+
+/// Bytes of the numbers of a configuration, behind which its texts stand.
+pub(crate) const CONFIG_HEAD_BYTES: usize = 12;
 
 /// The bytes that a configuration has on a disk. It fails only for want of memory.
 pub fn config_bytes_of(alloc: Global, config: &Config) -> Result<Vec<u8>, AllocError>
@@ -26,7 +30,7 @@ pub fn config_bytes_of(alloc: Global, config: &Config) -> Result<Vec<u8>, AllocE
 
 /// Texts behind their number, each behind its length.
 fn push_texts(bytes: &mut Vec<u8>, texts: &[Row<u8>]) -> Result<(), AllocError>
-    requires few { length texts.now ≤ 64 }
+    requires few { length texts.now ≤ MOST_TEXTS }
     requires short { AllByRecursion IsShortText texts.now }
     ensures { OnOk result (bytes.new.items ≡ bytes.old.items ++ texts_bytes texts.now) }
 {

@@ -7,6 +7,9 @@ ghost use Rattle.wasi_abi.specs.rules.Layouts.{u64_at};
 
 use byteorder::{ByteOrder, LittleEndian};
 
+/// Bytes of a digest.
+pub const DIGEST_BYTES: usize = 32;
+
 pub(crate) fn put(bytes: &mut [u8], at: usize, field: &[u8])
     requires { at + length field.now ≤ length bytes.old }
     ensures { bytes.new ≡ with_part bytes.old at field.now }
@@ -59,11 +62,11 @@ pub(crate) fn u64_from(bytes: &[u8], at: usize) -> u64
 }
 
 /// A digest at a place.
-pub(crate) fn digest_from(bytes: &[u8], at: usize) -> [u8; 32]
-    requires { at + 32 ≤ length bytes.now }
-    ensures { result ≡ part bytes.now at 32 }
+pub(crate) fn digest_from(bytes: &[u8], at: usize) -> [u8; DIGEST_BYTES]
+    requires { at + DIGEST_BYTES ≤ length bytes.now }
+    ensures { result ≡ part bytes.now at DIGEST_BYTES }
 {
-    let mut digest = [0; 32];
-    digest.copy_from_slice(&bytes[at..at + 32]);
+    let mut digest = [0; DIGEST_BYTES];
+    digest.copy_from_slice(&bytes[at..at + DIGEST_BYTES]);
     digest
 }

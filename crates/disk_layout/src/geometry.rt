@@ -2,10 +2,12 @@
 
 ghost use Rattle.std.specs.Prelude.{◌≡◌, ◌≤◌, ◌+◌, ◌*◌, ◌^◌, length};
 ghost use Rattle.std.specs.List.{AllByRecursion};
+ghost use Rattle.wasi_abi.specs.declared.config.TheConstants.{MOST_TEXTS};
 ghost use Rattle.wasi_abi.specs.rules.Configs.{IsShortText};
 ghost use Rattle.disk_layout.specs.rules.Places.{geometry_of, texts_bytes, rounded_up, head_place};
 ghost use Rattle.disk_layout.specs.rules.Places.{area_place, journal_place, total_sectors};
 
+use crate::configuration::CONFIG_HEAD_BYTES;
 use sector_disk::SECTOR_SIZE;
 use wasi_abi::Config;
 use wasm_syntax::Row;
@@ -37,7 +39,7 @@ impl Geometry {
     {
         let arguments = texts_len(config.arguments().as_slice());
         let environment = texts_len(config.environment().as_slice());
-        let config_len = 12 + arguments + environment;
+        let config_len = CONFIG_HEAD_BYTES as u64 + arguments + environment;
         Geometry {
             config: config_len as u32,
             wasm: module_len,
@@ -88,7 +90,7 @@ pub(crate) fn sectors_of(bytes: u64) -> u64
 
 /// How many bytes these texts take with their lengths and their number.
 fn texts_len(texts: &[Row<u8>]) -> u64
-    requires few { length texts.now ≤ 64 }
+    requires few { length texts.now ≤ MOST_TEXTS }
     requires short { AllByRecursion IsShortText texts.now }
     ensures length { result ≡ length (texts_bytes texts.now) }
     ensures within { result ≤ 4 + 64 * 1026 }

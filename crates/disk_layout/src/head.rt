@@ -3,7 +3,7 @@
 ghost use Rattle.std.specs.Prelude.{◌≡◌, ◌↔◌, ◌+◌, ◌<◌, ◌^◌, IsTrue};
 ghost use Rattle.disk_layout.specs.rules.Sectors.{head_bytes, head_of, IsComplete};
 
-use crate::fields::{digest_from, put, put_u32, put_u64, u32_from, u64_from};
+use crate::fields::{DIGEST_BYTES, digest_from, put, put_u32, put_u64, u32_from, u64_from};
 use crate::stamp::{GENERATION_AT, PLACE_AT, Stamp};
 use sector_disk::SECTOR_SIZE;
 
@@ -31,7 +31,7 @@ pub const HEAD_STAMP_PLACE: u64 = 1;
 pub struct Head {
     pub version: u32,
     pub length_in_bytes: u64,
-    pub digest: [u8; 32],
+    pub digest: [u8; DIGEST_BYTES],
     pub generation: u64,
 }
 

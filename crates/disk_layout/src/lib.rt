@@ -61,7 +61,7 @@ mod superblock;
 pub use configuration::config_bytes_of;
 pub use contents::write_contents;
 pub use fault::LayoutFault;
-pub use fields::{u16_from, u32_from};
+pub use fields::{DIGEST_BYTES, u16_from, u32_from};
 pub use geometry::{Geometry, MODULE_PLACE};
 pub use head::{Head, IMAGE_VERSION};
 pub use journal_sectors::{PAYLOAD_AT, PAYLOAD_SIZE, is_of, journal_sector, used_length};

@@ -14,6 +14,7 @@ ghost use Rattle.disk_layout.specs.rules.Stored.{OnlyReads, IsConsistent, Checks
 ghost use Rattle.disk_layout.specs.rules.Stored.{FindsStored};
 
 use crate::fault::LayoutFault;
+use crate::fields::DIGEST_BYTES;
 use crate::geometry::{Geometry, MODULE_PLACE, sectors_of};
 use crate::superblock::Super;
 use sector_disk::{Disk, DiskFault, SECTOR_SIZE, store_run};
@@ -30,7 +31,7 @@ pub struct Stored {
 }
 
 /// The SHA-256 of a configuration's bytes and a module's.
-pub fn digest_of(config: &[u8], wasm: &[u8]) -> [u8; 32]
+pub fn digest_of(config: &[u8], wasm: &[u8]) -> [u8; DIGEST_BYTES]
     ensures { result ≡ sha256 (config.now ++ wasm.now) }
 {
     let mut hasher = Sha256::new();
@@ -39,7 +40,7 @@ pub fn digest_of(config: &[u8], wasm: &[u8]) -> [u8; 32]
     hasher.finalize()
 }
 
-fn is_digest_of(digest: &[u8; 32], config: &[u8], wasm: &[u8]) -> bool
+fn is_digest_of(digest: &[u8; DIGEST_BYTES], config: &[u8], wasm: &[u8]) -> bool
     ensures { IsTrue result ↔ (digest.now ≡ sha256 (config.now ++ wasm.now)) }
 {
     digest_of(config, wasm) == *digest

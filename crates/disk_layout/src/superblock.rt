@@ -5,7 +5,7 @@ ghost use Rattle.disk_layout.specs.rules.Sectors.{super_bytes, super_of, IsMarke
 ghost use Rattle.disk_layout.specs.rules.Stored.{ReadsSuper};
 
 use crate::fault::LayoutFault;
-use crate::fields::{digest_from, put, put_u32, u32_from};
+use crate::fields::{DIGEST_BYTES, digest_from, put, put_u32, u32_from};
 use crate::geometry::Geometry;
 use sector_disk::SECTOR_SIZE;
 
@@ -46,7 +46,7 @@ pub const END_MARK_AT: usize = 504;
 #[derive(Clone, Copy, Debug, PartialEq, Eq)]
 pub struct Super {
     pub geometry: Geometry,
-    pub digest: [u8; 32],
+    pub digest: [u8; DIGEST_BYTES],
 }
 
 impl Super {

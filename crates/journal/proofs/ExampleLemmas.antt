@@ -1,8 +1,9 @@
 -- Worked examples of journals.
-use Rattle.std.proofs.Common.{◌≡◌, ℕ, zero, suc, ◌+◌, ◌<◌, ◌≤◌, Bool, true, false, List, [], ◌∷◌}
+use Rattle.std.proofs.Common.{◌≡◌, ℕ, zero, suc, ◌+◌, ◌<◌, ◌≤◌, Bool, true, List, []}
 use Rattle.std.proofs.Common.{length, get_or, if◌then◌else◌, lit<, lit≤, refl, sym, ap, subst}
 use Rattle.std.proofs.Common.{arith}
 use Rattle.sector_disk.specs.rules.Image.{Image, sector_at}
+use Rattle.sector_disk.proofs.ExampleLemmas.{below_two, peel}
 use Rattle.disk_layout.specs.rules.Journal.{is_of}
 use Rattle.disk_layout.specs.rules.Sectors.{shown_generation}
 use Rattle.disk_layout.specs.laws.RecordExamples.{bare, spread, two_records}
@@ -19,14 +20,6 @@ bit_of b = if b then 1 else 0
 
 -- ---- numbers below a small one, and from one on
 
-below_one : (P : ℕ → Type 0) → P 0 → (k : ℕ) → k < 1 → P k
-below_one P p zero less = p
-below_one P p (suc k) less = absurd (omega (arith, less))
-
-below_two : (P : ℕ → Type 0) → P 0 → P 1 → (k : ℕ) → k < 2 → P k
-below_two P p q zero less = p
-below_two P p q (suc k) less = below_one (λ i. P (suc i)) q k (omega (arith, less))
-
 below_three : (P : ℕ → Type 0) → P 0 → P 1 → P 2 → (k : ℕ) → k < 3 → P k
 below_three P p q r zero less = p
 below_three P p q r (suc k) less = below_two (λ i. P (suc i)) q r k (omega (arith, less))
@@ -34,11 +27,6 @@ below_three P p q r (suc k) less = below_two (λ i. P (suc i)) q r k (omega (ari
 below_four : (P : ℕ → Type 0) → P 0 → P 1 → P 2 → P 3 → (k : ℕ) → k < 4 → P k
 below_four P p q r s zero less = p
 below_four P p q r s (suc k) less = below_three (λ i. P (suc i)) q r s k (omega (arith, less))
-
--- from one number on, as from the one before it on
-peel : (P : ℕ → Type 0) (n : ℕ) → ((k : ℕ) → n ≤ k → P (suc k)) → (k : ℕ) → suc n ≤ k → P k
-peel P n more zero le = absurd (omega (arith, le))
-peel P n more (suc k) le = more k (omega (arith, le))
 
 from_three : (P : ℕ → Type 0) (n : ℕ) → ((k : ℕ) → n ≤ k → P (suc (suc (suc k)))) → (k : ℕ)
     → 3 + n ≤ k → P k

@@ -8,18 +8,18 @@ differ : (a b : ℕ) → a ≡ b → a < b → ⊥
 differ a b e less = omega (arith, e, less)
 
 -- a byte of two sectors that are the same
-byte_of : (i : ℕ) {a b : List ℕ} → a ≡ b → get_or a i 0 ≡ get_or b i 0
+pub byte_of : (i : ℕ) {a b : List ℕ} → a ≡ b → get_or a i 0 ≡ get_or b i 0
 byte_of i e = ap (λ l. get_or l i 0) e
 
 -- no other sectors
-below_one : (P : ℕ → Type 0) → P 0 → (k : ℕ) → k < 1 → P k
+pub below_one : (P : ℕ → Type 0) → P 0 → (k : ℕ) → k < 1 → P k
 below_one P here zero less = here
 below_one P here (suc k) less = absurd (none k less)
   where
     none : (k : ℕ) → suc k < 1 → ⊥
     none k less = omega (arith, less)
 
-below_two : (P : ℕ → Type 0) → P 0 → P 1 → (k : ℕ) → k < 2 → P k
+pub below_two : (P : ℕ → Type 0) → P 0 → P 1 → (k : ℕ) → k < 2 → P k
 below_two P first second zero less = first
 below_two P first second (suc zero) less = second
 below_two P first second (suc (suc k)) less = absurd (none k less)
@@ -28,7 +28,7 @@ below_two P first second (suc (suc k)) less = absurd (none k less)
     none k less = omega (arith, less)
 
 -- from one number on, as from the one before it on
-peel : (P : ℕ → Type 0) (n : ℕ) → ((k : ℕ) → n ≤ k → P (suc k)) → (k : ℕ) → suc n ≤ k → P k
+pub peel : (P : ℕ → Type 0) (n : ℕ) → ((k : ℕ) → n ≤ k → P (suc k)) → (k : ℕ) → suc n ≤ k → P k
 peel P n more zero le = absurd (omega (arith, le))
 peel P n more (suc k) le = more k (omega (arith, le))
 

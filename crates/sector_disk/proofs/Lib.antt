@@ -1,4 +1,4 @@
-mod ExampleLemmas
+pub mod ExampleLemmas
 mod LogSteps
 mod MemoryLemmas
 mod AnswerLemmas

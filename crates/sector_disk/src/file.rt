@@ -8,6 +8,9 @@ use std::fs::{File, OpenFile, OpenOptions};
 use std::os::unix::fs::FileExt;
 use std::rt::Files;
 
+/// From so many sectors on a file is refused: its bytes would have numbers from 2^63 on.
+const SECTORS_END: u64 = 1 << 54;
+
 /// Sectors in a file, the first at its start. No call takes memory. It holds the file's lock until
 /// it is dropped.
 ///
@@ -46,7 +49,7 @@ impl<F: OpenFile + FileExt + LockFile> FileDisk<F> {
         ensures busy { IsErrOf result OpenFault.Busy → ((file : F) × IsTrue (F.is_refused file)) }
         ensures large { 2 ^ 54 ≤ sectors → IsErrOf result (Io TooLarge) }
     {
-        if sectors >= 1 << 54 {
+        if sectors >= SECTORS_END {
             return Err(OpenFault::Io(OpenCause::TooLarge));
         }
         let file = File::create_new(files, path)?;

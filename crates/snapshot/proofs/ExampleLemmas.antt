@@ -1,12 +1,11 @@
 -- Worked examples of heads, and of what a commit may change.
-use Rattle.std.proofs.Common.{◌≡◌, ◌≢◌, ℕ, ◌+◌, ◌-◌, ◌<◌, ◌≤◌, List, [], ◌∷◌, length, get_or, lit<}
-use Rattle.std.proofs.Common.{lit≤, refl, sym, ap, subst, inl, inr, ⊎_elim, arith}
+use Rattle.std.proofs.Common.{◌≡◌, ◌≢◌, ℕ, ◌+◌, ◌-◌, ◌<◌, ◌≤◌, [], length, lit<}
+use Rattle.std.proofs.Common.{lit≤, refl, sym, subst, inl, inr, ⊎_elim, arith}
 use Rattle.sha2.specs.Sha256.{sha256}
 use Rattle.sector_disk.specs.rules.Image.{Image, sector_at}
+use Rattle.sector_disk.proofs.ExampleLemmas.{byte_of}
 use Rattle.disk_layout.specs.declared.head.Head.{Head}
-use Rattle.disk_layout.specs.rules.Places.{head_place}
-use Rattle.disk_layout.specs.rules.Sectors.{head_bytes, stamp_of, IsComplete, IsNewest}
-use Rattle.snapshot.specs.rules.Heads.{HasNone, IsReadyForHead}
+use Rattle.disk_layout.specs.rules.Sectors.{IsComplete, IsNewest}
 use Rattle.snapshot.specs.rules.Steps.{IsOutsideArea}
 use Rattle.snapshot.specs.laws.Examples.{NextCanFollow, plain_head, with_heads, headless}
 use Rattle.snapshot.specs.laws.Examples.{ReadyExamples, areas, area_disk, NoStep, AreaExamples}
@@ -14,10 +13,6 @@ use Rattle.snapshot.proofs.AreaLemmas.{newest_complete}
 
 differ : (a b : ℕ) → a ≡ b → a < b → ⊥
 differ a b e less = omega (arith, e, less)
-
--- a byte of two sectors that are the same
-byte_of : (i : ℕ) {a b : List ℕ} → a ≡ b → get_or a i 0 ≡ get_or b i 0
-byte_of i e = ap (λ l. get_or l i 0) e
 
 pub next_can_follow : NextCanFollow
 next_can_follow geometry g version bytes image new =

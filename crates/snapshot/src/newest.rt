@@ -11,7 +11,7 @@ ghost use Rattle.snapshot.specs.rules.Heads.{HeadIn, FindsHead};
 ghost use Rattle.snapshot.specs.rules.Newest.{ReadsImage};
 
 use crate::fault::SnapshotFault;
-use disk_layout::{Geometry, Head};
+use disk_layout::{DIGEST_BYTES, Geometry, Head};
 use sector_disk::{Disk, DiskFault, SECTOR_SIZE};
 use sha2::{Digest, Sha256};
 use std::alloc::Global;
@@ -92,7 +92,7 @@ pub(crate) fn read_image<D: Disk>(
     Ok(bytes)
 }
 
-fn is_digest_of(digest: &[u8; 32], bytes: &[u8]) -> bool
+fn is_digest_of(digest: &[u8; DIGEST_BYTES], bytes: &[u8]) -> bool
     ensures { IsTrue result ↔ (digest.now ≡ sha256 bytes.now) }
 {
     Sha256::digest(bytes) == *digest

@@ -3,6 +3,7 @@
 ghost use Rattle.std.specs.Prelude.{IfOk};
 ghost use Rattle.disk_layout.specs.rules.Spelled.{SpellsConfig};
 
+use crate::configuration::CONFIG_HEAD_BYTES;
 use crate::reading::texts::texts_from;
 use crate::u32_from;
 use std::alloc::{AllocError, Global};
@@ -13,10 +14,10 @@ use wasi_abi::Config;
 pub fn config_from(alloc: Global, bytes: &[u8]) -> Result<Option<Config>, AllocError>
     ensures { IfOk result (λ o. SpellsConfig bytes.now o) }
 {
-    if bytes.len() < 12 {
+    if bytes.len() < CONFIG_HEAD_BYTES {
         return Ok(None);
     }
-    let Some((arguments, rest)) = texts_from(alloc, &bytes[12..])? else {
+    let Some((arguments, rest)) = texts_from(alloc, &bytes[CONFIG_HEAD_BYTES..])? else {
         return Ok(None);
     };
     let Some((environment, rest)) = texts_from(alloc, rest)? else {

@@ -47,7 +47,7 @@ returns-in-Ok c =
     within_limits bytes _ _ _ c.in-Ok.config (all_bytes bytes (λ k. omega (
       arith,
       c.type_inv.bytes k,
-    ))) c.if-bytes-lt12.false texts c.if-rest-ne0.false is limits
+    ))) c.if-bytes-lt-CONFIG_HEAD_BYTES.false texts c.if-rest-ne0.false is limits
 
 pub returns-in-Err : goal.returns-in-Err
 returns-in-Err c =
