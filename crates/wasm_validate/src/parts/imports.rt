@@ -30,7 +30,7 @@ fn is_import_valid(types: &[FunctionType], before: Before, import: &Import) -> b
 }
 
 /// What was imported with this import.
-fn including(before: Before, import: &Import) -> Before
+fn with_import(before: Before, import: &Import) -> Before
     ensures { result ≡ with_import before import.now.item }
 {
     match import.item {
@@ -71,7 +71,7 @@ pub fn check_imports(types: &[FunctionType], imports: &[Import]) -> Result<(), V
         if !is_import_valid(types, before, import) {
             return Err(fault_of(import));
         }
-        before = including(before, import);
+        before = with_import(before, import);
     }
     Ok(())
 }
