@@ -1,6 +1,6 @@
 //! Workers read back from disks, whole and damaged.
 
-use crate::layouts::{PLACES, SECTORS, SPELLED, WASM, layout_fault, written};
+use crate::layouts::{PLACES, SECTORS, SPELLED, WASM, layout_fault, written_disk};
 use disk_layout::{Contents, Geometry, LayoutFault, config_bytes_of, config_from, read_contents};
 use sector_disk::{Disk, DiskFault, FaultDisk, Place};
 use std::alloc::{AllocError, Global};
@@ -31,7 +31,7 @@ fn is_spelled_again(alloc: Global, config: &Config) -> Result<bool, LayoutFault>
 }
 
 fn is_read_back(alloc: Global) -> Result<bool, LayoutFault> {
-    let mut disk = written(alloc, SECTORS, PLACES, &SPELLED).map_err(layout_fault)?;
+    let mut disk = written_disk(alloc, SECTORS, PLACES, &SPELLED).map_err(layout_fault)?;
     let contents = read_contents(alloc, &mut disk)?;
     Ok(is_the_worker(&contents) && is_spelled_again(alloc, &contents.config)?)
 }
@@ -58,7 +58,7 @@ fn fault_of_spelling(alloc: Global, at: usize, byte: u8) -> Result<Option<Layout
         return Ok(None);
     }
     spelled[at] = byte;
-    let mut disk = written(alloc, SECTORS, PLACES, &spelled)?;
+    let mut disk = written_disk(alloc, SECTORS, PLACES, &spelled)?;
     Ok(fault_of(alloc, &mut disk))
 }
 
@@ -166,7 +166,7 @@ fn fault_of_numbers(alloc: Global, row: &Numbers) -> Result<Option<LayoutFault>,
         area_sectors: row.2,
         journal_sectors: row.3,
     };
-    let mut disk = written(alloc, row.4, geometry, &SPELLED)?;
+    let mut disk = written_disk(alloc, row.4, geometry, &SPELLED)?;
     Ok(fault_of(alloc, &mut disk))
 }
 
@@ -195,7 +195,7 @@ fn fault_of_damage(
     sector: u64,
     at: usize,
 ) -> Result<Option<LayoutFault>, DiskFault> {
-    let mut disk = written(alloc, SECTORS, PLACES, &SPELLED)?;
+    let mut disk = written_disk(alloc, SECTORS, PLACES, &SPELLED)?;
     damage(&mut disk, sector, at)?;
     Ok(fault_of(alloc, &mut disk))
 }
@@ -224,7 +224,7 @@ fn damaged_disks(rt: HostRuntime) -> Result<(), DiskFault> {
 }
 
 fn fault_of_call(alloc: Global, call: u64) -> Result<Option<LayoutFault>, DiskFault> {
-    let disk = written(alloc, SECTORS, PLACES, &SPELLED)?;
+    let disk = written_disk(alloc, SECTORS, PLACES, &SPELLED)?;
     let mut disk = FaultDisk::new(disk, None, Some(Place { call, front: 0 }));
     Ok(fault_of(alloc, &mut disk))
 }

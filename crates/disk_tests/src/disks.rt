@@ -57,7 +57,7 @@ fn settle<D: Disk>(disk: &mut D) -> Result<(), DiskFault> {
 }
 
 /// Four sectors, of which number 1 is settled as OLD, with room for three writes.
-fn settled(alloc: Global) -> Result<MemDisk, DiskFault> {
+fn settled_disk(alloc: Global) -> Result<MemDisk, DiskFault> {
     let mut disk = MemDisk::new(alloc, 4, 3)?;
     settle(&mut disk)?;
     Ok(disk)
@@ -159,7 +159,7 @@ static CUTS: [Cut; 13] = [
 ];
 
 fn is_cut_so(alloc: Global, cut: &Cut) -> Result<bool, DiskFault> {
-    let mut disk = settled(alloc)?;
+    let mut disk = settled_disk(alloc)?;
     write_each(&mut disk, cut.writes)?;
     cut_leaves(alloc, &disk, cut.tears, &[ZEROS, cut.left, ZEROS, ZEROS])
 }
@@ -216,7 +216,7 @@ fn is_answered_so(disk: &mut MemDisk, call: &(Call, Answer, usize)) -> bool {
 
 #[test]
 fn a_memory_disk_refuses_by_number_and_room(rt: HostRuntime) -> Result<(), DiskFault> {
-    let mut disk = settled(rt.alloc())?;
+    let mut disk = settled_disk(rt.alloc())?;
     for (place, call) in CALLS.iter().enumerate() {
         assert!(rt; is_answered_so(&mut disk, call), "{place}");
     }
@@ -226,7 +226,7 @@ fn a_memory_disk_refuses_by_number_and_room(rt: HostRuntime) -> Result<(), DiskF
 /// A refused write changes no sector.
 #[test]
 fn a_refused_write_changes_nothing(rt: HostRuntime) -> Result<(), DiskFault> {
-    let mut disk = settled(rt.alloc())?;
+    let mut disk = settled_disk(rt.alloc())?;
     let is_full = answers_so(&mut disk, &FILLED);
     let image = [(0, 512, 0), (0, 512, 0), (0, 512, 0), ZEROS];
     assert!(rt; is_full && holds_all(&mut disk, &image)?);
@@ -274,7 +274,7 @@ struct Trouble {
 }
 
 fn below_after(alloc: Global, trouble: &Trouble) -> Result<Option<MemDisk>, DiskFault> {
-    let mut disk = FaultDisk::new(settled(alloc)?, trouble.stop, trouble.fail);
+    let mut disk = FaultDisk::new(settled_disk(alloc)?, trouble.stop, trouble.fail);
     if answers_so(&mut disk, trouble.calls)
         && disk.calls() == trouble.counts
         && disk.has_left_front() == trouble.has_left_front
@@ -477,7 +477,7 @@ static RUNS: [Run; 2] = [
 ];
 
 fn is_run_so(alloc: Global, run: &Run) -> Result<bool, DiskFault> {
-    let mut disk = FaultDisk::new(settled(alloc)?, None, None);
+    let mut disk = FaultDisk::new(settled_disk(alloc)?, None, None);
     put_run(&mut disk, run.0)?;
     let counts = disk.calls();
     let image = [ZEROS, OLD, run.2, run.3];

@@ -64,7 +64,7 @@ fn counts_from(first: u64, records: &[Record]) -> bool {
 }
 
 /// How many records a scan of the generation gives, whose steps count from 1 on.
-fn scanned<D: Disk>(
+fn scan_count<D: Disk>(
     alloc: Global,
     disk: &mut D,
     generation: u64,
@@ -288,7 +288,7 @@ fn write_and_scan<D: Disk>(
     lens: &[usize],
 ) -> Result<Option<usize>, JournalFault> {
     append_and_write(alloc, &mut Journal::fresh(alloc, generation), disk, lens)?;
-    scanned(alloc, disk, generation)
+    scan_count(alloc, disk, generation)
 }
 
 fn scanned_of_five(alloc: Global) -> Result<Option<usize>, JournalFault> {
@@ -303,7 +303,7 @@ fn appended_and_scanned(rt: HostRuntime) -> Result<(), JournalFault> {
     Ok(())
 }
 
-fn faulty(
+fn faulty_disk(
     alloc: Global,
     stop: Option<Place>,
     fail: Option<Place>,
@@ -325,7 +325,7 @@ fn is_stopped<D: Disk>(
 
 /// Whether one record of generation 1 is left, and one that is written then is all of generation 2.
 fn is_left_so(alloc: Global, left: &mut MemDisk) -> Result<bool, JournalFault> {
-    Ok(scanned(alloc, left, 1)? == Some(1) && write_and_scan(alloc, left, 2, &[900])? == Some(1))
+    Ok(scan_count(alloc, left, 1)? == Some(1) && write_and_scan(alloc, left, 2, &[900])? == Some(1))
 }
 
 /// The second of three sectors is torn. The third one, of generation 1, is none of generation 2.
@@ -334,7 +334,7 @@ fn is_torn_so(alloc: Global, disk: &MemDisk) -> Result<bool, JournalFault> {
 }
 
 fn keeps_its_first(alloc: Global, len: usize) -> Result<bool, JournalFault> {
-    let mut disk = faulty(alloc, Some(Place { call: 4, front: 0 }), None)?;
+    let mut disk = faulty_disk(alloc, Some(Place { call: 4, front: 0 }), None)?;
     if is_stopped(alloc, &mut Journal::fresh(alloc, 1), &mut disk, len) {
         is_torn_so(alloc, &disk.into_inner())
     } else {
@@ -413,11 +413,11 @@ fn is_kept_so<D: Disk>(
     front: u16,
 ) -> Result<bool, JournalFault> {
     let want = if front <= 504 { kept.2 } else { kept.3 };
-    Ok(acknowledged == kept.1 && scanned(alloc, disk, 1)? == Some(want))
+    Ok(acknowledged == kept.1 && scan_count(alloc, disk, 1)? == Some(want))
 }
 
 fn is_stopped_so(alloc: Global, kept: &Kept, front: u16) -> Result<bool, JournalFault> {
-    let mut disk = faulty(
+    let mut disk = faulty_disk(
         alloc,
         Some(Place {
             call: kept.0,
@@ -444,7 +444,7 @@ fn a_stop_anywhere_leaves_what_was_acknowledged(rt: HostRuntime) -> Result<(), J
 }
 
 fn is_failed_so(alloc: Global, kept: &Kept, front: u16) -> Result<bool, JournalFault> {
-    let mut disk = faulty(
+    let mut disk = faulty_disk(
         alloc,
         None,
         Some(Place {
@@ -484,7 +484,7 @@ fn is_written_by<D: Disk>(
 }
 
 fn is_written_in(alloc: Global, len: usize, writes: u64) -> Result<bool, JournalFault> {
-    let mut disk = faulty(alloc, None, None)?;
+    let mut disk = faulty_disk(alloc, None, None)?;
     is_written_by(alloc, &mut Journal::fresh(alloc, 1), &mut disk, len, writes)
 }
 
@@ -516,7 +516,7 @@ fn are_written_before<D: Disk>(disk: &mut D, end: u64) -> bool {
 
 /// Whether a barrier of three sectors, stopped at this call, has written just those before `end`.
 fn rises_to(alloc: Global, call: u64, end: u64) -> Result<bool, JournalFault> {
-    let mut disk = faulty(alloc, Some(Place { call, front: 0 }), None)?;
+    let mut disk = faulty_disk(alloc, Some(Place { call, front: 0 }), None)?;
     match append_and_write(alloc, &mut Journal::fresh(alloc, 1), &mut disk, &[978]) {
         Err(JournalFault::Disk(_)) => Ok(are_written_before(&mut disk.into_inner(), end)),
         Ok(()) => Ok(false),
@@ -627,7 +627,7 @@ type Scanned = Result<Option<usize>, JournalFault>;
 fn is_scanned_at(alloc: Global, call: u64, want: Scanned) -> Result<bool, JournalFault> {
     let fail = Some(Place { call, front: 0 });
     let mut disk = FaultDisk::new(with_two(alloc)?, None, fail);
-    Ok(scanned(alloc, &mut disk, 1) == want)
+    Ok(scan_count(alloc, &mut disk, 1) == want)
 }
 
 /// Three sectors are read: the third is none of the generation.

@@ -93,7 +93,7 @@ fn write_worker<D: Disk>(
     write_super(disk, &Super { geometry, digest })
 }
 
-pub(crate) fn written(
+pub(crate) fn written_disk(
     alloc: Global,
     sectors: u64,
     geometry: Geometry,
@@ -129,7 +129,7 @@ static SUPER: [u8; 64] = *b"DWORKER!\
 
 #[test]
 fn a_super_byte_by_byte(rt: HostRuntime) -> Result<(), DiskFault> {
-    let mut disk = written(rt.alloc(), SECTORS, PLACES, &SPELLED)?;
+    let mut disk = written_disk(rt.alloc(), SECTORS, PLACES, &SPELLED)?;
     let mut sector = [0; 512];
     disk.read(0, &mut sector)?;
     assert!(rt; is_laid_out(&sector, &SUPER, b"!REKROWD"), "{sector:?}");

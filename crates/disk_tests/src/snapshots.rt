@@ -81,7 +81,7 @@ fn commit_in_pieces<D: Disk>(
     snapshots.finish(disk, &GEOMETRY)
 }
 
-fn faulty(
+fn faulty_disk(
     alloc: Global,
     stop: Option<Place>,
     fail: Option<Place>,
@@ -169,7 +169,7 @@ fn leaves_each_time(alloc: Global, disk: &MemDisk, want: Newest) -> Result<bool,
 }
 
 fn is_stopped_so(alloc: Global, stop: &Stop, front: u16) -> Result<bool, SnapshotFault> {
-    let mut disk = faulty(
+    let mut disk = faulty_disk(
         alloc,
         Some(Place {
             call: stop.0,
@@ -214,7 +214,7 @@ fn fails_what_follows<D: Disk>(snapshots: &mut Snapshots, disk: &mut FaultDisk<D
 
 /// A disk on which the sync of the second head failed, and was then made good.
 fn after_a_failed_sync(alloc: Global) -> Result<Option<MemDisk>, SnapshotFault> {
-    let mut disk = faulty(alloc, None, Some(Place { call: 16, front: 0 }))?;
+    let mut disk = faulty_disk(alloc, None, Some(Place { call: 16, front: 0 }))?;
     if fails_what_follows(&mut Snapshots::new(), &mut disk) && disk.sync().is_ok() {
         Ok(Some(disk.into_inner()))
     } else {
@@ -293,7 +293,7 @@ fn is_damaged_after(
     length_in_bytes: u64,
     reads: u64,
 ) -> Result<bool, SnapshotFault> {
-    let mut disk = faulty(alloc, None, None)?;
+    let mut disk = faulty_disk(alloc, None, None)?;
     let head = Head {
         version: 1,
         length_in_bytes,
@@ -367,7 +367,7 @@ fn is_committed_and_found(
     image: &[u8],
     calls: (u64, u64, u64),
 ) -> Result<bool, SnapshotFault> {
-    let mut disk = faulty(alloc, None, None)?;
+    let mut disk = faulty_disk(alloc, None, None)?;
     let is_so = is_committed_by(&mut Snapshots::new(), &mut disk, image, calls)?;
     Ok(is_so && is_newest(alloc, &mut disk, 3, image)?)
 }
@@ -481,7 +481,7 @@ fn is_sized_so<D: Disk>(snapshots: &mut Snapshots, disk: &mut FaultDisk<D>, size
 #[test]
 fn what_is_too_big_is_refused_before_a_call(rt: HostRuntime) -> Result<(), SnapshotFault> {
     for size in &SIZES {
-        let mut disk = faulty(rt.alloc(), None, None)?;
+        let mut disk = faulty_disk(rt.alloc(), None, None)?;
         assert!(rt;
             is_sized_so(&mut Snapshots::new(), &mut disk, size),
             "{size:?}"

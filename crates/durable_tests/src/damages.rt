@@ -313,7 +313,7 @@ fn put_each(disk: &mut MemDisk, pieces: &[Piece]) -> Result<(), DiskFault> {
 }
 
 /// A disk with a fresh worker of `ECHO`.
-fn created(alloc: Global) -> Result<MemDisk, Halt> {
+fn created_disk(alloc: Global) -> Result<MemDisk, Halt> {
     let mut disk = blank(alloc, SECTORS)?;
     let worker = create(alloc, &mut disk, ECHO)?;
     drop(worker);
@@ -329,7 +329,7 @@ fn says(alloc: Global, disk: &mut MemDisk) -> Result<Result<Stand, Halt>, Halt> 
 }
 
 fn is_told_so(alloc: Global, damage: &Damage) -> Result<bool, Halt> {
-    let mut disk = created(alloc)?;
+    let mut disk = created_disk(alloc)?;
     put_each(&mut disk, damage.pieces)?;
     Ok(says(alloc, &mut disk)? == damage.opens)
 }
@@ -377,7 +377,7 @@ fn is_too_small(alloc: Global) -> Result<bool, Halt> {
     if !is_refused(alloc, &mut disk)? {
         return Ok(false);
     }
-    let mut whole = created(alloc)?;
+    let mut whole = created_disk(alloc)?;
     shows_too_few(alloc, &mut disk, &mut whole)
 }
 

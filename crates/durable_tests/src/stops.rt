@@ -160,7 +160,7 @@ static TASKS: [Task; 2] = [
 ];
 
 /// The worker that the disk stands for, or a new one where there is none.
-fn opened<D: Disk>(
+fn open_or_create<D: Disk>(
     alloc: Global,
     disk: &mut D,
     guest: &[u8],
@@ -219,7 +219,7 @@ fn live<D: Disk>(
     task: &Task,
     told: &mut LineList,
 ) -> Result<(), Halt> {
-    match opened(alloc, disk, task.guest, told) {
+    match open_or_create(alloc, disk, task.guest, told) {
         Ok(mut worker) => {
             let worked = finish(alloc, &mut worker, disk, task, told);
             drop(worker);

@@ -1,5 +1,5 @@
 -- A checkpoint, as an event of a life, and what its disk holds.
-use Rattle.std.proofs.Common.{◌≡◌, ℕ, ◌+◌, ◌-◌, ◌*◌, ◌<◌, ◌≤◌, ◌^◌, max, List, [], ◌∷◌, ◌++◌}
+use Rattle.std.proofs.Common.{◌≡◌, ℕ, ◌+◌, ◌-◌, ◌*◌, ◌<◌, ◌≤◌, ◌^◌, List, [], ◌∷◌, ◌++◌}
 use Rattle.std.proofs.Common.{length, Bool, true, false, refl, sym, ap, ◌∙◌, subst, inl, inr, arith}
 use Rattle.std.proofs.lemmas.List.{append-nil}
 use Rattle.std.specs.Prelude.{Ok, Err}
@@ -38,7 +38,7 @@ use Rattle.worker_store.proofs.LawLemmas.CallEnds.{calls_leave_between}
 use Rattle.worker_store.proofs.LawLemmas.Carrying.{all_is_held, begins_carried}
 use Rattle.worker_store.proofs.LawLemmas.Raising.{all_syncs_are_held, ended_carries}
 use Rattle.worker_store.proofs.LawLemmas.Raising.{carried_is_reached}
-use Rattle.worker_store.proofs.LawLemmas.AtHand.{shown_is_saved, next_is_at_hand}
+use Rattle.worker_store.proofs.LawLemmas.AtHand.{shown_is_saved, next_is_at_hand, same_within}
 use Rattle.worker_store.proofs.LawLemmas.Saving.{saving_checkpoints, save_carries}
 use Rattle.worker_store.proofs.LawLemmas.Saving.{ends_promise_no_less}
 use Rattle.worker_store.specs.declared.fault.StoreFault.{StoreFault}
@@ -47,6 +47,7 @@ use Rattle.worker_store.specs.declared.store.WorkerStore.{WorkerStore}
 use Rattle.worker_store.specs.laws.Laws.{ImagesFitAreas}
 use Rattle.worker_store.specs.rules.Calls.{StoresNext}
 use Rattle.worker_store.specs.rules.Stores.{IsStoreOf}
+use Rattle.worker_store.proofs.LawLemmas.Telling.{max_within}
 use Rattle.durable_worker.specs.declared.running.Running.{Running}
 use Rattle.durable_worker.specs.declared.fault.DurableFault.{DurableFault}
 use Rattle.durable_worker.specs.rules.DurableFaults.{fault_of_store}
@@ -58,12 +59,6 @@ use Rattle.durable_worker.specs.rules.Checkpoints.{IsCheckpointFault, Checkpoint
 use Rattle.durable_worker.specs.rules.Checkpoints.{CheckpointCalls, IsSavedIn}
 use Rattle.durable_worker.proofs.SavingLemmas.{none_rising}
 use Rattle.durable_worker.proofs.DurableLemmas.Bounds.{saves_within}
-
-max_within : (a b c : ℕ) → a ≤ c → b ≤ c → max a b ≤ c
-max_within a b c x y = omega (arith, x, y)
-
-same_within : (a b c : ℕ) → a ≡ b → b ≤ c → a ≤ c
-same_within a b c e le = omega (arith, e, le)
 
 one_more : (a b c : ℕ) → a ≡ b + 1 → b ≤ c → a ≤ c + 1
 one_more a b c e le = omega (arith, e, le)

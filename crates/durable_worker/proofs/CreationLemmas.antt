@@ -1,5 +1,5 @@
 -- A worker that is created on a disk.
-use Rattle.std.proofs.Common.{◌≡◌, ◌⊎◌, ℕ, ◌+◌, ◌*◌, ◌<◌, ◌≤◌, ◌^◌, max, List, [], ◌∷◌, ◌++◌}
+use Rattle.std.proofs.Common.{◌≡◌, ◌⊎◌, ℕ, ◌+◌, ◌*◌, ◌<◌, ◌≤◌, ◌^◌, List, [], ◌∷◌, ◌++◌}
 use Rattle.std.proofs.Common.{length}
 use Rattle.std.proofs.Common.{take, refl, sym, ap, ◌∙◌, subst, inl, ⊎_elim, arith}
 use Rattle.std.proofs.lemmas.Bool.{cases_lt}
@@ -14,6 +14,7 @@ use Rattle.wasi_calls_rules.specs.laws.Laws.{IsOfBytes}
 use Rattle.machine.specs.rules.Offers.{offer}
 use Rattle.process_rules.specs.Processes.{ProcessState, Guest, IsStart, host_of}
 use Rattle.process_rules.specs.Runs.{Kept, Runs, none}
+use Rattle.process_rules.proofs.Growing.{start_counts}
 use Rattle.process.specs.rules.Values.{ProcessValue, ShowsProcess, IsProcess}
 use Rattle.state_image.specs.rules.Image.{Saved, image}
 use Rattle.state_image.specs.rules.Saving.{saved_of}
@@ -42,10 +43,10 @@ use Rattle.worker_store.specs.laws.CallEnds.{IsSavedAs}
 use Rattle.worker_store.specs.laws.AtHand.{IsFirstOf}
 use Rattle.worker_store.specs.laws.Anew.{OpensAtFirst}
 use Rattle.worker_store.proofs.LawLemmas.Anew.{creation_opens}
-use Rattle.worker_store.proofs.LawLemmas.AtHand.{first_is_at_hand, shown_is_saved}
+use Rattle.worker_store.proofs.LawLemmas.AtHand.{first_is_at_hand, shown_is_saved, same_within}
 use Rattle.worker_store.proofs.LawLemmas.Carrying.{creation_carries, begins_carried}
 use Rattle.worker_store.proofs.LawLemmas.Carrying.{fresh_is_held, opening_is_held}
-use Rattle.worker_store.proofs.LawLemmas.Points.{start_counts, point_stands_alone}
+use Rattle.worker_store.proofs.LawLemmas.Points.{point_stands_alone}
 use Rattle.worker_store.proofs.LawLemmas.Raising.{all_syncs_are_held}
 use Rattle.worker_store.proofs.LawLemmas.Reopening.{no_lines, lives_open, fresh_holds_nothing}
 use Rattle.worker_store.proofs.LawLemmas.Reopening.{fresh_lives_begin}
@@ -56,6 +57,7 @@ use Rattle.worker_store.specs.laws.Laws.{ImagesFitAreas}
 use Rattle.worker_store.specs.rules.Creations.{IsFirstPoint, LeavesBlankOrFirst, StoresFirst}
 use Rattle.worker_store.specs.rules.Creations.{CreationFails, creation_calls}
 use Rattle.worker_store.specs.rules.Stores.{IsStoreOf}
+use Rattle.worker_store.proofs.LawLemmas.Telling.{max_within}
 use Rattle.worker.specs.Turns.{working}
 use Rattle.worker.specs.rules.Values.{IsCreated}
 use Rattle.durable_worker.specs.declared.fault.DurableFault.{DurableFault}
@@ -64,6 +66,7 @@ use Rattle.durable_worker.specs.rules.DurableCreations.{places_for, IsCreatedOn,
 use Rattle.durable_worker.specs.rules.DurableCreations.{CreationCalls, CreationKeeps, OpensOn}
 use Rattle.durable_worker.specs.rules.DurableCreations.{IsRefusedAtFirst, LeavesCreation}
 use Rattle.durable_worker.specs.rules.DurableFaults.{fault_of_store}
+use Rattle.durable_worker.proofs.RestoringLemmas.{few_pages}
 
 -- ---- a disk that is left alone
 
@@ -106,21 +109,12 @@ refused_calls bytes config why disk =
 
 -- ---- numbers and lists
 
-few_pages : (pages : ℕ) → pages ≤ 256 → pages ≤ 2 ^ 16
-few_pages pages few = omega (arith, few)
-
 take_none : (kept : List Kept) → take 0 kept ≡ []
 take_none [] = refl
 take_none (given ∷ kept) = refl
 
 none_within : (n k : ℕ) → n ≡ 0 → n ≤ k
 none_within n k e = omega (arith, e)
-
-same_within : (a b c : ℕ) → a ≡ b → b ≤ c → a ≤ c
-same_within a b c e le = omega (arith, e, le)
-
-both_within : (a b c : ℕ) → a ≤ c → b ≤ c → max a b ≤ c
-both_within a b c x y = omega (arith, x, y)
 
 -- ---- a process that has begun
 
@@ -387,7 +381,7 @@ module _ {D : Type 0} (medium : D → Medium) (bytes : List ℕ) (config : Setti
             module_is = begun.started.guest;
             between = life.1;
             heard = none_within (length start.host.lines) promise.heard lines;
-            passed = both_within (saved_of v).lines promise.passed (length start.host.lines)
+            passed = max_within (saved_of v).lines promise.passed (length start.host.lines)
                 (same_within _ _ _ saved.shows.lines (omega arith))
                 (none_within promise.passed (length start.host.lines) none_passed);
             none_waits = begun.started.none_waits;

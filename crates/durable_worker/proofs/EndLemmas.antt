@@ -44,7 +44,7 @@ stop_says true stop calls both = both.0 refl
 stop_says false stop calls both =
     λ has. let e : false ≡ true = both.1 has in absurd (cc)
 
-not_both : (stop : Option ℕ) (calls : ℕ) → HasStopped stop calls → HasNotStopped stop calls → ⊥
+pub not_both : (stop : Option ℕ) (calls : ℕ) → HasStopped stop calls → HasNotStopped stop calls → ⊥
 not_both None calls has not = has
 not_both (Some k) calls has not = absurd (omega (arith, has, not))
 

@@ -42,7 +42,7 @@ unrestored fault = Err fault
 
 -- ---- a savepoint
 
-few_pages : (pages : ℕ) → pages ≤ 256 → pages ≤ 2 ^ 16
+pub few_pages : (pages : ℕ) → pages ≤ 256 → pages ≤ 2 ^ 16
 few_pages pages few = omega (arith, few)
 
 fewer_steps : (a b c : ℕ) → c ≡ a + b → c < 2 ^ 63 → b < 2 ^ 63

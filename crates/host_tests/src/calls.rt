@@ -133,7 +133,7 @@ fn put_line(guest: &mut Guest, letters: u32) {
 }
 
 /// How many lines wait, and how long the first and the last of them are.
-fn waiting(guest: &Guest) -> [usize; 3] {
+fn waiting_lengths(guest: &Guest) -> [usize; 3] {
     let lines = guest.host.waiting_lines();
     let first = lines.first().map_or(0, |line| line.text().len());
     let last = lines.last().map_or(0, |line| line.text().len());
@@ -146,7 +146,7 @@ fn cut(alloc: Global, letters: u32) -> Result<[usize; 3], CallStop> {
     put_line(&mut guest, letters);
     name(&mut guest, 0, BYTES, letters.saturating_add(1));
     let _ = write(alloc, &mut guest, 1, 1);
-    let waiting = waiting(&guest);
+    let waiting = waiting_lengths(&guest);
     drop(guest);
     Ok(waiting)
 }

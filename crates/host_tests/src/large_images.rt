@@ -2,7 +2,7 @@
 //! `docs/PROVING.md` says how that is measured.
 
 use crate::image_stop::ImageStop;
-use crate::restored::{LARGE_ECHO, begun_with, bytes_of, restored_with};
+use crate::restored::{LARGE_ECHO, begin_with, bytes_of, restore_with};
 use process::Process;
 use state_image::{Sink, write_image, write_image_to};
 use std::alloc::Global;
@@ -31,14 +31,14 @@ impl Sink for Counted {
     }
 }
 
-fn begun(alloc: Global) -> Result<Process, ImageStop> {
+fn begin(alloc: Global) -> Result<Process, ImageStop> {
     let wasm = bytes_of(alloc, &LARGE_ECHO)?;
-    begun_with(alloc, wasm.as_slice(), PAGES)
+    begin_with(alloc, wasm.as_slice(), PAGES)
 }
 
 #[test]
 fn a_large_process_begins(rt: HostRuntime) -> Result<(), ImageStop> {
-    let process = begun(rt.alloc())?;
+    let process = begin(rt.alloc())?;
     let length = process.memory().len();
     drop(process);
     assert!(rt; length == MEMORY_BYTES);
@@ -54,15 +54,15 @@ fn count_pushed(process: &Process) -> usize {
 
 #[test]
 fn a_large_image_is_pushed(rt: HostRuntime) -> Result<(), ImageStop> {
-    let process = begun(rt.alloc())?;
+    let process = begin(rt.alloc())?;
     let length = count_pushed(&process);
     drop(process);
     assert!(rt; length == IMAGE_BYTES);
     Ok(())
 }
 
-fn written(alloc: Global) -> Result<Vec<u8>, ImageStop> {
-    let process = begun(alloc)?;
+fn written_image(alloc: Global) -> Result<Vec<u8>, ImageStop> {
+    let process = begin(alloc)?;
     let image = write_image(alloc, &process);
     drop(process);
     Ok(image?)
@@ -70,7 +70,7 @@ fn written(alloc: Global) -> Result<Vec<u8>, ImageStop> {
 
 #[test]
 fn a_large_image_is_written(rt: HostRuntime) -> Result<(), ImageStop> {
-    let image = written(rt.alloc())?;
+    let image = written_image(rt.alloc())?;
     assert!(rt; image.len() == IMAGE_BYTES);
     Ok(())
 }
@@ -78,7 +78,7 @@ fn a_large_image_is_written(rt: HostRuntime) -> Result<(), ImageStop> {
 /// How many bytes the memory of the process of an image has.
 fn length_restored(alloc: Global, image: &[u8]) -> Result<usize, ImageStop> {
     let wasm = bytes_of(alloc, &LARGE_ECHO)?;
-    let Some(process) = restored_with(alloc, wasm.as_slice(), image, PAGES)? else {
+    let Some(process) = restore_with(alloc, wasm.as_slice(), image, PAGES)? else {
         return Ok(0);
     };
     let length = process.memory().len();
@@ -88,7 +88,7 @@ fn length_restored(alloc: Global, image: &[u8]) -> Result<usize, ImageStop> {
 
 #[test]
 fn a_large_image_comes_back(rt: HostRuntime) -> Result<(), ImageStop> {
-    let image = written(rt.alloc())?;
+    let image = written_image(rt.alloc())?;
     assert!(rt; length_restored(rt.alloc(), image.as_slice())? == MEMORY_BYTES);
     Ok(())
 }

@@ -23,7 +23,7 @@ const HELLO: [u8; 168] = [
 ];
 
 /// A process of the module that these bytes spell, at its start.
-pub(crate) fn started(alloc: Global, wasm: &[u8], config: Config) -> Result<Process, ImageStop> {
+pub(crate) fn start(alloc: Global, wasm: &[u8], config: Config) -> Result<Process, ImageStop> {
     let module = read(alloc, wasm)?;
     match Process::start(alloc, module, config) {
         Ok(process) => Ok(process),
@@ -33,7 +33,7 @@ pub(crate) fn started(alloc: Global, wasm: &[u8], config: Config) -> Result<Proc
 
 pub(crate) fn hello(alloc: Global) -> Result<Process, ImageStop> {
     let config = Config::new(1, 1, 64, Row::new(alloc), Row::new(alloc))?;
-    started(alloc, &HELLO, config)
+    start(alloc, &HELLO, config)
 }
 
 /// Why the process stops on so much fuel: 1 for spent, 2 for owing, and else 0. Then its steps, its

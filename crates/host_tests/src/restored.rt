@@ -3,7 +3,7 @@
 ghost use Rattle.std.specs.Prelude.{◌<◌, length};
 
 use crate::image_stop::ImageStop;
-use crate::processes::started;
+use crate::processes::start;
 use hex::decode;
 use machine_loader::read;
 use process::{Process, ProcessFault};
@@ -74,8 +74,8 @@ fn config(alloc: Global, pages: u64) -> Result<Config, ImageStop> {
 }
 
 /// A process that begins, whose memory may have so many pages.
-pub(crate) fn begun_with(alloc: Global, wasm: &[u8], pages: u64) -> Result<Process, ImageStop> {
-    started(alloc, wasm, config(alloc, pages)?)
+pub(crate) fn begin_with(alloc: Global, wasm: &[u8], pages: u64) -> Result<Process, ImageStop> {
+    start(alloc, wasm, config(alloc, pages)?)
 }
 
 /// The process that was made, if the bytes were an image.
@@ -89,7 +89,7 @@ fn process_of(made: Result<Process, RestoreFault>) -> Result<Option<Process>, Im
 
 /// The process of an image, if there is one, whose memory may have so many pages. No `?` stands
 /// while the module is owned.
-pub(crate) fn restored_with(
+pub(crate) fn restore_with(
     alloc: Global,
     wasm: &[u8],
     image: &[u8],
@@ -100,12 +100,12 @@ pub(crate) fn restored_with(
     process_of(restore(alloc, module, settings, image))
 }
 
-fn begun(alloc: Global, wasm: &[u8]) -> Result<Process, ImageStop> {
-    begun_with(alloc, wasm, 1)
+fn begin(alloc: Global, wasm: &[u8]) -> Result<Process, ImageStop> {
+    begin_with(alloc, wasm, 1)
 }
 
-fn restored(alloc: Global, wasm: &[u8], image: &[u8]) -> Result<Option<Process>, ImageStop> {
-    restored_with(alloc, wasm, image, 1)
+fn restore_small(alloc: Global, wasm: &[u8], image: &[u8]) -> Result<Option<Process>, ImageStop> {
+    restore_with(alloc, wasm, image, 1)
 }
 
 /// Whether these bytes are the image of a process.
@@ -116,7 +116,7 @@ fn is_image_of(alloc: Global, process: &Process, image: &[u8]) -> Result<bool, I
 
 /// What is made of bytes: 0 for nothing, 1 for a process whose image they are, and 2 for another.
 fn made_of(alloc: Global, wasm: &[u8], image: &[u8]) -> Result<u64, ImageStop> {
-    let Some(process) = restored(alloc, wasm, image)? else {
+    let Some(process) = restore_small(alloc, wasm, image)? else {
         return Ok(0);
     };
     let told = is_image_of(alloc, &process, image);
@@ -209,7 +209,7 @@ fn ask(alloc: Global, process: &mut Process) -> Result<Vec<u8>, ImageStop> {
 }
 
 fn asked_echo(alloc: Global, wasm: &[u8]) -> Result<Vec<u8>, ImageStop> {
-    let mut process = begun(alloc, wasm)?;
+    let mut process = begin(alloc, wasm)?;
     let image = ask(alloc, &mut process);
     drop(process);
     image
@@ -227,7 +227,7 @@ fn echo_comes_back_from_step_6(rt: HostRuntime) -> Result<(), ImageStop> {
 
 /// The image of `echo` at its start.
 fn fresh_echo(alloc: Global, wasm: &[u8]) -> Result<Vec<u8>, ImageStop> {
-    let process = begun(alloc, wasm)?;
+    let process = begin(alloc, wasm)?;
     let image = write_image(alloc, &process);
     drop(process);
     Ok(image?)
@@ -289,8 +289,8 @@ fn work(alloc: Global, process: &mut Process) -> Result<Vec<u8>, ImageStop> {
     Ok(write_image(alloc, process)?)
 }
 
-fn filed(alloc: Global, wasm: &[u8]) -> Result<Vec<u8>, ImageStop> {
-    let mut process = begun(alloc, wasm)?;
+fn filed_image(alloc: Global, wasm: &[u8]) -> Result<Vec<u8>, ImageStop> {
+    let mut process = begin(alloc, wasm)?;
     let image = work(alloc, &mut process);
     drop(process);
     image
@@ -300,7 +300,7 @@ fn filed(alloc: Global, wasm: &[u8]) -> Result<Vec<u8>, ImageStop> {
 fn files_come_back(rt: HostRuntime) -> Result<(), ImageStop> {
     let alloc = rt.alloc();
     let wasm = bytes_of(alloc, &FILES)?;
-    let image = filed(alloc, wasm.as_slice())?;
+    let image = filed_image(alloc, wasm.as_slice())?;
     assert!(rt; image.len() == FILES_BYTES);
     assert_eq!(rt; made_of(alloc, wasm.as_slice(), image.as_slice())?, 1);
     Ok(())
@@ -316,7 +316,7 @@ fn go_on(alloc: Global, process: &mut Process) -> Result<Vec<u8>, ImageStop> {
 
 /// The same of the process that is made of an image; of none nothing.
 fn gone_on(alloc: Global, wasm: &[u8], image: &[u8]) -> Result<Vec<u8>, ImageStop> {
-    let Some(mut process) = restored(alloc, wasm, image)? else {
+    let Some(mut process) = restore_small(alloc, wasm, image)? else {
         return Ok(Vec::new(alloc));
     };
     let behind = go_on(alloc, &mut process);
@@ -326,7 +326,7 @@ fn gone_on(alloc: Global, wasm: &[u8], image: &[u8]) -> Result<Vec<u8>, ImageSto
 
 /// The same of the process that runs from the start.
 fn run_on(alloc: Global, wasm: &[u8]) -> Result<Vec<u8>, ImageStop> {
-    let mut process = begun(alloc, wasm)?;
+    let mut process = begin(alloc, wasm)?;
     let behind = go_on(alloc, &mut process);
     drop(process);
     behind
@@ -337,7 +337,7 @@ fn run_on(alloc: Global, wasm: &[u8]) -> Result<Vec<u8>, ImageStop> {
 fn a_process_goes_on_where_it_was(rt: HostRuntime) -> Result<(), ImageStop> {
     let alloc = rt.alloc();
     let wasm = bytes_of(alloc, &FILES)?;
-    let image = filed(alloc, wasm.as_slice())?;
+    let image = filed_image(alloc, wasm.as_slice())?;
     let behind = gone_on(alloc, wasm.as_slice(), image.as_slice())?;
     let whole = run_on(alloc, wasm.as_slice())?;
     assert!(rt; behind.as_slice() == whole.as_slice());
@@ -357,16 +357,16 @@ fn takes_its_answer(alloc: Global, process: &mut Process, image: &[u8]) -> Resul
 
 /// The image of the process of an image, once it has refused one answer and taken another, without
 /// a step of its own.
-fn answered(alloc: Global, wasm: &[u8], image: &[u8]) -> Result<Option<Vec<u8>>, ImageStop> {
-    let Some(mut process) = restored(alloc, wasm, image)? else {
+fn answered_image(alloc: Global, wasm: &[u8], image: &[u8]) -> Result<Option<Vec<u8>>, ImageStop> {
+    let Some(mut process) = restore_small(alloc, wasm, image)? else {
         return Ok(None);
     };
-    let behind = answered_image(alloc, &mut process, image);
+    let behind = answer_and_write(alloc, &mut process, image);
     drop(process);
     behind
 }
 
-fn answered_image(
+fn answer_and_write(
     alloc: Global,
     process: &mut Process,
     image: &[u8],
@@ -379,7 +379,7 @@ fn answered_image(
 
 /// The image of `echo` where it asks for its first request.
 fn asking_echo(alloc: Global, wasm: &[u8]) -> Result<Vec<u8>, ImageStop> {
-    let mut process = begun(alloc, wasm)?;
+    let mut process = begin(alloc, wasm)?;
     let image = work(alloc, &mut process);
     drop(process);
     image
@@ -390,7 +390,7 @@ fn what_is_made_again_takes_its_answer_at_once(rt: HostRuntime) -> Result<(), Im
     let alloc = rt.alloc();
     let wasm = bytes_of(alloc, &ECHO)?;
     let image = asking_echo(alloc, wasm.as_slice())?;
-    let behind = answered(alloc, wasm.as_slice(), image.as_slice())?;
+    let behind = answered_image(alloc, wasm.as_slice(), image.as_slice())?;
     let whole = asked_echo(alloc, wasm.as_slice())?;
     assert!(rt; behind.is_some_and(|bytes| bytes.as_slice() == whole.as_slice()));
     Ok(())

@@ -1,7 +1,7 @@
 //! Stops, cuts and torn writes.
 
 use crate::lives::{
-    ECHO, THRICE, is_told, life_of, opened_as, request_of, stopped, tells_nothing, told_of,
+    ECHO, THRICE, is_told, life_of, opened_as, request_of, stop_at, tells_nothing, told_of,
 };
 use crate::story_stop::StoryStop;
 use durable_worker::story::{LifeEnd, Report};
@@ -30,7 +30,7 @@ fn a_line_is_told_again(rt: HostRuntime) -> Result<(), StoryStop> {
 /// one.
 fn torn_record(alloc: Global, front: u16) -> Result<Report, StoryStop> {
     let mut lives = Row::new(alloc);
-    lives.push(stopped(life_of(alloc, &["hello"], 20)?, CREATED + 1, front))?;
+    lives.push(stop_at(life_of(alloc, &["hello"], 20)?, CREATED + 1, front))?;
     lives.push(life_of(alloc, &["world"], 20)?)?;
     told_of(alloc, ECHO, lives.as_slice())
 }
@@ -67,7 +67,7 @@ fn long_request(alloc: Global, length: usize) -> Result<String, StoryStop> {
 fn torn_batch(alloc: Global, length: usize) -> Result<Report, StoryStop> {
     let text = long_request(alloc, length)?;
     let text = text.as_str();
-    let mut life = stopped(life_of(alloc, &[text, text, text], 100)?, CREATED + 4, 0);
+    let mut life = stop_at(life_of(alloc, &[text, text, text], 100)?, CREATED + 4, 0);
     for front in [512, 499, 512] {
         life.tears.push(front)?;
     }
@@ -136,7 +136,7 @@ fn a_full_journal_is_saved(rt: HostRuntime) -> Result<(), StoryStop> {
 fn a_stop_in_the_opening_is_told(rt: HostRuntime) -> Result<(), StoryStop> {
     let alloc = rt.alloc();
     let mut lives = Row::new(alloc);
-    lives.push(stopped(life_of(alloc, &["hello"], 20)?, 1, 0))?;
+    lives.push(stop_at(life_of(alloc, &["hello"], 20)?, 1, 0))?;
     lives.push(life_of(alloc, &["hello"], 20)?)?;
     let report = told_of(alloc, ECHO, lives.as_slice())?;
     assert!(rt; is_told(&report, 0, [0, 0, 0, 0], LifeEnd::Stopped, ""));
@@ -151,7 +151,7 @@ fn stops_are_counted_anew(rt: HostRuntime) -> Result<(), StoryStop> {
     let alloc = rt.alloc();
     let mut lives = Row::new(alloc);
     lives.push(life_of(alloc, &["hello"], 20)?)?;
-    lives.push(stopped(life_of(alloc, &[], 14)?, 400, 0))?;
+    lives.push(stop_at(life_of(alloc, &[], 14)?, 400, 0))?;
     let report = told_of(alloc, ECHO, lives.as_slice())?;
     assert!(rt; is_told(&report, 1, [2, 6, 1, 0], LifeEnd::Finished, "hello"));
     Ok(())

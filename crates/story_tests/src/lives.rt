@@ -52,7 +52,7 @@ pub(crate) fn request_of(alloc: Global, text: &str) -> Result<Answer, StoryStop>
 }
 
 /// The same life, stopped at this call with this front.
-pub(crate) fn stopped(life: PlannedLife, call: u64, front: u16) -> PlannedLife {
+pub(crate) fn stop_at(life: PlannedLife, call: u64, front: u16) -> PlannedLife {
     let PlannedLife {
         answers,
         acts,

@@ -1,7 +1,7 @@
 //! The kind of each fault of linking, two faults at once, what a machine begins with.
 
-use crate::runs::{End, ending, left_at_0, told as told_after};
-use crate::spelled::{Refused, append, prints, spelled, with_code};
+use crate::runs::{End, end_of, left_at_0, outcome_of};
+use crate::spelled::{Refused, append, prints, spell, with_code};
 use guest_memory::Memory;
 use machine::{LinkFault, Machine};
 use machine_loader::{FrontFault, accept};
@@ -23,7 +23,7 @@ const OUTSIDE: Option<FrontFault> = Some(FrontFault::Link(LinkFault::InitRange))
 const TOO_MANY_PAGES: Option<FrontFault> = Some(FrontFault::Link(LinkFault::TooManyPages));
 
 /// Under two pages.
-fn told(alloc: Global, bytes: &[u8]) -> Option<FrontFault> {
+fn fault_of(alloc: Global, bytes: &[u8]) -> Option<FrontFault> {
     accept(alloc, bytes, 2).err()
 }
 
@@ -31,10 +31,10 @@ fn told(alloc: Global, bytes: &[u8]) -> Option<FrontFault> {
 type Row = (&'static str, &'static str, Option<FrontFault>);
 
 fn is_told_so(alloc: Global, front: &str, middle: &str, row: &Row) -> Result<bool, Refused> {
-    let mut bytes = spelled(alloc, front, row.0)?;
+    let mut bytes = spell(alloc, front, row.0)?;
     append(&mut bytes, middle)?;
     append(&mut bytes, row.1)?;
-    Ok(told(alloc, bytes.as_slice()) == row.2)
+    Ok(fault_of(alloc, bytes.as_slice()) == row.2)
 }
 
 /// What stands before both texts, and what stands between them.
@@ -333,7 +333,7 @@ static ENDS: [(&str, End); 5] = [
 
 fn is_ended_so(alloc: Global, row: &(&str, End)) -> Result<bool, Refused> {
     let bytes = with_body(alloc, row.0)?;
-    Ok(ending(alloc, bytes.as_slice())? == row.1)
+    Ok(end_of(alloc, bytes.as_slice())? == row.1)
 }
 
 #[test]
@@ -355,15 +355,15 @@ static TOLD: [(&str, Option<End>); 4] = [
     ("00 0340 0c00 0b 0b", None),
 ];
 
-fn is_told_after(alloc: Global, row: &(&str, Option<End>)) -> Result<bool, Refused> {
+fn is_outcome_of(alloc: Global, row: &(&str, Option<End>)) -> Result<bool, Refused> {
     let bytes = with_body(alloc, row.0)?;
-    Ok(told_after(alloc, bytes.as_slice())? == row.1)
+    Ok(outcome_of(alloc, bytes.as_slice())? == row.1)
 }
 
 #[test]
 fn ends_and_calls_are_told(rt: HostRuntime) -> Result<(), Refused> {
     for row in &TOLD {
-        assert!(rt; is_told_after(rt.alloc(), row)?, "{row:?}");
+        assert!(rt; is_outcome_of(rt.alloc(), row)?, "{row:?}");
     }
     Ok(())
 }

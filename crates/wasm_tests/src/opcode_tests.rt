@@ -2,8 +2,8 @@
 //! number that it leaves. The operands tell it from its neighbours. Each number was worked out from
 //! the standard.
 
-use crate::runs::{End, ending, left_at_0};
-use crate::spelled::{Refused, append, spelled, with_code};
+use crate::runs::{End, end_of, left_at_0};
+use crate::spelled::{Refused, append, spell, with_code};
 use std::alloc::Global;
 use wasm_syntax::Trap;
 
@@ -133,7 +133,7 @@ fn rest(shape: Shape) -> &'static str {
 }
 
 fn with_opcode(alloc: Global, shape: Shape, opcode: u8) -> Result<Vec<u8>, Refused> {
-    let mut bytes = spelled(alloc, front(shape), "")?;
+    let mut bytes = spell(alloc, front(shape), "")?;
     bytes.push(opcode)?;
     append(&mut bytes, rest(shape))?;
     Ok(bytes)
@@ -430,7 +430,7 @@ static ENDS: [(&str, &str, End); 15] = [
 
 fn ends_so(alloc: Global, row: &(&str, &str, End)) -> Result<bool, Refused> {
     let bytes = with_code(alloc, FRONT, OTHERS, row.1, "")?;
-    Ok(ending(alloc, bytes.as_slice())? == row.2)
+    Ok(end_of(alloc, bytes.as_slice())? == row.2)
 }
 
 #[test]

@@ -28,7 +28,7 @@ fn digits(arguments: &Arguments) -> u64 {
 }
 
 /// How `_start` ends.
-pub fn ending(alloc: Global, bytes: &[u8]) -> Result<End, FrontFault> {
+pub fn end_of(alloc: Global, bytes: &[u8]) -> Result<End, FrontFault> {
     let mut machine = accept(alloc, bytes, 2)?;
     let ended = machine.run(FUEL).why;
     drop(machine);
@@ -41,7 +41,7 @@ pub fn ending(alloc: Global, bytes: &[u8]) -> Result<End, FrontFault> {
 }
 
 /// What a machine tells once it has run: that it has ended, or the call that waits, or neither.
-pub fn told(alloc: Global, bytes: &[u8]) -> Result<Option<End>, FrontFault> {
+pub fn outcome_of(alloc: Global, bytes: &[u8]) -> Result<Option<End>, FrontFault> {
     let mut machine = accept(alloc, bytes, 2)?;
     let _ = machine.run(FUEL);
     let told = if machine.has_ended() {

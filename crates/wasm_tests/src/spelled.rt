@@ -88,7 +88,7 @@ pub fn append(bytes: &mut Vec<u8>, text: &str) -> Result<(), Refused> {
 }
 
 /// The bytes that two texts spell together.
-pub fn spelled(alloc: Global, first: &str, second: &str) -> Result<Vec<u8>, Refused> {
+pub fn spell(alloc: Global, first: &str, second: &str) -> Result<Vec<u8>, Refused> {
     let mut bytes = Vec::new(alloc);
     append(&mut bytes, first)?;
     append(&mut bytes, second)?;
@@ -116,8 +116,8 @@ fn append_spelled_code(
     others: &str,
     last: &str,
 ) -> Result<(), Refused> {
-    let others = spelled(alloc, others, "")?;
-    let last = spelled(alloc, last, "")?;
+    let others = spell(alloc, others, "")?;
+    let last = spell(alloc, last, "")?;
     append_code(bytes, others.as_slice(), last.as_slice())
 }
 
@@ -130,7 +130,7 @@ pub fn with_code(
     last: &str,
     rest: &str,
 ) -> Result<Vec<u8>, Refused> {
-    let mut bytes = spelled(alloc, front, "")?;
+    let mut bytes = spell(alloc, front, "")?;
     append_spelled_code(alloc, &mut bytes, others, last)?;
     append(&mut bytes, rest)?;
     Ok(bytes)

@@ -1,6 +1,6 @@
 //! Which bytes are modules, where the first fault of others is told, and limits at their edges.
 
-use crate::spelled::{Refused, append, prints, spelled};
+use crate::spelled::{Refused, append, prints, spell};
 use std::alloc::{AllocError, Global};
 use std::process::Abort;
 use wasm_decode::DecodeFault::{self, Float, Limit, Malformed};
@@ -32,7 +32,7 @@ const HELLO: &str = "0061736d01000000 01100360000060047f7f7f7f017f60017f00 \
     03020100 0503010001 071302 06'_start'0002 06'memory'0200 \
     0a130111004101410041014110 10001a41071001 0b 0b11010041000b0b080000000300000068690a";
 
-fn told(alloc: Global, bytes: &[u8]) -> Option<DecodeFault> {
+fn fault_of(alloc: Global, bytes: &[u8]) -> Option<DecodeFault> {
     decode(alloc, bytes).err()
 }
 
@@ -40,8 +40,8 @@ fn told(alloc: Global, bytes: &[u8]) -> Option<DecodeFault> {
 type Row = (&'static str, &'static str, Option<DecodeFault>);
 
 fn is_told_so(alloc: Global, row: &Row) -> Result<bool, Refused> {
-    let bytes = spelled(alloc, row.0, row.1)?;
-    Ok(told(alloc, bytes.as_slice()) == row.2)
+    let bytes = spell(alloc, row.0, row.1)?;
+    Ok(fault_of(alloc, bytes.as_slice()) == row.2)
 }
 
 fn check(rt: &impl Abort, alloc: Global, rows: &[Row]) -> Result<(), Refused> {
@@ -294,7 +294,7 @@ fn fronts_of_a_module_are_seldom_modules(rt: HostRuntime) {
     for len in 0..51 {
         let is_whole = len == 8 || len == 14 || len == 50;
         assert!(rt;
-            told(rt.alloc(), &SMALL[..len]).is_none() == is_whole,
+            fault_of(rt.alloc(), &SMALL[..len]).is_none() == is_whole,
             "{len}"
         );
     }
@@ -356,10 +356,10 @@ fn kind_by(fault: Option<DecodeFault>) -> Result<Kind, Refused> {
 
 /// What is told of an opcode at place 51, within an `if`.
 fn kind_told(alloc: Global, opcode: u8) -> Result<Kind, Refused> {
-    let mut bytes = spelled(alloc, BEFORE_CODE, "0a0a0108 00 0440")?;
+    let mut bytes = spell(alloc, BEFORE_CODE, "0a0a0108 00 0440")?;
     bytes.push(opcode)?;
     append(&mut bytes, "4000 0b0b")?;
-    kind_by(told(alloc, bytes.as_slice()))
+    kind_by(fault_of(alloc, bytes.as_slice()))
 }
 
 #[test]
@@ -419,7 +419,7 @@ static SIGNED: [(&str, Value); 6] = [
 ];
 
 fn is_size(alloc: Global, row: &(&str, u32)) -> Result<bool, Refused> {
-    let bytes = spelled(alloc, HEADER, row.0)?;
+    let bytes = spell(alloc, HEADER, row.0)?;
     Ok(first_size_read(alloc, bytes.as_slice())? == Some(row.1))
 }
 
@@ -433,7 +433,7 @@ fn unsigned_integers_are_read(rt: HostRuntime) -> Result<(), Refused> {
 }
 
 fn is_constant(alloc: Global, row: &(&str, Value)) -> Result<bool, Refused> {
-    let bytes = spelled(alloc, HEADER, row.0)?;
+    let bytes = spell(alloc, HEADER, row.0)?;
     Ok(first_constant_read(alloc, bytes.as_slice())? == Some(row.1))
 }
 
@@ -459,7 +459,7 @@ fn integers_of_too_many_bits_are_malformed(rt: HostRuntime) -> Result<(), Refuse
 }
 
 /// Two texts, the second so many times, and another one.
-fn repeated(
+fn repeat(
     alloc: Global,
     front: &str,
     more: &str,
@@ -467,8 +467,8 @@ fn repeated(
     times: usize,
     rest: &str,
 ) -> Result<Vec<u8>, Refused> {
-    let mut bytes = spelled(alloc, front, more)?;
-    let unit = spelled(alloc, unit, "")?;
+    let mut bytes = spell(alloc, front, more)?;
+    let unit = spell(alloc, unit, "")?;
     for _ in 0..times {
         bytes.extend_from_slice(unit.as_slice())?;
     }
@@ -489,8 +489,8 @@ type LimitRow = (
 );
 
 fn is_limited_so(alloc: Global, row: &LimitRow) -> Result<bool, Refused> {
-    let bytes = repeated(alloc, row.0, row.1, row.2, row.3, row.4)?;
-    Ok(told(alloc, bytes.as_slice()) == row.5)
+    let bytes = repeat(alloc, row.0, row.1, row.2, row.3, row.4)?;
+    Ok(fault_of(alloc, bytes.as_slice()) == row.5)
 }
 
 fn check_limits(rt: &impl Abort, alloc: Global, rows: &[LimitRow]) -> Result<(), Refused> {
@@ -609,8 +609,8 @@ fn locals_and_instructions_of_bodies_are_counted(rt: HostRuntime) -> Result<(), 
 
 /// A module with 4,096 functions of its own.
 fn with_most_functions(alloc: Global) -> Result<Vec<u8>, Refused> {
-    let mut bytes = repeated(alloc, HEADER, "038220 8020", "00", 4096, "0a8260 8020")?;
-    let code = repeated(alloc, "", "", "02000b", 4096, "")?;
+    let mut bytes = repeat(alloc, HEADER, "038220 8020", "00", 4096, "0a8260 8020")?;
+    let code = repeat(alloc, "", "", "02000b", 4096, "")?;
     bytes.extend_from_slice(code.as_slice())?;
     Ok(bytes)
 }
@@ -618,7 +618,7 @@ fn with_most_functions(alloc: Global) -> Result<Vec<u8>, Refused> {
 #[test]
 fn as_many_functions_as_allowed(rt: HostRuntime) -> Result<(), Refused> {
     let bytes = with_most_functions(rt.alloc())?;
-    assert!(rt; told(rt.alloc(), bytes.as_slice()).is_none());
+    assert!(rt; fault_of(rt.alloc(), bytes.as_slice()).is_none());
     Ok(())
 }
 

@@ -1,6 +1,6 @@
 //! The kind of a module's first fault, part by part and in the bodies of its functions.
 
-use crate::spelled::{Refused, prints, spelled, with_code};
+use crate::spelled::{Refused, prints, spell, with_code};
 use machine_loader::{FrontFault, read};
 use std::alloc::{AllocError, Global};
 use std::process::Abort;
@@ -19,13 +19,13 @@ const LIMITS: Option<FrontFault> = Some(FrontFault::Valid(ValidFault::Limits));
 
 const DUPLICATE: Option<FrontFault> = Some(FrontFault::Valid(ValidFault::DuplicateExport));
 
-fn told(alloc: Global, bytes: &[u8]) -> Option<FrontFault> {
+fn fault_of(alloc: Global, bytes: &[u8]) -> Option<FrontFault> {
     read(alloc, bytes).err()
 }
 
 fn is_told_so(alloc: Global, front: &str, row: &Row) -> Result<bool, Refused> {
-    let bytes = spelled(alloc, front, row.0)?;
-    Ok(told(alloc, bytes.as_slice()) == row.1)
+    let bytes = spell(alloc, front, row.0)?;
+    Ok(fault_of(alloc, bytes.as_slice()) == row.1)
 }
 
 /// Each row has what stands behind the first sections.
@@ -270,7 +270,7 @@ const FIRST: &str = "02 0400 2000 0b";
 
 fn is_body_told_so(alloc: Global, front: &str, rest: &str, row: &Row) -> Result<bool, Refused> {
     let bytes = with_code(alloc, front, FIRST, row.0, rest)?;
-    Ok(told(alloc, bytes.as_slice()) == row.1)
+    Ok(fault_of(alloc, bytes.as_slice()) == row.1)
 }
 
 /// Each row has the second entry, the body of a function from nothing to nothing behind the `00`

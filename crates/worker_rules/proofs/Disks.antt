@@ -1,6 +1,6 @@
 -- What disk images stand for.
 use Rattle.std.proofs.Common.{◌≡◌, ℕ, zero, suc, ◌+◌, ◌-◌, ◌%◌, ◌^◌, ◌<◌, ◌≤◌, Bool, false, List}
-use Rattle.std.proofs.Common.{[], ◌∷◌, ◌++◌, Some, Result, Ok, if◌then◌else◌, refl, sym, ap, ◌∙◌}
+use Rattle.std.proofs.Common.{[], ◌++◌, Some, Result, Ok, if◌then◌else◌, refl, sym, ap, ◌∙◌}
 use Rattle.std.proofs.Common.{subst, arith, lit≤, get_or}
 use Rattle.std.specs.Prelude.{map, length, take}
 use Rattle.std.proofs.lemmas.Bool.{eq-eqb}
@@ -8,11 +8,9 @@ use Rattle.sha2.specs.Sha256.{sha256}
 use Rattle.sha2.proofs.Facts256.{length-sha256}
 use Rattle.wasi_abi.specs.rules.Layouts.{padding}
 use Rattle.wasm_syntax.specs.declared.module.Module.{Module}
-use Rattle.wasm_syntax_rules.specs.Configuration.{Thread}
 use Rattle.wasi_abi.specs.rules.Configs.{Settings}
-use Rattle.process_rules.specs.Processes.{ProcessState, Guest, IsStart, closed_at}
 use Rattle.process_rules.specs.Runs.{Kept, Runs}
-use Rattle.process_rules.proofs.Growing.{move_counts, runs_count}
+use Rattle.process_rules.proofs.Growing.{move_counts, runs_count, start_counts}
 use Rattle.process_rules.proofs.Quiet.{runs_join}
 use Rattle.sector_disk.specs.rules.Image.{Image, sector_at}
 use Rattle.disk_layout.specs.rules.Places.{Geometry, geometry_of, config_bytes, head_place}
@@ -36,18 +34,6 @@ use Rattle.worker_rules.specs.laws.Disks.{OneGeneration, tiny, tiny_disk, DiskEx
 use Rattle.worker_rules.specs.laws.Disks.{OneSpelledWorker, StandsWithin, BlankIsWithin}
 
 -- ---- what is reached
-
-closed_counts : (thread : Thread) (later : List ℕ) (p : ProcessState)
-    → (closed_at thread later p).steps ≡ p.steps
-closed_counts [] [] p = refl
-closed_counts [] (f ∷ later) p = refl
-closed_counts (frame ∷ frames) [] p = refl
-closed_counts (frame ∷ frames) (f ∷ later) p = refl
-
-start_counts : (m : Module) (config : Settings) (guest : Guest) (p : ProcessState)
-    → IsStart m config guest p → p.steps ≡ 0
-start_counts m config guest p start = ap (λ (z : ProcessState). z.steps) start.is
-    ∙ closed_counts start.first.thread start.first.later _
 
 pub what_stands_is_reached : StandsForWhatIsReached
 what_stands_is_reached disk m config kept n stands =

@@ -4,7 +4,7 @@ use Rattle.std.proofs.Common.{take, drop, Some, None, refl, sym, ap, ◌∙◌, 
 use Rattle.std.proofs.Common.{length-append, zero, suc}
 use Rattle.std.specs.Prelude.{slice_get, min}
 use Rattle.std.proofs.lemmas.List.{take-append-drop, take-append-le, take_min, get_or_append_left}
-use Rattle.std.proofs.lemmas.Option.{slice_get-get_or, slice_get_within}
+use Rattle.std.proofs.lemmas.Option.{slice_get-get_or, slice_get_within, same_Some}
 use Rattle.wasm_syntax.specs.declared.module.Module.{Module}
 use Rattle.wasm_syntax_rules.specs.Validity.{IsValid}
 use Rattle.wasi_abi.specs.declared.answer.Answer.{Answer}
@@ -124,9 +124,6 @@ line_stays guest p q a b place line (inr on) is within =
     subst (λ z. slice_get z place ≡ Some line) emits.are is in
     sym (left_of_append q.host.lines emits.lines place line within) ∙ there
 
-same_some : (a b : Line) → Some a ≡ Some b → a ≡ b
-same_some a b e = cc
-
 pub one_line : (m : Module) (config : Settings) (kept : List Kept) (i : ℕ) (a b : Line) → IsValid m
     → IsLine m config kept i a → IsLine m config kept i b → a ≡ b
 one_line m config kept i a b valid left right =
@@ -140,7 +137,7 @@ one_line m config kept i a b valid left right =
     let here : slice_get right.process.host.lines left.place ≡ Some a =
     line_stays left.reached.guest left.process right.process (take left.answers kept)
     (take right.answers kept) left.place a on left.is within in
-    same_some a b (sym here ∙ ap (slice_get right.process.host.lines) place ∙ right.is)
+    same_Some a b (sym here ∙ ap (slice_get right.process.host.lines) place ∙ right.is)
   where
     same_place : (x y i : ℕ) → i ≡ x + 1 → i ≡ y + 1 → x ≡ y
     same_place x y i e f = omega arith

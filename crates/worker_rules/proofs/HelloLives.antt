@@ -2,7 +2,7 @@
 use Rattle.std.proofs.Common.{◌≡◌, inl, inr, ℕ, ◌+◌, ◌≤◌, ◌^◌, true, List, [], ◌∷◌, length}
 use Rattle.std.proofs.Common.{Option, Some, None, refl, sym, ap, ◌∙◌, subst, arith, length-append}
 use Rattle.std.specs.Prelude.{slice_get, codes, take as firsts}
-use Rattle.std.proofs.lemmas.Option.{slice_get_within}
+use Rattle.std.proofs.lemmas.Option.{slice_get_within, same_Some}
 use Rattle.wasm_syntax.specs.laws.Examples.{hello}
 use Rattle.wasm_syntax_rules.specs.Steps.{IsEnded}
 use Rattle.wasi_abi.specs.rules.Configs.{Settings}
@@ -171,14 +171,6 @@ one_line_there : (config : Settings) (n : ℕ) (p : ProcessState) → n ≡ 8
 one_line_there config n p eight reached =
     ap (λ (z : ProcessState). length z.host.lines) (at_eight config n p eight reached)
     ∙ ap length (hello_at_end config).lines
-
-number_or : Option ℕ → ℕ
-number_or None = 0
-number_or (Some n) = n
-
-in_some : {x y : ℕ} → Some x ≡ Some y → x ≡ y
-unfolding number_or
-in_some same = ap number_or same
 
 code_of : (code : ℕ) → Some (Exited code) ≡ Some (Exited 7) → code ≡ 7
 code_of code same = cc
@@ -350,7 +342,8 @@ hello_lives_hold config = record {
       let one = one_line_there config last.steps ended.at.process eight ended.at.reached in
       let lines : last.lines ≡ length ended.at.process.host.lines = ended.at.shown.lines in
       let heard = opened.all_heard in
-      let told : first.lines ≡ last.lines = in_some ended.reply.3.all_told in
+      let told : first.lines ≡ last.lines =
+      same_Some first.lines last.lines ended.reply.3.all_told in
       omega (arith, one, lines, heard, told));
   exits_otherwise = λ so_far stage fuel code last empty eight kept.
       (let reached : Reaches hello config [] last.steps kept.at.process = kept.at.reached in

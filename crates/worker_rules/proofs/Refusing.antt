@@ -2,6 +2,7 @@
 use Rattle.std.proofs.Common.{◌≡◌, ◌≤◌, ℕ, ◌+◌, ◌^◌, Bool, true, false, List, [], ◌∷◌, length}
 use Rattle.std.proofs.Common.{Option}
 use Rattle.std.proofs.Common.{Some, None, Ok, Err, refl, sym, ap, ◌∙◌, subst, arith}
+use Rattle.std.proofs.lemmas.Option.{same_Some}
 use Rattle.wasm_syntax.specs.declared.module.Module.{Module}
 use Rattle.wasm_syntax_rules.specs.Validity.{IsValid}
 use Rattle.wasi_abi.specs.rules.Configs.{Settings}
@@ -52,13 +53,6 @@ abbrev SaysSome : SourceSaid → Type 0
 SaysSome (Ok (Some a)) = Unit {0}
 SaysSome (Ok None) = ⊥
 SaysSome (Err e) = ⊥
-
-abbrev number_or : Option ℕ → ℕ
-number_or None = 0
-number_or (Some n) = n
-
-in_some : {x y : ℕ} → Some x ≡ Some y → x ≡ y
-in_some same = ap number_or same
 
 abbrev IsSomeAct : List Act → Type 0
 IsSomeAct [] = ⊥
@@ -154,7 +148,8 @@ module _ (m : Module) (config : Settings) (so_far : Promise) (stage : Stage) whe
     leaves_an_answer_behind = λ fuel held shown h kept.
         (let all = kept.reply.3.all_taken in omega (arith, all, h));
     leaves_a_line_untold = λ fuel last held shown is h kept.
-        (let all : last ≡ shown.lines = in_some (sym is ∙ kept.reply.3.all_told) in
+        (let all : last ≡ shown.lines =
+        same_Some last shown.lines (sym is ∙ kept.reply.3.all_told) in
         omega (arith, all, h));
     fails_without_a_cause = λ act cause held shown is outside kept.
         no_cause cause outside
@@ -248,7 +243,8 @@ module _ (m : Module) (config : Settings) where
         (let asking = goes.0.kept.1.0 in
         let one : asking.process ≡ p =
         one_process m config [] steps asking.process p valid asking.reached reached in
-        let count : first.lines ≡ length asking.process.host.lines = in_some asking.all_told in
+        let count : first.lines ≡ length asking.process.host.lines =
+        same_Some first.lines (length asking.process.host.lines) asking.all_told in
         let same : length asking.process.host.lines ≡ length p.host.lines =
         ap (λ q. length q.host.lines) one in
         omega (arith, count, same, waits));

@@ -44,7 +44,7 @@ point_within m config point records last disk latest sectors at early room =
     (sym by.wasm) room)
 
 -- the same for a later generation
-within_later : (latest later sectors : ℕ) (disk : Image) → latest ≤ later
+pub within_later : (latest later sectors : ℕ) (disk : Image) → latest ≤ later
     → IsBounded latest sectors disk → IsBounded later sectors disk
 within_later latest later sectors disk le is m config kept n stands =
     let bounds = is m config kept n stands in (up_to stands.generation bounds.0, bounds.1)

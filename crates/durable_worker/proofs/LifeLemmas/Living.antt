@@ -53,6 +53,7 @@ use Rattle.durable_worker.proofs.LifeLemmas.Making.{IsGoing, HasBroken, ComeTo, 
 use Rattle.durable_worker.proofs.LifeLemmas.Making.{calls_make}
 use Rattle.durable_worker.proofs.LifeLemmas.Making.{come_since}
 use Rattle.durable_worker.proofs.LifeLemmas.Opening.{IsOpened, HasNotOpened, IsUnopenedBy, opening}
+use Rattle.durable_worker.proofs.EndLemmas.{not_both}
 
 -- ---- stops and faults
 
@@ -63,10 +64,6 @@ stops_or_not (Some k) calls = by (nat_le k calls) refl
     by : (b : Bool) → nat_le k calls ≡ b → (k ≤ calls) ⊎ (calls < k)
     by true e = inl (grind (arith, nat_tests))
     by false e = inr (grind (arith, nat_tests))
-
-not_both : (stop : Option ℕ) (calls : ℕ) → HasStopped stop calls → HasNotStopped stop calls → ⊥
-not_both None calls stopped going = stopped
-not_both (Some k) calls stopped going = absurd (omega (arith, stopped, going))
 
 -- a cause that is not the disk's wants no fault of the disk
 other_fault : (fails : Option ℕ) (calls : ℕ) (cause : Cause) → (cause ≡ OfDisk → ⊥)
@@ -420,8 +417,8 @@ module _ (m : Module) (config : Settings) (bytes : List ℕ) (so_far : Promise) 
 -- ---- the laws
 
 -- what is told while it opens, as exchanges
-told_alone : {S O : Type 0} (gives : Giving S) (takes : Taking O) (source : S) (outlet outlet' : O)
-    (told : List Begun) → Releases takes outlet told outlet'
+pub told_alone : {S O : Type 0} (gives : Giving S) (takes : Taking O) (source : S)
+    (outlet outlet' : O) (told : List Begun) → Releases takes outlet told outlet'
     → Exchanges gives takes source outlet (map Tells told) source outlet'
 told_alone gives takes source outlet outlet' told released = record {
   asked = subst (λ z. AnswersInOrder gives source z source) (sym (tells_ask_nothing told)) refl;

@@ -7,10 +7,8 @@ use Rattle.wasi_abi.specs.rules.Configs.{Settings}
 use Rattle.process_rules.specs.Processes.{ProcessState, Guest}
 use Rattle.state_image.specs.rules.Saving.{saved_of}
 use Rattle.sector_disk.specs.rules.Medium.{Medium}
-use Rattle.record_replay.specs.rules.Calls.{Giving, Taking, Begun, Exchange, Tells, Exchanges}
-use Rattle.record_replay.specs.rules.Calls.{Releases, AnswersInOrder}
+use Rattle.record_replay.specs.rules.Calls.{Giving, Taking, Exchange, Tells, Exchanges}
 use Rattle.record_replay.proofs.Following.{exchanges_join}
-use Rattle.worker.proofs.Joining.{tells_ask_nothing, releases_of_tells}
 use Rattle.worker.specs.declared.now.Now.{Now}
 use Rattle.worker.specs.declared.now.Now.TheVariants as now
 use Rattle.worker_rules.specs.Lives.{Act, Slice, Checkpoint, Reply, Spent, Event, Told, Asked}
@@ -35,7 +33,7 @@ use Rattle.durable_worker.proofs.LifeLemmas.Joined.{stage_join, told_join, told_
 use Rattle.durable_worker.proofs.LifeLemmas.Joined.{kept_split, released_join, promised_join}
 use Rattle.durable_worker.proofs.LifeLemmas.Called.{slices_go}
 use Rattle.durable_worker.proofs.LifeLemmas.Opening.{opening}
-use Rattle.durable_worker.proofs.LifeLemmas.Living.{anything_comes_true}
+use Rattle.durable_worker.proofs.LifeLemmas.Living.{anything_comes_true, told_alone}
 use Rattle.durable_worker.specs.laws.Outcomes.{outcome_after}
 use Rattle.durable_worker.specs.laws.Replies.{reply_of, reply_after, LastSliceEnds, LivesEndAsSaid}
 
@@ -285,14 +283,6 @@ module _ (m : Module) (config : Settings) (so_far : Promise) (inputs : Inputs) w
           (append_assoc front (e ∷ []) events) last))
 
 -- ---- the law
-
-told_alone : {S O : Type 0} (gives : Giving S) (takes : Taking O) (source : S) (outlet outlet' : O)
-    (told : List Begun) → Releases takes outlet told outlet'
-    → Exchanges gives takes source outlet (map Tells told) source outlet'
-told_alone gives takes source outlet outlet' told released = record {
-  asked = subst (λ z. AnswersInOrder gives source z source) (sym (tells_ask_nothing told)) refl;
-  released = subst (λ z. Releases takes outlet z outlet') (sym (releases_of_tells told)) released;
-}
 
 -- the answers differ
 goes_on_alone : (outcome : Now) → reply_of outcome ≡ Spent → outcome ≡ now.Spent

@@ -50,13 +50,14 @@ use Rattle.durable_worker.specs.rules.Recoveries.{IsNoWorker, IsSettledBy, MayNo
 use Rattle.durable_worker.specs.rules.Recoveries.{ReopensInVain, EndsInVain}
 use Rattle.durable_worker.specs.Revivals.{IsReplayed, StopsInVain, OpensNone}
 use Rattle.durable_worker.proofs.RecoveryLemmas.Undiverged.{undiverged, lines_within}
-use Rattle.durable_worker.proofs.RecoveryLemmas.There.{IsThere, within_more}
+use Rattle.durable_worker.proofs.RecoveryLemmas.There.{IsThere}
 use Rattle.durable_worker.proofs.RecoveryLemmas.Lives.{IsBack, come_lives, is_back}
 use Rattle.durable_worker.proofs.RecoveryLemmas.Lives.{released_lines, tells_as, fits_area}
 use Rattle.durable_worker.proofs.RecoveryLemmas.NextPoint.{HasNext, has_next}
 use Rattle.durable_worker.proofs.RecoveryLemmas.Written.{first_holds, first_within, below_next}
 use Rattle.durable_worker.proofs.RecoveryLemmas.Written.{IsRetold, is_retold, moments_hold}
 use Rattle.durable_worker.proofs.RecoveryLemmas.Written.{moments_within}
+use Rattle.durable_worker.proofs.DurableLemmas.Bounds.{within_later}
 
 -- ---- why a disk fails
 
@@ -137,7 +138,7 @@ nothing_done m config promise inputs why old new leaves keeps bounds may = recor
         keeps image (left_in_the_end old new old.may_leave leaves image left);
   };
   bounded = leaves_weaker old new old.may_leave (IsBounded (promise.events + 1) old.sectors) leaves
-      (λ image left. within_more promise.events (promise.events + 1) old.sectors image
+      (λ image left. within_later promise.events (promise.events + 1) old.sectors image
       (omega arith) (bounds image left));
   may = may;
 }

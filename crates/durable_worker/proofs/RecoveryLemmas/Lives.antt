@@ -8,7 +8,7 @@ use Rattle.wasi_abi.specs.rules.Configs.{Settings}
 use Rattle.wasi_calls_rules.specs.laws.Laws.{IsOfBytes}
 use Rattle.process_rules.specs.Processes.{ProcessState, Guest, host_of}
 use Rattle.process_rules.specs.Runs.{Kept, Runs, Reaches, none as no_step}
-use Rattle.process_rules.proofs.Growing.{runs_count}
+use Rattle.process_rules.proofs.Growing.{runs_count, start_counts}
 use Rattle.process_rules.proofs.Quiet.{runs_join}
 use Rattle.process.specs.rules.Values.{ProcessValue, ShowsProcess, IsProcess, waiting_in}
 use Rattle.state_image.specs.rules.Image.{image}
@@ -30,7 +30,6 @@ use Rattle.worker_store.specs.laws.Savepoints.{Savepoint, places}
 use Rattle.worker_store.specs.laws.Carried.{answers_at, count_at, IsHeldAt}
 use Rattle.worker_store.specs.laws.Reopening.{IsReviving}
 use Rattle.worker_store.proofs.LawLemmas.Fronts.{front_kept}
-use Rattle.worker_store.proofs.LawLemmas.Points.{start_counts}
 use Rattle.worker_store.specs.laws.Laws.{ImagesFitAreas}
 use Rattle.durable_worker.specs.declared.found.Found.{Found}
 use Rattle.durable_worker.specs.Findings.{IsFoundAt}

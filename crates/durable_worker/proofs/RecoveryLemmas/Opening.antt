@@ -1,5 +1,5 @@
 -- A recovery that is done, as events of a life, and what its disk holds.
-use Rattle.std.proofs.Common.{◌≡◌, ℕ, suc, ◌+◌, ◌≤◌, max, List, []}
+use Rattle.std.proofs.Common.{◌≡◌, ℕ, suc, ◌+◌, ◌≤◌, List, []}
 use Rattle.std.proofs.Common.{length, take, drop, refl, sym, ap, ◌∙◌, subst, arith, false}
 use Rattle.std.proofs.lemmas.List.{append-nil}
 use Rattle.wasm_syntax.specs.declared.module.Module.{Module}
@@ -18,13 +18,14 @@ use Rattle.worker_store.specs.laws.Savepoints.{Savepoint}
 use Rattle.worker_store.specs.laws.CallEnds.{IsSavedAs, IsBetween}
 use Rattle.worker_store.specs.laws.Carried.{answers_at, count_at}
 use Rattle.worker_store.specs.laws.Recovered.{OpensAtNext}
-use Rattle.worker_store.proofs.LawLemmas.AtHand.{shown_is_saved}
+use Rattle.worker_store.proofs.LawLemmas.AtHand.{shown_is_saved, same_within}
 use Rattle.worker_store.proofs.LawLemmas.Carrying.{answers_count, begins_carried}
 use Rattle.worker_store.proofs.LawLemmas.Pieces.{ends_join}
 use Rattle.worker_store.proofs.LawLemmas.Raising.{all_syncs_are_held}
 use Rattle.worker_store.proofs.LawLemmas.Recovering.{recovery_opens}
 use Rattle.worker_store.proofs.LawLemmas.Reopening.{lives_open}
 use Rattle.worker_store.specs.rules.Stores.{IsStoreOf}
+use Rattle.worker_store.proofs.LawLemmas.Telling.{max_within}
 use Rattle.durable_worker.specs.declared.found.Found.{Found}
 use Rattle.durable_worker.specs.rules.DurableValues.{DurableValue}
 use Rattle.durable_worker.specs.rules.OpenWorkers.{IsOpenOn}
@@ -37,12 +38,6 @@ use Rattle.durable_worker.proofs.RecoveryLemmas.Written.{retold_lines, IsRetold,
 use Rattle.durable_worker.proofs.RecoveryLemmas.Written.{moments_within}
 
 -- ---- the opening
-
-max_within : (a b c : ℕ) → a ≤ c → b ≤ c → max a b ≤ c
-max_within a b c x y = omega (arith, x, y)
-
-same_within : (a b c : ℕ) → a ≡ b → b ≤ c → a ≤ c
-same_within a b c e le = omega (arith, e, le)
 
 one_later : (a b c d : ℕ) → a ≡ b + 1 → b ≤ c → c ≤ d → a ≤ d + 1
 one_later a b c d e x y = omega (arith, e, x, y)

@@ -29,15 +29,6 @@ use Rattle.durable_worker.specs.Findings.{IsFoundAt, FindsWorker}
 
 -- ---- bounds
 
-pub within_more : (latest later sectors : ℕ) (disk : Image) → latest ≤ later
-    → IsBounded latest sectors disk → IsBounded later sectors disk
-within_more latest later sectors disk le within m config kept n stands =
-    let w = within m config kept n stands in
-    (up_to stands.generation w.0, w.1)
-  where
-    up_to : (g : ℕ) → g ≤ latest → g ≤ later
-    up_to g early = omega (arith, early, le)
-
 pub within_at : (m : Module) (config : Settings) (point : Savepoint m config)
     (records : List Record) (last : ProcessState) (latest sectors : ℕ) (disk : Image)
     → StandsAtPoint point records last disk → point.generation ≤ latest

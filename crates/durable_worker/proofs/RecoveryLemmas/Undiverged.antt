@@ -6,9 +6,7 @@ use Rattle.std.proofs.Common.{append_assoc, length-append}
 use Rattle.std.proofs.lemmas.List.{drop-append-le}
 use Rattle.wasm_syntax_rules.specs.Configuration.{Thread}
 use Rattle.wasi_abi.specs.declared.answer.Answer.{Answer}
-use Rattle.wasi_calls_rules.specs.Hosts.{Host}
 use Rattle.wasi_calls_rules.specs.Lines.{lines_ended}
-use Rattle.wasi_calls_rules.specs.laws.Laws.{Emits}
 use Rattle.process_rules.specs.Processes.{ProcessState, Guest, HasLineNumbers, closed_at}
 use Rattle.process_rules.specs.Runs.{Next, On, Over, Wants, Nowhere, next_of, stepped, LeadsTo}
 use Rattle.process_rules.specs.Runs.{Moves, Runs, step}
@@ -29,12 +27,7 @@ use Rattle.worker_rules.specs.Stands.{IsNumbered}
 use Rattle.worker_rules.proofs.NumbersKept.{move_keeps_numbers, runs_keep_numbers}
 use Rattle.worker_rules.proofs.NumbersKept.{records_keep_numbers}
 use Rattle.durable_worker.specs.rules.Recoveries.{TellsSome}
-
-more_lines : (g h : Host) → Emits g h → length g.lines ≤ length h.lines
-more_lines g h emits =
-    let long : length h.lines ≡ length g.lines + length emits.lines =
-    ap (λ l. length l) emits.are ∙ length-append g.lines emits.lines in
-    omega (arith, long)
+use Rattle.worker_store.proofs.LawLemmas.Carrying.{more_lines}
 
 -- ---- the next step
 

@@ -28,9 +28,10 @@ use Rattle.worker_store.proofs.LawLemmas.TurnLemmas.{told_still_holds, parts_lea
 use Rattle.worker_store.proofs.LawLemmas.TurnLemmas.{same_no_more}
 use Rattle.durable_worker.specs.declared.found.Found.{Found}
 use Rattle.durable_worker.specs.rules.Recoveries.{IsSettledBy}
-use Rattle.durable_worker.proofs.RecoveryLemmas.There.{IsThere, within_more, leaves_join}
+use Rattle.durable_worker.proofs.RecoveryLemmas.There.{IsThere, leaves_join}
 use Rattle.durable_worker.proofs.RecoveryLemmas.Lives.{IsBack, whole_way, come_lives}
 use Rattle.durable_worker.proofs.RecoveryLemmas.NextPoint.{HasNext, next_within}
+use Rattle.durable_worker.proofs.DurableLemmas.Bounds.{within_later}
 
 -- ---- what a cut leaves
 
@@ -48,7 +49,7 @@ pub first_within : (promise : Promise) (latest : ℕ) (old mid : Medium) → IsS
     → LeavesOnly old mid (IsBounded latest old.sectors)
 first_within promise latest old mid settled bounds more =
     leaves_weaker old mid old.may_leave (IsBounded latest old.sectors) settled.leaves
-    (λ image left. within_more promise.events latest old.sectors image more (bounds image left))
+    (λ image left. within_later promise.events latest old.sectors image more (bounds image left))
 
 -- ---- lines
 

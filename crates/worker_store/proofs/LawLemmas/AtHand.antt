@@ -1,21 +1,18 @@
 -- The process at hand, as a savepoint.
-use Rattle.std.proofs.Common.{◌≡◌, ℕ, ◌+◌, ◌≤◌, List, [], ◌++◌, length, refl, sym, ap, ◌∙◌}
-use Rattle.std.proofs.Common.{subst, arith, length-append}
+use Rattle.std.proofs.Common.{◌≡◌, ℕ, ◌+◌, ◌≤◌, List, [], ◌++◌, length, refl, ◌∙◌}
+use Rattle.std.proofs.Common.{subst, arith}
 use Rattle.std.specs.Prelude.{map}
 use Rattle.std.proofs.lemmas.List.{append-nil}
 use Rattle.wasm_syntax.specs.declared.types.FunctionType.{FunctionType}
 use Rattle.wasm_syntax.specs.declared.module.Module.{Module}
 use Rattle.wasm_syntax_rules.specs.Validity.{AreFunctionTypes, module_context}
-use Rattle.wasi_abi.specs.rules.Configs.{Settings}
 use Rattle.process_rules.specs.Processes.{ProcessState, Guest}
 use Rattle.process_rules.specs.Runs.{Kept, Runs, none}
 use Rattle.process_rules.proofs.Quiet.{runs_join}
-use Rattle.process.specs.rules.Values.{ProcessValue}
 use Rattle.process.proofs.Lines.{all_shown}
-use Rattle.state_image.specs.rules.Image.{Saved, SavedShowsProcess}
+use Rattle.state_image.specs.rules.Image.{SavedShowsProcess}
 use Rattle.state_image.specs.rules.Saving.{saved_of}
 use Rattle.state_image.proofs.Shown.{saves_shown}
-use Rattle.disk_layout.specs.rules.Journal.{Record}
 use Rattle.record_replay.specs.rules.Records.{given_in}
 use Rattle.record_replay.proofs.Recordings.{recorded_runs}
 use Rattle.worker_store.specs.laws.Savepoints.{Savepoint}
@@ -44,8 +41,8 @@ shown_is_numbered guest v p is shows =
       lines = omega (arith, all, is.few_lines);
     }
 
-at_most : (a b c : ℕ) → a ≡ b → b ≤ c → a ≤ c
-at_most a b c e le = omega (arith, e, le)
+pub same_within : (a b c : ℕ) → a ≡ b → b ≤ c → a ≤ c
+same_within a b c e le = omega (arith, e, le)
 
 pub next_is_at_hand : NextIsAtHand
 next_is_at_hand m config point records last p n v recorded runs shows is same =
@@ -98,7 +95,7 @@ next_is_at_hand m config point records last p n v recorded runs shows is same =
           front = refl;
           steps = n;
           runs = runs;
-          heard = at_most (saved_of v).lines (length p.host.lines) promise.heard lines heard;
+          heard = same_within (saved_of v).lines (length p.host.lines) promise.heard lines heard;
         };
       },
     )

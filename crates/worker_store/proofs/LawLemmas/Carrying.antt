@@ -52,7 +52,7 @@ answers_count point records =
     length-append point.front (map given_in records)
     ∙ ap (λ n. length point.front + n) (length_of_map records)
 
-more_lines : (g h : Host) → Emits g h → length g.lines ≤ length h.lines
+pub more_lines : (g h : Host) → Emits g h → length g.lines ≤ length h.lines
 more_lines g h emits =
     let long : length h.lines ≡ length g.lines + length emits.lines =
     ap (λ l. length l) emits.are ∙ length-append g.lines emits.lines in

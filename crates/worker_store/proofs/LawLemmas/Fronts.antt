@@ -18,6 +18,7 @@ use Rattle.journal.specs.rules.Steps.{SameOthers, ShowsNoneAfter}
 use Rattle.journal.proofs.RunLemmas.{all_bytes}
 use Rattle.journal.proofs.RecordLemmas.{scan_of}
 use Rattle.record_replay.specs.rules.Records.{Recorded, none, more, given_in}
+use Rattle.record_replay.proofs.Recordings.{recorded_join}
 use Rattle.worker_rules.specs.Stands.{IsNumbered}
 use Rattle.worker_rules.proofs.NumbersKept.{records_keep_numbers}
 use Rattle.worker_store.specs.laws.Savepoints.{Savepoint, places, point_of, StandsAtPoint}
@@ -26,7 +27,7 @@ use Rattle.worker_store.specs.laws.Barriers.{FrontStands, BarrierStands}
 use Rattle.worker_store.proofs.LawLemmas.Sectors.{worker_stays, image_below, contents_below}
 use Rattle.worker_store.proofs.LawLemmas.Sectors.{some_below}
 use Rattle.worker_store.proofs.LawLemmas.Sectors.{SameSector, none_later_of, head_stays}
-use Rattle.worker_store.proofs.LawLemmas.Points.{recorded_join, recorded_front, point_stands}
+use Rattle.worker_store.proofs.LawLemmas.Points.{recorded_front, point_stands}
 use Rattle.worker_store.proofs.LawLemmas.Points.{stands_at_its_point}
 
 -- ---- records

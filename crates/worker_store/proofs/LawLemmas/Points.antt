@@ -1,15 +1,14 @@
 -- What an image stands by, and what it stands for by that.
-use Rattle.std.proofs.Common.{◌≡◌, ℕ, zero, suc, ◌+◌, List, [], ◌∷◌, ◌++◌, refl, sym, ap, ◌∙◌}
+use Rattle.std.proofs.Common.{◌≡◌, ℕ, zero, suc, ◌+◌, List, [], ◌++◌, refl, sym}
 use Rattle.std.proofs.Common.{subst, arith}
 use Rattle.std.specs.Prelude.{map, take, length}
 use Rattle.std.proofs.lemmas.List.{append-nil}
 use Rattle.wasm_syntax.specs.declared.module.Module.{Module}
-use Rattle.wasm_syntax_rules.specs.Configuration.{Thread}
 use Rattle.wasi_abi.specs.rules.Configs.{Settings}
 use Rattle.wasi_calls_rules.specs.declared.limits.TheConstants.{TEXT_BYTES}
-use Rattle.process_rules.specs.Processes.{ProcessState, Guest, IsStart, closed_at}
+use Rattle.process_rules.specs.Processes.{ProcessState, Guest}
 use Rattle.process_rules.specs.Runs.{Kept}
-use Rattle.process_rules.proofs.Growing.{runs_count}
+use Rattle.process_rules.proofs.Growing.{runs_count, start_counts}
 use Rattle.state_image.specs.rules.Image.{image}
 use Rattle.sector_disk.specs.rules.Image.{Image}
 use Rattle.disk_layout.specs.rules.Places.{Geometry, geometry_of}
@@ -23,13 +22,6 @@ use Rattle.worker_store.specs.laws.Savepoints.{StandsAtItsPoint, PointStands, Re
 use Rattle.worker_store.specs.laws.Savepoints.{PointStandsAlone}
 
 -- ---- records, one after another
-
-pub recorded_join : (guest : Guest) (p q r : ProcessState) (front rest : List Record)
-    → Recorded guest p front q → Recorded guest q rest r → Recorded guest p (front ++ rest) r
-recorded_join guest p q r front rest (none {p = p'}) b = b
-recorded_join guest p q r front rest (more {p = p'} {q = before} {r = after} {s = last} {a = a}
-    {n = n} {records = records} first moves recorded) b =
-    more first moves (recorded_join guest after last r records rest recorded b)
 
 -- so many of the first of them lead to a process from which others lead on
 pub record HasFront (guest : Guest) (p q : ProcessState) (records : List Record) (count : ℕ)
@@ -69,18 +61,6 @@ recorded_front guest p q records (suc count) (more {p = p'} {q = before} {r = af
     }
 
 -- ---- steps
-
-closed_counts : (thread : Thread) (later : List ℕ) (p : ProcessState)
-    → (closed_at thread later p).steps ≡ p.steps
-closed_counts [] [] p = refl
-closed_counts [] (f ∷ later) p = refl
-closed_counts (frame ∷ frames) [] p = refl
-closed_counts (frame ∷ frames) (f ∷ later) p = refl
-
-pub start_counts : (m : Module) (config : Settings) (guest : Guest) (p : ProcessState)
-    → IsStart m config guest p → p.steps ≡ 0
-start_counts m config guest p start = ap (λ (z : ProcessState). z.steps) start.is
-    ∙ closed_counts start.first.thread start.first.later _
 
 pub steps_of : (m : Module) (config : Settings) (point : Savepoint m config)
     → point.process.steps ≡ point.steps

@@ -20,7 +20,7 @@ use Rattle.process_rules.specs.Runs.{after_rule, next_of, Runs, Reaches}
 use Rattle.process_rules.specs.Runs.{none as no_step, step, take as takes}
 use Rattle.process_rules.specs.Behind.{AnswersBehindLine, AnswersBehindSync, Syncs}
 use Rattle.process_rules.specs.Owing.{RunsQuietly, none, more}
-use Rattle.process_rules.proofs.Growing.{move_counts, runs_count}
+use Rattle.process_rules.proofs.Growing.{move_counts, runs_count, start_counts}
 use Rattle.process_rules.proofs.OneStart.{start_once}
 use Rattle.process_rules.proofs.Quiet.{runs_join, quiet_runs_are_runs}
 use Rattle.sector_disk.specs.rules.Medium.{Medium}
@@ -35,7 +35,6 @@ use Rattle.worker_store.specs.laws.Raised.{AllSyncsAreHeld, QuietSyncsAreHeld}
 use Rattle.worker_store.specs.laws.Raised.{AnsweredSyncsAreHeld, ToldCarries, AskedCarries}
 use Rattle.worker_store.specs.laws.Raised.{EndedCarries, AppendCarries, AnswerIsOnRecord}
 use Rattle.worker_store.specs.laws.Raised.{CarriedIsReached, MovedSyncsAreHeld}
-use Rattle.worker_store.proofs.LawLemmas.Points.{start_counts}
 use Rattle.worker_store.proofs.LawLemmas.Carrying.{answers_count, within_of}
 
 -- ---- runs

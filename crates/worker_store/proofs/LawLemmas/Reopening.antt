@@ -1,10 +1,9 @@
 -- A worker that is recovered or created.
-use Rattle.std.proofs.Common.{◌≡◌, ℕ, zero, suc, ◌+◌, ◌≤◌, ◌<◌, max, List, [], ◌∷◌, ◌++◌}
+use Rattle.std.proofs.Common.{◌≡◌, ℕ, ◌+◌, ◌≤◌, ◌<◌, max, List, [], ◌∷◌, ◌++◌}
 use Rattle.std.proofs.Common.{length, map, drop, take, refl, sym, ap, ◌∙◌, subst, arith}
 use Rattle.std.proofs.Common.{Bool, true, false, Option, Some, None, Ok, Err}
 use Rattle.std.specs.Prelude.{slice_get}
 use Rattle.std.proofs.Math.Nat.{le-max_left}
-use Rattle.std.proofs.Math.Seq.{take-length}
 use Rattle.std.proofs.lemmas.Option.{slice_get_within}
 use Rattle.wasm_syntax.specs.declared.module.Module.{Module}
 use Rattle.wasi_abi.specs.rules.Configs.{Settings}
@@ -12,18 +11,15 @@ use Rattle.wasi_calls_rules.specs.Hosts.{Line}
 use Rattle.wasm_syntax_rules.specs.Configuration.{Thread}
 use Rattle.wasi_calls_rules.specs.Lines.{rest_of}
 use Rattle.process_rules.specs.Processes.{ProcessState, Guest, IsStart, closed_at}
-use Rattle.process_rules.specs.Runs.{Kept, Runs, none}
-use Rattle.record_replay.specs.rules.Calls.{Exchange, Begun, Tells, all_taken, last_refused}
-use Rattle.state_image.specs.rules.Image.{Saved}
-use Rattle.worker_rules.specs.Lives.{Inputs, Release, Told, Opened}
-use Rattle.worker_rules.specs.Courses.{Stage, Shut, Unheard, at_first, first_taken, next_stage}
+use Rattle.process_rules.specs.Runs.{Runs, none}
+use Rattle.process_rules.proofs.Growing.{start_counts}
+use Rattle.record_replay.specs.rules.Calls.{Tells, all_taken}
+use Rattle.worker_rules.specs.Lives.{Release, Told}
+use Rattle.worker_rules.specs.Courses.{Stage, Unheard, first_taken, next_stage}
 use Rattle.worker_rules.specs.Courses.{IsLast, IsToldIn, ComesAfter, phase_refused}
-use Rattle.worker_rules.specs.Promises.{Promise, nothing_yet, after, HoldsAll, IsTelling}
-use Rattle.worker_rules.specs.Promises.{IsOpening}
-use Rattle.worker_rules.specs.Holds.{IsNothingYet}
+use Rattle.worker_rules.specs.Promises.{Promise, after, HoldsAll, IsTelling}
 use Rattle.worker_store.specs.laws.Pieces.{IsForetold}
 use Rattle.worker_store.specs.laws.Telling.{AreMade}
-use Rattle.worker_store.specs.laws.CallEnds.{IsSavedAs, IsBetween}
 use Rattle.worker_store.specs.laws.Reopening.{IsReviving, LinesAreRetold, LinesAreRetoldInVain}
 use Rattle.worker_store.specs.laws.Reopening.{LivesOpen, FreshHoldsNothing, FreshLivesBegin}
 use Rattle.worker_store.proofs.LawLemmas.Telling.{is_next, all_dropped, made_more, made_none, until}
@@ -33,7 +29,7 @@ follows : (line : Option ℕ) (told : ℕ) → IsLast line told → ComesAfter l
 follows None told last = tt
 follows (Some k) told last = ap (λ z. z + 1) (sym last)
 
--- what has just begun has emitted no line, and taken no step
+-- what has just begun has emitted no line
 lines_closed : (thread : Thread) (later : List ℕ) (p : ProcessState) → p.host.lines ≡ []
     → p.host.first ≡ [] → p.host.second ≡ [] → length (closed_at thread later p).host.lines ≡ 0
 lines_closed [] [] p lines first second =
@@ -41,12 +37,6 @@ lines_closed [] [] p lines first second =
     ∙ (ap (λ z. rest_of 1 z ++ rest_of 2 p.host.second) first ∙ ap (λ z. rest_of 2 z) second))
 lines_closed (f ∷ thread) later p lines first second = ap length lines
 lines_closed [] (f ∷ later) p lines first second = ap length lines
-
-steps_closed : (thread : Thread) (later : List ℕ) (p : ProcessState)
-    → (closed_at thread later p).steps ≡ p.steps
-steps_closed [] [] p = refl
-steps_closed (f ∷ thread) later p = refl
-steps_closed [] (f ∷ later) p = refl
 
 no_sync : (k before : ℕ) → k ≤ 0 → k ≡ before + 1 → ⊥
 no_sync k before few is = omega (arith, few, is)
@@ -217,10 +207,6 @@ module _ (m : Module) (config : Settings) (guest : Guest) where
       ap (λ z. length z.host.lines) start.is
       ∙ lines_closed start.first.thread start.first.later _ refl refl refl
 
-  no_steps : (p : ProcessState) → IsStart m config guest p → p.steps ≡ 0
-  no_steps p start = ap (λ z. z.steps) start.is
-      ∙ steps_closed start.first.thread start.first.later _
-
   pub fresh_holds_nothing : FreshHoldsNothing m config guest
   fresh_holds_nothing promise start nothing begins =
       subst (λ z. HoldsAll m config z.kept z 0 start.steps) (sym nothing) (record {
@@ -238,7 +224,9 @@ module _ (m : Module) (config : Settings) (guest : Guest) where
               guest = guest;
               start = start;
               begins = begins;
-              runs = subst (λ n. Runs guest start [] n start) (sym (no_steps start begins)) none;
+              runs =
+                  subst (λ n. Runs guest start [] n start)
+                  (sym (start_counts m config guest start begins)) none;
             };
             emitted = omega (arith, few);
           },
@@ -253,7 +241,9 @@ module _ (m : Module) (config : Settings) (guest : Guest) where
         within = omega arith;
         start = start;
         begins = begins;
-        runs = subst (λ n. Runs guest start [] n start) (sym (no_steps start begins)) none;
+        runs =
+            subst (λ n. Runs guest start [] n start)
+            (sym (start_counts m config guest start begins)) none;
         shut = refl;
         last = tt;
         emitted = omega arith;

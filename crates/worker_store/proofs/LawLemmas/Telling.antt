@@ -1,7 +1,7 @@
 -- Lines that are released one after another.
 use Rattle.std.proofs.Common.{◌≡◌, ℕ, zero, suc, ◌+◌, ◌≤◌, max, List, [], ◌∷◌, ◌++◌, length}
-use Rattle.std.proofs.Common.{map, drop, refl, sym, ap, ◌∙◌, subst, arith, Bool, true, false}
-use Rattle.std.proofs.Common.{Option, Some, Ok, Err, ⊎_elim, ◌<◌}
+use Rattle.std.proofs.Common.{map, drop, refl, sym, ap, subst, arith, Bool, true, false}
+use Rattle.std.proofs.Common.{Some, Ok, Err, ⊎_elim, ◌<◌}
 use Rattle.std.specs.Prelude.{slice_get}
 use Rattle.std.proofs.Math.Nat.{le-max_left, le-max_right, max-eq_left, max-eq_right, le_trans}
 use Rattle.std.proofs.lemmas.List.{length-drop}
@@ -10,20 +10,19 @@ use Rattle.wasm_syntax.specs.declared.module.Module.{Module}
 use Rattle.wasi_abi.specs.rules.Configs.{Settings}
 use Rattle.wasi_calls_rules.specs.Hosts.{Line}
 use Rattle.process_rules.specs.Processes.{ProcessState, Guest}
-use Rattle.record_replay.specs.rules.Calls.{Exchange, Begun, Tells, all_taken, last_refused}
-use Rattle.worker_rules.specs.Lives.{Release, Event, Told, OfOutlet}
+use Rattle.record_replay.specs.rules.Calls.{Exchange, Begun, Tells, all_taken}
+use Rattle.worker_rules.specs.Lives.{Release, Told, OfOutlet}
 use Rattle.worker_rules.specs.Courses.{Stage, Broken, first_taken, next_stage}
-use Rattle.worker_rules.specs.Promises.{Promise, heard_by, after, AreKept, IsTelling}
-use Rattle.worker_rules.specs.Exchanges.{was_taken, release_of, AreEvents, none, told}
+use Rattle.worker_rules.specs.Promises.{Promise, heard_by, after, IsTelling}
+use Rattle.worker_rules.specs.Exchanges.{was_taken, release_of, none, told}
 use Rattle.worker_store.specs.laws.Underway.{IsUnderWay, IsBroken}
-use Rattle.worker_store.specs.laws.Pieces.{IsForetold, AreDone}
+use Rattle.worker_store.specs.laws.Pieces.{IsForetold}
 use Rattle.worker_store.specs.laws.Telling.{AddsLines, AreMade, AllLinesAreTold}
 use Rattle.worker_store.specs.laws.Telling.{LinesAreToldInVain}
 use Rattle.worker_store.proofs.LawLemmas.Underway.{lines_are_told, taken_lines_go_on}
 use Rattle.worker_store.proofs.LawLemmas.Underway.{refused_lines_break}
-use Rattle.worker_store.proofs.LawLemmas.Pieces.{parts_join}
 
-max_within : (a b c : ℕ) → a ≤ c → b ≤ c → max a b ≤ c
+pub max_within : (a b c : ℕ) → a ≤ c → b ≤ c → max a b ≤ c
 max_within a b c x y =
     ⊎_elim (λ (h : a ≤ b). subst (λ z. z ≤ c) (sym (max-eq_right h)) y)
     (λ (h : b < a). subst (λ z. z ≤ c) (sym (max-eq_left (omega (arith, h)))) x) (grind arith)
