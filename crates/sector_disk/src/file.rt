@@ -35,7 +35,8 @@ impl<F: OpenFile + FileExt + LockFile> FileDisk<F> {
 
     /// Makes a file of so many sectors of zeros, locks it, and makes its entry in its folder
     /// durable. It fails where there is such a path already, and from 2^54 sectors on. After
-    /// another error a file may be left behind.
+    /// another error a file may be left behind. All zeros are written, so that a device without
+    /// room for them is found now, and not in a later write.
     pub fn create<R: Files<File = F>>(
         files: &R,
         path: &str,
@@ -55,6 +56,7 @@ impl<F: OpenFile + FileExt + LockFile> FileDisk<F> {
         let file = File::create_new(files, path)?;
         lock(&file)?;
         file.set_len(sectors * SECTOR_SIZE as u64)?;
+        fill(&file, sectors)?;
         file.sync_all()?;
         sync_folder(files, path)?;
         Ok(FileDisk {
@@ -90,6 +92,17 @@ fn lock<F: LockFile>(file: &F) -> Result<(), OpenFault>
     ensures busy { IsErrOf result OpenFault.Busy → IsTrue (F.is_refused file.now) }
 {
     file.try_lock()?;
+    Ok(())
+}
+
+/// Writes zeros to so many sectors.
+fn fill<F: FileExt>(file: &F, sectors: u64) -> Result<(), OpenFault>
+    requires { sectors < 2 ^ 54 }
+    ensures { IsErrOf result OpenFault.Busy → ⊥ }
+{
+    for sector in 0..sectors {
+        file.write_all_at(&NO_BYTES, sector * SECTOR_SIZE as u64)?;
+    }
     Ok(())
 }
 

@@ -15,8 +15,8 @@
 //!   write, and `into_inner` gives the disk below.
 //! - `FileDisk` logs each call that it made of its file, with the answer. After a write or a sync
 //!   that failed every call answers `Io`, and the file isn't asked (`logged`). `create` gives a
-//!   disk of so many sectors (`sectors`). It and `open` begin with an empty log (`fresh`), and
-//!   answer Ok only with the file's lock (`locked`).
+//!   disk of so many sectors (`sectors`), and no clause says that it fills them with zeros. It and
+//!   `open` begin with an empty log (`fresh`), and answer Ok only with the file's lock (`locked`).
 //! - `OpenFault` says why they failed: another host has the file (`busy`), or what the operating
 //!   system said of the path (`open_cause`).
 //! - `rewrite` writes each sector of a disk back as it reads it, and syncs. At no moment does it
