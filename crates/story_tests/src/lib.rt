@@ -2,12 +2,14 @@
 //! of torn writes, and of lives that meet no stop.
 //!
 //! Expected values come from outside. Want of memory inside of a life is told in its report, so
-//! that these tests are none of `scripts/refused-allocations`.
+//! that one test alone looks for it there, for `scripts/refused-allocations`.
 #![tactic(auto)]
 
 #[cfg(test)]
 mod cuts;
 #[cfg(test)]
 mod lives;
+#[cfg(test)]
+mod memory;
 #[cfg(test)]
 mod story_stop;
