@@ -14,3 +14,4 @@ mod OpeningLemmas
 mod HeardLemmas
 mod EndLemmas
 mod GoingLemmas
+pub mod StopLemmas

@@ -19,9 +19,9 @@
 //!   the lines and the opening are events that keep it, and a cut at any moment leaves what holds
 //!   all that was promised before. After Ok the worker is open on the disk, which has room for it
 //!   (`room`).
-//! - `survey`: nothing is written. The disk is synced, and what it then shows decides the result
-//!   (`Surveys`). Where it stands for a worker, its generation and the numbers of the saved process
-//!   are told, and how many records lie behind it; or an error that says nothing of them.
+//! - `read_survey`: nothing is written. The disk is synced, and what it then shows decides the
+//!   result (`Surveys`). Where it stands for a worker, its generation and the numbers of the saved
+//!   process are told, and how many records lie behind it; or an error that says nothing of them.
 //! - `carries` speaks of a disk whose answers fit an image in the end: of another one nothing is
 //!   known. Want of memory may end a recovery anywhere.
 //! - `DurableWorker::slice` runs as `worker: Worker::slice` does (`done`). Whatever was promised of
@@ -90,6 +90,6 @@ pub use fault::DurableFault;
 pub use recover_fault::RecoverFault;
 pub use running::Running;
 pub use surveyed::Survey;
-pub use surveying::survey;
+pub use surveying::read_survey;
 pub use worker::WorkFault;
 pub use worker_store::StoreFault;

@@ -1,7 +1,7 @@
 //! Creations: what is found before a disk is made, and what is told and printed of one that is.
 
 use crate::asking::ECHO;
-use crate::check::{HELLO, bytes_of};
+use crate::check::{BEFORE_CODE, HELLO, bytes_of};
 use sector_disk::MemDisk;
 use std::alloc::Global;
 use std::test::Fail;
@@ -46,8 +46,9 @@ fn a_creation_is_prepared(rt: HostRuntime) -> Result<(), Fail> {
 /// A creation that is refused, an entry of its environment, and the line that says why.
 type Refused = (Asked, &'static str, &'static str);
 
-static REFUSED: [Refused; 7] = [
+static REFUSED: [Refused; 8] = [
     ((&[], [1, 1, 64]), "a=b", "failed B1 Malformed\n"),
+    ((&[BEFORE_CODE], [1, 1, 64]), "a=b", "failed B1 Malformed\n"),
     (
         (&["0061736d01000000"], [1, 1, 64]),
         "a=b",

@@ -1,15 +1,23 @@
-//! Workers that are run: what they print, how many steps they take, and that each allocation
-//! may be refused.
+//! Workers that are run on disks: what they print, how many steps they take, and that each
+//! allocation may be refused.
+
+ghost use Rattle.std.specs.Prelude.{◌≤◌};
 
 use crate::asking::created;
 use crate::check::{BEFORE_CODE, EMPTY_BODY, HELLO, bytes_of};
 use crate::lines::{NoClock, OUTSIDE};
+use crate::serving::pace_of;
+use crate::show::{SECTORS, WRITES, fresh_disk};
 use record_replay::{AnswerList, LineList};
-use std::alloc::{AllocError, Global};
+use sector_disk::MemDisk;
+use std::alloc::Global;
 use std::io::Write;
 use std::num::NonZeroU64;
 use std::test::Fail;
-use wasmhost_serve::{BufferedLines, LineOutlet, Options, Printer, RequestSource, serve};
+use wasmhost_serve::{
+    BufferedLines, LineOutlet, Pace, Prepared, Printer, RequestSource, Sizes, Unprepared,
+    create_on, prepare, serve,
+};
 use worker::{Now, WorkFault, Worker};
 
 /// Modules of one body each, without imports.
@@ -29,7 +37,7 @@ const FAR_LOAD: [&str; 2] = [BEFORE_CODE, "0a0a010800 417f2802011a 0b"];
 const ENDLESS: [&str; 2] = [BEFORE_CODE, "0a0601040010000b"];
 
 /// All of `hello`.
-const HELLO_BYTES: [u8; 168] = [
+pub(crate) const HELLO_BYTES: [u8; 168] = [
     0x00, 0x61, 0x73, 0x6d, 0x01, 0x00, 0x00, 0x00, 0x01, 0x10, 0x03, 0x60, 0x00, 0x00, 0x60, 0x04,
     0x7f, 0x7f, 0x7f, 0x7f, 0x01, 0x7f, 0x60, 0x01, 0x7f, 0x00, 0x02, 0x46, 0x02, 0x16, 0x77, 0x61,
     0x73, 0x69, 0x5f, 0x73, 0x6e, 0x61, 0x70, 0x73, 0x68, 0x6f, 0x74, 0x5f, 0x70, 0x72, 0x65, 0x76,
@@ -43,38 +51,29 @@ const HELLO_BYTES: [u8; 168] = [
     0x00, 0x03, 0x00, 0x00, 0x00, 0x68, 0x69, 0x0a,
 ];
 
-/// How a run ends that is to print a line.
+/// How a command ends that isn't done.
 #[derive(Debug, Drop)]
-enum Refused {
+pub(crate) enum Refused {
     Memory,
     Otherwise,
 }
 
 /// A source without lines.
-pub(crate) fn empty_source(alloc: Global) -> RequestSource<BufferedLines<&'static [u8]>, NoClock> {
+fn empty_source(alloc: Global) -> RequestSource<BufferedLines<&'static [u8]>, NoClock> {
     let reader = BufferedLines::new(b"".as_slice());
     RequestSource::new(alloc, reader, NoClock, OUTSIDE, 0)
 }
 
-/// So many steps a slice, no further argument and no environment.
-fn plain_options(fuel: NonZeroU64) -> Options<'static> {
-    Options {
-        fuel,
-        arguments: &[],
-        environment: &[],
-    }
-}
-
-/// The status of a run of a module, by slices of so many steps.
-fn status_of<W: Write + Drop, E: Write + Drop>(
+/// The status of a run of the worker on a disk, without request lines.
+pub(crate) fn status_of<W: Write + Drop, E: Write + Drop>(
     alloc: Global,
-    wasm: &[u8],
-    fuel: NonZeroU64,
+    disk: &mut MemDisk,
+    pace: Pace,
     outlet: &mut LineOutlet<W>,
     err: &mut Printer<E>,
 ) -> u8 {
     let mut source = empty_source(alloc);
-    let status = serve(alloc, wasm, plain_options(fuel), &mut source, outlet, err);
+    let status = serve(alloc, disk, pace, &mut source, outlet, err);
     drop(source);
     status
 }
@@ -82,7 +81,7 @@ fn status_of<W: Write + Drop, E: Write + Drop>(
 /// Texts of a module, steps of a slice, and what is printed: lines, last words, and the status.
 type Case = (&'static [&'static str], u64, &'static str, &'static str, u8);
 
-static PRINTED: [Case; 9] = [
+static PRINTED: [Case; 8] = [
     (&HELLO, 100_000, "1 o hi\n", "exited 7\n", 0),
     (&HELLO, 1, "1 o hi\n", "exited 7\n", 0),
     (&EMPTY, 1, "", "exited 0\n", 0),
@@ -97,16 +96,17 @@ static PRINTED: [Case; 9] = [
         0,
     ),
     (&ENDLESS, 100, "", "trapped stack exhausted\n", 0),
-    (&[BEFORE_CODE], 100, "", "failed B1 Malformed\n", 3),
 ];
 
+/// Slices between two checkpoints.
+const EVERY: u64 = 100;
+
 fn prints_so(alloc: Global, case: &Case) -> Result<bool, Fail> {
-    let fuel = NonZeroU64::try_from(case.1)?;
-    let wasm = bytes_of(alloc, case.0)?;
+    let mut disk = fresh_disk(alloc, case.0)?;
     let mut outlet = LineOutlet::new(alloc, Vec::new(alloc))?;
     let mut err = Vec::new(alloc);
     let told = &mut Printer::new(&mut err, false);
-    let status = status_of(alloc, wasm.as_slice(), fuel, &mut outlet, told);
+    let status = status_of(alloc, &mut disk, pace_of(case.1, EVERY)?, &mut outlet, told);
     let lines = outlet.out.as_slice() == case.2.as_bytes();
     Ok(lines && err.as_slice() == case.3.as_bytes() && status == case.4)
 }
@@ -187,55 +187,135 @@ fn workers_take_steps(rt: HostRuntime) -> Result<(), Fail> {
     Ok(())
 }
 
-/// The status of `hello` in rooms for its line and its last words, which take no memory.
+/// The status of `hello` on its disk, in rooms for its line and its last words.
 fn status_in(
     alloc: Global,
-    fuel: NonZeroU64,
+    disk: &mut MemDisk,
+    pace: Pace,
     lines: &mut [u8],
     words: &mut [u8],
-) -> Result<u8, AllocError> {
-    let mut outlet = LineOutlet::new(alloc, lines)?;
+) -> Result<u8, Refused> {
+    let Ok(mut outlet) = LineOutlet::new(alloc, lines) else {
+        return Err(Refused::Memory);
+    };
     let mut err = Printer::new(words, false);
-    let status = status_of(alloc, &HELLO_BYTES, fuel, &mut outlet, &mut err);
+    let status = status_of(alloc, disk, pace, &mut outlet, &mut err);
     drop(outlet);
     Ok(status)
 }
 
-/// Runs `hello`, in rooms for its line and its last words that take no memory.
-fn run_hello(alloc: Global) -> Result<(), Refused> {
-    let mut lines = [0u8; 32];
-    let mut words = [0u8; 32];
-    let Some(fuel) = NonZeroU64::new(100_000) else {
-        return Err(Refused::Otherwise);
+/// What a command has come to that isn't done, by its status and its words.
+pub(crate) fn refused_by(status: u8, words: &[u8]) -> Refused {
+    let is_named = words.starts_with(b"failed N4 Memory\n\0")
+        || words.starts_with(b"failed G1 Memory\n\0");
+    if status == 5 && is_named {
+        return Refused::Memory;
+    }
+    Refused::Otherwise
+}
+
+/// What the worker of `hello` is created with.
+fn prepare_hello(alloc: Global) -> Result<Prepared, Refused> {
+    let sizes = Sizes {
+        pages: 1,
+        files: 1,
+        journal: 64,
     };
-    let Ok(status) = status_in(alloc, fuel, &mut lines, &mut words) else {
-        return Err(Refused::Memory);
-    };
-    if status == 0 && lines.starts_with(b"1 o hi\n\0") && words.starts_with(b"exited 7\n\0") {
+    match prepare(alloc, &HELLO_BYTES, sizes, &[], &[]) {
+        Ok(prepared) => Ok(prepared),
+        Err(Unprepared::Memory) => Err(Refused::Memory),
+        Err(_) => Err(Refused::Otherwise),
+    }
+}
+
+/// Creates the worker of `hello` on a disk, in rooms for what is told that take no memory.
+fn create_hello(alloc: Global, disk: &mut MemDisk, prepared: &Prepared) -> Result<(), Refused> {
+    let mut out = [0u8; 32];
+    let mut err = [0u8; 32];
+    let status = create_on(
+        alloc,
+        disk,
+        &HELLO_BYTES,
+        &prepared.config,
+        &mut Printer::new(&mut out[..], false),
+        &mut Printer::new(&mut err[..], false),
+    );
+    if status == 0 && out.starts_with(b"created 4676 sectors\n\0") {
         return Ok(());
     }
-    if status == 5 && words.starts_with(b"failed N4 Memory\n\0") {
-        return Err(Refused::Memory);
+    if out[0] == 0 {
+        return Err(refused_by(status, &err));
     }
     Err(Refused::Otherwise)
 }
 
-/// `scripts/refused-allocations` refuses each allocation of the whole run in turn, and then it
-/// ends in the named want of memory.
+/// Slices of many steps.
+fn long_slices() -> Option<Pace> {
+    Some(Pace {
+        fuel: NonZeroU64::new(100_000)?,
+        every: NonZeroU64::new(EVERY)?,
+    })
+}
+
+/// Runs the worker of `hello` on its disk, in rooms for its line and its last words.
+fn run_hello(alloc: Global, disk: &mut MemDisk) -> Result<(), Refused> {
+    let Some(pace) = long_slices() else {
+        return Err(Refused::Otherwise);
+    };
+    let mut lines = [0u8; 32];
+    let mut words = [0u8; 32];
+    let status = status_in(alloc, disk, pace, &mut lines, &mut words)?;
+    if status == 0 && lines.starts_with(b"1 o hi\n\0") && words.starts_with(b"exited 7\n\0") {
+        return Ok(());
+    }
+    Err(refused_by(status, &words))
+}
+
+/// A disk of zeros.
+fn zeros(alloc: Global) -> Result<MemDisk, Refused> {
+    match MemDisk::new(alloc, SECTORS, WRITES) {
+        Ok(disk) => Ok(disk),
+        Err(_) => Err(Refused::Memory),
+    }
+}
+
+/// `scripts/refused-allocations` refuses each allocation of the creation and of the whole run in
+/// turn, and then it ends in the named want of memory.
 #[test]
 fn whole_run(rt: HostRuntime) -> Result<(), Refused> {
-    run_hello(rt.alloc())
+    let mut disk = zeros(rt.alloc())?;
+    let prepared = prepare_hello(rt.alloc())?;
+    let created = create_hello(rt.alloc(), &mut disk, &prepared);
+    drop(prepared);
+    created?;
+    run_hello(rt.alloc(), &mut disk)
+}
+
+/// The status of `hello` in so much room for its line, and so much for its last words.
+fn status_within(alloc: Global, room: usize, left: usize) -> Result<Option<u8>, Fail>
+    requires { (room ≤ 32) × (left ≤ 32) }
+{
+    let mut disk = fresh_disk(alloc, &HELLO)?;
+    let pace = pace_of(100, EVERY)?;
+    let mut lines = [0u8; 32];
+    let mut words = [0u8; 32];
+    match status_in(
+        alloc,
+        &mut disk,
+        pace,
+        &mut lines[..room],
+        &mut words[..left],
+    ) {
+        Ok(status) => Ok(Some(status)),
+        Err(_) => Ok(None),
+    }
 }
 
 /// Lines that can't be printed, and last words that can't.
 #[test]
 fn output_without_room(rt: HostRuntime) -> Result<(), Fail> {
-    let fuel = NonZeroU64::try_from(100)?;
-    for (room, left, status) in [(4, 32, 7), (32, 4, 7), (32, 32, 0)] {
-        let mut lines = [0u8; 32];
-        let mut words = [0u8; 32];
-        let answered = status_in(rt.alloc(), fuel, &mut lines[..room], &mut words[..left])?;
-        assert!(rt; answered == status, "{room} and {left}");
-    }
+    assert!(rt; status_within(rt.alloc(), 4, 32)? == Some(7));
+    assert!(rt; status_within(rt.alloc(), 32, 4)? == Some(7));
+    assert!(rt; status_within(rt.alloc(), 32, 32)? == Some(0));
     Ok(())
 }

@@ -1,14 +1,15 @@
 //! What `run` prints and tells of a worker on its disk, also where a person reads along.
 
+use crate::asking::ECHO;
 use crate::lines::{NoClock, OUTSIDE};
-use crate::run::empty_source;
+use crate::run::status_of;
 use crate::show::{Shown, after_one_slice, fresh_disk, shows};
 use sector_disk::MemDisk;
 use std::alloc::Global;
 use std::io::Write;
 use std::num::NonZeroU64;
 use std::test::Fail;
-use wasmhost_serve::{BufferedLines, LineOutlet, Pace, Printer, RequestSource, serve_on};
+use wasmhost_serve::{BufferedLines, LineOutlet, Pace, Printer, RequestSource, serve};
 
 /// Steps of a slice, and slices between two checkpoints.
 const FUEL: u64 = 100;
@@ -18,20 +19,22 @@ const EVERY: u64 = 2;
 /// The line of `echo`, which it prints in step 20.
 const LINE: &[u8] = b"1 o hello\n";
 
+/// Slices of so many steps, and so many of them between two checkpoints.
+pub(crate) fn pace_of(fuel: u64, every: u64) -> Result<Pace, Fail> {
+    Ok(Pace {
+        fuel: NonZeroU64::try_from(fuel)?,
+        every: NonZeroU64::try_from(every)?,
+    })
+}
+
 /// The status of a run on the disk, if the worker's line was printed in it.
 fn status_on<E: Write + Drop>(
     alloc: Global,
     disk: &mut MemDisk,
     err: &mut Printer<E>,
 ) -> Result<Option<u8>, Fail> {
-    let pace = Pace {
-        fuel: NonZeroU64::try_from(FUEL)?,
-        every: NonZeroU64::try_from(EVERY)?,
-    };
     let mut outlet = LineOutlet::new(alloc, Vec::new(alloc))?;
-    let mut source = empty_source(alloc);
-    let status = serve_on(alloc, disk, pace, &mut source, &mut outlet, err);
-    drop(source);
+    let status = status_of(alloc, disk, pace_of(FUEL, EVERY)?, &mut outlet, err);
     let is_printed = outlet.out.as_slice() == LINE;
     Ok(is_printed.then_some(status))
 }
@@ -99,15 +102,12 @@ const BEHIND: Shown = Shown {
 
 /// Whether a run on the disk does so.
 fn runs_so(alloc: Global, disk: &mut MemDisk, run: &Run) -> Result<bool, Fail> {
-    let pace = Pace {
-        fuel: NonZeroU64::try_from(FUEL)?,
-        every: NonZeroU64::try_from(EVERY)?,
-    };
+    let pace = pace_of(FUEL, EVERY)?;
     let mut source = RequestSource::new(alloc, BufferedLines::new(run.0), NoClock, OUTSIDE, 0);
     let mut outlet = LineOutlet::new(alloc, Vec::new(alloc))?;
     let mut err = Vec::new(alloc);
     let told = &mut Printer::new(&mut err, false);
-    let status = serve_on(alloc, disk, pace, &mut source, &mut outlet, told);
+    let status = serve(alloc, disk, pace, &mut source, &mut outlet, told);
     drop(source);
     let lines = outlet.out.as_slice() == run.1;
     Ok(lines && err.as_slice() == run.2.as_bytes() && status == run.3)
@@ -115,7 +115,7 @@ fn runs_so(alloc: Global, disk: &mut MemDisk, run: &Run) -> Result<bool, Fail> {
 
 #[test]
 fn a_taken_line_is_dropped(rt: HostRuntime) -> Result<(), Fail> {
-    let mut disk = fresh_disk(rt.alloc())?;
+    let mut disk = fresh_disk(rt.alloc(), &ECHO)?;
     for run in &ON_ONE_DISK {
         assert!(rt; runs_so(rt.alloc(), &mut disk, run)?, "{run:?}");
     }
@@ -125,7 +125,7 @@ fn a_taken_line_is_dropped(rt: HostRuntime) -> Result<(), Fail> {
 
 #[test]
 fn a_line_ahead_is_refused(rt: HostRuntime) -> Result<(), Fail> {
-    let mut disk = fresh_disk(rt.alloc())?;
+    let mut disk = fresh_disk(rt.alloc(), &ECHO)?;
     assert!(rt; runs_so(rt.alloc(), &mut disk, &AHEAD)?);
     Ok(())
 }

@@ -9,12 +9,12 @@ use record_replay::{AnswerList, LineList};
 use sector_disk::{Disk, FaultDisk, MemDisk, Place};
 use std::alloc::Global;
 use std::test::Fail;
-use wasmhost_serve::{DurableWorker, Printer, show_on};
+use wasmhost_serve::{DurableWorker, Printer, survey};
 
-/// Sectors of the disk of `echo`, and how many writes it has room for between two syncs.
-const SECTORS: u64 = 4_676;
+/// Sectors of the disk of a short module, and how many writes it has room for between two syncs.
+pub(crate) const SECTORS: u64 = 4_676;
 
-const WRITES: usize = 2_371;
+pub(crate) const WRITES: usize = 2_371;
 
 /// A line on the output, or on the error output, and the status.
 #[derive(Clone, Copy, Debug)]
@@ -28,7 +28,7 @@ pub(crate) struct Shown {
 pub(crate) fn shows<D: Disk>(alloc: Global, disk: &mut D, shown: &Shown) -> bool {
     let mut out = Vec::new(alloc);
     let mut err = Vec::new(alloc);
-    let status = show_on(
+    let status = survey(
         alloc,
         disk,
         &mut Printer::new(&mut out, false),
@@ -46,11 +46,11 @@ fn zeros(alloc: Global) -> Result<MemDisk, Fail> {
     }
 }
 
-/// A worker of `echo` on this disk.
-fn create<D: Disk>(alloc: Global, disk: &mut D) -> Result<DurableWorker, Fail>
+/// A worker of a module on this disk.
+fn create<D: Disk>(alloc: Global, disk: &mut D, texts: &[&str]) -> Result<DurableWorker, Fail>
     ensures { IfOk result (λ w. total_sectors w.store.geometry ≤ (D.medium disk.new).sectors) }
 {
-    let wasm = bytes_of(alloc, &ECHO)?;
+    let wasm = bytes_of(alloc, texts)?;
     let config = config(alloc)?;
     match DurableWorker::create(alloc, disk, wasm.as_slice(), &config) {
         Ok(worker) => Ok(worker),
@@ -100,7 +100,7 @@ fn save<D: Disk>(worker: &mut DurableWorker, disk: &mut D, is_saved: bool) -> Re
 
 /// A first life of `echo`.
 fn live<D: Disk>(alloc: Global, disk: &mut D, course: &Course) -> Result<(), Fail> {
-    let mut worker = create(alloc, disk)?;
+    let mut worker = create(alloc, disk, &ECHO)?;
     let ran = run(alloc, &mut worker, disk, course);
     drop(worker);
     ran
@@ -121,10 +121,10 @@ fn open_again<D: Disk>(alloc: Global, disk: &mut D, is_wanted: bool) -> Result<(
     }
 }
 
-/// The disk of `echo` as it was created.
-pub(crate) fn fresh_disk(alloc: Global) -> Result<MemDisk, Fail> {
+/// The disk of a worker of a short module as it was created.
+pub(crate) fn fresh_disk(alloc: Global, texts: &[&str]) -> Result<MemDisk, Fail> {
     let mut disk = zeros(alloc)?;
-    let worker = create(alloc, &mut disk)?;
+    let worker = create(alloc, &mut disk, texts)?;
     drop(worker);
     Ok(disk)
 }
@@ -271,7 +271,7 @@ fn a_disk_without_a_worker_is_refused(rt: HostRuntime) -> Result<(), Fail> {
 fn status_in(alloc: Global, disk: &mut MemDisk, out: &mut [u8], err: &mut [u8]) -> u8 {
     let mut out = Printer::new(out, false);
     let mut err = Printer::new(err, false);
-    show_on(alloc, disk, &mut out, &mut err)
+    survey(alloc, disk, &mut out, &mut err)
 }
 
 /// The status of a disk of zeros, in so much room.
@@ -287,9 +287,7 @@ fn refused_in(alloc: Global, room: usize) -> Result<u8, Fail>
 fn shown_in(alloc: Global, room: usize) -> Result<u8, Fail>
     requires { room ≤ 64 }
 {
-    let mut disk = zeros(alloc)?;
-    let worker = create(alloc, &mut disk)?;
-    drop(worker);
+    let mut disk = fresh_disk(alloc, &ECHO)?;
     let mut out = [0u8; 64];
     Ok(status_in(alloc, &mut disk, &mut out[..room], &mut []))
 }

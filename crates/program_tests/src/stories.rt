@@ -2,6 +2,7 @@
 
 use crate::asking::ECHO;
 use crate::check::bytes_of;
+use crate::run::{HELLO_BYTES, Refused, refused_by};
 use std::alloc::Global;
 use std::test::Fail;
 use wasmhost_serve::{Printer, ScriptFault, Sizes, read_script, tell};
@@ -175,4 +176,39 @@ fn a_faulty_line_is_found(rt: HostRuntime) {
     for row in &READ {
         assert!(rt; is_read_so(rt.alloc(), row), "{row:?}");
     }
+}
+
+/// What is told of a life of `hello` for which memory was refused, in its opening or in its slice.
+static STARVED: [&[u8]; 2] = [b"life 1 not opened\n\0", b"life 1 created\n\0"];
+
+/// What a story has come to that should tell the line of `hello`.
+fn judge_story(status: u8, out: &[u8], err: &[u8]) -> Result<(), Refused> {
+    if status == 0 && out.starts_with(b"life 1 created\n1 o hi\n\0") {
+        return Ok(());
+    }
+    if status == 0 && STARVED.iter().any(|text| out.starts_with(text)) {
+        return Err(Refused::Memory);
+    }
+    if out.starts_with(b"\0") {
+        return Err(refused_by(status, err));
+    }
+    Err(Refused::Otherwise)
+}
+
+/// `scripts/refused-allocations` refuses each allocation in turn. Then nothing is printed and the
+/// status is that of want of memory, or a life is told that has ended for it. The script, the
+/// module and what is printed take no memory here.
+#[test]
+fn a_story_with_memory(rt: HostRuntime) -> Result<(), Refused> {
+    let mut out = [0u8; 64];
+    let mut err = [0u8; 32];
+    let status = tell(
+        rt.alloc(),
+        "life\nslice 100\n".as_bytes(),
+        &HELLO_BYTES,
+        sizes_of([1, 1, 64]),
+        &mut Printer::new(&mut out[..], false),
+        &mut Printer::new(&mut err[..], false),
+    );
+    judge_story(status, &out, &err)
 }

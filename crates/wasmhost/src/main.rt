@@ -47,7 +47,7 @@ use wasmhost_serve::{
     BufferedLines, CreateOrder, LineOutlet, Obstacle, Order, Outside, Pace, Printer, RequestSource,
     RunOrder, Sizes, StoryOrder, check_bytes, create_on, obstacle_of, prepare, read_module,
     read_script, read_seed, read_words, report, report_open, report_script, report_unprepared,
-    report_words, serve_on, show_on, tell,
+    report_words, serve, survey, tell,
 };
 
 /// The first bytes of a file.
@@ -174,7 +174,7 @@ fn run<R: Files<File = File> + Input + Clock, W: Write + Drop, E: Write + Drop>(
         fuel: order.fuel,
         every: order.every,
     };
-    serve_on(alloc, &mut disk, pace, &mut source, &mut outlet, err)
+    serve(alloc, &mut disk, pace, &mut source, &mut outlet, err)
 }
 
 /// Shows what stands on a disk.
@@ -188,7 +188,7 @@ fn show<R: Files<File = File>, W: Write + Drop, E: Write + Drop>(
     ensures { result ≤ 7 }
 {
     match FileDisk::open(rt, path) {
-        Ok(mut disk) => show_on(alloc, &mut disk, &mut Printer::new(out, false), err),
+        Ok(mut disk) => survey(alloc, &mut disk, &mut Printer::new(out, false), err),
         Err(fault) => report_open(err, fault),
     }
 }

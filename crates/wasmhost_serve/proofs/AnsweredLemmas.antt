@@ -138,7 +138,7 @@ refused_first s u t asks (Some why) is some taken place leads =
     (nothing s t (none.1 ∙ taken) (none.2 ∙ place))
 
 -- a refusal leaves a fault
-leaves_some : (kind : Kind) (s u : Standing) (found : Option LineFault)
+pub leaves_some : (kind : Kind) (s u : Standing) (found : Option LineFault)
     → LeavesFault kind s u found → IsSomeAnd u.fault (λ _. ⊤)
 leaves_some kind s u (Some first) h =
     subst (λ f. IsSomeAnd f (λ _. ⊤)) (sym h.0) tt

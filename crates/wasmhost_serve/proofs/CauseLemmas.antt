@@ -1,35 +1,32 @@
 -- From what a run on a disk does to the cause of its exit status.
-use Rattle.std.proofs.Common.{◌≡◌, ◌⊎◌, inl, inr, ℕ, ◌+◌, ◌<◌, Bool, true, List, [], length}
-use Rattle.std.proofs.Common.{Some, Err, refl, sym, subst, arith}
+use Rattle.std.proofs.Common.{◌≡◌, ◌⊎◌, inl, inr, ℕ, ◌+◌, ◌<◌, Bool, true, List, [], ◌∷◌}
+use Rattle.std.proofs.Common.{length, Some, Ok, Err, refl, sym, ap, ◌∙◌, subst, arith}
 use Rattle.std.specs.Prelude.{Option, Result}
-use Rattle.wasi_abi.specs.rules.Configs.{Settings}
+use Rattle.std.specs.List.{AllByRecursion}
 use Rattle.wasi_abi.specs.declared.answer.Kind.{Kind}
 use Rattle.wasi_abi.specs.declared.answer.Kind.TheVariants as kinds
 use Rattle.sector_disk.specs.rules.Medium.{Medium}
 use Rattle.sector_disk.specs.declared.fault.DiskFault.TheVariants as disk
-use Rattle.record_replay.specs.rules.Calls.{Ask, Exchange, Exchanges, asks_of}
+use Rattle.record_replay.specs.rules.Calls.{Ask, AnswersInOrder}
 use Rattle.worker.specs.declared.fault.WorkFault.TheVariants as work
 use Rattle.worker.specs.rules.Slices.{handed}
 use Rattle.durable_worker.specs.declared.fault.DurableFault.{DurableFault}
 use Rattle.durable_worker.specs.declared.fault.DurableFault.TheVariants as durable
 use Rattle.durable_worker.specs.declared.recover_fault.RecoverFault.{RecoverFault}
 use Rattle.durable_worker.specs.declared.recover_fault.RecoverFault.TheVariants as recover
-use Rattle.durable_worker.specs.rules.DurableValues.{DurableValue}
-use Rattle.durable_worker.specs.rules.LifeWords.{Act, Beginning}
-use Rattle.durable_worker.specs.laws.OneLife.{IsOneLife, opened, unopened}
-use Rattle.durable_worker.proofs.LifeLemmas.Making.{calls_make}
+use Rattle.durable_worker.specs.rules.LifeWords.{Act}
 use Rattle.wasmhost_serve.specs.declared.lines.fault.LineFault.{LineFault}
 use Rattle.wasmhost_serve.specs.declared.lines.fault.LineFault.TheVariants as line
 use Rattle.wasmhost_serve.specs.declared.on_disk.fault.OnDiskFault.{OnDiskFault}
 use Rattle.wasmhost_serve.specs.declared.on_disk.fault.OnDiskFault.TheVariants as is_told
-use Rattle.wasmhost_serve.specs.Lines.Answers.{Standing, IsRefusedFor}
+use Rattle.wasmhost_serve.specs.Lines.Answers.{Standing, HandsNext, HandsAnswer, IsRefusedFor}
 use Rattle.wasmhost_serve.specs.rules.DiskStatuses.{IsToldOnDisk, told_of_opening, status_on_disk}
 use Rattle.wasmhost_serve.specs.rules.DiskStatuses.{status_of_call}
+use Rattle.wasmhost_serve.specs.rules.Hearings.{WasHeard, AsksUnless, IsOfSource}
 use Rattle.wasmhost_serve.specs.rules.Outside.{requests_in, words_of}
 use Rattle.wasmhost_serve.specs.rules.Printers.{PrinterState, IsSaid}
 use Rattle.wasmhost_serve.specs.rules.Requests.{BeginsWithOther, BeginsWithLater, BeginsWithNumber}
-use Rattle.wasmhost_serve.specs.rules.Served.{config_of}
-use Rattle.wasmhost_serve.specs.rules.ServedOnDisk.{DiskJob, stands_behind, handing, printing}
+use Rattle.wasmhost_serve.specs.rules.ServedOnDisk.{DiskJob, stands_behind, handing}
 use Rattle.wasmhost_serve.specs.rules.ServedOnDisk.{LivesOnDisk, ServesOnDisk, over, broken}
 use Rattle.wasmhost_serve.specs.rules.ServedOnDisk.{unopened as is_unopened}
 use Rattle.wasmhost_serve.specs.rules.DiskCauses.{IsRefusedAmong, HasRefused, MeetsBadLineAt}
@@ -38,7 +35,7 @@ use Rattle.wasmhost_serve.specs.rules.DiskCauses.{IsStuck, IsFailing, IsWanting,
 use Rattle.wasmhost_serve.specs.rules.DiskCauses.{IsOverOnDisk, FailsOnDisk, opening, calling}
 use Rattle.wasmhost_serve.specs.rules.DiskCauses.{AsksInVain, SaysOnDisk, StatusesHaveCauses}
 use Rattle.wasmhost_serve.proofs.LineLemmas.Passing.{up_to_map}
-use Rattle.wasmhost_serve.proofs.RefusalLemmas.{refusals_have_reasons}
+use Rattle.wasmhost_serve.proofs.RefusalLemmas.{reason_for}
 
 -- ---- what a line's fault comes to
 
@@ -103,22 +100,25 @@ module _ (old : Standing) (asks : List Ask) (failed' : Bool) where
 
 -- ---- what is read off a life
 
-module _ {D : Type 0} (medium : D → Medium) where
-  -- what source and outlet exchange in a life that opens
-  life_exchanges : (bytes : List ℕ) (config : Settings) (acts : List Act) (found last : D)
-      (source source' : Standing) (out out' : Option (List ℕ)) (begins : Beginning)
-      (worker : Option DurableValue) (left : Result (List Act) RecoverFault)
-      → IsOneLife medium handing printing bytes config acts found source out begins worker left last
-      source' out' → (w : DurableValue) → worker ≡ Some w
-      → (mid : Option (List ℕ)) × (exchanges : List Exchange)
-      × Exchanges handing printing source mid exchanges source' out'
-  life_exchanges bytes config acts found last source source' out out' begins worker left
-      (opened {disk = here} {outlet' = mid} {w = v} begun calls) w is =
-      let made = calls_make medium handing printing acts v here last source source' mid out' left
-      calls in (mid, made.0, made.1)
-  life_exchanges bytes config acts found last source source' out out' begins worker left
-      (unopened begun) w is = absurd (cc)
+-- where no question was refused, no read of the reader has failed
+heard_steadily : (asks : List Ask) (s t : Standing) → AllByRecursion WasHeard asks
+    → AnswersInOrder handing s asks t → t.failed ≡ s.failed
+heard_steadily [] s t all leads = ap (λ (z : Standing). z.failed) leads
+heard_steadily (ask ∷ asks) s t all leads =
+    let u = leads.0 in
+    let hands : HandsAnswer ask.kind s all.0.0 u =
+    subst (λ r. HandsNext ask.kind s r u) all.0.1 leads.1 in
+    heard_steadily asks u t all.1 leads.2 ∙ hands.steady
 
+steady_unless : (Refused : Type 0) (s t : Standing) → AsksUnless handing Refused s t
+    → (Refused → ⊥) → t.failed ≡ s.failed
+steady_unless Refused s t heard unrefused = by_heard heard.heard
+  where
+    by_heard : AllByRecursion WasHeard heard.asks ⊎ Refused → t.failed ≡ s.failed
+    by_heard (inl all) = heard_steadily heard.asks s t all heard.led
+    by_heard (inr refused) = absurd (unrefused refused)
+
+module _ {D : Type 0} (medium : D → Medium) where
   module _ (given : DiskJob) (found last : D) (out out' : Option (List ℕ)) (failed' : Bool) where
     abbrev Fails : (RecoverFault → Type 0) → Type 0
     Fails IsKind = FailsOnDisk medium given found last out out' failed' IsKind
@@ -135,17 +135,11 @@ module _ {D : Type 0} (medium : D → Medium) where
       source' = source';
       lives = lives;
       heeded = heeded;
-      behind = λ image leaves.
-          let x = life_exchanges [] (config_of [] []) lives.acts found last
-          (stands_behind given lives.worker) source' out out' _ (Some lives.worker) _
-          (lives.life image leaves [] (config_of [] [])) lives.worker refl in (
-            x.0,
-            x.1,
-            x.2,
-            subst (λ f. HasRefused (stands_behind given lives.worker) (asks_of x.1) f why)
-                heeded (refusals_have_reasons x.1 (stands_behind given lives.worker) source' x.0
-                out' why x.2 refl is),
-          );
+      asks = lives.heard.asks;
+      led = lives.heard.led;
+      behind = subst (λ f. HasRefused (stands_behind given lives.worker) lives.heard.asks f why)
+          heeded (reason_for (stands_behind given lives.worker) source' lives.heard.asks why refl is
+          lives.heard.led);
     }
 
     -- what follows from it
@@ -156,8 +150,9 @@ module _ {D : Type 0} (medium : D → Medium) where
       source' = asks.source';
       lives = asks.lives;
       heeded = asks.heeded;
-      behind = λ image leaves. let b = asks.behind image leaves in
-          (b.0, b.1, b.2, f (stands_behind given asks.lives.worker) (asks_of b.1) b.3);
+      asks = asks.asks;
+      led = asks.led;
+      behind = f (stands_behind given asks.lives.worker) asks.asks asks.behind;
     }
 
     -- ---- statuses
@@ -166,25 +161,30 @@ module _ {D : Type 0} (medium : D → Medium) where
       abbrev Says : ℕ → Type 0
       Says status = SaysOnDisk medium given found last out out' failed' err err' status
 
-      zero : IsOverOnDisk medium given found last out out' failed' err err' → Says 0
-      zero h = record {
+      abbrev IsSteady : Type 0
+      IsSteady = failed' ≡ given.failed
+
+      zero : IsOverOnDisk medium given found last out out' failed' err err' → IsSteady → Says 0
+      zero h steady = record {
         over = λ e. h;
         stuck = λ e. absurd (omega (arith, e));
         unanswered = λ e. absurd (omega (arith, e));
         starved = λ e. absurd (omega (arith, e));
         bad_line = λ e. absurd (omega (arith, e));
         unprinted = λ e. absurd (omega (arith, e));
+        heeded = inl steady;
         known = inl refl;
       }
 
-      three : Fails IsStuck → Says 3
-      three h = record {
+      three : Fails IsStuck → IsSteady → Says 3
+      three h steady = record {
         over = λ e. absurd (omega (arith, e));
         stuck = λ e. h;
         unanswered = λ e. absurd (omega (arith, e));
         starved = λ e. absurd (omega (arith, e));
         bad_line = λ e. absurd (omega (arith, e));
         unprinted = λ e. absurd (omega (arith, e));
+        heeded = inl steady;
         known = inr (omega arith, omega arith);
       }
 
@@ -196,6 +196,7 @@ module _ {D : Type 0} (medium : D → Medium) where
         starved = λ e. absurd (omega (arith, e));
         bad_line = λ e. absurd (omega (arith, e));
         unprinted = λ e. absurd (omega (arith, e));
+        heeded = inr (inl refl);
         known = inr (omega arith, omega arith);
       }
 
@@ -207,17 +208,19 @@ module _ {D : Type 0} (medium : D → Medium) where
         starved = λ e. h;
         bad_line = λ e. absurd (omega (arith, e));
         unprinted = λ e. absurd (omega (arith, e));
+        heeded = inr (inr (inl refl));
         known = inr (omega arith, omega arith);
       }
 
-      six : Asks MeetsBadLineAt → Says 6
-      six h = record {
+      six : Asks MeetsBadLineAt → IsSteady → Says 6
+      six h steady = record {
         over = λ e. absurd (omega (arith, e));
         stuck = λ e. absurd (omega (arith, e));
         unanswered = λ e. absurd (omega (arith, e));
         starved = λ e. absurd (omega (arith, e));
         bad_line = λ e. h;
         unprinted = λ e. absurd (omega (arith, e));
+        heeded = inl steady;
         known = inr (omega arith, omega arith);
       }
 
@@ -229,58 +232,68 @@ module _ {D : Type 0} (medium : D → Medium) where
         starved = λ e. absurd (omega (arith, e));
         bad_line = λ e. absurd (omega (arith, e));
         unprinted = λ e. h;
+        heeded = inr (inr (inr refl));
         known = inr (omega arith, omega arith);
       }
 
       -- a fault of the recovery
       by_opening : (why : RecoverFault)
-          → ((IsKind : RecoverFault → Type 0) → IsKind why → Fails IsKind)
+          → ((IsKind : RecoverFault → Type 0) → IsKind why → Fails IsKind) → IsSteady
           → Says (status_on_disk (told_of_opening why))
-      by_opening recover.NotAnImage f = three (f IsStuck tt)
-      by_opening recover.Diverged f = three (f IsStuck tt)
-      by_opening (recover.Worker (durable.Store why)) f = three (f IsStuck tt)
-      by_opening (recover.Worker (durable.Disk disk.Memory)) f = five (inl (f IsWanting tt))
-      by_opening (recover.Worker (durable.Disk disk.Range)) f = four (inl (f IsFailing tt))
-      by_opening (recover.Worker (durable.Disk disk.Io)) f = four (inl (f IsFailing tt))
-      by_opening (recover.Worker (durable.Disk disk.Cut)) f = four (inl (f IsFailing tt))
-      by_opening (recover.Worker (durable.Work work.Source)) f = four (inl (f IsFailing tt))
-      by_opening (recover.Worker (durable.Work work.Failed)) f = four (inl (f IsFailing tt))
-      by_opening (recover.Worker (durable.Work work.Memory)) f = five (inl (f IsWanting tt))
-      by_opening (recover.Worker (durable.Work work.Outlet)) f = seven (inl (f IsUntaken tt))
-      by_opening (recover.Worker (durable.Work (work.Refused why))) f = three (f IsStuck tt)
+      by_opening recover.NotAnImage f steady = three (f IsStuck tt) steady
+      by_opening recover.Diverged f steady = three (f IsStuck tt) steady
+      by_opening (recover.Worker (durable.Store why)) f steady = three (f IsStuck tt) steady
+      by_opening (recover.Worker (durable.Disk disk.Memory)) f steady = five (inl (f IsWanting tt))
+      by_opening (recover.Worker (durable.Disk disk.Range)) f steady = four (inl (f IsFailing tt))
+      by_opening (recover.Worker (durable.Disk disk.Io)) f steady = four (inl (f IsFailing tt))
+      by_opening (recover.Worker (durable.Disk disk.Cut)) f steady = four (inl (f IsFailing tt))
+      by_opening (recover.Worker (durable.Work work.Source)) f steady = four (inl (f IsFailing tt))
+      by_opening (recover.Worker (durable.Work work.Failed)) f steady = four (inl (f IsFailing tt))
+      by_opening (recover.Worker (durable.Work work.Memory)) f steady = five (inl (f IsWanting tt))
+      by_opening (recover.Worker (durable.Work work.Outlet)) f steady = seven (inl (f IsUntaken tt))
+      by_opening (recover.Worker (durable.Work (work.Refused why))) f steady =
+          three (f IsStuck tt) steady
 
       -- one of a call
       by_calling : (why : DurableFault)
           → ((IsKind : RecoverFault → Type 0) → IsKind (recover.Worker why) → Fails IsKind)
+          → ((why ≡ durable.Work work.Source → ⊥) → IsSteady)
           → Says (status_of_call why)
-      by_calling (durable.Store why) f = three (f IsStuck tt)
-      by_calling (durable.Disk why) f = four (inl (f IsFailing tt))
-      by_calling (durable.Work work.Source) f = four (inl (f IsFailing tt))
-      by_calling (durable.Work work.Failed) f = four (inl (f IsFailing tt))
-      by_calling (durable.Work work.Memory) f = five (inl (f IsWanting tt))
-      by_calling (durable.Work work.Outlet) f = seven (inl (f IsUntaken tt))
-      by_calling (durable.Work (work.Refused why)) f = three (f IsStuck tt)
+      by_calling (durable.Store why) f steady =
+          three (f IsStuck tt) (steady (λ e. absurd (cc)))
+      by_calling (durable.Disk why) f steady = four (inl (f IsFailing tt))
+      by_calling (durable.Work work.Source) f steady = four (inl (f IsFailing tt))
+      by_calling (durable.Work work.Failed) f steady = four (inl (f IsFailing tt))
+      by_calling (durable.Work work.Memory) f steady = five (inl (f IsWanting tt))
+      by_calling (durable.Work work.Outlet) f steady = seven (inl (f IsUntaken tt))
+      by_calling (durable.Work (work.Refused why)) f steady =
+          three (f IsStuck tt) (steady (λ e. absurd (cc)))
 
       -- one of a request line
       by_line : (why : LineFault) → Asks (λ old asked failed. HasRefused old asked failed why)
           → Says (status_on_disk (is_told.Line why))
       by_line line.Read asks =
-          four (inr (in_vain (λ old asked failed. HasRefused old asked failed line.Read) LacksAnswerAt
-          (λ old asked r. lacks_read old asked failed' r.kind r.asked r.reason) asks))
+          four (inr (in_vain (λ old asked failed. HasRefused old asked failed line.Read)
+          LacksAnswerAt (λ old asked r. lacks_read old asked failed' r.kind r.asked r.reason) asks))
       by_line line.Clock asks =
           four (inr (in_vain (λ old asked failed. HasRefused old asked failed line.Clock)
-          LacksAnswerAt (λ old asked r. lacks_clock old asked failed' r.kind r.asked r.reason) asks))
+          LacksAnswerAt
+          (λ old asked r. lacks_clock old asked failed' r.kind r.asked r.reason) asks))
       by_line line.Words asks =
           four (inr (in_vain (λ old asked failed. HasRefused old asked failed line.Words)
-          LacksAnswerAt (λ old asked r. lacks_words old asked failed' r.kind r.asked r.reason) asks))
+          LacksAnswerAt
+          (λ old asked r. lacks_words old asked failed' r.kind r.asked r.reason) asks))
       by_line line.Memory asks = five (inr asks)
       by_line line.Form asks =
-          six (in_vain (λ old asked failed. HasRefused old asked failed line.Form) MeetsBadLineAt
-          (λ old asked r. meets_other old asked failed' r.kind r.asked r.reason) asks)
+          let bad = in_vain (λ old asked failed. HasRefused old asked failed line.Form)
+          MeetsBadLineAt (λ old asked r. meets_other old asked failed' r.kind r.asked r.reason) asks
+          in six bad bad.behind.2
       by_line (line.Number number wanted) asks =
-          six (in_vain (λ old asked failed. HasRefused old asked failed (line.Number number wanted))
+          let bad =
+          in_vain (λ old asked failed. HasRefused old asked failed (line.Number number wanted))
           MeetsBadLineAt
-          (λ old asked r. meets_later old asked failed' number wanted r.kind r.asked r.reason) asks)
+          (λ old asked r. meets_later old asked failed' number wanted r.kind r.asked r.reason) asks
+          in six bad bad.behind.2
 
       -- that is said, or nothing can be
       said_as : (between : PrinterState) (status told : ℕ) → IsSaid told between status err'
@@ -289,13 +302,20 @@ module _ {D : Type 0} (medium : D → Medium) where
       said_as between status told (inr unsaid) says =
           subst Says (sym unsaid.0) (seven (inr unsaid.1))
 
+      same_call : (a b : DurableFault) → ◌≡◌ {A = Result (List Act) RecoverFault}
+          (Err (recover.Worker a)) (Err (recover.Worker b)) → a ≡ b
+      same_call a b is = cc
+
       by_told : (why : DurableFault) (told : OnDiskFault) (source' : Standing)
           → LivesOnDisk medium given (Err (recover.Worker why)) found last out out' source'
           → source'.failed ≡ failed' → IsToldOnDisk why source'.fault told
           → Says (status_on_disk told)
       by_told why told source' lives heeded (inl e) =
           subst (λ t. Says (status_on_disk t)) (sym e.0)
-          (by_calling why (λ IsKind is. calling why source' lives e.1 heeded is))
+          (by_calling why (λ IsKind is. calling why source' lives e.1 heeded is)
+          (λ other. sym heeded ∙ steady_unless (IsOfSource (Err (recover.Worker why)))
+          (stands_behind given lives.worker) source' lives.heard
+          (λ source. other (same_call why (durable.Work work.Source) source))))
       by_told why told source' lives heeded (inr e) =
           subst (λ t. Says (status_on_disk t)) (sym e.3)
           (by_line e.0 (vain source' e.0
@@ -306,7 +326,7 @@ module _ {D : Type 0} (medium : D → Medium) where
           → ServesOnDisk medium given found last out out' err err' failed' status → Says status
       says_why status (is_unopened why run heeded said) =
           said_as err status (status_on_disk (told_of_opening why)) said
-          (by_opening why (λ IsKind is. opening why run heeded is))
+          (by_opening why (λ IsKind is. opening why run heeded is) heeded)
       says_why status (over now source' between done lives outcome heeded tells (inl said)) =
           subst Says (sym said.0) (zero (record {
             now = now;
@@ -318,7 +338,8 @@ module _ {D : Type 0} (medium : D → Medium) where
             heeded = heeded;
             told = tells;
             printed = said.1;
-          }))
+          }) (sym heeded ∙ steady_unless (IsOfSource (Ok [])) (stands_behind given lives.worker)
+          source' lives.heard (λ source. absurd (cc))))
       says_why status (over now source' between done lives outcome heeded tells (inr unsaid)) =
           subst Says (sym unsaid.0) (seven (inr unsaid.1))
       says_why status (broken why told source' between lives heeded is tells said) =

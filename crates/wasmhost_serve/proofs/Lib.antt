@@ -1,9 +1,8 @@
 pub mod Told
 pub mod SeedLemmas
-pub mod Serving
 pub mod ShowingLemmas
-pub mod Starting
 pub mod LineLemmas
+pub mod HearingLemmas
 pub mod LivingLemmas
 pub mod ReleasedLemmas
 pub mod ShownLemmas

@@ -7,11 +7,13 @@ use Rattle.std.proofs.lemmas.List.{replicate_more}
 use mathlib.Core.Path.{subst_refl, path_j}
 use Rattle.sector_disk.specs.rules.Medium.{Medium}
 use Rattle.disk_layout.specs.rules.Places.{total_sectors}
-use Rattle.record_replay.specs.rules.Calls.{Giving, Taking}
+use Rattle.record_replay.specs.rules.Calls.{Giving, Taking, asks_of}
+use Rattle.process_rules.proofs.Growing.{runs_count}
 use Rattle.process.specs.rules.Values.{IsProcess}
 use Rattle.worker.specs.declared.now.Now.{Now}
 use Rattle.worker.specs.declared.now.Now.TheVariants as now
-use Rattle.worker.specs.rules.Slices.{Slices}
+use Rattle.worker.specs.rules.Values.{WorkerValue}
+use Rattle.worker.specs.rules.Slices.{handed, Slices}
 use Rattle.durable_worker.specs.declared.fault.DurableFault.{DurableFault}
 use Rattle.durable_worker.specs.declared.recover_fault.RecoverFault.{RecoverFault}
 use Rattle.durable_worker.specs.declared.recover_fault.RecoverFault.TheVariants as recover
@@ -21,10 +23,30 @@ use Rattle.durable_worker.specs.rules.LifeWords.{Act, Slice, Checkpoint}
 use Rattle.durable_worker.specs.laws.OneLife.{no_more, sliced, slice_failed, saved}
 use Rattle.durable_worker.specs.laws.OneLife.{saving_failed}
 use Rattle.durable_worker.specs.laws.Outcomes.{outcome_after}
+use Rattle.wasmhost_serve.specs.rules.Hearings.{AsksUnless, IsOfSource}
 use Rattle.wasmhost_serve.specs.rules.Paces.{round_of, IsPaced, last, more}
 use Rattle.wasmhost_serve.specs.Livings.{Scene, scene, left_after, steps_left, AreCalled, ActsLead}
 use Rattle.wasmhost_serve.specs.Livings.{IsRested, IsRound, IsBrokenRound, LivesAtPace}
-use Rattle.wasmhost_serve.proofs.Serving.{fewer_left}
+use Rattle.wasmhost_serve.proofs.HearingLemmas.{nothing_asked, asked_on, asked_so_far}
+
+-- a slice whose fuel is spent leaves fewer steps that can be counted
+fewer_left : {S O : Type 0} (gives : Giving S) (takes : Taking O) (old new : WorkerValue)
+    (fuel : ℕ) (s t : S) (o p : O)
+    → IsProcess old.process → 0 < fuel → Slices gives takes old fuel now.Spent new s t o p
+    → 2 ^ 63 - new.process.steps < 2 ^ 63 - old.process.steps
+fewer_left gives takes old new fuel s t o p is some slices =
+    let works = slices.shown is.guest is.process is.shows in
+    let spent : works.0.steps ≡ fuel = works.1.0 in
+    let before : old.process.steps ≡ is.process.steps = is.shows.steps in
+    let after : new.process.steps ≡ works.0.process.steps = works.0.shows.steps in
+    let count : works.0.process.steps ≡ is.process.steps + works.0.steps =
+    runs_count is.guest is.process works.0.process (handed (asks_of works.0.exchanges))
+    works.0.steps works.0.leads.runs in
+    let few : old.process.steps < 2 ^ 63 = is.few_steps in
+    fewer (2 ^ 63) old.process.steps new.process.steps few (omega arith)
+  where
+    fewer : (n a b : ℕ) → a < n → a < b → n - b < n - a
+    fewer n a b h k = omega arith
 
 -- one more of the same, in front of the rest
 turned : {X : Type 0} (n : ℕ) (x : X) (rest : List X)
@@ -133,37 +155,42 @@ module _ {D S O : Type 0} (medium : D → Medium) (gives : Giving S) (takes : Ta
           ∙ leads.says (Checkpoint ∷ rest) left end s o (saved carries done);
     }
 
-    rested : (some : 1 ≤ n) (within : n ≤ every) (result : Result Now DurableFault)
-        → (said ≡ now.Spent → n ≡ every)
+    rested : (some : 1 ≤ n) (within : n ≤ every) (heard : AsksUnless gives ⊥ from.source source)
+        (result : Result Now DurableFault) → (said ≡ now.Spent → n ≡ every)
         → IsRested said result w w' (medium disk) (medium disk')
         → IfOk result (λ why. IsRound medium gives takes fuel every from why
         (scene w' disk' source outlet))
-    rested some within (Ok told) whole rests = record {
+    rested some within heard (Ok told) whole rests = record {
       count = n;
       some = some;
       within = within;
       whole = λ spent. whole (sym rests.0 ∙ spent);
+      heard = heard;
       leads = subst (λ z. ActsLead medium gives takes (round_of fuel n) from z
           (scene w' disk' source outlet)) (sym rests.0) (round_leads rests.1);
     }
-    rested some within (Err fault) whole rests = tt
+    rested some within heard (Err fault) whole rests = tt
 
-    broken : (some : 1 ≤ n) (within : n ≤ every) (result : Result Now DurableFault)
+    broken : (some : 1 ≤ n) (within : n ≤ every) (heard : AsksUnless gives ⊥ from.source source)
+        (result : Result Now DurableFault)
         → IsRested said result w w' (medium disk) (medium disk')
         → IfErr result (λ why. IsBrokenRound medium gives takes fuel every from why disk' source
         outlet)
-    broken some within (Ok told) rests = tt
-    broken some within (Err fault) rests = record {
+    broken some within heard (Ok told) rests = tt
+    broken some within heard (Err fault) rests = record {
       count = n;
       some = some;
       within = within;
+      heard = asked_so_far gives (IsOfSource (Err (recover.Worker fault))) from.source source heard;
       done = leads.behind (Checkpoint ∷ []) (Err (recover.Worker fault)) disk' source outlet
           (saving_failed rests.0 rests.1);
     }
 
-  -- So many slices were taken in a round from there on, each of which has spent its fuel.
+  -- So many slices were taken in a round from there on, each of which has spent its fuel. No
+  -- question was refused.
   pub record IsWithin (fuel every n : ℕ) (from here : Scene D S O) : Type 0 where
     pub fewer : n < every
+    pub heard : AsksUnless gives ⊥ from.source here.source
     pub leads : ActsLead medium gives takes (replicate n (Slice fuel)) from now.Spent here
     pub steps : steps_left here.worker ≤ steps_left from.worker
     pub room : total_sectors here.worker.store.geometry ≤ (medium here.disk).sectors
@@ -173,6 +200,7 @@ module _ {D S O : Type 0} (medium : D → Medium) (gives : Giving S) (takes : Ta
       → IsWithin fuel every 0 here here
   none_taken fuel every here some room = record {
     fewer = some;
+    heard = nothing_asked gives here.source;
     leads = stands_still here;
     steps = omega arith;
     room = room;
@@ -206,15 +234,23 @@ module _ {D S O : Type 0} (medium : D → Medium) (gives : Giving S) (takes : Ta
         (subst (λ f. SliceCarries gives takes here.worker f (Ok said) w' (medium here.disk)
         (medium disk') here.source source' here.outlet outlet') same carries)
 
+    -- whatever is asked behind the slices so far
+    heard_on : (Refused : Type 0) → AsksUnless gives Refused here.source source'
+        → AsksUnless gives Refused from.source source'
+    heard_on Refused heard =
+        asked_on gives Refused from.source here.source source' so_far.heard heard
+
     -- one more, behind which others come
-    pub within_more : (said : Now) → Slicing (Ok said) → said ≡ now.Spent → n + 1 < every
+    pub within_more : (said : Now) → Slicing (Ok said) → AsksUnless gives ⊥ here.source source'
+        → said ≡ now.Spent → n + 1 < every
         → steps_left w' < steps_left here.worker
         → total_sectors w'.store.geometry ≤ (medium disk').sectors
         → IsWithin fuel every (n + 1) from (scene w' disk' source' outlet')
-    within_more said carries spent few fewer room =
+    within_more said carries heard spent few fewer room =
         let before = so_far.steps in
         record {
           fewer = few;
+          heard = heard_on ⊥ heard;
           leads = subst (λ z. ActsLead medium gives takes (replicate (n + 1) (Slice fuel)) from z
               (scene w' disk' source' outlet')) spent (leads_more said carries);
           steps = omega (arith, before, fewer);
@@ -230,11 +266,13 @@ module _ {D S O : Type 0} (medium : D → Medium) (gives : Giving S) (takes : Ta
 
       -- one that fails
       pub within_breaks : (why : DurableFault) → Slicing (Err why)
+          → AsksUnless gives (IsOfSource (Err (recover.Worker why))) here.source source'
           → IsBrokenRound medium gives takes fuel most from why disk' source' outlet'
-      within_breaks why carries = record {
+      within_breaks why carries heard = record {
         count = n + 1;
         some = some;
         within = within;
+        heard = heard_on (IsOfSource (Err (recover.Worker why))) heard;
         done = slice_breaks fuel n from here.worker w' here.disk disk' here.source source'
             here.outlet outlet' so_far.leads why
             (subst (λ f. SliceCarries gives takes here.worker f (Err why) w' (medium here.disk)
@@ -245,18 +283,21 @@ module _ {D S O : Type 0} (medium : D → Medium) (gives : Giving S) (takes : Ta
       module _ (said : Now) (carries : Slicing (Ok said)) (result : Result Now DurableFault)
           (w'' : DurableValue) (disk'' : D)
           (rests : IsRested said result w' w'' (medium disk') (medium disk'')) where
-        pub within_rests : (said ≡ now.Spent → n + 1 ≡ every)
+        pub within_rests : AsksUnless gives ⊥ here.source source'
+            → (said ≡ now.Spent → n + 1 ≡ every)
             → IfOk result (λ why. IsRound medium gives takes fuel most from why
             (scene w'' disk'' source' outlet'))
-        within_rests whole =
+        within_rests heard whole =
             rested fuel most (n + 1) from w' w'' disk' disk'' source' outlet' said
-            (leads_more said carries) some within result (λ e. whole e ∙ is_most) rests
+            (leads_more said carries) some within (heard_on ⊥ heard) result
+            (λ e. whole e ∙ is_most) rests
 
-        pub within_broken : IfErr result (λ why. IsBrokenRound medium gives takes fuel most from why
-            disk'' source' outlet')
-        within_broken =
+        pub within_broken : AsksUnless gives ⊥ here.source source'
+            → IfErr result (λ why. IsBrokenRound medium gives takes fuel most from why disk''
+            source' outlet')
+        within_broken heard =
             broken fuel most (n + 1) from w' w'' disk' disk'' source' outlet' said
-            (leads_more said carries) some within result rests
+            (leads_more said carries) some within (heard_on ⊥ heard) result rests
 
         pub within_fewer : (said ≡ now.Spent → steps_left w' < steps_left here.worker)
             → IfOk result (λ why. why ≡ now.Spent → steps_left w'' < steps_left from.worker)
@@ -278,8 +319,10 @@ module _ {D S O : Type 0} (medium : D → Medium) (gives : Giving S) (takes : Ta
   -- there on.
   pub record SoFar (fuel every : ℕ) (from here : Scene D S O) : Type 0 where
     pub room : total_sectors here.worker.store.geometry ≤ (medium here.disk).sectors
+    pub heard : AsksUnless gives ⊥ from.source here.source
     pub on : (rest : List Act) (result : Result Now DurableFault) (disk : D) (source : S)
         (outlet : O) → IsPaced fuel every rest
+        → AsksUnless gives (IsOfSource (left_after result)) from.source source
         → (done : AreCalled medium gives takes rest here (left_after result) disk source outlet)
         → IfOk result (λ told. outcome_after now.Spent done ≡ told)
         → LivesAtPace medium gives takes fuel every from result disk source outlet
@@ -289,9 +332,11 @@ module _ {D S O : Type 0} (medium : D → Medium) (gives : Giving S) (takes : Ta
       → SoFar fuel every here here
   none_yet fuel every here room = record {
     room = room;
-    on = λ rest result disk source outlet paced done says. record {
+    heard = nothing_asked gives here.source;
+    on = λ rest result disk source outlet paced heard done says. record {
       acts = rest;
       paced = paced;
+      heard = heard;
       done = done;
       says = says;
     };
@@ -327,8 +372,9 @@ module _ {D S O : Type 0} (medium : D → Medium) (gives : Giving S) (takes : Ta
         → IsRound medium gives takes fuel every here now.Spent there → SoFar fuel every from there
     round_more there room r = record {
       room = room;
-      on = λ rest result disk source outlet paced done says.
-          so_far.on (round_of fuel every ++ rest) result disk source outlet (more rest paced)
+      heard = asked_on gives ⊥ from.source here.source there.source so_far.heard r.heard;
+      on = λ rest result disk source outlet paced heard done says.
+          so_far.on (round_of fuel every ++ rest) result disk source outlet (more rest paced) heard
           (then_done there r rest result disk source outlet done)
           (then_says there r rest result disk source outlet done says);
     }
@@ -339,7 +385,10 @@ module _ {D S O : Type 0} (medium : D → Medium) (gives : Giving S) (takes : Ta
         there.outlet
     round_last why there r =
         so_far.on (round_of fuel r.count) (Ok why) there.disk there.source there.outlet
-        (last r.count r.some r.within) (leads_out (round_of fuel r.count) here why there r.leads)
+        (last r.count r.some r.within)
+        (asked_so_far gives (IsOfSource (Ok [])) from.source there.source
+        (asked_on gives ⊥ from.source here.source there.source so_far.heard r.heard))
+        (leads_out (round_of fuel r.count) here why there r.leads)
         (says_out (round_of fuel r.count) here why there r.leads)
 
     pub round_broken : (why : DurableFault) (disk : D) (source : S) (outlet : O)
@@ -347,4 +396,6 @@ module _ {D S O : Type 0} (medium : D → Medium) (gives : Giving S) (takes : Ta
         → LivesAtPace medium gives takes fuel every from (Err why) disk source outlet
     round_broken why disk source outlet r =
         so_far.on (round_of fuel r.count) (Err why) disk source outlet
-        (last r.count r.some r.within) r.done tt
+        (last r.count r.some r.within)
+        (asked_on gives (IsOfSource (Err (recover.Worker why))) from.source here.source source
+        so_far.heard r.heard) r.done tt

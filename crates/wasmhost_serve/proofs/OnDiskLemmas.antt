@@ -6,7 +6,7 @@ use Rattle.std.specs.Prelude.{Result, IfOk}
 use Rattle.sector_disk.specs.declared.fault.DiskFault.{DiskFault}
 use Rattle.sector_disk.specs.declared.fault.DiskFault.TheVariants as disk
 use Rattle.sector_disk.specs.rules.Medium.{Medium}
-use Rattle.record_replay.specs.rules.Calls.{Taking}
+use Rattle.record_replay.specs.rules.Calls.{Taking, AnswersInOrder}
 use Rattle.worker.specs.declared.fault.WorkFault.TheVariants as work
 use Rattle.worker.specs.declared.now.Now.{Now}
 use Rattle.worker.specs.declared.now.Now.TheVariants as now
@@ -27,7 +27,7 @@ use Rattle.wasmhost_serve.specs.Livings.{scene, left_after, AreCalled, LivesAtPa
 use Rattle.wasmhost_serve.specs.rules.DiskStatuses.{IsToldOnDisk, told_of_opening, status_on_disk}
 use Rattle.wasmhost_serve.specs.rules.DiskStatuses.{status_of_disk, status_of_call}
 use Rattle.wasmhost_serve.specs.rules.Statuses.{status_of_line}
-use Rattle.wasmhost_serve.specs.rules.Served.{ended_by, last_words}
+use Rattle.wasmhost_serve.specs.rules.LastWords.{ended_by, last_words}
 use Rattle.durable_worker.specs.laws.Outcomes.{outcome_after}
 use Rattle.wasmhost_serve.specs.rules.ServedOnDisk.{DiskJob, stands_behind, handing}
 use Rattle.wasmhost_serve.specs.rules.ServedOnDisk.{printing, IsLeftAlone, IsUnopenedRun}
@@ -38,7 +38,8 @@ use Rattle.wasmhost_serve.specs.rules.ServedOnDisk.{unopened as is_unopened}
 use Rattle.wasmhost_serve.specs.rules.ServedOnDisk.{over, broken}
 use Rattle.wasmhost_serve.proofs.LivingLemmas.{carried_over}
 use Rattle.wasmhost_serve.proofs.PrinterLemmas.{few_said}
-use Rattle.wasmhost_serve.proofs.ShownLemmas.{gives_so, takes_so, recovery_so, calls_so, outcome_so}
+use Rattle.wasmhost_serve.proofs.ShownLemmas.{gives_so, takes_so, asked_so, recovery_so}
+use Rattle.wasmhost_serve.proofs.ShownLemmas.{calls_so, outcome_so}
 
 -- ---- an open worker
 
@@ -68,6 +69,12 @@ module _ {D S O : Type 0} (medium : D → Medium) (stands : S → Standing)
       record {
         acts = lives.acts;
         paced = lives.paced;
+        heard = record {
+          asks = lives.heard.asks;
+          led = subst (λ (z : Standing). AnswersInOrder handing z lives.heard.asks (stands t)) is
+              (asked_so stands shows handing printing lives.heard.asks s t lives.heard.led);
+          heard = lives.heard.heard;
+        };
         done = subst (λ (z : Standing). AreCalled medium handing printing lives.acts
             (scene w disk z (shows o)) (left_after result) last (stands t) (shows p)) is calls;
         says = subst (λ z. IfOk result (λ told. z ≡ told))
@@ -160,6 +167,7 @@ module _ {D O : Type 0} (medium : D → Medium) (shows : O → Option (List ℕ)
     opening = opening;
     acts = lives.acts;
     paced = lives.paced;
+    heard = lives.heard;
     life = λ image leaves bytes config.
         opened (recovered image leaves (λ none. none)
         (recovery_so {S = Standing} (λ (z : Standing). z) shows handing printing (Ok w)

@@ -1,24 +1,27 @@
 -- Why a source of the program refuses, behind all that it has answered.
 use Rattle.std.proofs.Common.{◌≡◌, ◌+◌, List, [], ◌∷◌, ◌++◌, Some, None, Ok, Err, refl}
 use Rattle.std.proofs.Common.{sym, ap, subst, ◌∙◌, arith}
-use Rattle.std.specs.Prelude.{Option, Result}
+use Rattle.std.specs.Prelude.{Option, Result, ⊤}
+use Rattle.std.specs.Option.{IsSomeAnd}
 use Rattle.wasi_abi.specs.declared.answer.Answer.{Answer}
 use Rattle.wasi_abi.specs.declared.answer.Kind.{Kind}
 use Rattle.process_rules.specs.Runs.{Kept}
 use Rattle.record_replay.specs.declared.fault.SourceFault.{SourceFault}
-use Rattle.record_replay.specs.rules.Calls.{Ask, AnswersInOrder, asks_of}
+use Rattle.record_replay.specs.rules.Calls.{Ask, Asked, AnswersInOrder, asks_of}
+use Rattle.record_replay.proofs.Following.{leads_split}
 use Rattle.worker.specs.rules.Slices.{handed_by, handed}
 use Rattle.wasmhost_serve.specs.declared.lines.fault.LineFault.{LineFault}
 use Rattle.wasmhost_serve.specs.rules.Outside.{ComeFrom, requests_in, words_of}
 use Rattle.wasmhost_serve.specs.rules.Requests.{GiveUpTo}
+use Rattle.wasmhost_serve.specs.rules.Answered.{NoneIsLeftAtTheEnd}
 use Rattle.wasmhost_serve.specs.rules.ServedOnDisk.{handing}
 use Rattle.wasmhost_serve.specs.rules.DiskCauses.{IsRefusedAmong, HasRefused}
 use Rattle.wasmhost_serve.specs.rules.DiskCauses.{RefusalsHaveReasons}
 use Rattle.wasmhost_serve.specs.Lines.Answers.{Standing, HandsNext, HandsAnswer, LeavesFault}
 use Rattle.wasmhost_serve.specs.Lines.Answers.{IsRefusedFor}
-use Rattle.wasmhost_serve.proofs.AnsweredLemmas.{at_end}
+use Rattle.wasmhost_serve.proofs.AnsweredLemmas.{at_end, leaves_some}
 use Rattle.wasmhost_serve.proofs.LineLemmas.Asking.{HasAnswered, answered_nothing, answered_first}
-use Rattle.wasmhost_serve.proofs.LineLemmas.Asking.{refused_for, refused_so}
+use Rattle.wasmhost_serve.proofs.LineLemmas.Asking.{none_left, refused_for, refused_so}
 use Rattle.wasmhost_serve.proofs.LineLemmas.Passing.{behind_passed}
 
 -- no request came, and the answers behind that
@@ -204,7 +207,59 @@ reason_of s t asks why r = record {
       (refused_for s r.between r.after (handed asks) r.before r.kind r.fault why r.left r.hands);
 }
 
+-- a source without a fault in the end has answered all, or had none yet
+heard_so_far : (asks : List Ask) (s u : Standing) → u.fault ≡ None
+    → AnswersInOrder handing s asks u → HasAnswered s u (handed asks)
+heard_so_far [] s u none leads =
+    subst (λ z. HasAnswered s z []) (sym leads)
+    (answered_nothing s (ap (λ (z : Standing). z.fault) (sym leads) ∙ none))
+heard_so_far (ask ∷ asks) s u none leads =
+    by_said (heard_so_far asks leads.0 u none leads.2) ask.said refl leads.1
+  where
+    v : Standing
+    v = leads.0
+
+    by_said : HasAnswered v u (handed asks) → (said : Result (Option Answer) SourceFault)
+        → ask.said ≡ said → HandsNext ask.kind s ask.said v → HasAnswered s u (handed (ask ∷ asks))
+    by_said more (Ok (Some a)) e hands =
+        let h : HandsAnswer ask.kind s (Some a) v =
+        subst (λ r. HandsNext ask.kind s r v) e hands in
+        subst (λ r. HasAnswered s u (handed_by r ++ handed asks)) (sym e)
+        (answered_first ask.kind s v u a (handed asks) h more)
+    by_said more (Ok None) e hands =
+        let h : HandsAnswer ask.kind s None v =
+        subst (λ r. HandsNext ask.kind s r v) e hands in
+        subst (λ r. HasAnswered s u (handed_by r ++ handed asks)) (sym e)
+        (ended_before ask.kind s v u (handed asks) h more)
+    by_said more (Err fault) e hands =
+        let h : HandsNext ask.kind s (Err fault) v =
+        subst (λ r. HandsNext ask.kind s r v) e hands in
+        absurd (by_left v.fault refl (leaves_some ask.kind s v s.fault h.4))
+      where
+        by_left : (left : Option LineFault) → v.fault ≡ left → IsSomeAnd v.fault (λ _. ⊤) → ⊥
+        by_left None is some =
+            let none_there : IsSomeAnd None (λ (_ : LineFault). ⊤) =
+            subst (λ f. IsSomeAnd f (λ _. ⊤)) is some in absurd none_there
+        by_left (Some why) is some =
+            let stays = stays_refused why asks v u is leads.2 in
+            let kept = stays.1 in absurd (cc)
+
+-- from no fault to none, a question that had no answer yet
+pub none_is_left : NoneIsLeftAtTheEnd
+none_is_left exchanges source source' out out' exchanged front back kind is =
+    let last : Ask = record { kind = kind; said = Ok None } in
+    let parts = leads_split (Asked handing) source source' front (last ∷ back)
+    (subst (λ z. AnswersInOrder handing source z source') is exchanged.asked) in
+    let hands : HandsAnswer kind parts.0 None parts.2.0 = parts.2.1 in
+    let left = none_left source parts.0 parts.2.0 (handed front)
+    (heard_so_far front source parts.0 hands.unfailed parts.1) kind hands in
+    (left.0, left.2)
+
+pub reason_for : (s t : Standing) (asks : List Ask) (why : LineFault) → s.fault ≡ None
+    → t.fault ≡ Some why → AnswersInOrder handing s asks t → HasRefused s asks t.failed why
+reason_for s t asks why none is leads =
+    reason_of s t asks why (refused_there why asks s t none leads is)
+
 pub refusals_have_reasons : RefusalsHaveReasons
 refusals_have_reasons exchanges source source' out out' why exchanged none is =
-    reason_of source source' (asks_of exchanges) why
-    (refused_there why (asks_of exchanges) source source' none exchanged.asked is)
+    reason_for source source' (asks_of exchanges) why none is exchanged.asked

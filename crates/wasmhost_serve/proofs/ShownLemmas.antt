@@ -21,7 +21,7 @@ module _ {S T O P : Type 0} (stands : S → T) (shows : O → P) (gives : Giving
     abbrev pub takes_so : Taking O
     takes_so old number line said new = takes (shows old) number line said (shows new)
 
-    asked_so : (asks : List Ask) (s t : S) → AnswersInOrder gives_so s asks t
+    pub asked_so : (asks : List Ask) (s t : S) → AnswersInOrder gives_so s asks t
         → AnswersInOrder gives (stands s) asks (stands t)
     asked_so [] s t leads = ap stands leads
     asked_so (ask ∷ asks) s t leads = (stands leads.0, leads.1, asked_so asks leads.0 t leads.2)

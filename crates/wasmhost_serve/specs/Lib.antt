@@ -1,5 +1,4 @@
 pub mod Livings
-pub mod Runs
 pub mod Lines
 pub mod laws
 pub mod rules

@@ -17,6 +17,7 @@ use Rattle.wasmhost_serve.specs.declared.on_disk.fault.OnDiskFault.{OnDiskFault}
 use Rattle.wasmhost_serve.specs.Lines.Answers.{Standing}
 use Rattle.wasmhost_serve.specs.rules.DiskStatuses.{IsToldOnDisk}
 use Rattle.durable_worker.specs.laws.Outcomes.{outcome_after}
+use Rattle.wasmhost_serve.specs.rules.Hearings.{AsksUnless, IsOfSource}
 use Rattle.wasmhost_serve.specs.rules.Paces.{round_of, IsPaced}
 use Rattle.wasmhost_serve.specs.rules.ServedOnDisk.{DiskJob, stands_behind, handing, printing}
 
@@ -65,29 +66,32 @@ module _ {D S O : Type 0} (medium : D → Medium) (gives : Giving S) (takes : Ta
         ≡ outcome_after said done
 
   -- At most so many slices of this fuel, with a checkpoint behind them. The last one has answered
-  -- this. They are just as many where its fuel is spent.
+  -- this. They are just as many where its fuel is spent. No question was refused.
   pub record IsRound (fuel every : ℕ) (from : Scene D S O) (why : Now) (to : Scene D S O)
       : Type 0 where
     pub count : ℕ
     pub some : 1 ≤ count
     pub within : count ≤ every
     pub whole : why ≡ now.Spent → count ≡ every
+    pub heard : AsksUnless gives ⊥ from.source to.source
     pub leads : ActsLead (round_of fuel count) from why to
 
-  -- one within which there was an error
+  -- One within which there was an error. No question was refused, unless it is the source's.
   pub record IsBrokenRound (fuel every : ℕ) (from : Scene D S O) (why : DurableFault) (disk : D)
       (source : S) (outlet : O) : Type 0 where
     pub count : ℕ
     pub some : 1 ≤ count
     pub within : count ≤ every
+    pub heard : AsksUnless gives (IsOfSource (Err (recover.Worker why))) from.source source
     pub done : AreCalled (round_of fuel count) from (Err (recover.Worker why)) disk source outlet
 
   -- All that a worker is told at this pace is done, and the last slice has answered this; or it is
-  -- done up to this error.
+  -- done up to this error. No question was refused, unless that is the source's.
   pub record LivesAtPace (fuel every : ℕ) (from : Scene D S O) (result : Result Now DurableFault)
       (disk : D) (source : S) (outlet : O) : Type 0 where
     pub acts : List Act
     pub paced : IsPaced fuel every acts
+    pub heard : AsksUnless gives (IsOfSource (left_after result)) from.source source
     pub done : AreCalled acts from (left_after result) disk source outlet
     pub says : IfOk result (λ told. outcome_after now.Spent done ≡ told)
 

@@ -4,6 +4,7 @@ pub mod Commands
 pub mod Creations
 pub mod DiskCauses
 pub mod DiskStatuses
+pub mod Hearings
 pub mod Numbers
 pub mod Openings
 pub mod Outside
@@ -14,7 +15,7 @@ pub mod Prints
 pub mod Reports
 pub mod Requests
 pub mod Seeds
-pub mod Served
+pub mod LastWords
 pub mod ServedOnDisk
 pub mod Showings
 pub mod Statuses

@@ -2,8 +2,7 @@
 
 ghost use Rattle.std.specs.Prelude.{◌≡◌, ◌∷◌, ◌++◌, [], map, codes, IfOk, IfErr, OnOk};
 ghost use Rattle.wasmhost_serve.specs.rules.Creations.{IsMisconfigured, config_as};
-ghost use Rattle.wasmhost_serve.specs.rules.Served.{config_of, texts_in};
-ghost use Rattle.wasmhost_serve.specs.rules.Statuses.{IsUnconfigured};
+ghost use Rattle.wasmhost_serve.specs.rules.Texts.{texts_in};
 
 use std::alloc::{AllocError, Global};
 use thiserror::Error;
@@ -72,7 +71,7 @@ fn arguments_of(alloc: Global, arguments: &[&str]) -> Result<Row<Row<u8>>, Alloc
 }
 
 /// The configuration of a worker of these sizes, with these arguments and this environment.
-pub(crate) fn configure_as(
+pub(crate) fn configure(
     alloc: Global,
     sizes: Sizes,
     arguments: &[&str],
@@ -90,24 +89,4 @@ pub(crate) fn configure_as(
         Ok(config) => Ok(config),
         Err(fault) => Err(Unconfigured::Limits(fault)),
     }
-}
-
-/// The configuration of a worker of which no sizes are given, with these arguments and this
-/// environment.
-pub(crate) fn configure(
-    alloc: Global,
-    arguments: &[&str],
-    environment: &[&str],
-) -> Result<Config, Unconfigured>
-    ensures made { IfOk result (λ config. config
-        ≡ config_of (texts_in arguments.now) (texts_in environment.now)) }
-    ensures failed { IfErr result (IsUnconfigured
-        (config_of (texts_in arguments.now) (texts_in environment.now))) }
-{
-    let sizes = Sizes {
-        pages: PAGES,
-        files: FILES,
-        journal: JOURNAL,
-    };
-    configure_as(alloc, sizes, arguments, environment)
 }

@@ -3,6 +3,7 @@
 ghost use Rattle.durable_worker.specs.laws.Replies.{LivesEndAsSaid};
 ghost use Rattle.durable_worker.specs.laws.Uncut.{LivesGoOnUncut};
 ghost use Rattle.wasmhost_serve.specs.rules.Answered.{AnswersComeFromTheLines};
+ghost use Rattle.wasmhost_serve.specs.rules.Answered.{NoneIsLeftAtTheEnd};
 ghost use Rattle.wasmhost_serve.specs.rules.DiskCauses.{RefusalsHaveReasons, StatusesHaveCauses};
 ghost use Rattle.wasmhost_serve.specs.rules.Printed.{TakenLinesArePrinted};
 ghost use Rattle.wasmhost_serve.specs.rules.ServedOnDisk.{handing, printing};
@@ -20,7 +21,7 @@ pub fn taken_lines_are_printed<W: Write>()
     ensures { TakenLinesArePrinted W.contents }
 {}
 
-/// All that `serve_on` does of a worker that it has opened is one life. Where the power isn't cut
+/// All that `serve` does of a worker that it has opened is one life. Where the power isn't cut
 /// in it, it goes on from all that was promised. Its lines were printed. Where there is no error,
 /// its last slice has answered how the process stands that all kept answers lead to.
 pub fn lives_on_disk_go_on<D: Disk>()
@@ -31,9 +32,11 @@ pub fn lives_on_disk_go_on<D: Disk>()
 
 /// Of all that is asked in a life on a disk, the answered requests are those of the reader's lines
 /// behind the ones that the worker has taken, in order and none left out. Times are the clock's,
-/// and random bytes the next ones of the stream of the worker's generation.
+/// and random bytes the next ones of the stream of the worker's generation. There is no answer yet
+/// only to a request for which no line is left.
 pub fn answers_come_from_the_lines()
-    ensures { AnswersComeFromTheLines }
+    ensures answers { AnswersComeFromTheLines }
+    ensures none_left { NoneIsLeftAtTheEnd }
 {}
 
 /// Where a source of the program refuses a question in a life, it has a reason. The next line can't

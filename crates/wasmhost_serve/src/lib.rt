@@ -9,9 +9,6 @@
 //! - `Printer`: what the program says goes through one. It keeps whether a write has failed, and no
 //!   other code can make that true. So each status 7 below comes with a failed write (`IsSaid`,
 //!   `SaysText`, `HeedsBoth`).
-//! - `serve`: what each status of a run says of the module, its configuration, the answers from
-//!   outside, the lines that were printed, and the last words (`serves`). Up to any status but 7
-//!   whatever was printed is true. No status is above 7 (`known`).
 //! - `prepare`: an error says that the configuration is out of its limits, that the module isn't
 //!   accepted, or that memory ran out (`refused`). Else the module is accepted with the pages of
 //!   the configuration, and the sectors are those that its worker needs (`prepared`). It knows no
@@ -20,18 +17,20 @@
 //!   the disk, at its start. `created N sectors` was printed then. What the other statuses say
 //!   is said too, and what a cut at any moment leaves (`creates`). `report_unprepared` answers the
 //!   status of what it tells, or 7.
-//! - `serve_on`: what each status of a run of the worker on a disk says (`serves`). Where the
-//!   worker was recovered, all that was done of the disk, the source and the outlet are the calls
-//!   of one life, in order: slices of its fuel, and checkpoints at its pace (`IsPaced`). The source
-//!   begins behind the requests that the worker has taken, and at the first word of the seed's
-//!   stream of its generation (`stands_behind`). Where `err` is a terminal, its first line says how
-//!   the worker was recovered (`recovered_line`). `laws::lives_on_disk_go_on`: such calls are a
-//!   life that goes on from all that was promised, and its lines were printed. The last words are
-//!   those of what its last slice has answered (`HasOutcome`). Where the disk shows no worker
-//!   nothing is written or printed. No status is above 7 (`known`).
-//! - `laws::statuses_have_causes`: what each of these statuses comes from (`SaysOnDisk`).
-//!   `laws::refusals_have_reasons`: why the source of a run refuses a question.
-//! - `show_on`: the survey of a worker's disk is printed, or what keeps it from that is told
+//! - `serve`: what each status of a run of the worker on a disk says (`serves`). Where the worker
+//!   was recovered, all that was done of the disk, the source and the outlet are the calls of one
+//!   life, in order: slices of its fuel, and checkpoints at its pace (`IsPaced`). The source begins
+//!   behind the requests that the worker has taken, and at the first word of the seed's stream of
+//!   its generation (`stands_behind`). It refuses no question, unless the error is its own
+//!   (`AsksUnless`). Where `err` is a terminal, its first line says how the worker was recovered
+//!   (`recovered_line`). `laws::lives_on_disk_go_on`: such calls are a life that goes on from all
+//!   that was promised, and its lines were printed. The last words are those of what its last slice
+//!   has answered (`HasOutcome`). Where the disk shows no worker nothing is written or printed. No
+//!   status is above 7 (`known`).
+//! - `laws::statuses_have_causes`: what each of these statuses comes from, and that a reader which
+//!   fails is told (`SaysOnDisk`). `laws::refusals_have_reasons`: why the source of a run refuses a
+//!   question. `laws::answers_come_from_the_lines`: what it answers, and when it has none yet.
+//! - `survey`: the survey of a worker's disk is printed, or what keeps it from that is told
 //!   (`shows`). Of a disk that stands for a worker the line is that worker's (`stands`). Nothing is
 //!   changed on the disk, but that it is synced.
 //! - `RequestSource` answers requests as the lines of its reader say, in their order (`HandsNext`).
@@ -61,7 +60,7 @@
 //!
 //! # Definitions to read
 //!
-//! In `specs/rules/`: `Serves`, `HasPrinted`, `config_of`, `last_words` (`Served.antt`);
+//! In `specs/rules/`: `last_words` (`LastWords.antt`); `AsksUnless` (`Hearings.antt`);
 //! `GivesAnswers`, `GiveUpTo` (`Requests.antt`); `ComeFrom`, `requests_in` (`Outside.antt`);
 //! `seeded_bytes` (`Seeds.antt`); `printed`, `request_line` (`Texts.antt`);
 //! `CreatesOn`, `IsPreparedAs`, `IsUnprepared`, `config_as` (`Creations.antt`);
@@ -79,9 +78,8 @@
 //!
 //! Only this crate knows how lines, requests and last words are spelled, and the exit statuses
 //! (`status`). `wasmhost` calls it. It stands on `worker`, `durable_worker` and `machine_loader`.
-//! Want of memory is status 5. Of a worker without a disk nothing was printed then, or all lines of
-//! a process that the module reaches (`Serves`). A disk is lent to each call of a worker on it, and
-//! nothing else here touches one. Nothing here opens a file.
+//! Want of memory is status 5. A disk is lent to each call of a worker on it, and nothing else here
+//! touches one. Nothing here opens a file.
 #![tactic(auto)]
 
 mod check;
@@ -92,7 +90,6 @@ mod module_bytes;
 mod on_disk;
 mod preparing;
 mod printer;
-mod run;
 mod seed;
 pub mod status;
 mod stories;
@@ -107,10 +104,9 @@ pub use lines::{
     read_request, trap_name,
 };
 pub use module_bytes::read_module;
-pub use on_disk::{Pace, create_on, report_open, serve_on, show_on};
+pub use on_disk::{Pace, create_on, report_open, serve, survey};
 pub use preparing::{Prepared, Unprepared, prepare, report_unprepared};
 pub use printer::Printer;
-pub use run::{Options, serve};
 pub use seed::{read_seed, seeded};
 pub use stories::{ScriptFault, ScriptLine, read_script, report_script, tell};
 pub use telling::{Obstacle, obstacle_of, report, report_words, say_line};

@@ -3,13 +3,13 @@
 ghost use Rattle.std.specs.Prelude.{◌≡◌, ◌<◌, ◌≤◌, ◌^◌, IfErr, IfOk, OnOk, length};
 ghost use Rattle.wasi_abi.specs.rules.Configs.{AreSettingsWithinLimits};
 ghost use Rattle.machine_loader.specs.rules.Acceptance.{HasAcceptedModule};
-ghost use Rattle.wasmhost_serve.specs.rules.Served.{texts_in};
+ghost use Rattle.wasmhost_serve.specs.rules.Texts.{texts_in};
 ghost use Rattle.wasmhost_serve.specs.rules.Creations.{IsMeasured, IsPreparedAs, IsUnaccepted};
 ghost use Rattle.wasmhost_serve.specs.rules.Creations.{IsUnprepared, config_as, prepared_with};
 ghost use Rattle.wasmhost_serve.specs.rules.Creations.{disk_sectors, status_unprepared};
 ghost use Rattle.wasmhost_serve.specs.rules.Printers.{IsSaid};
 
-use crate::configuring::{Sizes, Unconfigured, configure_as};
+use crate::configuring::{Sizes, Unconfigured, configure};
 use crate::printer::Printer;
 use crate::status::{NO_MEMORY, REFUSED, UNWRITTEN};
 use disk_layout::Geometry;
@@ -110,7 +110,7 @@ pub fn prepare(
     ensures refused { IfErr result (IsUnprepared
         (config_as sizes (texts_in arguments.now) (texts_in environment.now)) wasm.now) }
 {
-    let config = match configure_as(alloc, sizes, arguments, environment) {
+    let config = match configure(alloc, sizes, arguments, environment) {
         Ok(config) => config,
         Err(Unconfigured::Limits(fault)) => return Err(Unprepared::Config(fault)),
         Err(Unconfigured::Memory) => return Err(Unprepared::Memory),

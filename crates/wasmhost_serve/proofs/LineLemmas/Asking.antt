@@ -1,9 +1,8 @@
 -- Question after question to a source.
-use Rattle.std.proofs.Common.{inl, inr, ◌≡◌, ℕ, ◌+◌, List, [], ◌∷◌, ◌++◌, length, None, Some, Ok}
+use Rattle.std.proofs.Common.{inl, inr, ◌≡◌, ℕ, ◌+◌, List, [], ◌∷◌, length, None, Some, Ok}
 use Rattle.std.proofs.Common.{Err, refl, sym, ap, subst, ◌∙◌, arith, append-nil, length-append}
 use Rattle.std.specs.Prelude.{Option}
 use Rattle.std.specs.Option.{IsSomeAnd}
-use Rattle.std.specs.List.{AllByRecursion}
 use Rattle.wasi_abi.specs.declared.answer.Answer.{Answer}
 use Rattle.wasi_abi.specs.declared.answer.Answer.TheVariants as answer
 use Rattle.wasi_abi.specs.declared.answer.Kind.{Kind}
@@ -12,8 +11,6 @@ use Rattle.wasi_abi.specs.rules.Answers.{Fits}
 use Rattle.wasi_calls_rules.specs.declared.limits.TheConstants.{TEXT_BYTES}
 use Rattle.process_rules.specs.Runs.{Kept, Given}
 use Rattle.record_replay.specs.declared.fault.SourceFault.{SourceFault}
-use Rattle.record_replay.specs.rules.Calls.{Giving, Ask, AnswersInOrder}
-use Rattle.worker.specs.rules.Slices.{handed_by, handed, HasAnswer}
 use Rattle.wasmhost_serve.specs.declared.lines.fault.LineFault.{LineFault}
 use Rattle.wasmhost_serve.specs.declared.lines.fault.LineFault.TheVariants as line
 use Rattle.wasmhost_serve.specs.rules.Outside.{ComesFrom, ComeFrom, request_in, requests_in}
@@ -219,26 +216,3 @@ module _ (s u t : Standing) (kept : List Kept) (before : HasAnswered s u kept) (
           → IsSomeAnd left (IsRefusedAt kind u t.failed) → ⊥
       gone left is h = let here : IsSomeAnd None (IsRefusedAt kind u t.failed) =
           subst (λ f. IsSomeAnd f (IsRefusedAt kind u t.failed)) is h in here
-
--- ---- a source
-
-module _ {S : Type 0} (stands : S → Standing) where
-  abbrev pub gives_lines : Giving S
-  gives_lines s kind said t = HandsNext kind (stands s) said (stands t)
-
-  -- each question was answered
-  pub all_answered : (asks : List Ask) (s t : S) → AllByRecursion HasAnswer asks
-      → (stands s).fault ≡ None → AnswersInOrder gives_lines s asks t
-      → HasAnswered (stands s) (stands t) (handed asks)
-  all_answered [] s t all none leads =
-      subst (λ z. HasAnswered (stands s) (stands z) []) (sym leads)
-      (answered_nothing (stands s) none)
-  all_answered (ask ∷ asks) s t all none leads =
-      let u = leads.0 in
-      let a = all.0.0 in
-      let hands : HandsAnswer ask.kind (stands s) (Some a) (stands u) =
-      subst (λ r. HandsNext ask.kind (stands s) r (stands u)) all.0.1 leads.1 in
-      let whole = answered_first ask.kind (stands s) (stands u) (stands t) a (handed asks) hands
-      (all_answered asks u t all.1 hands.unspoilt leads.2) in
-      subst (λ r. HasAnswered (stands s) (stands t) (handed_by r ++ handed asks)) (sym all.0.1)
-      whole

@@ -1,8 +1,10 @@
 -- Which answers a worker on a disk is given in a life: those of its reader's lines, in order, and
 -- the times and random bytes of the outside (this project's own).
-use Rattle.std.specs.Prelude.{◌≡◌, ℕ, ◌+◌, ⊤, List, length, Option}
+use Rattle.std.specs.Prelude.{◌≡◌, ℕ, ◌+◌, ⊤, List, [], ◌∷◌, ◌++◌, length, Option, None, Ok}
+use Rattle.wasi_abi.specs.declared.answer.Kind.{Kind}
+use Rattle.wasi_abi.specs.declared.answer.Kind.TheVariants as kinds
 use Rattle.process_rules.specs.Runs.{Kept}
-use Rattle.record_replay.specs.rules.Calls.{Exchange, Exchanges, asks_of}
+use Rattle.record_replay.specs.rules.Calls.{Ask, Exchange, Exchanges, asks_of}
 use Rattle.worker.specs.rules.Slices.{handed}
 use Rattle.wasmhost_serve.specs.Lines.Answers.{Standing}
 use Rattle.wasmhost_serve.specs.rules.Outside.{ComeFrom, requests_in, words_of}
@@ -23,3 +25,13 @@ abbrev pub AnswersComeFromTheLines : Type 0
 AnswersComeFromTheLines = (exchanges : List Exchange) (source source' : Standing)
     (out out' : Option (List ℕ)) → Exchanges handing printing source out exchanges source' out'
     → AreOfLines source (handed (asks_of exchanges)) source'
+
+-- Whatever they have exchanged: a question to which there was no answer yet was one for a request.
+-- The lines had come to their end behind the requests that were answered before it.
+abbrev pub NoneIsLeftAtTheEnd : Type 0
+NoneIsLeftAtTheEnd = (exchanges : List Exchange) (source source' : Standing)
+    (out out' : Option (List ℕ)) → Exchanges handing printing source out exchanges source' out'
+    → (front back : List Ask) (kind : Kind)
+    → asks_of exchanges ≡ front ++ (record { kind = kind; said = Ok None } ∷ back)
+    → (kind ≡ kinds.Request)
+    × GiveUpTo source.taken source.unread (requests_in (handed front)) (λ rest. rest ≡ [])

@@ -12,7 +12,7 @@ use Rattle.clap.specs.declared.error.ErrorKind.TheVariants as kind
 use Rattle.clap.specs.declared.error.Error.{Error}
 use Rattle.clap.specs.declared.parser.matches.ArgMatches.{ArgMatches}
 use Rattle.wasmhost_serve.specs.rules.CommandLine.{wasmhost}
-use Rattle.wasmhost_serve.specs.rules.Served.{texts_in}
+use Rattle.wasmhost_serve.specs.rules.Texts.{texts_in}
 use Rattle.wasmhost_serve.specs.declared.words.CreateOrder.{CreateOrder}
 use Rattle.wasmhost_serve.specs.declared.words.RunOrder.{RunOrder}
 use Rattle.wasmhost_serve.specs.declared.words.StoryOrder.{StoryOrder}

@@ -3,11 +3,10 @@ use Rattle.std.specs.Prelude.{◌≡◌, ◌≢◌, ◌⊎◌, ℕ, ◌+◌, ◌
 use Rattle.std.specs.Prelude.{◌++◌, length, Option, Some, None, Ok, Err}
 use Rattle.wasi_abi.specs.declared.answer.Kind.{Kind}
 use Rattle.wasi_abi.specs.declared.answer.Kind.TheVariants as kinds
-use Rattle.sector_disk.specs.rules.Image.{Image}
 use Rattle.sector_disk.specs.rules.Medium.{Medium}
 use Rattle.sector_disk.specs.declared.fault.DiskFault.TheVariants as disk
 use Rattle.record_replay.specs.declared.fault.SourceFault.{SourceFault}
-use Rattle.record_replay.specs.rules.Calls.{Ask, Exchange, Exchanges, asks_of}
+use Rattle.record_replay.specs.rules.Calls.{Ask, AnswersInOrder, Exchange, Exchanges, asks_of}
 use Rattle.worker.specs.declared.fault.WorkFault.TheVariants as work
 use Rattle.worker.specs.declared.now.Now.{Now}
 use Rattle.worker.specs.declared.now.Now.TheVariants.{Spent}
@@ -23,7 +22,7 @@ use Rattle.wasmhost_serve.specs.rules.Outside.{requests_in, words_of}
 use Rattle.wasmhost_serve.specs.rules.Requests.{GiveUpTo, BeginsWithOther, BeginsWithLater}
 use Rattle.wasmhost_serve.specs.rules.Printers.{PrinterState, IsPrinted, TellsPerson}
 use Rattle.wasmhost_serve.specs.rules.Seeds.{words_for}
-use Rattle.wasmhost_serve.specs.rules.Served.{ended_by, last_words}
+use Rattle.wasmhost_serve.specs.rules.LastWords.{ended_by, last_words}
 use Rattle.wasmhost_serve.specs.rules.ServedOnDisk.{DiskJob, stands_behind, handing, printing}
 use Rattle.wasmhost_serve.specs.rules.ServedOnDisk.{IsUnopenedRun, LivesOnDisk, HasOutcome}
 use Rattle.wasmhost_serve.specs.rules.ServedOnDisk.{ServesOnDisk, recovered_line}
@@ -133,21 +132,21 @@ module _ {D : Type 0} (medium : D → Medium) (given : DiskJob) (found last : D)
         → (why ≡ durable.Work work.Source → source'.fault ≡ None) → source'.failed ≡ failed'
         → IsKind (recover.Worker why) → FailsOnDisk IsKind
 
-  -- A call of the life has failed since the source refused a question. If the answers of the disk
-  -- fit an image, this holds behind all that source and outlet have exchanged in the life.
+  -- A call of the life has failed since the source refused a question. This holds behind all that
+  -- the source was asked in the life.
   pub record AsksInVain (Holds : Standing → List Ask → Bool → Type 0) : Type 0 where
     pub source' : Standing
     pub lives : LivesOnDisk medium given (Err (recover.Worker (durable.Work work.Source))) found
         last out out' source'
     pub heeded : source'.failed ≡ failed'
-    pub behind : (image : Image) → (medium lives.opening).may_leave image
-        → (begun : Option (List ℕ)) × (exchanges : List Exchange)
-        × Exchanges handing printing (stands_behind given lives.worker) begun exchanges source' out'
-        × Holds (stands_behind given lives.worker) (asks_of exchanges) failed'
+    pub asks : List Ask
+    pub led : AnswersInOrder handing (stands_behind given lives.worker) asks source'
+    pub behind : Holds (stands_behind given lives.worker) asks failed'
 
   -- 0: it is over. 3: the disk shows no worker that can go on, or a number is at its end. 4: the
   -- disk or the source has failed. 5: memory was refused. 6: the next line is refused. 7: a line of
-  -- the worker was refused, or what is said couldn't be written.
+  -- the worker was refused, or what is said couldn't be written. A reader that fails is told by 4,
+  -- or by 5 where it wants memory, unless that can't be printed.
   pub record SaysOnDisk (err err' : PrinterState) (status : ℕ) : Type 0 where
     pub over : status ≡ 0 → IsOverOnDisk err err'
     pub stuck : status ≡ 3 → FailsOnDisk IsStuck
@@ -155,6 +154,7 @@ module _ {D : Type 0} (medium : D → Medium) (given : DiskJob) (found last : D)
     pub starved : status ≡ 5 → FailsOnDisk IsWanting ⊎ AsksInVain LacksMemoryAt
     pub bad_line : status ≡ 6 → AsksInVain MeetsBadLineAt
     pub unprinted : status ≡ 7 → FailsOnDisk IsUntaken ⊎ (err'.failed ≡ true)
+    pub heeded : (failed' ≡ given.failed) ⊎ (status ≡ 4) ⊎ (status ≡ 5) ⊎ (status ≡ 7)
     pub known : (status ≡ 0) ⊎ ((3 ≤ status) × (status ≤ 7))
 
 -- so it is of each run

@@ -6,7 +6,7 @@ use Rattle.process_rules.specs.Runs.{Kept, Given}
 use Rattle.wasmhost_serve.specs.declared.lines.outside.Outside.{Outside}
 use Rattle.wasmhost_serve.specs.rules.Seeds.{seeded_bytes, words_for}
 
--- the stream of a seed's words for a worker that keeps no disk
+-- the stream of a seed's words at which a source begins, before it goes on behind a worker
 abbrev pub random_stream : ℕ
 random_stream = 1
 

@@ -22,10 +22,11 @@ use Rattle.wasmhost_serve.specs.declared.on_disk.fault.OnDiskFault.{OnDiskFault}
 use Rattle.wasmhost_serve.specs.Lines.Answers.{Standing, standing, HandsNext}
 use Rattle.wasmhost_serve.specs.rules.DiskStatuses.{IsToldOnDisk, told_of_opening, status_on_disk}
 use Rattle.durable_worker.specs.laws.Outcomes.{life_outcome}
+use Rattle.wasmhost_serve.specs.rules.Hearings.{AsksUnless, IsOfSource}
 use Rattle.wasmhost_serve.specs.rules.Paces.{IsPaced}
 use Rattle.wasmhost_serve.specs.rules.Printers.{PrinterState, IsSaid, SaysText, TellsPerson}
 use Rattle.wasmhost_serve.specs.rules.Prints.{PrintsOneLine}
-use Rattle.wasmhost_serve.specs.rules.Served.{ended_by, last_words}
+use Rattle.wasmhost_serve.specs.rules.LastWords.{ended_by, last_words}
 use Rattle.wasmhost_serve.specs.rules.Showings.{named_number}
 use Rattle.wasmhost_serve.specs.rules.Texts.{printed}
 
@@ -80,7 +81,8 @@ pub record IsUnopenedRun {D : Type 0} (medium : D → Medium) (why : RecoverFaul
       (Err why) last source out'
 
 -- The worker was recovered, and this disk was left. All that was done is one life, at this pace,
--- if the answers of that disk fit an image.
+-- if the answers of that disk fit an image. No question was refused in it, unless its error is that
+-- of the source.
 pub record LivesOnDisk {D : Type 0} (medium : D → Medium) (given : DiskJob)
     (left : Result (List Act) RecoverFault) (found last : D) (out out' : Option (List ℕ))
     (source' : Standing) : Type 0 where
@@ -88,6 +90,7 @@ pub record LivesOnDisk {D : Type 0} (medium : D → Medium) (given : DiskJob)
   pub opening : D
   pub acts : List Act
   pub paced : IsPaced given.fuel given.every acts
+  pub heard : AsksUnless handing (IsOfSource left) (stands_behind given worker) source'
   pub life : (image : Image) → (medium opening).may_leave image
       → (bytes : List ℕ) (config : Settings)
       → IsOneLife medium handing printing bytes config acts found (stands_behind given worker) out

@@ -7,22 +7,12 @@ use Rattle.worker.specs.declared.fault.WorkFault.{WorkFault}
 use Rattle.worker.specs.declared.fault.WorkFault.TheVariants as fault
 use Rattle.wasmhost_serve.specs.declared.lines.fault.LineFault.{LineFault}
 use Rattle.wasmhost_serve.specs.declared.lines.fault.LineFault.TheVariants as line
-use Rattle.wasi_abi.specs.rules.Configs.{Settings, AreSettingsWithinLimits}
-use Rattle.wasmhost_serve.specs.declared.configuring.Unconfigured.{Unconfigured}
-use Rattle.wasmhost_serve.specs.declared.configuring.Unconfigured.TheVariants as unconfigured
-use Rattle.wasmhost_serve.specs.declared.run.RunFault.{RunFault}
-use Rattle.wasmhost_serve.specs.declared.run.RunFault.TheVariants as run
 
 -- The bytes spell an accepted module, or none for the fault to be told. Want of memory says nothing
 -- of them.
 abbrev pub IsRight : ℕ → List ℕ → Result ⊤ FrontFault → Type 0
 IsRight pages bytes (Ok done) = HasAcceptedModule pages bytes
 IsRight pages bytes (Err fault) = FrontDenies fault (HasNoAcceptedModule pages bytes)
-
--- The settings aren't within the limits. Want of memory says nothing of them.
-abbrev pub IsUnconfigured : Settings → Unconfigured → Type 0
-IsUnconfigured settings (unconfigured.Limits why) = AreSettingsWithinLimits settings → ⊥
-IsUnconfigured settings unconfigured.Memory = ⊤
 
 -- the exit status of a verdict whose line is printed
 abbrev pub status_by : Result ⊤ FrontFault → ℕ
@@ -45,10 +35,3 @@ status_of_line line.Words = 4
 status_of_line line.Memory = 5
 status_of_line (line.Number given wanted) = 6
 status_of_line line.Form = 6
-
--- the exit status of a worker that doesn't run to its end, where that is printed
-abbrev pub status_of : RunFault → ℕ
-status_of (run.Config (unconfigured.Limits why)) = 3
-status_of (run.Config unconfigured.Memory) = 5
-status_of (run.Work why) = status_of_work why
-status_of (run.Line why) = status_of_line why

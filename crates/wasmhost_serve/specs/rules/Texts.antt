@@ -1,5 +1,7 @@
 -- The lines that a worker's reader and writer see (this project's own).
-use Rattle.std.specs.Prelude.{ℕ, ◌≡◌, ◌≤◌, ◌==◌, if◌then◌else◌, List, [], ◌∷◌, ◌++◌, length, codes}
+use Rattle.std.specs.Prelude.{ℕ, ◌≡◌, ◌≤◌, ◌==◌, if◌then◌else◌, List, [], ◌∷◌, ◌++◌, length, map}
+use Rattle.std.specs.Prelude.{codes}
+use Rattle.std.specs.Borrow.{Bor}
 use Rattle.std.specs.Fmt.{decimal}
 use Rattle.wasm_syntax.specs.declared.value.Trap.{Trap}
 use Rattle.wasm_syntax.specs.declared.value.Trap.TheVariants as trap
@@ -9,6 +11,10 @@ use Rattle.wasi_calls_rules.specs.declared.limits.TheConstants.{TEXT_BYTES}
 use Rattle.wasmhost_serve.specs.declared.lines.request.Request.{Request}
 use Rattle.wasmhost_serve.specs.declared.lines.request.Request.TheVariants as request
 use Rattle.wasmhost_serve.specs.rules.Numbers.{IsNumberedRequest}
+
+-- the bytes of texts
+abbrev pub texts_in : List (Bor (List ℕ)) → List (List ℕ)
+texts_in = map (λ text. text.now)
 
 -- stream 1 is the output, and stream 2 the error output
 abbrev pub letter_of : ℕ → List ℕ

@@ -15,7 +15,7 @@ use std::time::Clock;
 use wasi_abi::Answer;
 use wasm_syntax::Row;
 
-/// The stream of a seed's words for a worker that keeps no disk.
+/// The stream of a seed's words at which a source begins, before it goes on behind a worker.
 pub(crate) const STREAM: u64 = 1;
 
 /// Where times and random bytes come from.

@@ -55,18 +55,6 @@ impl<R: LineReader + Drop, C: Clock + Drop> RequestSource<R, C> {
         }
     }
 
-    /// As for a fresh worker: nothing is taken, and there is no fault. It reads on where it is.
-    pub(crate) fn begin_again(&mut self)
-        ensures reader { self.new.requests.reader ≡ self.old.requests.reader }
-        ensures taken { self.new.requests.taken ≡ 0 }
-        ensures outside { self.new.outside ≡ self.old.outside }
-        ensures stream { self.new.stream ≡ random_stream }
-        ensures place { self.new.place ≡ 0 }
-        ensures unfailed { self.new.fault ≡ None }
-    {
-        self.go_on_behind(0, STREAM);
-    }
-
     /// As for a worker that has taken so many requests: these are passed over. Random bytes are
     /// those of this stream of the seed, from its first word on, and there is no fault. It reads on
     /// where it is.

@@ -1,6 +1,7 @@
 //! Commands on a worker that is kept on a disk.
 
 mod creation;
+mod ending;
 mod fault;
 mod living;
 mod opening;
@@ -10,5 +11,5 @@ mod showing;
 pub use creation::create_on;
 pub use living::Pace;
 pub use opening::report_open;
-pub use serving::serve_on;
-pub use showing::show_on;
+pub use serving::serve;
+pub use showing::survey;

@@ -9,11 +9,11 @@ ghost use Rattle.wasmhost_serve.specs.rules.ServedOnDisk.{ServesOnDisk, disk_job
 ghost use Rattle.wasmhost_serve.specs.Livings.{HasGoneOn};
 
 use crate::lines::{LineFault, LineOutlet, LineReader, RequestSource};
+use crate::on_disk::ending::say;
 use crate::on_disk::fault::{OnDiskFault, say_disk_fault};
 use crate::on_disk::living::{Pace, live};
 use crate::on_disk::showing::print_number;
 use crate::printer::Printer;
-use crate::run::say;
 use durable_worker::{DurableFault, DurableWorker};
 use sector_disk::Disk;
 use std::alloc::Global;
@@ -83,7 +83,7 @@ fn tell_recovered<E: Write + Drop>(err: &mut Printer<E>, worker: &DurableWorker)
 /// the end of the lines, 3 for a disk that shows no worker that can go on and where a number is at
 /// its end, 4 where the disk, the reader or the clock fails, 5 for want of memory, 6 for a refused
 /// request line, 7 where a write has failed.
-pub fn serve_on<D: Disk, R: LineReader + Drop, C: Clock + Drop, W: Write + Drop, E: Write + Drop>(
+pub fn serve<D: Disk, R: LineReader + Drop, C: Clock + Drop, W: Write + Drop, E: Write + Drop>(
     alloc: Global,
     disk: &mut D,
     pace: Pace,

@@ -10,7 +10,7 @@ ghost use Rattle.wasmhost_serve.specs.rules.Showings.{ShowsDisk, ShowsSurvey, Sa
 use crate::on_disk::fault::{OnDiskFault, say_disk_fault};
 use crate::printer::Printer;
 use crate::status::UNWRITTEN;
-use durable_worker::{Survey, survey};
+use durable_worker::{Survey, read_survey};
 use sector_disk::Disk;
 use std::alloc::Global;
 use std::io::{self, Write};
@@ -63,7 +63,7 @@ fn say_survey<W: Write + Drop>(out: &mut Printer<W>, survey: &Survey) -> u8
 /// many records lie behind it. Nothing is changed on the disk, but that it is synced. Answers the
 /// exit status: 0 where the line is printed, 3 for a disk that is refused, 4 where it fails, 5 for
 /// want of memory, 7 where a write of a printer has failed.
-pub fn show_on<D: Disk, W: Write + Drop, E: Write + Drop>(
+pub fn survey<D: Disk, W: Write + Drop, E: Write + Drop>(
     alloc: Global,
     disk: &mut D,
     out: &mut Printer<W>,
@@ -79,7 +79,7 @@ pub fn show_on<D: Disk, W: Write + Drop, E: Write + Drop>(
         (D.medium disk.new) out.old out.new err.new result) }
     ensures known { result ≤ 7 }
 {
-    match survey(alloc, disk) {
+    match read_survey(alloc, disk) {
         Ok(survey) => say_survey(out, &survey),
         Err(fault) => say_disk_fault(err, OnDiskFault::from(fault)),
     }

@@ -4,7 +4,7 @@ ghost use Rattle.std.specs.Prelude.{◌≡◌, IfOk, codes, map};
 ghost use Rattle.std.specs.Str.{bytes_eq};
 ghost use Rattle.wasmhost_serve.specs.rules.Commands.{behind_dashes, before_dashes, guest_words};
 ghost use Rattle.wasmhost_serve.specs.rules.Commands.{is_create, own_words};
-ghost use Rattle.wasmhost_serve.specs.rules.Served.{texts_in};
+ghost use Rattle.wasmhost_serve.specs.rules.Texts.{texts_in};
 
 use std::alloc::{AllocError, Global};
 use std::convert::AsStr;

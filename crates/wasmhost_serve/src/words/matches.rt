@@ -3,7 +3,7 @@
 ghost use Rattle.std.specs.Prelude.{◌≡◌, ◌<◌, ◌≤◌, IfOk, IsSome, Some, codes, option_map};
 ghost use Rattle.std.specs.Int.NonZero.{non_zero_u64_get};
 ghost use Rattle.clap.specs.Words.{first_of, found_of, rows_of};
-ghost use Rattle.wasmhost_serve.specs.rules.Served.{texts_in};
+ghost use Rattle.wasmhost_serve.specs.rules.Texts.{texts_in};
 ghost use Rattle.wasmhost_serve.specs.rules.Commands.{IsTaken, TakesFlag, TakesNumber};
 ghost use Rattle.wasmhost_serve.specs.rules.Commands.{TakesOptions, create_in, create_said};
 ghost use Rattle.wasmhost_serve.specs.rules.Commands.{environment_in, flag_in, meaning_below};

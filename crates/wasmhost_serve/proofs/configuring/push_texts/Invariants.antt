@@ -1,5 +1,5 @@
 use Rattle.std.proofs.Common.{◌≡◌, ◌++◌, take}
-use Rattle.wasmhost_serve.specs.rules.Served.{texts_in}
+use Rattle.wasmhost_serve.specs.rules.Texts.{texts_in}
 use Rattle.wasmhost_serve.proofs.configuring.push_texts.Given as goal
 
 -- the first texts were copied

@@ -1,4 +1,5 @@
 use Rattle.std.proofs.Common.{arith}
+use Rattle.wasmhost_serve.proofs.HearingLemmas.{slice_hears, slice_hears_up_to}
 use Rattle.wasmhost_serve.proofs.LivingLemmas.{within_breaks, within_rests, within_broken}
 use Rattle.wasmhost_serve.proofs.LivingLemmas.{within_more, none_taken}
 use Rattle.wasmhost_serve.proofs.LivingLemmas.{within_fewer, slice_fewer}
@@ -16,12 +17,17 @@ returns-in-Err-clause-failed g c =
     within_breaks g.D.Disk.medium g.S.Source.gives g.O.Outlet.takes _ _ _ _ _ c.loop-now.invariant
     c.get.result c.get.ensures.value _ _ _ _ _ c.get-every.ensures.value c.in-Err.fault
     c.in-Err.ensures.carries
+    (slice_hears_up_to g.S.Source.gives g.O.Outlet.takes c.get.result _ _ _ _
+    c.loop-now.worker.process c.slice.new.self.process c.in-Err.fault c.loop-now.worker.has_failed
+    c.is_process.ensures c.in-Err.ensures.failed (λ e. (c.in-Err.ensures.refused e).3))
 
 pub returns-then-taken-every-clause-done : goal.returns-then-taken-every-clause-done
 returns-then-taken-every-clause-done g c =
     within_rests g.D.Disk.medium g.S.Source.gives g.O.Outlet.takes _ _ _ _ _ c.loop-now.invariant
     c.get.result c.get.ensures.value _ _ _ _ _ c.get-every.ensures.value c.in-Ok.now
     c.in-Ok.ensures.carries c.rest_on.result _ _ c.rest_on.ensures.rested
+    (slice_hears g.S.Source.gives g.O.Outlet.takes c.get.result _ _ _ _ _ _ c.in-Ok.now
+    c.is_process.ensures c.in-Ok.ensures.done)
     (λ spent. elim c.then-taken-every.branch [
       | then-taken-every-via-then-taken-every w ↦ w.if-taken-every.true
       | then-taken-every-via-else-taken-every+then-not-is_spent w ↦
@@ -33,6 +39,8 @@ returns-then-taken-every-clause-failed g c =
     within_broken g.D.Disk.medium g.S.Source.gives g.O.Outlet.takes _ _ _ _ _ c.loop-now.invariant
     c.get.result c.get.ensures.value _ _ _ _ _ c.get-every.ensures.value c.in-Ok.now
     c.in-Ok.ensures.carries c.rest_on.result _ _ c.rest_on.ensures.rested
+    (slice_hears g.S.Source.gives g.O.Outlet.takes c.get.result _ _ _ _ _ _ c.in-Ok.now
+    c.is_process.ensures c.in-Ok.ensures.done)
 
 pub loop-now-preserved : goal.loop-now-preserved
 loop-now-preserved g c =
@@ -40,6 +48,8 @@ loop-now-preserved g c =
     let other = c.if-taken-every.false in
     within_more g.D.Disk.medium g.S.Source.gives g.O.Outlet.takes _ _ _ _ _ c.loop-now.invariant
     c.get.result c.get.ensures.value _ _ _ _ c.in-Ok.now c.in-Ok.ensures.carries
+    (slice_hears g.S.Source.gives g.O.Outlet.takes c.get.result _ _ _ _ _ _ c.in-Ok.now
+    c.is_process.ensures c.in-Ok.ensures.done)
     (c.is_spent.ensures.0 c.if-not-is_spent.false) (omega (arith, before, other))
     (slice_fewer g.D.Disk.medium g.S.Source.gives g.O.Outlet.takes c.loop-now.worker
     c.slice.new.self c.get.result c.in-Ok.now _ _ _ _

@@ -1,5 +1,5 @@
 use Rattle.std.proofs.Common.{◌≡◌, map, take}
-use Rattle.wasmhost_serve.specs.rules.Served.{texts_in}
+use Rattle.wasmhost_serve.specs.rules.Texts.{texts_in}
 use Rattle.wasmhost_serve.proofs.words.cut.texts_of.Given as goal
 
 -- the first words were taken

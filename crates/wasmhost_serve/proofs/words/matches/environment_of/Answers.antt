@@ -1,7 +1,7 @@
 use Rattle.std.proofs.Common.{None, Some, ap, ◌∙◌}
 use Rattle.std.proofs.lemmas.Result.{IfOk-weaker}
 use Rattle.clap.specs.Words.{found_of}
-use Rattle.wasmhost_serve.specs.rules.Served.{texts_in}
+use Rattle.wasmhost_serve.specs.rules.Texts.{texts_in}
 use Rattle.wasmhost_serve.proofs.WordLemmas.Meets.{entries_are_read}
 use Rattle.wasmhost_serve.proofs.words.matches.environment_of.Goals as goal
 

@@ -2,7 +2,7 @@ use Rattle.std.specs.Int.NonZero.{non_zero_u64_get}
 use Rattle.std.proofs.Common.{refl}
 use Rattle.wasmhost_serve.specs.rules.ServedOnDisk.{disk_job}
 use Rattle.wasmhost_serve.proofs.OnDiskLemmas.{serves_none, serves_over, serves_broken, few_told}
-use Rattle.wasmhost_serve.proofs.on_disk.serving.serve_on.Goals as goal
+use Rattle.wasmhost_serve.proofs.on_disk.serving.serve.Goals as goal
 
 pub returns-in-Err-clause-serves : goal.returns-in-Err-clause-serves
 returns-in-Err-clause-serves g c =

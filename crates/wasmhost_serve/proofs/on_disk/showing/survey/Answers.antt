@@ -1,11 +1,11 @@
 use Rattle.std.proofs.Common.{refl}
 use Rattle.wasmhost_serve.proofs.ShowingLemmas.{shows_survey, shows_fault, shows_known, shows_each}
-use Rattle.wasmhost_serve.proofs.on_disk.showing.show_on.Goals as goal
+use Rattle.wasmhost_serve.proofs.on_disk.showing.survey.Goals as goal
 
 pub returns-in-Ok : goal.returns-in-Ok
 returns-in-Ok g c =
     let old = g.D.Disk.medium c.args.disk.now in
-    let new = g.D.Disk.medium c.survey.new.disk in
+    let new = g.D.Disk.medium c.read_survey.new.disk in
     let out = c.args.out.now in
     let out' = c.say_survey.new.out in
     let err = c.args.err.now in
@@ -21,7 +21,7 @@ returns-in-Ok g c =
 pub returns-in-Err : goal.returns-in-Err
 returns-in-Err g c =
     let old = g.D.Disk.medium c.args.disk.now in
-    let new = g.D.Disk.medium c.survey.new.disk in
+    let new = g.D.Disk.medium c.read_survey.new.disk in
     let out = c.args.out.now in
     let err = c.args.err.now in
     let err' = c.say_disk_fault.new.err in

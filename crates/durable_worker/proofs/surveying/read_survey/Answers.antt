@@ -1,5 +1,5 @@
 use Rattle.durable_worker.proofs.SurveyLemmas.{unsettled_surveys, unfound_surveys, found_surveys}
-use Rattle.durable_worker.proofs.surveying.survey.Goals as goal
+use Rattle.durable_worker.proofs.surveying.read_survey.Goals as goal
 
 pub returns-in-Err : goal.returns-in-Err
 returns-in-Err g c =

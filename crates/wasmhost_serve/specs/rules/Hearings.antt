@@ -1,0 +1,25 @@
+-- Questions of a run that weren't refused (this project's own).
+use Rattle.std.specs.Prelude.{◌≡◌, ◌⊎◌, List, Option, Result, Ok, Err}
+use Rattle.std.specs.List.{AllByRecursion}
+use Rattle.wasi_abi.specs.declared.answer.Answer.{Answer}
+use Rattle.record_replay.specs.rules.Calls.{Giving, Ask, AnswersInOrder}
+use Rattle.worker.specs.declared.fault.WorkFault.TheVariants as work
+use Rattle.durable_worker.specs.declared.fault.DurableFault.TheVariants as durable
+use Rattle.durable_worker.specs.declared.recover_fault.RecoverFault.{RecoverFault}
+use Rattle.durable_worker.specs.declared.recover_fault.RecoverFault.TheVariants as recover
+use Rattle.durable_worker.specs.rules.LifeWords.{Act}
+
+-- a question that was answered, or to which there was no answer yet
+abbrev pub WasHeard : Ask → Type 0
+WasHeard ask = (found : Option Answer) × (ask.said ≡ Ok found)
+
+-- These questions lead from one source to another. None of them was refused, unless this is so.
+pub record AsksUnless {S : Type 0} (gives : Giving S) (Refused : Type 0) (source source' : S)
+    : Type 0 where
+  pub asks : List Ask
+  pub led : AnswersInOrder gives source asks source'
+  pub heard : AllByRecursion WasHeard asks ⊎ Refused
+
+-- the error that ended the calls of a life is that of its source
+abbrev pub IsOfSource : Result (List Act) RecoverFault → Type 0
+IsOfSource left = left ≡ Err (recover.Worker (durable.Work work.Source))
