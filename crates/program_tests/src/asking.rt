@@ -29,13 +29,13 @@ pub(crate) fn config(alloc: Global) -> Result<Config, Fail> {
 }
 
 /// A worker of a module, before its first step.
-pub(crate) fn created(alloc: Global, wasm: &[u8]) -> Result<Worker, Fail> {
+pub(crate) fn create_worker(alloc: Global, wasm: &[u8]) -> Result<Worker, Fail> {
     let config = config(alloc)?;
     Ok(Worker::create(alloc, wasm, config)?)
 }
 
 /// A process of a module, before its first step.
-fn started(alloc: Global, wasm: &[u8]) -> Result<Process, Fail> {
+fn start_process(alloc: Global, wasm: &[u8]) -> Result<Process, Fail> {
     let config = config(alloc)?;
     let module = read(alloc, wasm)?;
     Ok(Process::start(alloc, module, config)?)
@@ -43,7 +43,7 @@ fn started(alloc: Global, wasm: &[u8]) -> Result<Process, Fail> {
 
 fn echo(alloc: Global) -> Result<Process, Fail> {
     let wasm = bytes_of(alloc, &ECHO)?;
-    started(alloc, wasm.as_slice())
+    start_process(alloc, wasm.as_slice())
 }
 
 pub(crate) fn hello(alloc: Global) -> Result<Answer, Fail> {
@@ -143,7 +143,7 @@ fn fail_on_a_time(alloc: Global, worker: &mut Worker) -> Result<bool, Fail> {
 #[test]
 fn a_wrong_source_ends_the_worker(rt: HostRuntime) -> Result<(), Fail> {
     let wasm = bytes_of(rt.alloc(), &ECHO)?;
-    let mut worker = created(rt.alloc(), wasm.as_slice())?;
+    let mut worker = create_worker(rt.alloc(), wasm.as_slice())?;
     let failed = fail_on_a_time(rt.alloc(), &mut worker);
     let steps = worker.process().steps();
     drop(worker);

@@ -1,6 +1,6 @@
 //! Slices of a worker, cut anywhere, come to one image and tell the same lines.
 
-use crate::asking::{ECHO, created};
+use crate::asking::{ECHO, create_worker};
 use crate::check::bytes_of;
 use record_replay::{AnswerList, LineList, NumberedLine};
 use state_image::write_image;
@@ -59,7 +59,7 @@ fn run(
 }
 
 fn in_two_slices(alloc: Global, wasm: &[u8], first: u64) -> Result<Sliced, Fail> {
-    let mut worker = created(alloc, wasm)?;
+    let mut worker = create_worker(alloc, wasm)?;
     let mut told = LineList::new(alloc);
     let image = run(alloc, &mut worker, first, &mut told);
     drop(worker);

@@ -274,7 +274,7 @@ fn a_failed_read_is_a_fault(rt: HostRuntime) -> Result<(), Fail> {
 }
 
 /// Whether the first request of a line is answered, and the fault.
-fn answered(alloc: Global, line: &[u8]) -> (bool, Option<LineFault>) {
+fn answer_to(alloc: Global, line: &[u8]) -> (bool, Option<LineFault>) {
     let mut source = source_over(alloc, line, 0);
     let answer = source.answer(Kind::Request);
     let is_answered = answer.is_ok();
@@ -288,7 +288,7 @@ fn answered(alloc: Global, line: &[u8]) -> (bool, Option<LineFault>) {
 /// of memory.
 #[test]
 fn answers_with_memory(rt: HostRuntime) -> Result<(), LineFault> {
-    let (is_answered, fault) = answered(rt.alloc(), b"1 r hi\n");
+    let (is_answered, fault) = answer_to(rt.alloc(), b"1 r hi\n");
     match fault {
         Some(fault) if !is_answered => Err(fault),
         _ => Ok(()),
@@ -316,7 +316,7 @@ static LENGTHS: [(usize, Option<LineFault>); 3] = [(4096, None), (4097, FORM), (
 /// Whether a text of this length is answered, or else is this fault.
 fn answers_so(alloc: Global, row: &(usize, Option<LineFault>)) -> Result<bool, AllocError> {
     let line = long_input(alloc, b"1 r ", row.0, b"")?;
-    Ok(answered(alloc, line.as_slice()) == (row.1.is_none(), row.1))
+    Ok(answer_to(alloc, line.as_slice()) == (row.1.is_none(), row.1))
 }
 
 #[test]

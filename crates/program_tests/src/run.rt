@@ -3,7 +3,7 @@
 
 ghost use Rattle.std.specs.Prelude.{◌≤◌};
 
-use crate::asking::created;
+use crate::asking::create_worker;
 use crate::check::{BEFORE_CODE, EMPTY_BODY, HELLO, bytes_of};
 use crate::lines::{NoClock, OUTSIDE};
 use crate::serving::pace_of;
@@ -144,7 +144,7 @@ fn run_alone(alloc: Global, worker: &mut Worker, fuel: u64) -> Result<(), WorkFa
 /// What a worker of a module has in the end: its steps, and the number at 16.
 fn end_of(alloc: Global, texts: &[&str], fuel: u64) -> Result<(u64, Option<u32>), Fail> {
     let wasm = bytes_of(alloc, texts)?;
-    let mut worker = created(alloc, wasm.as_slice())?;
+    let mut worker = create_worker(alloc, wasm.as_slice())?;
     let ended = run_alone(alloc, &mut worker, fuel);
     let steps = worker.process().steps();
     let number = worker.process().memory().load_u32(16, 0);

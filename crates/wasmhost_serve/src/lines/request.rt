@@ -7,10 +7,8 @@ ghost use Rattle.wasmhost_serve.specs.rules.Texts.{IsShortRequest, IsRequestLine
 ghost use Rattle.wasmhost_serve.specs.rules.Numbers.{IsNumberedRequest, request_number};
 
 use itoa::Buffer;
+use wasi_abi::NUMBERS_END;
 use wasi_calls_rules::limits::TEXT_BYTES;
-
-/// Numbers of requests are below this.
-const NUMBERS: u64 = 1 << 63;
 
 /// What a request line says.
 #[derive(Clone, Copy, Debug, PartialEq, Eq)]
@@ -48,7 +46,7 @@ fn read_number(digits: &[u8]) -> Option<u64>
 {
     let number = parse_digits(digits)?;
     let mut buffer = Buffer::new();
-    if buffer.format(number).as_bytes() != digits || number == 0 || number >= NUMBERS {
+    if buffer.format(number).as_bytes() != digits || number == 0 || number >= NUMBERS_END {
         return None;
     }
     Some(number)

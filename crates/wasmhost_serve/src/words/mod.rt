@@ -8,6 +8,7 @@ mod commands;
 mod cut;
 mod matches;
 
+use crate::status::{NO_MEMORY, USAGE};
 use clap::error::ErrorKind;
 use clap::{ArgMatches, Error};
 use commands::command;
@@ -95,14 +96,14 @@ pub enum WordsFault {
 }
 
 impl WordsFault {
-    /// The exit status: help is done, a mistake is 2, and want of memory 5.
+    /// The exit status: 0 for help, `USAGE` for a mistake, `NO_MEMORY` for want of memory.
     pub fn status(&self) -> u8
         ensures { IsStatusOf self.now result }
     {
         match self {
-            WordsFault::Words(error) if error.use_stderr() => 2,
+            WordsFault::Words(error) if error.use_stderr() => USAGE,
             WordsFault::Words(_) => 0,
-            WordsFault::Memory => 5,
+            WordsFault::Memory => NO_MEMORY,
         }
     }
 }
