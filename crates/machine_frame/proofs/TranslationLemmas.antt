@@ -13,6 +13,7 @@ pub mod UnformedLemmas
 pub mod Placed
 pub mod Pushing
 pub mod PlacingLemmas
+pub mod Resolving
 pub mod Stepping
 pub mod Fusing
 pub mod TableJumps
