@@ -22,16 +22,16 @@ use Rattle.file_tree.proofs.StoreLemmas.Keys.{length-stored}
 use Rattle.file_tree.proofs.StoreLemmas.NamedStored.{cut_stored, in_order, are_listed, node_at}
 use Rattle.file_tree.proofs.StoreLemmas.Places.{none_at}
 
-pub keys_in_order : (slab : Slab Node) (order names keys : List ℕ)
+pub keys_in_order : {slab : Slab Node} {order names keys : List ℕ}
     → AreStoredNodes slab order names → keys ≡ names → AreByAddress slab keys
-keys_in_order slab order names keys kept same =
+keys_in_order {slab} {order} {names} kept same =
     subst (AreByAddress slab) (sym same)
     (in_order NoKey slab order names kept.are.present kept.named)
 
-pub key_before : (slab : Slab Node) (keys : List ℕ) (p : ℕ) → AreByAddress slab keys → p ≢ 0
+pub key_before : {slab : Slab Node} {keys : List ℕ} (p : ℕ) → AreByAddress slab keys → p ≢ 0
     → p ≤ length keys
     → ContainsKey slab (get_or keys (p - 1) 0)
-key_before slab keys p order some within =
+key_before {slab} {keys} p order some within =
     behind_all (ContainsKey slab) keys (p - 1) 0 order.present (omega (arith, some, within))
 
 -- the key before this place has a node that hangs in a directory, where it isn't the first
@@ -39,7 +39,7 @@ abbrev pub IsLastBelow : Slab Node → List ℕ → ℕ → ℕ → ℕ → Type
 IsLastBelow slab keys d first low =
     (i : ℕ) → first ≤ i → suc i ≡ low → in_directory d (named_node slab keys i) ≢ None
 
-module _ (slab : Slab Node) (order names keys : List ℕ) (ns : List Node)
+module _ {slab : Slab Node} {order names keys : List ℕ} {ns : List Node}
     (kept : AreStoredNodes slab order names) (same : keys ≡ names)
     (shown : stored slab order ≡ ns) where
   keys_listed : AreListed ns (stored slab keys)
@@ -49,7 +49,7 @@ module _ (slab : Slab Node) (order names keys : List ℕ) (ns : List Node)
       (are_listed slab order names kept.are.present kept.named))
 
   keys_present : AllByRecursion (ContainsKey slab) keys
-  keys_present = (keys_in_order slab order names keys kept same).present
+  keys_present = (keys_in_order kept same).present
 
   module _ (d : ℕ) (name : Name) (p : ℕ) (cut : IsCut (KeyUpTo (d ∷ name) slab) (KeyBehind (d
       ∷ name) slab) keys p) where

@@ -3,19 +3,13 @@ use Rattle.file_tree.proofs.StoreLemmas.NamedLookups.{keys_in_order, nearest_at}
 use Rattle.file_tree.proofs.store.nodes.Nodes.nearest_after.Goals as goal
 
 pub count_up_to-place-requires : goal.count_up_to-place-requires
-count_up_to-place-requires c =
-    keys_in_order c.self.inside.slab c.self.inside.order.items c.self.inside.names.items
-    c.as_slice-names.result.now c.self.invariant.0 c.as_slice-names.ensures.value
+count_up_to-place-requires c = keys_in_order c.self.invariant.0 c.as_slice-names.ensures.value
 
 pub node_named-requires : goal.node_named-requires
-node_named-requires c =
-    keys_in_order c.self.inside.slab c.self.inside.order.items c.self.inside.names.items
-    c.as_slice-names.result.now c.self.invariant.0 c.as_slice-names.ensures.value
+node_named-requires c = keys_in_order c.self.invariant.0 c.as_slice-names.ensures.value
 
 pub returns : goal.returns
 returns c =
     c.node_named.ensures
-    ∙ sym (nearest_at c.self.inside.slab c.self.inside.order.items c.self.inside.names.items
-    c.as_slice-names.result.now c.args.self.now c.self.invariant.0
-    c.as_slice-names.ensures.value c.self.view_is
+    ∙ sym (nearest_at c.self.invariant.0 c.as_slice-names.ensures.value c.self.view_is
     c.args.directory c.args.name.now c.count_up_to-place.result c.count_up_to-place.ensures.cut)
