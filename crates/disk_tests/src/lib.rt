@@ -1,6 +1,7 @@
-//! What tests alone can show of the layers of a worker's disk. Sectors are cut, stopped and failed.
-//! Super and heads are compared with literal bytes. Journals and snapshots are stopped at each call
-//! of the disk.
+//! What tests alone can show of a worker's disk, layer upon layer. Sectors are cut, stopped and
+//! failed. Super and heads are compared with literal bytes. Journals and snapshots are stopped at
+//! each call of the disk. Above them stand whole workers (`workers`), and what is told of lists of
+//! their lives (`stories`).
 //!
 //! Each test is a table of rows whose expected values come from outside. Those that take memory
 //! return their error, so that `scripts/refused-allocations` can refuse each allocation in turn.
@@ -13,6 +14,10 @@ mod disks;
 #[cfg(test)]
 mod files;
 #[cfg(test)]
+mod guests;
+#[cfg(test)]
+mod halt;
+#[cfg(test)]
 mod journals;
 #[cfg(test)]
 mod lanes;
@@ -20,3 +25,7 @@ mod lanes;
 mod layouts;
 #[cfg(test)]
 mod snapshots;
+#[cfg(test)]
+mod stories;
+#[cfg(test)]
+mod workers;

@@ -1,8 +1,8 @@
 //! Disks that are too small, blank or damaged.
 
-use crate::halt::Halt;
-use crate::modules::{ECHO, SECTORS, blank};
-use crate::working::{Stand, create, open};
+use crate::guests::{ECHO, SECTORS, blank};
+use crate::halt::{Halt, NO_WORKER};
+use crate::workers::working::{Stand, create, open};
 use disk_layout::LayoutFault;
 use durable_worker::{DurableFault, RecoverFault, StoreFault};
 use sector_disk::{Disk, DiskFault, MemDisk};
@@ -30,10 +30,6 @@ const FRESH: Stand = Stand {
     lines: 0,
     replayed: 0,
 };
-
-const NO_WORKER: Halt = Halt::Work(DurableFault::Store(StoreFault::Layout(
-    LayoutFault::NotAWorker,
-)));
 
 const VERSION: Halt = Halt::Work(DurableFault::Store(StoreFault::Layout(LayoutFault::Version)));
 

@@ -1,6 +1,8 @@
-//! Why a story has nothing to compare: one name for each want of memory.
+//! Why a test of lives has nothing to compare: one name for each want of memory.
 
-use durable_worker::{DurableFault, RecoverFault, WorkFault};
+use disk_layout::LayoutFault;
+use durable_worker::story::StoryFault;
+use durable_worker::{DurableFault, RecoverFault, StoreFault, WorkFault};
 use sector_disk::DiskFault;
 use std::alloc::{AllocError, AllocFailed};
 use wasi_abi::ConfigFault;
@@ -16,6 +18,11 @@ pub(crate) enum Halt {
     /// More answers were taken than there were requests.
     Answers,
 }
+
+/// No worker was ever made on the disk.
+pub(crate) const NO_WORKER: Halt = Halt::Work(DurableFault::Store(StoreFault::Layout(
+    LayoutFault::NotAWorker,
+)));
 
 impl From<AllocError> for Halt {
     fn from(_error: AllocError) -> Halt {
@@ -44,7 +51,7 @@ impl From<DiskFault> for Halt {
     }
 }
 
-/// The outlet of the stories fails for want of memory alone.
+/// The outlet of the lives fails for want of memory alone.
 impl From<DurableFault> for Halt {
     fn from(fault: DurableFault) -> Halt {
         match fault {
@@ -60,5 +67,11 @@ impl From<RecoverFault> for Halt {
             RecoverFault::Worker(fault) => Halt::from(fault),
             RecoverFault::NotAnImage | RecoverFault::Diverged => Halt::Recovery(fault),
         }
+    }
+}
+
+impl From<StoryFault> for Halt {
+    fn from(_fault: StoryFault) -> Halt {
+        Halt::Memory
     }
 }

@@ -1,7 +1,8 @@
 //! Want of memory: each allocation of a story may be refused.
 
-use crate::lives::{ECHO, is_told, life_of, told_of};
-use crate::story_stop::StoryStop;
+use crate::guests::ECHO;
+use crate::halt::Halt;
+use crate::stories::lives::{is_told, life_of, told_of};
 use durable_worker::story::{LifeEnd, LifeReport, Report};
 use durable_worker::{DurableFault, RecoverFault, WorkFault};
 use sector_disk::DiskFault;
@@ -25,7 +26,7 @@ fn are_finished(report: &Report) -> bool {
 }
 
 /// A worker tells a line, and tells it again in its second life.
-fn two_lives(alloc: Global) -> Result<Report, StoryStop> {
+fn two_lives(alloc: Global) -> Result<Report, Halt> {
     let mut lives = Row::new(alloc);
     lives.push(life_of(alloc, &["hello"], 20)?)?;
     lives.push(life_of(alloc, &[], 14)?)?;
@@ -41,11 +42,11 @@ fn are_told(report: &Report) -> bool {
 /// `scripts/refused-allocations` refuses each allocation in turn. Then there is no report, or one
 /// of the lives has ended by want of memory, and the other one as it should.
 #[test]
-fn a_story_with_memory(rt: HostRuntime) -> Result<(), StoryStop> {
+fn a_story_with_memory(rt: HostRuntime) -> Result<(), Halt> {
     let report = two_lives(rt.alloc())?;
     assert!(rt; are_finished(&report));
     if report.lives.as_slice().iter().any(has_starved) {
-        return Err(StoryStop::Memory);
+        return Err(Halt::Memory);
     }
     assert!(rt; are_told(&report));
     Ok(())

@@ -4,20 +4,15 @@ ghost use Rattle.std.specs.Prelude.{◌≤◌, IfOk};
 ghost use Rattle.disk_layout.specs.rules.Places.{total_sectors};
 ghost use Rattle.sector_disk.specs.rules.Memory.{memory_medium};
 
-use crate::halt::Halt;
-use crate::modules::{ECHO, HELLO, SECTORS, blank};
-use crate::working::{Stand, Work, are_all_told, create, open, was_stopped, work_on};
-use disk_layout::LayoutFault;
-use durable_worker::{DurableFault, DurableWorker, StoreFault, WorkFault};
+use crate::guests::{ECHO, HELLO, SECTORS, blank};
+use crate::halt::{Halt, NO_WORKER};
+use crate::workers::working::{Stand, Work, are_all_told, create, open, was_stopped, work_on};
+use durable_worker::{DurableFault, DurableWorker, WorkFault};
 use record_replay::{AnswerList, LineList};
 use sector_disk::{Disk, DiskFault, FaultDisk, MemDisk, Place};
 use std::alloc::Global;
 
 const CUT: Halt = Halt::Work(DurableFault::Disk(DiskFault::Cut));
-
-const NO_WORKER: Halt = Halt::Work(DurableFault::Store(StoreFault::Layout(
-    LayoutFault::NotAWorker,
-)));
 
 /// The first checkpoint of a fresh worker makes 129 reads, 3 writes and 2 syncs. This is the last.
 const HEAD_SYNC: u64 = 134;

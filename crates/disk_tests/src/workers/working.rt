@@ -1,17 +1,14 @@
-//! What the lives of the stories do: a worker is created or recovered, runs on requests, and is
-//! saved.
+//! What lives do: a worker is created or recovered, runs on requests, and is saved.
 
 ghost use Rattle.std.specs.Prelude.{◌≤◌, IfOk, OnOk};
 ghost use Rattle.disk_layout.specs.rules.Places.{total_sectors};
 
+use crate::guests::{config_of, request};
 use crate::halt::Halt;
-use crate::modules::config_of;
 use durable_worker::{DurableFault, DurableWorker};
 use record_replay::{AnswerList, LineList, NumberedLine};
 use sector_disk::{Disk, DiskFault};
 use std::alloc::Global;
-use wasi_abi::Answer;
-use wasm_syntax::Row;
 
 /// Where a worker stands.
 #[derive(Clone, Copy, Debug, PartialEq, Eq)]
@@ -49,11 +46,6 @@ pub(crate) const IDLE: Work = Work {
     fuel: 0,
     is_saved: false,
 };
-
-fn request(alloc: Global, text: &[u8]) -> Result<Answer, Halt> {
-    let text = Row::from_vec(Vec::from_slice(alloc, text)?);
-    Ok(Answer::Request { text })
-}
 
 fn requests(alloc: Global, texts: &[&[u8]]) -> Result<AnswerList, Halt> {
     let mut answers = Vec::new(alloc);

@@ -4,9 +4,11 @@ ghost use Rattle.std.specs.Prelude.{◌≤◌};
 ghost use Rattle.disk_layout.specs.rules.Places.{total_sectors};
 ghost use Rattle.sector_disk.specs.rules.Memory.{memory_medium};
 
+use crate::guests::{ECHO, HELLO, SECTORS, SYNC_FOLDER, SYNC_OUTPUT, THREE, blank};
 use crate::halt::Halt;
-use crate::modules::{ECHO, HELLO, SECTORS, SYNC_FOLDER, SYNC_OUTPUT, THREE, blank};
-use crate::working::{IDLE, Stand, Work, are_lines, create, live_on, open, was_stopped, work_on};
+use crate::workers::working::{
+    IDLE, Stand, Work, are_lines, create, live_on, open, was_stopped, work_on,
+};
 use durable_worker::DurableWorker;
 use record_replay::LineList;
 use sector_disk::{FaultDisk, MemDisk, Place};

@@ -1,9 +1,8 @@
 //! Stops, cuts and torn writes.
 
-use crate::lives::{
-    ECHO, THRICE, is_told, life_of, opened_as, request_of, stop_at, tells_nothing, told_of,
-};
-use crate::story_stop::StoryStop;
+use crate::guests::{ECHO, THRICE, request};
+use crate::halt::Halt;
+use crate::stories::lives::{is_told, life_of, opened_as, stop_at, tells_nothing, told_of};
 use durable_worker::story::{LifeEnd, Report};
 use durable_worker::{DurableFault, RecoverFault, WorkFault};
 use std::alloc::Global;
@@ -15,7 +14,7 @@ use wasm_syntax::Row;
 const CREATED: u64 = 206;
 
 #[test]
-fn a_line_is_told_again(rt: HostRuntime) -> Result<(), StoryStop> {
+fn a_line_is_told_again(rt: HostRuntime) -> Result<(), Halt> {
     let alloc = rt.alloc();
     let mut lives = Row::new(alloc);
     lives.push(life_of(alloc, &["hello"], 20)?)?;
@@ -28,7 +27,7 @@ fn a_line_is_told_again(rt: HostRuntime) -> Result<(), StoryStop> {
 
 /// A life that is stopped in the write of the first journal sector, with this front, and another
 /// one.
-fn torn_record(alloc: Global, front: u16) -> Result<Report, StoryStop> {
+fn torn_record(alloc: Global, front: u16) -> Result<Report, Halt> {
     let mut lives = Row::new(alloc);
     lives.push(stop_at(life_of(alloc, &["hello"], 20)?, CREATED + 1, front))?;
     lives.push(life_of(alloc, &["world"], 20)?)?;
@@ -37,7 +36,7 @@ fn torn_record(alloc: Global, front: u16) -> Result<Report, StoryStop> {
 
 /// The record of `hello` ends at byte 505 of its sector, and all behind it are zeros.
 #[test]
-fn a_torn_record_is_lost(rt: HostRuntime) -> Result<(), StoryStop> {
+fn a_torn_record_is_lost(rt: HostRuntime) -> Result<(), Halt> {
     let report = torn_record(rt.alloc(), 504)?;
     assert!(rt; is_told(&report, 0, [1, 0, 0, 0], LifeEnd::Stopped, ""));
     assert!(rt; is_told(&report, 1, [2, 0, 0, 0], LifeEnd::Finished, "world"));
@@ -45,7 +44,7 @@ fn a_torn_record_is_lost(rt: HostRuntime) -> Result<(), StoryStop> {
 }
 
 #[test]
-fn a_whole_record_is_kept(rt: HostRuntime) -> Result<(), StoryStop> {
+fn a_whole_record_is_kept(rt: HostRuntime) -> Result<(), Halt> {
     let report = torn_record(rt.alloc(), 505)?;
     assert!(rt; is_told(&report, 0, [1, 0, 0, 0], LifeEnd::Stopped, ""));
     assert!(rt; is_told(&report, 1, [2, 6, 1, 0], LifeEnd::Finished, "hello"));
@@ -53,7 +52,7 @@ fn a_whole_record_is_kept(rt: HostRuntime) -> Result<(), StoryStop> {
 }
 
 /// A request of so many bytes `a`.
-fn long_request(alloc: Global, length: usize) -> Result<String, StoryStop> {
+fn long_request(alloc: Global, length: usize) -> Result<String, Halt> {
     let mut text = String::new(alloc);
     for _ in 0..length {
         text.push('a')?;
@@ -64,7 +63,7 @@ fn long_request(alloc: Global, length: usize) -> Result<String, StoryStop> {
 /// Three requests of so many bytes are read, and the power is cut in the sync that puts their
 /// records on the disk. The cut keeps all of the first and third sector, and 499 bytes of the
 /// second. Two lives follow that do nothing.
-fn torn_batch(alloc: Global, length: usize) -> Result<Report, StoryStop> {
+fn torn_batch(alloc: Global, length: usize) -> Result<Report, Halt> {
     let text = long_request(alloc, length)?;
     let text = text.as_str();
     let mut life = stop_at(life_of(alloc, &[text, text, text], 100)?, CREATED + 4, 0);
@@ -87,7 +86,7 @@ fn keeps_one(report: &Report) -> bool {
 
 /// A record of 400 bytes doesn't fill a sector, so that the second one begins in the first.
 #[test]
-fn a_torn_sector_ends_the_journal(rt: HostRuntime) -> Result<(), StoryStop> {
+fn a_torn_sector_ends_the_journal(rt: HostRuntime) -> Result<(), Halt> {
     let report = torn_batch(rt.alloc(), 400)?;
     assert!(rt; keeps_one(&report));
     Ok(())
@@ -95,17 +94,17 @@ fn a_torn_sector_ends_the_journal(rt: HostRuntime) -> Result<(), StoryStop> {
 
 /// A record of 483 bytes fills one.
 #[test]
-fn a_torn_record_ends_the_journal(rt: HostRuntime) -> Result<(), StoryStop> {
+fn a_torn_record_ends_the_journal(rt: HostRuntime) -> Result<(), Halt> {
     let report = torn_batch(rt.alloc(), 483)?;
     assert!(rt; keeps_one(&report));
     Ok(())
 }
 
 /// A life with so many requests, and another one.
-fn many_requests(alloc: Global, count: usize) -> Result<Report, StoryStop> {
+fn many_requests(alloc: Global, count: usize) -> Result<Report, Halt> {
     let mut life = life_of(alloc, &[], 2_000)?;
     for _ in 0..count {
-        life.answers.push(request_of(alloc, "b")?)?;
+        life.answers.push(request(alloc, b"b")?)?;
     }
     let mut lives = Row::new(alloc);
     lives.push(life)?;
@@ -124,7 +123,7 @@ fn generation_of(report: &Report, place: usize) -> u64 {
 /// Each line puts one sector of the journal on the disk. Behind 56 of them its room is too small
 /// for one more answer, so that the worker is saved before it asks.
 #[test]
-fn a_full_journal_is_saved(rt: HostRuntime) -> Result<(), StoryStop> {
+fn a_full_journal_is_saved(rt: HostRuntime) -> Result<(), Halt> {
     let alloc = rt.alloc();
     assert!(rt; generation_of(&many_requests(alloc, 55)?, 1) == 2);
     assert!(rt; generation_of(&many_requests(alloc, 56)?, 1) == 3);
@@ -133,7 +132,7 @@ fn a_full_journal_is_saved(rt: HostRuntime) -> Result<(), StoryStop> {
 
 /// A stop at the first call opens nothing, and the next life creates a worker.
 #[test]
-fn a_stop_in_the_opening_is_told(rt: HostRuntime) -> Result<(), StoryStop> {
+fn a_stop_in_the_opening_is_told(rt: HostRuntime) -> Result<(), Halt> {
     let alloc = rt.alloc();
     let mut lives = Row::new(alloc);
     lives.push(stop_at(life_of(alloc, &["hello"], 20)?, 1, 0))?;
@@ -147,7 +146,7 @@ fn a_stop_in_the_opening_is_told(rt: HostRuntime) -> Result<(), StoryStop> {
 /// The calls of one life don't count for the next one, which makes fewer than 400: its stop is
 /// never reached.
 #[test]
-fn stops_are_counted_anew(rt: HostRuntime) -> Result<(), StoryStop> {
+fn stops_are_counted_anew(rt: HostRuntime) -> Result<(), Halt> {
     let alloc = rt.alloc();
     let mut lives = Row::new(alloc);
     lives.push(life_of(alloc, &["hello"], 20)?)?;
@@ -178,12 +177,12 @@ fn is_shut(report: &Report, place: usize) -> bool {
 
 /// No bytes spell no module: no life opens.
 #[test]
-fn an_unaccepted_module_opens_nothing(rt: HostRuntime) -> Result<(), StoryStop> {
+fn an_unaccepted_module_opens_nothing(rt: HostRuntime) -> Result<(), Halt> {
     let alloc = rt.alloc();
     let mut lives = Row::new(alloc);
     lives.push(life_of(alloc, &["hello"], 20)?)?;
     lives.push(life_of(alloc, &["hello"], 20)?)?;
-    let report = told_of(alloc, "", lives.as_slice())?;
+    let report = told_of(alloc, &[], lives.as_slice())?;
     assert!(rt; has_failed(&report, 0) && is_shut(&report, 0));
     assert!(rt; has_failed(&report, 1) && is_shut(&report, 1));
     Ok(())
@@ -191,7 +190,7 @@ fn an_unaccepted_module_opens_nothing(rt: HostRuntime) -> Result<(), StoryStop> 
 
 /// A time doesn't answer a question for a line.
 #[test]
-fn a_wrong_answer_ends_a_life(rt: HostRuntime) -> Result<(), StoryStop> {
+fn a_wrong_answer_ends_a_life(rt: HostRuntime) -> Result<(), Halt> {
     let alloc = rt.alloc();
     let mut life = life_of(alloc, &[], 20)?;
     life.answers.push(Answer::Realtime { nanoseconds: 5 })?;

@@ -1,10 +1,10 @@
 //! A worker with 16 pages, whose calls take long enough to be measured. `scripts/durable-cost`
 //! counts what they cost.
 
+use crate::guests::{SPIN, blank};
 use crate::halt::Halt;
-use crate::modules::{SPIN, blank};
-use crate::saves::work_on_each;
-use crate::working::{IDLE, Stand, Work, are_lines, create_with, live_on, stand_of};
+use crate::workers::saves::work_on_each;
+use crate::workers::working::{IDLE, Stand, Work, are_lines, create_with, live_on, stand_of};
 use record_replay::LineList;
 use sector_disk::MemDisk;
 use std::alloc::Global;

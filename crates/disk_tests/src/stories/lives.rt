@@ -1,39 +1,18 @@
 //! Lives that tests put together, and what is told of them.
 
-use crate::story_stop::StoryStop;
+use crate::guests::request;
+use crate::halt::Halt;
 use durable_worker::story::{LifeEnd, LifeReport, Opening, PlannedAct, PlannedLife, Report, story};
-use hex::decode;
 use sector_disk::Place;
 use std::alloc::Global;
-use wasi_abi::{Answer, Config};
+use wasi_abi::Config;
 use wasm_syntax::Row;
 
-/// Reads a line, writes it, and goes on until nothing is read.
-pub(crate) const ECHO: &str = "\
-     0061736d01000000010c0260000060047f7f7f7f017f02440216776173695f736e617073686f745f\
-     70726576696577310766645f72656164000116776173695f736e617073686f745f70726576696577\
-     310866645f77726974650001030201000503010001071302065f73746172740002066d656d6f7279\
-     02000a31012f000340410041004101411010001a4110280200450d01410c41102802003602004101\
-     41084101411410011a0c000b0b0b12010041000b0c400000000010000040000000";
-
-/// Reads three lines, writes `x`, and ends.
-pub(crate) const THRICE: &str = "\
-     0061736d01000000010c0260000060047f7f7f7f017f02440216776173695f736e617073686f745f\
-     70726576696577310766645f72656164000116776173695f736e617073686f745f70726576696577\
-     310866645f77726974650001030201000503010001071302065f73746172740002066d656d6f7279\
-     02000a30012e00410041004101411010001a410041004101411010001a410041004101411010001a\
-     410141084101411010011a0b0b20010041000b1a4000000000100000180000000200000000000000\
-     00000000780a";
-
 /// A life whose requests are these, and then so many steps. Nothing stops it.
-pub(crate) fn life_of(
-    alloc: Global,
-    requests: &[&str],
-    fuel: u64,
-) -> Result<PlannedLife, StoryStop> {
+pub(crate) fn life_of(alloc: Global, requests: &[&str], fuel: u64) -> Result<PlannedLife, Halt> {
     let mut answers = Row::new(alloc);
-    for request in requests {
-        answers.push(request_of(alloc, request)?)?;
+    for text in requests {
+        answers.push(request(alloc, text.as_bytes())?)?;
     }
     let mut acts = Row::new(alloc);
     acts.push(PlannedAct::Slice { fuel })?;
@@ -43,12 +22,6 @@ pub(crate) fn life_of(
         stop: None,
         tears: Row::new(alloc),
     })
-}
-
-/// The answer that is this line.
-pub(crate) fn request_of(alloc: Global, text: &str) -> Result<Answer, StoryStop> {
-    let text = Row::from_vec(Vec::from_slice(alloc, text.as_bytes())?);
-    Ok(Answer::Request { text })
 }
 
 /// The same life, stopped at this call with this front.
@@ -69,14 +42,9 @@ pub(crate) fn stop_at(life: PlannedLife, call: u64, front: u16) -> PlannedLife {
 
 /// What is told of these lives of a module, with a page, a unit of files and a journal of 64
 /// sectors.
-pub(crate) fn told_of(
-    alloc: Global,
-    wasm: &str,
-    lives: &[PlannedLife],
-) -> Result<Report, StoryStop> {
-    let wasm = decode(alloc, wasm)?;
+pub(crate) fn told_of(alloc: Global, wasm: &[u8], lives: &[PlannedLife]) -> Result<Report, Halt> {
     let config = Config::new(1, 1, 64, Row::new(alloc), Row::new(alloc))?;
-    Ok(story(alloc, wasm.as_slice(), &config, lives)?)
+    Ok(story(alloc, wasm, &config, lives)?)
 }
 
 /// How a life was opened: its generation, steps, answers and lines, or 0 for the generation of one

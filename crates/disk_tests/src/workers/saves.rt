@@ -4,9 +4,9 @@ ghost use Rattle.std.specs.Prelude.{◌≤◌, OnOk};
 ghost use Rattle.disk_layout.specs.rules.Places.{total_sectors};
 ghost use Rattle.sector_disk.specs.rules.Memory.{memory_medium};
 
+use crate::guests::{ECHO, SECTORS, THREE, blank};
 use crate::halt::Halt;
-use crate::modules::{ECHO, SECTORS, THREE, blank};
-use crate::working::{Stand, Work, create, stand_of, work_on};
+use crate::workers::working::{Stand, Work, create, stand_of, work_on};
 use durable_worker::DurableWorker;
 use record_replay::LineList;
 use sector_disk::{Disk, DiskFault, FaultDisk, MemDisk};

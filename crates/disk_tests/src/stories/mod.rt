@@ -1,0 +1,9 @@
+//! Lists of lives. Reports are compared of cuts at each kind of call, of torn writes, and of lives
+//! that meet no stop.
+//!
+//! Want of memory inside of a life is told in its report. So one test alone looks for it there, for
+//! `scripts/refused-allocations`.
+
+mod cuts;
+mod lives;
+mod memory;

@@ -1,0 +1,10 @@
+//! Workers on their disks. Lives are of creation, slices, checkpoints, cuts and recoveries. Their
+//! numbers and lines are worked by hand. Other tests show which sectors a call writes, what is told
+//! of damaged disks, and a stop at each call of a disk. Each allocation may be refused.
+
+mod damages;
+mod large;
+mod lives;
+mod saves;
+mod stops;
+mod working;
