@@ -2,204 +2,315 @@
 
 use crate::guests::{ECHO, THRICE, request};
 use crate::halt::Halt;
-use crate::stories::lives::{is_told, life_of, opened_as, stop_at, tells_nothing, told_of};
-use durable_worker::story::{LifeEnd, Report};
+use crate::stories::lives::{
+    AGAIN, CREATED, FIRST, IDLE, OTHER, Plan, TELLS, Tale, Told, are_told_so, is_told, life_with,
+    opened_as, report_of, report_of_two, tells_nothing,
+};
+use durable_worker::story::{LifeEnd, LifeReport, PlannedLife, Report};
 use durable_worker::{DurableFault, RecoverFault, WorkFault};
+use sector_disk::Place;
 use std::alloc::Global;
 use wasi_abi::Answer;
 use wasm_syntax::Row;
 
 /// The last call of the disk with which `echo` is created, behind two of the recovery that found
 /// no worker: 72 of zeros, contents and syncs, 129 of the image, and five behind it.
-const CREATED: u64 = 206;
+const LAST_OF_CREATION: u64 = 206;
+
+static TOLD_AGAIN: Tale = Tale {
+    guest: ECHO,
+    plans: &[FIRST, TELLS],
+    told: &[CREATED, AGAIN],
+};
 
 #[test]
 fn a_line_is_told_again(rt: HostRuntime) -> Result<(), Halt> {
-    let alloc = rt.alloc();
-    let mut lives = Row::new(alloc);
-    lives.push(life_of(alloc, &["hello"], 20)?)?;
-    lives.push(life_of(alloc, &[], 14)?)?;
-    let report = told_of(alloc, ECHO, lives.as_slice())?;
-    assert!(rt; is_told(&report, 0, [1, 0, 0, 0], LifeEnd::Finished, "hello"));
-    assert!(rt; is_told(&report, 1, [2, 6, 1, 0], LifeEnd::Finished, "hello"));
+    assert!(rt; is_told(rt.alloc(), &TOLD_AGAIN)?);
     Ok(())
 }
 
-/// A life that is stopped in the write of the first journal sector, with this front, and another
-/// one.
-fn torn_record(alloc: Global, front: u16) -> Result<Report, Halt> {
-    let mut lives = Row::new(alloc);
-    lives.push(stop_at(life_of(alloc, &["hello"], 20)?, CREATED + 1, front))?;
-    lives.push(life_of(alloc, &["world"], 20)?)?;
-    told_of(alloc, ECHO, lives.as_slice())
-}
+/// It is stopped in the write of the first journal sector. The record of `hello` ends at byte 505
+/// of that, and all behind it are zeros.
+static TORN: Tale = Tale {
+    guest: ECHO,
+    plans: &[
+        Plan {
+            requests: &[b"hello"],
+            fuel: 20,
+            stop: Some(Place {
+                call: LAST_OF_CREATION + 1,
+                front: 504,
+            }),
+            tears: &[],
+        },
+        OTHER,
+    ],
+    told: &[STOPPED, ANEW],
+};
 
-/// The record of `hello` ends at byte 505 of its sector, and all behind it are zeros.
+/// The same with one byte more.
+static WHOLE: Tale = Tale {
+    guest: ECHO,
+    plans: &[
+        Plan {
+            requests: &[b"hello"],
+            fuel: 20,
+            stop: Some(Place {
+                call: LAST_OF_CREATION + 1,
+                front: 505,
+            }),
+            tears: &[],
+        },
+        OTHER,
+    ],
+    told: &[STOPPED, AGAIN],
+};
+
+/// A worker was created, and stopped before its line.
+const STOPPED: Told = Told {
+    opened: [1, 0, 0, 0],
+    ended: LifeEnd::Stopped,
+    line: b"",
+};
+
+/// It had taken no request, and tells the line of another one.
+const ANEW: Told = Told {
+    opened: [2, 0, 0, 0],
+    ended: LifeEnd::Finished,
+    line: b"world",
+};
+
 #[test]
 fn a_torn_record_is_lost(rt: HostRuntime) -> Result<(), Halt> {
-    let report = torn_record(rt.alloc(), 504)?;
-    assert!(rt; is_told(&report, 0, [1, 0, 0, 0], LifeEnd::Stopped, ""));
-    assert!(rt; is_told(&report, 1, [2, 0, 0, 0], LifeEnd::Finished, "world"));
+    assert!(rt; is_told(rt.alloc(), &TORN)?);
     Ok(())
 }
 
 #[test]
 fn a_whole_record_is_kept(rt: HostRuntime) -> Result<(), Halt> {
-    let report = torn_record(rt.alloc(), 505)?;
-    assert!(rt; is_told(&report, 0, [1, 0, 0, 0], LifeEnd::Stopped, ""));
-    assert!(rt; is_told(&report, 1, [2, 6, 1, 0], LifeEnd::Finished, "hello"));
+    assert!(rt; is_told(rt.alloc(), &WHOLE)?);
     Ok(())
 }
 
-/// A request of so many bytes `a`.
-fn long_request(alloc: Global, length: usize) -> Result<String, Halt> {
-    let mut text = String::new(alloc);
-    for _ in 0..length {
-        text.push('a')?;
-    }
-    Ok(text)
-}
+/// A request whose record doesn't fill a sector, so that the second one begins in the first.
+const LONG: &[u8] = &[b'a'; 400];
 
-/// Three requests of so many bytes are read, and the power is cut in the sync that puts their
-/// records on the disk. The cut keeps all of the first and third sector, and 499 bytes of the
-/// second. Two lives follow that do nothing.
-fn torn_batch(alloc: Global, length: usize) -> Result<Report, Halt> {
-    let text = long_request(alloc, length)?;
-    let text = text.as_str();
-    let mut life = stop_at(life_of(alloc, &[text, text, text], 100)?, CREATED + 4, 0);
-    for front in [512, 499, 512] {
-        life.tears.push(front)?;
-    }
-    let mut lives = Row::new(alloc);
-    lives.push(life)?;
-    lives.push(life_of(alloc, &[], 0)?)?;
-    lives.push(life_of(alloc, &[], 0)?)?;
-    told_of(alloc, THRICE, lives.as_slice())
-}
+/// One whose record fills it.
+const LONGER: &[u8] = &[b'a'; 483];
 
-/// Whether one answer is kept of the three, and then stays the only one.
-fn keeps_one(report: &Report) -> bool {
-    is_told(report, 0, [1, 0, 0, 0], LifeEnd::Stopped, "")
-        && is_told(report, 1, [2, 5, 1, 0], LifeEnd::Finished, "")
-        && is_told(report, 2, [3, 5, 1, 0], LifeEnd::Finished, "")
-}
+/// Three requests are read, and the power is cut in the sync that puts their records on the disk.
+/// The cut keeps all of the first and third sector, and 499 bytes of the second. Two lives follow
+/// that do nothing.
+static TORN_SECTOR: Tale = Tale {
+    guest: THRICE,
+    plans: &[
+        Plan {
+            requests: &[LONG, LONG, LONG],
+            fuel: 100,
+            stop: Some(Place {
+                call: LAST_OF_CREATION + 4,
+                front: 0,
+            }),
+            tears: &[512, 499, 512],
+        },
+        IDLE,
+        IDLE,
+    ],
+    told: &ONE_KEPT,
+};
 
-/// A record of 400 bytes doesn't fill a sector, so that the second one begins in the first.
+static TORN_BATCH: Tale = Tale {
+    guest: THRICE,
+    plans: &[
+        Plan {
+            requests: &[LONGER, LONGER, LONGER],
+            fuel: 100,
+            stop: Some(Place {
+                call: LAST_OF_CREATION + 4,
+                front: 0,
+            }),
+            tears: &[512, 499, 512],
+        },
+        IDLE,
+        IDLE,
+    ],
+    told: &ONE_KEPT,
+};
+
+/// One answer is kept of the three, and then stays the only one.
+const ONE_KEPT: [Told; 3] = [
+    STOPPED,
+    Told {
+        opened: [2, 5, 1, 0],
+        ended: LifeEnd::Finished,
+        line: b"",
+    },
+    Told {
+        opened: [3, 5, 1, 0],
+        ended: LifeEnd::Finished,
+        line: b"",
+    },
+];
+
 #[test]
 fn a_torn_sector_ends_the_journal(rt: HostRuntime) -> Result<(), Halt> {
-    let report = torn_batch(rt.alloc(), 400)?;
-    assert!(rt; keeps_one(&report));
+    assert!(rt; is_told(rt.alloc(), &TORN_SECTOR)?);
     Ok(())
 }
 
-/// A record of 483 bytes fills one.
 #[test]
 fn a_torn_record_ends_the_journal(rt: HostRuntime) -> Result<(), Halt> {
-    let report = torn_batch(rt.alloc(), 483)?;
-    assert!(rt; keeps_one(&report));
+    assert!(rt; is_told(rt.alloc(), &TORN_BATCH)?);
     Ok(())
 }
 
-/// A life with so many requests, and another one.
-fn many_requests(alloc: Global, count: usize) -> Result<Report, Halt> {
-    let mut life = life_of(alloc, &[], 2_000)?;
+/// A life with so many requests.
+fn busy_life(alloc: Global, count: usize) -> Result<PlannedLife, Halt> {
+    let mut answers = Row::new(alloc);
     for _ in 0..count {
-        life.answers.push(request(alloc, b"b")?)?;
+        answers.push(request(alloc, b"b")?)?;
     }
-    let mut lives = Row::new(alloc);
-    lives.push(life)?;
-    lives.push(life_of(alloc, &[], 0)?)?;
-    told_of(alloc, ECHO, lives.as_slice())
+    life_with(alloc, answers, 2_000)
 }
 
-/// The generation with which a life was opened, or 0.
-fn generation_of(report: &Report, place: usize) -> u64 {
-    match report.lives.get(place) {
+/// The generation with which the second life was opened, or 0.
+fn second_generation(report: &Report) -> u64 {
+    match report.lives.get(1) {
         Some(life) => opened_as(life)[0],
         None => 0,
     }
 }
 
+/// The same behind a life with so many requests.
+fn generation_behind(alloc: Global, count: usize) -> Result<u64, Halt> {
+    let report = report_of_two(alloc, busy_life(alloc, count)?, &IDLE)?;
+    Ok(second_generation(&report))
+}
+
 /// Each line puts one sector of the journal on the disk. Behind 56 of them its room is too small
 /// for one more answer, so that the worker is saved before it asks.
+static FILLED: [(usize, u64); 2] = [(55, 2), (56, 3)];
+
 #[test]
 fn a_full_journal_is_saved(rt: HostRuntime) -> Result<(), Halt> {
-    let alloc = rt.alloc();
-    assert!(rt; generation_of(&many_requests(alloc, 55)?, 1) == 2);
-    assert!(rt; generation_of(&many_requests(alloc, 56)?, 1) == 3);
+    for (count, generation) in &FILLED {
+        assert!(rt;
+            generation_behind(rt.alloc(), *count)? == *generation,
+            "{count}"
+        );
+    }
     Ok(())
 }
 
 /// A stop at the first call opens nothing, and the next life creates a worker.
+static UNOPENED: Tale = Tale {
+    guest: ECHO,
+    plans: &[
+        Plan {
+            requests: &[b"hello"],
+            fuel: 20,
+            stop: Some(Place { call: 1, front: 0 }),
+            tears: &[],
+        },
+        FIRST,
+    ],
+    told: &[
+        Told {
+            opened: [0, 0, 0, 0],
+            ended: LifeEnd::Stopped,
+            line: b"",
+        },
+        CREATED,
+    ],
+};
+
 #[test]
 fn a_stop_in_the_opening_is_told(rt: HostRuntime) -> Result<(), Halt> {
-    let alloc = rt.alloc();
-    let mut lives = Row::new(alloc);
-    lives.push(stop_at(life_of(alloc, &["hello"], 20)?, 1, 0))?;
-    lives.push(life_of(alloc, &["hello"], 20)?)?;
-    let report = told_of(alloc, ECHO, lives.as_slice())?;
-    assert!(rt; is_told(&report, 0, [0, 0, 0, 0], LifeEnd::Stopped, ""));
-    assert!(rt; is_told(&report, 1, [1, 0, 0, 0], LifeEnd::Finished, "hello"));
+    assert!(rt; is_told(rt.alloc(), &UNOPENED)?);
     Ok(())
 }
 
 /// The calls of one life don't count for the next one, which makes fewer than 400: its stop is
 /// never reached.
+static UNREACHED: Tale = Tale {
+    guest: ECHO,
+    plans: &[
+        FIRST,
+        Plan {
+            requests: &[],
+            fuel: 14,
+            stop: Some(Place {
+                call: 400,
+                front: 0,
+            }),
+            tears: &[],
+        },
+    ],
+    told: &[CREATED, AGAIN],
+};
+
 #[test]
 fn stops_are_counted_anew(rt: HostRuntime) -> Result<(), Halt> {
-    let alloc = rt.alloc();
-    let mut lives = Row::new(alloc);
-    lives.push(life_of(alloc, &["hello"], 20)?)?;
-    lives.push(stop_at(life_of(alloc, &[], 14)?, 400, 0))?;
-    let report = told_of(alloc, ECHO, lives.as_slice())?;
-    assert!(rt; is_told(&report, 1, [2, 6, 1, 0], LifeEnd::Finished, "hello"));
+    assert!(rt; is_told(rt.alloc(), &UNREACHED)?);
     Ok(())
 }
 
 /// Whether a life ended by an error before its stop.
-fn has_failed(report: &Report, place: usize) -> bool {
-    match report.lives.get(place) {
-        Some(life) => match &life.ended {
-            LifeEnd::Failed(_) => true,
-            _ => false,
-        },
-        None => false,
+fn has_failed(life: &LifeReport) -> bool {
+    match &life.ended {
+        LifeEnd::Failed(_) => true,
+        _ => false,
     }
 }
 
-/// Whether a life was not opened, and told nothing.
-fn is_shut(report: &Report, place: usize) -> bool {
-    match report.lives.get(place) {
-        Some(life) => opened_as(life) == [0, 0, 0, 0] && tells_nothing(life),
-        None => false,
-    }
+/// Whether a life ended so, was not opened, and told nothing.
+fn is_shut(life: &LifeReport) -> bool {
+    has_failed(life) && opened_as(life) == [0, 0, 0, 0] && tells_nothing(life)
+}
+
+static SHUT: [Plan; 2] = [FIRST, FIRST];
+
+/// Whether no life opens of a module that these bytes spell.
+fn are_shut(alloc: Global, wasm: &[u8]) -> Result<bool, Halt> {
+    let report = report_of(alloc, wasm, &SHUT)?;
+    Ok(report.lives.len() == 2 && report.lives.as_slice().iter().all(is_shut))
 }
 
 /// No bytes spell no module: no life opens.
 #[test]
 fn an_unaccepted_module_opens_nothing(rt: HostRuntime) -> Result<(), Halt> {
-    let alloc = rt.alloc();
-    let mut lives = Row::new(alloc);
-    lives.push(life_of(alloc, &["hello"], 20)?)?;
-    lives.push(life_of(alloc, &["hello"], 20)?)?;
-    let report = told_of(alloc, &[], lives.as_slice())?;
-    assert!(rt; has_failed(&report, 0) && is_shut(&report, 0));
-    assert!(rt; has_failed(&report, 1) && is_shut(&report, 1));
+    assert!(rt; are_shut(rt.alloc(), &[])?);
     Ok(())
+}
+
+static MISTOLD: [Told; 2] = [
+    Told {
+        opened: [1, 0, 0, 0],
+        ended: LifeEnd::Failed(RecoverFault::Worker(DurableFault::Work(WorkFault::Source))),
+        line: b"",
+    },
+    Told {
+        opened: [2, 0, 0, 0],
+        ended: LifeEnd::Finished,
+        line: b"hello",
+    },
+];
+
+/// The only answer of a life is a time.
+fn timed_life(alloc: Global) -> Result<PlannedLife, Halt> {
+    let mut answers = Row::new(alloc);
+    answers.push(Answer::Realtime { nanoseconds: 5 })?;
+    life_with(alloc, answers, 20)
+}
+
+fn is_ended_by_a_time(alloc: Global) -> Result<bool, Halt> {
+    let report = report_of_two(alloc, timed_life(alloc)?, &FIRST)?;
+    Ok(are_told_so(&report, &MISTOLD))
 }
 
 /// A time doesn't answer a question for a line.
 #[test]
 fn a_wrong_answer_ends_a_life(rt: HostRuntime) -> Result<(), Halt> {
-    let alloc = rt.alloc();
-    let mut life = life_of(alloc, &[], 20)?;
-    life.answers.push(Answer::Realtime { nanoseconds: 5 })?;
-    let mut lives = Row::new(alloc);
-    lives.push(life)?;
-    lives.push(life_of(alloc, &["hello"], 20)?)?;
-    let report = told_of(alloc, ECHO, lives.as_slice())?;
-    let source = LifeEnd::Failed(RecoverFault::Worker(DurableFault::Work(WorkFault::Source)));
-    assert!(rt; is_told(&report, 0, [1, 0, 0, 0], source, ""));
-    assert!(rt; is_told(&report, 1, [2, 0, 0, 0], LifeEnd::Finished, "hello"));
+    assert!(rt; is_ended_by_a_time(rt.alloc())?);
     Ok(())
 }

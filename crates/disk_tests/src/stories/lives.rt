@@ -1,21 +1,105 @@
 //! Lives that tests put together, and what is told of them.
 
-use crate::guests::request;
+use crate::guests::{ECHO, request};
 use crate::halt::Halt;
 use durable_worker::story::{LifeEnd, LifeReport, Opening, PlannedAct, PlannedLife, Report, story};
 use sector_disk::Place;
 use std::alloc::Global;
-use wasi_abi::Config;
+use wasi_abi::{Answer, Config};
 use wasm_syntax::Row;
 
-/// A life whose requests are these, and then so many steps. Nothing stops it.
-pub(crate) fn life_of(alloc: Global, requests: &[&str], fuel: u64) -> Result<PlannedLife, Halt> {
+/// A life: its requests, then so many steps, where it is stopped, and the fronts that a cut keeps.
+#[derive(Clone, Copy)]
+pub(crate) struct Plan {
+    pub(crate) requests: &'static [&'static [u8]],
+    pub(crate) fuel: u64,
+    pub(crate) stop: Option<Place>,
+    pub(crate) tears: &'static [u16],
+}
+
+/// Up to the line of the first request.
+pub(crate) const FIRST: Plan = Plan {
+    requests: &[b"hello"],
+    fuel: 20,
+    stop: None,
+    tears: &[],
+};
+
+/// The same with another request.
+pub(crate) const OTHER: Plan = Plan {
+    requests: &[b"world"],
+    fuel: 20,
+    stop: None,
+    tears: &[],
+};
+
+/// From the answer to its line.
+pub(crate) const TELLS: Plan = Plan {
+    requests: &[],
+    fuel: 14,
+    stop: None,
+    tears: &[],
+};
+
+/// Nothing at all.
+pub(crate) const IDLE: Plan = Plan {
+    requests: &[],
+    fuel: 0,
+    stop: None,
+    tears: &[],
+};
+
+/// How a life was opened: its generation, steps, answers and lines, or 0 for the generation of one
+/// that was not opened. One that was created is of generation 1. Then how it ended, and its only
+/// line, number 1 of stream 1. An empty one stands for none.
+pub(crate) struct Told {
+    pub(crate) opened: [u64; 4],
+    pub(crate) ended: LifeEnd,
+    pub(crate) line: &'static [u8],
+}
+
+/// A worker was created, and told its first line.
+pub(crate) const CREATED: Told = Told {
+    opened: [1, 0, 0, 0],
+    ended: LifeEnd::Finished,
+    line: b"hello",
+};
+
+/// The request was on record, and its line is told again.
+pub(crate) const AGAIN: Told = Told {
+    opened: [2, 6, 1, 0],
+    ended: LifeEnd::Finished,
+    line: b"hello",
+};
+
+/// Lives of a guest, and what is told of each.
+pub(crate) struct Tale {
+    pub(crate) guest: &'static [u8],
+    pub(crate) plans: &'static [Plan],
+    pub(crate) told: &'static [Told],
+}
+
+fn requests(alloc: Global, texts: &[&[u8]]) -> Result<Row<Answer>, Halt> {
     let mut answers = Row::new(alloc);
-    for text in requests {
-        answers.push(request(alloc, text.as_bytes())?)?;
+    for text in texts {
+        answers.push(request(alloc, *text)?)?;
     }
+    Ok(answers)
+}
+
+fn slice(alloc: Global, fuel: u64) -> Result<Row<PlannedAct>, Halt> {
     let mut acts = Row::new(alloc);
     acts.push(PlannedAct::Slice { fuel })?;
+    Ok(acts)
+}
+
+/// A life with these answers that takes so many steps. Nothing stops it.
+pub(crate) fn life_with(
+    alloc: Global,
+    answers: Row<Answer>,
+    fuel: u64,
+) -> Result<PlannedLife, Halt> {
+    let acts = slice(alloc, fuel)?;
     Ok(PlannedLife {
         answers,
         acts,
@@ -24,31 +108,52 @@ pub(crate) fn life_of(alloc: Global, requests: &[&str], fuel: u64) -> Result<Pla
     })
 }
 
-/// The same life, stopped at this call with this front.
-pub(crate) fn stop_at(life: PlannedLife, call: u64, front: u16) -> PlannedLife {
-    let PlannedLife {
+fn life_of(alloc: Global, plan: &Plan) -> Result<PlannedLife, Halt> {
+    let answers = requests(alloc, plan.requests)?;
+    let acts = slice(alloc, plan.fuel)?;
+    let tears = Row::from_vec(Vec::from_slice(alloc, plan.tears)?);
+    Ok(PlannedLife {
         answers,
         acts,
-        stop: _,
+        stop: plan.stop,
         tears,
-    } = life;
-    PlannedLife {
-        answers,
-        acts,
-        stop: Some(Place { call, front }),
-        tears,
+    })
+}
+
+fn lives_of(alloc: Global, plans: &[Plan]) -> Result<Row<PlannedLife>, Halt> {
+    let mut lives = Row::new(alloc);
+    for plan in plans {
+        lives.push(life_of(alloc, plan)?)?;
     }
+    Ok(lives)
 }
 
 /// What is told of these lives of a module, with a page, a unit of files and a journal of 64
 /// sectors.
-pub(crate) fn told_of(alloc: Global, wasm: &[u8], lives: &[PlannedLife]) -> Result<Report, Halt> {
+fn told_of(alloc: Global, wasm: &[u8], lives: &[PlannedLife]) -> Result<Report, Halt> {
     let config = Config::new(1, 1, 64, Row::new(alloc), Row::new(alloc))?;
     Ok(story(alloc, wasm, &config, lives)?)
 }
 
-/// How a life was opened: its generation, steps, answers and lines, or 0 for the generation of one
-/// that was not opened. One that was created is of generation 1.
+/// What is told of the lives of these plans.
+pub(crate) fn report_of(alloc: Global, guest: &[u8], plans: &[Plan]) -> Result<Report, Halt> {
+    let lives = lives_of(alloc, plans)?;
+    told_of(alloc, guest, lives.as_slice())
+}
+
+/// What is told of this life of `ECHO` and of another one.
+pub(crate) fn report_of_two(
+    alloc: Global,
+    first: PlannedLife,
+    second: &Plan,
+) -> Result<Report, Halt> {
+    let mut lives = Row::new(alloc);
+    lives.push(first)?;
+    lives.push(life_of(alloc, second)?)?;
+    told_of(alloc, ECHO, lives.as_slice())
+}
+
+/// How a life was opened, as `Told` has it.
 pub(crate) fn opened_as(life: &LifeReport) -> [u64; 4] {
     match &life.opened {
         Opening::Created { image: _ } => [1, 0, 0, 0],
@@ -63,12 +168,11 @@ pub(crate) fn opened_as(life: &LifeReport) -> [u64; 4] {
     }
 }
 
-/// Whether the only line of a life is this one, number 1 of stream 1.
-pub(crate) fn tells_only(life: &LifeReport, text: &str) -> bool {
+fn tells_only(life: &LifeReport, text: &[u8]) -> bool {
     let lines = life.releases.lines();
     lines.len() == 1
         && lines.iter().all(|line| {
-            line.number == 1 && line.stream == 1 && line.text.as_slice() == text.as_bytes()
+            line.number == 1 && line.stream == 1 && line.text.as_slice() == text
         })
 }
 
@@ -77,22 +181,31 @@ pub(crate) fn tells_nothing(life: &LifeReport) -> bool {
     life.releases.lines().is_empty()
 }
 
-/// Whether a life is told at this place that was opened so, ended so, and told only this line, or
-/// with an empty one nothing.
-pub(crate) fn is_told(
-    report: &Report,
-    place: usize,
-    opened: [u64; 4],
-    ended: LifeEnd,
-    line: &str,
-) -> bool {
-    let Some(life) = report.lives.get(place) else {
-        return false;
-    };
-    let has_line = if line.is_empty() {
+fn is_told_so(life: &LifeReport, told: &Told) -> bool {
+    let has_line = if told.line.is_empty() {
         tells_nothing(life)
     } else {
-        tells_only(life, line)
+        tells_only(life, told.line)
     };
-    opened_as(life) == opened && life.ended == ended && has_line
+    opened_as(life) == told.opened && life.ended == told.ended && has_line
+}
+
+/// Whether each of these lives is told so, one after another, and no other one is told.
+pub(crate) fn are_told_so(report: &Report, told: &[Told]) -> bool {
+    let lives = report.lives.as_slice();
+    if lives.len() != told.len() {
+        return false;
+    }
+    for (life, told) in lives.iter().zip(told) {
+        if !is_told_so(life, told) {
+            return false;
+        }
+    }
+    true
+}
+
+/// Whether all lives are told so.
+pub(crate) fn is_told(alloc: Global, tale: &Tale) -> Result<bool, Halt> {
+    let report = report_of(alloc, tale.guest, tale.plans)?;
+    Ok(are_told_so(&report, tale.told))
 }

@@ -2,12 +2,11 @@
 
 use crate::guests::ECHO;
 use crate::halt::Halt;
-use crate::stories::lives::{is_told, life_of, told_of};
+use crate::stories::lives::{AGAIN, CREATED, FIRST, Plan, TELLS, Told, are_told_so, report_of};
 use durable_worker::story::{LifeEnd, LifeReport, Report};
 use durable_worker::{DurableFault, RecoverFault, WorkFault};
 use sector_disk::DiskFault;
 use std::alloc::Global;
-use wasm_syntax::Row;
 
 /// What is told of lives that want memory, for themselves or for their disk.
 static STARVED: [LifeEnd; 2] = [
@@ -26,28 +25,30 @@ fn are_finished(report: &Report) -> bool {
 }
 
 /// A worker tells a line, and tells it again in its second life.
-fn two_lives(alloc: Global) -> Result<Report, Halt> {
-    let mut lives = Row::new(alloc);
-    lives.push(life_of(alloc, &["hello"], 20)?)?;
-    lives.push(life_of(alloc, &[], 14)?)?;
-    told_of(alloc, ECHO, lives.as_slice())
+static TWO: [Plan; 2] = [FIRST, TELLS];
+
+static TOLD: [Told; 2] = [CREATED, AGAIN];
+
+/// Whether all lives with memory came to their end, and told their lines where none was without.
+fn is_told_with_memory(report: &Report) -> Result<bool, Halt> {
+    if !are_finished(report) {
+        return Ok(false);
+    }
+    if report.lives.as_slice().iter().any(has_starved) {
+        return Err(Halt::Memory);
+    }
+    Ok(are_told_so(report, &TOLD))
 }
 
-/// Whether both lives tell all that they have memory for.
-fn are_told(report: &Report) -> bool {
-    is_told(report, 0, [1, 0, 0, 0], LifeEnd::Finished, "hello")
-        && is_told(report, 1, [2, 6, 1, 0], LifeEnd::Finished, "hello")
+fn are_both_told(alloc: Global) -> Result<bool, Halt> {
+    let report = report_of(alloc, ECHO, &TWO)?;
+    is_told_with_memory(&report)
 }
 
 /// `scripts/refused-allocations` refuses each allocation in turn. Then there is no report, or one
 /// of the lives has ended by want of memory, and the other one as it should.
 #[test]
 fn a_story_with_memory(rt: HostRuntime) -> Result<(), Halt> {
-    let report = two_lives(rt.alloc())?;
-    assert!(rt; are_finished(&report));
-    if report.lives.as_slice().iter().any(has_starved) {
-        return Err(Halt::Memory);
-    }
-    assert!(rt; are_told(&report));
+    assert!(rt; are_both_told(rt.alloc())?);
     Ok(())
 }
