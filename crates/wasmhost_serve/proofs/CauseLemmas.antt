@@ -27,14 +27,18 @@ use Rattle.wasmhost_serve.specs.rules.Outside.{requests_in, words_of}
 use Rattle.wasmhost_serve.specs.rules.Printers.{PrinterState, IsSaid}
 use Rattle.wasmhost_serve.specs.rules.Requests.{BeginsWithOther, BeginsWithLater, BeginsWithNumber}
 use Rattle.wasmhost_serve.specs.rules.ServedOnDisk.{DiskJob, stands_behind, handing}
-use Rattle.wasmhost_serve.specs.rules.ServedOnDisk.{LivesOnDisk, ServesOnDisk, over, broken}
+use Rattle.wasmhost_serve.specs.rules.BrokenLives.{LeavesNoLine, steps_among}
+use Rattle.wasmhost_serve.specs.rules.ServedOnDisk.{LivesOnDisk, HasBrokenOff}
+use Rattle.wasmhost_serve.specs.rules.ServedOnDisk.{ServesOnDisk, over, broken}
 use Rattle.wasmhost_serve.specs.rules.ServedOnDisk.{unopened as is_unopened}
 use Rattle.wasmhost_serve.specs.rules.DiskCauses.{IsRefusedAmong, HasRefused, MeetsBadLineAt}
 use Rattle.wasmhost_serve.specs.rules.DiskCauses.{LacksAnswerAt, LacksMemoryAt}
 use Rattle.wasmhost_serve.specs.rules.DiskCauses.{IsStuck, IsFailing, IsWanting, IsUntaken}
+use Rattle.wasmhost_serve.specs.rules.DiskCauses.{IsAtItsEnd, IsUnanswering, HasPrintedItsLines}
 use Rattle.wasmhost_serve.specs.rules.DiskCauses.{IsOverOnDisk, FailsOnDisk, opening, calling}
 use Rattle.wasmhost_serve.specs.rules.DiskCauses.{AsksInVain, SaysOnDisk, StatusesHaveCauses}
 use Rattle.wasmhost_serve.proofs.LineLemmas.Passing.{up_to_map}
+use Rattle.wasmhost_serve.proofs.PrintedLemmas.{lines_printed}
 use Rattle.wasmhost_serve.proofs.RefusalLemmas.{reason_for}
 
 -- ---- what a line's fault comes to
@@ -120,20 +124,47 @@ steady_unless Refused s t heard unrefused = by_heard heard.heard
 
 module _ {D : Type 0} (medium : D → Medium) where
   module _ (given : DiskJob) (found last : D) (out out' : Option (List ℕ)) (failed' : Bool) where
-    abbrev Fails : (RecoverFault → Type 0) → Type 0
-    Fails IsKind = FailsOnDisk medium given found last out out' failed' IsKind
+    abbrev Fails : (RecoverFault → Type 0) → (DurableFault → Type 0) → Type 0
+    Fails IsOfOpening IsOfCall =
+        FailsOnDisk medium given found last out out' failed' IsOfOpening IsOfCall
+
+    -- memory that was refused to a call
+    abbrev IsOfMemory : DurableFault → Type 0
+    IsOfMemory why = why ≡ durable.Work work.Memory
+
+    -- a line of a call that the outlet refused
+    abbrev IsOfOutlet : DurableFault → Type 0
+    IsOfOutlet why = why ≡ durable.Work work.Outlet
+
+    -- each line was printed, where none waits
+    each_printed : (why : DurableFault) (source' : Standing)
+        (lives : LivesOnDisk medium given (Err (recover.Worker why)) found last out out' source')
+        → HasBrokenOff lives why → LeavesNoLine why → HasPrintedItsLines lives why
+    each_printed why source' lives breaks none guest p is = (
+      breaks guest p is,
+      lines_printed guest p (stands_behind given lives.worker) source' lives.retold out' given.fuel
+          (steps_among lives.acts) why none (breaks guest p is),
+    )
 
     abbrev Asks : (Standing → List Ask → Bool → Type 0) → Type 0
     Asks Holds = AsksInVain medium given found last out out' failed' Holds
 
+    -- a life that was ended by this
+    abbrev BrokenLife : Standing → DurableFault → Type 0
+    BrokenLife source' why =
+        (lives : LivesOnDisk medium given (Err (recover.Worker why)) found last out out' source')
+        × HasBrokenOff lives why
+
     -- a question was refused for this
     vain : (source' : Standing) (why : LineFault)
-        → LivesOnDisk medium given (Err (recover.Worker (durable.Work work.Source))) found last out
-        out' source' → source'.failed ≡ failed' → source'.fault ≡ Some why
+        (lives : LivesOnDisk medium given (Err (recover.Worker (durable.Work work.Source))) found
+        last out out' source') → HasBrokenOff lives (durable.Work work.Source)
+        → source'.failed ≡ failed' → source'.fault ≡ Some why
         → Asks (λ old asks failed. HasRefused old asks failed why)
-    vain source' why lives heeded is = record {
+    vain source' why lives breaks heeded is = record {
       source' = source';
       lives = lives;
+      printed = each_printed (durable.Work work.Source) source' lives breaks tt;
       heeded = heeded;
       asks = lives.heard.asks;
       led = lives.heard.led;
@@ -149,6 +180,7 @@ module _ {D : Type 0} (medium : D → Medium) where
     in_vain P Q f asks = record {
       source' = asks.source';
       lives = asks.lives;
+      printed = asks.printed;
       heeded = asks.heeded;
       asks = asks.asks;
       led = asks.led;
@@ -176,7 +208,7 @@ module _ {D : Type 0} (medium : D → Medium) where
         known = inl refl;
       }
 
-      three : Fails IsStuck → IsSteady → Says 3
+      three : Fails IsStuck IsAtItsEnd → IsSteady → Says 3
       three h steady = record {
         over = λ e. absurd (omega (arith, e));
         stuck = λ e. h;
@@ -188,7 +220,7 @@ module _ {D : Type 0} (medium : D → Medium) where
         known = inr (omega arith, omega arith);
       }
 
-      four : Fails IsFailing ⊎ Asks LacksAnswerAt → Says 4
+      four : Fails IsFailing IsUnanswering ⊎ Asks LacksAnswerAt → Says 4
       four h = record {
         over = λ e. absurd (omega (arith, e));
         stuck = λ e. absurd (omega (arith, e));
@@ -200,7 +232,7 @@ module _ {D : Type 0} (medium : D → Medium) where
         known = inr (omega arith, omega arith);
       }
 
-      five : Fails IsWanting ⊎ Asks LacksMemoryAt → Says 5
+      five : Fails IsWanting IsOfMemory ⊎ Asks LacksMemoryAt → Says 5
       five h = record {
         over = λ e. absurd (omega (arith, e));
         stuck = λ e. absurd (omega (arith, e));
@@ -224,7 +256,7 @@ module _ {D : Type 0} (medium : D → Medium) where
         known = inr (omega arith, omega arith);
       }
 
-      seven : Fails IsUntaken ⊎ (err'.failed ≡ true) → Says 7
+      seven : Fails IsUntaken IsOfOutlet ⊎ (err'.failed ≡ true) → Says 7
       seven h = record {
         over = λ e. absurd (omega (arith, e));
         stuck = λ e. absurd (omega (arith, e));
@@ -238,36 +270,47 @@ module _ {D : Type 0} (medium : D → Medium) where
 
       -- a fault of the recovery
       by_opening : (why : RecoverFault)
-          → ((IsKind : RecoverFault → Type 0) → IsKind why → Fails IsKind) → IsSteady
+          → ((IsOfOpening : RecoverFault → Type 0) (IsOfCall : DurableFault → Type 0)
+          → IsOfOpening why → Fails IsOfOpening IsOfCall) → IsSteady
           → Says (status_on_disk (told_of_opening why))
-      by_opening recover.NotAnImage f steady = three (f IsStuck tt) steady
-      by_opening recover.Diverged f steady = three (f IsStuck tt) steady
-      by_opening (recover.Worker (durable.Store why)) f steady = three (f IsStuck tt) steady
-      by_opening (recover.Worker (durable.Disk disk.Memory)) f steady = five (inl (f IsWanting tt))
-      by_opening (recover.Worker (durable.Disk disk.Range)) f steady = four (inl (f IsFailing tt))
-      by_opening (recover.Worker (durable.Disk disk.Io)) f steady = four (inl (f IsFailing tt))
-      by_opening (recover.Worker (durable.Disk disk.Cut)) f steady = four (inl (f IsFailing tt))
-      by_opening (recover.Worker (durable.Work work.Source)) f steady = four (inl (f IsFailing tt))
-      by_opening (recover.Worker (durable.Work work.Failed)) f steady = four (inl (f IsFailing tt))
-      by_opening (recover.Worker (durable.Work work.Memory)) f steady = five (inl (f IsWanting tt))
-      by_opening (recover.Worker (durable.Work work.Outlet)) f steady = seven (inl (f IsUntaken tt))
+      by_opening recover.NotAnImage f steady = three (f IsStuck IsAtItsEnd tt) steady
+      by_opening recover.Diverged f steady = three (f IsStuck IsAtItsEnd tt) steady
+      by_opening (recover.Worker (durable.Store why)) f steady =
+          three (f IsStuck IsAtItsEnd tt) steady
+      by_opening (recover.Worker (durable.Disk disk.Memory)) f steady =
+          five (inl (f IsWanting IsOfMemory tt))
+      by_opening (recover.Worker (durable.Disk disk.Range)) f steady =
+          four (inl (f IsFailing IsUnanswering tt))
+      by_opening (recover.Worker (durable.Disk disk.Io)) f steady =
+          four (inl (f IsFailing IsUnanswering tt))
+      by_opening (recover.Worker (durable.Disk disk.Cut)) f steady =
+          four (inl (f IsFailing IsUnanswering tt))
+      by_opening (recover.Worker (durable.Work work.Source)) f steady =
+          four (inl (f IsFailing IsUnanswering tt))
+      by_opening (recover.Worker (durable.Work work.Failed)) f steady =
+          four (inl (f IsFailing IsUnanswering tt))
+      by_opening (recover.Worker (durable.Work work.Memory)) f steady =
+          five (inl (f IsWanting IsOfMemory tt))
+      by_opening (recover.Worker (durable.Work work.Outlet)) f steady =
+          seven (inl (f IsUntaken IsOfOutlet tt))
       by_opening (recover.Worker (durable.Work (work.Refused why))) f steady =
-          three (f IsStuck tt) steady
+          three (f IsStuck IsAtItsEnd tt) steady
 
       -- one of a call
       by_calling : (why : DurableFault)
-          → ((IsKind : RecoverFault → Type 0) → IsKind (recover.Worker why) → Fails IsKind)
+          → ((IsOfOpening : RecoverFault → Type 0) (IsOfCall : DurableFault → Type 0)
+          → IsOfCall why → Fails IsOfOpening IsOfCall)
           → ((why ≡ durable.Work work.Source → ⊥) → IsSteady)
           → Says (status_of_call why)
       by_calling (durable.Store why) f steady =
-          three (f IsStuck tt) (steady (λ e. absurd (cc)))
-      by_calling (durable.Disk why) f steady = four (inl (f IsFailing tt))
-      by_calling (durable.Work work.Source) f steady = four (inl (f IsFailing tt))
-      by_calling (durable.Work work.Failed) f steady = four (inl (f IsFailing tt))
-      by_calling (durable.Work work.Memory) f steady = five (inl (f IsWanting tt))
-      by_calling (durable.Work work.Outlet) f steady = seven (inl (f IsUntaken tt))
+          three (f IsStuck IsAtItsEnd tt) (steady (λ e. absurd (cc)))
+      by_calling (durable.Disk why) f steady = four (inl (f IsFailing IsUnanswering tt))
+      by_calling (durable.Work work.Source) f steady = four (inl (f IsFailing IsUnanswering tt))
+      by_calling (durable.Work work.Failed) f steady = four (inl (f IsFailing IsUnanswering tt))
+      by_calling (durable.Work work.Memory) f steady = five (inl (f IsWanting IsOfMemory refl))
+      by_calling (durable.Work work.Outlet) f steady = seven (inl (f IsUntaken IsOfOutlet refl))
       by_calling (durable.Work (work.Refused why)) f steady =
-          three (f IsStuck tt) (steady (λ e. absurd (cc)))
+          three (f IsStuck IsAtItsEnd tt) (steady (λ e. absurd (cc)))
 
       -- one of a request line
       by_line : (why : LineFault) → Asks (λ old asked failed. HasRefused old asked failed why)
@@ -307,26 +350,27 @@ module _ {D : Type 0} (medium : D → Medium) where
       same_call a b is = cc
 
       by_told : (why : DurableFault) (told : OnDiskFault) (source' : Standing)
-          → LivesOnDisk medium given (Err (recover.Worker why)) found last out out' source'
-          → source'.failed ≡ failed' → IsToldOnDisk why source'.fault told
-          → Says (status_on_disk told)
-      by_told why told source' lives heeded (inl e) =
+          (lives : LivesOnDisk medium given (Err (recover.Worker why)) found last out out' source')
+          → HasBrokenOff lives why → source'.failed ≡ failed'
+          → IsToldOnDisk why source'.fault told → Says (status_on_disk told)
+      by_told why told source' lives breaks heeded (inl e) =
           subst (λ t. Says (status_on_disk t)) (sym e.0)
-          (by_calling why (λ IsKind is. calling why source' lives e.1 heeded is)
+          (by_calling why (λ IsOfOpening IsOfCall is.
+          calling why source' lives (each_printed why source' lives breaks) e.1 heeded is)
           (λ other. sym heeded ∙ steady_unless (IsOfSource (Err (recover.Worker why)))
           (stands_behind given lives.worker) source' lives.heard
           (λ source. other (same_call why (durable.Work work.Source) source))))
-      by_told why told source' lives heeded (inr e) =
+      by_told why told source' lives breaks heeded (inr e) =
+          let both : BrokenLife source' (durable.Work work.Source) =
+          subst (BrokenLife source') e.1 (lives, breaks) in
           subst (λ t. Says (status_on_disk t)) (sym e.3)
-          (by_line e.0 (vain source' e.0
-          (subst (λ f. LivesOnDisk medium given (Err (recover.Worker f)) found last out out'
-          source') e.1 lives) heeded e.2))
+          (by_line e.0 (vain source' e.0 both.0 both.1 heeded e.2))
 
       says_why : (status : ℕ)
           → ServesOnDisk medium given found last out out' err err' failed' status → Says status
       says_why status (is_unopened why run heeded said) =
           said_as err status (status_on_disk (told_of_opening why)) said
-          (by_opening why (λ IsKind is. opening why run heeded is) heeded)
+          (by_opening why (λ IsOfOpening IsOfCall is. opening why run heeded is) heeded)
       says_why status (over now source' between done lives outcome heeded tells (inl said)) =
           subst Says (sym said.0) (zero (record {
             now = now;
@@ -342,9 +386,9 @@ module _ {D : Type 0} (medium : D → Medium) where
           source' lives.heard (λ source. absurd (cc))))
       says_why status (over now source' between done lives outcome heeded tells (inr unsaid)) =
           subst Says (sym unsaid.0) (seven (inr unsaid.1))
-      says_why status (broken why told source' between lives heeded is tells said) =
+      says_why status (broken why told source' between lives breaks heeded is tells said) =
           said_as between status (status_on_disk told) said
-          (by_told why told source' lives heeded is)
+          (by_told why told source' lives breaks heeded is)
 
   pub statuses_have_causes : StatusesHaveCauses medium
   statuses_have_causes given found last out out' err err' failed' status serves =

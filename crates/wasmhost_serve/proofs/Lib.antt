@@ -3,6 +3,8 @@ pub mod SeedLemmas
 pub mod ShowingLemmas
 pub mod LineLemmas
 pub mod HearingLemmas
+pub mod BreakLemmas
+pub mod PrintedLemmas
 pub mod LivingLemmas
 pub mod ReleasedLemmas
 pub mod ShownLemmas

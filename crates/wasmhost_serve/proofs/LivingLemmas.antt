@@ -4,6 +4,7 @@ use Rattle.std.proofs.Common.{◌++◌, Ok, Err, refl, sym, ap, ◌∙◌, subst
 use Rattle.std.proofs.Common.{append-nil}
 use Rattle.std.specs.Prelude.{Result, IfOk, IfErr, replicate}
 use Rattle.std.proofs.lemmas.List.{replicate_more}
+use Rattle.std.proofs.lemmas.Result.{IfErr-weaker}
 use mathlib.Core.Path.{subst_refl, path_j}
 use Rattle.sector_disk.specs.rules.Medium.{Medium}
 use Rattle.disk_layout.specs.rules.Places.{total_sectors}
@@ -23,10 +24,15 @@ use Rattle.durable_worker.specs.rules.LifeWords.{Act, Slice, Checkpoint}
 use Rattle.durable_worker.specs.laws.OneLife.{no_more, sliced, slice_failed, saved}
 use Rattle.durable_worker.specs.laws.OneLife.{saving_failed}
 use Rattle.durable_worker.specs.laws.Outcomes.{outcome_after}
+use Rattle.wasmhost_serve.specs.rules.BrokenLives.{BreaksOff, SlicesLead, steps_among}
 use Rattle.wasmhost_serve.specs.rules.Hearings.{AsksUnless, IsOfSource}
 use Rattle.wasmhost_serve.specs.rules.Paces.{round_of, IsPaced, last, more}
 use Rattle.wasmhost_serve.specs.Livings.{Scene, scene, left_after, steps_left, AreCalled, ActsLead}
 use Rattle.wasmhost_serve.specs.Livings.{IsRested, IsRound, IsBrokenRound, LivesAtPace}
+use Rattle.wasmhost_serve.specs.Livings.{SlicesLeadOn, BreaksOffAt}
+use Rattle.wasmhost_serve.proofs.BreakLemmas.{steps_both, slice_more, round_steps, lead_nowhere}
+use Rattle.wasmhost_serve.proofs.BreakLemmas.{lead_by_slice, lead_join, breaks_in_checkpoint}
+use Rattle.wasmhost_serve.proofs.BreakLemmas.{BreaksBy, breaks_join}
 use Rattle.wasmhost_serve.proofs.HearingLemmas.{nothing_asked, asked_on, asked_so_far}
 
 -- a slice whose fuel is spent leaves fewer steps that can be counted
@@ -156,11 +162,13 @@ module _ {D S O : Type 0} (medium : D → Medium) (gives : Giving S) (takes : Ta
     }
 
     rested : (some : 1 ≤ n) (within : n ≤ every) (heard : AsksUnless gives ⊥ from.source source)
+        (lead : said ≡ now.Spent → SlicesLeadOn gives takes from
+        (steps_among (replicate n (Slice fuel))) (scene w disk source outlet))
         (result : Result Now DurableFault) → (said ≡ now.Spent → n ≡ every)
         → IsRested said result w w' (medium disk) (medium disk')
         → IfOk result (λ why. IsRound medium gives takes fuel every from why
         (scene w' disk' source outlet))
-    rested some within heard (Ok told) whole rests = record {
+    rested some within heard lead (Ok told) whole rests = record {
       count = n;
       some = some;
       within = within;
@@ -168,22 +176,30 @@ module _ {D S O : Type 0} (medium : D → Medium) (gives : Giving S) (takes : Ta
       heard = heard;
       leads = subst (λ z. ActsLead medium gives takes (round_of fuel n) from z
           (scene w' disk' source outlet)) (sym rests.0) (round_leads rests.1);
+      spent = λ spent guest p is.
+          subst (λ v. SlicesLead gives takes guest p from.source source from.outlet outlet
+          (steps_among (round_of fuel n)) v) (sym rests.2)
+          (subst (λ k. SlicesLead gives takes guest p from.source source from.outlet outlet k
+          w.process) (sym (round_steps fuel n)) (lead (sym rests.0 ∙ spent) guest p is));
     }
-    rested some within heard (Err fault) whole rests = tt
+    rested some within heard lead (Err fault) whole rests = tt
 
     broken : (some : 1 ≤ n) (within : n ≤ every) (heard : AsksUnless gives ⊥ from.source source)
+        (breaks : (why : DurableFault) → BreaksOffAt gives takes fuel
+        (steps_among (round_of fuel n)) from why source outlet)
         (result : Result Now DurableFault)
         → IsRested said result w w' (medium disk) (medium disk')
         → IfErr result (λ why. IsBrokenRound medium gives takes fuel every from why disk' source
         outlet)
-    broken some within heard (Ok told) rests = tt
-    broken some within heard (Err fault) rests = record {
+    broken some within heard breaks (Ok told) rests = tt
+    broken some within heard breaks (Err fault) rests = record {
       count = n;
       some = some;
       within = within;
       heard = asked_so_far gives (IsOfSource (Err (recover.Worker fault))) from.source source heard;
       done = leads.behind (Checkpoint ∷ []) (Err (recover.Worker fault)) disk' source outlet
           (saving_failed rests.0 rests.1);
+      broken = breaks fault;
     }
 
   -- So many slices were taken in a round from there on, each of which has spent its fuel. No
@@ -192,6 +208,7 @@ module _ {D S O : Type 0} (medium : D → Medium) (gives : Giving S) (takes : Ta
     pub fewer : n < every
     pub heard : AsksUnless gives ⊥ from.source here.source
     pub leads : ActsLead medium gives takes (replicate n (Slice fuel)) from now.Spent here
+    pub lead : SlicesLeadOn gives takes from (steps_among (replicate n (Slice fuel))) here
     pub steps : steps_left here.worker ≤ steps_left from.worker
     pub room : total_sectors here.worker.store.geometry ≤ (medium here.disk).sectors
 
@@ -202,6 +219,8 @@ module _ {D S O : Type 0} (medium : D → Medium) (gives : Giving S) (takes : Ta
     fewer = some;
     heard = nothing_asked gives here.source;
     leads = stands_still here;
+    lead = λ guest p is. lead_nowhere gives takes here.worker.process here.source here.outlet guest
+        p is;
     steps = omega arith;
     room = room;
   }
@@ -224,6 +243,14 @@ module _ {D S O : Type 0} (medium : D → Medium) (gives : Giving S) (takes : Ta
     Slicing result = SliceCarries gives takes here.worker given result w' (medium here.disk)
         (medium disk') here.source source' here.outlet outlet'
 
+    -- what it does, where it has no error
+    abbrev Sliced : ℕ → Now → Type 0
+    Sliced steps said = Slices gives takes (without_disk here.worker) steps said (without_disk w')
+        here.source source' here.outlet outlet'
+
+    sliced_so : (said : Now) → Sliced given said → Sliced fuel said
+    sliced_so said slices = subst (λ f. Sliced f said) same slices
+
     -- the slices so far and this one
     leads_more : (said : Now) → Slicing (Ok said)
         → ActsLead medium gives takes (replicate (n + 1) (Slice fuel)) from said
@@ -234,6 +261,32 @@ module _ {D S O : Type 0} (medium : D → Medium) (gives : Giving S) (takes : Ta
         (subst (λ f. SliceCarries gives takes here.worker f (Ok said) w' (medium here.disk)
         (medium disk') here.source source' here.outlet outlet') same carries)
 
+    lead_more : (said : Now) → Sliced given said → said ≡ now.Spent
+        → SlicesLeadOn gives takes from (steps_among (replicate (n + 1) (Slice fuel)))
+        (scene w' disk' source' outlet')
+    lead_more said slices spent guest p is =
+        let first = so_far.lead guest p is in
+        subst (λ k. SlicesLead gives takes guest p from.source source' from.outlet outlet' k
+        w'.process) (sym (slice_more fuel n))
+        (lead_join gives takes guest p from.source here.source source' from.outlet here.outlet
+        outlet' (steps_among (replicate n (Slice fuel))) here.worker.process first fuel w'.process
+        (lead_by_slice gives takes fuel here.source source' here.outlet outlet' here.worker w'
+        (subst (λ z. Sliced fuel z) spent (sliced_so said slices)) guest first.process
+        first.shows))
+
+    -- this one has failed, or a checkpoint behind it
+    breaks_more : (why : DurableFault)
+        → BreaksBy gives takes fuel here.source source' here.outlet outlet' here.worker.process why
+        → BreaksOffAt gives takes fuel (steps_among (round_of fuel (n + 1))) from why source'
+        outlet'
+    breaks_more why breaks guest p is =
+        let first = so_far.lead guest p is in
+        subst (λ k. BreaksOff gives takes guest p from.source source' from.outlet outlet' fuel k
+        why) (sym (round_steps fuel (n + 1) ∙ slice_more fuel n))
+        (breaks_join gives takes guest p from.source here.source source' from.outlet here.outlet
+        outlet' (steps_among (replicate n (Slice fuel))) here.worker.process first fuel fuel why
+        (breaks guest first.process first.shows))
+
     -- whatever is asked behind the slices so far
     heard_on : (Refused : Type 0) → AsksUnless gives Refused here.source source'
         → AsksUnless gives Refused from.source source'
@@ -242,17 +295,18 @@ module _ {D S O : Type 0} (medium : D → Medium) (gives : Giving S) (takes : Ta
 
     -- one more, behind which others come
     pub within_more : (said : Now) → Slicing (Ok said) → AsksUnless gives ⊥ here.source source'
-        → said ≡ now.Spent → n + 1 < every
+        → Sliced given said → said ≡ now.Spent → n + 1 < every
         → steps_left w' < steps_left here.worker
         → total_sectors w'.store.geometry ≤ (medium disk').sectors
         → IsWithin fuel every (n + 1) from (scene w' disk' source' outlet')
-    within_more said carries heard spent few fewer room =
+    within_more said carries heard slices spent few fewer room =
         let before = so_far.steps in
         record {
           fewer = few;
           heard = heard_on ⊥ heard;
           leads = subst (λ z. ActsLead medium gives takes (replicate (n + 1) (Slice fuel)) from z
               (scene w' disk' source' outlet')) spent (leads_more said carries);
+          lead = lead_more said slices spent;
           steps = omega (arith, before, fewer);
           room = room;
         }
@@ -267,8 +321,10 @@ module _ {D S O : Type 0} (medium : D → Medium) (gives : Giving S) (takes : Ta
       -- one that fails
       pub within_breaks : (why : DurableFault) → Slicing (Err why)
           → AsksUnless gives (IsOfSource (Err (recover.Worker why))) here.source source'
+          → BreaksBy gives takes given here.source source' here.outlet outlet' here.worker.process
+          why
           → IsBrokenRound medium gives takes fuel most from why disk' source' outlet'
-      within_breaks why carries heard = record {
+      within_breaks why carries heard breaks = record {
         count = n + 1;
         some = some;
         within = within;
@@ -277,11 +333,13 @@ module _ {D S O : Type 0} (medium : D → Medium) (gives : Giving S) (takes : Ta
             here.outlet outlet' so_far.leads why
             (subst (λ f. SliceCarries gives takes here.worker f (Err why) w' (medium here.disk)
             (medium disk') here.source source' here.outlet outlet') same carries);
+        broken = breaks_more why (subst (λ f. BreaksBy gives takes f here.source source'
+            here.outlet outlet' here.worker.process why) same breaks);
       }
 
       -- the last one, and a checkpoint
-      module _ (said : Now) (carries : Slicing (Ok said)) (result : Result Now DurableFault)
-          (w'' : DurableValue) (disk'' : D)
+      module _ (said : Now) (carries : Slicing (Ok said)) (slices : Sliced given said)
+          (result : Result Now DurableFault) (w'' : DurableValue) (disk'' : D)
           (rests : IsRested said result w' w'' (medium disk') (medium disk'')) where
         pub within_rests : AsksUnless gives ⊥ here.source source'
             → (said ≡ now.Spent → n + 1 ≡ every)
@@ -289,7 +347,7 @@ module _ {D S O : Type 0} (medium : D → Medium) (gives : Giving S) (takes : Ta
             (scene w'' disk'' source' outlet'))
         within_rests heard whole =
             rested fuel most (n + 1) from w' w'' disk' disk'' source' outlet' said
-            (leads_more said carries) some within (heard_on ⊥ heard) result
+            (leads_more said carries) some within (heard_on ⊥ heard) (lead_more said slices) result
             (λ e. whole e ∙ is_most) rests
 
         pub within_broken : AsksUnless gives ⊥ here.source source'
@@ -297,7 +355,9 @@ module _ {D S O : Type 0} (medium : D → Medium) (gives : Giving S) (takes : Ta
             source' outlet')
         within_broken heard =
             broken fuel most (n + 1) from w' w'' disk' disk'' source' outlet' said
-            (leads_more said carries) some within (heard_on ⊥ heard) result rests
+            (leads_more said carries) some within (heard_on ⊥ heard)
+            (λ why. breaks_more why (breaks_in_checkpoint gives takes fuel here.source source'
+            here.outlet outlet' here.worker w' said why (sliced_so said slices))) result rests
 
         pub within_fewer : (said ≡ now.Spent → steps_left w' < steps_left here.worker)
             → IfOk result (λ why. why ≡ now.Spent → steps_left w'' < steps_left from.worker)
@@ -325,6 +385,8 @@ module _ {D S O : Type 0} (medium : D → Medium) (gives : Giving S) (takes : Ta
         → AsksUnless gives (IsOfSource (left_after result)) from.source source
         → (done : AreCalled medium gives takes rest here (left_after result) disk source outlet)
         → IfOk result (λ told. outcome_after now.Spent done ≡ told)
+        → IfErr result (λ why. BreaksOffAt gives takes fuel (steps_among rest) here why source
+        outlet)
         → LivesAtPace medium gives takes fuel every from result disk source outlet
 
   pub none_yet : (fuel every : ℕ) (here : Scene D S O)
@@ -333,12 +395,13 @@ module _ {D S O : Type 0} (medium : D → Medium) (gives : Giving S) (takes : Ta
   none_yet fuel every here room = record {
     room = room;
     heard = nothing_asked gives here.source;
-    on = λ rest result disk source outlet paced heard done says. record {
+    on = λ rest result disk source outlet paced heard done says broken. record {
       acts = rest;
       paced = paced;
       heard = heard;
       done = done;
       says = says;
+      broken = broken;
     };
   }
 
@@ -367,16 +430,41 @@ module _ {D S O : Type 0} (medium : D → Medium) (gives : Giving S) (takes : Ta
             (r.leads.behind rest (left_after result) disk source outlet done)
             ∙ r.leads.says rest (left_after result) disk source outlet done)) says
 
+        abbrev Breaks : List Act → Scene D S O → DurableFault → Type 0
+        Breaks acts at why = BreaksOffAt gives takes fuel (steps_among acts) at why source outlet
+
+        all_steps : steps_among (round_of fuel r.count) + steps_among rest
+            ≡ steps_among (round_of fuel every ++ rest)
+        all_steps = ap (λ n. steps_among (round_of fuel n) + steps_among rest) (r.whole refl)
+            ∙ sym (steps_both (round_of fuel every) rest)
+
+        then_breaks : (why : DurableFault) → Breaks rest there why
+            → Breaks (round_of fuel every ++ rest) here why
+        then_breaks why breaks guest p is =
+            let first = r.spent refl guest p is in
+            subst (λ k. BreaksOff gives takes guest p here.source source here.outlet outlet fuel k
+            why) all_steps
+            (breaks_join gives takes guest p here.source there.source source here.outlet
+            there.outlet outlet (steps_among (round_of fuel r.count)) there.worker.process first
+            fuel (steps_among rest) why (breaks guest first.process first.shows))
+
+        then_broken : IfErr result (λ why. Breaks rest there why)
+            → IfErr result (λ why. Breaks (round_of fuel every ++ rest) here why)
+        then_broken broken =
+            IfErr-weaker result (λ why. Breaks rest there why)
+            (λ why. Breaks (round_of fuel every ++ rest) here why) then_breaks broken
+
     pub round_more : (there : Scene D S O)
         → total_sectors there.worker.store.geometry ≤ (medium there.disk).sectors
         → IsRound medium gives takes fuel every here now.Spent there → SoFar fuel every from there
     round_more there room r = record {
       room = room;
       heard = asked_on gives ⊥ from.source here.source there.source so_far.heard r.heard;
-      on = λ rest result disk source outlet paced heard done says.
+      on = λ rest result disk source outlet paced heard done says broken.
           so_far.on (round_of fuel every ++ rest) result disk source outlet (more rest paced) heard
           (then_done there r rest result disk source outlet done)
-          (then_says there r rest result disk source outlet done says);
+          (then_says there r rest result disk source outlet done says)
+          (then_broken there r rest result disk source outlet done broken);
     }
 
     pub round_last : (why : Now) (there : Scene D S O)
@@ -389,7 +477,7 @@ module _ {D S O : Type 0} (medium : D → Medium) (gives : Giving S) (takes : Ta
         (asked_so_far gives (IsOfSource (Ok [])) from.source there.source
         (asked_on gives ⊥ from.source here.source there.source so_far.heard r.heard))
         (leads_out (round_of fuel r.count) here why there r.leads)
-        (says_out (round_of fuel r.count) here why there r.leads)
+        (says_out (round_of fuel r.count) here why there r.leads) tt
 
     pub round_broken : (why : DurableFault) (disk : D) (source : S) (outlet : O)
         → IsBrokenRound medium gives takes fuel every here why disk source outlet
@@ -398,4 +486,4 @@ module _ {D S O : Type 0} (medium : D → Medium) (gives : Giving S) (takes : Ta
         so_far.on (round_of fuel r.count) (Err why) disk source outlet
         (last r.count r.some r.within)
         (asked_on gives (IsOfSource (Err (recover.Worker why))) from.source here.source source
-        so_far.heard r.heard) r.done tt
+        so_far.heard r.heard) r.done tt r.broken

@@ -3,6 +3,7 @@ use Rattle.std.proofs.Common.{◌≡◌, ◌≢◌, inl, inr, ℕ, Bool, List, O
 use Rattle.std.proofs.Common.{Ok, Err}
 use Rattle.std.proofs.Common.{refl, sym, ap, ◌∙◌, subst, ◌≤◌, lit≤}
 use Rattle.std.specs.Prelude.{Result, IfOk}
+use Rattle.std.proofs.lemmas.Result.{IfErr-weaker}
 use Rattle.sector_disk.specs.declared.fault.DiskFault.{DiskFault}
 use Rattle.sector_disk.specs.declared.fault.DiskFault.TheVariants as disk
 use Rattle.sector_disk.specs.rules.Medium.{Medium}
@@ -24,6 +25,8 @@ use Rattle.wasmhost_serve.specs.declared.on_disk.fault.OnDiskFault.{OnDiskFault}
 use Rattle.wasmhost_serve.specs.declared.on_disk.fault.OnDiskFault.TheVariants as is_told
 use Rattle.wasmhost_serve.specs.Lines.Answers.{Standing, standing}
 use Rattle.wasmhost_serve.specs.Livings.{scene, left_after, AreCalled, LivesAtPace, HasGoneOn}
+use Rattle.wasmhost_serve.specs.Livings.{BreaksOffAt}
+use Rattle.wasmhost_serve.specs.rules.BrokenLives.{BreaksOffFrom, steps_among}
 use Rattle.wasmhost_serve.specs.rules.DiskStatuses.{IsToldOnDisk, told_of_opening, status_on_disk}
 use Rattle.wasmhost_serve.specs.rules.DiskStatuses.{status_of_disk, status_of_call}
 use Rattle.wasmhost_serve.specs.rules.Statuses.{status_of_line}
@@ -39,7 +42,7 @@ use Rattle.wasmhost_serve.specs.rules.ServedOnDisk.{over, broken}
 use Rattle.wasmhost_serve.proofs.LivingLemmas.{carried_over}
 use Rattle.wasmhost_serve.proofs.PrinterLemmas.{few_said}
 use Rattle.wasmhost_serve.proofs.ShownLemmas.{gives_so, takes_so, asked_so, recovery_so}
-use Rattle.wasmhost_serve.proofs.ShownLemmas.{calls_so, outcome_so}
+use Rattle.wasmhost_serve.proofs.ShownLemmas.{calls_so, outcome_so, broken_so}
 
 -- ---- an open worker
 
@@ -55,6 +58,18 @@ module _ {R : Type 0} (unread : R → Option (List ℕ)) (failed : R → Bool) w
 
 module _ {D S O : Type 0} (medium : D → Medium) (stands : S → Standing)
     (shows : O → Option (List ℕ)) where
+  -- where it has failed, seen by where its source stands and by what is printed
+  breaks_so : (given : DiskJob) (w : DurableValue) (disk : D) (all : ℕ) (s t : S) (o p : O)
+      (why : DurableFault) → stands s ≡ stands_behind given w
+      → BreaksOffAt (gives_so stands shows handing printing)
+      (takes_so stands shows handing printing) given.fuel all (scene w disk s o) why t p
+      → BreaksOffAt handing printing given.fuel all
+      (scene w disk (stands_behind given w) (shows o)) why (stands t) (shows p)
+  breaks_so given w disk all s t o p why is breaks =
+      subst (λ (z : Standing). BreaksOffFrom handing printing w.process given.fuel all why z
+      (stands t) (shows o) (shows p)) is
+      (broken_so stands shows handing printing w.process given.fuel all why s t o p breaks)
+
   -- what was done of a worker, seen by where its source stands and by what is printed
   lives_so : (given : DiskJob) (w : DurableValue) (disk last : D) (s t : S) (o p : O)
       (result : Result Now DurableFault) → stands s ≡ stands_behind given w
@@ -83,6 +98,13 @@ module _ {D S O : Type 0} (medium : D → Medium) (stands : S → Standing)
             (λ z done. outcome_after now.Spent done) (stands s) (stands_behind given w) is calls
             ∙ outcome_so stands shows handing printing medium now.Spent lives.acts w disk last s t o
             p (left_after result) lives.done)) lives.says;
+        broken = IfErr-weaker result
+            (λ why. BreaksOffAt (gives_so stands shows handing printing)
+            (takes_so stands shows handing printing) given.fuel (steps_among lives.acts)
+            (scene w disk s o) why t p)
+            (λ why. BreaksOffAt handing printing given.fuel (steps_among lives.acts)
+            (scene w disk (stands_behind given w) (shows o)) why (stands t) (shows p))
+            (λ why. breaks_so given w disk (steps_among lives.acts) s t o p why is) lives.broken;
       }
 
   module _ (given : DiskJob) (w : DurableValue) (disk last : D) (s t : S) (o p : O)
@@ -165,6 +187,9 @@ module _ {D O : Type 0} (medium : D → Medium) (shows : O → Option (List ℕ)
   lives_on given w result found opening last o p out' source' carries lives = record {
     worker = w;
     opening = opening;
+    retold = shows p;
+    recovers = recovery_so {S = Standing} (λ (z : Standing). z) shows handing printing (Ok w)
+        (medium found) (medium opening) o p carries;
     acts = lives.acts;
     paced = lives.paced;
     heard = lives.heard;
@@ -212,7 +237,7 @@ module _ {D O : Type 0} (medium : D → Medium) (shows : O → Option (List ℕ)
       serves_broken told gone says =
           broken gone.1 told gone.0 between
           (lives_on given w (Err gone.1) found opening last o p out' gone.0 carries gone.4)
-          gone.3 gone.2 tells says
+          gone.4.broken gone.3 gone.2 tells says
 
 -- ---- statuses
 

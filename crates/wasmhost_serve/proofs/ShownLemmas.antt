@@ -1,5 +1,5 @@
 -- Calls of a life, seen by where its source stands and by what is printed.
-use Rattle.std.proofs.Common.{◌≡◌, List, [], ◌∷◌, refl, ap}
+use Rattle.std.proofs.Common.{◌≡◌, ℕ, List, [], ◌∷◌, ◌++◌, refl, ap}
 use Rattle.std.specs.Prelude.{Result}
 use Rattle.sector_disk.specs.rules.Medium.{Medium}
 use Rattle.record_replay.specs.rules.Calls.{Giving, Taking, Ask, Begun, Exchange, Exchanges}
@@ -12,6 +12,9 @@ use Rattle.durable_worker.specs.rules.LifeWords.{Act}
 use Rattle.durable_worker.specs.laws.OneLife.{CallsInOrder, no_more, sliced, slice_failed, saved}
 use Rattle.durable_worker.specs.laws.OneLife.{saving_failed}
 use Rattle.durable_worker.specs.laws.Outcomes.{outcome_after}
+use Rattle.process.specs.rules.Values.{ProcessValue}
+use Rattle.durable_worker.specs.declared.fault.DurableFault.{DurableFault}
+use Rattle.wasmhost_serve.specs.rules.BrokenLives.{BreaksOffFrom}
 
 module _ {S T O P : Type 0} (stands : S → T) (shows : O → P) (gives : Giving T) (takes : Taking P)
   where
@@ -39,6 +42,27 @@ module _ {S T O P : Type 0} (stands : S → T) (shows : O → P) (gives : Giving
       asked = asked_so (asks_of exchanges) s t h.asked;
       released = released_so (releases_of exchanges) o p h.released;
     }
+
+    -- a call that has failed
+    pub broken_so : (v : ProcessValue) (fuel all : ℕ) (why : DurableFault) (s t : S) (o p : O)
+        → BreaksOffFrom gives_so takes_so v fuel all why s t o p
+        → BreaksOffFrom gives takes v fuel all why (stands s) (stands t) (shows o) (shows p)
+    broken_so v fuel all why s t o p breaks guest start is =
+        let b = breaks guest start is in
+        record {
+          front = b.front;
+          answered = b.answered;
+          steps = b.steps;
+          begun = b.begun;
+          leads = b.leads;
+          back = b.back;
+          exchanged = exchanged_so (b.front ++ b.back) s t o p b.exchanged;
+          wanted = b.wanted;
+          more = b.more;
+          process = b.process;
+          broken = b.broken;
+          counted = b.counted;
+        }
 
     pub recovery_so : (result : Result DurableValue RecoverFault) (old new : Medium) (o p : O)
         → RecoveryCarries takes_so result old new o p

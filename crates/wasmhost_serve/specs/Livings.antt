@@ -1,6 +1,8 @@
 -- The parts of a life on a disk: calls that were made of an open worker, and those that may follow.
 use Rattle.std.specs.Prelude.{◌≡◌, ◌≢◌, ℕ, ◌-◌, ◌^◌, ◌≤◌, Bool, List, [], ◌++◌, Option, Result, Ok}
-use Rattle.std.specs.Prelude.{Err, IfOk}
+use Rattle.std.specs.Prelude.{Err, IfOk, IfErr}
+use Rattle.process_rules.specs.Processes.{ProcessState, Guest}
+use Rattle.process.specs.rules.Values.{ShowsProcess}
 use Rattle.sector_disk.specs.rules.Medium.{Medium}
 use Rattle.record_replay.specs.rules.Calls.{Giving, Taking}
 use Rattle.worker.specs.declared.now.Now.{Now}
@@ -17,6 +19,7 @@ use Rattle.wasmhost_serve.specs.declared.on_disk.fault.OnDiskFault.{OnDiskFault}
 use Rattle.wasmhost_serve.specs.Lines.Answers.{Standing}
 use Rattle.wasmhost_serve.specs.rules.DiskStatuses.{IsToldOnDisk}
 use Rattle.durable_worker.specs.laws.Outcomes.{outcome_after}
+use Rattle.wasmhost_serve.specs.rules.BrokenLives.{BreaksOffFrom, SlicesLead, steps_among}
 use Rattle.wasmhost_serve.specs.rules.Hearings.{AsksUnless, IsOfSource}
 use Rattle.wasmhost_serve.specs.rules.Paces.{round_of, IsPaced}
 use Rattle.wasmhost_serve.specs.rules.ServedOnDisk.{DiskJob, stands_behind, handing, printing}
@@ -35,6 +38,21 @@ scene worker disk source outlet = record {
   source = source;
   outlet = outlet;
 }
+
+-- Slices lead from there to there by all of these steps, whichever process the worker showed.
+abbrev pub SlicesLeadOn : {D S O : Type 0} → Giving S → Taking O → Scene D S O → ℕ → Scene D S O
+    → Type 0
+SlicesLeadOn gives takes from steps to =
+    (guest : Guest) (p : ProcessState) → ShowsProcess from.worker.process guest p
+    → SlicesLead gives takes guest p from.source to.source from.outlet to.outlet steps
+    to.worker.process
+
+-- Calls from there on, whose slices of this fuel may take so many steps, have failed so.
+abbrev pub BreaksOffAt : {D S O : Type 0} → Giving S → Taking O → ℕ → ℕ → Scene D S O
+    → DurableFault → S → O → Type 0
+BreaksOffAt gives takes fuel all from why source outlet =
+    BreaksOffFrom gives takes from.worker.process fuel all why from.source source from.outlet
+    outlet
 
 -- nothing is left to be done, or there was this error
 abbrev pub left_after : Result Now DurableFault → Result (List Act) RecoverFault
@@ -66,7 +84,8 @@ module _ {D S O : Type 0} (medium : D → Medium) (gives : Giving S) (takes : Ta
         ≡ outcome_after said done
 
   -- At most so many slices of this fuel, with a checkpoint behind them. The last one has answered
-  -- this. They are just as many where its fuel is spent. No question was refused.
+  -- this. They are just as many where its fuel is spent, and have taken all of their steps. No
+  -- question was refused.
   pub record IsRound (fuel every : ℕ) (from : Scene D S O) (why : Now) (to : Scene D S O)
       : Type 0 where
     pub count : ℕ
@@ -75,6 +94,8 @@ module _ {D S O : Type 0} (medium : D → Medium) (gives : Giving S) (takes : Ta
     pub whole : why ≡ now.Spent → count ≡ every
     pub heard : AsksUnless gives ⊥ from.source to.source
     pub leads : ActsLead (round_of fuel count) from why to
+    pub spent : why ≡ now.Spent
+        → SlicesLeadOn gives takes from (steps_among (round_of fuel count)) to
 
   -- One within which there was an error. No question was refused, unless it is the source's.
   pub record IsBrokenRound (fuel every : ℕ) (from : Scene D S O) (why : DurableFault) (disk : D)
@@ -84,6 +105,8 @@ module _ {D S O : Type 0} (medium : D → Medium) (gives : Giving S) (takes : Ta
     pub within : count ≤ every
     pub heard : AsksUnless gives (IsOfSource (Err (recover.Worker why))) from.source source
     pub done : AreCalled (round_of fuel count) from (Err (recover.Worker why)) disk source outlet
+    pub broken : BreaksOffAt gives takes fuel (steps_among (round_of fuel count)) from why source
+        outlet
 
   -- All that a worker is told at this pace is done, and the last slice has answered this; or it is
   -- done up to this error. No question was refused, unless that is the source's.
@@ -94,6 +117,8 @@ module _ {D S O : Type 0} (medium : D → Medium) (gives : Giving S) (takes : Ta
     pub heard : AsksUnless gives (IsOfSource (left_after result)) from.source source
     pub done : AreCalled acts from (left_after result) disk source outlet
     pub says : IfOk result (λ told. outcome_after now.Spent done ≡ told)
+    pub broken : IfErr result (λ why. BreaksOffAt gives takes fuel (steps_among acts) from why
+        source outlet)
 
 -- a checkpoint of a worker whose slice has answered this
 abbrev pub IsRested : Now → Result Now DurableFault → DurableValue → DurableValue → Medium → Medium

@@ -1,4 +1,5 @@
 pub mod Answered
+pub mod BrokenLives
 pub mod CommandLine
 pub mod Commands
 pub mod Creations

@@ -45,7 +45,8 @@ pub fn refusals_have_reasons()
     ensures { RefusalsHaveReasons }
 {}
 
-/// Of each exit status of a run on a disk, what it comes from.
+/// Of each exit status of a run on a disk, what it comes from. Where a number, memory or an answer
+/// was wanting, each line that the process had written by then was printed.
 pub fn statuses_have_causes<D: Disk>()
     ensures { StatusesHaveCauses D.medium }
 {}

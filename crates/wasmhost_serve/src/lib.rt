@@ -25,11 +25,14 @@
 //!   (`AsksUnless`). Where `err` is a terminal, its first line says how the worker was recovered
 //!   (`recovered_line`). `laws::lives_on_disk_go_on`: such calls are a life that goes on from all
 //!   that was promised, and its lines were printed. The last words are those of what its last slice
-//!   has answered (`HasOutcome`). Where the disk shows no worker nothing is written or printed. No
-//!   status is above 7 (`known`).
+//!   has answered (`HasOutcome`). Where a call fails, lines wait only as its own clause says
+//!   (`HasBrokenOff`). Where the disk shows no worker nothing is written or printed. No status is
+//!   above 7 (`known`).
 //! - `laws::statuses_have_causes`: what each of these statuses comes from, and that a reader which
-//!   fails is told (`SaysOnDisk`). `laws::refusals_have_reasons`: why the source of a run refuses a
-//!   question. `laws::answers_come_from_the_lines`: what it answers, and when it has none yet.
+//!   fails is told (`SaysOnDisk`). Where a number, memory or an answer was wanting, each line of
+//!   the worker was printed (`HasPrintedItsLines`). `laws::refusals_have_reasons`: why the source
+//!   of a run refuses a question. `laws::answers_come_from_the_lines`: what it answers, and when it
+//!   has none yet.
 //! - `survey`: the survey of a worker's disk is printed, or what keeps it from that is told
 //!   (`shows`). Of a disk that stands for a worker the line is that worker's (`stands`). Nothing is
 //!   changed on the disk, but that it is synced.
@@ -66,8 +69,9 @@
 //! `CreatesOn`, `IsPreparedAs`, `IsUnprepared`, `config_as` (`Creations.antt`);
 //! `wasmhost` (`CommandLine.antt`); `meaning_in`, `IsReading`, `IsStatusOf` (`Commands.antt`);
 //! `ShowsDisk`, `ShowsSurvey`, `survey_line` (`Showings.antt`); `open_words` (`Openings.antt`);
-//! `ServesOnDisk`, `LivesOnDisk`, `HasOutcome`, `stands_behind` (`ServedOnDisk.antt`);
-//! `SaysOnDisk` (`DiskCauses.antt`); `IsPaced` (`Paces.antt`);
+//! `ServesOnDisk`, `LivesOnDisk`, `HasOutcome`, `HasBrokenOff`, `stands_behind`
+//! (`ServedOnDisk.antt`); `BreaksOff`, `LeavesNoLine`, `PrintsItsLines` (`BrokenLives.antt`);
+//! `SaysOnDisk`, `HasPrintedItsLines` (`DiskCauses.antt`); `IsPaced` (`Paces.antt`);
 //! `status_on_disk`, `told_of_opening`, `IsToldOnDisk` (`DiskStatuses.antt`);
 //! `PrinterState`, `IsSaid`, `SaysText`, `HeedsBoth`, `TellsPerson` (`Printers.antt`);
 //! `said_by`, `AreLivesOf`, `IsScript` (`Scripts.antt`); `lines_of` (`Pieces.antt`); `story_text`,

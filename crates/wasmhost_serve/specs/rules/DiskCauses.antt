@@ -1,10 +1,12 @@
 -- What each exit status of a run on a disk comes from (this project's own).
 use Rattle.std.specs.Prelude.{◌≡◌, ◌≢◌, ◌⊎◌, ℕ, ◌+◌, ◌≤◌, ◌^◌, ⊤, Bool, true, List, [], ◌∷◌}
-use Rattle.std.specs.Prelude.{◌++◌, length, Option, Some, None, Ok, Err}
+use Rattle.std.specs.Prelude.{◌++◌, length, Option, Some, None, Result, Ok, Err}
 use Rattle.wasi_abi.specs.declared.answer.Kind.{Kind}
 use Rattle.wasi_abi.specs.declared.answer.Kind.TheVariants as kinds
 use Rattle.sector_disk.specs.rules.Medium.{Medium}
 use Rattle.sector_disk.specs.declared.fault.DiskFault.TheVariants as disk
+use Rattle.process_rules.specs.Processes.{ProcessState, Guest}
+use Rattle.process.specs.rules.Values.{ShowsProcess}
 use Rattle.record_replay.specs.declared.fault.SourceFault.{SourceFault}
 use Rattle.record_replay.specs.rules.Calls.{Ask, AnswersInOrder, Exchange, Exchanges, asks_of}
 use Rattle.worker.specs.declared.fault.WorkFault.TheVariants as work
@@ -15,9 +17,12 @@ use Rattle.durable_worker.specs.declared.fault.DurableFault.{DurableFault}
 use Rattle.durable_worker.specs.declared.fault.DurableFault.TheVariants as durable
 use Rattle.durable_worker.specs.declared.recover_fault.RecoverFault.{RecoverFault}
 use Rattle.durable_worker.specs.declared.recover_fault.RecoverFault.TheVariants as recover
+use Rattle.durable_worker.specs.rules.LifeWords.{Act}
 use Rattle.wasmhost_serve.specs.declared.lines.fault.LineFault.{LineFault}
 use Rattle.wasmhost_serve.specs.declared.lines.fault.LineFault.TheVariants as line
 use Rattle.wasmhost_serve.specs.Lines.Answers.{Standing, IsRefusedFor}
+use Rattle.wasmhost_serve.specs.rules.BrokenLives.{BreaksOff, LeavesNoLine, PrintsItsLines}
+use Rattle.wasmhost_serve.specs.rules.BrokenLives.{steps_among}
 use Rattle.wasmhost_serve.specs.rules.Outside.{requests_in, words_of}
 use Rattle.wasmhost_serve.specs.rules.Requests.{GiveUpTo, BeginsWithOther, BeginsWithLater}
 use Rattle.wasmhost_serve.specs.rules.Printers.{PrinterState, IsPrinted, TellsPerson}
@@ -77,7 +82,22 @@ LacksAnswerAt old asks failed' = (IsRefusedAmong asks kinds.Request × (failed' 
     ⊎ ((n : ℕ) × IsRefusedAmong asks (kinds.Random n)
     × (2 ^ 64 ≤ old.place + words_of (handed asks) + words_for n))
 
--- ---- faults of a recovery or of a call
+-- ---- lines that were printed
+
+-- Whichever process the worker of this life showed when it was recovered, it has come to where a
+-- call has failed so. Each line that it had written by then was printed, behind what the recovery
+-- had printed.
+abbrev pub HasPrintedItsLines : {D : Type 0} {medium : D → Medium} {given : DiskJob}
+    {left : Result (List Act) RecoverFault} {found last : D} {out out' : Option (List ℕ)}
+    {source' : Standing} → LivesOnDisk medium given left found last out out' source'
+    → DurableFault → Type 0
+HasPrintedItsLines {given = given} {out' = out'} {source' = source'} lives why =
+    (guest : Guest) (p : ProcessState) → ShowsProcess lives.worker.process guest p
+    → (broken : BreaksOff handing printing guest p (stands_behind given lives.worker) source'
+    lives.retold out' given.fuel (steps_among lives.acts) why)
+    × PrintsItsLines p broken.process lives.retold out'
+
+-- ---- faults of a recovery
 
 -- no worker that can go on, or a number at its end
 abbrev pub IsStuck : RecoverFault → Type 0
@@ -105,6 +125,21 @@ abbrev pub IsUntaken : RecoverFault → Type 0
 IsUntaken (recover.Worker (durable.Work work.Outlet)) = ⊤
 IsUntaken other = ⊥
 
+-- ---- faults of a call
+
+-- a step, its lines or a generation that can't be counted, or a store that refuses
+abbrev pub IsAtItsEnd : DurableFault → Type 0
+IsAtItsEnd (durable.Work (work.Refused why)) = ⊤
+IsAtItsEnd (durable.Store why) = ⊤
+IsAtItsEnd other = ⊥
+
+-- a disk or a source that fails, or a worker that had failed
+abbrev pub IsUnanswering : DurableFault → Type 0
+IsUnanswering (durable.Disk why) = ⊤
+IsUnanswering (durable.Work work.Source) = ⊤
+IsUnanswering (durable.Work work.Failed) = ⊤
+IsUnanswering other = ⊥
+
 -- ---- what each exit status says
 
 module _ {D : Type 0} (medium : D → Medium) (given : DiskJob) (found last : D)
@@ -122,22 +157,26 @@ module _ {D : Type 0} (medium : D → Medium) (given : DiskJob) (found last : D)
     pub told : TellsPerson (recovered_line lives.worker) err between
     pub printed : IsPrinted between err' (last_words (ended_by now))
 
-  -- The recovery has failed, or a call of the life, by a fault of this kind. Where that is the
-  -- source's, it isn't one of a request line.
-  pub data FailsOnDisk (IsKind : RecoverFault → Type 0) : Type 0 where
+  -- The recovery has failed by a fault of this kind, or a call of the life by one of that kind.
+  -- Where that is the source's, it isn't one of a request line. Where no line can wait, each line
+  -- that the process had written by then was printed.
+  pub data FailsOnDisk (IsOfOpening : RecoverFault → Type 0) (IsOfCall : DurableFault → Type 0)
+      : Type 0 where
     opening : (why : RecoverFault) → IsUnopenedRun medium why found last out out'
-        → failed' ≡ given.failed → IsKind why → FailsOnDisk IsKind
+        → failed' ≡ given.failed → IsOfOpening why → FailsOnDisk IsOfOpening IsOfCall
     calling : (why : DurableFault) (source' : Standing)
-        → LivesOnDisk medium given (Err (recover.Worker why)) found last out out' source'
+        → (lives : LivesOnDisk medium given (Err (recover.Worker why)) found last out out' source')
+        → (LeavesNoLine why → HasPrintedItsLines lives why)
         → (why ≡ durable.Work work.Source → source'.fault ≡ None) → source'.failed ≡ failed'
-        → IsKind (recover.Worker why) → FailsOnDisk IsKind
+        → IsOfCall why → FailsOnDisk IsOfOpening IsOfCall
 
-  -- A call of the life has failed since the source refused a question. This holds behind all that
-  -- the source was asked in the life.
+  -- A call of the life has failed since the source refused a question. Each line that the process
+  -- had written by then was printed. This holds behind all that the source was asked in the life.
   pub record AsksInVain (Holds : Standing → List Ask → Bool → Type 0) : Type 0 where
     pub source' : Standing
     pub lives : LivesOnDisk medium given (Err (recover.Worker (durable.Work work.Source))) found
         last out out' source'
+    pub printed : HasPrintedItsLines lives (durable.Work work.Source)
     pub heeded : source'.failed ≡ failed'
     pub asks : List Ask
     pub led : AnswersInOrder handing (stands_behind given lives.worker) asks source'
@@ -146,14 +185,19 @@ module _ {D : Type 0} (medium : D → Medium) (given : DiskJob) (found last : D)
   -- 0: it is over. 3: the disk shows no worker that can go on, or a number is at its end. 4: the
   -- disk or the source has failed. 5: memory was refused. 6: the next line is refused. 7: a line of
   -- the worker was refused, or what is said couldn't be written. A reader that fails is told by 4,
-  -- or by 5 where it wants memory, unless that can't be printed.
+  -- or by 5 where it wants memory, unless that can't be printed. Of a worker that was recovered,
+  -- each line was printed where a number is at its end (3), memory was refused (5), or the source
+  -- has failed (4, 5, 6).
   pub record SaysOnDisk (err err' : PrinterState) (status : ℕ) : Type 0 where
     pub over : status ≡ 0 → IsOverOnDisk err err'
-    pub stuck : status ≡ 3 → FailsOnDisk IsStuck
-    pub unanswered : status ≡ 4 → FailsOnDisk IsFailing ⊎ AsksInVain LacksAnswerAt
-    pub starved : status ≡ 5 → FailsOnDisk IsWanting ⊎ AsksInVain LacksMemoryAt
+    pub stuck : status ≡ 3 → FailsOnDisk IsStuck IsAtItsEnd
+    pub unanswered : status ≡ 4
+        → FailsOnDisk IsFailing IsUnanswering ⊎ AsksInVain LacksAnswerAt
+    pub starved : status ≡ 5
+        → FailsOnDisk IsWanting (λ why. why ≡ durable.Work work.Memory) ⊎ AsksInVain LacksMemoryAt
     pub bad_line : status ≡ 6 → AsksInVain MeetsBadLineAt
-    pub unprinted : status ≡ 7 → FailsOnDisk IsUntaken ⊎ (err'.failed ≡ true)
+    pub unprinted : status ≡ 7
+        → FailsOnDisk IsUntaken (λ why. why ≡ durable.Work work.Outlet) ⊎ (err'.failed ≡ true)
     pub heeded : (failed' ≡ given.failed) ⊎ (status ≡ 4) ⊎ (status ≡ 5) ⊎ (status ≡ 7)
     pub known : (status ≡ 0) ⊎ ((3 ≤ status) × (status ≤ 7))
 

@@ -14,12 +14,13 @@ use Rattle.durable_worker.specs.declared.recover_fault.RecoverFault.{RecoverFaul
 use Rattle.durable_worker.specs.declared.recover_fault.RecoverFault.TheVariants as recover
 use Rattle.durable_worker.specs.rules.DurableValues.{DurableValue}
 use Rattle.durable_worker.specs.rules.LifeWords.{Act, Release, by_recovery}
-use Rattle.durable_worker.specs.rules.Recoveries.{IsNoWorker, IsSettledBy}
+use Rattle.durable_worker.specs.rules.Recoveries.{IsNoWorker, IsSettledBy, RecoveryCarries}
 use Rattle.durable_worker.specs.laws.OneLife.{IsOneLife, released_in, taken_in}
 use Rattle.durable_worker.specs.laws.Uncut.{AreTrue}
 use Rattle.wasmhost_serve.specs.declared.lines.outside.Outside.{Outside}
 use Rattle.wasmhost_serve.specs.declared.on_disk.fault.OnDiskFault.{OnDiskFault}
 use Rattle.wasmhost_serve.specs.Lines.Answers.{Standing, standing, HandsNext}
+use Rattle.wasmhost_serve.specs.rules.BrokenLives.{BreaksOffFrom, steps_among}
 use Rattle.wasmhost_serve.specs.rules.DiskStatuses.{IsToldOnDisk, told_of_opening, status_on_disk}
 use Rattle.durable_worker.specs.laws.Outcomes.{life_outcome}
 use Rattle.wasmhost_serve.specs.rules.Hearings.{AsksUnless, IsOfSource}
@@ -80,14 +81,16 @@ pub record IsUnopenedRun {D : Type 0} (medium : D → Medium) (why : RecoverFaul
       → IsOneLife medium handing printing bytes config acts found source out by_recovery None
       (Err why) last source out'
 
--- The worker was recovered, and this disk was left. All that was done is one life, at this pace,
--- if the answers of that disk fit an image. No question was refused in it, unless its error is that
--- of the source.
+-- The worker was recovered. Then this disk was left, and this was printed: behind what there was,
+-- the lines that were told once more. All that was done is one life, at this pace, if the answers
+-- of that disk fit an image. No question was refused in it, unless its error is that of the source.
 pub record LivesOnDisk {D : Type 0} (medium : D → Medium) (given : DiskJob)
     (left : Result (List Act) RecoverFault) (found last : D) (out out' : Option (List ℕ))
     (source' : Standing) : Type 0 where
   pub worker : DurableValue
   pub opening : D
+  pub retold : Option (List ℕ)
+  pub recovers : RecoveryCarries printing (Ok worker) (medium found) (medium opening) out retold
   pub acts : List Act
   pub paced : IsPaced given.fuel given.every acts
   pub heard : AsksUnless handing (IsOfSource left) (stands_behind given worker) source'
@@ -103,6 +106,15 @@ abbrev pub HasOutcome : {D : Type 0} {medium : D → Medium} {given : DiskJob}
 HasOutcome {medium = medium} lives now =
     (image : Image) (leaves : (medium lives.opening).may_leave image) (bytes : List ℕ)
     (config : Settings) → life_outcome (lives.life image leaves bytes config) ≡ now
+
+-- A call of that life has failed so, whichever process its worker showed when it was recovered.
+abbrev pub HasBrokenOff : {D : Type 0} {medium : D → Medium} {given : DiskJob}
+    {left : Result (List Act) RecoverFault} {found last : D} {out out' : Option (List ℕ)}
+    {source' : Standing} → LivesOnDisk medium given left found last out out' source'
+    → DurableFault → Type 0
+HasBrokenOff {given = given} {out' = out'} {source' = source'} lives why =
+    BreaksOffFrom handing printing lives.worker.process given.fuel (steps_among lives.acts) why
+    (stands_behind given lives.worker) source' lives.retold out'
 
 -- ---- what is printed in a life
 
@@ -131,7 +143,8 @@ recovered_line w =
 -- The worker isn't opened, and the status says why. Or a person is told that it is recovered, where
 -- one reads along. Then it lives until a slice doesn't just spend its fuel, which is the last one.
 -- The last words are those of what that slice has answered. Or a call of it fails, and the status
--- says why: a fault of the source is told as that of a request line, where there is one.
+-- says why: a fault of the source is told as that of a request line, where there is one. Lines wait
+-- then only where that call's own clause says so.
 pub data ServesOnDisk {D : Type 0} (medium : D → Medium) (given : DiskJob) (found last : D)
     (out out' : Option (List ℕ)) (err err' : PrinterState) (failed' : Bool) (status : ℕ)
     : Type 0 where
@@ -147,7 +160,7 @@ pub data ServesOnDisk {D : Type 0} (medium : D → Medium) (given : DiskJob) (fo
       → ServesOnDisk medium given found last out out' err err' failed' status
   broken : (why : DurableFault) (told : OnDiskFault) (source' : Standing) (between : PrinterState)
       → (lives : LivesOnDisk medium given (Err (recover.Worker why)) found last out out' source')
-      → source'.failed ≡ failed' → IsToldOnDisk why source'.fault told
+      → HasBrokenOff lives why → source'.failed ≡ failed' → IsToldOnDisk why source'.fault told
       → TellsPerson (recovered_line lives.worker) err between
       → IsSaid (status_on_disk told) between status err'
       → ServesOnDisk medium given found last out out' err err' failed' status

@@ -1,4 +1,5 @@
 use Rattle.std.proofs.Common.{arith}
+use Rattle.wasmhost_serve.proofs.BreakLemmas.{slice_breaks_off}
 use Rattle.wasmhost_serve.proofs.HearingLemmas.{slice_hears, slice_hears_up_to}
 use Rattle.wasmhost_serve.proofs.LivingLemmas.{within_breaks, within_rests, within_broken}
 use Rattle.wasmhost_serve.proofs.LivingLemmas.{within_more, none_taken}
@@ -20,12 +21,16 @@ returns-in-Err-clause-failed g c =
     (slice_hears_up_to g.S.Source.gives g.O.Outlet.takes c.get.result _ _ _ _
     c.loop-now.worker.process c.slice.new.self.process c.in-Err.fault c.loop-now.worker.has_failed
     c.is_process.ensures c.in-Err.ensures.failed (λ e. (c.in-Err.ensures.refused e).3))
+    (slice_breaks_off g.S.Source.gives g.O.Outlet.takes c.get.result _ _ _ _
+    c.loop-now.worker.process c.slice.new.self.process c.in-Err.fault c.loop-now.worker.has_failed
+    c.in-Err.ensures.failed (λ e. (c.in-Err.ensures.refused e).0)
+    (λ e. (c.in-Err.ensures.refused e).3) (λ e. (c.in-Err.ensures.refused e).4))
 
 pub returns-then-taken-every-clause-done : goal.returns-then-taken-every-clause-done
 returns-then-taken-every-clause-done g c =
     within_rests g.D.Disk.medium g.S.Source.gives g.O.Outlet.takes _ _ _ _ _ c.loop-now.invariant
     c.get.result c.get.ensures.value _ _ _ _ _ c.get-every.ensures.value c.in-Ok.now
-    c.in-Ok.ensures.carries c.rest_on.result _ _ c.rest_on.ensures.rested
+    c.in-Ok.ensures.carries c.in-Ok.ensures.done c.rest_on.result _ _ c.rest_on.ensures.rested
     (slice_hears g.S.Source.gives g.O.Outlet.takes c.get.result _ _ _ _ _ _ c.in-Ok.now
     c.is_process.ensures c.in-Ok.ensures.done)
     (λ spent. elim c.then-taken-every.branch [
@@ -38,7 +43,7 @@ pub returns-then-taken-every-clause-failed : goal.returns-then-taken-every-claus
 returns-then-taken-every-clause-failed g c =
     within_broken g.D.Disk.medium g.S.Source.gives g.O.Outlet.takes _ _ _ _ _ c.loop-now.invariant
     c.get.result c.get.ensures.value _ _ _ _ _ c.get-every.ensures.value c.in-Ok.now
-    c.in-Ok.ensures.carries c.rest_on.result _ _ c.rest_on.ensures.rested
+    c.in-Ok.ensures.carries c.in-Ok.ensures.done c.rest_on.result _ _ c.rest_on.ensures.rested
     (slice_hears g.S.Source.gives g.O.Outlet.takes c.get.result _ _ _ _ _ _ c.in-Ok.now
     c.is_process.ensures c.in-Ok.ensures.done)
 
@@ -49,7 +54,7 @@ loop-now-preserved g c =
     within_more g.D.Disk.medium g.S.Source.gives g.O.Outlet.takes _ _ _ _ _ c.loop-now.invariant
     c.get.result c.get.ensures.value _ _ _ _ c.in-Ok.now c.in-Ok.ensures.carries
     (slice_hears g.S.Source.gives g.O.Outlet.takes c.get.result _ _ _ _ _ _ c.in-Ok.now
-    c.is_process.ensures c.in-Ok.ensures.done)
+    c.is_process.ensures c.in-Ok.ensures.done) c.in-Ok.ensures.done
     (c.is_spent.ensures.0 c.if-not-is_spent.false) (omega (arith, before, other))
     (slice_fewer g.D.Disk.medium g.S.Source.gives g.O.Outlet.takes c.loop-now.worker
     c.slice.new.self c.get.result c.in-Ok.now _ _ _ _
@@ -60,7 +65,7 @@ pub returns-then-taken-every-clause-fewer : goal.returns-then-taken-every-clause
 returns-then-taken-every-clause-fewer g c =
     within_fewer g.D.Disk.medium g.S.Source.gives g.O.Outlet.takes _ _ _ _ _ c.loop-now.invariant
     c.get.result c.get.ensures.value _ _ _ _ _ c.get-every.ensures.value c.in-Ok.now
-    c.in-Ok.ensures.carries c.rest_on.result _ _ c.rest_on.ensures.rested
+    c.in-Ok.ensures.carries c.in-Ok.ensures.done c.rest_on.result _ _ c.rest_on.ensures.rested
     (slice_fewer g.D.Disk.medium g.S.Source.gives g.O.Outlet.takes c.loop-now.worker
     c.slice.new.self c.get.result c.in-Ok.now _ _ _ _
     c.is_process.ensures c.get.ensures.nonzero c.in-Ok.ensures.done)

@@ -1,0 +1,118 @@
+-- Where a call has failed when no line waits, each line was printed.
+use Rattle.std.proofs.Common.{◌≡◌, ℕ, ◌+◌, List, [], ◌∷◌, ◌++◌, Some, None, refl, sym, ap, ◌∙◌}
+use Rattle.std.proofs.Common.{subst, append_assoc, append-nil}
+use Rattle.std.specs.Prelude.{Option, suc, length}
+use Rattle.wasi_abi.specs.declared.answer.Answer.{Answer}
+use Rattle.wasi_abi.specs.declared.answer.Kind.{Kind}
+use Rattle.process_rules.specs.Processes.{ProcessState, Guest}
+use Rattle.record_replay.specs.rules.Calls.{Exchange, Asks, Releases, releases_of, all_taken}
+use Rattle.record_replay.proofs.Following.{releases_of-append}
+use Rattle.worker.specs.declared.fault.WorkFault.TheVariants as work
+use Rattle.worker.specs.declared.fault.Refusal.TheVariants as refusal
+use Rattle.worker.specs.rules.Slices.{SliceLeadsTo}
+use Rattle.worker.specs.rules.Faults.{LeadsUpTo, last_answer}
+use Rattle.worker.proofs.Joining.{leads_join}
+use Rattle.durable_worker.specs.declared.fault.DurableFault.{DurableFault}
+use Rattle.durable_worker.specs.declared.fault.DurableFault.TheVariants as durable
+use Rattle.wasmhost_serve.specs.Lines.Answers.{Standing}
+use Rattle.wasmhost_serve.specs.rules.BrokenLives.{IsBrokenAt, in_slice, in_checkpoint, BreaksOff}
+use Rattle.wasmhost_serve.specs.rules.BrokenLives.{LeavesNoLine, PrintsItsLines}
+use Rattle.wasmhost_serve.specs.rules.ServedOnDisk.{handing, printing}
+use Rattle.wasmhost_serve.proofs.LineLemmas.Printed.{taken_are_printed}
+
+-- The calls but for the last ones, which tell no line, lead there.
+record AllTold (guest : Guest) (p : ProcessState) (exchanges : List Exchange) (q : ProcessState)
+    : Type 0 where
+  front : List Exchange
+  last : List Exchange
+  is : exchanges ≡ front ++ last
+  untold : releases_of last ≡ []
+  steps : ℕ
+  leads : SliceLeadsTo guest p front steps q
+
+asks_only : (kind : Kind) (given : Option Answer) → releases_of (last_answer kind given) ≡ []
+asks_only kind None = refl
+asks_only kind (Some a) = refl
+
+module _ (guest : Guest) (p : ProcessState) (exchanges : List Exchange) (steps : ℕ)
+    (q : ProcessState) where
+  told_up_to : (given : Option Answer) → LeadsUpTo guest p exchanges steps q given
+      → AllTold guest p exchanges q
+  told_up_to given h = record {
+    front = h.front;
+    last = last_answer h.kind given;
+    is = h.is;
+    untold = asks_only h.kind given;
+    steps = steps;
+    leads = h.leads;
+  }
+
+  told_before : (fuel : ℕ) (why : DurableFault) → LeavesNoLine why
+      → IsBrokenAt guest p fuel exchanges steps q why → AllTold guest p exchanges q
+  told_before fuel why none (in_checkpoint said leads answers) = record {
+    front = exchanges;
+    last = [];
+    is = sym (append-nil exchanges);
+    untold = refl;
+    steps = steps;
+    leads = leads;
+  }
+  told_before fuel (durable.Work work.Source) none (in_slice h) = record {
+    front = h.1.front;
+    last = Asks h.1.ask ∷ [];
+    is = h.1.is;
+    untold = refl;
+    steps = steps;
+    leads = h.1.leads;
+  }
+  told_before fuel (durable.Work work.Memory) none (in_slice h) = told_up_to h.3 h.4
+  told_before fuel (durable.Work (work.Refused refusal.StepsSpent)) none (in_slice h) =
+      told_up_to h.2 h.3
+  told_before fuel (durable.Work (work.Refused (refusal.Front why))) none (in_slice h) = absurd h
+  told_before fuel (durable.Work work.Outlet) none (in_slice h) = absurd none
+  told_before fuel (durable.Work work.Failed) none (in_slice h) = absurd none
+  told_before fuel (durable.Disk why) none (in_slice h) = absurd none
+  told_before fuel (durable.Store why) none (in_slice h) =
+      told_up_to None (none guest p fuel exchanges steps q h).4
+
+module _ (guest : Guest) (p : ProcessState) where
+  -- slices before it told all as well
+  told_on : (front back : List Exchange) (n : ℕ) (mid q : ProcessState)
+      → SliceLeadsTo guest p front n mid → AllTold guest mid back q
+      → AllTold guest p (front ++ back) q
+  told_on front back n mid q leads told = record {
+    front = front ++ told.front;
+    last = told.last;
+    is = ap (λ z. front ++ z) told.is ∙ sym (append_assoc front told.front told.last);
+    untold = told.untold;
+    steps = n + told.steps;
+    leads = leads_join guest p mid q front told.front n told.steps leads told.leads;
+  }
+
+  told_lines : (exchanges : List Exchange) (q : ProcessState) (out out' : Option (List ℕ))
+      → AllTold guest p exchanges q → Releases printing out (releases_of exchanges) out'
+      → PrintsItsLines p q out out'
+  told_lines exchanges q out out' told released =
+      let first = suc (length p.host.lines) in
+      let lines = told.leads.lines in
+      let all : releases_of exchanges ≡ all_taken first lines =
+      ap releases_of told.is ∙ releases_of-append told.front told.last
+      ∙ ap (λ z. releases_of told.front ++ z) told.untold ∙ append-nil (releases_of told.front)
+      ∙ told.leads.released in
+      record {
+        lines = lines;
+        written = told.leads.emitted;
+        printed = taken_are_printed {O = Option (List ℕ)} (λ o. o) first lines out out'
+            (subst (λ z. Releases printing out z out') all released);
+      }
+
+  -- each line was printed that was written until a call failed
+  pub lines_printed : (source source' : Standing) (out out' : Option (List ℕ)) (fuel all : ℕ)
+      (why : DurableFault) → LeavesNoLine why
+      → (b : BreaksOff handing printing guest p source source' out out' fuel all why)
+      → PrintsItsLines p b.process out out'
+  lines_printed source source' out out' fuel all why none b =
+      told_lines (b.front ++ b.back) b.process out out'
+      (told_on b.front b.back b.steps b.begun b.process b.leads
+      (told_before guest b.begun b.back b.more b.process fuel why none b.broken))
+      b.exchanged.released
