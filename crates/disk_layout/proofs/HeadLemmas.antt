@@ -6,6 +6,7 @@ use Rattle.guest_memory.specs.rules.Bytes.{part, number_of}
 use Rattle.guest_memory.proofs.ByteLemmas.{number_of-bytes_of}
 use Rattle.wasi_abi.specs.rules.Layouts.{u64_bytes, padding}
 use Rattle.sector_disk.specs.rules.Image.{sector_at}
+use Rattle.sector_disk.proofs.ExampleLemmas.{differ}
 use Rattle.disk_layout.specs.rules.Places.{head_place}
 use Rattle.disk_layout.specs.rules.Sectors.{Head, stamp_bytes, stamp_of, head_of, head_bytes}
 use Rattle.disk_layout.specs.rules.Sectors.{IsComplete, IsNewest}
@@ -41,9 +42,6 @@ written_is_complete h fits least =
     }
 
 -- ---- examples
-
-differ : (a b : ℕ) → a ≡ b → a < b → ⊥
-differ a b e less = omega (arith, e, less)
 
 fits_small : (version g : ℕ) → version < 8 → g < 8 → HeadFits (seven_head version g)
 fits_small version g low few = record {

@@ -22,6 +22,7 @@ use Rattle.disk_layout.specs.rules.Places.{area_place, rounded_up, total_sectors
 use Rattle.disk_layout.specs.rules.Journal.{Record}
 use Rattle.journal.specs.rules.Steps.{barrier_calls}
 use Rattle.snapshot.specs.rules.Calls.{with_head}
+use Rattle.snapshot.proofs.StoreCalls.{some_none}
 use Rattle.worker_rules.specs.Lives.{Act, Checkpoint, Reply, Done, Fails, Cause, OfDisk}
 use Rattle.worker_rules.specs.Lives.{OfBounds, Ended}
 use Rattle.worker_rules.specs.Courses.{Stage, Open, MayFail}
@@ -57,7 +58,6 @@ use Rattle.durable_worker.specs.rules.OpenWorkers.{IsOnDisk, IsOpenOn}
 use Rattle.durable_worker.specs.rules.Savings.{LeavesFrontOrNext, IsSaveFault, SaveFails, SaveCalls}
 use Rattle.durable_worker.specs.rules.Checkpoints.{IsCheckpointFault, CheckpointFails}
 use Rattle.durable_worker.specs.rules.Checkpoints.{CheckpointCalls, IsSavedIn}
-use Rattle.durable_worker.proofs.SavingLemmas.{none_rising}
 use Rattle.durable_worker.proofs.DurableLemmas.Bounds.{saves_within}
 
 one_more : (a b c : ℕ) → a ≡ b + 1 → b ≤ c → a ≤ c + 1
@@ -377,7 +377,7 @@ pub failed_calls : (old : DurableValue) (why : DurableFault) (disk : Medium)
     → CheckpointCalls {T = Unit {0}} old (Err why) disk disk
 failed_calls old why disk = (
   [],
-  none_rising (area_place old.store.geometry (old.store.journal.generation + 1))
+  some_none (area_place old.store.geometry (old.store.journal.generation + 1))
       (rounded_up (length (image (saved_of old.process)))),
   record {
     all = tt;

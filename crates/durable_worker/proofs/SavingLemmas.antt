@@ -1,6 +1,6 @@
 -- A barrier, and then a commit.
-use Rattle.std.proofs.Common.{◌≡◌, ℕ, zero, suc, ◌+◌, ◌-◌, ◌*◌, ◌<◌, ◌≤◌, List, [], ◌++◌}
-use Rattle.std.proofs.Common.{length, refl, sym, ap, subst, inl, inr, arith}
+use Rattle.std.proofs.Common.{◌≡◌, ℕ, ◌+◌, ◌-◌, ◌*◌, ◌<◌, ◌≤◌, List, [], ◌++◌}
+use Rattle.std.proofs.Common.{length, sym, ap, subst, inl, inr, arith}
 use Rattle.std.specs.Prelude.{Result, Ok, Err, IfErr}
 use Rattle.wasm_syntax.specs.declared.module.Module.{Module}
 use Rattle.wasi_abi.specs.declared.numbers.TheConstants.{NUMBERS_END}
@@ -19,7 +19,8 @@ use Rattle.disk_layout.specs.rules.Places.{area_place, rounded_up, total_sectors
 use Rattle.disk_layout.specs.rules.Journal.{Record}
 use Rattle.journal.specs.rules.Packed.{sectors_for}
 use Rattle.journal.specs.rules.Steps.{barrier_calls}
-use Rattle.snapshot.specs.rules.Calls.{SomeRising, with_head}
+use Rattle.snapshot.specs.rules.Calls.{with_head}
+use Rattle.snapshot.proofs.StoreCalls.{some_none}
 use Rattle.worker_store.specs.laws.Barriers.{StandsAtFront}
 use Rattle.worker_store.specs.laws.Savepoints.{Savepoint}
 use Rattle.worker_store.specs.laws.Saves.{StandsAtFrontOrNext}
@@ -61,18 +62,13 @@ module _ {D : Type 0} (medium : D → Medium) (before : WorkerStore) (process : 
 
 -- ---- calls
 
--- no sector was stored
-pub none_rising : (at n : ℕ) → SomeRising at n []
-none_rising at zero = refl
-none_rising at (suc n) = inl (none_rising at n)
-
 pub barrier_calls_begun : {T : Type 0} (before : WorkerStore) (process : ProcessValue)
     (fault : StoreFault) (old mid : Medium)
     → BeginsCalls (barrier_calls before.geometry before.journal) old mid
     → SaveCalls {T = T} before process (Err fault) old mid
 barrier_calls_begun before process fault old mid begun = (
   [],
-  none_rising (area_place before.geometry (before.journal.generation + 1))
+  some_none (area_place before.geometry (before.journal.generation + 1))
       (rounded_up (length (image (saved_of process)))),
   record {
     all = tt;

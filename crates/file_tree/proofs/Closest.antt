@@ -23,13 +23,12 @@ closest name best (e ∷ es) = closest name (closer_of name best e) es
 
 -- ---- two entries in the other order
 
-Sides : Name → Name → Type 0
+abbrev pub Sides : Name → Name → Type 0
 Sides x y =
     ((is_before x y ≡ true) × (is_before y x ≡ false) × Before x y)
     ⊎ ((is_before x y ≡ false) × (is_before y x ≡ true) × Before y x)
 
-sides : (x y : Name) → x ≢ y → Sides x y
-unfolding Sides
+pub sides : (x y : Name) → x ≢ y → Sides x y
 sides x y ne = elim (before_or_not x y) [
   | inl h ↦ inl (h.0, not_in_front y x (λ k. not_itself x (before_both x y x h.1 k)), h.1)
   | inr h ↦ (let back = one_before x y ne h.1 in inr (h.0, in_front y x back, back))
@@ -37,7 +36,6 @@ sides x y ne = elim (before_or_not x y) [
 
 swapped : (name : Name) (best : Option Entry) (e f : Entry) → e.name ≢ f.name
     → closer_of name (closer_of name best f) e ≡ closer_of name (closer_of name best e) f
-unfolding Sides
 swapped name None e f ne =
     by (is_before name e.name) refl (is_before name f.name) refl (sides e.name f.name ne) where
       by : (a : Bool) → is_before name e.name ≡ a → (b : Bool) → is_before name f.name ≡ b

@@ -147,7 +147,7 @@ module _ (ns ms : List Node) (next most : ℕ) (are : AreNodes ns next) (its : A
       ∙ ap (λ (n : ℕ). option_map reverse (climb n (hook_of ms) k)) alike.nodes.next
       ∙ sym (path_shown ms most k)
 
-files_with : List FileNode → ℕ → Files
+abbrev pub files_with : List FileNode → ℕ → Files
 files_with nodes next = record { nodes = nodes; next = next }
 
 paths_alike : (fs gs : Files) → IsFiles fs → IsFiles gs → IsBuiltLike fs gs → (k : ℕ)
@@ -167,7 +167,6 @@ paths_alike fs gs a b alike k =
       ms = rebuilt gs b
 
 pub entries_tell_files : EntriesTellFiles
-unfolding files_with
 entries_tell_files fs gs a b alike =
     let paths : path_of gs ≡ path_of fs = λ i k. sym (paths_alike fs gs a b alike k) i in
     let its : AllByRecursion (λ (m : FileNode). path_of fs m.number ≡ m.path) gs.nodes =

@@ -7,15 +7,16 @@ use Rattle.std.proofs.lemmas.Bool.{eq-eqb, ne_eqb}
 use Rattle.std.proofs.lemmas.List.{map_push}
 use Rattle.file_tree.specs.rules.Files.{FileNode, Files, File, AreRising, changed_at, bytes_held}
 use Rattle.file_tree.specs.laws.Rebuilding.{FilledFiles}
-use Rattle.file_tree.proofs.Rebuilt.{below}
+use Rattle.file_tree.proofs.Rebuilt.{numbers_below}
+use Rattle.file_tree.proofs.FilesTold.{files_with}
 
 -- a node with these bytes
-abbrev with_bytes : List ℕ → FileNode → FileNode
+abbrev pub with_bytes : List ℕ → FileNode → FileNode
 with_bytes bytes n = record n { content = File bytes }
 
 none_rewritten : (k least : ℕ) (bytes : List ℕ) (ns : List FileNode) (next : ℕ)
     → AreRising least ns next → next ≤ k → map (changed_at k (with_bytes bytes)) ns ≡ ns
-none_rewritten k least bytes ns next rising le = go ns (below least ns next rising).1 where
+none_rewritten k least bytes ns next rising le = go ns (numbers_below least ns next rising).1 where
   go : (ms : List FileNode) → AllByRecursion (λ (n : FileNode). n.number < next) ms
       → map (changed_at k (with_bytes bytes)) ms ≡ ms
   go [] h = refl
@@ -87,13 +88,10 @@ bytes_rewritten k bytes (n ∷ ns) some =
 abbrev new_file : ℕ → List ℕ → FileNode
 new_file k bytes = record { number = k; path = None; content = File bytes }
 
-abbrev files_of : List FileNode → ℕ → Files
-files_of nodes next = record { nodes = nodes; next = next }
-
 pub filled_files : FilledFiles
 filled_files = record {
   new = λ fs k old bytes are le.
-      ap (λ (xs : List FileNode). files_of xs (k + 1))
+      ap (λ (xs : List FileNode). files_with xs (k + 1))
       (map_push (changed_at k (with_bytes bytes)) fs.nodes (new_file k old)
       ∙ ap (λ (xs : List FileNode).
       xs ++ changed_at k (with_bytes bytes) (new_file k old) ∷ [])
@@ -101,6 +99,6 @@ filled_files = record {
       ∙ ap (λ (x : FileNode). fs.nodes ++ x ∷ [])
       (last_rewritten k bytes (new_file k old) refl));
   again = λ fs k old bytes.
-      ap (λ (xs : List FileNode). files_of xs fs.next) (twice_rewritten k old bytes fs.nodes);
+      ap (λ (xs : List FileNode). files_with xs fs.next) (twice_rewritten k old bytes fs.nodes);
   bytes = λ fs k bytes some. bytes_rewritten k bytes fs.nodes some;
 }

@@ -103,7 +103,7 @@ pub record IsForgotten (ns : List Node) (next k i : ℕ) (n : Node) (fs : Files)
   pub used : used_in (remove ns i) + length (file_bytes_of n) ≡ used_in ns
   pub chunks : chunks_in (remove ns i) + chunks_for (length (file_bytes_of n)) ≡ chunks_in ns
 
-no_path_is : (o : Option Path) → is_some o ≡ false → o ≡ None
+pub no_path_is : (o : Option Path) → is_some o ≡ false → o ≡ None
 no_path_is None e = refl
 no_path_is (Some p) e = absurd cc
 

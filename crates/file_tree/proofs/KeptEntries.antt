@@ -132,7 +132,7 @@ next_keeps fs most are le =
     (subst IsFiles (risen_files ns fs.next most fs (rebuilt_show fs are) (rebuilt_are fs are) le)
     (are_files ns most nodes))
 
-some_node : (o : Option FileNode) → is_some o ≡ true → (n : FileNode) × (o ≡ Some n)
+pub some_node : (o : Option FileNode) → is_some o ≡ true → (n : FileNode) × (o ≡ Some n)
 some_node None e = absurd cc
 some_node (Some n) e = (n, refl)
 

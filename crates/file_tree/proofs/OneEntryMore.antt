@@ -22,44 +22,35 @@ use Rattle.file_tree.specs.laws.Rebuilding.{HangingAddsAnEntry}
 use Rattle.file_tree.specs.Links.{node_in, hook_held, hook_of, AreNodes, files, IsPlace}
 use Rattle.file_tree.specs.Links.{hooked_name}
 use Rattle.file_tree.specs.Links.{hooked_entry, hooked_entries, with_entry}
-use Rattle.file_tree.proofs.Order.{Before, before_or_not, before_both, not_itself, one_before}
-use Rattle.file_tree.proofs.Order.{in_front, not_in_front}
+use Rattle.file_tree.proofs.Order.{Before, before_or_not, before_both}
 use Rattle.file_tree.proofs.Seen.{entries_shown, own_hooks}
 use Rattle.file_tree.proofs.Grows.{free_in}
 use Rattle.file_tree.proofs.IsFiles.{are_files}
 use Rattle.file_tree.proofs.Returns.{IsReturned, not_hung, is_returned}
 use Rattle.file_tree.proofs.KeptFiles.{place_in}
 use Rattle.file_tree.proofs.Rebuilt.{rebuilt, rebuilt_are, rebuilt_show, there, found_number}
+use Rattle.file_tree.proofs.Closest.{Sides, sides}
+use Rattle.file_tree.proofs.KeptEntries.{some_node}
+use Rattle.file_tree.proofs.Forgets.{no_path_is}
 
 -- ---- two entries are put in either way round
 
-abbrev OneFirst : Name → Name → Type 0
-OneFirst x y =
-    ((is_before x y ≡ true) × (is_before y x ≡ false) × Before x y)
-    ⊎ ((is_before x y ≡ false) × (is_before y x ≡ true) × Before y x)
-
-one_first : (x y : Name) → x ≢ y → OneFirst x y
-one_first x y ne = elim (before_or_not x y) [
-  | inl h ↦ inl (h.0, not_in_front y x (λ k. not_itself x (before_both x y x h.1 k)), h.1)
-  | inr h ↦ (let back = one_before x y ne h.1 in inr (h.0, in_front y x back, back))
-]
-
 put_both : (e f : Entry) (es : List Entry) → e.name ≢ f.name
     → inserted f (inserted e es) ≡ inserted e (inserted f es)
-put_both e f [] ne = by (one_first e.name f.name ne) where
-  by : OneFirst e.name f.name
+put_both e f [] ne = by (sides e.name f.name ne) where
+  by : Sides e.name f.name
       → cond (is_before f.name e.name) (f ∷ e ∷ []) (e ∷ f ∷ [])
       ≡ cond (is_before e.name f.name) (e ∷ f ∷ []) (f ∷ e ∷ [])
   by (inl h) = (let a = h.0 in let b = h.1 in rw (a, b) refl)
   by (inr h) = (let a = h.0 in let b = h.1 in rw (a, b) refl)
 put_both e f (g ∷ es) ne =
-    by (before_or_not e.name g.name) (before_or_not f.name g.name) (one_first e.name f.name ne)
+    by (before_or_not e.name g.name) (before_or_not f.name g.name) (sides e.name f.name ne)
     (put_both e f es ne) where
       Side : Name → Name → Type 0
       Side x y =
           ((is_before x y ≡ true) × Before x y) ⊎ ((is_before x y ≡ false) × (Before x y → ⊥))
 
-      by : Side e.name g.name → Side f.name g.name → OneFirst e.name f.name
+      by : Side e.name g.name → Side f.name g.name → Sides e.name f.name
           → inserted f (inserted e es) ≡ inserted e (inserted f es)
           → inserted f (cond (is_before e.name g.name) (e ∷ g ∷ es) (g ∷ inserted e es))
           ≡ inserted e (cond (is_before f.name g.name) (f ∷ g ∷ es) (g ∷ inserted f es))
@@ -244,14 +235,6 @@ module _ (k : ℕ) (p : Path) where
 
 -- ---- all of it
 
-no_path_at : (o : Option Path) → is_some o ≡ false → o ≡ None
-no_path_at None e = refl
-no_path_at (Some p) e = absurd cc
-
-some_found : (o : Option FileNode) → is_some o ≡ true → (n : FileNode) × (o ≡ Some n)
-some_found None e = absurd cc
-some_found (Some n) e = (n, refl)
-
 module _ (ns : List Node) (next k i d : ℕ) (name : Name) (are : AreNodes ns next)
     (place : IsPlace ns k i) (can : CanHang (files ns next) k d name) where
   abbrev before : Files
@@ -295,7 +278,7 @@ module _ (ns : List Node) (next k i d : ℕ) (name : Name) (are : AreNodes ns ne
   pub entries_own : entries_of after k ≡ []
   entries_own =
       entries_elsewhere k not_own
-      ∙ ap (entries_under before) (no_path_at (path_of before k) can.no_path)
+      ∙ ap (entries_under before) (no_path_is (path_of before k) can.no_path)
 
   pub files_after : IsFiles after
   files_after =
@@ -327,7 +310,7 @@ hanging ns next k d name x are held n found can =
 
 pub hanging_adds_an_entry : HangingAddsAnEntry
 hanging_adds_an_entry fs k d name are some can =
-    let n = some_found (node_of fs k) some in
+    let n = some_node (node_of fs k) some in
     let x = there fs are k n.0 n.1 in
     subst (λ (y : Files). node_of y k ≡ Some n.0 → CanHang y k d name
     → HasHung y (hung k (path_at y d ++ name ∷ []) y) k d name) (rebuilt_show fs are)

@@ -82,17 +82,17 @@ one_number (x ∷ ns) j k a b p distinct ea eb pa pb =
       by_tests false false s t later ea eb = later ea eb pa pb
 
 -- numbers of nodes are below the next one
-pub below : (least : ℕ) (ns : List FileNode) (next : ℕ) → AreRising least ns next
+pub numbers_below : (least : ℕ) (ns : List FileNode) (next : ℕ) → AreRising least ns next
     → (least ≤ next) × AllByRecursion (λ (n : FileNode). n.number < next) ns
-below least [] next h = (h, tt)
-below least (n ∷ ns) next h =
-    let r = below (n.number + 1) ns next h.1 in
+numbers_below least [] next h = (h, tt)
+numbers_below least (n ∷ ns) next h =
+    let r = numbers_below (n.number + 1) ns next h.1 in
     (omega (arith, r.0, h.0), (omega (arith, r.0), r.1))
 
-above : (least : ℕ) (ns : List FileNode) (next : ℕ) → AreRising least ns next
+pub numbers_from : (least : ℕ) (ns : List FileNode) (next : ℕ) → AreRising least ns next
     → AllByRecursion (λ (n : FileNode). least ≤ n.number) ns
-above least [] next h = tt
-above least (n ∷ ns) next h = (h.0, lower ns (above (n.number + 1) ns next h.1)) where
+numbers_from least [] next h = tt
+numbers_from least (n ∷ ns) next h = (h.0, lower ns (numbers_from (n.number + 1) ns next h.1)) where
   lower : (ms : List FileNode) → AllByRecursion (λ (m : FileNode). n.number + 1 ≤ m.number) ms
       → AllByRecursion (λ (m : FileNode). least ≤ m.number) ms
   lower [] g = tt
@@ -108,7 +108,7 @@ own_nodes least [] next h = tt
 own_nodes least (x ∷ ns) next h = (
   ap (λ (b : Bool). cond b (Some x) (find (λ (m : FileNode). eqb m.number x.number) ns))
       (eq-eqb x.number x.number refl),
-  later ns (own_nodes (x.number + 1) ns next h.1) (above (x.number + 1) ns next h.1),
+  later ns (own_nodes (x.number + 1) ns next h.1) (numbers_from (x.number + 1) ns next h.1),
 ) where
   later : (ms : List FileNode)
       → AllByRecursion (IsFoundIn ns) ms
@@ -327,7 +327,7 @@ module _ (fs : Files) (are : IsFiles fs) where
   pub number_below : (k : ℕ) (n : FileNode) → node_of fs k ≡ Some n → k < fs.next
   number_below k n e =
       let low = all_found (λ (n : FileNode). n.number < fs.next) fs.nodes k n
-      (below 1 fs.nodes fs.next are.rising).1 e in
+      (numbers_below 1 fs.nodes fs.next are.rising).1 e in
       let same = found_number fs.nodes k n e in
       omega (arith, low, same)
 

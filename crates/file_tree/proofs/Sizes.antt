@@ -39,7 +39,7 @@ all_zeros : (n : ℕ) → AreBytes (replicate n 0)
 all_zeros zero = tt
 all_zeros (suc n) = (omega arith, all_zeros n)
 
-length-zeros : (n : ℕ) → length (replicate {A = ℕ} n 0) ≡ n
+pub length-zeros : (n : ℕ) → length (replicate {A = ℕ} n 0) ≡ n
 length-zeros n = length-replicate n 0
 
 pub length-written : (old : List ℕ) (from : ℕ) (bytes : List ℕ)

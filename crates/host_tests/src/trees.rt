@@ -155,11 +155,17 @@ fn is_forgotten(tree: &mut Tree) -> bool {
     used == 4 && tree.used_bytes() == 0
 }
 
-fn change(rt: &impl Abort, alloc: Global, tree: &mut Tree) -> Result<(), AllocError> {
+/// Makes a file and a directory, and moves the file below it.
+fn make_and_move(rt: &impl Abort, alloc: Global, tree: &mut Tree) -> Result<(), AllocError> {
     assert!(rt; are_made(alloc, tree)?);
     move_node(alloc, tree, FILE, DIRECTORY)?;
     assert!(rt; is_moved(tree));
     assert!(rt; is_listed(tree));
+    Ok(())
+}
+
+fn change(rt: &impl Abort, alloc: Global, tree: &mut Tree) -> Result<(), AllocError> {
+    make_and_move(rt, alloc, tree)?;
     assert!(rt; is_written(tree)?);
     assert!(rt; is_removed(tree));
     assert!(rt; is_forgotten(tree));

@@ -3,7 +3,7 @@ use Rattle.std.proofs.Common.{◌≡◌, ℕ, zero, suc, ◌+◌, ◌<◌, ◌�
 use Rattle.std.proofs.Common.{length, get_or, if◌then◌else◌, lit<, lit≤, refl, sym, ap, subst}
 use Rattle.std.proofs.Common.{arith}
 use Rattle.sector_disk.specs.rules.Image.{Image, sector_at}
-use Rattle.sector_disk.proofs.ExampleLemmas.{below_two, peel}
+use Rattle.sector_disk.proofs.ExampleLemmas.{below_two, peel, differ}
 use Rattle.disk_layout.specs.rules.Journal.{is_of}
 use Rattle.disk_layout.specs.rules.Sectors.{shown_generation}
 use Rattle.disk_layout.specs.laws.RecordExamples.{bare, spread, two_records}
@@ -11,9 +11,6 @@ use Rattle.journal.specs.rules.Steps.{SameOthers, ShowsNoneAfter}
 use Rattle.journal.specs.laws.Examples.{FittingExamples, StandingExamples, BarrierExamples}
 use Rattle.journal.specs.laws.Examples.{before_one_of, behind_hello, only_hello, whole_end}
 use Rattle.journal.specs.laws.Examples.{torn_end, with_end}
-
-differ : (a b : ℕ) → a ≡ b → a < b → ⊥
-differ a b e less = omega (arith, e, less)
 
 abbrev bit_of : Bool → ℕ
 bit_of b = if b then 1 else 0

@@ -19,8 +19,9 @@ use Rattle.disk_layout.specs.rules.Journal.{records_at, with_first, payloads_fro
 use Rattle.journal.specs.rules.Steps.{ClockFits, RecordFits, AllRecordsFit, records_bytes}
 use Rattle.disk_layout.specs.declared.record.TheConstants.{LONGEST_PAYLOAD}
 
-abbrev pub make : ℕ → Answer → Record
-make step a = record { step = step; answer = a }
+-- the record of an answer that a step takes
+abbrev pub record_of : ℕ → Answer → Record
+record_of step a = record { step = step; answer = a }
 
 -- ---- a whole record
 
@@ -60,11 +61,11 @@ record_read r rest fits =
     ∙ answer_read r.answer fits.payload fits.clock in
     let step-is : number_of (u64_bytes r.step) ≡ r.step = number_of-bytes_of 8 r.step fits.step in
     cond-true (leb (11 + payload_length all) (length all))
-    (option_map (make (number_of (u64_bytes r.step)))
+    (option_map (record_of (number_of (u64_bytes r.step)))
     (answer_of LONGEST_PAYLOAD (kind_number r.answer) (part all 11 (payload_length all)))) None
     within
-    ∙ ap (λ o. option_map (make (number_of (u64_bytes r.step))) o) answer-is
-    ∙ ap (λ n. Some (make n r.answer)) step-is
+    ∙ ap (λ o. option_map (record_of (number_of (u64_bytes r.step))) o) answer-is
+    ∙ ap (λ n. Some (record_of n r.answer)) step-is
 
 pub rest_read : (r : Record) (rest : List ℕ) → RecordFits r
     → drop (11 + payload_length (record_bytes r ++ rest)) (record_bytes r ++ rest) ≡ rest
@@ -97,7 +98,7 @@ cut_none r (suc m) fits lt =
     omega arith)
     (cases_lt (suc m) 11) in
     cond-false (leb (11 + payload_length cut) (length cut))
-    (option_map (make (number_of (part (take m (drop 1 (record_bytes r))) 0 8)))
+    (option_map (record_of (number_of (part (take m (drop 1 (record_bytes r))) 0 8)))
     (answer_of LONGEST_PAYLOAD (kind_number r.answer) (part cut 11 (payload_length cut)))) None
     (lt-leb (11 + payload_length cut) (length cut) beyond)
 
@@ -210,19 +211,19 @@ short_none [] lt = refl
 short_none (kind ∷ bytes) lt =
     let all = kind ∷ bytes in
     cond-false (leb (11 + payload_length all) (length all))
-    (option_map (make (number_of (part bytes 0 8))) (answer_of LONGEST_PAYLOAD kind
+    (option_map (record_of (number_of (part bytes 0 8))) (answer_of LONGEST_PAYLOAD kind
     (part all 11 (payload_length all)))) None
     (lt-leb (11 + payload_length all) (length all) lt)
 
 pub record_at_parts : (bytes : List ℕ) → 11 + payload_length bytes ≤ length bytes
     → record_at LONGEST_PAYLOAD bytes
-    ≡ option_map (make (number_of (part bytes 1 8))) (answer_of LONGEST_PAYLOAD (get_or bytes 0 0)
-    (part bytes 11 (payload_length bytes)))
+    ≡ option_map (record_of (number_of (part bytes 1 8)))
+    (answer_of LONGEST_PAYLOAD (get_or bytes 0 0) (part bytes 11 (payload_length bytes)))
 record_at_parts [] le = absurd (omega arith)
 record_at_parts (kind ∷ bytes) le =
     let all = kind ∷ bytes in
     cond-true (leb (11 + payload_length all) (length all))
-    (option_map (make (number_of (part bytes 0 8))) (answer_of LONGEST_PAYLOAD kind
+    (option_map (record_of (number_of (part bytes 0 8))) (answer_of LONGEST_PAYLOAD kind
     (part all 11 (payload_length all)))) None
     (le-leb (11 + payload_length all) (length all) le)
 

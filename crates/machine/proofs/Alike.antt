@@ -139,8 +139,8 @@ one_frames c program (a ∷ frames) (b ∷ others) (FrameOf f ls labels vs rest 
     one_callers c program h.0.kind k.0.kind frames others thread h.2 k.2 in
     cc
 
-abbrev machine_with : Module → ℕ → List (Option ℕ) → List ShownFrame → List ℕ → List ℕ → List ℕ → ℕ
-    → MachineValue
+abbrev pub machine_with : Module → ℕ → List (Option ℕ) → List ShownFrame → List ℕ → List ℕ
+    → List ℕ → ℕ → MachineValue
 machine_with m most_pages table frames globals memory later limit =
     record {
       guest = m;

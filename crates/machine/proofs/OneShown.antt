@@ -20,6 +20,7 @@ use Rattle.machine_slots.specs.rules.Places.{ShownFrame, MachineState, HaveShape
 use Rattle.machine_slots.specs.rules.Places.{slots_of, IsCallOf, ShowsRunning, ShowsWaiting}
 use Rattle.machine_slots.specs.rules.Places.{IsFrameOf, ShowsCallers, ShowsThread, Shows}
 use Rattle.machine_frame.proofs.Threads.Words.{same_parts, values_count}
+use Rattle.machine_frame.proofs.Threads.Fitting.{below_are}
 use Rattle.machine.specs.laws.Laws.{MachineShowsOne}
 use Rattle.machine.proofs.OneProgram.{one_program, one_list}
 
@@ -51,15 +52,6 @@ as_many types vs ws h k = values_count types vs h ∙ sym (values_count types ws
 abbrev types_below : List LabelShape → List ValueType
 types_below [] = []
 types_below (ShapeOf takes target types after which ∷ shapes) = types ++ types_below shapes
-
-below_are : (shapes : List LabelShape) (labels : List Label) → HaveShape shapes labels
-    → AreOf (types_below shapes) (all_below labels)
-below_are [] [] h = tt
-below_are [] (label ∷ labels) h = absurd h
-below_are (shape ∷ shapes) [] h = absurd h
-below_are (ShapeOf takes target types after which
-    ∷ shapes) (LabelOf keeps target' below after' which' ∷ labels) h =
-    are_both types (types_below shapes) below (all_below labels) h.2 (below_are shapes labels h.5)
 
 -- labels of one shape differ in nothing but the values below them
 same_labels : (shapes : List LabelShape) (labels others : List Label) → HaveShape shapes labels

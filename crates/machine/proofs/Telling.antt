@@ -7,12 +7,12 @@ use Rattle.guest_memory.specs.rules.Memories.{IsWithinLimit}
 use Rattle.wasm_syntax.specs.declared.types.FunctionType.{FunctionType}
 use Rattle.wasm_syntax_rules.specs.Validity.{module_context}
 use Rattle.wasm_syntax_rules.specs.Typing.{Context}
-use Rattle.wasm_syntax_rules.specs.Configuration.{Program, Store, Thread, Configuration}
+use Rattle.wasm_syntax_rules.specs.Configuration.{Program, Thread, Configuration}
 use Rattle.wasm_syntax_rules.specs.Steps.{left_by}
-use Rattle.wasm_syntax_rules.specs.Typed.{IsEntry}
 use Rattle.machine_slots.specs.rules.Places.{ShowsThread}
 use Rattle.machine_frame.specs.declared.rules.frame.StackFrame.{StackFrame}
 use Rattle.machine_frame.specs.rules.Threads.{places_of}
+use Rattle.machine_frame.proofs.Threads.Fitting.{nothing_later}
 use Rattle.machine.specs.declared.turns.code.Executable.{Executable}
 use Rattle.machine.specs.declared.turns.state.State.{State}
 use Rattle.machine.specs.declared.turns.pause.HostCall.{HostCall}
@@ -50,16 +50,6 @@ no_thread c program [] words (f ∷ thread) h = absurd h
 no_thread c program (frame ∷ frames) words [] h = absurd h
 no_thread c program (frame ∷ frames) words (f ∷ thread) h = (λ e. absurd (cc), λ e. absurd (cc))
 
--- where a settled configuration has no thread, the host calls nothing more
-none_later : (program : Program) (later : List ℕ) (store : Store)
-    → AllByRecursion (IsEntry program) later → left_by program [] later store ≡ None → later ≡ []
-none_later program [] store h e = refl
-none_later program (f ∷ later) store h e =
-    let entry = h.0 in
-    let there = entry.3 in
-    let none = (rw there at e) in
-    absurd (cc)
-
 pub tells_end : (code : Executable) (s : State) (most : ℕ) (told : Bool)
     → IsTrue told ↔ (s.frames ≡ []) → TellsEnd (seen code s most) told
 tells_end code s most told is = λ program d shows.
@@ -69,7 +59,7 @@ tells_end code s most told is = λ program d shows.
           let thread : d.thread ≡ [] = same.0 (is.0 yes) in
           record {
             returned = thread;
-            nothing_later = none_later program d.later d.store shows.shows.typed.later
+            nothing_later = nothing_later program d.later d.store shows.shows.typed.later
                 (subst (λ t. left_by program t d.later d.store ≡ None) thread shows.shows.settled);
           },
       λ ended. is.1 (same.1 ended.returned),

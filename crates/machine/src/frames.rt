@@ -26,13 +26,14 @@ pub struct Frames {
 
 impl Model for Frames {
     ghost use Rattle.std.specs.Prelude.{List, ◌≡◌, ◌≤◌, length, reverse, take};
+    ghost use Rattle.machine_slots.specs.declared.limits.TheConstants.{FRAMES};
     ghost use Rattle.machine_frame.specs.declared.rules.frame.StackFrame.{StackFrame as OneFrame};
 
     ghost Value = { List OneFrame };
 
     ghost view = { λ s. reverse (take s.height s.frames.items) };
 
-    ghost invariant = { λ s. (length s.frames.items ≡ 512) × (s.height ≤ 512) };
+    ghost invariant = { λ s. (length s.frames.items ≡ FRAMES) × (s.height ≤ FRAMES) };
 }
 
 impl Frames {

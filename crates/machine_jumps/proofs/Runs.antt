@@ -1,10 +1,10 @@
 -- Where the shapes of a stretch of positions are those of a typed sequence, and how a stretch falls
 -- into parts.
 use Rattle.std.proofs.Common.{◌≡◌, ℕ, suc, ◌+◌, ◌-◌, ◌<◌, ◌≤◌, List, [], ◌∷◌, ◌++◌, length, drop}
-use Rattle.std.proofs.Common.{Option, Some, refl, sym, ap, ◌∙◌, subst, arith, length-append}
+use Rattle.std.proofs.Common.{Option, Some, refl, sym, ap, ◌∙◌, subst, arith}
 use Rattle.std.specs.Prelude.{nat_le, if◌then◌else◌}
 use Rattle.std.specs.Option.{option_and_then}
-use Rattle.std.proofs.lemmas.Bool.{le-leb, lt-leb}
+use Rattle.std.proofs.lemmas.Bool.{lt-leb}
 use Rattle.wasm_syntax.specs.declared.types.ValueType.{ValueType}
 use Rattle.wasm_syntax.specs.declared.instruction.Instruction.{Instruction}
 use Rattle.wasm_syntax.specs.declared.instruction.Instruction.TheVariants as instr
@@ -15,7 +15,8 @@ use Rattle.wasm_syntax_rules.specs.Types.{results_of}
 use Rattle.wasm_syntax_rules.specs.Typing.{Context, HasType}
 use Rattle.wasm_syntax_rules.specs.Shapes.{Shape, LabelShape, ShapeOf, types_behind, shape_at}
 use Rattle.wasm_syntax_rules.specs.Shapes.{body_shape}
-use Rattle.wasm_syntax_rules.proofs.TypedShape.{IsBehind, rule_behind}
+use Rattle.wasm_syntax_rules.proofs.TypedShape.{IsBehind, rule_behind, closed_length}
+use Rattle.wasm_validate.proofs.Algorithm.Reaching.{chosen}
 
 -- what branches to the labels take
 abbrev pub branches_of : List LabelShape → List (List ValueType)
@@ -26,9 +27,6 @@ branches_of (ShapeOf takes target below after which ∷ labels) = takes ∷ bran
 pub record Agrees (c : Context) (body : Sequence) (p len : ℕ) (shapes : ℕ
     → Option Shape) : Type 0 where
   pub at : (n : ℕ) → n ≤ len → body_shape c body (p + n) ≡ shapes n
-
-picked : (n m : ℕ) (x y : Option Shape) → n ≤ m → (if nat_le n m then x else y) ≡ x
-picked n m x y h = let e = le-leb n m h in rw e refl
 
 passed : (n m : ℕ) (x y : Option Shape) → m < n → (if nat_le n m then x else y) ≡ y
 passed n m x y h = let e = lt-leb n m h in rw e refl
@@ -46,7 +44,7 @@ module _ (c : Context) (body : Sequence) where
       → Agrees c body q L x
   agrees_first q len L R f x y a e parts = record {
     at = λ n h. a.at n (omega arith) ∙ parts n
-        ∙ picked n L (x n) (y (n - (L + 1))) h;
+        ∙ chosen n L (x n) (y (n - (L + 1))) h;
   }
 
   pub agrees_second : (q len L R : ℕ) (f x y : ℕ → Option Shape) → Agrees c body q len f
@@ -73,10 +71,6 @@ pub runs_here : (c : Context) (body : Sequence) (p : ℕ) (labels : List LabelSh
     → body_shape c body p ≡ Some (record { labels = labels; operands = ts; rest = rest })
 runs_here c body p labels rest ts gives r = let same : p ≡ p + 0 = omega arith in
     ap (λ z. body_shape c body z) same ∙ r.covers.at 0 (omega arith)
-
-pub closed_length : (xs ys : List Instruction) (y : Instruction)
-    → length (xs ++ (y ∷ ys)) ≡ length xs + suc (length ys)
-closed_length xs ys y = simp length-append (omega arith)
 
 module _ (c : Context) (body : Sequence) (p : ℕ) (labels : List LabelShape)
     (ts gives : List ValueType) where

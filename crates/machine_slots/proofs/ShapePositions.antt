@@ -7,7 +7,6 @@ use Rattle.std.specs.Prelude.{nat_le, map}
 use Rattle.std.specs.Option.{option_and_then}
 use Rattle.std.proofs.lemmas.Bool.Decides.{nat_tests}
 use Rattle.wasm_syntax.specs.declared.types.ValueType.{ValueType}
-use Rattle.wasm_syntax.specs.declared.instruction.Instruction.{Instruction}
 use Rattle.wasm_syntax.specs.declared.instruction.Instruction.TheVariants as instr
 use Rattle.wasm_syntax.specs.rules.Sequence.{Sequence, Stop, Plain, InBlock, InLoop, InIf, InIfElse}
 use Rattle.wasm_syntax.specs.rules.Sequence.{spelled}
@@ -16,6 +15,7 @@ use Rattle.wasm_syntax_rules.specs.Typing.{Context}
 use Rattle.wasm_syntax_rules.specs.Configuration.{Part, Main, Second, Label, LabelOf}
 use Rattle.wasm_syntax_rules.specs.Shapes.{Shape, LabelShape, ShapeOf, types_behind, shape_at}
 use Rattle.wasm_syntax_rules.specs.Shapes.{body_shape}
+use Rattle.wasm_syntax_rules.proofs.TypedShape.{closed_length}
 use Rattle.machine_slots.specs.rules.Places.{HaveShape}
 use Rattle.machine_slots.specs.laws.Laws.{ShapesTellPositions, LabelsTellPositions}
 
@@ -171,10 +171,6 @@ module _ (L n m : ℕ) (f g : ℕ → Option Shape) (v : Seen) where
       omega (arith, h.0, k.0, same))
       (chosen m L _ _ v e))
       (chosen n L _ _ v d)
-
-closed_length : (xs ys : List Instruction) (y : Instruction)
-    → length (xs ++ (y ∷ ys)) ≡ length xs + suc (length ys)
-closed_length xs ys y = length-append xs (y ∷ ys)
 
 -- ---- sequences
 

@@ -22,12 +22,13 @@ pub struct Slots {
 
 impl Model for Slots {
     ghost use Rattle.std.specs.Prelude.{List, ℕ, ◌≡◌, ◌≤◌, length, reverse, take};
+    ghost use Rattle.machine_slots.specs.declared.slots.TheConstants.{SLOTS};
 
     ghost Value = { List ℕ };
 
     ghost view = { λ s. reverse (take s.height s.words.items) };
 
-    ghost invariant = { λ s. (length s.words.items ≡ 69632) × (s.height ≤ 69632) };
+    ghost invariant = { λ s. (length s.words.items ≡ SLOTS) × (s.height ≤ SLOTS) };
 }
 
 impl Slots {

@@ -34,13 +34,14 @@ abbrev hi_line : Line
 hi_line = record { stream = 1; text = codes "hi" }
 
 -- the memory of `hello` at its start: its one segment, and zeros
-first_memory : Bytes
+unfoldable pub first_memory : Bytes
 first_memory = 8 ∷ 0 ∷ 0 ∷ 0 ∷ 3 ∷ 0 ∷ 0 ∷ 0 ∷ 104 ∷ 105 ∷ 10 ∷ replicate 65525 0
 
-last_memory : Bytes
+unfoldable pub last_memory : Bytes
 last_memory = hello_memory
 
-filled : filled_memory [] hello.data_segments (empty_memory (memories_of hello)) ≡ Some first_memory
+pub filled : filled_memory [] hello.data_segments (empty_memory (memories_of hello))
+    ≡ Some first_memory
 unfolding first_memory
 filled = refl
 
@@ -136,7 +137,7 @@ eight config =
     (step (drops config) (step (constant config 6 last_memory (hi_line ∷ []) _ 7 _ _)
     (step (exits config) none)))))))
 
-all_memory : last_memory ≡ hello_memory
+pub all_memory : last_memory ≡ hello_memory
 unfolding last_memory
 all_memory = refl
 

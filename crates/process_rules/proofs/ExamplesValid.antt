@@ -31,7 +31,7 @@ names_differ function = (((λ e. absurd (begin_alike e)), tt), (tt, tt))
 pub hello_spells : Spells hello_opcodes hello_sequence
 hello_spells = record { is = refl; nested = (tt, (tt, (tt, (tt, (tt, (tt, (tt, (tt, tt)))))))) }
 
-abbrev functions : List FunctionType
+abbrev pub functions : List FunctionType
 functions = transfer_type ∷ exit_type ∷ no_type ∷ []
 
 abbrev in_body : Context

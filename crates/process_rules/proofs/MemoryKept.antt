@@ -36,6 +36,7 @@ use Rattle.wasm_syntax_rules.specs.Steps.{where_some, topmost, branch, is_exhaus
 use Rattle.wasm_syntax_rules.specs.Steps.{called}
 use Rattle.wasm_syntax_rules.specs.Steps.{calls, kind_of, calls_entry, after_effect, execute}
 use Rattle.wasm_syntax_rules.specs.Steps.{rule_of, rule, left, begun, left_by, Settles, here, on}
+use Rattle.wasm_syntax_rules.proofs.Soundness.Beginning.{and_then_some}
 use Rattle.wasi_abi.specs.rules.Answers.{AreBytes}
 
 -- ---- what an instruction does
@@ -304,11 +305,6 @@ segment_bytes memory bytes after from h k e =
     by_test true e =
         (let same : with_part memory from bytes ≡ after = cc in
         subst AreBytes same (part_bytes memory bytes from h k))
-
-and_then_some : {X Y : Type 0} (f : X → Option Y) (o : Option X) (y : Y)
-    → option_and_then f o ≡ Some y → (x : X) × (o ≡ Some x) × (f x ≡ Some y)
-and_then_some f None y e = absurd (cc)
-and_then_some f (Some x) y e = (x, refl, e)
 
 filled_bytes : (m : Module) (globals : List Value) (segments : List Data) (memory filled : List ℕ)
     → AllByRecursion (IsDataValid m) segments → AreBytes memory

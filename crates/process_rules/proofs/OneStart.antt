@@ -20,7 +20,7 @@ use Rattle.wasm_syntax_rules.proofs.OneStore.{store_once}
 use Rattle.wasi_abi.specs.declared.call.Call.{Call}
 use Rattle.wasi_abi.specs.declared.call.Call.TheVariants as call
 use Rattle.wasi_abi.specs.rules.Configs.{Settings}
-use Rattle.wasi_abi.specs.rules.Calls.{name_of}
+use Rattle.wasi_abi.specs.rules.Calls.{name_of, all_calls}
 use Rattle.file_tree.specs.rules.Files.{is_same_name}
 use Rattle.process_rules.specs.Processes.{ProcessState, Guest, AreCalls, IsStart, closed, host_of}
 use Rattle.wasi_abi.proofs.CallLemmas.{name_of-injective as one_name}
@@ -32,16 +32,6 @@ program_once : (m : Module) (pages : ℕ) (p q : Program) → IsProgram m pages 
 program_once m pages p q a b = one_program m pages pages p q a b (a.most_pages ∙ sym b.most_pages)
 
 -- ---- the calls
-
--- each call has a name of its own
-abbrev pub all_calls : List Call
-all_calls = call.ArgsGet ∷ call.ArgsSizesGet ∷ call.EnvironGet ∷ call.EnvironSizesGet
-    ∷ call.ClockResGet ∷ call.ClockTimeGet ∷ call.FdClose ∷ call.FdDatasync ∷ call.FdFdstatGet
-    ∷ call.FdFdstatSetFlags ∷ call.FdFilestatGet ∷ call.FdFilestatSetSize ∷ call.FdPread
-    ∷ call.FdPrestatGet ∷ call.FdPrestatDirName ∷ call.FdPwrite ∷ call.FdRead ∷ call.FdReaddir
-    ∷ call.FdSeek ∷ call.FdSync ∷ call.FdTell ∷ call.FdWrite ∷ call.PathCreateDirectory
-    ∷ call.PathFilestatGet ∷ call.PathOpen ∷ call.PathRemoveDirectory ∷ call.PathRename
-    ∷ call.PathUnlinkFile ∷ call.ProcExit ∷ call.SchedYield ∷ call.RandomGet ∷ []
 
 abbrev pub named : List Call → List ℕ → Option Call
 named [] name = None

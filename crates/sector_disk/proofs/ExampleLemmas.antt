@@ -4,7 +4,7 @@ use Rattle.std.proofs.Common.{replicate, get_or, refl, sym, ap, arith}
 use Rattle.sector_disk.specs.rules.Image.{Image, sector_at, front_over, with_front}
 use Rattle.sector_disk.specs.laws.Examples.{three, with_both, eights_and_nines, RunExamples}
 
-differ : (a b : ℕ) → a ≡ b → a < b → ⊥
+pub differ : (a b : ℕ) → a ≡ b → a < b → ⊥
 differ a b e less = omega (arith, e, less)
 
 -- a byte of two sectors that are the same

@@ -3,16 +3,13 @@ use Rattle.std.proofs.Common.{◌≡◌, ◌≢◌, ℕ, ◌+◌, ◌-◌, ◌<�
 use Rattle.std.proofs.Common.{lit≤, refl, sym, subst, inl, inr, ⊎_elim, arith}
 use Rattle.sha2.specs.Sha256.{sha256}
 use Rattle.sector_disk.specs.rules.Image.{Image, sector_at}
-use Rattle.sector_disk.proofs.ExampleLemmas.{byte_of}
+use Rattle.sector_disk.proofs.ExampleLemmas.{byte_of, differ}
 use Rattle.disk_layout.specs.declared.head.Head.{Head}
 use Rattle.disk_layout.specs.rules.Sectors.{IsComplete, IsNewest}
 use Rattle.snapshot.specs.rules.Steps.{IsOutsideArea}
 use Rattle.snapshot.specs.laws.Examples.{NextCanFollow, plain_head, with_heads, headless}
 use Rattle.snapshot.specs.laws.Examples.{ReadyExamples, areas, area_disk, NoStep, AreaExamples}
 use Rattle.snapshot.proofs.AreaLemmas.{newest_complete}
-
-differ : (a b : ℕ) → a ≡ b → a < b → ⊥
-differ a b e less = omega (arith, e, less)
 
 pub next_can_follow : NextCanFollow
 next_can_follow geometry g version bytes image new =

@@ -33,7 +33,8 @@ one_always k = ap (λ j. WriteOf j ∷ []) (let e : k ≡ k + 0 = omega arith in
 pub one_changed : (k : ℕ) → AreStores Changes k 1 (WriteOf k ∷ [])
 one_changed k = inr ([], one_always k, refl)
 
-some_none : (at n : ℕ) → SomeRising at n []
+-- no sector was stored
+pub some_none : (at n : ℕ) → SomeRising at n []
 some_none at zero = refl
 some_none at (suc n) = inl (some_none at n)
 

@@ -3,11 +3,11 @@ use Rattle.std.proofs.Common.{◌≡◌, ◌≢◌, ℕ, zero, suc, ◌+◌, ◌
 use Rattle.std.proofs.Common.{[], ◌∷◌}
 use Rattle.std.proofs.Common.{◌++◌, length, reverse, Option, Some, None, refl, sym, ap, ◌∙◌, subst}
 use Rattle.std.proofs.Common.{inl, inr, arith}
-use Rattle.std.specs.Prelude.{◌↔◌, IsTrue, slice_get, ◌==◌, IfSome, IfNone, codes}
+use Rattle.std.specs.Prelude.{◌↔◌, IsTrue, slice_get, IfSome, IfNone, codes}
 use Rattle.std.specs.List.{AllByRecursion}
 use Rattle.std.proofs.lemmas.Grind.{reverse_onto}
 use Rattle.std.proofs.lemmas.List.{reverse-reverse, length-reverse}
-use Rattle.std.proofs.lemmas.Bool.{both_ways, eqb-true}
+use Rattle.std.proofs.lemmas.Bool.{both_ways}
 use Rattle.std.proofs.lemmas.List.Sums.{sum_by-cons}
 use Rattle.std.proofs.lemmas.Option.{slice_get_within, same_Some}
 use borrow.Author.Count.{below_more}
@@ -23,6 +23,7 @@ use Rattle.machine_slots.specs.rules.Places.{ShownFrame, MachineState}
 use Rattle.machine_frame.specs.rules.Fitting.{slots_held}
 use Rattle.machine.specs.rules.Loading.{ShowsSome}
 use Rattle.machine.specs.rules.Values.{MachineValue}
+use Rattle.machine.proofs.LoadingLemmas.Words.{empty_iff}
 use Rattle.process_rules.specs.Processes.{Ending}
 use Rattle.process_rules.proofs.OneStart.{item_number, entry_once}
 use Rattle.state_image.specs.rules.Image.{Saved, ending_code}
@@ -208,12 +209,4 @@ pub all_over : (frames : List ShownFrame) (later first second : List ℕ) (start
 all_over frames later first second starting told none starts e gone tells = (
   λ is. (no_frame frames none, none_of later starting starts e, gone, tells.0 is),
   λ is. tells.1 is.3,
-)
-
-pub empty_told : {X : Type 0} (xs : List X) (told : Bool) → told ≡ (length xs == 0)
-    → IsTrue told ↔ (xs ≡ [])
-empty_told [] told e = (λ is. refl, λ is. e)
-empty_told (x ∷ xs) told e = (
-  λ is. no_frame (x ∷ xs) (omega (arith, eqb-true (length (x ∷ xs)) 0 (sym e ∙ is))),
-  λ is. absurd (cc),
 )

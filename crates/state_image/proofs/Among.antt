@@ -1,5 +1,5 @@
 -- Nodes among the nodes of a file system, and entries among those of a directory.
-use Rattle.std.proofs.Common.{◌≡◌, ◌⊎◌, inl, inr, ℕ, ◌+◌, ◌<◌, ◌≤◌, Bool, true, false, cond}
+use Rattle.std.proofs.Common.{◌≡◌, ◌⊎◌, inl, inr, ℕ, ◌+◌, ◌≤◌, Bool, true, false, cond}
 use Rattle.std.proofs.Common.{eqb, List, [], ◌∷◌, ◌++◌, Option, Some, None, refl, sym, ap, subst}
 use Rattle.std.proofs.Common.{◌∙◌, arith}
 use Rattle.std.specs.Prelude.{find, option_map}
@@ -11,6 +11,8 @@ use Rattle.file_tree.specs.rules.Files.{name_behind, entry_of, entries_in, inser
 use Rattle.file_tree.specs.rules.Files.{AreRising, HasPath, HaveDistinctPaths}
 use Rattle.file_tree.proofs.Order.{all_sorted}
 use Rattle.file_tree.proofs.Seen.{front_name, name_is_behind}
+use Rattle.file_tree.specs.Links.{with_entry}
+use Rattle.file_tree.proofs.Rebuilt.{numbers_from}
 
 -- x is in the list
 abbrev pub IsAmong : {X : Type 0} → X → List X → Type 0
@@ -44,23 +46,6 @@ found_among k (m ∷ ns) n e = by (eqb m.number k) refl (found_among k ns n) e w
   by true is later e = (let same : n ≡ m = sym (some_is m n e) in
       (inl same, ap (λ (x : FileNode). x.number) same ∙ eqb-true m.number k is))
   by false is later e = (let r = later e in (inr r.0, r.1))
-
-pub numbers_from : (least : ℕ) (ns : List FileNode) (next : ℕ) → AreRising least ns next
-    → AllByRecursion (λ (n : FileNode). least ≤ n.number) ns
-numbers_from least [] next h = tt
-numbers_from least (n ∷ ns) next h =
-    (h.0, lower ns (numbers_from (n.number + 1) ns next h.1)) where
-      lower : (ms : List FileNode) → AllByRecursion (λ (m : FileNode). n.number + 1 ≤ m.number) ms
-          → AllByRecursion (λ (m : FileNode). least ≤ m.number) ms
-      lower [] g = tt
-      lower (m ∷ ms) g = (omega (arith, g.0, h.0), lower ms g.1)
-
-pub numbers_below : (least : ℕ) (ns : List FileNode) (next : ℕ) → AreRising least ns next
-    → (least ≤ next) × AllByRecursion (λ (n : FileNode). n.number < next) ns
-numbers_below least [] next h = (h, tt)
-numbers_below least (n ∷ ns) next h =
-    (let r = numbers_below (n.number + 1) ns next h.1 in
-    (omega (arith, r.0, h.0), (omega (arith, r.0), r.1)))
 
 -- each node is found by its number
 pub found_own : (least : ℕ) (ns : List FileNode) (next : ℕ) (n : FileNode)
@@ -97,12 +82,8 @@ one_path (x ∷ ns) n m p d (inr a) (inr b) h k = one_path ns n m p d.1 a b h k
 abbrev pub entry_with : Name → ℕ → Entry
 entry_with name number = record { name = name; number = number }
 
-abbrev pub before_others : Option Entry → List Entry → List Entry
-before_others None others = others
-before_others (Some e) others = e ∷ others
-
 pub next_entries : (p : Path) (n : FileNode) (ns : List FileNode) (o : Option Entry)
-    → entry_of p n ≡ o → entries_in p (n ∷ ns) ≡ before_others o (entries_in p ns)
+    → entry_of p n ≡ o → entries_in p (n ∷ ns) ≡ with_entry o (entries_in p ns)
 next_entries p n ns None e = rw e refl
 next_entries p n ns (Some x) e = rw e refl
 

@@ -87,7 +87,7 @@ front_field = record { front = told } where
       let contents = content_told a.content b.content rest other p.content q.content numbers.1 in
       (same_node_front a b numbers.0 contents.0, contents.1)
 
-raw : ℕ → ℕ → ℕ → ℕ → ℕ → ℕ → ℕ → ReadDescriptor
+unfoldable pub raw : ℕ → ℕ → ℕ → ℕ → ℕ → ℕ → ℕ → ReadDescriptor
 raw number kind node offset flags base inheriting = record {
   number = number;
   kind = kind;
@@ -137,7 +137,7 @@ with_read_counts r s = record s {
   last_monotonic = r.last_monotonic;
 }
 
-counts_from : ℕ → ℕ → ℕ → ℕ → ℕ → ReadCounts
+unfoldable pub counts_from : ℕ → ℕ → ℕ → ℕ → ℕ → ReadCounts
 counts_from steps answers requests lines last_monotonic = record {
   steps = steps;
   answers = answers;
@@ -171,7 +171,7 @@ counts_given None old new lacks s rest within e = absurd (lacks.none s rest with
 with_read_streams : StreamTexts → Saved → Saved
 with_read_streams r s = record s { unread = r.unread; first = r.first; second = r.second }
 
-streams_from : List ℕ → List ℕ → List ℕ → StreamTexts
+unfoldable pub streams_from : List ℕ → List ℕ → List ℕ → StreamTexts
 streams_from unread first second = record { unread = unread; first = first; second = second }
 
 same_read_streams : (s t : Saved) → SameStreams s t → streams_of s ≡ streams_of t
@@ -220,7 +220,7 @@ with_read_end e s = record s {
   machine = record s.machine { later = later_as e.phase };
 }
 
-end_from : ReadPhase → Bool → ReadEnd
+unfoldable pub end_from : ReadPhase → Bool → ReadEnd
 end_from phase input_ended = record { phase = phase; input_ended = input_ended }
 
 same_read_phase : (o p : Option Ending) (later other : List ℕ) → o ≡ p

@@ -10,10 +10,11 @@ use Rattle.file_tree.specs.rules.Files.{entries_in, sorted, entries_under, entri
 use Rattle.file_tree.specs.rules.Files.{IsPlaced, IsSmallContent, IsFiles}
 use Rattle.file_tree.proofs.Order.{all_sorted}
 use Rattle.file_tree.proofs.Seen.{length-sorted}
+use Rattle.file_tree.proofs.Rebuilt.{numbers_below}
 use Rattle.state_image.specs.rules.Ranges.{IsIn, AreFew, IsEntryIn}
 use Rattle.state_image.specs.restoring.Named.{held_of, named}
 use Rattle.state_image.proofs.Named.{IsHeldIn, IsNamedIn, AreNamedIn}
-use Rattle.state_image.proofs.Among.{IsAmong, all_among, among_all, numbers_below, next_entries}
+use Rattle.state_image.proofs.Among.{IsAmong, all_among, among_all, next_entries}
 use Rattle.state_image.proofs.Among.{is_entry_of}
 use Rattle.state_image.proofs.PathsTold.{placed_at}
 

@@ -1,15 +1,14 @@
 -- The process that `hello` begins as is well typed.
 use Rattle.std.proofs.Common.{◌≡◌, inl, ℕ, zero, suc, ◌^◌, ◌≤◌, List, [], ◌∷◌, length}
-use Rattle.std.proofs.Common.{replicate, Some, None, refl, subst, lit<, lit≤, arith}
+use Rattle.std.proofs.Common.{replicate, None, refl, subst, lit<, lit≤, arith}
 use Rattle.std.specs.List.{AllByRecursion}
 use Rattle.std.proofs.lemmas.List.{length-replicate}
-use Rattle.wasm_syntax.specs.declared.types.FunctionType.{FunctionType}
-use Rattle.wasm_syntax.specs.laws.Examples.{hello, no_type, transfer_type, exit_type}
+use Rattle.wasm_syntax.specs.laws.Examples.{hello, no_type}
 use Rattle.guest_memory.specs.rules.Bytes.{IsByte}
 use Rattle.wasm_syntax_rules.specs.Typing.{Context, HasType, body_context}
-use Rattle.wasm_syntax_rules.specs.Validity.{memories_of, module_context}
+use Rattle.wasm_syntax_rules.specs.Validity.{module_context}
 use Rattle.wasm_syntax_rules.specs.Configuration.{Own, Program, Configuration}
-use Rattle.wasm_syntax_rules.specs.Instantiation.{IsProgram, filled_memory, empty_memory}
+use Rattle.wasm_syntax_rules.specs.Instantiation.{IsProgram}
 use Rattle.wasm_syntax_rules.specs.Steps.{here, on}
 use Rattle.wasm_syntax_rules.specs.Typed.{IsTyped}
 use Rattle.wasm_syntax_rules.specs.laws.Examples.{program_of_hello, hello_sequence, in_hello}
@@ -17,7 +16,8 @@ use Rattle.wasm_syntax_rules.proofs.Soundness.Beginning.{programs_typed}
 use Rattle.wasi_abi.specs.declared.call.Call.TheVariants as call
 use Rattle.wasi_abi.specs.rules.Configs.{Settings}
 use Rattle.process_rules.specs.Processes.{ProcessState, Guest, IsStart, host_of}
-use Rattle.process_rules.proofs.ExamplesValid.{hello_spells, hello_is_valid}
+use Rattle.process_rules.proofs.ExamplesValid.{hello_spells, hello_is_valid, functions}
+use Rattle.process_rules.proofs.ExamplesHold.{filled, first_memory}
 use Rattle.machine_slots.specs.rules.Places.{Shows}
 use Rattle.state_image.specs.rules.Image.{SavedShowsProcess}
 use Rattle.state_image.specs.rules.WellTyped.{IsWellTyped}
@@ -27,16 +27,9 @@ use Rattle.wasi_calls_rules.proofs.FirstHosts.{first_is_host}
 
 -- ---- memory
 
-pub first_memory : List ℕ
-first_memory = hello_first_memory
-
 pub is_first : first_memory ≡ hello_first_memory
 unfolding first_memory
 is_first = refl
-
-filled : filled_memory [] hello.data_segments (empty_memory (memories_of hello)) ≡ Some first_memory
-unfolding first_memory
-filled = refl
 
 one_page_long : length first_memory ≡ 65536
 unfolding first_memory
@@ -125,9 +118,6 @@ begins config = record {
 }
 
 -- ---- what it shows
-
-abbrev pub functions : List FunctionType
-functions = transfer_type ∷ exit_type ∷ no_type ∷ []
 
 abbrev pub context : Context
 context = module_context hello functions

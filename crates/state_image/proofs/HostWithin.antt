@@ -7,11 +7,12 @@ use Rattle.std.proofs.lemmas.Bool.{eqb-true}
 use Rattle.std.proofs.lemmas.Nat.{and_le_r}
 use Rattle.wasi_abi.specs.rules.Numbers.{are_within, all_rights}
 use Rattle.file_tree.specs.rules.Files.{Files, FileNode, node_of, IsFiles}
+use Rattle.file_tree.proofs.Rebuilt.{numbers_below}
 use Rattle.wasi_calls_rules.specs.Hosts.{Target, Stream, Node, Descriptor, Host, IsThere}
 use Rattle.wasi_calls_rules.specs.Hosts.{IsDescriptor, IsHost}
 use Rattle.state_image.specs.rules.Ranges.{IsIn}
 use Rattle.state_image.specs.restoring.Descriptors.{IsTargetIn}
-use Rattle.state_image.proofs.Among.{all_among, numbers_below, found_among}
+use Rattle.state_image.proofs.Among.{all_among, found_among}
 use Rattle.state_image.proofs.Places.{IsDescriptorIn, HasPlaces}
 
 -- ---- targets

@@ -4,7 +4,7 @@ use Rattle.std.proofs.Common.{append_assoc, arith}
 use Rattle.std.specs.List.{flat_map}
 use Rattle.std.proofs.lemmas.List.{length-map}
 use Rattle.wasi_abi.specs.rules.Layouts.{u16_bytes, u32_bytes, u64_bytes}
-use Rattle.file_tree.specs.rules.Files.{Name, Files, FileNode, Content, Directory, File, Entry}
+use Rattle.file_tree.specs.rules.Files.{Files, FileNode, Content, Directory, File, Entry}
 use Rattle.file_tree.proofs.SameNames.{heads}
 use Rattle.state_image.specs.rules.Image.{items_bytes, entry_bytes, content_bytes, node_bytes}
 use Rattle.state_image.specs.rules.Image.{files_bytes}
@@ -13,6 +13,7 @@ use Rattle.state_image.specs.restoring.Named.{held_bytes, named_bytes}
 use Rattle.state_image.specs.rules.Ranges.{IsIn, AreFew, IsEntryIn}
 use Rattle.state_image.proofs.Fields.{Tells, same_front, cut, number_field}
 use Rattle.state_image.proofs.Fields.{items_field}
+use Rattle.state_image.proofs.Among.{entry_with}
 
 -- ---- the image is made of what is named
 
@@ -39,15 +40,11 @@ items_named fs ns =
     (sym (length-map ns (named fs)))
     ∙ ap (λ (bytes : List ℕ). u32_bytes (length (map (named fs) ns)) ++ bytes) (nodes_named fs ns)
 
--- ---- the fields of an entry
-
-entry : Name → ℕ → Entry
-entry name number = record { name = name; number = number }
+-- ---- the fields of an entry_with
 
 same_entry : (e f : Entry) → e.name ≡ f.name → e.number ≡ f.number → e ≡ f
-unfolding entry
-same_entry e f a b = let whole : entry e.name e.number ≡ entry f.name f.number = rw (a, b) refl in
-    whole
+same_entry e f a b =
+    let whole : entry_with e.name e.number ≡ entry_with f.name f.number = rw (a, b) refl in whole
 
 pub entry_field : Tells Entry IsEntryIn entry_bytes
 entry_field = record { front = told } where

@@ -11,7 +11,7 @@ use Rattle.file_tree.specs.rules.Files.{is_directory_content, entries_in, sorted
 use Rattle.file_tree.specs.rules.Files.{entries_of, IsPlaced, IsFiles}
 use Rattle.file_tree.proofs.SameNames.{heads}
 use Rattle.file_tree.proofs.Rebuilt.{has_path}
-use Rattle.file_tree.proofs.FilesTold.{same_node, own_paths}
+use Rattle.file_tree.proofs.FilesTold.{same_node, own_paths, files_with}
 use Rattle.state_image.specs.restoring.Named.{Entries, Bytes, NamedNode, held_of, named}
 use Rattle.state_image.proofs.Named.{SameNamed}
 use Rattle.state_image.proofs.Among.{IsAmong, all_among, found_among, found_own}
@@ -201,11 +201,7 @@ same_nodes fs gs paths (n ∷ ns) (m ∷ ms) h k e =
     let tails : ns ≡ ms = same_nodes fs gs paths ns ms h.1 k.1 both.1 in
     cc
 
-files_with : List FileNode → ℕ → Files
-files_with nodes next = record { nodes = nodes; next = next }
-
 pub same_files : (fs gs : Files) → IsFiles fs → IsFiles gs → SameNamed fs gs → fs ≡ gs
-unfolding files_with
 same_files fs gs a b same =
     let nodes = same_nodes fs gs (same_paths fs gs a b same) fs.nodes gs.nodes (own_paths fs a)
     (own_paths gs b) same.nodes in

@@ -35,6 +35,7 @@ use Rattle.state_image.proofs.Behind.{image_before}
 use Rattle.state_image.proofs.Machines.{same_machine}
 use Rattle.state_image.proofs.RestoredWhole.{shown_first, table_is, coming, is_one}
 use Rattle.state_image.proofs.Whole.{is_within, from_descriptors, from_files, from_machine}
+use Rattle.state_image.proofs.FieldsGiven.{counts_from, streams_from, end_from}
 
 -- ---- phases
 
@@ -59,15 +60,6 @@ phase_again m (read.Trapped why) later h = refl
 
 -- ---- parts of a process
 
-counts_from : ℕ → ℕ → ℕ → ℕ → ℕ → ReadCounts
-counts_from steps answers requests lines last_monotonic = record {
-  steps = steps;
-  answers = answers;
-  requests = requests;
-  lines = lines;
-  last_monotonic = last_monotonic;
-}
-
 counts_again : (r : ReadCounts) (lines last_monotonic : ℕ) → lines ≡ r.lines
     → last_monotonic ≡ r.last_monotonic
     → counts_from r.steps r.answers r.requests lines last_monotonic ≡ r
@@ -77,17 +69,11 @@ counts_again r lines time a b =
     ≡ counts_from r.steps r.answers r.requests r.lines r.last_monotonic = rw (a, b) refl in
     whole
 
-end_from : ReadPhase → Bool → ReadEnd
-end_from phase input_ended = record { phase = phase; input_ended = input_ended }
-
 end_again : (r : ReadEnd) (phase : ReadPhase) (input_ended : Bool) → phase ≡ r.phase
     → input_ended ≡ r.input_ended → end_from phase input_ended ≡ r
 unfolding end_from
 end_again r phase input a b =
     let whole : end_from phase input ≡ end_from r.phase r.input_ended = rw (a, b) refl in whole
-
-streams_from : List ℕ → List ℕ → List ℕ → StreamTexts
-streams_from unread first second = record { unread = unread; first = first; second = second }
 
 streams_again : (r : StreamTexts) (unread first second : List ℕ) → unread ≡ r.unread
     → first ≡ r.first → second ≡ r.second → streams_from unread first second ≡ r

@@ -14,6 +14,7 @@ use Rattle.file_tree.specs.rules.Files.{HaveDistinctPaths, IsFiles}
 use Rattle.wasi_calls_rules.specs.Hosts.{Stream, Node, Descriptor, IsThere}
 use Rattle.wasi_calls_rules.specs.Hosts.{IsDescriptor, IsStreamAt}
 use Rattle.wasi_calls_rules.specs.Lines.{rest_of}
+use Rattle.wasi_calls_rules.specs.laws.Scenes.{root_node}
 use Rattle.process_rules.specs.Processes.{Ending, Exited}
 use Rattle.state_image.specs.rules.Image.{Saved, ending_code}
 use Rattle.state_image.specs.rules.WellTyped.{EntryPoints, IsCalled, IsAlive, IsWellTyped}
@@ -142,27 +143,24 @@ machines_refused config = record {
 files_of : (m : Module) (config : Settings) (s : Saved) → IsWellTyped m config s → IsFiles s.files
 files_of m config s w = (is_within m config s w).files
 
-abbrev root : FileNode
-root = record { number = 1; path = Some []; content = Directory }
-
 -- the bytes of a file beside the root
 used_is : (next : ℕ) (name bytes : List ℕ)
-    → used (record { nodes = root ∷ under_name 2 name (File bytes) ∷ []; next = next }) ≡ length
-    bytes
+    → used (record { nodes = root_node ∷ under_name 2 name (File bytes) ∷ []; next = next })
+    ≡ length bytes
 used_is next name bytes =
     omega (
       arith,
-      sum_by-cons (λ (n : FileNode). length (bytes_of_content n.content)) root
+      sum_by-cons (λ (n : FileNode). length (bytes_of_content n.content)) root_node
           (under_name 2 name (File bytes) ∷ []),
       sum_by-cons (λ (n : FileNode). length (bytes_of_content n.content))
           (under_name 2 name (File bytes)) [],
     )
 
 -- the second of two nodes is placed
-second_placed : (fs : Files) (n : FileNode) → IsFiles fs → fs.nodes ≡ root ∷ n ∷ []
+second_placed : (fs : Files) (n : FileNode) → IsFiles fs → fs.nodes ≡ root_node ∷ n ∷ []
     → IfSome n.path (IsPlaced fs)
 second_placed fs n is e =
-    let all : AllByRecursion (λ (x : FileNode). IfSome x.path (IsPlaced fs)) (root ∷ n ∷ []) =
+    let all : AllByRecursion (λ (x : FileNode). IfSome x.path (IsPlaced fs)) (root_node ∷ n ∷ []) =
     subst (AllByRecursion (λ (x : FileNode). IfSome x.path (IsPlaced fs))) e is.placed in
     all.1.0
 
@@ -178,7 +176,8 @@ abbrev just : Path → Option Path
 just p = Some p
 
 -- neither of the two has the path `a`
-none_at_a : (n : FileNode) → IsAmong n (root ∷ below_a ∷ []) → n.path ≡ just ((97 ∷ []) ∷ []) → ⊥
+none_at_a : (n : FileNode) → IsAmong n (root_node ∷ below_a ∷ [])
+    → n.path ≡ just ((97 ∷ []) ∷ []) → ⊥
 none_at_a n (inl e) is = not_root (sym (ap (λ (x : FileNode). x.path) e) ∙ is) where
   not_root : just [] ≡ just ((97 ∷ []) ∷ []) → ⊥
   not_root t = absurd cc
@@ -187,7 +186,7 @@ none_at_a n (inr (inl e)) is = not_below (sym (ap (λ (x : FileNode). x.path) e)
   not_below t = absurd cc
 none_at_a n (inr (inr h)) is = h
 
-not_placed : (fs : Files) → fs.nodes ≡ root ∷ below_a ∷ []
+not_placed : (fs : Files) → fs.nodes ≡ root_node ∷ below_a ∷ []
     → IsPlaced fs ((97 ∷ []) ∷ (98 ∷ []) ∷ []) → ⊥
 not_placed fs e (inl none) = absurd cc
 not_placed fs e (inr h) =
@@ -217,7 +216,7 @@ files_refused config = record {
       → HasNodes s (under_name 2 name (File bytes) ∷ []) → ⊥
   over m s w name bytes long e =
       let files : Files = record
-      { nodes = root ∷ under_name 2 name (File bytes) ∷ []; next = s.files.next } in
+      { nodes = root_node ∷ under_name 2 name (File bytes) ∷ []; next = s.files.next } in
       let same : w.process.host.files ≡ files = sym w.shown.files ∙ ap
       (λ (ns : List FileNode). files_with ns s.files.next) e in
       let room : w.process.host.room ≡ 65536 = w.configured.room in
@@ -234,10 +233,10 @@ files_refused config = record {
       files_with ns next = record { nodes = ns; next = next }
 
   twice : {fs : Files} → IsFiles fs → (name : List ℕ)
-      → fs.nodes ≡ root ∷ under_name 2 name Directory ∷ under_name 3 name (File []) ∷ [] → ⊥
+      → fs.nodes ≡ root_node ∷ under_name 2 name Directory ∷ under_name 3 name (File []) ∷ [] → ⊥
   twice is name e =
       let apart : HaveDistinctPaths
-      (root ∷ under_name 2 name Directory ∷ under_name 3 name (File []) ∷ []) = subst
+      (root_node ∷ under_name 2 name Directory ∷ under_name 3 name (File []) ∷ []) = subst
       HaveDistinctPaths e is.distinct in
       apart.1.0.0 (name ∷ []) refl refl
 
@@ -246,7 +245,7 @@ files_refused config = record {
       → ((n : ℕ) (d : Descriptor) → IsOpenAt s n d → d.target ≢ Node 2) → ⊥
   lost m s w e none =
       let gone : FileNode = record { number = 2; path = None; content = Directory } in
-      let nodes : w.process.host.files.nodes ≡ root ∷ gone ∷ [] = ap (λ (fs : Files). fs.nodes)
+      let nodes : w.process.host.files.nodes ≡ root_node ∷ gone ∷ [] = ap (λ (fs : Files). fs.nodes)
       (sym w.shown.files) ∙ e in
       let found : node_of w.process.host.files 2 ≡ Some gone = ap
       (find (λ (n : FileNode). eqb n.number 2)) nodes in
@@ -352,7 +351,7 @@ descriptors_refused config = record {
   missing : (m : Module) (s : Saved) (w : IsWellTyped m config s) → HasNodes s []
       → (d : Descriptor) → IsDescriptor w.process.host.files d → d.target ≡ Node 2 → ⊥
   missing m s w e d is t =
-      let nodes : w.process.host.files.nodes ≡ root ∷ [] = ap (λ (fs : Files). fs.nodes)
+      let nodes : w.process.host.files.nodes ≡ root_node ∷ [] = ap (λ (fs : Files). fs.nodes)
       (sym w.shown.files) ∙ e in
       let none : node_of w.process.host.files 2 ≡ None = ap
       (find (λ (n : FileNode). eqb n.number 2)) nodes in

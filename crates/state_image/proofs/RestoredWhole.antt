@@ -21,8 +21,7 @@ use Rattle.machine.specs.rules.Values.{MachineValue, ShowsIn, IsProgramIn, Holds
 use Rattle.machine.specs.rules.Values.{IsSameMachine}
 use Rattle.machine.proofs.OneProgram.{one_program}
 use Rattle.wasi_abi.specs.rules.Configs.{Settings}
-use Rattle.file_tree.specs.rules.Files.{Files}
-use Rattle.wasi_calls_rules.specs.Hosts.{Line, Descriptor, Host, IsHost}
+use Rattle.wasi_calls_rules.specs.Hosts.{Line, Host, IsHost}
 use Rattle.wasi_calls.specs.rules.Held.{ShowsHost, behind_lines}
 use Rattle.process_rules.specs.Processes.{Ending, Exited, Trapped, ProcessState, Guest, AreCalls}
 use Rattle.process_rules.specs.Processes.{host_of, closed, IsStart, HasLineNumbers}
@@ -45,26 +44,9 @@ use Rattle.state_image.proofs.HostWithin.{places_within}
 use Rattle.state_image.proofs.ReachedWellTyped.{no_places}
 use Rattle.state_image.proofs.Whole.{IsWithin, is_within, called, whole_machine}
 use Rattle.state_image.proofs.Whole.{whole_process}
+use Rattle.state_image.proofs.RestoreLemmas.HostAgain.{host_with}
 
 -- ---- hosts
-
-host_with : Files → List (Option Descriptor) → List ℕ → Bool → ℕ → List ℕ → List ℕ → List Line
-    → List (List ℕ) → List (List ℕ) → ℕ → ℕ → Host
-host_with files descriptors unread input_ended last_monotonic first second lines arguments
-    environment room limit = record {
-      files = files;
-      descriptors = descriptors;
-      unread = unread;
-      input_ended = input_ended;
-      last_monotonic = last_monotonic;
-      first = first;
-      second = second;
-      lines = lines;
-      arguments = arguments;
-      environment = environment;
-      room = room;
-      limit = limit;
-    }
 
 -- what an image and a configuration tell of a host
 record SameHosts (g h : Host) : Type 0 where

@@ -6,7 +6,7 @@ use Rattle.std.specs.Prelude.{Bool, true, false, ◌==◌, if◌then◌else◌, 
 use Rattle.std.specs.Prelude.{option_map}
 use Rattle.std.proofs.lemmas.Bool.{cases_lt, eqb-true, eqb-false}
 use Rattle.std.proofs.lemmas.List.{append-nil, take-take, take-append-drop, take-append-le}
-use Rattle.std.proofs.lemmas.List.{drop_all, drop-drop, length-replicate}
+use Rattle.std.proofs.lemmas.List.{drop_all, drop-drop}
 use Rattle.std.proofs.Math.Seq.{take-append_seam, drop-append-add}
 use Rattle.file_tree.specs.rules.Bytes.{written, resized}
 use Rattle.file_tree.specs.rules.Files.{Files, FileNode, File, Content, is_directory}
@@ -20,14 +20,12 @@ use Rattle.wasi_calls_rules.specs.Checks.{Bytes, Buffer, gathered}
 use Rattle.wasi_calls_rules.proofs.NodesAfter.{node_there, mapped_node, changed_number, changed_own}
 use Rattle.wasi_calls_rules.proofs.NodesAfter.{changed_other, rewritten_there}
 use Rattle.file_tree.proofs.Rebuilt.{found_number}
+use Rattle.file_tree.proofs.Filled.{with_bytes}
 use Rattle.wasi_calls.specs.Moves.{total_len, AreInside}
 use Rattle.wasi_calls.proofs.Fronts.{length_gathered}
 use Rattle.wasi_calls.proofs.Pieces.{next_inside, next_gathered, next_total}
 
 -- ---- bytes
-
-length-zeros : (n : ℕ) → length (replicate {A = ℕ} n 0) ≡ n
-length-zeros n = length-replicate n 0
 
 -- within the bytes, no zeros are needed
 pub written_within : (old : List ℕ) (from : ℕ) (bytes : List ℕ) → from ≤ length old
@@ -116,25 +114,21 @@ written_resized old from size bytes is =
 
 -- ---- files
 
--- a node that is given a file's bytes
-abbrev node_with : List ℕ → FileNode → FileNode
-node_with bytes n = record n { content = File bytes }
-
 twice : (k : ℕ) (a b : List ℕ) (n : FileNode) (p : Bool) → (n.number == k) ≡ p
-    → changed_at k (node_with b) (if p then node_with a n else n)
-    ≡ (if p then node_with b n else n)
+    → changed_at k (with_bytes b) (if p then with_bytes a n else n)
+    ≡ (if p then with_bytes b n else n)
 twice k a b n true e = rw e refl
 twice k a b n false e = rw e refl
 
 each_twice : (k : ℕ) (a b : List ℕ) (ns : List FileNode)
-    → map (changed_at k (node_with b)) (map (changed_at k (node_with a)) ns)
-    ≡ map (changed_at k (node_with b)) ns
+    → map (changed_at k (with_bytes b)) (map (changed_at k (with_bytes a)) ns)
+    ≡ map (changed_at k (with_bytes b)) ns
 each_twice k a b [] = refl
 each_twice k a b (n ∷ ns) =
     ap (λ (x : FileNode). x
-    ∷ map (changed_at k (node_with b)) (map (changed_at k (node_with a)) ns))
+    ∷ map (changed_at k (with_bytes b)) (map (changed_at k (with_bytes a)) ns))
     (twice k a b n (n.number == k) refl)
-    ∙ ap (λ (xs : List FileNode). changed_at k (node_with b) n ∷ xs) (each_twice k a b ns)
+    ∙ ap (λ (xs : List FileNode). changed_at k (with_bytes b) n ∷ xs) (each_twice k a b ns)
 
 -- a file that is written again
 pub rewritten_again : (k : ℕ) (a b : List ℕ) (fs : Files)
@@ -144,14 +138,15 @@ rewritten_again k a b fs =
 
 -- the node of a file that was written
 node_now : (fs : Files) (k : ℕ) (bytes : List ℕ) → IsThere fs (Node k)
-    → (n : FileNode) × (node_of (with_file_bytes k bytes fs) k ≡ Some (node_with bytes n))
+    → (n : FileNode) × (node_of (with_file_bytes k bytes fs) k ≡ Some (with_bytes bytes n))
 node_now fs k bytes there =
     let n = node_there fs k there in
-    let own = changed_own k (node_with bytes) (λ x. refl) n.0 (found_number fs.nodes k n.0 n.1) in (
+    let found = found_number fs.nodes k n.0 n.1 in
+    let own = changed_own k (with_bytes bytes) (λ x. refl) n.0 found in (
       n.0,
-      mapped_node fs (with_file_bytes k bytes fs) (changed_at k (node_with bytes)) k
-          (changed_number k (node_with bytes) (λ x. refl)) refl
-          ∙ ap (option_map (changed_at k (node_with bytes))) n.1
+      mapped_node fs (with_file_bytes k bytes fs) (changed_at k (with_bytes bytes)) k
+          (changed_number k (with_bytes bytes) (λ x. refl)) refl
+          ∙ ap (option_map (changed_at k (with_bytes bytes))) n.1
           ∙ ap (λ (x : FileNode). Some x) own,
     )
 
@@ -166,13 +161,13 @@ file_now fs k bytes there = ap holds_directory (node_now fs k bytes there).1
 -- ---- a file with its own bytes
 
 none_above : (k : ℕ) (bytes : List ℕ) (least : ℕ) (ns : List FileNode) (next : ℕ) → k < least
-    → AreRising least ns next → map (changed_at k (node_with bytes)) ns ≡ ns
+    → AreRising least ns next → map (changed_at k (with_bytes bytes)) ns ≡ ns
 none_above k bytes least [] next above rising = refl
 none_above k bytes least (n ∷ ns) next above rising =
     let low = rising.0 in
     let other : n.number ≢ k = λ e. omega (arith, e, low, above) in
-    ap (λ (x : FileNode). x ∷ map (changed_at k (node_with bytes)) ns)
-    (changed_other k (node_with bytes) (λ x. refl) n other)
+    ap (λ (x : FileNode). x ∷ map (changed_at k (with_bytes bytes)) ns)
+    (changed_other k (with_bytes bytes) (λ x. refl) n other)
     ∙ ap (λ (xs : List FileNode). n ∷ xs)
     (none_above k bytes (n.number + 1) ns next (omega (arith, low, above)) rising.1)
 
@@ -180,7 +175,7 @@ own_each : (k : ℕ) (bytes : List ℕ) (least : ℕ) (ns : List FileNode) (next
     → AreRising least ns next
     → holds_directory (find (λ (n : FileNode). n.number == k) ns) ≡ false
     → bytes_held (find (λ (n : FileNode). n.number == k) ns) ≡ bytes
-    → map (changed_at k (node_with bytes)) ns ≡ ns
+    → map (changed_at k (with_bytes bytes)) ns ≡ ns
 own_each k bytes least [] next rising file is = refl
 own_each k bytes least (n ∷ ns) next rising file is =
     by_test (n.number == k) refl (own_each k bytes (n.number + 1) ns next rising.1) file is
@@ -188,22 +183,22 @@ own_each k bytes least (n ∷ ns) next rising file is =
     by_test : (p : Bool) → (n.number == k) ≡ p
         → (holds_directory (find (λ (n : FileNode). n.number == k) ns) ≡ false
         → bytes_held (find (λ (n : FileNode). n.number == k) ns) ≡ bytes
-        → map (changed_at k (node_with bytes)) ns ≡ ns)
+        → map (changed_at k (with_bytes bytes)) ns ≡ ns)
         → holds_directory (if p then Some n else find (λ (n : FileNode). n.number == k) ns) ≡ false
         → bytes_held (if p then Some n else find (λ (n : FileNode). n.number == k) ns) ≡ bytes
-        → (changed_at k (node_with bytes) n ∷ map (changed_at k (node_with bytes)) ns) ≡ n ∷ ns
+        → (changed_at k (with_bytes bytes) n ∷ map (changed_at k (with_bytes bytes)) ns) ≡ n ∷ ns
     by_test true e later f is =
         let same : n.number ≡ k = eqb-true n.number k e in
         let content : n.content ≡ File bytes =
         file_is n.content f ∙ ap (λ (b : List ℕ). File b) is in
-        ap (λ (x : FileNode). x ∷ map (changed_at k (node_with bytes)) ns)
-        (changed_own k (node_with bytes) (λ x. refl) n same
+        ap (λ (x : FileNode). x ∷ map (changed_at k (with_bytes bytes)) ns)
+        (changed_own k (with_bytes bytes) (λ x. refl) n same
         ∙ ap (λ (c : Content). record n { content = c }) (sym content))
         ∙ ap (λ (xs : List FileNode). n ∷ xs)
         (none_above k bytes (n.number + 1) ns next (omega (arith, same)) rising.1)
     by_test false e later f is =
-        ap (λ (x : FileNode). x ∷ map (changed_at k (node_with bytes)) ns)
-        (changed_other k (node_with bytes) (λ x. refl) n (λ same. eqb-false n.number k e same))
+        ap (λ (x : FileNode). x ∷ map (changed_at k (with_bytes bytes)) ns)
+        (changed_other k (with_bytes bytes) (λ x. refl) n (λ same. eqb-false n.number k e same))
         ∙ ap (λ (xs : List FileNode). n ∷ xs)
         (later f is)
 

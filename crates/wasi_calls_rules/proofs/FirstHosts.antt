@@ -12,7 +12,7 @@ use Rattle.wasi_calls_rules.specs.Hosts.{first_descriptors, first_host, IsDescri
 use Rattle.wasi_calls_rules.specs.Hosts.{IsRemoved, IsHost}
 use Rattle.wasi_calls_rules.proofs.KeptLines.{nothing_unfinished}
 
-fresh_is_files : IsFiles fresh
+pub fresh_is_files : IsFiles fresh
 fresh_is_files = record {
   rising = (omega arith, omega arith);
   root = refl;

@@ -13,7 +13,7 @@ use Rattle.wasi_abi.specs.declared.errno.Errno.TheVariants.{Ilseq, Inval, Nameto
 use Rattle.wasi_abi.specs.declared.errno.Errno.TheVariants.{Notcapable, Notdir}
 use Rattle.wasi_abi.specs.rules.Answers.{AreBytes}
 use Rattle.guest_memory.specs.rules.Bytes.{IsByte, part}
-use Rattle.guest_memory.proofs.Lists.{all_take, all_drop}
+use Rattle.guest_memory.proofs.Lists.{all_take, all_drop, all_with}
 use Rattle.file_tree.specs.rules.Files.{Name, Files, slash, dot, child, is_directory, is_same_name}
 use Rattle.file_tree.specs.rules.Files.{IsNodeName}
 use Rattle.file_tree.specs.declared.limits.TheConstants.{PATH_BYTES, NAME_BYTES}
@@ -150,11 +150,6 @@ neither : (a b : Bool) → not (a || b) ≡ true → (a ≡ false) × (b ≡ fal
 neither true b e = absurd (cc)
 neither false true e = absurd (cc)
 neither false false e = (refl, refl)
-
-all_with : {X : Type 0} (P Q R : X → Type 0) (xs : List X) → ((x : X) → P x → Q x → R x)
-    → AllByRecursion P xs → AllByRecursion Q xs → AllByRecursion R xs
-all_with P Q R [] f p q = tt
-all_with P Q R (x ∷ xs) f p q = (f x p.0 q.0, all_with P Q R xs f p.1 q.1)
 
 -- each that a test leaves passes it
 all_left : {X : Type 0} (P : X → Type 0) (test : X → Bool) (xs : List X) → AllByRecursion P xs

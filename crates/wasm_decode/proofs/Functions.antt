@@ -12,9 +12,9 @@ use Rattle.wasm_syntax.specs.laws.ReadingItems.{◌>>=◌, check, leb_u32_at, it
 use Rattle.wasm_syntax.specs.laws.ReadingItems.{sized_at}
 use Rattle.wasm_syntax.specs.laws.ReadingModules.{field_at, functions_of}
 use Rattle.wasm_syntax.specs.laws.ReadingWithin.{code_within_at}
-use Rattle.wasm_syntax.proofs.Grammar.Exact.{bind_some, some_is}
+use Rattle.wasm_syntax.proofs.Grammar.Exact.{bind_some, some_is, bind_bind}
 use Rattle.wasm_syntax.proofs.Grammar.Whole.{functions_sound}
-use Rattle.wasm_decode.proofs.ItemLemmas.Binds.{bind_bind, bind_same, bind_none, bind_swap}
+use Rattle.wasm_decode.proofs.ItemLemmas.Binds.{bind_same, bind_none, bind_swap}
 use Rattle.wasm_decode.specs.Contents.{functions_onto_at, functions_at}
 
 -- ---- one more entry

@@ -12,10 +12,10 @@ use Rattle.wasm_syntax.specs.rules.Limits.{is_function}
 use Rattle.wasm_syntax.specs.laws.ReadingItems.{◌>>=◌, check, leb_u32_at, items_at, vector_at}
 use Rattle.wasm_syntax.specs.laws.ReadingModules.{field_at}
 use Rattle.wasm_syntax.specs.laws.ReadingWithin.{import_within_at, functions_left}
-use Rattle.wasm_syntax.proofs.Grammar.Exact.{some_is}
+use Rattle.wasm_syntax.proofs.Grammar.Exact.{some_is, bind_bind}
 use Rattle.wasm_syntax.proofs.Grammar.Loops.{with_front, items_go_on, items_fail}
 use Rattle.wasm_decode.specs.Items.Entries.{is_one_too_many, import_up_to_at}
-use Rattle.wasm_decode.proofs.ItemLemmas.Binds.{bind_bind, bind_none}
+use Rattle.wasm_decode.proofs.ItemLemmas.Binds.{bind_none}
 use Rattle.wasm_decode.proofs.ItemLemmas.Imports.{bounded, import_is_bounded}
 use Rattle.wasm_decode.specs.declared.imported.Imports.{Imports}
 use Rattle.wasm_decode.specs.Contents.{functions_of_item, imports_at, no_imports}

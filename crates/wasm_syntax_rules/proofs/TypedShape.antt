@@ -1,7 +1,7 @@
 -- In a typed body the shape at each position that typing reaches is typed.
 use Rattle.std.proofs.Common.{◌≡◌, ℕ, zero, suc, ◌+◌, ◌-◌, List, [], ◌∷◌, ◌++◌, length, drop}
 use Rattle.std.proofs.Common.{Option, Some, None, refl, sym, ap, subst, Bool, true, false}
-use Rattle.std.proofs.Common.{if◌then◌else◌, ◌==◌}
+use Rattle.std.proofs.Common.{if◌then◌else◌, ◌==◌, length-append}
 use Rattle.std.specs.Prelude.{nat_le, slice_get}
 use Rattle.std.specs.Option.{option_map, option_and_then}
 use Rattle.std.proofs.lemmas.List.{append-nil}
@@ -31,9 +31,13 @@ abbrev pub IsBehind : Option (List ValueType) → List ValueType → Type 0
 IsBehind None ts = Unit {0}
 IsBehind (Some us) ts = us ≡ ts
 
-drop_front : (xs ys : List ValueType) → drop (length xs) (xs ++ ys) ≡ ys
+pub drop_front : (xs ys : List ValueType) → drop (length xs) (xs ++ ys) ≡ ys
 drop_front [] ys = refl
 drop_front (x ∷ xs) ys = drop_front xs ys
+
+pub closed_length : (xs ys : List Instruction) (y : Instruction)
+    → length (xs ++ (y ∷ ys)) ≡ length xs + suc (length ys)
+closed_length xs ys y = length-append xs (y ∷ ys)
 
 some_behind : {X : Type 0} (o : Option X) (x : X) (go : X → List ValueType) (ts : List ValueType)
     → o ≡ Some x → go x ≡ ts → IsBehind (option_map go o) ts

@@ -1,7 +1,9 @@
 -- What a generator fills is what its stream has.
-use Rattle.std.proofs.Common.{◌≡◌, ℕ, zero, suc, ◌+◌, ◌*◌, ◌^◌, ◌<◌, List, [], ◌∷◌, ◌++◌, length}
+use Rattle.std.proofs.Common.{◌≡◌, ℕ, zero, suc, ◌+◌, ◌*◌, ◌^◌, ◌<◌, List, [], ◌++◌, length}
 use Rattle.std.proofs.Common.{ap, refl, ◌∙◌, arith, take, length-append, length-take-le}
 use Rattle.std.specs.Int.{w32, to_le_bytes}
+use Rattle.guest_memory.specs.rules.Bytes.{IsByte}
+use Rattle.guest_memory.proofs.Lists.{all_both, all_take}
 use Rattle.wasi_abi.specs.rules.Answers.{AreBytes}
 use Rattle.rand_core.specs.Steps.{fill_via_u32, word_bytes}
 use Rattle.rand_chacha.specs.ChaCha.{ChaCha, key_of, next_word, word_at}
@@ -45,21 +47,12 @@ fills_seeded seed stream place n place_fits n_fits =
 bytes_of_word : (n : ℕ) → AreBytes (to_le_bytes w32 n)
 bytes_of_word n = (omega arith, (omega arith, (omega arith, (omega arith, tt))))
 
-append_bytes : (xs ys : List ℕ) → AreBytes xs → AreBytes ys → AreBytes (xs ++ ys)
-append_bytes [] ys h k = k
-append_bytes (x ∷ xs) ys h k = (h.0, append_bytes xs ys h.1 k)
-
-take_bytes : (n : ℕ) (xs : List ℕ) → AreBytes xs → AreBytes (take n xs)
-take_bytes zero xs h = tt
-take_bytes (suc n) [] h = tt
-take_bytes (suc n) (x ∷ xs) h = (h.0, take_bytes n xs h.1)
-
 words_are_bytes : (key : List ℕ) (stream place count : ℕ)
     → AreBytes (bytes_of_words key stream place count)
 unfolding bytes_of_words
 words_are_bytes key stream place zero = tt
 words_are_bytes key stream place (suc count) =
-    append_bytes (bytes_of_words key stream place count)
+    all_both IsByte (bytes_of_words key stream place count)
     (to_le_bytes w32 (word_at 10 key stream (place + count)))
     (words_are_bytes key stream place count)
     (bytes_of_word (word_at 10 key stream (place + count)))
@@ -85,5 +78,5 @@ seeded_length seed stream place n =
 pub seeded_are_bytes : (seed : List ℕ) (stream place n : ℕ)
     → AreBytes (seeded_bytes seed stream place n)
 seeded_are_bytes seed stream place n =
-    take_bytes n (bytes_of_words (key_of seed) stream place (words_for n))
+    all_take IsByte n (bytes_of_words (key_of seed) stream place (words_for n))
     (words_are_bytes (key_of seed) stream place (words_for n))

@@ -8,25 +8,18 @@ use Rattle.wasi_abi.specs.rules.Answers.{AreBytes}
 use Rattle.wasi_abi.specs.rules.Configs.{Settings}
 use Rattle.process_rules.specs.Processes.{ProcessState, Guest}
 use Rattle.process_rules.specs.Runs.{Reaches, none}
-use Rattle.process_rules.specs.laws.Examples.{at_rest, hello_memory, hello_end}
-use Rattle.process_rules.proofs.ExamplesValid.{hello_is_valid}
-use Rattle.process_rules.proofs.ExamplesHold.{hello_ends}
+use Rattle.process_rules.specs.laws.Examples.{at_rest, hello_end}
+use Rattle.process_rules.proofs.ExamplesValid.{hello_is_valid, functions}
+use Rattle.process_rules.proofs.ExamplesHold.{hello_ends, all_memory, last_memory}
 use Rattle.process_rules.proofs.OneStart.{start_once}
 use Rattle.state_image.specs.rules.Image.{Saved, SavedShowsProcess}
 use Rattle.state_image.specs.laws.Examples.{fresh_process}
 use Rattle.state_image.proofs.HelloWellTyped.{is_first, program_under, guest_of}
-use Rattle.state_image.proofs.HelloWellTyped.{first_of, begins, functions, context, first_shown}
+use Rattle.state_image.proofs.HelloWellTyped.{first_of, begins, context, first_shown}
 use Rattle.worker_rules.specs.Promises.{IsAt}
 use Rattle.worker_rules.specs.laws.WholeLives.{hello_first, hello_last}
 
 -- ---- memory
-
-last_memory : List ℕ
-last_memory = hello_memory
-
-is_last : last_memory ≡ hello_memory
-unfolding last_memory
-is_last = refl
 
 last_long : length last_memory ≡ 65536
 unfolding last_memory
@@ -136,7 +129,7 @@ module _ (config : Settings) (some : 1 ≤ config.pages) (few : config.pages ≤
       subst (λ (z : Guest). SavedShowsProcess context z.program [] hello_last (hello_end config))
       (sym same)
       (subst (λ z. SavedShowsProcess context (program_under config) [] (saved_last z) (end_with z))
-      is_last last_shown)
+      all_memory last_shown)
 
   pub at_last_step : IsAt hello config [] 8 hello_last
   at_last_step =

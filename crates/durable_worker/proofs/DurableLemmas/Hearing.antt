@@ -18,9 +18,10 @@ use Rattle.process.specs.rules.Values.{ProcessValue, ShowsProcess}
 use Rattle.process.specs.rules.Stops.{CallsHost, GivesAnswer}
 use Rattle.sector_disk.specs.rules.Medium.{Medium}
 use Rattle.state_image.specs.rules.Saving.{saved_of}
-use Rattle.disk_layout.specs.rules.Journal.{Record, record_bytes, payload_of}
+use Rattle.disk_layout.specs.rules.Journal.{record_bytes, payload_of}
 use Rattle.disk_layout.specs.declared.record.TheConstants.{LONGEST_PAYLOAD}
 use Rattle.journal.specs.rules.State.{room_of}
+use Rattle.journal.proofs.RecordLemmas.{record_of}
 use Rattle.record_replay.specs.declared.fault.SourceFault.{SourceFault}
 use Rattle.record_replay.proofs.Emitted.{released_whole}
 use Rattle.worker_rules.specs.Lives.{Fails, Waits, Cause, SourceSaid, Asked, kept_of_said}
@@ -84,10 +85,6 @@ too_full payload free long few room less is = omega (arith, few, room, less, is)
 
 too_long : (payload : ℕ) → payload ≤ LONGEST_PAYLOAD → LONGEST_PAYLOAD < payload → ⊥
 too_long payload few long = omega (arith, few, long)
-
--- the record of an answer that this step takes
-abbrev record_of : ℕ → Answer → Record
-record_of step a = record { step = step; answer = a }
 
 module _ {D : Type 0} (medium : D → Medium) (c : Course) (promise : Promise) (stage : Stage)
     (p : ProcessState) (kind : Kind) (w : Running) (disk : D)

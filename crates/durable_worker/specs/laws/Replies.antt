@@ -52,9 +52,9 @@ pub record LastSliceEnds (m : Module) (config : Settings) (so_far : Promise) (in
   pub ends : IsEnding m config (promised so_far front) (stage_after (at_first inputs) front)
       (record { act = Slice fuel; reply = reply; held = held; shown = shown })
 
--- The exchanges of a life in which the power isn't cut, and its events, which keep what was promised.
--- Either its outcome is that the worker goes on, of which no more is said. Or its last slice has
--- answered this outcome.
+-- The exchanges of a life in which the power isn't cut, and its events, which keep what was
+-- promised. Either its outcome is that the worker goes on, of which no more is said. Or its last
+-- slice has answered this outcome.
 pub record EndsAsSaid {S O : Type 0} (gives : Giving S) (takes : Taking O) (m : Module)
     (config : Settings) (so_far : Promise) (acts : List Act) (outcome : Now) (source source' : S)
     (outlet outlet' : O) : Type 0 where

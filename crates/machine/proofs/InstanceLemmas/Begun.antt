@@ -30,7 +30,7 @@ use Rattle.machine.proofs.InstanceLemmas.Offered.{no_globals, no_tables, no_memo
 use Rattle.machine.proofs.InstanceLemmas.Offered.{not_all_offered}
 use Rattle.machine.proofs.InstanceLemmas.Constant.{initial_values}
 use Rattle.machine.proofs.InstanceLemmas.Filled.{some_of}
-use Rattle.wasm_syntax_rules.proofs.OneStore.{initial_once}
+use Rattle.wasm_syntax_rules.proofs.OneStore.{initial_once, store_of as store_from}
 
 -- ---- a module whose imports are offered imports functions alone
 
@@ -177,9 +177,6 @@ could_be_linked pages m entry p = record {
 }
 
 -- ---- instances
-
-abbrev store_from : List ℕ → List Value → List (Option ℕ) → Store
-store_from memory globals table = record { memory = memory; globals = globals; table = table }
 
 same_store : (memory bytes : List ℕ) (globals values : List Value) (table entries : List (Option ℕ))
     → memory ≡ bytes → globals ≡ values → table ≡ entries

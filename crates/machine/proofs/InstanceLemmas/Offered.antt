@@ -180,10 +180,10 @@ no_call name i h so_far = sym (at_drop_all (λ calls. found_among calls name) al
 
 -- ---- the type of a call
 
-abbrev of_parts : List ValueType → List ValueType → FunctionType
+abbrev pub of_parts : List ValueType → List ValueType → FunctionType
 of_parts p r = record { parameters = p; results = r }
 
-same_parts : (p q r s : List ValueType) → p ≡ q → r ≡ s → of_parts p r ≡ of_parts q s
+pub same_parts : (p q r s : List ValueType) → p ≡ q → r ≡ s → of_parts p r ≡ of_parts q s
 same_parts p q r s e f = rw (e, f) refl
 
 -- a type by its parts

@@ -1,10 +1,9 @@
 -- The types of functions: those that the code looks up are those that the program has.
-use Rattle.std.proofs.Common.{◌≡◌, ℕ, zero, suc, ◌+◌, List, [], ◌∷◌, ◌++◌, length, Some, refl, ap}
+use Rattle.std.proofs.Common.{◌≡◌, ℕ, zero, suc, ◌+◌, List, [], ◌∷◌, ◌++◌, length, Some, ap}
 use Rattle.std.proofs.Common.{◌∙◌, arith}
 use Rattle.std.specs.Prelude.{slice_get, map}
 use Rattle.std.specs.Option.{option_map}
 use Rattle.std.proofs.lemmas.Option.{slice_get-map}
-use Rattle.wasm_syntax.specs.declared.types.ValueType.{ValueType}
 use Rattle.wasm_syntax.specs.declared.types.FunctionType.{FunctionType}
 use Rattle.wasm_syntax_rules.specs.Types.{imported_functions}
 use Rattle.wasm_syntax.specs.rules.Modules.{function_type_of}
@@ -14,14 +13,9 @@ use Rattle.machine.specs.laws.Routines.{IsNumberedCallee}
 use Rattle.machine.proofs.RoutineLemmas.Numbers.{functions_numbered}
 use Rattle.machine.specs.declared.turns.code.Executable.{Executable}
 use Rattle.machine.specs.Turns.Codes.{IsExecutable, HasKind}
+use Rattle.machine.proofs.InstanceLemmas.Offered.{same_parts}
 
 -- ---- types by their parts
-
-abbrev of_parts : List ValueType → List ValueType → FunctionType
-of_parts p r = record { parameters = p; results = r }
-
-same_parts : (p q r s : List ValueType) → p ≡ q → r ≡ s → of_parts p r ≡ of_parts q s
-same_parts p q r s e f = rw (e, f) refl
 
 pub same_type : (a b : FunctionType) → a.parameters ≡ b.parameters → a.results ≡ b.results → a ≡ b
 same_type a b p r = same_parts a.parameters b.parameters a.results b.results p r

@@ -1,7 +1,7 @@
 //! Why a module can't be linked.
 
 ghost use Rattle.std.specs.Prelude.{◌≡◌};
-ghost use Rattle.machine.specs.declared.instance.fault.LinkFault.TheVariants.{Memory as WantOfMemory};
+ghost use Rattle.machine.specs.declared.instance.fault.LinkFault.TheVariants as faults;
 
 use guest_memory::MemoryFault;
 use std::alloc::{AllocError, AllocFailed};
@@ -33,7 +33,7 @@ pub enum LinkFault {
 }
 
 impl From<AllocError> for LinkFault {
-    ghost from_gives = { λ _ e. e ≡ WantOfMemory };
+    ghost from_gives = { λ _ e. e ≡ faults.Memory };
 
     fn from(_error: AllocError) -> LinkFault {
         LinkFault::Memory
@@ -41,7 +41,7 @@ impl From<AllocError> for LinkFault {
 }
 
 impl<T: Drop> From<AllocFailed<T>> for LinkFault {
-    ghost from_gives = { λ _ e. e ≡ WantOfMemory };
+    ghost from_gives = { λ _ e. e ≡ faults.Memory };
 
     fn from(_error: AllocFailed<T>) -> LinkFault {
         LinkFault::Memory
@@ -49,7 +49,7 @@ impl<T: Drop> From<AllocFailed<T>> for LinkFault {
 }
 
 impl From<MemoryFault> for LinkFault {
-    ghost from_gives = { λ _ e. e ≡ WantOfMemory };
+    ghost from_gives = { λ _ e. e ≡ faults.Memory };
 
     fn from(_error: MemoryFault) -> LinkFault {
         LinkFault::Memory

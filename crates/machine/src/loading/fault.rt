@@ -1,7 +1,7 @@
 //! Why a machine isn't taken.
 
 ghost use Rattle.std.specs.Prelude.{◌≡◌};
-ghost use Rattle.machine.specs.declared.loading.fault.LoadFault.TheVariants.{Memory as WantOfMemory};
+ghost use Rattle.machine.specs.declared.loading.fault.LoadFault.TheVariants as faults;
 
 use guest_memory::MemoryFault;
 use std::alloc::{AllocError, AllocFailed};
@@ -18,7 +18,7 @@ pub enum LoadFault {
 }
 
 impl From<AllocError> for LoadFault {
-    ghost from_gives = { λ _ e. e ≡ WantOfMemory };
+    ghost from_gives = { λ _ e. e ≡ faults.Memory };
 
     fn from(_error: AllocError) -> LoadFault {
         LoadFault::Memory
@@ -26,7 +26,7 @@ impl From<AllocError> for LoadFault {
 }
 
 impl<T: Drop> From<AllocFailed<T>> for LoadFault {
-    ghost from_gives = { λ _ e. e ≡ WantOfMemory };
+    ghost from_gives = { λ _ e. e ≡ faults.Memory };
 
     fn from(_error: AllocFailed<T>) -> LoadFault {
         LoadFault::Memory
@@ -34,7 +34,7 @@ impl<T: Drop> From<AllocFailed<T>> for LoadFault {
 }
 
 impl From<MemoryFault> for LoadFault {
-    ghost from_gives = { λ _ e. e ≡ WantOfMemory };
+    ghost from_gives = { λ _ e. e ≡ faults.Memory };
 
     fn from(_error: MemoryFault) -> LoadFault {
         LoadFault::Memory

@@ -1,6 +1,7 @@
 //! Frames that are entered and left.
 
 ghost use Rattle.std.specs.Prelude.{◌≡◌, ◌<◌, ◌≤◌, ◌+◌, ◌-◌, length};
+ghost use Rattle.wasm_syntax.specs.declared.limits.TheConstants.{PARAMETERS, LOCALS};
 ghost use Rattle.machine.specs.Turns.Turns.{CanLeave, Entered, EntersOrTraps, HasFrameRoom};
 ghost use Rattle.machine.specs.Turns.Turns.{IsCleared, LeavesFrame, TrapsWith};
 
@@ -55,7 +56,7 @@ pub fn enter_or_trap(state: &mut State, function: u32, routine: &Routine, fuel: 
     requires some { 0 < fuel }
     requires parameters { routine.now.parameters ≤ length state.old.slots }
     requires locals { routine.now.parameters ≤ routine.now.locals }
-    requires few { routine.now.locals ≤ 512 }
+    requires few { routine.now.locals ≤ PARAMETERS + LOCALS }
     ensures { EntersOrTraps function routine.now.parameters (routine.now.locals
         - routine.now.parameters) state.old fuel result state.new }
 {

@@ -97,7 +97,7 @@ split (t ∷ ts) us (v ∷ all) h =
 
 -- ---- labels
 
-below_are : (shapes : List LabelShape) (labels : List Label) → HaveShape shapes labels
+pub below_are : (shapes : List LabelShape) (labels : List Label) → HaveShape shapes labels
     → AreOf (types_below shapes) (all_below labels)
 below_are [] [] h = tt
 below_are [] (label ∷ labels) h = absurd h
@@ -456,7 +456,7 @@ settles c program (place ∷ places) (FrameOf f ls labels vs rest ∷ thread) la
     frame_settles program f ls labels vs rest thread later store h.1.more
 
 -- where a settled thread has no frames, the host calls nothing more
-nothing_later : (program : Program) (later : List ℕ) (store : Store)
+pub nothing_later : (program : Program) (later : List ℕ) (store : Store)
     → AllByRecursion (IsEntry program) later
     → left_by program [] later store ≡ None → later ≡ []
 nothing_later program [] store h e = refl

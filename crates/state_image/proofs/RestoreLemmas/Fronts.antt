@@ -5,12 +5,13 @@ use Rattle.std.proofs.Common.{append_assoc, map, arith}
 use Rattle.std.specs.List.{AllByRecursion, flat_map}
 use Rattle.std.proofs.lemmas.Bool.{eqb-true}
 use Rattle.std.proofs.lemmas.List.{append-nil}
-use Rattle.guest_memory.specs.rules.Bytes.{IsByte, number_of, bytes_of}
+use Rattle.guest_memory.specs.rules.Bytes.{number_of, bytes_of}
 use Rattle.guest_memory.proofs.ByteLemmas.{length-bytes_of, number_of-bytes_of, bytes_of-number_of}
 use Rattle.wasm_syntax.specs.laws.ReadingItems.{◌>>=◌, byte_at, part_at, items_at}
 use Rattle.wasm_syntax.proofs.Grammar.Exact.{found, bind_some, parts, carry}
 use Rattle.wasm_syntax.proofs.Grammar.Vectors.{Reads-part_at}
 use Rattle.wasi_abi.specs.rules.Layouts.{u16_bytes, u32_bytes, u64_bytes}
+use Rattle.wasi_abi.specs.rules.Answers.{AreBytes}
 use Rattle.file_tree.specs.rules.Files.{Files, Entry, IsFiles}
 use Rattle.state_image.specs.rules.Image.{items_bytes, entry_bytes, files_bytes}
 use Rattle.state_image.specs.rules.Ranges.{IsIn, AreFew, IsEntryIn}
@@ -26,9 +27,6 @@ use Rattle.state_image.specs.restoring.Parts.{held_at, whole_node_at, wholes_at}
 use Rattle.state_image.proofs.Named.{IsHeldIn, IsNamedIn, files_named}
 use Rattle.state_image.proofs.FilesWithin.{files_within}
 use Rattle.state_image.proofs.Among.{entry_with}
-
-abbrev pub AreBytes : List ℕ → Type 0
-AreBytes bytes = AllByRecursion IsByte bytes
 
 -- what stands in front is read, and nothing else
 pub record ReadsFront (X : Type 0) (P : X → Type 0) (spell : X → List ℕ) (item_at : List ℕ
@@ -181,10 +179,10 @@ byte_is (c ∷ bytes) b rest e =
     let both = parts c b bytes rest e in
     ap (λ (x : ℕ). x ∷ bytes) both.0 ∙ ap (λ (r : List ℕ). b ∷ r) both.1
 
-abbrev counted : ℕ × List ℕ → Option (ContentFront × List ℕ)
+abbrev pub counted : ℕ × List ℕ → Option (ContentFront × List ℕ)
 counted n = Some (EntryCount n.0, n.1)
 
-abbrev filed : List ℕ × List ℕ → Option (ContentFront × List ℕ)
+abbrev pub filed : List ℕ × List ℕ → Option (ContentFront × List ℕ)
 filed file = Some (FileBytes file.0, file.1)
 
 content_is : (bytes : List ℕ) (c : ContentFront) (rest : List ℕ) → AreBytes bytes

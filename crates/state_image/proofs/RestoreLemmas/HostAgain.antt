@@ -113,8 +113,8 @@ no_descriptors_of_host fs old mid are next read none h rest is its_next stands =
 
 -- ---- the host
 
-host_with : Files → List (Option Descriptor) → List ℕ → Bool → ℕ → List ℕ → List ℕ → List Line
-    → List (List ℕ) → List (List ℕ) → ℕ → ℕ → Host
+unfoldable pub host_with : Files → List (Option Descriptor) → List ℕ → Bool → ℕ → List ℕ
+    → List ℕ → List Line → List (List ℕ) → List (List ℕ) → ℕ → ℕ → Host
 host_with files descriptors unread input_ended last_monotonic first second lines arguments
     environment room limit = record {
       files = files;

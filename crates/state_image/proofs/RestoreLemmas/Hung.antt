@@ -15,6 +15,7 @@ use Rattle.state_image.specs.restoring.Told.{listed_node, AreAs, CanTake}
 use Rattle.state_image.specs.restoring.Hanging.{directory_alone, HangsUpTo}
 use Rattle.state_image.proofs.PushedItems.{front_more}
 use Rattle.state_image.proofs.RestoreLemmas.Told.{one_directory, still_as}
+use Rattle.machine_frame.proofs.TranslationLemmas.Placed.{get_last}
 
 -- ---- places of lists
 
@@ -35,10 +36,6 @@ pub at_front : {X : Type 0} (xs ys : List X) (j : ℕ) (x : X) → slice_get xs 
 at_front [] ys j x e = absurd cc
 at_front (y ∷ xs) ys zero x e = e
 at_front (y ∷ xs) ys (suc j) x e = at_front xs ys j x e
-
-at_end : {X : Type 0} (xs : List X) (x : X) → slice_get (xs ++ x ∷ []) (length xs) ≡ Some x
-at_end [] x = refl
-at_end (y ∷ xs) x = at_end xs x
 
 alone_at : (b : Bool) (k p e : ℕ) → slice_get (directory_alone b k) p ≡ Some e
     → (p ≡ 0) × (e ≡ k) × (b ≡ true)
@@ -192,7 +189,7 @@ module _ (ns : List NamedNode) (fs gs : Files) (ws : List ℕ) (at i d : ℕ) (e
     new true is t same = (
       length ws,
       ap (λ (y : Bool). slice_get (ws ++ directory_alone y e.number) (length ws)) is
-          ∙ at_end ws e.number ∙ ap (λ (y : ℕ). Some y) (sym same),
+          ∙ get_last ws e.number ∙ ap (λ (y : ℕ). Some y) (sym same),
     )
     new false is t same = absurd cc
 

@@ -19,9 +19,10 @@ use Rattle.state_image.specs.rules.Reading.{LacksField, ReadsField}
 use Rattle.state_image.specs.restoring.ListReaders.{LendsField, integer_at, text_at}
 use Rattle.state_image.specs.restoring.ListReaders.{content_front_at, node_front_at, entry_at}
 use Rattle.state_image.proofs.Among.{entry_with}
-use Rattle.state_image.proofs.RestoreLemmas.Fronts.{AreBytes, all_front, ReadsFront}
+use Rattle.state_image.proofs.RestoreLemmas.Fronts.{all_front, ReadsFront, filed, counted}
 use Rattle.state_image.proofs.RestoreLemmas.Fronts.{integer_front, text_front, entry_front}
 use Rattle.state_image.proofs.RestoreLemmas.Fronts.{node_front}
+use Rattle.wasi_abi.specs.rules.Answers.{AreBytes}
 
 -- ---- what is read is in range
 
@@ -56,25 +57,19 @@ entry_within bytes x rest low h =
       number = integer_within 8 name.0.1 number.0.0 number.0.1 first.1 number.1;
     })
 
-abbrev with_count : ℕ × List ℕ → Option (ContentFront × List ℕ)
-with_count n = Some (EntryCount n.0, n.1)
-
-abbrev with_file : List ℕ × List ℕ → Option (ContentFront × List ℕ)
-with_file file = Some (FileBytes file.0, file.1)
-
 content_within : (bytes : List ℕ) (c : ContentFront) (rest : List ℕ) → AreBytes bytes
     → content_front_at bytes ≡ Some (c, rest) → IsContentFrontIn c
 unfolding content_front_at
 content_within [] c rest low e = absurd cc
 content_within (k ∷ bytes) c rest low e = by (eqb k 3) (eqb k 4) e where
-  by : (b d : Bool) → cond b (integer_at 4 bytes >>= with_count)
-      (cond d (text_at 8 bytes >>= with_file) None) ≡ Some (c, rest) → IsContentFrontIn c
+  by : (b d : Bool) → cond b (integer_at 4 bytes >>= counted)
+      (cond d (text_at 8 bytes >>= filed) None) ≡ Some (c, rest) → IsContentFrontIn c
   by true d e =
-      let n = bind_some (integer_at 4 bytes) with_count _ e in
+      let n = bind_some (integer_at 4 bytes) counted _ e in
       carry (λ (x : ContentFront) (s : List ℕ). IsContentFrontIn x) (EntryCount n.0.0) c n.0.1 rest
       n.2 (integer_within 4 bytes n.0.0 n.0.1 low.1 n.1)
   by false true e =
-      let file = bind_some (text_at 8 bytes) with_file _ e in
+      let file = bind_some (text_at 8 bytes) filed _ e in
       carry (λ (x : ContentFront) (s : List ℕ). IsContentFrontIn x) (FileBytes file.0.0) c
       file.0.1 rest file.2 (text_within 8 bytes file.0.0 file.0.1 low.1 file.1)
   by false false e = absurd cc

@@ -2,7 +2,7 @@
 use Rattle.std.proofs.Common.{◌≡◌, ◌≢◌, ℕ, ◌*◌, ◌≤◌, List, [], ◌∷◌, ◌++◌, length, reverse, refl}
 use Rattle.std.proofs.Common.{sym}
 use Rattle.std.proofs.Common.{ap, subst, ◌∙◌, arith}
-use Rattle.std.specs.Prelude.{codes, Option, Result, Ok, Err, OnOk, IfErr}
+use Rattle.std.specs.Prelude.{codes, Result, Ok, Err, OnOk, IfErr}
 use Rattle.std.proofs.lemmas.List.{append-nil, reverse-reverse, length-reverse}
 use Rattle.std.proofs.lemmas.List.Sums.{sum_by-cons}
 use Rattle.guest_memory.specs.rules.Bytes.{page_size}
@@ -19,6 +19,7 @@ use Rattle.machine_frame.specs.rules.Fitting.{slots_held}
 use Rattle.machine.specs.declared.loading.fault.LoadFault.TheVariants as load
 use Rattle.machine.specs.rules.Loading.{emptied, with_call, ShowsSome, BytesDenied}
 use Rattle.machine.specs.rules.Values.{MachineValue, IsSameMachine}
+use Rattle.machine.proofs.Alike.{machine_with}
 use Rattle.state_image.specs.declared.reading.progress.ReadPhase.{ReadPhase}
 use Rattle.state_image.specs.declared.reading.progress.ReadPhase.TheVariants as read
 use Rattle.state_image.specs.declared.restoring.fault.RestoreFault.{RestoreFault}
@@ -339,19 +340,8 @@ module _ (phase : ReadPhase) (v w : MachineValue) (old rest : List ℕ) (r : IsR
 
 -- ---- one machine is read
 
-value_from : Module → ℕ → List (Option ℕ) → List ShownFrame → List ℕ → List ℕ → List ℕ → ℕ
-    → MachineValue
-value_from guest most_pages table frames globals memory later limit = record {
-  guest = guest;
-  most_pages = most_pages;
-  table = table;
-  state = record { frames = frames; globals = globals; memory = memory; later = later };
-  limit = limit;
-}
-
 pub one_read : (phase : ReadPhase) (v d w : MachineValue) (old new rest : List ℕ)
     → IsValid v.guest → IsReadMachine v phase old new d → IsReadMachine v phase old rest w → d ≡ w
-unfolding value_from
 one_read phase v d w old new rest valid r s =
     let parts = same_machine d.state w.state new rest r.within s.within (sym r.is ∙ s.is) in
     let guest : d.guest ≡ w.guest = r.same.guest ∙ sym s.same.guest in
@@ -364,9 +354,9 @@ one_read phase v d w old new rest valid r s =
     one_to_come phase v.guest d.state.later w.state.later valid
     (subst (λ (m : Module). AreToCome m phase d.state.later) r.same.guest r.later)
     (subst (λ (m : Module). AreToCome m phase w.state.later) s.same.guest s.later) in
-    let whole : value_from d.guest d.most_pages d.table d.state.frames d.state.globals
+    let whole : machine_with d.guest d.most_pages d.table d.state.frames d.state.globals
     d.state.memory d.state.later d.limit
-    ≡ value_from w.guest w.most_pages w.table w.state.frames w.state.globals w.state.memory
+    ≡ machine_with w.guest w.most_pages w.table w.state.frames w.state.globals w.state.memory
     w.state.later w.limit =
     rw (guest, most, table, frames, globals, memory, later, limit) refl in
     whole

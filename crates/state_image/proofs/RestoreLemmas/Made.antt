@@ -1,5 +1,5 @@
 -- Nodes that are made one after the other, and what told files have at the same place.
-use Rattle.std.proofs.Common.{◌≡◌, ◌≢◌, inl, ℕ, zero, suc, ◌+◌, ◌<◌, ◌≤◌, Bool, true, false}
+use Rattle.std.proofs.Common.{◌≡◌, ◌≢◌, ℕ, zero, suc, ◌+◌, ◌<◌, ◌≤◌, Bool, true, false}
 use Rattle.std.proofs.Common.{cond, eqb, List, [], ◌∷◌, ◌++◌, length, map, take, drop, replicate}
 use Rattle.std.proofs.Common.{Option, Some, None, refl, sym, ap, subst, ◌∙◌, length-append, arith}
 use Rattle.std.specs.Prelude.{find, is_some, slice_get}
@@ -20,15 +20,17 @@ use Rattle.file_tree.specs.laws.Rebuilding.{HaveSameEntries}
 use Rattle.file_tree.proofs.KeptEntries.{others_keep_entries}
 use Rattle.file_tree.proofs.Filled.{filled_files}
 use Rattle.file_tree.proofs.SameNames.{heads}
+use Rattle.file_tree.proofs.Rebuilt.{numbers_below, numbers_from}
 use Rattle.state_image.specs.restoring.Named.{NamedNode}
 use Rattle.state_image.specs.restoring.Told.{told_number, told_content, content_of_told, AreAs}
 use Rattle.state_image.specs.restoring.Told.{IsToldOf, CanCreate, BeginsWithRoot, next_behind}
 use Rattle.state_image.specs.restoring.Told.{IsMadeOf}
 use Rattle.state_image.specs.restoring.Hanging.{HangsUpTo}
-use Rattle.state_image.proofs.Among.{all_among, found_among, numbers_below, numbers_from}
+use Rattle.state_image.proofs.Among.{all_among, found_among}
 use Rattle.state_image.proofs.PushedItems.{front_more}
 use Rattle.state_image.proofs.RestoreLemmas.Told.{told_as}
 use Rattle.state_image.proofs.NodesAt.{directory_content}
+use Rattle.wasi_calls_rules.proofs.FirstHosts.{fresh_is_files}
 
 -- ---- a new node is found
 
@@ -175,27 +177,16 @@ node_made ns fs gs place n h at can is =
 
 -- ---- the first node
 
-fresh_are : IsFiles fresh
-fresh_are = record {
-  rising = (omega arith, omega arith);
-  root = refl;
-  root_is_directory = refl;
-  placed = (inl refl, tt);
-  distinct = (tt, tt);
-  contents = (tt, tt);
-  few = omega arith;
-}
-
 pub root_made : (ns : List NamedNode) (fs : Files) → fs ≡ fresh → BeginsWithRoot ns
     → IsMadeOf (take 1 ns) fs
 root_made [] fs is h = absurd h
 root_made (n ∷ ns) fs is h = subst (IsMadeOf (n ∷ [])) (sym is) (record {
-  are = fresh_are;
+  are = fresh_is_files;
   same = record {
     numbers = ap (λ (k : ℕ). k ∷ []) (sym h.0);
     contents = ap (λ (c : Content). c ∷ []) (sym h.1);
   };
-  bare = record { are = fresh_are; entries = λ d. refl; paths = λ k. refl };
+  bare = record { are = fresh_is_files; entries = λ d. refl; paths = λ k. refl };
   next = ap (λ (k : ℕ). k + 1) (sym h.0);
 })
 

@@ -20,7 +20,7 @@ use Rattle.state_image.specs.restoring.Descriptors.{IsTargetIn, IsRestorable, Ar
 use Rattle.state_image.specs.restoring.Descriptors.{AreRestorable, behind_last, closed_up_to}
 use Rattle.state_image.specs.restoring.Descriptors.{AreOpened, CanStandBehind, IsReadBehind}
 use Rattle.state_image.proofs.Fields.{Tells, cut, number_field}
-use Rattle.state_image.proofs.FieldsGiven.{raw_field}
+use Rattle.state_image.proofs.FieldsGiven.{raw_field, raw}
 use Rattle.state_image.proofs.HostWithin.{rights_within}
 use Rattle.state_image.proofs.ImageGiven.{raw_within}
 use Rattle.state_image.proofs.Opened.{open_from-append}
@@ -393,26 +393,15 @@ kind_read : (fs : Files) (kind node : ℕ) (t : Target) → IsTargetOf fs kind n
 kind_read fs kind node (Stream s) h = (h.1, h.2)
 kind_read fs kind node (Node k) h = (h.1, h.0)
 
-raw_with : ℕ → ℕ → ℕ → ℕ → ℕ → ℕ → ℕ → ReadDescriptor
-raw_with number kind node offset flags base inheriting = record {
-  number = number;
-  kind = kind;
-  node = node;
-  offset = offset;
-  flags = flags;
-  base = base;
-  inheriting = inheriting;
-}
-
 raw_again : (fs : Files) (r : ReadDescriptor) (d : Descriptor) → IsReadAs fs r d
     → r ≡ raw_of fs (record { number = r.number; descriptor = d })
-unfolding raw_with
+unfolding raw
 raw_again fs r d read =
     let target = kind_read fs r.kind r.node d.target read.target in
     let kind = target.0 in let node = target.1 in let offset = read.offset in
     let flags = read.flags in let base = read.base in let inheriting = read.inheriting in
-    let whole : raw_with r.number r.kind r.node r.offset r.flags r.base r.inheriting
-    ≡ raw_with r.number (raw_kind fs d.target) (raw_node d.target) d.offset d.flags d.base
+    let whole : raw r.number r.kind r.node r.offset r.flags r.base r.inheriting
+    ≡ raw r.number (raw_kind fs d.target) (raw_node d.target) d.offset d.flags d.base
     d.inheriting = rw (kind, node, offset, flags, base, inheriting) refl in
     whole
 

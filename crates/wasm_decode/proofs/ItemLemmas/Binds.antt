@@ -2,11 +2,6 @@
 use Rattle.std.proofs.Common.{◌≡◌, Option, Some, None, refl}
 use Rattle.wasm_syntax.specs.laws.ReadingItems.{◌>>=◌}
 
-pub bind_bind : {A B C : Type 0} (o : Option A) (f : A → Option B) (g : B → Option C)
-    → ((o >>= f) >>= g) ≡ (o >>= λ x. f x >>= g)
-bind_bind (Some x) f g = refl
-bind_bind None f g = refl
-
 pub bind_same : {A B : Type 0} (o : Option A) (f g : A → Option B) → ((x : A) → f x ≡ g x)
     → (o >>= f) ≡ (o >>= g)
 bind_same (Some x) f g h = h x

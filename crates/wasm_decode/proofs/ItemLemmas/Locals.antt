@@ -12,8 +12,9 @@ use Rattle.wasm_syntax.specs.laws.ReadingItems.{◌>>=◌, check, leb_u32_at, it
 use Rattle.wasm_syntax.specs.laws.ReadingItems.{value_type_at}
 use Rattle.wasm_syntax.specs.laws.ReadingModules.{run_at, locals_count}
 use Rattle.wasm_syntax.specs.laws.ReadingWithin.{expression_within_at, code_within_at}
+use Rattle.wasm_syntax.proofs.Grammar.Exact.{bind_bind}
 use Rattle.wasm_decode.specs.Items.Entries.{run_onto_at, runs_onto_at, locals_within_at}
-use Rattle.wasm_decode.proofs.ItemLemmas.Binds.{bind_bind, bind_same, bind_none}
+use Rattle.wasm_decode.proofs.ItemLemmas.Binds.{bind_same, bind_none}
 
 -- ---- so many runs: `i` of `count` were read
 

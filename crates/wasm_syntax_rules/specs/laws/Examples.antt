@@ -3,7 +3,6 @@
 use Rattle.std.specs.Prelude.{◌≡◌, ℕ, List, [], ◌∷◌, Some, None}
 use Rattle.wasm_syntax.specs.declared.types.ValueType.{ValueType}
 use Rattle.wasm_syntax.specs.declared.types.ValueType.TheVariants.{I32}
-use Rattle.wasm_syntax.specs.declared.types.FunctionType.{FunctionType}
 use Rattle.wasm_syntax.specs.declared.value.Value.{Value}
 use Rattle.wasm_syntax.specs.declared.value.Value.TheVariants as value
 use Rattle.wasm_syntax.specs.declared.value.Trap.TheVariants as trap
@@ -12,6 +11,7 @@ use Rattle.wasm_syntax.specs.declared.operator.LoadOperator.TheVariants as load
 use Rattle.wasm_syntax.specs.declared.instruction.Instruction.{Instruction}
 use Rattle.wasm_syntax.specs.declared.instruction.Instruction.TheVariants as instr
 use Rattle.wasm_syntax.specs.rules.Sequence.{Sequence, Stop, Plain, InBlock, InIf, InIfElse}
+use Rattle.wasm_syntax.specs.laws.Examples.{no_type, transfer_type, exit_type}
 use Rattle.wasm_syntax_rules.specs.Typing.{Context, HasType}
 use Rattle.wasm_syntax_rules.specs.Configuration.{Host, Own, Program, Store, Main, LabelOf, FrameOf}
 use Rattle.wasm_syntax_rules.specs.Configuration.{Configuration, Outcome, Goes, Traps, Asks}
@@ -76,15 +76,6 @@ pub record TypingExamples : Type 0 where
 
 -- ---- execution
 
-abbrev pub nothing : FunctionType
-nothing = record { parameters = []; results = [] }
-
-abbrev pub write_call_type : FunctionType
-write_call_type = record { parameters = I32 ∷ I32 ∷ I32 ∷ I32 ∷ []; results = I32 ∷ [] }
-
-abbrev pub exit_call_type : FunctionType
-exit_call_type = record { parameters = I32 ∷ []; results = [] }
-
 -- call 0 on 1, 0, 1 and 16; drop; call 1 on 7
 abbrev pub hello_sequence : Sequence
 hello_sequence =
@@ -94,8 +85,8 @@ hello_sequence =
 
 abbrev pub program_of_hello : Program
 program_of_hello = record {
-  types = nothing ∷ write_call_type ∷ exit_call_type ∷ [];
-  functions = Host write_call_type ∷ Host exit_call_type ∷ Own nothing [] hello_sequence ∷ [];
+  types = no_type ∷ transfer_type ∷ exit_type ∷ [];
+  functions = Host transfer_type ∷ Host exit_type ∷ Own no_type [] hello_sequence ∷ [];
   most_pages = 1;
 }
 
@@ -141,8 +132,8 @@ pub record HelloRuns (store : Store) : Type 0 where
 -- a function that calls itself
 abbrev pub endless : Program
 endless = record {
-  types = nothing ∷ [];
-  functions = Own nothing [] (Plain (instr.Call 0) Stop) ∷ [];
+  types = no_type ∷ [];
+  functions = Own no_type [] (Plain (instr.Call 0) Stop) ∷ [];
   most_pages = 1;
 }
 

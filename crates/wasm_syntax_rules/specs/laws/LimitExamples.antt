@@ -7,11 +7,12 @@ use Rattle.wasm_syntax.specs.declared.value.Trap.TheVariants as trap
 use Rattle.wasm_syntax.specs.declared.instruction.Instruction.{Instruction}
 use Rattle.wasm_syntax.specs.declared.instruction.Instruction.TheVariants as instr
 use Rattle.wasm_syntax.specs.rules.Sequence.{Sequence, Stop, Plain, InLoop}
+use Rattle.wasm_syntax.specs.laws.Examples.{no_type}
 use Rattle.wasm_syntax_rules.specs.Configuration.{Own, Program, Store, Main, Label, LabelOf, Frame}
 use Rattle.wasm_syntax_rules.specs.Configuration.{FrameOf, Thread, Configuration, Outcome, Goes}
 use Rattle.wasm_syntax_rules.specs.Configuration.{Traps}
 use Rattle.wasm_syntax_rules.specs.Steps.{rule}
-use Rattle.wasm_syntax_rules.specs.laws.Examples.{nothing, v, endless, four_bytes, executing}
+use Rattle.wasm_syntax_rules.specs.laws.Examples.{v, endless, four_bytes, executing}
 use Rattle.wasm_syntax_rules.specs.laws.Examples.{goes_with}
 
 -- this thread, over a memory of four bytes
@@ -30,7 +31,7 @@ empty_frames n = replicate n (FrameOf 0 [] [] [] Stop)
 
 -- function 0 has 256 locals
 abbrev pub spacious : Program
-spacious = record endless { functions = Own nothing (replicate 256 I32) Stop ∷ [] }
+spacious = record endless { functions = Own no_type (replicate 256 I32) Stop ∷ [] }
 
 -- a function's first frame: zeros as locals
 abbrev pub first_frame : ℕ → Sequence → Frame
@@ -100,12 +101,12 @@ pub record BranchExamples : Type 0 where
 -- function 0 is of type 0, and function 1 of type 1, which is another
 abbrev pub two_functions : Program
 two_functions = record {
-  types = nothing ∷ record { parameters = I64 ∷ []; results = [] } ∷ [];
-  functions = Own nothing [] nop ∷ Own (record { parameters = I64 ∷ []; results = [] }) [] nop ∷ [];
+  types = no_type ∷ record { parameters = I64 ∷ []; results = [] } ∷ [];
+  functions = Own no_type [] nop ∷ Own (record { parameters = I64 ∷ []; results = [] }) [] nop ∷ [];
   most_pages = 1;
 }
 
--- a table: function 0, nothing, function 1
+-- a table: function 0, no_type, function 1
 abbrev pub three_entries : Store
 three_entries = record { memory = []; globals = []; table = Some 0 ∷ None ∷ Some 1 ∷ [] }
 

@@ -102,7 +102,7 @@ le_of m n e = grind (arith, nat_tests)
 is_le : (m n : ℕ) → m ≤ n → nat_le m n ≡ true
 is_le m n e = grind (arith, nat_tests)
 
-both : (a b : Bool) → a ≡ true → b ≡ true → (a && b) ≡ true
+pub both : (a b : Bool) → a ≡ true → b ≡ true → (a && b) ≡ true
 both a b d e = rw (d, e) refl
 
 -- ---- the rules

@@ -1,6 +1,6 @@
 -- Where no jump stands before, the types of all operands are known.
-use Rattle.std.proofs.Common.{◌≡◌, ◌⊎◌, inl, inr, Bool, true, false, List, [], ◌∷◌, ◌++◌, drop}
-use Rattle.std.proofs.Common.{length, Option, Some, None, refl, sym, ap, ◌∙◌, subst}
+use Rattle.std.proofs.Common.{◌≡◌, ◌⊎◌, inl, inr, Bool, true, false, List, [], ◌∷◌, ◌++◌}
+use Rattle.std.proofs.Common.{Option, Some, None, refl, sym, ap, ◌∙◌, subst}
 use Rattle.std.specs.Prelude.{map, not}
 use Rattle.wasm_syntax.specs.declared.types.ValueType.{ValueType}
 use Rattle.wasm_syntax.specs.declared.types.ValueType.TheVariants.{I32}
@@ -11,7 +11,7 @@ use Rattle.wasm_syntax.proofs.Grammar.Exact.{bind_some}
 use Rattle.wasm_syntax_rules.specs.Types.{takes_of, gives_of}
 use Rattle.wasm_syntax_rules.specs.Typing.{Context, HasRule}
 use Rattle.wasm_syntax_rules.specs.Shapes.{types_behind}
-use Rattle.wasm_syntax_rules.proofs.TypedShape.{value_type}
+use Rattle.wasm_syntax_rules.proofs.TypedShape.{value_type, drop_front}
 use Rattle.wasm_validate.specs.laws.Checking.{Known, Level, popped_of, popped, agrees}
 use Rattle.wasm_validate.specs.laws.Checking.{operand_taken, all_operands_taken, pushed, all_pushed}
 use Rattle.wasm_validate.specs.laws.Checking.{level_left, Arrow, Fixed, Jump, Dropping, Selecting}
@@ -154,10 +154,6 @@ Leads (Jump takes) o ts = o ≡ None
 Leads Dropping o ts = o ≡ Some ts
 Leads Selecting o ts = o ≡ Some ts
 Leads Refused o ts = Unit {0}
-
-drop_front : (xs ys : List ValueType) → drop (length xs) (xs ++ ys) ≡ ys
-drop_front [] ys = refl
-drop_front (x ∷ xs) ys = drop_front xs ys
 
 fixed_leads : (b : Bool) (takes gives ts : List ValueType) (o : Option (List ValueType))
     → o ≡ Some ts → Leads (only b (Fixed takes gives)) o ts

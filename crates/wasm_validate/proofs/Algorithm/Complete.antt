@@ -16,7 +16,7 @@ use Rattle.wasm_validate.specs.laws.Checking.{has_no_operands, level_closed, may
 use Rattle.wasm_validate.specs.laws.Checking.{result_returned, levels_after, checked}
 use Rattle.wasm_validate.specs.laws.Remaining.{FitsOperands, Closes, Ends, Remains}
 use Rattle.wasm_validate.proofs.Algorithm.Arrows.{arrow_of_rule}
-use Rattle.wasm_validate.proofs.Algorithm.Sound.{in_front, parted}
+use Rattle.wasm_validate.proofs.Algorithm.Sound.{in_front, parted, EndsOf}
 use Rattle.wasm_validate.proofs.Algorithm.Fitting.{FitsLevel, Keeps, pushed_fit, taken_on}
 use Rattle.wasm_validate.proofs.Algorithm.Fitting.{all_taken_on, applied_on}
 
@@ -48,13 +48,6 @@ pushed_remains : (c : Context) (t : Option ValueType) (levels : List Level)
 pushed_remains c t [] opcodes h = h
 pushed_remains c t (l ∷ levels) opcodes h =
     (results_of t ++ h.0, pushed_fit (results_of t) l h.0 h.1, h.2)
-
--- the same ending for a level that differs in its operands
-abbrev EndsOf : Context → List Level → List ValueType → List Instruction → Option ValueType
-    → Option ValueType → Bool → Type 0
-EndsOf c levels types opcodes takes gives is_first =
-    Ends c (results_of takes ∷ labels_of levels) is_first gives (λ next.
-    Remains c (results_of gives) levels next) types opcodes
 
 ends_kept : (c : Context) (levels : List Level) (types : List ValueType)
     (opcodes : List Instruction) (l l' : Level) → Keeps l l'

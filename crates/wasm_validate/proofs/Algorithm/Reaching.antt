@@ -536,7 +536,7 @@ module _ (c : Context) where
       (pushed_fit (results_of t) new (drop 1 ts) o.3)
       ((all_pushed_stays (results_of t) new).sure (stays.sure sure)) above low)))
 
-chosen : (n m : ℕ) (x y : Option Shape) → n ≤ m → (if nat_le n m then x else y) ≡ x
+pub chosen : (n m : ℕ) (x y : Option Shape) → n ≤ m → (if nat_le n m then x else y) ≡ x
 chosen n m x y h = let e = le-leb n m h in rw e refl
 
 pub finds_shapes : CheckingFindsShapes

@@ -15,6 +15,7 @@ use Rattle.wasm_syntax.specs.rules.Sequence.{Sequence, Stop, Plain, InBlock, InL
 use Rattle.wasm_syntax.specs.rules.Sequence.{spelled, IsPlain, IsNested, Spells}
 use Rattle.wasm_syntax_rules.specs.Types.{gives_of, results_of}
 use Rattle.wasm_syntax_rules.specs.Typing.{Context, HasRule, HasType, IsLabel, body_context}
+use Rattle.wasm_syntax_rules.specs.laws.Examples.{bare_context}
 use Rattle.wasm_validate.specs.rules.Faults.{HasDefinedIndices, HaveDefinedIndices, IsAligned}
 use Rattle.wasm_validate.specs.rules.Faults.{WouldHaveBody, extended, labels_behind, unaligned}
 
@@ -128,7 +129,7 @@ rule_unaligned c labels (instr.Load o a) p q h = (h.0, one_is_least a.align _ h.
 rule_unaligned c labels (instr.Store o a) p q h = (h.0, one_is_least a.align _ h.1, h.2, h.3)
 rule_unaligned c labels i p q h = h
 
-plain_still : (i : Instruction) → IsPlain i → IsPlain (unaligned i)
+pub plain_still : (i : Instruction) → IsPlain i → IsPlain (unaligned i)
 plain_still (instr.Load o a) h = tt
 plain_still (instr.Store o a) h = tt
 plain_still i h = h
@@ -266,19 +267,7 @@ module _ (c : Context) where
 
 -- ---- bodies
 
-abbrev nothing_more : Context
-nothing_more =
-    record {
-      types = [];
-      functions = [];
-      tables = [];
-      memories = [];
-      globals = [];
-      locals = [];
-      returns = [];
-    }
-
-same_context : (c : Context) → extended c nothing_more ≡ c
+same_context : (c : Context) → extended c bare_context ≡ c
 same_context c =
     rw (
       append-nil c.types,
@@ -294,7 +283,7 @@ module _ (c : Context) (kind : FunctionType) (code : Code) (s : Sequence)
     ∷ []) s [] (gives_of kind)) where
   pub would_have_body : WouldHaveBody c kind code
   would_have_body = record {
-    more = nothing_more;
+    more = bare_context;
     around = [];
     sequence = all_unaligned s;
     spells = record {

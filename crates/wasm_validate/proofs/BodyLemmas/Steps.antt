@@ -7,6 +7,7 @@ use Rattle.wasm_syntax.specs.declared.instruction.Instruction.{Instruction}
 use Rattle.wasm_syntax.specs.declared.instruction.Instruction.TheVariants as instr
 use Rattle.wasm_syntax.specs.rules.Sequence.{IsPlain}
 use Rattle.wasm_syntax.specs.laws.ReadingItems.{◌>>=◌, check}
+use Rattle.wasm_syntax.proofs.Grammar.Exact.{bind_bind}
 use Rattle.wasm_syntax_rules.specs.Typing.{Context}
 use Rattle.wasm_validate.specs.laws.Checking.{Known, Level, popped, agrees, operand_taken}
 use Rattle.wasm_validate.specs.laws.Checking.{all_operands_taken, pushed, all_pushed, level_left}
@@ -19,11 +20,6 @@ use Rattle.wasm_validate.specs.Body.Tops.{top_taken, top_all_taken, top_selected
 -- a level put on top of the others
 abbrev pub onto : List Level → Level → Option (List Level)
 onto levels l = Some (l ∷ levels)
-
-assoc : {A B C : Type 0} (o : Option A) (f : A → Option B) (g : B → Option C)
-    → ((o >>= f) >>= g) ≡ (o >>= λ x. f x >>= g)
-assoc None f g = refl
-assoc (Some x) f g = refl
 
 abbrev topped : List Level → Known × Level → Option (Known × List Level)
 topped levels p = Some (p.0, p.1 ∷ levels)

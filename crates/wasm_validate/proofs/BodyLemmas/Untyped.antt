@@ -36,6 +36,8 @@ use Rattle.wasm_validate.proofs.Algorithm.Complete.{complete}
 use Rattle.wasm_validate.proofs.BodyLemmas.Steps.{after_plain, onto}
 use Rattle.wasm_validate.proofs.BodyLemmas.FaultKinds.{after_length, here_or_behind}
 use Rattle.wasm_validate.proofs.BodyLemmas.FaultKinds.{opcode_fault_is}
+use Rattle.wasm_validate.proofs.BodyLemmas.NoFault.{plain_still}
+use Rattle.wasm_validate.proofs.Algorithm.Arrows.{both}
 
 -- ---- what is there is there still, where there is more
 
@@ -108,9 +110,6 @@ module _ (labels more : List (List ValueType)) (ts : List ValueType) where
 
 aligned_to_one : (n w : ℕ) → nat_le (2 ^ n) w ≡ true → nat_le (2 ^ 0) w ≡ true
 aligned_to_one n w e = let one = pow_pos n in grind (arith, nat_tests)
-
-both : (a b : Bool) → a ≡ true → b ≡ true → (a && b) ≡ true
-both a b d e = rw (d, e) refl
 
 module _ (c more : Context) (labels around : List (List ValueType)) where
   access_kept : (n w : ℕ) (a : Arrow)
@@ -295,11 +294,6 @@ some_closed : {A B D : Type 0} (test : Bool) (o : Option A) (x y : B) (z : D)
 some_closed true o x y z e = let s = some_behind o (λ _. x) (λ _. z) y e in (s.1, s.3)
 some_closed false o x y z e = absurd (cc)
 
-plain_unaligned : (i : Instruction) → IsPlain i → IsPlain (unaligned i)
-plain_unaligned (instr.Load o a) h = tt
-plain_unaligned (instr.Store o a) h = tt
-plain_unaligned i h = h
-
 module _ (c more : Context) (outer : List Level) (l : Level) (ls : List Level) where
   labels_around : labels_of (l ∷ (ls ++ outer)) ≡ labels_of (l ∷ ls) ++ labels_of outer
   labels_around = map-append label_of (l ∷ ls) outer
@@ -308,7 +302,7 @@ module _ (c more : Context) (outer : List Level) (l : Level) (ls : List Level) w
       → levels_after (extended c more) (unaligned i) (l ∷ (ls ++ outer))
       ≡ (applied (arrow_of c (labels_of (l ∷ ls)) i) l >>= onto (ls ++ outer))
   plain_after i plain e =
-      after_plain (extended c more) (unaligned i) l (ls ++ outer) (plain_unaligned i plain)
+      after_plain (extended c more) (unaligned i) l (ls ++ outer) (plain_still i plain)
       ∙ ap (λ z. applied (arrow_of (extended c more) z (unaligned i)) l >>= onto
       (ls ++ outer)) labels_around
       ∙ ap (λ z. applied z l >>= onto (ls ++ outer))

@@ -13,6 +13,7 @@ use Rattle.std.proofs.lemmas.Slice.Eq.{bytes_eq-Decides}
 use Rattle.wasm_syntax.specs.declared.module.Export.{Export}
 use Rattle.wasm_syntax_rules.specs.Validity.{HaveDistinctNames}
 use denote.Ref.{Bor}
+use Rattle.guest_memory.proofs.Lists.{all_with}
 
 abbrev pub name_cmp : Bor (List ℕ) → Bor (List ℕ) → Ordering
 name_cmp a b = slice_cmp nat_cmp a.now b.now
@@ -84,11 +85,6 @@ present_from_found (x ∷ xs) k e n =
 
 -- ---- exports
 
-both : {X : Type 0} (P Q R : X → Type 0) (xs : List X) → ((x : X) → P x → Q x → R x)
-    → AllByRecursion P xs → AllByRecursion Q xs → AllByRecursion R xs
-both P Q R [] f h k = tt
-both P Q R (x ∷ xs) f h k = (f x h.0 k.0, both P Q R xs f h.1 k.1)
-
 each : {X : Type 0} (P R : X → Type 0) (xs : List X) → ((x : X) → P x → R x) → AllByRecursion P xs
     → AllByRecursion R xs
 each P R [] f h = tt
@@ -100,7 +96,7 @@ pub one_more_name : (keys : List (Bor (List ℕ))) (k : Bor (List ℕ)) (e : Exp
     → AreNewNames keys (e ∷ exports) ↔ AreNewNames (insert_key name_cmp keys k) exports
 one_more_name keys k e exports is new = (
   λ h. (
-    both (λ (f : Export). IsNewName keys f.name) (λ (f : Export). e.name
+    all_with (λ (f : Export). IsNewName keys f.name) (λ (f : Export). e.name
         ≢ f.name) (λ (f : Export). IsNewName (insert_key name_cmp keys k) f.name) exports
         (λ f n apart. (inserted keys k f.name).1 (λ s. apart (sym is ∙ sym s), n)) h.0.1 h.1.0,
     h.1.1,

@@ -5,7 +5,7 @@ ghost use Rattle.std.specs.Prelude.{MatchResult, OnOk};
 ghost use Rattle.wasm_syntax_rules.specs.Types.{gives_of, results_of};
 ghost use Rattle.wasm_syntax_rules.specs.Typing.{Context as Typing, body_context};
 ghost use Rattle.wasm_syntax_rules.specs.Shapes.{body_shape};
-ghost use Rattle.wasm_validate.specs.declared.parts.fault.ValidFault.TheVariants.{Memory as WantOfMemory};
+ghost use Rattle.wasm_validate.specs.declared.parts.fault.ValidFault.TheVariants as faults;
 ghost use Rattle.wasm_validate.specs.rules.Answers.{Judges};
 ghost use Rattle.wasm_validate.specs.rules.Operands.{types_at};
 ghost use Rattle.wasm_validate.specs.Parts.Contexts.{IsContextOf};
@@ -63,8 +63,8 @@ fn scope_of<'a, 'm>(
 
 /// Want of memory. Any other fault is that of a body without a type, which no position reaches.
 fn only_memory(fault: ValidFault) -> Result<bool, AllocError>
-    ensures { MatchResult result (λ reached. (reached ≡ false) × (fault ≢ WantOfMemory))
-        (λ _. fault ≡ WantOfMemory) }
+    ensures { MatchResult result (λ reached. (reached ≡ false) × (fault ≢ faults.Memory))
+        (λ _. fault ≡ faults.Memory) }
 {
     match fault {
         ValidFault::Memory => Err(AllocError),

@@ -1,7 +1,7 @@
 //! Why a module is not valid.
 
 ghost use Rattle.std.specs.Prelude.{◌≡◌};
-ghost use Rattle.wasm_validate.specs.declared.parts.fault.ValidFault.TheVariants.{Memory as WantOfMemory};
+ghost use Rattle.wasm_validate.specs.declared.parts.fault.ValidFault.TheVariants as faults;
 
 use std::alloc::{AllocError, AllocFailed};
 use thiserror::Error;
@@ -29,7 +29,7 @@ pub enum ValidFault {
 }
 
 impl From<AllocError> for ValidFault {
-    ghost from_gives = { λ _ e. e ≡ WantOfMemory };
+    ghost from_gives = { λ _ e. e ≡ faults.Memory };
 
     fn from(_error: AllocError) -> ValidFault {
         ValidFault::Memory
@@ -37,7 +37,7 @@ impl From<AllocError> for ValidFault {
 }
 
 impl<T: Drop> From<AllocFailed<T>> for ValidFault {
-    ghost from_gives = { λ _ e. e ≡ WantOfMemory };
+    ghost from_gives = { λ _ e. e ≡ faults.Memory };
 
     fn from(_error: AllocFailed<T>) -> ValidFault {
         ValidFault::Memory

@@ -97,34 +97,6 @@ HasPrintedItsLines {given = given} {out' = out'} {source' = source'} lives why =
     lives.retold out' given.fuel (steps_among lives.acts) why)
     × PrintsItsLines p broken.process lives.retold out'
 
--- ---- faults of a recovery
-
--- no worker that can go on, or a number at its end
-abbrev pub IsStuck : RecoverFault → Type 0
-IsStuck recover.NotAnImage = ⊤
-IsStuck recover.Diverged = ⊤
-IsStuck (recover.Worker (durable.Work (work.Refused why))) = ⊤
-IsStuck (recover.Worker (durable.Store why)) = ⊤
-IsStuck other = ⊥
-
--- a disk or a source that fails
-abbrev pub IsFailing : RecoverFault → Type 0
-IsFailing (recover.Worker (durable.Disk why)) = ⊤
-IsFailing (recover.Worker (durable.Work work.Source)) = ⊤
-IsFailing (recover.Worker (durable.Work work.Failed)) = ⊤
-IsFailing other = ⊥
-
--- memory that was refused
-abbrev pub IsWanting : RecoverFault → Type 0
-IsWanting (recover.Worker (durable.Work work.Memory)) = ⊤
-IsWanting (recover.Worker (durable.Disk disk.Memory)) = ⊤
-IsWanting other = ⊥
-
--- a line that the outlet refused
-abbrev pub IsUntaken : RecoverFault → Type 0
-IsUntaken (recover.Worker (durable.Work work.Outlet)) = ⊤
-IsUntaken other = ⊥
-
 -- ---- faults of a call
 
 -- a step, its lines or a generation that can't be counted, or a store that refuses
@@ -139,6 +111,30 @@ IsUnanswering (durable.Disk why) = ⊤
 IsUnanswering (durable.Work work.Source) = ⊤
 IsUnanswering (durable.Work work.Failed) = ⊤
 IsUnanswering other = ⊥
+
+-- ---- faults of a recovery
+
+-- no worker that can go on, or one that is at its end
+abbrev pub IsStuck : RecoverFault → Type 0
+IsStuck recover.NotAnImage = ⊤
+IsStuck recover.Diverged = ⊤
+IsStuck (recover.Worker why) = IsAtItsEnd why
+
+-- a disk or a source that fails
+abbrev pub IsFailing : RecoverFault → Type 0
+IsFailing (recover.Worker why) = IsUnanswering why
+IsFailing other = ⊥
+
+-- memory that was refused
+abbrev pub IsWanting : RecoverFault → Type 0
+IsWanting (recover.Worker (durable.Work work.Memory)) = ⊤
+IsWanting (recover.Worker (durable.Disk disk.Memory)) = ⊤
+IsWanting other = ⊥
+
+-- a line that the outlet refused
+abbrev pub IsUntaken : RecoverFault → Type 0
+IsUntaken (recover.Worker (durable.Work work.Outlet)) = ⊤
+IsUntaken other = ⊥
 
 -- ---- what each exit status says
 

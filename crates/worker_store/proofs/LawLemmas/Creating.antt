@@ -15,6 +15,7 @@ use Rattle.wasm_syntax.specs.declared.module.Module.{Module}
 use Rattle.wasi_abi.specs.rules.Configs.{Settings}
 use Rattle.state_image.specs.rules.Image.{image}
 use Rattle.sector_disk.specs.rules.Image.{Image, sector_at, front_over}
+use Rattle.sector_disk.proofs.ExampleLemmas.{differ}
 use Rattle.disk_layout.specs.rules.Places.{Geometry, geometry_of, config_bytes, head_place}
 use Rattle.disk_layout.specs.rules.Places.{area_place, journal_place, rounded_up}
 use Rattle.disk_layout.specs.rules.Sectors.{IsMarked, IsComplete, super_bytes, stamp_of}
@@ -40,9 +41,6 @@ use Rattle.worker_store.proofs.LawLemmas.Replacing.{super_outside, contents_outs
 use Rattle.worker_store.proofs.LawLemmas.Replacing.{journal_outside}
 use Rattle.worker_store.proofs.LawLemmas.Replacing.{super_no_head, later_no_head, journal_from}
 use Rattle.worker_store.proofs.LawLemmas.Replacing.{new_point_begins}
-
-differ : (a b : ℕ) → a ≡ b → a < b → ⊥
-differ a b e less = omega (arith, e, less)
 
 -- ---- without a super
 

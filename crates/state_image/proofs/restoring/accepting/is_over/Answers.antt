@@ -1,7 +1,8 @@
 use Rattle.std.proofs.Common.{◌≡◌, ap, ◌∙◌, arith}
 use Rattle.wasi_calls.specs.rules.Held.{HeldHost}
-use Rattle.state_image.proofs.Accepted.{all_over, empty_told}
+use Rattle.state_image.proofs.Accepted.{all_over}
 use Rattle.state_image.proofs.restoring.accepting.is_over.Goals as goal
+use Rattle.machine.proofs.LoadingLemmas.Words.{empty_iff}
 
 pub returns-then-is_empty : goal.returns-then-is_empty
 returns-then-is_empty c =
@@ -15,7 +16,7 @@ returns-then-is_empty c =
     c.is_starting.result c.is_empty-then-is_empty.result
     (omega (arith, count, c.if-frame_count-gt0.false))
     (rw c.machine-machine.ensures at c.is_starting.ensures) c.if-is_starting.false
-    ((empty_told v.host.host.first c.is_empty.result (rw first at c.is_empty.ensures)).0
+    ((empty_iff v.host.host.first c.is_empty.result (rw first at c.is_empty.ensures)).0
     c.if-is_empty.true)
-    (empty_told v.host.host.second c.is_empty-then-is_empty.result
+    (empty_iff v.host.host.second c.is_empty-then-is_empty.result
     (rw second at c.is_empty-then-is_empty.ensures))

@@ -9,5 +9,6 @@ invariant_of-self c =
     s.input_ended s.last_monotonic s.streams in
     let there = (rw (← c.self.view_is) at c.known_descriptor.ensures) in
     rw c.at_offset-moved.ensures
-    (moved_host held.host c.args.fd c.args.offset c.known_descriptor.result.now c.self.invariant there
+    (moved_host held.host c.args.fd c.args.offset c.known_descriptor.result.now c.self.invariant
+    there
     c.requires.small)
