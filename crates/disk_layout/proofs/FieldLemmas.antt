@@ -1,21 +1,17 @@
 -- Numbers and bytes that are written at a place of a sector.
-use Rattle.std.proofs.Common.{◌≡◌, ℕ, zero, suc, ◌+◌, ◌-◌, ◌/◌, ◌%◌, ◌^◌, ◌<◌, ◌≤◌, List, [], ◌++◌}
+use Rattle.std.proofs.Common.{◌≡◌, ℕ, ◌+◌, ◌^◌, ◌<◌, List, [], ◌++◌}
 use Rattle.std.proofs.Common.{length, take, drop, replicate, refl, sym, ap, ◌∙◌, arith, length-drop}
 use Rattle.std.proofs.Common.{length-append, append_assoc}
-use Rattle.std.proofs.Math.Nat.{div-div-eq-div-mul, div-one, pow-suc}
 use Rattle.std.proofs.Math.Seq.{take-append-add, drop-append-add}
-use Rattle.std.proofs.lemmas.List.{append-nil, drop_all, take_all, drop-drop, length-take-le}
+use Rattle.std.proofs.lemmas.List.{drop_all, length-take-le}
 use Rattle.std.proofs.lemmas.List.{take_at, drop_at}
-use Rattle.std.specs.Int.{byte_at, bytes_low_first}
-use borrow.Rule.Slice.PartMut.{put_mid}
-use Rattle.guest_memory.specs.rules.Bytes.{bytes_of, with_part, part, number_of}
-use Rattle.guest_memory.proofs.ByteLemmas.{length-bytes_of, number_of-bytes_of}
+use Rattle.guest_memory.specs.rules.Bytes.{with_part, part, number_of}
+use Rattle.guest_memory.proofs.ByteLemmas.{number_of-bytes_of}
 use Rattle.wasi_abi.specs.rules.Layouts.{u32_bytes, u64_bytes, padding}
 use Rattle.disk_layout.specs.rules.Places.{Geometry}
 use Rattle.disk_layout.specs.rules.Sectors.{Stamp, stamp_of, stamp_bytes, Head, head_of, head_bytes}
 use Rattle.disk_layout.specs.rules.Sectors.{Super, super_of, super_bytes, IsMarked}
 use Rattle.disk_layout.specs.laws.Laws.{HeadFits, SuperFits}
-use Rattle.wasi_abi.proofs.LayoutLemmas.{byte_at-pow, bytes_low_first-bytes_of}
 use Rattle.disk_layout.specs.declared.superblock.TheConstants.{SUPER_MARK, SUPER_END_MARK}
 use Rattle.disk_layout.specs.declared.head.TheConstants.{HEAD_MARK}
 

@@ -1,17 +1,16 @@
 -- Heads that are written, and worked examples of them.
-use Rattle.std.proofs.Common.{◌≡◌, ℕ, ◌+◌, ◌%◌, ◌^◌, ◌<◌, ◌≤◌, List, [], ◌∷◌, ◌++◌, take, drop}
+use Rattle.std.proofs.Common.{◌≡◌, ℕ, ◌%◌, ◌<◌, ◌≤◌, List, [], ◌∷◌, ◌++◌, take, drop}
 use Rattle.std.proofs.Common.{get_or, refl, sym, ap, ◌∙◌, subst, arith}
 use Rattle.sha2.proofs.Facts256.{length-sha256}
-use Rattle.guest_memory.specs.rules.Bytes.{part, number_of}
+use Rattle.guest_memory.specs.rules.Bytes.{number_of}
 use Rattle.guest_memory.proofs.ByteLemmas.{number_of-bytes_of}
-use Rattle.wasi_abi.specs.rules.Layouts.{u64_bytes, padding}
+use Rattle.wasi_abi.specs.rules.Layouts.{padding}
 use Rattle.sector_disk.specs.rules.Image.{sector_at}
 use Rattle.sector_disk.proofs.ExampleLemmas.{differ}
-use Rattle.disk_layout.specs.rules.Places.{head_place}
-use Rattle.disk_layout.specs.rules.Sectors.{Head, stamp_bytes, stamp_of, head_of, head_bytes}
-use Rattle.disk_layout.specs.rules.Sectors.{IsComplete, IsNewest}
+use Rattle.disk_layout.specs.rules.Sectors.{Head, stamp_bytes, stamp_of, head_bytes}
+use Rattle.disk_layout.specs.rules.Sectors.{IsNewest}
 use Rattle.disk_layout.specs.laws.Laws.{HeadFits}
-use Rattle.disk_layout.specs.laws.Heads.{WrittenIsComplete, seven_head, seven_disk}
+use Rattle.disk_layout.specs.laws.Heads.{WrittenIsComplete, seven_head}
 use Rattle.disk_layout.specs.laws.Heads.{second_and_third, HeadExamples}
 use Rattle.disk_layout.proofs.FieldLemmas.{drop_over, head_again}
 

@@ -5,7 +5,7 @@ use Rattle.std.specs.Prelude.{find, is_some}
 use Rattle.std.specs.List.{AllByRecursion}
 use Rattle.std.proofs.lemmas.Bool.{eq-eqb, ne_eqb}
 use Rattle.std.proofs.lemmas.List.{map_push}
-use Rattle.file_tree.specs.rules.Files.{FileNode, Files, File, AreRising, changed_at, bytes_held}
+use Rattle.file_tree.specs.rules.Files.{FileNode, File, AreRising, changed_at, bytes_held}
 use Rattle.file_tree.specs.laws.Rebuilding.{FilledFiles}
 use Rattle.file_tree.proofs.Rebuilt.{numbers_below}
 use Rattle.file_tree.proofs.FilesTold.{files_with}

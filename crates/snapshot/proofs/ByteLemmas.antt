@@ -1,10 +1,10 @@
 -- The bytes of a head.
-use Rattle.std.proofs.Common.{◌≡◌, ℕ, zero, suc, ◌+◌, ◌/◌, List, ◌++◌, length, refl, w32}
+use Rattle.std.proofs.Common.{◌≡◌, ℕ, zero, suc, ◌+◌, List, ◌++◌, length, refl, w32}
 use Rattle.std.proofs.Common.{slice_index, ◌∙◌, arith, length-append}
 use Rattle.std.specs.List.{AllByRecursion}
 use Rattle.std.specs.Int.{to_be_bytes}
 use Rattle.sha2.specs.Sha256.{sha256, digest_bytes, final_hash, initial_hash_256}
-use Rattle.guest_memory.specs.rules.Bytes.{IsByte, bytes_of}
+use Rattle.guest_memory.specs.rules.Bytes.{IsByte}
 use Rattle.wasi_abi.specs.rules.Layouts.{u32_bytes, u64_bytes, padding}
 use Rattle.disk_layout.specs.declared.head.Head.{Head}
 use Rattle.disk_layout.specs.rules.Sectors.{head_bytes}

@@ -1,5 +1,5 @@
 -- An image shows one newest snapshot at most.
-use Rattle.std.proofs.Common.{◌≡◌, ℕ, ◌+◌, ◌-◌, List, length, take, Err, IsErr, refl, sym, ap, ◌∙◌}
+use Rattle.std.proofs.Common.{◌≡◌, ℕ, ◌+◌, ◌-◌, List, length, take, IsErr, refl, sym, ap, ◌∙◌}
 use Rattle.std.proofs.Common.{subst, inl, inr, arith}
 use Rattle.sector_disk.specs.rules.Image.{Image, sector_at}
 use Rattle.disk_layout.specs.declared.geometry.Geometry.{Geometry}
@@ -8,7 +8,6 @@ use Rattle.sha2.specs.Sha256.{sha256}
 use Rattle.disk_layout.specs.rules.Places.{head_place, area_place}
 use Rattle.disk_layout.specs.rules.Sectors.{bytes_from, head_of, IsNewest, HoldsImage}
 use Rattle.snapshot.specs.rules.Newest.{IsDamaged}
-use Rattle.snapshot.specs.rules.Heads.{IsReadyForHead}
 use Rattle.snapshot.specs.laws.Laws.{ImageShowsOne, CanBeginAgain, FailsForGood}
 use Rattle.snapshot.proofs.AreaLemmas.{none_at, one_newest}
 

@@ -1,5 +1,5 @@
 -- Worked examples of what a `Snapshots` is in the middle of.
-use Rattle.std.proofs.Common.{◌≡◌, refl, arith}
+use Rattle.std.proofs.Common.{refl, arith}
 use Rattle.snapshot.specs.laws.Examples.{StateExamples}
 
 pub state_examples : StateExamples

@@ -1,7 +1,7 @@
 -- What the calls of a commit ask the disk for, one after another.
-use Rattle.std.proofs.Common.{◌≡◌, ◌≤◌, ◌⊎◌, ℕ, zero, suc, ◌+◌, ◌-◌, List, [], ◌∷◌, ◌++◌, Result}
+use Rattle.std.proofs.Common.{◌≡◌, ◌≤◌, ℕ, zero, suc, ◌+◌, ◌-◌, List, [], ◌∷◌, ◌++◌, Result}
 use Rattle.std.proofs.Common.{refl, sym, ap, ◌∙◌, subst, inl, inr, ⊎_elim, arith, append_assoc}
-use Rattle.sector_disk.specs.rules.Medium.{Medium, BeginsCalls, MakesCalls}
+use Rattle.sector_disk.specs.rules.Medium.{Medium, BeginsCalls}
 use Rattle.sector_disk.specs.rules.Calls.{rising_writes}
 use Rattle.sector_disk.specs.declared.disk_call.DiskCall.{DiskCall}
 use Rattle.sector_disk.specs.declared.disk_call.DiskCall.TheVariants.{WriteOf, Sync}

@@ -23,7 +23,6 @@ use Rattle.machine_slots.specs.rules.Places.{ShownFrame, MachineState}
 use Rattle.machine_frame.specs.rules.Fitting.{slots_held}
 use Rattle.machine.specs.rules.Loading.{ShowsSome}
 use Rattle.machine.specs.rules.Values.{MachineValue}
-use Rattle.machine.proofs.LoadingLemmas.Words.{empty_iff}
 use Rattle.process_rules.specs.Processes.{Ending}
 use Rattle.process_rules.proofs.OneStart.{item_number, entry_once}
 use Rattle.state_image.specs.rules.Image.{Saved, ending_code}

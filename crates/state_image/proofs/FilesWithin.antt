@@ -6,7 +6,7 @@ use Rattle.std.specs.List.{AllByRecursion}
 use Rattle.std.proofs.lemmas.List.{length-map}
 use Rattle.file_tree.specs.rules.Files.{IsNodeName, Name, Path, Files, FileNode, Content}
 use Rattle.file_tree.specs.rules.Files.{Directory, File, Entry, path_of, entry_of}
-use Rattle.file_tree.specs.rules.Files.{entries_in, sorted, entries_under, entries_of}
+use Rattle.file_tree.specs.rules.Files.{entries_in, entries_under, entries_of}
 use Rattle.file_tree.specs.rules.Files.{IsPlaced, IsSmallContent, IsFiles}
 use Rattle.file_tree.proofs.Order.{all_sorted}
 use Rattle.file_tree.proofs.Seen.{length-sorted}

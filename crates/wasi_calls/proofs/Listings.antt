@@ -14,7 +14,7 @@ use Rattle.guest_memory.proofs.Ranges.{length-with_part, with_lent-with_bytes}
 use Rattle.file_tree.specs.declared.limits.TheConstants.{NODES, NAME_BYTES}
 use Rattle.file_tree.specs.rules.Files.{Name, Path, FileNode, Files, Entry, IsFiles, IsPlaced}
 use Rattle.file_tree.specs.rules.Files.{is_same_name, path_of, name_behind, entry_of}
-use Rattle.file_tree.specs.rules.Files.{entries_in, entries_under, entries_of, sorted}
+use Rattle.file_tree.specs.rules.Files.{entries_in, entries_under, entries_of}
 use Rattle.file_tree.specs.rules.Listings.{number_at_place, HasNameAtPlace}
 use Rattle.file_tree.proofs.Order.{all_sorted, all_at}
 use Rattle.file_tree.proofs.Seen.{length-sorted}

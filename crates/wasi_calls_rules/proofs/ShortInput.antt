@@ -1,11 +1,10 @@
 -- A call that is done leaves no more unread than one request's text and its newline.
 use Rattle.std.proofs.Common.{◌≡◌, ℕ, ◌+◌, ◌≤◌, [], ◌∷◌, ◌++◌, length, drop, Option, Some, None}
-use Rattle.std.proofs.Common.{refl, arith, length-append, length-drop}
+use Rattle.std.proofs.Common.{arith, length-append, length-drop}
 use Rattle.wasi_abi.specs.rules.Answers.{newline}
 use Rattle.file_tree.specs.rules.Files.{Path}
 use Rattle.wasi_calls_rules.specs.Hosts.{Host}
 use Rattle.wasi_calls_rules.specs.Checks.{Bytes}
-use Rattle.wasi_calls_rules.specs.Lines.{stream_written}
 use Rattle.wasi_calls_rules.specs.Entries.{renamed_over}
 use Rattle.wasi_calls_rules.specs.laws.Laws.{HasShortInput, RowsKeepInputShort}
 use Rattle.wasi_calls_rules.proofs.HostChanges.{Becomes, stays, sees_time, leaves_unread}

@@ -1,11 +1,11 @@
 -- Worked examples of records, and of journals that are scanned.
-use Rattle.std.specs.Prelude.{◌≡◌, ℕ, List, [], ◌∷◌, ◌++◌, take, drop, codes, Some, None}
+use Rattle.std.specs.Prelude.{◌≡◌, ℕ, List, [], ◌∷◌, ◌++◌, take, drop, Some, None}
 use Rattle.wasi_abi.specs.declared.answer.Answer.{Answer}
 use Rattle.wasi_abi.specs.declared.answer.Answer.TheVariants as answer
 use Rattle.sector_disk.specs.rules.Image.{Image}
 use Rattle.disk_layout.specs.rules.Places.{Geometry}
 use Rattle.disk_layout.specs.rules.Journal.{Record, record_bytes, record_at, answer_of}
-use Rattle.disk_layout.specs.rules.Journal.{journal_sector, is_of, payloads_from, scan}
+use Rattle.disk_layout.specs.rules.Journal.{journal_sector, payloads_from, scan}
 use Rattle.disk_layout.specs.laws.Examples.{hello_record}
 
 -- an answer that the step 258 took

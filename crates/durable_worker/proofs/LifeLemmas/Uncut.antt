@@ -1,17 +1,14 @@
 -- Lives in which the power isn't cut.
-use Rattle.std.proofs.Common.{◌≡◌, ◌⊎◌, inl, inr, ℕ, ◌≤◌, List, [], ◌∷◌, length, None, Some, Ok}
+use Rattle.std.proofs.Common.{◌≡◌, inl, List, [], ◌∷◌, length, Ok}
 use Rattle.std.proofs.Common.{Err}
-use Rattle.std.proofs.Common.{refl, sym, ap, ◌∙◌, subst, arith, lit≤}
-use Rattle.std.specs.Prelude.{Option, Result}
-use Rattle.wasm_syntax.specs.declared.module.Module.{Module}
-use Rattle.wasi_abi.specs.rules.Configs.{Settings}
+use Rattle.std.proofs.Common.{refl, sym, ap, subst, arith, lit≤}
+use Rattle.std.specs.Prelude.{Result}
 use Rattle.sector_disk.specs.rules.Medium.{Medium}
 use Rattle.record_replay.specs.rules.Calls.{Giving, Taking, Exchange}
 use Rattle.worker_rules.specs.Lives.{Act, told_in}
-use Rattle.worker_rules.specs.Promises.{Promise}
 use Rattle.durable_worker.specs.declared.recover_fault.RecoverFault.{RecoverFault}
-use Rattle.durable_worker.specs.laws.OneLife.{IsLifeOver, EndsBy, released_in, taken_in}
-use Rattle.durable_worker.specs.laws.Uncut.{uncut, GoesOnUncut, LivesGoOnUncut}
+use Rattle.durable_worker.specs.laws.OneLife.{IsLifeOver, EndsBy, released_in}
+use Rattle.durable_worker.specs.laws.Uncut.{uncut, LivesGoOnUncut}
 use Rattle.durable_worker.proofs.LifeLemmas.Living.{calls_make_lives, anything_comes_true}
 use Rattle.durable_worker.proofs.LifeLemmas.Heard.{all_heard, as_many}
 

@@ -1,5 +1,5 @@
 -- The fronts of a module's bytes, by reading each of them.
-use Rattle.std.proofs.Common.{◌≡◌, ◌≢◌, ℕ, zero, suc, ◌<◌, inl, inr, Bool, true, false, ◌&&◌, ◌||◌}
+use Rattle.std.proofs.Common.{◌≡◌, ◌≢◌, ℕ, zero, suc, ◌<◌, inl, inr, Bool, true, ◌&&◌, ◌||◌}
 use Rattle.std.proofs.Common.{eqb, take, Option, Some, None, is_none, refl, arith}
 use Rattle.std.proofs.lemmas.Bool.{cases_lt, ne_eqb}
 use Rattle.wasm_syntax.specs.declared.module.Module.{Module}

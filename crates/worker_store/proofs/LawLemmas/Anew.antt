@@ -1,9 +1,7 @@
 -- A worker that is created, and opens.
-use Rattle.std.proofs.Common.{◌≡◌, ◌⊎◌, ℕ, ◌≤◌, List, [], length, refl, ap, subst, inl, inr, ⊎_elim}
+use Rattle.std.proofs.Common.{◌≡◌, ◌⊎◌, List, [], length, ap, subst, inl, inr, ⊎_elim}
 use Rattle.std.proofs.Common.{arith}
 use Rattle.std.proofs.Math.Nat.{le-max_right}
-use Rattle.wasm_syntax.specs.declared.module.Module.{Module}
-use Rattle.wasi_abi.specs.rules.Configs.{Settings}
 use Rattle.process_rules.specs.Runs.{Kept}
 use Rattle.state_image.specs.rules.Image.{Saved}
 use Rattle.sector_disk.specs.rules.Image.{Image}
@@ -13,7 +11,6 @@ use Rattle.worker_rules.specs.Stands.{IsBlank}
 use Rattle.worker_rules.specs.Lives.{Opened}
 use Rattle.worker_rules.specs.Promises.{Promise, after}
 use Rattle.worker_rules.specs.Holds.{IsNothingYet, ImageHolds}
-use Rattle.worker_store.specs.laws.Savepoints.{Savepoint}
 use Rattle.worker_store.specs.laws.Commits.{BeginsAtPoint}
 use Rattle.worker_store.specs.laws.Carried.{IsHeldAt, PromisesNoMore}
 use Rattle.worker_store.specs.laws.Anew.{CreationOpens}

@@ -1,27 +1,26 @@
 -- How a worker's call ends.
-use Rattle.std.proofs.Common.{◌≡◌, ◌⊎◌, ℕ, suc, ◌+◌, ◌≤◌, ◌<◌, ◌^◌, List, [], ◌∷◌, length}
+use Rattle.std.proofs.Common.{◌≡◌, ℕ, suc, ◌+◌, ◌≤◌, ◌^◌, List, ◌∷◌, length}
 use Rattle.std.proofs.Common.{take, refl, sym, ap, ◌∙◌, subst, arith, inl, inr, Option}
-use Rattle.std.proofs.Common.{Some, None}
+use Rattle.std.proofs.Common.{Some}
 use Rattle.std.proofs.Math.Seq.{take-length}
 use Rattle.wasm_syntax.specs.declared.module.Module.{Module}
 use Rattle.wasi_abi.specs.declared.numbers.TheConstants.{NUMBERS_END}
 use Rattle.wasi_abi.specs.declared.answer.Answer.{Answer}
 use Rattle.wasi_abi.specs.rules.Configs.{Settings}
-use Rattle.process_rules.specs.Processes.{Ending, ProcessState, Guest, IsStart}
+use Rattle.process_rules.specs.Processes.{ProcessState, Guest, IsStart}
 use Rattle.process_rules.specs.Runs.{Kept, Runs, Next, On, Over, Wants, Nowhere, next_of}
-use Rattle.process.specs.rules.Stops.{IsBeyond, LacksNumbers}
-use Rattle.state_image.specs.rules.Image.{Saved, SavedShowsProcess}
-use Rattle.worker_rules.specs.Lives.{Act, Slice, Checkpoint, Reply, Spent, Waits, Over as OverReply}
-use Rattle.worker_rules.specs.Lives.{Done, Fails, Cause, OfDisk, OfSource, OfAnswer, OfOutlet}
-use Rattle.worker_rules.specs.Lives.{OfMemory, OfBounds, Ended}
-use Rattle.worker_rules.specs.Courses.{Stage, Phase, Open, NoneThere, MayFail, next_stage}
-use Rattle.worker_rules.specs.Courses.{phase_ended, IsNextAct}
-use Rattle.worker_rules.specs.Promises.{Promise, after, IsEnding, IsAt, IsAtBound, HasLastLines}
-use Rattle.worker_rules.specs.Promises.{IsReply, IsCaughtUp}
-use Rattle.worker_store.specs.laws.Underway.{IsInItsSlice, IsUnderWay, IsBroken}
-use Rattle.worker_store.specs.laws.CallEnds.{IsSavedAs, IsSliceOver, SpentSlicesEnd, EndedSlicesEnd}
+use Rattle.process.specs.rules.Stops.{LacksNumbers}
+use Rattle.state_image.specs.rules.Image.{Saved}
+use Rattle.worker_rules.specs.Lives.{Act, Slice, Checkpoint}
+use Rattle.worker_rules.specs.Lives.{Fails, Cause, OfDisk, OfSource, OfAnswer, OfOutlet}
+use Rattle.worker_rules.specs.Lives.{OfMemory, OfBounds}
+use Rattle.worker_rules.specs.Courses.{Stage, NoneThere, MayFail}
+use Rattle.worker_rules.specs.Courses.{IsNextAct}
+use Rattle.worker_rules.specs.Promises.{Promise, IsAt, IsAtBound, HasLastLines}
+use Rattle.worker_rules.specs.Promises.{IsCaughtUp}
+use Rattle.worker_store.specs.laws.CallEnds.{IsSavedAs, SpentSlicesEnd, EndedSlicesEnd}
 use Rattle.worker_store.specs.laws.CallEnds.{WaitingSlicesEnd, HasBound, FailedSlicesEnd}
-use Rattle.worker_store.specs.laws.CallEnds.{IsBetween, DoneCheckpointsEnd, FailedCheckpointsEnd}
+use Rattle.worker_store.specs.laws.CallEnds.{DoneCheckpointsEnd, FailedCheckpointsEnd}
 use Rattle.worker_store.specs.laws.CallEnds.{SlicesBegin, CallsLeaveBetween}
 
 next_act : (act : Act) (acts rest : List Act) → acts ≡ act ∷ rest → IsNextAct act acts

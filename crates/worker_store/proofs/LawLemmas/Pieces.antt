@@ -1,15 +1,13 @@
 -- Parts of a call, one after another.
-use Rattle.std.proofs.Common.{◌≡◌, Bool, List, [], ◌∷◌, ◌++◌, refl, sym, ap, ◌∙◌, subst}
-use Rattle.wasm_syntax.specs.declared.module.Module.{Module}
-use Rattle.wasi_abi.specs.rules.Configs.{Settings}
+use Rattle.std.proofs.Common.{Bool, List, [], ◌∷◌, ◌++◌, sym, ap, ◌∙◌, subst}
 use Rattle.record_replay.specs.rules.Calls.{Exchange, Asks, Tells}
-use Rattle.worker_rules.specs.Lives.{SourceSaid, Event, Told, Asked}
-use Rattle.worker_rules.specs.Courses.{Stage, first_said, first_taken, without_first}
+use Rattle.worker_rules.specs.Lives.{SourceSaid, Event}
+use Rattle.worker_rules.specs.Courses.{Stage, without_first}
 use Rattle.worker_rules.specs.Courses.{next_stage, stage_after}
-use Rattle.worker_rules.specs.Promises.{Promise, after, promised, AreKept, IsKept}
-use Rattle.worker_rules.specs.Exchanges.{was_taken, AreEvents, none, told, asked}
+use Rattle.worker_rules.specs.Promises.{after, promised, AreKept, IsKept}
+use Rattle.worker_rules.specs.Exchanges.{AreEvents, none, told, asked}
 use Rattle.worker_rules.proofs.Promised.{calls_join}
-use Rattle.worker_store.specs.laws.Pieces.{Foretell, IsForetold, AreDone, PartsJoin}
+use Rattle.worker_store.specs.laws.Pieces.{Foretell, IsForetold, PartsJoin}
 use Rattle.worker_store.specs.laws.Pieces.{PartsAreForetold, EndsJoin}
 
 events_join : (first rest : List Exchange) (events others : List Event) → AreEvents first events

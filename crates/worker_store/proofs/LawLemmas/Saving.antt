@@ -23,7 +23,7 @@ use Rattle.worker_store.specs.laws.Barriers.{StandsAtFront}
 use Rattle.worker_store.specs.laws.Commits.{BeginsAtPoint}
 use Rattle.worker_store.specs.laws.Carried.{IsHeldAt, IsCarried, SavesFront}
 use Rattle.worker_store.specs.laws.Saves.{StandsAtFrontOrNext, SaveAtAnyMoment, SaveCarries}
-use Rattle.worker_store.specs.laws.Saves.{SavingCheckpoints, EndsPromiseNoLess, SavesCheckpoint}
+use Rattle.worker_store.specs.laws.Saves.{SavingCheckpoints, EndsPromiseNoLess}
 use Rattle.worker_store.proofs.LawLemmas.Carrying.{carries, front_is_held, all_is_held}
 use Rattle.worker_store.proofs.LawLemmas.Carrying.{next_is_held}
 use Rattle.worker_store.proofs.LawLemmas.Carrying.{held_at_stands, checkpoint_is_held}

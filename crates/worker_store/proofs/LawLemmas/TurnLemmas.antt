@@ -1,5 +1,5 @@
 -- Parts of a call, one after another: what they make of what was promised, and of the disk.
-use Rattle.std.proofs.Common.{◌≡◌, ◌⊎◌, ℕ, ◌+◌, ◌<◌, ◌≤◌, Bool, true, false, List, [], ◌∷◌, ◌++◌}
+use Rattle.std.proofs.Common.{◌≡◌, ℕ, ◌+◌, ◌<◌, ◌≤◌, Bool, true, false, List, ◌++◌}
 use Rattle.std.proofs.Common.{length, take, refl, sym, ap, ◌∙◌, subst, inl, inr, ⊎_elim, arith}
 use Rattle.std.proofs.Common.{length-append}
 use Rattle.std.specs.Prelude.{max}
@@ -14,7 +14,7 @@ use Rattle.process_rules.specs.Runs.{Kept, Reaches}
 use Rattle.process_rules.specs.Behind.{AnswersBehindSync}
 use Rattle.sector_disk.specs.rules.Image.{Image}
 use Rattle.sector_disk.specs.rules.Medium.{Medium, LeavesOnly}
-use Rattle.sector_disk.proofs.Moments.{started, leaves_only, leaves_weaker}
+use Rattle.sector_disk.proofs.Moments.{started, leaves_only}
 use Rattle.record_replay.specs.rules.Calls.{Exchange}
 use Rattle.worker_rules.specs.Stands.{StandsFor}
 use Rattle.worker_rules.specs.Lives.{SourceSaid, Release, Event, Told, Asked, Ended, kept_of_said}
@@ -22,9 +22,9 @@ use Rattle.worker_rules.specs.Courses.{Stage, next_stage, stage_after}
 use Rattle.worker_rules.specs.Promises.{Promise, after, promised, HoldsAll}
 use Rattle.worker_rules.specs.Holds.{HoldsPromise, IsUnopened, ImageHolds}
 use Rattle.worker_rules.specs.Exchanges.{was_taken, release_of, AreEvents, none, told, asked}
-use Rattle.worker_store.specs.laws.Carried.{PromisesNoMore, count_at, IsCarried}
+use Rattle.worker_store.specs.laws.Carried.{PromisesNoMore, count_at}
 use Rattle.worker_store.specs.laws.Raised.{SyncsAreHeld}
-use Rattle.worker_store.specs.laws.Turns.{StillHolds, ToldStillHolds, AskedStillHolds}
+use Rattle.worker_store.specs.laws.Turns.{ToldStillHolds, AskedStillHolds}
 use Rattle.worker_store.specs.laws.Turns.{EndedStillHolds, LeavesBegun, PartsLeaveBegun, GoesOnFrom}
 use Rattle.worker_store.specs.laws.Turns.{TurnsJoin, TurnsCarry, RestsGoOn, LinesCarry}
 use Rattle.worker_store.proofs.LawLemmas.Carrying.{less_is_held, answers_count}

@@ -1,34 +1,30 @@
 -- A worker in the middle of a slice: its steps, its lines and its questions.
-use Rattle.std.proofs.Common.{◌≡◌, ℕ, zero, suc, ◌+◌, ◌≤◌, ◌<◌, Bool, true, false, List, [], ◌∷◌}
-use Rattle.std.proofs.Common.{◌++◌, length, take, max, refl, sym, ap, ◌∙◌, subst, arith, Option}
+use Rattle.std.proofs.Common.{◌≡◌, ℕ, ◌+◌, ◌≤◌, ◌<◌, Bool, true, false, List, [], ◌∷◌}
+use Rattle.std.proofs.Common.{◌++◌, length, take, refl, sym, ap, ◌∙◌, subst, arith}
 use Rattle.std.proofs.Common.{Some, None, Ok, Err}
-use Rattle.std.specs.Prelude.{slice_get}
 use Rattle.std.proofs.Math.Nat.{le-max_left}
 use Rattle.std.proofs.Math.Seq.{take-length, take-append_seam}
 use Rattle.std.proofs.lemmas.Option.{slice_get_within}
 use Rattle.std.proofs.lemmas.List.{append-nil, length-append}
 use Rattle.wasm_syntax.specs.declared.module.Module.{Module}
 use Rattle.wasi_abi.specs.declared.answer.Kind.{Kind}
-use Rattle.wasi_abi.specs.declared.answer.Answer.{Answer}
 use Rattle.wasi_abi.specs.rules.Configs.{Settings}
-use Rattle.wasi_calls_rules.specs.Hosts.{Line}
 use Rattle.wasi_calls_rules.specs.laws.Laws.{Emits}
-use Rattle.process_rules.specs.Processes.{ProcessState, Guest, IsStart}
-use Rattle.process_rules.specs.Runs.{Kept, Given, Runs, none, take as takes, Moves, Reaches}
+use Rattle.process_rules.specs.Processes.{ProcessState, Guest}
+use Rattle.process_rules.specs.Runs.{Kept, Given, Runs, none, take as takes, Reaches}
 use Rattle.process_rules.proofs.Quiet.{runs_join}
 use Rattle.process_rules.proofs.Growing.{runs_count, runs_emit, move_counts, move_emits}
-use Rattle.record_replay.specs.declared.fault.SourceFault.{SourceFault}
 use Rattle.worker_rules.specs.Lives.{Act, Slice, SourceSaid, Release, Told, Asked}
-use Rattle.worker_rules.specs.Lives.{OfSource, OfAnswer, OfOutlet, kept_of_said}
-use Rattle.worker_rules.specs.Courses.{Stage, Phase, Open, NoneThere, Broken, next_stage}
-use Rattle.worker_rules.specs.Courses.{first_said, first_taken, phase_refused, IsToldIn, IsAskedIn}
+use Rattle.worker_rules.specs.Lives.{kept_of_said}
+use Rattle.worker_rules.specs.Courses.{Stage, Open, next_stage}
+use Rattle.worker_rules.specs.Courses.{phase_refused, IsToldIn, IsAskedIn}
 use Rattle.worker_rules.specs.Courses.{ComesAfter}
 use Rattle.worker_rules.specs.Courses.{IsWithinSlice}
-use Rattle.worker_rules.specs.Promises.{Promise, after, IsTelling, IsInquiring, IsFitting}
-use Rattle.worker_store.specs.laws.Underway.{IsInItsSlice, IsUnderWay, IsBroken, IsAtQuestion}
+use Rattle.worker_rules.specs.Promises.{Promise, after}
+use Rattle.worker_store.specs.laws.Underway.{IsInItsSlice, IsAtQuestion}
 use Rattle.worker_store.specs.laws.Underway.{StepsGoOn, LinesAreTold, TakenLinesGoOn}
 use Rattle.worker_store.specs.laws.Underway.{RefusedLinesBreak, QuestionsAreAsked, AnswersGoOn}
-use Rattle.worker_store.specs.laws.Underway.{AnswersAreKept, OthersBreak, OtherAnswersBreak}
+use Rattle.worker_store.specs.laws.Underway.{AnswersAreKept, OtherAnswersBreak}
 use Rattle.worker_store.specs.laws.Underway.{promise_asked, stage_asked}
 
 module _ (m : Module) (config : Settings) (guest : Guest) where

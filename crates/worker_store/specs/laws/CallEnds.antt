@@ -1,5 +1,5 @@
 -- How a worker's call ends, as an event of a life.
-use Rattle.std.specs.Prelude.{◌≡◌, ◌⊎◌, ℕ, suc, ◌+◌, ◌≤◌, ◌<◌, List, [], ◌∷◌, length, take}
+use Rattle.std.specs.Prelude.{◌≡◌, ◌⊎◌, ℕ, ◌+◌, ◌≤◌, ◌<◌, List, ◌∷◌, length}
 use Rattle.std.specs.Prelude.{Option, Some, None}
 use Rattle.wasm_syntax.specs.declared.module.Module.{Module}
 use Rattle.wasm_syntax.specs.declared.types.FunctionType.{FunctionType}
@@ -16,7 +16,7 @@ use Rattle.worker_rules.specs.Lives.{Fails, Cause, OfBounds, Ended}
 use Rattle.worker_rules.specs.Courses.{Stage, Phase, Open, NoneThere, MayFail, next_stage}
 use Rattle.worker_rules.specs.Courses.{phase_ended}
 use Rattle.worker_rules.specs.Promises.{Promise, after, IsEnding}
-use Rattle.worker_store.specs.laws.Underway.{IsInItsSlice, IsUnderWay, IsBroken}
+use Rattle.worker_store.specs.laws.Underway.{IsUnderWay, IsBroken}
 
 module _ (m : Module) (config : Settings) (guest : Guest) where
   -- this is the process as it is saved

@@ -1,18 +1,18 @@
 -- A worker that is recovered or created, as events of a life: the lines that are told again, and
 -- the opening.
-use Rattle.std.specs.Prelude.{◌≡◌, ℕ, ◌+◌, ◌≤◌, ◌<◌, true, false, List, [], ◌∷◌, ◌++◌}
-use Rattle.std.specs.Prelude.{length, map, drop, take, Some, slice_get}
+use Rattle.std.specs.Prelude.{◌≡◌, ℕ, ◌+◌, ◌≤◌, List, ◌∷◌, ◌++◌}
+use Rattle.std.specs.Prelude.{length, map, drop, take}
 use Rattle.wasm_syntax.specs.declared.module.Module.{Module}
 use Rattle.wasi_abi.specs.rules.Configs.{Settings}
 use Rattle.wasi_calls_rules.specs.Hosts.{Line}
 use Rattle.process_rules.specs.Processes.{ProcessState, Guest, IsStart}
 use Rattle.process_rules.specs.Runs.{Runs}
-use Rattle.record_replay.specs.rules.Calls.{Exchange, Tells, all_taken, last_refused}
+use Rattle.record_replay.specs.rules.Calls.{Tells, all_taken, last_refused}
 use Rattle.state_image.specs.rules.Image.{Saved}
-use Rattle.worker_rules.specs.Lives.{Inputs, Release, Told, Opened}
-use Rattle.worker_rules.specs.Courses.{Stage, Shut, Unheard, at_first, first_taken, next_stage}
+use Rattle.worker_rules.specs.Lives.{Inputs, Opened}
+use Rattle.worker_rules.specs.Courses.{Stage, Shut, Unheard, at_first, next_stage}
 use Rattle.worker_rules.specs.Courses.{IsLast}
-use Rattle.worker_rules.specs.Promises.{Promise, after, HoldsAll, IsTelling, IsOpening}
+use Rattle.worker_rules.specs.Promises.{Promise, after, HoldsAll, IsOpening}
 use Rattle.worker_rules.specs.Holds.{IsNothingYet}
 use Rattle.worker_store.specs.laws.Pieces.{IsForetold}
 use Rattle.worker_store.specs.laws.Telling.{AreMade}

@@ -1,14 +1,13 @@
 -- A worker in the middle of a slice, as events of a life: its steps, its lines and its questions.
-use Rattle.std.specs.Prelude.{◌≡◌, ℕ, suc, ◌+◌, ◌≤◌, ◌<◌, Bool, true, false, List, [], ◌∷◌, ◌++◌}
-use Rattle.std.specs.Prelude.{length, take, Option, Some, None, Ok, Err, slice_get}
+use Rattle.std.specs.Prelude.{◌≡◌, ℕ, ◌+◌, ◌≤◌, ◌<◌, Bool, true, false, List, [], ◌∷◌}
+use Rattle.std.specs.Prelude.{length, take, Some, None, Ok, Err, slice_get}
 use Rattle.wasm_syntax.specs.declared.module.Module.{Module}
 use Rattle.wasi_abi.specs.declared.answer.Kind.{Kind}
 use Rattle.wasi_abi.specs.declared.answer.Answer.{Answer}
-use Rattle.wasi_abi.specs.rules.Answers.{Fits}
 use Rattle.wasi_abi.specs.rules.Configs.{Settings}
 use Rattle.wasi_calls_rules.specs.Hosts.{Line}
 use Rattle.process_rules.specs.Processes.{ProcessState, Guest, IsStart}
-use Rattle.process_rules.specs.Runs.{Kept, Given, Runs, Moves, Reaches, Wants, next_of}
+use Rattle.process_rules.specs.Runs.{Runs, Moves, Wants, next_of}
 use Rattle.record_replay.specs.declared.fault.SourceFault.{SourceFault}
 use Rattle.worker_rules.specs.Lives.{Act, Slice, SourceSaid, Release, Told, Asked}
 use Rattle.worker_rules.specs.Lives.{OfSource, OfAnswer, OfOutlet}

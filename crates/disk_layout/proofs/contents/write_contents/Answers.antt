@@ -1,7 +1,7 @@
-use Rattle.std.proofs.Common.{◌≡◌, ◌<◌, ◌≤◌, ◌+◌, ◌++◌, ℕ, List, length, Ok, Result, sym, ap, ◌∙◌}
+use Rattle.std.proofs.Common.{◌≡◌, ◌<◌, ◌≤◌, ◌+◌, ◌++◌, ℕ, List, length, sym, ap, ◌∙◌}
 use Rattle.std.proofs.Common.{subst, arith, rules}
 use Rattle.sector_disk.specs.rules.Image.{sector_at}
-use Rattle.sector_disk.specs.rules.Medium.{Tears, TakesWrite, BothFollow, MakesCalls}
+use Rattle.sector_disk.specs.rules.Medium.{Tears, TakesWrite, BothFollow}
 use Rattle.sector_disk.specs.rules.Calls.{rising_writes}
 use Rattle.sector_disk.specs.rules.Run.{IsTornRun, IsWrittenRun}
 use Rattle.sector_disk.proofs.RunLemmas.{both_tear, both_take, both_longer, run_passes}

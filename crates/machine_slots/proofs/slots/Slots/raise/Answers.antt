@@ -1,6 +1,5 @@
-use Rattle.std.proofs.Common.{◌≡◌, ◌+◌, ◌-◌, ◌≤◌, List, ℕ, ◌++◌, length, length-take, ap, ◌∙◌}
+use Rattle.std.proofs.Common.{◌+◌, ◌≤◌, ◌++◌, length, length-take, ap, ◌∙◌}
 use Rattle.std.proofs.Common.{arith}
-use Rattle.std.specs.Prelude.{reverse}
 use Rattle.std.proofs.lemmas.List.{length-reverse}
 use Rattle.machine_slots.proofs.Falls.{rises}
 use Rattle.machine_slots.proofs.slots.Slots.raise.Goals as goal

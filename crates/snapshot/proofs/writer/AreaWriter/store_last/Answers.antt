@@ -1,4 +1,4 @@
-use Rattle.std.proofs.Common.{◌≡◌, ◌≤◌, ◌<◌, ◌+◌, ◌-◌, ◌*◌, ◌++◌, ◌∙◌, ℕ, List, [], take, drop}
+use Rattle.std.proofs.Common.{◌≡◌, ◌<◌, ◌+◌, ◌-◌, ◌*◌, ◌++◌, ◌∙◌, ℕ, List, [], take, drop}
 use Rattle.std.proofs.Common.{replicate, refl, sym, ap, subst, arith}
 use Rattle.std.proofs.lemmas.List.{append-nil, drop-replicate}
 use Rattle.std.proofs.lemmas.Result.{on_ok_weaker}
