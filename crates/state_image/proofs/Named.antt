@@ -40,7 +40,7 @@ items_named fs ns =
     (sym (length-map ns (named fs)))
     ∙ ap (λ (bytes : List ℕ). u32_bytes (length (map (named fs) ns)) ++ bytes) (nodes_named fs ns)
 
--- ---- the fields of an entry_with
+-- ---- the fields of an entry
 
 same_entry : (e f : Entry) → e.name ≡ f.name → e.number ≡ f.number → e ≡ f
 same_entry e f a b =

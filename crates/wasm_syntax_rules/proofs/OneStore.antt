@@ -21,12 +21,12 @@ initial_once (g ∷ globals) (x ∷ a) (y ∷ b) h k =
     let others = initial_once globals a b h.1 k.1 in
     cc
 
-abbrev pub store_of : List ℕ → List Value → List (Option ℕ) → Store
-store_of memory globals table = record { memory = memory; globals = globals; table = table }
+abbrev pub store_from : List ℕ → List Value → List (Option ℕ) → Store
+store_from memory globals table = record { memory = memory; globals = globals; table = table }
 
 store_is : (a b : Store) → a.memory ≡ b.memory → a.globals ≡ b.globals → a.table ≡ b.table → a ≡ b
 store_is a b x y z =
-    let whole : store_of a.memory a.globals a.table ≡ store_of b.memory b.globals b.table = rw (
+    let whole : store_from a.memory a.globals a.table ≡ store_from b.memory b.globals b.table = rw (
       x,
       y,
       z,

@@ -30,7 +30,7 @@ use Rattle.machine.proofs.InstanceLemmas.Offered.{no_globals, no_tables, no_memo
 use Rattle.machine.proofs.InstanceLemmas.Offered.{not_all_offered}
 use Rattle.machine.proofs.InstanceLemmas.Constant.{initial_values}
 use Rattle.machine.proofs.InstanceLemmas.Filled.{some_of}
-use Rattle.wasm_syntax_rules.proofs.OneStore.{initial_once, store_of as store_from}
+use Rattle.wasm_syntax_rules.proofs.OneStore.{initial_once, store_from}
 
 -- ---- a module whose imports are offered imports functions alone
 

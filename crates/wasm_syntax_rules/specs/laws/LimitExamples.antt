@@ -106,7 +106,7 @@ two_functions = record {
   most_pages = 1;
 }
 
--- a table: function 0, no_type, function 1
+-- a table: function 0, nothing, function 1
 abbrev pub three_entries : Store
 three_entries = record { memory = []; globals = []; table = Some 0 ∷ None ∷ Some 1 ∷ [] }
 

@@ -21,7 +21,7 @@ steps_among (Slice fuel ∷ acts) = fuel + steps_among acts
 steps_among (Checkpoint ∷ acts) = steps_among acts
 
 -- A slice of this fuel has failed there, as its own clause says. Or it has answered there, when no
--- line waits, and the checkpoint behind it has failed. By what one fails, the calls of a life say.
+-- line waits, and the checkpoint behind it has failed (by what, `CallsInOrder` says).
 pub data IsBrokenAt (guest : Guest) (p : ProcessState) (fuel : ℕ) (exchanges : List Exchange)
     (steps : ℕ) (q : ProcessState) (why : DurableFault) : Type 0 where
   in_slice : IsDiskCause guest p fuel exchanges steps q why
