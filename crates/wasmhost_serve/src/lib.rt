@@ -104,11 +104,11 @@ pub use check::check_bytes;
 pub use configuring::Sizes;
 pub use durable_worker::DurableWorker;
 pub use lines::{
-    BufferedLines, LineFault, LineOutlet, LineReader, Outside, Request, RequestSource,
+    BufferedLines, LineFault, LineOutlet, LineReader, Outside, RealTime, Request, RequestSource,
     read_request, trap_name,
 };
 pub use module_bytes::read_module;
-pub use on_disk::{Pace, create_on, report_open, serve, survey};
+pub use on_disk::{Pace, create_on, open_disk, report_open, serve, show_file, survey};
 pub use preparing::{Prepared, Unprepared, prepare, report_unprepared};
 pub use printer::Printer;
 pub use seed::{read_seed, seeded};
