@@ -13,9 +13,11 @@
 //! - `check` and `create` hand over a module's bytes. `create` makes the disk's file once the
 //!   module and its configuration are accepted.
 //! - `story` hands over all bytes of a script, and a module's bytes. It reads them in this order.
-//! - `run` and `show` open the disk's file, which one host holds at a time. `run` also hands over
-//!   the lines of the standard input, the machine's clock, and what the words say of seed and
-//!   clock.
+//! - `run` and `show` open the disk's file by `open_disk` and `show_file`, and one host holds it at a
+//!   time. `run` also hands over the lines of the standard input, the machine's clock, and what the
+//!   words say of seed and clock.
+//! - Before all that it takes the numbers of standard streams that are closed (`StreamNumbers`), so
+//!   that no file which it opens gets one. No clause says so: `scripts/closed-streams` runs it.
 //! - What keeps a command from beginning is told by `report`, `report_open` and
 //!   `report_unprepared`, and a fault of the words by `report_words`.
 //! - Each command is handed fresh printers, of which no write has failed. That of the error output
