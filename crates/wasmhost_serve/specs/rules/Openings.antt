@@ -51,9 +51,10 @@ module _ {F : Type 0} where
   IsOpenedFor true disk = (opened : FileDisk F) × IsWrittenBack opened disk
   IsOpenedFor false disk = IsUntouched disk
 
-  -- A disk in a file was opened, and nothing was done with it but to show it. Or none was opened.
-  abbrev pub ShowsFile : PrinterState → PrinterState → PrinterState → PrinterState → ℕ → Type 0
-  ShowsFile out out' err err' status =
-      ((disk disk' : FileDisk F) × (IsUntouched disk)
-      × ShowsDisk (file_medium disk) (file_medium disk') out out' err err' status)
-      ⊎ (SaysUnopened err status err' × (out' ≡ out))
+-- A disk in a file was opened, and nothing was done with it but to show it. Or none was opened.
+abbrev pub ShowsFile : (F : Type 0) → PrinterState → PrinterState → PrinterState → PrinterState
+    → ℕ → Type 0
+ShowsFile F out out' err err' status =
+    ((disk : FileDisk F) × (disk' : FileDisk F) × IsUntouched disk
+    × ShowsDisk (file_medium disk) (file_medium disk') out out' err err' status)
+    ⊎ (SaysUnopened err status err' × (out' ≡ out))

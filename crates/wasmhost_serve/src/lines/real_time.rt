@@ -1,7 +1,7 @@
 //! The machine's real time.
 
 ghost use Rattle.std.specs.Prelude.{◌≡◌, ◌≤◌, IfSome};
-ghost use Rattle.core.specs.Duration.{as_nanos};
+ghost use Rattle.std.specs.Duration.{as_nanos};
 ghost use Rattle.wasi_abi.specs.rules.Answers.{IsTime};
 ghost use Rattle.wasmhost_serve.specs.rules.Outside.{IsNanoseconds, IsRealTime};
 
@@ -11,7 +11,7 @@ use std::time::{Clock, Duration};
 /// A clock whose real time is read.
 pub trait RealTime {
     ghost use Rattle.std.specs.Prelude.{Bool, ℕ, IsTrue, IfOk};
-    ghost use Rattle.core.specs.Duration.{as_nanos};
+    ghost use Rattle.std.specs.Duration.{as_nanos};
 
     // Whether it has given a time of so many nanoseconds.
     ghost gives_time: { Self → ℕ → Bool };

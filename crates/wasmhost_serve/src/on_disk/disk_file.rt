@@ -1,6 +1,6 @@
 //! The file of a worker's disk, opened for a command.
 
-ghost use Rattle.std.specs.Prelude.{◌≡◌, ◌≤◌, IfErr, IfOk, OnOk};
+ghost use Rattle.std.specs.Prelude.{◌≡◌, ◌≤◌, false, IfErr, IfOk, OnOk};
 ghost use Rattle.wasmhost_serve.specs.rules.Openings.{IsOpenedFor, SaysUnopened, ShowsFile};
 
 use crate::on_disk::opening::report_open;
@@ -74,7 +74,7 @@ where
     R: Files<File = F>,
     W: Write + Drop,
     E: Write + Drop,
-    ensures shows { ShowsFile {F = F} out.old out.new err.old err.new result }
+    ensures shows { ShowsFile F out.old out.new err.old err.new result }
     ensures known { result ≤ 7 }
 {
     match open_disk(files, path, false, err) {
