@@ -2,7 +2,7 @@
 use Rattle.std.proofs.Common.{◌≡◌, ◌⊎◌, inl, inr, ℕ, zero, suc, ◌+◌, ◌≤◌}
 use Rattle.std.proofs.Common.{List, [], ◌∷◌, ◌++◌, length, replicate, codes, take as firsts}
 use Rattle.std.proofs.Common.{Some, None, refl, sym, ap, ◌∙◌, subst, lit≤, arith, length-take}
-use Rattle.std.specs.Prelude.{Ok, map, reverse, slice_get}
+use Rattle.std.specs.Prelude.{slice_get}
 use Rattle.wasm_syntax.specs.declared.value.Value.{Value}
 use Rattle.wasm_syntax.specs.declared.instruction.Instruction.{Instruction}
 use Rattle.wasm_syntax.specs.declared.instruction.Instruction.TheVariants as instr
@@ -13,7 +13,6 @@ use Rattle.wasm_syntax_rules.specs.Configuration.{Configuration, Goes, Asks, Mai
 use Rattle.wasm_syntax_rules.specs.laws.Examples.{v}
 use Rattle.wasm_syntax_rules.specs.Instantiation.{filled_memory, empty_memory}
 use Rattle.wasm_syntax_rules.specs.Steps.{rule, here, on}
-use Rattle.wasm_syntax_rules.specs.Types.{number_in}
 use Rattle.wasm_syntax_rules.specs.Validity.{memories_of}
 use Rattle.wasi_abi.specs.declared.answer.Kind.TheVariants as kind
 use Rattle.wasi_abi.specs.declared.answer.Answer.{Answer}
@@ -23,8 +22,8 @@ use Rattle.wasi_abi.specs.declared.call.Call.TheVariants as call
 use Rattle.wasi_abi.specs.rules.Configs.{Settings}
 use Rattle.wasi_calls_rules.specs.Hosts as host
 use Rattle.wasi_calls_rules.specs.Hosts.{Line}
-use Rattle.wasi_calls_rules.specs.Checks.{Bytes, Done}
-use Rattle.wasi_calls_rules.specs.Rows.{row, IsSync}
+use Rattle.wasi_calls_rules.specs.Checks.{Bytes}
+use Rattle.wasi_calls_rules.specs.Rows.{IsSync}
 use Rattle.process_rules.specs.Processes.{ProcessState, Guest, Exited, IsStart, host_of}
 use Rattle.process_rules.specs.Runs.{Kept, Given, On, Wants, next_of, after_rule, Runs, Reaches}
 use Rattle.process_rules.specs.Behind.{AnswersBehindLine, IsLine, Syncs, AnswersBehindSync}
@@ -170,31 +169,22 @@ writes config = refl
 
 -- ---- what is a sync
 
--- that a call is one, and what it is done as
-record IsDone (guest : Guest) (p : ProcessState) (c : Call) (arguments : List Value) : Type 0 where
-  is_sync : IsSync c
-  done : Done
-  is : row c (reverse (map number_in arguments)) None p.configuration.store.memory p.host ≡ Ok done
+-- it is of the call that is asked for, with these arguments
+record IsOfCall (guest : Guest) (p : ProcessState) (c : Call) (arguments : List Value)
+    (s : Syncs guest p) : Type 0 where
+  call : s.call ≡ c
+  arguments_are : s.arguments ≡ arguments
 
-asked_is_done : (guest : Guest) (p : ProcessState) (f : ℕ) (arguments : List Value) (waits : Thread)
+of_call : (guest : Guest) (p : ProcessState) (f : ℕ) (arguments : List Value) (waits : Thread)
     (c : Call) → rule guest.program p.configuration ≡ Asks f arguments waits
-    → slice_get guest.calls f ≡ Some c → Syncs guest p → IsDone guest p c arguments
-asked_is_done guest p f arguments waits c asks is_call s =
+    → slice_get guest.calls f ≡ Some c → (s : Syncs guest p) → IsOfCall guest p c arguments s
+of_call guest p f arguments waits c asks is_call s =
     let asked = s.asks in
     let was_call = s.is_call in
-    let same_function : s.function ≡ f = cc in
-    let same_arguments : s.arguments ≡ arguments = cc in
+    let same : s.function ≡ f = cc in
     let found : slice_get guest.calls f ≡ Some s.call =
-    ap (slice_get guest.calls) (sym same_function) ∙ was_call in
-    let same : s.call ≡ c = cc in
-    record {
-      is_sync = subst IsSync same s.is_sync;
-      done = s.done;
-      is = subst (λ d. row d (reverse (map number_in arguments)) None p.configuration.store.memory
-          p.host ≡ Ok s.done) same
-          (subst (λ vs. row s.call (reverse (map number_in vs)) None p.configuration.store.memory
-          p.host ≡ Ok s.done) same_arguments s.answers_zero);
-    }
+    ap (slice_get guest.calls) (sym same) ∙ was_call in
+    record { call = cc; arguments_are = cc }
 
 syncs : (config : Settings) → Syncs (guest_of config) (at_sync config)
 syncs config = record {
@@ -212,16 +202,22 @@ syncs config = record {
 
 reads_no_sync : (config : Settings) → Syncs (guest_of config) (at_read config) → ⊥
 reads_no_sync config s =
-    (asked_is_done (guest_of config) (at_read config) 0 _ _ call.FdRead refl refl s).is_sync
+    subst IsSync (of_call (guest_of config) (at_read config) 0 _ _ call.FdRead refl refl s).call
+    s.is_sync
 
 writes_no_sync : (config : Settings) → Syncs (guest_of config) (at_write config) → ⊥
 writes_no_sync config s =
-    (asked_is_done (guest_of config) (at_write config) 2 _ _ call.FdWrite refl refl s).is_sync
+    subst IsSync (of_call (guest_of config) (at_write config) 2 _ _ call.FdWrite refl refl s).call
+    s.is_sync
 
+-- a call that fails is none
 fails_no_sync : (config : Settings) → Syncs (guest_of config) (at_failure config) → ⊥
 fails_no_sync config s =
-    let done = (asked_is_done (guest_of config) (at_failure config) 1 _ _ call.FdSync refl refl s).is
-    in absurd (cc)
+    let of = of_call (guest_of config) (at_failure config) 1 _ _ call.FdSync refl refl s in
+    let same = of.call in
+    let on_four = of.arguments_are in
+    let answers = (rw (same, on_four) at s.answers_zero) in
+    cc
 
 -- ---- the run
 
@@ -357,6 +353,26 @@ all_there more a within = omega (arith, length-take a (abc_and_more more))
 
 -- ---- the sync
 
+sync_there : (config : Settings) (more : List Kept)
+    → AnswersBehindSync syncing config (abc_and_more more) 11 1
+sync_there config more = record {
+  within = omega arith;
+  before = 10;
+  process = at_sync config;
+  reached = reaches config 10 (at_sync config) (to_sync config (last (sync_known config)));
+  next = refl;
+  syncs = syncs config;
+}
+
+no_other_sync : (config : Settings) (more : List Kept) (k a : ℕ)
+    → AnswersBehindSync syncing config (abc_and_more more) k a → (k ≡ 11) × (a ≡ 1)
+no_other_sync config more k a behind =
+    let one = found config more behind.before a behind.process behind.reached in
+    let at = one.known.sync (subst (λ g. Syncs g behind.process) one.same behind.syncs) in
+    let before = at.0 in
+    let next = behind.next in
+    (omega arith, sym (all_there more a behind.within) ∙ at.1)
+
 one_sync : (config : Settings) (more : List Kept) → OneSync config more
 one_sync config more = record {
   fails = record {
@@ -376,27 +392,9 @@ one_sync config more = record {
     asks = refl;
     gives = succeeds config;
   };
-  synced = record {
-    within = omega arith;
-    before = 10;
-    process = at_sync config;
-    reached = reaches config 10 (at_sync config) (to_sync config (last (sync_known config)));
-    next = refl;
-    syncs = syncs config;
-  };
-  no_other = λ k a behind. no_other_sync k a behind;
+  synced = sync_there config more;
+  no_other = no_other_sync config more;
 }
-  where
-    no_other_sync : (k a : ℕ) → AnswersBehindSync syncing config (abc_and_more more) k a
-        → (k ≡ 11) × (a ≡ 1)
-    no_other_sync k a behind =
-        let one = found config more behind.before a behind.process behind.reached in
-        let at : (behind.before ≡ 10) × (length (firsts a (abc_and_more more)) ≡ 1) =
-        one.known.sync (subst (λ g. Syncs g behind.process) one.same behind.syncs) in
-        let before : behind.before ≡ 10 = at.0 in
-        let next : k ≡ behind.before + 1 = behind.next in
-        let count : length (firsts a (abc_and_more more)) ≡ 1 = at.1 in
-        (omega arith, sym (all_there more a behind.within) ∙ count)
 
 -- ---- the line
 
@@ -429,55 +427,66 @@ line_found a place lines line (inr h) is = one_there place line
     one_there (suc zero) line e = absurd (cc)
     one_there (suc (suc place)) line e = absurd (cc)
 
+behind_line : (config : Settings) (more : List Kept)
+    → AnswersBehindLine syncing config (abc_and_more more) 1 1
+behind_line config more = record {
+  within = omega arith;
+  steps = 18;
+  process = at_end config;
+  reached = reaches config 18 (at_end config) (whole config);
+  emitted = lit≤ tt;
+}
+
+of_line : (config : Settings) (more : List Kept) (i a : ℕ)
+    (behind : AnswersBehindLine syncing config (abc_and_more more) i a)
+    → OfLine behind.process.host.lines a
+of_line config more i a behind =
+    let one = found config more behind.steps a behind.process behind.reached in
+    subst (OfLine behind.process.host.lines) (all_there more a behind.within)
+    (few_lines (length (firsts a (abc_and_more more))) behind.process.host.lines one.known.lines)
+
+no_fewer : (config : Settings) (more : List Kept) (a : ℕ)
+    → AnswersBehindLine syncing config (abc_and_more more) 1 a → a ≡ 1
+no_fewer config more a behind =
+    let emitted = behind.emitted in (of_line config more 1 a behind).1 (omega arith)
+
+no_second : (config : Settings) (more : List Kept) (i a : ℕ)
+    → AnswersBehindLine syncing config (abc_and_more more) i a → i ≤ 1
+no_second config more i a behind =
+    let few = (of_line config more i a behind).0 in
+    let emitted = behind.emitted in
+    omega arith
+
+first_line : (config : Settings) (more : List Kept)
+    → IsLine syncing config (abc_and_more more) 1 abc_line
+first_line config more = record {
+  answers = 1;
+  steps = 18;
+  process = at_end config;
+  reached = reaches config 18 (at_end config) (whole config);
+  place = 0;
+  counted = refl;
+  is = refl;
+}
+
+no_other_line : (config : Settings) (more : List Kept) (i : ℕ) (line : Line)
+    → IsLine syncing config (abc_and_more more) i line → (i ≡ 1) × (line ≡ abc_line)
+no_other_line config more i line is =
+    let one = found config more is.steps is.answers is.process is.reached in
+    let at = line_found (length (firsts is.answers (abc_and_more more))) is.place
+    is.process.host.lines line one.known.lines is.is in
+    let place = at.0 in
+    let counted = is.counted in
+    (omega arith, at.1)
+
 one_line : (config : Settings) (more : List Kept) → OneLine config more
 one_line config more = record {
-  emitted = record {
-    within = omega arith;
-    steps = 18;
-    process = at_end config;
-    reached = reaches config 18 (at_end config) (whole config);
-    emitted = lit≤ tt;
-  };
-  no_fewer = λ a behind. no_fewer a behind;
-  no_second = λ i a behind. no_second i a behind;
-  is_line = record {
-    answers = 1;
-    steps = 18;
-    process = at_end config;
-    reached = reaches config 18 (at_end config) (whole config);
-    place = 0;
-    counted = refl;
-    is = refl;
-  };
-  no_other = λ i line is. no_other_line i line is;
+  emitted = behind_line config more;
+  no_fewer = no_fewer config more;
+  no_second = no_second config more;
+  is_line = first_line config more;
+  no_other = no_other_line config more;
 }
-  where
-    of_line : (i a : ℕ) (behind : AnswersBehindLine syncing config (abc_and_more more) i a)
-        → OfLine behind.process.host.lines a
-    of_line i a behind =
-        let one = found config more behind.steps a behind.process behind.reached in
-        subst (λ z. OfLine behind.process.host.lines z) (all_there more a behind.within)
-        (few_lines (length (firsts a (abc_and_more more))) behind.process.host.lines
-        one.known.lines)
-
-    no_fewer : (a : ℕ) → AnswersBehindLine syncing config (abc_and_more more) 1 a → a ≡ 1
-    no_fewer a behind = (of_line 1 a behind).1 behind.emitted
-
-    no_second : (i a : ℕ) → AnswersBehindLine syncing config (abc_and_more more) i a → i ≤ 1
-    no_second i a behind =
-        let few : length behind.process.host.lines ≤ 1 = (of_line i a behind).0 in
-        let emitted : i ≤ length behind.process.host.lines = behind.emitted in
-        omega arith
-
-    no_other_line : (i : ℕ) (line : Line) → IsLine syncing config (abc_and_more more) i line
-        → (i ≡ 1) × (line ≡ abc_line)
-    no_other_line i line is =
-        let one = found config more is.steps is.answers is.process is.reached in
-        let at = line_found (length (firsts is.answers (abc_and_more more))) is.place
-        is.process.host.lines line one.known.lines is.is in
-        let place : is.place ≡ 0 = at.0 in
-        let counted : i ≡ is.place + 1 = is.counted in
-        (omega arith, at.1)
 
 pub syncing_owes : (config : Settings) (more : List Kept) → SyncingOwes config more
 syncing_owes config more = record { sync = one_sync config more; line = one_line config more }
