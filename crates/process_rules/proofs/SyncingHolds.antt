@@ -334,16 +334,16 @@ found : (config : Settings) (more : List Kept) (n b : ℕ) (p : ProcessState)
     (reached : Reaches syncing config (firsts b (abc_and_more more)) n p)
     → IsFound config reached.guest n (length (firsts b (abc_and_more more))) p
 found config more n b p reached =
-    let front : List Kept = firsts b (abc_and_more more) in
+    let prefix : List Kept = firsts b (abc_and_more more) in
     let same = start_once syncing config reached.guest (guest_of config) reached.start
     (started config) syncing_is_valid reached.begins (begins config) in
-    let by_guest : Runs (guest_of config) reached.start front n p =
-    subst (λ g. Runs g reached.start front n p) same.0 reached.runs in
+    let by_guest : Runs (guest_of config) reached.start prefix n p =
+    subst (λ g. Runs g reached.start prefix n p) same.0 reached.runs in
     record {
       same = same.0;
       known = known_from_start (guest_of config) (IsKnown config) 18 (started config)
-          (at_end config) (Given abc ∷ []) more front b n p (Exited 0) refl (whole config)
-          (subst (λ z. Runs (guest_of config) z front n p) same.1 by_guest) refl;
+          (at_end config) (Given abc ∷ []) more prefix b n p (Exited 0) refl (whole config)
+          (subst (λ z. Runs (guest_of config) z prefix n p) same.1 by_guest) refl;
     }
 
 -- so many answers as are there

@@ -1,4 +1,4 @@
--- A worked example of what stands behind a line and behind a sync of the guest, under any
+-- A worked example of the answers behind a line and behind a sync of the guest, under any
 -- configuration: the exact step, and exactly so many answers.
 use Rattle.std.specs.Prelude.{◌≡◌, ℕ, ◌≤◌, List, [], ◌∷◌, Some, None, slice_get, codes}
 use Rattle.wasm_syntax.specs.declared.types.ValueType.TheVariants.{I32}
@@ -59,7 +59,7 @@ syncing = record {
 
 -- ---- what it comes to
 
--- a request with the text `abc`, and whatever was kept behind it
+-- a request with the text `abc`, and whatever was kept after it
 abbrev pub abc_and_more : List Kept → List Kept
 abc_and_more more = Given (answer.Request (codes "abc")) ∷ more
 
@@ -79,7 +79,7 @@ pub record SyncGives (config : Settings) (n descriptor number : ℕ) : Type 0 wh
       ∷ []) waits) process.host
 
 -- Step 8 is a call on a descriptor that isn't open, which fails with 8: it is no sync. Step 11 is
--- one on the root directory, which gives 0. It is the only sync, behind one answer.
+-- one on the root directory, which gives 0. It is the only sync, and takes exactly one answer.
 pub record OneSync (config : Settings) (more : List Kept) : Type 0 where
   pub fails : SyncGives config 7 4 8
   pub succeeds : SyncGives config 10 3 0
@@ -87,7 +87,7 @@ pub record OneSync (config : Settings) (more : List Kept) : Type 0 where
   pub no_other : (k a : ℕ) → AnswersBehindSync syncing config (abc_and_more more) k a
       → (k ≡ 11) × (a ≡ 1)
 
--- The first line is line 1, behind one answer. There is no line 0, and no second line.
+-- The first line is line 1, and takes exactly one answer. There is no line 0, and no second line.
 pub record OneLine (config : Settings) (more : List Kept) : Type 0 where
   pub emitted : AnswersBehindLine syncing config (abc_and_more more) 1 1
   pub no_fewer : (a : ℕ) → AnswersBehindLine syncing config (abc_and_more more) 1 a → a ≡ 1
@@ -96,7 +96,7 @@ pub record OneLine (config : Settings) (more : List Kept) : Type 0 where
   pub no_other : (i : ℕ) (line : Line) → IsLine syncing config (abc_and_more more) i line
       → (i ≡ 1) × (line ≡ abc_line)
 
--- what stands behind the sync and the line of `syncing`
+-- the sync and the line of `syncing`
 pub record SyncingOwes (config : Settings) (more : List Kept) : Type 0 where
   pub sync : OneSync config more
   pub line : OneLine config more
