@@ -22,8 +22,8 @@ no_slash_at path none k within =
     NoCharPasses-char slash path k none (omega arith) within in
     ne_eqb (get_or path k 0) slash other
 
-pub at_hand : (path : List ℕ) → NoCharPasses (λ c. eqb c slash) path → folder_of path ≡ codes "."
-at_hand path none = rw any refl
+pub in_current : (path : List ℕ) → NoCharPasses (λ c. eqb c slash) path → folder_of path ≡ codes "."
+in_current path none = rw any refl
   where
     any : list_any is_slash path ≡ false
     any = list_any_none is_slash path (λ k d within.

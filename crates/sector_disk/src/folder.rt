@@ -2,7 +2,7 @@
 ghost use Rattle.std.specs.Prelude.{◌≡◌};
 ghost use Rattle.sector_disk.specs.rules.Folder.{folder_of};
 
-/// The folder in which a path has its entry. It is `.` where the path has no slash.
+/// The folder that has the entry of a path.
 pub(crate) fn folder_of(path: &str) -> &str
     ensures { result.now ≡ folder_of path.now }
 {

@@ -129,8 +129,8 @@ pub record CallExamples : Type 0 where
 -- ---- the folders of paths
 
 pub record FolderExamples : Type 0 where
-  pub at_hand : folder_of (codes "x") ≡ codes "."
-  pub named_at_hand : folder_of (codes "./x") ≡ codes "."
+  pub current : folder_of (codes "x") ≡ codes "."
+  pub named_current : folder_of (codes "./x") ≡ codes "."
   pub inside : folder_of (codes "a/x") ≡ codes "a"
   pub root : folder_of (codes "/x") ≡ codes "/"
   pub inside_the_root : folder_of (codes "/a/x") ≡ codes "/a"

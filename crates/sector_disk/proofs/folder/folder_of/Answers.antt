@@ -1,10 +1,10 @@
 use Rattle.std.proofs.Common.{◌≡◌, ◌∙◌, [], sym, ap, arith, rules}
 use Rattle.sector_disk.specs.rules.Folder.{or_root}
-use Rattle.sector_disk.proofs.FolderLemmas.{at_hand, before_slash, or_root_some}
+use Rattle.sector_disk.proofs.FolderLemmas.{in_current, before_slash, or_root_some}
 use Rattle.sector_disk.proofs.folder.folder_of.Goals as goal
 
 pub returns-in-None : goal.returns-in-None
-returns-in-None c = sym (at_hand c.args.path.now c.in-None.ensures.cases)
+returns-in-None c = sym (in_current c.args.path.now c.in-None.ensures.cases)
 
 pub returns-in-Some-empty-default : goal.returns-in-Some-empty-default
 returns-in-Some-empty-default c =
