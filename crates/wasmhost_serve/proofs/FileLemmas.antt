@@ -40,5 +40,10 @@ module _ {F : Type 0} (opened disk : FileDisk F) where
       → ShowsDisk (file_medium opened) (file_medium disk) out out' between err' status
       → ShowsFile F out out' err err' status
   shows_file out out' err between err' status untouched quiet shows =
-      inl (opened, disk, untouched, subst (λ old. ShowsDisk (file_medium opened)
-      (file_medium disk) out out' old err' status) quiet shows)
+      inl (
+        opened,
+        disk,
+        untouched,
+        subst (λ old. ShowsDisk (file_medium opened)
+            (file_medium disk) out out' old err' status) quiet shows,
+      )

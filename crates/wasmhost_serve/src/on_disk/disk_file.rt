@@ -7,7 +7,7 @@ use crate::on_disk::opening::report_open;
 use crate::on_disk::showing::survey;
 use crate::printer::Printer;
 use crate::telling::{Obstacle, report};
-use sector_disk::{FileDisk, LockFile, rewrite};
+use sector_disk::{FileDisk, LockFile, SizeFile, rewrite};
 use std::alloc::Global;
 use std::fs::OpenFile;
 use std::io::Write;
@@ -15,7 +15,7 @@ use std::os::unix::fs::FileExt;
 use std::rt::Files;
 
 /// Writes every sector of a disk back where that is asked for, and hands the disk on.
-fn written_back<F: OpenFile + FileExt + LockFile + Drop, E: Write + Drop>(
+fn written_back<F: OpenFile + FileExt + LockFile + SizeFile + Drop, E: Write + Drop>(
     disk: FileDisk<F>,
     rewrites: bool,
     err: &mut Printer<E>,
@@ -46,7 +46,7 @@ pub fn open_disk<F, R, E>(
     err: &mut Printer<E>,
 ) -> Result<FileDisk<F>, u8>
 where
-    F: OpenFile + FileExt + LockFile + Drop,
+    F: OpenFile + FileExt + LockFile + SizeFile + Drop,
     R: Files<File = F>,
     E: Write + Drop,
     ensures opened { IfOk result (IsOpenedFor rewrites) }
@@ -70,7 +70,7 @@ pub fn show_file<F, R, W, E>(
     err: &mut Printer<E>,
 ) -> u8
 where
-    F: OpenFile + FileExt + LockFile + Drop,
+    F: OpenFile + FileExt + LockFile + SizeFile + Drop,
     R: Files<File = F>,
     W: Write + Drop,
     E: Write + Drop,
