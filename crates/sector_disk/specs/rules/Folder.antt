@@ -3,6 +3,7 @@ use Rattle.std.specs.Prelude.{ℕ, List, [], ◌∷◌, Bool, ◌==◌, codes, i
 use Rattle.std.specs.List.{list_any, before_last}
 use Rattle.std.specs.Path.{slash}
 
+-- the byte is a `/`
 abbrev pub is_slash : ℕ → Bool
 is_slash byte = byte == slash
 
