@@ -1,9 +1,44 @@
-.PHONY: test demo
+# README.md says how long each of the first three takes.
+.PHONY: demo build test install dist
+
+PREFIX ?= /usr/local
+BINDIR ?= $(PREFIX)/bin
+LIBDIR ?= $(PREFIX)/lib
+DATADIR ?= $(PREFIX)/share
+DOCDIR ?= $(DATADIR)/doc/wasmhost
+UNITDIR ?= $(LIBDIR)/systemd/system
+
+# A release has the program beside this file.
+PROGRAM := $(or $(wildcard wasmhost),crates/wasmhost/out/wasmhost)
+DOCS := README.md docs/COMMANDS.md docs/FORMATS.md docs/WORKERS.md
+UNIT := wasmhost@.service
+
+# Tells the story of a worker whose power is cut twice. It proves nothing.
+demo:
+	@scripts/demo
+
+# Proves all that the program stands on, and builds it.
+build:
+	@scripts/build
 
 # Proves every crate from nothing, tries the must-fail edits, and runs the tests and the program.
 test:
 	rt ci
 
-# Creates a worker of `hello` on a disk, runs it, and shows the disk. It proves nothing.
-demo:
-	@scripts/demo
+$(PROGRAM):
+	@echo "make: there is no $@: run 'make build' first" >&2; false
+
+# Copies the built program, its manual page, its documents, and what a systemd unit wants.
+install: $(PROGRAM)
+	install -D -t $(DESTDIR)$(BINDIR) $(PROGRAM)
+	install -D -m 644 -t $(DESTDIR)$(DATADIR)/man/man1 docs/wasmhost.1
+	install -D -m 644 -t $(DESTDIR)$(DOCDIR) $(DOCS)
+	cd examples/deployment && install -D -t $(DESTDIR)$(LIBDIR)/wasmhost feed tell worker
+	install -d $(DESTDIR)$(UNITDIR)
+	sed 's|/usr/local/bin|$(BINDIR)|; s|/usr/local/lib|$(LIBDIR)|' examples/deployment/$(UNIT) \
+		>$(DESTDIR)$(UNITDIR)/$(UNIT)
+	chmod 644 $(DESTDIR)$(UNITDIR)/$(UNIT)
+
+# Packs the built program, documents and examples in out/wasmhost-VERSION.tar.gz.
+dist: $(PROGRAM)
+	@scripts/dist

@@ -1,5 +1,7 @@
 """The bytes of a worker's disk, written from docs/FORMATS.md and from no code."""
 import hashlib
+import os
+import re
 import struct
 
 SECTOR = 512
@@ -19,6 +21,10 @@ RUNNING, EXITED, TRAPPED = 1, 2, 3
 
 # Kinds of records.
 REQUEST, END, REALTIME, MONOTONIC, RANDOM = range(1, 6)
+
+# Where the repository begins, and a row of a hex dump: a place, and the bytes there.
+ROOT = os.path.join(os.path.dirname(os.path.abspath(__file__)), "..")
+ROW = re.compile(r"^ {6,}([0-9a-f]+) {2}(.+)$", re.MULTILINE)
 
 # Where fields of the super and of a head stand.
 LAYOUT, MODULE_SECTORS, AREA_SECTORS, JOURNAL_SECTORS, DIGEST, LAST_MARK = 8, 20, 24, 28, 32, 504
@@ -187,9 +193,34 @@ def echo_image_at_end():
     return image((11, 1, 1, 0, 0), (EXITED, 0, 1), [], echo_memory([]))
 
 
-# What docs/FORMATS.md has of the disk of a worker of `echo`: lengths, and the digest of its image.
-_FRESH = echo_image()
-assert len(_FRESH) == 65_811
-assert hashlib.sha256(_FRESH).hexdigest().startswith("5ad2a2bb20898655431222989de2ca89ed082408")
+def read(*names):
+    """The bytes of a file of the repository."""
+    with open(os.path.join(ROOT, *names), "rb") as file:
+        return file.read()
+
+
+def dumped_disks():
+    """The two disks that docs/FORMATS.md has in hex: a worker of `echo` as it is created, and after
+    a run that takes the request `hello`."""
+    small = Form(read("examples", "echo.wasm"), 1, 1, 64)
+    first = small.created(echo_image())
+    second = bytearray(first)
+    small.commit(second, 2, echo_image())
+    small.commit(second, 3, echo_image([b"hello"]))
+    small.keep(second, 2, 1, record(6, REQUEST, b"hello"))
+    return bytes(first), bytes(second)
+
+
+def dumped_rows():
+    """The rows that docs/FORMATS.md has of these two disks: places, and the bytes there."""
+    sections = read("docs", "FORMATS.md").decode().split("\n## ")[-2:]
+    return [[(int(at, 16), bytes.fromhex(row)) for at, row in ROW.findall(it)] for it in sections]
+
+
+# They are compared each time this is loaded.
+for _disk, _rows in zip(dumped_disks(), dumped_rows(), strict=True):
+    assert _rows, "docs/FORMATS.md has no rows"
+    for _at, _row in _rows:
+        assert _disk[_at : _at + len(_row)] == _row, f"docs/FORMATS.md is wrong at {_at:x}"
 # One slot more has eight bytes.
 assert len(echo_image_behind([], b"hello")) == 65_819

@@ -3,9 +3,8 @@
 import collections
 import os
 import re
-import shutil
-import subprocess
 
+from debian import untried
 from guest_runs import ended
 
 SECTOR = 512
@@ -73,26 +72,7 @@ def traced(words, disk, given=b"", calls=f"{WRITES},fdatasync,fsync", tamper=Non
     return end, events
 
 
-def can_install():
-    """Whether the system's packages have strace."""
-    if not shutil.which("apt-cache"):
-        return False
-    told = subprocess.run(["apt-cache", "policy", "strace"], capture_output=True, text=True,
-                          check=False)
-    return "Candidate: " in told.stdout and "Candidate: (none)" not in told.stdout
-
-
 def untraced(script):
-    """None where strace may look at a process. Else a script can try nothing, and says so. The
-    answer is its exit status: 1 where strace only has to be installed."""
-    if shutil.which("strace"):
-        looked = subprocess.run(["strace", "-qq", "-o", "/dev/null", "true"], capture_output=True,
-                                text=True, check=False)
-        if looked.returncode == 0:
-            return None
-        why, status = f"strace may not look at a process: {looked.stderr.strip()}", 0
-    else:
-        why, status = "strace is missing: apt-get install strace", int(can_install())
-    print(f"{script}: {why}")
-    print(f"{script}: NOTHING WAS TRIED")
-    return status
+    """None where strace may look at a process. Else the exit status of a script that tries nothing,
+    and says so."""
+    return untried(script, "strace", "-qq", "-o", "/dev/null")

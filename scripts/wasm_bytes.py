@@ -40,6 +40,12 @@ def i64(value):
     return b"\x42" + signed(value)
 
 
+# Code that does nothing, and has more operands at once than a function with forms may have.
+MANY_OPERANDS = 100
+NO_FORMS = i32(0) + IF + bytes([EMPTY])
+NO_FORMS += i32(0) * MANY_OPERANDS + DROP * MANY_OPERANDS + END
+
+
 def vector(items):
     """Encoded items behind their count."""
     return unsigned(len(items)) + b"".join(items)

@@ -2,7 +2,7 @@
 //! tests here make, and has some of them fail.
 
 use crate::disks::{ZEROS, holds, prints};
-use sector_disk::{Disk, DiskFault, FileDisk, LockFile, OpenCause, OpenFault};
+use sector_disk::{Disk, DiskFault, FileDisk, LockFile, OpenCause, OpenFault, SizeFile};
 use std::alloc::AllocError;
 use std::fs;
 use std::fs::{File, OpenFile, OpenOptions};
@@ -11,7 +11,7 @@ use std::rt::Files;
 use std::test::Fail;
 
 /// Whether a new file of three sectors is made once, and takes what is written to it.
-fn is_made_once<F: OpenFile + FileExt + LockFile + Drop, R: Files<File = F>>(
+fn is_made_once<F: OpenFile + FileExt + LockFile + SizeFile + Drop, R: Files<File = F>>(
     files: &R,
     path: &str,
 ) -> Result<bool, Fail> {
@@ -30,7 +30,7 @@ fn is_written_so<D: Disk>(disk: &mut D) -> Result<bool, DiskFault> {
 }
 
 /// Whether the file is opened again with what was written.
-fn is_kept<F: OpenFile + FileExt + LockFile + Drop, R: Files<File = F>>(
+fn is_kept<F: OpenFile + FileExt + LockFile + SizeFile + Drop, R: Files<File = F>>(
     files: &R,
     path: &str,
 ) -> Result<bool, Fail> {
@@ -59,7 +59,7 @@ fn a_file_keeps_sectors(rt: HostRuntime) -> Result<(), Fail> {
 
 /// Whether the second sector fails to be read where it is cut short while the file is open. That is
 /// not for good.
-fn fails_when_cut_short<F: OpenFile + FileExt + LockFile + Drop, R: Files<File = F>>(
+fn fails_when_cut_short<F: OpenFile + FileExt + LockFile + SizeFile + Drop, R: Files<File = F>>(
     files: &R,
     path: &str,
 ) -> Result<bool, Fail> {
@@ -82,7 +82,7 @@ fn a_file_that_is_too_short_fails(rt: HostRuntime) -> Result<(), Fail> {
 }
 
 /// Whether a file is refused to a second host as long as a first one has it, and not longer.
-fn is_for_one_host<F: OpenFile + FileExt + LockFile + Drop, R: Files<File = F>>(
+fn is_for_one_host<F: OpenFile + FileExt + LockFile + SizeFile + Drop, R: Files<File = F>>(
     files: &R,
     path: &str,
 ) -> Result<bool, Fail> {
@@ -95,12 +95,16 @@ fn is_for_one_host<F: OpenFile + FileExt + LockFile + Drop, R: Files<File = F>>(
     Ok(second == Some(OpenFault::Busy) && is_unharmed && third.sectors() == 1)
 }
 
+/// The file has a folder of its own.
 #[test]
 fn a_file_is_for_one_host(rt: HostRuntime) -> Result<(), Fail> {
-    let path = "sector_disk_busy";
+    let folder = "sector_disk_folder";
+    let path = "sector_disk_folder/busy";
+    let _ = fs::create_dir(&rt, folder);
     let _ = fs::remove_file(&rt, path);
     assert!(rt; is_for_one_host(&rt, path)?);
     fs::remove_file(&rt, path)?;
+    fs::remove_dir(&rt, folder)?;
     Ok(())
 }
 

@@ -116,16 +116,18 @@ last config memory = record (echo_end config) { configuration = at_rest memory }
 -- ---- steps
 
 -- a step that the next thing leads to, which is settled
-leads_on : (config : Settings) (p : ProcessState) (given : Option Answer) (c : Configuration)
-    (h : host.Host) → p.ended ≡ None → IsWanted (guest_of config) p given
-    → next_of (guest_of config) p given ≡ On c h → IsSettled (guest_of config).program c
-    → Moves (guest_of config) p given (closed (stepped given c h p))
-leads_on config p given c h running wanted e settled =
+pub leads_on : (guest : Guest) (p : ProcessState) (given : Option Answer) (c : Configuration)
+    (h : host.Host) → p.ended ≡ None → IsWanted guest p given → next_of guest p given ≡ On c h
+    → IsSettled guest.program c → Moves guest p given (closed (stepped given c h p))
+leads_on guest p given c h running wanted e settled =
     record {
       running = running;
       wanted = wanted;
-      leads = subst (λ z. LeadsTo (guest_of config) z given p (closed (stepped given c h p)))
-          (sym e) (c, here settled, refl);
+      leads = subst (λ z. LeadsTo guest z given p (closed (stepped given c h p))) (sym e) (
+        c,
+        here settled,
+        refl,
+      );
     }
 
 -- an instruction after which the loop goes on
@@ -137,7 +139,7 @@ goes : (config : Settings) {n answers : ℕ} {h : host.Host} {m m' : Bytes} {val
     (after (n + 1) (answers + 0) h (blank (inside values' (Plain j rest')) m'))
 goes config {n = n} {answers = answers} {h = h} {m = m} {m' = m'} {values = values}
     {values' = values'} {i = i} {j = j} {rest = rest} {rest' = rest'} e =
-    leads_on config (after n answers h (blank (inside values (Plain i rest)) m)) None
+    leads_on (guest_of config) (after n answers h (blank (inside values (Plain i rest)) m)) None
     (blank (inside values' (Plain j rest')) m') h refl tt
     (ap (λ o. after_rule (guest_of config) o None (blank (inside values (Plain i rest)) m) h) e)
     refl
@@ -218,7 +220,7 @@ stores_four config rest = refl
 differs : (b : ℕ) → (b == 10) ≡ false → b ≢ 10
 differs b other e = let clash : (b == 10) ≡ true = ap (λ z. z == 10) e in absurd (cc)
 
-abc_fits : IsRequestText TEXT_BYTES (codes "abc")
+pub abc_fits : IsRequestText TEXT_BYTES (codes "abc")
 abc_fits = record {
   short = lit≤ tt;
   are_bytes = (omega arith, (omega arith, (omega arith, tt)));
@@ -234,7 +236,7 @@ last_round config =
     step (enters config 22 1 (wrote config) memory_written)
     (step (goes config refl)
     (step (goes config refl) (step (goes config refl) (step (goes config refl)
-    (take (leads_on config _ (Some answer.End) _ _ refl (
+    (take (leads_on (guest_of config) _ (Some answer.End) _ _ refl (
       kind.Request,
       wants_last config,
       tt,
@@ -255,7 +257,7 @@ copies config =
     (step (goes config (stores_four config _))
     (step (goes config refl)
     (step (goes config refl) (step (goes config refl) (step (goes config refl)
-    (step (leads_on config _ None _ _ refl tt (writes config) refl)
+    (step (leads_on (guest_of config) _ None _ _ refl tt (writes config) refl)
     (step (goes config refl) (step (turns config 21 1 (wrote config) memory_written)
     (last_round config)))))))))))
 
@@ -266,7 +268,7 @@ runs config =
     step (enters config 0 0 (host_of config) first_memory)
     (step (goes config refl)
     (step (goes config refl) (step (goes config refl) (step (goes config refl)
-    (take (leads_on config _ (Some abc) _ _ refl (
+    (take (leads_on (guest_of config) _ (Some abc) _ _ refl (
       kind.Request,
       wants_first config,
       abc_fits,
@@ -328,7 +330,7 @@ rereads config =
     (step (goes config (loads_four config _ _)) (step (goes config (stores_four config _))
     (step (goes config refl)
     (step (goes config refl) (step (goes config refl) (step (goes config refl)
-    (step (leads_on config _ None _ _ refl tt (writes config) refl)
+    (step (leads_on (guest_of config) _ None _ _ refl tt (writes config) refl)
     (step (goes config refl) (step (turns config 21 1 (wrote config) memory_written)
     (step (enters config 22 1 (wrote config) memory_written)
     (step (goes config refl) (step (goes config refl)
@@ -344,7 +346,7 @@ asked_once config n q rest = rw (sym (plus_six n))
     (step (enters config 0 0 (host_of config) first_memory)
     (step (goes config refl)
     (step (goes config refl) (step (goes config refl) (step (goes config refl)
-    (take (leads_on config _ (Some abc) _ _ refl
+    (take (leads_on (guest_of config) _ (Some abc) _ _ refl
     (kind.Request, wants_first config, abc_fits) (reads_first config) refl)
     rest))))))
   where

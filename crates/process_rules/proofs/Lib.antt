@@ -3,10 +3,13 @@ pub mod OneProcess
 pub mod Quiet
 pub mod Growing
 pub mod Ended
+pub mod Along
 pub mod ExamplesValid
 pub mod ExamplesHold
 pub mod EchoValid
 pub mod EchoHolds
+pub mod SyncingValid
+pub mod SyncingHolds
 pub mod MemoryKept
 pub mod Hosted
 pub mod Counted

@@ -90,7 +90,7 @@ pub traps_open : (program : Program) (c : Configuration) (why : Trap) → rule p
     → IsEnded c → ⊥
 traps_open program c why traps over = let stuck = no_rule program c over in cc
 
-goes_syncs_not : (guest : Guest) (c d : Configuration) (h : Host) (s a r : ℕ)
+pub goes_syncs_not : (guest : Guest) (c d : Configuration) (h : Host) (s a r : ℕ)
     → rule guest.program c ≡ Goes d → Syncs guest (running c h s a r) → ⊥
 goes_syncs_not guest c d h s a r goes syncs = let asks = syncs.asks in cc
 

@@ -1,5 +1,6 @@
 //! Laws of what a process reaches. The functions do nothing: what they ensure is the law.
 
+ghost use Rattle.std.specs.Prelude.{List};
 ghost use Rattle.process_rules.specs.laws.Laws.{OneProcess, OneProcessRun, RunsJoin, RunsCount};
 ghost use Rattle.process_rules.specs.laws.Laws.{RunsEmit, QuietRunsJoin, QuietRunsAreRuns};
 ghost use Rattle.process_rules.specs.laws.Laws.{RulesAreQuiet, LastRuleEnds, TrapEnds};
@@ -8,7 +9,9 @@ ghost use Rattle.process_rules.specs.laws.Laws.{ReachedInputIsShort, ReachedHave
 ghost use Rattle.process_rules.specs.laws.Laws.{ReachedAreCounted, ReachedAreClosed};
 ghost use Rattle.process_rules.specs.laws.Laws.{ReachedAreTyped};
 ghost use Rattle.wasi_abi.specs.rules.Configs.{Settings};
+ghost use Rattle.process_rules.specs.Runs.{Kept};
 ghost use Rattle.process_rules.specs.laws.Examples.{HelloEnds, EchoEnds, IdleEnds, TrappingEnds};
+ghost use Rattle.process_rules.specs.laws.BehindExamples.{SyncingOwes};
 
 /// The same answers lead to the same process.
 pub fn one_process_is_reached()
@@ -79,10 +82,12 @@ pub fn reached_processes_have_hosts()
 {}
 
 /// Whole modules come to their ends, under any configuration. One writes a line and exits with a
-/// code, and one writes what it reads. One does nothing, and one traps.
+/// code, and one writes what it reads. One does nothing, and one traps. A fifth syncs at one step
+/// and writes one line, each on exactly so many answers.
 pub fn worked_examples()
     ensures hello { (config : Settings) → HelloEnds config }
     ensures echo { (config : Settings) → EchoEnds config }
     ensures idle { (config : Settings) → IdleEnds config }
     ensures trapping { (config : Settings) → TrappingEnds config }
+    ensures syncing { (config : Settings) (more : List Kept) → SyncingOwes config more }
 {}

@@ -22,7 +22,8 @@
 //!   answers that emits no line (`runs`).
 //! - `rules_are_quiet`, `last_rule_ends`, `trap_ends`: rules that ask the host for nothing leave
 //!   nothing owed, up to the end or a trap.
-//! - `worked_examples`: what four whole modules come to, under any configuration.
+//! - `worked_examples`: what four whole modules come to, under any configuration. A fifth shows the
+//!   exact step and answers of its one sync and of its one line (`syncing`).
 //!
 //! # Definitions to read
 //!

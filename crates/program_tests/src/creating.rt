@@ -2,6 +2,7 @@
 
 use crate::asking::ECHO;
 use crate::check::{BEFORE_CODE, HELLO, bytes_of};
+use crate::lines::Flushed;
 use sector_disk::MemDisk;
 use std::alloc::Global;
 use std::test::Fail;
@@ -87,10 +88,10 @@ static CREATED: [Created; 2] = [
     (4675, 3, "", "failed Y3 TooSmall\n"),
 ];
 
-/// Whether a creation on such a disk ends so.
+/// Whether a creation on such a disk ends so, with its output flushed.
 fn ends_so(alloc: Global, wasm: &[u8], prepared: &Prepared, row: &Created) -> Result<bool, Fail> {
     let mut disk = MemDisk::new(alloc, row.0, 5000)?;
-    let mut out = Vec::new(alloc);
+    let mut out = Flushed::new(alloc);
     let mut err = Vec::new(alloc);
     let status = create_on(
         alloc,
@@ -101,7 +102,7 @@ fn ends_so(alloc: Global, wasm: &[u8], prepared: &Prepared, row: &Created) -> Re
         &mut Printer::new(&mut err, false),
     );
     let is_so = status == row.1
-        && out.as_slice() == row.2.as_bytes()
+        && out.out.as_slice() == row.2.as_bytes()
         && err.as_slice() == row.3.as_bytes();
     Ok(is_so)
 }

@@ -51,10 +51,20 @@ fn refuses_other_forms(rt: HostRuntime) -> Result<(), Fail> {
 
 /// A writer that hands on what is flushed, and nothing else.
 #[derive(Drop)]
-struct Flushed {
+pub(crate) struct Flushed {
     waiting: Vec<u8>,
-    out: Vec<u8>,
+    pub(crate) out: Vec<u8>,
     writes: u64,
+}
+
+impl Flushed {
+    pub(crate) fn new(alloc: Global) -> Flushed {
+        Flushed {
+            waiting: Vec::new(alloc),
+            out: Vec::new(alloc),
+            writes: 0,
+        }
+    }
 }
 
 impl Write for Flushed {
@@ -87,21 +97,22 @@ fn prints_so(outlet: &mut LineOutlet<Flushed>, row: &(u64, u8, &[u8], &[u8])) ->
 
 /// An outlet over a writer that hands on what is flushed.
 fn flushed_outlet(alloc: Global) -> Result<LineOutlet<Flushed>, AllocError> {
-    let out = Flushed {
-        waiting: Vec::new(alloc),
-        out: Vec::new(alloc),
-        writes: 0,
-    };
-    LineOutlet::new(alloc, out)
+    LineOutlet::new(alloc, Flushed::new(alloc))
 }
 
-/// Each line is out behind its release, by one write.
+/// Whether nothing waits for a flush after the release of a line.
+fn leaves_none(outlet: &mut LineOutlet<Flushed>, number: u64, text: &[u8]) -> bool {
+    outlet.release(number, 1, text) == Ok(()) && outlet.out.waiting.is_empty()
+}
+
+/// Each line is out after its release, by one write, an empty and a long one too.
 #[test]
 fn prints_and_flushes(rt: HostRuntime) -> Result<(), Fail> {
     let mut outlet = flushed_outlet(rt.alloc())?;
     for row in &RELEASED {
         assert!(rt; prints_so(&mut outlet, row), "{row:?}");
     }
+    assert!(rt; leaves_none(&mut outlet, 4, &[b'x'; 4096]));
     drop(outlet);
     Ok(())
 }
@@ -435,6 +446,56 @@ fn shows_the_fixed_time(rt: HostRuntime) -> Result<(), Fail> {
         assert!(rt; time_of(&mut source, kind) == Some(5), "{kind:?}");
     }
     drop(source);
+    Ok(())
+}
+
+/// A clock that always shows one time.
+#[derive(Clone, Copy, Debug)]
+struct FixedClock(Duration);
+
+impl Clock for FixedClock {
+    fn monotonic(&self) -> io::Result<Duration> {
+        Err(io::Error::from(ErrorKind::Unsupported))
+    }
+
+    fn since_1970(&self) -> io::Result<Duration> {
+        Ok(self.0)
+    }
+}
+
+/// Seconds and nanoseconds of a clock, and the nanoseconds that a worker is told. 2^64 nanoseconds
+/// are 18,446,744,073.709551616 seconds.
+static CLOCKS: [(u64, u32, u64); 6] = [
+    (0, 0, 0),
+    (0, 1, 1),
+    (1, 7, 1_000_000_007),
+    (18_446_744_073, 709_551_614, u64::MAX - 1),
+    (18_446_744_073, 709_551_616, u64::MAX),
+    (u64::MAX, 999_999_999, u64::MAX),
+];
+
+/// Whether both clocks of a worker show that time.
+fn shows_clock(alloc: Global, row: &(u64, u32, u64)) -> bool
+    requires { row.now.1 < 1_000_000_000 }
+{
+    let clock = FixedClock(Duration::new(row.0, row.1));
+    let reader = BufferedLines::new(b"".as_slice());
+    let outside = Outside {
+        clock: None,
+        ..OUTSIDE
+    };
+    let mut source = RequestSource::new(alloc, reader, clock, outside, 0);
+    let realtime = source.answer(Kind::Realtime);
+    let monotonic = source.answer(Kind::Monotonic);
+    drop(source);
+    time_in(&realtime) == Some(row.2) && time_in(&monotonic) == Some(row.2)
+}
+
+#[test]
+fn shows_the_time_of_the_clock(rt: HostRuntime) -> Result<(), Fail> {
+    for row in &CLOCKS {
+        assert!(rt; shows_clock(rt.alloc(), row), "{row:?}");
+    }
     Ok(())
 }
 

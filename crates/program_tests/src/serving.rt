@@ -1,7 +1,7 @@
 //! What `run` prints and tells of a worker on its disk, also where a person reads along.
 
 use crate::asking::ECHO;
-use crate::lines::{NoClock, OUTSIDE};
+use crate::lines::{Flushed, NoClock, OUTSIDE};
 use crate::run::status_of;
 use crate::show::{Shown, after_one_slice, fresh_disk, shows};
 use sector_disk::MemDisk;
@@ -54,9 +54,9 @@ static TOLD: [Told; 2] = [
 
 fn is_told_so(alloc: Global, row: &Told) -> Result<bool, Fail> {
     let mut disk = after_one_slice(alloc)?;
-    let mut err = Vec::new(alloc);
+    let mut err = Flushed::new(alloc);
     let status = status_on(alloc, &mut disk, &mut Printer::new(&mut err, row.0))?;
-    Ok(status == Some(0) && err.as_slice() == row.1.as_bytes())
+    Ok(status == Some(0) && err.out.as_slice() == row.1.as_bytes())
 }
 
 #[test]

@@ -5,6 +5,7 @@ ghost use Rattle.disk_layout.specs.rules.Places.{total_sectors};
 
 use crate::asking::{ECHO, config, hello};
 use crate::check::bytes_of;
+use crate::lines::Flushed;
 use record_replay::{AnswerList, LineList};
 use sector_disk::{Disk, FaultDisk, MemDisk, Place};
 use std::alloc::Global;
@@ -24,9 +25,9 @@ pub(crate) struct Shown {
     pub status: u8,
 }
 
-/// Whether just that is shown of a disk.
+/// Whether just that is shown of a disk, and flushed.
 pub(crate) fn shows<D: Disk>(alloc: Global, disk: &mut D, shown: &Shown) -> bool {
-    let mut out = Vec::new(alloc);
+    let mut out = Flushed::new(alloc);
     let mut err = Vec::new(alloc);
     let status = survey(
         alloc,
@@ -35,7 +36,7 @@ pub(crate) fn shows<D: Disk>(alloc: Global, disk: &mut D, shown: &Shown) -> bool
         &mut Printer::new(&mut err, false),
     );
     status == shown.status
-        && out.as_slice() == shown.out.as_bytes()
+        && out.out.as_slice() == shown.out.as_bytes()
         && err.as_slice() == shown.err.as_bytes()
 }
 

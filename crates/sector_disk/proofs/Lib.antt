@@ -4,6 +4,7 @@ mod MemoryLemmas
 mod AnswerLemmas
 mod RewriteLemmas
 mod FrontLemmas
+mod FolderLemmas
 pub mod CallLemmas
 pub mod Moments
 pub mod RunLemmas

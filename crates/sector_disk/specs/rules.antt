@@ -3,6 +3,7 @@ pub mod Calls
 pub mod Counts
 pub mod FaultDisk
 pub mod File
+pub mod Folder
 pub mod Image
 pub mod Medium
 pub mod Memory

@@ -1,9 +1,11 @@
 // A disk in a file of the operating system.
-ghost use Rattle.std.specs.Prelude.{◌≡◌, ◌<◌, ◌≤◌, ◌^◌, ◌↔◌, [], IfOk, IsErrOf, IsTrue, OnOk};
+ghost use Rattle.std.specs.Prelude.{◌≡◌, ◌<◌, ◌≤◌, ◌^◌, ◌*◌, ◌/◌, ◌↔◌, ℕ, [], IfOk, IsErrOf};
+ghost use Rattle.std.specs.Prelude.{IsTrue, OnOk};
 
 use crate::file_call::{Failure, FileCall, NO_BYTES};
 use crate::file_log::FileLog;
-use crate::{Disk, DiskFault, LockFile, OpenCause, OpenFault, SECTOR_SIZE};
+use crate::folder::folder_of;
+use crate::{Disk, DiskFault, LockFile, OpenCause, OpenFault, SECTOR_SIZE, SizeFile};
 use std::fs::{File, OpenFile, OpenOptions};
 use std::os::unix::fs::FileExt;
 use std::rt::Files;
@@ -28,7 +30,7 @@ pub struct FileDisk<F> {
     ghost small: { count < 2 ^ 55 },
 }
 
-impl<F: OpenFile + FileExt + LockFile> FileDisk<F> {
+impl<F: OpenFile + FileExt + LockFile + SizeFile> FileDisk<F> {
     ghost use Rattle.sector_disk.specs.rules.File.{file_medium, answers_of, file_of};
     ghost use Rattle.sector_disk.specs.declared.open_fault.OpenFault.TheVariants.{Io};
     ghost use Rattle.sector_disk.specs.declared.open_fault.OpenCause.TheVariants.{TooLarge};
@@ -45,6 +47,8 @@ impl<F: OpenFile + FileExt + LockFile> FileDisk<F> {
     where
         F: Drop,
         ensures sectors { IfOk result (λ d. (file_medium d).sectors ≡ sectors) }
+        ensures resized { IfOk result (λ d. IsTrue (F.is_resized_to (file_of d)
+            (sectors * SECTOR_SIZE))) }
         ensures fresh { IfOk result (λ d. answers_of d ≡ []) }
         ensures locked { IfOk result (λ d. IsTrue (F.is_locked (file_of d))) }
         ensures busy { IsErrOf result OpenFault.Busy → ((file : F) × IsTrue (F.is_refused file)) }
@@ -55,7 +59,7 @@ impl<F: OpenFile + FileExt + LockFile> FileDisk<F> {
         }
         let file = File::create_new(files, path)?;
         lock(&file)?;
-        file.set_len(sectors * SECTOR_SIZE as u64)?;
+        file.resize(sectors * SECTOR_SIZE as u64)?;
         fill(&file, sectors)?;
         file.sync_all()?;
         sync_folder(files, path)?;
@@ -71,13 +75,16 @@ impl<F: OpenFile + FileExt + LockFile> FileDisk<F> {
     pub fn open<R: Files<File = F>>(files: &R, path: &str) -> Result<FileDisk<F>, OpenFault>
     where
         F: Drop,
+        ensures measured { IfOk result (λ d. (bytes : ℕ)
+            × IsTrue (F.is_measured_at (file_of d) bytes)
+            × ((file_medium d).sectors ≡ bytes / SECTOR_SIZE)) }
         ensures fresh { IfOk result (λ d. answers_of d ≡ []) }
         ensures locked { IfOk result (λ d. IsTrue (F.is_locked (file_of d))) }
         ensures busy { IsErrOf result OpenFault.Busy → ((file : F) × IsTrue (F.is_refused file)) }
     {
         let file = OpenOptions::new().read(true).write(true).open(files, path)?;
         lock(&file)?;
-        let found = file.metadata()?;
+        let found = file.measure()?;
         Ok(FileDisk {
             file,
             count: found.len() / SECTOR_SIZE as u64,
@@ -110,12 +117,7 @@ fn fill<F: FileExt>(file: &F, sectors: u64) -> Result<(), OpenFault>
 fn sync_folder<R: Files>(files: &R, path: &str) -> Result<(), OpenFault>
     ensures { IsErrOf result OpenFault.Busy → ⊥ }
 {
-    let folder = match path.rsplit_once('/') {
-        None => ".",
-        Some(("", _)) => "/",
-        Some((folder, _)) => folder,
-    };
-    File::open(files, folder)?.sync_all()?;
+    File::open(files, folder_of(path))?.sync_all()?;
     Ok(())
 }
 

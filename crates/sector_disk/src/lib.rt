@@ -15,8 +15,11 @@
 //!   write, and `into_inner` gives the disk below.
 //! - `FileDisk` logs each call that it made of its file, with the answer. After a write or a sync
 //!   that failed every call answers `Io`, and the file isn't asked (`logged`). `create` gives a
-//!   disk of so many sectors (`sectors`), and no clause says that it fills them with zeros. It and
-//!   `open` begin with an empty log (`fresh`), and answer Ok only with the file's lock (`locked`).
+//!   disk of so many sectors (`sectors`), and makes its file as long as these (`resized`). `open`
+//!   gives the whole sectors of a length that its file said (`measured`). Both begin with an empty
+//!   log (`fresh`), and answer Ok only with the file's lock (`locked`). No clause says that
+//!   `create` fills the file with zeros, and then syncs it and the folder that has its entry
+//!   (`folder_of`). `scripts/file-calls` shows that.
 //! - `OpenFault` says why they failed: another host has the file (`busy`), or what the operating
 //!   system said of the path (`open_cause`).
 //! - `rewrite` writes each sector of a disk back as it reads it, and syncs. At no moment does it
@@ -25,6 +28,8 @@
 //!   leaves of each some front (`any_moment`). After Ok each cut leaves all of them (`stored`).
 //!   There are never more unsynced writes than before and these (`counts`). They are written in
 //!   rising order, and `store_run` then syncs once (`calls`).
+//! - `LockFile` and `SizeFile` are what a file must answer for its lock and its length, so that
+//!   clauses can say that it was asked.
 //! - `laws`: how many bytes a sector has (`sector_size_is`, of `SECTOR_SIZE`), and
 //!   `worked_examples`.
 //!
@@ -35,7 +40,8 @@
 //! (`Calls.antt`); `IsTornRun` (`Run.antt`); `AddsNothing` (`Rewrite.antt`). Three disks have a
 //! state: `MemDisk` (`Memory.antt`, `Pending.antt`), `FaultDisk` (`Trouble.antt`,
 //! `FaultDisk.antt`) and `FileDisk` (`Answered.antt`, `Counts.antt`, `File.antt`). Which error of
-//! the operating system is which cause stands in `Open.antt`.
+//! the operating system is which cause stands in `Open.antt`, and which folder has a path's entry
+//! in `Folder.antt`.
 //!
 //! # Who may touch what
 //!
@@ -53,6 +59,7 @@ mod fault_disk;
 mod file;
 mod file_call;
 mod file_log;
+mod folder;
 mod front;
 pub mod laws;
 mod lock;
@@ -64,6 +71,7 @@ mod place;
 mod rewriting;
 mod run;
 mod sector;
+mod size;
 mod trouble;
 mod write;
 
@@ -78,3 +86,4 @@ pub use place::Place;
 pub use rewriting::rewrite;
 pub use run::{store_run, write_run};
 pub use sector::SECTOR_SIZE;
+pub use size::SizeFile;

@@ -1,5 +1,6 @@
 //! What tests alone can show of modules. That is what bytes decode, validate and link to, and where
-//! their branches lead. It is also what they do when they run, a row an instruction.
+//! their branches lead. It is also what they do when they run, a row an instruction, and that
+//! bodies are translated.
 //!
 //! Each test is a table of rows whose expected values come from outside. Those that take memory
 //! return their error, so that `scripts/refused-allocations` can refuse each allocation in turn.
@@ -11,6 +12,8 @@ mod faults;
 mod guest_memory_tests;
 #[cfg(test)]
 mod int_ops_tests;
+#[cfg(test)]
+mod machine_frame_tests;
 #[cfg(test)]
 mod machine_jumps_tests;
 #[cfg(test)]

@@ -13,14 +13,14 @@ use std::alloc::Global;
 use wasm_validate::{ModuleContext, ValidFault, ValidModule};
 
 /// What the bodies of a valid module look up.
-fn context_of(alloc: Global, valid: &ValidModule) -> Result<ModuleContext<'_>, ValidFault>
+pub fn context_of(alloc: Global, valid: &ValidModule) -> Result<ModuleContext<'_>, ValidFault>
     ensures { IfOk result GivesOnes }
 {
     ModuleContext::of(alloc, valid.module())
 }
 
 /// The table of the first function, which has the first type.
-fn first_table(alloc: Global, valid: &ValidModule) -> Result<BranchTable, Refused> {
+pub fn first_table(alloc: Global, valid: &ValidModule) -> Result<BranchTable, Refused> {
     let context = context_of(alloc, valid)?;
     let Some(function_type) = valid.module().types.get(0) else {
         return Err(Refused::Misspelled);

@@ -13,9 +13,11 @@
 //! - `check` and `create` hand over a module's bytes. `create` makes the disk's file once the
 //!   module and its configuration are accepted.
 //! - `story` hands over all bytes of a script, and a module's bytes. It reads them in this order.
-//! - `run` and `show` open the disk's file, which one host holds at a time. `run` also hands over
-//!   the lines of the standard input, the machine's clock, and what the words say of seed and
-//!   clock.
+//! - `run` and `show` open the disk's file by `open_disk` and `show_file`, and one host holds it at a
+//!   time. `run` also hands over the lines of the standard input, the machine's clock, and what the
+//!   words say of seed and clock.
+//! - Before all that it takes the numbers of standard streams that are closed (`StreamNumbers`), so
+//!   that no file which it opens gets one. No clause says so: `scripts/closed-streams` runs it.
 //! - What keeps a command from beginning is told by `report`, `report_open` and
 //!   `report_unprepared`, and a fault of the words by `report_words`.
 //! - Each command is handed fresh printers, of which no write has failed. That of the error output
@@ -33,9 +35,9 @@
 //! and a line.
 #![tactic(auto)]
 
-ghost use Rattle.std.specs.Prelude.{◌≤◌, IfErr};
+ghost use Rattle.std.specs.Prelude.{◌≤◌};
 
-use sector_disk::{FileDisk, rewrite};
+use sector_disk::FileDisk;
 use std::alloc::Global;
 use std::env;
 use std::fs::File;
@@ -45,10 +47,33 @@ use std::rt::{Env, Files};
 use std::time::Clock;
 use wasmhost_serve::{
     BufferedLines, CreateOrder, LineOutlet, Obstacle, Order, Outside, Pace, Printer, RequestSource,
-    RunOrder, Sizes, StoryOrder, check_bytes, create_on, obstacle_of, prepare, read_module,
-    read_script, read_seed, read_words, report, report_open, report_script, report_unprepared,
-    report_words, serve, survey, tell,
+    RunOrder, Sizes, StoryOrder, check_bytes, create_on, obstacle_of, open_disk, prepare,
+    read_module, read_script, read_seed, read_words, report, report_open, report_script,
+    report_unprepared, report_words, serve, show_file, tell,
 };
+
+/// It is read to keep a number from other files. It has no bytes, and takes none from a reader.
+const NULL_DEVICE: &str = "/dev/null";
+
+/// The numbers of those standard streams that were closed when the program began. As long as it
+/// lives no file gets one of them: a closed input is at its end, and a write to a closed output
+/// fails.
+#[derive(Drop)]
+struct StreamNumbers {
+    _files: [File; 3],
+}
+
+impl StreamNumbers {
+    /// Opens the null device three times. The system gives a file the lowest number that is free.
+    fn take<R: Files<File = File>>(rt: &R) -> io::Result<StreamNumbers> {
+        let first = File::open(rt, NULL_DEVICE)?;
+        let second = File::open(rt, NULL_DEVICE)?;
+        let third = File::open(rt, NULL_DEVICE)?;
+        Ok(StreamNumbers {
+            _files: [first, second, third],
+        })
+    }
+}
 
 /// The first bytes of a file.
 fn read_file<R: Files>(rt: &R, alloc: Global, path: &str) -> io::Result<Vec<u8>> {
@@ -123,24 +148,6 @@ fn seed_of(order: &RunOrder<'_>) -> Option<[u8; 32]> {
     }
 }
 
-/// Opens the disk's file, and writes every sector back first where the words say so.
-fn open<R: Files<File = File>, E: Write + Drop>(
-    rt: &R,
-    order: &RunOrder<'_>,
-    err: &mut Printer<E>,
-) -> Result<FileDisk<File>, u8>
-    ensures { IfErr result (λ status. status ≤ 7) }
-{
-    match FileDisk::open(rt, order.disk) {
-        Ok(mut disk) if order.rewrites => match rewrite(&mut disk) {
-            Ok(()) => Ok(disk),
-            Err(_) => Err(report(err, Obstacle::Unread)),
-        },
-        Ok(disk) => Ok(disk),
-        Err(fault) => Err(report_open(err, fault)),
-    }
-}
-
 /// Runs the worker of a disk on the lines of the standard input and the machine's clock.
 fn run<R: Files<File = File> + Input + Clock, W: Write + Drop, E: Write + Drop>(
     rt: &R,
@@ -154,7 +161,7 @@ fn run<R: Files<File = File> + Input + Clock, W: Write + Drop, E: Write + Drop>(
     let Some(seed) = seed_of(order) else {
         return report(err, Obstacle::NoSeed);
     };
-    let mut disk = match open(rt, order, err) {
+    let mut disk = match open_disk(rt, order.disk, order.rewrites, err) {
         Ok(disk) => disk,
         Err(status) => return status,
     };
@@ -175,22 +182,6 @@ fn run<R: Files<File = File> + Input + Clock, W: Write + Drop, E: Write + Drop>(
         every: order.every,
     };
     serve(alloc, &mut disk, pace, &mut source, &mut outlet, err)
-}
-
-/// Shows what stands on a disk.
-fn show<R: Files<File = File>, W: Write + Drop, E: Write + Drop>(
-    rt: &R,
-    alloc: Global,
-    path: &str,
-    out: &mut W,
-    err: &mut Printer<E>,
-) -> u8
-    ensures { result ≤ 7 }
-{
-    match FileDisk::open(rt, path) {
-        Ok(mut disk) => survey(alloc, &mut disk, &mut Printer::new(out, false), err),
-        Err(fault) => report_open(err, fault),
-    }
 }
 
 /// Tells that the module of a story can't be read, but first what is wrong with the script.
@@ -256,9 +247,22 @@ where
         Ok(Order::Check { path }) => check(rt, alloc, path, out, err),
         Ok(Order::Create(order)) => create(rt, alloc, &order, out, err),
         Ok(Order::Run(order)) => run(rt, alloc, &order, out, err),
-        Ok(Order::Show { path }) => show(rt, alloc, path, out, err),
+        Ok(Order::Show { path }) => show_file(alloc, rt, path, &mut Printer::new(out, false), err),
         Ok(Order::Story(order)) => story(rt, alloc, &order, out, err),
         Err(fault) => report_words(&fault, &mut Printer::new(out, false), err),
+    }
+}
+
+/// Takes the numbers of closed standard streams, and then runs the command line. Returns the exit
+/// status.
+fn guarded<R, W: Write + Drop, E: Write + Drop>(rt: &R, out: &mut W, err: &mut Printer<E>) -> u8
+where
+    R: AllocGlobal + Clock + Env + Files<File = File> + Input,
+    ensures { result ≤ 7 }
+{
+    match StreamNumbers::take(rt) {
+        Ok(_taken) => status_of(rt, out, err),
+        Err(error) => report(err, obstacle_of(&error)),
     }
 }
 
@@ -266,5 +270,5 @@ fn main(rt: HostRuntime) -> ExitCode {
     let err = rt.stderr();
     let is_terminal = err.is_terminal();
     let err = &mut Printer::new(err, is_terminal);
-    ExitCode::from(status_of(&rt, &mut rt.stdout(), err))
+    ExitCode::from(guarded(&rt, &mut rt.stdout(), err))
 }

@@ -18,3 +18,4 @@ pub mod StoryLemmas
 pub mod TellingLemmas
 pub mod RefusalLemmas
 pub mod CauseLemmas
+pub mod FileLemmas

@@ -36,9 +36,13 @@
 //! - `survey`: the survey of a worker's disk is printed, or what keeps it from that is told
 //!   (`shows`). Of a disk that stands for a worker the line is that worker's (`stands`). Nothing is
 //!   changed on the disk, but that it is synced.
+//! - `open_disk`: the disk of a file on which no call was made since it was opened, where no rewrite
+//!   is asked for. Else each sector was written back, and synced (`IsOpenedFor`). `show_file` is
+//!   `survey` of a disk that was opened so, and nothing else is done with it (`ShowsFile`).
 //! - `RequestSource` answers requests as the lines of its reader say, in their order (`HandsNext`).
-//!   It answers clocks with the fixed time, and wishes for random bytes with the next words of its
-//!   stream. It says why it refuses. A failed read it tells only of a reader that has failed.
+//!   It answers clocks with the fixed time, or with that of its `RealTime` clock, to the nanosecond
+//!   (`IsRealTime`). It answers wishes for random bytes with the next words of its stream. It says
+//!   why it refuses. A failed read it tells only of a reader that has failed.
 //! - `read_request`: what one line says, where it is a request line (`spelled`, `found`).
 //!   `trap_name`: how last words call a trap.
 //! - `read_seed`, `seeded`: which texts are seeds, and which bytes a seed gives (`seeded_bytes`).
@@ -68,7 +72,8 @@
 //! `seeded_bytes` (`Seeds.antt`); `printed`, `request_line` (`Texts.antt`);
 //! `CreatesOn`, `IsPreparedAs`, `IsUnprepared`, `config_as` (`Creations.antt`);
 //! `wasmhost` (`CommandLine.antt`); `meaning_in`, `IsReading`, `IsStatusOf` (`Commands.antt`);
-//! `ShowsDisk`, `ShowsSurvey`, `survey_line` (`Showings.antt`); `open_words` (`Openings.antt`);
+//! `ShowsDisk`, `ShowsSurvey`, `survey_line` (`Showings.antt`); `open_words`, `IsOpenedFor`,
+//! `ShowsFile` (`Openings.antt`);
 //! `ServesOnDisk`, `LivesOnDisk`, `HasOutcome`, `HasBrokenOff`, `stands_behind`
 //! (`ServedOnDisk.antt`); `BreaksOff`, `LeavesNoLine`, `PrintsItsLines` (`BrokenLives.antt`);
 //! `SaysOnDisk`, `HasPrintedItsLines` (`DiskCauses.antt`); `IsPaced` (`Paces.antt`);
@@ -82,8 +87,8 @@
 //!
 //! Only this crate knows how lines, requests and last words are spelled, and the exit statuses
 //! (`status`). `wasmhost` calls it. It stands on `worker`, `durable_worker` and `machine_loader`.
-//! Want of memory is status 5. A disk is lent to each call of a worker on it, and nothing else here
-//! touches one. Nothing here opens a file.
+//! Want of memory is status 5. A disk is lent to each call of a worker on it. Beside these only
+//! `open_disk` touches one, which is also the one place here that opens a file.
 #![tactic(auto)]
 
 mod check;
@@ -104,11 +109,11 @@ pub use check::check_bytes;
 pub use configuring::Sizes;
 pub use durable_worker::DurableWorker;
 pub use lines::{
-    BufferedLines, LineFault, LineOutlet, LineReader, Outside, Request, RequestSource,
+    BufferedLines, LineFault, LineOutlet, LineReader, Outside, RealTime, Request, RequestSource,
     read_request, trap_name,
 };
 pub use module_bytes::read_module;
-pub use on_disk::{Pace, create_on, report_open, serve, survey};
+pub use on_disk::{Pace, create_on, open_disk, report_open, serve, show_file, survey};
 pub use preparing::{Prepared, Unprepared, prepare, report_unprepared};
 pub use printer::Printer;
 pub use seed::{read_seed, seeded};

@@ -1,6 +1,6 @@
--- Worked examples of images, of runs of writes, and of what is counted.
+-- Worked examples of images, of runs of writes, of what is counted, and of folders.
 use Rattle.std.specs.Prelude.{◌≡◌, ◌<◌, ◌≤◌, ◌+◌, ◌-◌, ◌^◌, ◌++◌, ℕ, List, [], ◌∷◌, Option, Some}
-use Rattle.std.specs.Prelude.{None, replicate, refl, Bool, true, false, IsTrue}
+use Rattle.std.specs.Prelude.{None, replicate, refl, Bool, true, false, IsTrue, codes}
 use Rattle.sector_disk.specs.rules.Image.{Image, sector_at, with_sector, front_over, with_front}
 use Rattle.sector_disk.specs.rules.Image.{IsImage, IsTornWithin}
 use Rattle.std.proofs.Common.{zero, suc, length, drop, sym, ap, ◌∙◌, arith}
@@ -12,6 +12,7 @@ use Rattle.sector_disk.specs.rules.Run.{IsTornRun, IsWrittenRun}
 use Rattle.sector_disk.specs.rules.Pending.{replayed, torn_by}
 use Rattle.sector_disk.specs.rules.Answered.{AnsweredCalls, faults_of, unsynced_of, file_calls}
 use Rattle.sector_disk.specs.rules.Answered.{is_given_up}
+use Rattle.sector_disk.specs.rules.Folder.{folder_of}
 use Rattle.sector_disk.specs.rules.Trouble.{counted, call_number, trouble_at, place_numbers}
 use Rattle.sector_disk.specs.rules.Trouble.{troubled, LeavesFront}
 use Rattle.sector_disk.specs.declared.write.Write.{Write}
@@ -124,6 +125,16 @@ pub record CallExamples : Type 0 where
   pub of_a_file : file_calls five_calls ≡ WriteOf 1 ∷ WriteOf 1 ∷ Sync ∷ WriteOf 0 ∷ []
   pub without_reads : file_calls ((Read 5, []) ∷ (Wrote 4, []) ∷ []) ≡ WriteOf 4 ∷ []
   pub of_a_memory : calls_in ((Sync, tt) ∷ (WriteOf 4, tt) ∷ []) ≡ Sync ∷ WriteOf 4 ∷ []
+
+-- ---- the folders of paths
+
+pub record FolderExamples : Type 0 where
+  pub current : folder_of (codes "x") ≡ codes "."
+  pub named_current : folder_of (codes "./x") ≡ codes "."
+  pub inside : folder_of (codes "a/x") ≡ codes "a"
+  pub root : folder_of (codes "/x") ≡ codes "/"
+  pub inside_the_root : folder_of (codes "/a/x") ≡ codes "/a"
+  pub two_slashes : folder_of (codes "a//x") ≡ codes "a/"
 
 -- ---- laws of any disk, which no contract can name: they stand here with their proofs
 

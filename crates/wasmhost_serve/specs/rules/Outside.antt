@@ -1,5 +1,6 @@
 -- Times and random bytes, which no request line gives (this project's own).
-use Rattle.std.specs.Prelude.{◌≡◌, ℕ, ◌+◌, ⊤, List, [], ◌∷◌, ◌++◌, length, IfSome}
+use Rattle.std.specs.Prelude.{◌≡◌, ℕ, ◌+◌, ◌-◌, ◌^◌, ◌<◌, ◌≤◌, ⊤, List, [], ◌∷◌, ◌++◌, length}
+use Rattle.std.specs.Prelude.{Bool, IsTrue, Option, Some, IfSome}
 use Rattle.wasi_abi.specs.declared.answer.Answer.{Answer}
 use Rattle.wasi_abi.specs.declared.answer.Answer.TheVariants as answer
 use Rattle.process_rules.specs.Runs.{Kept, Given}
@@ -10,9 +11,24 @@ use Rattle.wasmhost_serve.specs.rules.Seeds.{seeded_bytes, words_for}
 abbrev pub random_stream : ℕ
 random_stream = 1
 
--- A clock that is fixed shows that time. Of the machine's clock nothing is known.
+-- A clock that is fixed shows that time. Else it is the machine's.
 abbrev pub IsTimeOf : Outside → ℕ → Type 0
 IsTimeOf outside n = IfSome outside.clock (λ fixed. n ≡ fixed)
+
+-- a time in nanoseconds as a number of 64 bits: beyond these it is the greatest of them
+pub record IsNanoseconds (time n : ℕ) : Type 0 where
+  pub within : time < 2 ^ 64 → n ≡ time
+  pub beyond : 2 ^ 64 ≤ time → n ≡ 2 ^ 64 - 1
+
+-- a number for a time that the machine's clock has given
+abbrev pub IsRealTime : (ℕ → Bool) → ℕ → Type 0
+IsRealTime gives n = (time : ℕ) × IsTrue (gives time) × IsNanoseconds time n
+
+-- where the answer is a time, it is such a one
+abbrev pub ShowsRealTime : (ℕ → Bool) → Option Answer → Type 0
+ShowsRealTime gives (Some (answer.Realtime n)) = IsRealTime gives n
+ShowsRealTime gives (Some (answer.Monotonic n)) = IsRealTime gives n
+ShowsRealTime gives _ = ⊤
 
 -- how many words of the seed an answer takes
 abbrev pub words_in : Answer → ℕ

@@ -1,17 +1,17 @@
 //! What no request line answers: the time, and random bytes.
 
-ghost use Rattle.std.specs.Prelude.{◌≡◌, IfOk, IfErr, IfSome};
+ghost use Rattle.std.specs.Prelude.{◌≡◌, None, IfOk, IfErr};
 ghost use Rattle.wasi_abi.specs.declared.answer.Answer.TheVariants as answers;
 ghost use Rattle.wasi_abi.specs.rules.Answers.{IsTime};
-ghost use Rattle.wasmhost_serve.specs.rules.Outside.{IsTimeOf};
+ghost use Rattle.wasmhost_serve.specs.rules.Outside.{IsTimeOf, IsRealTime};
 ghost use Rattle.wasmhost_serve.specs.rules.Seeds.{seeded_bytes};
 ghost use Rattle.wasmhost_serve.specs.Lines.Answers.{IsClockless};
 ghost use Rattle.wasmhost_serve.specs.declared.lines.fault.LineFault.TheVariants.{Memory};
 
 use crate::lines::fault::LineFault;
+use crate::lines::real_time::{RealTime, real_time};
 use crate::seed::seeded;
 use std::alloc::Global;
-use std::time::Clock;
 use wasi_abi::Answer;
 use wasm_syntax::Row;
 
@@ -27,19 +27,10 @@ pub struct Outside {
     pub clock: Option<u64>,
 }
 
-/// The machine's real time in nanoseconds. One beyond 64 bits is the greatest of 64 bits.
-fn real_time<C: Clock>(clock: &C) -> Option<u64>
-    ensures { IfSome result IsTime }
-{
-    let Ok(since) = clock.since_1970() else {
-        return None;
-    };
-    Some(u64::try_from(since.as_nanos()).unwrap_or(u64::MAX))
-}
-
 /// The time that both clocks show.
-pub(crate) fn time_of<C: Clock>(outside: Outside, clock: &C) -> Result<u64, LineFault>
+pub(crate) fn time_of<C: RealTime>(outside: Outside, clock: &C) -> Result<u64, LineFault>
     ensures is { IfOk result (IsTimeOf outside) }
+    ensures real { outside.clock ≡ None → IfOk result (IsRealTime (C.gives_time clock.now)) }
     ensures small { IfOk result IsTime }
     ensures failed { IfErr result (IsClockless outside) }
 {

@@ -4,16 +4,16 @@ ghost use Rattle.std.specs.Prelude.{◌≡◌, ◌+◌, None, IfOk, IfErr, OnOk,
 ghost use Rattle.wasi_abi.specs.declared.answer.Kind.TheVariants as kinds;
 ghost use Rattle.wasi_abi.specs.declared.answer.Answer.TheVariants as answers;
 ghost use Rattle.wasmhost_serve.specs.Lines.Answers.{Finds, IsRefusedAt, IsWordless, standing};
-ghost use Rattle.wasmhost_serve.specs.rules.Outside.{random_stream};
+ghost use Rattle.wasmhost_serve.specs.rules.Outside.{random_stream, ShowsRealTime};
 ghost use Rattle.wasmhost_serve.specs.rules.Seeds.{seeded_bytes, words_for};
 
 use crate::lines::fault::LineFault;
 use crate::lines::numbered::NumberedRequests;
 use crate::lines::outside::{Outside, STREAM, random_answer, time_of};
 use crate::lines::reader::LineReader;
+use crate::lines::real_time::RealTime;
 use record_replay::{Source, SourceFault};
 use std::alloc::Global;
-use std::time::Clock;
 use wasi_abi::{Answer, Kind};
 
 /// Answers requests with the lines of a reader, clocks with a fixed time or the machine's, and
@@ -21,7 +21,7 @@ use wasi_abi::{Answer, Kind};
 /// asked for and the lines have come to their end. After a fault all is refused, since the reader
 /// may stand within a line.
 #[derive(Drop)]
-pub struct RequestSource<R: LineReader + Drop, C: Clock + Drop> {
+pub struct RequestSource<R: LineReader + Drop, C: RealTime + Drop> {
     alloc: Global,
     requests: NumberedRequests<R>,
     /// The machine's clock.
@@ -34,7 +34,7 @@ pub struct RequestSource<R: LineReader + Drop, C: Clock + Drop> {
     fault: Option<LineFault>,
 }
 
-impl<R: LineReader + Drop, C: Clock + Drop> RequestSource<R, C> {
+impl<R: LineReader + Drop, C: RealTime + Drop> RequestSource<R, C> {
     /// Behind so many requests, and at the first word of the seed.
     pub fn new(alloc: Global, reader: R, clock: C, outside: Outside, taken: u64) -> Self
         ensures reader { result.requests.reader ≡ reader }
@@ -106,6 +106,8 @@ impl<R: LineReader + Drop, C: Clock + Drop> RequestSource<R, C> {
             found
             (standing self.new.outside self.new.stream self.new.requests.taken self.new.place
             (R.unread self.new.requests.reader) (R.has_failed self.new.requests.reader) None)) }
+        ensures real { self.old.outside.clock ≡ None → IfOk result
+            (ShowsRealTime (C.gives_time self.old.clock)) }
         ensures steady { OnOk result
             (R.has_failed self.new.requests.reader ≡ R.has_failed self.old.requests.reader) }
         ensures failed { IfErr result (IsRefusedAt kind
@@ -136,7 +138,7 @@ impl<R: LineReader + Drop, C: Clock + Drop> RequestSource<R, C> {
     }
 }
 
-impl<R: LineReader + Drop, C: Clock + Drop> Source for RequestSource<R, C> {
+impl<R: LineReader + Drop, C: RealTime + Drop> Source for RequestSource<R, C> {
     ghost use Rattle.wasmhost_serve.specs.Lines.Answers.{HandsNext, standing};
 
     ghost gives = { λ old kind said new. HandsNext kind

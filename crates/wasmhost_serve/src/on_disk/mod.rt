@@ -1,6 +1,7 @@
 //! Commands on a worker that is kept on a disk.
 
 mod creation;
+mod disk_file;
 mod ending;
 mod fault;
 mod living;
@@ -9,6 +10,7 @@ mod serving;
 mod showing;
 
 pub use creation::create_on;
+pub use disk_file::{open_disk, show_file};
 pub use living::Pace;
 pub use opening::report_open;
 pub use serving::serve;

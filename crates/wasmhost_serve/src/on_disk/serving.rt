@@ -8,7 +8,7 @@ ghost use Rattle.wasmhost_serve.specs.rules.Printers.{IsPrinted, TellsPerson};
 ghost use Rattle.wasmhost_serve.specs.rules.ServedOnDisk.{ServesOnDisk, disk_job, recovered_line};
 ghost use Rattle.wasmhost_serve.specs.Livings.{HasGoneOn};
 
-use crate::lines::{LineFault, LineOutlet, LineReader, RequestSource};
+use crate::lines::{LineFault, LineOutlet, LineReader, RealTime, RequestSource};
 use crate::on_disk::ending::say;
 use crate::on_disk::fault::{OnDiskFault, say_disk_fault};
 use crate::on_disk::living::{Pace, live};
@@ -18,7 +18,6 @@ use durable_worker::{DurableFault, DurableWorker};
 use sector_disk::Disk;
 use std::alloc::Global;
 use std::io::{self, Write};
-use std::time::Clock;
 use worker::{Now, WorkFault};
 
 /// A fault of the source is that of a request line, where there is one.
@@ -33,7 +32,7 @@ fn call_fault_of(fault: DurableFault, line: Option<LineFault>) -> OnDiskFault
 
 /// Runs a worker that is open on its disk: request lines behind those that it has taken, random
 /// bytes of its generation.
-fn go_on<D: Disk, R: LineReader + Drop, C: Clock + Drop, W: Write + Drop>(
+fn go_on<D: Disk, R: LineReader + Drop, C: RealTime + Drop, W: Write + Drop>(
     worker: &mut DurableWorker,
     disk: &mut D,
     pace: Pace,
@@ -83,7 +82,7 @@ fn tell_recovered<E: Write + Drop>(err: &mut Printer<E>, worker: &DurableWorker)
 /// the end of the lines, 3 for a disk that shows no worker that can go on and where a number is at
 /// its end, 4 where the disk, the reader or the clock fails, 5 for want of memory, 6 for a refused
 /// request line, 7 where a write has failed.
-pub fn serve<D: Disk, R: LineReader + Drop, C: Clock + Drop, W: Write + Drop, E: Write + Drop>(
+pub fn serve<D: Disk, R: LineReader + Drop, C: RealTime + Drop, W: Write + Drop, E: Write + Drop>(
     alloc: Global,
     disk: &mut D,
     pace: Pace,

@@ -1,5 +1,6 @@
 use Rattle.process_rules.proofs.ExamplesHold.{hello_ends, idle_ends, trapping_ends}
 use Rattle.process_rules.proofs.EchoHolds.{echo_ends}
+use Rattle.process_rules.proofs.SyncingHolds.{syncing_owes}
 use Rattle.process_rules.proofs.laws.worked_examples.Goals as goal
 
 pub returns-clause-hello : goal.returns-clause-hello
@@ -13,3 +14,6 @@ returns-clause-trapping c = trapping_ends
 
 pub returns-clause-echo : goal.returns-clause-echo
 returns-clause-echo c = echo_ends
+
+pub returns-clause-syncing : goal.returns-clause-syncing
+returns-clause-syncing c = syncing_owes

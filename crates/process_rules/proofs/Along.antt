@@ -1,0 +1,89 @@
+-- A run with what is known of each process on it. What the same answers lead to is one of these.
+use Rattle.std.proofs.Common.{◌≡◌, ℕ, zero, suc, ◌+◌, List, [], ◌∷◌, ◌++◌, length, take as firsts}
+use Rattle.std.proofs.Common.{Some, None, refl, subst, arith}
+use Rattle.wasi_abi.specs.declared.answer.Answer.{Answer}
+use Rattle.process_rules.specs.Processes.{Ending, ProcessState, Guest}
+use Rattle.process_rules.specs.Runs.{Kept, Given, Moves, Runs, none, step, take}
+use Rattle.process_rules.proofs.OneProcess.{moves_once, one_or_other}
+
+-- From the process after n steps and a answers, a run on these answers. P is known of each process
+-- on it, with how far it has come.
+pub data Along (guest : Guest) (P : ℕ → ℕ → ProcessState → Type 0) :
+    ℕ → ℕ → ProcessState → List Kept → ℕ → ProcessState → Type 0 where
+  last : {n a : ℕ} {p : ProcessState} → P n a p → Along guest P n a p [] 0 p
+  goes : {n a k : ℕ} {p q r : ProcessState} {kept : List Kept} → P n a p → Moves guest p None q
+      → Along guest P (n + 1) a q kept k r → Along guest P n a p kept (suc k) r
+  takes : {n a k : ℕ} {p q r : ProcessState} {x : Answer} {kept : List Kept} → P n a p
+      → Moves guest p (Some x) q
+      → Along guest P (n + 1) (a + 1) q kept k r → Along guest P n a p (Given x ∷ kept) (suc k) r
+
+pub is_run : (guest : Guest) (P : ℕ → ℕ → ProcessState → Type 0) (n a k : ℕ) (p r : ProcessState)
+    (kept : List Kept) → Along guest P n a p kept k r → Runs guest p kept k r
+is_run guest P n a k p r kept (last holds) = none
+is_run guest P n a k p r kept (goes {k = k'} {q = q} holds m rest) =
+    step m (is_run guest P (n + 1) a k' q r kept rest)
+is_run guest P n a k p r kept (takes {k = k'} {q = q} {kept = kept'} holds m rest) =
+    take m (is_run guest P (n + 1) (a + 1) k' q r kept' rest)
+
+-- ---- what is known of it at its start
+
+first_known : (guest : Guest) (P : ℕ → ℕ → ProcessState → Type 0) (n a k : ℕ) (p r : ProcessState)
+    (kept : List Kept) → Along guest P n a p kept k r → P n a p
+first_known guest P n a k p r kept (last holds) = holds
+first_known guest P n a k p r kept (goes holds m rest) = holds
+first_known guest P n a k p r kept (takes holds m rest) = holds
+
+moved : (P : ℕ → ℕ → ProcessState → Type 0) (n a n' a' : ℕ) (q : ProcessState) → n ≡ n' → a ≡ a'
+    → P n a q → P n' a' q
+moved P n a n' a' q e f holds = subst (λ z. P z a' q) e (subst (λ z. P n z q) f holds)
+
+-- ---- what is known of all that the same answers lead to
+
+-- It ends, so any process that some of its answers lead to, and of what was kept after them, is on
+-- it.
+all_known : (guest : Guest) (P : ℕ → ℕ → ProcessState → Type 0) (n a k : ℕ) (p r : ProcessState)
+    (kept more prefix : List Kept) (b j : ℕ) (q : ProcessState) (why : Ending)
+    → r.ended ≡ Some why → Along guest P n a p kept k r → Runs guest p prefix j q
+    → prefix ≡ firsts b (kept ++ more) → P (n + j) (a + length prefix) q
+all_known guest P n a k p r kept more prefix b j q why over along (none {p = p'}) e =
+    moved P n a (n + 0) (a + 0) p' (omega arith) (omega arith)
+    (first_known guest P n a k p' r kept along)
+all_known guest P n a k p r kept more prefix b j q why over (last holds) (step m rest) e =
+    absurd (let running = m.running in cc)
+all_known guest P n a k p r kept more prefix b j q why over (last holds) (take m rest) e =
+    absurd (let running = m.running in cc)
+all_known guest P n a k p r kept more prefix b j q why over
+    (goes {k = k'} {p = p'} {q = q'} holds m rest)
+    (step {q = r'} {kept = prefix'} {n = j'} m' rest') e =
+    let same : r' ≡ q' = moves_once guest p' r' q' None m' m in
+    moved P ((n + 1) + j') (a + length prefix') (n + suc j') (a + length prefix') q (omega arith)
+    refl
+    (all_known guest P (n + 1) a k' q' r kept more prefix' b j' q why over rest
+    (subst (λ z. Runs guest z prefix' j' q) same rest') e)
+all_known guest P n a k p r kept more prefix b j q why over (goes {p = p'} {q = q'} holds m rest)
+    (take {q = r'} {a = x} m' rest') e = absurd (one_or_other guest p' q' r' x m m')
+all_known guest P n a k p r kept more prefix b j q why over
+    (takes {p = p'} {q = q'} {x = x} holds m rest) (step {q = r'} m' rest') e =
+    absurd (one_or_other guest p' r' q' x m' m)
+all_known guest P n a k p r kept more prefix zero j q why over (takes holds m rest)
+    (take m' rest') e = absurd (cc)
+all_known guest P n a k p r kept more prefix (suc b) j q why over
+    (takes {k = k'} {p = p'} {q = q'} {x = x} {kept = kept'} holds m rest)
+    (take {q = r'} {a = y} {kept = prefix'} {n = j'} m' rest') e =
+    let one : y ≡ x = cc in
+    let others : prefix' ≡ firsts b (kept' ++ more) = cc in
+    let moves : Moves guest p' (Some x) r' = subst (λ z. Moves guest p' (Some z) r') one m' in
+    let same : r' ≡ q' = moves_once guest p' r' q' (Some x) moves m in
+    moved P ((n + 1) + j') ((a + 1) + length prefix') (n + suc j') (a + suc (length prefix')) q
+    (omega arith) (omega arith)
+    (all_known guest P (n + 1) (a + 1) k' q' r kept' more prefix' b j' q why over rest
+    (subst (λ z. Runs guest z prefix' j' q) same rest') others)
+
+-- so it is of a whole run
+pub known_from_start : (guest : Guest) (P : ℕ → ℕ → ProcessState → Type 0) (k : ℕ)
+    (p r : ProcessState) (kept more prefix : List Kept) (b j : ℕ) (q : ProcessState) (why : Ending)
+    → r.ended ≡ Some why → Along guest P 0 0 p kept k r → Runs guest p prefix j q
+    → prefix ≡ firsts b (kept ++ more) → P j (length prefix) q
+known_from_start guest P k p r kept more prefix b j q why over along runs e =
+    moved P (0 + j) (0 + length prefix) j (length prefix) q (omega arith) (omega arith)
+    (all_known guest P 0 0 k p r kept more prefix b j q why over along runs e)
