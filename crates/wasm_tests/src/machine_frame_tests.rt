@@ -93,9 +93,9 @@ static BODIES: [Row; 9] = [
 ];
 
 #[test]
-fn small_bodies_have_forms(rt: HostRuntime) -> Result<(), Refused> {
+fn small_bodies_have_forms(rt: HostRuntime) {
     for row in &BODIES {
-        assert!(rt; is_translated_so(rt.alloc(), row)?, "{row:?}");
+        let translated = is_translated_so(rt.alloc(), row);
+        assert!(rt; translated == Ok(true), "{row:?} {translated:?}");
     }
-    Ok(())
 }

@@ -1,7 +1,7 @@
 //! The kind of each fault of linking, two faults at once, what a machine begins with.
 
 use crate::runs::{Outcome, Runs, runs_so};
-use crate::spelled::{Refused, spell};
+use crate::spelled::{Refused, spell_each};
 use guest_memory::Memory;
 use machine::{LinkFault, Machine};
 use machine_loader::{FrontFault, accept};
@@ -266,7 +266,7 @@ fn fault_of(alloc: Global, bytes: &[u8]) -> Option<FrontFault> {
 }
 
 fn is_linked_so(alloc: Global, row: &Linked) -> Result<bool, Refused> {
-    let bytes = spell(alloc, row.0)?;
+    let bytes = spell_each(alloc, row.0)?;
     Ok(fault_of(alloc, bytes.as_slice()) == row.1)
 }
 

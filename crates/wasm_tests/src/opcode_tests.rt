@@ -192,7 +192,7 @@ static OPERATIONS: [Operation; 80] = [
 ];
 
 fn with_opcode(alloc: Global, shape: &Shape, opcode: u8) -> Result<Vec<u8>, Refused> {
-    let mut bytes = spell(alloc, &[shape.0])?;
+    let mut bytes = spell(alloc, shape.0, "")?;
     bytes.push(opcode)?;
     append(&mut bytes, shape.1)?;
     Ok(bytes)

@@ -86,6 +86,14 @@ pub fn append(bytes: &mut Vec<u8>, text: &str) -> Result<(), Refused> {
     Ok(())
 }
 
+/// The bytes that two texts spell together.
+pub fn spell(alloc: Global, first: &str, second: &str) -> Result<Vec<u8>, Refused> {
+    let mut bytes = Vec::new(alloc);
+    append(&mut bytes, first)?;
+    append(&mut bytes, second)?;
+    Ok(bytes)
+}
+
 fn append_each(bytes: &mut Vec<u8>, texts: &[&str]) -> Result<(), Refused> {
     for text in texts {
         append(bytes, text)?;
@@ -93,8 +101,8 @@ fn append_each(bytes: &mut Vec<u8>, texts: &[&str]) -> Result<(), Refused> {
     Ok(())
 }
 
-/// The bytes that texts spell together.
-pub fn spell(alloc: Global, texts: &[&str]) -> Result<Vec<u8>, Refused> {
+/// The bytes that texts spell one after another.
+pub fn spell_each(alloc: Global, texts: &[&str]) -> Result<Vec<u8>, Refused> {
     let mut bytes = Vec::new(alloc);
     append_each(&mut bytes, texts)?;
     Ok(bytes)
@@ -121,8 +129,8 @@ fn append_spelled_code(
     others: &str,
     last: &str,
 ) -> Result<(), Refused> {
-    let others = spell(alloc, &[others])?;
-    let last = spell(alloc, &[last])?;
+    let others = spell(alloc, others, "")?;
+    let last = spell(alloc, last, "")?;
     append_code(bytes, others.as_slice(), last.as_slice())
 }
 
@@ -135,7 +143,7 @@ pub fn with_code(
     last: &str,
     rest: &str,
 ) -> Result<Vec<u8>, Refused> {
-    let mut bytes = spell(alloc, &[front])?;
+    let mut bytes = spell(alloc, front, "")?;
     append_spelled_code(alloc, &mut bytes, others, last)?;
     append(&mut bytes, rest)?;
     Ok(bytes)

@@ -402,7 +402,7 @@ fn fault_of(alloc: Global, bytes: &[u8]) -> Option<DecodeFault> {
 }
 
 fn is_told_so(alloc: Global, row: &Told) -> Result<bool, Refused> {
-    let bytes = spell(alloc, &[row.0, row.1])?;
+    let bytes = spell(alloc, row.0, row.1)?;
     Ok(fault_of(alloc, bytes.as_slice()) == row.2)
 }
 
@@ -414,7 +414,7 @@ fn append_times(bytes: &mut Vec<u8>, text: &str, times: usize) -> Result<(), Ref
 }
 
 fn spell_long(alloc: Global, row: &Long) -> Result<Vec<u8>, Refused> {
-    let mut bytes = spell(alloc, &[row.0, row.1])?;
+    let mut bytes = spell(alloc, row.0, row.1)?;
     append_times(&mut bytes, row.2, row.3)?;
     append(&mut bytes, row.4)?;
     append_times(&mut bytes, row.5, row.3)?;
@@ -571,7 +571,7 @@ fn is_fault(fault: DecodeFault, wanted: &Read) -> Result<bool, Refused> {
 }
 
 fn is_read_so(alloc: Global, row: &(&str, &str, Read)) -> Result<bool, Refused> {
-    let bytes = spell(alloc, &[row.0, row.1])?;
+    let bytes = spell(alloc, row.0, row.1)?;
     match decode(alloc, bytes.as_slice()) {
         Ok(module) => {
             let is_so = has(&module, &row.2);
@@ -634,7 +634,7 @@ fn kind_by(fault: Option<DecodeFault>) -> Result<u8, Refused> {
 
 /// What is told of an opcode at place 51, within an `if`.
 fn kind_told(alloc: Global, opcode: u8) -> Result<u8, Refused> {
-    let mut bytes = spell(alloc, &[BEFORE_CODE, "0a0a0108 00 0440"])?;
+    let mut bytes = spell(alloc, BEFORE_CODE, "0a0a0108 00 0440")?;
     bytes.push(opcode)?;
     append(&mut bytes, "4000 0b0b")?;
     kind_by(fault_of(alloc, bytes.as_slice()))

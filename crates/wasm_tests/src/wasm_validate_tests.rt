@@ -23,7 +23,7 @@ fn fault_of(alloc: Global, bytes: &[u8]) -> Option<FrontFault> {
 }
 
 fn is_told_so(alloc: Global, front: &str, row: &Row) -> Result<bool, Refused> {
-    let bytes = spell(alloc, &[front, row.0])?;
+    let bytes = spell(alloc, front, row.0)?;
     Ok(fault_of(alloc, bytes.as_slice()) == row.1)
 }
 
