@@ -9,7 +9,6 @@ use wasi_abi::{Answer, Config};
 use wasm_syntax::Row;
 
 /// A life: its requests, then so many steps, where it is stopped, and the fronts that a cut keeps.
-#[derive(Clone, Copy)]
 pub(crate) struct Plan {
     pub(crate) requests: &'static [&'static [u8]],
     pub(crate) fuel: u64,
@@ -74,6 +73,7 @@ pub(crate) const AGAIN: Told = Told {
 
 /// Lives of a guest, and what is told of each.
 pub(crate) struct Tale {
+    pub(crate) name: &'static str,
     pub(crate) guest: &'static [u8],
     pub(crate) plans: &'static [Plan],
     pub(crate) told: &'static [Told],
