@@ -184,19 +184,14 @@ fn a_super_leads_to_what_stands_behind_it(rt: HostRuntime) -> Result<(), LayoutF
 }
 
 /// What is wrong with a super before it is written, and once what it leads to is another.
-fn super_faults(alloc: Global) -> Result<(Option<LayoutFault>, Option<LayoutFault>), DiskFault> {
+pub(crate) fn super_faults(
+    alloc: Global,
+) -> Result<(Option<LayoutFault>, Option<LayoutFault>), DiskFault> {
     let mut disk = MemDisk::new(alloc, 5, 4)?;
     let before = read_super(alloc, &mut disk).err();
     write_full(&mut disk)?;
     disk.write(3, &[b'm'; 512])?;
     Ok((before, read_super(alloc, &mut disk).err()))
-}
-
-#[test]
-fn a_missing_super_and_other_contents_are_told(rt: HostRuntime) -> Result<(), DiskFault> {
-    let want = (Some(LayoutFault::NotAWorker), Some(LayoutFault::Damaged));
-    assert!(rt; super_faults(rt.alloc())? == want);
-    Ok(())
 }
 
 fn one_text(alloc: Global, text: &[u8]) -> Result<Row<Row<u8>>, AllocError> {
