@@ -480,16 +480,12 @@ fn as_few_sectors_are_written_as_hold_the_bytes(rt: HostRuntime) -> Result<(), J
     Ok(())
 }
 
-/// Whether this sector holds a byte.
-fn holds_a_byte<D: Disk>(disk: &mut D, sector: u64) -> bool {
-    let mut bytes = [0; 512];
-    disk.read(sector, &mut bytes).is_ok() && bytes != [0; 512]
-}
-
-/// Whether of the three sectors of a batch just those before this one are written.
+/// Whether of the three sectors of a batch just those before this one hold a byte.
 fn are_written_before<D: Disk>(disk: &mut D, end: u64) -> bool {
     for sector in 4..7 {
-        if holds_a_byte(disk, sector) != (sector < end) {
+        let mut bytes = [0; 512];
+        let holds_a_byte = disk.read(sector, &mut bytes).is_ok() && bytes != [0; 512];
+        if holds_a_byte != (sector < end) {
             return false;
         }
     }

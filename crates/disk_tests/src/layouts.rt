@@ -2,8 +2,8 @@
 
 use crate::disks::{is_all, prints};
 use disk_layout::{
-    Geometry, LayoutFault, Stamp, Stored, Super, config_bytes_of, digest_of, journal_sector,
-    read_super, write_contents, write_super,
+    Geometry, LayoutFault, Stamp, Super, config_bytes_of, digest_of, journal_sector, read_super,
+    write_contents, write_super,
 };
 use sector_disk::{Disk, DiskFault, MemDisk};
 use std::alloc::{AllocError, Global};
@@ -162,17 +162,16 @@ fn write_full<D: Disk>(disk: &mut D) -> Result<(), DiskFault> {
     )
 }
 
-fn is_full(stored: &Stored) -> bool {
-    stored.geometry == FULL_PLACES
-        && stored.config.as_slice() == b"conf".as_slice()
-        && stored.wasm.as_slice() == FULL.as_slice()
-}
-
 /// What a super leads to on a disk of five sectors.
 fn is_full_read(alloc: Global) -> Result<bool, LayoutFault> {
     let mut disk = MemDisk::new(alloc, 5, 4).map_err(layout_fault)?;
     write_full(&mut disk).map_err(layout_fault)?;
-    Ok(is_full(&read_super(alloc, &mut disk)?))
+    let stored = read_super(alloc, &mut disk)?;
+    Ok(
+        stored.geometry == FULL_PLACES
+            && stored.config.as_slice() == b"conf".as_slice()
+            && stored.wasm.as_slice() == FULL.as_slice(),
+    )
 }
 
 /// `scripts/refused-allocations` refuses each allocation in turn, and then this ends in want of

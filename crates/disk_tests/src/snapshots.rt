@@ -409,17 +409,17 @@ static SIZES: [Size; 4] = [
 
 static ONES: [u8; 1537] = [1; 1537];
 
-/// Whether a disk was left alone, and the next commit is `Failed`.
-fn is_refused<D: Disk>(snapshots: &mut Snapshots, disk: &mut FaultDisk<D>) -> bool {
-    disk.calls() == (0, 0, 0) && commit(snapshots, disk, 1, &SHORT) == Err(SnapshotFault::Failed)
-}
-
+/// Whether the size is answered so. If it is refused, the disk was left alone, and the next commit
+/// is `Failed`.
 fn is_sized_so<D: Disk>(snapshots: &mut Snapshots, disk: &mut FaultDisk<D>, size: &Size) -> bool {
     let Some((image, _)) = ONES.split_at_checked(size.1) else {
         return false;
     };
     let answer = commit(snapshots, disk, size.0, image);
-    answer == size.2 && (answer.is_ok() || is_refused(snapshots, disk))
+    answer == size.2
+        && (answer.is_ok()
+            || disk.calls() == (0, 0, 0)
+                && commit(snapshots, disk, 1, &SHORT) == Err(SnapshotFault::Failed))
 }
 
 #[test]

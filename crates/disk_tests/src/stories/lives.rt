@@ -120,14 +120,6 @@ fn life_of(alloc: Global, plan: &Plan) -> Result<PlannedLife, Halt> {
     })
 }
 
-fn lives_of(alloc: Global, plans: &[Plan]) -> Result<Row<PlannedLife>, Halt> {
-    let mut lives = Row::new(alloc);
-    for plan in plans {
-        lives.push(life_of(alloc, plan)?)?;
-    }
-    Ok(lives)
-}
-
 /// What is told of these lives of a module, with a page, a unit of files and a journal of 64
 /// sectors.
 fn told_of(alloc: Global, wasm: &[u8], lives: &[PlannedLife]) -> Result<Report, Halt> {
@@ -137,7 +129,10 @@ fn told_of(alloc: Global, wasm: &[u8], lives: &[PlannedLife]) -> Result<Report, 
 
 /// What is told of the lives of these plans.
 pub(crate) fn report_of(alloc: Global, guest: &[u8], plans: &[Plan]) -> Result<Report, Halt> {
-    let lives = lives_of(alloc, plans)?;
+    let mut lives = Row::new(alloc);
+    for plan in plans {
+        lives.push(life_of(alloc, plan)?)?;
+    }
     told_of(alloc, guest, lives.as_slice())
 }
 

@@ -326,16 +326,6 @@ fn is_told_so(alloc: Global, damage: &Damage) -> Result<bool, Halt> {
     Ok(says(alloc, &mut disk)? == damage.opens)
 }
 
-/// The super, the heads and the module of one disk, put to another one.
-fn copy_front(from: &mut MemDisk, to: &mut MemDisk) -> Result<(), DiskFault> {
-    let mut bytes = [0; 512];
-    for sector in SUPER..=MODULE {
-        from.read(sector, &mut bytes)?;
-        to.write(sector, &bytes)?;
-    }
-    Ok(())
-}
-
 /// Whether a creation is refused for want of sectors, and writes nothing.
 fn is_refused(alloc: Global, disk: &mut MemDisk) -> Result<bool, Halt> {
     match create(alloc, disk, ECHO) {
@@ -348,10 +338,14 @@ fn is_refused(alloc: Global, disk: &mut MemDisk) -> Result<bool, Halt> {
     }
 }
 
-/// Whether a recovery is refused for want of sectors, once the front of a worker's disk stands
-/// there.
+/// Whether a recovery is refused for want of sectors, once the super, the heads and the module of a
+/// worker's disk stand there.
 fn shows_too_few(alloc: Global, disk: &mut MemDisk, whole: &mut MemDisk) -> Result<bool, Halt> {
-    copy_front(whole, disk)?;
+    let mut bytes = [0; 512];
+    for sector in SUPER..=MODULE {
+        whole.read(sector, &mut bytes)?;
+        disk.write(sector, &bytes)?;
+    }
     Ok(says(alloc, disk)? == Err(TOO_SMALL))
 }
 

@@ -166,23 +166,18 @@ pub(crate) fn work_on_each(
     Ok(())
 }
 
-/// Whether a sector is the same on two disks.
-fn is_same(before: &mut MemDisk, after: &mut MemDisk, sector: u64) -> Result<bool, DiskFault> {
-    let mut was = [0; 512];
-    let mut is = [0; 512];
-    before.read(sector, &mut was)?;
-    after.read(sector, &mut is)?;
-    Ok(was == is)
-}
-
 /// Whether just these sectors differ.
 fn differ_at(
     before: &mut MemDisk,
     after: &mut MemDisk,
     changes: &[u64],
 ) -> Result<bool, DiskFault> {
+    let mut was = [0; 512];
+    let mut is = [0; 512];
     for sector in 0..SECTORS {
-        if is_same(before, after, sector)? == changes.contains(&sector) {
+        before.read(sector, &mut was)?;
+        after.read(sector, &mut is)?;
+        if (was == is) == changes.contains(&sector) {
             return Ok(false);
         }
     }
