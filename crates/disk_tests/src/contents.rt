@@ -1,7 +1,9 @@
 //! Workers read back from disks, whole and damaged.
 
 use crate::disks::damage;
-use crate::layouts::{PLACES, SECTORS, SPELLED, WASM, layout_fault, super_faults, written_disk};
+use crate::layouts::{
+    PLACES, SECTORS, SPELLED, WASM, are_super_faults_told, layout_fault, written_disk,
+};
 use disk_layout::{Contents, Geometry, LayoutFault, config_bytes_of, config_from, read_contents};
 use sector_disk::{Disk, DiskFault, FaultDisk, Place};
 use std::alloc::{AllocError, Global};
@@ -237,9 +239,8 @@ fn what_is_another_on_a_disk_is_told(rt: HostRuntime) -> Result<(), DiskFault> {
     for (place, row) in CHANGES.iter().enumerate() {
         assert!(rt; fault_of_change(rt.alloc(), &row.0)? == row.1, "{place}");
     }
-    let want = (Some(LayoutFault::NotAWorker), Some(LayoutFault::Damaged));
     assert!(rt;
-        super_faults(rt.alloc())? == want,
+        are_super_faults_told(rt.alloc())?,
         "no super, and other contents"
     );
     Ok(())

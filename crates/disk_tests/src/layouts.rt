@@ -182,15 +182,14 @@ fn a_super_leads_to_what_stands_behind_it(rt: HostRuntime) -> Result<(), LayoutF
     Ok(())
 }
 
-/// What is wrong with a super before it is written, and once what it leads to is another.
-pub(crate) fn super_faults(
-    alloc: Global,
-) -> Result<(Option<LayoutFault>, Option<LayoutFault>), DiskFault> {
+/// Whether a super is told that isn't written yet, and once what it leads to is another.
+pub(crate) fn are_super_faults_told(alloc: Global) -> Result<bool, DiskFault> {
     let mut disk = MemDisk::new(alloc, 5, 4)?;
     let before = read_super(alloc, &mut disk).err();
     write_full(&mut disk)?;
     disk.write(3, &[b'm'; 512])?;
-    Ok((before, read_super(alloc, &mut disk).err()))
+    let after = read_super(alloc, &mut disk).err();
+    Ok(before == Some(LayoutFault::NotAWorker) && after == Some(LayoutFault::Damaged))
 }
 
 fn one_text(alloc: Global, text: &[u8]) -> Result<Row<Row<u8>>, AllocError> {
