@@ -7,6 +7,8 @@
 #![tactic(auto)]
 
 #[cfg(test)]
+mod faults;
+#[cfg(test)]
 mod guest_memory_tests;
 #[cfg(test)]
 mod int_ops_tests;
@@ -15,18 +17,16 @@ mod machine_frame_tests;
 #[cfg(test)]
 mod machine_jumps_tests;
 #[cfg(test)]
-mod machine_slots_tests;
-#[cfg(test)]
 mod machine_tests;
 #[cfg(test)]
 mod opcode_tests;
+#[cfg(test)]
+mod row_tests;
 #[cfg(test)]
 mod runs;
 #[cfg(test)]
 mod spelled;
 #[cfg(test)]
 mod wasm_decode_tests;
-#[cfg(test)]
-mod wasm_syntax_tests;
 #[cfg(test)]
 mod wasm_validate_tests;

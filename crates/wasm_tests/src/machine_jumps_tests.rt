@@ -10,7 +10,6 @@ use crate::spelled::{Refused, with_code};
 use machine_jumps::{BranchTable, Jump, branch_table};
 use machine_loader::read;
 use std::alloc::Global;
-use std::process::Abort;
 use wasm_validate::{ModuleContext, ValidFault, ValidModule};
 
 /// What the bodies of a valid module look up.
@@ -51,26 +50,14 @@ const ONE: &str = "0061736d01000000 0105016000017f 03020100";
 /// A function from one integer to one.
 const ONE_TO_ONE: &str = "0061736d01000000 01060160017f017f 03020100";
 
-/// A function's locals and body, the position of an opcode in it, the number of a jump of that
-/// opcode, and that jump.
-type Row = (&'static str, usize, usize, Option<Jump>);
+/// What stands before the code section, a function's locals and body, the position of an opcode in
+/// it, the number of a jump of that opcode, and that jump.
+type Row = (&'static str, &'static str, usize, usize, Option<Jump>);
 
-fn leads_so(alloc: Global, front: &str, row: &Row) -> Result<bool, Refused> {
-    let bytes = with_code(alloc, front, "01", row.0, "")?;
-    let table = table_of(alloc, bytes.as_slice())?;
-    Ok(table.jump(row.1, row.2) == row.3)
-}
-
-fn check(rt: &impl Abort, alloc: Global, front: &str, rows: &[Row]) -> Result<(), Refused> {
-    for row in rows {
-        assert!(rt; leads_so(alloc, front, row)?, "{row:?}");
-    }
-    Ok(())
-}
-
-static BRANCHES: [Row; 8] = [
+static JUMPS: [Row; 25] = [
     // out of a block, also with its value above another one, and out of a loop within it
     (
+        NOTHING,
         "00 0240 01 0c00 0b 0b",
         2,
         0,
@@ -81,6 +68,7 @@ static BRANCHES: [Row; 8] = [
         }),
     ),
     (
+        NOTHING,
         "00 4100 027f 4100 4100 0c00 0b 1a 1a 0b",
         4,
         0,
@@ -91,6 +79,7 @@ static BRANCHES: [Row; 8] = [
         }),
     ),
     (
+        NOTHING,
         "00 4100 027f 4100 0340 4100 0c01 0b 0b 1a 1a 0b",
         5,
         0,
@@ -102,6 +91,7 @@ static BRANCHES: [Row; 8] = [
     ),
     // to the begin of a loop
     (
+        NOTHING,
         "00 4100 0340 4100 0d00 0b 1a 0b",
         3,
         0,
@@ -112,6 +102,7 @@ static BRANCHES: [Row; 8] = [
         }),
     ),
     (
+        NOTHING,
         "00 4100 037f 4100 4100 0d00 0b 1a 1a 0b",
         4,
         0,
@@ -123,6 +114,7 @@ static BRANCHES: [Row; 8] = [
     ),
     // to a loop, behind a block and behind the function: each label of a table, and its default
     (
+        NOTHING,
         "00 4100 0240 4100 0340 4100 0e02000102 0b 1a 0b 1a 0b",
         5,
         0,
@@ -133,6 +125,7 @@ static BRANCHES: [Row; 8] = [
         }),
     ),
     (
+        NOTHING,
         "00 4100 0240 4100 0340 4100 0e02000102 0b 1a 0b 1a 0b",
         5,
         1,
@@ -143,6 +136,7 @@ static BRANCHES: [Row; 8] = [
         }),
     ),
     (
+        NOTHING,
         "00 4100 0240 4100 0340 4100 0e02000102 0b 1a 0b 1a 0b",
         5,
         2,
@@ -152,17 +146,10 @@ static BRANCHES: [Row; 8] = [
             height: 0,
         }),
     ),
-];
-
-#[test]
-fn branches_lead_behind_blocks_and_to_loops(rt: HostRuntime) -> Result<(), Refused> {
-    check(&rt, rt.alloc(), NOTHING, &BRANCHES)
-}
-
-/// Where the condition is zero an `if` goes on behind its `else`, or behind its `end`; an `else`
-/// goes on behind the `end`.
-static CHOICES: [Row; 10] = [
+    // where the condition is zero an `if` goes on behind its `else`, or behind its `end`; an `else`
+    // goes on behind the `end`
     (
+        NOTHING,
         "00 4100 4100 0440 01 0b 1a 0b",
         2,
         0,
@@ -173,6 +160,7 @@ static CHOICES: [Row; 10] = [
         }),
     ),
     (
+        NOTHING,
         "00 4100 4100 047f 4100 05 4100 0b 1a 1a 0b",
         2,
         0,
@@ -183,6 +171,7 @@ static CHOICES: [Row; 10] = [
         }),
     ),
     (
+        NOTHING,
         "00 4100 4100 047f 4100 05 4100 0b 1a 1a 0b",
         4,
         0,
@@ -193,6 +182,7 @@ static CHOICES: [Row; 10] = [
         }),
     ),
     (
+        NOTHING,
         "00 4100 0440 0c00 05 01 0b 0b",
         1,
         0,
@@ -203,6 +193,7 @@ static CHOICES: [Row; 10] = [
         }),
     ),
     (
+        NOTHING,
         "00 4100 0440 0c00 05 01 0b 0b",
         2,
         0,
@@ -214,6 +205,7 @@ static CHOICES: [Row; 10] = [
     ),
     // an `if` within the first part of another
     (
+        NOTHING,
         "00 4100 0440 4100 0440 01 0b 05 01 0b 0b",
         1,
         0,
@@ -224,6 +216,7 @@ static CHOICES: [Row; 10] = [
         }),
     ),
     (
+        NOTHING,
         "00 4100 0440 4100 0440 01 0b 05 01 0b 0b",
         3,
         0,
@@ -234,6 +227,7 @@ static CHOICES: [Row; 10] = [
         }),
     ),
     (
+        NOTHING,
         "00 4100 0440 4100 0440 01 0b 05 01 0b 0b",
         6,
         0,
@@ -245,6 +239,7 @@ static CHOICES: [Row; 10] = [
     ),
     // around a `return`
     (
+        NOTHING,
         "00 4100 0440 0f 0b 0240 0c00 0b 0b",
         1,
         0,
@@ -255,6 +250,7 @@ static CHOICES: [Row; 10] = [
         }),
     ),
     (
+        NOTHING,
         "00 4100 0440 0f 0b 0240 0c00 0b 0b",
         5,
         0,
@@ -264,16 +260,9 @@ static CHOICES: [Row; 10] = [
             height: 0,
         }),
     ),
-];
-
-#[test]
-fn choices_lead_behind_the_part_that_is_left_out(rt: HostRuntime) -> Result<(), Refused> {
-    check(&rt, rt.alloc(), NOTHING, &CHOICES)
-}
-
-/// A branch to the function's own label returns its result.
-static RESULTS: [Row; 3] = [
+    // a branch to the function's own label returns its result
     (
+        ONE,
         "00 4100 4100 0c00 0b",
         2,
         0,
@@ -284,6 +273,7 @@ static RESULTS: [Row; 3] = [
         }),
     ),
     (
+        ONE,
         "00 027f 4100 4100 0d01 0b 0b",
         3,
         0,
@@ -294,6 +284,7 @@ static RESULTS: [Row; 3] = [
         }),
     ),
     (
+        ONE,
         "00 4100 4100 0440 4100 0f 0b 0b",
         2,
         0,
@@ -303,33 +294,21 @@ static RESULTS: [Row; 3] = [
             height: 1,
         }),
     ),
-];
-
-#[test]
-fn branches_out_of_the_function_keep_its_result(rt: HostRuntime) -> Result<(), Refused> {
-    check(&rt, rt.alloc(), ONE, &RESULTS)
-}
-
-/// Gives the first local where that isn't zero, and else the second.
-static ROUTINE: [Row; 1] = [(
-    "01017f 2000 0440 2000 0f 0b 2001 0b",
-    1,
-    0,
-    Some(Jump {
-        to: 5,
-        keeps: 0,
-        height: 0,
-    }),
-)];
-
-#[test]
-fn jumps_pass_over_a_return(rt: HostRuntime) -> Result<(), Refused> {
-    check(&rt, rt.alloc(), ONE_TO_ONE, &ROUTINE)
-}
-
-/// An `end` has none, where none is behind it; nor has what follows the last one.
-static NO_JUMP: [Row; 3] = [
+    // gives the first local where that isn't zero, and else the second
     (
+        ONE_TO_ONE,
+        "01017f 2000 0440 2000 0f 0b 2001 0b",
+        1,
+        0,
+        Some(Jump {
+            to: 5,
+            keeps: 0,
+            height: 0,
+        }),
+    ),
+    // an `end` has none, where none is behind it; nor has what follows the last one
+    (
+        NOTHING,
         "00 0240 0c00 0b 0b",
         1,
         0,
@@ -339,31 +318,22 @@ static NO_JUMP: [Row; 3] = [
             height: 0,
         }),
     ),
-    ("00 0240 0c00 0b 0b", 2, 0, None),
-    ("00 0240 0c00 0b 0b", 4, 0, None),
+    (NOTHING, "00 0240 0c00 0b 0b", 2, 0, None),
+    (NOTHING, "00 0240 0c00 0b 0b", 4, 0, None),
 ];
 
-#[test]
-fn an_end_has_no_jump(rt: HostRuntime) -> Result<(), Refused> {
-    check(&rt, rt.alloc(), NOTHING, &NO_JUMP)
+fn leads_so(alloc: Global, row: &Row) -> Result<bool, Refused> {
+    let bytes = with_code(alloc, row.0, "01", row.1, "")?;
+    let table = table_of(alloc, bytes.as_slice())?;
+    Ok(table.jump(row.2, row.3) == row.4)
 }
-
-/// A function that leaves a block.
-const LEAVES: &[u8; 29] = b"\0asm\x01\0\0\0\x01\x04\x01\x60\0\0\x03\x02\x01\0\
-    \x0a\x09\x01\x07\0\x02\x40\x0c\0\x0b\x0b";
-
-/// Where its branch leads.
-const LEFT: Option<Jump> = Some(Jump {
-    to: 3,
-    keeps: 0,
-    height: 0,
-});
 
 /// `scripts/refused-allocations` refuses each allocation in turn, and then this ends in want of
 /// memory.
 #[test]
-fn a_branch_table_is_made(rt: HostRuntime) -> Result<(), Refused> {
-    let table = table_of(rt.alloc(), LEAVES)?;
-    assert!(rt; table.jump(1, 0) == LEFT);
+fn jumps_lead_where_the_standard_says(rt: HostRuntime) -> Result<(), Refused> {
+    for row in &JUMPS {
+        assert!(rt; leads_so(rt.alloc(), row)?, "{row:?}");
+    }
     Ok(())
 }

@@ -1,6 +1,7 @@
 //! What comes of running a module under two pages of memory.
 
-use machine::{Arguments, Pause};
+use crate::spelled::{Refused, with_code};
+use machine::{HostCall, Machine, Pause};
 use machine_loader::{FrontFault, accept};
 use std::alloc::Global;
 use wasi_abi::Call;
@@ -9,61 +10,87 @@ use wasm_syntax::Trap;
 /// Enough for each row that ends.
 const FUEL: u64 = 10_000;
 
-/// How a run ends.
-#[derive(Clone, Copy, Debug, PartialEq, Eq)]
-pub enum End {
-    Spent,
-    Returned,
-    Trapped(Trap),
-    /// A call of the host waits: its arguments are digits of this number, the first one first.
-    Asks(Call, u64),
+/// What is looked at once a module has run.
+#[derive(Drop)]
+pub enum Outcome {
+    /// `_start` returns, and leaves this number at address 0.
+    Leaves(u64),
+    /// How the run ends: it returns, spends its fuel, traps, or asks for a call with arguments.
+    Returns,
+    Spends,
+    Traps(Trap),
+    Asks(Call, &'static [u64]),
+    /// What the machine tells then: its end, a call that waits, or neither.
+    TellsEnd,
+    TellsCall(Call, &'static [u64]),
+    TellsNeither,
 }
 
-/// The digits of small arguments.
-fn digits(arguments: &Arguments) -> u64 {
-    arguments.as_slice().iter().fold(
-        0,
-        |number, digit| number.wrapping_mul(10).wrapping_add(*digit),
-    )
+fn is_asked(asked: &HostCall, call: Call, arguments: &[u64]) -> bool {
+    asked.call == call && asked.arguments.as_slice() == arguments
 }
 
-/// How `_start` ends.
-pub fn end_of(alloc: Global, bytes: &[u8]) -> Result<End, FrontFault> {
-    let mut machine = accept(alloc, bytes, 2)?;
-    let ended = machine.run(FUEL).why;
-    drop(machine);
-    Ok(match ended {
-        Pause::Spent => End::Spent,
-        Pause::Returned => End::Returned,
-        Pause::Trapped(trap) => End::Trapped(trap),
-        Pause::Host(asked) => End::Asks(asked.call, digits(&asked.arguments)),
-    })
+fn has_trapped(why: &Pause, wanted: Trap) -> bool {
+    match why {
+        Pause::Trapped(trap) => *trap == wanted,
+        _ => false,
+    }
 }
 
-/// What a machine tells once it has run: that it has ended, or the call that waits, or neither.
-pub fn outcome_of(alloc: Global, bytes: &[u8]) -> Result<Option<End>, FrontFault> {
-    let mut machine = accept(alloc, bytes, 2)?;
-    let _ = machine.run(FUEL);
-    let told = if machine.has_ended() {
-        Some(End::Returned)
-    } else {
-        match machine.waits() {
-            Some(asked) => Some(End::Asks(asked.call, digits(&asked.arguments))),
-            None => None,
+fn has_asked(why: &Pause, call: Call, arguments: &[u64]) -> bool {
+    match why {
+        Pause::Host(asked) => is_asked(asked, call, arguments),
+        _ => false,
+    }
+}
+
+fn waits_for(waits: Option<&HostCall>, call: Call, arguments: &[u64]) -> bool {
+    match waits {
+        Some(asked) => is_asked(asked, call, arguments),
+        None => false,
+    }
+}
+
+/// Whether a machine that paused so, and has this call waiting, has come to the outcome.
+fn has_come_to(
+    machine: &Machine,
+    why: &Pause,
+    waits: Option<&HostCall>,
+    outcome: &Outcome,
+) -> bool {
+    match outcome {
+        Outcome::Leaves(number) => {
+            matches!(why, Pause::Returned) && machine.memory().load_u64(0, 0) == Some(*number)
         }
-    };
-    drop(machine);
-    Ok(told)
+        Outcome::Returns => matches!(why, Pause::Returned),
+        Outcome::Spends => matches!(why, Pause::Spent),
+        Outcome::Traps(trap) => has_trapped(why, *trap),
+        Outcome::Asks(call, arguments) => has_asked(why, *call, arguments),
+        Outcome::TellsEnd => machine.has_ended(),
+        Outcome::TellsCall(call, arguments) => {
+            !machine.has_ended() && waits_for(waits, *call, arguments)
+        }
+        Outcome::TellsNeither => !machine.has_ended() && waits.is_none(),
+    }
 }
 
-/// The number that `_start` leaves at address 0, where it returns.
-pub fn left_at_0(alloc: Global, bytes: &[u8]) -> Result<Option<u64>, FrontFault> {
+pub fn comes_to(alloc: Global, bytes: &[u8], outcome: &Outcome) -> Result<bool, FrontFault> {
     let mut machine = accept(alloc, bytes, 2)?;
-    let ended = machine.run(FUEL).why;
-    let number = machine.memory().load_u64(0, 0);
+    let why = machine.run(FUEL).why;
+    let waits = machine.waits();
+    let is_so = has_come_to(&machine, &why, waits.as_ref(), outcome);
     drop(machine);
-    Ok(match ended {
-        Pause::Returned => number,
-        _ => None,
-    })
+    Ok(is_so)
+}
+
+/// A name, locals and body of a function, and what comes of its module.
+pub type Run = (&'static str, &'static str, Outcome);
+
+/// Functions of one module: what stands before the code section, the number of entries and the
+/// first of them, and what stands behind it. Then the last entries, each of which makes a module.
+pub type Runs = (&'static str, &'static str, &'static str, &'static [Run]);
+
+pub fn runs_so(alloc: Global, runs: &Runs, run: &Run) -> Result<bool, Refused> {
+    let bytes = with_code(alloc, runs.0, runs.1, run.1, runs.2)?;
+    Ok(comes_to(alloc, bytes.as_slice(), &run.2)?)
 }

@@ -2,12 +2,11 @@
 
 use machine_loader::FrontFault;
 use std::alloc::{AllocError, AllocFailed, Global};
-use std::fmt::Display;
 use wasm_decode::DecodeFault;
 use wasm_validate::ValidFault;
 
 /// Why a test has nothing to compare.
-#[derive(Debug, Drop)]
+#[derive(Debug, Drop, PartialEq, Eq)]
 pub enum Refused {
     Memory,
     /// A row's text spells no bytes, or too many.
@@ -87,11 +86,17 @@ pub fn append(bytes: &mut Vec<u8>, text: &str) -> Result<(), Refused> {
     Ok(())
 }
 
-/// The bytes that two texts spell together.
-pub fn spell(alloc: Global, first: &str, second: &str) -> Result<Vec<u8>, Refused> {
+fn append_each(bytes: &mut Vec<u8>, texts: &[&str]) -> Result<(), Refused> {
+    for text in texts {
+        append(bytes, text)?;
+    }
+    Ok(())
+}
+
+/// The bytes that texts spell together.
+pub fn spell(alloc: Global, texts: &[&str]) -> Result<Vec<u8>, Refused> {
     let mut bytes = Vec::new(alloc);
-    append(&mut bytes, first)?;
-    append(&mut bytes, second)?;
+    append_each(&mut bytes, texts)?;
     Ok(bytes)
 }
 
@@ -116,8 +121,8 @@ fn append_spelled_code(
     others: &str,
     last: &str,
 ) -> Result<(), Refused> {
-    let others = spell(alloc, others, "")?;
-    let last = spell(alloc, last, "")?;
+    let others = spell(alloc, &[others])?;
+    let last = spell(alloc, &[last])?;
     append_code(bytes, others.as_slice(), last.as_slice())
 }
 
@@ -130,12 +135,8 @@ pub fn with_code(
     last: &str,
     rest: &str,
 ) -> Result<Vec<u8>, Refused> {
-    let mut bytes = spell(alloc, front, "")?;
+    let mut bytes = spell(alloc, &[front])?;
     append_spelled_code(alloc, &mut bytes, others, last)?;
     append(&mut bytes, rest)?;
     Ok(bytes)
-}
-
-pub fn prints<T: Display>(alloc: Global, value: &T, text: &str) -> Result<bool, AllocError> {
-    Ok(format!(in alloc; "{value}")?.as_str() == text)
 }

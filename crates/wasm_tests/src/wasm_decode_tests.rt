@@ -1,8 +1,7 @@
 //! Which bytes are modules, where the first fault of others is told, and limits at their edges.
 
-use crate::spelled::{Refused, append, prints, spell};
-use std::alloc::{AllocError, Global};
-use std::process::Abort;
+use crate::spelled::{Refused, append, spell};
+use std::alloc::Global;
 use wasm_decode::DecodeFault::{self, Float, Limit, Malformed};
 use wasm_decode::decode;
 use wasm_syntax::{Instruction, Module, Value};
@@ -32,26 +31,11 @@ const HELLO: &str = "0061736d01000000 01100360000060047f7f7f7f017f60017f00 \
     03020100 0503010001 071302 06'_start'0002 06'memory'0200 \
     0a130111004101410041014110 10001a41071001 0b 0b11010041000b0b080000000300000068690a";
 
-fn fault_of(alloc: Global, bytes: &[u8]) -> Option<DecodeFault> {
-    decode(alloc, bytes).err()
-}
-
 /// Two texts, and the fault of the bytes that they spell together.
-type Row = (&'static str, &'static str, Option<DecodeFault>);
+type Told = (&'static str, &'static str, Option<DecodeFault>);
 
-fn is_told_so(alloc: Global, row: &Row) -> Result<bool, Refused> {
-    let bytes = spell(alloc, row.0, row.1)?;
-    Ok(fault_of(alloc, bytes.as_slice()) == row.2)
-}
-
-fn check(rt: &impl Abort, alloc: Global, rows: &[Row]) -> Result<(), Refused> {
-    for row in rows {
-        assert!(rt; is_told_so(alloc, row)?, "{row:?}");
-    }
-    Ok(())
-}
-
-static WHOLE_MODULES: [Row; 9] = [
+static TOLD: [Told; 98] = [
+    // whole modules
     ("", "", Some(Malformed(0))),
     ("", "0061736d02000000", Some(Malformed(4))),
     (HEADER, "", None),
@@ -61,14 +45,6 @@ static WHOLE_MODULES: [Row; 9] = [
     (HEADER, "01 848080808000 01600000", Some(Malformed(9))),
     (HEADER, "01 8480808010 01600000", Some(Malformed(9))),
     (HEADER, "0105ffffffff0f", Some(Malformed(15))),
-];
-
-#[test]
-fn whole_modules_have_a_header_and_sections(rt: HostRuntime) -> Result<(), Refused> {
-    check(&rt, rt.alloc(), &WHOLE_MODULES)
-}
-
-static SECTIONS: [Row; 19] = [
     // unknown, twice, out of order: at the id, before the size is read
     (HEADER, "0cff", Some(Malformed(8))),
     (HEADER, "010401600000 010401600000", Some(Malformed(14))),
@@ -95,14 +71,6 @@ static SECTIONS: [Row; 19] = [
     (HEADER, "07050101610400", Some(Malformed(13))),
     // the first fault in the order of the bytes
     (HEADER, "01020161 0cff", Some(Malformed(11))),
-];
-
-#[test]
-fn sections_stand_once_in_order_and_are_whole(rt: HostRuntime) -> Result<(), Refused> {
-    check(&rt, rt.alloc(), &SECTIONS)
-}
-
-static CODE: [Row; 21] = [
     // floats: a type of locals, instructions, and the type of a block
     (BEFORE_CODE, "0a06010401017d0b", Some(Float(50))),
     (BEFORE_CODE, "0a09010700 43000000000b", Some(Float(49))),
@@ -137,16 +105,7 @@ static CODE: [Row; 21] = [
     (HEADER, "030100 0a0100", None),
     (HEADER, "030100", None),
     (HEADER, "0a0100", None),
-];
-
-#[test]
-fn code_has_an_entry_for_each_function(rt: HostRuntime) -> Result<(), Refused> {
-    check(&rt, rt.alloc(), &CODE)
-}
-
-/// One row for each item of a section but the code section.
-static ITEMS: [Row; 28] = [
-    // a type, and the type of a result
+    // each item of a section but the code section: a type, and the type of a result
     (HEADER, "0104 01 61 0000", Some(Malformed(11))),
     (HEADER, "0105 01 6000 0170", Some(Malformed(14))),
     (HEADER, "0105 01 6000 017d", Some(Float(14))),
@@ -182,16 +141,7 @@ static ITEMS: [Row; 28] = [
     ),
     (HEADER, "0b06 01 8080808010", Some(Malformed(11))),
     (HEADER, "0b06 01 00 41000b 05", Some(Malformed(15))),
-];
-
-#[test]
-fn items_are_told_at_their_first_byte(rt: HostRuntime) -> Result<(), Refused> {
-    check(&rt, rt.alloc(), &ITEMS)
-}
-
-/// One row for each item of an instruction.
-static OPERANDS: [Row; 21] = [
-    // locals: how many runs, and their type
+    // each item of an instruction, and of its locals: how many runs, and their type
     (BEFORE_CODE, "0a08 01 06 8080808010 0b", Some(Malformed(48))),
     (BEFORE_CODE, "0a06 01 04 01 0170 0b", Some(Malformed(50))),
     // the type of a block, labels, and those of a table
@@ -279,252 +229,42 @@ static OPERANDS: [Row; 21] = [
     (BEFORE_CODE, "0a06 01 04 00 4001 0b", Some(Malformed(50))),
 ];
 
-#[test]
-fn operands_are_told_at_their_first_byte(rt: HostRuntime) -> Result<(), Refused> {
-    check(&rt, rt.alloc(), &OPERANDS)
-}
-
-/// The small module, of 50 bytes.
-const SMALL: &[u8; 50] = b"\0asm\x01\0\0\0\x01\x04\x01\x60\0\0\x03\x02\x01\0\x05\x03\x01\0\x01\
-    \x07\x13\x02\x06_start\0\0\x06memory\x02\0\x0a\x04\x01\x02\0\x0b";
-
-/// Of its fronts the header, alone and with the types, and the whole are modules.
-#[test]
-fn fronts_of_a_module_are_seldom_modules(rt: HostRuntime) {
-    for len in 0..51 {
-        let is_whole = len == 8 || len == 14 || len == 50;
-        assert!(rt;
-            fault_of(rt.alloc(), &SMALL[..len]).is_none() == is_whole,
-            "{len}"
-        );
-    }
-}
-
-/// What an opcode is the first byte of.
-#[derive(Clone, Copy, Debug, PartialEq, Eq)]
-enum Kind {
-    Integers,
-    Floats,
-    Nothing,
-}
-
-/// The last opcode of each run of one kind.
-const OPCODES: [(u8, Kind); 23] = [
-    (0x05, Kind::Integers),
-    (0x0a, Kind::Nothing),
-    (0x11, Kind::Integers),
-    (0x19, Kind::Nothing),
-    (0x1b, Kind::Integers),
-    (0x1f, Kind::Nothing),
-    (0x24, Kind::Integers),
-    (0x27, Kind::Nothing),
-    (0x29, Kind::Integers),
-    (0x2b, Kind::Floats),
-    (0x37, Kind::Integers),
-    (0x39, Kind::Floats),
-    (0x42, Kind::Integers),
-    (0x44, Kind::Floats),
-    (0x5a, Kind::Integers),
-    (0x66, Kind::Floats),
-    (0x8a, Kind::Integers),
-    (0xa6, Kind::Floats),
-    (0xa7, Kind::Integers),
-    (0xab, Kind::Floats),
-    (0xad, Kind::Integers),
-    (0xbf, Kind::Floats),
-    (0xff, Kind::Nothing),
-];
-
-fn kind_of(opcode: u8) -> Kind {
-    for (last, kind) in OPCODES {
-        if opcode <= last {
-            return kind;
-        }
-    }
-    Kind::Nothing
-}
-
-/// By the fault at place 51. Want of memory tells no kind.
-fn kind_by(fault: Option<DecodeFault>) -> Result<Kind, Refused> {
-    match fault {
-        Some(Float(51)) => Ok(Kind::Floats),
-        Some(Malformed(51)) => Ok(Kind::Nothing),
-        Some(DecodeFault::Memory) => Err(Refused::Memory),
-        _ => Ok(Kind::Integers),
-    }
-}
-
-/// What is told of an opcode at place 51, within an `if`.
-fn kind_told(alloc: Global, opcode: u8) -> Result<Kind, Refused> {
-    let mut bytes = spell(alloc, BEFORE_CODE, "0a0a0108 00 0440")?;
-    bytes.push(opcode)?;
-    append(&mut bytes, "4000 0b0b")?;
-    kind_by(fault_of(alloc, bytes.as_slice()))
-}
-
-#[test]
-fn opcodes_are_of_integers_of_floats_or_none(rt: HostRuntime) -> Result<(), Refused> {
-    for opcode in 0..=255u8 {
-        assert!(rt;
-            kind_told(rt.alloc(), opcode)? == kind_of(opcode),
-            "{opcode}"
-        );
-    }
-    Ok(())
-}
-
-/// The greatest size of the first table.
-fn first_size(module: &Module) -> Option<u32> {
-    module.tables.get(0)?.limits.maximum
-}
-
-fn first_size_read(alloc: Global, bytes: &[u8]) -> Result<Option<u32>, DecodeFault> {
-    let read = decode(alloc, bytes)?;
-    let size = first_size(&read);
-    drop(read);
-    Ok(size)
-}
-
-static UNSIGNED: [(&str, u32); 3] = [
-    ("0407 017001 00 e58e26", 624_485),
-    ("0406 017001 00 8001", 128),
-    ("0409 017001 00 8380808000", 3),
-];
-
-/// The constant that the first global begins with.
-fn first_constant(module: &Module) -> Option<Value> {
-    match module.globals.get(0)?.initial.get(0)? {
-        Instruction::Const { value } => Some(*value),
-        _ => None,
-    }
-}
-
-fn first_constant_read(alloc: Global, bytes: &[u8]) -> Result<Option<Value>, DecodeFault> {
-    let read = decode(alloc, bytes)?;
-    let constant = first_constant(&read);
-    drop(read);
-    Ok(constant)
-}
-
-static SIGNED: [(&str, Value); 6] = [
-    ("0608 017f00 41c0bb78 0b", Value::I32(0xfffe_1dc0)),
-    ("0606 017f00 417f 0b", Value::I32(0xffff_ffff)),
-    ("0607 017f00 41807f 0b", Value::I32(0xffff_ff80)),
-    ("060a 017f00 41feffffff7f 0b", Value::I32(0xffff_fffe)),
-    ("0606 017e00 427f 0b", Value::I64(0xffff_ffff_ffff_ffff)),
-    (
-        "060f 017e00 428080808080808080807f 0b",
-        Value::I64(0x8000_0000_0000_0000),
-    ),
-];
-
-fn is_size(alloc: Global, row: &(&str, u32)) -> Result<bool, Refused> {
-    let bytes = spell(alloc, HEADER, row.0)?;
-    Ok(first_size_read(alloc, bytes.as_slice())? == Some(row.1))
-}
-
-/// Examples of the LEB128 description, and a spelling longer than needed.
-#[test]
-fn unsigned_integers_are_read(rt: HostRuntime) -> Result<(), Refused> {
-    for row in &UNSIGNED {
-        assert!(rt; is_size(rt.alloc(), row)?, "{row:?}");
-    }
-    Ok(())
-}
-
-fn is_constant(alloc: Global, row: &(&str, Value)) -> Result<bool, Refused> {
-    let bytes = spell(alloc, HEADER, row.0)?;
-    Ok(first_constant_read(alloc, bytes.as_slice())? == Some(row.1))
-}
-
-/// Examples of the LEB128 description, and numbers of all bits.
-#[test]
-fn signed_integers_are_read(rt: HostRuntime) -> Result<(), Refused> {
-    for row in &SIGNED {
-        assert!(rt; is_constant(rt.alloc(), row)?, "{row:?}");
-    }
-    Ok(())
-}
-
-static TOO_LONG: [Row; 4] = [
-    (HEADER, "0409 017001 00 8380808010", Some(Malformed(14))),
-    (HEADER, "040a 017001 00 838080808000", Some(Malformed(14))),
-    (HEADER, "0405 017001 00 80", Some(Malformed(14))),
-    (HEADER, "060a 017f00 418080808070 0b", Some(Malformed(14))),
-];
-
-#[test]
-fn integers_of_too_many_bits_are_malformed(rt: HostRuntime) -> Result<(), Refused> {
-    check(&rt, rt.alloc(), &TOO_LONG)
-}
-
-/// Two texts, the second so many times, and another one.
-fn repeat(
-    alloc: Global,
-    front: &str,
-    more: &str,
-    unit: &str,
-    times: usize,
-    rest: &str,
-) -> Result<Vec<u8>, Refused> {
-    let mut bytes = spell(alloc, front, more)?;
-    let unit = spell(alloc, unit, "")?;
-    for _ in 0..times {
-        bytes.extend_from_slice(unit.as_slice())?;
-    }
-    append(&mut bytes, rest)?;
-    Ok(bytes)
-}
-
 const LIMIT: Option<DecodeFault> = Some(Limit);
 
-/// Two texts, a third one and how often it stands behind them, a fourth one, and the fault of all.
-type LimitRow = (
+/// Two texts, a third one and how often it stands behind them, a fourth one, a fifth one that
+/// stands as often behind it, and the fault of all.
+type Long = (
     &'static str,
     &'static str,
     &'static str,
     usize,
     &'static str,
+    &'static str,
     Option<DecodeFault>,
 );
 
-fn is_limited_so(alloc: Global, row: &LimitRow) -> Result<bool, Refused> {
-    let bytes = repeat(alloc, row.0, row.1, row.2, row.3, row.4)?;
-    Ok(fault_of(alloc, bytes.as_slice()) == row.5)
-}
-
-fn check_limits(rt: &impl Abort, alloc: Global, rows: &[LimitRow]) -> Result<(), Refused> {
-    for row in rows {
-        assert!(rt; is_limited_so(alloc, row)?, "{row:?}");
-    }
-    Ok(())
-}
-
-/// A custom section fills a module, whose size is 2 ^ 21 bytes then.
-static SIZES: [LimitRow; 3] = [
-    (HEADER, "00f4ff7f", "00", 2_097_140, "", None),
-    (HEADER, "00f5ff7f", "00", 2_097_141, "", LIMIT),
-    ("", "", "00", 2_097_153, "", LIMIT),
-];
-
-#[test]
-fn modules_have_a_greatest_size(rt: HostRuntime) -> Result<(), Refused> {
-    check_limits(&rt, rt.alloc(), &SIZES)
-}
-
-static COUNTS: [LimitRow; 18] = [
+static LONG: [Long; 28] = [
     // parameters of a type
-    (HEADER, "018502 01 60 8002", "7f", 256, "00", None),
-    (HEADER, "0104 01 60 8102", "", 0, "", LIMIT),
+    (HEADER, "018502 01 60 8002", "7f", 256, "00", "", None),
+    (HEADER, "0104 01 60 8102", "", 0, "", "", LIMIT),
     // imported functions: the one too many at its kind
-    (HEADER, "02828001 8020", "0000 0000", 4096, "", None),
-    (HEADER, "02858001 8120", "0000 0000", 4096, "0000 00", LIMIT),
+    (HEADER, "02828001 8020", "0000 0000", 4096, "", "", None),
+    (
+        HEADER,
+        "02858001 8120",
+        "0000 0000",
+        4096,
+        "0000 00",
+        "",
+        LIMIT,
+    ),
     (
         HEADER,
         "02878001 8120",
         "0000 0000",
         4096,
         "0000 020000",
+        "",
         None,
     ),
     (
@@ -533,42 +273,60 @@ static COUNTS: [LimitRow; 18] = [
         "0000 0000",
         4096,
         "0000 04",
+        "",
         Some(Malformed(16400)),
     ),
     // own ones beside imported ones
-    (HEADER, "02828001 8020", "0000 0000", 4096, "030101", LIMIT),
+    (
+        HEADER,
+        "02828001 8020",
+        "0000 0000",
+        4096,
+        "030101",
+        "",
+        LIMIT,
+    ),
     // functions, before the indices of their types
-    (HEADER, "0302 8120", "", 0, "", LIMIT),
-    (HEADER, "0302 8020", "", 0, "", Some(Malformed(12))),
+    (HEADER, "0302 8120", "", 0, "", "", LIMIT),
+    (HEADER, "0302 8020", "", 0, "", "", Some(Malformed(12))),
     // the least size of a table, before its greatest
-    (HEADER, "0405 01 70 00 8020", "", 0, "", None),
-    (HEADER, "0405 01 70 00 8120", "", 0, "", LIMIT),
-    (HEADER, "0405 01 70 01 8120", "", 0, "", LIMIT),
-    (HEADER, "0208 01 0000 01 70 00 8120", "", 0, "", LIMIT),
+    (HEADER, "0405 01 70 00 8020", "", 0, "", "", None),
+    (HEADER, "0405 01 70 00 8120", "", 0, "", "", LIMIT),
+    (HEADER, "0405 01 70 01 8120", "", 0, "", "", LIMIT),
+    (HEADER, "0208 01 0000 01 70 00 8120", "", 0, "", "", LIMIT),
     // globals
-    (HEADER, "068228 8008", "7f00 41000b", 1024, "", None),
-    (HEADER, "0602 8108", "", 0, "", LIMIT),
+    (HEADER, "068228 8008", "7f00 41000b", 1024, "", "", None),
+    (HEADER, "0602 8108", "", 0, "", "", LIMIT),
     // instructions of an initialiser
-    (HEADER, "068320 01 7f00", "01", 4095, "0b", None),
-    (HEADER, "068420 01 7f00", "01", 4096, "0b", LIMIT),
+    (HEADER, "068320 01 7f00", "01", 4095, "0b", "", None),
+    (HEADER, "068420 01 7f00", "01", 4096, "0b", "", LIMIT),
     // a count decides nothing before its items are read
-    (HEADER, "0105 ffffffff0f", "", 0, "", Some(Malformed(15))),
-];
-
-#[test]
-fn items_are_counted(rt: HostRuntime) -> Result<(), Refused> {
-    check_limits(&rt, rt.alloc(), &COUNTS)
-}
-
-static BODIES: [LimitRow; 9] = [
+    (
+        HEADER,
+        "0105 ffffffff0f",
+        "",
+        0,
+        "",
+        "",
+        Some(Malformed(15)),
+    ),
     // locals: a run too long is told before its type
-    (ONE_FUNCTION, "0a07 01 05 01 8002 7f 0b", "", 0, "", None),
-    (ONE_FUNCTION, "0a05 01 03 01 8102", "", 0, "", LIMIT),
+    (
+        ONE_FUNCTION,
+        "0a07 01 05 01 8002 7f 0b",
+        "",
+        0,
+        "",
+        "",
+        None,
+    ),
+    (ONE_FUNCTION, "0a05 01 03 01 8102", "", 0, "", "", LIMIT),
     (
         ONE_FUNCTION,
         "0a0a 01 08 02 8001 7f 8001 7e 0b",
         "",
         0,
+        "",
         "",
         None,
     ),
@@ -578,6 +336,7 @@ static BODIES: [LimitRow; 9] = [
         "",
         0,
         "",
+        "",
         LIMIT,
     ),
     (
@@ -586,104 +345,305 @@ static BODIES: [LimitRow; 9] = [
         "",
         0,
         "",
+        "",
         LIMIT,
     ),
     // instructions: the one too many, whatever it is
-    (ONE_FUNCTION, "0a8420 01 8120 00", "01", 4095, "0b", None),
-    (ONE_FUNCTION, "0a8520 01 8220 00", "01", 4096, "0b", LIMIT),
-    (ONE_FUNCTION, "0a8520 01 8220 00", "01", 4096, "ff", LIMIT),
+    (
+        ONE_FUNCTION,
+        "0a8420 01 8120 00",
+        "01",
+        4095,
+        "0b",
+        "",
+        None,
+    ),
+    (
+        ONE_FUNCTION,
+        "0a8520 01 8220 00",
+        "01",
+        4096,
+        "0b",
+        "",
+        LIMIT,
+    ),
+    (
+        ONE_FUNCTION,
+        "0a8520 01 8220 00",
+        "01",
+        4096,
+        "ff",
+        "",
+        LIMIT,
+    ),
     (
         ONE_FUNCTION,
         "0a8420 01 8120 00",
         "01",
         4096,
         "",
+        "",
         Some(Malformed(4121)),
+    ),
+    // as many functions as allowed
+    (
+        HEADER,
+        "038220 8020",
+        "00",
+        4096,
+        "0a8260 8020",
+        "02000b",
+        None,
     ),
 ];
 
-#[test]
-fn locals_and_instructions_of_bodies_are_counted(rt: HostRuntime) -> Result<(), Refused> {
-    check_limits(&rt, rt.alloc(), &BODIES)
+fn fault_of(alloc: Global, bytes: &[u8]) -> Option<DecodeFault> {
+    decode(alloc, bytes).err()
 }
 
-/// A module with 4,096 functions of its own.
-fn with_most_functions(alloc: Global) -> Result<Vec<u8>, Refused> {
-    let mut bytes = repeat(alloc, HEADER, "038220 8020", "00", 4096, "0a8260 8020")?;
-    let code = repeat(alloc, "", "", "02000b", 4096, "")?;
-    bytes.extend_from_slice(code.as_slice())?;
-    Ok(bytes)
+fn is_told_so(alloc: Global, row: &Told) -> Result<bool, Refused> {
+    let bytes = spell(alloc, &[row.0, row.1])?;
+    Ok(fault_of(alloc, bytes.as_slice()) == row.2)
 }
 
-#[test]
-fn as_many_functions_as_allowed(rt: HostRuntime) -> Result<(), Refused> {
-    let bytes = with_most_functions(rt.alloc())?;
-    assert!(rt; fault_of(rt.alloc(), bytes.as_slice()).is_none());
+fn append_times(bytes: &mut Vec<u8>, text: &str, times: usize) -> Result<(), Refused> {
+    for _ in 0..times {
+        append(bytes, text)?;
+    }
     Ok(())
 }
 
+fn spell_long(alloc: Global, row: &Long) -> Result<Vec<u8>, Refused> {
+    let mut bytes = spell(alloc, &[row.0, row.1])?;
+    append_times(&mut bytes, row.2, row.3)?;
+    append(&mut bytes, row.4)?;
+    append_times(&mut bytes, row.5, row.3)?;
+    Ok(bytes)
+}
+
+fn is_long_told_so(alloc: Global, row: &Long) -> Result<bool, Refused> {
+    let bytes = spell_long(alloc, row)?;
+    Ok(fault_of(alloc, bytes.as_slice()) == row.6)
+}
+
+/// The small module, of 50 bytes.
+const SMALL: &[u8; 50] = b"\0asm\x01\0\0\0\x01\x04\x01\x60\0\0\x03\x02\x01\0\x05\x03\x01\0\x01\
+    \x07\x13\x02\x06_start\0\0\x06memory\x02\0\x0a\x04\x01\x02\0\x0b";
+
+/// Of its fronts the header, alone and with the types, and the whole are modules.
+fn is_front_told_so(alloc: Global, len: usize) -> bool {
+    let is_whole = len == 8 || len == 14 || len == 50;
+    match SMALL.get(..len) {
+        Some(front) => fault_of(alloc, front).is_none() == is_whole,
+        None => false,
+    }
+}
+
+#[test]
+fn the_first_fault_is_told(rt: HostRuntime) {
+    for row in &TOLD {
+        let told = is_told_so(rt.alloc(), row);
+        assert!(rt; told == Ok(true), "{row:?} {told:?}");
+    }
+    for row in &LONG {
+        let told = is_long_told_so(rt.alloc(), row);
+        assert!(rt; told == Ok(true), "{row:?} {told:?}");
+    }
+    for len in 0..=50 {
+        assert!(rt; is_front_told_so(rt.alloc(), len), "{len}");
+    }
+}
+
+/// What is read of bytes, or what is at fault.
+enum Read {
+    Fault(DecodeFault),
+    /// The greatest size of the first table.
+    Size(u32),
+    /// What the first global begins with.
+    Constant(Value),
+    /// How many types, imports, functions, exports and data segments there are.
+    Counts([usize; 5]),
+}
+
 /// Reads a line, writes it, and goes on until nothing is read.
-static ECHO: [u8; 193] = [
-    0x00, 0x61, 0x73, 0x6d, 0x01, 0x00, 0x00, 0x00, 0x01, 0x0c, 0x02, 0x60, 0x00, 0x00, 0x60, 0x04,
-    0x7f, 0x7f, 0x7f, 0x7f, 0x01, 0x7f, 0x02, 0x44, 0x02, 0x16, 0x77, 0x61, 0x73, 0x69, 0x5f, 0x73,
-    0x6e, 0x61, 0x70, 0x73, 0x68, 0x6f, 0x74, 0x5f, 0x70, 0x72, 0x65, 0x76, 0x69, 0x65, 0x77, 0x31,
-    0x07, 0x66, 0x64, 0x5f, 0x72, 0x65, 0x61, 0x64, 0x00, 0x01, 0x16, 0x77, 0x61, 0x73, 0x69, 0x5f,
-    0x73, 0x6e, 0x61, 0x70, 0x73, 0x68, 0x6f, 0x74, 0x5f, 0x70, 0x72, 0x65, 0x76, 0x69, 0x65, 0x77,
-    0x31, 0x08, 0x66, 0x64, 0x5f, 0x77, 0x72, 0x69, 0x74, 0x65, 0x00, 0x01, 0x03, 0x02, 0x01, 0x00,
-    0x05, 0x03, 0x01, 0x00, 0x01, 0x07, 0x13, 0x02, 0x06, 0x5f, 0x73, 0x74, 0x61, 0x72, 0x74, 0x00,
-    0x02, 0x06, 0x6d, 0x65, 0x6d, 0x6f, 0x72, 0x79, 0x02, 0x00, 0x0a, 0x31, 0x01, 0x2f, 0x00, 0x03,
-    0x40, 0x41, 0x00, 0x41, 0x00, 0x41, 0x01, 0x41, 0x10, 0x10, 0x00, 0x1a, 0x41, 0x10, 0x28, 0x02,
-    0x00, 0x45, 0x0d, 0x01, 0x41, 0x0c, 0x41, 0x10, 0x28, 0x02, 0x00, 0x36, 0x02, 0x00, 0x41, 0x01,
-    0x41, 0x08, 0x41, 0x01, 0x41, 0x14, 0x10, 0x01, 0x1a, 0x0c, 0x00, 0x0b, 0x0b, 0x0b, 0x12, 0x01,
-    0x00, 0x41, 0x00, 0x0b, 0x0c, 0x40, 0x00, 0x00, 0x00, 0x00, 0x10, 0x00, 0x00, 0x40, 0x00, 0x00,
-    0x00,
+const ECHO: &str =
+    "0061736d01000000010c0260000060047f7f7f7f017f02440216776173695f736e617073686f745f \
+    70726576696577310766645f72656164000116776173695f736e617073686f745f70726576696577 \
+    310866645f77726974650001030201000503010001071302065f73746172740002066d656d6f7279 \
+    02000a31012f000340410041004101411010001a4110280200450d01410c41102802003602004101 \
+    41084101411410011a0c000b0b0b12010041000b0c400000000010000040000000";
+
+/// Two texts, and what is read of the bytes that they spell together: examples of the LEB128
+/// description, a spelling longer than needed, numbers of all bits and of too many, and all of a
+/// module.
+static READ: [(&str, &str, Read); 14] = [
+    (HEADER, "0407 017001 00 e58e26", Read::Size(624_485)),
+    (HEADER, "0406 017001 00 8001", Read::Size(128)),
+    (HEADER, "0409 017001 00 8380808000", Read::Size(3)),
+    (
+        HEADER,
+        "0608 017f00 41c0bb78 0b",
+        Read::Constant(Value::I32(0xfffe_1dc0)),
+    ),
+    (
+        HEADER,
+        "0606 017f00 417f 0b",
+        Read::Constant(Value::I32(0xffff_ffff)),
+    ),
+    (
+        HEADER,
+        "0607 017f00 41807f 0b",
+        Read::Constant(Value::I32(0xffff_ff80)),
+    ),
+    (
+        HEADER,
+        "060a 017f00 41feffffff7f 0b",
+        Read::Constant(Value::I32(0xffff_fffe)),
+    ),
+    (
+        HEADER,
+        "0606 017e00 427f 0b",
+        Read::Constant(Value::I64(0xffff_ffff_ffff_ffff)),
+    ),
+    (
+        HEADER,
+        "060f 017e00 428080808080808080807f 0b",
+        Read::Constant(Value::I64(0x8000_0000_0000_0000)),
+    ),
+    (
+        HEADER,
+        "0409 017001 00 8380808010",
+        Read::Fault(Malformed(14)),
+    ),
+    (
+        HEADER,
+        "040a 017001 00 838080808000",
+        Read::Fault(Malformed(14)),
+    ),
+    (HEADER, "0405 017001 00 80", Read::Fault(Malformed(14))),
+    (
+        HEADER,
+        "060a 017f00 418080808070 0b",
+        Read::Fault(Malformed(14)),
+    ),
+    (ECHO, "", Read::Counts([2, 2, 1, 2, 1])),
 ];
 
-/// How many types, imports, functions, exports and data segments there are.
-fn counts(module: &Module) -> [usize; 5] {
-    [
-        module.types.len(),
-        module.imports.len(),
-        module.functions.len(),
-        module.exports.len(),
-        module.data_segments.len(),
-    ]
+fn has_size(module: &Module, size: u32) -> bool {
+    match module.tables.get(0) {
+        Some(table) => table.limits.maximum == Some(size),
+        None => false,
+    }
 }
 
-fn counts_read(alloc: Global, bytes: &[u8]) -> Result<[usize; 5], DecodeFault> {
-    let read = decode(alloc, bytes)?;
-    let counts = counts(&read);
-    drop(read);
-    Ok(counts)
+fn has_constant(module: &Module, wanted: &Value) -> bool {
+    let Some(global) = module.globals.get(0) else {
+        return false;
+    };
+    match global.initial.get(0) {
+        Some(Instruction::Const { value }) => value == wanted,
+        _ => false,
+    }
 }
+
+fn has_counts(module: &Module, counts: &[usize; 5]) -> bool {
+    module.types.len() == counts[0]
+        && module.imports.len() == counts[1]
+        && module.functions.len() == counts[2]
+        && module.exports.len() == counts[3]
+        && module.data_segments.len() == counts[4]
+}
+
+fn has(module: &Module, wanted: &Read) -> bool {
+    match wanted {
+        Read::Fault(_) => false,
+        Read::Size(size) => has_size(module, *size),
+        Read::Constant(value) => has_constant(module, value),
+        Read::Counts(counts) => has_counts(module, counts),
+    }
+}
+
+fn is_fault(fault: DecodeFault, wanted: &Read) -> Result<bool, Refused> {
+    match wanted {
+        Read::Fault(wanted) if *wanted == fault => Ok(true),
+        _ => Err(Refused::from(fault)),
+    }
+}
+
+fn is_read_so(alloc: Global, row: &(&str, &str, Read)) -> Result<bool, Refused> {
+    let bytes = spell(alloc, &[row.0, row.1])?;
+    match decode(alloc, bytes.as_slice()) {
+        Ok(module) => {
+            let is_so = has(&module, &row.2);
+            drop(module);
+            Ok(is_so)
+        }
+        Err(fault) => is_fault(fault, &row.2),
+    }
+}
+
+/// A custom section fills a module, whose size is 2 ^ 21 bytes then.
+static SIZES: [Long; 3] = [
+    (HEADER, "00f4ff7f", "00", 2_097_140, "", "", None),
+    (HEADER, "00f5ff7f", "00", 2_097_141, "", "", LIMIT),
+    ("", "", "00", 2_097_153, "", "", LIMIT),
+];
 
 /// `scripts/refused-allocations` refuses each allocation in turn, and then this ends in want of
 /// memory.
 #[test]
-fn a_whole_module_is_read(rt: HostRuntime) -> Result<(), DecodeFault> {
-    assert!(rt; counts_read(rt.alloc(), &ECHO)? == [2, 2, 1, 2, 1]);
+fn modules_are_read(rt: HostRuntime) -> Result<(), Refused> {
+    for row in &READ {
+        assert!(rt; is_read_so(rt.alloc(), row)?, "{} {}", row.0, row.1);
+    }
+    for row in &SIZES {
+        assert!(rt; is_long_told_so(rt.alloc(), row)?, "{row:?}");
+    }
     Ok(())
 }
 
-/// A fault, its printed text, and its place.
-static FAULTS: [(DecodeFault, &str, Option<usize>); 4] = [
-    (Malformed(9), "B1 Malformed", Some(9)),
-    (Float(50), "B2 Float", Some(50)),
-    (Limit, "B3 Limit", None),
-    (DecodeFault::Memory, "B4 Memory", None),
-];
+/// What each opcode is the first byte of, sixteen in a line: an instruction of integers (`i`), one
+/// of floats (`f`), or none.
+static KINDS: &[u8; 256] = b"\
+    iiiiii-----iiiii\
+    ii--------ii----\
+    iiiii---iiffiiii\
+    iiiiiiiiffiiiiii\
+    iiiffiiiiiiiiiii\
+    iiiiiiiiiiifffff\
+    fffffffiiiiiiiii\
+    iiiiiiiiiiiiiiii\
+    iiiiiiiiiiifffff\
+    ffffffffffffffff\
+    fffffffiffffiiff\
+    ffffffffffffffff\
+    ----------------\
+    ----------------\
+    ----------------\
+    ----------------";
 
-fn is_printed_so(
-    alloc: Global,
-    row: &(DecodeFault, &str, Option<usize>),
-) -> Result<bool, AllocError> {
-    Ok(prints(alloc, &row.0, row.1)? && row.0.place() == row.2)
+/// By the fault at place 51. Want of memory tells no kind.
+fn kind_by(fault: Option<DecodeFault>) -> Result<u8, Refused> {
+    match fault {
+        Some(Float(51)) => Ok(b'f'),
+        Some(Malformed(51)) => Ok(b'-'),
+        Some(DecodeFault::Memory) => Err(Refused::Memory),
+        _ => Ok(b'i'),
+    }
+}
+
+/// What is told of an opcode at place 51, within an `if`.
+fn kind_told(alloc: Global, opcode: u8) -> Result<u8, Refused> {
+    let mut bytes = spell(alloc, &[BEFORE_CODE, "0a0a0108 00 0440"])?;
+    bytes.push(opcode)?;
+    append(&mut bytes, "4000 0b0b")?;
+    kind_by(fault_of(alloc, bytes.as_slice()))
 }
 
 #[test]
-fn faults_are_printed_by_their_names(rt: HostRuntime) -> Result<(), AllocError> {
-    for row in &FAULTS {
-        assert!(rt; is_printed_so(rt.alloc(), row)?, "{row:?}");
+fn opcodes_are_of_integers_of_floats_or_none(rt: HostRuntime) -> Result<(), Refused> {
+    for (opcode, kind) in KINDS.iter().enumerate() {
+        assert!(rt; kind_told(rt.alloc(), opcode as u8)? == *kind, "{opcode}");
     }
     Ok(())
 }

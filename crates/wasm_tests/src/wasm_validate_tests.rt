@@ -1,9 +1,8 @@
 //! The kind of a module's first fault, part by part and in the bodies of its functions.
 
-use crate::spelled::{Refused, prints, spell, with_code};
+use crate::spelled::{Refused, spell, with_code};
 use machine_loader::{FrontFault, read};
-use std::alloc::{AllocError, Global};
-use std::process::Abort;
+use std::alloc::Global;
 use wasm_decode::decode;
 use wasm_syntax::{Code, Function, Instruction, Limits, Module, Row as Items, TableType, Value};
 use wasm_validate::{ValidFault, validate};
@@ -24,34 +23,22 @@ fn fault_of(alloc: Global, bytes: &[u8]) -> Option<FrontFault> {
 }
 
 fn is_told_so(alloc: Global, front: &str, row: &Row) -> Result<bool, Refused> {
-    let bytes = spell(alloc, front, row.0)?;
+    let bytes = spell(alloc, &[front, row.0])?;
     Ok(fault_of(alloc, bytes.as_slice()) == row.1)
-}
-
-/// Each row has what stands behind the first sections.
-fn check(rt: &impl Abort, alloc: Global, front: &str, rows: &[Row]) -> Result<(), Refused> {
-    for row in rows {
-        assert!(rt; is_told_so(alloc, front, row)?, "{row:?}");
-    }
-    Ok(())
 }
 
 const HEADER: &str = "0061736d01000000";
 
-static TYPES: [Row; 4] = [
+/// Types give one result, and exist.
+const TYPES: &[Row] = &[
     ("", None),
     ("010d 02 60037f7f7f017f 6000027f7f", LIMITS),
     ("0302 01 00 0a04 01 02000b", INDEX),
     ("0104 01 600000 0205 01 00000001", INDEX),
 ];
 
-#[test]
-fn types_give_one_result_and_exist(rt: HostRuntime) -> Result<(), Refused> {
-    check(&rt, rt.alloc(), HEADER, &TYPES)
-}
-
 /// Parts are told in the order of their sections, but for data segments, which come before bodies.
-static ORDER: [Row; 17] = [
+const ORDER: &[Row] = &[
     // types, imports, functions
     (
         "0106 01 6000027f7f 0205 01 00000009 0302 01 09 0a04 01 02000b",
@@ -92,12 +79,8 @@ static ORDER: [Row; 17] = [
     ),
 ];
 
-#[test]
-fn the_first_part_at_fault_is_told(rt: HostRuntime) -> Result<(), Refused> {
-    check(&rt, rt.alloc(), HEADER, &ORDER)
-}
-
-static TABLES: [Row; 5] = [
+/// There is one table, of limits in order.
+const TABLES: &[Row] = &[
     ("0207 01 000001700001", None),
     ("0207 01 000001700001 0404 01 700001", LIMITS),
     ("0407 02 700001 700001", LIMITS),
@@ -105,12 +88,8 @@ static TABLES: [Row; 5] = [
     ("040a 01 70018020ffffffff0f", None),
 ];
 
-#[test]
-fn there_is_one_table_of_limits_in_order(rt: HostRuntime) -> Result<(), Refused> {
-    check(&rt, rt.alloc(), HEADER, &TABLES)
-}
-
-static MEMORIES: [Row; 5] = [
+/// There is one memory, of limits in range.
+const MEMORIES: &[Row] = &[
     ("0206 01 0000020001 0503 01 0001", LIMITS),
     ("0208 01 00000200818004", LIMITS),
     ("0508 01 01808004808004", None),
@@ -118,15 +97,11 @@ static MEMORIES: [Row; 5] = [
     ("0506 01 0100818004", LIMITS),
 ];
 
-#[test]
-fn there_is_one_memory_of_limits_in_range(rt: HostRuntime) -> Result<(), Refused> {
-    check(&rt, rt.alloc(), HEADER, &MEMORIES)
-}
-
 /// The header, and imports of two globals: a constant one, and one that varies.
 const TWO_GLOBALS: &str = "0061736d01000000 020b 02 0000037f00 0000037f01";
 
-static GLOBALS: [Row; 8] = [
+/// Globals begin with constants.
+const GLOBALS: &[Row] = &[
     ("0606 01 7f01 23000b", None),
     ("0606 01 7f01 23010b", TYPING),
     ("060b 02 7f01 41000b 7f01 23020b", INDEX),
@@ -137,16 +112,12 @@ static GLOBALS: [Row; 8] = [
     ("060b 02 7f01 23020b 7f01 42000b", INDEX),
 ];
 
-#[test]
-fn globals_begin_with_constants(rt: HostRuntime) -> Result<(), Refused> {
-    check(&rt, rt.alloc(), TWO_GLOBALS, &GLOBALS)
-}
-
 /// Two functions, of which the second takes an integer and gives one, a table and a memory.
 const FURNISHED: &str = "0061736d01000000 0109 02 600000 60017f017f 0303 02 00 01 \
     0404 01 700001 0503 01 0001";
 
-static EXPORTS: [Row; 6] = [
+/// Exports exist, and have names of their own.
+const EXPORTS: &[Row] = &[
     (
         "0709 02 01'a'0001 01'b'0100 0a09 02 02000b 040020000b",
         None,
@@ -164,23 +135,15 @@ static EXPORTS: [Row; 6] = [
     ("0705 01 01'a'0300 0a09 02 02000b 040020000b", INDEX),
 ];
 
-#[test]
-fn exports_exist_and_have_names_of_their_own(rt: HostRuntime) -> Result<(), Refused> {
-    check(&rt, rt.alloc(), FURNISHED, &EXPORTS)
-}
-
-static START: [Row; 3] = [
+/// Start functions take and give nothing.
+const START: &[Row] = &[
     ("0801 00 0a09 02 02000b 040020000b", None),
     ("0801 01 0a09 02 02000b 040020000b", TYPING),
     ("0801 02 0a09 02 02000b 040020000b", INDEX),
 ];
 
-#[test]
-fn start_functions_take_and_give_nothing(rt: HostRuntime) -> Result<(), Refused> {
-    check(&rt, rt.alloc(), FURNISHED, &START)
-}
-
-static SEGMENTS: [Row; 7] = [
+/// Segments have a place and an offset.
+const SEGMENTS: &[Row] = &[
     (
         "0907 01 00 41000b 0101 0a09 02 02000b 040020000b 0b08 01 00 41000b 0207ff",
         None,
@@ -196,13 +159,8 @@ static SEGMENTS: [Row; 7] = [
     ),
 ];
 
-#[test]
-fn segments_have_a_place_and_an_offset(rt: HostRuntime) -> Result<(), Refused> {
-    check(&rt, rt.alloc(), FURNISHED, &SEGMENTS)
-}
-
-/// Of a module with all that these rows name.
-static LATER: [Row; 14] = [
+/// Later parts are told in their order: of a module with all that these rows name.
+const LATER: &[Row] = &[
     // exports before the start function
     (
         "0709 02 01'a'0000 01'a'0000 0801 01 0a09 02 02000b 040020000b",
@@ -251,9 +209,27 @@ static LATER: [Row; 14] = [
     ("0a0b 02 040020090b 040042000b", INDEX),
 ];
 
+/// The first sections, and what stands behind them.
+static PARTS: [(&str, &[Row]); 9] = [
+    (HEADER, TYPES),
+    (HEADER, ORDER),
+    (HEADER, TABLES),
+    (HEADER, MEMORIES),
+    (TWO_GLOBALS, GLOBALS),
+    (FURNISHED, EXPORTS),
+    (FURNISHED, START),
+    (FURNISHED, SEGMENTS),
+    (FURNISHED, LATER),
+];
+
 #[test]
-fn later_parts_are_told_in_their_order(rt: HostRuntime) -> Result<(), Refused> {
-    check(&rt, rt.alloc(), FURNISHED, &LATER)
+fn the_first_part_at_fault_is_told(rt: HostRuntime) {
+    for (front, rows) in &PARTS {
+        for row in *rows {
+            let told = is_told_so(rt.alloc(), front, row);
+            assert!(rt; told == Ok(true), "{row:?} {told:?}");
+        }
+    }
 }
 
 /// Types from nothing to nothing, and from integers of 32 and 64 bits to one of 32, a function of
@@ -273,22 +249,8 @@ fn is_body_told_so(alloc: Global, front: &str, rest: &str, row: &Row) -> Result<
     Ok(fault_of(alloc, bytes.as_slice()) == row.1)
 }
 
-/// Each row has the second entry, the body of a function from nothing to nothing behind the `00`
-/// that declares no locals.
-fn check_bodies(
-    rt: &impl Abort,
-    alloc: Global,
-    front: &str,
-    rest: &str,
-    rows: &[Row],
-) -> Result<(), Refused> {
-    for row in rows {
-        assert!(rt; is_body_told_so(alloc, front, rest, row)?, "{row:?}");
-    }
-    Ok(())
-}
-
-static OPERANDS: [Row; 17] = [
+/// Operands have the types that are taken.
+const OPERANDS: &[Row] = &[
     // an operand of another type, none, and one left over
     ("00 4100 4200 6a 1a 0b", TYPING),
     ("00 4100 6a 1a 0b", TYPING),
@@ -312,12 +274,8 @@ static OPERANDS: [Row; 17] = [
     ("00 00 4200 4100 1b 6a 1a 0b", TYPING),
 ];
 
-#[test]
-fn operands_have_the_types_that_are_taken(rt: HostRuntime) -> Result<(), Refused> {
-    check_bodies(&rt, rt.alloc(), WITH_BOTH, "", &OPERANDS)
-}
-
-static BLOCKS: [Row; 10] = [
+/// Blocks leave what their labels take.
+const BLOCKS: &[Row] = &[
     ("00 0b", None),
     ("00 027f 4100 0c00 0b 1a 0b", None),
     ("00 0240 0340 4100 0d00 0c01 0b 0b 0b", None),
@@ -331,12 +289,8 @@ static BLOCKS: [Row; 10] = [
     ("00 027f 00 0e010001 0b 1a 0b", TYPING),
 ];
 
-#[test]
-fn blocks_leave_what_their_labels_take(rt: HostRuntime) -> Result<(), Refused> {
-    check_bodies(&rt, rt.alloc(), WITH_BOTH, "", &BLOCKS)
-}
-
-static INDICES: [Row; 8] = [
+/// Indices in bodies name something.
+const INDICES: &[Row] = &[
     ("00 0c01 0b", INDEX),
     ("00 0240 4100 0d02 0b 0b", INDEX),
     ("00 0240 4100 0e010002 0b 0b", INDEX),
@@ -347,12 +301,8 @@ static INDICES: [Row; 8] = [
     ("00 4100 2401 0b", INDEX),
 ];
 
-#[test]
-fn indices_in_bodies_name_something(rt: HostRuntime) -> Result<(), Refused> {
-    check_bodies(&rt, rt.alloc(), WITH_BOTH, "", &INDICES)
-}
-
-static WITH_MEMORY_AND_TABLE: [Row; 4] = [
+/// Memory and table are there where they are used.
+const WITH_MEMORY_AND_TABLE: &[Row] = &[
     ("00 4100 280200 1a 0b", None),
     ("00 4100 280300 1a 0b", LIMITS),
     ("00 3f00 1a 0b", None),
@@ -360,37 +310,73 @@ static WITH_MEMORY_AND_TABLE: [Row; 4] = [
 ];
 
 /// Where there is no memory, that is told before an alignment that is too large.
-static WITHOUT_MEMORY_AND_TABLE: [Row; 4] = [
+const WITHOUT_MEMORY_AND_TABLE: &[Row] = &[
     ("00 4100 280200 1a 0b", INDEX),
     ("00 4100 280300 1a 0b", INDEX),
     ("00 3f00 1a 0b", INDEX),
     ("00 4100 110000 0b", INDEX),
 ];
 
-#[test]
-fn memory_and_table_are_there_where_they_are_used(rt: HostRuntime) -> Result<(), Refused> {
-    check_bodies(&rt, rt.alloc(), WITH_BOTH, "", &WITH_MEMORY_AND_TABLE)?;
-    check_bodies(&rt, rt.alloc(), BARE, "", &WITHOUT_MEMORY_AND_TABLE)
-}
-
-static BEFORE_SEGMENTS: [Row; 2] = [("00 4100 0b", TYPING), ("00 0b", None)];
+/// Bodies come last.
+const BEFORE_SEGMENTS: &[Row] = &[("00 4100 0b", TYPING), ("00 0b", None)];
 
 /// A data segment without a memory is told before the first body.
-static BEHIND_SEGMENTS: [Row; 2] = [("00 4100 0b", INDEX), ("00 0b", INDEX)];
+const BEHIND_SEGMENTS: &[Row] = &[("00 4100 0b", INDEX), ("00 0b", INDEX)];
+
+/// What stands before the code section, what stands behind it, and the second entries. Each is the
+/// body of a function from nothing to nothing, behind the `00` that declares no locals.
+static BODIES: [(&str, &str, &[Row]); 7] = [
+    (WITH_BOTH, "", OPERANDS),
+    (WITH_BOTH, "", BLOCKS),
+    (WITH_BOTH, "", INDICES),
+    (WITH_BOTH, "", WITH_MEMORY_AND_TABLE),
+    (BARE, "", WITHOUT_MEMORY_AND_TABLE),
+    (BARE, "", BEFORE_SEGMENTS),
+    (BARE, "0b06 01 00 41000b 00", BEHIND_SEGMENTS),
+];
 
 #[test]
-fn bodies_come_last(rt: HostRuntime) -> Result<(), Refused> {
-    check_bodies(&rt, rt.alloc(), BARE, "", &BEFORE_SEGMENTS)?;
-    check_bodies(
-        &rt,
-        rt.alloc(),
-        BARE,
-        "0b06 01 00 41000b 00",
-        &BEHIND_SEGMENTS,
-    )
+fn the_first_body_at_fault_is_told(rt: HostRuntime) {
+    for (front, rest, rows) in &BODIES {
+        for row in *rows {
+            let told = is_body_told_so(rt.alloc(), front, rest, row);
+            assert!(rt; told == Ok(true), "{row:?} {told:?}");
+        }
+    }
 }
 
-/// A body that the decoder would refuse, by the first bytes of its instructions.
+/// What no bytes spell, since the decoder would refuse it.
+enum Part {
+    /// A body, by the first bytes of its instructions.
+    Body(&'static [u8]),
+    /// The least and the greatest size of a table.
+    Table(u32, u32),
+}
+
+/// A part, and the fault of a module with it alone.
+static UNSPELLED: [(Part, Option<ValidFault>); 8] = [
+    // an `else` without an `if`, and a second one
+    (Part::Body(&[0x05, 0x0b]), Some(ValidFault::Typing)),
+    (
+        Part::Body(&[0x02, 0x05, 0x0b, 0x0b]),
+        Some(ValidFault::Typing),
+    ),
+    (
+        Part::Body(&[0x41, 0x04, 0x05, 0x05, 0x0b, 0x0b]),
+        Some(ValidFault::Typing),
+    ),
+    // nothing may follow the last end, and it has to come
+    (Part::Body(&[0x0b, 0x01]), Some(ValidFault::Typing)),
+    (Part::Body(&[0x0b, 0x0b]), Some(ValidFault::Typing)),
+    (Part::Body(&[0x02, 0x0b]), Some(ValidFault::Typing)),
+    // up to 2 ^ 32 entries, and limits in order
+    (Part::Table(0xffff_ffff, 0xffff_ffff), None),
+    (
+        Part::Table(0xffff_ffff, 0xffff_fffe),
+        Some(ValidFault::Limits),
+    ),
+];
+
 fn instructions(alloc: Global, opcodes: &[u8]) -> Result<Items<Instruction>, Refused> {
     let mut body = Items::new(alloc);
     for opcode in opcodes {
@@ -409,6 +395,7 @@ fn instructions(alloc: Global, opcodes: &[u8]) -> Result<Items<Instruction>, Ref
     Ok(body)
 }
 
+/// A function without locals, of the first type.
 fn function(alloc: Global, body: Items<Instruction>) -> Function {
     let locals = Items::new(alloc);
     let code = Code { locals, body };
@@ -418,85 +405,40 @@ fn function(alloc: Global, body: Items<Instruction>) -> Function {
     }
 }
 
-fn told_of_module(alloc: Global, made: Module) -> Option<ValidFault> {
-    validate(alloc, made).err()
+fn add(alloc: Global, made: &mut Module, part: &Part) -> Result<(), Refused> {
+    match part {
+        Part::Body(opcodes) => {
+            let body = instructions(alloc, opcodes)?;
+            made.functions.push(function(alloc, body))?;
+        }
+        Part::Table(minimum, maximum) => {
+            let limits = Limits {
+                minimum: *minimum,
+                maximum: Some(*maximum),
+            };
+            made.tables.push(TableType { limits })?;
+        }
+    }
+    Ok(())
 }
 
 /// A type from nothing to nothing.
 const TYPED: &[u8] = b"\0asm\x01\0\0\0\x01\x04\x01\x60\0\0";
 
-fn add_function(made: &mut Module, own: Function) -> Result<(), Refused> {
-    made.functions.push(own)?;
-    Ok(())
-}
-
-/// The fault of a module with this function alone. No `?` stands while the module is owned.
-fn told_of_function(alloc: Global, own: Function) -> Result<Option<ValidFault>, Refused> {
-    let mut made = decode(alloc, TYPED)?;
-    let added = add_function(&mut made, own);
-    let told = told_of_module(alloc, made);
-    added?;
-    Ok(told)
-}
-
-static ILL_FORMED: [&[u8]; 6] = [
-    // an `else` without an `if`, and a second one
-    &[0x05, 0x0b],
-    &[0x02, 0x05, 0x0b, 0x0b],
-    &[0x41, 0x04, 0x05, 0x05, 0x0b, 0x0b],
-    // nothing may follow the last end, and it has to come
-    &[0x0b, 0x01],
-    &[0x0b, 0x0b],
-    &[0x02, 0x0b],
-];
-
-fn is_not_typed(alloc: Global, opcodes: &[u8]) -> Result<bool, Refused> {
-    let body = instructions(alloc, opcodes)?;
-    Ok(told_of_function(alloc, function(alloc, body))? == Some(ValidFault::Typing))
-}
-
-#[test]
-fn ill_formed_bodies_are_not_typed(rt: HostRuntime) -> Result<(), Refused> {
-    for opcodes in &ILL_FORMED {
-        assert!(rt; is_not_typed(rt.alloc(), opcodes)?, "{opcodes:?}");
+fn fault_of_module(alloc: Global, made: Module) -> Result<Option<ValidFault>, Refused> {
+    match validate(alloc, made).err() {
+        Some(ValidFault::Memory) => Err(Refused::Memory),
+        told => Ok(told),
     }
-    Ok(())
 }
 
-fn add_table(made: &mut Module, limits: Limits) -> Result<(), Refused> {
-    made.tables.push(TableType { limits })?;
-    Ok(())
-}
-
-/// The fault of a module with this table alone. No `?` stands while the module is owned.
-fn told_of_table(alloc: Global, limits: Limits) -> Result<Option<ValidFault>, Refused> {
+/// The fault of a module with this part alone. No `?` stands while the module is owned.
+fn fault_with(alloc: Global, part: &Part) -> Result<Option<ValidFault>, Refused> {
     let mut made = decode(alloc, TYPED)?;
-    let added = add_table(&mut made, limits);
-    let told = told_of_module(alloc, made);
+    let added = add(alloc, &mut made, part);
+    let told = fault_of_module(alloc, made);
     added?;
-    Ok(told)
-}
-
-/// The least and the greatest size of a table, beyond what the decoder lets through, and the fault.
-static LARGE_TABLES: [(u32, u32, Option<ValidFault>); 2] = [
-    (0xffff_ffff, 0xffff_ffff, None),
-    (0xffff_ffff, 0xffff_fffe, Some(ValidFault::Limits)),
-];
-
-fn is_table_told_so(alloc: Global, row: &(u32, u32, Option<ValidFault>)) -> Result<bool, Refused> {
-    let limits = Limits {
-        minimum: row.0,
-        maximum: Some(row.1),
-    };
-    Ok(told_of_table(alloc, limits)? == row.2)
-}
-
-#[test]
-fn tables_have_up_to_2_to_the_32_entries(rt: HostRuntime) -> Result<(), Refused> {
-    for row in &LARGE_TABLES {
-        assert!(rt; is_table_told_so(rt.alloc(), row)?, "{row:?}");
-    }
-    Ok(())
+    told
 }
 
 /// A module with everything that the others have.
@@ -518,23 +460,10 @@ fn functions_read(alloc: Global, bytes: &[u8]) -> Result<usize, FrontFault> {
 /// `scripts/refused-allocations` refuses each allocation in turn, and then this ends in want of
 /// memory.
 #[test]
-fn a_whole_module_is_valid(rt: HostRuntime) -> Result<(), Refused> {
+fn modules_are_valid_or_not(rt: HostRuntime) -> Result<(), Refused> {
     assert!(rt; functions_read(rt.alloc(), &WHOLE)? == 2);
-    Ok(())
-}
-
-static FAULTS: [(ValidFault, &str); 5] = [
-    (ValidFault::Typing, "V1 Typing"),
-    (ValidFault::Index, "V2 Index"),
-    (ValidFault::Limits, "V3 Limits"),
-    (ValidFault::DuplicateExport, "V4 DuplicateExport"),
-    (ValidFault::Memory, "V5 Memory"),
-];
-
-#[test]
-fn faults_are_printed_by_their_names(rt: HostRuntime) -> Result<(), AllocError> {
-    for (fault, text) in &FAULTS {
-        assert!(rt; prints(rt.alloc(), fault, text)?, "{text}");
+    for (place, (part, fault)) in UNSPELLED.iter().enumerate() {
+        assert!(rt; fault_with(rt.alloc(), part)? == *fault, "{place}");
     }
     Ok(())
 }
