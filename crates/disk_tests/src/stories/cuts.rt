@@ -254,8 +254,8 @@ fn is_ended_by_a_time(alloc: Global) -> Result<bool, Halt> {
     Ok(are_told_so(&report, &MISTOLD))
 }
 
-/// A full journal is saved. No bytes spell no module: no life opens. A time doesn't answer a question
-/// for a line.
+/// A full journal is saved. No bytes spell no module: no life opens. A time doesn't answer a
+/// question for a line.
 #[test]
 fn lives_are_saved_or_fail(rt: HostRuntime) -> Result<(), Halt> {
     for (count, generation) in &FILLED {
