@@ -1,6 +1,9 @@
 //! Workers read back from disks, whole and damaged.
 
-use crate::layouts::{PLACES, SECTORS, SPELLED, WASM, layout_fault, written_disk};
+use crate::disks::damage;
+use crate::layouts::{
+    PLACES, SECTORS, SPELLED, WASM, are_super_faults_told, layout_fault, written_disk,
+};
 use disk_layout::{Contents, Geometry, LayoutFault, config_bytes_of, config_from, read_contents};
 use sector_disk::{Disk, DiskFault, FaultDisk, Place};
 use std::alloc::{AllocError, Global};
@@ -41,49 +44,6 @@ fn is_read_back(alloc: Global) -> Result<bool, LayoutFault> {
 #[test]
 fn a_worker_is_read_back(rt: HostRuntime) -> Result<(), LayoutFault> {
     assert!(rt; is_read_back(rt.alloc())?);
-    Ok(())
-}
-
-fn fault_of<D: Disk>(alloc: Global, disk: &mut D) -> Option<LayoutFault> {
-    match read_contents(alloc, disk) {
-        Ok(_) => None,
-        Err(fault) => Some(fault),
-    }
-}
-
-/// What is wrong where one byte of the configuration is another, under a digest that is right.
-fn fault_of_spelling(alloc: Global, at: usize, byte: u8) -> Result<Option<LayoutFault>, DiskFault> {
-    let mut spelled = SPELLED;
-    if at >= 28 {
-        return Ok(None);
-    }
-    spelled[at] = byte;
-    let mut disk = written_disk(alloc, SECTORS, PLACES, &spelled)?;
-    Ok(fault_of(alloc, &mut disk))
-}
-
-static OTHER_BYTES: [(usize, u8); 11] = [
-    (0, 0),
-    (2, 1),
-    (4, 65),
-    (8, 63),
-    (12, 0),
-    (12, 2),
-    (12, 65),
-    (16, 5),
-    (16, 7),
-    (18, 0),
-    (24, 1),
-];
-
-#[test]
-fn bytes_of_no_configuration(rt: HostRuntime) -> Result<(), DiskFault> {
-    for (at, byte) in &OTHER_BYTES {
-        assert!(rt;
-            fault_of_spelling(rt.alloc(), *at, *byte)? == Some(LayoutFault::Damaged),
-            "{at} {byte}"
-        );
-    }
     Ok(())
 }
 
@@ -140,23 +100,106 @@ fn bytes_of_a_configuration(rt: HostRuntime) -> Result<(), AllocError> {
     Ok(())
 }
 
-/// The numbers of a super: configuration length and sectors of the module, an area and the journal.
-/// Then the sectors of the disk, and what is wrong.
-type Numbers = (u32, u32, u32, u32, u64, Option<LayoutFault>);
+/// What is another on the disk of a worker.
+enum Change {
+    /// A byte of the configuration, under a digest that is right.
+    Spelling(usize, u8),
+    /// The numbers of the super, and the sectors of the disk.
+    Numbers(Numbers),
+    /// A bit of a byte of a sector.
+    Bit(u64, usize),
+    /// A call that fails.
+    Call(u64),
+}
 
-static NUMBERS: [Numbers; 11] = [
-    (28, 1, 2304, 64, SECTORS + 1, None),
-    (28, 1, 2304, 64, SECTORS, None),
-    (28, 1, 2304, 64, SECTORS - 1, Some(LayoutFault::TooSmall)),
-    (28, 1, 2304, 64, 3, Some(LayoutFault::TooSmall)),
-    (28, 1, 2304, 64, 0, Some(LayoutFault::NotAWorker)),
-    (28, 2, 2304, 64, SECTORS, Some(LayoutFault::Damaged)),
-    (28, 2, 2304, 64, 3, Some(LayoutFault::Damaged)),
-    (27, 1, 2304, 64, SECTORS, Some(LayoutFault::Damaged)),
-    (28, 1, 2305, 64, SECTORS, Some(LayoutFault::Damaged)),
-    (28, 1, 2303, 64, SECTORS - 2, Some(LayoutFault::Damaged)),
-    (28, 1, 2304, 65, SECTORS, Some(LayoutFault::Damaged)),
+/// Configuration length and sectors of the module, an area and the journal. Then the sectors of the
+/// disk.
+type Numbers = (u32, u32, u32, u32, u64);
+
+/// What is another, and what is then wrong.
+static CHANGES: [(Change, Option<LayoutFault>); 33] = [
+    // Bytes of no configuration.
+    (Change::Spelling(0, 0), Some(LayoutFault::Damaged)),
+    (Change::Spelling(2, 1), Some(LayoutFault::Damaged)),
+    (Change::Spelling(4, 65), Some(LayoutFault::Damaged)),
+    (Change::Spelling(8, 63), Some(LayoutFault::Damaged)),
+    (Change::Spelling(12, 0), Some(LayoutFault::Damaged)),
+    (Change::Spelling(12, 2), Some(LayoutFault::Damaged)),
+    (Change::Spelling(12, 65), Some(LayoutFault::Damaged)),
+    (Change::Spelling(16, 5), Some(LayoutFault::Damaged)),
+    (Change::Spelling(16, 7), Some(LayoutFault::Damaged)),
+    (Change::Spelling(18, 0), Some(LayoutFault::Damaged)),
+    (Change::Spelling(24, 1), Some(LayoutFault::Damaged)),
+    // Supers whose numbers aren't those of their configuration, and disks that are too small.
+    (Change::Numbers((28, 1, 2304, 64, SECTORS + 1)), None),
+    (Change::Numbers((28, 1, 2304, 64, SECTORS)), None),
+    (
+        Change::Numbers((28, 1, 2304, 64, SECTORS - 1)),
+        Some(LayoutFault::TooSmall),
+    ),
+    (
+        Change::Numbers((28, 1, 2304, 64, 3)),
+        Some(LayoutFault::TooSmall),
+    ),
+    (
+        Change::Numbers((28, 1, 2304, 64, 0)),
+        Some(LayoutFault::NotAWorker),
+    ),
+    (
+        Change::Numbers((28, 2, 2304, 64, SECTORS)),
+        Some(LayoutFault::Damaged),
+    ),
+    (
+        Change::Numbers((28, 2, 2304, 64, 3)),
+        Some(LayoutFault::Damaged),
+    ),
+    (
+        Change::Numbers((27, 1, 2304, 64, SECTORS)),
+        Some(LayoutFault::Damaged),
+    ),
+    (
+        Change::Numbers((28, 1, 2305, 64, SECTORS)),
+        Some(LayoutFault::Damaged),
+    ),
+    (
+        Change::Numbers((28, 1, 2303, 64, SECTORS - 2)),
+        Some(LayoutFault::Damaged),
+    ),
+    (
+        Change::Numbers((28, 1, 2304, 65, SECTORS)),
+        Some(LayoutFault::Damaged),
+    ),
+    // Damaged disks.
+    (Change::Bit(0, 7), Some(LayoutFault::NotAWorker)),
+    (Change::Bit(0, 504), Some(LayoutFault::NotAWorker)),
+    (Change::Bit(0, 8), Some(LayoutFault::Version)),
+    (Change::Bit(0, 63), Some(LayoutFault::Damaged)),
+    (Change::Bit(0, 64), None),
+    (Change::Bit(3, 0), Some(LayoutFault::Damaged)),
+    (Change::Bit(3, 220), Some(LayoutFault::Damaged)),
+    (Change::Bit(3, 221), None),
+    // A read that fails, of the super and of the sector behind the heads. There is no third one.
+    (Change::Call(1), Some(LayoutFault::Disk(DiskFault::Io))),
+    (Change::Call(2), Some(LayoutFault::Disk(DiskFault::Io))),
+    (Change::Call(3), None),
 ];
+
+fn fault_of<D: Disk>(alloc: Global, disk: &mut D) -> Option<LayoutFault> {
+    match read_contents(alloc, disk) {
+        Ok(_) => None,
+        Err(fault) => Some(fault),
+    }
+}
+
+fn fault_of_spelling(alloc: Global, at: usize, byte: u8) -> Result<Option<LayoutFault>, DiskFault> {
+    let mut spelled = SPELLED;
+    if at >= 28 {
+        return Ok(None);
+    }
+    spelled[at] = byte;
+    let mut disk = written_disk(alloc, SECTORS, PLACES, &spelled)?;
+    Ok(fault_of(alloc, &mut disk))
+}
 
 fn fault_of_numbers(alloc: Global, row: &Numbers) -> Result<Option<LayoutFault>, DiskFault> {
     let geometry = Geometry {
@@ -170,57 +213,10 @@ fn fault_of_numbers(alloc: Global, row: &Numbers) -> Result<Option<LayoutFault>,
     Ok(fault_of(alloc, &mut disk))
 }
 
-/// Supers whose numbers aren't those of their configuration, and disks that are too small.
-#[test]
-fn numbers_that_disagree(rt: HostRuntime) -> Result<(), DiskFault> {
-    for row in &NUMBERS {
-        assert!(rt; fault_of_numbers(rt.alloc(), row)? == row.5, "{row:?}");
-    }
-    Ok(())
-}
-
-/// Turns a bit of a byte of a disk.
-fn damage<D: Disk>(disk: &mut D, sector: u64, at: usize) -> Result<(), DiskFault> {
-    let mut bytes = [0; 512];
-    disk.read(sector, &mut bytes)?;
-    if at >= 512 {
-        return Err(DiskFault::Range);
-    }
-    bytes[at] ^= 1;
-    disk.write(sector, &bytes)
-}
-
-fn fault_of_damage(
-    alloc: Global,
-    sector: u64,
-    at: usize,
-) -> Result<Option<LayoutFault>, DiskFault> {
+fn fault_of_bit(alloc: Global, sector: u64, at: usize) -> Result<Option<LayoutFault>, DiskFault> {
     let mut disk = written_disk(alloc, SECTORS, PLACES, &SPELLED)?;
     damage(&mut disk, sector, at)?;
     Ok(fault_of(alloc, &mut disk))
-}
-
-/// A sector, a byte of it that is another, and what is wrong.
-static DAMAGES: [(u64, usize, Option<LayoutFault>); 8] = [
-    (0, 7, Some(LayoutFault::NotAWorker)),
-    (0, 504, Some(LayoutFault::NotAWorker)),
-    (0, 8, Some(LayoutFault::Version)),
-    (0, 63, Some(LayoutFault::Damaged)),
-    (0, 64, None),
-    (3, 0, Some(LayoutFault::Damaged)),
-    (3, 220, Some(LayoutFault::Damaged)),
-    (3, 221, None),
-];
-
-#[test]
-fn damaged_disks(rt: HostRuntime) -> Result<(), DiskFault> {
-    for (sector, at, fault) in &DAMAGES {
-        assert!(rt;
-            fault_of_damage(rt.alloc(), *sector, *at)? == *fault,
-            "{sector} {at}"
-        );
-    }
-    Ok(())
 }
 
 fn fault_of_call(alloc: Global, call: u64) -> Result<Option<LayoutFault>, DiskFault> {
@@ -229,17 +225,23 @@ fn fault_of_call(alloc: Global, call: u64) -> Result<Option<LayoutFault>, DiskFa
     Ok(fault_of(alloc, &mut disk))
 }
 
-/// A read that fails, of the super and of the sector behind the heads. There is no third one.
-static READS: [(u64, Option<LayoutFault>); 3] = [
-    (1, Some(LayoutFault::Disk(DiskFault::Io))),
-    (2, Some(LayoutFault::Disk(DiskFault::Io))),
-    (3, None),
-];
+fn fault_of_change(alloc: Global, change: &Change) -> Result<Option<LayoutFault>, DiskFault> {
+    match change {
+        Change::Spelling(at, byte) => fault_of_spelling(alloc, *at, *byte),
+        Change::Numbers(numbers) => fault_of_numbers(alloc, numbers),
+        Change::Bit(sector, at) => fault_of_bit(alloc, *sector, *at),
+        Change::Call(call) => fault_of_call(alloc, *call),
+    }
+}
 
 #[test]
-fn a_read_that_fails_is_told(rt: HostRuntime) -> Result<(), DiskFault> {
-    for (call, fault) in &READS {
-        assert!(rt; fault_of_call(rt.alloc(), *call)? == *fault, "{call}");
+fn what_is_another_on_a_disk_is_told(rt: HostRuntime) -> Result<(), DiskFault> {
+    for (place, row) in CHANGES.iter().enumerate() {
+        assert!(rt; fault_of_change(rt.alloc(), &row.0)? == row.1, "{place}");
     }
+    assert!(rt;
+        are_super_faults_told(rt.alloc())?,
+        "no super, and other contents"
+    );
     Ok(())
 }

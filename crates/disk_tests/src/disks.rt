@@ -51,6 +51,17 @@ fn holds_all<D: Disk>(disk: &mut D, wants: &[Parts; 4]) -> Result<bool, DiskFaul
     Ok(disk.sectors() == 4)
 }
 
+/// Turns a bit of a byte of a disk.
+pub(crate) fn damage<D: Disk>(disk: &mut D, sector: u64, at: usize) -> Result<(), DiskFault> {
+    let mut bytes = [0; 512];
+    disk.read(sector, &mut bytes)?;
+    if at >= 512 {
+        return Err(DiskFault::Range);
+    }
+    bytes[at] ^= 1;
+    disk.write(sector, &bytes)
+}
+
 fn settle<D: Disk>(disk: &mut D) -> Result<(), DiskFault> {
     disk.write(1, &[3; 512])?;
     disk.sync()
@@ -180,17 +191,16 @@ fn a_cut_keeps_of_each_write_the_front_that_is_named(rt: HostRuntime) -> Result<
 type Answer = Result<(), DiskFault>;
 
 /// What a disk is asked for. A write fills its sector with one byte.
-#[derive(Clone, Copy)]
 enum Call {
     Read(u64),
     Write(u64, u8),
     Sync,
 }
 
-fn answer<D: Disk>(disk: &mut D, call: Call) -> Answer {
+fn answer<D: Disk>(disk: &mut D, call: &Call) -> Answer {
     match call {
-        Call::Read(sector) => disk.read(sector, &mut [0; 512]),
-        Call::Write(sector, byte) => disk.write(sector, &[byte; 512]),
+        Call::Read(sector) => disk.read(*sector, &mut [0; 512]),
+        Call::Write(sector, byte) => disk.write(*sector, &[*byte; 512]),
         Call::Sync => disk.sync(),
     }
 }
@@ -211,7 +221,7 @@ static CALLS: [(Call, Answer, usize); 10] = [
 ];
 
 fn is_answered_so(disk: &mut MemDisk, call: &(Call, Answer, usize)) -> bool {
-    answer(disk, call.0) == call.1 && disk.unsynced_count() == call.2
+    answer(disk, &call.0) == call.1 && disk.unsynced_count() == call.2
 }
 
 #[test]
@@ -242,7 +252,7 @@ static FILLED: [(Call, Answer); 4] = [
 
 fn answers_so<D: Disk>(disk: &mut D, calls: &[(Call, Answer)]) -> bool {
     for (call, want) in calls {
-        if answer(disk, *call) != *want {
+        if answer(disk, call) != *want {
             return false;
         }
     }

@@ -78,7 +78,6 @@ fn scan_count<D: Disk>(
 }
 
 /// What a record says.
-#[derive(Clone, Copy)]
 enum Given {
     Request(&'static [u8]),
     End,
@@ -91,14 +90,14 @@ fn row_of(alloc: Global, bytes: &[u8]) -> Result<Row<u8>, AllocError> {
     Ok(Row::from_vec(Vec::from_slice(alloc, bytes)?))
 }
 
-fn answer_of(alloc: Global, given: Given) -> Result<Answer, AllocError> {
+fn answer_of(alloc: Global, given: &Given) -> Result<Answer, AllocError> {
     match given {
         Given::Request(text) => Ok(Answer::Request {
             text: row_of(alloc, text)?,
         }),
         Given::End => Ok(Answer::End),
-        Given::Realtime(nanoseconds) => Ok(Answer::Realtime { nanoseconds }),
-        Given::Monotonic(nanoseconds) => Ok(Answer::Monotonic { nanoseconds }),
+        Given::Realtime(time) => Ok(Answer::Realtime { nanoseconds: *time }),
+        Given::Monotonic(time) => Ok(Answer::Monotonic { nanoseconds: *time }),
         Given::Random(bytes) => Ok(Answer::Random {
             bytes: row_of(alloc, bytes)?,
         }),
@@ -109,7 +108,7 @@ fn append(
     alloc: Global,
     journal: &mut Journal,
     step: u64,
-    given: Given,
+    given: &Given,
 ) -> Result<(), JournalFault> {
     match answer_of(alloc, given) {
         Ok(answer) => journal.append(&PLACES, &Record { step, answer }),
@@ -148,7 +147,7 @@ const AGAIN: [u8; 92] = *b"\x5a\0\
 /// Appends the five records.
 fn append_five(alloc: Global, journal: &mut Journal) -> Result<bool, JournalFault> {
     for (step, given, room) in &RECORDS {
-        append(alloc, journal, *step, *given)?;
+        append(alloc, journal, *step, given)?;
         if journal.room(&PLACES) != *room {
             return Ok(false);
         }
@@ -164,7 +163,7 @@ fn write_twice<D: Disk>(
 ) -> Result<bool, JournalFault> {
     let is_room_so = append_five(alloc, journal)?;
     barrier(journal, disk)?;
-    append(alloc, journal, 11, Given::End)?;
+    append(alloc, journal, 11, &Given::End)?;
     // There is room for 15 sectors but for the record's 11 bytes.
     let is_next_room_so = journal.room(&PLACES) == 7399;
     barrier(journal, disk)?;
@@ -224,15 +223,12 @@ fn are_bytes_so<D: Disk>(alloc: Global, disk: &mut D) -> Result<bool, JournalFau
     Ok(write_again(alloc, disk)? && is_written_so && hold(disk, &WRITTEN_AGAIN))
 }
 
-fn are_records_so(alloc: Global) -> Result<bool, JournalFault> {
-    are_bytes_so(alloc, &mut empty(alloc)?)
-}
-
 /// `scripts/refused-allocations` refuses each allocation in turn, and then this ends in want of
 /// memory.
 #[test]
 fn records_of_two_barriers_byte_by_byte(rt: HostRuntime) -> Result<(), JournalFault> {
-    assert!(rt; are_records_so(rt.alloc())?);
+    let mut disk = empty(rt.alloc())?;
+    assert!(rt; are_bytes_so(rt.alloc(), &mut disk)?);
     Ok(())
 }
 
@@ -291,15 +287,12 @@ fn write_and_scan<D: Disk>(
     scan_count(alloc, disk, generation)
 }
 
-fn scanned_of_five(alloc: Global) -> Result<Option<usize>, JournalFault> {
-    write_and_scan(alloc, &mut empty(alloc)?, 1, &[400; 5])
-}
-
 /// `scripts/refused-allocations` refuses each allocation in turn, and then this ends in want of
 /// memory.
 #[test]
 fn appended_and_scanned(rt: HostRuntime) -> Result<(), JournalFault> {
-    assert!(rt; scanned_of_five(rt.alloc())? == Some(5));
+    let mut disk = empty(rt.alloc())?;
+    assert!(rt; write_and_scan(rt.alloc(), &mut disk, 1, &[400; 5])? == Some(5));
     Ok(())
 }
 
@@ -324,13 +317,13 @@ fn is_stopped<D: Disk>(
 }
 
 /// Whether one record of generation 1 is left, and one that is written then is all of generation 2.
-fn is_left_so(alloc: Global, left: &mut MemDisk) -> Result<bool, JournalFault> {
-    Ok(scan_count(alloc, left, 1)? == Some(1) && write_and_scan(alloc, left, 2, &[900])? == Some(1))
-}
-
 /// The second of three sectors is torn. The third one, of generation 1, is none of generation 2.
 fn is_torn_so(alloc: Global, disk: &MemDisk) -> Result<bool, JournalFault> {
-    is_left_so(alloc, &mut cut(alloc, disk, &[512, 499, 512])?)
+    let mut left = cut(alloc, disk, &[512, 499, 512])?;
+    Ok(
+        scan_count(alloc, &mut left, 1)? == Some(1)
+            && write_and_scan(alloc, &mut left, 2, &[900])? == Some(1),
+    )
 }
 
 fn keeps_its_first(alloc: Global, len: usize) -> Result<bool, JournalFault> {
@@ -343,14 +336,6 @@ fn keeps_its_first(alloc: Global, len: usize) -> Result<bool, JournalFault> {
 }
 
 static LENS: [usize; 2] = [400, 483];
-
-#[test]
-fn a_torn_batch_keeps_its_first_record(rt: HostRuntime) -> Result<(), JournalFault> {
-    for len in &LENS {
-        assert!(rt; keeps_its_first(rt.alloc(), *len)?, "{len}");
-    }
-    Ok(())
-}
 
 /// Appends two records of 261 bytes, and writes them in two sectors.
 fn write_pair<D: Disk>(
@@ -430,19 +415,6 @@ fn is_stopped_so(alloc: Global, kept: &Kept, front: u16) -> Result<bool, Journal
     is_kept_so(alloc, &mut left, acknowledged, kept, front)
 }
 
-#[test]
-fn a_stop_anywhere_leaves_what_was_acknowledged(rt: HostRuntime) -> Result<(), JournalFault> {
-    for kept in &KEPT {
-        for front in &FRONTS {
-            assert!(rt;
-                is_stopped_so(rt.alloc(), kept, *front)?,
-                "{kept:?} {front}"
-            );
-        }
-    }
-    Ok(())
-}
-
 fn is_failed_so(alloc: Global, kept: &Kept, front: u16) -> Result<bool, JournalFault> {
     let mut disk = faulty_disk(
         alloc,
@@ -458,11 +430,21 @@ fn is_failed_so(alloc: Global, kept: &Kept, front: u16) -> Result<bool, JournalF
 
 static FAILED_FRONTS: [u16; 3] = [0, 498, 512];
 
+/// A stop anywhere, or a failed call.
 #[test]
-fn a_failed_call_keeps_what_was_acknowledged(rt: HostRuntime) -> Result<(), JournalFault> {
+fn what_was_acknowledged_is_kept(rt: HostRuntime) -> Result<(), JournalFault> {
     for kept in &KEPT {
+        for front in &FRONTS {
+            assert!(rt;
+                is_stopped_so(rt.alloc(), kept, *front)?,
+                "{kept:?} {front}"
+            );
+        }
         for front in &FAILED_FRONTS {
-            assert!(rt; is_failed_so(rt.alloc(), kept, *front)?, "{kept:?} {front}");
+            assert!(rt;
+                is_failed_so(rt.alloc(), kept, *front)?,
+                "{kept:?} {front}: failed"
+            );
         }
     }
     Ok(())
@@ -498,16 +480,12 @@ fn as_few_sectors_are_written_as_hold_the_bytes(rt: HostRuntime) -> Result<(), J
     Ok(())
 }
 
-/// Whether this sector holds a byte.
-fn holds_a_byte<D: Disk>(disk: &mut D, sector: u64) -> bool {
-    let mut bytes = [0; 512];
-    disk.read(sector, &mut bytes).is_ok() && bytes != [0; 512]
-}
-
-/// Whether of the three sectors of a batch just those before this one are written.
+/// Whether of the three sectors of a batch just those before this one hold a byte.
 fn are_written_before<D: Disk>(disk: &mut D, end: u64) -> bool {
     for sector in 4..7 {
-        if holds_a_byte(disk, sector) != (sector < end) {
+        let mut bytes = [0; 512];
+        let holds_a_byte = disk.read(sector, &mut bytes).is_ok() && bytes != [0; 512];
+        if holds_a_byte != (sector < end) {
             return false;
         }
     }
@@ -528,10 +506,15 @@ fn rises_to(alloc: Global, call: u64, end: u64) -> Result<bool, JournalFault> {
 /// written.
 static RISING: [(u64, u64); 4] = [(1, 4), (2, 5), (3, 6), (4, 7)];
 
+/// The sectors of a barrier are written in rising order. A batch that is torn keeps its first
+/// record.
 #[test]
-fn a_barrier_writes_in_rising_order(rt: HostRuntime) -> Result<(), JournalFault> {
+fn a_barrier_is_stopped(rt: HostRuntime) -> Result<(), JournalFault> {
     for (call, end) in &RISING {
         assert!(rt; rises_to(rt.alloc(), *call, *end)?, "{call}");
+    }
+    for len in &LENS {
+        assert!(rt; keeps_its_first(rt.alloc(), *len)?, "{len}");
     }
     Ok(())
 }
@@ -546,18 +529,10 @@ static LAST: [Last; 4] = [
     (&[4096], 3797, 3787, Err(JournalFault::Full)),
 ];
 
-fn is_taken_so(alloc: Global, journal: &mut Journal, last: &Last) -> Result<bool, JournalFault> {
-    append_requests(alloc, journal, last.0)?;
-    Ok(journal.room(&PLACES) == last.1 && append_request(alloc, journal, 9, last.2) == last.3)
-}
-
-#[test]
-fn what_is_too_long_or_has_no_room_is_refused(rt: HostRuntime) -> Result<(), JournalFault> {
-    for last in &LAST {
-        let mut journal = Journal::fresh(rt.alloc(), 1);
-        assert!(rt; is_taken_so(rt.alloc(), &mut journal, last)?, "{last:?}");
-    }
-    Ok(())
+fn is_taken_so(alloc: Global, last: &Last) -> Result<bool, JournalFault> {
+    let mut journal = Journal::fresh(alloc, 1);
+    append_requests(alloc, &mut journal, last.0)?;
+    Ok(journal.room(&PLACES) == last.1 && append_request(alloc, &mut journal, 9, last.2) == last.3)
 }
 
 /// Bytes of a sector of generation 1 at place 1, and how many records they are.
@@ -638,8 +613,12 @@ static READS: [(u64, Scanned); 4] = [
     (4, Ok(Some(2))),
 ];
 
+/// What is too long or has no room is refused, and a read that fails is told.
 #[test]
-fn a_read_that_fails_is_told(rt: HostRuntime) -> Result<(), JournalFault> {
+fn faults_are_told(rt: HostRuntime) -> Result<(), JournalFault> {
+    for last in &LAST {
+        assert!(rt; is_taken_so(rt.alloc(), last)?, "{last:?}");
+    }
     for (call, want) in &READS {
         assert!(rt; is_scanned_at(rt.alloc(), *call, *want)?, "{call}");
     }

@@ -2,8 +2,8 @@
 
 use crate::disks::{is_all, prints};
 use disk_layout::{
-    Geometry, LayoutFault, Stamp, Stored, Super, config_bytes_of, digest_of, journal_sector,
-    read_super, write_contents, write_super,
+    Geometry, LayoutFault, Stamp, Super, config_bytes_of, digest_of, journal_sector, read_super,
+    write_contents, write_super,
 };
 use sector_disk::{Disk, DiskFault, MemDisk};
 use std::alloc::{AllocError, Global};
@@ -162,17 +162,16 @@ fn write_full<D: Disk>(disk: &mut D) -> Result<(), DiskFault> {
     )
 }
 
-fn is_full(stored: &Stored) -> bool {
-    stored.geometry == FULL_PLACES
-        && stored.config.as_slice() == b"conf".as_slice()
-        && stored.wasm.as_slice() == FULL.as_slice()
-}
-
 /// What a super leads to on a disk of five sectors.
 fn is_full_read(alloc: Global) -> Result<bool, LayoutFault> {
     let mut disk = MemDisk::new(alloc, 5, 4).map_err(layout_fault)?;
     write_full(&mut disk).map_err(layout_fault)?;
-    Ok(is_full(&read_super(alloc, &mut disk)?))
+    let stored = read_super(alloc, &mut disk)?;
+    Ok(
+        stored.geometry == FULL_PLACES
+            && stored.config.as_slice() == b"conf".as_slice()
+            && stored.wasm.as_slice() == FULL.as_slice(),
+    )
 }
 
 /// `scripts/refused-allocations` refuses each allocation in turn, and then this ends in want of
@@ -183,20 +182,14 @@ fn a_super_leads_to_what_stands_behind_it(rt: HostRuntime) -> Result<(), LayoutF
     Ok(())
 }
 
-/// What is wrong with a super before it is written, and once what it leads to is another.
-fn super_faults(alloc: Global) -> Result<(Option<LayoutFault>, Option<LayoutFault>), DiskFault> {
+/// Whether a super is told that isn't written yet, and once what it leads to is another.
+pub(crate) fn are_super_faults_told(alloc: Global) -> Result<bool, DiskFault> {
     let mut disk = MemDisk::new(alloc, 5, 4)?;
     let before = read_super(alloc, &mut disk).err();
     write_full(&mut disk)?;
     disk.write(3, &[b'm'; 512])?;
-    Ok((before, read_super(alloc, &mut disk).err()))
-}
-
-#[test]
-fn a_missing_super_and_other_contents_are_told(rt: HostRuntime) -> Result<(), DiskFault> {
-    let want = (Some(LayoutFault::NotAWorker), Some(LayoutFault::Damaged));
-    assert!(rt; super_faults(rt.alloc())? == want);
-    Ok(())
+    let after = read_super(alloc, &mut disk).err();
+    Ok(before == Some(LayoutFault::NotAWorker) && after == Some(LayoutFault::Damaged))
 }
 
 fn one_text(alloc: Global, text: &[u8]) -> Result<Row<Row<u8>>, AllocError> {

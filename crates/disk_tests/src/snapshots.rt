@@ -1,7 +1,7 @@
 //! Images in two areas: what a stop leaves, what is damaged, which sectors are written, and how
 //! heads are spelled.
 
-use crate::disks::{is_all, prints};
+use crate::disks::{damage, is_all, prints};
 use crate::layouts::is_laid_out;
 use disk_layout::{Geometry, Head};
 use sector_disk::{Disk, DiskFault, FaultDisk, MemDisk, Place};
@@ -97,14 +97,13 @@ fn commit_both<D: Disk>(disk: &mut D) -> (bool, bool) {
 }
 
 /// Which image is the newest.
-#[derive(Clone, Copy)]
 enum Newest {
     Nothing,
     Old,
     New,
 }
 
-fn is_found<D: Disk>(alloc: Global, disk: &mut D, want: Newest) -> Result<bool, SnapshotFault> {
+fn is_found<D: Disk>(alloc: Global, disk: &mut D, want: &Newest) -> Result<bool, SnapshotFault> {
     match want {
         Newest::Nothing => is_newest(alloc, disk, 0, &[]),
         Newest::Old => is_newest(alloc, disk, 1, &SHORT),
@@ -143,22 +142,19 @@ static FRONTS: [u16; 8] = [0, 1, 496, 497, 504, 505, 511, 512];
 
 static TEARS: [[u16; 3]; 3] = [[0, 0, 0], [512, 0, 300], [100, 512, 0]];
 
-/// What a cut leaves of a disk that keeps these fronts.
-fn cut(alloc: Global, disk: &MemDisk, tears: &[u16]) -> Result<MemDisk, SnapshotFault> {
-    disk.cut(alloc, tears).map_err(snapshot_fault)
-}
-
+/// Whether a cut of a disk that keeps these fronts leaves this image.
 fn leaves(
     alloc: Global,
     disk: &MemDisk,
     tears: &[u16],
-    want: Newest,
+    want: &Newest,
 ) -> Result<bool, SnapshotFault> {
-    is_found(alloc, &mut cut(alloc, disk, tears)?, want)
+    let mut left = disk.cut(alloc, tears).map_err(snapshot_fault)?;
+    is_found(alloc, &mut left, want)
 }
 
 /// Whether each cut that keeps the last write as it was left leaves this image.
-fn leaves_each_time(alloc: Global, disk: &MemDisk, want: Newest) -> Result<bool, SnapshotFault> {
+fn leaves_each_time(alloc: Global, disk: &MemDisk, want: &Newest) -> Result<bool, SnapshotFault> {
     let torn = disk.unsynced_count().saturating_sub(1).min(3);
     for tears in &TEARS {
         if !leaves(alloc, disk, &tears[..torn], want)? {
@@ -180,7 +176,7 @@ fn is_stopped_so(alloc: Global, stop: &Stop, front: u16) -> Result<bool, Snapsho
     if commit_both(&mut disk) != stop.1 {
         return Ok(false);
     }
-    let want = if front <= 504 { stop.2 } else { stop.3 };
+    let want = if front <= 504 { &stop.2 } else { &stop.3 };
     leaves_each_time(alloc, &disk.into_inner(), want)
 }
 
@@ -230,59 +226,20 @@ fn is_kept_over_a_stop(alloc: Global, disk: MemDisk) -> Result<bool, SnapshotFau
     {
         return Ok(false);
     }
-    leaves(alloc, &disk.into_inner(), &[], Newest::New)
+    leaves(alloc, &disk.into_inner(), &[], &Newest::New)
 }
 
 fn is_found_and_kept(alloc: Global) -> Result<bool, SnapshotFault> {
     let Some(mut disk) = after_a_failed_sync(alloc)? else {
         return Ok(false);
     };
-    Ok(is_found(alloc, &mut disk, Newest::New)? && is_kept_over_a_stop(alloc, disk)?)
+    Ok(is_found(alloc, &mut disk, &Newest::New)? && is_kept_over_a_stop(alloc, disk)?)
 }
 
 /// Its head is found on the same disk after a good sync, and a cut in the next commit leaves it.
 #[test]
 fn a_failed_sync_of_a_head_fails_what_follows(rt: HostRuntime) -> Result<(), SnapshotFault> {
     assert!(rt; is_found_and_kept(rt.alloc())?);
-    Ok(())
-}
-
-/// Turns a bit of a byte of a disk.
-fn damage<D: Disk>(disk: &mut D, sector: u64, at: usize) -> Result<(), SnapshotFault> {
-    let mut bytes = [0; 512];
-    disk.read(sector, &mut bytes)?;
-    if at >= 512 {
-        return Err(SnapshotFault::TooBig);
-    }
-    bytes[at] ^= 1;
-    disk.write(sector, &bytes)?;
-    Ok(())
-}
-
-/// A sector and a byte that is another, and whether SHORT of generation 1 is then found.
-type Damage = (u64, usize, Result<bool, SnapshotFault>);
-
-static DAMAGES: [Damage; 5] = [
-    (7, 0, Err(SnapshotFault::Damaged)),
-    (8, 87, Err(SnapshotFault::Damaged)),
-    // The bytes behind the image are not compared, nor are those of the other area.
-    (8, 88, Ok(true)),
-    (9, 0, Ok(true)),
-    (4, 0, Ok(true)),
-];
-
-fn is_told_so<D: Disk>(alloc: Global, disk: &mut D, row: &Damage) -> Result<bool, SnapshotFault> {
-    commit(&mut Snapshots::new(), disk, 1, &SHORT)?;
-    damage(disk, row.0, row.1)?;
-    Ok(is_newest(alloc, disk, 1, &SHORT) == row.2)
-}
-
-#[test]
-fn a_damaged_byte_is_told(rt: HostRuntime) -> Result<(), SnapshotFault> {
-    for row in &DAMAGES {
-        let mut disk = empty(rt.alloc())?;
-        assert!(rt; is_told_so(rt.alloc(), &mut disk, row)?, "{row:?}");
-    }
     Ok(())
 }
 
@@ -308,19 +265,6 @@ fn is_damaged_after(
 }
 
 static LENGTHS: [(u64, u64); 4] = [(1537, 2), (u64::MAX, 2), (1536, 5), (513, 4)];
-
-#[test]
-fn a_length_above_the_area_is_told_before_a_sector_is_read(
-    rt: HostRuntime,
-) -> Result<(), SnapshotFault> {
-    for (length_in_bytes, reads) in &LENGTHS {
-        assert!(rt;
-            is_damaged_after(rt.alloc(), *length_in_bytes, *reads)?,
-            "{length_in_bytes}"
-        );
-    }
-    Ok(())
-}
 
 /// How many bytes of LONG an image has, whether its byte 600 is another, and the calls of its
 /// commit over LONG itself.
@@ -465,17 +409,17 @@ static SIZES: [Size; 4] = [
 
 static ONES: [u8; 1537] = [1; 1537];
 
-/// Whether a disk was left alone, and the next commit is `Failed`.
-fn is_refused<D: Disk>(snapshots: &mut Snapshots, disk: &mut FaultDisk<D>) -> bool {
-    disk.calls() == (0, 0, 0) && commit(snapshots, disk, 1, &SHORT) == Err(SnapshotFault::Failed)
-}
-
+/// Whether the size is answered so. If it is refused, the disk was left alone, and the next commit
+/// is `Failed`.
 fn is_sized_so<D: Disk>(snapshots: &mut Snapshots, disk: &mut FaultDisk<D>, size: &Size) -> bool {
     let Some((image, _)) = ONES.split_at_checked(size.1) else {
         return false;
     };
     let answer = commit(snapshots, disk, size.0, image);
-    answer == size.2 && (answer.is_ok() || is_refused(snapshots, disk))
+    answer == size.2
+        && (answer.is_ok()
+            || disk.calls() == (0, 0, 0)
+                && commit(snapshots, disk, 1, &SHORT) == Err(SnapshotFault::Failed))
 }
 
 #[test]
@@ -490,17 +434,13 @@ fn what_is_too_big_is_refused_before_a_call(rt: HostRuntime) -> Result<(), Snaps
     Ok(())
 }
 
-/// Writes SHORT as generation 5 and version 2.
-fn write_version<D: Disk>(disk: &mut D) -> Result<(), SnapshotFault> {
+/// The version and the generation that are found once SHORT is written as generation 5 and version
+/// 2.
+fn version_back<D: Disk>(alloc: Global, disk: &mut D) -> Result<Option<(u32, u64)>, SnapshotFault> {
     if disk.sectors() < 12 {
         return Err(SnapshotFault::TooBig);
     }
-    Snapshots::new().commit(disk, &GEOMETRY, 5, &SHORT, 2)
-}
-
-/// The version and the generation that are found then.
-fn version_back<D: Disk>(alloc: Global, disk: &mut D) -> Result<Option<(u32, u64)>, SnapshotFault> {
-    write_version(disk)?;
+    Snapshots::new().commit(disk, &GEOMETRY, 5, &SHORT, 2)?;
     match read_newest(alloc, disk)? {
         Some(found) => Ok(Some((found.version, found.generation))),
         None => Ok(None),
@@ -576,7 +516,7 @@ fn is_written_and_found<D: Disk>(alloc: Global, disk: &mut D) -> Result<bool, Sn
     if commit_both(disk) != (true, true) {
         return Ok(false);
     }
-    Ok(leads_to_long(alloc, &mut Snapshots::new(), disk)? && is_found(alloc, disk, Newest::New)?)
+    Ok(leads_to_long(alloc, &mut Snapshots::new(), disk)? && is_found(alloc, disk, &Newest::New)?)
 }
 
 /// `scripts/refused-allocations` refuses each allocation in turn, and then this ends in want of
@@ -595,28 +535,51 @@ fn with_short(alloc: Global) -> Result<MemDisk, SnapshotFault> {
     Ok(disk)
 }
 
-type Found = Result<bool, SnapshotFault>;
+/// A sector and a byte that is another, or a call that fails, and whether SHORT of generation 1 is
+/// then found.
+type Damage = (
+    Option<(u64, usize)>,
+    Option<Place>,
+    Result<bool, SnapshotFault>,
+);
 
-/// What is found of it where a call fails.
-fn is_found_at(alloc: Global, call: u64, want: Found) -> Result<bool, SnapshotFault> {
-    let fail = Some(Place { call, front: 0 });
-    let mut disk = FaultDisk::new(with_short(alloc)?, None, fail);
-    Ok(is_newest(alloc, &mut disk, 1, &SHORT) == want)
-}
+const IO: Result<bool, SnapshotFault> = Err(SnapshotFault::Disk(DiskFault::Io));
 
-/// Two heads and two sectors of the area are read.
-static READS: [(u64, Found); 5] = [
-    (1, Err(SnapshotFault::Disk(DiskFault::Io))),
-    (2, Err(SnapshotFault::Disk(DiskFault::Io))),
-    (3, Err(SnapshotFault::Disk(DiskFault::Io))),
-    (4, Err(SnapshotFault::Disk(DiskFault::Io))),
-    (5, Ok(true)),
+static DAMAGES: [Damage; 10] = [
+    (Some((7, 0)), None, Err(SnapshotFault::Damaged)),
+    (Some((8, 87)), None, Err(SnapshotFault::Damaged)),
+    // The bytes behind the image are not compared, nor are those of the other area.
+    (Some((8, 88)), None, Ok(true)),
+    (Some((9, 0)), None, Ok(true)),
+    (Some((4, 0)), None, Ok(true)),
+    // Two heads and two sectors of the area are read.
+    (None, Some(Place { call: 1, front: 0 }), IO),
+    (None, Some(Place { call: 2, front: 0 }), IO),
+    (None, Some(Place { call: 3, front: 0 }), IO),
+    (None, Some(Place { call: 4, front: 0 }), IO),
+    (None, Some(Place { call: 5, front: 0 }), Ok(true)),
 ];
 
+fn is_told_so(alloc: Global, row: &Damage) -> Result<bool, SnapshotFault> {
+    let mut disk = with_short(alloc)?;
+    if let Some((sector, at)) = row.0 {
+        damage(&mut disk, sector, at)?;
+    }
+    let mut disk = FaultDisk::new(disk, None, row.1);
+    Ok(is_newest(alloc, &mut disk, 1, &SHORT) == row.2)
+}
+
+/// A damaged byte is told, a read that fails, and a length above the area before a sector is read.
 #[test]
-fn a_read_that_fails_is_told(rt: HostRuntime) -> Result<(), SnapshotFault> {
-    for (call, want) in &READS {
-        assert!(rt; is_found_at(rt.alloc(), *call, *want)?, "{call}");
+fn damages_are_told(rt: HostRuntime) -> Result<(), SnapshotFault> {
+    for row in &DAMAGES {
+        assert!(rt; is_told_so(rt.alloc(), row)?, "{row:?}");
+    }
+    for (length_in_bytes, reads) in &LENGTHS {
+        assert!(rt;
+            is_damaged_after(rt.alloc(), *length_in_bytes, *reads)?,
+            "{length_in_bytes}"
+        );
     }
     Ok(())
 }

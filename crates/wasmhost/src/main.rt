@@ -13,7 +13,7 @@
 //! - `check` and `create` hand over a module's bytes. `create` makes the disk's file once the
 //!   module and its configuration are accepted.
 //! - `story` hands over all bytes of a script, and a module's bytes. It reads them in this order.
-//! - `run` and `show` open the disk's file by `open_disk` and `show_file`, and one host holds it at a
+//! - `run` and `show` open the disk's file by `open_disk` and `show_file`. One host holds it at a
 //!   time. `run` also hands over the lines of the standard input, the machine's clock, and what the
 //!   words say of seed and clock.
 //! - Before all that it takes the numbers of standard streams that are closed (`StreamNumbers`), so

@@ -36,8 +36,8 @@
 //! - `survey`: the survey of a worker's disk is printed, or what keeps it from that is told
 //!   (`shows`). Of a disk that stands for a worker the line is that worker's (`stands`). Nothing is
 //!   changed on the disk, but that it is synced.
-//! - `open_disk`: the disk of a file on which no call was made since it was opened, where no rewrite
-//!   is asked for. Else each sector was written back, and synced (`IsOpenedFor`). `show_file` is
+//! - `open_disk`: where no rewrite is asked for, the disk of a file of which no call was made since
+//!   it was opened. Else each sector was written back, and synced (`IsOpenedFor`). `show_file` is
 //!   `survey` of a disk that was opened so, and nothing else is done with it (`ShowsFile`).
 //! - `RequestSource` answers requests as the lines of its reader say, in their order (`HandsNext`).
 //!   It answers clocks with the fixed time, or with that of its `RealTime` clock, to the nanosecond

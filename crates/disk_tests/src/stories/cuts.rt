@@ -17,55 +17,6 @@ use wasm_syntax::Row;
 /// no worker: 72 of zeros, contents and syncs, 129 of the image, and five behind it.
 const LAST_OF_CREATION: u64 = 206;
 
-static TOLD_AGAIN: Tale = Tale {
-    guest: ECHO,
-    plans: &[FIRST, TELLS],
-    told: &[CREATED, AGAIN],
-};
-
-#[test]
-fn a_line_is_told_again(rt: HostRuntime) -> Result<(), Halt> {
-    assert!(rt; is_told(rt.alloc(), &TOLD_AGAIN)?);
-    Ok(())
-}
-
-/// It is stopped in the write of the first journal sector. The record of `hello` ends at byte 505
-/// of that, and all behind it are zeros.
-static TORN: Tale = Tale {
-    guest: ECHO,
-    plans: &[
-        Plan {
-            requests: &[b"hello"],
-            fuel: 20,
-            stop: Some(Place {
-                call: LAST_OF_CREATION + 1,
-                front: 504,
-            }),
-            tears: &[],
-        },
-        OTHER,
-    ],
-    told: &[STOPPED, ANEW],
-};
-
-/// The same with one byte more.
-static WHOLE: Tale = Tale {
-    guest: ECHO,
-    plans: &[
-        Plan {
-            requests: &[b"hello"],
-            fuel: 20,
-            stop: Some(Place {
-                call: LAST_OF_CREATION + 1,
-                front: 505,
-            }),
-            tears: &[],
-        },
-        OTHER,
-    ],
-    told: &[STOPPED, AGAIN],
-};
-
 /// A worker was created, and stopped before its line.
 const STOPPED: Told = Told {
     opened: [1, 0, 0, 0],
@@ -80,62 +31,11 @@ const ANEW: Told = Told {
     line: b"world",
 };
 
-#[test]
-fn a_torn_record_is_lost(rt: HostRuntime) -> Result<(), Halt> {
-    assert!(rt; is_told(rt.alloc(), &TORN)?);
-    Ok(())
-}
-
-#[test]
-fn a_whole_record_is_kept(rt: HostRuntime) -> Result<(), Halt> {
-    assert!(rt; is_told(rt.alloc(), &WHOLE)?);
-    Ok(())
-}
-
 /// A request whose record doesn't fill a sector, so that the second one begins in the first.
 const LONG: &[u8] = &[b'a'; 400];
 
 /// One whose record fills it.
 const LONGER: &[u8] = &[b'a'; 483];
-
-/// Three requests are read, and the power is cut in the sync that puts their records on the disk.
-/// The cut keeps all of the first and third sector, and 499 bytes of the second. Two lives follow
-/// that do nothing.
-static TORN_SECTOR: Tale = Tale {
-    guest: THRICE,
-    plans: &[
-        Plan {
-            requests: &[LONG, LONG, LONG],
-            fuel: 100,
-            stop: Some(Place {
-                call: LAST_OF_CREATION + 4,
-                front: 0,
-            }),
-            tears: &[512, 499, 512],
-        },
-        IDLE,
-        IDLE,
-    ],
-    told: &ONE_KEPT,
-};
-
-static TORN_BATCH: Tale = Tale {
-    guest: THRICE,
-    plans: &[
-        Plan {
-            requests: &[LONGER, LONGER, LONGER],
-            fuel: 100,
-            stop: Some(Place {
-                call: LAST_OF_CREATION + 4,
-                front: 0,
-            }),
-            tears: &[512, 499, 512],
-        },
-        IDLE,
-        IDLE,
-    ],
-    told: &ONE_KEPT,
-};
 
 /// One answer is kept of the three, and then stays the only one.
 const ONE_KEPT: [Told; 3] = [
@@ -152,15 +52,137 @@ const ONE_KEPT: [Told; 3] = [
     },
 ];
 
-#[test]
-fn a_torn_sector_ends_the_journal(rt: HostRuntime) -> Result<(), Halt> {
-    assert!(rt; is_told(rt.alloc(), &TORN_SECTOR)?);
-    Ok(())
-}
+static TALES: [Tale; 7] = [
+    Tale {
+        name: "a line is told again",
+        guest: ECHO,
+        plans: &[FIRST, TELLS],
+        told: &[CREATED, AGAIN],
+    },
+    // It is stopped in the write of the first journal sector. The record of `hello` ends at byte
+    // 505 of that, and all behind it are zeros.
+    Tale {
+        name: "a torn record is lost",
+        guest: ECHO,
+        plans: &[
+            Plan {
+                requests: &[b"hello"],
+                fuel: 20,
+                stop: Some(Place {
+                    call: LAST_OF_CREATION + 1,
+                    front: 504,
+                }),
+                tears: &[],
+            },
+            OTHER,
+        ],
+        told: &[STOPPED, ANEW],
+    },
+    // The same with one byte more.
+    Tale {
+        name: "a whole record is kept",
+        guest: ECHO,
+        plans: &[
+            Plan {
+                requests: &[b"hello"],
+                fuel: 20,
+                stop: Some(Place {
+                    call: LAST_OF_CREATION + 1,
+                    front: 505,
+                }),
+                tears: &[],
+            },
+            OTHER,
+        ],
+        told: &[STOPPED, AGAIN],
+    },
+    // Three requests are read, and the power is cut in the sync that puts their records on the
+    // disk. The cut keeps all of the first and third sector, and 499 bytes of the second. Two lives
+    // follow that do nothing.
+    Tale {
+        name: "a torn sector ends the journal",
+        guest: THRICE,
+        plans: &[
+            Plan {
+                requests: &[LONG, LONG, LONG],
+                fuel: 100,
+                stop: Some(Place {
+                    call: LAST_OF_CREATION + 4,
+                    front: 0,
+                }),
+                tears: &[512, 499, 512],
+            },
+            IDLE,
+            IDLE,
+        ],
+        told: &ONE_KEPT,
+    },
+    Tale {
+        name: "a torn record ends the journal",
+        guest: THRICE,
+        plans: &[
+            Plan {
+                requests: &[LONGER, LONGER, LONGER],
+                fuel: 100,
+                stop: Some(Place {
+                    call: LAST_OF_CREATION + 4,
+                    front: 0,
+                }),
+                tears: &[512, 499, 512],
+            },
+            IDLE,
+            IDLE,
+        ],
+        told: &ONE_KEPT,
+    },
+    // A stop at the first call opens nothing, and the next life creates a worker.
+    Tale {
+        name: "a stop in the opening is told",
+        guest: ECHO,
+        plans: &[
+            Plan {
+                requests: &[b"hello"],
+                fuel: 20,
+                stop: Some(Place { call: 1, front: 0 }),
+                tears: &[],
+            },
+            FIRST,
+        ],
+        told: &[
+            Told {
+                opened: [0, 0, 0, 0],
+                ended: LifeEnd::Stopped,
+                line: b"",
+            },
+            CREATED,
+        ],
+    },
+    // The calls of one life don't count for the next one, which makes fewer than 400: its stop is
+    // never reached.
+    Tale {
+        name: "stops are counted anew",
+        guest: ECHO,
+        plans: &[
+            FIRST,
+            Plan {
+                requests: &[],
+                fuel: 14,
+                stop: Some(Place {
+                    call: 400,
+                    front: 0,
+                }),
+                tears: &[],
+            },
+        ],
+        told: &[CREATED, AGAIN],
+    },
+];
 
 #[test]
-fn a_torn_record_ends_the_journal(rt: HostRuntime) -> Result<(), Halt> {
-    assert!(rt; is_told(rt.alloc(), &TORN_BATCH)?);
+fn lives_are_told_as_they_were(rt: HostRuntime) -> Result<(), Halt> {
+    for tale in &TALES {
+        assert!(rt; is_told(rt.alloc(), tale)?, "{}", tale.name);
+    }
     Ok(())
 }
 
@@ -191,81 +213,12 @@ fn generation_behind(alloc: Global, count: usize) -> Result<u64, Halt> {
 /// for one more answer, so that the worker is saved before it asks.
 static FILLED: [(usize, u64); 2] = [(55, 2), (56, 3)];
 
-#[test]
-fn a_full_journal_is_saved(rt: HostRuntime) -> Result<(), Halt> {
-    for (count, generation) in &FILLED {
-        assert!(rt;
-            generation_behind(rt.alloc(), *count)? == *generation,
-            "{count}"
-        );
-    }
-    Ok(())
-}
-
-/// A stop at the first call opens nothing, and the next life creates a worker.
-static UNOPENED: Tale = Tale {
-    guest: ECHO,
-    plans: &[
-        Plan {
-            requests: &[b"hello"],
-            fuel: 20,
-            stop: Some(Place { call: 1, front: 0 }),
-            tears: &[],
-        },
-        FIRST,
-    ],
-    told: &[
-        Told {
-            opened: [0, 0, 0, 0],
-            ended: LifeEnd::Stopped,
-            line: b"",
-        },
-        CREATED,
-    ],
-};
-
-#[test]
-fn a_stop_in_the_opening_is_told(rt: HostRuntime) -> Result<(), Halt> {
-    assert!(rt; is_told(rt.alloc(), &UNOPENED)?);
-    Ok(())
-}
-
-/// The calls of one life don't count for the next one, which makes fewer than 400: its stop is
-/// never reached.
-static UNREACHED: Tale = Tale {
-    guest: ECHO,
-    plans: &[
-        FIRST,
-        Plan {
-            requests: &[],
-            fuel: 14,
-            stop: Some(Place {
-                call: 400,
-                front: 0,
-            }),
-            tears: &[],
-        },
-    ],
-    told: &[CREATED, AGAIN],
-};
-
-#[test]
-fn stops_are_counted_anew(rt: HostRuntime) -> Result<(), Halt> {
-    assert!(rt; is_told(rt.alloc(), &UNREACHED)?);
-    Ok(())
-}
-
-/// Whether a life ended by an error before its stop.
-fn has_failed(life: &LifeReport) -> bool {
+/// Whether a life ended by an error before its stop, was not opened, and told nothing.
+fn is_shut(life: &LifeReport) -> bool {
     match &life.ended {
-        LifeEnd::Failed(_) => true,
+        LifeEnd::Failed(_) => opened_as(life) == [0, 0, 0, 0] && tells_nothing(life),
         _ => false,
     }
-}
-
-/// Whether a life ended so, was not opened, and told nothing.
-fn is_shut(life: &LifeReport) -> bool {
-    has_failed(life) && opened_as(life) == [0, 0, 0, 0] && tells_nothing(life)
 }
 
 static SHUT: [Plan; 2] = [FIRST, FIRST];
@@ -274,13 +227,6 @@ static SHUT: [Plan; 2] = [FIRST, FIRST];
 fn are_shut(alloc: Global, wasm: &[u8]) -> Result<bool, Halt> {
     let report = report_of(alloc, wasm, &SHUT)?;
     Ok(report.lives.len() == 2 && report.lives.as_slice().iter().all(is_shut))
-}
-
-/// No bytes spell no module: no life opens.
-#[test]
-fn an_unaccepted_module_opens_nothing(rt: HostRuntime) -> Result<(), Halt> {
-    assert!(rt; are_shut(rt.alloc(), &[])?);
-    Ok(())
 }
 
 static MISTOLD: [Told; 2] = [
@@ -308,9 +254,17 @@ fn is_ended_by_a_time(alloc: Global) -> Result<bool, Halt> {
     Ok(are_told_so(&report, &MISTOLD))
 }
 
-/// A time doesn't answer a question for a line.
+/// A full journal is saved. No bytes spell no module: no life opens. A time doesn't answer a
+/// question for a line.
 #[test]
-fn a_wrong_answer_ends_a_life(rt: HostRuntime) -> Result<(), Halt> {
-    assert!(rt; is_ended_by_a_time(rt.alloc())?);
+fn lives_are_saved_or_fail(rt: HostRuntime) -> Result<(), Halt> {
+    for (count, generation) in &FILLED {
+        assert!(rt;
+            generation_behind(rt.alloc(), *count)? == *generation,
+            "{count}"
+        );
+    }
+    assert!(rt; are_shut(rt.alloc(), &[])?, "an unaccepted module");
+    assert!(rt; is_ended_by_a_time(rt.alloc())?, "a wrong answer");
     Ok(())
 }

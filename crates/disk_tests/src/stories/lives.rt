@@ -9,7 +9,6 @@ use wasi_abi::{Answer, Config};
 use wasm_syntax::Row;
 
 /// A life: its requests, then so many steps, where it is stopped, and the fronts that a cut keeps.
-#[derive(Clone, Copy)]
 pub(crate) struct Plan {
     pub(crate) requests: &'static [&'static [u8]],
     pub(crate) fuel: u64,
@@ -74,6 +73,7 @@ pub(crate) const AGAIN: Told = Told {
 
 /// Lives of a guest, and what is told of each.
 pub(crate) struct Tale {
+    pub(crate) name: &'static str,
     pub(crate) guest: &'static [u8],
     pub(crate) plans: &'static [Plan],
     pub(crate) told: &'static [Told],
@@ -120,14 +120,6 @@ fn life_of(alloc: Global, plan: &Plan) -> Result<PlannedLife, Halt> {
     })
 }
 
-fn lives_of(alloc: Global, plans: &[Plan]) -> Result<Row<PlannedLife>, Halt> {
-    let mut lives = Row::new(alloc);
-    for plan in plans {
-        lives.push(life_of(alloc, plan)?)?;
-    }
-    Ok(lives)
-}
-
 /// What is told of these lives of a module, with a page, a unit of files and a journal of 64
 /// sectors.
 fn told_of(alloc: Global, wasm: &[u8], lives: &[PlannedLife]) -> Result<Report, Halt> {
@@ -137,7 +129,10 @@ fn told_of(alloc: Global, wasm: &[u8], lives: &[PlannedLife]) -> Result<Report, 
 
 /// What is told of the lives of these plans.
 pub(crate) fn report_of(alloc: Global, guest: &[u8], plans: &[Plan]) -> Result<Report, Halt> {
-    let lives = lives_of(alloc, plans)?;
+    let mut lives = Row::new(alloc);
+    for plan in plans {
+        lives.push(life_of(alloc, plan)?)?;
+    }
     told_of(alloc, guest, lives.as_slice())
 }
 

@@ -19,11 +19,6 @@ fn has_starved(life: &LifeReport) -> bool {
     life.ended == STARVED[0] || life.ended == STARVED[1]
 }
 
-/// Whether all lives but those that wanted memory came to their end.
-fn are_finished(report: &Report) -> bool {
-    report.lives.as_slice().iter().all(|life| has_starved(life) || life.ended == LifeEnd::Finished)
-}
-
 /// A worker tells a line, and tells it again in its second life.
 static TWO: [Plan; 2] = [FIRST, TELLS];
 
@@ -31,10 +26,11 @@ static TOLD: [Told; 2] = [CREATED, AGAIN];
 
 /// Whether all lives with memory came to their end, and told their lines where none was without.
 fn is_told_with_memory(report: &Report) -> Result<bool, Halt> {
-    if !are_finished(report) {
+    let lives = report.lives.as_slice();
+    if !lives.iter().all(|life| has_starved(life) || life.ended == LifeEnd::Finished) {
         return Ok(false);
     }
-    if report.lives.as_slice().iter().any(has_starved) {
+    if lives.iter().any(has_starved) {
         return Err(Halt::Memory);
     }
     Ok(are_told_so(report, &TOLD))

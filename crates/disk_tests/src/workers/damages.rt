@@ -295,15 +295,11 @@ fn with_bytes(sector: [u8; 512], place: usize, bytes: &[u8]) -> [u8; 512] {
     sector
 }
 
-fn put(disk: &mut MemDisk, piece: &Piece) -> Result<(), DiskFault> {
-    let mut sector = [0; 512];
-    disk.read(piece.sector, &mut sector)?;
-    disk.write(piece.sector, &with_bytes(sector, piece.place, piece.bytes))
-}
-
 fn put_each(disk: &mut MemDisk, pieces: &[Piece]) -> Result<(), DiskFault> {
+    let mut sector = [0; 512];
     for piece in pieces {
-        put(disk, piece)?;
+        disk.read(piece.sector, &mut sector)?;
+        disk.write(piece.sector, &with_bytes(sector, piece.place, piece.bytes))?;
     }
     Ok(())
 }
@@ -330,24 +326,6 @@ fn is_told_so(alloc: Global, damage: &Damage) -> Result<bool, Halt> {
     Ok(says(alloc, &mut disk)? == damage.opens)
 }
 
-#[test]
-fn damaged_disks_are_refused(rt: HostRuntime) -> Result<(), Halt> {
-    for damage in &DAMAGES {
-        assert!(rt; is_told_so(rt.alloc(), damage)?, "{}", damage.name);
-    }
-    Ok(())
-}
-
-/// The super, the heads and the module of one disk, put to another one.
-fn copy_front(from: &mut MemDisk, to: &mut MemDisk) -> Result<(), DiskFault> {
-    let mut bytes = [0; 512];
-    for sector in SUPER..=MODULE {
-        from.read(sector, &mut bytes)?;
-        to.write(sector, &bytes)?;
-    }
-    Ok(())
-}
-
 /// Whether a creation is refused for want of sectors, and writes nothing.
 fn is_refused(alloc: Global, disk: &mut MemDisk) -> Result<bool, Halt> {
     match create(alloc, disk, ECHO) {
@@ -360,10 +338,14 @@ fn is_refused(alloc: Global, disk: &mut MemDisk) -> Result<bool, Halt> {
     }
 }
 
-/// Whether a recovery is refused for want of sectors, once the front of a worker's disk stands
-/// there.
+/// Whether a recovery is refused for want of sectors, once the super, the heads and the module of a
+/// worker's disk stand there.
 fn shows_too_few(alloc: Global, disk: &mut MemDisk, whole: &mut MemDisk) -> Result<bool, Halt> {
-    copy_front(whole, disk)?;
+    let mut bytes = [0; 512];
+    for sector in SUPER..=MODULE {
+        whole.read(sector, &mut bytes)?;
+        disk.write(sector, &bytes)?;
+    }
     Ok(says(alloc, disk)? == Err(TOO_SMALL))
 }
 
@@ -377,12 +359,6 @@ fn is_too_small(alloc: Global) -> Result<bool, Halt> {
     shows_too_few(alloc, &mut disk, &mut whole)
 }
 
-#[test]
-fn small_disks_are_refused(rt: HostRuntime) -> Result<(), Halt> {
-    assert!(rt; is_too_small(rt.alloc())?);
-    Ok(())
-}
-
 /// Whether a disk on which no worker was made is told so.
 fn has_none(alloc: Global) -> Result<bool, Halt> {
     let mut disk = blank(alloc, SECTORS)?;
@@ -390,7 +366,11 @@ fn has_none(alloc: Global) -> Result<bool, Halt> {
 }
 
 #[test]
-fn blank_disks_have_no_worker(rt: HostRuntime) -> Result<(), Halt> {
-    assert!(rt; has_none(rt.alloc())?);
+fn other_disks_are_refused(rt: HostRuntime) -> Result<(), Halt> {
+    for damage in &DAMAGES {
+        assert!(rt; is_told_so(rt.alloc(), damage)?, "{}", damage.name);
+    }
+    assert!(rt; is_too_small(rt.alloc())?, "a small disk");
+    assert!(rt; has_none(rt.alloc())?, "a blank disk");
     Ok(())
 }

@@ -15,7 +15,6 @@ use sector_disk::{FaultDisk, MemDisk, Place};
 use std::alloc::Global;
 
 /// Lines of the output, the first one with this number.
-#[derive(Clone, Copy)]
 struct Lines {
     first: u64,
     texts: &'static [&'static [u8]],
@@ -422,18 +421,16 @@ fn is_opened_again(alloc: Global, story: &Story) -> Result<bool, Halt> {
     }
 }
 
+/// Second lives go on, and third ones open as the second.
 #[test]
-fn second_lives_go_on(rt: HostRuntime) -> Result<(), Halt> {
+fn later_lives_go_on(rt: HostRuntime) -> Result<(), Halt> {
     for story in &STORIES {
         assert!(rt; is_told(rt.alloc(), story)?, "{}", story.name);
-    }
-    Ok(())
-}
-
-#[test]
-fn third_lives_open_as_the_second(rt: HostRuntime) -> Result<(), Halt> {
-    for story in &STORIES {
-        assert!(rt; is_opened_again(rt.alloc(), story)?, "{}", story.name);
+        assert!(rt;
+            is_opened_again(rt.alloc(), story)?,
+            "{}: again",
+            story.name
+        );
     }
     Ok(())
 }

@@ -166,23 +166,18 @@ pub(crate) fn work_on_each(
     Ok(())
 }
 
-/// Whether a sector is the same on two disks.
-fn is_same(before: &mut MemDisk, after: &mut MemDisk, sector: u64) -> Result<bool, DiskFault> {
-    let mut was = [0; 512];
-    let mut is = [0; 512];
-    before.read(sector, &mut was)?;
-    after.read(sector, &mut is)?;
-    Ok(was == is)
-}
-
 /// Whether just these sectors differ.
 fn differ_at(
     before: &mut MemDisk,
     after: &mut MemDisk,
     changes: &[u64],
 ) -> Result<bool, DiskFault> {
+    let mut was = [0; 512];
+    let mut is = [0; 512];
     for sector in 0..SECTORS {
-        if is_same(before, after, sector)? == changes.contains(&sector) {
+        before.read(sector, &mut was)?;
+        after.read(sector, &mut is)?;
+        if (was == is) == changes.contains(&sector) {
             return Ok(false);
         }
     }
@@ -243,14 +238,6 @@ fn is_cost(alloc: Global, cost: &Cost) -> Result<bool, Halt> {
     is_so
 }
 
-#[test]
-fn saving_costs_what_differs(rt: HostRuntime) -> Result<(), Halt> {
-    for cost in &COSTS {
-        assert!(rt; is_cost(rt.alloc(), cost)?, "{}", cost.name);
-    }
-    Ok(())
-}
-
 /// So many requests, one after another.
 fn answer_each(
     alloc: Global,
@@ -296,14 +283,6 @@ fn is_filled_so(alloc: Global, row: &(u64, u64, u64)) -> Result<bool, Halt> {
     Ok(stands == wanted)
 }
 
-#[test]
-fn full_journals_are_saved(rt: HostRuntime) -> Result<(), Halt> {
-    for row in &FILLED {
-        assert!(rt; is_filled_so(rt.alloc(), row)?, "{row:?}");
-    }
-    Ok(())
-}
-
 /// A disk on which the line of `hello` was told.
 fn told_disk(alloc: Global) -> Result<MemDisk, Halt> {
     let mut disk = blank(alloc, SECTORS)?;
@@ -315,19 +294,22 @@ fn told_disk(alloc: Global) -> Result<MemDisk, Halt> {
 }
 
 /// Whether the first journal sector begins with the record of `hello`.
-fn begins_so(disk: &mut MemDisk) -> Result<bool, DiskFault> {
+fn is_spelled(alloc: Global) -> Result<bool, Halt> {
+    let mut disk = told_disk(alloc)?;
     let mut sector = [0; 512];
     disk.read(JOURNAL, &mut sector)?;
     Ok(sector.starts_with(&HELLO_RECORD))
 }
 
-fn is_spelled(alloc: Global) -> Result<bool, Halt> {
-    let mut disk = told_disk(alloc)?;
-    Ok(begins_so(&mut disk)?)
-}
-
+/// A save costs what differs, a full journal is saved, and a record is spelled so.
 #[test]
-fn records_are_spelled(rt: HostRuntime) -> Result<(), Halt> {
-    assert!(rt; is_spelled(rt.alloc())?);
+fn workers_are_saved(rt: HostRuntime) -> Result<(), Halt> {
+    for cost in &COSTS {
+        assert!(rt; is_cost(rt.alloc(), cost)?, "{}", cost.name);
+    }
+    for row in &FILLED {
+        assert!(rt; is_filled_so(rt.alloc(), row)?, "{row:?}");
+    }
+    assert!(rt; is_spelled(rt.alloc())?, "the record of `hello`");
     Ok(())
 }

@@ -124,14 +124,6 @@ fn is_found(alloc: Global) -> Result<bool, Halt> {
     }
 }
 
-/// The last call of a checkpoint is the sync of its head. If it fails, a recovery finds the new
-/// generation nevertheless, since reads give it.
-#[test]
-fn failed_head_syncs_are_recovered(rt: HostRuntime) -> Result<(), Halt> {
-    assert!(rt; is_found(rt.alloc())?);
-    Ok(())
-}
-
 /// A guest, all requests to it, and the texts of all its lines.
 struct Task {
     guest: &'static [u8],
@@ -274,9 +266,15 @@ fn goes_on_after(alloc: Global, call: u64, task: &Task) -> Result<bool, Halt> {
 /// write and a sync, and the checkpoint has 129 reads, 3 writes and 2 syncs.
 const CALLS: u64 = 344;
 
+/// The last call of a checkpoint is the sync of its head. If it fails, a recovery finds the new
+/// generation nevertheless, since reads give it.
 #[test]
-fn lives_make_so_many_calls(rt: HostRuntime) -> Result<(), Halt> {
-    assert!(rt; calls_of_life(rt.alloc(), &ECHOES)? == CALLS);
+fn failed_head_syncs_are_recovered(rt: HostRuntime) -> Result<(), Halt> {
+    assert!(rt; is_found(rt.alloc())?);
+    assert!(rt;
+        calls_of_life(rt.alloc(), &ECHOES)? == CALLS,
+        "calls of a life"
+    );
     Ok(())
 }
 

@@ -11,7 +11,7 @@ use sector_disk::{Disk, DiskFault};
 use std::alloc::Global;
 
 /// Where a worker stands.
-#[derive(Clone, Copy, Debug, PartialEq, Eq)]
+#[derive(Clone, Copy, PartialEq, Eq)]
 pub(crate) struct Stand {
     pub(crate) generation: u64,
     pub(crate) steps: u64,
