@@ -415,11 +415,6 @@ module _ {D : Type 0} (medium : D → Medium) (running : Running) (replayed : �
       IsSavedIn w (durable_of (record running { store = after_store }) replayed flag)) is_old
       (record { process = refl; replayed = refl; unfailed = refl; generation = numbered })
 
-  pub early_for : old.store.journal.generation < NUMBERS_END
-      → running.store.journal.generation < NUMBERS_END
-  early_for early = subst (λ (w : DurableValue). w.store.journal.generation < NUMBERS_END)
-      (sym is_old) early
-
   pub calls_err : (fault : StoreFault) (why : DurableFault)
       → SaveCalls {T = Unit {0}} running.store running.process (Err fault) (medium disk)
       (medium disk') → CheckpointCalls {T = Unit {0}} old (Err why) (medium disk) (medium disk')
