@@ -1,6 +1,6 @@
 -- What the parts of a slice do to a store and its disk, one after another.
 use Rattle.std.proofs.Common.{◌≡◌, ◌⊎◌, ℕ, zero, suc, ◌+◌, ◌-◌, ◌<◌, ◌≤◌, List, [], ◌++◌, length}
-use Rattle.std.proofs.Common.{drop, false, refl, sym, ap, ◌∙◌, subst, inl, inr, ⊎_elim, arith}
+use Rattle.std.proofs.Common.{drop, refl, sym, ap, ◌∙◌, subst, inl, inr, ⊎_elim, arith}
 use Rattle.std.proofs.Common.{append_assoc}
 use Rattle.std.proofs.lemmas.Bool.{cases_lt}
 use Rattle.std.proofs.lemmas.List.{append-nil}
@@ -24,21 +24,19 @@ use Rattle.worker_store.specs.declared.fault.StoreFault.{StoreFault}
 use Rattle.worker_store.specs.declared.fault.StoreFault.TheVariants as store
 use Rattle.worker_store.specs.declared.store.WorkerStore.{WorkerStore}
 use Rattle.worker_store.specs.rules.Calls.{AppendFails, BarrierFails, CommitFails, CommitCalls}
-use Rattle.worker_store.specs.rules.Stores.{IsOfStore, IsUnfailed, begun_store, with_record}
+use Rattle.worker_store.specs.rules.Stores.{IsOfStore, begun_store, with_record}
 use Rattle.worker_store.specs.rules.Stores.{with_stored}
 use Rattle.worker.specs.declared.fault.WorkFault.TheVariants as work
 use Rattle.worker.specs.rules.Refusals.{work_fault}
 use Rattle.durable_worker.specs.declared.fault.DurableFault.{DurableFault}
 use Rattle.durable_worker.specs.declared.fault.DurableFault.TheVariants.{Work, Disk, Store}
-use Rattle.durable_worker.specs.rules.Checkpoints.{HasCheckpointCause}
-use Rattle.durable_worker.specs.rules.DurableFailures.{LacksRoom, HasSliceCause}
+use Rattle.durable_worker.specs.rules.DurableFailures.{LacksRoom}
 use Rattle.durable_worker.specs.rules.DurableFaults.{fault_of_store}
-use Rattle.durable_worker.specs.rules.DurableValues.{DurableValue}
 use Rattle.durable_worker.specs.rules.Savings.{HasSaveCause}
 use Rattle.durable_worker.specs.rules.SliceCalls.{AreSliceCalls, AreLastCalls, AreBarrierCalls}
 use Rattle.durable_worker.specs.rules.SliceCalls.{SliceCalls, none, barrier, save}
 use Rattle.durable_worker.specs.StoreTurns.{StoreGoes, StoreStops, StoreRuns, StoreSaves}
-use Rattle.durable_worker.specs.StoreTurns.{HasTurnCause, StoreHears, StoreHearsNone, HearsOrNot}
+use Rattle.durable_worker.specs.StoreTurns.{HasTurnCause, StoreHears, HearsOrNot}
 use Rattle.durable_worker.specs.StoreTurns.{HasHearingCause}
 
 -- ---- calls, one after another
