@@ -1,5 +1,5 @@
 -- A checkpoint, as an event of a life, and what its disk holds.
-use Rattle.std.proofs.Common.{◌≡◌, ℕ, ◌+◌, ◌-◌, ◌*◌, ◌<◌, ◌≤◌, ◌^◌, List, [], ◌∷◌, ◌++◌}
+use Rattle.std.proofs.Common.{◌≡◌, ℕ, ◌+◌, ◌-◌, ◌*◌, ◌≤◌, ◌^◌, List, [], ◌∷◌, ◌++◌}
 use Rattle.std.proofs.Common.{length, Bool, true, false, refl, sym, ap, ◌∙◌, subst, inl, inr, arith}
 use Rattle.std.proofs.lemmas.List.{append-nil}
 use Rattle.std.specs.Prelude.{Ok, Err}
@@ -414,11 +414,6 @@ module _ {D : Type 0} (medium : D → Medium) (running : Running) (replayed : �
   saved_in after_store numbered = subst (λ (w : DurableValue).
       IsSavedIn w (durable_of (record running { store = after_store }) replayed flag)) is_old
       (record { process = refl; replayed = refl; unfailed = refl; generation = numbered })
-
-  pub early_for : old.store.journal.generation < NUMBERS_END
-      → running.store.journal.generation < NUMBERS_END
-  early_for early = subst (λ (w : DurableValue). w.store.journal.generation < NUMBERS_END)
-      (sym is_old) early
 
   pub calls_err : (fault : StoreFault) (why : DurableFault)
       → SaveCalls {T = Unit {0}} running.store running.process (Err fault) (medium disk)

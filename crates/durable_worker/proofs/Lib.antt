@@ -1,4 +1,5 @@
 mod SavingLemmas
+mod StoreTurnLemmas
 mod ShortAnswers
 mod DurableLemmas
 mod CheckpointLemmas

@@ -6,3 +6,4 @@ pub mod Written
 pub mod Opening
 pub mod InVain
 pub mod Results
+pub mod Causes

@@ -3,7 +3,6 @@ use Rattle.std.proofs.Common.{◌≡◌, ℕ, ◌+◌, ◌-◌, ◌*◌, ◌<◌
 use Rattle.std.proofs.Common.{length, sym, ap, subst, inl, inr, arith}
 use Rattle.std.specs.Prelude.{Result, Ok, Err, IfErr}
 use Rattle.wasm_syntax.specs.declared.module.Module.{Module}
-use Rattle.wasi_abi.specs.declared.numbers.TheConstants.{NUMBERS_END}
 use Rattle.wasi_abi.specs.rules.Configs.{Settings}
 use Rattle.process_rules.specs.Processes.{ProcessState}
 use Rattle.process.specs.rules.Values.{ProcessValue}
@@ -180,7 +179,3 @@ still_room before between old mid stays passes room =
     let same = passes.sectors in
     subst (λ (g : Geometry). total_sectors g ≤ mid.sectors) (sym stays.geometry)
     (omega (arith, room, same))
-
-pub still_early : (before between : WorkerStore) → IsOfStore before between
-    → before.journal.generation < NUMBERS_END → between.journal.generation < NUMBERS_END
-still_early before between stays early = subst (λ n. n < NUMBERS_END) (sym stays.generation) early

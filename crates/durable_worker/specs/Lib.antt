@@ -1,6 +1,7 @@
 pub mod rules
 pub mod laws
 pub mod DurableTurns
+pub mod StoreTurns
 pub mod Findings
 pub mod Revivals
 pub mod Laying

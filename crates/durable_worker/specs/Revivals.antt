@@ -11,6 +11,7 @@ use Rattle.worker_store.specs.declared.fault.StoreFault.{StoreFault}
 use Rattle.worker_store.specs.declared.store.WorkerStore.{WorkerStore}
 use Rattle.worker_store.specs.rules.Calls.{LeavesPointOrNext, StoresAgain, ReopeningFails}
 use Rattle.worker_store.specs.rules.Calls.{CommitCalls}
+use Rattle.worker_store.specs.rules.Stores.{begun_store}
 use Rattle.durable_worker.specs.declared.found.Found.{Found}
 use Rattle.durable_worker.specs.declared.recover_fault.RecoverFault.{RecoverFault}
 use Rattle.durable_worker.specs.declared.recover_fault.RecoverFault.TheVariants.{Worker}
@@ -32,6 +33,7 @@ pub record OpensStore (geometry : Geometry) (generation : ℕ) (v : ProcessValue
     (store : WorkerStore) (mid new : Medium) : Type 0 where
   pub writes : WritesNext geometry generation v mid new
   pub stores : StoresAgain geometry (generation + 1) v store mid new
+  pub begun : store ≡ begun_store geometry (generation + 1)
   pub numbered : store.journal.generation ≡ generation + 1
   pub placed : store.geometry ≡ geometry
   pub calls : CommitCalls {T = WorkerStore} geometry (generation + 1) v (Ok store) mid new

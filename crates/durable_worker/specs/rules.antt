@@ -10,5 +10,6 @@ pub mod Planned
 pub mod RecoverFaults
 pub mod Recoveries
 pub mod Savings
+pub mod SliceCalls
 pub mod Surveys
 pub mod Told

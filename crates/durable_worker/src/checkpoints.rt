@@ -8,12 +8,11 @@ use worker::WorkFault;
 use worker_store::laws::images_fit_areas;
 
 impl DurableWorker {
-    ghost use Rattle.std.specs.Prelude.{◌≡◌, ◌+◌, ◌<◌, ◌≤◌, true, IfErr, OnErr, OnOk};
-    ghost use Rattle.wasi_abi.specs.declared.numbers.TheConstants.{NUMBERS_END};
+    ghost use Rattle.std.specs.Prelude.{◌≡◌, ◌≤◌, true, IfErr, OnErr, OnOk};
     ghost use Rattle.disk_layout.specs.rules.Places.{total_sectors};
     ghost use Rattle.durable_worker.specs.rules.DurableCalls.{CheckpointCarries};
     ghost use Rattle.durable_worker.specs.rules.Checkpoints.{CheckpointCalls, CheckpointFails};
-    ghost use Rattle.durable_worker.specs.rules.Checkpoints.{IsSavedIn};
+    ghost use Rattle.durable_worker.specs.rules.Checkpoints.{HasCheckpointCause, IsSavedIn};
 
     /// Puts all answers on the disk, and then the process, as a snapshot of the next generation.
     /// What the guest does next is the same with it or without.
@@ -27,15 +26,21 @@ impl DurableWorker {
 
         // The process is as it was. Only an error makes the worker fail from then on.
         ensures saved { OnOk result (IsSavedIn self.old self.new) }
+        ensures unsaved { OnErr result
+            (self.new.store.journal.generation ≡ self.old.store.journal.generation) }
         ensures process { self.new.process ≡ self.old.process }
+        ensures replayed { self.new.replayed ≡ self.old.replayed }
         ensures fails { OnErr result (self.new.has_failed ≡ true) }
 
         // Its calls: those of a barrier, and then those of a commit. After an error these are
         // begun.
-        ensures calls { self.old.store.journal.generation < NUMBERS_END
-            → CheckpointCalls self.old result (D.medium disk.old) (D.medium disk.new) }
+        ensures calls { CheckpointCalls self.old result (D.medium disk.old) (D.medium disk.new) }
+
+        // Each error has its cause, of a worker that is open on the disk and of any other.
         ensures cause { IfErr result (λ e.
             CheckpointFails self.old (D.medium disk.old) (D.medium disk.new) e) }
+        ensures on_any_disk { IfErr result (λ e.
+            HasCheckpointCause self.old (D.medium disk.old) (D.medium disk.new) e) }
         ensures refused { self.old.has_failed ≡ true
             → (result ≡ Err (DurableFault.Work WorkFault.Failed)) × (self.new ≡ self.old)
             × (disk.new ≡ disk.old) }

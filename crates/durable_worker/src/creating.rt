@@ -8,6 +8,7 @@ ghost use Rattle.process.specs.rules.Values.{waiting_in};
 ghost use Rattle.worker.specs.Turns.{working};
 ghost use Rattle.worker.specs.rules.Faults.{IsRefusedByWorker};
 ghost use Rattle.worker.specs.rules.Values.{IsCreated};
+ghost use Rattle.worker_store.specs.rules.Stores.{IsUnfailed};
 ghost use Rattle.durable_worker.specs.Laying.{worker_laid};
 
 use crate::copying::copy_config;
@@ -53,7 +54,8 @@ fn worker_of(
     process: Process,
     laid: Result<WorkerStore, StoreFault>,
 ) -> Result<DurableWorker, DurableFault>
-    requires { waiting_in process ≡ [] }
+    requires none_waits { waiting_in process ≡ [] }
+    requires works { IfOk laid (λ store. IsUnfailed store) }
     ensures { result ≡ worker_laid process laid }
 {
     match laid {

@@ -8,6 +8,7 @@ ghost use Rattle.sector_disk.specs.declared.fault.DiskFault.{DiskFault as TheDis
 ghost use Rattle.sector_disk.specs.rules.Image.{Image};
 ghost use Rattle.disk_layout.specs.rules.Places.{total_sectors};
 ghost use Rattle.disk_layout.specs.rules.Stored.{OnlyReads};
+ghost use Rattle.worker.specs.declared.fault.WorkFault.TheVariants as work;
 ghost use Rattle.durable_worker.specs.declared.fault.DurableFault.TheVariants as durable;
 ghost use Rattle.durable_worker.specs.declared.recover_fault.RecoverFault.TheVariants.{Worker};
 ghost use Rattle.durable_worker.specs.rules.Recoveries.{MarksDecide, SaysNoWorker};
@@ -43,6 +44,7 @@ pub(crate) fn find<D: Disk>(alloc: Global, disk: &mut D) -> Result<Found, Recove
         total_sectors found.geometry ≤ (D.medium disk.new).sectors) }
     ensures cause { (fault : TheDiskFault) → result ≡ Err (Worker (durable.Disk fault))
         → (D.medium disk.old).faults < (D.medium disk.new).faults }
+    ensures unfailed { result ≡ Err (Worker (durable.Work work.Failed)) → ⊥ }
 {
     match read_worker(alloc, disk) {
         Ok(contents) => find_linked(alloc, disk, contents),
@@ -65,6 +67,7 @@ fn find_linked<D: Disk>(
     ensures own { SaysNoWorker result → ⊥ }
     ensures cause { (fault : TheDiskFault) → result ≡ Err (Worker (durable.Disk fault))
         → (D.medium disk.old).faults < (D.medium disk.new).faults }
+    ensures unfailed { result ≡ Err (Worker (durable.Work work.Failed)) → ⊥ }
 {
     let Contents {
         geometry,
@@ -95,6 +98,7 @@ fn find_saved<D: Disk>(
     ensures own { SaysNoWorker result → ⊥ }
     ensures cause { (fault : TheDiskFault) → result ≡ Err (Worker (durable.Disk fault))
         → (D.medium disk.old).faults < (D.medium disk.new).faults }
+    ensures unfailed { result ≡ Err (Worker (durable.Work work.Failed)) → ⊥ }
 {
     match read_newest(alloc, disk, geometry) {
         Ok(snapshot) => find_process(alloc, disk, geometry, config, machine, snapshot),
@@ -121,6 +125,7 @@ fn find_process<D: Disk>(
     ensures own { SaysNoWorker result → ⊥ }
     ensures cause { (fault : TheDiskFault) → result ≡ Err (Worker (durable.Disk fault))
         → (D.medium disk.old).faults < (D.medium disk.new).faults }
+    ensures unfailed { result ≡ Err (Worker (durable.Work work.Failed)) → ⊥ }
 {
     restored_processes_are_the_saved();
     reached_processes_are_well_typed();
@@ -149,6 +154,7 @@ fn find_records<D: Disk>(
     ensures own { SaysNoWorker result → ⊥ }
     ensures cause { (fault : TheDiskFault) → result ≡ Err (Worker (durable.Disk fault))
         → (D.medium disk.old).faults < (D.medium disk.new).faults }
+    ensures unfailed { result ≡ Err (Worker (durable.Work work.Failed)) → ⊥ }
 {
     is_process(&process);
     match read_records(alloc, disk, geometry, generation) {

@@ -30,17 +30,21 @@
 //!   promised before. Without an error the worker is open on the disk again.
 //! - Where a slice fails, it has run so far as `worker: Worker::slice` does, and it stops at what
 //!   failed (`failed`). Of a worker that is open on its disk some faults don't come (`carries`).
-//!   Which calls the disk was asked for isn't stated.
+//! - By Ok and by any error, a slice asks the disk for barriers and saves alone. The generation is
+//!   one more by each save that has succeeded, and by nothing else (`calls`). How much was replayed
+//!   stays (`replayed`), and the disk has room for the next call (`room`).
 //! - `DurableWorker::checkpoint` keeps it too (`carries`), and after its Ok no later life comes
 //!   behind it (`saved`). Its calls of the disk are told (`calls`), and each error has its cause
-//!   (`cause`).
+//!   (`cause`). After an error the generation is as it was (`unsaved`).
+//! - Whatever stands on the disk, a slice, a checkpoint and a recovery answer a fault of the disk
+//!   only for its cause, and `Failed` only of a worker that had failed before (`on_any_disk`).
 //! - No image that a cut leaves is of a later generation than as much has happened. The disk has
 //!   all sectors of its worker (`carries`, and `laws::open_workers_keep_bounds`).
 //! - `laws::calls_make_lives`: the calls of one life make one that goes on from all that was
 //!   promised. `laws::uncut_lives_go_on`: where the power isn't cut in it, its outlet has taken
 //!   each line, or it ended by one that was refused. `laws::lives_end_as_said`: where no call has
 //!   failed either, it has ended or waits as its last slice says.
-//! - After an error no call does anything (`fails`, `refused`).
+//! - After an error no call does anything (`fails`, `refused`): each answers `Failed`.
 //! - `story` (module `story`) runs any list of lives on one disk in memory, and tells them
 //!   (`TellsLives`). Behind each comes a cut of the power, or an error.
 //!
@@ -50,12 +54,13 @@
 //! (`OpenWorkers.antt`); `CallCarries`, `SliceCarries`, `IsReplyOf`, `HasCauseOf`
 //! (`DurableCalls.antt`); `IsCreatedOn`, `IsNotCreatedOn`, `CreationCalls`, `CreationKeeps`
 //! (`DurableCreations.antt`); `Recovers`, `RecoversFrom`, `Revives`, `OpeningCalls`,
-//! `RecoveryCarries`, `Reopens`, `ReopensInVain`, `FindsNone` (`Recoveries.antt`);
-//! `Surveys`, `SurveysFrom`, `survey_of` (`Surveys.antt`);
-//! `SlicesOnDiskInVain`, `IsDiskCause` (`DurableFailures.antt`); `CheckpointCalls`,
-//! `CheckpointFails` (`Checkpoints.antt`); `fault_of_store` (`DurableFaults.antt`);
-//! `fault_of_restore`, `fault_of_replay` (`RecoverFaults.antt`); `inputs_of` (`Planned.antt`),
-//! `TellsLives` (`Told.antt`). They speak in the words of `worker_rules` and `worker_store`.
+//! `RecoveryCarries`, `Reopens`, `ReopensInVain`, `FindsNone`, `HasRecoveryCause`
+//! (`Recoveries.antt`); `Surveys`, `SurveysFrom`, `survey_of` (`Surveys.antt`);
+//! `SlicesOnDiskInVain`, `IsDiskCause`, `HasSliceCause` (`DurableFailures.antt`); `SliceCalls`
+//! (`SliceCalls.antt`); `CheckpointCalls`, `CheckpointFails`, `HasCheckpointCause`
+//! (`Checkpoints.antt`); `fault_of_store` (`DurableFaults.antt`); `fault_of_restore`,
+//! `fault_of_replay` (`RecoverFaults.antt`); `inputs_of` (`Planned.antt`), `TellsLives`
+//! (`Told.antt`). They speak in the words of `worker_rules` and `worker_store`.
 //!
 //! # Who may touch what
 //!

@@ -21,8 +21,9 @@ use worker_store::laws::images_fit_areas;
 use worker_store::{StoreFault, WorkerStore};
 
 impl DurableWorker {
-    ghost use Rattle.std.specs.Prelude.{IfOk};
-    ghost use Rattle.durable_worker.specs.rules.Recoveries.{Recovers, RecoveryCarries};
+    ghost use Rattle.std.specs.Prelude.{IfErr, IfOk};
+    ghost use Rattle.durable_worker.specs.rules.Recoveries.{HasRecoveryCause, Recovers};
+    ghost use Rattle.durable_worker.specs.rules.Recoveries.{RecoveryCarries};
 
     /// The worker that the disk stands for goes on. Syncs the disk, and reads what it shows. Then
     /// the process takes the answers on record, and each line that it emits on the way is released.
@@ -42,6 +43,11 @@ impl DurableWorker {
             outlet.old outlet.new }
         ensures room { IfOk result (λ w.
             total_sectors w.store.geometry ≤ (D.medium disk.new).sectors) }
+
+        // Whatever stands on the disk, a fault of the disk has its cause, and nothing has failed
+        // before.
+        ensures on_any_disk { IfErr result (λ why. HasRecoveryCause (D.medium disk.old)
+            (D.medium disk.new) why) }
     {
         images_fit_areas();
         if let Err(fault) = disk.sync() {

@@ -1,13 +1,14 @@
 //! A barrier, and then a commit.
 
-ghost use Rattle.std.specs.Prelude.{◌≡◌, ◌+◌, ◌<◌, ◌≤◌, [], false, true, IfErr, OnErr, OnOk};
-ghost use Rattle.wasi_abi.specs.declared.numbers.TheConstants.{NUMBERS_END};
+ghost use Rattle.std.specs.Prelude.{◌≡◌, ◌+◌, ◌≤◌, [], false, true, IfErr, OnErr, OnOk};
 ghost use Rattle.process.specs.rules.Values.{IsProcess};
 ghost use Rattle.sector_disk.specs.rules.Medium.{Passes};
 ghost use Rattle.disk_layout.specs.rules.Places.{total_sectors};
 ghost use Rattle.journal.specs.rules.State.{state};
 ghost use Rattle.worker_store.specs.rules.Calls.{StoresNext};
 ghost use Rattle.durable_worker.specs.rules.Savings.{LeavesFrontOrNext, SaveCalls, SaveFails};
+ghost use Rattle.durable_worker.specs.rules.Savings.{HasSaveCause};
+ghost use Rattle.durable_worker.specs.StoreTurns.{StoreSaves};
 
 use process::Process;
 use sector_disk::Disk;
@@ -41,12 +42,19 @@ pub(crate) fn save<D: Disk>(
         (D.medium disk.new)) }
     ensures numbered { OnOk result
         (store.new.journal.generation ≡ store.old.journal.generation + 1) }
+    ensures unnumbered { OnErr result
+        (store.new.journal.generation ≡ store.old.journal.generation) }
     ensures fresh { OnOk result
         (store.new.journal ≡ state store.new.journal.generation 0 [] false) }
-    ensures calls { store.old.journal.generation < NUMBERS_END
-        → SaveCalls store.old process.now result (D.medium disk.old) (D.medium disk.new) }
+    ensures calls { SaveCalls store.old process.now result (D.medium disk.old)
+        (D.medium disk.new) }
     ensures cause { IfErr result (SaveFails store.old process.now (D.medium disk.old)
         (D.medium disk.new)) }
+
+    // What it does to any store, whatever stands on the disk.
+    ensures runs { StoreSaves result store.old store.new (D.medium disk.old) (D.medium disk.new) }
+    ensures on_any_disk { IfErr result (λ e. HasSaveCause store.old process.now
+        (D.medium disk.old) (D.medium disk.new) e) }
     ensures fails { OnErr result (store.new.has_failed ≡ true) }
     ensures stays { store.new.geometry ≡ store.old.geometry }
     ensures passes { Passes (D.medium disk.old) (D.medium disk.new) (λ _. Unit {0}) }

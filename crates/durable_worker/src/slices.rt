@@ -1,11 +1,12 @@
 //! Slices of a worker on its disk.
 
-ghost use Rattle.std.specs.Prelude.{◌≡◌, ◌≤◌, [], IfErr, IfOk, OnOk};
+ghost use Rattle.std.specs.Prelude.{◌≡◌, ◌≤◌, [], IfErr, IfOk};
 ghost use Rattle.process.specs.rules.Values.{waiting_in};
 ghost use Rattle.disk_layout.specs.rules.Places.{total_sectors};
 ghost use Rattle.worker.specs.rules.Slices.{Slices};
 ghost use Rattle.worker.specs.Turns.{working};
 ghost use Rattle.durable_worker.specs.DurableTurns.{WorksOn};
+ghost use Rattle.durable_worker.specs.StoreTurns.{StoreRuns};
 ghost use Rattle.durable_worker.specs.rules.DurableFailures.{SlicesOnDiskInVain};
 
 use crate::durable::DurableWorker;
@@ -34,7 +35,9 @@ impl Running {
             (D.medium disk.old) (D.medium disk.new) source.old source.new outlet.old outlet.new }
         ensures failed { IfErr result (λ why. SlicesOnDiskInVain S.gives O.takes self.old.process
             fuel why self.new.process source.old source.new outlet.old outlet.new) }
-        ensures places { OnOk result (self.new.store.geometry ≡ self.old.store.geometry) }
+        ensures runs { StoreRuns result self.old.store self.new.store (D.medium disk.old)
+            (D.medium disk.new) }
+        ensures places { self.new.store.geometry ≡ self.old.store.geometry }
         ensures sectors { (D.medium disk.new).sectors ≡ (D.medium disk.old).sectors }
     {
         let first = self.process.steps();
@@ -58,10 +61,13 @@ impl DurableWorker {
     ghost use Rattle.std.specs.Prelude.{true, false, Err, OnErr};
     ghost use Rattle.durable_worker.specs.rules.DurableValues.{without_disk};
     ghost use Rattle.durable_worker.specs.rules.DurableCalls.{SliceCarries};
+    ghost use Rattle.durable_worker.specs.rules.DurableFailures.{HasSliceCause};
+    ghost use Rattle.durable_worker.specs.rules.SliceCalls.{SliceCalls};
 
     /// Takes at most `fuel` steps: answers from the source, lines to the outlet. Before a line is
     /// released all answers are on the disk, and so they are before a sync of the guest returns.
-    /// An answer is kept before the process takes it.
+    /// An answer is kept before the process takes it. Where the journal may be too full for the
+    /// next one, the process is saved, as the next generation.
     pub fn slice<D: Disk, S: Source, O: Outlet>(
         &mut self,
         disk: &mut D,
@@ -80,6 +86,12 @@ impl DurableWorker {
             (D.medium disk.old) (D.medium disk.new) source.old source.new outlet.old outlet.new }
         ensures fails { OnErr result (self.new.has_failed ≡ true) }
 
+        // Its calls of the disk: barriers and saves. The generation is one more by each save that
+        // has succeeded, and by nothing else.
+        ensures calls { SliceCalls result self.old.store self.new.store (D.medium disk.old)
+            (D.medium disk.new) }
+        ensures replayed { self.new.replayed ≡ self.old.replayed }
+
         // So far it has run as a worker that has no disk.
         ensures failed { self.old.has_failed ≡ false
             → IfErr result (λ why. SlicesOnDiskInVain S.gives O.takes self.old.process fuel why
@@ -87,8 +99,11 @@ impl DurableWorker {
         ensures refused { self.old.has_failed ≡ true
             → (result ≡ Err (DurableFault.Work WorkFault.Failed)) × (self.new ≡ self.old)
             × (disk.new ≡ disk.old) × (source.new ≡ source.old) × (outlet.new ≡ outlet.old) }
-        ensures room { OnOk result
-            (total_sectors self.new.store.geometry ≤ (D.medium disk.new).sectors) }
+
+        // Whatever stands on the disk, a fault of the disk has its cause, and `Failed` too.
+        ensures on_any_disk { IfErr result (λ why. HasSliceCause self.old (D.medium disk.old)
+            (D.medium disk.new) why) }
+        ensures room { total_sectors self.new.store.geometry ≤ (D.medium disk.new).sectors }
     {
         if self.has_failed {
             return Err(DurableFault::Work(WorkFault::Failed));

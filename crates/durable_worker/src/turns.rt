@@ -10,6 +10,7 @@ ghost use Rattle.durable_worker.specs.DurableTurns.{AsksTurn, Hears, MakesNoRoom
 ghost use Rattle.durable_worker.specs.DurableTurns.{SettlesTurn, SettlesVainly, AsksVainly};
 ghost use Rattle.durable_worker.specs.DurableTurns.{IsOfStoreFault};
 ghost use Rattle.durable_worker.specs.DurableTurns.{SettlesInVain, TakesNone, TakesOnRecord};
+ghost use Rattle.durable_worker.specs.StoreTurns.{HearsOrNot, StoreRuns};
 
 use crate::fault::DurableFault;
 use crate::running::Running;
@@ -40,6 +41,8 @@ impl Running {
             (D.medium disk.old) (D.medium disk.new) outlet.old outlet.new) }
         ensures failed { IfErr result (λ why. SettlesVainly O.takes self.old.process why
             self.new.process outlet.old outlet.new) }
+        ensures runs { StoreRuns result self.old.store self.new.store (D.medium disk.old)
+            (D.medium disk.new) }
         ensures places { self.new.store.geometry ≡ self.old.store.geometry }
         ensures sectors { (D.medium disk.new).sectors ≡ (D.medium disk.old).sectors }
     {
@@ -64,7 +67,9 @@ impl Running {
             (D.medium disk.new) source.old source.new }
         ensures failed { IfErr result (λ why. AsksVainly S.gives self.old kind why self.new
             source.old source.new) }
-        ensures places { OnOk result (self.new.store.geometry ≡ self.old.store.geometry) }
+        ensures runs { StoreRuns result self.old.store self.new.store (D.medium disk.old)
+            (D.medium disk.new) }
+        ensures places { self.new.store.geometry ≡ self.old.store.geometry }
         ensures sectors { (D.medium disk.new).sectors ≡ (D.medium disk.old).sectors }
     {
         let step = self.process.steps() + 1;
@@ -82,6 +87,8 @@ impl Running {
         ensures fails { IfErr result (λ why. MakesNoRoom self.old why self.new
             (D.medium disk.old) (D.medium disk.new)) }
         ensures failed { IfErr result IsOfStoreFault }
+        ensures runs { StoreRuns result self.old.store self.new.store (D.medium disk.old)
+            (D.medium disk.new) }
         ensures places { self.new.store.geometry ≡ self.old.store.geometry }
         ensures sectors { (D.medium disk.new).sectors ≡ (D.medium disk.old).sectors }
     {
@@ -102,7 +109,8 @@ impl Running {
     ) -> Result<bool, DurableFault>
         ensures hears { Hears S.gives self.old kind step result self.new source.old source.new }
         ensures released { self.new.process.host.released ≡ self.old.process.host.released }
-        ensures places { OnOk result (self.new.store.geometry ≡ self.old.store.geometry) }
+        ensures kept { HearsOrNot result self.old.store self.new.store }
+        ensures places { self.new.store.geometry ≡ self.old.store.geometry }
     {
         match source.answer(kind) {
             Err(_) => Err(DurableFault::Work(WorkFault::Source)),
@@ -119,7 +127,8 @@ impl Running {
         ensures taken { OnOk result (TakesOnRecord self.old kind entry self.new) }
         ensures not_taken { IfErr result (λ why. TakesNone self.old kind entry why self.new) }
         ensures released { self.new.process.host.released ≡ self.old.process.host.released }
-        ensures places { OnOk result (self.new.store.geometry ≡ self.old.store.geometry) }
+        ensures kept { HearsOrNot result self.old.store self.new.store }
+        ensures places { self.new.store.geometry ≡ self.old.store.geometry }
     {
         let does_fit = fits(self.process.host().limit(), kind, &entry.answer);
         if !does_fit {

@@ -101,6 +101,8 @@ impl Journal {
             ++ record_bytes entry.now) false) }
         ensures fits { OnOk result (RecordFits entry.now) }
         ensures err { OnErr result (self.new.has_failed ≡ true) }
+        ensures stays { self.new
+            ≡ state self.old.generation self.old.used self.new.kept self.new.has_failed }
         ensures failed { (result ≡ Err JournalFault.Failed) ↔ (self.old.has_failed ≡ true) }
         ensures too_long { (result ≡ Err JournalFault.TooLong)
             ↔ ((self.old.has_failed ≡ false)
@@ -156,6 +158,8 @@ impl Journal {
         ensures no_memory { IsErrOf result JournalFault.Memory → ⊥ }
         ensures not_too_long { IsErrOf result JournalFault.TooLong → ⊥ }
         ensures quiet { length self.old.kept ≡ 0 → disk.new ≡ disk.old }
+        ensures untouched { (result ≡ Err JournalFault.Full) ⊎ (result ≡ Err JournalFault.Failed)
+            → disk.new ≡ disk.old }
 
         // A cut at any moment leaves a front of the records that holds all that stood before, and
         // nothing else is changed.

@@ -17,7 +17,7 @@
 //! - `Journal::scan` gives the records that the definitions read of what the disk shows (`scans`).
 //!   It only reads (`reads`).
 //! - After an error of `append` or `barrier`, each call of these answers `Failed` (`err`,
-//!   `failed`).
+//!   `failed`). Whatever `append` answers, generation and sectors are as before (`stays`).
 //! - `laws::what_stands_is_scanned`: a scan gives what stands, and nothing of a generation that no
 //!   sector shows. `laws::worked_examples`: records that fit, what stands, and what a barrier may
 //!   leave.

@@ -463,6 +463,9 @@ impl Clock for FixedClock {
     }
 }
 
+/// In nanoseconds.
+const SECOND: u32 = 1_000_000_000;
+
 /// Seconds and nanoseconds of a clock, and the nanoseconds that a worker is told. 2^64 nanoseconds
 /// are 18,446,744,073.709551616 seconds.
 static CLOCKS: [(u64, u32, u64); 6] = [
@@ -475,9 +478,10 @@ static CLOCKS: [(u64, u32, u64); 6] = [
 ];
 
 /// Whether both clocks of a worker show that time.
-fn shows_clock(alloc: Global, row: &(u64, u32, u64)) -> bool
-    requires { row.now.1 < 1_000_000_000 }
-{
+fn shows_clock(alloc: Global, row: &(u64, u32, u64)) -> bool {
+    if row.1 >= SECOND {
+        return false;
+    }
     let clock = FixedClock(Duration::new(row.0, row.1));
     let reader = BufferedLines::new(b"".as_slice());
     let outside = Outside {

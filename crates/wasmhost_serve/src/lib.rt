@@ -63,7 +63,8 @@
 //!   was never stopped, with what the script put into each. What the other statuses say is said too
 //!   (`TellsStory`). `report_script` tells a fault of a script.
 //! - `laws::faultless_words_mean`, `laws::worked_examples`: words without a fault mean an order,
-//!   with numbers in their ranges; sixty-eight command lines.
+//!   with numbers in their ranges; seventy-one command lines. What `--version` is told of the
+//!   program is `version_words` (`HasVersion`).
 //!
 //! # Definitions to read
 //!
@@ -71,7 +72,8 @@
 //! `GivesAnswers`, `GiveUpTo` (`Requests.antt`); `ComeFrom`, `requests_in` (`Outside.antt`);
 //! `seeded_bytes` (`Seeds.antt`); `printed`, `request_line` (`Texts.antt`);
 //! `CreatesOn`, `IsPreparedAs`, `IsUnprepared`, `config_as` (`Creations.antt`);
-//! `wasmhost` (`CommandLine.antt`); `meaning_in`, `IsReading`, `IsStatusOf` (`Commands.antt`);
+//! `wasmhost`, `version_words` (`CommandLine.antt`);
+//! `meaning_in`, `IsReading`, `IsStatusOf` (`Commands.antt`);
 //! `ShowsDisk`, `ShowsSurvey`, `survey_line` (`Showings.antt`); `open_words`, `IsOpenedFor`,
 //! `ShowsFile` (`Openings.antt`);
 //! `ServesOnDisk`, `LivesOnDisk`, `HasOutcome`, `HasBrokenOff`, `stands_behind`

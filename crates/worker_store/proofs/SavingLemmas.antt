@@ -1,7 +1,7 @@
 -- An image that is begun, pushed and ended.
 use Rattle.std.proofs.Common.{◌≡◌, ◌≤◌, ℕ, ◌+◌, ◌-◌, List, [], length, refl}
 use Rattle.std.proofs.Common.{ap}
-use Rattle.std.proofs.Common.{◌∙◌, subst, arith}
+use Rattle.std.proofs.Common.{◌∙◌, sym, subst, arith}
 use Rattle.std.specs.Prelude.{Result, Ok, Err, IsErr}
 use Rattle.std.proofs.lemmas.Bool.{false≢true}
 use Rattle.sector_disk.specs.rules.Medium.{Medium, After, Follows, LeavesOnly}
@@ -36,6 +36,13 @@ pub none_made : {T E : Type 0} (writing : Writing) (at n g : ℕ) (r : Result T 
 none_made writing at n g r m is_err =
     made_no_head writing at n g r m m is_err
     (no_head writing at n g m m (none_stored writing at n m))
+
+pub none_made_still : {D T E : Type 0} (medium : D → Medium) (writing : Writing) (at n g : ℕ)
+    (r : Result T E) (old new : D) → new ≡ old → IsErr r
+    → MakesStoresAndHead (stores writing at n) g r (medium old) (medium new)
+none_made_still medium writing at n g r old new same is_err =
+    subst (λ d. MakesStoresAndHead (stores writing at n) g r (medium old) (medium d)) (sym same)
+    (none_made writing at n g r (medium old) is_err)
 
 -- the same under another answer, of a generation that is the same
 module _ {T U E F : Type 0} (geometry : Geometry) (writing : Writing) (count n g : ℕ)

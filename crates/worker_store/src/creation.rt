@@ -13,6 +13,7 @@ ghost use Rattle.worker_store.specs.laws.Commits.{BeginsAtPoint};
 ghost use Rattle.worker_store.specs.laws.Moments.{LeavesAll};
 ghost use Rattle.worker_store.specs.rules.Creations.{LeavesBlankOrFirst, StoresFirst, IsFirstPoint};
 ghost use Rattle.worker_store.specs.rules.Creations.{CreationFails, creation_calls};
+ghost use Rattle.worker_store.specs.rules.Stores.{begun_store};
 
 use crate::contents::lay_contents;
 use crate::fault::StoreFault;
@@ -50,6 +51,8 @@ pub fn lay_out<D: Disk>(
     // Once it has answered Ok, each cut leaves the first snapshot.
     ensures durable { IfOk result (λ store. StoresFirst config.now wasm.now process.now store
         (D.medium disk.new)) }
+    ensures begun { IfOk result (λ store.
+        store ≡ begun_store (geometry_of config.now (length wasm.now)) 1) }
     ensures calls { MakesCalls (creation_calls (geometry_of config.now (length wasm.now))
         (length (image (saved_of process.now)))) result (D.medium disk.old) (D.medium disk.new) }
     ensures too_small { (D.medium disk.old).sectors

@@ -30,6 +30,9 @@
 //! - `laws::images_fit_areas`: the image of a well-typed process is never too big.
 //! - Each error comes only for its cause (`cause`). After an error of a store each of its calls
 //!   answers `Failed`, and touches neither disk nor store (`fails`, `refused`).
+//! - What becomes of any store is told too. Where it is laid out, opened or committed, a generation
+//!   begins (`begun`). Behind a barrier all its records are on the disk (`stored`). After an error
+//!   its places and its generation are as before (`stays`, `unchanged`).
 //!
 //! # Laws of the disk
 //!
@@ -84,11 +87,11 @@
 //!
 //! # Definitions to read
 //!
-//! In `specs/rules/`: `IsStoreOf`, `with_record` (`Stores.antt`); what each call leaves, and when
-//! each error comes (`Calls.antt`, `Creations.antt`, `Readings.antt`); faults of the crates below
-//! (`Faults.antt`). Words that they take from `specs/laws/`: `Savepoint`, `StandsAtPoint`
-//! (`Savepoints.antt`), `StandsAtFront` (`Barriers.antt`), `BeginsAtPoint` and `StandsBefore`
-//! (`Commits.antt`).
+//! In `specs/rules/`: `IsStoreOf`, `begun_store`, `with_record`, `with_stored` (`Stores.antt`);
+//! what each call leaves, and when each error comes (`Calls.antt`, `Creations.antt`,
+//! `Readings.antt`); faults of the crates below (`Faults.antt`). Words that they take from
+//! `specs/laws/`: `Savepoint`, `StandsAtPoint` (`Savepoints.antt`), `StandsAtFront`
+//! (`Barriers.antt`), `BeginsAtPoint` and `StandsBefore` (`Commits.antt`).
 //!
 //! All else in `specs/laws/` are second forms of what `worker_rules`, `journal`, `snapshot` and
 //! `disk_layout` define. Nobody has to believe them. They are `AwaitsHead` and `AwaitsSuper`

@@ -25,6 +25,7 @@ pub fn read_worker<D: Disk>(alloc: Global, disk: &mut D) -> Result<Contents, Sto
     ensures room { IfOk result (λ c. total_sectors c.geometry ≤ (D.medium disk.old).sectors) }
     ensures cause { (fault : DiskFault) → result ≡ Err (StoreFault.Disk fault)
         → (D.medium disk.old).faults < (D.medium disk.new).faults }
+    ensures unfailed { result ≡ Err StoreFault.Failed → ⊥ }
 {
     match read_contents(alloc, disk) {
         Ok(contents) => Ok(contents),
@@ -47,6 +48,7 @@ pub fn read_newest<D: Disk>(
     ensures own { DeniesWorker result → ⊥ }
     ensures cause { (fault : DiskFault) → result ≡ Err (StoreFault.Disk fault)
         → (D.medium disk.old).faults < (D.medium disk.new).faults }
+    ensures unfailed { result ≡ Err StoreFault.Failed → ⊥ }
 {
     let mut snapshots = Snapshots::new();
     let found = match snapshots.newest(alloc, disk, geometry) {
@@ -76,6 +78,7 @@ pub fn read_records<D: Disk>(
     ensures own { DeniesWorker result → ⊥ }
     ensures cause { (fault : DiskFault) → result ≡ Err (StoreFault.Disk fault)
         → (D.medium disk.old).faults < (D.medium disk.new).faults }
+    ensures unfailed { result ≡ Err StoreFault.Failed → ⊥ }
 {
     match Journal::scan(alloc, disk, geometry, generation) {
         Ok(records) => Ok(records),

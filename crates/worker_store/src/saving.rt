@@ -50,6 +50,7 @@ pub(crate) fn write_snapshot<D: Disk>(
       count = rounded_up (length (image (saved_of process.now)));
     }) generation result (D.medium disk.old) (D.medium disk.new) }
 
+    ensures late { NUMBERS_END ≤ generation → disk.new ≡ disk.old }
     ensures too_big { result ≡ Err SnapshotFault.TooBig → (NUMBERS_END ≤ generation)
         ⊎ (SECTOR_SIZE * geometry.now.area_sectors < length (image (saved_of process.now))) }
     ensures cause { IsErr result → (result ≡ Err SnapshotFault.TooBig)

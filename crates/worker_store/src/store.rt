@@ -19,21 +19,22 @@ pub struct WorkerStore {
 }
 
 impl WorkerStore {
-    ghost use Rattle.std.specs.Prelude.{◌≡◌, ◌+◌, ◌<◌, ◌≤◌, [], false, true, IfErr, IfOk, OnErr};
-    ghost use Rattle.std.specs.Prelude.{OnOk, length};
+    ghost use Rattle.std.specs.Prelude.{◌≡◌, ◌⊎◌, ◌+◌, ◌-◌, ◌<◌, ◌≤◌, [], false, true, IfErr, IfOk};
+    ghost use Rattle.std.specs.Prelude.{OnErr, OnOk, length};
     ghost use Rattle.disk_layout.specs.rules.Journal.{record_bytes};
     ghost use Rattle.disk_layout.specs.rules.Places.{total_sectors};
     ghost use Rattle.sector_disk.specs.rules.Image.{Image};
-    ghost use Rattle.sector_disk.specs.rules.Medium.{MakesCalls, Passes};
+    ghost use Rattle.sector_disk.specs.rules.Medium.{IsAllSynced, MakesCalls, Passes};
+    ghost use Rattle.journal.specs.rules.Packed.{sectors_for};
     ghost use Rattle.journal.specs.rules.State.{room_of, state};
     ghost use Rattle.journal.specs.rules.Steps.{RecordFits, barrier_calls};
-    ghost use Rattle.worker_store.specs.rules.Stores.{with_record, IsOfStore};
+    ghost use Rattle.worker_store.specs.rules.Stores.{begun_store, with_record, with_stored};
+    ghost use Rattle.worker_store.specs.rules.Stores.{IsOfStore};
     ghost use Rattle.worker_store.specs.rules.Calls.{AppendFails, LeavesFronts, StoresAll};
     ghost use Rattle.worker_store.specs.rules.Calls.{BarrierFails, LeavesOneOfTwo, StoresNext};
     ghost use Rattle.worker_store.specs.rules.Calls.{CommitFails, LeavesBeforeOrNext, StoresAgain};
     ghost use Rattle.worker_store.specs.rules.Calls.{ReopeningFails, CommitCalls};
     ghost use Rattle.worker_store.specs.rules.Calls.{LeavesPointOrNext};
-    ghost use Rattle.wasi_abi.specs.declared.numbers.TheConstants.{NUMBERS_END};
 
     /// Opens the store of a worker that a recovery has brought back to this process, from the disk
     /// that stands for it. It is committed as this generation, one more than that of the newest
@@ -60,6 +61,7 @@ impl WorkerStore {
         // Once it has answered Ok, each cut leaves this snapshot.
         ensures durable { IfOk result (λ store. StoresAgain geometry.now generation process.now
             store (D.medium disk.old) (D.medium disk.new)) }
+        ensures begun { IfOk result (λ store. store ≡ begun_store geometry.now generation) }
         ensures numbered { IfOk result (λ store. store.journal.generation ≡ generation) }
         ensures placed { IfOk result (λ store. store.geometry ≡ geometry.now) }
         ensures passes { Passes (D.medium disk.old) (D.medium disk.new) (λ _. Unit {0}) }
@@ -101,6 +103,7 @@ impl WorkerStore {
         ensures room { OnOk result (length (record_bytes entry.now)
             ≤ room_of self.old.geometry self.old.journal) }
         ensures cause { IfErr result (λ e. AppendFails self.old entry.now e) }
+        ensures stays { IsOfStore self.old self.new }
         ensures fails { OnErr result (self.new.has_failed ≡ true) }
         ensures refused { self.old.has_failed ≡ true
             → (result ≡ Err StoreFault.Failed) × (self.new ≡ self.old) }
@@ -126,7 +129,16 @@ impl WorkerStore {
         // Once it has answered Ok, each cut leaves all of them.
         ensures durable { OnOk result (StoresAll self.old self.new (D.medium disk.old)
             (D.medium disk.new)) }
+        ensures stored { OnOk result (self.new ≡ with_stored self.old) }
+        ensures settled { OnOk result ((length self.old.journal.kept ≡ 0)
+            ⊎ IsAllSynced (D.medium disk.new)) }
         ensures quiet { length self.old.journal.kept ≡ 0 → disk.new ≡ disk.old }
+
+        // Where the journal has too few sectors, nothing is written.
+        ensures full { self.old.geometry.journal_sectors - self.old.journal.used
+            < sectors_for (length self.old.journal.kept)
+            → ((result ≡ Err StoreFault.Full) ⊎ (result ≡ Err StoreFault.Failed))
+            × (disk.new ≡ disk.old) }
 
         // It writes each sector once, in rising order, and then syncs once. After an error these
         // calls are begun.
@@ -172,9 +184,8 @@ impl WorkerStore {
 
         // Its calls: sectors of the image, a sync, the head, and a sync. After an error these
         // calls are begun.
-        ensures calls { self.old.journal.generation < NUMBERS_END
-            → CommitCalls self.old.geometry (self.old.journal.generation + 1) process.now result
-            (D.medium disk.old) (D.medium disk.new) }
+        ensures calls { CommitCalls self.old.geometry (self.old.journal.generation + 1)
+            process.now result (D.medium disk.old) (D.medium disk.new) }
         ensures cause { IfErr result (λ e.
             CommitFails self.old process.now (D.medium disk.old) (D.medium disk.new) e) }
         ensures fails { OnErr result (self.new.has_failed ≡ true) }
@@ -183,6 +194,10 @@ impl WorkerStore {
             (self.new.journal.generation ≡ self.old.journal.generation + 1) }
         ensures fresh { OnOk result
             (self.new.journal ≡ state self.new.journal.generation 0 [] false) }
+        ensures begun { OnOk result (self.new
+            ≡ begun_store self.old.geometry (self.old.journal.generation + 1)) }
+        ensures unchanged { OnErr result (self.new.journal ≡ self.old.journal) }
+        ensures settled { OnOk result (IsAllSynced (D.medium disk.new)) }
         ensures passes { Passes (D.medium disk.old) (D.medium disk.new) (λ _. Unit {0}) }
         ensures refused { self.old.has_failed ≡ true
             → (result ≡ Err StoreFault.Failed) × (self.new ≡ self.old) × (disk.new ≡ disk.old) }

@@ -22,6 +22,7 @@ use Rattle.worker.specs.rules.Slices.{Slices}
 use Rattle.worker.specs.Turns.{working, AsksOnce}
 use Rattle.durable_worker.specs.DurableTurns.{Hears, SettlesTurn, SettlesInVain, AsksTurn, WorksOn}
 use Rattle.durable_worker.specs.DurableTurns.{SettlesVainly, AsksVainly}
+use Rattle.durable_worker.specs.StoreTurns.{StoreGoes, StoreStops, StoreRuns}
 use Rattle.durable_worker.specs.rules.DurableFailures.{SlicesOnDiskInVain}
 use Rattle.worker.proofs.Ending.{measure, Turning, turning_none, owes}
 use Rattle.worker.proofs.Ending.{owes_less, asks, asks_counts, released_all, waiting, given}
@@ -29,6 +30,8 @@ use Rattle.worker.proofs.Ending.{given_less, Wishing, cannot_advance}
 use Rattle.durable_worker.proofs.DurableLemmas.InVain.{as_on_disk, settled_vainly, asked_vainly}
 use Rattle.durable_worker.proofs.DurableLemmas.Asking.{asks_once_of}
 use Rattle.durable_worker.proofs.DurableLemmas.Advancing.{with_process}
+use Rattle.durable_worker.proofs.StoreTurnLemmas.{goes_none, goes_join, goes_stop, runs_join}
+use Rattle.durable_worker.proofs.StoreTurnLemmas.{process_cause}
 use Rattle.durable_worker.proofs.DurableLemmas.Working.{SoFar, so_far_none, works_spent, works_over}
 use Rattle.durable_worker.proofs.DurableLemmas.Working.{works_in_vain, works_settled}
 use Rattle.durable_worker.proofs.DurableLemmas.Working.{works_unsettled}
@@ -50,6 +53,7 @@ module _ {D S O : Type 0} (medium : D → Medium) (gives : Giving S) (takes : Ta
     pub turning : Turning gives takes old.process w.process fuel first source source' outlet
         outlet'
     pub so_far : SoFar medium gives takes old fuel w disk disk' source source' outlet outlet'
+    pub goes : StoreGoes old.store w.store (medium disk) (medium disk')
     pub places : w.store.geometry ≡ old.store.geometry
     pub sectors : (medium disk').sectors ≡ (medium disk).sectors
 
@@ -59,6 +63,7 @@ module _ {D S O : Type 0} (medium : D → Medium) (gives : Giving S) (takes : Ta
   in_slice_none w fuel first disk source outlet none_waits is first_is = record {
     turning = turning_none gives takes w.process fuel first source outlet none_waits is first_is;
     so_far = so_far_none medium gives takes w fuel disk source outlet;
+    goes = goes_none w.store (medium disk);
     places = refl;
     sectors = refl;
   }
@@ -94,6 +99,20 @@ module _ {D S O : Type 0} (medium : D → Medium) (gives : Giving S) (takes : Ta
         works_in_vain medium gives takes old w v fuel left disk mid s t o q i.so_far left_there same
         same_guest why advances
 
+    pub vain_stops : (why : ProcessFault)
+        → StoreStops old.store w.store (Work (work_fault why)) (medium disk) (medium mid)
+    vain_stops why =
+        goes_stop old.store w.store (medium disk) (medium mid) i.goes (Work (work_fault why))
+        (process_cause old.store (medium disk) (medium mid) why)
+
+    -- what comes behind the turns so far
+    pub turn_runs : {T : Type 0} (w' : Running) (disk' : D) (result : Result T DurableFault)
+        → StoreRuns result w.store w'.store (medium mid) (medium disk')
+        → StoreRuns result old.store w'.store (medium disk) (medium disk')
+    turn_runs w' disk' result runs =
+        runs_join old.store w.store (medium disk) (medium mid) i.goes w'.store result
+        (medium disk') runs
+
     -- as a worker without a disk
     pub vain_so_far : (why : ProcessFault) → AdvancesProcess w.process left (Err why) v
         → SlicesOnDiskInVain gives takes old.process fuel (Work (work_fault why)) v s t o q
@@ -106,14 +125,17 @@ module _ {D S O : Type 0} (medium : D → Medium) (gives : Giving S) (takes : Ta
         (disk' : D) (r : O) where
       pub settled_on : ReleasesAll takes v w'.process q r
           → SettlesTurn takes (with_process w v) w' (medium mid) (medium disk') q r
+          → StoreGoes w.store w'.store (medium mid) (medium disk')
           → w'.store.geometry ≡ w.store.geometry → (medium disk').sectors ≡ (medium mid).sectors
           → InSlice old w' fuel first disk disk' s t o r
-      settled_on all settles places sectors = record {
+      settled_on all settles goes places sectors = record {
         turning = released_all gives takes old.process v w'.process fuel first s t o q r
             (owes gives takes old.process w.process v fuel first left s t o q i.turning left_is
             same advances) all;
         so_far = works_settled medium gives takes old w v fuel left disk mid s t o q i.so_far
             left_there same same_guest advances w' disk' r settles;
+        goes = goes_join old.store w.store (medium disk) (medium mid) i.goes w'.store
+            (medium disk') goes;
         places = places ∙ i.places;
         sectors = sectors ∙ i.sectors;
       }
@@ -149,13 +171,16 @@ module _ {D S O : Type 0} (medium : D → Medium) (gives : Giving S) (takes : Ta
       pub given_on : AsksOnce gives kind v (Ok true) w'.process t u
           → w'.process.host.released ≡ v.host.released
           → AsksTurn gives (with_process w v) kind (Ok true) w' (medium mid) (medium disk') t u
+          → StoreGoes w.store w'.store (medium mid) (medium disk')
           → w'.store.geometry ≡ w.store.geometry → (medium disk').sectors ≡ (medium mid).sectors
           → InSlice old w' fuel first disk disk' s u o q
-      given_on once still asked places sectors = record {
+      given_on once still asked goes places sectors = record {
         turning = given gives takes old.process v w'.process fuel first s t u o q kind wishing once
             still;
         so_far = works_given medium gives takes old w v fuel left disk mid s t o q i.so_far
             left_there same same_guest kind advances w' disk' u asked;
+        goes = goes_join old.store w.store (medium disk) (medium mid) i.goes w'.store
+            (medium disk') goes;
         places = places ∙ i.places;
         sectors = sectors ∙ i.sectors;
       }

@@ -30,7 +30,7 @@ use Rattle.worker_store.specs.declared.fault.StoreFault.TheVariants as store
 use Rattle.worker_store.specs.declared.store.WorkerStore.{WorkerStore}
 use Rattle.worker_store.specs.rules.Calls.{IsAgain, LeavesPointOrNext, StoresAgain}
 use Rattle.worker_store.specs.rules.Calls.{ReopeningFails, CommitCalls}
-use Rattle.worker_store.specs.rules.Stores.{IsStoreOf}
+use Rattle.worker_store.specs.rules.Stores.{IsStoreOf, begun_store}
 use Rattle.durable_worker.specs.declared.fault.DurableFault.TheVariants.{Store}
 use Rattle.durable_worker.specs.declared.found.Found.{Found}
 use Rattle.durable_worker.specs.declared.recover_fault.RecoverFault.{RecoverFault}
@@ -172,13 +172,15 @@ module _ {D : Type 0} (medium : D → Medium) (geometry : Geometry) (generation 
 
     pub opens_next : (store : WorkerStore)
         → StoresAgain geometry next v store (medium mid) (medium new)
+        → store ≡ begun_store geometry next
         → store.journal.generation ≡ next → store.geometry ≡ geometry
         → CommitCalls {T = WorkerStore} geometry next v (Ok store) (medium mid) (medium new)
         → OpensStore geometry generation v store (medium mid) (medium new)
-    opens_next store stores numbered placed calls = record {
+    opens_next store stores begun numbered placed calls = record {
       writes = writes_next;
       stores = subst (λ n. StoresAgain geometry n v store (medium mid) (medium new)) is_next
           stores;
+      begun = begun ∙ ap (λ n. begun_store geometry n) is_next;
       numbered = numbered ∙ is_next;
       placed = placed;
       calls = subst (λ n. CommitCalls {T = WorkerStore} geometry n v (Ok store) (medium mid)

@@ -1,6 +1,6 @@
 -- Why a slice of a worker on its disk fails, and what it has done until then (this project's own).
 -- It is said in the words of a worker that has no disk.
-use Rattle.std.specs.Prelude.{◌≡◌, ◌⊎◌, ℕ, ◌<◌, ◌≤◌, List, Option, Some, None}
+use Rattle.std.specs.Prelude.{◌≡◌, ◌⊎◌, ℕ, ◌<◌, ◌≤◌, List, Option, Some, None, true}
 use Rattle.wasi_abi.specs.declared.answer.Kind.{Kind}
 use Rattle.wasi_calls_rules.specs.Hosts.{Line}
 use Rattle.process_rules.specs.Processes.{ProcessState, Guest}
@@ -8,6 +8,8 @@ use Rattle.process_rules.specs.Runs.{Wants, next_of}
 use Rattle.process.specs.rules.Values.{ProcessValue, ShowsProcess}
 use Rattle.process.specs.rules.Stops.{CallsHost}
 use Rattle.wasi_abi.specs.declared.answer.Answer.{Answer}
+use Rattle.sector_disk.specs.rules.Medium.{Medium, spare}
+use Rattle.disk_layout.specs.declared.geometry.Geometry.{Geometry}
 use Rattle.record_replay.specs.rules.Calls.{Giving, Taking, Exchange}
 use Rattle.worker_store.specs.declared.fault.StoreFault.TheVariants as store
 use Rattle.worker.specs.Turns.{working, failing}
@@ -15,6 +17,7 @@ use Rattle.worker.specs.declared.fault.WorkFault.TheVariants as work
 use Rattle.worker.specs.rules.Faults.{LeadsUpTo, EmitsLast, Fails, IsCause}
 use Rattle.durable_worker.specs.declared.fault.DurableFault.{DurableFault}
 use Rattle.durable_worker.specs.declared.fault.DurableFault.TheVariants.{Work, Disk, Store}
+use Rattle.durable_worker.specs.rules.DurableValues.{DurableValue}
 
 -- It stops where the disk is wanted. The lines of the last step aren't told yet, or all lines were.
 abbrev pub StopsAtDisk : Guest → ProcessState → List Exchange → ℕ → ProcessState → Type 0
@@ -63,3 +66,24 @@ SlicesOnDiskInVain gives takes old fuel why new source source' outlet outlet' =
     (guest : Guest) (p : ProcessState) → ShowsProcess old guest p
     → (fails : Fails gives takes (working old) (failing new) guest p source source' outlet outlet')
     × IsDiskCause guest p fuel fails.exchanges fails.steps fails.process why
+
+-- ---- on whatever disk
+
+-- Before its next good sync the disk surely takes fewer writes than the journal has sectors, or
+-- than an area has; or it surely takes none.
+abbrev pub LacksRoom : Geometry → Medium → Type 0
+LacksRoom places disk = (spare disk < places.journal_sectors)
+    ⊎ (spare disk < places.area_sectors) ⊎ (disk.room ≡ 0)
+
+-- When an error of a slice comes, whatever stands on the disk. A fault of the disk comes only where
+-- the disk has failed since, or lacks room. A worker says that it has failed only where it had
+-- failed before. No other fault of its store comes but those of its journal and its next image.
+abbrev pub HasSliceCause : DurableValue → Medium → Medium → DurableFault → Type 0
+HasSliceCause w old new (Disk fault) =
+    LacksRoom w.store.geometry old ⊎ (old.faults < new.faults)
+HasSliceCause w old new (Work work.Failed) = w.has_failed ≡ true
+HasSliceCause w old new (Work other) = Unit {0}
+HasSliceCause w old new (Store store.Full) = Unit {0}
+HasSliceCause w old new (Store store.TooLong) = Unit {0}
+HasSliceCause w old new (Store store.TooBig) = Unit {0}
+HasSliceCause w old new (Store other) = ⊥

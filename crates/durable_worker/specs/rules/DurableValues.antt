@@ -2,6 +2,7 @@
 use Rattle.std.specs.Prelude.{◌≡◌, ℕ, Bool, false, []}
 use Rattle.process.specs.rules.Values.{ProcessValue, waiting_in}
 use Rattle.worker_store.specs.declared.store.WorkerStore.{WorkerStore}
+use Rattle.worker_store.specs.rules.Stores.{IsUnfailed}
 use Rattle.durable_worker.specs.declared.running.Running.{Running}
 use Rattle.worker.specs.rules.Values.{WorkerValue}
 
@@ -22,9 +23,9 @@ durable_of running replayed has_failed = record {
   has_failed = has_failed;
 }
 
--- until a call has failed no line waits between two calls
+-- until a call has failed no line waits between two calls, and none of its store has failed
 abbrev pub IsDurable : DurableValue → Type 0
-IsDurable w = w.has_failed ≡ false → waiting_in w.process ≡ []
+IsDurable w = w.has_failed ≡ false → (waiting_in w.process ≡ []) × IsUnfailed w.store
 
 -- the same worker without its disk
 abbrev pub without_disk : DurableValue → WorkerValue

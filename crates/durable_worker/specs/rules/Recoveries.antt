@@ -16,6 +16,7 @@ use Rattle.sector_disk.specs.declared.fault.DiskFault.{DiskFault}
 use Rattle.sector_disk.specs.rules.Image.{Image}
 use Rattle.sector_disk.specs.rules.Medium.{Medium, IsAllSynced, Stays, BeginsCalls, LeavesOnly}
 use Rattle.disk_layout.specs.declared.fault.LayoutFault.TheVariants.{NotAWorker}
+use Rattle.disk_layout.specs.declared.geometry.Geometry.{Geometry}
 use Rattle.disk_layout.specs.rules.Places.{geometry_of, area_place, rounded_up, total_sectors}
 use Rattle.disk_layout.specs.rules.Stored.{OnlyReads}
 use Rattle.snapshot.specs.declared.writing.Writing.TheVariants.{Changes}
@@ -198,6 +199,16 @@ MayNotReopen config promise phase (Worker (Disk fault)) old new =
 MayNotReopen config promise phase (Worker (Store store.TooBig)) old new =
     (phase ≡ Shut) × (NUMBERS_END ≤ promise.events + 1)
 MayNotReopen config promise phase other old new = ⊥
+
+-- When an error comes, whatever stands on the disk. A fault of the disk comes only where the disk
+-- has failed since. Or it surely takes fewer writes between two syncs than an area has sectors of
+-- some worker for which it has room, or none. No worker says that it has failed before.
+abbrev pub HasRecoveryCause : Medium → Medium → RecoverFault → Type 0
+HasRecoveryCause old new (Worker (Disk fault)) = (old.faults < new.faults)
+    ⊎ ((places : Geometry) × (total_sectors places ≤ old.sectors)
+    × ((old.room < places.area_sectors) ⊎ (old.room ≡ 0)))
+HasRecoveryCause old new (Worker (Work work.Failed)) = ⊥
+HasRecoveryCause old new other = Unit {0}
 
 -- The lines that were told keep what was promised, and so does the disk.
 pub record ReopensInVain (m : Module) (config : Settings) (promise : Promise) (inputs : Inputs)

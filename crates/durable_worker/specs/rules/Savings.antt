@@ -1,6 +1,6 @@
 -- What a barrier and a commit, one after the other, do to a store and its disk (this project's
 -- own).
-use Rattle.std.specs.Prelude.{◌≡◌, ◌⊎◌, ◌+◌, ◌*◌, ◌<◌, ◌≤◌, List, ◌++◌, length, Result}
+use Rattle.std.specs.Prelude.{◌≡◌, ◌⊎◌, ◌+◌, ◌-◌, ◌*◌, ◌<◌, ◌≤◌, List, ◌++◌, length, Result}
 use Rattle.wasm_syntax.specs.declared.module.Module.{Module}
 use Rattle.wasi_abi.specs.declared.numbers.TheConstants.{NUMBERS_END}
 use Rattle.wasi_abi.specs.rules.Configs.{Settings}
@@ -10,7 +10,7 @@ use Rattle.state_image.specs.rules.Image.{image}
 use Rattle.state_image.specs.rules.Saving.{saved_of}
 use Rattle.sector_disk.specs.declared.disk_call.DiskCall.{DiskCall}
 use Rattle.sector_disk.specs.declared.sector.TheConstants.{SECTOR_SIZE}
-use Rattle.sector_disk.specs.rules.Medium.{Medium, LeavesOnly, MakesCalls}
+use Rattle.sector_disk.specs.rules.Medium.{Medium, LeavesOnly, MakesCalls, spare}
 use Rattle.disk_layout.specs.rules.Places.{area_place, rounded_up}
 use Rattle.disk_layout.specs.rules.Journal.{Record}
 use Rattle.journal.specs.rules.Packed.{sectors_for}
@@ -21,9 +21,9 @@ use Rattle.worker_store.specs.laws.Savepoints.{Savepoint}
 use Rattle.worker_store.specs.laws.Commits.{IsNextPoint}
 use Rattle.worker_store.specs.laws.Saves.{StandsAtFrontOrNext}
 use Rattle.worker_store.specs.declared.fault.StoreFault.{StoreFault}
-use Rattle.worker_store.specs.declared.fault.StoreFault.TheVariants.{TooBig, Disk}
+use Rattle.worker_store.specs.declared.fault.StoreFault.TheVariants.{TooBig, Full, Disk, Failed}
 use Rattle.worker_store.specs.declared.store.WorkerStore.{WorkerStore}
-use Rattle.worker_store.specs.rules.Stores.{IsStoreOf}
+use Rattle.worker_store.specs.rules.Stores.{IsStoreOf, IsUnfailed}
 
 -- a cut at any moment leaves a front of the records that are pending, or the new snapshot
 abbrev pub LeavesFrontOrNext : WorkerStore → ProcessValue → Medium → Medium → Type 0
@@ -54,6 +54,19 @@ IsSaveFault store process old new (Disk fault) =
     (old.room < sectors_for (length store.journal.kept))
     ⊎ (old.room < store.geometry.area_sectors) ⊎ (old.room ≡ 0) ⊎ (old.faults < new.faults)
 IsSaveFault store process old new other = ⊥
+
+-- When each error comes of any store. Then the journal may have too few sectors for the pending
+-- records too, the disk may have taken writes since its last good sync, and a call have failed.
+abbrev pub HasSaveCause : WorkerStore → ProcessValue → Medium → Medium → StoreFault → Type 0
+HasSaveCause store process old new TooBig = (NUMBERS_END ≤ store.journal.generation + 1)
+    ⊎ (SECTOR_SIZE * store.geometry.area_sectors < length (image (saved_of process)))
+HasSaveCause store process old new Full = store.geometry.journal_sectors - store.journal.used
+    < sectors_for (length store.journal.kept)
+HasSaveCause store process old new (Disk fault) =
+    (spare old < sectors_for (length store.journal.kept))
+    ⊎ (spare old < store.geometry.area_sectors) ⊎ (old.room ≡ 0) ⊎ (old.faults < new.faults)
+HasSaveCause store process old new Failed = IsUnfailed store → ⊥
+HasSaveCause store process old new other = ⊥
 
 -- so it is of every store of a worker on this disk
 abbrev pub SaveFails : WorkerStore → ProcessValue → Medium → Medium → StoreFault → Type 0

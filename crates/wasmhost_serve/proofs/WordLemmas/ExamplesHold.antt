@@ -106,4 +106,7 @@ help_examples = record {
   of_a_creation = refl;
   of_a_run = refl;
   of_a_story = refl;
+  version = refl;
+  short_version = refl;
+  version_of_a_run = refl;
 }

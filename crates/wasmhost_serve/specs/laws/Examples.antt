@@ -202,7 +202,7 @@ pub record OptionMistakes : Type 0 where
   pub entry_of_a_story : WordsFail (story_line (codes "--env" ∷ codes "a=b" ∷ []))
       (kind.UnknownArgument ∷ [])
 
--- help is asked for
+-- help or the version is asked for
 pub record HelpExamples : Type 0 where
   pub of_the_program : WordsFail (line (codes "--help" ∷ [])) (kind.DisplayHelp ∷ [])
   pub of_a_creation : WordsFail (line (codes "create" ∷ codes "--help" ∷ []))
@@ -210,3 +210,6 @@ pub record HelpExamples : Type 0 where
   pub of_a_run : WordsFail (line (codes "run" ∷ codes "-h" ∷ [])) (kind.DisplayHelp ∷ [])
   pub of_a_story : WordsFail (line (codes "story" ∷ codes "--help" ∷ []))
       (kind.DisplayHelp ∷ [])
+  pub version : WordsFail (line (codes "--version" ∷ [])) (kind.DisplayVersion ∷ [])
+  pub short_version : WordsFail (line (codes "-V" ∷ [])) (kind.DisplayVersion ∷ [])
+  pub version_of_a_run : WordsFail (run_line (codes "--version" ∷ [])) (kind.UnknownArgument ∷ [])

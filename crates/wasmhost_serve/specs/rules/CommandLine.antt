@@ -1,5 +1,5 @@
 -- The commands of the program, their arguments and their options.
-use Rattle.std.specs.Prelude.{◌≡◌, ℕ, ◌-◌, ◌^◌, true, false, Some, codes}
+use Rattle.std.specs.Prelude.{◌≡◌, ℕ, ◌-◌, ◌^◌, true, false, Some, codes, IsSomeAnd}
 use Rattle.clap.specs.Words.{App, Rule, Text, app_of, is_broken, new_app, new_rule, rule_of}
 use Rattle.clap.specs.Words.{with_rule, with_subcommand}
 use Rattle.clap.specs.Simple.{on_top}
@@ -92,9 +92,15 @@ abbrev pub story_app : App
 story_app = with_rule (with_rule (with_rule bare_story_app (number_rule (codes "pages") 0))
     (number_rule (codes "files") 0)) (number_rule (codes "journal") 0)
 
--- the program, which requires a command
+-- What `--version` says of the program: its version, that of the disks which it makes, and the kit
+-- that has proved it.
+abbrev pub version_words : Text
+version_words = codes "0.1.0, disk layout 1, kit rattle-kit-13f"
+
+-- the program, which requires a command, and has a version
 abbrev pub bare_app : App
-bare_app = on_top (λ top. record top { subcommand_required = true }) (new_app (codes "wasmhost"))
+bare_app = on_top (λ top. record top { subcommand_required = true; has_version = true })
+    (new_app (codes "wasmhost"))
 
 -- the same, with the commands for modules
 abbrev pub half_app : App
@@ -113,6 +119,11 @@ wasmhost = with_subcommand disks_app story_app.top
 -- the argument has this rule, and belongs to its command alone
 abbrev pub IsArgument : Rule → Arg → Type 0
 IsArgument rule argument = (rule_of argument ≡ rule) × (argument.global ≡ false)
+
+-- the command says this of its version
+abbrev pub HasVersion : Text → Command → Type 0
+HasVersion words command =
+    IsSomeAnd (out-Command command).version (λ text. text.now ≡ words)
 
 -- the command is this one, whole, and none of its arguments is global
 abbrev pub IsCommand : App → Command → Type 0

@@ -18,7 +18,7 @@ fn words_of_cause(cause: OpenCause) -> &'static str
         OpenCause::Folder => "failed K2 Io\nthe path is a folder",
         OpenCause::Missing => "failed K2 Io\nthere is no such path",
         OpenCause::Forbidden => "failed K2 Io\nthere is no permission",
-        OpenCause::Exists => "failed K2 Io\nthere is such a path already",
+        OpenCause::Exists => "failed K2 Io\nfile exists",
         OpenCause::NoRoom => "failed K2 Io\nthe device has no room",
         OpenCause::TooLarge => "failed K2 Io\nthe file would be too large",
         OpenCause::Other => "failed K2 Io\nthe system failed",

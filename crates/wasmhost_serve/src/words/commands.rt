@@ -9,15 +9,31 @@ ghost use Rattle.wasmhost_serve.specs.rules.CommandLine.{number_rule, paced_run_
 ghost use Rattle.wasmhost_serve.specs.rules.CommandLine.{rewrite_rule, run_app, seed_rule};
 ghost use Rattle.wasmhost_serve.specs.rules.CommandLine.{seeded_run_app, show_app};
 ghost use Rattle.wasmhost_serve.specs.rules.CommandLine.{sized_create_app, story_app, wasmhost};
+ghost use Rattle.wasmhost_serve.specs.rules.CommandLine.{HasVersion, version_words};
 
 use clap::{Arg, ArgAction, Command, value_parser};
 use std::alloc::{AllocError, Global};
 
+/// What `--version` says: the version of the program, of the disks that it makes, and the kit.
+const VERSION: &str = "0.1.0, disk layout 1, kit rattle-kit-13f";
+
+/// What MODULE is.
+const MODULE: &str = "File of the WebAssembly module";
+
+/// What DISK is, where its worker is there already.
+const WORKER_DISK: &str = "File of the disk";
+
+/// How requests are given to a run.
+const REQUESTS: &str = "Requests are lines of the standard input, for example: 1 r hello";
+
 /// A path, which has to be given.
-fn path_argument<'a>(alloc: Global, name: &'a str) -> Arg<'a>
+fn path_argument<'a>(alloc: Global, name: &'a str, help: &'a str) -> Arg<'a>
     ensures { IsArgument (path_rule name.entry.now) result }
 {
-    Arg::new(alloc, name).required(true).action(ArgAction::Set)
+    Arg::new(alloc, name)
+        .help(help)
+        .required(true)
+        .action(ArgAction::Set)
 }
 
 /// An option with any number of 64 bits.
@@ -58,7 +74,7 @@ fn seed_option<'a>(alloc: Global) -> Arg<'a>
 {
     Arg::new(alloc, "seed")
         .long("seed")
-        .help("Seed of random bytes, 64 hexadecimal digits; zeros where none is given")
+        .help("Seed of random bytes, 64 hexadecimal digits; default zeros")
         .value_name("HEX")
 }
 
@@ -78,37 +94,41 @@ fn check_command<'a>(alloc: Global) -> Result<Command<'a>, AllocError>
 {
     Command::new(alloc, "check")
         .about("Say whether a module is accepted")
-        .arg(path_argument(alloc, "MODULE"))
+        .arg(path_argument(alloc, "MODULE", MODULE))
 }
 
 /// A command with the path of a disk.
-fn disk_command<'a>(alloc: Global, name: &'a str, about: &'a str) -> Result<Command<'a>, AllocError>
+fn disk_command<'a>(
+    alloc: Global,
+    name: &'a str,
+    about: &'a str,
+    disk: &'a str,
+) -> Result<Command<'a>, AllocError>
     ensures { IfOk result (IsCommand (disk_app name.entry.now)) }
 {
     Command::new(alloc, name)
         .about(about)
-        .arg(path_argument(alloc, "DISK"))
+        .arg(path_argument(alloc, "DISK", disk))
 }
 
 /// The command `create`, with its paths.
 fn bare_create_command<'a>(alloc: Global) -> Result<Command<'a>, AllocError>
     ensures { IfOk result (IsCommand bare_create_app) }
 {
-    disk_command(
-        alloc,
-        "create",
-        "Make a disk with a fresh worker; words behind -- are its own",
-    )?
-    .arg(path_argument(alloc, "MODULE"))
+    let about = "Make a disk with a fresh worker; arguments after -- go to the worker";
+    let disk = "File of the disk, which must not be there yet";
+    disk_command(alloc, "create", about, disk)?
+        .override_usage("wasmhost create [OPTIONS] <DISK> <MODULE> [-- ARG..]")
+        .arg(path_argument(alloc, "MODULE", MODULE))
 }
 
 /// The same with the options `--pages`, `--files` and `--journal`.
 fn sized_create_command<'a>(alloc: Global) -> Result<Command<'a>, AllocError>
     ensures { IfOk result (IsCommand sized_create_app) }
 {
-    let pages = "Pages of 65536 bytes of its memory, 16 where none are given";
-    let files = "Units of 65536 bytes of its files, 16 where none are given";
-    let journal = "Sectors of its journal, 256 where none are given";
+    let pages = "Pages of 65536 bytes of its memory, default 16";
+    let files = "Units of 65536 bytes of its files, default 16";
+    let journal = "Sectors of its journal, default 256";
     bare_create_command(alloc)?
         .arg(number_option(alloc, "pages", pages))?
         .arg(number_option(alloc, "files", files))?
@@ -126,9 +146,10 @@ fn paced_run_command<'a>(alloc: Global) -> Result<Command<'a>, AllocError>
     ensures { IfOk result (IsCommand paced_run_app) }
 {
     let about = "Run the worker of a disk: request lines in, its lines out";
-    let fuel = "Steps of a slice, 100000 where none are given";
-    let every = "Slices between two checkpoints, 100 where none are given";
-    disk_command(alloc, "run", about)?
+    let fuel = "Steps of a slice, default 100000";
+    let every = "Slices between two checkpoints, default 100";
+    disk_command(alloc, "run", about, WORKER_DISK)?
+        .after_help(REQUESTS)
         .arg(positive_option(alloc, "fuel", fuel))?
         .arg(positive_option(alloc, "every", every))
 }
@@ -137,7 +158,7 @@ fn paced_run_command<'a>(alloc: Global) -> Result<Command<'a>, AllocError>
 fn seeded_run_command<'a>(alloc: Global) -> Result<Command<'a>, AllocError>
     ensures { IfOk result (IsCommand seeded_run_app) }
 {
-    let clock = "Nanoseconds of both clocks, the machine's time where none are given";
+    let clock = "Nanoseconds of both clocks, default the machine's time";
     paced_run_command(alloc)?
         .arg(seed_option(alloc))?
         .arg(number_option(alloc, "clock", clock))
@@ -152,7 +173,8 @@ fn run_command<'a>(alloc: Global) -> Result<Command<'a>, AllocError>
 fn show_command<'a>(alloc: Global) -> Result<Command<'a>, AllocError>
     ensures { IfOk result (IsCommand show_app) }
 {
-    disk_command(alloc, "show", "Say where the worker of a disk stands")
+    let about = "Say where the worker of a disk stands";
+    disk_command(alloc, "show", about, WORKER_DISK)
 }
 
 /// The command `story`, with its paths.
@@ -161,17 +183,17 @@ fn bare_story_command<'a>(alloc: Global) -> Result<Command<'a>, AllocError>
 {
     Command::new(alloc, "story")
         .about("Tell the lives of a worker on a disk in memory, as a script says")
-        .arg(path_argument(alloc, "SCRIPT"))?
-        .arg(path_argument(alloc, "MODULE"))
+        .arg(path_argument(alloc, "SCRIPT", "File of the script"))?
+        .arg(path_argument(alloc, "MODULE", MODULE))
 }
 
 /// The same with the options `--pages`, `--files` and `--journal`.
 fn story_command<'a>(alloc: Global) -> Result<Command<'a>, AllocError>
     ensures { IfOk result (IsCommand story_app) }
 {
-    let pages = "Pages of 65536 bytes of its memory, 1 where none are given";
-    let files = "Units of 65536 bytes of its files, 1 where none are given";
-    let journal = "Sectors of its journal, 64 where none are given";
+    let pages = "Pages of 65536 bytes of its memory, default 1";
+    let files = "Units of 65536 bytes of its files, default 1";
+    let journal = "Sectors of its journal, default 64";
     bare_story_command(alloc)?
         .arg(number_option(alloc, "pages", pages))?
         .arg(number_option(alloc, "files", files))?
@@ -180,10 +202,12 @@ fn story_command<'a>(alloc: Global) -> Result<Command<'a>, AllocError>
 
 /// The program, without its commands.
 fn bare_command<'a>(alloc: Global) -> Command<'a>
-    ensures { IsCommand bare_app result }
+    ensures command { IsCommand bare_app result }
+    ensures version { HasVersion version_words result }
 {
     Command::new(alloc, "wasmhost")
         .about("Durable WebAssembly workers")
+        .version(VERSION)
         .subcommand_required(true)
 }
 

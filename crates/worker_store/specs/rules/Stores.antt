@@ -1,12 +1,14 @@
 -- The store of a worker on its disk (this project's own).
-use Rattle.std.specs.Prelude.{◌≡◌, ◌-◌, ◌*◌, ◌^◌, ◌<◌, ◌≤◌, List, ◌++◌, length, false}
+use Rattle.std.specs.Prelude.{◌≡◌, ℕ, ◌+◌, ◌-◌, ◌*◌, ◌^◌, ◌<◌, ◌≤◌, List, [], ◌++◌, length, false}
 use Rattle.wasm_syntax.specs.declared.module.Module.{Module}
 use Rattle.wasi_abi.specs.rules.Configs.{Settings}
 use Rattle.process_rules.specs.Processes.{ProcessState}
 use Rattle.sector_disk.specs.rules.Medium.{Medium, IsAllSynced}
+use Rattle.disk_layout.specs.declared.geometry.Geometry.{Geometry}
 use Rattle.disk_layout.specs.declared.journal_sectors.TheConstants.{PAYLOAD_SIZE}
 use Rattle.disk_layout.specs.rules.Places.{total_sectors}
 use Rattle.disk_layout.specs.rules.Journal.{Record, record_bytes}
+use Rattle.journal.specs.rules.Packed.{sectors_for}
 use Rattle.journal.specs.rules.State.{state}
 use Rattle.worker_store.specs.laws.Savepoints.{Savepoint, places}
 use Rattle.worker_store.specs.laws.Journaled.{IsJournaled}
@@ -29,12 +31,32 @@ pub record IsStoreOf {m : Module} {config : Settings} (point : Savepoint m confi
   pub settled : IsAllSynced disk
   pub early : point.generation < 2 ^ 63
 
+-- where a generation begins: there is no record of it, and no call has failed
+abbrev pub begun_store : Geometry → ℕ → WorkerStore
+begun_store geometry g = record {
+  geometry = geometry;
+  journal = state g 0 [] false;
+  has_failed = false;
+}
+
 -- with one more record in memory
 abbrev pub with_record : WorkerStore → Record → WorkerStore
 with_record store r = record store {
   journal = state store.journal.generation store.journal.used (store.journal.kept ++ record_bytes r)
       false;
 }
+
+-- with all records on the disk, in the next sectors of the journal
+abbrev pub with_stored : WorkerStore → WorkerStore
+with_stored store = record store {
+  journal = state store.journal.generation
+      (store.journal.used + sectors_for (length store.journal.kept)) [] false;
+}
+
+-- no call has failed
+pub record IsUnfailed (store : WorkerStore) : Type 0 where
+  pub works : store.has_failed ≡ false
+  pub journal_works : store.journal.has_failed ≡ false
 
 -- it keeps the same places and the same generation
 pub record IsOfStore (before after : WorkerStore) : Type 0 where

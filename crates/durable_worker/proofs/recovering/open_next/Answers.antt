@@ -13,7 +13,7 @@ returns-in-Ok g c =
     let done = c.in-Ok.ensures in
     opens_next g.D.Disk.medium c.args.geometry.now c.args.generation c.args.process.now
     c.args.disk.now c.in-Some.next next.1 c.reopen.new.disk done.point_or_next done.passes
-    done.some c.in-Ok.store done.durable done.numbered done.placed
+    done.some c.in-Ok.store done.durable done.begun done.numbered done.placed
     done.calls
 
 pub returns-in-Err : goal.returns-in-Err

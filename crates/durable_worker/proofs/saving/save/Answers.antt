@@ -1,10 +1,14 @@
 use Rattle.std.proofs.Common.{◌+◌, ap, ◌∙◌}
-use Rattle.std.proofs.lemmas.Result.{on_ok_weaker}
+use Rattle.std.proofs.lemmas.Result.{on_err_weaker, on_ok_weaker}
 use Rattle.sector_disk.proofs.Moments.{goes_on}
+use Rattle.journal.specs.rules.State.{JournalState}
 use Rattle.durable_worker.proofs.SavingLemmas.{barrier_saves, commit_saves, commit_saved}
 use Rattle.durable_worker.proofs.SavingLemmas.{barrier_calls_begun, commit_calls_behind}
 use Rattle.durable_worker.proofs.SavingLemmas.{barrier_fails}
-use Rattle.durable_worker.proofs.SavingLemmas.{commit_fails, still_room, still_early}
+use Rattle.durable_worker.proofs.SavingLemmas.{commit_fails, still_room}
+use Rattle.durable_worker.proofs.StoreTurnLemmas.{barrier_went, barrier_failed, commit_runs}
+use Rattle.durable_worker.proofs.StoreTurnLemmas.{saves_join, barrier_save_cause}
+use Rattle.durable_worker.proofs.StoreTurnLemmas.{commit_save_cause}
 use Rattle.durable_worker.proofs.saving.save.Goals as goal
 
 pub commit-requires : goal.commit-requires
@@ -19,7 +23,7 @@ returns-in-Err-clause-any_moment g c =
     c.barrier.new.disk c.in-Err.ensures.any_moment
 
 pub returns-in-Err-clause-calls : goal.returns-in-Err-clause-calls
-returns-in-Err-clause-calls g c early =
+returns-in-Err-clause-calls g c =
     let made = c.in-Err.ensures.calls in
     barrier_calls_begun c.args.store.now c.args.process.now c.in-Err.fault
     (g.D.Disk.medium c.args.disk.now) (g.D.Disk.medium c.barrier.new.disk) made.begun
@@ -49,13 +53,12 @@ returns-clause-numbered g c =
     c.commit.ensures.numbered
 
 pub returns-clause-calls : goal.returns-clause-calls
-returns-clause-calls g c early =
+returns-clause-calls g c =
     let made = c.in_default.ensures.calls in
     commit_calls_behind c.args.store.now c.barrier.new.self c.args.process.now c.commit.result
     (g.D.Disk.medium c.args.disk.now) (g.D.Disk.medium c.barrier.new.disk)
     (g.D.Disk.medium c.commit.new.disk) c.in_default.ensures.stays made.all
-    (c.commit.ensures.calls (still_early c.args.store.now c.barrier.new.self
-    c.in_default.ensures.stays early))
+    c.commit.ensures.calls
 
 pub returns-clause-cause : goal.returns-clause-cause
 returns-clause-cause g c =
@@ -73,3 +76,45 @@ returns-clause-passes g c =
     goes_on (g.D.Disk.medium c.args.disk.now) (g.D.Disk.medium c.barrier.new.disk)
     (g.D.Disk.medium c.commit.new.disk) (λ image. Unit {0}) (λ image. Unit {0})
     c.in_default.ensures.passes c.commit.ensures.passes (λ image at. tt)
+
+pub returns-in-Err-clause-runs : goal.returns-in-Err-clause-runs
+returns-in-Err-clause-runs g c =
+    let failed = c.in-Err.ensures in
+    barrier_failed g.D.Disk.medium c.args.store.now c.barrier.new.self c.args.disk.now
+    c.barrier.new.disk failed.stays failed.passes c.in-Err.fault failed.full failed.cause
+    failed.calls.begun
+
+pub returns-in-Err-clause-on_any_disk : goal.returns-in-Err-clause-on_any_disk
+returns-in-Err-clause-on_any_disk g c =
+    barrier_save_cause c.args.store.now c.args.process.now (g.D.Disk.medium c.args.disk.now)
+    (g.D.Disk.medium c.barrier.new.disk) c.in-Err.fault c.in-Err.ensures.cause
+
+pub returns-clause-unnumbered : goal.returns-clause-unnumbered
+returns-clause-unnumbered g c =
+    let stays = c.in_default.ensures.stays in
+    on_err_weaker c.commit.result
+    (λ same. ap (λ (j : JournalState). j.generation) same ∙ stays.generation)
+    c.commit.ensures.unchanged
+
+pub returns-clause-runs : goal.returns-clause-runs
+returns-clause-runs g c =
+    let old = c.args.store.now in
+    let done = c.in_default.ensures in
+    let put = c.commit.ensures in
+    saves_join old c.barrier.new.self c.commit.new.self (g.D.Disk.medium c.args.disk.now)
+    (g.D.Disk.medium c.barrier.new.disk) (g.D.Disk.medium c.commit.new.disk) c.commit.result
+    (barrier_went g.D.Disk.medium old c.barrier.new.self c.args.disk.now c.barrier.new.disk
+    done.stays done.passes tt done.full done.stored done.quiet done.settled done.calls.all)
+    (commit_runs c.barrier.new.self c.commit.new.self c.args.process.now
+    (g.D.Disk.medium c.barrier.new.disk) (g.D.Disk.medium c.commit.new.disk) put.passes put.stays
+    c.commit.result put.begun put.unchanged put.settled put.cause put.calls)
+
+pub returns-clause-on_any_disk : goal.returns-clause-on_any_disk
+returns-clause-on_any_disk g c =
+    let old = c.args.store.now in
+    let done = c.in_default.ensures in
+    commit_save_cause old c.barrier.new.self c.args.process.now (g.D.Disk.medium c.args.disk.now)
+    (g.D.Disk.medium c.barrier.new.disk) (g.D.Disk.medium c.commit.new.disk)
+    (barrier_went g.D.Disk.medium old c.barrier.new.self c.args.disk.now c.barrier.new.disk
+    done.stays done.passes tt done.full done.stored done.quiet done.settled done.calls.all)
+    done.stays c.commit.result c.commit.ensures.cause

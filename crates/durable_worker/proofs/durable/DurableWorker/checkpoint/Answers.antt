@@ -3,7 +3,7 @@ use Rattle.durable_worker.specs.declared.fault.DurableFault.TheVariants.{Work}
 use Rattle.worker.specs.declared.fault.WorkFault.TheVariants as work
 use Rattle.durable_worker.specs.rules.DurableValues.{DurableValue}
 use Rattle.durable_worker.proofs.CheckpointLemmas.{done_keeps, fault_keeps, fault_cause, room_for}
-use Rattle.durable_worker.proofs.CheckpointLemmas.{room_after, saved_in, early_for}
+use Rattle.durable_worker.proofs.CheckpointLemmas.{room_after, saved_in}
 use Rattle.durable_worker.proofs.CheckpointLemmas.{calls_err, calls_ok, failed_carries}
 use Rattle.durable_worker.proofs.CheckpointLemmas.{failed_fails}
 use Rattle.durable_worker.proofs.CheckpointLemmas.{failed_calls}
@@ -23,7 +23,7 @@ returns-then-self-clause-carries g c =
     (Work work.Failed) c.args.self.now
 
 pub returns-then-self-clause-calls : goal.returns-then-self-clause-calls
-returns-then-self-clause-calls g c early =
+returns-then-self-clause-calls g c =
     failed_calls c.args.self.now (Work work.Failed) (g.D.Disk.medium c.args.disk.now)
 
 pub returns-then-self-clause-cause : goal.returns-then-self-clause-cause
@@ -42,13 +42,11 @@ returns-in-Err-clause-carries g c =
     c.in-Err.ensures.cause
 
 pub returns-in-Err-clause-calls : goal.returns-in-Err-clause-calls
-returns-in-Err-clause-calls g c early =
+returns-in-Err-clause-calls g c =
     calls_err g.D.Disk.medium c.self.inside.running c.self.inside.replayed
     c.self.inside.has_failed c.args.self.now c.self.view_is c.args.disk.now
     c.save-saved.new.disk c.in-Err.fault c.from.result
-    (c.in-Err.ensures.calls (early_for g.D.Disk.medium c.self.inside.running
-    c.self.inside.replayed c.self.inside.has_failed c.args.self.now c.self.view_is
-    c.args.disk.now c.save-saved.new.disk early))
+    c.in-Err.ensures.calls
 
 pub returns-in-Err-clause-cause : goal.returns-in-Err-clause-cause
 returns-in-Err-clause-cause g c =
@@ -79,13 +77,10 @@ returns-clause-saved g c =
     c.save-saved.new.disk c.save-saved.new.store c.in_default.ensures.numbered
 
 pub returns-clause-calls : goal.returns-clause-calls
-returns-clause-calls g c early =
+returns-clause-calls g c =
     calls_ok g.D.Disk.medium c.self.inside.running c.self.inside.replayed
     c.self.inside.has_failed c.args.self.now c.self.view_is c.args.disk.now
-    c.save-saved.new.disk tt
-    (c.in_default.ensures.calls (early_for g.D.Disk.medium c.self.inside.running
-    c.self.inside.replayed c.self.inside.has_failed c.args.self.now c.self.view_is
-    c.args.disk.now c.save-saved.new.disk early))
+    c.save-saved.new.disk tt c.in_default.ensures.calls
 
 pub returns-clause-room : goal.returns-clause-room
 returns-clause-room g c =

@@ -1,6 +1,9 @@
 use Rattle.durable_worker.proofs.RecoveryLemmas.Results.{unsettled_carries, not_found_recovers}
 use Rattle.durable_worker.proofs.RecoveryLemmas.Results.{not_found_carries, is_found_recovers}
 use Rattle.durable_worker.proofs.RecoveryLemmas.Results.{is_found_carries}
+use Rattle.durable_worker.proofs.RecoveryLemmas.Results.{settled_by, sync_faulted}
+use Rattle.durable_worker.proofs.RecoveryLemmas.Causes.{unsettled_cause, unfound_cause}
+use Rattle.durable_worker.proofs.RecoveryLemmas.Causes.{revival_cause}
 use Rattle.durable_worker.proofs.durable.DurableWorker.recover.Goals as goal
 
 pub returns-in-Err-clause-carries : goal.returns-in-Err-clause-carries
@@ -37,3 +40,27 @@ returns-in-Ok-clause-carries g c =
     c.find.new.disk c.in_default.field-0 c.in_default.ensures found.reads c.args.outlet.now
     c.revive.new.disk c.revive.new.outlet c.images_fit_areas.ensures c.in-Ok.found found.finds
     found.marks c.revive.result c.revive.ensures
+
+pub returns-in-Err-clause-on_any_disk : goal.returns-in-Err-clause-on_any_disk
+returns-in-Err-clause-on_any_disk g c =
+    let old = g.D.Disk.medium c.args.disk.now in
+    let new = g.D.Disk.medium c.sync.new.self in
+    unsettled_cause old new c.in-Err.fault c.from.result c.from.ensures
+    (sync_faulted old new c.in-Err.fault c.in-Err.ensures)
+
+pub returns-in-Err-find-clause-on_any_disk : goal.returns-in-Err-find-clause-on_any_disk
+returns-in-Err-find-clause-on_any_disk g c =
+    let found = c.in-Err-find.ensures in
+    let passes = c.in_default.ensures.passes in
+    unfound_cause (g.D.Disk.medium c.args.disk.now) (g.D.Disk.medium c.sync.new.self)
+    (g.D.Disk.medium c.find.new.disk) passes.faults c.in-Err-find.fault found.cause
+    found.unfailed
+
+pub returns-in-Ok-clause-on_any_disk : goal.returns-in-Ok-clause-on_any_disk
+returns-in-Ok-clause-on_any_disk g c =
+    let found = c.in-Ok.ensures in
+    revival_cause g.D.Disk.medium g.O.Outlet.takes c.args.disk.now c.find.new.disk
+    c.revive.new.disk
+    (settled_by (g.D.Disk.medium c.args.disk.now) (g.D.Disk.medium c.sync.new.self)
+    (g.D.Disk.medium c.find.new.disk) c.in_default.field-0 c.in_default.ensures found.reads)
+    c.in-Ok.found found.room c.args.outlet.now c.revive.new.outlet c.revive.result c.revive.ensures

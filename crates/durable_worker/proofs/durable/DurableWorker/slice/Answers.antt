@@ -1,4 +1,5 @@
 use Rattle.std.proofs.Common.{◌≡◌, true, ap, sym, ◌∙◌, subst, Ok, Err}
+use Rattle.worker.specs.declared.now.Now.{Now}
 use Rattle.worker.specs.declared.fault.WorkFault.TheVariants as work
 use Rattle.durable_worker.specs.declared.fault.DurableFault.TheVariants.{Work}
 use Rattle.worker.specs.Turns.{working}
@@ -8,6 +9,7 @@ use Rattle.worker.proofs.Worked.{slices_of}
 use Rattle.durable_worker.proofs.DurableLemmas.Working.{slice_carries, slice_fails, failed_carries}
 use Rattle.durable_worker.specs.rules.DurableFailures.{SlicesOnDiskInVain}
 use Rattle.durable_worker.proofs.DurableLemmas.InVain.{not_both}
+use Rattle.durable_worker.proofs.StoreTurnLemmas.{failed_slice_calls}
 use Rattle.durable_worker.proofs.durable.DurableWorker.slice.Goals as goal
 
 pub returns-then-self-clause-carries : goal.returns-then-self-clause-carries
@@ -58,3 +60,8 @@ returns-in-Err-clause-failed g c unfailed =
     subst (λ (w : DurableValue). SlicesOnDiskInVain g.S.Source.gives g.O.Outlet.takes w.process
     c.args.fuel c.in-Err.fault c.work.new.self.process c.args.source.now c.work.new.source
     c.args.outlet.now c.work.new.outlet) c.self.view_is c.in-Err.ensures.failed
+
+pub returns-then-self-clause-calls : goal.returns-then-self-clause-calls
+returns-then-self-clause-calls g c =
+    failed_slice_calls Now c.args.self.now.store (g.D.Disk.medium c.args.disk.now)
+    (Work work.Failed)

@@ -1,6 +1,7 @@
 use Rattle.std.proofs.Common.{arith, refl}
 use Rattle.std.proofs.lemmas.Result.{err_from_is_err_and}
 use Rattle.durable_worker.proofs.DurableLemmas.Rooms.{has_room, makes_room, makes_no_room}
+use Rattle.durable_worker.proofs.StoreTurnLemmas.{goes_none}
 use Rattle.durable_worker.proofs.running.Running.make_room.Goals as goal
 
 pub returns-in_err-save-clause-fails : goal.returns-in_err-save-clause-fails
@@ -26,3 +27,13 @@ pub returns-in_err-save-clause-failed : goal.returns-in_err-save-clause-failed
 returns-in_err-save-clause-failed g c =
     let p = err_from_is_err_and c.from_residual.result c.from_residual.ensures.1 in
     rw (p.1, p.2) (c.in_err-save.field-0.0, refl)
+
+pub returns-then-room-ge-LONGEST_RECORD-clause-runs :
+    goal.returns-then-room-ge-LONGEST_RECORD-clause-runs
+returns-then-room-ge-LONGEST_RECORD-clause-runs g c =
+    goes_none c.args.self.now.store (g.D.Disk.medium c.args.disk.now)
+
+pub returns-in_err-save-clause-runs : goal.returns-in_err-save-clause-runs
+returns-in_err-save-clause-runs g c =
+    let p = err_from_is_err_and c.from_residual.result c.from_residual.ensures.1 in
+    rw (p.1, p.2) c.in_err-save.ensures.runs

@@ -1,9 +1,12 @@
 use Rattle.std.proofs.Common.{refl, inl, inr}
 use Rattle.std.proofs.lemmas.Result.{err_from_is_err_and}
+use Rattle.worker.specs.declared.fault.WorkFault.TheVariants as work
+use Rattle.durable_worker.specs.declared.fault.DurableFault.TheVariants.{Work}
 use Rattle.durable_worker.specs.declared.running.Running.{Running}
 use Rattle.durable_worker.proofs.DurableLemmas.Settling.{settles_not_stored, settles_all}
 use Rattle.durable_worker.proofs.DurableLemmas.Settling.{settles_some}
 use Rattle.durable_worker.proofs.DurableLemmas.InVain.{no_memory, no_number}
+use Rattle.durable_worker.proofs.StoreTurnLemmas.{barrier_went, barrier_failed, goes_stop}
 use Rattle.durable_worker.proofs.running.Running.settle.Goals as goal
 
 pub returns-in_err-barrier-clause-fails : goal.returns-in_err-barrier-clause-fails
@@ -59,3 +62,29 @@ returns-in_err-release_waiting-clause-failed g c =
     let p = err_from_is_err_and c.from_residual-in_err-release_waiting.result
     c.from_residual-in_err-release_waiting.ensures.1 in
     rw (p.1, p.2) (inr (refl, c.in_err-release_waiting.ensures.some))
+
+pub returns-in_err-barrier-clause-runs : goal.returns-in_err-barrier-clause-runs
+returns-in_err-barrier-clause-runs g c =
+    let p = err_from_is_err_and c.from_residual.result c.from_residual.ensures.1 in
+    let failed = c.in_err-barrier.ensures in
+    rw (p.1, p.2) (barrier_failed g.D.Disk.medium c.args.self.now.store c.barrier.new.self
+    c.args.disk.now c.barrier.new.disk failed.stays failed.passes c.in_err-barrier.field-0.0
+    failed.full failed.cause failed.calls.begun)
+
+pub returns-in_err-release_waiting-clause-runs : goal.returns-in_err-release_waiting-clause-runs
+returns-in_err-release_waiting-clause-runs g c =
+    let p = err_from_is_err_and c.from_residual-in_err-release_waiting.result
+    c.from_residual-in_err-release_waiting.ensures.1 in
+    let done = c.in_ok-barrier.ensures in
+    rw (p.1, p.2) (goes_stop c.args.self.now.store c.barrier.new.self
+    (g.D.Disk.medium c.args.disk.now) (g.D.Disk.medium c.barrier.new.disk)
+    (barrier_went g.D.Disk.medium c.args.self.now.store c.barrier.new.self c.args.disk.now
+    c.barrier.new.disk done.stays done.passes tt done.full done.stored done.quiet done.settled
+    done.calls.all) (Work work.Outlet) tt)
+
+pub returns-clause-runs : goal.returns-clause-runs
+returns-clause-runs g c =
+    let done = c.in_ok-barrier.ensures in
+    barrier_went g.D.Disk.medium c.args.self.now.store c.barrier.new.self c.args.disk.now
+    c.barrier.new.disk done.stays done.passes tt done.full done.stored done.quiet done.settled
+    done.calls.all

@@ -1,4 +1,4 @@
-use Rattle.std.proofs.Common.{◌-◌, ap, arith}
+use Rattle.std.proofs.Common.{◌-◌, ap, arith, Bool, Ok, Err}
 use Rattle.std.proofs.lemmas.Result.{err_from_is_err_and}
 use Rattle.worker.proofs.Ending.{turning_counts, spent, over}
 use Rattle.durable_worker.proofs.DurableLemmas.Slicing.{in_slice_none, spent_on, over_on, vain_on}
@@ -6,6 +6,7 @@ use Rattle.durable_worker.proofs.DurableLemmas.Slicing.{settled_on, settled_less
 use Rattle.durable_worker.proofs.DurableLemmas.Slicing.{given_on}
 use Rattle.durable_worker.proofs.DurableLemmas.Slicing.{given_lower, waits_done, waits_on}
 use Rattle.durable_worker.proofs.DurableLemmas.Slicing.{unasked_on}
+use Rattle.durable_worker.proofs.DurableLemmas.Slicing.{vain_stops, turn_runs}
 use Rattle.durable_worker.proofs.DurableLemmas.Slicing.{vain_so_far, unsettled_so_far}
 use Rattle.durable_worker.proofs.DurableLemmas.Slicing.{unasked_so_far}
 use Rattle.durable_worker.proofs.running.Running.work.Goals as goal
@@ -76,7 +77,7 @@ loop-self-preserved-in_ok-settle-in-Owes g c =
     (ap (λ z. c.args.fuel - (z - c.steps-first.result)) c.steps.ensures.value)
     c.in_ok-advance.ensures.released c.in_ok-advance.ensures.guest
     (rw c.in-Owes.is at c.in_ok-advance.ensures.advances) c.settle.new.self c.settle.new.disk
-    c.settle.new.outlet done.all done.settles done.places done.sectors
+    c.settle.new.outlet done.all done.settles done.runs done.places done.sectors
 
 pub loop-self-smaller-in_ok-settle-in-Owes : goal.loop-self-smaller-in_ok-settle-in-Owes
 loop-self-smaller-in_ok-settle-in-Owes g c =
@@ -141,7 +142,7 @@ loop-self-preserved g c =
     c.in_ok-advance.ensures.released c.in_ok-advance.ensures.guest c.in-Asks.kind
     (rw c.in-Asks.is at c.in_ok-advance.ensures.advances) c.ask.new.self c.ask.new.disk
     c.ask.new.source (rw c.if-not-branch.false at done.once) done.released
-    (rw c.if-not-branch.false at done.asks) done.places done.sectors
+    (rw c.if-not-branch.false at done.asks) done.runs done.places done.sectors
 
 pub returns-in_err-advance-clause-failed : goal.returns-in_err-advance-clause-failed
 returns-in_err-advance-clause-failed g c =
@@ -173,3 +174,39 @@ returns-in_err-ask-in-Asks-clause-failed g c =
     c.in_ok-advance.ensures.released c.in_ok-advance.ensures.guest c.in-Asks.kind
     (rw c.in-Asks.is at c.in_ok-advance.ensures.advances) c.ask.new.self c.ask.new.disk
     c.ask.new.source c.in_err-ask-in-Asks.field-0.0 c.in_err-ask-in-Asks.ensures.failed)
+
+pub returns-in_err-advance-clause-runs : goal.returns-in_err-advance-clause-runs
+returns-in_err-advance-clause-runs g c =
+    let p = err_from_is_err_and c.from_residual.result c.from_residual.ensures.1 in
+    rw (p.1, p.2) (vain_stops _ _ _ _ _ c.advance.new.self _ _ _ _ _ _ _ _ _
+    c.loop-self.invariant
+    (ap (λ z. c.args.fuel - (z - c.steps-first.result)) c.steps.ensures.value)
+    c.in_err-advance.ensures.released c.in_err-advance.ensures.guest
+    c.in_err-advance.field-0.0)
+
+pub returns-in_err-settle-in-Owes-clause-runs : goal.returns-in_err-settle-in-Owes-clause-runs
+returns-in_err-settle-in-Owes-clause-runs g c =
+    let p = err_from_is_err_and c.from_residual-in_err-settle-in-Owes.result
+    c.from_residual-in_err-settle-in-Owes.ensures.1 in
+    rw (p.1, p.2) (turn_runs _ _ _ _ _ c.advance.new.self _ _ _ _ _ _ _ _ _
+    c.loop-self.invariant
+    (ap (λ z. c.args.fuel - (z - c.steps-first.result)) c.steps.ensures.value)
+    c.in_ok-advance.ensures.released c.in_ok-advance.ensures.guest {T = Unit {0}}
+    c.settle.new.self c.settle.new.disk (Err c.in_err-settle-in-Owes.field-0.0) c.in_err-settle-in-Owes.ensures.runs)
+
+pub returns-in_err-ask-in-Asks-clause-runs : goal.returns-in_err-ask-in-Asks-clause-runs
+returns-in_err-ask-in-Asks-clause-runs g c =
+    let p = err_from_is_err_and c.from_residual-in_err-ask-in-Asks.result
+    c.from_residual-in_err-ask-in-Asks.ensures.1 in
+    rw (p.1, p.2) (turn_runs _ _ _ _ _ c.advance.new.self _ _ _ _ _ _ _ _ _
+    c.loop-self.invariant
+    (ap (λ z. c.args.fuel - (z - c.steps-first.result)) c.steps.ensures.value)
+    c.in_ok-advance.ensures.released c.in_ok-advance.ensures.guest {T = Bool} c.ask.new.self
+    c.ask.new.disk (Err c.in_err-ask-in-Asks.field-0.0) c.in_err-ask-in-Asks.ensures.runs)
+
+pub returns-then-not-branch-clause-runs : goal.returns-then-not-branch-clause-runs
+returns-then-not-branch-clause-runs g c =
+    turn_runs _ _ _ _ _ c.advance.new.self _ _ _ _ _ _ _ _ _ c.loop-self.invariant
+    (ap (λ z. c.args.fuel - (z - c.steps-first.result)) c.steps.ensures.value)
+    c.in_ok-advance.ensures.released c.in_ok-advance.ensures.guest c.ask.new.self c.ask.new.disk
+    (Ok c.in_ok-ask-in-Asks.field-0) c.in_ok-ask-in-Asks.ensures.runs
