@@ -7,87 +7,101 @@ use wasi_abi::{
 use wasm_syntax::Row;
 use wasm_syntax::ValueType::{self, I32, I64};
 
-static ERRORS: [(Errno, u32); 15] = [
-    (Errno::Badf, 8),
-    (Errno::Exist, 20),
-    (Errno::Fault, 21),
-    (Errno::Fbig, 22),
-    (Errno::Ilseq, 25),
-    (Errno::Inval, 28),
-    (Errno::Isdir, 31),
-    (Errno::Mfile, 33),
-    (Errno::Nametoolong, 37),
-    (Errno::Noent, 44),
-    (Errno::Nospc, 51),
-    (Errno::Notdir, 54),
-    (Errno::Notempty, 55),
-    (Errno::Spipe, 70),
-    (Errno::Notcapable, 76),
+/// What a constant, a call or a configuration is.
+enum Fact {
+    /// An error, and its number.
+    Error(Errno, u32),
+    /// A name, and its call if it has one.
+    Name(&'static str, Option<Call>),
+    /// The parameters and results of a call.
+    Types(Call, &'static [ValueType], &'static [ValueType]),
+    /// Rights, and their number. They are among all rights.
+    Rights(Rights, u64),
+    /// Those of the input are for reads alone.
+    ReadsAlone,
+    /// Those of a file aren't all within those of a directory, and these are in both.
+    Common(u64),
+    FdstatLaidOut,
+    DirentLaidOut,
+    IovecLaidOut,
+    /// Pages, files and sectors of the journal, and whether a configuration may have them.
+    Numbers(u64, u64, u64, bool),
+    /// So many of the same argument and of the same entry, and the fault.
+    Texts(usize, &'static [u8], usize, &'static [u8], Option<ConfigFault>),
+}
+
+const RANGE: Option<ConfigFault> = Some(ConfigFault::Range);
+
+const TEXT: Option<ConfigFault> = Some(ConfigFault::Text);
+
+static FACTS: [Fact; 58] = [
+    Fact::Error(Errno::Badf, 8),
+    Fact::Error(Errno::Exist, 20),
+    Fact::Error(Errno::Fault, 21),
+    Fact::Error(Errno::Fbig, 22),
+    Fact::Error(Errno::Ilseq, 25),
+    Fact::Error(Errno::Inval, 28),
+    Fact::Error(Errno::Isdir, 31),
+    Fact::Error(Errno::Mfile, 33),
+    Fact::Error(Errno::Nametoolong, 37),
+    Fact::Error(Errno::Noent, 44),
+    Fact::Error(Errno::Nospc, 51),
+    Fact::Error(Errno::Notdir, 54),
+    Fact::Error(Errno::Notempty, 55),
+    Fact::Error(Errno::Spipe, 70),
+    Fact::Error(Errno::Notcapable, 76),
+    Fact::Name("args_get", Some(Call::ArgsGet)),
+    Fact::Name("fd_datasync", Some(Call::FdDatasync)),
+    Fact::Name("path_unlink_file", Some(Call::PathUnlinkFile)),
+    Fact::Name("random_get", Some(Call::RandomGet)),
+    Fact::Name("fd_advise", None),
+    Fact::Name("fd_writ", None),
+    Fact::Name("", None),
+    Fact::Types(Call::FdSeek, &[I32, I64, I32, I32], &[I32]),
+    Fact::Types(
+        Call::PathOpen,
+        &[I32, I32, I32, I32, I32, I64, I64, I32, I32],
+        &[I32],
+    ),
+    Fact::Types(Call::SchedYield, &[], &[I32]),
+    Fact::Types(Call::ProcExit, &[I32], &[]),
+    Fact::Rights(Rights::FILE, 0x0060_007f),
+    Fact::Rights(Rights::DIRECTORY, 0x062f_6611),
+    Fact::Rights(Rights::ALL, 0x066f_667f),
+    Fact::Rights(Rights::INPUT, 0x0020_0002),
+    Fact::Rights(Rights::OUTPUT, 0x0020_0040),
+    Fact::ReadsAlone,
+    Fact::Common(0x0020_0011),
+    Fact::FdstatLaidOut,
+    Fact::DirentLaidOut,
+    Fact::IovecLaidOut,
+    Fact::Numbers(1, 1, 64, true),
+    Fact::Numbers(256, 64, 65_536, true),
+    Fact::Numbers(0, 1, 64, false),
+    Fact::Numbers(257, 1, 64, false),
+    Fact::Numbers(1, 0, 64, false),
+    Fact::Numbers(1, 65, 64, false),
+    Fact::Numbers(1, 1, 63, false),
+    Fact::Numbers(1, 1, 65_537, false),
+    Fact::Numbers(0x1_0000_0001, 1, 64, false),
+    Fact::Texts(64, b"worker", 64, b"A=", None),
+    Fact::Texts(65, b"worker", 64, b"A=", RANGE),
+    Fact::Texts(64, b"worker", 65, b"A=", RANGE),
+    Fact::Texts(1, &[b'='; 1024], 0, b"", None),
+    Fact::Texts(1, &[b'='; 1025], 0, b"", RANGE),
+    Fact::Texts(1, b"\0", 1, &[b'='; 1025], RANGE),
+    Fact::Texts(1, b"wor\0ker", 0, b"", TEXT),
+    Fact::Texts(0, b"", 1, b"A=B", None),
+    Fact::Texts(0, b"", 1, b"A==", None),
+    Fact::Texts(0, b"", 1, b"A", TEXT),
+    Fact::Texts(0, b"", 1, b"", TEXT),
+    Fact::Texts(0, b"", 1, b"=B", TEXT),
+    Fact::Texts(0, b"", 1, b"A=\0", TEXT),
 ];
 
-#[test]
-fn numbers_errors(rt: HostRuntime) {
-    for (error, number) in &ERRORS {
-        assert!(rt; error.number() == *number, "{number}");
-    }
-}
-
-static NAMES: [(&str, Option<Call>); 7] = [
-    ("args_get", Some(Call::ArgsGet)),
-    ("fd_datasync", Some(Call::FdDatasync)),
-    ("path_unlink_file", Some(Call::PathUnlinkFile)),
-    ("random_get", Some(Call::RandomGet)),
-    ("fd_advise", None),
-    ("fd_writ", None),
-    ("", None),
-];
-
-fn has_types(call: Call, parameters: &[ValueType], results: &[ValueType]) -> bool {
-    call.parameters() == parameters && call.results() == results
-}
-
-#[test]
-fn knows_names_and_types(rt: HostRuntime) {
-    for (name, call) in &NAMES {
-        assert!(rt; Call::named(name) == *call, "{name}");
-    }
-    assert!(rt; has_types(Call::FdSeek, &[I32, I64, I32, I32], &[I32]));
-    assert!(rt;
-        has_types(
-            Call::PathOpen,
-            &[I32, I32, I32, I32, I32, I64, I64, I32, I32],
-            &[I32]
-        )
-    );
-    assert!(rt; has_types(Call::SchedYield, &[], &[I32]));
-    assert!(rt; has_types(Call::ProcExit, &[I32], &[]));
-}
-
-static RIGHTS: [(Rights, u64); 5] = [
-    (Rights::FILE, 0x0060_007f),
-    (Rights::DIRECTORY, 0x062f_6611),
-    (Rights::ALL, 0x066f_667f),
-    (Rights::INPUT, 0x0020_0002),
-    (Rights::OUTPUT, 0x0020_0040),
-];
-
-fn are_among_all(rights: Rights, number: u64) -> bool {
-    rights.number() == number && rights.is_within(Rights::ALL)
-}
-
-fn are_for_reads_alone(rights: Rights) -> bool {
-    rights.has(Rights::FD_READ) && !rights.has(Rights::FD_WRITE)
-}
-
-#[test]
-fn has_rights(rt: HostRuntime) {
-    for (rights, number) in &RIGHTS {
-        assert!(rt; are_among_all(*rights, *number), "{number}");
-    }
-    assert!(rt; are_for_reads_alone(Rights::INPUT));
-    assert!(rt; !Rights::FILE.is_within(Rights::DIRECTORY));
-    let both = Rights::FILE.intersection(Rights::DIRECTORY);
-    assert!(rt; both == Rights::from_number(0x0020_0011));
+fn are_in_both(number: u64) -> bool {
+    !Rights::FILE.is_within(Rights::DIRECTORY)
+        && Rights::FILE.intersection(Rights::DIRECTORY) == Rights::from_number(number)
 }
 
 fn is_fdstat_laid_out() -> bool {
@@ -124,71 +138,8 @@ fn is_iovec_laid_out() -> bool {
     Iovec::read(b"\x03\x02\x01\0\x07\0\0\0") == buffer
 }
 
-#[test]
-fn lays_out(rt: HostRuntime) {
-    assert!(rt; is_fdstat_laid_out());
-    assert!(rt; is_dirent_laid_out());
-    assert!(rt; is_iovec_laid_out());
-}
-
-/// How long a line may be, what is asked for, a text, and whether it fits as a request.
-type Line = (usize, Kind, &'static [u8], bool);
-
-static LINES: [Line; 4] = [
-    (9, Kind::Request, b"two words", true),
-    (8, Kind::Request, b"two words", false),
-    (9, Kind::Realtime, b"two words", false),
-    (9, Kind::Request, b"one\ntwo", false),
-];
-
-fn is_line_told_so(alloc: Global, row: &Line) -> Result<bool, AllocError> {
-    let text = text(alloc, row.2)?;
-    Ok(fits(row.0, row.1, &Answer::Request { text }) == row.3)
-}
-
-/// Whether two random bytes, one of them a newline, fit where two are asked for, and not where
-/// three are.
-fn are_two_told(alloc: Global) -> Result<bool, AllocError> {
-    let bytes = text(alloc, b"\n\0")?;
-    let answer = Answer::Random { bytes };
-    Ok(
-        fits(0, Kind::Random { length: 2 }, &answer)
-            && !fits(0, Kind::Random { length: 3 }, &answer),
-    )
-}
-
-#[test]
-fn tells_what_fits(rt: HostRuntime) -> Result<(), AllocError> {
-    for (place, row) in LINES.iter().enumerate() {
-        assert!(rt; is_line_told_so(rt.alloc(), row)?, "{place}");
-    }
-    assert!(rt; fits(0, Kind::Request, &Answer::End));
-    assert!(rt; are_two_told(rt.alloc())?);
-    Ok(())
-}
-
-static NUMBERS: [(u64, u64, u64, bool); 9] = [
-    (1, 1, 64, true),
-    (256, 64, 65_536, true),
-    (0, 1, 64, false),
-    (257, 1, 64, false),
-    (1, 0, 64, false),
-    (1, 65, 64, false),
-    (1, 1, 63, false),
-    (1, 1, 65_537, false),
-    (0x1_0000_0001, 1, 64, false),
-];
-
 fn are_numbers_kept(alloc: Global, pages: u64, files: u64, journal: u64) -> bool {
     Config::new(pages, files, journal, Row::new(alloc), Row::new(alloc)).is_ok()
-}
-
-#[test]
-fn keeps_numbers_within_limits(rt: HostRuntime) {
-    for (pages, files, journal, want) in &NUMBERS {
-        let are_kept = are_numbers_kept(rt.alloc(), *pages, *files, *journal);
-        assert!(rt; are_kept == *want, "{pages} {files} {journal}");
-    }
 }
 
 /// The fault of a configuration with so many of the same argument and of the same entry.
@@ -204,45 +155,85 @@ fn fault(
     Ok(Config::new(1, 1, 64, arguments, environment).err())
 }
 
-const RANGE: Option<ConfigFault> = Some(ConfigFault::Range);
-
-const TEXT: Option<ConfigFault> = Some(ConfigFault::Text);
-
-/// So many of the same argument and of the same entry, and the fault.
-type Texts = (
-    usize,
-    &'static [u8],
-    usize,
-    &'static [u8],
-    Option<ConfigFault>,
-);
-
-static TEXTS: [Texts; 13] = [
-    (64, b"worker", 64, b"A=", None),
-    (65, b"worker", 64, b"A=", RANGE),
-    (64, b"worker", 65, b"A=", RANGE),
-    (1, &[b'='; 1024], 0, b"", None),
-    (1, &[b'='; 1025], 0, b"", RANGE),
-    (1, b"\0", 1, &[b'='; 1025], RANGE),
-    (1, b"wor\0ker", 0, b"", TEXT),
-    (0, b"", 1, b"A=B", None),
-    (0, b"", 1, b"A==", None),
-    (0, b"", 1, b"A", TEXT),
-    (0, b"", 1, b"", TEXT),
-    (0, b"", 1, b"=B", TEXT),
-    (0, b"", 1, b"A=\0", TEXT),
-];
-
-fn are_texts_told_so(alloc: Global, row: &Texts) -> Result<bool, AllocError> {
-    Ok(fault(alloc, row.0, row.1, row.2, row.3)? == row.4)
+fn is_so(alloc: Global, fact: &Fact) -> bool {
+    match fact {
+        Fact::Error(error, number) => error.number() == *number,
+        Fact::Name(name, call) => Call::named(name) == *call,
+        Fact::Types(call, parameters, results) => {
+            call.parameters() == *parameters && call.results() == *results
+        }
+        Fact::Rights(rights, number) => {
+            rights.number() == *number && rights.is_within(Rights::ALL)
+        }
+        Fact::ReadsAlone => {
+            Rights::INPUT.has(Rights::FD_READ) && !Rights::INPUT.has(Rights::FD_WRITE)
+        }
+        Fact::Common(number) => are_in_both(*number),
+        Fact::FdstatLaidOut => is_fdstat_laid_out(),
+        Fact::DirentLaidOut => is_dirent_laid_out(),
+        Fact::IovecLaidOut => is_iovec_laid_out(),
+        Fact::Numbers(pages, files, journal, is_kept) => {
+            are_numbers_kept(alloc, *pages, *files, *journal) == *is_kept
+        }
+        Fact::Texts(arguments, argument, entries, entry, wanted) => {
+            fault(alloc, *arguments, argument, *entries, entry) == Ok(*wanted)
+        }
+    }
 }
 
 #[test]
-fn keeps_texts_within_limits(rt: HostRuntime) -> Result<(), AllocError> {
-    for (place, row) in TEXTS.iter().enumerate() {
-        assert!(rt; are_texts_told_so(rt.alloc(), row)?, "{place}");
+fn numbers_layouts_and_limits_are_those_of_the_profile(rt: HostRuntime) {
+    for (place, fact) in FACTS.iter().enumerate() {
+        assert!(rt; is_so(rt.alloc(), fact), "{place}");
     }
-    Ok(())
+}
+
+/// What takes memory.
+enum Kept {
+    /// How long a line may be, what is asked for, a text, and whether it fits as a request.
+    Line(usize, Kind, &'static [u8], bool),
+    /// The end of input fits as a request.
+    End,
+    /// Two random bytes.
+    Random,
+    /// The settings of a configuration.
+    Settings,
+    /// A fault, and what is printed of it.
+    Printed(ConfigFault, &'static str),
+}
+
+static KEPT: [Kept; 9] = [
+    Kept::Line(9, Kind::Request, b"two words", true),
+    Kept::Line(8, Kind::Request, b"two words", false),
+    Kept::Line(9, Kind::Realtime, b"two words", false),
+    Kept::Line(9, Kind::Request, b"one\ntwo", false),
+    Kept::End,
+    Kept::Random,
+    Kept::Settings,
+    Kept::Printed(ConfigFault::Range, "C1 Range"),
+    Kept::Printed(ConfigFault::Text, "C2 Text"),
+];
+
+fn is_line_told_so(
+    alloc: Global,
+    longest: usize,
+    kind: Kind,
+    line: &[u8],
+    is_fit: bool,
+) -> Result<bool, AllocError> {
+    let text = text(alloc, line)?;
+    Ok(fits(longest, kind, &Answer::Request { text }) == is_fit)
+}
+
+/// Whether two random bytes, one of them a newline, fit where two are asked for, and not where
+/// three are.
+fn are_two_told(alloc: Global) -> Result<bool, AllocError> {
+    let bytes = text(alloc, b"\n\0")?;
+    let answer = Answer::Random { bytes };
+    Ok(
+        fits(0, Kind::Random { length: 2 }, &answer)
+            && !fits(0, Kind::Random { length: 3 }, &answer),
+    )
 }
 
 /// Whether it has the numbers 2, 3 and 65, one argument and two entries.
@@ -260,20 +251,28 @@ fn are_settings_given(alloc: Global) -> Result<bool, AllocError> {
     }
 }
 
-#[test]
-fn gives_its_settings(rt: HostRuntime) -> Result<(), AllocError> {
-    assert!(rt; are_settings_given(rt.alloc())?);
-    Ok(())
-}
-
-fn prints(alloc: Global, fault: ConfigFault, text: &str) -> Result<bool, AllocError> {
+fn prints(alloc: Global, fault: &ConfigFault, text: &str) -> Result<bool, AllocError> {
     Ok(format!(in alloc; "{fault}")?.as_str() == text)
 }
 
+fn is_kept_so(alloc: Global, kept: &Kept) -> Result<bool, AllocError> {
+    match kept {
+        Kept::Line(longest, kind, line, is_fit) => {
+            is_line_told_so(alloc, *longest, *kind, line, *is_fit)
+        }
+        Kept::End => Ok(fits(0, Kind::Request, &Answer::End)),
+        Kept::Random => are_two_told(alloc),
+        Kept::Settings => are_settings_given(alloc),
+        Kept::Printed(fault, text) => prints(alloc, fault, text),
+    }
+}
+
+/// `scripts/refused-allocations` refuses each allocation in turn, and then this ends in that.
 #[test]
-fn prints_faults(rt: HostRuntime) -> Result<(), AllocError> {
-    assert!(rt; prints(rt.alloc(), ConfigFault::Range, "C1 Range")?);
-    assert!(rt; prints(rt.alloc(), ConfigFault::Text, "C2 Text")?);
+fn what_is_kept_takes_memory(rt: HostRuntime) -> Result<(), AllocError> {
+    for (place, kept) in KEPT.iter().enumerate() {
+        assert!(rt; is_kept_so(rt.alloc(), kept)?, "{place}");
+    }
     Ok(())
 }
 

@@ -1,15 +1,14 @@
-//! Lines and their edges, refusals that change nothing, and want of memory.
+//! Lines and their edges, answers from outside, refusals that change nothing, and want of memory.
 
 use guest_memory::Memory;
 use std::alloc::{AllocError, Global};
-use std::process::Abort;
-use wasi_abi::{Call, Config, Errno};
+use wasi_abi::{Answer, Call, Config, Errno, Kind};
 use wasi_calls::{CallOutcome, Host, call, lines_begun};
 use wasm_syntax::Row;
 
 /// Why a test has nothing to compare.
 #[derive(Clone, Copy, Debug, PartialEq, Eq)]
-pub(crate) enum CallStop {
+enum CallStop {
     Refused(Errno),
     Memory,
 }
@@ -20,21 +19,22 @@ impl From<AllocError> for CallStop {
     }
 }
 
-/// Where the number of written bytes is put, where bytes lie, and where a page ends.
-const COUNT: u32 = 64;
+/// Where a write puts the number of its bytes, and other calls their result.
+const RESULT: u32 = 64;
 
+/// Where bytes lie, and where a page ends.
 const BYTES: u32 = 1_024;
 
 const END: u32 = 65_536;
 
-/// A host, and a page whose cell for the number of bytes holds 7.
+/// A host, and a page whose cell for results holds 7.
 #[derive(Drop)]
-pub(crate) struct Guest {
-    pub(crate) host: Host,
-    pub(crate) memory: Memory,
+struct Guest {
+    host: Host,
+    memory: Memory,
 }
 
-pub(crate) fn fresh_guest(alloc: Global) -> Result<Guest, CallStop> {
+fn fresh_guest(alloc: Global) -> Result<Guest, CallStop> {
     Ok(Guest {
         host: host(alloc)?,
         memory: page(alloc)?,
@@ -53,27 +53,178 @@ fn page(alloc: Global) -> Result<Memory, CallStop> {
     let Ok(mut memory) = Memory::new(alloc, 1, 1) else {
         return Err(CallStop::Memory);
     };
-    let _ = memory.store_u32(COUNT, 0, 7);
+    let _ = memory.store_u32(RESULT, 0, 7);
     Ok(memory)
 }
 
-/// An iovec at a place.
-fn name(guest: &mut Guest, at: u32, from: u32, len: u32) {
-    let _ = guest.memory.store_u32(at, 0, from);
-    let _ = guest.memory.store_u32(at, 4, len);
+/// What a guest does, or what is seen of it then.
+enum Step {
+    /// These bytes lie at their place.
+    Put(&'static [u8]),
+    /// So many letters lie there, with a newline behind them.
+    PutLine(u32),
+    /// An iovec at a place, of bytes from here on, so many.
+    Name(u32, u32, u32),
+    /// A write to a stream, of so many iovecs from 0 on, with its result there. What comes of it.
+    Write(u32, u32, u32, Option<Errno>),
+    /// An exit with this code.
+    Exit(u32),
+    /// A monotonic time is given, and this one is seen.
+    Time(u64, u64),
+    /// So many random bytes are asked for. What comes of it without an answer.
+    Random(u32, CallOutcome),
+    /// Five random bytes are given, and put.
+    PutRandom,
+    /// What is unfinished is written.
+    End,
+    /// The number at a place.
+    Number(u32, u32),
+    /// The streams and the lengths of the lines that wait.
+    Lines(&'static [(u8, usize)]),
+    /// How many lines wait, and how long the first and the last of them are.
+    Lengths([usize; 3]),
+    /// How many lines a write of one iovec to stream 2 would add, an unfinished one counted.
+    Begins(usize),
 }
 
-fn put(guest: &mut Guest, bytes: &[u8]) {
-    let _ = guest.memory.write(BYTES, bytes);
+/// A name, and what a fresh guest does and shows.
+type Story = (&'static str, &'static [Step]);
+
+static STORIES: [Story; 12] = [
+    (
+        "a line is cut behind 4,096 bytes",
+        &[
+            Step::PutLine(4_097),
+            Step::Name(0, BYTES, 4_098),
+            Step::Write(1, 1, RESULT, None),
+            Step::Lengths([2, 4_096, 1]),
+        ],
+    ),
+    (
+        "one of 4,096 bytes is not cut",
+        &[
+            Step::PutLine(4_096),
+            Step::Name(0, BYTES, 4_097),
+            Step::Write(1, 1, RESULT, None),
+            Step::Lengths([1, 4_096, 4_096]),
+        ],
+    ),
+    (
+        "an empty line is one",
+        &[
+            Step::PutLine(0),
+            Step::Name(0, BYTES, 1),
+            Step::Write(1, 1, RESULT, None),
+            Step::Lengths([1, 0, 0]),
+        ],
+    ),
+    (
+        "a line is cut into two of 4,096 bytes",
+        &[
+            Step::PutLine(8_192),
+            Step::Name(0, BYTES, 8_193),
+            Step::Write(1, 1, RESULT, None),
+            Step::Lengths([2, 4_096, 4_096]),
+        ],
+    ),
+    (
+        "a write refuses before it writes",
+        &[
+            Step::Put(b"hi\n"),
+            Step::Name(0, BYTES, 3),
+            Step::Name(8, END, 1),
+            Step::Write(1, 2, RESULT, Some(Errno::Fault)),
+            Step::Number(RESULT, 7),
+            Step::Lines(&[]),
+            Step::Name(8, END, 0),
+            Step::Write(1, 2, RESULT, None),
+            Step::Number(RESULT, 3),
+            Step::Lines(&[(1, 2)]),
+        ],
+    ),
+    (
+        "a write looks at the cell before it writes",
+        &[
+            Step::Put(b"hi\n"),
+            Step::Name(0, BYTES, 3),
+            Step::Write(1, 1, END - 3, Some(Errno::Fault)),
+            Step::Lines(&[]),
+            Step::Write(1, 1, END - 4, None),
+            Step::Number(END - 4, 3),
+        ],
+    ),
+    (
+        "a write names its refusals",
+        &[
+            Step::Write(0, 0, RESULT, Some(Errno::Notcapable)),
+            Step::Write(1, 0, RESULT, None),
+            Step::Write(2, 1_024, RESULT, None),
+            Step::Write(2, 1_025, RESULT, Some(Errno::Inval)),
+            Step::Write(3, 0, RESULT, Some(Errno::Isdir)),
+            Step::Write(4, 0, RESULT, Some(Errno::Badf)),
+            Step::Write(64, 0, RESULT, Some(Errno::Badf)),
+            Step::Write(4_294_967_295, 0, RESULT, Some(Errno::Badf)),
+        ],
+    ),
+    (
+        "an exit has its code, and a write moves no more than its limit",
+        &[
+            Step::Exit(0xdead_beef),
+            Step::Name(0, 0, 40_000),
+            Step::Name(8, 0, 40_000),
+            Step::Write(2, 2, RESULT, None),
+            Step::Number(RESULT, 65_536),
+        ],
+    ),
+    (
+        "lines of both streams are kept in order",
+        &[
+            Step::Put(b"a\nb\ncd"),
+            Step::Name(0, BYTES, 2),
+            Step::Write(1, 1, RESULT, None),
+            // the second line, and the first letter behind it
+            Step::Name(0, BYTES + 2, 3),
+            Step::Begins(2),
+            Step::Write(2, 1, RESULT, None),
+            Step::Name(0, BYTES + 4, 2),
+            Step::Write(1, 1, RESULT, None),
+            Step::Lines(&[(1, 1), (2, 1)]),
+            Step::End,
+            Step::Lines(&[(1, 1), (2, 1), (1, 2), (2, 1)]),
+        ],
+    ),
+    (
+        "a monotonic time never falls",
+        &[Step::Time(50, 50), Step::Time(40, 50), Step::Time(60, 60)],
+    ),
+    (
+        "random bytes are asked for within the limit",
+        &[
+            Step::Random(0, CallOutcome::Done(None)),
+            Step::Random(1, CallOutcome::Ask(Kind::Random { length: 1 })),
+            Step::Random(4_096, CallOutcome::Ask(Kind::Random { length: 4_096 })),
+            Step::Random(4_097, CallOutcome::Done(Some(Errno::Inval))),
+        ],
+    ),
+    ("random bytes are put", &[Step::PutRandom]),
+];
+
+/// Puts so many letters, with a newline behind them.
+fn is_line_put(guest: &mut Guest, letters: u32) -> bool {
+    for place in 0..letters {
+        if guest.memory.store_u8(BYTES, place, b'a').is_none() {
+            return false;
+        }
+    }
+    guest.memory.store_u8(BYTES, letters, b'\n').is_some()
 }
 
-/// Writes the bytes of so many iovecs from 0 on.
-fn write(alloc: Global, guest: &mut Guest, fd: u32, count: u32) -> CallOutcome {
-    write_with(alloc, guest, fd, count, COUNT)
+fn is_named(guest: &mut Guest, at: u32, from: u32, len: u32) -> bool {
+    guest.memory.store_u32(at, 0, from).is_some() && guest.memory.store_u32(at, 4, len).is_some()
 }
 
-fn write_with(alloc: Global, guest: &mut Guest, fd: u32, count: u32, ret: u32) -> CallOutcome {
-    let arguments = [u64::from(fd), 0, u64::from(count), u64::from(ret)];
+fn write(alloc: Global, guest: &mut Guest, fd: u32, count: u32, cell: u32) -> CallOutcome {
+    let arguments = [u64::from(fd), 0, u64::from(count), u64::from(cell)];
     call(
         alloc,
         &mut guest.host,
@@ -84,227 +235,188 @@ fn write_with(alloc: Global, guest: &mut Guest, fd: u32, count: u32, ret: u32) -
     )
 }
 
-fn exit(alloc: Global, guest: &mut Guest, code: u32) -> CallOutcome {
-    call(
+/// Whether the cell is as it was, and the end writes no line.
+fn is_unchanged(alloc: Global, guest: &mut Guest) -> bool {
+    let is_kept = guest.memory.load_u32(RESULT, 0) == Some(7);
+    guest.host.end(alloc);
+    is_kept && has_lines(guest, &[])
+}
+
+/// Whether a write comes to this. Where memory is wanted for the first one, nothing has changed.
+fn is_written_so(
+    alloc: Global,
+    guest: &mut Guest,
+    outcome: CallOutcome,
+    wanted: Option<Errno>,
+) -> Result<bool, CallStop> {
+    if outcome == CallOutcome::Memory && is_unchanged(alloc, guest) {
+        return Err(CallStop::Memory);
+    }
+    Ok(outcome == CallOutcome::Done(wanted))
+}
+
+fn exits_with(alloc: Global, guest: &mut Guest, code: u32) -> bool {
+    let outcome = call(
         alloc,
         &mut guest.host,
         &mut guest.memory,
         Call::ProcExit,
         &[u64::from(code)],
         None,
+    );
+    outcome == CallOutcome::Exit(code)
+}
+
+/// The guest asks for a monotonic time, and is given this one.
+fn give_time(alloc: Global, guest: &mut Guest, nanoseconds: u64) -> CallOutcome {
+    let answer = Answer::Monotonic { nanoseconds };
+    call(
+        alloc,
+        &mut guest.host,
+        &mut guest.memory,
+        Call::ClockTimeGet,
+        &[1, 0, u64::from(RESULT)],
+        Some(&answer),
     )
 }
 
-fn had_memory(outcome: CallOutcome) -> Result<(), CallStop> {
-    match outcome {
-        CallOutcome::Memory => Err(CallStop::Memory),
-        _ => Ok(()),
-    }
+/// Whether the guest sees this time.
+fn sees(alloc: Global, guest: &mut Guest, given: u64, seen: u64) -> bool {
+    give_time(alloc, guest, given) == CallOutcome::Done(None)
+        && guest.memory.load_u64(RESULT, 0) == Some(seen)
 }
 
-/// How many lines a write of one iovec to stream 2 would add, an unfinished one counted.
-fn count_begun(guest: &Guest) -> usize {
-    let arguments = [2, 0, 1, u64::from(COUNT)];
-    lines_begun(&guest.host, &guest.memory, Call::FdWrite, &arguments)
+fn ask_random(
+    alloc: Global,
+    guest: &mut Guest,
+    length: u32,
+    answer: Option<&Answer>,
+) -> CallOutcome {
+    call(
+        alloc,
+        &mut guest.host,
+        &mut guest.memory,
+        Call::RandomGet,
+        &[u64::from(RESULT), u64::from(length)],
+        answer,
+    )
 }
 
-fn number_at(guest: &Guest, at: u32) -> Option<u32> {
-    guest.memory.load_u32(at, 0)
+/// The first bytes of the seed of zeros, and a zero behind them.
+static RANDOM: [u8; 6] = [0x76, 0xb8, 0xe0, 0xad, 0xa0, 0];
+
+fn five_bytes(alloc: Global) -> Result<Answer, AllocError> {
+    let bytes = Row::from_vec(Vec::from_slice(alloc, &RANDOM[..5])?);
+    Ok(Answer::Random { bytes })
+}
+
+/// Whether they are put, and nothing behind them.
+fn are_put(alloc: Global, guest: &mut Guest) -> Result<bool, CallStop> {
+    let answer = five_bytes(alloc)?;
+    let outcome = ask_random(alloc, guest, 5, Some(&answer));
+    Ok(outcome == CallOutcome::Done(None) && guest.memory.part(RESULT, 6) == Some(&RANDOM[..]))
 }
 
 /// The lines that wait are on these streams, and so long.
 fn has_lines(guest: &Guest, wanted: &[(u8, usize)]) -> bool {
     let lines = guest.host.waiting_lines();
-    lines.len() == wanted.len()
-        && lines.iter().zip(wanted).all(|(line, (stream, len))| line.stream() == *stream
-            && line.text().len() == *len)
-}
-
-fn end(alloc: Global, guest: &mut Guest) {
-    guest.host.end(alloc);
-}
-
-/// Puts so many letters, with a newline behind them.
-fn put_line(guest: &mut Guest, letters: u32) {
-    for place in 0..letters {
-        let _ = guest.memory.store_u8(BYTES, place, b'a');
+    if lines.len() != wanted.len() {
+        return false;
     }
-    let _ = guest.memory.store_u8(BYTES, letters, b'\n');
+    for (line, (stream, len)) in lines.iter().zip(wanted) {
+        if line.stream() != *stream || line.text().len() != *len {
+            return false;
+        }
+    }
+    true
 }
 
-/// How many lines wait, and how long the first and the last of them are.
-fn waiting_lengths(guest: &Guest) -> [usize; 3] {
+fn has_lengths(guest: &Guest, wanted: &[usize; 3]) -> bool {
     let lines = guest.host.waiting_lines();
-    let first = lines.first().map_or(0, |line| line.text().len());
-    let last = lines.last().map_or(0, |line| line.text().len());
-    [lines.len(), first, last]
+    let Some(first) = lines.first() else {
+        return false;
+    };
+    let Some(last) = lines.last() else {
+        return false;
+    };
+    [lines.len(), first.text().len(), last.text().len()] == *wanted
 }
 
-/// What waits once a line of so many letters is written to stream 1.
-fn cut(alloc: Global, letters: u32) -> Result<[usize; 3], CallStop> {
+fn begins(guest: &Guest, count: usize) -> bool {
+    let arguments = [2, 0, 1, u64::from(RESULT)];
+    lines_begun(&guest.host, &guest.memory, Call::FdWrite, &arguments) == count
+}
+
+/// Whether a step that takes no memory goes so.
+fn is_seen(alloc: Global, guest: &mut Guest, step: &Step) -> bool {
+    match step {
+        Step::Put(bytes) => guest.memory.write(BYTES, bytes).is_some(),
+        Step::PutLine(letters) => is_line_put(guest, *letters),
+        Step::Name(at, from, len) => is_named(guest, *at, *from, *len),
+        Step::Exit(code) => exits_with(alloc, guest, *code),
+        Step::Time(given, seen) => sees(alloc, guest, *given, *seen),
+        Step::Random(length, wanted) => ask_random(alloc, guest, *length, None) == *wanted,
+        Step::End => {
+            guest.host.end(alloc);
+            true
+        }
+        Step::Number(at, number) => guest.memory.load_u32(*at, 0) == Some(*number),
+        Step::Lines(wanted) => has_lines(guest, wanted),
+        Step::Lengths(wanted) => has_lengths(guest, wanted),
+        Step::Begins(count) => begins(guest, *count),
+        _ => false,
+    }
+}
+
+fn goes_so(alloc: Global, guest: &mut Guest, step: &Step) -> Result<bool, CallStop> {
+    match step {
+        Step::Write(fd, count, cell, wanted) => {
+            let outcome = write(alloc, guest, *fd, *count, *cell);
+            is_written_so(alloc, guest, outcome, *wanted)
+        }
+        Step::PutRandom => are_put(alloc, guest),
+        step => Ok(is_seen(alloc, guest, step)),
+    }
+}
+
+/// How many steps go so, before one that doesn't.
+fn count_steps(alloc: Global, guest: &mut Guest, steps: &[Step]) -> Result<usize, CallStop> {
+    for (place, step) in steps.iter().enumerate() {
+        if !goes_so(alloc, guest, step)? {
+            return Ok(place);
+        }
+    }
+    Ok(steps.len())
+}
+
+fn count_told(alloc: Global, steps: &[Step]) -> Result<usize, CallStop> {
     let mut guest = fresh_guest(alloc)?;
-    put_line(&mut guest, letters);
-    name(&mut guest, 0, BYTES, letters.saturating_add(1));
-    let _ = write(alloc, &mut guest, 1, 1);
-    let waiting = waiting_lengths(&guest);
+    let count = count_steps(alloc, &mut guest, steps);
     drop(guest);
-    Ok(waiting)
+    count
 }
 
-/// How many letters a line has, and what waits then.
-static CUTS: [(u32, [usize; 3]); 4] = [
-    (4_097, [2, 4_096, 1]),
-    (4_096, [1, 4_096, 4_096]),
-    (0, [1, 0, 0]),
-    (8_192, [2, 4_096, 4_096]),
-];
-
 #[test]
-fn cuts_lines(rt: HostRuntime) -> Result<(), CallStop> {
-    for (letters, want) in &CUTS {
-        assert!(rt; cut(rt.alloc(), *letters)? == *want, "{letters}");
+fn calls_do_what_is_told_of_them(rt: HostRuntime) {
+    for (name, steps) in &STORIES {
+        let told = count_told(rt.alloc(), steps);
+        assert!(rt; told == Ok(steps.len()), "{name}: {told:?}");
     }
-    Ok(())
 }
 
-/// Whether a write of `hi` and a second buffer, at the end of memory and so long, comes to this,
-/// and this number is in the cell then.
-fn comes_to(alloc: Global, guest: &mut Guest, len: u32, want: Option<Errno>, number: u32) -> bool {
-    name(guest, 8, END, len);
-    write(alloc, guest, 1, 2) == CallOutcome::Done(want) && number_at(guest, COUNT) == Some(number)
-}
-
-#[test]
-fn refuses_before_it_writes(rt: HostRuntime) -> Result<(), CallStop> {
-    let mut guest = fresh_guest(rt.alloc())?;
-    put(&mut guest, b"hi\n");
-    name(&mut guest, 0, BYTES, 3);
-    assert!(rt; comes_to(rt.alloc(), &mut guest, 1, Some(Errno::Fault), 7));
-    assert!(rt; has_lines(&guest, &[]));
-    assert!(rt; comes_to(rt.alloc(), &mut guest, 0, None, 3));
-    assert!(rt; has_lines(&guest, &[(1, 2)]));
-    drop(guest);
-    Ok(())
-}
-
-/// Whether a write whose cell is there comes to this.
-fn is_put_at(alloc: Global, guest: &mut Guest, cell: u32, want: Option<Errno>) -> bool {
-    write_with(alloc, guest, 1, 1, cell) == CallOutcome::Done(want)
-}
-
-#[test]
-fn looks_at_the_cell_before_it_writes(rt: HostRuntime) -> Result<(), CallStop> {
-    let mut guest = fresh_guest(rt.alloc())?;
-    put(&mut guest, b"hi\n");
-    name(&mut guest, 0, BYTES, 3);
-    assert!(rt; is_put_at(rt.alloc(), &mut guest, END - 3, Some(Errno::Fault)));
-    assert!(rt; has_lines(&guest, &[]));
-    assert!(rt; is_put_at(rt.alloc(), &mut guest, END - 4, None));
-    assert!(rt; number_at(&guest, END - 4) == Some(3));
-    drop(guest);
-    Ok(())
-}
-
-/// A stream, a number of buffers, and the error of a write of them.
-static REFUSALS: [(u32, u32, Option<Errno>); 8] = [
-    (0, 0, Some(Errno::Notcapable)),
-    (1, 0, None),
-    (2, 1_024, None),
-    (2, 1_025, Some(Errno::Inval)),
-    (3, 0, Some(Errno::Isdir)),
-    (4, 0, Some(Errno::Badf)),
-    (64, 0, Some(Errno::Badf)),
-    (4_294_967_295, 0, Some(Errno::Badf)),
+static THREE_LINES: [Step; 6] = [
+    Step::Put(b"one\ntwo\nthree"),
+    Step::Name(0, BYTES, 13),
+    Step::Begins(3),
+    Step::Write(1, 1, RESULT, None),
+    Step::End,
+    Step::Lines(&[(1, 3), (1, 3), (1, 5)]),
 ];
-
-#[test]
-fn names_its_refusals(rt: HostRuntime) -> Result<(), CallStop> {
-    let mut guest = fresh_guest(rt.alloc())?;
-    for (fd, count, want) in &REFUSALS {
-        let outcome = write(rt.alloc(), &mut guest, *fd, *count);
-        assert!(rt; outcome == CallOutcome::Done(*want), "{fd} {count}");
-    }
-    drop(guest);
-    Ok(())
-}
-
-/// Whether a write of two buffers of 40,000 bytes moves 65,536.
-fn is_limited(alloc: Global, guest: &mut Guest) -> bool {
-    name(guest, 0, 0, 40_000);
-    name(guest, 8, 0, 40_000);
-    write(alloc, guest, 2, 2) == CallOutcome::Done(None) && number_at(guest, COUNT) == Some(65_536)
-}
-
-#[test]
-fn exits_and_moves_no_more_than_its_limit(rt: HostRuntime) -> Result<(), CallStop> {
-    let mut guest = fresh_guest(rt.alloc())?;
-    let outcome = exit(rt.alloc(), &mut guest, 0xdead_beef);
-    assert!(rt; outcome == CallOutcome::Exit(0xdead_beef));
-    assert!(rt; is_limited(rt.alloc(), &mut guest));
-    drop(guest);
-    Ok(())
-}
-
-/// Whether the bytes from here on, so many, are written to a stream.
-fn adds(alloc: Global, guest: &mut Guest, fd: u32, from: u32, len: u32) -> bool {
-    name(guest, 0, from, len);
-    write(alloc, guest, fd, 1) == CallOutcome::Done(None)
-}
-
-/// Whether a write of the second line and the first letter behind it would add two lines.
-fn begins_two(guest: &mut Guest) -> bool {
-    name(guest, 0, BYTES + 2, 3);
-    count_begun(guest) == 2
-}
-
-fn keep_in_order(rt: &impl Abort, alloc: Global, guest: &mut Guest) {
-    put(guest, b"a\nb\ncd");
-    assert!(rt; adds(alloc, guest, 1, BYTES, 2));
-    assert!(rt; begins_two(guest));
-    assert!(rt; adds(alloc, guest, 2, BYTES + 2, 3));
-    assert!(rt; adds(alloc, guest, 1, BYTES + 4, 2));
-}
-
-#[test]
-fn keeps_lines_of_both_streams_in_order(rt: HostRuntime) -> Result<(), CallStop> {
-    let mut guest = fresh_guest(rt.alloc())?;
-    keep_in_order(&rt, rt.alloc(), &mut guest);
-    assert!(rt; has_lines(&guest, &[(1, 1), (2, 1)]));
-    end(rt.alloc(), &mut guest);
-    assert!(rt; has_lines(&guest, &[(1, 1), (2, 1), (1, 2), (2, 1)]));
-    drop(guest);
-    Ok(())
-}
-
-/// Whether the cell is as it was, and the end writes no line.
-fn is_unchanged(alloc: Global, guest: &mut Guest) -> bool {
-    let is_kept = number_at(guest, COUNT) == Some(7);
-    end(alloc, guest);
-    is_kept && has_lines(guest, &[])
-}
-
-/// Where memory is wanted, whether nothing has changed.
-fn is_memory_or_done(alloc: Global, guest: &mut Guest, outcome: CallOutcome) -> bool {
-    outcome != CallOutcome::Memory || is_unchanged(alloc, guest)
-}
 
 /// Ends in want of memory where an allocation is refused, and has changed nothing then.
-fn write_three(rt: &impl Abort, alloc: Global, guest: &mut Guest) -> Result<(), CallStop> {
-    put(guest, b"one\ntwo\nthree");
-    name(guest, 0, BYTES, 13);
-    assert!(rt; count_begun(guest) == 3);
-    let outcome = write(alloc, guest, 1, 1);
-    assert!(rt; is_memory_or_done(alloc, guest, outcome));
-    had_memory(outcome)?;
-    end(alloc, guest);
-    assert!(rt; has_lines(guest, &[(1, 3), (1, 3), (1, 5)]));
-    Ok(())
-}
-
 #[test]
 fn writes_with_memory(rt: HostRuntime) -> Result<(), CallStop> {
-    let mut guest = fresh_guest(rt.alloc())?;
-    let written = write_three(&rt, rt.alloc(), &mut guest);
-    drop(guest);
-    written
+    let told = count_told(rt.alloc(), &THREE_LINES)?;
+    assert!(rt; told == THREE_LINES.len(), "{told}");
+    Ok(())
 }

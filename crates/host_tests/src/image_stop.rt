@@ -16,6 +16,8 @@ pub(crate) enum ImageStop {
     Settings(ConfigFault),
     Step(ProcessFault),
     Image(RestoreFault),
+    /// The step at this place went otherwise than told.
+    Wrong(usize),
 }
 
 impl From<AllocError> for ImageStop {

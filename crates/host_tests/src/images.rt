@@ -1,7 +1,9 @@
-//! The image of `hello` at its start, and a sink that takes no more.
+//! Images of processes, which are made processes again, and a sink that takes no more.
+
+ghost use Rattle.std.specs.Prelude.{◌<◌, length};
 
 use crate::image_stop::ImageStop;
-use crate::processes::hello;
+use crate::processes::{ECHO, FILES, HELLO, Step, begin_with, bytes_of, restore_with, take_steps};
 use process::Process;
 use state_image::{Sink, write_image, write_image_to};
 use std::alloc::Global;
@@ -16,6 +18,18 @@ const FRONT: [u8; 101] = [
     0, 0, 0, 0, 0, 0, 0, 0, 0, 0, 0, 0, 0, 0, 1, 0, 0, 0, 2, 0, 0, 0, 0, 0, 0, 0, 0, 0, 0, 0, 1, 0,
     0, 0, 8, 0, 0, 0, 3, 0, 0, 0, 0x68, 0x69, 0x0a,
 ];
+
+/// The bytes of the image of `FILES`: 98 up to the frames, 84 of two frames with seven slots, 65,540 of
+/// memory, 158 of five nodes, and 277 of seven descriptors.
+const FILES_BYTES: usize = 66_157;
+
+/// Where memory begins in the image of `echo` at its start, and once it has an operand.
+const FRESH_AT: usize = 90;
+
+const ASKED_AT: usize = 98;
+
+/// The bytes of a page of memory.
+const PAGE_BYTES: usize = 65_536;
 
 /// Takes so many pieces, and refuses every other one.
 #[derive(Drop)]
@@ -42,31 +56,327 @@ impl Sink for Few {
     }
 }
 
-/// Whether an image has this length and front.
-fn is_image_so(alloc: Global) -> Result<bool, ImageStop> {
-    let process = hello(alloc)?;
-    let written = write_image(alloc, &process);
-    drop(process);
-    let bytes = written?;
-    Ok(bytes.len() == 65_811 && bytes.starts_with(&FRONT))
-}
-
-#[test]
-fn image_of_hello(rt: HostRuntime) -> Result<(), ImageStop> {
-    assert!(rt; is_image_so(rt.alloc())?);
-    Ok(())
-}
-
 /// Whether a sink that takes three pieces is asked for a fourth, and for no more.
 fn is_refused_once(process: &Process) -> bool {
     let mut sink = Few { left: 3, asked: 0 };
     write_image_to(process, &mut sink) == Err(Refused) && (sink.left, sink.asked) == (0, 4)
 }
 
-#[test]
-fn nothing_is_pushed_after_a_refusal(rt: HostRuntime) -> Result<(), ImageStop> {
-    let process = hello(rt.alloc())?;
-    assert!(rt; is_refused_once(&process));
+/// The image of a process behind these steps.
+fn steps_and_image(
+    alloc: Global,
+    process: &mut Process,
+    steps: &[Step],
+) -> Result<Vec<u8>, ImageStop> {
+    take_steps(alloc, process, steps)?;
+    Ok(write_image(alloc, process)?)
+}
+
+fn image_behind(alloc: Global, process: Process, steps: &[Step]) -> Result<Vec<u8>, ImageStop> {
+    let mut process = process;
+    let image = steps_and_image(alloc, &mut process, steps);
     drop(process);
+    image
+}
+
+/// The same from the start of a module on.
+fn begun_image(alloc: Global, wasm: &[u8], steps: &[Step]) -> Result<Vec<u8>, ImageStop> {
+    let process = begin_with(alloc, wasm, 1)?;
+    image_behind(alloc, process, steps)
+}
+
+/// The same of the process that is made of an image, if there is one.
+fn restored_image(
+    alloc: Global,
+    wasm: &[u8],
+    image: &[u8],
+    steps: &[Step],
+) -> Result<Option<Vec<u8>>, ImageStop> {
+    match restore_with(alloc, wasm, image, 1)? {
+        Some(process) => Ok(Some(image_behind(alloc, process, steps)?)),
+        None => Ok(None),
+    }
+}
+
+/// What is told of a module's processes and images.
+enum Told {
+    /// These steps are taken.
+    Steps(&'static [Step]),
+    /// The image behind these steps has this length, and begins with these bytes.
+    Image(&'static [Step], usize, &'static [u8]),
+    /// An image behind the first steps is made a process. By the second steps that comes to where
+    /// the third ones lead from the start, and whether that is another image.
+    Again(&'static [Step], &'static [Step], &'static [Step], bool),
+    /// The image at the start is none without its last byte, nor with one more.
+    Edge,
+    /// Bytes of the image behind these steps are others, of memory every 97th one. It begins there.
+    /// They are no image then, or that of another process.
+    Bytes(&'static [Step], usize),
+    /// A sink that refuses a piece of the image is asked for no more.
+    Refused,
+}
+
+fn has_image(
+    alloc: Global,
+    wasm: &[u8],
+    steps: &[Step],
+    length: usize,
+    front: &[u8],
+) -> Result<bool, ImageStop> {
+    let image = begun_image(alloc, wasm, steps)?;
+    Ok(image.len() == length && image.starts_with(front))
+}
+
+/// Whether what was made of an image is what was wanted, and another one or not.
+fn is_made_so(made: Option<&[u8]>, wanted: &[u8], image: &[u8], is_other: bool) -> bool {
+    made == Some(wanted) && (made != Some(image)) == is_other
+}
+
+fn comes_again(
+    alloc: Global,
+    wasm: &[u8],
+    image: &[u8],
+    then: &[Step],
+    whole: &[Step],
+    is_other: bool,
+) -> Result<bool, ImageStop> {
+    let made = restored_image(alloc, wasm, image, then)?;
+    let wanted = begun_image(alloc, wasm, whole)?;
+    Ok(is_made_so(made.as_deref(), wanted.as_slice(), image, is_other))
+}
+
+/// What is made of bytes: 0 for nothing, 1 for a process whose image they are, and 2 for another.
+fn made_of(alloc: Global, wasm: &[u8], image: &[u8]) -> Result<u64, ImageStop> {
+    match restored_image(alloc, wasm, image, &[])? {
+        Some(again) if again.as_slice() == image => Ok(1),
+        Some(_) => Ok(2),
+        None => Ok(0),
+    }
+}
+
+/// Whether it is none without its last byte, a zero, and none with another zero behind it.
+fn has_an_edge(alloc: Global, wasm: &[u8], image: &mut Vec<u8>) -> Result<bool, ImageStop> {
+    let last = image.pop();
+    let fewer = made_of(alloc, wasm, image.as_slice())?;
+    image.push(0)?;
+    image.push(0)?;
+    let more = made_of(alloc, wasm, image.as_slice())?;
+    Ok(last == Some(0) && fewer == 0 && more == 0)
+}
+
+/// How many of four other bytes at a place make a process whose image is another one.
+fn wrong_at(alloc: Global, wasm: &[u8], image: &mut [u8], place: usize) -> Result<u32, ImageStop>
+    requires { place < length image.old }
+{
+    let byte = image[place];
+    let mut wrong: u32 = 0;
+    for other in [0, 1, 255, byte.wrapping_add(1)] {
+        image[place] = other;
+        if made_of(alloc, wasm, image)? == 2 {
+            wrong = wrong.saturating_add(1);
+        }
+    }
+    image[place] = byte;
+    Ok(wrong)
+}
+
+/// Whether a byte is outside of memory, which begins there, or one of every 97 in it.
+fn is_tried(place: usize, memory_at: usize) -> bool {
+    match place.checked_sub(memory_at) {
+        Some(offset) => offset >= PAGE_BYTES || offset % 97 == 0,
+        None => true,
+    }
+}
+
+/// The same over all bytes that are tried.
+fn wrong_of(
+    alloc: Global,
+    wasm: &[u8],
+    image: &mut [u8],
+    memory_at: usize,
+) -> Result<u32, ImageStop> {
+    let mut wrong: u32 = 0;
+    for place in 0..image.len() {
+        if is_tried(place, memory_at) {
+            wrong = wrong.saturating_add(wrong_at(alloc, wasm, image, place)?);
+        }
+    }
+    Ok(wrong)
+}
+
+fn is_refused(alloc: Global, wasm: &[u8]) -> Result<bool, ImageStop> {
+    let process = begin_with(alloc, wasm, 1)?;
+    let is_so = is_refused_once(&process);
+    drop(process);
+    Ok(is_so)
+}
+
+fn is_so(alloc: Global, wasm: &[u8], told: &Told) -> Result<bool, ImageStop> {
+    match told {
+        Told::Steps(steps) => {
+            let _image = begun_image(alloc, wasm, steps)?;
+            Ok(true)
+        }
+        Told::Image(steps, length, front) => has_image(alloc, wasm, steps, *length, front),
+        Told::Again(steps, then, whole, is_other) => {
+            let image = begun_image(alloc, wasm, steps)?;
+            comes_again(alloc, wasm, image.as_slice(), then, whole, *is_other)
+        }
+        Told::Edge => has_an_edge(alloc, wasm, &mut begun_image(alloc, wasm, &[])?),
+        Told::Bytes(steps, memory_at) => {
+            let mut image = begun_image(alloc, wasm, steps)?;
+            Ok(wrong_of(alloc, wasm, image.as_mut_slice(), *memory_at)? == 0)
+        }
+        Told::Refused => is_refused(alloc, wasm),
+    }
+}
+
+/// A name, the texts of a module, and what is told of its images.
+type Row = (&'static str, &'static [&'static str], Told);
+
+fn is_told_so(alloc: Global, row: &Row) -> Result<bool, ImageStop> {
+    let wasm = bytes_of(alloc, row.1)?;
+    is_so(alloc, wasm.as_slice(), &row.2)
+}
+
+/// To where `echo` and `FILES` ask, and to where `echo` has taken its first request.
+const ASKS: &[Step] = &[Step::Run(1_000)];
+
+const ASKED: &[Step] = &[Step::Run(100), Step::Take];
+
+/// One step more than the answer.
+const GONE_ON: &[Step] = &[Step::Run(1_000), Step::Take, Step::Run(1)];
+
+static LIVES: [Row; 11] = [
+    (
+        "hello owes its line",
+        &HELLO,
+        Told::Steps(&[
+            Step::Stop(0, [1, 0, 0, 0]),
+            Step::Stop(4, [1, 4, 0, 0]),
+            Step::Stop(100, [2, 5, 1, 1]),
+            Step::Stop(100, [2, 5, 1, 1]),
+        ]),
+    ),
+    (
+        "hello takes no answer",
+        &HELLO,
+        Told::Steps(&[
+            Step::RefuseEnd,
+            Step::Stop(4, [1, 4, 0, 0]),
+            Step::RefuseEnd,
+            Step::Stop(100, [2, 5, 1, 1]),
+        ]),
+    ),
+    (
+        "hello exits",
+        &HELLO,
+        Told::Steps(&[
+            Step::Stop(100, [2, 5, 1, 1]),
+            Step::Owe(b"hi"),
+            Step::Release,
+            Step::Exit,
+        ]),
+    ),
+    (
+        "an answer to something else is refused, and what waits goes on waiting",
+        &ECHO,
+        Told::Steps(&[
+            Step::Stop(100, [3, 5, 0, 0]),
+            Step::RefuseTime,
+            Step::Taken(5, 0),
+            Step::Stop(100, [3, 5, 0, 0]),
+            Step::Take,
+            Step::Taken(6, 1),
+            Step::Stop(100, [2, 20, 1, 1]),
+            Step::Owe(b"hello"),
+        ]),
+    ),
+    (
+        "input ends, and no line is written",
+        &ECHO,
+        Told::Steps(&[
+            Step::Stop(100, [3, 5, 0, 0]),
+            Step::TakeEnd,
+            Step::Stop(100, [4, 11, 0, 0]),
+        ]),
+    ),
+    ("nothing is pushed after a refusal", &HELLO, Told::Refused),
+    (
+        "the image of echo from step 6",
+        &ECHO,
+        Told::Image(ASKED, 65_819, &[]),
+    ),
+    (
+        "echo comes back from step 6",
+        &ECHO,
+        Told::Again(ASKED, &[], ASKED, false),
+    ),
+    ("a byte fewer or more is no image", &ECHO, Told::Edge),
+    (
+        "what was made again asks as before, and takes the same answer to the same end",
+        &FILES,
+        Told::Again(ASKS, GONE_ON, GONE_ON, true),
+    ),
+    (
+        "a refused answer changes nothing",
+        &ECHO,
+        Told::Again(ASKS, &[Step::RefuseTime], ASKS, false),
+    ),
+];
+
+#[test]
+fn processes_and_images_are_told(rt: HostRuntime) {
+    for row in &LIVES {
+        let told = is_told_so(rt.alloc(), row);
+        assert!(rt; told == Ok(true), "{}: {told:?}", row.0);
+    }
+}
+
+/// Other bytes of an image at the start of `echo`, and of one behind its first request.
+static FRESH_BYTES: Row = ("fresh", &ECHO, Told::Bytes(&[], FRESH_AT));
+
+static ASKED_BYTES: Row = ("step 6", &ECHO, Told::Bytes(ASKED, ASKED_AT));
+
+#[test]
+fn other_bytes_of_a_fresh_image_are_refused_or_others(rt: HostRuntime) {
+    let told = is_told_so(rt.alloc(), &FRESH_BYTES);
+    assert!(rt; told == Ok(true), "{told:?}");
+}
+
+#[test]
+fn other_bytes_of_an_image_of_step_6_are_refused_or_others(rt: HostRuntime) {
+    let told = is_told_so(rt.alloc(), &ASKED_BYTES);
+    assert!(rt; told == Ok(true), "{told:?}");
+}
+
+static IMAGES: [Row; 6] = [
+    ("hello", &HELLO, Told::Image(&[], 65_811, &FRONT)),
+    ("fresh echo", &ECHO, Told::Image(&[], 65_811, &[])),
+    (
+        "fresh echo comes back",
+        &ECHO,
+        Told::Again(&[], &[], &[], false),
+    ),
+    ("files", &FILES, Told::Image(ASKS, FILES_BYTES, &[])),
+    (
+        "files come back",
+        &FILES,
+        Told::Again(ASKS, &[], ASKS, false),
+    ),
+    (
+        "what is made again refuses an answer, and takes another one at once",
+        &ECHO,
+        Told::Again(ASKS, &[Step::RefuseTime, Step::Take], ASKED, true),
+    ),
+];
+
+/// `scripts/refused-allocations` refuses each allocation in turn, and then this ends in want of
+/// memory.
+#[test]
+fn images_come_back_with_memory(rt: HostRuntime) -> Result<(), ImageStop> {
+    for row in &IMAGES {
+        assert!(rt; is_told_so(rt.alloc(), row)?, "{}", row.0);
+    }
     Ok(())
 }

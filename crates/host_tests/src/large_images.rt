@@ -2,7 +2,7 @@
 //! `docs/PROVING.md` says how that is measured.
 
 use crate::image_stop::ImageStop;
-use crate::restored::{LARGE_ECHO, begin_with, bytes_of, restore_with};
+use crate::processes::{LARGE_ECHO, begin_with, bytes_of, restore_with};
 use process::Process;
 use state_image::{Sink, write_image, write_image_to};
 use std::alloc::Global;

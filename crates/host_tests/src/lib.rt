@@ -10,8 +10,6 @@
 #[cfg(test)]
 mod abi;
 #[cfg(test)]
-mod answers;
-#[cfg(test)]
 mod calls;
 #[cfg(test)]
 mod image_stop;
@@ -21,8 +19,6 @@ mod images;
 mod large_images;
 #[cfg(test)]
 mod processes;
-#[cfg(test)]
-mod restored;
 #[cfg(test)]
 mod sources;
 #[cfg(test)]

@@ -1,29 +1,60 @@
-//! The module `hello`, from its start to its end.
+//! Processes of small modules, and what they do step after step.
 
 use crate::image_stop::ImageStop;
+use hex::decode;
 use machine_loader::{FrontFault, read};
 use process::{Process, ProcessEnd, ProcessFault, Stop};
+use state_image::restoring::{RestoreFault, restore};
 use std::alloc::Global;
-use wasi_abi::{Answer, Config};
+use wasi_abi::{Answer, Config, Kind};
 use wasm_syntax::Row;
 
 /// Writes a line and exits with 7.
-const HELLO: [u8; 168] = [
-    0x00, 0x61, 0x73, 0x6d, 0x01, 0x00, 0x00, 0x00, 0x01, 0x10, 0x03, 0x60, 0x00, 0x00, 0x60, 0x04,
-    0x7f, 0x7f, 0x7f, 0x7f, 0x01, 0x7f, 0x60, 0x01, 0x7f, 0x00, 0x02, 0x46, 0x02, 0x16, 0x77, 0x61,
-    0x73, 0x69, 0x5f, 0x73, 0x6e, 0x61, 0x70, 0x73, 0x68, 0x6f, 0x74, 0x5f, 0x70, 0x72, 0x65, 0x76,
-    0x69, 0x65, 0x77, 0x31, 0x08, 0x66, 0x64, 0x5f, 0x77, 0x72, 0x69, 0x74, 0x65, 0x00, 0x01, 0x16,
-    0x77, 0x61, 0x73, 0x69, 0x5f, 0x73, 0x6e, 0x61, 0x70, 0x73, 0x68, 0x6f, 0x74, 0x5f, 0x70, 0x72,
-    0x65, 0x76, 0x69, 0x65, 0x77, 0x31, 0x09, 0x70, 0x72, 0x6f, 0x63, 0x5f, 0x65, 0x78, 0x69, 0x74,
-    0x00, 0x02, 0x03, 0x02, 0x01, 0x00, 0x05, 0x03, 0x01, 0x00, 0x01, 0x07, 0x13, 0x02, 0x06, 0x5f,
-    0x73, 0x74, 0x61, 0x72, 0x74, 0x00, 0x02, 0x06, 0x6d, 0x65, 0x6d, 0x6f, 0x72, 0x79, 0x02, 0x00,
-    0x0a, 0x13, 0x01, 0x11, 0x00, 0x41, 0x01, 0x41, 0x00, 0x41, 0x01, 0x41, 0x10, 0x10, 0x00, 0x1a,
-    0x41, 0x07, 0x10, 0x01, 0x0b, 0x0b, 0x11, 0x01, 0x00, 0x41, 0x00, 0x0b, 0x0b, 0x08, 0x00, 0x00,
-    0x00, 0x03, 0x00, 0x00, 0x00, 0x68, 0x69, 0x0a,
+pub(crate) const HELLO: [&str; 4] = [
+    "0061736d0100000001100360000060047f7f7f7f017f60017f0002460216776173695f736e617073686f",
+    "745f70726576696577310866645f7772697465000116776173695f736e617073686f745f707265766965",
+    "77310970726f635f657869740002030201000503010001071302065f73746172740002066d656d6f7279",
+    "02000a13011100410141004101411010001a410710010b0b11010041000b0b080000000300000068690a",
+];
+
+/// `echo` up to the number of its pages, and behind it.
+const BEFORE_PAGES: &str = "\
+     0061736d01000000010c0260000060047f7f7f7f017f02440216776173695f736e617073686f745f\
+     70726576696577310766645f72656164000116776173695f736e617073686f745f70726576696577\
+     310866645f777269746500010302010005030100";
+
+const BEHIND_PAGES: &str = "\
+     071302065f73746172740002066d656d6f727902000a31012f000340410041004101411010001a41\
+     10280200450d01410c4110280200360200410141084101411410011a0c000b0b0b12010041000b0c\
+     400000000010000040000000";
+
+/// Reads a line, writes it, and goes on until nothing is read.
+pub(crate) const ECHO: [&str; 3] = [BEFORE_PAGES, "01", BEHIND_PAGES];
+
+/// The same with 16 pages.
+pub(crate) const LARGE_ECHO: [&str; 3] = [BEFORE_PAGES, "10", BEHIND_PAGES];
+
+/// Makes directories and files, writes into both, and removes one that stays open. Then it leaves a
+/// line of stream 1 unfinished, and reads in a function that it calls.
+pub(crate) const FILES: [&str; 14] = [
+    "0061736d0100000001250560037f7f7f017f60097f7f7f7f7f7e7e7f7f017f60047f7f7f7f017f600000",
+    "60017f017f02c0010516776173695f736e617073686f745f707265766965773115706174685f63726561",
+    "74655f6469726563746f7279000016776173695f736e617073686f745f70726576696577310970617468",
+    "5f6f70656e000116776173695f736e617073686f745f70726576696577310866645f7772697465000216",
+    "776173695f736e617073686f745f707265766965773110706174685f756e6c696e6b5f66696c65000016",
+    "776173695f736e617073686f745f70726576696577310766645f72656164000203030203040503010001",
+    "0606017f0141030b071302065f73746172740005066d656d6f727902000aaf0102980100410341004101",
+    "10001a4103410041084103410142ff8080034200410141d00010011a410441c000410141d40010021a41",
+    "034108410310031a4103410041104101410142ff8080034200410041d00010011a410541c000410141d4",
+    "0010021a41034118410310001a410341004100410141024291ccbd3142ffccbd33410041d00010011a41",
+    "0141c000410141d40010021a4107100624000b1301017f2000410041c800410141d40010046a0b0b5601",
+    "0041000b506400000000000000642f6600000000006700000000000000642f650000000000736f6d6520",
+    "6279746573206f6620612066696c65000000000000000000000000200000001400000060000000100000",
+    "00",
 ];
 
 /// A process of the module that these bytes spell, at its start.
-pub(crate) fn start(alloc: Global, wasm: &[u8], config: Config) -> Result<Process, ImageStop> {
+fn start(alloc: Global, wasm: &[u8], config: Config) -> Result<Process, ImageStop> {
     let module = read(alloc, wasm)?;
     match Process::start(alloc, module, config) {
         Ok(process) => Ok(process),
@@ -31,55 +62,91 @@ pub(crate) fn start(alloc: Global, wasm: &[u8], config: Config) -> Result<Proces
     }
 }
 
-pub(crate) fn hello(alloc: Global) -> Result<Process, ImageStop> {
-    let config = Config::new(1, 1, 64, Row::new(alloc), Row::new(alloc))?;
-    start(alloc, &HELLO, config)
+pub(crate) fn bytes_of(alloc: Global, texts: &[&str]) -> Result<Vec<u8>, ImageStop> {
+    let mut bytes = Vec::new(alloc);
+    for text in texts {
+        bytes.extend_from_slice(decode(alloc, *text)?.as_slice())?;
+    }
+    Ok(bytes)
 }
 
-/// Why the process stops on so much fuel: 1 for spent, 2 for owing, and else 0. Then its steps, its
-/// lines, and how many of them wait.
-fn advance(process: &mut Process, fuel: u64) -> [u64; 4] {
+fn config(alloc: Global, pages: u64) -> Result<Config, ImageStop> {
+    Ok(Config::new(pages, 1, 64, Row::new(alloc), Row::new(alloc))?)
+}
+
+/// A process that begins, whose memory may have so many pages.
+pub(crate) fn begin_with(alloc: Global, wasm: &[u8], pages: u64) -> Result<Process, ImageStop> {
+    start(alloc, wasm, config(alloc, pages)?)
+}
+
+/// The process that was made, if the bytes were an image.
+fn process_of(made: Result<Process, RestoreFault>) -> Result<Option<Process>, ImageStop> {
+    match made {
+        Ok(process) => Ok(Some(process)),
+        Err(RestoreFault::NotAnImage) => Ok(None),
+        Err(fault) => Err(ImageStop::from(fault)),
+    }
+}
+
+/// The process of an image, if there is one, whose memory may have so many pages. No `?` stands
+/// while the module is owned.
+pub(crate) fn restore_with(
+    alloc: Global,
+    wasm: &[u8],
+    image: &[u8],
+    pages: u64,
+) -> Result<Option<Process>, ImageStop> {
+    let settings = config(alloc, pages)?;
+    let module = read(alloc, wasm)?;
+    process_of(restore(alloc, module, settings, image))
+}
+
+/// What a process does, or how it stops.
+pub(crate) enum Step {
+    /// It runs on so much fuel.
+    Run(u64),
+    /// It takes `hello` as its answer, or the end of input.
+    Take,
+    TakeEnd,
+    /// It refuses a time as its answer, or the end of input.
+    RefuseTime,
+    RefuseEnd,
+    /// Why it stops on so much fuel: 1 for spent, 2 for owing, 3 for asking for a request, 4 for an
+    /// exit with 0, and else 0. Then its steps, its lines, and how many of them wait.
+    Stop(u64, [u64; 4]),
+    /// It has taken so many steps and answers.
+    Taken(u64, u64),
+    /// One line waits on stream 1, with this text.
+    Owe(&'static [u8]),
+    /// All lines that wait are taken.
+    Release,
+    /// It has exited with 7 after eight steps, without an answer.
+    Exit,
+}
+
+fn hello(alloc: Global) -> Result<Answer, ImageStop> {
+    let text = Row::from_vec(Vec::from_slice(alloc, b"hello")?);
+    Ok(Answer::Request { text })
+}
+
+fn stop_of(process: &mut Process, fuel: u64) -> [u64; 4] {
     let why = match process.advance(fuel) {
         Ok(Stop::Spent) => 1,
         Ok(Stop::Owes) => 2,
+        Ok(Stop::Asks(Kind::Request)) => 3,
+        Ok(Stop::Ended(ProcessEnd::Exited(0))) => 4,
         _ => 0,
     };
     let waiting = process.waiting().len() as u64;
     [why, process.steps(), process.lines(), waiting]
 }
 
-#[test]
-fn hello_owes_its_line(rt: HostRuntime) -> Result<(), ImageStop> {
-    let mut process = hello(rt.alloc())?;
-    assert!(rt; advance(&mut process, 0) == [1, 0, 0, 0]);
-    assert!(rt; advance(&mut process, 4) == [1, 4, 0, 0]);
-    assert!(rt; advance(&mut process, 100) == [2, 5, 1, 1]);
-    assert!(rt; advance(&mut process, 100) == [2, 5, 1, 1]);
-    drop(process);
-    Ok(())
-}
-
-/// Whether nobody has asked.
-fn refuses_an_answer(process: &mut Process) -> bool {
-    process.give(Answer::End) == Err(ProcessFault::WrongAnswer)
-}
-
-#[test]
-fn hello_takes_no_answer(rt: HostRuntime) -> Result<(), ImageStop> {
-    let mut process = hello(rt.alloc())?;
-    assert!(rt; refuses_an_answer(&mut process));
-    assert!(rt; advance(&mut process, 4) == [1, 4, 0, 0]);
-    assert!(rt; refuses_an_answer(&mut process));
-    assert!(rt; advance(&mut process, 100) == [2, 5, 1, 1]);
-    drop(process);
-    Ok(())
-}
-
-/// Whether one line waits, `hi` on stream 1.
-fn owes_hi(process: &Process) -> bool {
+fn owes(process: &Process, text: &[u8]) -> bool {
     let waiting = process.waiting();
-    waiting.len() == 1
-        && waiting.iter().all(|line| line.stream() == 1 && line.text() == b"hi".as_slice())
+    match waiting.first() {
+        Some(line) => waiting.len() == 1 && line.stream() == 1 && line.text() == text,
+        None => false,
+    }
 }
 
 /// Takes all lines that wait.
@@ -94,13 +161,57 @@ fn has_exited(process: &mut Process) -> bool {
         && (process.steps(), process.answers(), process.requests()) == (8, 0, 0)
 }
 
-#[test]
-fn hello_exits(rt: HostRuntime) -> Result<(), ImageStop> {
-    let mut process = hello(rt.alloc())?;
-    assert!(rt; process.advance(100) == Ok(Stop::Owes));
-    assert!(rt; owes_hi(&process));
-    release(&mut process);
-    assert!(rt; has_exited(&mut process));
-    drop(process);
+fn refuses(process: &mut Process, answer: Answer) -> bool {
+    process.give(answer) == Err(ProcessFault::WrongAnswer)
+}
+
+/// Whether a step that takes no memory of its own goes so.
+fn is_done(process: &mut Process, step: &Step) -> bool {
+    match step {
+        Step::RefuseTime => refuses(process, Answer::Realtime { nanoseconds: 1 }),
+        Step::RefuseEnd => refuses(process, Answer::End),
+        Step::Stop(fuel, wanted) => stop_of(process, *fuel) == *wanted,
+        Step::Taken(steps, answers) => {
+            process.steps() == *steps && process.answers() == *answers
+        }
+        Step::Owe(text) => owes(process, text),
+        Step::Release => {
+            release(process);
+            true
+        }
+        Step::Exit => has_exited(process),
+        _ => false,
+    }
+}
+
+fn goes_so(alloc: Global, process: &mut Process, step: &Step) -> Result<bool, ImageStop> {
+    match step {
+        Step::Run(fuel) => {
+            let _stop = process.advance(*fuel)?;
+            Ok(true)
+        }
+        Step::Take => {
+            process.give(hello(alloc)?)?;
+            Ok(true)
+        }
+        Step::TakeEnd => {
+            process.give(Answer::End)?;
+            Ok(true)
+        }
+        step => Ok(is_done(process, step)),
+    }
+}
+
+/// Takes all steps. The first one that doesn't go so is told by its place.
+pub(crate) fn take_steps(
+    alloc: Global,
+    process: &mut Process,
+    steps: &[Step],
+) -> Result<(), ImageStop> {
+    for (place, step) in steps.iter().enumerate() {
+        if !goes_so(alloc, process, step)? {
+            return Err(ImageStop::Wrong(place));
+        }
+    }
     Ok(())
 }

@@ -10,7 +10,6 @@ use record_replay::{
 use std::alloc::{AllocError, Global};
 use std::cell::Cell;
 use std::rc::Rc;
-use std::test::Fail;
 use wasi_abi::{Answer, Kind};
 use wasm_syntax::Row;
 
@@ -100,13 +99,20 @@ fn says_nothing<S: Source>(source: &mut S) -> bool {
     matches!(&source.answer(Kind::Request), Ok(None))
 }
 
+fn are_in_order(alloc: Global) -> Result<bool, AllocError> {
+    let mut source = clock_and_request(alloc)?;
+    Ok(
+        says_seven(&mut source, Kind::Monotonic)
+            && says_hello(&mut source, Kind::Random { length: 3 })
+            && says_nothing(&mut source)
+            && says_nothing(&mut source),
+    )
+}
+
+/// `scripts/refused-allocations` refuses each allocation in turn, and then this ends in that.
 #[test]
 fn answers_are_handed_out_in_order(rt: HostRuntime) -> Result<(), AllocError> {
-    let mut source = clock_and_request(rt.alloc())?;
-    assert!(rt; says_seven(&mut source, Kind::Monotonic));
-    assert!(rt; says_hello(&mut source, Kind::Random { length: 3 }));
-    assert!(rt; says_nothing(&mut source));
-    assert!(rt; says_nothing(&mut source));
+    assert!(rt; are_in_order(rt.alloc())?);
     Ok(())
 }
 
@@ -126,12 +132,8 @@ fn is_second_in_box(alloc: Global) -> Result<bool, AllocError> {
     Ok(is_second(&mut any))
 }
 
-#[test]
-fn a_box_says_what_is_in_it(rt: HostRuntime) -> Result<(), AllocError> {
-    assert!(rt; is_first_in_box(rt.alloc())?);
-    assert!(rt; is_second_in_box(rt.alloc())?);
-    assert!(rt; is_second(&mut clock_and_request(rt.alloc())?));
-    Ok(())
+fn is_second_of_list(alloc: Global) -> Result<bool, AllocError> {
+    Ok(is_second(&mut clock_and_request(alloc)?))
 }
 
 fn is_line(line: &NumberedLine, number: u64, stream: u8, text: &[u8]) -> bool {
@@ -148,12 +150,9 @@ fn are_two(lines: &[NumberedLine]) -> bool {
     lines.len() == 2 && is_line(&lines[0], 1, 1, b"hello") && is_line(&lines[1], 2, 2, b"")
 }
 
-#[test]
-fn lines_are_kept_in_order(rt: HostRuntime) -> Result<(), OutletFault> {
-    let mut outlet = LineList::new(rt.alloc());
-    release_two(&mut outlet)?;
-    assert!(rt; are_two(outlet.lines()));
-    Ok(())
+fn are_two_kept(alloc: Global) -> bool {
+    let mut outlet = LineList::new(alloc);
+    release_two(&mut outlet) == Ok(()) && are_two(outlet.lines())
 }
 
 fn three_texts(alloc: Global) -> Result<Vec<Row<u8>>, AllocError> {
@@ -164,33 +163,13 @@ fn three_texts(alloc: Global) -> Result<Vec<Row<u8>>, AllocError> {
     Ok(texts)
 }
 
-/// Which release is refused, if any, and how many lines are handed on.
-static REFUSED: [(u64, usize); 4] = [(0, 3), (1, 1), (2, 2), (3, 3)];
-
-/// Whether lines are told to their end where none is refused, and so many are handed on.
-fn are_told_so(alloc: Global, texts: &[Row<u8>], row: &(u64, usize)) -> bool {
-    let mut outlet = RefusingOutlet::new(LineList::new(alloc), row.0);
-    let said = tell_all(&mut outlet, texts);
-    said.is_ok() == (row.0 == 0) && outlet.into_inner().lines().len() == row.1
+/// Whether three lines are told to their end where none is refused, and so many are handed on.
+fn are_told_so(alloc: Global, refused: u64, count: usize) -> Result<bool, AllocError> {
+    let texts = three_texts(alloc)?;
+    let mut outlet = RefusingOutlet::new(LineList::new(alloc), refused);
+    let said = tell_all(&mut outlet, texts.as_slice());
+    Ok(said.is_ok() == (refused == 0) && outlet.into_inner().lines().len() == count)
 }
-
-#[test]
-fn lines_are_told_until_a_fault(rt: HostRuntime) -> Result<(), AllocError> {
-    let texts = three_texts(rt.alloc())?;
-    for row in &REFUSED {
-        assert!(rt; are_told_so(rt.alloc(), texts.as_slice(), row), "{row:?}");
-    }
-    Ok(())
-}
-
-/// Which release is refused, if any, and which of three are answered well.
-static ANSWERED: [(u64, [bool; 3]); 5] = [
-    (0, [true, true, true]),
-    (1, [false, true, true]),
-    (2, [true, false, true]),
-    (3, [true, true, false]),
-    (4, [true, true, true]),
-];
 
 fn release_three<O: Outlet>(outlet: &mut O) -> [bool; 3] {
     let first = outlet.release(1, 1, b"line").is_ok();
@@ -199,16 +178,9 @@ fn release_three<O: Outlet>(outlet: &mut O) -> [bool; 3] {
 }
 
 /// Whether three releases are answered so, and each of them is handed on.
-fn are_answered_so(alloc: Global, row: &(u64, [bool; 3])) -> bool {
-    let mut outlet = RefusingOutlet::new(LineList::new(alloc), row.0);
-    release_three(&mut outlet) == row.1 && outlet.into_inner().lines().len() == 3
-}
-
-#[test]
-fn one_release_is_answered_by_a_fault(rt: HostRuntime) {
-    for row in &ANSWERED {
-        assert!(rt; are_answered_so(rt.alloc(), row), "{row:?}");
-    }
+fn are_answered_so(alloc: Global, refused: u64, wanted: &[bool; 3]) -> bool {
+    let mut outlet = RefusingOutlet::new(LineList::new(alloc), refused);
+    release_three(&mut outlet) == *wanted && outlet.into_inner().lines().len() == 3
 }
 
 /// Adds up what is released to it, where its maker sees the sum.
@@ -244,9 +216,71 @@ fn is_taken_once(alloc: Global) -> Result<bool, AllocError> {
     Ok(adds_up(&mut any, &sum))
 }
 
+fn is_refused_in_box(alloc: Global) -> Result<bool, AllocError> {
+    Ok(release_first(alloc)? == Err(OutletFault))
+}
+
+/// What is told of sources and outlets.
+enum Told {
+    FirstInBox,
+    SecondInBox,
+    SecondOfList,
+    /// Two lines are kept in order.
+    Kept,
+    /// Which release is refused, if any, and how many lines are handed on.
+    Until(u64, usize),
+    /// Which release is refused, if any, and which of three are answered well.
+    Answered(u64, [bool; 3]),
+    TakenOnce,
+    RefusedInBox,
+}
+
+static TOLD: [(&str, Told); 15] = [
+    ("a box says first what is in it", Told::FirstInBox),
+    ("a box says second what is in it", Told::SecondInBox),
+    ("a list says it second", Told::SecondOfList),
+    ("lines are kept in order", Told::Kept),
+    ("all lines are told", Told::Until(0, 3)),
+    ("lines are told until the first", Told::Until(1, 1)),
+    ("lines are told until the second", Told::Until(2, 2)),
+    ("lines are told until the third", Told::Until(3, 3)),
+    (
+        "no release is a fault",
+        Told::Answered(0, [true, true, true]),
+    ),
+    (
+        "the first is a fault",
+        Told::Answered(1, [false, true, true]),
+    ),
+    (
+        "the second is a fault",
+        Told::Answered(2, [true, false, true]),
+    ),
+    (
+        "the third is a fault",
+        Told::Answered(3, [true, true, false]),
+    ),
+    ("there is no fourth", Told::Answered(4, [true, true, true])),
+    ("a box takes each line once", Told::TakenOnce),
+    ("a box refuses a line", Told::RefusedInBox),
+];
+
+fn is_so(alloc: Global, told: &Told) -> Result<bool, AllocError> {
+    match told {
+        Told::FirstInBox => is_first_in_box(alloc),
+        Told::SecondInBox => is_second_in_box(alloc),
+        Told::SecondOfList => is_second_of_list(alloc),
+        Told::Kept => Ok(are_two_kept(alloc)),
+        Told::Until(refused, count) => are_told_so(alloc, *refused, *count),
+        Told::Answered(refused, wanted) => Ok(are_answered_so(alloc, *refused, wanted)),
+        Told::TakenOnce => is_taken_once(alloc),
+        Told::RefusedInBox => is_refused_in_box(alloc),
+    }
+}
+
 #[test]
-fn a_box_takes_each_line_once(rt: HostRuntime) -> Result<(), Fail> {
-    assert!(rt; is_taken_once(rt.alloc())?);
-    assert!(rt; release_first(rt.alloc())? == Err(OutletFault));
-    Ok(())
+fn boxes_and_outlets_do_what_is_in_them(rt: HostRuntime) {
+    for (name, told) in &TOLD {
+        assert!(rt; is_so(rt.alloc(), told) == Ok(true), "{name}");
+    }
 }

@@ -4,7 +4,6 @@
 use file_tree::limits::NODES;
 use file_tree::{ByteList, NodeKind, Tree, is_name};
 use std::alloc::{AllocError, Global};
-use std::process::Abort;
 
 fn make_node(
     alloc: Global,
@@ -27,32 +26,19 @@ fn move_node(
     tree: &mut Tree,
     number: u64,
     directory: u64,
-) -> Result<(), AllocError> {
+) -> Result<bool, AllocError> {
     let name = ByteList::copy_of(alloc, b"a")?;
     if number == 1 || !tree.has_path(number) || tree.is_within(number, directory) {
-        return Ok(());
+        return Ok(false);
     }
     if !tree.is_directory(directory) || !tree.has_path(directory) {
-        return Ok(());
+        return Ok(false);
     }
     if tree.child(directory, b"a").is_some() || !is_name(b"a") {
-        return Ok(());
+        return Ok(false);
     }
     tree.rename(number, directory, name);
-    Ok(())
-}
-
-fn write_file(tree: &mut Tree, number: u64) -> Result<(), AllocError> {
-    if !tree.is_directory(number) {
-        tree.resize(number, 5)?;
-    }
-    if !tree.is_directory(number) && tree.size(number) >= 5 {
-        tree.write(number, 2, b"abc");
-    }
-    if !tree.is_directory(number) {
-        tree.resize(number, 4)?;
-    }
-    Ok(())
+    Ok(true)
 }
 
 fn remove_node(tree: &mut Tree, number: u64) {
@@ -67,11 +53,12 @@ fn forget_node(tree: &mut Tree, number: u64) {
     }
 }
 
-fn set_size(tree: &mut Tree, number: u64, size: u64) -> Result<(), AllocError> {
+fn set_size(tree: &mut Tree, number: u64, size: u64) -> Result<bool, AllocError> {
     if tree.is_directory(number) || size > 8_192 {
-        return Ok(());
+        return Ok(false);
     }
-    tree.resize(number, size)
+    tree.resize(number, size)?;
+    Ok(true)
 }
 
 fn put_bytes(tree: &mut Tree, number: u64, from: u64, bytes: &[u8]) {
@@ -81,11 +68,17 @@ fn put_bytes(tree: &mut Tree, number: u64, from: u64, bytes: &[u8]) {
     }
 }
 
-fn add_node(alloc: Global, tree: &mut Tree, number: u64, kind: NodeKind) -> Result<(), AllocError> {
+fn add_node(
+    alloc: Global,
+    tree: &mut Tree,
+    number: u64,
+    kind: NodeKind,
+) -> Result<bool, AllocError> {
     if number < tree.next() || number >= 1_000 || tree.len() >= NODES {
-        return Ok(());
+        return Ok(false);
     }
-    tree.create_removed(alloc, number, kind)
+    tree.create_removed(alloc, number, kind)?;
+    Ok(true)
 }
 
 fn hang_node(
@@ -94,173 +87,218 @@ fn hang_node(
     number: u64,
     directory: u64,
     name: &[u8],
-) -> Result<(), AllocError> {
+) -> Result<bool, AllocError> {
     let bytes = ByteList::copy_of(alloc, name)?;
     if tree.has_path(number) || !tree.is_directory(directory) || !tree.has_path(directory) {
-        return Ok(());
+        return Ok(false);
     }
     if tree.child(directory, name).is_some() || !is_name(name) {
-        return Ok(());
+        return Ok(false);
     }
     tree.hang(number, directory, bytes);
-    Ok(())
+    Ok(true)
 }
 
-/// The first file that is made, and the first directory behind it.
-const FILE: u64 = 2;
-
-const DIRECTORY: u64 = 3;
-
-/// Whether a file and then a directory are made with these numbers.
-fn are_made(alloc: Global, tree: &mut Tree) -> Result<bool, AllocError> {
-    let file = make_node(alloc, tree, 1, b"a", NodeKind::File)?;
-    let directory = make_node(alloc, tree, 1, b"d", NodeKind::Directory)?;
-    Ok(file == FILE && directory == DIRECTORY)
+/// What is done to a tree, where it may be, or what is seen of it then. Nodes have numbers, of
+/// which the root is 1.
+enum Step {
+    /// A directory, a name, a kind, and the number of the node that is made so.
+    Make(u64, &'static [u8], NodeKind, u64),
+    /// A node goes into a directory, as `a`.
+    Move(u64, u64),
+    Remove(u64),
+    Forget(u64),
+    Resize(u64, u64),
+    /// Bytes are written into a file, from here on.
+    Put(u64, u64, &'static [u8]),
+    /// A node with this number is made that has no path.
+    Add(u64, NodeKind),
+    /// It goes into a directory, under a name.
+    Hang(u64, u64, &'static [u8]),
+    /// The next number is this one at least.
+    RaiseNext(u64),
+    Next(u64),
+    Child(u64, &'static [u8], Option<u64>),
+    Parent(u64, Option<u64>),
+    Name(u64, &'static [u8]),
+    HasPath(u64, bool),
+    IsEmpty(u64, bool),
+    /// A directory, a place in it, and the node there. Then how many there are in all.
+    Entry(u64, usize, Option<u64>),
+    Entries(u64, usize),
+    /// A place among all nodes, and the node there.
+    NumberAt(usize, Option<u64>),
+    Used(u64),
+    Chunks(usize),
+    /// A file's bytes in one of its chunks, or how many there are.
+    Chunk(u64, usize, &'static [u8]),
+    ChunkLength(u64, usize, usize),
+    /// A file is read from here on into so much room, which gives so many bytes. Over six of 7 they
+    /// are these then.
+    Read(u64, u64, usize, usize, [u8; 6]),
 }
 
-/// Whether the file is in the directory, and in the root no more.
-fn is_moved(tree: &Tree) -> bool {
-    tree.child(1, b"a").is_none()
-        && tree.child(DIRECTORY, b"a") == Some(FILE)
-        && tree.parent(FILE) == Some(DIRECTORY)
-        && tree.name(FILE) == b"a".as_slice()
+/// A file is made, moved, written and removed.
+const CHANGES: &[Step] = &[
+    Step::Make(1, b"a", NodeKind::File, 2),
+    Step::Make(1, b"d", NodeKind::Directory, 3),
+    Step::Move(2, 3),
+    Step::Child(1, b"a", None),
+    Step::Child(3, b"a", Some(2)),
+    Step::Parent(2, Some(3)),
+    Step::Name(2, b"a"),
+    Step::IsEmpty(3, false),
+    Step::Entry(1, 0, Some(3)),
+    Step::Entry(1, 1, None),
+    Step::Resize(2, 5),
+    Step::Put(2, 2, b"abc"),
+    Step::Resize(2, 4),
+    Step::Used(4),
+    Step::Read(2, 1, 3, 3, [0, b'a', b'b', 7, 7, 7]),
+    // a directory is removed once it is empty, and not before
+    Step::Remove(3),
+    Step::HasPath(3, true),
+    Step::Remove(2),
+    Step::Remove(3),
+    Step::HasPath(3, false),
+    // a removed file keeps its bytes until it is forgotten
+    Step::Used(4),
+    Step::Forget(2),
+    Step::Used(0),
+    Step::Make(1, b"a", NodeKind::File, 4),
+];
+
+/// Bytes that were cut off are zeros.
+const CUTS: &[Step] = &[
+    Step::Make(1, b"a", NodeKind::File, 2),
+    Step::Resize(2, 5_000),
+    Step::Put(2, 0, &[b'a'; 5_000]),
+    Step::Chunks(2),
+    Step::Resize(2, 4_100),
+    Step::Resize(2, 5_000),
+    Step::Read(2, 4_094, 6, 6, [b'a'; 6]),
+    Step::Read(2, 4_098, 6, 6, [b'a', b'a', 0, 0, 0, 0]),
+    Step::Read(2, 4_997, 6, 3, [0, 0, 0, 7, 7, 7]),
+    Step::Resize(2, 4_096),
+    Step::Chunks(1),
+];
+
+/// A tree is built anew: of nodes without a path, which go into directories then.
+const BUILT: &[Step] = &[
+    Step::Add(3, NodeKind::File),
+    Step::Add(5, NodeKind::Directory),
+    Step::RaiseNext(8),
+    Step::Next(8),
+    Step::HasPath(3, false),
+    Step::Hang(5, 1, b"d"),
+    Step::Hang(3, 5, b"f"),
+    Step::Child(5, b"f", Some(3)),
+    Step::Entries(5, 1),
+    Step::Entries(3, 0),
+    Step::NumberAt(1, Some(3)),
+    Step::NumberAt(3, None),
+    Step::Resize(3, 4_098),
+    Step::Put(3, 4_096, b"ab"),
+    Step::ChunkLength(3, 0, 4_096),
+    Step::Chunk(3, 1, b"ab"),
+    Step::Chunk(3, 2, b""),
+];
+
+static STORIES: [(&str, &[Step]); 3] = [
+    ("changes", CHANGES),
+    ("cuts", CUTS),
+    ("what is built anew", BUILT),
+];
+
+fn raise_next(tree: &mut Tree, next: u64) {
+    if tree.next() <= next {
+        tree.raise_next(next);
+    }
 }
 
-/// Whether the root has the directory alone, which is not empty.
-fn is_listed(tree: &Tree) -> bool {
-    !tree.is_empty(DIRECTORY) && tree.entry(1, 0) == Some(DIRECTORY) && tree.entry(1, 1).is_none()
+fn reads(tree: &Tree, number: u64, from: u64, room: usize) -> (usize, [u8; 6]) {
+    let mut bytes = [7; 6];
+    match bytes.get_mut(..room) {
+        Some(part) => {
+            let count = tree.read(number, from, part);
+            (count, bytes)
+        }
+        None => (usize::MAX, bytes),
+    }
 }
 
-/// Whether of the letters that are written from its third byte on two are left.
-fn is_written(tree: &mut Tree) -> Result<bool, AllocError> {
-    write_file(tree, FILE)?;
-    let mut bytes = [7; 3];
-    let count = tree.read(FILE, 1, &mut bytes);
-    Ok(tree.used_bytes() == 4 && count == 3 && bytes == [0, b'a', b'b'])
+/// Whether that is seen of a tree.
+fn is_seen(tree: &Tree, step: &Step) -> bool {
+    match step {
+        Step::Next(next) => tree.next() == *next,
+        Step::Child(directory, name, number) => tree.child(*directory, name) == *number,
+        Step::Parent(number, parent) => tree.parent(*number) == *parent,
+        Step::Name(number, name) => tree.name(*number) == *name,
+        Step::HasPath(number, has) => tree.has_path(*number) == *has,
+        Step::IsEmpty(number, is) => tree.is_empty(*number) == *is,
+        Step::Entry(directory, place, number) => tree.entry(*directory, *place) == *number,
+        Step::Entries(directory, count) => tree.entry_count(*directory) == *count,
+        Step::NumberAt(place, number) => tree.number_at(*place) == *number,
+        Step::Used(bytes) => tree.used_bytes() == *bytes,
+        Step::Chunks(count) => tree.chunks() == *count,
+        Step::Chunk(number, index, bytes) => tree.chunk(*number, *index) == *bytes,
+        Step::ChunkLength(number, index, len) => tree.chunk(*number, *index).len() == *len,
+        Step::Read(number, from, room, count, bytes) => {
+            reads(tree, *number, *from, *room) == (*count, *bytes)
+        }
+        _ => false,
+    }
 }
 
-/// Whether the directory is removed once it is empty, and not before.
-fn is_removed(tree: &mut Tree) -> bool {
-    remove_node(tree, DIRECTORY);
-    let is_kept = tree.has_path(DIRECTORY);
-    remove_node(tree, FILE);
-    remove_node(tree, DIRECTORY);
-    is_kept && !tree.has_path(DIRECTORY)
+/// Whether a step that takes no memory goes so.
+fn is_done(tree: &mut Tree, step: &Step) -> bool {
+    match step {
+        Step::Remove(number) => remove_node(tree, *number),
+        Step::Forget(number) => forget_node(tree, *number),
+        Step::Put(number, from, bytes) => put_bytes(tree, *number, *from, bytes),
+        Step::RaiseNext(next) => raise_next(tree, *next),
+        step => return is_seen(tree, step),
+    }
+    true
 }
 
-/// Whether a removed file keeps its bytes until it is forgotten.
-fn is_forgotten(tree: &mut Tree) -> bool {
-    let used = tree.used_bytes();
-    forget_node(tree, FILE);
-    used == 4 && tree.used_bytes() == 0
+/// Whether a step goes so.
+fn goes_so(alloc: Global, tree: &mut Tree, step: &Step) -> Result<bool, AllocError> {
+    match step {
+        Step::Make(directory, name, kind, number) => {
+            Ok(make_node(alloc, tree, *directory, name, *kind)? == *number)
+        }
+        Step::Move(number, directory) => move_node(alloc, tree, *number, *directory),
+        Step::Resize(number, size) => set_size(tree, *number, *size),
+        Step::Add(number, kind) => add_node(alloc, tree, *number, *kind),
+        Step::Hang(number, directory, name) => hang_node(alloc, tree, *number, *directory, name),
+        step => Ok(is_done(tree, step)),
+    }
 }
 
-/// Makes a file and a directory, and moves the file below it.
-fn make_and_move(rt: &impl Abort, alloc: Global, tree: &mut Tree) -> Result<(), AllocError> {
-    assert!(rt; are_made(alloc, tree)?);
-    move_node(alloc, tree, FILE, DIRECTORY)?;
-    assert!(rt; is_moved(tree));
-    assert!(rt; is_listed(tree));
-    Ok(())
+/// How many steps go so, before one that doesn't.
+fn count_steps(alloc: Global, tree: &mut Tree, steps: &[Step]) -> Result<usize, AllocError> {
+    for (place, step) in steps.iter().enumerate() {
+        if !goes_so(alloc, tree, step)? {
+            return Ok(place);
+        }
+    }
+    Ok(steps.len())
 }
 
-fn change(rt: &impl Abort, alloc: Global, tree: &mut Tree) -> Result<(), AllocError> {
-    make_and_move(rt, alloc, tree)?;
-    assert!(rt; is_written(tree)?);
-    assert!(rt; is_removed(tree));
-    assert!(rt; is_forgotten(tree));
-    assert!(rt; make_node(alloc, tree, 1, b"a", NodeKind::File)? == 4);
-    Ok(())
+fn count_told(alloc: Global, steps: &[Step]) -> Result<usize, AllocError> {
+    let mut tree = Tree::new(alloc)?;
+    let count = count_steps(alloc, &mut tree, steps);
+    drop(tree);
+    count
 }
 
+/// `scripts/refused-allocations` refuses each allocation in turn, and then this ends in that.
 #[test]
 fn changes_with_memory(rt: HostRuntime) -> Result<(), AllocError> {
-    let mut tree = Tree::new(rt.alloc())?;
-    let done = change(&rt, rt.alloc(), &mut tree);
-    drop(tree);
-    done
-}
-
-/// Whether so many bytes are read over six of 7, which are these then.
-fn reads(tree: &Tree, from: u64, count: usize, want: [u8; 6]) -> bool {
-    let mut bytes = [7; 6];
-    tree.read(FILE, from, &mut bytes) == count && bytes == want
-}
-
-/// Makes a file of 5,000 letters, and cuts it to 4,100. Then it is as long as before.
-fn cut_off(alloc: Global, tree: &mut Tree) -> Result<bool, AllocError> {
-    let file = make_node(alloc, tree, 1, b"a", NodeKind::File)?;
-    set_size(tree, FILE, 5_000)?;
-    put_bytes(tree, FILE, 0, &[b'a'; 5_000]);
-    let chunks = tree.chunks();
-    set_size(tree, FILE, 4_100)?;
-    set_size(tree, FILE, 5_000)?;
-    Ok(file == FILE && chunks == 2)
-}
-
-fn cut(rt: &impl Abort, alloc: Global, tree: &mut Tree) -> Result<(), AllocError> {
-    assert!(rt; cut_off(alloc, tree)?);
-    assert!(rt; reads(tree, 4_094, 6, [b'a'; 6]));
-    assert!(rt; reads(tree, 4_098, 6, [b'a', b'a', 0, 0, 0, 0]));
-    assert!(rt; reads(tree, 4_997, 3, [0, 0, 0, 7, 7, 7]));
-    set_size(tree, FILE, 4_096)?;
-    assert!(rt; tree.chunks() == 1);
-    Ok(())
-}
-
-#[test]
-fn bytes_that_were_cut_off_are_zeros(rt: HostRuntime) -> Result<(), AllocError> {
-    let mut tree = Tree::new(rt.alloc())?;
-    let done = cut(&rt, rt.alloc(), &mut tree);
-    drop(tree);
-    done
-}
-
-/// Adds the file 3 and the directory 5, which have no path, and sets the next number to 8.
-fn add(alloc: Global, tree: &mut Tree) -> Result<bool, AllocError> {
-    add_node(alloc, tree, 3, NodeKind::File)?;
-    add_node(alloc, tree, 5, NodeKind::Directory)?;
-    if tree.next() <= 8 {
-        tree.raise_next(8);
+    for (name, steps) in &STORIES {
+        let told = count_told(rt.alloc(), steps)?;
+        assert!(rt; told == steps.len(), "{name}: {told}");
     }
-    Ok(tree.next() == 8 && !tree.has_path(3))
-}
-
-/// Hangs the directory into the root, and the file into the directory.
-fn hang(alloc: Global, tree: &mut Tree) -> Result<bool, AllocError> {
-    hang_node(alloc, tree, 5, 1, b"d")?;
-    hang_node(alloc, tree, 3, 5, b"f")?;
-    Ok(tree.child(5, b"f") == Some(3))
-}
-
-fn is_counted(tree: &Tree) -> bool {
-    tree.entry_count(5) == 1
-        && tree.entry_count(3) == 0
-        && tree.number_at(1) == Some(3)
-        && tree.number_at(3).is_none()
-}
-
-/// Whether the file has a whole chunk and two bytes of a second one.
-fn has_chunks(tree: &Tree) -> bool {
-    tree.chunk(3, 0).len() == 4_096
-        && tree.chunk(3, 1) == b"ab".as_slice()
-        && tree.chunk(3, 2).is_empty()
-}
-
-fn build(rt: &impl Abort, alloc: Global, tree: &mut Tree) -> Result<(), AllocError> {
-    assert!(rt; add(alloc, tree)?);
-    assert!(rt; hang(alloc, tree)?);
-    assert!(rt; is_counted(tree));
-    set_size(tree, 3, 4_098)?;
-    put_bytes(tree, 3, 4_096, b"ab");
-    assert!(rt; has_chunks(tree));
     Ok(())
-}
-
-#[test]
-fn a_tree_is_built_anew(rt: HostRuntime) -> Result<(), AllocError> {
-    let mut tree = Tree::new(rt.alloc())?;
-    let done = build(&rt, rt.alloc(), &mut tree);
-    drop(tree);
-    done
 }
