@@ -1,9 +1,9 @@
 //! That small bodies are translated into forms. No contract says which bodies are: a translation
 //! that gave up at each of them would be proved.
 //!
-//! How many forms a body has at most follows from what a form is. It names the slots of its operands
-//! and of its word, so that an opcode that only moves a word has none of its own. The last form of
-//! a body leaves it at its end.
+//! How many forms a body has at most follows from what a form is. It names the slots of its
+//! operands and of its word, so that an opcode that only moves a word has none of its own. The last
+//! form of a body leaves it at its end.
 
 use crate::machine_jumps_tests::{context_of, first_table};
 use crate::spelled::{Refused, with_code};

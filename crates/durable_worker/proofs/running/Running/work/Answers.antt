@@ -192,7 +192,8 @@ returns-in_err-settle-in-Owes-clause-runs g c =
     c.loop-self.invariant
     (ap (λ z. c.args.fuel - (z - c.steps-first.result)) c.steps.ensures.value)
     c.in_ok-advance.ensures.released c.in_ok-advance.ensures.guest {T = Unit {0}}
-    c.settle.new.self c.settle.new.disk (Err c.in_err-settle-in-Owes.field-0.0) c.in_err-settle-in-Owes.ensures.runs)
+    c.settle.new.self c.settle.new.disk (Err c.in_err-settle-in-Owes.field-0.0)
+    c.in_err-settle-in-Owes.ensures.runs)
 
 pub returns-in_err-ask-in-Asks-clause-runs : goal.returns-in_err-ask-in-Asks-clause-runs
 returns-in_err-ask-in-Asks-clause-runs g c =
