@@ -4,7 +4,7 @@ use Rattle.std.proofs.Common.{length}
 use Rattle.std.proofs.Common.{take, refl, sym, ap, ◌∙◌, subst, inl, ⊎_elim, arith}
 use Rattle.std.proofs.lemmas.Bool.{cases_lt}
 use Rattle.std.proofs.lemmas.List.{append-nil}
-use Rattle.std.specs.Prelude.{Result, Ok, Err, IfOk, IfErr}
+use Rattle.std.specs.Prelude.{true, Result, Ok, Err, IfOk, IfErr}
 use Rattle.wasm_syntax.specs.declared.module.Module.{Module}
 use Rattle.wasm_syntax.proofs.Grammar.Exact.{some_is}
 use Rattle.wasm_syntax.proofs.Grammar.Whole.{module_complete}
@@ -98,7 +98,7 @@ left_alone {D} medium m config promise old new same nothing blank =
 pub refused_keeps : {D : Type 0} (medium : D → Medium) (bytes : List ℕ) (config : Settings)
     (why : DurableFault) (disk : D)
     → CreationKeeps bytes config (Err why) (medium disk) (medium disk)
-refused_keeps medium bytes config why disk m promise inputs accepted nothing blank =
+refused_keeps medium bytes config why disk m promise inputs accepted nothing created blank =
     left_alone medium m config promise disk disk refl nothing blank
 
 -- and it was asked for nothing
@@ -260,10 +260,11 @@ module _ {D : Type 0} (medium : D → Medium) (bytes : List ℕ) (config : Setti
 
   -- an error
   failed_leaves : (promise : Promise) (old new : D) → IsNothingYet promise
+      → promise.was_created ≡ true
       → FindsNoWorker (medium old) → LeavesBlankOrFirst config bytes v (medium old) (medium new)
       → ((medium old).sectors < total_sectors (places_for config bytes) → new ≡ old)
       → LeavesCreation begun.spelled config promise promise (medium old) (medium new)
-  failed_leaves promise old new nothing blank leaves same =
+  failed_leaves promise old new nothing created blank leaves same =
       ⊎_elim
       (λ (small : (medium old).sectors < total_sectors (places_for config bytes)).
       left_alone medium begun.spelled config promise old new (same small) nothing blank)
@@ -277,7 +278,7 @@ module _ {D : Type 0} (medium : D → Medium) (bytes : List ℕ) (config : Setti
           → LeavesCreation begun.spelled config promise promise (medium old) (medium new)
       written only room = let of_first = found.1 in record {
         carried = creation_carries medium begun.spelled config promise found.0 old new nothing
-            of_first.front of_first.no_lines only;
+            created of_first.front of_first.no_lines only;
         bounded = stays_within (promise.events + 1) old new (omega arith) room only;
       }
 
@@ -308,9 +309,9 @@ module _ {D : Type 0} (medium : D → Medium) (bytes : List ℕ) (config : Setti
         }
 
     -- what the opening promises is held at the first savepoint
-    held_at_first : (promise : Promise) → IsNothingYet promise
+    held_at_first : (promise : Promise) → IsNothingYet promise → promise.was_created ≡ true
         → IsHeldAt (after promise (Opened 0 (saved_of v))) found.0 [] found.0.process
-    held_at_first promise nothing =
+    held_at_first promise nothing created =
         let of_first = found.1 in
         let none_taken : length found.0.front ≡ 0 =
         ap (λ (l : List Kept). length l) of_first.front in
@@ -319,21 +320,21 @@ module _ {D : Type 0} (medium : D → Medium) (bytes : List ℕ) (config : Setti
         (subst (λ (n : ℕ).
         IsHeldAt (after promise (Opened n found.0.saved)) found.0 [] found.0.process) none_taken
         (opening_is_held begun.spelled config promise found.0
-        (fresh_is_held begun.spelled config promise found.0 nothing of_first.front
+        (fresh_is_held begun.spelled config promise found.0 nothing created of_first.front
         of_first.no_lines)))
 
     done_leaves : (promise : Promise) (old : D) → IsNothingYet promise
-        → FindsNoWorker (medium old)
+        → promise.was_created ≡ true → FindsNoWorker (medium old)
         → LeavesBlankOrFirst config bytes v (medium old) (medium new)
         → LeavesCreation begun.spelled config promise (after promise (Opened 0 (saved_of v)))
         (medium old) (medium new)
-    done_leaves promise old nothing blank leaves =
+    done_leaves promise old nothing created blank leaves =
         let of_first = found.1 in
         let is_stored = stored in
         let only = leaves begun.spelled found.0 is_first_point blank in
         let opens : OpensAtFirst promise (saved_of v) found.0 (medium old) (medium new) =
         creation_opens medium begun.spelled config promise (saved_of v) found.0 old new nothing
-        of_first.front of_first.no_lines of_first.saved only is_stored.journaled.stands in
+        created of_first.front of_first.no_lines of_first.saved only is_stored.journaled.stands in
         let long : (medium new).sectors ≡ (medium old).sectors = only.passes.sectors in
         let places_fit : total_sectors (places_for config bytes) ≤ (medium old).sectors =
         subst (λ (n : ℕ). total_sectors (places_for config bytes) ≤ n) long
@@ -346,9 +347,10 @@ module _ {D : Type 0} (medium : D → Medium) (bytes : List ℕ) (config : Setti
         }
 
     opens_on : (old : D) (promise : Promise) (inputs : Inputs) → IsNothingYet promise
+        → promise.was_created ≡ true
         → LeavesBlankOrFirst config bytes v (medium old) (medium new)
         → OpensOn begun.spelled config promise inputs (fresh_of v made) (medium old) (medium new)
-    opens_on old promise inputs nothing leaves =
+    opens_on old promise inputs nothing created leaves =
         let guest : Guest = begun.started.first_guest in
         let start : ProcessState = begun.started.first in
         let of_first = found.1 in
@@ -358,7 +360,7 @@ module _ {D : Type 0} (medium : D → Medium) (bytes : List ℕ) (config : Setti
         let life = lives_open begun.spelled config guest promise (at_first inputs) 0 start
         (saved_of v)
         (fresh_lives_begin begun.spelled config guest promise inputs start nothing begins) saved
-        (fresh_holds_nothing begun.spelled config guest promise start nothing begins) in
+        created (fresh_holds_nothing begun.spelled config guest promise start nothing begins) in
         let more : Promise = after promise (Opened 0 (saved_of v)) in
         let lines : length start.host.lines ≡ 0 =
         no_lines begun.spelled config guest start begins in
@@ -395,7 +397,7 @@ module _ {D : Type 0} (medium : D → Medium) (bytes : List ℕ) (config : Setti
               now = found.0.process;
               stores = is_stored;
               carried = begins_carried medium begun.spelled config more found.0 made.journal new
-                  (held_at_first promise nothing) is_stored.journaled;
+                  (held_at_first promise nothing created) is_stored.journaled;
               on_record = kept;
               n = 0;
               runs = subst (λ (z : ProcessState). Runs guest z [] 0 start) (sym of_first.process)
@@ -405,7 +407,7 @@ module _ {D : Type 0} (medium : D → Medium) (bytes : List ℕ) (config : Setti
             };
             synced = same_within (saved_of v).steps start.steps start.steps counted (omega arith);
           };
-          leaves = λ blank. done_leaves promise old nothing blank leaves;
+          leaves = λ blank. done_leaves promise old nothing created blank leaves;
         }
 
   -- ---- whatever has come of it
@@ -421,11 +423,11 @@ module _ {D : Type 0} (medium : D → Medium) (bytes : List ℕ) (config : Setti
       → IfOk laid (λ made. StoresFirst config bytes v made (medium new))
       → ((medium old).sectors < total_sectors (places_for config bytes) → new ≡ old)
       → CreationKeeps bytes config (worker_laid v laid) (medium old) (medium new)
-  laid_keeps (Ok made) old new leaves stores same other promise inputs accepted nothing =
+  laid_keeps (Ok made) old new leaves stores same other promise inputs accepted nothing created =
       subst (λ (z : Module). OpensOn z config promise inputs (fresh_of v made) (medium old)
       (medium new)) (one_module other accepted)
-      (opens_on made new stores old promise inputs nothing leaves)
-  laid_keeps (Err why) old new leaves stores same other promise inputs accepted nothing =
+      (opens_on made new stores old promise inputs nothing created leaves)
+  laid_keeps (Err why) old new leaves stores same other promise inputs accepted nothing created =
       λ blank. subst (λ (z : Module). LeavesCreation z config promise promise (medium old)
       (medium new)) (one_module other accepted)
-      (failed_leaves promise old new nothing blank leaves same)
+      (failed_leaves promise old new nothing created blank leaves same)

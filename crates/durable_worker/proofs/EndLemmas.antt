@@ -13,26 +13,23 @@ use Rattle.sector_disk.specs.rules.FaultDisk.{call_counts_of}
 use Rattle.sector_disk.specs.rules.Medium.{Medium, IsAllSynced}
 use Rattle.sector_disk.specs.rules.Memory.{memory_medium, memory_stays, MemoryState}
 use Rattle.sector_disk.specs.rules.Memory.{memory_state_of, after_cut}
-use Rattle.sector_disk.specs.rules.Trouble.{place_numbers, has_begun, call_number, troubled}
+use Rattle.sector_disk.specs.rules.Trouble.{place_numbers, has_begun, call_number}
 use Rattle.worker_rules.specs.Lives.{Act, Cause, End, Inputs}
 use Rattle.worker_rules.specs.Lives.End.{Finished as finished, Stopped as stopped, Failed as failed}
 use Rattle.worker_rules.specs.Courses.{HasStopped, HasNotStopped}
 use Rattle.worker_rules.specs.Between.{NextFinds, IsFoundAfterCut}
 use Rattle.durable_worker.specs.declared.recover_fault.RecoverFault.{RecoverFault}
-use Rattle.durable_worker.specs.laws.OneLife.{EndsBy, IsCauseOf, IsLater}
+use Rattle.durable_worker.specs.laws.OneLife.{EndsBy, IsCauseOf, IsLater, left_undone}
 use Rattle.durable_worker.specs.declared.story.report.LifeEnd.{LifeEnd}
 use Rattle.durable_worker.specs.declared.story.report.LifeEnd.TheVariants.{Finished, Stopped}
 use Rattle.durable_worker.specs.declared.story.report.LifeEnd.TheVariants.{Failed}
 use Rattle.durable_worker.specs.rules.Planned.{stop_call}
+use Rattle.durable_worker.specs.rules.StoryDisks.{story_medium}
 use Rattle.durable_worker.specs.rules.Told.{TellsLifeEnd}
-use Rattle.durable_worker.specs.LifeCalls.{left_undone, LeavesSome}
+use Rattle.durable_worker.specs.LifeCalls.{LeavesSome}
 use Rattle.durable_worker.specs.Endings.{end_told, IsFoundBehind, StopSays}
 
--- a disk in memory that is told to stop
-abbrev pub stopping_medium : FaultDisk MemDisk → Medium
-stopping_medium f = troubled (memory_medium f.inner) f.stop f.fail (length f.faults.items)
-
-pub stopping_leaves_some : LeavesSome stopping_medium
+pub stopping_leaves_some : LeavesSome story_medium
 stopping_leaves_some f = (f.inner.shown.items, memory_stays f.inner)
 
 -- ---- stops
@@ -110,8 +107,8 @@ met_at_stop (Some p) (Some q) None n told met =
 
 -- so it is over the calls of a life
 pub faults_at_stop : (found last : FaultDisk MemDisk) (stop : Option Place) → found.stop ≡ stop
-    → found.fail ≡ None → IsLater (stopping_medium found) (stopping_medium last)
-    → (stopping_medium found).faults < (stopping_medium last).faults
+    → found.fail ≡ None → IsLater (story_medium found) (story_medium last)
+    → (story_medium found).faults < (story_medium last).faults
     → HasStopped (stop_call stop) (call_number (call_counts_of last))
 faults_at_stop found last stop is none later fell =
     let told : place_numbers last.stop ++ place_numbers last.fail ++ []

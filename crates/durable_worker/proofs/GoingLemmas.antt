@@ -35,6 +35,7 @@ use Rattle.worker_rules.proofs.NextLives.{next_life_is_within}
 use Rattle.durable_worker.specs.declared.recover_fault.RecoverFault.{RecoverFault}
 use Rattle.durable_worker.specs.laws.OneLife.{CameTrue, IsLifeOver, IsLifeOf, IsLater, opened_in}
 use Rattle.durable_worker.specs.laws.OneLife.{shown_first, CallsMakeLives, released_in}
+use Rattle.durable_worker.specs.laws.OneLife.{left_undone}
 use Rattle.durable_worker.specs.declared.story.LivedOn.{LivedOn}
 use Rattle.durable_worker.specs.declared.story.fault.StoryFault.{StoryFault}
 use Rattle.durable_worker.specs.declared.story.hearing.HeardLines.{HeardLines}
@@ -46,15 +47,17 @@ use Rattle.durable_worker.specs.declared.story.report.LifeEnd.{LifeEnd}
 use Rattle.durable_worker.specs.declared.story.report.LifeReport.{LifeReport}
 use Rattle.durable_worker.specs.rules.Planned.{inputs_of, act_of}
 use Rattle.durable_worker.specs.rules.Told.{TellsLife, TellsEach, TellsOpening, TellsLifeEnd}
-use Rattle.durable_worker.specs.rules.Told.{TellsLives}
+use Rattle.durable_worker.specs.rules.StoryDisks.{IsEmptyDisk, IsRunOn, none, one_more}
+use Rattle.durable_worker.specs.rules.StoryDisks.{TellsLives, story_medium}
 use Rattle.durable_worker.specs.rules.Told.{told_line}
-use Rattle.durable_worker.specs.LifeCalls.{LivesOnce, LeavesSome, left_undone}
+use Rattle.durable_worker.specs.LifeCalls.{LivesOnce, LeavesSome}
 use Rattle.durable_worker.specs.Endings.{EndsLife}
-use Rattle.durable_worker.specs.Going.{IsEmptyDisk, HasAllRoom, IsKeptOn, IsToldOn, LivesOn}
+use Rattle.durable_worker.specs.Going.{HasAllRoom, IsKeptOn, IsToldOn, LivesOn}
 use Rattle.durable_worker.specs.Going.{promised_by_all}
 use Rattle.durable_worker.specs.Going.{GoneOn}
-use Rattle.durable_worker.proofs.HeardLemmas.{hands_out, hears, said_so, heard_all}
-use Rattle.durable_worker.proofs.EndLemmas.{stopping_medium, tells_end, next_finds, faults_at_stop}
+use Rattle.durable_worker.specs.Hearing.{hands_out, hears}
+use Rattle.durable_worker.proofs.HeardLemmas.{said_so, heard_all}
+use Rattle.durable_worker.proofs.EndLemmas.{tells_end, next_finds, faults_at_stop}
 use Rattle.durable_worker.proofs.EndLemmas.{stopping_leaves_some}
 
 -- ---- the empty disk
@@ -111,6 +114,9 @@ none_has_gone bytes config disk made m accepted =
       lives = [];
       go_on = tt;
       told = tt;
+      first = disk;
+      empty = empty;
+      run = none;
       kept = record {
         keeps = λ image leaves. inl (refl, blank image leaves);
         within = λ image leaves.
@@ -165,8 +171,9 @@ module _ (bytes : List ℕ) (config : Settings) (planned : List PlannedLife)
   where
     one_more_has_gone : GoneOn bytes config planned reports found
         → LivesOn bytes config one found report next
+        → IsRunOn bytes config one report found next
         → GoneOn bytes config (planned ++ one ∷ []) (reports ++ report ∷ []) next
-    one_more_has_gone so_far lives m accepted =
+    one_more_has_gone so_far lives run m accepted =
         let gone = so_far m accepted in
         let promise : Promise = promised_by_all nothing_yet gone.lives in
         let on = lives m promise accepted gone.kept in
@@ -178,6 +185,9 @@ module _ (bytes : List ℕ) (config : Settings) (planned : List PlannedLife)
               (go_on_more m config nothing_yet (map inputs_of planned) gone.lives (inputs_of one)
               on.life gone.go_on on.lived);
           told = tells_more gone.lives reports on.life report gone.told on.told;
+          first = gone.first;
+          empty = gone.empty;
+          run = one_more one report gone.run run;
           kept = subst (λ (p : Promise). IsKeptOn m bytes config p next)
               (sym (promised_more nothing_yet gone.lives on.life)) on.kept;
         }
@@ -187,14 +197,14 @@ pub next_has_gone : (bytes : List ℕ) (config : Settings) (all : List PlannedLi
     (one : PlannedLife) (reports reports' : List LifeReport) (report : LifeReport)
     (found next : MemDisk) → i < length all → one ≡ get_or all i one
     → GoneOn bytes config (take i all) reports found → LivesOn bytes config one found report next
-    → reports' ≡ reports ++ report ∷ [] → GoneOn bytes config (take (i + 1) all) reports' next
+    → IsRunOn bytes config one report found next → reports' ≡ reports ++ report ∷ [] → GoneOn bytes config (take (i + 1) all) reports' next
 next_has_gone bytes config all i one reports reports' report found next within is so_far lives
-    more =
+    run more =
     let front : take (i + 1) all ≡ take i all ++ one ∷ [] =
     take_more all i one within ∙ ap (λ (p : PlannedLife). take i all ++ p ∷ []) (sym is) in
     subst (λ (p : List PlannedLife). GoneOn bytes config p reports' next) (sym front)
     (subst (λ (r : List LifeReport). GoneOn bytes config (take i all ++ one ∷ []) r next) (sym more)
-    (one_more_has_gone bytes config (take i all) reports found next one report so_far lives))
+    (one_more_has_gone bytes config (take i all) reports found next one report so_far lives run))
 
 -- all lives are told
 pub all_are_told : (bytes : List ℕ) (config : Settings) (all : List PlannedLife) (i : ℕ)
@@ -203,7 +213,7 @@ pub all_are_told : (bytes : List ℕ) (config : Settings) (all : List PlannedLif
 all_are_told bytes config all i reports disk whole so_far m accepted =
     let gone = subst (λ (p : List PlannedLife). GoneOn bytes config p reports disk)
     (take_all i all whole) so_far m accepted in
-    (gone.lives, gone.go_on, gone.told)
+    (gone.lives, gone.go_on, gone.told, gone.first, disk, gone.empty, gone.run)
 
 -- ---- one life
 
@@ -224,7 +234,7 @@ module _ (bytes : List ℕ) (config : Settings) (planned : PlannedLife) (found n
     (report : LifeReport) (first last : FaultDisk MemDisk) (heard heard' : HeardLines)
     (left : List Answer) (lived : LivedOnce) (below : first.inner ≡ found)
     (stop : first.stop ≡ planned.stop) (fail : first.fail ≡ None) (unheard : heard.lines ≡ [])
-    (once : LivesOnce stopping_medium hands_out hears bytes config (map act_of planned.acts) lived
+    (once : LivesOnce story_medium hands_out hears bytes config (map act_of planned.acts) lived
     first planned.answers heard last left heard')
     (ends : EndsLife lived last heard' planned report next) (m : Module) (so_far : Promise) where
   calls_of : ℕ
@@ -232,9 +242,9 @@ module _ (bytes : List ℕ) (config : Settings) (planned : PlannedLife) (found n
 
   met : (exchanges : List Exchange)
       → Exchanges hands_out hears planned.answers heard exchanges left heard'
-      → HasAllRoom bytes config (stopping_medium first)
+      → HasAllRoom bytes config (story_medium first)
       → CameTrue bytes config (inputs_of planned) exchanges (left_undone lived.ended) calls_of
-      (stopping_medium first) (stopping_medium last)
+      (story_medium first) (story_medium last)
   unfolding calls_of
   met exchanges are room = record {
     foretold = said_so exchanges planned.answers left heard heard' are.asked are.released
@@ -248,14 +258,14 @@ module _ (bytes : List ℕ) (config : Settings) (planned : PlannedLife) (found n
   -- what the law says of it
   told_so : (exchanges : List Exchange)
       → Exchanges hands_out hears planned.answers heard exchanges left heard'
-      → HasAllRoom bytes config (stopping_medium first)
-      → KeepsPromise m config so_far (stopping_medium first)
-      → KeepsBounds so_far.events (stopping_medium first) → (life : Life)
+      → HasAllRoom bytes config (story_medium first)
+      → KeepsPromise m config so_far (story_medium first)
+      → KeepsBounds so_far.events (story_medium first) → (life : Life)
       → IsLifeOf (inputs_of planned) once.begins exchanges once.worker (left_undone lived.ended)
       calls_of life
-      → IsLivedOn m config so_far (inputs_of planned) life (stopping_medium first)
-      (stopping_medium last)
-      → IsLater (stopping_medium first) (stopping_medium last)
+      → IsLivedOn m config so_far (inputs_of planned) life (story_medium first)
+      (story_medium last)
+      → IsLater (story_medium first) (story_medium last)
       → IsToldOn m bytes config planned so_far report next
   unfolding calls_of
   told_so exchanges are room keeps within life is lives later =
@@ -294,11 +304,11 @@ module _ (bytes : List ℕ) (config : Settings) (planned : PlannedLife) (found n
         };
       }
 
-  told_on : CallsMakeLives stopping_medium hands_out hears
+  told_on : CallsMakeLives story_medium hands_out hears
       → IsAccepted offer config.pages bytes m → IsKeptOn m bytes config so_far first.inner
       → IsToldOn m bytes config planned so_far report next
   told_on law accepted kept =
-      let room : HasAllRoom bytes config (stopping_medium first) =
+      let room : HasAllRoom bytes config (story_medium first) =
       record { sectors = kept.room.sectors; writes = kept.room.writes } in
       let made = law m config bytes so_far
       (map act_of planned.acts) first last planned.answers left heard heard' once.begins once.worker
@@ -311,10 +321,10 @@ one_life_is_told : (bytes : List ℕ) (config : Settings) (planned : PlannedLife
     (found next : MemDisk) (report : LifeReport) (first last : FaultDisk MemDisk)
     (heard heard' : HeardLines) (left : List Answer) (lived : LivedOnce) → first.inner ≡ found
     → first.stop ≡ planned.stop → first.fail ≡ None → heard.lines ≡ []
-    → LivesOnce stopping_medium hands_out hears bytes config (map act_of planned.acts) lived
+    → LivesOnce story_medium hands_out hears bytes config (map act_of planned.acts) lived
     first planned.answers heard last left heard'
     → EndsLife lived last heard' planned report next
-    → CallsMakeLives stopping_medium hands_out hears
+    → CallsMakeLives story_medium hands_out hears
     → LivesOn bytes config planned found report next
 one_life_is_told bytes config planned found next report first last heard heard' left lived below
     stop fail unheard once ends law m so_far accepted kept =
@@ -327,18 +337,18 @@ pub ended_lives_are_told : (bytes : List ℕ) (config : Settings) (planned : Pla
     (left answers : List Answer) (acts : List PlannedAct) (lived : LivedOnce)
     (result : Result LivedOn StoryFault) → first.inner ≡ found → first.stop ≡ planned.stop
     → first.fail ≡ None → heard.lines ≡ [] → answers ≡ planned.answers → acts ≡ planned.acts
-    → (LeavesSome stopping_medium → LivesOnce stopping_medium hands_out hears bytes config
+    → (LeavesSome story_medium → LivesOnce story_medium hands_out hears bytes config
     (map act_of acts) lived first answers heard last left heard')
     → IfOk result (λ on. EndsLife lived last heard' planned on.report on.disk)
-    → CallsMakeLives stopping_medium hands_out hears
+    → CallsMakeLives story_medium hands_out hears
     → IfOk result (λ on. LivesOn bytes config planned found on.report on.disk)
 ended_lives_are_told bytes config planned found first last heard heard' left answers acts lived
     (Ok on) below stop fail unheard answers_are acts_are once ends law =
     one_life_is_told bytes config planned found on.disk on.report first last heard heard' left
     lived below stop fail unheard
-    (subst (λ (a : List Answer). LivesOnce stopping_medium hands_out hears bytes config
+    (subst (λ (a : List Answer). LivesOnce story_medium hands_out hears bytes config
     (map act_of planned.acts) lived first a heard last left heard') answers_are
-    (subst (λ (a : List PlannedAct). LivesOnce stopping_medium hands_out hears bytes config
+    (subst (λ (a : List PlannedAct). LivesOnce story_medium hands_out hears bytes config
     (map act_of a) lived first answers heard last left heard') acts_are
     (once stopping_leaves_some))) ends law
 ended_lives_are_told bytes config planned found first last heard heard' left answers acts lived

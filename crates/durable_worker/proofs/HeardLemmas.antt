@@ -5,24 +5,16 @@ use Rattle.std.specs.Prelude.{Bool, true, false, Result, Ok, Err, map}
 use Rattle.wasi_abi.specs.declared.answer.Answer.{Answer}
 use Rattle.record_replay.specs.declared.fault.OutletFault.{OutletFault}
 use Rattle.record_replay.specs.declared.line_list.NumberedLine.{NumberedLine}
-use Rattle.record_replay.specs.rules.Calls.{Giving, Taking, Begun, Exchange, Asks, Tells, Releases}
+use Rattle.record_replay.specs.rules.Calls.{Begun, Exchange, Asks, Tells, Releases}
 use Rattle.record_replay.specs.rules.Calls.{AnswersInOrder, asks_of, releases_of}
-use Rattle.record_replay.specs.rules.Lists.{HandsOut, KeepsLine}
+use Rattle.record_replay.specs.rules.Lists.{KeepsLine}
 use Rattle.worker_rules.specs.Exchanges.{was_taken, release_of}
 use Rattle.worker_store.specs.laws.Pieces.{Foretell}
 use Rattle.durable_worker.specs.laws.OneLife.{released_in}
 use Rattle.durable_worker.specs.declared.story.hearing.HeardLines.{HeardLines}
 use Rattle.durable_worker.specs.rules.Planned.{said_of}
 use Rattle.durable_worker.specs.rules.Told.{told_line}
-use Rattle.durable_worker.specs.Hearing.{HearsLine, MarksRefusal}
-
--- a list of answers, as a source
-abbrev pub hands_out : Giving (List Answer)
-hands_out = λ old kind said new. HandsOut old said new
-
--- lines that are heard, as an outlet
-abbrev pub hears : Taking HeardLines
-hears = λ old number line said new. HearsLine old number line said new
+use Rattle.durable_worker.specs.Hearing.{HearsLine, MarksRefusal, hands_out, hears}
 
 stays_marked : (said : Result (Unit {0}) OutletFault) (old new : Bool) → MarksRefusal old said new
     → old ≡ true → new ≡ true

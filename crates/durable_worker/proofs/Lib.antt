@@ -11,8 +11,10 @@ mod RestoringLemmas
 mod SurveyLemmas
 mod TextLemmas
 mod ActLemmas
+mod AddingLemmas
 mod OpeningLemmas
 mod HeardLemmas
 mod EndLemmas
 mod GoingLemmas
+mod RunLemmas
 pub mod StopLemmas

@@ -16,12 +16,15 @@ use Rattle.durable_worker.specs.rules.DurableCreations.{CreationKeeps, IsNotCrea
 use Rattle.durable_worker.specs.rules.DurableValues.{DurableValue}
 use Rattle.durable_worker.specs.rules.Recoveries.{IsNoWorker, Recovers, RecoveryCarries}
 use Rattle.durable_worker.specs.laws.OneLife.{BeginsLife, CallsInOrder, recovered, created}
-use Rattle.durable_worker.specs.laws.OneLife.{opened, unopened}
+use Rattle.durable_worker.specs.laws.OneLife.{opened, unopened, left_undone}
 use Rattle.durable_worker.specs.declared.story.living.LivedOnce.{LivedOnce}
 use Rattle.durable_worker.specs.declared.story.opening.OpenedWorker.{OpenedWorker}
+use Rattle.durable_worker.specs.declared.story.report.Opening.{Opening}
+use Rattle.durable_worker.specs.declared.story.report.Opening.TheVariants.{Created, Recovered}
 use Rattle.durable_worker.specs.declared.story.report.Opening.TheVariants.{Unopened}
 use Rattle.durable_worker.specs.rules.Told.{TellsOpening}
-use Rattle.durable_worker.specs.LifeCalls.{LeavesSome, Opens, LivesOnce, left_undone, beginning_of}
+use Rattle.durable_worker.specs.LifeCalls.{LeavesSome, Opens, LivesOnce, beginning_of}
+use Rattle.durable_worker.specs.LifeCalls.{TellsGeneration, IsOfRecovery}
 
 -- what the test of an error says
 pub is_none : (b : Bool) (why : RecoverFault) → (IsTrue b ↔ IsNoWorker why) → b ≡ true
@@ -68,19 +71,31 @@ module _ {D O : Type 0} (medium : D → Medium) (takes : Taking O) (bytes : List
 module _ {D S O : Type 0} (medium : D → Medium) (gives : Giving S) (takes : Taking O)
     (bytes : List ℕ) (config : Settings) (acts : List Act) (found disk last : D)
     (source source' : S) (outlet inside outlet' : O) where
+  -- the generation that is told is that of the recovery
+  of_recovery : (start : OpenedWorker) (told : Opening)
+      → Opens medium takes bytes config found outlet (Ok start) disk inside
+      → TellsGeneration start.is_created start.worker.store.journal.generation told
+      → IsOfRecovery medium takes found outlet told
+  of_recovery start (Recovered generation steps answers lines image) opens told =
+      (start.worker, disk, inside, told.1, opens.1 told.0)
+  of_recovery start (Created image) opens told = tt
+  of_recovery start Unopened opens told = tt
+
   lives_open : (start : OpenedWorker) (lived : LivedOnce)
       → Opens medium takes bytes config found outlet (Ok start) disk inside
       → CallsInOrder medium gives takes acts start.worker disk source inside
       (left_undone lived.ended) last source' outlet'
       → TellsOpening (beginning_of start.is_created) (Some (saved_of start.worker.process))
       lived.opened
+      → TellsGeneration start.is_created start.worker.store.journal.generation lived.opened
       → LivesOnce medium gives takes bytes config acts lived found source outlet last source'
       outlet'
-  lives_open start lived opens calls told = record {
+  lives_open start lived opens calls told generation = record {
     begins = beginning_of start.is_created;
     worker = Some start.worker;
-    calls = opened opens calls;
+    calls = opened opens.0 calls;
     told = told;
+    generation = of_recovery start lived.opened opens generation;
   }
 
   pub lives_on : (start : OpenedWorker) (result : Result LivedOnce AllocError)
@@ -89,11 +104,13 @@ module _ {D S O : Type 0} (medium : D → Medium) (gives : Giving S) (takes : Ta
       (left_undone lived.ended) last source' outlet')
       → IfOk result (λ lived. TellsOpening (beginning_of start.is_created)
       (Some (saved_of start.worker.process)) lived.opened)
+      → IfOk result (λ lived.
+      TellsGeneration start.is_created start.worker.store.journal.generation lived.opened)
       → IfOk result (λ lived. LeavesSome medium → LivesOnce medium gives takes bytes config acts
       lived found source outlet last source' outlet')
-  lives_on start (Ok lived) opens calls told =
-      λ some. lives_open start lived (opens some) calls told
-  lives_on start (Err e) opens calls told = tt
+  lives_on start (Ok lived) opens calls told generation =
+      λ some. lives_open start lived (opens some) calls told generation
+  lives_on start (Err e) opens calls told generation = tt
 
 module _ {D S O : Type 0} (medium : D → Medium) (gives : Giving S) (takes : Taking O)
     (bytes : List ℕ) (config : Settings) (acts : List Act) (found last : D)
@@ -107,4 +124,5 @@ module _ {D S O : Type 0} (medium : D → Medium) (gives : Giving S) (takes : Ta
     worker = None;
     calls = unopened opens.1;
     told = tt;
+    generation = tt;
   }

@@ -16,17 +16,13 @@ use Rattle.durable_worker.specs.declared.story.report.LifeEnd.TheVariants.{Finis
 use Rattle.durable_worker.specs.declared.story.report.LifeEnd.TheVariants.{Failed}
 use Rattle.durable_worker.specs.declared.story.report.LifeReport.{LifeReport}
 use Rattle.durable_worker.specs.rules.Planned.{stop_call}
+use Rattle.durable_worker.specs.rules.StoryDisks.{IsLeftBy}
 
 -- the end of a life by its stop, or by what ended its calls
 abbrev pub end_told : Bool → Result (Unit {0}) RecoverFault → LifeEnd
 end_told true ended = Stopped
 end_told false (Ok done) = Finished
 end_told false (Err why) = Failed why
-
--- the front that a stop has left is one write
-abbrev pub front_count : Bool → ℕ
-front_count true = 1
-front_count false = 0
 
 -- after an error the next life finds the same disk, and else what a cut leaves of it
 abbrev pub IsFoundBehind : LifeEnd → MemDisk → MemDisk → Type 0
@@ -39,7 +35,8 @@ abbrev pub StopSays : Bool → Option ℕ → ℕ → Type 0
 StopSays true stop calls = HasStopped stop calls
 StopSays false stop calls = HasStopped stop calls → ⊥
 
--- The end of a life on this disk: no line of it was refused, and all is told.
+-- The end of a life on this disk: no line of it was refused, all is told, and the power is cut
+-- where the life says so.
 pub record EndsLife (lived : LivedOnce) (disk : FaultDisk MemDisk) (heard : HeardLines)
     (life : PlannedLife) (report : LifeReport) (next : MemDisk) : Type 0 where
   pub unrefused : heard.has_refused ≡ false
@@ -50,4 +47,5 @@ pub record EndsLife (lived : LivedOnce) (disk : FaultDisk MemDisk) (heard : Hear
   pub stops : StopSays stopped (stop_call life.stop) (call_number (call_counts_of disk))
   pub ended : report.ended ≡ end_told stopped lived.ended
   pub behind : IsFoundBehind report.ended (disk_below disk) next
+  pub left : IsLeftBy life.tears report.ended disk next
   pub room : (memory_medium next).room ≡ (memory_medium (disk_below disk)).room

@@ -1,13 +1,12 @@
 -- Lives that have gone on, and the disk that the last of them left.
-use Rattle.std.specs.Prelude.{◌≡◌, ℕ, ◌≤◌, List, [], ◌∷◌, length, map, replicate}
+use Rattle.std.specs.Prelude.{ℕ, ◌≤◌, List, [], ◌∷◌, length, map}
 use Rattle.wasm_syntax.specs.declared.module.Module.{Module}
 use Rattle.wasm_syntax_rules.specs.Acceptance.{IsAccepted}
 use Rattle.wasi_abi.specs.rules.Configs.{Settings}
 use Rattle.machine.specs.rules.Offers.{offer}
 use Rattle.sector_disk.specs.declared.memory.MemDisk.{MemDisk}
-use Rattle.sector_disk.specs.declared.sector.TheConstants.{SECTOR_SIZE}
 use Rattle.sector_disk.specs.rules.Medium.{Medium}
-use Rattle.sector_disk.specs.rules.Memory.{memory_medium, memory_state_of}
+use Rattle.sector_disk.specs.rules.Memory.{memory_medium}
 use Rattle.disk_layout.specs.rules.Places.{geometry_of, total_sectors}
 use Rattle.worker_rules.specs.Lives.{Life}
 use Rattle.worker_rules.specs.Promises.{Promise, nothing_yet, promised_by, IsLived, GoOn}
@@ -15,15 +14,8 @@ use Rattle.worker_rules.specs.Holds.{KeepsPromise, KeepsBounds}
 use Rattle.durable_worker.specs.declared.story.life.PlannedLife.{PlannedLife}
 use Rattle.durable_worker.specs.declared.story.report.LifeReport.{LifeReport}
 use Rattle.durable_worker.specs.rules.Planned.{inputs_of}
+use Rattle.durable_worker.specs.rules.StoryDisks.{IsEmptyDisk, AreRunOn}
 use Rattle.durable_worker.specs.rules.Told.{TellsLife, TellsEach}
-
--- so many sectors of zeros, and room for as many writes
-abbrev pub IsEmptyDisk : ℕ → MemDisk → Type 0
-IsEmptyDisk sectors disk = memory_state_of disk ≡ record {
-  settled = replicate sectors (replicate SECTOR_SIZE 0);
-  pending = [];
-  limit = sectors;
-}
 
 -- the disk has all sectors of a worker of these bytes, and takes as many writes between two syncs
 pub record HasAllRoom (bytes : List ℕ) (config : Settings) (disk : Medium) : Type 0 where
@@ -58,12 +50,16 @@ abbrev pub promised_by_all : Promise → List Life → Promise
 promised_by_all so_far [] = so_far
 promised_by_all so_far (life ∷ lives) = promised_by_all (promised_by so_far life) lives
 
--- The lives so far go on, and are told. The disk keeps what they promised.
+-- The lives so far go on, and are told. They were run on a disk that was empty at first, and the
+-- disk now keeps what they promised.
 pub record HaveGoneOn (m : Module) (bytes : List ℕ) (config : Settings)
     (planned : List PlannedLife) (reports : List LifeReport) (disk : MemDisk) : Type 0 where
   pub lives : List Life
   pub go_on : GoOn m config nothing_yet (map inputs_of planned) lives
   pub told : TellsEach lives reports
+  pub first : MemDisk
+  pub empty : IsEmptyDisk (total_sectors (geometry_of config (length bytes))) first
+  pub run : AreRunOn bytes config planned reports first disk
   pub kept : IsKeptOn m bytes config (promised_by_all nothing_yet lives) disk
 
 -- so it is for the module that the bytes spell

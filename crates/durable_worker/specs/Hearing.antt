@@ -1,9 +1,15 @@
--- Where the lines of a life go, release by release.
-use Rattle.std.specs.Prelude.{◌≡◌, ℕ, Bool, true, Result, Ok, Err}
+-- Where the answers of a life come from, and where its lines go.
+use Rattle.std.specs.Prelude.{◌≡◌, ℕ, Bool, true, List, Result, Ok, Err}
+use Rattle.wasi_abi.specs.declared.answer.Answer.{Answer}
 use Rattle.wasi_calls_rules.specs.Hosts.{Line}
 use Rattle.record_replay.specs.declared.fault.OutletFault.{OutletFault}
-use Rattle.record_replay.specs.rules.Lists.{KeepsLine}
+use Rattle.record_replay.specs.rules.Calls.{Giving, Taking}
+use Rattle.record_replay.specs.rules.Lists.{HandsOut, KeepsLine}
 use Rattle.durable_worker.specs.declared.story.hearing.HeardLines.{HeardLines}
+
+-- a list of answers, as a source
+abbrev pub hands_out : Giving (List Answer)
+hands_out = λ old kind said new. HandsOut old said new
 
 -- a refused line leaves a mark
 abbrev pub MarksRefusal : Bool → Result (Unit {0}) OutletFault → Bool → Type 0
@@ -15,3 +21,7 @@ pub record HearsLine (old : HeardLines) (number : ℕ) (line : Line)
     (said : Result (Unit {0}) OutletFault) (new : HeardLines) : Type 0 where
   pub keeps : KeepsLine old.lines number line said new.lines
   pub marks : MarksRefusal old.has_refused said new.has_refused
+
+-- lines that are heard, as an outlet
+abbrev pub hears : Taking HeardLines
+hears = λ old number line said new. HearsLine old number line said new

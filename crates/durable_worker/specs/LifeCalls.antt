@@ -1,5 +1,5 @@
 -- The calls of one life, each as its clause says, on any disk.
-use Rattle.std.specs.Prelude.{ℕ, Bool, true, false, List, [], ◌∷◌, Option}
+use Rattle.std.specs.Prelude.{◌≡◌, ℕ, Bool, true, false, List, [], ◌∷◌, Option}
 use Rattle.std.specs.Prelude.{Result, Ok, Err}
 use Rattle.wasi_abi.specs.rules.Configs.{Settings}
 use Rattle.sector_disk.specs.rules.Image.{Image}
@@ -11,8 +11,12 @@ use Rattle.durable_worker.specs.declared.recover_fault.RecoverFault.{RecoverFaul
 use Rattle.durable_worker.specs.declared.recover_fault.RecoverFault.TheVariants as recover
 use Rattle.durable_worker.specs.rules.DurableValues.{DurableValue}
 use Rattle.durable_worker.specs.laws.OneLife.{CallsInOrder, BeginsLife, IsOneLife, shown_first}
+use Rattle.durable_worker.specs.laws.OneLife.{left_undone}
 use Rattle.durable_worker.specs.declared.story.living.LivedOnce.{LivedOnce}
 use Rattle.durable_worker.specs.declared.story.opening.OpenedWorker.{OpenedWorker}
+use Rattle.durable_worker.specs.declared.story.report.Opening.{Opening}
+use Rattle.durable_worker.specs.declared.story.report.Opening.TheVariants.{Recovered}
+use Rattle.durable_worker.specs.rules.Recoveries.{Recovers as recovers_on}
 use Rattle.durable_worker.specs.rules.Told.{TellsOpening}
 
 -- a cut of each disk may leave some image: its answers fit one
@@ -35,11 +39,6 @@ DoesAct medium gives takes act w disk source outlet (Err why) w' disk' source' o
     (acts : List Act) → CallsInOrder medium gives takes (act ∷ acts) w disk source outlet
     (Err (recover.Worker why)) disk' source' outlet'
 
--- nothing is left to be done, or an error ended it
-abbrev pub left_undone : Result (Unit {0}) RecoverFault → Result (List Act) RecoverFault
-left_undone (Ok done) = Ok []
-left_undone (Err why) = Err why
-
 -- ---- openings
 
 abbrev pub beginning_of : Bool → Beginning
@@ -52,10 +51,26 @@ abbrev pub Opens : {D O : Type 0} → (D → Medium) → Taking O → List ℕ �
 Opens medium takes bytes config found outlet (Ok opened) disk outlet' =
     BeginsLife medium takes bytes config found outlet (beginning_of opened.is_created)
     (Ok opened.worker) disk outlet'
+    × (opened.is_created ≡ false
+    → recovers_on medium takes (Ok opened.worker) found disk outlet outlet')
 Opens medium takes bytes config found outlet (Err why) disk outlet' = (begins : Beginning)
     × BeginsLife medium takes bytes config found outlet begins (Err why) disk outlet'
 
 -- ---- a life
+
+-- A recovered life, which is none that is created, tells this generation.
+abbrev pub TellsGeneration : Bool → ℕ → Opening → Type 0
+TellsGeneration is_created g (Recovered generation steps answers lines bytes) =
+    (is_created ≡ false) × (generation ≡ g)
+TellsGeneration is_created g other = Unit {0}
+
+-- A recovered life tells the generation of a worker that a recovery of this disk has opened.
+abbrev pub IsOfRecovery : {D O : Type 0} → (D → Medium) → Taking O → D → O → Opening → Type 0
+IsOfRecovery {D} {O} medium takes found outlet
+    (Recovered generation steps answers lines bytes) =
+    (w : DurableValue) × (disk : D) × (outlet' : O) × (generation ≡ w.store.journal.generation)
+    × recovers_on medium takes (Ok w) found disk outlet outlet'
+IsOfRecovery medium takes found outlet other = Unit {0}
 
 -- the calls of one life, and what is told of its opening
 pub record LivesOnce {D S O : Type 0} (medium : D → Medium) (gives : Giving S) (takes : Taking O)
@@ -66,3 +81,4 @@ pub record LivesOnce {D S O : Type 0} (medium : D → Medium) (gives : Giving S)
   pub calls : IsOneLife medium gives takes bytes config acts found source outlet begins worker
       (left_undone lived.ended) last source' outlet'
   pub told : TellsOpening begins (shown_first worker) lived.opened
+  pub generation : IsOfRecovery medium takes found outlet lived.opened

@@ -1,3 +1,4 @@
+pub mod Adding
 pub mod Bounds
 pub mod OneLife
 pub mod Outcomes

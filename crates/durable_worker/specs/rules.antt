@@ -11,5 +11,6 @@ pub mod RecoverFaults
 pub mod Recoveries
 pub mod Savings
 pub mod SliceCalls
+pub mod StoryDisks
 pub mod Surveys
 pub mod Told

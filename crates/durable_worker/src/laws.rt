@@ -1,5 +1,6 @@
 //! Laws of a worker on its disk. The functions do nothing: what they ensure is the law.
 
+ghost use Rattle.durable_worker.specs.laws.Adding.{SlicesOnDiskAdd};
 ghost use Rattle.durable_worker.specs.laws.Bounds.{OpenWorkersKeepBounds, StayingKeepsBounds};
 ghost use Rattle.durable_worker.specs.laws.OneLife.{CallsMakeLives, AnythingComesTrue};
 ghost use Rattle.durable_worker.specs.laws.Replies.{LivesEndAsSaid};
@@ -32,4 +33,10 @@ pub fn uncut_lives_go_on<D: Disk, S: Source, O: Outlet>()
 /// lead to stands as the life's outcome says: it has ended so, or it waits.
 pub fn lives_end_as_said<D: Disk, S: Source, O: Outlet>()
     ensures { LivesEndAsSaid D.medium S.gives O.takes }
+{}
+
+/// Two slices, of which the first took all its steps, are one, with checkpoints between them or
+/// none.
+pub fn slices_on_disk_add<S: Source, O: Outlet>()
+    ensures { SlicesOnDiskAdd S.gives O.takes }
 {}

@@ -21,7 +21,7 @@ use Rattle.worker_rules.specs.Lives.{Ended}
 use Rattle.worker_rules.specs.Courses.{Stage, Open, at_first, next_stage, IsNextAct}
 use Rattle.worker_rules.specs.Promises.{Promise, nothing_yet, after, promised_by, HoldsAll}
 use Rattle.worker_rules.specs.Promises.{IsKept, IsLived}
-use Rattle.worker_rules.specs.laws.Refused.{in_peace}
+use Rattle.worker_rules.specs.laws.Refused.{in_peace, creation_begun}
 use Rattle.worker_rules.specs.laws.WholeLives.{hi_told, hello_first, hello_last, cut_inputs}
 use Rattle.worker_rules.specs.laws.WholeLives.{cut_life, last_inputs, last_life, ended_inputs}
 use Rattle.worker_rules.specs.laws.WholeLives.{ended_life, HelloLives}
@@ -200,10 +200,11 @@ module _ (config : Settings) (some : 1 ≤ config.pages) (few : config.pages ≤
 
   -- it begins where nothing was promised but its line
   begins : (so_far : Promise) (inputs : Inputs) → so_far.kept ≡ [] → so_far.answers ≡ 0
-      → so_far.steps ≤ 0 → so_far.begun ≤ 1
+      → so_far.steps ≤ 0 → so_far.begun ≤ 1 → so_far.was_created ≡ true
       → IsKept hello config so_far (at_first inputs) (Opened 0 hello_first)
-  begins so_far inputs kept answers steps begun = record {
+  begins so_far inputs kept answers steps begun created = record {
     shut = refl;
+    created = created;
     at = at_first_step config some few;
     holds = holds so_far 0 kept answers steps begun;
     all_heard = omega arith;
@@ -238,8 +239,8 @@ module _ (config : Settings) (some : 1 ≤ config.pages) (few : config.pages ≤
   lives_cut : IsLived hello config nothing_yet cut_inputs cut_life
   lives_cut = record {
     kept = (
-      begins nothing_yet cut_inputs refl refl (omega arith) (omega arith),
-      (tells (after nothing_yet (Opened 0 hello_first)) (Some 30) [] refl, tt),
+      begins creation_begun cut_inputs refl refl (omega arith) (omega arith) refl,
+      (tells (after creation_begun (Opened 0 hello_first)) (Some 30) [] refl, tt),
     );
     ends = (tt, omega arith);
     begins = λ creates. (refl, (refl, refl));
@@ -278,7 +279,7 @@ module _ (config : Settings) (some : 1 ≤ config.pages) (few : config.pages ≤
       let told_stage : Stage = next_stage open_stage (Told hi_told true) in
       record {
         kept = (
-          begins behind_cut last_inputs refl refl (omega arith) (omega arith),
+          begins behind_cut last_inputs refl refl (omega arith) (omega arith) refl,
           (
             tells opened None (Checkpoint ∷ []) refl,
             (
@@ -313,6 +314,7 @@ module _ (config : Settings) (some : 1 ≤ config.pages) (few : config.pages ≤
         kept = (
           record {
             shut = refl;
+            created = refl;
             at = at_last_step config some few;
             holds = holds behind_end 8 refl refl (omega arith) (omega arith);
             all_heard = omega arith;

@@ -11,7 +11,7 @@ use Rattle.worker_rules.specs.Lives.{Creates}
 use Rattle.worker_rules.specs.Courses.{Stage, NoneThere, at_first, next_stage, first_taken}
 use Rattle.worker_rules.specs.Promises.{Promise, nothing_yet, after, promised_by, IsAt, HoldsAll}
 use Rattle.worker_rules.specs.Promises.{IsKept, IsLived, GoesOn}
-use Rattle.worker_rules.specs.laws.Refused.{in_peace}
+use Rattle.worker_rules.specs.laws.Refused.{in_peace, creation_begun}
 use Rattle.worker_rules.specs.laws.Honest.{ShowsAt, Teller, line_one, line_two, both_requests}
 use Rattle.worker_rules.specs.laws.Honest.{asked_first, asked_second, begin_life, replaying_life}
 use Rattle.worker_rules.specs.laws.Honest.{quiet_life, cut_recovery, poor_recovery, saving_life}
@@ -53,9 +53,10 @@ module _ {m : Module} {config : Settings} (t : Teller m config) where
   opened_first = Opened 0 t.fresh.saved
 
   -- the first opening, whatever is put into the life
-  opens : (inputs : Inputs) → IsKept m config nothing_yet (at_first inputs) opened_first
+  opens : (inputs : Inputs) → IsKept m config creation_begun (at_first inputs) opened_first
   opens inputs = let none = t.fresh.lines_are in record {
     shut = refl;
+    created = refl;
     at = t.fresh.at;
     holds = record {
       within = omega arith;
@@ -69,7 +70,7 @@ module _ {m : Module} {config : Settings} (t : Teller m config) where
   }
 
   abbrev opened : Promise
-  opened = after nothing_yet opened_first
+  opened = after creation_begun opened_first
 
   -- a slice of 42 steps, and more
   abbrev given : List Bool → List Act → Inputs
@@ -250,9 +251,11 @@ module _ {m : Module} {config : Settings} (t : Teller m config) where
   reopens : (so_far : Promise) (inputs : Inputs)
       → IsAt m config (take 2 so_far.kept) t.replayed.saved.steps t.replayed.saved
       → HoldsAll m config so_far.kept so_far 2 t.replayed.saved.steps → 1 ≤ so_far.heard
+      → so_far.was_created ≡ true
       → IsKept m config so_far (next_stage (at_first inputs) (Told (line_one t) true)) reopened
-  reopens so_far inputs at holds heard = let e = t.replayed.lines_are in record {
+  reopens so_far inputs at holds heard created = let e = t.replayed.lines_are in record {
     shut = refl;
+    created = created;
     at = at;
     holds = holds;
     all_heard = omega (arith, e, heard);
@@ -289,7 +292,8 @@ module _ {m : Module} {config : Settings} (t : Teller m config) where
           retells then_promised (nothing_to_do t) t.has_first.reached none_passed refl,
           (
             reopens so_far (nothing_to_do t) t.replayed.at
-                (holds so_far t.replayed.saved.steps (omega arith) few_steps refl) (omega arith),
+                (holds so_far t.replayed.saved.steps (omega arith) few_steps refl) (omega arith)
+                refl,
             tt,
           ),
         );
@@ -308,6 +312,7 @@ module _ {m : Module} {config : Settings} (t : Teller m config) where
         kept = (
           record {
             shut = refl;
+            created = refl;
             at = t.replayed.at;
             holds = holds after_restart t.replayed.saved.steps (omega arith)
                 (omega (arith, e)) refl;
@@ -353,7 +358,8 @@ module _ {m : Module} {config : Settings} (t : Teller m config) where
           retells behind_want (nothing_to_do t) t.has_first.reached none_passed refl,
           (
             reopens so_far (nothing_to_do t) t.replayed.at
-                (holds so_far t.replayed.saved.steps (omega arith) few_steps refl) (omega arith),
+                (holds so_far t.replayed.saved.steps (omega arith) few_steps refl) (omega arith)
+                refl,
             tt,
           ),
         );
@@ -416,6 +422,7 @@ module _ {m : Module} {config : Settings} (t : Teller m config) where
         kept = (
           record {
             shut = refl;
+            created = refl;
             at = t.later.at;
             holds = holds behind_save t.later.saved.steps (omega arith) (omega (arith, e)) refl;
             all_heard = omega (arith, l);
@@ -445,12 +452,13 @@ module _ {m : Module} {config : Settings} (t : Teller m config) where
   fails =
       let e = t.fresh.counted in
       let f = t.emitted.counted in
+      let l = t.emitted.lines_are in
       record {
         is_next = refl;
         within = omega arith;
         at = t.emitted.at;
         onward = omega (arith, e, f);
-        reply = (refl, omega (arith, e, f));
+        reply = (refl, omega (arith, e, f), omega (arith, l));
         bound = tt;
       }
 
@@ -479,6 +487,7 @@ module _ {m : Module} {config : Settings} (t : Teller m config) where
       let e = t.fresh.counted in
       record {
         shut = refl;
+        created = refl;
         at = t.answered.at;
         holds = record {
           within = omega arith;

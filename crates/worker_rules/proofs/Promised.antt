@@ -1,5 +1,5 @@
 -- What events promise, read off their list.
-use Rattle.std.proofs.Common.{◌≡◌, ℕ, ◌+◌, ◌≤◌, List, [], ◌∷◌, ◌++◌, refl, ap, subst, arith}
+use Rattle.std.proofs.Common.{◌≡◌, ℕ, ◌+◌, ◌≤◌, Bool, false, List, [], ◌∷◌, ◌++◌, refl, ap, subst, arith}
 use Rattle.wasm_syntax.specs.declared.module.Module.{Module}
 use Rattle.wasm_syntax_rules.specs.Validity.{IsValid}
 use Rattle.wasi_abi.specs.rules.Configs.{Settings}
@@ -7,8 +7,8 @@ use Rattle.process_rules.specs.Behind.{IsLine}
 use Rattle.worker_rules.specs.Lives.{Inputs, Life, Release, Event, Told, Asked, Opened, Ended}
 use Rattle.worker_rules.specs.Lives.{events_of, kept_after, told_in, kept_of_said}
 use Rattle.worker_rules.specs.Courses.{Stage, at_first, next_stage}
-use Rattle.worker_rules.specs.Promises.{Promise, nothing_yet, after, promised, promised_by, IsKept}
-use Rattle.worker_rules.specs.Promises.{AreKept, GoOn}
+use Rattle.worker_rules.specs.Promises.{Promise, nothing_yet, after, promised, created_by}
+use Rattle.worker_rules.specs.Promises.{promised_by, IsKept, AreKept, GoOn}
 use Rattle.worker_rules.specs.laws.Laws.{HasOneText, HaveOneText, PromisesAreOfKept}
 use Rattle.worker_rules.specs.laws.Laws.{NoNumberHasTwoTexts, CallsJoin}
 use Rattle.worker_rules.proofs.Fronts.{one_line, line_of_front, line_of_more}
@@ -36,79 +36,86 @@ calls_join m config so_far stage (e ∷ first) then kept further =
 
 -- ---- the events of all lives, in one list
 
--- an event keeps what was promised before it, wherever a life stands and however much has happened
+-- An event keeps what was promised before it, wherever a life stands, however much has happened, and
+-- whether or not a creation was begun.
 pub record IsKeptSomewhere (m : Module) (config : Settings) (so_far : Promise) (e : Event)
     : Type 0 where
   pub events : ℕ
+  pub was_created : Bool
   pub stage : Stage
-  pub kept : IsKept m config (record so_far { events = events }) stage e
+  pub kept : IsKept m config (record so_far { was_created = was_created; events = events }) stage e
 
 abbrev pub AreKeptSomewhere : Module → Settings → Promise → List Event → Type 0
 AreKeptSomewhere m config so_far [] = Unit {0}
 AreKeptSomewhere m config so_far (e ∷ events) =
     IsKeptSomewhere m config so_far e × AreKeptSomewhere m config (after so_far e) events
 
--- what is promised but for the count of what has happened
-but_for_count : (so_far : Promise) (n : ℕ) (events : List Event)
-    → promised (record so_far { events = n }) events
+-- what is promised but for the count of what has happened, and whether a creation was begun
+but_for_count : (so_far : Promise) (b : Bool) (n : ℕ) (events : List Event)
+    → promised (record so_far { was_created = b; events = n }) events
     ≡ record (promised so_far events) {
-      events = (promised (record so_far { events = n }) events).events;
+      was_created = (promised (record so_far { was_created = b; events = n }) events).was_created;
+      events = (promised (record so_far { was_created = b; events = n }) events).events;
     }
-but_for_count so_far n [] = refl
-but_for_count so_far n (Told r t ∷ events) = but_for_count (after so_far (Told r t)) (n + 1) events
-but_for_count so_far n (Asked steps k said fits ∷ events) =
-    but_for_count (after so_far (Asked steps k said fits)) (n + 1) events
-but_for_count so_far n (Opened held shown ∷ events) =
-    but_for_count (after so_far (Opened held shown)) (n + 1) events
-but_for_count so_far n (Ended act reply held shown ∷ events) =
-    but_for_count (after so_far (Ended act reply held shown)) (n + 1) events
+but_for_count so_far b n [] = refl
+but_for_count so_far b n (Told r t ∷ events) = but_for_count (after so_far (Told r t)) b (n + 1) events
+but_for_count so_far b n (Asked steps k said fits ∷ events) =
+    but_for_count (after so_far (Asked steps k said fits)) b (n + 1) events
+but_for_count so_far b n (Opened held shown ∷ events) =
+    but_for_count (after so_far (Opened held shown)) b (n + 1) events
+but_for_count so_far b n (Ended act reply held shown ∷ events) =
+    but_for_count (after so_far (Ended act reply held shown)) b (n + 1) events
 
 module _ (m : Module) (config : Settings) where
-  kept_somewhere : (so_far : Promise) (n : ℕ) (stage : Stage) (events rest : List Event)
-      → AreKept m config (record so_far { events = n }) stage events
+  kept_somewhere : (so_far : Promise) (b : Bool) (n : ℕ) (stage : Stage) (events rest : List Event)
+      → AreKept m config (record so_far { was_created = b; events = n }) stage events
       → AreKeptSomewhere m config (promised so_far events) rest
       → AreKeptSomewhere m config so_far (events ++ rest)
-  kept_somewhere so_far n stage [] rest kept later = later
-  kept_somewhere so_far n stage (Told r t ∷ events) rest kept later = (
-    record { events = n; stage = stage; kept = kept.0 },
-    kept_somewhere (after so_far (Told r t)) (n + 1) (next_stage stage (Told r t)) events rest
+  kept_somewhere so_far b n stage [] rest kept later = later
+  kept_somewhere so_far b n stage (Told r t ∷ events) rest kept later = (
+    record { events = n; was_created = b; stage = stage; kept = kept.0 },
+    kept_somewhere (after so_far (Told r t)) b (n + 1) (next_stage stage (Told r t)) events rest
         kept.1 later,
   )
-  kept_somewhere so_far n stage (Asked steps k said fits ∷ events) rest kept later = (
-    record { events = n; stage = stage; kept = kept.0 },
-    kept_somewhere (after so_far (Asked steps k said fits)) (n + 1)
+  kept_somewhere so_far b n stage (Asked steps k said fits ∷ events) rest kept later = (
+    record { events = n; was_created = b; stage = stage; kept = kept.0 },
+    kept_somewhere (after so_far (Asked steps k said fits)) b (n + 1)
         (next_stage stage (Asked steps k said fits)) events rest kept.1 later,
   )
-  kept_somewhere so_far n stage (Opened held shown ∷ events) rest kept later = (
-    record { events = n; stage = stage; kept = kept.0 },
-    kept_somewhere (after so_far (Opened held shown)) (n + 1)
+  kept_somewhere so_far b n stage (Opened held shown ∷ events) rest kept later = (
+    record { events = n; was_created = b; stage = stage; kept = kept.0 },
+    kept_somewhere (after so_far (Opened held shown)) b (n + 1)
         (next_stage stage (Opened held shown)) events rest kept.1 later,
   )
-  kept_somewhere so_far n stage (Ended act reply held shown ∷ events) rest kept later = (
-    record { events = n; stage = stage; kept = kept.0 },
-    kept_somewhere (after so_far (Ended act reply held shown)) (n + 1)
+  kept_somewhere so_far b n stage (Ended act reply held shown ∷ events) rest kept later = (
+    record { events = n; was_created = b; stage = stage; kept = kept.0 },
+    kept_somewhere (after so_far (Ended act reply held shown)) b (n + 1)
         (next_stage stage (Ended act reply held shown)) events rest kept.1 later,
   )
 
-  lives_kept : (so_far : Promise) (n : ℕ) (inputs : List Inputs) (lives : List Life)
-      → GoOn m config (record so_far { events = n }) inputs lives
+  lives_kept : (so_far : Promise) (b : Bool) (n : ℕ) (inputs : List Inputs) (lives : List Life)
+      → GoOn m config (record so_far { was_created = b; events = n }) inputs lives
       → AreKeptSomewhere m config so_far (events_of lives)
-  lives_kept so_far n [] [] goes = tt
-  lives_kept so_far n [] (life ∷ lives) goes = absurd goes
-  lives_kept so_far n (i ∷ inputs) [] goes = absurd goes
-  lives_kept so_far n (i ∷ inputs) (life ∷ lives) goes =
-      let then : Promise = promised (record so_far { events = n }) life.events in
-      let same : promised_by (record so_far { events = n }) life
-      ≡ record (promised so_far life.events) { events = then.events + 1 } =
+  lives_kept so_far b n [] [] goes = tt
+  lives_kept so_far b n [] (life ∷ lives) goes = absurd goes
+  lives_kept so_far b n (i ∷ inputs) [] goes = absurd goes
+  lives_kept so_far b n (i ∷ inputs) (life ∷ lives) goes =
+      let now : Bool = created_by life.begins b in
+      let then : Promise = promised (record so_far { was_created = now; events = n }) life.events in
+      let same : promised_by (record so_far { was_created = b; events = n }) life
+      ≡ record (promised so_far life.events) {
+        was_created = then.was_created;
+        events = then.events + 1;
+      } =
       ap (λ (z : Promise). record z { events = z.events + 1 })
-      (but_for_count so_far n life.events) in
-      kept_somewhere so_far n (at_first i) life.events (events_of lives) goes.0.kept
-      (lives_kept (promised so_far life.events) (then.events + 1) inputs lives
+      (but_for_count so_far now n life.events) in
+      kept_somewhere so_far now n (at_first i) life.events (events_of lives) goes.0.kept
+      (lives_kept (promised so_far life.events) then.was_created (then.events + 1) inputs lives
       (subst (λ z. GoOn m config z inputs lives) same goes.1))
 
   pub all_kept : (inputs : List Inputs) (lives : List Life) → GoOn m config nothing_yet inputs lives
       → AreKeptSomewhere m config nothing_yet (events_of lives)
-  all_kept inputs lives goes = lives_kept nothing_yet 0 inputs lives goes
+  all_kept inputs lives goes = lives_kept nothing_yet false 0 inputs lives goes
 
   -- ---- one text for each number
 

@@ -19,11 +19,11 @@ use Rattle.worker_rules.specs.Courses.{next_stage, stage_after, ComesAfter, IsLa
 use Rattle.worker_rules.specs.Courses.{IsAskedIn}
 use Rattle.worker_rules.specs.Courses.{MayFail, MayEnd}
 use Rattle.worker_rules.specs.Promises.{Promise, after, nothing_yet, fuel_of, IsKept, IsAt}
-use Rattle.worker_rules.specs.Promises.{promised, IsReply}
+use Rattle.worker_rules.specs.Promises.{promised, as_begun, IsReply, IsAmong}
 use Rattle.worker_rules.specs.laws.Laws.{HaveOneText}
 use Rattle.worker_rules.specs.laws.Refused.{in_peace, created_life, recovered_life, first_line}
 use Rattle.worker_rules.specs.laws.Refused.{IsFromOutside, source, answer, outlet, RefusedEvents}
-use Rattle.worker_rules.specs.laws.Refused.{RefusedWorkers}
+use Rattle.worker_rules.specs.laws.Refused.{RefusedWorkers, creation_begun}
 use Rattle.worker_rules.proofs.Promised.{no_two_texts}
 
 -- ---- what differs
@@ -95,12 +95,17 @@ module _ (m : Module) (config : Settings) (so_far : Promise) (stage : Stage) whe
   within_fuel (Slice fuel) Waits held shown ends = let e = ends.1 in omega (arith, e)
   within_fuel (Slice fuel) (Over why) held shown ends = ends.1
   within_fuel (Slice fuel) Done held shown ends = absurd ends
-  within_fuel (Slice fuel) (Fails other) held shown ends = ends.1
+  within_fuel (Slice fuel) (Fails other) held shown ends = ends.1.0
   within_fuel Checkpoint Spent held shown ends = absurd ends
   within_fuel Checkpoint Waits held shown ends = absurd ends
   within_fuel Checkpoint (Over why) held shown ends = absurd ends
   within_fuel Checkpoint Done held shown ends = let e = ends.1 in omega (arith, e)
-  within_fuel Checkpoint (Fails other) held shown ends = ends.1
+  within_fuel Checkpoint (Fails other) held shown ends = ends.1.0
+
+  among : (act : Act) (cause : Cause) (held : ℕ) (shown : Saved)
+      → IsReply so_far stage held shown act (Fails cause) → IsAmong stage.line shown.lines
+  among (Slice fuel) cause held shown ends = ends.2
+  among Checkpoint cause held shown ends = ends.2
 
   -- an error from outside, in a call that nobody has failed
   no_cause : (cause : Cause) → IsFromOutside cause → MayFail Open cause → ⊥
@@ -116,6 +121,8 @@ module _ (m : Module) (config : Settings) (so_far : Promise) (stage : Stage) whe
     asks_before_it_opens = λ steps kind said fits is kept.
         subst (λ (q : Phase). IsAskedIn q stage.acts stage.step steps) is kept.in_time;
     opens_twice = λ held shown is kept. open_is (sym kept.shut ∙ is);
+    opens_uncreated = λ held shown is kept.
+        subst IsFalse (sym is ∙ kept.created) tt;
     goes_on_after_an_error = closed;
     opens_with_more_than_was_kept = λ held shown h kept.
         (let within = kept.holds.within in omega (arith, within, h));
@@ -145,6 +152,11 @@ module _ (m : Module) (config : Settings) (so_far : Promise) (stage : Stage) whe
         (let onward = kept.onward in omega (arith, onward, h));
     runs_past_its_fuel = λ act reply held shown h kept.
         (let few = within_fuel act reply held shown kept.reply in omega (arith, few, h));
+    ends_before_its_lines = λ act cause last held shown is h kept.
+        (let few : last ≤ shown.lines =
+        subst (λ (l : Option ℕ). IsAmong l shown.lines) is (among act cause held shown kept.reply)
+        in
+        omega (arith, few, h));
     leaves_an_answer_behind = λ fuel held shown h kept.
         (let all = kept.reply.3.all_taken in omega (arith, all, h));
     leaves_a_line_untold = λ fuel last held shown is h kept.
@@ -218,10 +230,12 @@ module _ (m : Module) (config : Settings) where
   refused_workers = record {
     shut = λ says acts begins calls ends goes. shut_ends says acts calls ends goes.0.ends;
     pleads_the_disk = λ says acts life is goes.
-        no_fault says acts (promised nothing_yet life.events).events life.calls
+        no_fault says acts (promised (as_begun life.begins nothing_yet) life.events).events
+        life.calls
         (stage_after (at_first (in_peace says acts)) life.events) life.ends is goes.0.ends;
     pleads_a_stop = λ says acts life is goes.
-        no_stop says acts (promised nothing_yet life.events).events life.calls
+        no_stop says acts (promised (as_begun life.begins nothing_yet) life.events).events
+        life.calls
         (stage_after (at_first (in_peace says acts)) life.events) life.ends is goes.0.ends;
     silent = λ inputs goes. goes;
     idle = λ inputs fuel calls ends first last some same goes.
@@ -232,7 +246,7 @@ module _ (m : Module) (config : Settings) where
     undone = λ act acts says calls ends first goes.
         undone_ends act acts says calls first ends goes.0.ends;
     goes_on = λ inputs act cause held calls e events ends first last goes.
-        closed m config (after (after nothing_yet (Opened 0 first))
+        closed m config (after (after creation_begun (Opened 0 first))
         (Ended act (Fails cause) held last))
         (next_stage (next_stage (at_first inputs) (Opened 0 first))
         (Ended act (Fails cause) held last)) cause e refl goes.0.kept.1.1.0;
@@ -267,6 +281,8 @@ module _ (m : Module) (config : Settings) where
         (let enough = goes.1.0.kept.0.holds.answers in omega (arith, enough, fewer));
     useless_checkpoint = λ i j held calls more ends others first last text is_taken rest some goes.
         (let passed = goes.1.0.kept.0.not_passed in omega (arith, passed, some));
+    recovered_from_nothing = λ inputs held calls ends shown rest goes.
+        subst IsFalse goes.0.kept.0.created tt;
     created_again = λ i j calls more ends others first second goes.
         subst IsFalse (sym (goes.1.0.begins refl).0) tt;
     created_late = λ inputs held calls ends shown rest some goes.

@@ -1,5 +1,5 @@
 -- What the images of a disk hold of a promise (this project's own).
-use Rattle.std.specs.Prelude.{◌≡◌, ◌⊎◌, ℕ, ◌≤◌, List, length, take}
+use Rattle.std.specs.Prelude.{◌≡◌, ◌⊎◌, ℕ, ◌≤◌, true, List, length, take}
 use Rattle.wasm_syntax.specs.declared.module.Module.{Module}
 use Rattle.wasi_abi.specs.rules.Configs.{Settings}
 use Rattle.process_rules.specs.Runs.{Kept}
@@ -9,10 +9,12 @@ use Rattle.disk_layout.specs.rules.Places.{geometry_of, total_sectors}
 use Rattle.worker_rules.specs.Stands.{StandsFor, IsBlank}
 use Rattle.worker_rules.specs.Promises.{Promise, nothing_yet, HoldsAll}
 
--- The image stands for a front of the answers kept now that holds all that was promised then. An
--- outlet has taken the lines of its snapshot, and those that are told no more are among them.
+-- A creation was begun. The image stands for a front of the answers kept now that holds all that
+-- was promised then. An outlet has taken the lines of its snapshot, and those that are told no more
+-- are among them.
 pub record HoldsPromise (m : Module) (config : Settings) (then now : Promise) (disk : Image)
     : Type 0 where
+  pub created : now.was_created ≡ true
   pub held : ℕ
   pub steps : ℕ
   pub stands : StandsFor disk m config (take held now.kept) steps
@@ -20,9 +22,12 @@ pub record HoldsPromise (m : Module) (config : Settings) (then now : Promise) (d
   pub snapshot_heard : stands.saved.lines ≤ now.heard
   pub snapshot_passed : then.passed ≤ stands.saved.lines
 
--- nothing has been promised yet, however much has happened
+-- Nothing has been promised yet, however much has happened. A creation may have been begun.
 abbrev pub IsNothingYet : Promise → Type 0
-IsNothingYet promise = promise ≡ record nothing_yet { events = promise.events }
+IsNothingYet promise = promise ≡ record nothing_yet {
+  was_created = promise.was_created;
+  events = promise.events;
+}
 
 -- until something is promised there may be no worker on it
 abbrev pub IsUnopened : Promise → Image → Type 0

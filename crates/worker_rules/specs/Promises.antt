@@ -17,7 +17,8 @@ use Rattle.process_rules.specs.Behind.{AnswersBehindLine, AnswersBehindSync, IsL
 use Rattle.state_image.specs.rules.Image.{Saved, SavedShowsProcess}
 use Rattle.worker_rules.specs.Lives.{Act, Slice, Checkpoint, SourceSaid, Inputs, Release}
 use Rattle.worker_rules.specs.Lives.{OfBounds, Reply, Spent, Waits, Over, Done, Fails}
-use Rattle.worker_rules.specs.Lives.{Event, Told, Asked, Opened, Ended, Creates, Life}
+use Rattle.worker_rules.specs.Lives.{Event, Told, Asked, Opened, Ended, Beginning, Recovers}
+use Rattle.worker_rules.specs.Lives.{Creates, Life}
 use Rattle.worker_rules.specs.Lives.{kept_of_said}
 use Rattle.worker_rules.specs.Courses.{Stage, Shut, Open, NoneThere, at_first, next_stage}
 use Rattle.worker_rules.specs.Courses.{stage_after, first_said, first_taken, IsToldIn, IsAskedIn}
@@ -39,6 +40,8 @@ pub record Promise : Type 0 where
   pub heard : ℕ
   -- the guest's syncs up to this step have returned
   pub synced : ℕ
+  -- whether a creation was begun, and whether a life has opened
+  pub was_created : Bool
   pub has_opened : Bool
   -- how much has happened
   pub events : ℕ
@@ -53,6 +56,7 @@ nothing_yet = record {
   begun = 0;
   heard = 0;
   synced = 0;
+  was_created = false;
   has_opened = false;
   events = 0;
 }
@@ -109,10 +113,19 @@ abbrev pub promised : Promise → List Event → Promise
 promised so_far [] = so_far
 promised so_far (e ∷ events) = promised (after so_far e) events
 
+-- whether a creation was begun, where a life begins so
+abbrev pub created_by : Beginning → Bool → Bool
+created_by Creates was_created = true
+created_by Recovers was_created = was_created
+
+-- what is promised as a life begins
+abbrev pub as_begun : Beginning → Promise → Promise
+as_begun begins so_far = record so_far { was_created = created_by begins so_far.was_created }
+
 -- what is promised after a life, which counts also where nothing happens in it
 abbrev pub promised_by : Promise → Life → Promise
-promised_by so_far life = record (promised so_far life.events) {
-  events = (promised so_far life.events).events + 1;
+promised_by so_far life = record (promised (as_begun life.begins so_far) life.events) {
+  events = (promised (as_begun life.begins so_far) life.events).events + 1;
 }
 
 -- ---- what each event keeps
@@ -179,11 +192,13 @@ pub record HoldsAll (m : Module) (config : Settings) (kept : List Kept) (so_far 
       → (a : ℕ) × (a ≤ held) × AnswersBehindLine m config kept i a
   pub syncs : (k a : ℕ) → k ≤ so_far.synced → AnswersBehindSync m config kept k a → a ≤ held
 
--- A life opens exactly where a front of the kept answers leads that holds all that was promised.
--- An outlet has taken every line up to there, and this recovery has told none beyond it.
+-- A life opens only where a creation was begun, by it or before it. It opens exactly where a front
+-- of the kept answers leads that holds all that was promised. An outlet has taken every line up to
+-- there, and this recovery has told none beyond it.
 pub record IsOpening (m : Module) (config : Settings) (so_far : Promise) (stage : Stage) (held : ℕ)
     (shown : Saved) : Type 0 where
   pub shut : stage.phase ≡ Shut
+  pub created : so_far.was_created ≡ true
   pub at : IsAt m config (take held so_far.kept) shown.steps shown
   pub holds : HoldsAll m config so_far.kept so_far held shown.steps
   pub all_heard : shown.lines ≤ so_far.heard
@@ -196,6 +211,11 @@ pub record IsCaughtUp (so_far : Promise) (stage : Stage) (held : ℕ) (shown : S
   pub all_taken : held ≡ length so_far.kept
   pub all_told : stage.line ≡ Some shown.lines
 
+-- The last line that was told, if there is one, is among the first so many.
+abbrev pub IsAmong : Option ℕ → ℕ → Type 0
+IsAmong None lines = Unit {0}
+IsAmong (Some last) lines = last ≤ lines
+
 -- how many steps an act may take
 abbrev pub fuel_of : Act → ℕ
 fuel_of (Slice fuel) = fuel
@@ -203,7 +223,7 @@ fuel_of Checkpoint = 0
 
 -- A slice says that its steps are taken after exactly its fuel. It says that an answer isn't there
 -- where the source has just said so, and that the process has ended where it has. A checkpoint
--- takes no step. An error has a cause.
+-- takes no step. An error has a cause, and the process then has emitted each line that was told.
 abbrev pub IsReply : Promise → Stage → ℕ → Saved → Act → Reply → Type 0
 IsReply so_far stage held shown (Slice fuel) Spent =
     (stage.phase ≡ Open) × (shown.steps ≡ stage.step + fuel) × (shown.ended ≡ None)
@@ -218,6 +238,7 @@ IsReply so_far stage held shown Checkpoint Done =
     (stage.phase ≡ Open) × (shown.steps ≡ stage.step) × IsCaughtUp so_far stage held shown
 IsReply so_far stage held shown act (Fails cause) =
     MayFail stage.phase cause × (shown.steps ≤ stage.step + fuel_of act)
+    × IsAmong stage.line shown.lines
 IsReply so_far stage held shown _ _ = ⊥
 
 -- the next step of this process leads to a host whose lines have no numbers below their end
@@ -282,8 +303,8 @@ OpensAnew (e ∷ events) = ⊥
 -- created again.
 pub record IsLived (m : Module) (config : Settings) (so_far : Promise) (inputs : Inputs)
     (life : Life) : Type 0 where
-  pub kept : AreKept m config so_far (at_first inputs) life.events
-  pub ends : MayEnd inputs (promised so_far life.events).events life.calls
+  pub kept : AreKept m config (as_begun life.begins so_far) (at_first inputs) life.events
+  pub ends : MayEnd inputs (promised (as_begun life.begins so_far) life.events).events life.calls
       (stage_after (at_first inputs) life.events) life.ends
   pub begins : life.begins ≡ Creates → (so_far.has_opened ≡ false) × OpensAnew life.events
 

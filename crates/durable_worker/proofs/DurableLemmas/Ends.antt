@@ -35,6 +35,7 @@ use Rattle.worker_store.proofs.LawLemmas.Raising.{ended_carries}
 use Rattle.worker_store.proofs.LawLemmas.Saving.{ends_promise_no_less}
 use Rattle.worker_store.proofs.LawLemmas.TurnLemmas.{ended_still_holds, rests_go_on, turns_join}
 use Rattle.worker_store.proofs.LawLemmas.TurnLemmas.{same_no_more}
+use Rattle.worker_store.proofs.LawLemmas.Underway.{among_first}
 use Rattle.worker_store.specs.declared.fault.StoreFault.TheVariants as store
 use Rattle.worker_store.specs.declared.store.WorkerStore.{WorkerStore}
 use Rattle.worker.specs.declared.fault.WorkFault.TheVariants as work
@@ -232,6 +233,7 @@ pub broken_open : (c : Course) (promise : Promise) (stage : Stage) (p : ProcessS
 broken_open c promise stage p step latest w disk running = record {
   in_slice = running.way.in_slice;
   is = running.way.is_open;
+  told = among_first stage.line _ (length p.host.lines) running.way.line running.way.emitted;
 }
 
 -- ---- open again

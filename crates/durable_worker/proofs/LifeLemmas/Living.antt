@@ -24,7 +24,7 @@ use Rattle.worker_rules.specs.Courses.{Stage, Phase, Shut, Unheard, NoneThere, B
 use Rattle.worker_rules.specs.Courses.{Open, Closed, at_first, next_stage, stage_after}
 use Rattle.worker_rules.specs.Courses.{HasFailed, HasDiskFault, HasStopped, HasNotStopped, IsCutIn}
 use Rattle.worker_rules.specs.Courses.{MayEnd}
-use Rattle.worker_rules.specs.Promises.{Promise, after, promised, IsKept}
+use Rattle.worker_rules.specs.Promises.{Promise, as_begun, after, promised, IsKept}
 use Rattle.worker_rules.specs.Promises.{AreKept, OpensAnew}
 use Rattle.worker_rules.specs.Holds.{HoldsPromise, KeepsPromise}
 use Rattle.worker_rules.specs.Holds.{KeepsBounds}
@@ -135,6 +135,7 @@ module _ (m : Module) (config : Settings) where
       )) (λ (h : HoldsPromise m config promise promise image).
       let all = h.holds in
       inr (record {
+        created = h.created;
         held = h.held;
         steps = h.steps;
         stands = h.stands;
@@ -172,6 +173,7 @@ module _ (m : Module) (config : Settings) where
       let less = less_is_held m config promise now now image
       (before_error promise act cause held shown) h in
       inr (record {
+        created = less.created;
         held = less.held;
         steps = less.steps;
         stands = less.stands;
@@ -204,13 +206,17 @@ failed_cut m config promise stage (Slice fuel) cause held shown kept =
 failed_cut m config promise stage Checkpoint cause held shown kept =
     may_fail_cut stage.phase cause kept.reply.0
 
-module _ (m : Module) (config : Settings) (bytes : List ℕ) (so_far : Promise) (inputs : Inputs)
+module _ (m : Module) (config : Settings) (bytes : List ℕ) (before : Promise) (inputs : Inputs)
     (begins : Beginning) (exchanges : List Exchange) (worker : Option DurableValue) (calls : ℕ)
     (found last : Medium) where
+  -- what is promised as the life begins
+  abbrev so_far : Promise
+  so_far = as_begun begins before
+
   -- what the law says
   abbrev pub LifeGoesOn : Result (List Act) RecoverFault → Type 0
   LifeGoesOn left = (life : Life) × IsLifeOf inputs begins exchanges worker left calls life
-      × IsLivedOn m config so_far inputs life found last × IsLater found last
+      × IsLivedOn m config before inputs life found last × IsLater found last
 
   -- a life of these events
   abbrev pub life_of : List Event → End → Life
@@ -444,7 +450,8 @@ module _ {D S O : Type 0} (medium : D → Medium) (gives : Giving S) (takes : Ta
             let is = o.2 inputs came.sectors came.room heard.1 in
             ends_opened m config bytes so_far inputs begins (map Tells o.0 ++ c.0) worker count
             (medium found) (medium last) w (map Tells o.0) c.0 left (medium disk) refl refl came is
-            (c.2 m config is.guest (promised so_far is.events) (stage_after stage is.events)
+            (c.2 m config is.guest (promised (as_begun begins so_far) is.events)
+            (stage_after stage is.events)
             is.process is.opened (is.acts ∙ acts_are) (is.foretold c.0 came.foretold) is.keeps
             is.bounded),
       )

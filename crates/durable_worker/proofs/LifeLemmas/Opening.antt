@@ -3,7 +3,7 @@ use Rattle.std.proofs.Common.{◌≡◌, ℕ, ◌+◌, ◌<◌, ◌≤◌, List,
 use Rattle.std.proofs.Common.{length}
 use Rattle.std.proofs.Common.{subst, inl, inr, ⊎_elim, arith}
 use Rattle.std.proofs.lemmas.List.{append-nil}
-use Rattle.std.specs.Prelude.{◌⊎◌, Result, Ok, Err, IfErr, Some, None, false, map}
+use Rattle.std.specs.Prelude.{◌⊎◌, Result, Ok, Err, IfErr, Some, None, false, true, map}
 use Rattle.wasm_syntax.specs.declared.module.Module.{Module}
 use Rattle.wasm_syntax_rules.specs.Acceptance.{IsAccepted}
 use Rattle.wasi_abi.specs.declared.numbers.TheConstants.{NUMBERS_END}
@@ -21,7 +21,7 @@ use Rattle.worker_rules.specs.Lives.{Beginning, Creates, Opened, told_in}
 use Rattle.worker_rules.specs.Lives.Beginning.{Recovers as recovers}
 use Rattle.worker_rules.specs.Courses.{Stage, Phase, Shut, at_first}
 use Rattle.worker_rules.specs.Courses.{stage_after, HasFailed, IsCutIn}
-use Rattle.worker_rules.specs.Promises.{Promise, after, promised, AreKept, OpensAnew}
+use Rattle.worker_rules.specs.Promises.{Promise, as_begun, after, promised, AreKept, OpensAnew}
 use Rattle.worker_rules.specs.Holds.{IsNothingYet, KeepsPromise, KeepsBounds}
 use Rattle.worker_store.specs.laws.Pieces.{IsForetold}
 use Rattle.worker_store.proofs.LawLemmas.Pieces.{parts_are_foretold}
@@ -337,7 +337,8 @@ module _ (m : Module) (config : Settings) (so_far : Promise) (inputs : Inputs) w
           (sectors : total_sectors (geometry_of config (length bytes)) ≤ (medium found).sectors)
           (room : total_sectors (geometry_of config (length bytes)) ≤ (medium found).room)
           (settled : ((medium mid).unsynced ≡ 0) ⊎ ((medium found).faults < (medium mid).faults))
-          (image : Image) (leaves : (medium mid).may_leave image) where
+          (image : Image) (leaves : (medium mid).may_leave image)
+          (begun : so_far.was_created ≡ true) where
         created_so : (told : List Begun) (result : Result DurableValue DurableFault)
             → FindsNone so_far told (medium found) (medium mid)
             → CreationKeeps bytes config result (medium mid) (medium disk)
@@ -351,7 +352,7 @@ module _ (m : Module) (config : Settings) (so_far : Promise) (inputs : Inputs) w
             passed_later (medium found) (medium mid) _ passes in
             subst (λ (l : List Begun). OpensSo Creates (map Tells l) (opened_by result)
             (medium found) (medium disk)) (sym none.none_told)
-            (by result later here.0 (creation m so_far inputs accepted here.0) causes)
+            (by result later here.0 (creation m so_far inputs accepted here.0 begun) causes)
           where
             by : (result : Result DurableValue DurableFault) → IsLater (medium found) (medium mid)
                 → IsNothingYet so_far
@@ -379,6 +380,16 @@ module _ (m : Module) (config : Settings) (so_far : Promise) (inputs : Inputs) w
       let sync = by.1 in
       let clean = sync.settled in inl (reads.unsynced ∙ clean.unsynced)
 
+-- A disk without a worker has none also where a creation is begun now.
+none_as_begun : (so_far : Promise) (told : List Begun) (old new : Medium)
+    → FindsNone so_far told old new → FindsNone (as_begun Creates so_far) told old new
+none_as_begun so_far told old new none = record {
+  none_told = none.none_told;
+  unopened = λ image left. let is = none.unopened image left in
+      (ap (λ (p : Promise). as_begun Creates p) is.0, is.1);
+  bounded = none.bounded;
+}
+
 -- What is told while a life opens, and how it opens, whatever was put in that this makes true.
 abbrev pub OpeningIs : Module → Settings → Promise → {O : Type 0} → Taking O → List ℕ → Beginning
     → Result DurableValue RecoverFault → Medium → Medium → O → O → Type 0
@@ -387,7 +398,7 @@ OpeningIs m config so_far takes bytes begins result found disk outlet outlet' = 
     × ((inputs : Inputs) → total_sectors (geometry_of config (length bytes)) ≤ found.sectors
     → total_sectors (geometry_of config (length bytes)) ≤ found.room
     → IsForetold (at_first inputs) (map Tells told)
-    → OpensSo m config so_far inputs begins (map Tells told) result found disk)
+    → OpensSo m config (as_begun begins so_far) inputs begins (map Tells told) result found disk)
 
 pub opening : (m : Module) (config : Settings) (so_far : Promise) {D O : Type 0}
     (medium : D → Medium) (takes : Taking O) (bytes : List ℕ) (found disk : D)
@@ -412,9 +423,11 @@ opening m config so_far medium takes bytes found disk outlet outlet' begins resu
       did.0,
       did.1,
       λ inputs sectors room foretold.
-          created_so m config so_far inputs medium takes bytes found disk accepted mid sectors room
+          created_so m config (as_begun Creates so_far) inputs medium takes bytes found disk accepted
+          mid sectors room
           (is_settled m config so_far inputs medium takes none found mid outlet outlet' says by)
-          image leaves did.0 made
+          image leaves refl did.0 made
+          (none_as_begun so_far did.0 (medium found) (medium mid)
           (finds_none m config so_far inputs did.0 none (medium found) (medium mid) says
-          (did.2 inputs foretold)) creation causes,
+          (did.2 inputs foretold))) creation causes,
     )

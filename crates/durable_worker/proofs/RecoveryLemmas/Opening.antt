@@ -86,7 +86,7 @@ module _ {D O : Type 0} (medium : D → Medium) (takes : Taking O) (m : Module)
         (next_stage told.made.stage' (Opened n (saved_of w.process))) there.last) (sym counted)
         (lives_open m config there.point.reached.guest told.made.promise' told.made.stage'
         (count_at there.point found.records.items) there.last (saved_of w.process) told.lives
-        shown_whole holds.holds)
+        shown_whole holds.created holds.holds)
 
     heard : length there.last.host.lines ≤ told.made.promise'.heard
     heard = (let lives = told.lives in lives.heard)

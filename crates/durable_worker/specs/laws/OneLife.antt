@@ -112,6 +112,11 @@ pub data IsOneLife {D S O : Type 0} (medium : D → Medium) (gives : Giving S) (
       last
       source outlet'
 
+-- nothing is left to be done, or an error ended it
+abbrev pub left_undone : Result (Unit {0}) RecoverFault → Result (List Act) RecoverFault
+left_undone (Ok done) = Ok []
+left_undone (Err why) = Err why
+
 -- ---- what was put into it
 
 -- a life that is not over has been stopped

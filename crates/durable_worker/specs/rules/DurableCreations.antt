@@ -1,6 +1,6 @@
 -- A worker that is created on a disk (this project's own).
 use Rattle.std.specs.Prelude.{◌≡◌, ◌⊎◌, ℕ, ◌+◌, ◌*◌, ◌<◌, ◌≤◌, List, [], ◌∷◌, ◌++◌, length, false}
-use Rattle.std.specs.Prelude.{Result, Ok, Err}
+use Rattle.std.specs.Prelude.{true, Result, Ok, Err}
 use Rattle.wasm_syntax.specs.declared.module.Module.{Module}
 use Rattle.wasm_syntax_rules.specs.Acceptance.{IsAccepted}
 use Rattle.wasi_abi.specs.rules.Configs.{Settings}
@@ -104,9 +104,11 @@ OpensOrNot m config promise inputs (Ok w) old new = OpensOn m config promise inp
 OpensOrNot m config promise inputs (Err why) old new =
     FindsNoWorker old → LeavesCreation m config promise promise old new
 
--- So it is of the module that these bytes spell, where nothing was promised before.
+-- So it is of the module that these bytes spell, where nothing was promised before, and the creation
+-- counts as begun.
 abbrev pub CreationKeeps : List ℕ → Settings → Result DurableValue DurableFault → Medium → Medium
     → Type 0
 CreationKeeps bytes config result old new =
     (m : Module) (promise : Promise) (inputs : Inputs) → IsAccepted offer config.pages bytes m
-    → IsNothingYet promise → OpensOrNot m config promise inputs result old new
+    → IsNothingYet promise → promise.was_created ≡ true
+    → OpensOrNot m config promise inputs result old new

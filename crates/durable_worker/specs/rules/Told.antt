@@ -1,25 +1,18 @@
--- What a report tells of lives.
+-- What a report tells of a life.
 use Rattle.std.specs.Prelude.{◌≡◌, ℕ, List, [], ◌∷◌, map, Option, Some, None}
-use Rattle.wasm_syntax.specs.declared.module.Module.{Module}
-use Rattle.wasm_syntax_rules.specs.Acceptance.{IsAccepted}
-use Rattle.wasi_abi.specs.rules.Configs.{Settings}
-use Rattle.machine.specs.rules.Offers.{offer}
 use Rattle.state_image.specs.rules.Image.{Saved, image}
 use Rattle.record_replay.specs.declared.line_list.NumberedLine.{NumberedLine}
 use Rattle.record_replay.specs.rules.Lists.{numbered}
 use Rattle.worker_rules.specs.Lives.{Release, told_in}
 use Rattle.worker_rules.specs.Lives.{Beginning, Recovers, Creates, End, Life}
 use Rattle.worker_rules.specs.Lives.End.{Finished as finished, Stopped as stopped, Failed as failed}
-use Rattle.worker_rules.specs.Promises.{GoesOn}
 use Rattle.durable_worker.specs.laws.OneLife.{opened_in, IsCauseOf}
-use Rattle.durable_worker.specs.declared.story.life.PlannedLife.{PlannedLife}
 use Rattle.durable_worker.specs.declared.story.report.Opening.{Opening}
 use Rattle.durable_worker.specs.declared.story.report.Opening.TheVariants.{Created, Recovered}
 use Rattle.durable_worker.specs.declared.story.report.Opening.TheVariants.{Unopened}
 use Rattle.durable_worker.specs.declared.story.report.LifeEnd.{LifeEnd}
 use Rattle.durable_worker.specs.declared.story.report.LifeEnd.TheVariants as told
 use Rattle.durable_worker.specs.declared.story.report.LifeReport.{LifeReport}
-use Rattle.durable_worker.specs.rules.Planned.{inputs_of}
 
 -- A life that was created, or recovered, tells the image of the process with which it opened, and a
 -- recovered one its numbers too. Of one that wasn't opened nothing is told.
@@ -55,10 +48,3 @@ abbrev pub TellsEach : List Life → List LifeReport → Type 0
 TellsEach [] [] = Unit {0}
 TellsEach (life ∷ lives) (report ∷ reports) = TellsLife life report × TellsEach lives reports
 TellsEach _ _ = ⊥
-
--- Where the bytes spell an accepted module, the report tells lives that go on as one that was never
--- stopped. They are of this module, and with what was put into each.
-abbrev pub TellsLives : List ℕ → Settings → List PlannedLife → List LifeReport → Type 0
-TellsLives bytes config planned reports = (m : Module) → IsAccepted offer config.pages bytes m
-    → (lives : List Life) × GoesOn m config (map inputs_of planned) lives
-    × TellsEach lives reports

@@ -7,7 +7,8 @@ ghost use Rattle.sector_disk.specs.rules.Trouble.{call_number};
 ghost use Rattle.worker_rules.specs.Between.{IsFoundAfterCut};
 ghost use Rattle.worker_rules.specs.Courses.{HasStopped};
 ghost use Rattle.durable_worker.specs.rules.Planned.{stop_call};
-ghost use Rattle.durable_worker.specs.Endings.{end_told, front_count, IsFoundBehind};
+ghost use Rattle.durable_worker.specs.rules.StoryDisks.{IsLeftBy, front_count};
+ghost use Rattle.durable_worker.specs.Endings.{end_told, IsFoundBehind};
 
 use crate::RecoverFault;
 use crate::story::fault::StoryFault;
@@ -54,6 +55,7 @@ pub(crate) fn disk_behind(
     tears: &[u16],
 ) -> Result<MemDisk, StoryFault>
     ensures behind { IfOk result (IsFoundBehind ended (disk_below disk)) }
+    ensures left { IfOk result (IsLeftBy tears.now ended disk) }
     ensures room { IfOk result (λ next.
         (memory_medium next).room ≡ (memory_medium (disk_below disk)).room) }
 {

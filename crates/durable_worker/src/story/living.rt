@@ -3,10 +3,11 @@
 ghost use Rattle.std.specs.Prelude.{◌≤◌, map, Some, IfOk, OnOk};
 ghost use Rattle.state_image.specs.rules.Saving.{saved_of};
 ghost use Rattle.disk_layout.specs.rules.Places.{total_sectors};
-ghost use Rattle.durable_worker.specs.laws.OneLife.{CallsInOrder};
+ghost use Rattle.durable_worker.specs.laws.OneLife.{CallsInOrder, left_undone};
 ghost use Rattle.durable_worker.specs.rules.Planned.{act_of};
 ghost use Rattle.durable_worker.specs.rules.Told.{TellsOpening};
-ghost use Rattle.durable_worker.specs.LifeCalls.{LeavesSome, DoesAct, LivesOnce, left_undone};
+ghost use Rattle.durable_worker.specs.LifeCalls.{TellsGeneration};
+ghost use Rattle.durable_worker.specs.LifeCalls.{LeavesSome, DoesAct, LivesOnce};
 ghost use Rattle.durable_worker.specs.LifeCalls.{beginning_of};
 
 use crate::story::life::PlannedAct;
@@ -69,6 +70,8 @@ fn go_on<D: Disk, S: Source, O: Outlet>(
     requires { total_sectors opened.worker.store.geometry ≤ (D.medium disk.old).sectors }
     ensures told { IfOk result (λ lived. TellsOpening (beginning_of opened.is_created)
         (Some (saved_of opened.worker.process)) lived.opened) }
+    ensures generation { IfOk result (λ lived.
+        TellsGeneration opened.is_created opened.worker.store.journal.generation lived.opened) }
     ensures done { IfOk result (λ lived. CallsInOrder D.medium S.gives O.takes (map act_of acts.now)
         opened.worker disk.old source.old outlet.old (left_undone lived.ended) disk.new source.new
         outlet.new) }
@@ -92,8 +95,10 @@ fn tell_opening(
     worker: &DurableWorker,
     is_created: bool,
 ) -> Result<Opening, AllocError>
-    ensures { IfOk result (TellsOpening (beginning_of is_created)
+    ensures told { IfOk result (TellsOpening (beginning_of is_created)
         (Some (saved_of worker.now.process))) }
+    ensures generation { IfOk result
+        (TellsGeneration is_created worker.now.store.journal.generation) }
 {
     let process = worker.process();
     let image = Row::from_vec(write_image(alloc, process)?);

@@ -16,15 +16,18 @@
 //! - A life without a stop, or whose stop isn't reached, is cut behind its last act. One that ends
 //!   by another error isn't cut, and the next one finds the same disk (`IsFoundBehind`). The fronts
 //!   that a cut keeps are those that are told, in order, of all writes but the front of a stop
-//!   (`cut_by`).
+//!   (`IsLeftBy`).
+//! - All lives are run on one disk, which is empty at first, by the calls of a worker (`AreRunOn`).
+//!   A recovered one is of the generation after that of the worker that it found there
+//!   (`IsNextGeneration`).
 //!
-//! Nothing is said of a module that isn't accepted. Nor is the generation that a report names, or
-//! how many calls of the disk a life takes.
+//! Nothing is said of a module that isn't accepted.
 //!
 //! # Definitions to read
 //!
 //! In `specs/rules/`: `inputs_of` (`Planned.antt`), what is put into each life; `TellsLife`,
-//! `TellsLives` (`Told.antt`), what a report tells. They speak in the words of `worker_rules`. What
+//! (`Told.antt`), what a report tells of one; `TellsLives` (`StoryDisks.antt`), what it tells of all,
+//! and on which disk they were run. They speak in the words of `worker_rules`. What
 //! is read off a life is `opened_in` (`specs/laws/OneLife.antt`) and `told_in` of `worker_rules`,
 //! and `IsCauseOf` says which error is which cause.
 //!
@@ -37,9 +40,9 @@
 
 ghost use Rattle.std.specs.Prelude.{◌≡◌, ◌<◌, ◌^◌, IfOk, length};
 ghost use Rattle.disk_layout.specs.rules.Places.{geometry_of, total_sectors};
-ghost use Rattle.durable_worker.specs.rules.Told.{TellsLives};
+ghost use Rattle.durable_worker.specs.rules.StoryDisks.{IsEmptyDisk, IsRunOn, TellsLives};
 ghost use Rattle.durable_worker.specs.Endings.{EndsLife};
-ghost use Rattle.durable_worker.specs.Going.{IsEmptyDisk, LivesOn};
+ghost use Rattle.durable_worker.specs.Going.{LivesOn};
 
 mod copying;
 mod ending;
@@ -128,8 +131,10 @@ fn live(
     disk: MemDisk,
     life: &PlannedLife,
 ) -> Result<LivedOn, StoryFault>
-    ensures { IfOk result (λ lived. LivesOn spelled.entry.wasm.now spelled.entry.config.now
+    ensures lives { IfOk result (λ lived. LivesOn spelled.entry.wasm.now spelled.entry.config.now
         life.now disk lived.report lived.disk) }
+    ensures run { IfOk result (λ lived. IsRunOn spelled.entry.wasm.now spelled.entry.config.now
+        life.now lived.report disk lived.disk) }
 {
     let answers = copy_answers(alloc, life.answers.as_slice())?;
     let mut source = AnswerList::new(answers.into_vec());

@@ -9,7 +9,7 @@ use Rattle.durable_worker.specs.declared.story.report.Opening.{Opening}
 use Rattle.durable_worker.specs.declared.story.report.Opening.TheVariants.{Created, Recovered}
 use Rattle.durable_worker.specs.declared.story.report.Opening.TheVariants.{Unopened}
 use Rattle.durable_worker.specs.declared.story.report.LifeReport.{LifeReport}
-use Rattle.durable_worker.specs.rules.Told.{TellsLives}
+use Rattle.durable_worker.specs.rules.StoryDisks.{TellsLives}
 use Rattle.wasmhost_serve.specs.declared.configuring.Sizes.{Sizes}
 use Rattle.wasmhost_serve.specs.declared.preparing.Prepared.{Prepared}
 use Rattle.wasmhost_serve.specs.declared.preparing.Unprepared.{Unprepared}

@@ -16,7 +16,7 @@ use Rattle.worker_rules.specs.Lives.{OfDisk, OfSource, OfAnswer, OfOutlet, OfMem
 use Rattle.worker_rules.specs.Lives.{Spent, Waits, Done, Fails, Event, Told, Asked, Opened, Ended}
 use Rattle.worker_rules.specs.Lives.{Beginning, Recovers, Creates, End, Stopped, Failed, Life}
 use Rattle.worker_rules.specs.Courses.{Stage, Shut, Open, Closed}
-use Rattle.worker_rules.specs.Promises.{Promise, fuel_of, IsKept, GoesOn}
+use Rattle.worker_rules.specs.Promises.{Promise, nothing_yet, as_begun, fuel_of, IsKept, GoesOn}
 
 -- ---- words
 
@@ -31,6 +31,10 @@ created_life events calls ends =
 abbrev pub recovered_life : List Event → ℕ → End → Life
 recovered_life events calls ends =
     record { begins = Recovers; events = events; calls = calls; ends = ends }
+
+-- before the first life has opened, which begins by a creation
+abbrev pub creation_begun : Promise
+creation_begun = as_begun Creates nothing_yet
 
 -- the line 1 with this text on stream 1
 abbrev pub first_line : List ℕ → Release
@@ -51,6 +55,8 @@ pub record RefusedEvents (m : Module) (config : Settings) (so_far : Promise) (st
   pub asks_before_it_opens : (steps : ℕ) (kind : Kind) (said : SourceSaid) (fits : Bool)
       → stage.phase ≡ Shut → IsKept m config so_far stage (Asked steps kind said fits) → ⊥
   pub opens_twice : (held : ℕ) (shown : Saved) → stage.phase ≡ Open
+      → IsKept m config so_far stage (Opened held shown) → ⊥
+  pub opens_uncreated : (held : ℕ) (shown : Saved) → so_far.was_created ≡ false
       → IsKept m config so_far stage (Opened held shown) → ⊥
   pub goes_on_after_an_error : (cause : Cause) (e : Event) → stage.phase ≡ Closed cause
       → IsKept m config so_far stage e → ⊥
@@ -82,6 +88,9 @@ pub record RefusedEvents (m : Module) (config : Settings) (so_far : Promise) (st
   pub runs_past_its_fuel : (act : Act) (reply : Reply) (held : ℕ) (shown : Saved)
       → stage.step + fuel_of act < shown.steps
       → IsKept m config so_far stage (Ended act reply held shown) → ⊥
+  pub ends_before_its_lines : (act : Act) (cause : Cause) (last held : ℕ) (shown : Saved)
+      → stage.line ≡ Some last → shown.lines < last
+      → IsKept m config so_far stage (Ended act (Fails cause) held shown) → ⊥
   pub leaves_an_answer_behind : (fuel held : ℕ) (shown : Saved) → held < length so_far.kept
       → IsKept m config so_far stage (Ended (Slice fuel) Spent held shown) → ⊥
   pub leaves_a_line_untold : (fuel last held : ℕ) (shown : Saved)
@@ -184,6 +193,11 @@ pub record RefusedWorkers (m : Module) (config : Settings) : Type 0 where
       → GoesOn m config (i ∷ j ∷ [])
       (created_life (Opened 0 first ∷ Ended Checkpoint Done held last ∷ []) calls ends
       ∷ recovered_life (Told (first_line text) is_taken ∷ rest) more others ∷ []) → ⊥
+  -- one that is recovered where nothing was ever created
+  pub recovered_from_nothing : (inputs : Inputs) (held calls : ℕ) (ends : End) (shown : Saved)
+      (rest : List Event)
+      → GoesOn m config (inputs ∷ [])
+      (recovered_life (Opened held shown ∷ rest) calls ends ∷ []) → ⊥
   -- a worker that is created again
   pub created_again : (i j : Inputs) (calls more : ℕ) (ends others : End) (first second : Saved)
       → GoesOn m config (i ∷ j ∷ []) (created_life (Opened 0 first ∷ []) calls ends

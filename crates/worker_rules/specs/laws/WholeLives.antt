@@ -15,9 +15,9 @@ use Rattle.state_image.specs.laws.WellTypedExamples.{hello_first_memory}
 use Rattle.worker_rules.specs.Lives.{Slice, Checkpoint, SourceSaid, Inputs, Release, Over, Done}
 use Rattle.worker_rules.specs.Lives.{Told, Asked, Opened, Ended, Finished, Stopped, Life}
 use Rattle.worker_rules.specs.Courses.{Stage, at_first}
-use Rattle.worker_rules.specs.Promises.{Promise, nothing_yet, IsKept, AreKept}
-use Rattle.worker_rules.specs.Promises.{GoesOn}
+use Rattle.worker_rules.specs.Promises.{Promise, IsKept, AreKept, GoesOn}
 use Rattle.worker_rules.specs.laws.Refused.{in_peace, created_life, recovered_life}
+use Rattle.worker_rules.specs.laws.Refused.{creation_begun}
 
 -- ---- a module that writes a line and exits
 
@@ -68,10 +68,10 @@ pub record HelloLives (config : Settings) : Type 0 where
       (cut_life ∷ last_life ∷ ended_life ∷ [])
   -- it can't have passed its line where that was not told
   pub opens_behind_a_line_untold : (stage : Stage) (shown : Saved) → shown.steps ≡ 8
-      → IsKept hello config nothing_yet stage (Opened 0 shown) → ⊥
+      → IsKept hello config creation_begun stage (Opened 0 shown) → ⊥
   pub ends_behind_a_line_untold : (inputs : Inputs) (fuel code : ℕ) (first last : Saved)
       → last.steps ≡ 8
-      → AreKept hello config nothing_yet (at_first inputs)
+      → AreKept hello config creation_begun (at_first inputs)
       (Opened 0 first ∷ Ended (Slice fuel) (Over (Exited code)) 0 last ∷ []) → ⊥
   -- it exits with this code
   pub exits_otherwise : (so_far : Promise) (stage : Stage) (fuel code : ℕ) (last : Saved)

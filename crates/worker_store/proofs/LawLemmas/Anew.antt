@@ -32,7 +32,8 @@ opening_promises_no_less promise shown nothing =
 
 module _ {D : Type 0} (medium : D → Medium) where
   pub creation_opens : CreationOpens medium
-  creation_opens m config promise shown first old new nothing empty no_lines same leaves stands =
+  creation_opens m config promise shown first old new nothing created empty no_lines same leaves
+      stands =
       let none_taken : length first.front ≡ 0 = ap (λ (l : List Kept). length l) empty in
       let more : Promise = after promise (Opened 0 shown) in
       let held : IsHeldAt (after promise (Opened 0 shown)) first [] first.process =
@@ -40,7 +41,7 @@ module _ {D : Type 0} (medium : D → Medium) where
       (subst (λ n. IsHeldAt (after promise (Opened n first.saved)) first [] first.process)
       none_taken
       (opening_is_held m config promise first
-      (fresh_is_held m config promise first nothing empty no_lines))) in
+      (fresh_is_held m config promise first nothing created empty no_lines))) in
       let P : Image → Type 0 = λ disk. IsBlank disk ⊎ BeginsAtPoint first disk in
       let holds : (disk : Image) → P disk → ImageHolds m config promise more disk =
       λ disk at. ⊎_elim

@@ -17,7 +17,8 @@ use Rattle.worker_rules.specs.Lives.{OfMemory, OfBounds}
 use Rattle.worker_rules.specs.Courses.{Stage, NoneThere, MayFail}
 use Rattle.worker_rules.specs.Courses.{IsNextAct}
 use Rattle.worker_rules.specs.Promises.{Promise, IsAt, IsAtBound, HasLastLines}
-use Rattle.worker_rules.specs.Promises.{IsCaughtUp}
+use Rattle.worker_rules.specs.Promises.{IsCaughtUp, IsAmong}
+use Rattle.worker_store.proofs.LawLemmas.Underway.{among_first}
 use Rattle.worker_store.specs.laws.CallEnds.{IsSavedAs, SpentSlicesEnd, EndedSlicesEnd}
 use Rattle.worker_store.specs.laws.CallEnds.{WaitingSlicesEnd, HasBound, FailedSlicesEnd}
 use Rattle.worker_store.specs.laws.CallEnds.{DoneCheckpointsEnd, FailedCheckpointsEnd}
@@ -159,6 +160,7 @@ module _ (m : Module) (config : Settings) (guest : Guest) where
         reply = (
           subst (λ z. MayFail z cause) (sym broken.is) may,
           (let b = at.in_time in omega (arith, b, steps)),
+          subst (λ (n : ℕ). IsAmong stage.line n) (sym saved.shows.lines) broken.told,
         );
         bound = at_bound promise (take held promise.kept) p shown at.start at.begins at.runs
             saved cause bound;
@@ -201,6 +203,8 @@ module _ (m : Module) (config : Settings) (guest : Guest) where
         reply = (
           subst (λ z. MayFail z cause) (sym at.is_open) may,
           (let s = at.step in omega (arith, s, steps)),
+          among_first stage.line (length p.host.lines) shown.lines at.line
+              (let l = saved.shows.lines in omega (arith, l)),
         );
         bound = at_bound promise (take (length promise.kept) promise.kept) p shown at.start
             at.begins (all_kept promise p at.start at.runs) saved cause bound;

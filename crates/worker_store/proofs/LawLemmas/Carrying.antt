@@ -102,6 +102,7 @@ pub less_is_held : LessIsHeld
 less_is_held m config less more now disk no_more holds =
     let few : less.passed ≤ more.passed = no_more.passed in
     record {
+      created = holds.created;
       held = holds.held;
       steps = holds.steps;
       stands = holds.stands;
@@ -121,6 +122,7 @@ held_at_stands m config promise point records last disk held at =
     by_point m config point records last disk (take (count_at point records) promise.kept)
     last.steps at held.front refl in
     record {
+      created = held.created;
       held = count_at point records;
       steps = last.steps;
       stands = by.stands;
@@ -140,6 +142,7 @@ stands_held_at m config promise disk holds =
     let there : HoldsAll m config promise.kept promise holds.held stands.last.steps =
     subst (λ n. HoldsAll m config promise.kept promise holds.held n) stands.at_step all in
     record {
+      created = holds.created;
       front = subst (λ n. take n promise.kept ≡ answers_at point stands.records) (sym count)
           stands.rest;
       recorded = stands.recorded;
@@ -185,6 +188,7 @@ module _ (m : Module) (config : Settings) (promise : Promise) (point : Savepoint
       ∙ ap (λ n. take n (answers_at point (records ++ pending))) count
       ∙ front_kept point.front records pending at.count in
       held_at_stands m config promise point now at.process disk (record {
+        created = held.created;
         front = front;
         recorded = recorded_join point.reached.guest point.process last at.process records some
             held.recorded at.recorded;
@@ -236,6 +240,7 @@ next_is_held m config promise point next records last held saves =
     (runs_emit guest last next.process [] saves.steps saves.runs) in
     let few : promise.passed ≤ point.saved.lines = held.passed in
     record {
+      created = held.created;
       front = subst (λ n. take n promise.kept ≡ next.front ++ []) same
           (held.front ∙ sym saves.front ∙ sym (append-nil next.front));
       recorded = none;
@@ -247,7 +252,7 @@ next_is_held m config promise point next records last held saves =
     }
 
 pub fresh_is_held : FreshIsHeld
-fresh_is_held m config promise point nothing empty no_lines =
+fresh_is_held m config promise point nothing created empty no_lines =
     let none_kept : promise.kept ≡ [] = ap (λ (p : Promise). p.kept) nothing in
     let no_answers : promise.answers ≡ 0 = ap (λ (p : Promise). p.answers) nothing in
     let no_steps : promise.steps ≡ 0 = ap (λ (p : Promise). p.steps) nothing in
@@ -256,6 +261,7 @@ fresh_is_held m config promise point nothing empty no_lines =
     let kept_length : length promise.kept ≡ 0 = ap (λ l. length l) none_kept in
     let front_length : length point.front ≡ 0 = ap (λ l. length l) empty in
     record {
+      created = created;
       front = both_empty point.front promise.kept empty none_kept;
       recorded = none;
       holds = record {
@@ -300,6 +306,7 @@ checkpoint_is_held m config promise point held all =
     let same : point.saved.steps ≡ point.process.steps = point.shown.steps in
     let passed : promise.passed ≤ point.saved.lines = held.passed in
     record {
+      created = held.created;
       front = held.front;
       recorded = held.recorded;
       holds = record {
@@ -330,6 +337,7 @@ opening_is_held m config promise point held =
     let same : point.saved.steps ≡ point.process.steps = point.shown.steps in
     let passed : promise.passed ≤ point.saved.lines = held.passed in
     record {
+      created = held.created;
       front = take-take (n + 0) n promise.kept (omega arith) ∙ held.front;
       recorded = held.recorded;
       holds = record {
@@ -404,6 +412,7 @@ point_opens m config promise point stage held shut last =
     let same : point.saved.steps ≡ point.process.steps = point.shown.steps in
     record {
       shut = shut;
+      created = held.created;
       at = record {
         process = point.process;
         reached = record {
@@ -441,6 +450,7 @@ all_is_held m config promise point journal records pending last now disk is =
     let all : List Record = records ++ pending in
     let long : length all ≡ length records + length pending = length-append records pending in
     record {
+      created = held.created;
       front = is.answers;
       recorded = recorded_join guest point.process last now records pending held.recorded
           journaled.recorded;
@@ -511,8 +521,8 @@ module _ {D : Type 0} (medium : D → Medium) where
       (λ disk stands. held_at_stands m config promise point records last disk held stands) leaves
 
   pub creation_carries : CreationCarries medium
-  creation_carries m config promise point old new nothing empty no_lines leaves =
-      let held = fresh_is_held m config promise point nothing empty no_lines in
+  creation_carries m config promise point old new nothing created empty no_lines leaves =
+      let held = fresh_is_held m config promise point nothing created empty no_lines in
       let P : Image → Type 0 = λ disk. IsBlank disk ⊎ BeginsAtPoint point disk in
       let holds : (disk : Image) → P disk → ImageHolds m config promise promise disk =
       λ disk at. ⊎_elim

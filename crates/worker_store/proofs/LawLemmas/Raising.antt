@@ -331,6 +331,7 @@ module _ {D : Type 0} (medium : D → Medium) where
       record {
         journaled = is.journaled;
         held = record {
+          created = held.created;
           front = held.front;
           recorded = held.recorded;
           holds = record {
@@ -384,6 +385,7 @@ module _ {D : Type 0} (medium : D → Medium) where
       record {
         journaled = is.journaled;
         held = record {
+          created = held.created;
           front = front_of_more (count_at point records) promise.kept more_kept
               (answers_at point records) held.front bound;
           recorded = held.recorded;
@@ -418,6 +420,7 @@ module _ {D : Type 0} (medium : D → Medium) where
       record {
         journaled = is.journaled;
         held = record {
+          created = held.created;
           front = held.front;
           recorded = held.recorded;
           holds = record {

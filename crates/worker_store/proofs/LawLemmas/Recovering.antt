@@ -66,6 +66,7 @@ retold_is_held m config promise promise' point records last held adds =
     let heard : point.saved.lines ≤ promise.heard = held.heard in
     let more_heard : promise.heard ≤ promise'.heard = adds.heard in
     record {
+      created = adds.created ∙ held.created;
       front = ap (λ (l : List Kept). take (count_at point records) l) adds.kept ∙ held.front;
       recorded = held.recorded;
       holds = subst (λ (l : List Kept).
@@ -164,6 +165,7 @@ front_opened m config promise point records last n shown disk held at same =
     by_point m config point records last disk
     (take (count_at point records) (take n promise.kept)) last.steps at front refl in
     record {
+      created = held.created;
       held = count_at point records;
       steps = last.steps;
       stands = by.stands;

@@ -169,11 +169,12 @@ module _ (m : Module) (config : Settings) (guest : Guest) where
   -- ---- the opening
 
   pub lives_open : LivesOpen m config guest
-  lives_open promise stage held p shown at saved holds =
+  lives_open promise stage held p shown at saved created holds =
       let steps : shown.steps ≡ p.steps = saved.shows.steps in
       let lines : shown.lines ≡ length p.host.lines = saved.shows.lines in (
         record {
           shut = at.shut;
+          created = created;
           at = record {
             process = p;
             reached = record {

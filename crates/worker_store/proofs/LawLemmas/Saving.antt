@@ -80,6 +80,7 @@ held_on : (m : Module) (config : Settings) (promise : Promise) (n : ℕ) (shown 
     (disk : Image) → HoldsPromise m config promise promise disk
     → HoldsPromise m config promise (after promise (Ended Checkpoint Done n shown)) disk
 held_on m config promise n shown disk holds = record {
+  created = holds.created;
   held = holds.held;
   steps = holds.steps;
   stands = holds.stands;

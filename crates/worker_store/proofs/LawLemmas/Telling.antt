@@ -51,6 +51,7 @@ adds_more promise promise' r is_taken line few adds = record {
   steps = adds.steps;
   passed = adds.passed;
   synced = adds.synced;
+  created = adds.created;
   opened = adds.opened;
   begun = le_trans adds.begun (max_within line (max r.number promise.begun)
       (max line promise.begun) (le-max_left line promise.begun)
@@ -209,7 +210,8 @@ module _ (m : Module) (config : Settings) (guest : Guest) where
             (one_told promise stage fuel place p line last false here foretold.0 way next.0)
             (made_none (after promise (Told r false)) (next_stage stage (Told r false))
             (length p.host.lines)),
-        refused_lines_break m config guest promise stage fuel place p r way,
+        refused_lines_break m config guest promise stage fuel place p r way
+            (omega (arith, here, inside)),
       )
   told_until promise stage fuel place p (x
       ∷ first) others line number last same at way is foretold =

@@ -41,11 +41,12 @@ record IsStood (m : Module) (config : Settings) (kept : List Kept) (n heard pass
 
 -- Where the front is the same, and all is held that was promised first, it holds that.
 holds_still : (m : Module) (config : Settings) (first then now : Promise) (image : Image)
-    (holds : HoldsPromise m config first then image) → then.heard ≤ now.heard
+    (holds : HoldsPromise m config first then image)
+    → now.was_created ≡ then.was_created → then.heard ≤ now.heard
     → take holds.held then.kept ≡ take holds.held now.kept
     → HoldsAll m config now.kept first holds.held holds.steps
     → HoldsPromise m config first now image
-holds_still m config first then now image holds more same all =
+holds_still m config first then now image holds created more same all =
     let here : IsStood m config (take holds.held then.kept) holds.steps now.heard first.passed
     image = record {
       stands = holds.stands;
@@ -55,6 +56,7 @@ holds_still m config first then now image holds more same all =
     let there = subst (λ l. IsStood m config l holds.steps now.heard first.passed image) same here
     in
     record {
+      created = created ∙ holds.created;
       held = holds.held;
       steps = holds.steps;
       stands = there.stands;
@@ -79,7 +81,8 @@ still m config first then now image goes held =
 pub told_still_holds : ToldStillHolds
 told_still_holds m config promise promise' line adds first image no_more held =
     still m config first promise promise' image
-    (λ holds. holds_still m config first promise promise' image holds adds.heard
+    (λ holds. holds_still m config first promise promise' image holds adds.created
+    adds.heard
     (ap (λ l. take holds.held l) (sym adds.kept))
     (subst (λ l. HoldsAll m config l first holds.held holds.steps) (sym adds.kept) holds.holds))
     held
@@ -88,6 +91,7 @@ pub ended_still_holds : EndedStillHolds
 ended_still_holds m config promise act reply n shown first image no_more held =
     still m config first promise (after promise (Ended act reply n shown)) image
     (λ holds. record {
+      created = holds.created;
       held = holds.held;
       steps = holds.steps;
       stands = holds.stands;
@@ -159,7 +163,7 @@ asked_still_holds m config promise p kind said fits valid reached synced first i
     (λ holds.
     let all = holds.holds in
     let before : first.synced ≤ promise.synced = no_more.synced in
-    holds_still m config first promise (after promise (Asked p.steps kind said fits)) image holds
+    holds_still m config first promise (after promise (Asked p.steps kind said fits)) image holds refl
     (omega arith)
     (sym (take-append-le holds.held promise.kept (kept_of_said said fits) all.within))
     (all_of_more m config promise.kept (kept_of_said said fits) p.steps p valid reached first
@@ -406,6 +410,7 @@ module _ {D : Type 0} (medium : D → Medium) where
       record {
         journaled = is.journaled;
         held = record {
+          created = adds.created ∙ held.created;
           front = ap (λ l. take (count_at point records) l) adds.kept ∙ held.front;
           recorded = held.recorded;
           holds = subst (λ l. HoldsAll m config l promise' (count_at point records) last.steps)

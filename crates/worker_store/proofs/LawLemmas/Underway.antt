@@ -1,7 +1,7 @@
 -- A worker in the middle of a slice: its steps, its lines and its questions.
 use Rattle.std.proofs.Common.{◌≡◌, ℕ, ◌+◌, ◌≤◌, ◌<◌, Bool, true, false, List, [], ◌∷◌}
 use Rattle.std.proofs.Common.{◌++◌, length, take, refl, sym, ap, ◌∙◌, subst, arith}
-use Rattle.std.proofs.Common.{Some, None, Ok, Err}
+use Rattle.std.proofs.Common.{Option, Some, None, Ok, Err}
 use Rattle.std.proofs.Math.Nat.{le-max_left}
 use Rattle.std.proofs.Math.Seq.{take-length, take-append_seam}
 use Rattle.std.proofs.lemmas.Option.{slice_get_within}
@@ -20,12 +20,17 @@ use Rattle.worker_rules.specs.Courses.{Stage, Open, next_stage}
 use Rattle.worker_rules.specs.Courses.{phase_refused, IsToldIn, IsAskedIn}
 use Rattle.worker_rules.specs.Courses.{ComesAfter}
 use Rattle.worker_rules.specs.Courses.{IsWithinSlice}
-use Rattle.worker_rules.specs.Promises.{Promise, after}
+use Rattle.worker_rules.specs.Promises.{Promise, after, IsAmong}
 use Rattle.worker_store.specs.laws.Underway.{IsInItsSlice, IsAtQuestion}
 use Rattle.worker_store.specs.laws.Underway.{StepsGoOn, LinesAreTold, TakenLinesGoOn}
 use Rattle.worker_store.specs.laws.Underway.{RefusedLinesBreak, QuestionsAreAsked, AnswersGoOn}
 use Rattle.worker_store.specs.laws.Underway.{AnswersAreKept, OtherAnswersBreak}
 use Rattle.worker_store.specs.laws.Underway.{promise_asked, stage_asked}
+
+-- a last line of this number is among as many lines
+pub among_first : (line : Option ℕ) (last lines : ℕ) → line ≡ Some last → last ≤ lines
+    → IsAmong line lines
+among_first line last lines is few = subst (λ (l : Option ℕ). IsAmong l lines) (sym is) few
 
 module _ (m : Module) (config : Settings) (guest : Guest) where
   -- ---- all kept answers
@@ -145,11 +150,12 @@ module _ (m : Module) (config : Settings) (guest : Guest) where
       }
 
   pub refused_lines_break : RefusedLinesBreak m config guest
-  refused_lines_break promise stage fuel told p r way = record {
+  refused_lines_break promise stage fuel told p r way among = record {
     in_slice = still_in promise (after promise (Told r false)) stage
         (next_stage stage (Told r false)) fuel (length promise.kept) p refl
         way.in_slice.within refl refl way.in_slice;
     is = ap phase_refused way.is_open;
+    told = among;
   }
 
   -- ---- questions
@@ -200,10 +206,19 @@ module _ (m : Module) (config : Settings) (guest : Guest) where
       (front_of_more promise.kept (kept_of_said said fits))
       (no_longer promise.kept (kept_of_said said fits)) refl refl asks.way.in_slice
 
+  -- all lines were told before the question
+  all_among : (promise : Promise) (stage : Stage) (fuel : ℕ) (p : ProcessState) (kind : Kind)
+      → IsAtQuestion m config guest promise stage fuel p kind
+      → IsAmong stage.line (length p.host.lines)
+  all_among promise stage fuel p kind asks =
+      among_first stage.line (length p.host.lines) (length p.host.lines) asks.way.line
+      (omega arith)
+
   pub answers_are_kept : AnswersAreKept m config guest
   answers_are_kept promise stage fuel p kind a asks = record {
     in_slice = not_taken promise stage fuel p kind (Ok (Some a)) true asks;
     is = refl;
+    told = all_among promise stage fuel p kind asks;
   }
 
   pub other_answers_break : OtherAnswersBreak m config guest
@@ -211,14 +226,17 @@ module _ (m : Module) (config : Settings) (guest : Guest) where
     misfit = λ a. record {
       in_slice = not_taken promise stage fuel p kind (Ok (Some a)) false asks;
       is = refl;
+      told = all_among promise stage fuel p kind asks;
     };
     none_there = λ fits. record {
       in_slice = not_taken promise stage fuel p kind (Ok None) fits asks;
       is = refl;
+      told = all_among promise stage fuel p kind asks;
     };
     fault = λ e fits. record {
       in_slice = not_taken promise stage fuel p kind (Err e) fits asks;
       is = refl;
+      told = all_among promise stage fuel p kind asks;
     };
   }
 

@@ -1,5 +1,5 @@
 -- A worker that is created, and opens.
-use Rattle.std.specs.Prelude.{◌≡◌, ◌⊎◌, []}
+use Rattle.std.specs.Prelude.{◌≡◌, ◌⊎◌, true, []}
 use Rattle.wasm_syntax.specs.declared.module.Module.{Module}
 use Rattle.wasi_abi.specs.rules.Configs.{Settings}
 use Rattle.state_image.specs.rules.Image.{Saved}
@@ -19,12 +19,12 @@ pub record OpensAtFirst {m : Module} {config : Settings} (promise : Promise) (sh
   pub carries : CarriesPromise m config promise (after promise (Opened 0 shown)) old new
   pub held : IsHeldAt (after promise (Opened 0 shown)) first [] first.process
 
--- where nothing was promised before
+-- where nothing was promised before, and the creation has begun
 abbrev pub CreationOpens : {D : Type 0} → (D → Medium) → Type 0
 CreationOpens {D} medium =
     (m : Module) (config : Settings) (promise : Promise) (shown : Saved)
-    (first : Savepoint m config) (old new : D) → IsNothingYet promise → first.front ≡ []
-    → first.saved.lines ≡ 0 → first.saved ≡ shown
+    (first : Savepoint m config) (old new : D) → IsNothingYet promise
+    → promise.was_created ≡ true → first.front ≡ [] → first.saved.lines ≡ 0 → first.saved ≡ shown
     → LeavesOnly (medium old) (medium new) (λ disk. IsBlank disk ⊎ BeginsAtPoint first disk)
     → LeavesAll (medium new) (StandsAtPoint first [] first.process)
     → OpensAtFirst promise shown first (medium old) (medium new)

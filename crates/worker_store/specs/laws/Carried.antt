@@ -1,5 +1,5 @@
 -- What a worker's disk holds of what was promised, between the calls of the disk and within each.
-use Rattle.std.specs.Prelude.{◌≡◌, ◌⊎◌, ℕ, ◌+◌, ◌≤◌, List, [], ◌++◌, length, map, take}
+use Rattle.std.specs.Prelude.{◌≡◌, ◌⊎◌, ℕ, ◌+◌, ◌≤◌, true, List, [], ◌++◌, length, map, take}
 use Rattle.wasm_syntax.specs.declared.module.Module.{Module}
 use Rattle.wasi_abi.specs.rules.Configs.{Settings}
 use Rattle.process_rules.specs.Processes.{ProcessState}
@@ -32,11 +32,12 @@ answers_at point records = point.front ++ map given_in records
 abbrev pub count_at : {m : Module} {config : Settings} → Savepoint m config → List Record → ℕ
 count_at point records = length point.front + length records
 
--- A savepoint and its records, which lead to this process, hold all that is promised. They have the
--- first of the kept answers. An outlet has taken the lines of the savepoint, and those that are
+-- A creation was begun. A savepoint and its records, which lead to this process, hold all that is
+-- promised. They have the first of the kept answers. An outlet has taken the lines of the savepoint, and those that are
 -- told no more are among them.
 pub record IsHeldAt {m : Module} {config : Settings} (promise : Promise)
     (point : Savepoint m config) (records : List Record) (last : ProcessState) : Type 0 where
+  pub created : promise.was_created ≡ true
   pub front : take (count_at point records) promise.kept ≡ answers_at point records
   pub recorded : Recorded point.reached.guest point.process records last
   pub holds : HoldsAll m config promise.kept promise (count_at point records) last.steps
@@ -104,12 +105,12 @@ NextIsHeld =
     (records : List Record) (last : ProcessState) → IsHeldAt promise point records last
     → SavesFront promise point next records last → IsHeldAt promise next [] next.process
 
--- A fresh savepoint without lines holds all where nothing has been promised.
+-- A fresh savepoint without lines holds all where nothing has been promised but a creation begun.
 abbrev pub FreshIsHeld : Type 0
 FreshIsHeld =
     (m : Module) (config : Settings) (promise : Promise) (point : Savepoint m config)
-    → IsNothingYet promise → point.front ≡ [] → point.saved.lines ≡ 0
-    → IsHeldAt promise point [] point.process
+    → IsNothingYet promise → promise.was_created ≡ true → point.front ≡ []
+    → point.saved.lines ≡ 0 → IsHeldAt promise point [] point.process
 
 -- It holds also what the end of a checkpoint promises, where it has all kept answers,
 abbrev pub CheckpointIsHeld : Type 0
@@ -207,11 +208,12 @@ StandingCarries {D} medium =
     → LeavesOnly (medium old) (medium new) (StandsAtPoint point records last)
     → CarriesPromise m config less promise (medium old) (medium new)
 
--- a creation, while nothing has been promised
+-- a creation that has begun, while nothing has been promised
 abbrev pub CreationCarries : {D : Type 0} → (D → Medium) → Type 0
 CreationCarries {D} medium =
     (m : Module) (config : Settings) (promise : Promise) (point : Savepoint m config)
-    (old new : D) → IsNothingYet promise → point.front ≡ [] → point.saved.lines ≡ 0
+    (old new : D) → IsNothingYet promise → promise.was_created ≡ true → point.front ≡ []
+    → point.saved.lines ≡ 0
     → LeavesOnly (medium old) (medium new) (λ disk. IsBlank disk ⊎ BeginsAtPoint point disk)
     → CarriesPromise m config promise promise (medium old) (medium new)
 

@@ -1,6 +1,6 @@
 -- A worker that is recovered or created, as events of a life: the lines that are told again, and
 -- the opening.
-use Rattle.std.specs.Prelude.{◌≡◌, ℕ, ◌+◌, ◌≤◌, List, ◌∷◌, ◌++◌}
+use Rattle.std.specs.Prelude.{◌≡◌, ℕ, ◌+◌, ◌≤◌, true, List, ◌∷◌, ◌++◌}
 use Rattle.std.specs.Prelude.{length, map, drop, take}
 use Rattle.wasm_syntax.specs.declared.module.Module.{Module}
 use Rattle.wasi_abi.specs.rules.Configs.{Settings}
@@ -56,12 +56,12 @@ module _ (m : Module) (config : Settings) (guest : Guest) where
 
   -- ---- the opening
 
-  -- Where all that was promised is held, and all lines are told, it opens.
+  -- Where a creation was begun, all that was promised is held, and all lines are told, it opens.
   abbrev pub LivesOpen : Type 0
   LivesOpen =
       (promise : Promise) (stage : Stage) (held : ℕ) (p : ProcessState) (shown : Saved)
       → IsReviving promise stage held (length p.host.lines) p
-      → IsSavedAs m config guest p shown
+      → IsSavedAs m config guest p shown → promise.was_created ≡ true
       → HoldsAll m config promise.kept promise held p.steps
       → IsOpening m config promise stage held shown
       × IsBetween m config guest (after promise (Opened held shown))

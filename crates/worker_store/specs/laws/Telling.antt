@@ -18,6 +18,7 @@ pub record AddsLines (promise : Promise) (line : ℕ) (promise' : Promise) : Typ
   pub steps : promise'.steps ≡ promise.steps
   pub passed : promise'.passed ≡ promise.passed
   pub synced : promise'.synced ≡ promise.synced
+  pub created : promise'.was_created ≡ promise.was_created
   pub opened : promise'.has_opened ≡ promise.has_opened
   pub begun : promise'.begun ≤ max line promise.begun
   pub heard : promise.heard ≤ promise'.heard

@@ -14,6 +14,7 @@ use Rattle.worker_rules.specs.Lives.{OfSource, OfAnswer, OfOutlet}
 use Rattle.worker_rules.specs.Courses.{Stage, Phase, Open, NoneThere, Broken, next_stage}
 use Rattle.worker_rules.specs.Courses.{first_said, first_taken}
 use Rattle.worker_rules.specs.Promises.{Promise, after, IsTelling, IsInquiring, IsFitting}
+use Rattle.worker_rules.specs.Promises.{IsAmong}
 
 module _ (m : Module) (config : Settings) (guest : Guest) where
   -- The module's process has taken the first so many of the kept answers. Its slice has come to
@@ -39,11 +40,13 @@ module _ (m : Module) (config : Settings) (guest : Guest) where
     pub heard : told ≤ promise.heard
     pub passed : promise.passed ≤ told
 
-  -- Something from outside has failed the call, and the process is where it was.
+  -- Something from outside has failed the call, and the process is where it was. It has emitted each
+  -- line that was told.
   pub record IsBroken (promise : Promise) (stage : Stage) (fuel held : ℕ) (p : ProcessState)
       (phase : Phase) : Type 0 where
     pub in_slice : IsInItsSlice promise stage fuel held p
     pub is : stage.phase ≡ phase
+    pub told : IsAmong stage.line (length p.host.lines)
 
   -- ---- steps
 
@@ -72,11 +75,11 @@ module _ (m : Module) (config : Settings) (guest : Guest) where
       → (let r : Release = record { number = told + 1; line = line } in
       IsUnderWay (after promise (Told r true)) (next_stage stage (Told r true)) fuel (told + 1) p)
 
-  -- One that was refused fails it.
+  -- One of them that was refused fails it.
   abbrev pub RefusedLinesBreak : Type 0
   RefusedLinesBreak =
       (promise : Promise) (stage : Stage) (fuel told : ℕ) (p : ProcessState) (r : Release)
-      → IsUnderWay promise stage fuel told p
+      → IsUnderWay promise stage fuel told p → r.number ≤ length p.host.lines
       → IsBroken (after promise (Told r false)) (next_stage stage (Told r false)) fuel
       (length promise.kept) p (Broken OfOutlet)
 

@@ -11,7 +11,8 @@ loop-life-preserved c =
     next_has_gone c.args.wasm.now c.args.config.now c.args.lives.now c.loop-life.life-index
     c.life-item.result c.loop-life.told c.push.new.self c.in_ok-report.field-0.report
     c.loop-life.disk c.in_ok-report.field-0.disk c.loop-life-test.true c.life-item.is
-    c.loop-life.invariant c.in_ok-report.ensures c.in-Ok.ensures.pushed
+    c.loop-life.invariant c.in_ok-report.ensures.lives c.in_ok-report.ensures.run
+    c.in-Ok.ensures.pushed
 
 pub returns : goal.returns
 returns c =

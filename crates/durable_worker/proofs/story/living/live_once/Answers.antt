@@ -5,6 +5,7 @@ pub returns-in-Ok : goal.returns-in-Ok
 returns-in-Ok g c =
     lives_on g.D.Disk.medium g.S.Source.gives g.O.Outlet.takes _ _ _ _ _ _ _ _ _ _ _
     c.in-Ok.opened c.go_on.result c.in-Ok.ensures.opens c.go_on.ensures.done c.go_on.ensures.told
+    c.go_on.ensures.generation
 
 pub returns-in-Err : goal.returns-in-Err
 returns-in-Err g c =
