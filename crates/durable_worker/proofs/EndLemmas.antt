@@ -1,10 +1,10 @@
 -- How a life ended, in the words of the law of lives.
 use Rattle.std.proofs.Common.{◌≡◌, ℕ, ◌<◌, ◌≤◌, ◌++◌, List, [], length, refl, sym, ap, ◌∙◌, subst}
-use Rattle.std.proofs.Common.{arith}
+use Rattle.std.proofs.Common.{arith, inl, inr}
 use Rattle.std.proofs.lemmas.Bool.Decides.{nat_tests}
 use Rattle.std.specs.Prelude.{Bool, true, false, Result, Ok, Err, Option, Some, None, IsTrue}
 use Rattle.std.specs.Prelude.{nat_le}
-use Rattle.std.specs.Prelude.{◌||◌, ◌↔◌}
+use Rattle.std.specs.Prelude.{◌||◌, ◌↔◌, ◌⊎◌}
 use Rattle.sector_disk.specs.declared.fault_disk.FaultDisk.{FaultDisk}
 use Rattle.sector_disk.specs.declared.memory.MemDisk.{MemDisk}
 use Rattle.sector_disk.specs.declared.place.Place.{Place}
@@ -14,16 +14,16 @@ use Rattle.sector_disk.specs.rules.Medium.{Medium, IsAllSynced}
 use Rattle.sector_disk.specs.rules.Memory.{memory_medium, memory_stays, MemoryState}
 use Rattle.sector_disk.specs.rules.Memory.{memory_state_of, after_cut}
 use Rattle.sector_disk.specs.rules.Trouble.{place_numbers, has_begun, call_number}
-use Rattle.worker_rules.specs.Lives.{Act, Cause, End, Inputs}
+use Rattle.worker_rules.specs.Lives.{Act, Cause, OfDisk, End, Inputs}
 use Rattle.worker_rules.specs.Lives.End.{Finished as finished, Stopped as stopped, Failed as failed}
-use Rattle.worker_rules.specs.Courses.{HasStopped, HasNotStopped}
+use Rattle.worker_rules.specs.Courses.{HasDiskFault, HasStopped, HasNotStopped}
 use Rattle.worker_rules.specs.Between.{NextFinds, IsFoundAfterCut}
 use Rattle.durable_worker.specs.declared.recover_fault.RecoverFault.{RecoverFault}
 use Rattle.durable_worker.specs.laws.OneLife.{EndsBy, IsCauseOf, IsLater, left_undone}
 use Rattle.durable_worker.specs.declared.story.report.LifeEnd.{LifeEnd}
 use Rattle.durable_worker.specs.declared.story.report.LifeEnd.TheVariants.{Finished, Stopped}
 use Rattle.durable_worker.specs.declared.story.report.LifeEnd.TheVariants.{Failed}
-use Rattle.durable_worker.specs.rules.Planned.{stop_call}
+use Rattle.durable_worker.specs.rules.Planned.{call_at}
 use Rattle.durable_worker.specs.rules.StoryDisks.{story_medium}
 use Rattle.durable_worker.specs.rules.Told.{TellsLifeEnd}
 use Rattle.durable_worker.specs.LifeCalls.{LeavesSome}
@@ -91,33 +91,69 @@ begun_so call n begun = by (nat_le call n) refl begun
     by true e is = grind (arith, nat_tests)
     by false e is = absurd (cc)
 
--- a disk that was told to stop here, and nothing else, has met trouble only at its stop
-met_at_stop : (stop stop' fail' : Option Place) (n : ℕ)
-    → place_numbers stop' ++ place_numbers fail' ++ [] ≡ place_numbers stop ++ place_numbers None
-    ++ []
-    → IsTrue (has_begun stop' n || has_begun fail' n) → HasStopped (stop_call stop) n
-met_at_stop None None None n told met = absurd (cc)
-met_at_stop None None (Some f) n told met = absurd (cc)
-met_at_stop None (Some p) fail' n told met = absurd (cc)
-met_at_stop (Some p) None fail' n told met = absurd (cc)
-met_at_stop (Some p) (Some q) (Some f) n told met = absurd (cc)
-met_at_stop (Some p) (Some q) None n told met =
+-- the places of one disk, as numbers, are those of another
+same_places : (stop stop' fail fail' : Option Place)
+    → place_numbers stop' ++ place_numbers fail' ++ [] ≡ place_numbers stop ++ place_numbers fail
+    ++ [] → (call_at stop' ≡ call_at stop) × (call_at fail' ≡ call_at fail)
+same_places None None None None told = (refl, refl)
+same_places None None None (Some q) told = absurd (cc)
+same_places None None (Some p) None told = absurd (cc)
+same_places None None (Some p) (Some q) told =
+    let same : q.call ≡ p.call = cc in (refl, ap (λ (n : ℕ). Some n) same)
+same_places None (Some q) fail fail' told = absurd (cc)
+same_places (Some p) None fail fail' told = absurd (cc)
+same_places (Some p) (Some q) None None told =
+    let same : q.call ≡ p.call = cc in (ap (λ (n : ℕ). Some n) same, refl)
+same_places (Some p) (Some q) None (Some f) told = absurd (cc)
+same_places (Some p) (Some q) (Some f) None told = absurd (cc)
+same_places (Some p) (Some q) (Some f) (Some f') told =
     let same : q.call ≡ p.call = cc in
-    subst (λ (k : ℕ). k ≤ n) same (begun_so q.call n met)
+    let other : f'.call ≡ f.call = cc in
+    (ap (λ (n : ℕ). Some n) same, ap (λ (n : ℕ). Some n) other)
+
+-- the call of a place has begun
+begun_at : (place : Option Place) (n : ℕ) → IsTrue (has_begun place n)
+    → HasStopped (call_at place) n
+begun_at None n begun = absurd (cc)
+begun_at (Some place) n begun = begun_so place.call n (by (nat_le place.call n) begun)
+  where
+    by : (b : Bool) → IsTrue b → IsTrue (b || false)
+    by true e = refl
+    by false e = absurd (cc)
+
+-- a disk has met trouble only at its stop, or where it was told to fail
+met_as_told : (stop fail : Option Place) (n : ℕ)
+    → IsTrue (has_begun stop n || has_begun fail n)
+    → HasDiskFault (call_at fail) OfDisk n ⊎ HasStopped (call_at stop) n
+met_as_told stop fail n met = by (has_begun stop n) refl met
+  where
+    failing : (fail : Option Place) → IsTrue (has_begun fail n)
+        → HasDiskFault (call_at fail) OfDisk n
+    failing None begun = absurd (cc)
+    failing (Some place) begun = begun_at (Some place) n begun
+
+    by : (b : Bool) → has_begun stop n ≡ b → IsTrue (b || has_begun fail n)
+        → HasDiskFault (call_at fail) OfDisk n ⊎ HasStopped (call_at stop) n
+    by true is e = inr (begun_at stop n is)
+    by false is e = inl (failing fail e)
 
 -- so it is over the calls of a life
-pub faults_at_stop : (found last : FaultDisk MemDisk) (stop : Option Place) → found.stop ≡ stop
-    → found.fail ≡ None → IsLater (story_medium found) (story_medium last)
+pub faults_as_planned : (found last : FaultDisk MemDisk) (stop fail : Option Place)
+    → found.stop ≡ stop → found.fail ≡ fail → IsLater (story_medium found) (story_medium last)
     → (story_medium found).faults < (story_medium last).faults
-    → HasStopped (stop_call stop) (call_number (call_counts_of last))
-faults_at_stop found last stop is none later fell =
+    → HasDiskFault (call_at fail) OfDisk (call_number (call_counts_of last))
+    ⊎ HasStopped (call_at stop) (call_number (call_counts_of last))
+faults_as_planned found last stop fail is fails later fell =
     let told : place_numbers last.stop ++ place_numbers last.fail ++ []
-    ≡ place_numbers stop ++ place_numbers None ++ [] =
+    ≡ place_numbers stop ++ place_numbers fail ++ [] =
     later.told
     ∙ ap (λ (s : Option Place). place_numbers s ++ place_numbers found.fail ++ []) is
-    ∙ ap (λ (f : Option Place). place_numbers stop ++ place_numbers f ++ []) none in
-    met_at_stop stop last.stop last.fail (call_number (call_counts_of last)) told
-    (last.was_met (omega (arith, fell)))
+    ∙ ap (λ (f : Option Place). place_numbers stop ++ place_numbers f ++ []) fails in
+    let same = same_places stop last.stop fail last.fail told in
+    let n : ℕ = call_number (call_counts_of last) in
+    subst (λ (f : Option ℕ). HasDiskFault f OfDisk n ⊎ HasStopped (call_at stop) n) same.1
+    (subst (λ (s : Option ℕ). HasDiskFault (call_at last.fail) OfDisk n ⊎ HasStopped s n) same.0
+    (met_as_told last.stop last.fail n (last.was_met (omega (arith, fell)))))
 
 -- ---- cuts
 

@@ -45,7 +45,11 @@ use Rattle.durable_worker.specs.declared.story.living.LivedOnce.{LivedOnce}
 use Rattle.durable_worker.specs.declared.story.report.Opening.{Opening}
 use Rattle.durable_worker.specs.declared.story.report.LifeEnd.{LifeEnd}
 use Rattle.durable_worker.specs.declared.story.report.LifeReport.{LifeReport}
-use Rattle.durable_worker.specs.rules.Planned.{inputs_of, act_of}
+use Rattle.durable_worker.specs.rules.Planned.{inputs_of, act_of, said_of, takes_but}
+use Rattle.durable_worker.specs.rules.Planned.{number_refused}
+use Rattle.worker_store.specs.laws.Pieces.{Foretell}
+use Rattle.record_replay.specs.declared.refusing.RefusingOutlet.{RefusingOutlet}
+use Rattle.record_replay.specs.rules.Lists.{inner_outlet, until_fault}
 use Rattle.durable_worker.specs.rules.Told.{TellsLife, TellsEach, TellsOpening, TellsLifeEnd}
 use Rattle.durable_worker.specs.rules.StoryDisks.{IsEmptyDisk, IsRunOn, none, one_more}
 use Rattle.durable_worker.specs.rules.StoryDisks.{TellsLives, story_medium}
@@ -57,7 +61,7 @@ use Rattle.durable_worker.specs.Going.{promised_by_all}
 use Rattle.durable_worker.specs.Going.{GoneOn}
 use Rattle.durable_worker.specs.Hearing.{hands_out, hears}
 use Rattle.durable_worker.proofs.HeardLemmas.{said_so, heard_all}
-use Rattle.durable_worker.proofs.EndLemmas.{tells_end, next_finds, faults_at_stop}
+use Rattle.durable_worker.proofs.EndLemmas.{tells_end, next_finds, faults_as_planned}
 use Rattle.durable_worker.proofs.EndLemmas.{stopping_leaves_some}
 
 -- ---- the empty disk
@@ -231,12 +235,15 @@ opening_told begins begins' shown shown' first second b s o told =
     (subst (λ (x : Opening). TellsOpening begins shown x) (sym o) told))
 
 module _ (bytes : List ℕ) (config : Settings) (planned : PlannedLife) (found next : MemDisk)
-    (report : LifeReport) (first last : FaultDisk MemDisk) (heard heard' : HeardLines)
+    (report : LifeReport) (first last : FaultDisk MemDisk)
+    (heard heard' : RefusingOutlet HeardLines)
     (left : List Answer) (lived : LivedOnce) (below : first.inner ≡ found)
-    (stop : first.stop ≡ planned.stop) (fail : first.fail ≡ None) (unheard : heard.lines ≡ [])
+    (stop : first.stop ≡ planned.stop) (fail : first.fail ≡ planned.fail)
+    (unheard : (inner_outlet heard).lines ≡ [])
+    (refuses : until_fault heard ≡ number_refused planned.refuse)
     (once : LivesOnce story_medium hands_out hears bytes config (map act_of planned.acts) lived
     first planned.answers heard last left heard')
-    (ends : EndsLife lived last heard' planned report next) (m : Module) (so_far : Promise) where
+    (ends : EndsLife lived last (inner_outlet heard') planned report next) (m : Module) (so_far : Promise) where
   calls_of : ℕ
   calls_of = call_number (call_counts_of last)
 
@@ -247,11 +254,13 @@ module _ (bytes : List ℕ) (config : Settings) (planned : PlannedLife) (found n
       (story_medium first) (story_medium last)
   unfolding calls_of
   met exchanges are room = record {
-    foretold = said_so exchanges planned.answers left heard heard' are.asked are.released
-        ends.unrefused;
+    foretold = subst (λ (n : ℕ). Foretell (map said_of planned.answers) (takes_but n) exchanges)
+        refuses (said_so exchanges planned.answers left heard heard' are.asked are.released
+        ends.unrefused);
     sectors = room.sectors;
     room = room.writes;
-    faults = λ later fell. inr (faults_at_stop first last planned.stop stop fail later fell);
+    faults = λ later fell. faults_as_planned first last planned.stop planned.fail stop fail later
+        fell;
     over = over_by (inputs_of planned) calls_of lived.ended;
   }
 
@@ -319,37 +328,40 @@ module _ (bytes : List ℕ) (config : Settings) (planned : PlannedLife) (found n
 -- one life is told, whatever was promised before it
 one_life_is_told : (bytes : List ℕ) (config : Settings) (planned : PlannedLife)
     (found next : MemDisk) (report : LifeReport) (first last : FaultDisk MemDisk)
-    (heard heard' : HeardLines) (left : List Answer) (lived : LivedOnce) → first.inner ≡ found
-    → first.stop ≡ planned.stop → first.fail ≡ None → heard.lines ≡ []
+    (heard heard' : RefusingOutlet HeardLines) (left : List Answer) (lived : LivedOnce) → first.inner ≡ found
+    → first.stop ≡ planned.stop → first.fail ≡ planned.fail → (inner_outlet heard).lines ≡ []
+    → until_fault heard ≡ number_refused planned.refuse
     → LivesOnce story_medium hands_out hears bytes config (map act_of planned.acts) lived
     first planned.answers heard last left heard'
-    → EndsLife lived last heard' planned report next
+    → EndsLife lived last (inner_outlet heard') planned report next
     → CallsMakeLives story_medium hands_out hears
     → LivesOn bytes config planned found report next
 one_life_is_told bytes config planned found next report first last heard heard' left lived below
-    stop fail unheard once ends law m so_far accepted kept =
+    stop fail unheard refuses once ends law m so_far accepted kept =
     told_on bytes config planned found next report first last heard heard' left lived below stop
-    fail unheard once ends m so_far law accepted
+    fail unheard refuses once ends m so_far law accepted
     (subst (λ (d : MemDisk). IsKeptOn m bytes config so_far d) (sym below) kept)
 
 pub ended_lives_are_told : (bytes : List ℕ) (config : Settings) (planned : PlannedLife)
-    (found : MemDisk) (first last : FaultDisk MemDisk) (heard heard' : HeardLines)
+    (found : MemDisk) (first last : FaultDisk MemDisk)
+    (heard heard' : RefusingOutlet HeardLines)
     (left answers : List Answer) (acts : List PlannedAct) (lived : LivedOnce)
     (result : Result LivedOn StoryFault) → first.inner ≡ found → first.stop ≡ planned.stop
-    → first.fail ≡ None → heard.lines ≡ [] → answers ≡ planned.answers → acts ≡ planned.acts
+    → first.fail ≡ planned.fail → (inner_outlet heard).lines ≡ []
+    → until_fault heard ≡ number_refused planned.refuse → answers ≡ planned.answers → acts ≡ planned.acts
     → (LeavesSome story_medium → LivesOnce story_medium hands_out hears bytes config
     (map act_of acts) lived first answers heard last left heard')
-    → IfOk result (λ on. EndsLife lived last heard' planned on.report on.disk)
+    → IfOk result (λ on. EndsLife lived last (inner_outlet heard') planned on.report on.disk)
     → CallsMakeLives story_medium hands_out hears
     → IfOk result (λ on. LivesOn bytes config planned found on.report on.disk)
 ended_lives_are_told bytes config planned found first last heard heard' left answers acts lived
-    (Ok on) below stop fail unheard answers_are acts_are once ends law =
+    (Ok on) below stop fail unheard refuses answers_are acts_are once ends law =
     one_life_is_told bytes config planned found on.disk on.report first last heard heard' left
-    lived below stop fail unheard
+    lived below stop fail unheard refuses
     (subst (λ (a : List Answer). LivesOnce story_medium hands_out hears bytes config
     (map act_of planned.acts) lived first a heard last left heard') answers_are
     (subst (λ (a : List PlannedAct). LivesOnce story_medium hands_out hears bytes config
     (map act_of a) lived first answers heard last left heard') acts_are
     (once stopping_leaves_some))) ends law
 ended_lives_are_told bytes config planned found first last heard heard' left answers acts lived
-    (Err why) below stop fail unheard answers_are acts_are once ends law = tt
+    (Err why) below stop fail unheard refuses answers_are acts_are once ends law = tt

@@ -13,6 +13,8 @@ use Rattle.sector_disk.specs.rules.Medium.{Stays}
 use Rattle.sector_disk.specs.rules.Memory.{memory_medium, memory_stays}
 use Rattle.disk_layout.specs.rules.Places.{geometry_of, total_sectors}
 use Rattle.worker_rules.specs.Stands.{StandsFor}
+use Rattle.record_replay.specs.declared.refusing.RefusingOutlet.{RefusingOutlet}
+use Rattle.record_replay.specs.rules.Lists.{inner_outlet, until_fault}
 use Rattle.durable_worker.specs.declared.story.LivedOn.{LivedOn}
 use Rattle.durable_worker.specs.declared.story.fault.StoryFault.{StoryFault}
 use Rattle.durable_worker.specs.declared.story.hearing.HeardLines.{HeardLines}
@@ -25,7 +27,7 @@ use Rattle.durable_worker.specs.declared.story.report.Opening.TheVariants.{Creat
 use Rattle.durable_worker.specs.declared.story.report.Opening.TheVariants.{Unopened}
 use Rattle.durable_worker.specs.laws.OneLife.{shown_first}
 use Rattle.durable_worker.specs.rules.DurableValues.{DurableValue}
-use Rattle.durable_worker.specs.rules.Planned.{act_of}
+use Rattle.durable_worker.specs.rules.Planned.{act_of, number_refused}
 use Rattle.durable_worker.specs.rules.Recoveries.{Recovers}
 use Rattle.durable_worker.specs.rules.StoryDisks.{story_medium, IsBegunOn, IsNextGeneration}
 use Rattle.durable_worker.specs.rules.StoryDisks.{IsRunOn}
@@ -45,7 +47,7 @@ shown_still old new image stays shows =
     shows ∙ sym may.0
 
 -- the generation of a worker that a recovery opens
-next_after : (w : DurableValue) (found disk : FaultDisk MemDisk) (heard heard' : HeardLines)
+next_after : (w : DurableValue) (found disk : FaultDisk MemDisk) (heard heard' : RefusingOutlet HeardLines)
     (image : Image) (m : Module) (config : Settings) (kept : List Kept) (n : ℕ)
     → Recovers story_medium hears (Ok w) found disk heard heard'
     → (memory_medium found.inner).shows image → (stands : StandsFor image m config kept n)
@@ -60,7 +62,7 @@ next_after w found disk heard heard' image m config kept n (inr by) shows stands
     let revived = (from.revives m config kept n stands fits).0 in
     revived.generation
 
-generation_so : (found : FaultDisk MemDisk) (heard : HeardLines) (told : Opening)
+generation_so : (found : FaultDisk MemDisk) (heard : RefusingOutlet HeardLines) (told : Opening)
     → IsOfRecovery story_medium hears found heard told
     → IsNextGeneration (memory_medium found.inner) told
 generation_so found heard (Recovered generation steps answers lines bytes) by
@@ -71,14 +73,14 @@ generation_so found heard Unopened by = tt
 
 one_life_is_run : (bytes : List ℕ) (config : Settings) (planned : PlannedLife)
     (found next : MemDisk) (report : LifeReport) (first last : FaultDisk MemDisk)
-    (heard heard' : HeardLines) (left : List Answer) (lived : LivedOnce)
-    → IsBegunOn planned found first → heard.lines ≡ []
+    (heard heard' : RefusingOutlet HeardLines) (left : List Answer) (lived : LivedOnce)
+    → IsBegunOn planned found first → (inner_outlet heard).lines ≡ [] → until_fault heard ≡ number_refused planned.refuse
     → LivesOnce story_medium hands_out hears bytes config (map act_of planned.acts) lived
     first planned.answers heard last left heard'
-    → EndsLife lived last heard' planned report next
+    → EndsLife lived last (inner_outlet heard') planned report next
     → IsRunOn bytes config planned report found next
 one_life_is_run bytes config planned found next report first last heard heard' left lived begun
-    unheard once ends = record {
+    unheard refuses once ends = record {
   first = first;
   begun = begun;
   last = last;
@@ -89,6 +91,7 @@ one_life_is_run bytes config planned found next report first last heard heard' l
   unasked = left;
   unheard = heard;
   none_heard = unheard;
+  refuse = refuses;
   heard = heard';
   calls = once.calls;
   opened = subst (λ (o : Opening). TellsOpening once.begins (shown_first once.worker) o)
@@ -102,22 +105,22 @@ one_life_is_run bytes config planned found next report first last heard heard' l
 }
 
 pub ended_lives_are_run : (bytes : List ℕ) (config : Settings) (planned : PlannedLife)
-    (found : MemDisk) (first last : FaultDisk MemDisk) (heard heard' : HeardLines)
+    (found : MemDisk) (first last : FaultDisk MemDisk) (heard heard' : RefusingOutlet HeardLines)
     (left answers : List Answer) (acts : List PlannedAct) (lived : LivedOnce)
     (result : Result LivedOn StoryFault) → IsBegunOn planned found first
-    → heard.lines ≡ [] → answers ≡ planned.answers → acts ≡ planned.acts
+    → (inner_outlet heard).lines ≡ [] → until_fault heard ≡ number_refused planned.refuse → answers ≡ planned.answers → acts ≡ planned.acts
     → (LeavesSome story_medium → LivesOnce story_medium hands_out hears bytes config
     (map act_of acts) lived first answers heard last left heard')
-    → IfOk result (λ on. EndsLife lived last heard' planned on.report on.disk)
+    → IfOk result (λ on. EndsLife lived last (inner_outlet heard') planned on.report on.disk)
     → IfOk result (λ on. IsRunOn bytes config planned on.report found on.disk)
 ended_lives_are_run bytes config planned found first last heard heard' left answers acts lived
-    (Ok on) begun unheard answers_are acts_are once ends =
+    (Ok on) begun unheard refuses answers_are acts_are once ends =
     one_life_is_run bytes config planned found on.disk on.report first last heard heard' left
-    lived begun unheard
+    lived begun unheard refuses
     (subst (λ (a : List Answer). LivesOnce story_medium hands_out hears bytes config
     (map act_of planned.acts) lived first a heard last left heard') answers_are
     (subst (λ (a : List PlannedAct). LivesOnce story_medium hands_out hears bytes config
     (map act_of a) lived first answers heard last left heard') acts_are
     (once stopping_leaves_some))) ends
 ended_lives_are_run bytes config planned found first last heard heard' left answers acts lived
-    (Err why) begun unheard answers_are acts_are once ends = tt
+    (Err why) begun unheard refuses answers_are acts_are once ends = tt

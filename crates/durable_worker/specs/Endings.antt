@@ -15,7 +15,7 @@ use Rattle.durable_worker.specs.declared.story.report.LifeEnd.{LifeEnd}
 use Rattle.durable_worker.specs.declared.story.report.LifeEnd.TheVariants.{Finished, Stopped}
 use Rattle.durable_worker.specs.declared.story.report.LifeEnd.TheVariants.{Failed}
 use Rattle.durable_worker.specs.declared.story.report.LifeReport.{LifeReport}
-use Rattle.durable_worker.specs.rules.Planned.{stop_call}
+use Rattle.durable_worker.specs.rules.Planned.{call_at}
 use Rattle.durable_worker.specs.rules.StoryDisks.{IsLeftBy}
 
 -- the end of a life by its stop, or by what ended its calls
@@ -44,7 +44,7 @@ pub record EndsLife (lived : LivedOnce) (disk : FaultDisk MemDisk) (heard : Hear
   pub releases : report.releases ≡ heard.lines
   pub calls : report.calls ≡ call_number (call_counts_of disk)
   pub stopped : Bool
-  pub stops : StopSays stopped (stop_call life.stop) (call_number (call_counts_of disk))
+  pub stops : StopSays stopped (call_at life.stop) (call_number (call_counts_of disk))
   pub ended : report.ended ≡ end_told stopped lived.ended
   pub behind : IsFoundBehind report.ended (disk_below disk) next
   pub left : IsLeftBy life.tears report.ended disk next

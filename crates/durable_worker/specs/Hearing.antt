@@ -4,7 +4,8 @@ use Rattle.wasi_abi.specs.declared.answer.Answer.{Answer}
 use Rattle.wasi_calls_rules.specs.Hosts.{Line}
 use Rattle.record_replay.specs.declared.fault.OutletFault.{OutletFault}
 use Rattle.record_replay.specs.rules.Calls.{Giving, Taking}
-use Rattle.record_replay.specs.rules.Lists.{HandsOut, KeepsLine}
+use Rattle.record_replay.specs.declared.refusing.RefusingOutlet.{RefusingOutlet}
+use Rattle.record_replay.specs.rules.Lists.{HandsOut, KeepsLine, Refuses}
 use Rattle.durable_worker.specs.declared.story.hearing.HeardLines.{HeardLines}
 
 -- a list of answers, as a source
@@ -22,6 +23,7 @@ pub record HearsLine (old : HeardLines) (number : ℕ) (line : Line)
   pub keeps : KeepsLine old.lines number line said new.lines
   pub marks : MarksRefusal old.has_refused said new.has_refused
 
--- lines that are heard, as an outlet
-abbrev pub hears : Taking HeardLines
-hears = λ old number line said new. HearsLine old number line said new
+-- lines that are heard, of which one may be refused, as an outlet
+abbrev pub hears : Taking (RefusingOutlet HeardLines)
+hears = λ old number line said new. Refuses
+    (λ was n l answer is. HearsLine was n l answer is) old number line said new

@@ -1,5 +1,6 @@
 -- What is put into each life, in the words of the restart theorem.
-use Rattle.std.specs.Prelude.{ℕ, [], map, Option, Some, None, Ok}
+use Rattle.std.specs.Prelude.{ℕ, zero, suc, Bool, true, false, List, [], ◌∷◌, map, Option, Some}
+use Rattle.std.specs.Prelude.{None, Ok}
 use Rattle.wasi_abi.specs.declared.answer.Answer.{Answer}
 use Rattle.sector_disk.specs.declared.place.Place.{Place}
 use Rattle.worker_rules.specs.Lives.{Act, Checkpoint, SourceSaid, Inputs}
@@ -16,18 +17,29 @@ act_of planned.Checkpoint = Checkpoint
 abbrev pub said_of : Answer → SourceSaid
 said_of answer = Ok (Some answer)
 
--- the call of the disk at which the power is cut
-abbrev pub stop_call : Option Place → Option ℕ
-stop_call None = None
-stop_call (Some place) = Some place.call
+-- the call of the disk at which the power is cut, or that fails
+abbrev pub call_at : Option Place → Option ℕ
+call_at None = None
+call_at (Some place) = Some place.call
 
--- The source hands the answers out, the outlet takes each line, and no call of the disk fails but
--- by the stop.
+-- the number of a release that is refused, or 0
+abbrev pub number_refused : Option ℕ → ℕ
+number_refused None = 0
+number_refused (Some number) = number
+
+-- whether an outlet takes each release, where it refuses the one of this number
+abbrev pub takes_but : ℕ → List Bool
+takes_but zero = []
+takes_but (suc zero) = false ∷ []
+takes_but (suc (suc n)) = true ∷ takes_but (suc n)
+
+-- The source hands the answers out. The outlet takes each line but one, if one is named, and no call
+-- of the disk fails but the one that is named, if one is.
 abbrev pub inputs_of : PlannedLife → Inputs
 inputs_of life = record {
   says = map said_of life.answers;
-  takes = [];
+  takes = takes_but (number_refused life.refuse);
   acts = map act_of life.acts;
-  stop = stop_call life.stop;
-  fails = None;
+  stop = call_at life.stop;
+  fails = call_at life.fail;
 }

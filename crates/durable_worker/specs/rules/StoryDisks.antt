@@ -1,7 +1,7 @@
 -- The disk of a story: lives that are run one after another on a disk in memory, and what a report
 -- tells of them.
 use Rattle.std.specs.Prelude.{◌≡◌, ℕ, ◌+◌, ◌-◌, ◌≤◌, Bool, true, false, List, [], ◌∷◌, ◌++◌}
-use Rattle.std.specs.Prelude.{length, map, replicate, take, Option, None, Result}
+use Rattle.std.specs.Prelude.{length, map, replicate, take, Option, Result}
 use Rattle.wasm_syntax.specs.declared.module.Module.{Module}
 use Rattle.wasm_syntax_rules.specs.Acceptance.{IsAccepted}
 use Rattle.wasi_abi.specs.declared.answer.Answer.{Answer}
@@ -22,6 +22,8 @@ use Rattle.worker_rules.specs.Lives.{Life, Beginning}
 use Rattle.worker_rules.specs.Promises.{GoesOn}
 use Rattle.worker_rules.specs.Stands.{StandsFor}
 use Rattle.durable_worker.specs.declared.recover_fault.RecoverFault.{RecoverFault}
+use Rattle.record_replay.specs.declared.refusing.RefusingOutlet.{RefusingOutlet}
+use Rattle.record_replay.specs.rules.Lists.{inner_outlet, until_fault}
 use Rattle.durable_worker.specs.declared.story.hearing.HeardLines.{HeardLines}
 use Rattle.durable_worker.specs.declared.story.life.PlannedLife.{PlannedLife}
 use Rattle.durable_worker.specs.declared.story.report.LifeEnd.{LifeEnd}
@@ -31,7 +33,7 @@ use Rattle.durable_worker.specs.declared.story.report.Opening.{Opening}
 use Rattle.durable_worker.specs.declared.story.report.Opening.TheVariants.{Recovered}
 use Rattle.durable_worker.specs.laws.OneLife.{IsOneLife, shown_first, left_undone}
 use Rattle.durable_worker.specs.rules.DurableValues.{DurableValue}
-use Rattle.durable_worker.specs.rules.Planned.{inputs_of, act_of}
+use Rattle.durable_worker.specs.rules.Planned.{inputs_of, act_of, number_refused}
 use Rattle.durable_worker.specs.rules.Told.{TellsOpening, TellsEach}
 use Rattle.durable_worker.specs.Hearing.{hands_out, hears}
 
@@ -45,16 +47,17 @@ IsEmptyDisk sectors disk = memory_state_of disk ≡ record {
 
 -- ---- one life
 
--- a disk in memory that is told where to stop
+-- a disk in memory that is told where to stop and where to fail
 abbrev pub story_medium : FaultDisk MemDisk → Medium
 story_medium f = troubled (memory_medium f.inner) f.stop f.fail (length f.faults.items)
 
--- The disk with which a life begins: over this one, told where to stop, with no call begun.
+-- The disk with which a life begins: over this one, told where to stop and where to fail, with no
+-- call begun.
 pub record IsBegunOn (planned : PlannedLife) (found : MemDisk) (disk : FaultDisk MemDisk)
     : Type 0 where
   pub below : disk_below disk ≡ found
   pub stop : stop_of disk ≡ planned.stop
-  pub fail : fail_of disk ≡ None
+  pub fail : fail_of disk ≡ planned.fail
   pub none_begun : call_counts_of disk ≡ record { reads = 0; writes = 0; syncs = 0 }
 
 -- A recovered life tells the generation after that of the worker on the disk that it found.
@@ -96,14 +99,15 @@ pub record IsRunOn (bytes : List ℕ) (config : Settings) (planned : PlannedLife
   pub worker : Option DurableValue
   pub ended : Result (Unit {0}) RecoverFault
   pub unasked : List Answer
-  pub unheard : HeardLines
-  pub none_heard : unheard.lines ≡ []
-  pub heard : HeardLines
+  pub unheard : RefusingOutlet HeardLines
+  pub none_heard : (inner_outlet unheard).lines ≡ []
+  pub refuse : until_fault unheard ≡ number_refused planned.refuse
+  pub heard : RefusingOutlet HeardLines
   pub calls : IsOneLife story_medium hands_out hears bytes config (map act_of planned.acts) first
       planned.answers unheard begins worker (left_undone ended) last unasked heard
   pub opened : TellsOpening begins (shown_first worker) report.opened
   pub generation : IsNextGeneration (memory_medium found) report.opened
-  pub releases : report.releases ≡ heard.lines
+  pub releases : report.releases ≡ (inner_outlet heard).lines
   pub left : IsLeftBy planned.tears report.ended last next
 
 -- ---- all lives

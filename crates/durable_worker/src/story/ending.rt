@@ -6,7 +6,7 @@ ghost use Rattle.sector_disk.specs.rules.Memory.{memory_medium, memory_state_of,
 ghost use Rattle.sector_disk.specs.rules.Trouble.{call_number};
 ghost use Rattle.worker_rules.specs.Between.{IsFoundAfterCut};
 ghost use Rattle.worker_rules.specs.Courses.{HasStopped};
-ghost use Rattle.durable_worker.specs.rules.Planned.{stop_call};
+ghost use Rattle.durable_worker.specs.rules.Planned.{call_at};
 ghost use Rattle.durable_worker.specs.rules.StoryDisks.{IsLeftBy, front_count};
 ghost use Rattle.durable_worker.specs.Endings.{end_told, IsFoundBehind};
 
@@ -26,7 +26,7 @@ pub(crate) fn call_count(disk: &FaultDisk<MemDisk>) -> u64
 
 /// Whether the call of the stop is one of so many.
 pub(crate) fn has_stopped(stop: Option<Place>, calls: u64) -> bool
-    ensures { IsTrue result ↔ HasStopped (stop_call stop) calls }
+    ensures { IsTrue result ↔ HasStopped (call_at stop) calls }
 {
     match stop {
         Some(stop) => stop.call <= calls,

@@ -5,12 +5,13 @@
 //!
 //! - `story` runs any list of lives, and tells them. Where the bytes spell an accepted module,
 //!   there are lives with just these inputs that go on as one that was never stopped (`GoesOn`).
+//!   Among them are the call of the disk that fails, and the release that is refused.
 //!   The report tells each (`TellsLives`). It says how it was opened, and the image and the numbers
 //!   of the process then. It has all its lines in order, and says how it ended, and with how many
 //!   calls of the disk.
 //! - So a life isn't opened, or leaves an act undone, only where its stop came first, or an error
-//!   with its cause. That is want of memory, an answer that doesn't fit, or a number at its end
-//!   (`MayEnd` of `worker_rules`).
+//!   with its cause. That is the call of the disk that fails, the line that is refused, want of
+//!   memory, an answer that doesn't fit, or a number at its end (`MayEnd` of `worker_rules`).
 //! - Want of memory inside of a life ends that life. `StoryFault` is told only where memory was
 //!   refused to `story` itself.
 //! - A life without a stop, or whose stop isn't reached, is cut behind its last act. One that ends
@@ -40,6 +41,8 @@
 
 ghost use Rattle.std.specs.Prelude.{◌≡◌, ◌<◌, ◌^◌, IfOk, length};
 ghost use Rattle.disk_layout.specs.rules.Places.{geometry_of, total_sectors};
+ghost use Rattle.record_replay.specs.rules.Lists.{inner_outlet};
+ghost use Rattle.durable_worker.specs.rules.Planned.{number_refused};
 ghost use Rattle.durable_worker.specs.rules.StoryDisks.{IsEmptyDisk, IsRunOn, TellsLives};
 ghost use Rattle.durable_worker.specs.Endings.{EndsLife};
 ghost use Rattle.durable_worker.specs.Going.{LivesOn};
@@ -61,7 +64,7 @@ use crate::story::living::{LivedOnce, SpelledWorker, live_once};
 use disk_layout::Geometry;
 pub use fault::StoryFault;
 pub use life::{PlannedAct, PlannedLife};
-use record_replay::AnswerList;
+use record_replay::{AnswerList, RefusingOutlet};
 pub use report::{LifeEnd, LifeReport, Opening, Report};
 use sector_disk::{FaultDisk, MemDisk};
 use std::alloc::Global;
@@ -138,13 +141,23 @@ fn live(
 {
     let answers = copy_answers(alloc, life.answers.as_slice())?;
     let mut source = AnswerList::new(answers.into_vec());
-    let mut outlet = HeardLines::new(alloc);
-    let mut disk = FaultDisk::new(disk, life.stop, None);
+    let mut outlet = RefusingOutlet::new(HeardLines::new(alloc), number_refused(life.refuse));
+    let mut disk = FaultDisk::new(disk, life.stop, life.fail);
     let acts = life.acts.as_slice();
-    calls_make_lives::<FaultDisk<MemDisk>, AnswerList, HeardLines>();
+    calls_make_lives::<FaultDisk<MemDisk>, AnswerList, RefusingOutlet<HeardLines>>();
     match live_once(alloc, spelled, &mut disk, acts, &mut source, &mut outlet) {
         Ok(lived) => end_life(alloc, lived, disk, outlet, life),
         Err(_) => Err(StoryFault::Memory),
+    }
+}
+
+/// The number of the release that is refused, or 0.
+fn number_refused(refuse: Option<u64>) -> u64
+    ensures { result ≡ number_refused refuse }
+{
+    match refuse {
+        Some(number) => number,
+        None => 0,
     }
 }
 
@@ -153,11 +166,13 @@ fn end_life(
     alloc: Global,
     lived: LivedOnce,
     disk: FaultDisk<MemDisk>,
-    heard: HeardLines,
+    outlet: RefusingOutlet<HeardLines>,
     life: &PlannedLife,
 ) -> Result<LivedOn, StoryFault>
-    ensures { IfOk result (λ on. EndsLife lived disk heard life.now on.report on.disk) }
+    ensures { IfOk result (λ on. EndsLife lived disk (inner_outlet outlet) life.now on.report
+        on.disk) }
 {
+    let heard = outlet.into_inner();
     if heard.has_refused {
         return Err(StoryFault::Memory);
     }

@@ -16,7 +16,7 @@ use Rattle.durable_worker.specs.declared.story.life.PlannedLife.{PlannedLife}
 use Rattle.wasmhost_serve.specs.declared.stories.line.ScriptLine.{ScriptLine}
 use Rattle.wasmhost_serve.specs.declared.stories.line.ScriptLine.TheVariants as said
 use Rattle.wasmhost_serve.specs.rules.Scripts.{life_said, answer_said, act_said, stop_said}
-use Rattle.wasmhost_serve.specs.rules.Scripts.{tears_said, at_most_one}
+use Rattle.wasmhost_serve.specs.rules.Scripts.{fail_said, refusal_said, tears_said, at_most_one}
 use Rattle.wasmhost_serve.specs.laws.Drafts.{put_in}
 
 -- the lines say at least one number of tears, where they say any
@@ -40,6 +40,9 @@ pub record IsOnto (start : PlannedLife) (lines : List ScriptLine)
   pub answers : life.answers ≡ start.answers ++ flat_map answer_said lines
   pub acts : life.acts ≡ start.acts ++ flat_map act_said lines
   pub stop : option_to_list life.stop ≡ option_to_list start.stop ++ flat_map stop_said lines
+  pub fail : option_to_list life.fail ≡ option_to_list start.fail ++ flat_map fail_said lines
+  pub refuse : option_to_list life.refuse
+      ≡ option_to_list start.refuse ++ flat_map refusal_said lines
   pub tears : at_most_one life.tears ≡ at_most_one start.tears ++ flat_map tears_said lines
 
 abbrev with_stop : PlannedLife → Place → PlannedLife
@@ -47,6 +50,28 @@ with_stop life place = record {
   answers = life.answers;
   acts = life.acts;
   stop = Some place;
+  fail = life.fail;
+  refuse = life.refuse;
+  tears = life.tears;
+}
+
+abbrev with_fail : PlannedLife → Place → PlannedLife
+with_fail life place = record {
+  answers = life.answers;
+  acts = life.acts;
+  stop = life.stop;
+  fail = Some place;
+  refuse = life.refuse;
+  tears = life.tears;
+}
+
+abbrev with_refusal : PlannedLife → ℕ → PlannedLife
+with_refusal life number = record {
+  answers = life.answers;
+  acts = life.acts;
+  stop = life.stop;
+  fail = life.fail;
+  refuse = Some number;
   tears = life.tears;
 }
 
@@ -55,6 +80,8 @@ with_tears life fronts = record {
   answers = life.answers;
   acts = life.acts;
   stop = life.stop;
+  fail = life.fail;
+  refuse = life.refuse;
   tears = fronts;
 }
 
@@ -74,6 +101,13 @@ step_on start mid life line lines one more = record {
   stop = more.stop ∙ ap (λ l. l ++ flat_map stop_said lines) (one.stop
       ∙ ap (λ l. option_to_list start.stop ++ l) (append-nil (stop_said line)))
       ∙ append_assoc (option_to_list start.stop) (stop_said line) (flat_map stop_said lines);
+  fail = more.fail ∙ ap (λ l. l ++ flat_map fail_said lines) (one.fail
+      ∙ ap (λ l. option_to_list start.fail ++ l) (append-nil (fail_said line)))
+      ∙ append_assoc (option_to_list start.fail) (fail_said line) (flat_map fail_said lines);
+  refuse = more.refuse ∙ ap (λ l. l ++ flat_map refusal_said lines) (one.refuse
+      ∙ ap (λ l. option_to_list start.refuse ++ l) (append-nil (refusal_said line)))
+      ∙ append_assoc (option_to_list start.refuse) (refusal_said line)
+      (flat_map refusal_said lines);
   tears = more.tears ∙ ap (λ l. l ++ flat_map tears_said lines) (one.tears
       ∙ ap (λ l. at_most_one start.tears ++ l) (append-nil (tears_said line)))
       ∙ append_assoc (at_most_one start.tears) (tears_said line) (flat_map tears_said lines);
@@ -89,6 +123,8 @@ put_one (said.Answer answer) start mid full e =
       answers = refl;
       acts = sym (append-nil start.acts);
       stop = sym (append-nil (option_to_list start.stop));
+      fail = sym (append-nil (option_to_list start.fail));
+      refuse = sym (append-nil (option_to_list start.refuse));
       tears = sym (append-nil (at_most_one start.tears));
     })
 put_one (said.Act act) start mid full e =
@@ -97,6 +133,8 @@ put_one (said.Act act) start mid full e =
       answers = sym (append-nil start.answers);
       acts = refl;
       stop = sym (append-nil (option_to_list start.stop));
+      fail = sym (append-nil (option_to_list start.fail));
+      refuse = sym (append-nil (option_to_list start.refuse));
       tears = sym (append-nil (at_most_one start.tears));
     })
 put_one (said.Stop place) start mid full e = by start.stop refl e
@@ -110,6 +148,40 @@ put_one (said.Stop place) start mid full e = by start.stop refl e
           answers = sym (append-nil start.answers);
           acts = sym (append-nil start.acts);
           stop = sym (ap (λ o. option_to_list o ++ place ∷ []) n);
+          fail = sym (append-nil (option_to_list start.fail));
+          refuse = sym (append-nil (option_to_list start.refuse));
+          tears = sym (append-nil (at_most_one start.tears));
+        })
+    by (Some p) n e = cc e
+put_one (said.Fail place) start mid full e = by start.fail refl e
+  where
+    by : (o : Option Place) → start.fail ≡ o
+        → (if is_none o then Some (with_fail start place) else None) ≡ Some mid
+        → IsOnto start (said.Fail place ∷ []) mid
+    by None n e =
+        subst (λ m. IsOnto start (said.Fail place ∷ []) m) (ap (λ o. unwrap_or o start) e) (record {
+          one_life = refl;
+          answers = sym (append-nil start.answers);
+          acts = sym (append-nil start.acts);
+          stop = sym (append-nil (option_to_list start.stop));
+          fail = sym (ap (λ o. option_to_list o ++ place ∷ []) n);
+          refuse = sym (append-nil (option_to_list start.refuse));
+          tears = sym (append-nil (at_most_one start.tears));
+        })
+    by (Some p) n e = cc e
+put_one (said.Refuse number) start mid full e = by start.refuse refl e
+  where
+    by : (o : Option ℕ) → start.refuse ≡ o
+        → (if is_none o then Some (with_refusal start number) else None) ≡ Some mid
+        → IsOnto start (said.Refuse number ∷ []) mid
+    by None n e =
+        subst (λ m. IsOnto start (said.Refuse number ∷ []) m) (ap (λ o. unwrap_or o start) e) (record {
+          one_life = refl;
+          answers = sym (append-nil start.answers);
+          acts = sym (append-nil start.acts);
+          stop = sym (append-nil (option_to_list start.stop));
+          fail = sym (append-nil (option_to_list start.fail));
+          refuse = sym (ap (λ o. option_to_list o ++ number ∷ []) n);
           tears = sym (append-nil (at_most_one start.tears));
         })
     by (Some p) n e = cc e
@@ -126,6 +198,8 @@ put_one (said.Tears (f ∷ fs)) start mid full e = by start.tears refl e
           answers = sym (append-nil start.answers);
           acts = sym (append-nil start.acts);
           stop = sym (append-nil (option_to_list start.stop));
+          fail = sym (append-nil (option_to_list start.fail));
+          refuse = sym (append-nil (option_to_list start.refuse));
           tears = sym (ap (λ o. at_most_one o ++ (f ∷ fs) ∷ []) n);
         })
     by (t ∷ ts) n e =
@@ -154,16 +228,22 @@ same_list [] (y ∷ ys) e = cc e
 same_list (x ∷ xs) [] e = cc e
 same_list (x ∷ xs) (y ∷ ys) e = cc e
 
-abbrev life_with : List Answer → List PlannedAct → Option Place → List ℕ → PlannedLife
-life_with answers acts stop tears =
-    record { answers = answers; acts = acts; stop = stop; tears = tears }
+-- the same life with these answers, or with these acts
+abbrev with_answers : PlannedLife → List Answer → PlannedLife
+with_answers life answers = record life { answers = answers }
+
+abbrev with_acts : PlannedLife → List PlannedAct → PlannedLife
+with_acts life acts = record life { acts = acts }
 
 same_life : (a b : PlannedLife) → a.answers ≡ b.answers → a.acts ≡ b.acts → a.stop ≡ b.stop
-    → a.tears ≡ b.tears → a ≡ b
-same_life a b p q r s =
-    ap (λ x. life_with x a.acts a.stop a.tears) p ∙ ap (λ x. life_with b.answers x a.stop a.tears) q
-    ∙ ap (λ x. life_with b.answers b.acts x a.tears) r
-    ∙ ap (λ x. life_with b.answers b.acts b.stop x) s
+    → a.fail ≡ b.fail → a.refuse ≡ b.refuse → a.tears ≡ b.tears → a ≡ b
+same_life a b p q r s t u =
+    ap (λ x. record a { answers = x }) p
+    ∙ ap (λ x. record a { answers = b.answers; acts = x }) q
+    ∙ ap (λ x. record a { answers = b.answers; acts = b.acts; stop = x }) r
+    ∙ ap (λ x. record b { fail = x; refuse = a.refuse; tears = a.tears }) s
+    ∙ ap (λ x. record b { refuse = x; tears = a.tears }) t
+    ∙ ap (λ x. record b { tears = x }) u
 
 pub puts_all : (lines : List ScriptLine) (start life : PlannedLife) → AreFull lines
     → IsOnto start lines life → put_all_in lines start ≡ Some life
@@ -171,25 +251,29 @@ puts_all [] start life full is = ap Some (same_life start life (sym (is.answers
     ∙ append-nil start.answers))
     (sym (is.acts ∙ append-nil start.acts))
     (same_option _ _ (sym (is.stop ∙ append-nil (option_to_list start.stop))))
+    (same_option _ _ (sym (is.fail ∙ append-nil (option_to_list start.fail))))
+    (same_option _ _ (sym (is.refuse ∙ append-nil (option_to_list start.refuse))))
     (same_list _ _ (sym (is.tears ∙ append-nil (at_most_one start.tears)))))
 puts_all (said.Life ∷ lines) start life full is = let e = is.one_life in cc e
 puts_all (said.Answer answer ∷ lines) start life full is =
-    puts_all lines (life_with (start.answers ++ answer ∷ []) start.acts start.stop start.tears) life
-    full.1 (record {
+    puts_all lines (with_answers start (start.answers ++ answer ∷ [])) life full.1 (record {
       one_life = is.one_life;
       answers = is.answers
           ∙ sym (append_assoc start.answers (answer ∷ []) (flat_map answer_said lines));
       acts = is.acts;
       stop = is.stop;
+      fail = is.fail;
+      refuse = is.refuse;
       tears = is.tears;
     })
 puts_all (said.Act act ∷ lines) start life full is =
-    puts_all lines (life_with start.answers (start.acts ++ act ∷ []) start.stop start.tears) life
-    full.1 (record {
+    puts_all lines (with_acts start (start.acts ++ act ∷ [])) life full.1 (record {
       one_life = is.one_life;
       answers = is.answers;
       acts = is.acts ∙ sym (append_assoc start.acts (act ∷ []) (flat_map act_said lines));
       stop = is.stop;
+      fail = is.fail;
+      refuse = is.refuse;
       tears = is.tears;
     })
 puts_all (said.Stop place ∷ lines) start life full is = by start.stop refl (puts_all lines
@@ -207,10 +291,56 @@ puts_all (said.Stop place ∷ lines) start life full is = by start.stop refl (pu
           answers = is.answers;
           acts = is.acts;
           stop = is.stop ∙ ap (λ o. option_to_list o ++ place ∷ flat_map stop_said lines) n;
+          fail = is.fail;
+          refuse = is.refuse;
           tears = is.tears;
         })
     by (Some p) n given = absurd (one_at_most life.stop p place (flat_map stop_said lines)
         (is.stop ∙ ap (λ o. option_to_list o ++ place ∷ flat_map stop_said lines) n))
+puts_all (said.Fail place ∷ lines) start life full is = by start.fail refl (puts_all lines
+    (with_fail start place) life full.1)
+  where
+    by : (o : Option Place) → start.fail ≡ o
+        → (IsOnto (with_fail start place) lines life
+        → put_all_in lines (with_fail start place) ≡ Some life)
+        → option_and_then (put_all_in lines) (put_in (said.Fail place) start) ≡ Some life
+    by None n given =
+        ap (λ o. option_and_then (put_all_in lines) (if is_none o then Some
+        (with_fail start place) else None)) n
+        ∙ given (record {
+          one_life = is.one_life;
+          answers = is.answers;
+          acts = is.acts;
+          stop = is.stop;
+          fail = is.fail ∙ ap (λ o. option_to_list o ++ place ∷ flat_map fail_said lines) n;
+          refuse = is.refuse;
+          tears = is.tears;
+        })
+    by (Some p) n given = absurd (one_at_most life.fail p place (flat_map fail_said lines)
+        (is.fail ∙ ap (λ o. option_to_list o ++ place ∷ flat_map fail_said lines) n))
+puts_all (said.Refuse number ∷ lines) start life full is = by start.refuse refl (puts_all lines
+    (with_refusal start number) life full.1)
+  where
+    by : (o : Option ℕ) → start.refuse ≡ o
+        → (IsOnto (with_refusal start number) lines life
+        → put_all_in lines (with_refusal start number) ≡ Some life)
+        → option_and_then (put_all_in lines) (put_in (said.Refuse number) start) ≡ Some life
+    by None n given =
+        ap (λ o. option_and_then (put_all_in lines) (if is_none o then Some
+        (with_refusal start number) else None)) n
+        ∙ given (record {
+          one_life = is.one_life;
+          answers = is.answers;
+          acts = is.acts;
+          stop = is.stop;
+          fail = is.fail;
+          refuse = is.refuse
+              ∙ ap (λ o. option_to_list o ++ number ∷ flat_map refusal_said lines) n;
+          tears = is.tears;
+        })
+    by (Some p) n given = absurd (one_at_most life.refuse p number
+        (flat_map refusal_said lines)
+        (is.refuse ∙ ap (λ o. option_to_list o ++ number ∷ flat_map refusal_said lines) n))
 puts_all (said.Tears [] ∷ lines) start life full is = absurd full.0
 puts_all (said.Tears (f ∷ fs) ∷ lines) start life full is =
     by start.tears refl (puts_all lines (with_tears start (f ∷ fs)) life full.1)
@@ -227,6 +357,8 @@ puts_all (said.Tears (f ∷ fs) ∷ lines) start life full is =
           answers = is.answers;
           acts = is.acts;
           stop = is.stop;
+          fail = is.fail;
+          refuse = is.refuse;
           tears = is.tears ∙ ap (λ o. at_most_one o ++ (f ∷ fs) ∷ flat_map tears_said lines) n;
         })
     by (t ∷ ts) n given = absurd (one_list life.tears (t ∷ ts) (f ∷ fs) (flat_map tears_said lines)

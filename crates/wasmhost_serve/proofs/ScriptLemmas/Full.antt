@@ -8,7 +8,7 @@ use Rattle.wasmhost_serve.specs.declared.stories.line.ScriptLine.TheVariants as 
 use Rattle.wasmhost_serve.specs.rules.Pieces.{split_once}
 use Rattle.wasmhost_serve.specs.rules.Scripts.{said_by, said_cut, said_alone, said_with}
 use Rattle.wasmhost_serve.specs.rules.Scripts.{said_with_number, number_spelled, hex_bytes}
-use Rattle.wasmhost_serve.specs.rules.Scripts.{place_spelled}
+use Rattle.wasmhost_serve.specs.rules.Scripts.{place_spelled, count_spelled}
 use Rattle.wasmhost_serve.specs.rules.Scripts.{each_front, fronts_in, front_spelled}
 use Rattle.wasmhost_serve.proofs.ScriptLemmas.Lines.{pieces_behind, cut_piece}
 use Rattle.wasmhost_serve.proofs.ScriptLemmas.Lives.{IsFullOption}
@@ -70,7 +70,9 @@ full_with word rest =
     (full_if (bytes_eq word (codes "random")) _ _ (full_map _ (λ x. tt) (hex_bytes rest))
     (full_if (bytes_eq word (codes "tears")) _ _ (full_tears (fronts_in rest) (fronts_some rest))
     (full_if (bytes_eq word (codes "stop")) _ _ (full_map _ (λ x. tt) (place_spelled rest))
-    (full_then (said_with_number word) (full_number word) (number_spelled rest)))))
+    (full_if (bytes_eq word (codes "fail")) _ _ (full_map _ (λ x. tt) (place_spelled rest))
+    (full_if (bytes_eq word (codes "refuse")) _ _ (full_map _ (λ x. tt) (count_spelled rest))
+    (full_then (said_with_number word) (full_number word) (number_spelled rest)))))))
 
 pub full_said : (text : List ℕ) → IsFullOption (said_by text)
 full_said text = by (split_once 32 text)

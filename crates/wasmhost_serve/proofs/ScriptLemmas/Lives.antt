@@ -41,6 +41,8 @@ nothing_onto start = record {
   answers = sym (append-nil start.answers);
   acts = sym (append-nil start.acts);
   stop = sym (append-nil (option_to_list start.stop));
+  fail = sym (append-nil (option_to_list start.fail));
+  refuse = sym (append-nil (option_to_list start.refuse));
   tears = sym (append-nil _);
 }
 
@@ -51,6 +53,8 @@ life_of_empty own life is = record {
   answers = is.answers;
   acts = is.acts;
   stop = is.stop;
+  fail = is.fail;
+  refuse = is.refuse;
   tears = is.tears;
 }
 
@@ -61,6 +65,8 @@ empty_onto own life is = record {
   answers = is.answers;
   acts = is.acts;
   stop = is.stop;
+  fail = is.fail;
+  refuse = is.refuse;
   tears = is.tears;
 }
 
@@ -130,6 +136,12 @@ goes_on (said.Act act ∷ lines) before start draft full e =
 goes_on (said.Stop place ∷ lines) before start draft full e =
     one_on (said.Stop place) lines before start draft full.0
     (λ mid. goes_on lines before mid draft full.1) (put_in (said.Stop place) start) refl e
+goes_on (said.Fail place ∷ lines) before start draft full e =
+    one_on (said.Fail place) lines before start draft full.0
+    (λ mid. goes_on lines before mid draft full.1) (put_in (said.Fail place) start) refl e
+goes_on (said.Refuse number ∷ lines) before start draft full e =
+    one_on (said.Refuse number) lines before start draft full.0
+    (λ mid. goes_on lines before mid draft full.1) (put_in (said.Refuse number) start) refl e
 goes_on (said.Tears fronts ∷ lines) before start draft full e =
     one_on (said.Tears fronts) lines before start draft full.0
     (λ mid. goes_on lines before mid draft full.1) (put_in (said.Tears fronts) start) refl e
@@ -146,6 +158,8 @@ read_lives (said.Life ∷ lines) draft full e =
 read_lives (said.Answer answer ∷ lines) draft full e = cc e
 read_lives (said.Act act ∷ lines) draft full e = cc e
 read_lives (said.Stop place ∷ lines) draft full e = cc e
+read_lives (said.Fail place ∷ lines) draft full e = cc e
+read_lives (said.Refuse number ∷ lines) draft full e = cc e
 read_lives (said.Tears fronts ∷ lines) draft full e = cc e
 
 -- ---- and back: lives can be read
@@ -176,6 +190,12 @@ own_put (said.Act act ∷ own) rest before start life e =
 own_put (said.Stop place ∷ own) rest before start life e =
     own_one (said.Stop place) own rest before start life
     (λ mid. own_put own rest before mid life) (put_in (said.Stop place) start) e
+own_put (said.Fail place ∷ own) rest before start life e =
+    own_one (said.Fail place) own rest before start life
+    (λ mid. own_put own rest before mid life) (put_in (said.Fail place) start) e
+own_put (said.Refuse number ∷ own) rest before start life e =
+    own_one (said.Refuse number) own rest before start life
+    (λ mid. own_put own rest before mid life) (put_in (said.Refuse number) start) e
 own_put (said.Tears fronts ∷ own) rest before start life e =
     own_one (said.Tears fronts) own rest before start life
     (λ mid. own_put own rest before mid life) (put_in (said.Tears fronts) start) e

@@ -13,7 +13,14 @@ use Rattle.wasmhost_serve.specs.rules.Scripts.{said_by}
 
 -- a life into which nothing is put
 abbrev pub empty_life : PlannedLife
-empty_life = record { answers = []; acts = []; stop = None; tears = [] }
+empty_life = record {
+  answers = [];
+  acts = [];
+  stop = None;
+  fail = None;
+  refuse = None;
+  tears = [];
+}
 
 -- no life is begun
 abbrev pub draft_start : Draft
@@ -34,24 +41,48 @@ put_in (said.Answer answer) life = Some (record {
   answers = life.answers ++ answer ∷ [];
   acts = life.acts;
   stop = life.stop;
+  fail = life.fail;
+  refuse = life.refuse;
   tears = life.tears;
 })
 put_in (said.Act act) life = Some (record {
   answers = life.answers;
   acts = life.acts ++ act ∷ [];
   stop = life.stop;
+  fail = life.fail;
+  refuse = life.refuse;
   tears = life.tears;
 })
 put_in (said.Stop place) life = if is_none life.stop then Some (record {
   answers = life.answers;
   acts = life.acts;
   stop = Some place;
+  fail = life.fail;
+  refuse = life.refuse;
+  tears = life.tears;
+}) else None
+put_in (said.Fail place) life = if is_none life.fail then Some (record {
+  answers = life.answers;
+  acts = life.acts;
+  stop = life.stop;
+  fail = Some place;
+  refuse = life.refuse;
+  tears = life.tears;
+}) else None
+put_in (said.Refuse number) life = if is_none life.refuse then Some (record {
+  answers = life.answers;
+  acts = life.acts;
+  stop = life.stop;
+  fail = life.fail;
+  refuse = Some number;
   tears = life.tears;
 }) else None
 put_in (said.Tears fronts) life = if length life.tears == 0 then Some (record {
   answers = life.answers;
   acts = life.acts;
   stop = life.stop;
+  fail = life.fail;
+  refuse = life.refuse;
   tears = fronts;
 }) else None
 
@@ -71,6 +102,8 @@ put_line said.Life draft =
 put_line (said.Answer answer) draft = put_behind (said.Answer answer) draft
 put_line (said.Act act) draft = put_behind (said.Act act) draft
 put_line (said.Stop place) draft = put_behind (said.Stop place) draft
+put_line (said.Fail place) draft = put_behind (said.Fail place) draft
+put_line (said.Refuse number) draft = put_behind (said.Refuse number) draft
 put_line (said.Tears fronts) draft = put_behind (said.Tears fronts) draft
 
 -- what a line's text puts behind a draft

@@ -33,6 +33,14 @@ number_spelled digits =
     then (if nat_lt 0 (length digits) then fits_in_64 (digits_value 10 digits) else None)
     else None
 
+-- a number from 1 on
+abbrev pub from_one_on : ℕ → Option ℕ
+from_one_on n = if nat_lt 0 n then Some n else None
+
+-- the number from 1 on that digits spell
+abbrev pub count_spelled : List ℕ → Option ℕ
+count_spelled digits = option_and_then from_one_on (number_spelled digits)
+
 -- a number up to 512
 abbrev pub up_to_a_sector : ℕ → Option ℕ
 up_to_a_sector n = if nat_le n 512 then Some n else None
@@ -99,6 +107,8 @@ said_with word rest =
     then option_map (λ bytes. said.Answer (answer.Random bytes)) (hex_bytes rest)
     else if bytes_eq word (codes "tears") then option_map said.Tears (fronts_in rest)
     else if bytes_eq word (codes "stop") then option_map said.Stop (place_spelled rest)
+    else if bytes_eq word (codes "fail") then option_map said.Fail (place_spelled rest)
+    else if bytes_eq word (codes "refuse") then option_map said.Refuse (count_spelled rest)
     else option_and_then (said_with_number word) (number_spelled rest)
 
 -- what a line says, cut at its first space
@@ -132,6 +142,16 @@ abbrev pub stop_said : ScriptLine → List Place
 stop_said (said.Stop place) = place ∷ []
 stop_said _ = []
 
+-- the place of a call that fails which a line says, if it says one
+abbrev pub fail_said : ScriptLine → List Place
+fail_said (said.Fail place) = place ∷ []
+fail_said _ = []
+
+-- the number of a refused release that a line says, if it says one
+abbrev pub refusal_said : ScriptLine → List ℕ
+refusal_said (said.Refuse number) = number ∷ []
+refusal_said _ = []
+
 -- the list of fronts that a line says, if it says one
 abbrev pub tears_said : ScriptLine → List (List ℕ)
 tears_said (said.Tears fronts) = fronts ∷ []
@@ -143,12 +163,15 @@ at_most_one [] = []
 at_most_one (front ∷ fronts) = (front ∷ fronts) ∷ []
 
 -- The lines behind a `life`, up to the next one, are those of this life: its answers and acts are
--- all that they say, in order. They say one stop or none, and one list of tears or none.
+-- all that they say, in order. They say one stop or none, one call that fails or none, one refused
+-- release or none, and one list of tears or none.
 pub record SpellsLife (lines : List ScriptLine) (life : PlannedLife) : Type 0 where
   pub one_life : flat_map life_said lines ≡ []
   pub answers : life.answers ≡ flat_map answer_said lines
   pub acts : life.acts ≡ flat_map act_said lines
   pub stop : option_to_list life.stop ≡ flat_map stop_said lines
+  pub fail : option_to_list life.fail ≡ flat_map fail_said lines
+  pub refuse : option_to_list life.refuse ≡ flat_map refusal_said lines
   pub tears : at_most_one life.tears ≡ flat_map tears_said lines
 
 -- the lines fall into lives: each is `life`, and what stands behind it up to the next one

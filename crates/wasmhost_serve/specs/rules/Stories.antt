@@ -8,7 +8,14 @@ use Rattle.durable_worker.specs.declared.story.life.PlannedLife.{PlannedLife}
 use Rattle.durable_worker.specs.declared.story.report.Opening.{Opening}
 use Rattle.durable_worker.specs.declared.story.report.Opening.TheVariants.{Created, Recovered}
 use Rattle.durable_worker.specs.declared.story.report.Opening.TheVariants.{Unopened}
+use Rattle.durable_worker.specs.declared.fault.DurableFault.TheVariants as durable
+use Rattle.durable_worker.specs.declared.recover_fault.RecoverFault.{RecoverFault}
+use Rattle.durable_worker.specs.declared.recover_fault.RecoverFault.TheVariants.{Worker}
+use Rattle.durable_worker.specs.declared.story.report.LifeEnd.{LifeEnd}
+use Rattle.durable_worker.specs.declared.story.report.LifeEnd.TheVariants.{Failed}
 use Rattle.durable_worker.specs.declared.story.report.LifeReport.{LifeReport}
+use Rattle.worker.specs.declared.fault.Refusal.TheVariants as refusal
+use Rattle.worker.specs.declared.fault.WorkFault.TheVariants as work
 use Rattle.durable_worker.specs.rules.StoryDisks.{TellsLives}
 use Rattle.wasmhost_serve.specs.declared.configuring.Sizes.{Sizes}
 use Rattle.wasmhost_serve.specs.declared.preparing.Prepared.{Prepared}
@@ -48,9 +55,29 @@ abbrev pub releases_text : List NumberedLine → List ℕ
 releases_text [] = []
 releases_text (line ∷ lines) = release_text line ++ releases_text lines
 
--- how a life was opened, and its lines
+-- The code and the name of an error by which a life ends that was opened. Of a store only the number
+-- of a generation is at its end then.
+abbrev pub error_name : RecoverFault → List ℕ
+error_name (Worker (durable.Disk fault)) = codes "N1 Disk"
+error_name (Worker (durable.Work work.Source)) = codes "N2 Source"
+error_name (Worker (durable.Work work.Outlet)) = codes "N3 Outlet"
+error_name (Worker (durable.Work work.Memory)) = codes "N4 Memory"
+error_name (Worker (durable.Work work.Failed)) = codes "N5 Failed"
+error_name (Worker (durable.Work (work.Refused refusal.StepsSpent))) = codes "P3 StepsSpent"
+error_name (Worker (durable.Store fault)) = codes "S1 TooBig"
+error_name other = codes "N6 Refused"
+
+-- the line that tells by which error a life ended that was opened, if by one
+abbrev pub end_line : ℕ → Opening → LifeEnd → List ℕ
+end_line number Unopened ended = []
+end_line number opened (Failed why) =
+    named_number (codes "life ") number ++ codes " ended " ++ error_name why ++ codes "\n"
+end_line number opened ended = []
+
+-- how a life was opened, its lines, and the error by which it ended
 abbrev pub life_text : ℕ → LifeReport → List ℕ
 life_text number report = opening_line number report.opened ++ releases_text report.releases
+    ++ end_line number report.opened report.ended
 
 -- lives with the numbers from `first` on
 abbrev pub story_text : ℕ → List LifeReport → List ℕ

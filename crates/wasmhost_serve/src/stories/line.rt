@@ -15,6 +15,10 @@ pub enum ScriptLine {
     Act { act: PlannedAct },
     /// The power is cut at this call.
     Stop { place: Place },
+    /// This call of the disk fails.
+    Fail { place: Place },
+    /// The outlet refuses the release of this number, from 1 on.
+    Refuse { number: u64 },
     /// So much the cut keeps of the earlier writes, in bytes. There is at least one number.
     Tears { fronts: Row<u16> },
 }

@@ -24,6 +24,8 @@ fn empty_life(alloc: Global) -> PlannedLife
         answers: Row::new(alloc),
         acts: Row::new(alloc),
         stop: None,
+        fail: None,
+        refuse: None,
         tears: Row::new(alloc),
     }
 }
@@ -60,6 +62,26 @@ fn put_stop(life: &mut PlannedLife, place: Place) -> bool
     true
 }
 
+fn put_fail(life: &mut PlannedLife, place: Place) -> bool
+    ensures { Comes result (put_in (said.Fail place) life.old) life.new }
+{
+    if life.fail.is_some() {
+        return false;
+    }
+    life.fail = Some(place);
+    true
+}
+
+fn put_refusal(life: &mut PlannedLife, number: u64) -> bool
+    ensures { Comes result (put_in (said.Refuse number) life.old) life.new }
+{
+    if life.refuse.is_some() {
+        return false;
+    }
+    life.refuse = Some(number);
+    true
+}
+
 fn put_tears(life: &mut PlannedLife, fronts: Row<u16>) -> bool
     ensures { Comes result (put_in (said.Tears fronts) life.old) life.new }
 {
@@ -93,6 +115,8 @@ fn put_into(life: &mut PlannedLife, line: ScriptLine) -> Result<bool, AllocError
         ScriptLine::Answer { answer } => put_answer(life, answer),
         ScriptLine::Act { act } => put_act(life, act),
         ScriptLine::Stop { place } => Ok(put_stop(life, place)),
+        ScriptLine::Fail { place } => Ok(put_fail(life, place)),
+        ScriptLine::Refuse { number } => Ok(put_refusal(life, number)),
         ScriptLine::Tears { fronts } => Ok(put_tears(life, fronts)),
     }
 }

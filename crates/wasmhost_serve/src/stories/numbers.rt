@@ -3,7 +3,8 @@
 ghost use Rattle.std.specs.Prelude.{◌≡◌};
 ghost use Rattle.std.specs.List.{list_all};
 ghost use Rattle.std.specs.Char.{is_ascii_digit};
-ghost use Rattle.wasmhost_serve.specs.rules.Scripts.{number_spelled, front_spelled, place_spelled};
+ghost use Rattle.wasmhost_serve.specs.rules.Scripts.{number_spelled, count_spelled, front_spelled};
+ghost use Rattle.wasmhost_serve.specs.rules.Scripts.{place_spelled};
 
 use crate::stories::pieces::split_once;
 use sector_disk::Place;
@@ -28,6 +29,17 @@ pub(super) fn read_number(digits: &[u8]) -> Option<u64>
         Ok(text) => text.parse().ok(),
         Err(_) => None,
     }
+}
+
+/// A number from 1 on.
+pub(super) fn read_count(digits: &[u8]) -> Option<u64>
+    ensures { result ≡ count_spelled digits.now }
+{
+    let number = read_number(digits)?;
+    if number == 0 {
+        return None;
+    }
+    Some(number)
 }
 
 /// So many bytes of a write.

@@ -1,18 +1,21 @@
 //! The text of a story.
 
-ghost use Rattle.std.specs.Prelude.{◌≡◌, OnOk};
+ghost use Rattle.std.specs.Prelude.{◌≡◌, ◌++◌, OnOk, codes};
 ghost use Rattle.std.specs.Io.KnownBytes.{Appends};
 ghost use Rattle.hex.specs.Hex.{encode_lower};
 ghost use Rattle.sha2.specs.Sha256.{sha256};
 ghost use Rattle.wasmhost_serve.specs.rules.Showings.{named_number};
 ghost use Rattle.wasmhost_serve.specs.rules.Stories.{image_text, life_text, opening_line};
-ghost use Rattle.wasmhost_serve.specs.rules.Stories.{releases_text, story_text};
+ghost use Rattle.wasmhost_serve.specs.rules.Stories.{releases_text, story_text, error_name};
+ghost use Rattle.wasmhost_serve.specs.rules.Stories.{end_line};
 
 use crate::lines::spell_line;
-use durable_worker::story::{LifeReport, Opening};
+use durable_worker::story::{LifeEnd, LifeReport, Opening};
+use durable_worker::{DurableFault, RecoverFault};
 use record_replay::NumberedLine;
 use sha2::{Digest, Sha256};
 use std::io::{self, Write};
+use worker::{Refusal, WorkFault};
 
 /// Digits of a digest.
 const DIGITS: usize = 64;
@@ -83,13 +86,59 @@ fn spell_releases<W: Write>(out: &mut W, lines: &[NumberedLine]) -> io::Result<(
     Ok(())
 }
 
-/// Spells how a life was opened, and its lines.
+/// The code and the name of an error by which a life ends that was opened.
+fn error_name(why: RecoverFault) -> &'static str
+    ensures { result.now ≡ error_name why }
+{
+    let RecoverFault::Worker(fault) = why else {
+        return "N6 Refused";
+    };
+    match fault {
+        DurableFault::Disk(_) => "N1 Disk",
+        DurableFault::Work(WorkFault::Source) => "N2 Source",
+        DurableFault::Work(WorkFault::Outlet) => "N3 Outlet",
+        DurableFault::Work(WorkFault::Memory) => "N4 Memory",
+        DurableFault::Work(WorkFault::Failed) => "N5 Failed",
+        DurableFault::Work(WorkFault::Refused(Refusal::StepsSpent)) => "P3 StepsSpent",
+        DurableFault::Store(_) => "S1 TooBig",
+        _ => "N6 Refused",
+    }
+}
+
+/// Spells an error by which a life ended.
+fn spell_error<W: Write>(out: &mut W, number: u64, why: RecoverFault) -> io::Result<()>
+    ensures { OnOk result (Appends (W.contents out.old) (W.contents out.new)
+        (named_number (codes "life ") number ++ codes " ended " ++ error_name why
+        ++ codes "\n")) }
+{
+    spell_number(out, "life ", number)?;
+    out.write_all(b" ended ")?;
+    out.write_all(error_name(why).as_bytes())?;
+    out.write_all(b"\n")
+}
+
+/// Spells by which error a life ended that was opened, if by one.
+fn spell_end<W: Write>(out: &mut W, number: u64, report: &LifeReport) -> io::Result<()>
+    ensures { OnOk result (Appends (W.contents out.old) (W.contents out.new)
+        (end_line number report.now.opened report.now.ended)) }
+{
+    if let Opening::Unopened = &report.opened {
+        return Ok(());
+    }
+    match report.ended {
+        LifeEnd::Failed(why) => spell_error(out, number, why),
+        LifeEnd::Finished | LifeEnd::Stopped => Ok(()),
+    }
+}
+
+/// Spells how a life was opened, its lines, and the error by which it ended.
 fn spell_life<W: Write>(out: &mut W, number: u64, report: &LifeReport) -> io::Result<()>
     ensures { OnOk result (Appends (W.contents out.old) (W.contents out.new)
         (life_text number report.now)) }
 {
     spell_opening(out, number, &report.opened)?;
-    spell_releases(out, report.releases.lines())
+    spell_releases(out, report.releases.lines())?;
+    spell_end(out, number, report)
 }
 
 /// Spells lives, with their numbers from 1 on.

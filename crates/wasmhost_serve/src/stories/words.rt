@@ -6,7 +6,7 @@ ghost use Rattle.wasmhost_serve.specs.rules.Scripts.{said_with_number, hex_bytes
 ghost use Rattle.wasmhost_serve.specs.rules.Scripts.{number_spelled};
 
 use crate::stories::line::ScriptLine;
-use crate::stories::numbers::{read_front, read_number, read_place};
+use crate::stories::numbers::{read_count, read_front, read_number, read_place};
 use crate::stories::pieces::split_once;
 use durable_worker::story::PlannedAct;
 use hex::FromHexError;
@@ -116,6 +116,12 @@ fn read_with(alloc: Global, word: &[u8], rest: &[u8]) -> Result<Option<ScriptLin
     }
     if word == b"stop".as_slice() {
         return Ok(read_place(rest).map(|place| ScriptLine::Stop { place }));
+    }
+    if word == b"fail".as_slice() {
+        return Ok(read_place(rest).map(|place| ScriptLine::Fail { place }));
+    }
+    if word == b"refuse".as_slice() {
+        return Ok(read_count(rest).map(|number| ScriptLine::Refuse { number }));
     }
     Ok(read_numbered(word, rest))
 }

@@ -1,4 +1,5 @@
-use Rattle.std.proofs.Common.{◌∙◌}
+use Rattle.std.proofs.Common.{◌∙◌, ap}
+use Rattle.durable_worker.specs.declared.story.hearing.HeardLines.{HeardLines}
 use Rattle.durable_worker.proofs.GoingLemmas.{ended_lives_are_told}
 use Rattle.durable_worker.proofs.RunLemmas.{ended_lives_are_run}
 use Rattle.durable_worker.proofs.story.live.Goals as goal
@@ -9,7 +10,8 @@ returns-in-Ok-clause-lives c =
     c.args.disk c.new-disk.result c.live_once.new.disk c.new-outlet.result c.live_once.new.outlet
     c.live_once.new.source c.new-source.result c.as_slice-acts.result.now c.in-Ok.lived
     c.end_life.result c.new-disk.ensures.below c.new-disk.ensures.stop c.new-disk.ensures.fail
-    c.new-outlet.ensures.none
+    (ap (λ (h : HeardLines). h.lines) c.new-outlet.ensures.inside ∙ c.new.ensures.none)
+    (c.new-outlet.ensures.until_fault ∙ c.number_refused.ensures)
     (c.new-source.ensures ∙ c.into_vec.ensures ∙ c.in_ok-answers.ensures ∙ c.as_slice.ensures)
     c.as_slice-acts.ensures c.in-Ok.ensures c.end_life.ensures c.calls_make_lives.ensures.made
 
@@ -24,6 +26,7 @@ returns-in-Ok-clause-run c =
       fail = c.new-disk.ensures.fail;
       none_begun = c.new-disk.ensures.calls;
     })
-    c.new-outlet.ensures.none
+    (ap (λ (h : HeardLines). h.lines) c.new-outlet.ensures.inside ∙ c.new.ensures.none)
+    (c.new-outlet.ensures.until_fault ∙ c.number_refused.ensures)
     (c.new-source.ensures ∙ c.into_vec.ensures ∙ c.in_ok-answers.ensures ∙ c.as_slice.ensures)
     c.as_slice-acts.ensures c.in-Ok.ensures c.end_life.ensures
