@@ -4,11 +4,11 @@ use crate::guests::{ECHO, THRICE, request};
 use crate::halt::Halt;
 use crate::stories::lives::{
     AGAIN, CREATED, FIRST, IDLE, OTHER, Plan, TELLS, Tale, Told, are_told_so, is_told, life_with,
-    opened_as, report_of, report_of_two, tells_nothing,
+    opened_as, report_of, report_of_two, saving_life, tells_nothing,
 };
 use durable_worker::story::{LifeEnd, LifeReport, PlannedLife, Report};
 use durable_worker::{DurableFault, RecoverFault, WorkFault};
-use sector_disk::Place;
+use sector_disk::{DiskFault, Place};
 use std::alloc::Global;
 use wasi_abi::Answer;
 use wasm_syntax::Row;
@@ -52,7 +52,7 @@ const ONE_KEPT: [Told; 3] = [
     },
 ];
 
-static TALES: [Tale; 7] = [
+static TALES: [Tale; 8] = [
     Tale {
         name: "a line is told again",
         guest: ECHO,
@@ -72,6 +72,8 @@ static TALES: [Tale; 7] = [
                     call: LAST_OF_CREATION + 1,
                     front: 504,
                 }),
+                fail: None,
+                refuse: None,
                 tears: &[],
             },
             OTHER,
@@ -90,6 +92,8 @@ static TALES: [Tale; 7] = [
                     call: LAST_OF_CREATION + 1,
                     front: 505,
                 }),
+                fail: None,
+                refuse: None,
                 tears: &[],
             },
             OTHER,
@@ -110,6 +114,8 @@ static TALES: [Tale; 7] = [
                     call: LAST_OF_CREATION + 4,
                     front: 0,
                 }),
+                fail: None,
+                refuse: None,
                 tears: &[512, 499, 512],
             },
             IDLE,
@@ -128,6 +134,8 @@ static TALES: [Tale; 7] = [
                     call: LAST_OF_CREATION + 4,
                     front: 0,
                 }),
+                fail: None,
+                refuse: None,
                 tears: &[512, 499, 512],
             },
             IDLE,
@@ -144,6 +152,8 @@ static TALES: [Tale; 7] = [
                 requests: &[b"hello"],
                 fuel: 20,
                 stop: Some(Place { call: 1, front: 0 }),
+                fail: None,
+                refuse: None,
                 tears: &[],
             },
             FIRST,
@@ -171,10 +181,38 @@ static TALES: [Tale; 7] = [
                     call: 400,
                     front: 0,
                 }),
+                fail: None,
+                refuse: None,
                 tears: &[],
             },
         ],
         told: &[CREATED, AGAIN],
+    },
+    // The outlet refuses the first line, which the next life tells again.
+    Tale {
+        name: "a refused line is told again",
+        guest: ECHO,
+        plans: &[
+            Plan {
+                requests: &[b"hello"],
+                fuel: 20,
+                stop: None,
+                fail: None,
+                refuse: Some(1),
+                tears: &[],
+            },
+            TELLS,
+        ],
+        told: &[
+            Told {
+                opened: [1, 0, 0, 0],
+                ended: LifeEnd::Failed(RecoverFault::Worker(DurableFault::Work(
+                    WorkFault::Outlet,
+                ))),
+                line: b"hello",
+            },
+            AGAIN,
+        ],
     },
 ];
 
@@ -254,8 +292,41 @@ fn is_ended_by_a_time(alloc: Global) -> Result<bool, Halt> {
     Ok(are_told_so(&report, &MISTOLD))
 }
 
+/// The head of a checkpoint is written, and its sync fails. The next life finds it.
+static SAVED_IN_VAIN: [Told; 2] = [
+    Told {
+        opened: [1, 0, 0, 0],
+        ended: LifeEnd::Failed(RecoverFault::Worker(DurableFault::Disk(DiskFault::Io))),
+        line: b"",
+    },
+    Told {
+        opened: [3, 0, 0, 0],
+        ended: LifeEnd::Finished,
+        line: b"",
+    },
+];
+
+/// How many calls of the disk the first life takes.
+fn calls_of_first(report: &Report) -> u64 {
+    match report.lives.get(0) {
+        Some(life) => life.calls,
+        None => 0,
+    }
+}
+
+/// Whether a checkpoint whose last call fails is told so.
+fn is_saved_in_vain(alloc: Global) -> Result<bool, Halt> {
+    let whole = report_of_two(alloc, saving_life(alloc, None)?, &IDLE)?;
+    let last = Place {
+        call: calls_of_first(&whole),
+        front: 0,
+    };
+    let report = report_of_two(alloc, saving_life(alloc, Some(last))?, &IDLE)?;
+    Ok(are_told_so(&report, &SAVED_IN_VAIN))
+}
+
 /// A full journal is saved. No bytes spell no module: no life opens. A time doesn't answer a
-/// question for a line.
+/// question for a line. A failed checkpoint ends a life.
 #[test]
 fn lives_are_saved_or_fail(rt: HostRuntime) -> Result<(), Halt> {
     for (count, generation) in &FILLED {
@@ -266,5 +337,6 @@ fn lives_are_saved_or_fail(rt: HostRuntime) -> Result<(), Halt> {
     }
     assert!(rt; are_shut(rt.alloc(), &[])?, "an unaccepted module");
     assert!(rt; is_ended_by_a_time(rt.alloc())?, "a wrong answer");
+    assert!(rt; is_saved_in_vain(rt.alloc())?, "a failed checkpoint");
     Ok(())
 }

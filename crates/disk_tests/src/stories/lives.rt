@@ -8,11 +8,14 @@ use std::alloc::Global;
 use wasi_abi::{Answer, Config};
 use wasm_syntax::Row;
 
-/// A life: its requests, then so many steps, where it is stopped, and the fronts that a cut keeps.
+/// A life: its requests, then so many steps, where it is stopped, where its disk fails, the release
+/// that is refused, and the fronts that a cut keeps.
 pub(crate) struct Plan {
     pub(crate) requests: &'static [&'static [u8]],
     pub(crate) fuel: u64,
     pub(crate) stop: Option<Place>,
+    pub(crate) fail: Option<Place>,
+    pub(crate) refuse: Option<u64>,
     pub(crate) tears: &'static [u16],
 }
 
@@ -21,6 +24,8 @@ pub(crate) const FIRST: Plan = Plan {
     requests: &[b"hello"],
     fuel: 20,
     stop: None,
+    fail: None,
+    refuse: None,
     tears: &[],
 };
 
@@ -29,6 +34,8 @@ pub(crate) const OTHER: Plan = Plan {
     requests: &[b"world"],
     fuel: 20,
     stop: None,
+    fail: None,
+    refuse: None,
     tears: &[],
 };
 
@@ -37,6 +44,8 @@ pub(crate) const TELLS: Plan = Plan {
     requests: &[],
     fuel: 14,
     stop: None,
+    fail: None,
+    refuse: None,
     tears: &[],
 };
 
@@ -45,6 +54,8 @@ pub(crate) const IDLE: Plan = Plan {
     requests: &[],
     fuel: 0,
     stop: None,
+    fail: None,
+    refuse: None,
     tears: &[],
 };
 
@@ -104,8 +115,19 @@ pub(crate) fn life_with(
         answers,
         acts,
         stop: None,
+        fail: None,
+        refuse: None,
         tears: Row::new(alloc),
     })
+}
+
+/// A life that does nothing but save its worker, whose disk fails there, if it does.
+pub(crate) fn saving_life(alloc: Global, fail: Option<Place>) -> Result<PlannedLife, Halt> {
+    let mut life = life_with(alloc, Row::new(alloc), 0)?;
+    life.acts = Row::new(alloc);
+    life.acts.push(PlannedAct::Checkpoint)?;
+    life.fail = fail;
+    Ok(life)
 }
 
 fn life_of(alloc: Global, plan: &Plan) -> Result<PlannedLife, Halt> {
@@ -116,6 +138,8 @@ fn life_of(alloc: Global, plan: &Plan) -> Result<PlannedLife, Halt> {
         answers,
         acts,
         stop: plan.stop,
+        fail: plan.fail,
+        refuse: plan.refuse,
         tears,
     })
 }
