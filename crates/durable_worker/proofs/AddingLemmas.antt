@@ -15,12 +15,12 @@ both_same : (v v' : ProcessValue) (b b' : Bool) → v' ≡ v → b' ≡ b
 both_same v v' b b' e f = rw (e, f) refl
 
 -- checkpoints leave the process alone
-saved_alike : (w w' : DurableValue) → AreSavedIn w w' → without_disk w' ≡ without_disk w
-saved_alike w .w none = refl
-saved_alike w w' (one_more {second = between} earlier saved) =
-    both_same between.process w'.process between.has_failed w'.has_failed saved.process
+saved_alike : {w w' : DurableValue} → AreSavedIn w w' → without_disk w' ≡ without_disk w
+saved_alike none = refl
+saved_alike (one_more {second = between} {third = last} earlier saved) =
+    both_same between.process last.process between.has_failed last.has_failed saved.process
     saved.unfailed
-    ∙ saved_alike w between earlier
+    ∙ saved_alike earlier
 
 pub slices_on_disk_add : {S O : Type 0} (gives : Giving S) (takes : Taking O)
     → SlicesOnDiskAdd gives takes
@@ -28,4 +28,4 @@ slices_on_disk_add {S} {O} gives takes first second third last f g why s t u o p
     slices_add gives takes (without_disk first) (without_disk second) (without_disk last) f g why s
     t u o p q one
     (subst (λ (w : WorkerValue). Slices gives takes w g why (without_disk last) t u p q)
-    (saved_alike second third saved) two)
+    (saved_alike saved) two)

@@ -134,8 +134,8 @@ pub no_life_so_far : (bytes : List ℕ) (config : Settings) (reports : List Life
     → (length bytes < 2 ^ 32
     → IsEmptyDisk (total_sectors (geometry_of config (length bytes))) disk)
     → GoneOn bytes config [] reports disk
-no_life_so_far bytes config reports disk none made =
-    subst (λ (r : List LifeReport). GoneOn bytes config [] r disk) (sym none)
+no_life_so_far bytes config reports disk none_told made =
+    subst (λ (r : List LifeReport). GoneOn bytes config [] r disk) (sym none_told)
     (none_has_gone bytes config disk made)
 
 -- ---- one life more

@@ -65,8 +65,8 @@ next_after w found disk heard heard' image m config kept n (inr by) shows stands
 generation_so : (found : FaultDisk MemDisk) (heard : RefusingOutlet HeardLines) (told : Opening)
     → IsOfRecovery story_medium hears found heard told
     → IsNextGeneration (memory_medium found.inner) told
-generation_so found heard (Recovered generation steps answers lines bytes) by
-    image m config kept n shows stands fits =
+generation_so found heard (Recovered generation steps answers lines bytes) by =
+    λ image m config kept n shows stands fits.
     by.3 ∙ next_after by.0 found by.1 heard by.2 image m config kept n by.4 shows stands fits
 generation_so found heard (Created bytes) by = tt
 generation_so found heard Unopened by = tt

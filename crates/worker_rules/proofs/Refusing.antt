@@ -95,12 +95,12 @@ module _ (m : Module) (config : Settings) (so_far : Promise) (stage : Stage) whe
   within_fuel (Slice fuel) Waits held shown ends = let e = ends.1 in omega (arith, e)
   within_fuel (Slice fuel) (Over why) held shown ends = ends.1
   within_fuel (Slice fuel) Done held shown ends = absurd ends
-  within_fuel (Slice fuel) (Fails other) held shown ends = ends.1.0
+  within_fuel (Slice fuel) (Fails other) held shown ends = ends.1
   within_fuel Checkpoint Spent held shown ends = absurd ends
   within_fuel Checkpoint Waits held shown ends = absurd ends
   within_fuel Checkpoint (Over why) held shown ends = absurd ends
   within_fuel Checkpoint Done held shown ends = let e = ends.1 in omega (arith, e)
-  within_fuel Checkpoint (Fails other) held shown ends = ends.1.0
+  within_fuel Checkpoint (Fails other) held shown ends = ends.1
 
   among : (act : Act) (cause : Cause) (held : ℕ) (shown : Saved)
       → IsReply so_far stage held shown act (Fails cause) → IsAmong stage.line shown.lines

@@ -12,7 +12,8 @@ use Rattle.worker_rules.specs.Courses.{Stage, Phase, Shut, Unheard, Open, NoneTh
 use Rattle.worker_rules.specs.Courses.{phase_told, phase_ended, next_stage, stage_after}
 use Rattle.worker_rules.specs.Courses.{first_taken, without_first, IsToldIn, IsAskedIn}
 use Rattle.worker_rules.specs.Courses.{MayFail, HasFailed, HasStopped, MayEnd, at_first}
-use Rattle.worker_rules.specs.Promises.{Promise, after, promised, AreKept, IsKept, IsReply, IsLived}
+use Rattle.worker_rules.specs.Promises.{Promise, as_begun, after, promised, AreKept, IsKept}
+use Rattle.worker_rules.specs.Promises.{IsReply, IsLived}
 use Rattle.durable_worker.specs.laws.OneLife.{released_in, taken_in}
 use Rattle.durable_worker.specs.laws.Uncut.{AreTrue}
 
@@ -198,10 +199,11 @@ module _ (m : Module) (config : Settings) where
       → length inputs.takes ≤ length (told_in life.events) → IsLived m config so_far inputs life
       → AreTrue inputs.takes ⊎ (life.ends ≡ Failed OfOutlet)
   all_heard so_far inputs life none few lived =
-      ⊎_elim (λ heard. inl (takes_all life.events so_far (at_first inputs) lived.kept heard few))
-      (λ deaf. inr (deaf_end inputs (promised so_far life.events).events life.calls
+      let first : Promise = as_begun life.begins so_far in
+      ⊎_elim (λ heard. inl (takes_all life.events first (at_first inputs) lived.kept heard few))
+      (λ deaf. inr (deaf_end inputs (promised first life.events).events life.calls
       (stage_after (at_first inputs) life.events) life.ends none deaf lived.ends))
-      (heard_or_deaf life.events so_far (at_first inputs) lived.kept)
+      (heard_or_deaf life.events first (at_first inputs) lived.kept)
 
 -- as many were taken or refused as were released
 pub as_many : (exchanges : List Exchange)

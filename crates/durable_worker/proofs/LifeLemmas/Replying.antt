@@ -15,7 +15,7 @@ use Rattle.worker_rules.specs.Lives.{Act, Slice, Checkpoint, Reply, Spent, Event
 use Rattle.worker_rules.specs.Lives.{Opened, Ended, told_in, Inputs}
 use Rattle.worker_rules.specs.Courses.{Stage, at_first, phase_ended, stage_after}
 use Rattle.worker_rules.specs.Courses.{without_first}
-use Rattle.worker_rules.specs.Promises.{Promise, after, promised, IsKept, AreKept}
+use Rattle.worker_rules.specs.Promises.{Promise, as_begun, after, promised, IsKept, AreKept}
 use Rattle.worker_rules.specs.Exchanges as exchanged
 use Rattle.worker_rules.specs.Exchanges.{AreEvents}
 use Rattle.worker_rules.proofs.Promised.{calls_join}
@@ -322,18 +322,19 @@ module _ {D S O : Type 0} (medium : D → Medium) (gives : Giving S) (takes : Ta
       let heard = parts_are_foretold m config so_far so_far stage stage (map Tells o.0) c.0
       (anything_comes_true all) in
       let op = o.2 inputs sectors room heard.1 in
-      let more = c.2 m config op.guest (promised so_far op.events) (stage_after stage op.events)
+      let first : Promise = as_begun begins so_far in
+      let more = c.2 m config op.guest (promised first op.events) (stage_after stage op.events)
       op.process op.opened op.acts (op.foretold c.0 (anything_comes_true all)) in
       record {
         exchanges = all;
         exchanged = exchanges_join gives takes source source' source outlet outlet' inside
             (map Tells o.0) c.0 (told_alone gives takes source outlet inside o.0 o.1) c.1;
         events = op.events ++ more.events;
-        kept = (calls_join m config so_far stage op.events more.events op.kept more.kept).0;
+        kept = (calls_join m config first stage op.events more.events op.kept more.kept).0;
         told = told_join op.events more.events ∙ ap (λ l. l ++ told_in more.events) op.told
             ∙ ap (λ l. released_in (map Tells o.0) ++ l) more.told
             ∙ sym (released_join (map Tells o.0) c.0);
-        answered = answered_so m config so_far inputs op.events more.events
+        answered = answered_so m config first inputs op.events more.events
             (outcome_after now.Spent calls) more.kept (more.says now.Spent);
       }
   lives_end_as_said m config bytes so_far acts found last source source' outlet outlet' begins

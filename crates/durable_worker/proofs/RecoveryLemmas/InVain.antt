@@ -161,6 +161,7 @@ adds_up_to promise promise' line most le adds = record {
   steps = adds.steps;
   passed = adds.passed;
   synced = adds.synced;
+  created = adds.created;
   opened = adds.opened;
   begun = more promise'.begun line most promise.begun adds.begun le;
   heard = adds.heard;

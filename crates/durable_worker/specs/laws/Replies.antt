@@ -12,7 +12,7 @@ use Rattle.record_replay.specs.rules.Calls.{Giving, Taking, Exchange, Exchanges}
 use Rattle.worker_rules.specs.Lives.{Act, Slice, Checkpoint, Reply, Spent, Waits, Over, Event, Told}
 use Rattle.worker_rules.specs.Lives.{Asked, Opened, Ended, told_in, Beginning, Inputs}
 use Rattle.worker_rules.specs.Courses.{at_first, stage_after}
-use Rattle.worker_rules.specs.Promises.{Promise, promised, AreKept, IsEnding}
+use Rattle.worker_rules.specs.Promises.{Promise, as_begun, promised, AreKept, IsEnding}
 use Rattle.worker_rules.specs.Holds.{KeepsPromise, KeepsBounds}
 use Rattle.worker.specs.declared.now.Now.{Now}
 use Rattle.worker.specs.declared.now.Now.TheVariants as now
@@ -78,4 +78,5 @@ LivesEndAsSaid {D} {S} {O} medium gives takes =
     → total_sectors (geometry_of config (length bytes)) ≤ (medium found).sectors
     → total_sectors (geometry_of config (length bytes)) ≤ (medium found).room
     → KeepsPromise m config so_far (medium found) → KeepsBounds so_far.events (medium found)
-    → EndsAsSaid gives takes m config so_far acts (life_outcome one) source source' outlet outlet'
+    → EndsAsSaid gives takes m config (as_begun begins so_far) acts (life_outcome one) source source'
+    outlet outlet'

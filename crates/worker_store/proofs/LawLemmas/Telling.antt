@@ -35,6 +35,7 @@ adds_none promise line = record {
   steps = refl;
   passed = refl;
   synced = refl;
+  created = refl;
   opened = refl;
   begun = le-max_right line promise.begun;
   heard = omega arith;
