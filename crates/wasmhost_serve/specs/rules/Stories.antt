@@ -70,9 +70,9 @@ error_name other = codes "N6 Refused"
 -- the line that tells by which error a life ended that was opened, if by one
 abbrev pub end_line : ℕ → Opening → LifeEnd → List ℕ
 end_line number Unopened ended = []
-end_line number opened (Failed why) =
+end_line number how (Failed why) =
     named_number (codes "life ") number ++ codes " ended " ++ error_name why ++ codes "\n"
-end_line number opened ended = []
+end_line number how ended = []
 
 -- how a life was opened, its lines, and the error by which it ended
 abbrev pub life_text : ℕ → LifeReport → List ℕ
