@@ -176,7 +176,7 @@ one_machine v w program d guest h k =
     let globals : v.state.globals ≡ w.state.globals = h.shows.globals ∙ sym k.shows.globals in
     let memory : v.state.memory ≡ w.state.memory = h.shows.memory ∙ sym k.shows.memory in
     let later : v.state.later ≡ w.state.later = h.shows.later ∙ sym k.shows.later in
-    let limit : v.limit ≡ w.limit = h.holds ∙ pages ∙ sym k.holds in
+    let limit : v.limit ≡ w.limit = h.holds.limit ∙ pages ∙ sym k.holds.limit in
     let whole : machine_with v.guest v.most_pages v.table v.state.frames v.state.globals
     v.state.memory v.state.later v.limit
     ≡ machine_with w.guest w.most_pages w.table w.state.frames w.state.globals w.state.memory

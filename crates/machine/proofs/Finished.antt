@@ -1,5 +1,5 @@
 -- What the host's answer makes of a machine.
-use Rattle.std.proofs.Common.{◌≡◌, ℕ, List, sym, ◌∙◌, subst}
+use Rattle.std.proofs.Common.{◌≡◌, ℕ, List, subst}
 use Rattle.std.specs.List.{AllByRecursion}
 use Rattle.wasm_syntax.specs.declared.types.FunctionType.{FunctionType}
 use Rattle.wasm_syntax.specs.declared.value.Value.{Value}
@@ -13,9 +13,10 @@ use Rattle.machine.specs.declared.turns.pause.Paused.{Paused}
 use Rattle.machine.specs.Turns.Codes.{Stands, IsStanding}
 use Rattle.machine.specs.Turns.Pauses.{Pauses}
 use Rattle.machine.specs.rules.Answers.{IsWaiting, IsAnswered}
+use Rattle.machine.specs.rules.Values.{HoldsMemory}
 use Rattle.machine.specs.rules.Runs.{WaitsFor, Answers}
-use Rattle.machine.specs.Insides.{seen, IsMemoryFor, IsSettledIn, IsMachine, with_memory_of}
-use Rattle.machine.proofs.Inside.{settled_with, shown, stood_for}
+use Rattle.machine.specs.Insides.{seen, IsSettledIn, IsMachine, with_memory_of}
+use Rattle.machine.proofs.Inside.{memory_in, holds_settled, settled_with, shown, stood_for}
 use Rattle.machine.proofs.OneProgram.{one_program, one_list}
 use Rattle.machine.proofs.AtOnce.{SettlesIn, at_once}
 
@@ -74,6 +75,8 @@ module _ (code : Executable) (old : State) (most : ℕ) (results : List Value)
           functions = machine.functions;
           program = machine.program;
           is = machine.is;
+          own = machine.own;
+          fits = machine.fits;
           settled = λ memory functions program is_memory is.
               let programs : waits.program ≡ program =
               one_program code.«module» most waits.shows.functions functions waits.program program
@@ -82,16 +85,17 @@ module _ (code : Executable) (old : State) (most : ℕ) (results : List Value)
               one_list code.«module» most waits.shows.functions functions waits.program program
               waits.shows.is is in
               let here = settled_with code new waits.shows.functions waits.program
-              after.configuration
-              after.stands memory after.settled (subst (λ z. IsMemoryFor z memory)
-              (sym waits.shows.is.most) is_memory) in
+              after.configuration after.stands memory after.settled
+              (memory_in code.«module» most waits.shows.functions waits.program waits.shows.is
+              memory is_memory) in
               subst (λ z. IsSettledIn code (with_memory_of new memory) functions z) programs
               (subst (λ z. IsSettledIn code (with_memory_of new memory) z waits.program) lists
               here);
         }
 
-        pub holds_finished : new.memory.limit ≡ most
-        holds_finished = after.stands.stands.shown.limit_is ∙ waits.shows.is.most
+        pub holds_finished : HoldsMemory (seen code new most)
+        holds_finished = holds_settled code new waits.shows.functions waits.program
+            after.configuration after.stands most waits.shows.is
 
         pub answers_finished : Answers results (seen code old most) (seen code new most)
         answers_finished program d f arguments waiter kind shows asks there gives =

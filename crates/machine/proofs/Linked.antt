@@ -6,6 +6,7 @@ use Rattle.wasm_syntax_rules.specs.Validity.{AreFunctionTypes}
 use Rattle.wasm_syntax_rules.specs.Configuration.{Program, Store, Configuration}
 use Rattle.wasm_syntax_rules.specs.Instantiation.{IsProgram, calls_of, Begins}
 use Rattle.wasm_syntax_rules.specs.Steps.{Settles}
+use Rattle.wasm_syntax_rules.specs.Typed.{IsTypedMemory}
 use Rattle.wasm_syntax_rules.proofs.OneRun.{settles_once}
 use Rattle.wasm_syntax_rules.proofs.OneStore.{store_once}
 use Rattle.machine.specs.declared.turns.state.State.{State}
@@ -16,8 +17,9 @@ use Rattle.machine.specs.declared.hosting.starting.MachineStart.{MachineStart}
 use Rattle.machine.specs.Hosting.Beginnings.{first, StartStands as HasStarted}
 use Rattle.machine.specs.rules.Values.{IsProgramIn, ShowsIn}
 use Rattle.machine.specs.rules.Runs.{HasBegun}
-use Rattle.machine.specs.Insides.{seen, IsMemoryFor, IsMachine}
-use Rattle.machine.proofs.Inside.{settled_with, shown}
+use Rattle.machine.specs.Insides.{seen, IsMachine}
+use Rattle.machine.proofs.Inside.{memory_in, has_least, least_fits, settled_with, shown}
+use Rattle.machine.proofs.InstanceLemmas.Begun.{own_memories}
 use Rattle.machine.proofs.AtOnce.{SettlesIn, at_once}
 
 module _ (pages : ℕ) (m : Module) (b : MachineStart) (few : pages
@@ -58,20 +60,36 @@ module _ (pages : ℕ) (m : Module) (b : MachineStart) (few : pages
     under_pages functions program is =
         let p : IsProgram m is.pages program =
         subst (λ z. IsProgram z is.pages program) h.guest is.is_program in (
-          record { types = p.types; functions = p.functions; most_pages = is.most ∙ h.limit },
+          record {
+            types = p.types;
+            functions = p.functions;
+            least_pages = p.least_pages;
+            most_pages = is.most ∙ h.limit;
+          },
           subst (λ z. AreFunctionTypes z functions) h.guest is.types,
         )
+
+    settled_memory : IsTypedMemory h.program state.memory.bytes
+    settled_memory =
+        let after = settles h.functions h.program h.types h.is_program in
+        let stands = after.stands.stands in
+        subst (IsTypedMemory h.program) (sym stands.shown.bytes_are) stands.typed.store.memory
 
     pub linked_machine : IsMachine b.code state b.state.memory.limit
     linked_machine = record {
       functions = h.functions;
       program = h.program;
       is = program_in h.functions h.program h.types h.is_program;
+      own = rw h.guest (own_memories m h.linkable.imports);
+      fits = least_fits b.code.«module» b.state.memory.limit h.functions h.program
+          (program_in h.functions h.program h.types h.is_program) state.memory.bytes
+          settled_memory;
       settled = λ memory functions program is_memory is.
           let under = under_pages functions program is in
           let after = settles functions program under.1 under.0 in
           settled_with b.code state functions program after.configuration after.stands memory
-          after.settled (subst (λ z. IsMemoryFor z memory) (sym is.most) is_memory);
+          after.settled
+          (memory_in b.code.«module» b.state.memory.limit functions program is memory is_memory);
     }
 
     same_limit : state.memory.limit ≡ b.state.memory.limit
@@ -116,7 +134,12 @@ module _ (pages : ℕ) (m : Module) (b : MachineStart) (few : pages
     linked_begun = record {
       guest = h.guest;
       linkable = h.linkable;
-      holds = same_limit;
+      holds = record {
+        limit = same_limit;
+        least = has_least b.code.«module» b.state.memory.limit h.functions h.program
+            (program_in h.functions h.program h.types h.is_program) state.memory.bytes
+            settled_memory;
+      };
       shows = shows_begun;
       begins = some_begins;
     }

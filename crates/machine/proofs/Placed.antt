@@ -1,10 +1,14 @@
 -- Where the words of a machine's frames lie.
-use Rattle.std.proofs.Common.{ℕ, ◌≤◌, ◌^◌, min, List, [], ◌∷◌, Option, Some, None, refl, sym, ◌∙◌}
-use Rattle.std.proofs.Common.{arith}
+use Rattle.std.proofs.Common.{◌≡◌, ℕ, ◌*◌, ◌≤◌, ◌^◌, min, List, [], ◌∷◌, length, Option, Some}
+use Rattle.std.proofs.Common.{None, refl, sym, ◌∙◌, arith}
+use Rattle.std.specs.Prelude.{replicate}
 use Rattle.std.specs.Option.{option_map_or}
 use Rattle.wasm_syntax.specs.declared.types.MemoryType.{MemoryType}
 use Rattle.wasm_syntax.specs.declared.types.FunctionType.{FunctionType}
-use Rattle.guest_memory.specs.rules.Memories.{LinearMemory}
+use Rattle.std.proofs.lemmas.List.{length-replicate}
+use Rattle.guest_memory.specs.rules.Bytes.{IsByte, page_size}
+use Rattle.guest_memory.specs.rules.Memories.{zeroed}
+use Rattle.guest_memory.proofs.Lists.{all_replicate}
 use Rattle.wasm_syntax_rules.specs.Configuration.{Program}
 use Rattle.wasm_syntax_rules.specs.Instantiation.{most_pages_of}
 use Rattle.wasm_syntax_rules.specs.Validity.{module_context, memories_of}
@@ -12,7 +16,7 @@ use Rattle.machine_frame.specs.rules.Stacked.{AreStacked}
 use Rattle.machine_frame.proofs.Threads.Showing.{frames_stacked}
 use Rattle.machine.specs.declared.turns.code.Executable.{Executable}
 use Rattle.machine.specs.declared.turns.state.State.{State}
-use Rattle.machine.specs.rules.Values.{IsProgramIn}
+use Rattle.machine.specs.rules.Values.{IsProgramIn, least_of}
 use Rattle.machine.specs.Insides.{IsMemoryFor, IsSettledIn, IsMachine, with_memory_of}
 
 most_below : (memories : List MemoryType) (pages : ℕ) → pages ≤ 2 ^ 16
@@ -24,26 +28,34 @@ most_below (t ∷ memories) pages h = limited t.limits.maximum
     limited None = h
     limited (Some most) = omega arith
 
--- With no bytes in memory, it stands for some configuration of each program.
-pub settled_empty : (code : Executable) (s : State) (most : ℕ) → IsMachine code s most
+-- With its least pages in memory, it stands for some configuration of each program.
+pub settled_zeroed : (code : Executable) (s : State) (most : ℕ) → IsMachine code s most
     → (functions : List FunctionType) (program : Program)
     → IsProgramIn code.«module» most functions program
-    → IsSettledIn code (with_memory_of s (record { bytes = []; limit = most })) functions program
-settled_empty code s most machine functions program is =
+    → IsSettledIn code (with_memory_of s (zeroed (least_of code.«module») most)) functions program
+settled_zeroed code s most machine functions program is =
     let memories = memories_of code.«module» in
     let below = most_below memories is.pages is.few in
     let limit = sym is.most ∙ is.is_program.most_pages in
-    let none : LinearMemory = record { bytes = []; limit = most } in
-    let is_memory : IsMemoryFor most none = record {
+    let least = least_of code.«module» in
+    let fits = machine.fits in
+    let count : length {A = ℕ} (replicate (least * page_size) 0) ≡ least * page_size =
+    length-replicate (least * page_size) 0 in
+    let is_memory : IsMemoryFor least most (zeroed least most) = record {
       limit = refl;
-      shape = record { whole = refl; within = omega arith; limited = omega (arith, below, limit) };
-      bytes = tt;
+      least = omega (arith, count);
+      shape = record {
+        whole = omega (arith, count);
+        within = omega (arith, count, fits);
+        limited = omega (arith, below, limit);
+      };
+      bytes = all_replicate IsByte (least * page_size) 0 (omega arith);
     } in
-    machine.settled none functions program is_memory is
+    machine.settled (zeroed least most) functions program is_memory is
 
 pub stacked : (code : Executable) (s : State) (most : ℕ) → IsMachine code s most
     → AreStacked s.frames s.slots
 stacked code s most machine =
-    let some = settled_empty code s most machine machine.functions machine.program machine.is in
+    let some = settled_zeroed code s most machine machine.functions machine.program machine.is in
     frames_stacked (module_context code.«module» machine.functions) machine.program s.frames
     s.slots some.configuration.thread some.stands.stands.frames

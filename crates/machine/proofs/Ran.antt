@@ -1,5 +1,5 @@
 -- What running makes of a machine.
-use Rattle.std.proofs.Common.{◌∙◌, ◌≡◌, ℕ, List, refl, sym, subst}
+use Rattle.std.proofs.Common.{ℕ, List, refl}
 use Rattle.std.specs.List.{AllByRecursion}
 use Rattle.wasm_syntax.specs.declared.types.FunctionType.{FunctionType}
 use Rattle.guest_memory.specs.rules.Bytes.{IsByte}
@@ -15,11 +15,11 @@ use Rattle.machine.specs.declared.turns.pause.Pause.TheVariants as pause
 use Rattle.machine.specs.declared.turns.pause.Paused.{Paused}
 use Rattle.machine.specs.Turns.Codes.{Stands, IsStanding}
 use Rattle.machine.specs.Turns.Pauses.{ComesToState, RuleAsksFor as CodeAsksFor, PausesFor, Pauses}
-use Rattle.machine.specs.rules.Values.{IsProgramIn}
+use Rattle.machine.specs.rules.Values.{IsProgramIn, HoldsMemory, least_of}
 use Rattle.machine.specs.rules.Runs.{Arrives, AsksFor, RunsFor, RunsOnFuel}
 use Rattle.machine.specs.Insides.{seen, IsMemoryFor, IsSettledIn, IsMachine}
 use Rattle.machine.proofs.Settled.{ended_settled, asking_settled, trapping_settled}
-use Rattle.machine.proofs.Inside.{settled_with, shown, stood_for}
+use Rattle.machine.proofs.Inside.{memory_in, holds_settled, settled_with, shown, stood_for}
 
 -- what the code's rule asks for, the machine's does
 pub asks_for : (code : Executable) (s : State) (functions : List FunctionType) (program : Program)
@@ -105,10 +105,15 @@ module _ (code : Executable) (new : State) (most : ℕ) (functions : List Functi
 -- ---- the whole
 
 module _ (code : Executable) (old new : State) (most : ℕ) (machine : IsMachine code old most)
-    (holds : old.memory.limit ≡ most) (shape : IsWithinLimit old.memory)
+    (holds : HoldsMemory (seen code old most)) (shape : IsWithinLimit old.memory)
     (bytes : AllByRecursion IsByte old.memory.bytes) where
-  old_memory : IsMemoryFor most old.memory
-  old_memory = record { limit = holds; shape = shape; bytes = bytes }
+  old_memory : IsMemoryFor (least_of code.«module») most old.memory
+  old_memory = record {
+    limit = holds.limit;
+    least = holds.least;
+    shape = shape;
+    bytes = bytes;
+  }
 
   settled_old : (functions : List FunctionType) (program : Program)
       → IsProgramIn code.«module» most functions program → IsSettledIn code old functions program
@@ -130,22 +135,25 @@ module _ (code : Executable) (old new : State) (most : ℕ) (machine : IsMachine
     functions = machine.functions;
     program = machine.program;
     is = machine.is;
+    own = machine.own;
+    fits = machine.fits;
     settled = λ memory functions program h is.
         let some = settled_old functions program is in
         let after = pause_settles code new most functions program some.configuration fuel
         paused.left paused.why (pauses functions program some.configuration some.stands) in
         settled_with code new functions program after.configuration after.stands memory
-        after.settled (subst (λ z. IsMemoryFor z memory) (sym is.most) h);
+        after.settled (memory_in code.«module» most functions program is memory h);
   }
 
   pub holds_again : (fuel : ℕ) (paused : Paused) → Pauses code old fuel paused new
-      → new.memory.limit ≡ most
+      → HoldsMemory (seen code new most)
   holds_again fuel paused pauses =
       let some = settled_old machine.functions machine.program machine.is in
       let after = pause_settles code new most machine.functions machine.program some.configuration
       fuel paused.left paused.why
       (pauses machine.functions machine.program some.configuration some.stands) in
-      after.stands.stands.shown.limit_is ∙ machine.is.most
+      holds_settled code new machine.functions machine.program after.configuration after.stands
+      most machine.is
 
   pub runs : (fuel : ℕ) (paused : Paused) → Pauses code old fuel paused new
       → RunsOnFuel (seen code old most) fuel paused (seen code new most)

@@ -1,7 +1,9 @@
 -- What a machine is without its thread.
-use Rattle.std.proofs.Common.{◌≡◌, ℕ, List, [], refl, sym, ap, ◌∙◌, subst, arith}
+use Rattle.std.proofs.Common.{◌≡◌, ℕ, ◌*◌, ◌≤◌, List, [], length, refl, sym, ap, ◌∙◌}
+use Rattle.std.proofs.Common.{subst, arith}
 use Rattle.std.specs.Prelude.{reverse}
 use Rattle.wasm_syntax.specs.declared.types.FunctionType.{FunctionType}
+use Rattle.guest_memory.specs.rules.Bytes.{page_size}
 use Rattle.guest_memory.specs.rules.Memories.{LinearMemory}
 use Rattle.wasm_syntax_rules.specs.Validity.{module_context}
 use Rattle.wasm_syntax_rules.specs.Configuration.{Program}
@@ -12,14 +14,15 @@ use Rattle.machine.specs.declared.turns.code.Executable.{Executable}
 use Rattle.machine.specs.declared.turns.state.State.{State}
 use Rattle.machine.specs.Turns.Turns.{IsCleared}
 use Rattle.machine.proofs.TurnLemmas.Advancing.{cleared_stands}
-use Rattle.machine.specs.rules.Values.{IsProgramIn}
+use Rattle.machine.specs.rules.Values.{IsProgramIn, HoldsMemory, least_of}
 use Rattle.machine.specs.rules.Runs.{Stops}
 use Rattle.machine.specs.Insides.{seen, IsMemoryFor, IsSettledIn, IsMachine, with_memory_of}
 
 module _ (code : Executable) (old new : State) (most : ℕ) (cleared : IsCleared old new) where
   settled_with : IsMachine code old most
       → (memory : LinearMemory) (functions : List FunctionType) (program : Program)
-      → IsMemoryFor most memory → IsProgramIn code.«module» most functions program
+      → IsMemoryFor (least_of code.«module») most memory
+      → IsProgramIn code.«module» most functions program
       → IsSettledIn code (with_memory_of new memory) functions program
   settled_with machine memory functions program h is =
       let some = machine.settled memory functions program h is in
@@ -45,11 +48,20 @@ module _ (code : Executable) (old new : State) (most : ℕ) (cleared : IsCleared
     functions = machine.functions;
     program = machine.program;
     is = machine.is;
+    own = machine.own;
+    fits = machine.fits;
     settled = settled_with machine;
   }
 
   no_places : places_of new.frames new.slots ≡ []
   no_places = rw cleared.frames refl
+
+  pub still_holds : HoldsMemory (seen code old most) → HoldsMemory (seen code new most)
+  still_holds h = record {
+    limit = ap (λ (m : LinearMemory). m.limit) cleared.memory ∙ h.limit;
+    least = subst (λ (m : LinearMemory). least_of code.«module» * page_size ≤ length m.bytes)
+        (sym cleared.memory) h.least;
+  }
 
   pub machine_stops : Stops (seen code old most) (seen code new most)
   machine_stops program d h =
@@ -57,7 +69,7 @@ module _ (code : Executable) (old new : State) (most : ℕ) (cleared : IsCleared
       record {
         functions = h.functions;
         is = h.is;
-        holds = ap (λ (m : LinearMemory). m.limit) cleared.memory ∙ h.holds;
+        holds = still_holds h.holds;
         shows = record {
           typed = record { store = s.typed.store; thread = tt; later = tt };
           settled = refl;

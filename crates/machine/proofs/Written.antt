@@ -1,5 +1,5 @@
 -- A machine shows the bytes that are written, and waits as before.
-use Rattle.std.proofs.Common.{◌≡◌, ℕ, List, length, refl, ap, ◌∙◌}
+use Rattle.std.proofs.Common.{◌≡◌, ℕ, List, length, refl, ap, ◌∙◌, arith}
 use Rattle.std.specs.List.{AllByRecursion}
 use Rattle.guest_memory.specs.rules.Bytes.{IsByte}
 use Rattle.wasi_abi.specs.rules.Calls.{call_type_of}
@@ -14,6 +14,7 @@ as_many_bytes : (program : Program) (old new : List ℕ) → length new ≡ leng
 as_many_bytes program old new e bytes h = record {
   pages = h.pages;
   whole = e ∙ h.whole;
+  least = h.least;
   within = h.within;
   bytes = bytes;
 }
@@ -24,7 +25,10 @@ shows_what_is_written v memory program d count bytes limit h =
     record {
       functions = h.functions;
       is = h.is;
-      holds = limit ∙ h.holds;
+      holds = record {
+        limit = limit ∙ h.holds.limit;
+        least = (let least = h.holds.least in omega (arith, count, least));
+      };
       shows = record {
         typed = record {
           store = record {

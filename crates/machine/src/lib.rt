@@ -5,7 +5,6 @@
 //!
 //! - `link`: the machine shows where the module begins (`begun`). A fault names the first thing
 //!   that isn't there (`refused`), and but for want of memory the module can't be linked (`only`).
-//!   Parameters and bodies have to be within the limits (`types`, `functions`).
 //! - `Machine::run`: on so much fuel it comes to where that many counted rules lead. It pauses
 //!   spent, at a call of the host, ended or trapped, as the rules say (`runs`).
 //! - `finish`: what the host's answer makes of the configuration that waits is then shown

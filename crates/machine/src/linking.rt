@@ -1,8 +1,6 @@
 //! From a module to a machine.
 
 ghost use Rattle.std.specs.Prelude.{◌≤◌, IfOk, IfErr};
-ghost use Rattle.std.specs.List.{AllByRecursion};
-ghost use Rattle.wasm_syntax.specs.rules.Limits.{HasFewParameters, IsSmallFunction};
 ghost use Rattle.wasm_syntax_rules.specs.Linking.{IsLinkable};
 ghost use Rattle.machine.specs.rules.Offers.{offer};
 ghost use Rattle.machine.specs.rules.Refusals.{IsRefused, LinkDenies};
@@ -20,8 +18,6 @@ use wasm_validate::ValidModule;
 /// running needs, and begins. The fault is the first in the order of `LinkFault`.
 pub fn link(alloc: Global, module: ValidModule, pages: u32) -> Result<Machine, LinkFault>
     requires pages { pages ≤ MOST_PAGES }
-    requires types { AllByRecursion HasFewParameters «module».types }
-    requires functions { AllByRecursion IsSmallFunction «module».functions }
     ensures begun { IfOk result (HasBegun pages «module») }
     ensures refused { IfErr result (IsRefused pages «module») }
     ensures only { IfErr result (LinkDenies (IsLinkable offer pages «module»)) }

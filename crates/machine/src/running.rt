@@ -110,7 +110,8 @@ impl Machine {
     }
 
     /// The guest's memory, to be written. Nothing else changes. A memory with another limit of
-    /// pages may be put there, but `run`, `finish` and `waits` ask that the limit is the machine's.
+    /// pages may be put there, or one below the module's minimum. But `run`, `finish` and `waits`
+    /// ask that the limit is the machine's, and that there are as many pages.
     pub fn memory_mut(&mut self) -> &mut Memory
         ensures* writes_back { sem 𝓛 (LendsMemory self.entry result) }
         ensures memory { result.now ≡ memory_of self.old }

@@ -1,5 +1,6 @@
 pub mod Lines
 pub mod Making
+pub mod Holding
 pub mod Made
 pub mod Beyond
 pub mod Named

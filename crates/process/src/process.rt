@@ -1,8 +1,6 @@
 //! A process, and what is known of it.
 
 ghost use Rattle.std.specs.Prelude.{◌≡◌, ◌+◌, ◌<◌, ◌≤◌, ◌^◌, IfOk, IfErr, length, option_map};
-ghost use Rattle.std.specs.List.{AllByRecursion};
-ghost use Rattle.wasm_syntax.specs.rules.Limits.{HasFewParameters, IsSmallFunction};
 ghost use Rattle.wasm_syntax_rules.specs.Validity.{IsValid};
 ghost use Rattle.wasm_syntax_rules.specs.Linking.{IsLinkable};
 ghost use Rattle.machine.specs.rules.Offers.{offer};
@@ -58,8 +56,6 @@ impl Process {
     /// The process of a module that begins. All memory that its machine needs is taken here. The
     /// fault is the first in the order of `LinkFault`.
     pub fn start(alloc: Global, module: ValidModule, config: Config) -> Result<Process, LinkFault>
-        requires types { AllByRecursion HasFewParameters «module».types }
-        requires functions { AllByRecursion IsSmallFunction «module».functions }
         ensures started { IfOk result (HasStarted «module» config) }
         ensures refused { IfErr result (IsRefused config.pages «module») }
         ensures only { IfErr result (LinkDenies (IsLinkable offer config.pages «module»)) }

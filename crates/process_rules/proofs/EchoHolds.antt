@@ -36,6 +36,7 @@ guest_of config = record {
   program = record {
     types = no_type ∷ transfer_type ∷ [];
     functions = Host transfer_type ∷ Host transfer_type ∷ Own no_type [] looping ∷ [];
+    least_pages = 1;
     most_pages = config.pages;
   };
   calls = call.FdRead ∷ call.FdWrite ∷ [];
@@ -288,6 +289,7 @@ begins config = record {
     is_program = record {
       types = refl;
       functions = (refl, (refl, (refl, refl, echo_spells, tt)));
+      least_pages = refl;
       most_pages = refl;
     };
     store = (blank [] first_memory).store;

@@ -85,6 +85,7 @@ begins config = record {
     is_program = record {
       types = refl;
       functions = (refl, (refl, (refl, refl, hello_spells, tt)));
+      least_pages = refl;
       most_pages = refl;
     };
     store = record { memory = first_memory; globals = []; table = [] };
@@ -195,6 +196,7 @@ alone config body =
       program = record {
         types = no_type ∷ [];
         functions = Own no_type [] body ∷ [];
+        least_pages = 1;
         most_pages = config.pages;
       };
       calls = [];
@@ -215,7 +217,12 @@ alone_begins config opcodes body thread spells settles = record {
   exported = inl (refl, refl);
   calls = tt;
   begins = record {
-    is_program = record { types = refl; functions = (refl, refl, spells, tt); most_pages = refl };
+    is_program = record {
+      types = refl;
+      functions = (refl, refl, spells, tt);
+      least_pages = refl;
+      most_pages = refl;
+    };
     store = (blank []).store;
     is_store = record { globals = tt; table = refl; memory = nothing_filled };
     settles = settles;

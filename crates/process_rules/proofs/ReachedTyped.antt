@@ -175,6 +175,7 @@ module _ (c : Context) (guest : Guest) (typed : IsTypedProgram c guest.program)
   memory_typed k numbers given d h done now holds e = record {
     pages = now.store.memory.pages;
     whole = rows_keep_memory k numbers given d.store.memory h done e ∙ now.store.memory.whole;
+    least = now.store.memory.least;
     within = now.store.memory.within;
     bytes = rows_keep_bytes k numbers given d.store.memory h done holds.memory_bytes
         holds.of_bytes e;

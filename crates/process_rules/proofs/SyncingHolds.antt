@@ -44,6 +44,7 @@ guest_of config = record {
     types = no_type ∷ transfer_type ∷ sync_type ∷ [];
     functions = Host transfer_type ∷ Host sync_type ∷ Host transfer_type ∷ Own no_type [] reading
         ∷ [];
+    least_pages = 1;
     most_pages = config.pages;
   };
   calls = call.FdRead ∷ call.FdSync ∷ call.FdWrite ∷ [];
@@ -126,6 +127,7 @@ begins config = record {
     is_program = record {
       types = refl;
       functions = (refl, (refl, (refl, (refl, refl, syncing_spells, tt))));
+      least_pages = refl;
       most_pages = refl;
     };
     store = record { memory = first_memory; globals = []; table = [] };

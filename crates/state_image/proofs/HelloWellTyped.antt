@@ -99,6 +99,7 @@ is_program : (config : Settings) → IsProgram hello config.pages (program_under
 is_program config = record {
   types = refl;
   functions = (refl, (refl, (refl, refl, hello_spells, tt)));
+  least_pages = refl;
   most_pages = refl;
 }
 
@@ -133,7 +134,13 @@ typed : (config : Settings) → 1 ≤ config.pages → config.pages ≤ 2 ^ 16
     → IsTyped context (program_under config) first
 typed config some few = record {
   store = record {
-    memory = record { pages = 1; whole = one_page_long; within = some; bytes = memory_bytes };
+    memory = record {
+      pages = 1;
+      whole = one_page_long;
+      least = omega arith;
+      within = some;
+      bytes = memory_bytes;
+    };
     globals = tt;
     table = tt;
   };

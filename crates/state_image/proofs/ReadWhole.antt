@@ -5,11 +5,13 @@ use Rattle.std.proofs.Common.{subst, arith}
 use Rattle.std.specs.Option.{option_map}
 use Rattle.wasm_syntax.specs.declared.module.Module.{Module}
 use Rattle.wasm_syntax_rules.specs.Validity.{IsValid, module_context}
+use Rattle.wasm_syntax_rules.specs.Typed.{IsTypedMemory}
 use Rattle.machine_slots.specs.declared.slots.TheConstants.{SLOTS}
 use Rattle.machine_slots.specs.rules.Places.{MachineState, Shows}
 use Rattle.machine.specs.rules.Loading.{ShowsSome}
 use Rattle.machine.specs.rules.Runs.{HasBegun}
-use Rattle.machine.specs.rules.Values.{MachineValue}
+use Rattle.machine.specs.rules.Values.{MachineValue, IsProgramIn}
+use Rattle.machine.proofs.Inside.{has_least}
 use Rattle.wasi_abi.specs.rules.Configs.{Settings}
 use Rattle.file_tree.specs.rules.Files.{Files}
 use Rattle.wasi_calls_rules.specs.Hosts.{Line, Descriptor, Host, IsHost}
@@ -123,19 +125,26 @@ module _ (linked : MachineValue) (config : Settings)
     shows_some : ShowsSome (with_machine s.machine)
     shows_some =
         let first = shown_first linked config begun valid w.guest w.start w.begins in
+        let machine = w.shown.machine in
+        let is : IsProgramIn linked.guest linked.most_pages w.functions w.guest.program = record {
+          pages = first.is.pages;
+          few = first.is.few;
+          is_program = first.is.is_program;
+          most = first.is.most;
+          types = w.function_types;
+        } in
         record {
           program = w.guest.program;
           configuration = w.process.configuration;
           shows = record {
             functions = w.functions;
-            is = record {
-              pages = first.is.pages;
-              few = first.is.few;
-              is_program = first.is.is_program;
-              most = first.is.most;
-              types = w.function_types;
+            is = is;
+            holds = record {
+              limit = begun.holds.limit;
+              least = has_least linked.guest linked.most_pages w.functions w.guest.program is
+                  s.machine.memory (subst (IsTypedMemory w.guest.program) (sym machine.memory)
+                  machine.typed.store.memory);
             };
-            holds = begun.holds;
             shows = subst (λ (table : List (Option ℕ)). Shows
                 (module_context linked.guest w.functions) w.guest.program table s.machine
                 w.process.configuration)

@@ -6,6 +6,9 @@ use Rattle.std.specs.Prelude.{slice_get, find, IfSome}
 use Rattle.std.specs.List.{AllByRecursion}
 use Rattle.std.proofs.lemmas.List.Sums.{sum_by-cons}
 use Rattle.wasm_syntax.specs.declared.module.Module.{Module}
+use Rattle.wasm_syntax.specs.laws.Examples.{hello}
+use Rattle.wasm_syntax_rules.specs.Validity.{memories_of}
+use Rattle.wasm_syntax_rules.specs.Instantiation.{least_pages_of}
 use Rattle.wasi_abi.specs.rules.Answers.{IsNoNewline, AreBytes}
 use Rattle.wasi_abi.specs.rules.Configs.{Settings}
 use Rattle.file_tree.specs.rules.Files.{Name, Path, Directory, File, FileNode, Files}
@@ -129,8 +132,20 @@ machines_refused config = record {
   many_globals = λ m s w e. (let globals : length s.machine.globals ≤ 1024 = w.bounds.globals in
       absurd (omega (arith, globals, e)));
   part_of_page = λ m s w e. part m s w e;
+  few_pages = few;
+  no_page = λ s w e. few hello s w (let none = ap length e in omega (arith, none));
   many_pages = λ m s w e. absurd (omega (arith, memory_long m config s w, e));
 } where
+  few : (m : Module) (s : Saved) → IsWellTyped m config s
+      → length s.machine.memory < least_pages_of (memories_of m) * 65536 → ⊥
+  few m s w e =
+      let store = w.shown.machine.typed.store.memory in
+      let whole : length w.process.configuration.store.memory ≡ store.pages * 65536 =
+      store.whole in
+      let least : least_pages_of (memories_of m) ≤ store.pages =
+      subst (λ z. z ≤ store.pages) w.begins.begins.is_program.least_pages store.least in
+      absurd (omega (arith, whole, least, ap length w.shown.machine.memory, e))
+
   part : (m : Module) (s : Saved) → IsWellTyped m config s → length s.machine.memory ≡ 65537 → ⊥
   part m s w e =
       let store = w.shown.machine.typed.store.memory in

@@ -14,8 +14,8 @@ use crate::fault::DecodeFault;
 use crate::items::{Decoder, ReadError, ReadRefusal};
 use crate::sections::split;
 use std::alloc::Global;
-use wasm_syntax::Module;
 use wasm_syntax::limits::MODULE_BYTES;
+use wasm_syntax::{LimitedModule, Module};
 
 /// The mark and the version.
 #[tactic(auto, unfolding(wasm_syntax::specs::laws::ReadingItems::fixed_at))]
@@ -55,10 +55,11 @@ fn module(alloc: Global, bytes: &[u8]) -> Result<Module, ReadError>
 
 /// The module that the bytes spell, within the limits. It takes time and memory in proportion to
 /// the bytes, whatever counts they declare. `DecodeFault` has the first fault in the order of the
-/// bytes.
-pub fn decode(alloc: Global, bytes: &[u8]) -> Result<Module, DecodeFault>
+/// bytes. Its types and bodies are within the limits by its type too.
+pub fn decode(alloc: Global, bytes: &[u8]) -> Result<LimitedModule, DecodeFault>
     ensures found { IfOk result (λ m. IsModule bytes.now m × IsWithinLimits bytes.now m) }
     ensures only { IfErr result (λ e. e ≢ Memory → HasNoModule bytes.now) }
 {
-    Ok(module(alloc, bytes)?)
+    let decoded = module(alloc, bytes)?;
+    Ok(LimitedModule::of(decoded).unwrap())
 }

@@ -8,6 +8,8 @@
 //! - `Row` is the list of its items, as `as_slice`, `len`, `is_empty` and `get` say. `new` is
 //!   empty. `from_vec` and `into_vec` take and give a vector as it is. `push` puts an item behind
 //!   the others (`pushed`), or leaves all as it was (`unchanged`).
+//! - `LimitedModule` is a module whose types and bodies are within the limits, by its type. `of` is
+//!   the test (`exact`, `same`), and `module` and `into_module` give the module back.
 //! - `Opener` is what an `end` closes.
 //! - `limits` has this project's limits on modules, as `MODULE_BYTES` and `INSTRUCTIONS`. The
 //!   definitions cite the same constants (`laws::module_limits_are`).
@@ -19,14 +21,15 @@
 //!
 //! In `specs/rules/`: `IsUnsigned`, `IsSigned`, `AreItems`, `IsVector`, types (`Items.antt`);
 //! `IsInstruction`, `IsExpression` (`Instructions.antt`); `AreSections`, `IsModule`
-//! (`Modules.antt`); `IsWithinLimits` (`Limits.antt`); `Sequence`, `Spells` (`Sequence.antt`). The
+//! (`Modules.antt`); `IsWithinLimits`, `IsLimited` (`Limits.antt`); `Sequence`, `Spells` (`Sequence.antt`). The
 //! files `Reading..` of `specs/laws/` are a second form, which reads from the front. Nobody has to
 //! believe them: that they read what the relations spell is proved.
 //!
 //! # Who may touch what
 //!
-//! Only `Row` hides something: where items lie, and how much room is reserved, are no part of its
-//! value. Most crates of this repository stand on this one, and it stands on none. `Row::push`
+//! `Row` hides where items lie and how much room is reserved: neither is part of its value. Only
+//! `LimitedModule::of` makes a `LimitedModule`. `wasm_decode` answers one, and `wasm_validate` takes
+//! one. Most crates of this repository stand on this one, and it stands on none. `Row::push`
 //! alone takes memory. Where that is refused the item is handed back.
 #![tactic(auto)]
 
@@ -37,6 +40,7 @@ mod opener;
 pub use opener::Opener;
 
 mod instruction;
+mod limited;
 mod module;
 mod operator;
 mod row;
@@ -44,6 +48,7 @@ mod types;
 mod value;
 
 pub use instruction::{Instruction, MemoryArgument};
+pub use limited::LimitedModule;
 pub use module::{
     Code, Data, Element, Export, ExportItem, Function, Global, Import, ImportItem, Module,
 };

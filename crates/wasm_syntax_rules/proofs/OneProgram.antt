@@ -47,13 +47,18 @@ callees_once m [] (f ∷ own) (Own kind declared body ∷ a) (Own kind' declared
     let others = callees_once m [] own a b h.3 k.3 in
     cc
 
-abbrev pub program_of : List FunctionType → List Callee → ℕ → Program
-program_of types functions most = record { types = types; functions = functions; most_pages = most }
+abbrev pub program_of : List FunctionType → List Callee → ℕ → ℕ → Program
+program_of types functions least most = record {
+  types = types;
+  functions = functions;
+  least_pages = least;
+  most_pages = most;
+}
 
 program_is : (p q : Program) → p.types ≡ q.types → p.functions ≡ q.functions
-    → p.most_pages ≡ q.most_pages → p ≡ q
-program_is p q a b c = let whole : program_of p.types p.functions p.most_pages
-    ≡ program_of q.types q.functions q.most_pages = rw (a, b, c) refl in whole
+    → p.least_pages ≡ q.least_pages → p.most_pages ≡ q.most_pages → p ≡ q
+program_is p q a b c d = let whole : program_of p.types p.functions p.least_pages p.most_pages
+    ≡ program_of q.types q.functions q.least_pages q.most_pages = rw (a, b, c, d) refl in whole
 
 -- its programs differ in nothing but how many pages memory may have
 pub one_program : (m : Module) (pages pages' : ℕ) (p q : Program) → IsProgram m pages p
@@ -61,4 +66,4 @@ pub one_program : (m : Module) (pages pages' : ℕ) (p q : Program) → IsProgra
 one_program m pages pages' p q a b most =
     program_is p q (a.types
     ∙ sym b.types) (callees_once m (imported_functions m.imports) m.functions p.functions
-    q.functions a.functions b.functions) most
+    q.functions a.functions b.functions) (a.least_pages ∙ sym b.least_pages) most

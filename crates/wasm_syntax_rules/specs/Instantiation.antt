@@ -34,6 +34,11 @@ AreCallees m [] (f ∷ own) (Own kind declared body ∷ callees) =
 AreCallees m [] [] [] = Unit {0}
 AreCallees m _ _ _ = ⊥
 
+-- the minimum
+abbrev pub least_pages_of : List MemoryType → ℕ
+least_pages_of [] = 0
+least_pages_of (t ∷ memories) = t.limits.minimum
+
 -- a maximum, where there is one, and the configured limit
 abbrev pub most_pages_of : List MemoryType → ℕ → ℕ
 most_pages_of [] pages = 0
@@ -42,6 +47,7 @@ most_pages_of (t ∷ memories) pages = option_map_or (λ most. min most pages) t
 pub record IsProgram (m : Module) (pages : ℕ) (program : Program) : Type 0 where
   pub types : program.types ≡ m.types
   pub functions : AreCallees m (imported_functions m.imports) m.functions program.functions
+  pub least_pages : program.least_pages ≡ least_pages_of (memories_of m)
   pub most_pages : program.most_pages ≡ most_pages_of (memories_of m) pages
 
 -- ---- the store

@@ -35,10 +35,11 @@ pub record IsTypedProgram (c : Context) (program : Program) : Type 0 where
 
 -- ---- the store
 
--- whole pages of bytes, no more than there may be
+-- whole pages of bytes, no fewer than the module's minimum and no more than there may be
 pub record IsTypedMemory (program : Program) (memory : List ℕ) : Type 0 where
   pub pages : ℕ
   pub whole : length memory ≡ pages * page_size
+  pub least : program.least_pages ≤ pages
   pub within : pages ≤ program.most_pages
   pub bytes : AllByRecursion IsByte memory
 

@@ -574,7 +574,7 @@ fn is_read_so(alloc: Global, row: &(&str, &str, Read)) -> Result<bool, Refused> 
     let bytes = spell(alloc, row.0, row.1)?;
     match decode(alloc, bytes.as_slice()) {
         Ok(module) => {
-            let is_so = has(&module, &row.2);
+            let is_so = has(module.module(), &row.2);
             drop(module);
             Ok(is_so)
         }

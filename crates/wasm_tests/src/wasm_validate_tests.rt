@@ -4,7 +4,9 @@ use crate::spelled::{Refused, spell, with_code};
 use machine_loader::{FrontFault, read};
 use std::alloc::Global;
 use wasm_decode::decode;
-use wasm_syntax::{Code, Function, Instruction, Limits, Module, Row as Items, TableType, Value};
+use wasm_syntax::{
+    Code, Function, Instruction, LimitedModule, Limits, Module, Row as Items, TableType, Value,
+};
 use wasm_validate::{ValidFault, validate};
 
 /// Some text, and the fault of the module that it belongs to.
@@ -426,7 +428,10 @@ fn add(alloc: Global, made: &mut Module, part: &Part) -> Result<(), Refused> {
 const TYPED: &[u8] = b"\0asm\x01\0\0\0\x01\x04\x01\x60\0\0";
 
 fn fault_of_module(alloc: Global, made: Module) -> Result<Option<ValidFault>, Refused> {
-    match validate(alloc, made).err() {
+    let Some(limited) = LimitedModule::of(made) else {
+        return Err(Refused::Misspelled);
+    };
+    match validate(alloc, limited).err() {
         Some(ValidFault::Memory) => Err(Refused::Memory),
         told => Ok(told),
     }
@@ -434,7 +439,7 @@ fn fault_of_module(alloc: Global, made: Module) -> Result<Option<ValidFault>, Re
 
 /// The fault of a module with this part alone. No `?` stands while the module is owned.
 fn fault_with(alloc: Global, part: &Part) -> Result<Option<ValidFault>, Refused> {
-    let mut made = decode(alloc, TYPED)?;
+    let mut made = decode(alloc, TYPED)?.into_module();
     let added = add(alloc, &mut made, part);
     let told = fault_of_module(alloc, made);
     added?;

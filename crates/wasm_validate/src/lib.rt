@@ -6,7 +6,8 @@
 //! - `validate`: the module that it answers is the one that it was given (`same`), and is valid
 //!   (`valid`). A fault other than want of memory comes only where it is not valid (`only`), and is
 //!   of a kind that is there (`fault`). So where one kind alone applies, it is told.
-//! - `ValidModule` is a valid module by its type. `module` lends it (`same`, `valid`).
+//! - `ValidModule` is a valid module by its type, whose types and bodies are within the limits.
+//!   `module` lends it (`same`, `valid`, `limited`).
 //! - inside, `check_types`: of types and imports the first fault is told (`refused`).
 //!   `check_before_data` and `check_data` judge all other parts but bodies.
 //! - `ModuleContext` looks up what typing looks up, each in constant time.

@@ -1,6 +1,7 @@
 //! Valid modules.
 
 ghost use Rattle.std.specs.Prelude.{◌≡◌, IfOk, IfErr, OnOk};
+ghost use Rattle.wasm_syntax.specs.rules.Limits.{IsLimited};
 ghost use Rattle.wasm_syntax_rules.specs.Validity.{IsValid};
 ghost use Rattle.wasm_validate.specs.rules.Answers.{Denies, Judges};
 ghost use Rattle.wasm_validate.specs.rules.Faults.{HasFault};
@@ -9,12 +10,13 @@ use crate::bodies::check_functions;
 use crate::parts::{ModuleContext, ValidFault, check_before_data, check_data, check_types};
 use std::alloc::Global;
 use std::marker::Model;
-use wasm_syntax::Module;
+use wasm_syntax::{LimitedModule, Module};
 
-/// A module that is valid, by its type. Contracts see the module.
+/// A module that is valid, and whose types and bodies are within the limits, by its type. Contracts
+/// see the module.
 #[derive(Debug, Drop)]
 pub struct ValidModule {
-    module: Module,
+    module: LimitedModule,
 }
 
 impl Model for ValidModule {
@@ -33,8 +35,9 @@ impl ValidModule {
     pub fn module(&self) -> &Module
         ensures same { result.now ≡ self.now }
         ensures valid { IsValid result.now }
+        ensures limited { IsLimited result.now }
     {
-        &self.module
+        self.module.module()
     }
 }
 
@@ -51,18 +54,18 @@ fn check(alloc: Global, module: &Module) -> Result<(), ValidFault>
     check_functions(alloc, &context, module.functions.as_slice())
 }
 
-/// Decides whether a module is valid. A fault other than `Memory` says that it is not, and is the
+/// Decides whether a module is valid, whose types and bodies are within the limits. A fault other than `Memory` says that it is not, and is the
 /// first one. Types, imports, functions' types, tables, memories, globals, exports, the start
 /// function, element segments and data segments come before bodies. Each is checked from the front.
 /// It takes time in proportion to the module, but for the names of exports, whose bytes take
 /// n log n. Each call in a body takes time in proportion to its parameters. Memory is taken in
 /// proportion to the functions, globals, exports and the longest body.
-pub fn validate(alloc: Global, module: Module) -> Result<ValidModule, ValidFault>
+pub fn validate(alloc: Global, module: LimitedModule) -> Result<ValidModule, ValidFault>
     ensures same { IfOk result (λ v. v ≡ «module») }
     ensures valid { OnOk result (IsValid «module») }
     ensures only { IfErr result (λ e. Denies e (IsValid «module»)) }
     ensures fault { IfErr result (HasFault «module») }
 {
-    check(alloc, &module)?;
+    check(alloc, module.module())?;
     Ok(ValidModule { module })
 }

@@ -62,7 +62,13 @@ module _ (config : Settings) (some : 1 ≤ config.pages) (few : config.pages ≤
   last_typed : IsTyped context (program_under config) (at_rest last_memory)
   last_typed = record {
     store = record {
-      memory = record { pages = 1; whole = last_long; within = some; bytes = last_bytes };
+      memory = record {
+        pages = 1;
+        whole = last_long;
+        least = omega arith;
+        within = some;
+        bytes = last_bytes;
+      };
       globals = tt;
       table = tt;
     };

@@ -9,7 +9,8 @@ use Rattle.wasm_syntax_rules.specs.Types.{imported_functions}
 use Rattle.wasm_syntax.specs.rules.Modules.{function_type_of}
 use Rattle.wasm_syntax_rules.specs.Validity.{AreTypesAt, IsFunctionValid, IsValid, memories_of}
 use Rattle.wasm_syntax_rules.specs.Configuration.{Callee, Host, Own, Program}
-use Rattle.wasm_syntax_rules.specs.Instantiation.{AreCallees, IsProgram, most_pages_of}
+use Rattle.wasm_syntax_rules.specs.Instantiation.{AreCallees, IsProgram, least_pages_of}
+use Rattle.wasm_syntax_rules.specs.Instantiation.{most_pages_of}
 
 -- of its own functions
 own_callees : (m : Module) (functions : List FunctionType) (own : List Function)
@@ -41,11 +42,13 @@ has_program m pages v =
       record {
         types = m.types;
         functions = callees.0;
+        least_pages = least_pages_of (memories_of m);
         most_pages = most_pages_of (memories_of m) pages;
       },
       record {
         types = refl;
         functions = callees.1;
+        least_pages = refl;
         most_pages = refl;
       },
     )

@@ -1,10 +1,10 @@
 -- The parts of a machine that fit show some configuration, and a machine is made of them.
-use Rattle.std.proofs.Common.{◌≡◌, ℕ, ◌≤◌, List, [], ◌∷◌, length, refl, sym, ap, ◌∙◌, subst}
+use Rattle.std.proofs.Common.{◌≡◌, ℕ, ◌*◌, ◌≤◌, List, [], ◌∷◌, length, refl, sym, ap, ◌∙◌, subst}
 use Rattle.std.proofs.Common.{arith}
 use Rattle.std.specs.Prelude.{reverse}
 use Rattle.std.specs.List.{AllByRecursion}
 use Rattle.std.proofs.lemmas.List.{reverse-append, reverse-reverse}
-use Rattle.guest_memory.specs.rules.Bytes.{IsByte}
+use Rattle.guest_memory.specs.rules.Bytes.{IsByte, page_size}
 use Rattle.guest_memory.specs.rules.Memories.{IsWithinLimit}
 use Rattle.guest_memory.proofs.Lists.{all_both}
 use Rattle.wasm_syntax_rules.specs.Typing.{Context}
@@ -18,11 +18,11 @@ use Rattle.machine_frame.proofs.Threads.Showing.{places_count, shown_frames}
 use Rattle.machine.specs.declared.turns.code.Executable.{Executable}
 use Rattle.machine.specs.declared.turns.state.State.{State}
 use Rattle.machine.specs.Turns.Codes.{Stands, parts_of_state}
-use Rattle.machine.specs.Insides.{seen, IsMemoryFor, IsSettledIn, IsMachine, with_memory_of}
+use Rattle.machine.specs.Insides.{seen, IsSettledIn, IsMachine, with_memory_of}
 use Rattle.machine.specs.Insides.{IsLoading}
 use Rattle.machine.specs.rules.Loading.{ShowsSome}
 use Rattle.machine.specs.Loading.Checks.{FitsAround}
-use Rattle.machine.proofs.Inside.{typed_memory, settled_with}
+use Rattle.machine.proofs.Inside.{typed_memory, memory_in, least_fits, settled_with}
 use Rattle.machine.proofs.OneProgram.{one_program, one_list}
 use Rattle.machine.proofs.LoadingLemmas.Bodies.{typed_code}
 
@@ -51,11 +51,17 @@ module _ (c : Context) (program : Program) (s : State) where
       none n (x ∷ xs) k = absurd (omega (arith, k))
 
   pub fits_program : IsWithinLimit s.memory → AllByRecursion IsByte s.memory.bytes
-      → s.memory.limit ≡ program.most_pages → length s.frames ≤ 512 → FitsAround c program s
+      → s.memory.limit ≡ program.most_pages
+      → program.least_pages * page_size ≤ length s.memory.bytes → length s.frames ≤ 512 → FitsAround c program s
       → FitFrames c program (places_of s.frames s.slots)
       → FitsProgram c program (machine_state_of (parts_of_state s))
-  fits_program shape bytes limit few around frames = record {
-    memory = typed_memory program s.memory (record { limit = limit; shape = shape; bytes = bytes });
+  fits_program shape bytes limit least few around frames = record {
+    memory = typed_memory program s.memory (record {
+      limit = limit;
+      least = least;
+      shape = shape;
+      bytes = bytes;
+    });
     globals = around.globals;
     later = all_turned (IsEntry program) s.later.items around.later;
     over = λ e. ap reverse (around.over (no_frames e));
@@ -93,7 +99,7 @@ module _ (code : Executable) (s : State) (most : ℕ) (h : IsLoading code s most
         shows = record {
           functions = k.functions;
           is = k.is;
-          holds = h.limit;
+          holds = record { limit = h.limit; least = h.least };
           shows = d.1;
         };
       }
@@ -144,13 +150,16 @@ module _ (code : Executable) (s : State) (most : ℕ) (h : IsLoading code s most
         functions = v.functions;
         program = shown.program;
         is = v.is;
+        own = h.own;
+        fits = least_fits code.«module» most v.functions shown.program v.is d.store.memory
+            w.typed.store.memory;
         settled = λ memory functions program is_memory is.
             let p = one_program code.«module» most v.functions functions shown.program program
             v.is is in
             let f = one_list code.«module» most v.functions functions shown.program program
             v.is is in
             let own = settled_with code s v.functions shown.program d stands memory w.settled
-            (subst (λ z. IsMemoryFor z memory) (sym v.is.most) is_memory) in
+            (memory_in code.«module» most v.functions shown.program v.is memory is_memory) in
             subst (λ q. IsSettledIn code (with_memory_of s memory) functions q) p
             (subst (λ fs. IsSettledIn code (with_memory_of s memory) fs shown.program) f own);
       }

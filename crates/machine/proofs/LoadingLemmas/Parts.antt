@@ -1,10 +1,12 @@
 -- What is put into a state, as contracts see it.
-use Rattle.std.proofs.Common.{◌≡◌, ◌≢◌, ◌⊎◌, inl, inr, ⊎_elim, ℕ, suc, ◌-◌, List, []}
+use Rattle.std.proofs.Common.{◌≡◌, ◌≢◌, ◌⊎◌, inl, inr, ⊎_elim, ℕ, suc, ◌*◌, ◌-◌, ◌≤◌, List, []}
 use Rattle.std.proofs.Common.{◌∷◌, ◌++◌, length, take, drop, Result, Ok, Err, IfOk, IfErr, OnOk}
 use Rattle.std.proofs.Common.{OnErr, refl, sym, ap, ◌∙◌, subst, arith, length-append}
 use Rattle.std.specs.Prelude.{reverse}
 use Rattle.std.specs.List.{AllByRecursion}
 use Rattle.std.proofs.lemmas.List.{reverse-append}
+use Rattle.guest_memory.specs.rules.Bytes.{page_size}
+use Rattle.guest_memory.specs.rules.Memories.{LinearMemory}
 use Rattle.wasm_syntax_rules.specs.Typed.{IsTypedEntry}
 use Rattle.machine_slots.specs.rules.Places.{ShownFrame}
 use Rattle.machine_slots.specs.declared.slots.TheConstants.{SLOTS}
@@ -17,8 +19,10 @@ use Rattle.machine.specs.declared.turns.state.State.{State}
 use Rattle.machine.specs.declared.loading.fault.LoadFault.{LoadFault}
 use Rattle.machine.specs.declared.loading.fault.LoadFault.TheVariants.{Unfit}
 use Rattle.machine.specs.Insides.{seen, IsMachine, IsLoading, IsLoadedCode}
+use Rattle.machine.specs.Insides.{with_memory_of}
+use Rattle.machine.specs.rules.Values.{least_of}
 use Rattle.machine.specs.rules.Loading.{IsSlotPushed, with_frames}
-use Rattle.machine.proofs.Placed.{settled_empty}
+use Rattle.machine.proofs.Placed.{settled_zeroed}
 use Rattle.machine.proofs.LoadingLemmas.Frames.{held_count}
 
 -- ---- results
@@ -42,18 +46,21 @@ loaded_code code s most machine = record {
   program = machine.program;
   is = machine.is;
   is_code = λ functions program is.
-      (settled_empty code s most machine functions program is).stands.is_code;
+      (settled_zeroed code s most machine functions program is).stands.is_code;
   table = λ functions program is.
-      let k = (settled_empty code s most machine functions program is).stands.stands in
+      let k = (settled_zeroed code s most machine functions program is).stands.stands in
       subst (AllByRecursion (IsTypedEntry program)) k.same_table k.typed.store.table;
 }
 
 pub loading_of : (code : Executable) (old new : State) (most : ℕ) → IsMachine code old most
-    → new.frames ≡ [] → new.slots ≡ [] → new.memory.limit ≡ most → IsLoading code new most
-loading_of code old new most machine frames slots limit = record {
+    → new.frames ≡ [] → new.slots ≡ [] → new.memory.limit ≡ most
+    → least_of code.«module» * page_size ≤ length new.memory.bytes → IsLoading code new most
+loading_of code old new most machine frames slots limit least = record {
   loaded = loaded_code code old most machine;
+  own = machine.own;
   stacked = subst (λ (z : List StackFrame). AreStacked z new.slots) (sym frames) slots;
   limit = limit;
+  least = least;
 }
 
 -- ---- one more slot
@@ -114,8 +121,10 @@ module _ (code : Executable) (old new : State) (most word : ℕ)
       by_result (Ok x) pushed kept =
           subst (λ s. IsLoading code s most) (sym pushed.1) (record {
             loaded = h.loaded;
+            own = h.own;
             stacked = stacked_more word old.frames old.slots pushed.0 h.stacked;
             limit = h.limit;
+            least = h.least;
           })
       by_result (Err e) pushed kept = subst (λ s. IsLoading code s most) (sym kept) h
 
@@ -141,6 +150,33 @@ module _ (code : Executable) (old new : State) (most word : ℕ)
             (more_places word old.frames old.slots h place places e),
       )
       by_result (Err e) pushed = tt
+
+-- ---- other bytes in memory
+
+module _ (code : Executable) (s : State) (most least : ℕ) (memory : LinearMemory) (bytes : List ℕ)
+    (r : Result (Unit {0}) LoadFault) where
+  -- they are enough pages, or memory is as it was
+  pub memory_loading : IsLoading code s most → least ≡ least_of code.«module»
+      → OnOk r (memory.bytes ≡ bytes) → memory.limit ≡ s.memory.limit
+      → OnOk r (least * page_size ≤ length bytes) → OnErr r (memory ≡ s.memory)
+      → IsLoading code (with_memory_of s memory) most
+  memory_loading h is bytes_are limit enough kept = record {
+    loaded = h.loaded;
+    own = h.own;
+    stacked = h.stacked;
+    limit = limit ∙ h.limit;
+    least = by_result r bytes_are enough kept;
+  }
+    where
+      by_result : (r : Result (Unit {0}) LoadFault) → OnOk r (memory.bytes ≡ bytes)
+          → OnOk r (least * page_size ≤ length bytes) → OnErr r (memory ≡ s.memory)
+          → least_of code.«module» * page_size ≤ length memory.bytes
+      by_result (Ok x) bytes_are enough kept =
+          subst (λ n. n * page_size ≤ length memory.bytes) is
+          (subst (λ (z : List ℕ). least * page_size ≤ length z) (sym bytes_are) enough)
+      by_result (Err e) bytes_are enough kept =
+          subst (λ (m : LinearMemory). least_of code.«module» * page_size ≤ length m.bytes)
+          (sym kept) h.least
 
 pub slot_full : (s : State) (r : Result (Unit {0}) LoadFault)
     → IfErr r (λ e. (e ≡ Unfit) × ((s.frames ≡ []) ⊎ (length s.slots ≡ SLOTS)))

@@ -46,8 +46,8 @@ abbrev pub LoadDenies : MachineValue → LoadFault → Type 0
 LoadDenies v Unfit = ShowsSome v → ⊥
 LoadDenies v Memory = Unit {0}
 
--- these bytes aren't whole pages, or more of them than so many; or memory is wanted
-abbrev pub BytesDenied : List ℕ → ℕ → LoadFault → Type 0
-BytesDenied bytes most_pages Unfit =
-    (pages : ℕ) → length bytes ≡ pages * page_size → pages ≤ most_pages → ⊥
-BytesDenied bytes most_pages Memory = Unit {0}
+-- these bytes aren't whole pages, or fewer or more of them than so many; or memory is wanted
+abbrev pub BytesDenied : List ℕ → ℕ → ℕ → LoadFault → Type 0
+BytesDenied bytes least_pages most_pages Unfit =
+    (pages : ℕ) → length bytes ≡ pages * page_size → least_pages ≤ pages → pages ≤ most_pages → ⊥
+BytesDenied bytes least_pages most_pages Memory = Unit {0}

@@ -1,11 +1,12 @@
 -- What contracts see of a machine: the module that it runs, and what it shows of a configuration.
 -- Nothing of how it holds that.
-use Rattle.std.specs.Prelude.{◌≡◌, ℕ, ◌≤◌, ◌^◌, List, [], Option}
+use Rattle.std.specs.Prelude.{◌≡◌, ℕ, ◌*◌, ◌≤◌, ◌^◌, List, [], length, Option}
 use Rattle.wasm_syntax.specs.declared.types.FunctionType.{FunctionType}
 use Rattle.wasm_syntax.specs.declared.module.Module.{Module}
+use Rattle.guest_memory.specs.rules.Bytes.{page_size}
 use Rattle.guest_memory.specs.rules.Memories.{LinearMemory}
-use Rattle.wasm_syntax_rules.specs.Validity.{AreFunctionTypes, module_context}
-use Rattle.wasm_syntax_rules.specs.Instantiation.{IsProgram}
+use Rattle.wasm_syntax_rules.specs.Validity.{AreFunctionTypes, memories_of, module_context}
+use Rattle.wasm_syntax_rules.specs.Instantiation.{IsProgram, least_pages_of}
 use Rattle.wasm_syntax_rules.specs.Configuration.{Program, Configuration}
 use Rattle.machine_slots.specs.rules.Places.{MachineState, Shows}
 
@@ -33,9 +34,14 @@ with_memory v memory = record v {
 abbrev pub without_thread : MachineValue → MachineValue
 without_thread v = record v { state = record v.state { frames = []; later = [] } }
 
--- its memory may have as many pages as its program's
-abbrev pub HoldsMemory : MachineValue → Type 0
-HoldsMemory v = v.limit ≡ v.most_pages
+-- how many pages memory has at least
+abbrev pub least_of : Module → ℕ
+least_of m = least_pages_of (memories_of m)
+
+-- its memory has the module's minimum of pages at least, and may have as many as its program's
+pub record HoldsMemory (v : MachineValue) : Type 0 where
+  pub limit : v.limit ≡ v.most_pages
+  pub least : least_of v.guest * page_size ≤ length v.state.memory
 
 -- This is a program of the module, whose memory may have so many pages, and these are the types of
 -- its functions.

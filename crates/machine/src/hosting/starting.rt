@@ -1,8 +1,6 @@
 //! The beginning of a machine.
 
 ghost use Rattle.std.specs.Prelude.{◌≡◌, ◌≤◌, IfOk, IfErr};
-ghost use Rattle.std.specs.List.{AllByRecursion};
-ghost use Rattle.wasm_syntax.specs.rules.Limits.{HasFewParameters, IsSmallFunction};
 ghost use Rattle.wasm_syntax_rules.specs.Linking.{IsLinkable};
 ghost use Rattle.machine.specs.rules.Offers.{offer};
 ghost use Rattle.machine.specs.rules.Refusals.{IsRefused, LinkDenies};
@@ -27,8 +25,6 @@ pub struct MachineStart {
 
 /// Takes all memory that running needs. Fails only where memory is refused.
 fn prepare(alloc: Global, instance: Instance) -> Result<MachineStart, AllocError>
-    requires types { AllByRecursion HasFewParameters instance.«module».types }
-    requires functions { AllByRecursion IsSmallFunction instance.«module».functions }
     ensures { IfOk result (IsOfInstance instance) }
 {
     let module = instance.module.module();
@@ -60,8 +56,6 @@ fn prepare(alloc: Global, instance: Instance) -> Result<MachineStart, AllocError
 /// module and to its memory and table.
 pub fn begin(alloc: Global, module: ValidModule, pages: u32) -> Result<MachineStart, LinkFault>
     requires pages { pages ≤ MOST_PAGES }
-    requires types { AllByRecursion HasFewParameters «module».types }
-    requires functions { AllByRecursion IsSmallFunction «module».functions }
     ensures begun { IfOk result (StartStands pages «module») }
     ensures refused { IfErr result (IsRefused pages «module») }
     ensures only { IfErr result (LinkDenies (IsLinkable offer pages «module»)) }

@@ -4,7 +4,8 @@ ghost use Rattle.std.specs.Prelude.{◌≡◌, ◌*◌, ◌≤◌, ◌↔◌, If
 ghost use Rattle.std.specs.List.{AllByRecursion};
 ghost use Rattle.guest_memory.specs.rules.Bytes.{page_size};
 ghost use Rattle.wasm_syntax_rules.specs.Validity.{IsMemoryTypeValid};
-ghost use Rattle.wasm_syntax_rules.specs.Instantiation.{empty_memory, most_pages_of};
+ghost use Rattle.wasm_syntax_rules.specs.Instantiation.{empty_memory, least_pages_of};
+ghost use Rattle.wasm_syntax_rules.specs.Instantiation.{most_pages_of};
 ghost use Rattle.wasm_syntax_rules.specs.Linking.{FitsPages};
 ghost use Rattle.machine.specs.rules.Initial.{CanFillMemory, FillsMemory};
 
@@ -15,7 +16,8 @@ use wasm_syntax::{Data, Global as ModuleGlobal, MemoryType};
 
 /// How many pages the first memory begins with.
 pub fn first_pages(memories: &[MemoryType]) -> u32
-    ensures { empty_memory memories.now ≡ replicate (result * page_size) 0 }
+    ensures empty { empty_memory memories.now ≡ replicate (result * page_size) 0 }
+    ensures least { result ≡ least_pages_of memories.now }
 {
     match memories.first() {
         Some(memory) => memory.limits.minimum,

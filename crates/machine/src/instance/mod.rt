@@ -16,3 +16,4 @@ mod table;
 pub use exports::entry_of;
 pub use fault::LinkFault;
 pub use instance::Instance;
+pub use memory::first_pages;

@@ -1,7 +1,8 @@
 //! Whether the parts of a machine show some configuration.
 
-ghost use Rattle.std.specs.Prelude.{◌≡◌, ◌↔◌, List, [], IsTrue, IfOk};
+ghost use Rattle.std.specs.Prelude.{◌≡◌, ◌*◌, ◌≤◌, ◌↔◌, List, [], length, IsTrue, IfOk};
 ghost use Rattle.wasm_syntax.specs.declared.types.FunctionType.{FunctionType as Kind};
+ghost use Rattle.guest_memory.specs.rules.Bytes.{page_size};
 ghost use Rattle.wasm_syntax_rules.specs.Configuration.{Program};
 ghost use Rattle.wasm_syntax_rules.specs.Validity.{module_context};
 ghost use Rattle.machine_frame.specs.rules.Fitting.{FitsProgram};
@@ -54,6 +55,7 @@ pub fn fits(alloc: Global, code: &Executable, state: &State) -> Result<bool, All
     ensures { (functions : List Kind) (program : Program)
         → IsExecutable code.now functions program
         → state.now.memory.limit ≡ program.most_pages
+        → program.least_pages * page_size ≤ length state.now.memory.bytes
         → IfOk result (λ told. IsTrue told
         ↔ FitsProgram (module_context code.now.«module» functions) program
         (machine_state_of (parts_of_state state.now))) }

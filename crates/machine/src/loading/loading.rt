@@ -2,7 +2,7 @@
 
 ghost use Rattle.std.specs.Prelude.{◌≡◌};
 
-use crate::instance::entry_of;
+use crate::instance::{entry_of, first_pages};
 use crate::loading::fault::LoadFault;
 use crate::loading::fits::fits;
 use crate::loading::parts::{push_frame, push_slot, set_bytes};
@@ -66,7 +66,7 @@ impl Loading {
     ghost use Rattle.machine_slots.specs.declared.slots.TheConstants.{SLOTS};
     ghost use Rattle.machine_frame.specs.rules.Fitting.{slots_held};
     ghost use Rattle.machine.specs.declared.loading.fault.LoadFault.TheVariants.{Unfit};
-    ghost use Rattle.machine.specs.rules.Values.{with_memory};
+    ghost use Rattle.machine.specs.rules.Values.{least_of, with_memory};
     ghost use Rattle.machine.specs.rules.Loading.{BytesDenied, IsSlotPushed, LoadDenies, ShowsSome};
     ghost use Rattle.machine.specs.rules.Loading.{with_call, with_frame, with_global};
 
@@ -118,17 +118,19 @@ impl Loading {
         Ok(())
     }
 
-    /// Gives memory these bytes. `Unfit` where they aren't whole pages, or more than memory may
-    /// have. Takes memory only where they are fewer than it has.
+    /// Gives memory these bytes. `Unfit` where they aren't whole pages, fewer than the module's
+    /// minimum, or more than memory may have. Takes memory only where they are fewer than it has.
     pub fn set_memory(&mut self, alloc: Global, bytes: &[u8]) -> Result<(), LoadFault>
         ensures set { OnOk result (self.new ≡ with_memory self.old (record {
           bytes = bytes.now;
           limit = self.old.limit;
         })) }
-        ensures refused { IfErr result (BytesDenied bytes.now self.old.most_pages) }
+        ensures refused { IfErr result (BytesDenied bytes.now (least_of self.old.guest)
+            self.old.most_pages) }
         ensures kept { OnErr result (self.new ≡ self.old) }
     {
-        set_bytes(alloc, &mut self.state.memory, bytes)
+        let least = first_pages(self.code.module.module().memories.as_slice());
+        set_bytes(alloc, &mut self.state.memory, least, bytes)
     }
 
     /// Whether the parts show some configuration. Takes memory as a check of the module does, and

@@ -34,16 +34,25 @@ fn resize(alloc: Global, memory: &mut Memory, pages: u32) -> Result<(), MemoryFa
     }
 }
 
-/// Gives a memory these bytes, if they are whole pages within its limit.
-pub fn set_bytes(alloc: Global, memory: &mut Memory, bytes: &[u8]) -> Result<(), LoadFault>
+/// Gives a memory these bytes, if they are so many whole pages at least, and within its limit.
+pub fn set_bytes(
+    alloc: Global,
+    memory: &mut Memory,
+    least: u32,
+    bytes: &[u8],
+) -> Result<(), LoadFault>
     ensures bytes { OnOk result (memory.new.bytes ≡ bytes.now) }
     ensures limit { memory.new.limit ≡ memory.old.limit }
-    ensures refused { IfErr result (BytesDenied bytes.now memory.old.limit) }
+    ensures enough { OnOk result (least * page_size ≤ length bytes.now) }
+    ensures refused { IfErr result (BytesDenied bytes.now least memory.old.limit) }
     ensures kept { OnErr result (memory.new ≡ memory.old) }
 {
     let page = PAGE_SIZE as usize;
     let pages = bytes.len() / page;
     if bytes.len() % page != 0 || pages > memory.limit() as usize {
+        return Err(LoadFault::Unfit);
+    }
+    if pages < least as usize {
         return Err(LoadFault::Unfit);
     }
     resize(alloc, memory, pages as u32)?;

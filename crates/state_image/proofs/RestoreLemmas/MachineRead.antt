@@ -18,7 +18,7 @@ use Rattle.machine_slots.specs.rules.Places.{ShownFrame, MachineState}
 use Rattle.machine_frame.specs.rules.Fitting.{slots_held}
 use Rattle.machine.specs.declared.loading.fault.LoadFault.TheVariants as load
 use Rattle.machine.specs.rules.Loading.{emptied, with_call, ShowsSome, BytesDenied}
-use Rattle.machine.specs.rules.Values.{MachineValue, IsSameMachine}
+use Rattle.machine.specs.rules.Values.{MachineValue, IsSameMachine, least_of}
 use Rattle.machine.proofs.Alike.{machine_with}
 use Rattle.state_image.specs.declared.reading.progress.ReadPhase.{ReadPhase}
 use Rattle.state_image.specs.declared.reading.progress.ReadPhase.TheVariants as read
@@ -30,7 +30,7 @@ use Rattle.state_image.specs.rules.Reading.{HasField, LacksField}
 use Rattle.state_image.specs.rules.WellTyped.{slots_in}
 use Rattle.state_image.specs.restoring.Machines.{AreToCome, IsReadMachine, PutsField, PutsCalls}
 use Rattle.state_image.specs.restoring.Machines.{with_globals_behind, with_frames_inside}
-use Rattle.state_image.specs.restoring.Machines.{with_bytes_in, HaveStackRoom, IsMemoryUpTo}
+use Rattle.state_image.specs.restoring.Machines.{with_bytes_in, HaveStackRoom, IsMemoryWithin}
 use Rattle.state_image.proofs.Fields.{Tells, items_field}
 use Rattle.state_image.proofs.FieldsGiven.{memory_field}
 use Rattle.state_image.proofs.ImageGiven.{machine_in_order}
@@ -41,16 +41,18 @@ use Rattle.state_image.proofs.RestoreLemmas.Loaded.{held_reversed}
 -- ---- memory
 
 -- bytes that memory can't have are none of a machine's
-pub no_memory : (most : ℕ) (memory old mid : List ℕ) → HasField memory_bytes IsWhole memory old mid
-    → BytesDenied memory most load.Unfit → (x rest : List ℕ) → IsMemoryUpTo most x
-    → old ≢ memory_bytes x ++ rest
-no_memory most memory old mid has denied x rest may e =
+pub no_memory : (least most : ℕ) (memory old mid : List ℕ)
+    → HasField memory_bytes IsWhole memory old mid
+    → BytesDenied memory least most load.Unfit → (x rest : List ℕ)
+    → IsMemoryWithin least most x → old ≢ memory_bytes x ++ rest
+no_memory least most memory old mid has denied x rest may e =
     let same = is_that memory_field has x rest may.whole e in
-    denied may.whole.pages (ap length same.0 ∙ may.whole.whole) may.most
+    denied may.whole.pages (ap length same.0 ∙ may.whole.whole) may.least may.most
 
-pub no_memory_bytes : (most : ℕ) (old new : List ℕ) → LacksField memory_bytes IsWhole old new
-    → (x rest : List ℕ) → IsMemoryUpTo most x → old ≢ memory_bytes x ++ rest
-no_memory_bytes most old new lacks x rest may e = lacks.none x rest may.whole e
+pub no_memory_bytes : (least most : ℕ) (old new : List ℕ)
+    → LacksField memory_bytes IsWhole old new → (x rest : List ℕ)
+    → IsMemoryWithin least most x → old ≢ memory_bytes x ++ rest
+no_memory_bytes least most old new lacks x rest may e = lacks.none x rest may.whole e
 
 -- ---- what was put, on to what is asked
 
@@ -162,6 +164,13 @@ module _ (phase : ReadPhase) (v a : MachineValue) (bare : v ≡ emptied v)
       → b.state.frames ≡ []
   still_no_frames b old first globals =
       ap (λ (x : MachineValue). x.state.frames) globals.is ∙ no_frames_before
+
+  pub still_least : (b c : MachineValue) (old first second : List ℕ) → PutsGlobals a b old first
+      → PutsFrames b c first second → least_of c.guest ≡ least_of v.guest
+  still_least b c old first second globals frames =
+      ap (λ (x : MachineValue). least_of x.guest) frames.is
+      ∙ ap (λ (x : MachineValue). least_of x.guest) globals.is
+      ∙ ap least_of same_called.guest
 
   pub still_most : (b c : MachineValue) (old first second : List ℕ) → PutsGlobals a b old first
       → PutsFrames b c first second → c.most_pages ≡ v.most_pages
@@ -314,13 +323,13 @@ module _ (phase : ReadPhase) (v w : MachineValue) (old rest : List ℕ) (r : IsR
         },
       ) (behind_globals globals first has)
 
-  pub no_bytes : (most : ℕ) (globals first second : List ℕ) (places : List ShownFrame)
-      → most ≡ v.most_pages
+  pub no_bytes : (least most : ℕ) (globals first second : List ℕ) (places : List ShownFrame)
+      → least ≡ least_of v.guest → most ≡ v.most_pages
       → HasField (items_bytes u64_bytes) AreWords globals old first
       → HasField (items_bytes place_bytes) (AreFew ShownFrame IsPlaceIn) places first second
-      → ((x more : List ℕ) → IsMemoryUpTo most x → second ≢ memory_bytes x ++ more)
+      → ((x more : List ℕ) → IsMemoryWithin least most x → second ≢ memory_bytes x ++ more)
       → ShowsSome w → ⊥
-  no_bytes most globals first second places most_is has has_frames refuses shows =
+  no_bytes least most globals first second places least_is most_is has has_frames refuses shows =
       let behind = is_that frames_field has_frames (reverse w.state.frames)
       (memory_bytes w.state.memory ++ rest) (turned_few w.state.frames r.within.frames)
       (behind_globals globals first has) in
@@ -329,12 +338,16 @@ module _ (phase : ReadPhase) (v w : MachineValue) (old rest : List ℕ) (r : IsR
       let held : length w.state.memory ≡ typed.pages * page_size =
       ap length shows.shows.shows.memory ∙ typed.whole in
       let mine : length w.state.memory ≡ whole.pages * page_size = whole.whole in
+      let enough = typed.least in
       let within = typed.within in
+      let program_least : shows.program.least_pages ≡ least =
+      shows.shows.is.is_program.least_pages ∙ ap least_of r.same.guest ∙ sym least_is in
       let program_most = shows.shows.is.most in
       let same_most = r.same.most_pages in
       refuses w.state.memory rest
       (record {
         whole = whole;
+        least = omega (arith, held, mine, enough, program_least);
         most = omega (arith, held, mine, within, program_most, same_most, most_is);
       }) behind.1
 

@@ -2,6 +2,9 @@
 use Rattle.std.specs.Prelude.{◌≡◌, ◌≢◌, ℕ, ◌+◌, ◌*◌, ◌<◌, ◌^◌, List, [], ◌∷◌, length}
 use Rattle.std.specs.Prelude.{Some, None, slice_get}
 use Rattle.wasm_syntax.specs.declared.module.Module.{Module}
+use Rattle.wasm_syntax.specs.laws.Examples.{hello}
+use Rattle.wasm_syntax_rules.specs.Validity.{memories_of}
+use Rattle.wasm_syntax_rules.specs.Instantiation.{least_pages_of}
 use Rattle.wasi_abi.specs.rules.Configs.{Settings}
 use Rattle.file_tree.specs.rules.Files.{Content, Directory, File, FileNode}
 use Rattle.wasi_calls_rules.specs.Hosts.{Descriptor, Stream, Node}
@@ -96,6 +99,10 @@ pub record RefusesMachines (config : Settings) : Type 0 where
   pub many_globals : NoneHas config (λ s. length s.machine.globals ≡ 1025)
   -- a page and a byte
   pub part_of_page : NoneHas config (λ s. length s.machine.memory ≡ 65537)
+  -- fewer pages than the module's minimum, as none where `hello` has a minimum of one
+  pub few_pages : (m : Module) (s : Saved) → IsWellTyped m config s
+      → length s.machine.memory < least_pages_of (memories_of m) * 65536 → ⊥
+  pub no_page : (s : Saved) → IsWellTyped hello config s → s.machine.memory ≢ []
   -- more than the configured pages
   pub many_pages : NoneHas config (λ s. config.pages * 65536 < length s.machine.memory)
 

@@ -103,7 +103,8 @@ pub record HaveStackRoom (outer places : List ShownFrame) : Type 0 where
   pub few : length outer + length places ≤ FRAMES
   pub slots : slots_held outer + slots_held places ≤ SLOTS
 
--- whole pages, no more than so many
-pub record IsMemoryUpTo (most_pages : ℕ) (memory : List ℕ) : Type 0 where
+-- whole pages, no fewer and no more than so many
+pub record IsMemoryWithin (least_pages most_pages : ℕ) (memory : List ℕ) : Type 0 where
   pub whole : IsWhole memory
+  pub least : least_pages ≤ whole.pages
   pub most : whole.pages ≤ most_pages

@@ -9,7 +9,7 @@ ghost use Rattle.machine_slots.specs.declared.slots.TheConstants.{SLOTS};
 ghost use Rattle.machine_slots.specs.rules.Places.{ShownFrame};
 ghost use Rattle.machine_frame.specs.rules.Fitting.{slots_held};
 ghost use Rattle.machine.specs.rules.Loading.{emptied, ShowsSome};
-ghost use Rattle.machine.specs.rules.Values.{MachineValue, HoldsMemory};
+ghost use Rattle.machine.specs.rules.Values.{MachineValue, HoldsMemory, least_of};
 ghost use Rattle.state_image.specs.declared.restoring.fault.RestoreFault.TheVariants as fault;
 ghost use Rattle.state_image.specs.rules.Image.{items_bytes, place_bytes, memory_bytes};
 ghost use Rattle.state_image.specs.rules.LentFrames.{frame_of};
@@ -20,7 +20,7 @@ ghost use Rattle.state_image.specs.restoring.Machines.{PutsField, RefusesField, 
 ghost use Rattle.state_image.specs.restoring.Machines.{with_globals_behind, with_frame_inside};
 ghost use Rattle.state_image.specs.restoring.Machines.{with_frames_inside, with_slots_behind};
 ghost use Rattle.state_image.specs.restoring.Machines.{with_bytes_in, AreSoManyPlaces};
-ghost use Rattle.state_image.specs.restoring.Machines.{HaveStackRoom, IsMemoryUpTo};
+ghost use Rattle.state_image.specs.restoring.Machines.{HaveStackRoom, IsMemoryWithin};
 
 use crate::reading::{
     ImageReader, ReadFrame, ReadPhase, Words, read_frame, read_memory, read_words,
@@ -201,8 +201,8 @@ fn load_memory(
 ) -> Result<(), RestoreFault>
     ensures made { OnOk result (PutsField memory_bytes IsWhole with_bytes_in
         machine.old machine.new reader.old reader.new) }
-    ensures refused { RefusesField result memory_bytes (IsMemoryUpTo machine.old.most_pages)
-        reader.old }
+    ensures refused { RefusesField result memory_bytes
+        (IsMemoryWithin (least_of machine.old.guest) machine.old.most_pages) reader.old }
 {
     let Some(bytes) = read_memory(reader) else {
         return Err(RestoreFault::NotAnImage);

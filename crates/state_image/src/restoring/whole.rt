@@ -1,8 +1,6 @@
 //! The process of an image, made again.
 
 ghost use Rattle.std.specs.Prelude.{◌≡◌, ◌≢◌, ◌↔◌, ℕ, [], IsTrue, IfOk, Err};
-ghost use Rattle.std.specs.List.{AllByRecursion};
-ghost use Rattle.wasm_syntax.specs.rules.Limits.{HasFewParameters, IsSmallFunction};
 ghost use Rattle.wasm_syntax_rules.specs.Validity.{IsValid};
 ghost use Rattle.wasm_syntax_rules.specs.Linking.{HasEntry, IsLinkable};
 ghost use Rattle.machine.specs.rules.Loading.{ShowsSome};
@@ -39,8 +37,6 @@ pub fn restore(
     config: Config,
     bytes: &[u8],
 ) -> Result<Process, RestoreFault>
-    requires types { AllByRecursion HasFewParameters «module».types }
-    requires functions { AllByRecursion IsSmallFunction «module».functions }
     ensures restored { IfOk result (IsRestored «module» config bytes.now) }
     ensures refused { result ≡ Err fault.NotAnImage → IsLinkable offer config.pages «module»
         → (s : Saved) → IsWellTyped «module» config s → bytes.now ≢ image s }

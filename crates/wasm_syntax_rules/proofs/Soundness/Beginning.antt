@@ -34,7 +34,8 @@ use Rattle.wasm_syntax_rules.specs.Validity.{IsIndex, IsElementValid, IsDataVali
 use Rattle.wasm_syntax_rules.specs.Validity.{IsValid}
 use Rattle.wasm_syntax_rules.specs.Configuration.{Callee, Host, Own, Program, Store}
 use Rattle.wasm_syntax_rules.specs.Steps.{kind_of}
-use Rattle.wasm_syntax_rules.specs.Instantiation.{AreCallees, most_pages_of, IsProgram, constant_of}
+use Rattle.wasm_syntax_rules.specs.Instantiation.{AreCallees, IsProgram, constant_of}
+use Rattle.wasm_syntax_rules.specs.Instantiation.{least_pages_of, most_pages_of}
 use Rattle.wasm_syntax_rules.specs.Instantiation.{AreInitial, offset_of, with_entries, with_segment}
 use Rattle.wasm_syntax_rules.specs.Instantiation.{filled_table, filled_memory, empty_table}
 use Rattle.wasm_syntax_rules.specs.Instantiation.{empty_memory, IsInitialStore, calls_of}
@@ -202,17 +203,20 @@ and_then_some f None y e = absurd (cc)
 and_then_some f (Some x) y e = (x, refl, e)
 
 empty_typed : (program : Program) (memories : List MemoryType) (pages : ℕ)
+    → program.least_pages ≡ least_pages_of memories
     → program.most_pages ≡ most_pages_of memories pages → AllByRecursion IsMemoryTypeValid memories
     → FitsPages memories pages → IsTypedMemory program (empty_memory memories)
-empty_typed program [] pages e v f = record {
+empty_typed program [] pages l e v f = record {
   pages = 0;
   whole = refl;
+  least = omega (arith, l);
   within = omega arith;
   bytes = tt;
 }
-empty_typed program (t ∷ memories) pages e v f = record {
+empty_typed program (t ∷ memories) pages l e v f = record {
   pages = t.limits.minimum;
   whole = length-replicate (t.limits.minimum * page_size) 0;
+  least = omega (arith, l);
   within = rw e (limited t.limits.maximum v.0.1);
   bytes = all_replicate IsByte (t.limits.minimum * page_size) 0 (omega arith);
 }
@@ -365,7 +369,8 @@ store_typed offer pages m program v link b store s =
     record {
       memory = memory_filled m program store.globals m.data_segments
           (empty_memory (memories_of m)) store.memory v.data_segments
-          (empty_typed program (memories_of m) pages b.most_pages v.memories link.fits) s.memory;
+          (empty_typed program (memories_of m) pages b.least_pages b.most_pages v.memories
+          link.fits) s.memory;
       globals = (rw alone (globals_typed m m.globals store.globals alone v.globals s.globals));
       table = table_filled m program v.functions store.globals m.elements
           (empty_table (tables_of m)) store.table count v.elements

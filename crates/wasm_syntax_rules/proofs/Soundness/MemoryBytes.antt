@@ -16,6 +16,7 @@ pub memory_with_part : (program : Program) (memory : List ℕ) (from : ℕ) (byt
 memory_with_part program memory from bytes h k inside = record {
   pages = h.pages;
   whole = length-with_part memory from bytes inside ∙ h.whole;
+  least = h.least;
   within = h.within;
   bytes = all_both IsByte _ _ (all_take IsByte from memory h.bytes)
       (all_both IsByte _ _ k (all_drop IsByte (from + length bytes) memory h.bytes));
@@ -28,6 +29,7 @@ pub memory_grown : (program : Program) (memory : List ℕ) (n pages : ℕ)
 memory_grown program memory n pages h e within = record {
   pages = pages + n;
   whole = simp (length-append, length-replicate) (omega (arith, e));
+  least = (let least = h.least in let whole = h.whole in omega (arith, e));
   within = within;
   bytes = all_both IsByte _ _ h.bytes (all_replicate IsByte (n * page_size) 0 (omega arith));
 }

@@ -87,6 +87,7 @@ abbrev pub program_of_hello : Program
 program_of_hello = record {
   types = no_type ∷ transfer_type ∷ exit_type ∷ [];
   functions = Host transfer_type ∷ Host exit_type ∷ Own no_type [] hello_sequence ∷ [];
+  least_pages = 1;
   most_pages = 1;
 }
 
@@ -134,6 +135,7 @@ abbrev pub endless : Program
 endless = record {
   types = no_type ∷ [];
   functions = Own no_type [] (Plain (instr.Call 0) Stop) ∷ [];
+  least_pages = 0;
   most_pages = 1;
 }
 

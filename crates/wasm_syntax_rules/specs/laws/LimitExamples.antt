@@ -103,6 +103,7 @@ abbrev pub two_functions : Program
 two_functions = record {
   types = no_type ∷ record { parameters = I64 ∷ []; results = [] } ∷ [];
   functions = Own no_type [] nop ∷ Own (record { parameters = I64 ∷ []; results = [] }) [] nop ∷ [];
+  least_pages = 0;
   most_pages = 1;
 }
 

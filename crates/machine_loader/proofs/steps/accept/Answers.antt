@@ -34,9 +34,3 @@ returns-in_err-link-clause-told c =
       read.valid,
       c.in_err-link.ensures.refused,
     )
-
-pub link-requires-clause-types : goal.link-requires-clause-types
-link-requires-clause-types c = c.in_ok-valid.ensures.read.limits.types
-
-pub link-requires-clause-functions : goal.link-requires-clause-functions
-link-requires-clause-functions c = c.in_ok-valid.ensures.read.limits.bodies

@@ -3,6 +3,7 @@ use Rattle.process.specs.Parts.{HasFewLines}
 use Rattle.process.proofs.Made.{waits_for, done_leads, few_done, tells_done, exit_leads, exit_tells}
 use Rattle.process.proofs.Made.{memory_kept, asks_kept, asks_wants}
 use Rattle.process.proofs.Making.{ends_not}
+use Rattle.process.proofs.Holding.{holds_called}
 use Rattle.process.proofs.Beyond.{beyond}
 use Rattle.process.proofs.calling.make.Goals as goal
 
@@ -87,3 +88,18 @@ returns-in-Memory-clause-calls c = λ guest p shows running at.
       kept.1,
       ends_not guest p c.args.call c.args.arguments.now at (c.in-Memory.ensures.made.wants refl),
     )
+
+pub returns-in-Ask-clause-holds : goal.returns-in-Ask-clause-holds
+returns-in-Ask-clause-holds c =
+    holds_called c.args.machine.now c.call_host.new.machine c.in-Ask.ensures.made.is
+    c.in-Ask.ensures.made.large c.requires.holds
+
+pub returns-in-Exit-clause-holds : goal.returns-in-Exit-clause-holds
+returns-in-Exit-clause-holds c =
+    c.stop.ensures.holds (holds_called c.args.machine.now c.call_host.new.machine
+    c.in-Exit.ensures.made.is c.in-Exit.ensures.made.large c.requires.holds)
+
+pub returns-in-Memory-clause-holds : goal.returns-in-Memory-clause-holds
+returns-in-Memory-clause-holds c =
+    holds_called c.args.machine.now c.call_host.new.machine c.in-Memory.ensures.made.is
+    c.in-Memory.ensures.made.large c.requires.holds

@@ -9,7 +9,7 @@ use Rattle.machine.proofs.LoadingLemmas.Fits.{fits_program, fits_around}
 use Rattle.machine.proofs.loading.fits.fits.Goals as goal
 
 pub returns-then-not-around : goal.returns-then-not-around
-returns-then-not-around c = λ functions program is limit. (
+returns-then-not-around c = λ functions program is limit least. (
   λ t. absurd (is_false t),
   λ fits.
       let code = c.args.code.now in
@@ -26,7 +26,7 @@ returns-then-not-around c = λ functions program is limit. (
 )
 
 pub returns : goal.returns
-returns c = λ functions program is limit.
+returns c = λ functions program is limit least.
     let code = c.args.code.now in
     let s = c.args.state.now in
     let ctx = module_context code.«module» functions in
@@ -41,7 +41,7 @@ returns c = λ functions program is limit.
     let few : length s.frames ≤ 512 = omega (arith, len, bound) in
     if_ok _ _ c.fit_frames.result
     (λ told h. let frames = h functions program looks in (
-      λ t. fits_program ctx program s c.is_memory.ensures.shape c.is_memory.ensures.bytes limit few
-          around (frames.0 t),
+      λ t. fits_program ctx program s c.is_memory.ensures.shape c.is_memory.ensures.bytes limit
+          least few around (frames.0 t),
       λ fits. frames.1 fits.frames,
     )) c.fit_frames.ensures

@@ -1,5 +1,5 @@
-use Rattle.std.proofs.Common.{sym, ap, ◌∙◌, subst}
-use Rattle.machine.specs.rules.Values.{MachineValue}
+use Rattle.std.proofs.Common.{sym, subst}
+use Rattle.machine.specs.rules.Values.{MachineValue, HoldsMemory}
 use Rattle.machine.specs.rules.Runs.{TellsWaiting}
 use Rattle.machine.proofs.Ran.{is_standing}
 use Rattle.machine.proofs.Telling.{tells}
@@ -7,8 +7,7 @@ use Rattle.machine.proofs.running.Machine.waits.Goals as goal
 
 pub waiting_call-requires : goal.waiting_call-requires
 waiting_call-requires c =
-    let holds = ap (λ (v : MachineValue). v.limit) c.self.view_is ∙ c.requires
-    ∙ sym (ap (λ (v : MachineValue). v.most_pages) c.self.view_is) in
+    let holds = subst HoldsMemory (sym c.self.view_is) c.requires in
     is_standing c.self.inside.code c.self.inside.state c.self.inside.state c.self.inside.most_pages
     c.self.invariant holds c.is_memory.ensures.shape c.is_memory.ensures.bytes
 

@@ -1,7 +1,8 @@
+use Rattle.machine.specs.rules.Values.{least_of}
 use Rattle.state_image.proofs.RestoreLemmas.Lent.{fault_of}
 use Rattle.state_image.proofs.RestoreLemmas.MachineRead.{machine_read, when_done, no_calls}
 use Rattle.state_image.proofs.RestoreLemmas.MachineRead.{no_globals, no_frames, no_bytes}
-use Rattle.state_image.proofs.RestoreLemmas.MachineRead.{still_no_frames, still_most}
+use Rattle.state_image.proofs.RestoreLemmas.MachineRead.{still_no_frames, still_least, still_most}
 use Rattle.state_image.proofs.restoring.machine_state.load_parts.Goals as goal
 
 pub returns-in_err-load_calls-clause-refused : goal.returns-in_err-load_calls-clause-refused
@@ -41,8 +42,11 @@ returns-clause-refused c refused v rest read few shows =
     let globals = c.in_ok-load_globals.ensures.made in
     let frames = c.in_ok-load_frames.ensures.made in
     no_bytes c.args.phase c.args.machine.now v c.args.reader.now rest read
-    c.load_frames.new.machine.most_pages globals.field c.load_globals.new.reader
-    c.load_frames.new.reader frames.field
+    (least_of c.load_frames.new.machine.guest) c.load_frames.new.machine.most_pages globals.field
+    c.load_globals.new.reader c.load_frames.new.reader frames.field
+    (still_least c.args.phase c.args.machine.now c.load_calls.new.machine c.requires
+    c.in_ok-load_calls.ensures.made c.load_globals.new.machine c.load_frames.new.machine
+    c.args.reader.now c.load_globals.new.reader c.load_frames.new.reader globals frames)
     (still_most c.args.phase c.args.machine.now c.load_calls.new.machine c.requires
     c.in_ok-load_calls.ensures.made c.load_globals.new.machine c.load_frames.new.machine
     c.args.reader.now c.load_globals.new.reader c.load_frames.new.reader globals frames)
