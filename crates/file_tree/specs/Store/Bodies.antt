@@ -16,6 +16,7 @@ pub data FileBody : Type 0 where
   InChunks : (keys : List ℕ) (len : ℕ) → FileBody
   Joined : (bytes : List ℕ) → FileBody
 
+-- the keys of its chunks, in their order
 abbrev pub keys_of : FileBody → List ℕ
 keys_of (InChunks keys len) = keys
 keys_of (Joined bytes) = []
@@ -25,7 +26,7 @@ abbrev pub len_of : FileBody → ℕ
 len_of (InChunks keys len) = len
 len_of (Joined bytes) = length bytes
 
--- its bytes: so many of those of its chunks, joined_nodes in their order
+-- its bytes: so many of those of its chunks, joined in their order
 abbrev pub bytes_of_file : Chunks → FileBody → List ℕ
 bytes_of_file chunks (InChunks keys len) = take len (concat (stored chunks keys))
 bytes_of_file chunks (Joined bytes) = bytes

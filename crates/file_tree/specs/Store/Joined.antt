@@ -20,6 +20,7 @@ abbrev pub file_body : NodeContent → FileBody
 file_body Directory = InChunks [] 0
 file_body (File body) = body
 
+-- the number of a node
 abbrev pub kept_number : Node → ℕ
 kept_number n = n.number
 
@@ -32,6 +33,7 @@ abbrev pub joined_content : Chunks → NodeContent → NodeContent
 joined_content chunks Directory = Directory
 joined_content chunks (File body) = File (Joined (bytes_of_file chunks body))
 
+-- so a node
 abbrev pub joined_node : Chunks → Node → Node
 joined_node chunks n = with_content (joined_content chunks n.content) n
 
@@ -44,6 +46,7 @@ abbrev pub new_content : NodeContent → NodeContent
 new_content Directory = Directory
 new_content (File body) = File (Joined [])
 
+-- so a new node
 abbrev pub new_node : Node → Node
 new_node n = with_content (new_content n.content) n
 
@@ -78,6 +81,7 @@ pub record IsKeptAs (n m : Node) : Type 0 where
       ≡ is_directory_content (content_shown m.content)
   pub size : len_of (file_body n.content) ≡ length (file_bytes_of m)
 
+-- the same of nodes that are there, or none of both
 abbrev pub AreKeptAs : Option Node → Option Node → Type 0
 AreKeptAs None None = Unit {0}
 AreKeptAs (Some n) None = ⊥
