@@ -1,7 +1,8 @@
 -- A file whose bytes are changed.
 use Rattle.std.proofs.Common.{◌≡◌, ℕ, zero, suc, ◌∷◌, [], ◌+◌, ◌-◌, ◌*◌, ◌^◌, get_or, ◌<◌, ◌≤◌, inl}
 use Rattle.std.proofs.Common.{inr, false, List, length, Option, Some, refl, sym, ap, subst, ◌∙◌}
-use Rattle.std.proofs.Common.{arith}
+use Rattle.std.proofs.Common.{arith, take, drop}
+use Rattle.std.proofs.lemmas.List.{take_all, drop_all}
 use Rattle.std.proofs.lemmas.Bool.{cases_eq}
 use Rattle.file_tree.specs.declared.store.node.Hook.{Hook}
 use Rattle.file_tree.specs.declared.store.node.Node.{Node}
@@ -10,19 +11,17 @@ use Rattle.file_tree.specs.rules.Bytes.{written, resized}
 use Rattle.file_tree.specs.rules.Files.{FileNode, Files, Content, File, bytes_of_content}
 use Rattle.file_tree.specs.rules.Files.{is_directory, is_directory_content, IsSmallContent}
 use Rattle.file_tree.specs.rules.Files.{bytes_of_node, with_file_bytes}
-use Rattle.file_tree.specs.declared.limits.TheConstants.{NODES, FILE_BYTES}
+use Rattle.file_tree.specs.declared.limits.TheConstants.{CHUNK_BYTES, NODES, FILE_BYTES}
+use Rattle.file_tree.specs.rules.Chunks.{chunk_of}
 use Rattle.file_tree.specs.Store.Changes.{node_written, node_resized}
 use Rattle.file_tree.specs.Links.{IsTree, node_in, hook_held, hook_of, content_held, content_shown}
 use Rattle.file_tree.specs.Links.{holds_directory_node, is_directory_in, file_bytes_of}
-use Rattle.file_tree.specs.Links.{bytes_held_in, used_in, chunks_in, AreNodes, shown_node, files}
+use Rattle.file_tree.specs.Links.{bytes_held_in, used_in, AreNodes, shown_node, files}
 use Rattle.file_tree.specs.Links.{IsPlace, IsNowhere}
 use Rattle.file_tree.proofs.Lookups.{directory_shown, bytes_shown, node_at_place}
 use Rattle.file_tree.proofs.Lists.{in_changed_same, in_changed_other, rising_changed}
 use Rattle.file_tree.proofs.Lists.{length-changed, all_changed, all_in, shown_changed_one}
 use Rattle.file_tree.proofs.Lists.{none_changed, used_changed, used_holds, used_small}
-use Rattle.file_tree.proofs.Lists.{chunks_changed, chunks_hold, chunks_within}
-use Rattle.file_tree.proofs.StoreLemmas.Sized.{no_more}
-use Rattle.file_tree.specs.rules.Chunks.{chunks_for}
 use Rattle.file_tree.proofs.Sizes.{AreBytes, length-written, file_is, shown_written, shown_resized}
 use Rattle.file_tree.proofs.Sizes.{small_written, small_resized}
 
@@ -135,11 +134,6 @@ pub record IsRewritten (ns : List Node) (next k i : ℕ) (n : Node) (f : Node
   pub files_are : files (changed f i ns) next ≡ with_file_bytes k bytes fs
   pub used : used_in (changed f i ns) ≡ used_in ns - length (file_bytes_of n) + length bytes
   pub fits : used_in ns - length (file_bytes_of n) + length bytes < 2 ^ 64
-  pub chunks : chunks_in (changed f i ns) ≡ chunks_in ns - chunks_for (length (file_bytes_of n))
-      + chunks_for (length bytes)
-  pub chunks_hold : chunks_for (length (file_bytes_of n)) ≤ chunks_in ns
-  pub chunks_fit : chunks_in ns - chunks_for (length (file_bytes_of n)) + chunks_for (length bytes)
-      < 2 ^ 64
 
 is_rewritten : (ns : List Node) (next k i : ℕ) (n : Node) (f : Node
     → Node) (bytes : List ℕ) (fs : Files) → files ns next ≡ fs → Rewrites ns next k i n f bytes
@@ -155,22 +149,6 @@ is_rewritten ns next k i n f bytes fs e r = record {
   );
   fits = (let most : length ns * FILE_BYTES ≤ NODES * FILE_BYTES = omega (arith, r.are.few) in
       omega (arith, used_small ns r.are.contents, most, r.small.0));
-  chunks = omega (
-    arith,
-    chunks_changed f ns k i n r.place r.there,
-    chunks_hold ns k n r.there,
-    ap (λ (c : Content). chunks_for (length (bytes_of_content c))) r.content,
-  );
-  chunks_hold = chunks_hold ns k n r.there;
-  chunks_fit = (let most : length ns * FILE_BYTES ≤ NODES * FILE_BYTES = omega (arith, r.are.few) in
-      omega (
-        arith,
-        used_small ns r.are.contents,
-        chunks_within ns,
-        most,
-        r.small.0,
-        no_more (length bytes),
-      ));
 }
 
 is_written : (ns : List Node) (next k i : ℕ) (n : Node) (from : ℕ) (bytes : List ℕ) (fs : Files)
@@ -242,12 +220,37 @@ pub record IsOverwritten (ns : List Node) (next k i from : ℕ) (bytes : List �
   pub files_are : files (changed (node_written from bytes) i ns) next
       ≡ with_file_bytes k (written (bytes_of_node fs k) from bytes) fs
   pub used : used_in (changed (node_written from bytes) i ns) ≡ used_in ns
-  pub chunks : chunks_in (changed (node_written from bytes) i ns) ≡ chunks_in ns
 
-node_placed : (ns : List Node) (k i : ℕ) → IsPlace ns k i → (n : Node) × (n ≡ get_or ns i n)
+same_node : (a b : Node) → Some a ≡ Some b → a ≡ b
+same_node a b e = cc
+
+-- the node at a place, whatever stands for none
+pub own_place : (ns : List Node) (k i : ℕ) (d : Node) → IsPlace ns k i
+    → get_or ns i d ≡ get_or ns i (get_or ns i d)
+own_place ns k i d place =
+    same_node (get_or ns i d) (get_or ns i (get_or ns i d))
+    (sym (node_at_place ns k i d place) ∙ node_at_place ns k i (get_or ns i d) place)
+
+pub node_placed : (ns : List Node) (k i : ℕ) → IsPlace ns k i → (n : Node) × (n ≡ get_or ns i n)
 node_placed [] k i h = absurd h
 node_placed (n ∷ ns) k zero h = (n, refl)
 node_placed (n ∷ ns) k (suc i) h = node_placed ns k i h.1
+
+-- nothing is read where nothing is
+pub nothing_read : (most from : ℕ) → ◌≡◌ {A = List ℕ} [] (take most (drop from []))
+nothing_read most from =
+    let none : List ℕ = [] in
+    sym (ap (take most) (drop_all from none (omega arith)) ∙ take_all most none (omega arith))
+
+pub nothing_in_chunk : (i : ℕ) → ◌≡◌ {A = List ℕ} [] (chunk_of [] i)
+nothing_in_chunk i = nothing_read CHUNK_BYTES (i * CHUNK_BYTES)
+
+-- the file with a number, by its place
+pub placed_bytes : (ns : List Node) (k i : ℕ) (place : IsPlace ns k i)
+    → file_bytes_of (node_placed ns k i place).0 ≡ bytes_held_in (node_in ns k)
+placed_bytes ns k i place =
+    let n = node_placed ns k i place in
+    sym (ap bytes_held_in (node_at_place ns k i n.0 place ∙ ap (λ (x : Node). Some x) (sym n.1)))
 
 pub is_overwritten : (ns : List Node) (next k i from : ℕ) (bytes : List ℕ) (fs : Files)
     → files ns next ≡ fs → AreNodes ns next → IsPlace ns k i → is_directory fs k ≡ false
@@ -269,5 +272,4 @@ is_overwritten ns next k i from bytes fs e are place file b fits =
       nodes = all.nodes;
       files_are = all.files_are;
       used = omega (arith, all.used, used_holds ns k n.0 there, same);
-      chunks = omega (arith, all.chunks, all.chunks_hold, ap chunks_for same);
     }

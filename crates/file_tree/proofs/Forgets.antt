@@ -14,9 +14,8 @@ use Rattle.file_tree.specs.rules.Files.{Name, Path, FileNode, Files, IsSmallCont
 use Rattle.file_tree.specs.rules.Files.{path_of}
 use Rattle.file_tree.specs.Links.{IsTree, node_in, hook_held, hook_of, content_held, content_shown}
 use Rattle.file_tree.specs.Links.{holds_directory_node, is_directory_in, is_hung, file_bytes_of}
-use Rattle.file_tree.specs.Links.{used_in, chunks_in, AreNodes, AreRisingNodes, shown_node, files}
+use Rattle.file_tree.specs.Links.{used_in, AreNodes, AreRisingNodes, shown_node, files}
 use Rattle.file_tree.specs.Links.{IsPlace, IsNowhere}
-use Rattle.file_tree.specs.rules.Chunks.{chunks_for}
 use Rattle.file_tree.proofs.Lookups.{node_nowhere, hung_has_path}
 use Rattle.file_tree.proofs.Lists.{numbers_from, nowhere_above}
 use Rattle.file_tree.proofs.Seen.{nothing_in}
@@ -101,7 +100,6 @@ pub record IsForgotten (ns : List Node) (next k i : ℕ) (n : Node) (fs : Files)
   pub nodes : AreNodes (remove ns i) next
   pub files_are : files (remove ns i) next ≡ forgotten k fs
   pub used : used_in (remove ns i) + length (file_bytes_of n) ≡ used_in ns
-  pub chunks : chunks_in (remove ns i) + chunks_for (length (file_bytes_of n)) ≡ chunks_in ns
 
 pub no_path_is : (o : Option Path) → is_some o ≡ false → o ≡ None
 no_path_is None e = refl
@@ -156,8 +154,6 @@ is_forgotten ns next k i n fs e are place at gone =
           ∙ ap (forgotten k) e;
       used = (let sum = sum_by-remove (λ (x : Node). length (file_bytes_of x)) ns i n lt in
           omega (arith, sum, ap (λ (x : Node). length (file_bytes_of x)) at));
-      chunks = (let sum = sum_by-remove (λ (x : Node). chunks_for (length (file_bytes_of x))) ns i n
-          lt in omega (arith, sum, ap (λ (x : Node). chunks_for (length (file_bytes_of x))) at));
     }
 
 -- where no node has the number nothing is changed

@@ -5,7 +5,7 @@ use Rattle.file_tree.specs.declared.store.node.Hook.TheVariants.{Root, Removed, 
 use Rattle.file_tree.specs.declared.store.node.NodeContent.TheVariants as content
 use Rattle.file_tree.specs.declared.store.node.Node.{Node}
 use Rattle.file_tree.specs.rules.Files.{Name, fresh}
-use Rattle.file_tree.specs.Links.{hook_of, used_in, chunks_in, AreNodes, files}
+use Rattle.file_tree.specs.Links.{hook_of, used_in, AreNodes, files}
 
 abbrev pub alone : List Node
 alone = record { number = 1; hook = Root; content = content.Directory } ∷ []
@@ -47,9 +47,6 @@ alone_is_nodes = record {
 
 pub alone_is_fresh : files alone 2 ≡ fresh
 alone_is_fresh = refl
-
-pub alone_has_no_chunks : chunks_in alone ≡ 0
-alone_has_no_chunks = refl
 
 pub alone_uses_nothing : used_in alone ≡ 0
 alone_uses_nothing = refl

@@ -19,10 +19,9 @@ use Rattle.file_tree.specs.declared.kind.NodeKind.{NodeKind}
 use Rattle.file_tree.specs.declared.kind.NodeKind.TheVariants as kind
 use Rattle.file_tree.specs.declared.limits.TheConstants.{NODES}
 use Rattle.file_tree.specs.rules.Changes.{IsFree, path_at, empty}
-use Rattle.file_tree.specs.rules.Chunks.{chunks_for}
 use Rattle.file_tree.specs.Links.{Up, climb, IsTree, node_in, hook_held, hook_of, content_held}
 use Rattle.file_tree.specs.Links.{content_shown, holds_directory_node, is_directory_in}
-use Rattle.file_tree.specs.Links.{file_bytes_of, used_in, chunks_in, AreNodes, IsNowhere}
+use Rattle.file_tree.specs.Links.{file_bytes_of, used_in, AreNodes, IsNowhere}
 use Rattle.file_tree.specs.Links.{shown_node, files}
 use Rattle.file_tree.proofs.SameNames.{same_or_not}
 use Rattle.file_tree.proofs.Climbs.{path_is, no_path, climb_sound}
@@ -338,13 +337,6 @@ module _ (ns : List Node) (next d : ℕ) (name : Name) (p up : Path) (c : Conten
       ∙ ap (λ (x : FileNode). map (shown_node next hook) ns ++ x ∷ []) new in
       ap (λ (xs : List FileNode). record { nodes = xs; next = next + 1 }) nodes
 
-  pub made_chunks : length (bytes_of_content c) ≡ 0 → chunks_in (ns ++ n ∷ []) ≡ chunks_in ns
-  made_chunks e =
-      let none : chunks_for (length (file_bytes_of n)) ≡ 0 =
-      ap (λ (x : Content). chunks_for (length (bytes_of_content x))) m.content ∙ ap chunks_for e
-      in
-      omega (arith, sum_by_push (λ (x : Node). chunks_for (length (file_bytes_of x))) ns n, none)
-
   pub made_used : length (bytes_of_content c) ≡ 0 → used_in (ns ++ n ∷ []) ≡ used_in ns
   made_used e = omega (
     arith,
@@ -364,7 +356,6 @@ pub record IsMade (ns : List Node) (next d : ℕ) (name : Name) (k : NodeKind) (
   pub nodes : AreNodes (ns ++ n ∷ []) (next + 1)
   pub files_are : files (ns ++ n ∷ []) (next + 1) ≡ created (path_at fs d ++ name ∷ []) (empty k) fs
   pub used : used_in (ns ++ n ∷ []) ≡ used_in ns
-  pub chunks : chunks_in (ns ++ n ∷ []) ≡ chunks_in ns
 
 pub is_made : (ns : List Node) (next d : ℕ) (name : Name) (k : NodeKind) (n : Node) (fs : Files)
     → files ns next ≡ fs → AreNodes ns next → IsFree fs d name → length fs.nodes < NODES
@@ -394,5 +385,4 @@ is_made ns next d name k n fs e are f room number hook content =
       files_are = made_files ns next d name p found.0 (empty k) n m
           ∙ ap (λ (x : Files). created (path_at x d ++ name ∷ []) (empty k) x) e;
       used = made_used ns next d name p found.0 (empty k) n m (empty_is_small k).1;
-      chunks = made_chunks ns next d name p found.0 (empty k) n m (empty_is_small k).1;
     }

@@ -9,11 +9,10 @@ use Rattle.file_tree.specs.Store.Stored.{changed}
 use Rattle.file_tree.specs.Store.Changes.{with_hook}
 use Rattle.file_tree.specs.rules.Files.{Name, IsNodeName, IsSmallContent}
 use Rattle.file_tree.specs.Links.{IsTree, node_in, hook_held, hook_of, content_held, content_shown}
-use Rattle.file_tree.specs.Links.{holds_directory_node, is_directory_in, used_in, chunks_in}
+use Rattle.file_tree.specs.Links.{holds_directory_node, is_directory_in, used_in}
 use Rattle.file_tree.specs.Links.{AreNodes, IsPlace}
 use Rattle.file_tree.proofs.Lists.{in_changed_same, in_changed_other, rising_changed}
 use Rattle.file_tree.proofs.Lists.{length-changed, all_changed, all_in, used_changed}
-use Rattle.file_tree.proofs.Lists.{chunks_changed}
 
 pub record Hangs (ns : List Node) (next k i : ℕ) (n : Node) : Type 0 where
   pub are : AreNodes ns next
@@ -38,9 +37,6 @@ module _ (ns : List Node) (next k i : ℕ) (n : Node) (h : Hook) (r : Hangs ns n
     | inr ne ↦ ap (λ (o : Option Node). holds_directory_node (content_held o))
         (in_changed_other (with_hook h) (λ m. refl) ns k i j r.place ne)
   ]
-
-  pub hung_chunks : chunks_in (changed (with_hook h) i ns) ≡ chunks_in ns
-  hung_chunks = omega (arith, chunks_changed (with_hook h) ns k i n r.place r.there)
 
   pub hung_used : used_in (changed (with_hook h) i ns) ≡ used_in ns
   hung_used = omega (arith, used_changed (with_hook h) ns k i n r.place r.there)

@@ -9,6 +9,7 @@ use Rattle.file_tree.specs.declared.kind.NodeKind.{NodeKind}
 use Rattle.file_tree.specs.declared.store.node.Hook.TheVariants.{In}
 use Rattle.file_tree.specs.declared.store.node.NodeContent.TheVariants as content
 use Rattle.file_tree.specs.declared.store.node.Node.{Node}
+use Rattle.file_tree.specs.Store.Bodies.{Joined}
 use Rattle.file_tree.specs.Store.Stored.{changed}
 use Rattle.file_tree.specs.rules.Changes.{empty, path_at, IsFree, CanLose, CanMove}
 use Rattle.file_tree.specs.rules.Files.{Name, FileNode, Files, File, IsFiles, IsSmallContent}
@@ -123,7 +124,12 @@ module _ (fs : Files) (are : IsFiles fs) where
         → AreWithin (with_file_bytes k bytes fs) room
     rewritten_files_are bytes room file small fits =
         let f : Node → Node =
-        λ (m : Node). record { number = m.number; hook = m.hook; content = content.File bytes } in
+        λ (m : Node). record {
+          number = m.number;
+          hook = m.hook;
+          content = content.File
+              (Joined bytes);
+        } in
         let r : Rewrites ns fs.next k at x f bytes = record {
           are = ns_are;
           place = place;

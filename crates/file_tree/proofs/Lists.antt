@@ -10,9 +10,7 @@ use Rattle.file_tree.specs.Store.Stored.{changed}
 use Rattle.file_tree.specs.rules.Files.{FileNode, Content, Directory, File, bytes_of_content}
 use Rattle.file_tree.specs.rules.Files.{changed_at, IsSmallContent}
 use Rattle.file_tree.specs.declared.limits.TheConstants.{FILE_BYTES}
-use Rattle.file_tree.specs.rules.Chunks.{chunks_for}
-use Rattle.file_tree.proofs.StoreLemmas.Sized.{no_more}
-use Rattle.file_tree.specs.Links.{node_in, file_bytes_of, used_in, chunks_in, content_shown}
+use Rattle.file_tree.specs.Links.{node_in, file_bytes_of, used_in, content_shown}
 use Rattle.file_tree.specs.Links.{AreRisingNodes, IsPlace, IsNowhere}
 
 -- ---- rising numbers
@@ -151,12 +149,9 @@ sum_holds size (m ∷ ns) k n e =
           (let some_is : m ≡ n = cc in omega (arith, sum_by-cons size m ns, ap size some_is))
       by_test false later e = omega (arith, sum_by-cons size m ns, later e)
 
--- how many bytes and chunks there are
+-- how many bytes there are
 abbrev pub size_of : Node → ℕ
 size_of n = length (file_bytes_of n)
-
-abbrev pub chunks_of_node : Node → ℕ
-chunks_of_node n = chunks_for (length (file_bytes_of n))
 
 pub used_changed : (f : Node → Node) (ns : List Node) (k i : ℕ) (n : Node) → IsPlace ns k i
     → node_in ns k ≡ Some n → used_in (changed f i ns) + length (file_bytes_of n)
@@ -166,26 +161,6 @@ used_changed f ns k i n h e = sum_changed size_of f ns k i n h e
 pub used_holds : (ns : List Node) (k : ℕ) (n : Node) → node_in ns k ≡ Some n
     → length (file_bytes_of n) ≤ used_in ns
 used_holds ns k n e = sum_holds size_of ns k n e
-
-pub chunks_changed : (f : Node → Node) (ns : List Node) (k i : ℕ) (n : Node) → IsPlace ns k i
-    → node_in ns k ≡ Some n
-    → chunks_in (changed f i ns) + chunks_of_node n ≡ chunks_in ns + chunks_of_node (f n)
-chunks_changed f ns k i n h e = sum_changed chunks_of_node f ns k i n h e
-
-pub chunks_hold : (ns : List Node) (k : ℕ) (n : Node) → node_in ns k ≡ Some n
-    → chunks_of_node n ≤ chunks_in ns
-chunks_hold ns k n e = sum_holds chunks_of_node ns k n e
-
--- a chunk holds a byte at least
-pub chunks_within : (ns : List Node) → chunks_in ns ≤ used_in ns
-chunks_within [] = omega arith
-chunks_within (m ∷ ns) = omega (
-  arith,
-  sum_by-cons size_of m ns,
-  sum_by-cons chunks_of_node m ns,
-  no_more (length (file_bytes_of m)),
-  chunks_within ns,
-)
 
 pub small_bytes : (n : Node) → IsSmallContent (content_shown n.content)
     → length (file_bytes_of n) ≤ FILE_BYTES

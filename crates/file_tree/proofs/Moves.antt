@@ -14,7 +14,7 @@ use Rattle.file_tree.specs.rules.Files.{Name, IsNodeName, Path, FileNode, Files,
 use Rattle.file_tree.specs.rules.Files.{path_behind, path_moved, renamed, child}
 use Rattle.file_tree.specs.rules.Changes.{path_at, IsFree, CanMove, within_path}
 use Rattle.file_tree.specs.Links.{Up, climb, IsTree, node_in, hook_held, hook_of, content_shown}
-use Rattle.file_tree.specs.Links.{is_directory_in, used_in, chunks_in, AreNodes, shown_node, files}
+use Rattle.file_tree.specs.Links.{is_directory_in, used_in, AreNodes, shown_node, files}
 use Rattle.file_tree.specs.Links.{IsPlace, IsNowhere, child_in}
 use Rattle.file_tree.proofs.Climbs.{one_path, path_is, no_path, there, in_is}
 use Rattle.file_tree.proofs.Renames.{behind_front}
@@ -23,7 +23,7 @@ use Rattle.file_tree.proofs.Lookups.{node_at_place, node_nowhere, path_shown}
 use Rattle.file_tree.proofs.Seen.{child_shown}
 use Rattle.file_tree.proofs.Lists.{shown_changed}
 use Rattle.file_tree.proofs.Grows.{removed_or_not, way_up, some_path, IsFreeIn, free_in}
-use Rattle.file_tree.proofs.Hangs.{Hangs, hung_here, hung_others, hung_used, hung_chunks}
+use Rattle.file_tree.proofs.Hangs.{Hangs, hung_here, hung_others, hung_used}
 use Rattle.file_tree.proofs.Hangs.{hung_nodes}
 
 -- ---- a node that hangs in another place
@@ -128,7 +128,6 @@ pub record IsMoved (ns : List Node) (next k i d : ℕ) (name : Name) (fs : Files
   pub files_are : files (changed (with_hook (In d name)) i ns) next
       ≡ renamed (path_at fs k) (path_at fs d ++ name ∷ []) fs
   pub used : used_in (changed (with_hook (In d name)) i ns) ≡ used_in ns
-  pub chunks : chunks_in (changed (with_hook (In d name)) i ns) ≡ chunks_in ns
 
 -- a front of the path would be an end of the way up
 not_end : (old up : Path) → is_some (path_behind (reverse old) (reverse up)) ≡ false → (xs : Path)
@@ -230,7 +229,6 @@ module _ (ns : List Node) (next k i d : ℕ) (name : Name) (are : AreNodes ns ne
             ∙ ap (λ (p : Path). renamed p (reverse (name ∷ up)) (files ns next)) from.1
             ∙ ap (λ (p : Path). renamed (path_at (files ns next) k) p (files ns next)) whole;
         used = hung_used ns next k i n (In d name) hangs;
-        chunks = hung_chunks ns next k i n (In d name) hangs;
       }
 
 pub is_moved : (ns : List Node) (next k i d : ℕ) (name : Name) (fs : Files) → files ns next ≡ fs

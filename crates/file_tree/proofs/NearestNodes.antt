@@ -14,6 +14,7 @@ use Rattle.file_tree.specs.rules.Files.{Name, Entry, is_before, sorted, entries_
 use Rattle.file_tree.specs.rules.Listings.{number_at_place, number_after, HasNameAtPlace}
 use Rattle.file_tree.specs.Links.{hook_of, AreNodes, files, name_of_hook}
 use Rattle.file_tree.specs.Links.{hooked_name, hooked_entries, with_entry}
+use Rattle.file_tree.specs.Store.Joined.{kept_number}
 use Rattle.file_tree.specs.Nearest.{comes_after, is_nearer, nearest_node, next_node}
 use Rattle.file_tree.specs.Nearest.{node_listed, IsCountListed}
 use Rattle.file_tree.proofs.Order.{Ordered, HaveDistinctNames, ordered_sorted, all_sorted, all_at}
@@ -233,13 +234,13 @@ copied_some (Some n) = refl
 
 pub none_nearest : (ns : List Node) (next d : ℕ) (o : Option (Bor Node)) (none : Bool)
     → AreNodes ns next
-    → option_copied o ≡ nearest_node d [] None ns → is_some o ≡ not none
+    → option_map kept_number (option_copied o) ≡ option_map kept_number (nearest_node d [] None ns)
+    → is_some o ≡ not none
     → none ≡ eqb (length (entries_of (files ns next) d)) 0
 none_nearest ns next d o none are is some =
     let es = entries_of (files ns next) d in
     same_if_not none (eqb (length es) 0)
-    (sym some ∙ copied_some o ∙ ap is_some is
-    ∙ sym (some_mapped (λ (n : Node). n.number) (nearest_node d [] None ns))
+    (sym some ∙ copied_some o ∙ sym (some_mapped kept_number (option_copied o)) ∙ ap is_some is
     ∙ ap is_some (nearest_shown ns next d [] are ∙ first_shown ns next d are)
     ∙ some_mapped (λ (e : Entry). e.number) (slice_get es 0) ∙ some_first es)
 

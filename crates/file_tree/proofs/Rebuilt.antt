@@ -16,6 +16,7 @@ use Rattle.file_tree.specs.rules.Files.{Name, Path, FileNode, Files, Content, Di
 use Rattle.file_tree.specs.rules.Files.{node_of, path_of, is_directory, is_directory_content}
 use Rattle.file_tree.specs.rules.Files.{holds_directory, AreRising, IsPlaced, HasPath}
 use Rattle.file_tree.specs.rules.Files.{HaveDistinctPaths, IsSmallContent, IsFiles, IsNodeName}
+use Rattle.file_tree.specs.Store.Bodies.{Joined}
 use Rattle.file_tree.specs.Links.{Up, climb, IsTree, node_in, hook_held, hook_of, content_shown}
 use Rattle.file_tree.specs.Links.{content_held, holds_directory_node, is_directory_in, AreNodes}
 use Rattle.file_tree.specs.Links.{AreRisingNodes, shown_node, files}
@@ -134,7 +135,7 @@ path_hook fs (Some p) h = place_hook fs p h
 
 abbrev pub content_kept : Content → store.NodeContent
 content_kept Directory = content.Directory
-content_kept (File bytes) = content.File bytes
+content_kept (File bytes) = content.File (Joined bytes)
 
 pub content_same : (c : Content) → content_shown (content_kept c) ≡ c
 content_same Directory = refl

@@ -14,13 +14,13 @@ use Rattle.file_tree.specs.rules.Files.{Name, IsNodeName, Path, FileNode, Files,
 use Rattle.file_tree.specs.rules.Files.{entries_of, is_directory}
 use Rattle.file_tree.specs.rules.Changes.{CanLose}
 use Rattle.file_tree.specs.Links.{Up, climb, IsTree, node_in, hook_of, content_shown}
-use Rattle.file_tree.specs.Links.{is_directory_in, has_child, used_in, chunks_in, AreNodes}
+use Rattle.file_tree.specs.Links.{is_directory_in, has_child, used_in, AreNodes}
 use Rattle.file_tree.specs.Links.{shown_node, files, IsPlace, IsNowhere}
 use Rattle.file_tree.proofs.Climbs.{path_is, no_path}
 use Rattle.file_tree.proofs.Lookups.{directory_shown, node_at_place}
 use Rattle.file_tree.proofs.Lists.{shown_changed_one, none_changed, number_in}
 use Rattle.file_tree.proofs.Grows.{removed_or_not}
-use Rattle.file_tree.proofs.Hangs.{Hangs, hung_here, hung_others, hung_used, hung_chunks}
+use Rattle.file_tree.proofs.Hangs.{Hangs, hung_here, hung_others, hung_used}
 use Rattle.file_tree.proofs.Hangs.{hung_nodes}
 use Rattle.file_tree.proofs.Seen.{empty_shown, no_child}
 
@@ -68,7 +68,6 @@ pub record IsLost (ns : List Node) (next k i : ℕ) (fs : Files) : Type 0 where
   pub nodes : AreNodes (changed (with_hook Removed) i ns) next
   pub files_are : files (changed (with_hook Removed) i ns) next ≡ removed k fs
   pub used : used_in (changed (with_hook Removed) i ns) ≡ used_in ns
-  pub chunks : chunks_in (changed (with_hook Removed) i ns) ≡ chunks_in ns
 
 nothing_hangs : (ns : List Node) (next k : ℕ) (fs : Files) → files ns next ≡ fs → AreNodes ns next
     → CanLose fs k → (j : ℕ) (name : Name) → hook_of ns j ≢ In k name
@@ -129,7 +128,6 @@ is_lost ns next k i fs e are place can =
       }) (shown_changed_one S T g (with_hook Removed) 1 ns next k i n place there
           are.rising (λ m. refl) others one) ∙ ap (removed k) e;
       used = hung_used ns next k i n Removed h;
-      chunks = hung_chunks ns next k i n Removed h;
     }
 
 -- where no node has the number nothing is changed

@@ -13,14 +13,14 @@ use Rattle.file_tree.specs.Store.Changes.{with_hook}
 use Rattle.file_tree.specs.rules.Files.{Name, IsNodeName, Path, FileNode, Files, path_of, hung}
 use Rattle.file_tree.specs.rules.Changes.{path_at, CanHang}
 use Rattle.file_tree.specs.Links.{climb, node_in, hook_of, content_shown, is_directory_in}
-use Rattle.file_tree.specs.Links.{used_in, chunks_in, AreNodes, shown_node, files, IsPlace}
+use Rattle.file_tree.specs.Links.{used_in, AreNodes, shown_node, files, IsPlace}
 use Rattle.file_tree.specs.Links.{IsNowhere, is_hung}
 use Rattle.file_tree.proofs.Climbs.{in_is}
 use Rattle.file_tree.proofs.Lookups.{node_at_place, hung_has_path}
 use Rattle.file_tree.proofs.Lists.{numbers_below, all_in, number_in, shown_changed_one}
 use Rattle.file_tree.proofs.Lists.{none_changed}
 use Rattle.file_tree.proofs.Grows.{Grows, grown_tree, same_climb, new_climb, IsFreeIn, free_in}
-use Rattle.file_tree.proofs.Hangs.{Hangs, hung_here, hung_others, hung_used, hung_chunks}
+use Rattle.file_tree.proofs.Hangs.{Hangs, hung_here, hung_others, hung_used}
 use Rattle.file_tree.proofs.Hangs.{hung_nodes}
 
 -- all of it, where files are what the nodes show
@@ -29,7 +29,6 @@ pub record IsReturned (ns : List Node) (next k i d : ℕ) (name : Name) (fs : Fi
   pub files_are :
       files (changed (with_hook (In d name)) i ns) next ≡ hung k (path_at fs d ++ name ∷ []) fs
   pub used : used_in (changed (with_hook (In d name)) i ns) ≡ used_in ns
-  pub chunks : chunks_in (changed (with_hook (In d name)) i ns) ≡ chunks_in ns
 
 -- a node without a path hangs nowhere
 pub not_hung : (ns : List Node) (next k : ℕ) → AreNodes ns next
@@ -125,7 +124,6 @@ module _ (ns : List Node) (next k i d : ℕ) (name : Name) (are : AreNodes ns ne
             (shown_changed_one S T g (with_hook (In d name)) 1 ns next k i n place is_there
             are.rising (λ m. refl) others one);
         used = hung_used ns next k i n (In d name) hangs;
-        chunks = hung_chunks ns next k i n (In d name) hangs;
       }
 
 pub is_returned : (ns : List Node) (next k i d : ℕ) (name : Name) (fs : Files)

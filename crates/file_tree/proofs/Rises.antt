@@ -15,10 +15,9 @@ use Rattle.file_tree.specs.rules.Files.{bytes_of_content, created_removed, with_
 use Rattle.file_tree.specs.declared.kind.NodeKind.{NodeKind}
 use Rattle.file_tree.specs.declared.limits.TheConstants.{NODES}
 use Rattle.file_tree.specs.rules.Changes.{empty}
-use Rattle.file_tree.specs.rules.Chunks.{chunks_for}
 use Rattle.file_tree.specs.Links.{climb, IsTree, node_in, hook_held, hook_of, content_held}
 use Rattle.file_tree.specs.Links.{content_shown, holds_directory_node, is_directory_in}
-use Rattle.file_tree.specs.Links.{file_bytes_of, used_in, chunks_in, AreNodes, AreRisingNodes}
+use Rattle.file_tree.specs.Links.{file_bytes_of, used_in, AreNodes, AreRisingNodes}
 use Rattle.file_tree.specs.Links.{IsNowhere, shown_node, files}
 use Rattle.file_tree.proofs.Climbs.{path_is, no_path}
 use Rattle.file_tree.proofs.Lookups.{node_nowhere}
@@ -160,12 +159,6 @@ module _ (ns : List Node) (next : ℕ) (c : Content) (n : Node) (a : Adds ns nex
       ∙ ap (λ (xs : List FileNode). xs ++ shown_node most (hook_of pushed) n ∷ []) old
       ∙ ap (λ (x : FileNode). map (shown_node next (hook_of ns)) ns ++ x ∷ []) one)
 
-  added_chunks : length (bytes_of_content c) ≡ 0 → chunks_in pushed ≡ chunks_in ns
-  added_chunks e =
-      let none : chunks_for (length (file_bytes_of n)) ≡ 0 =
-      ap (λ (x : Content). chunks_for (length (bytes_of_content x))) a.content ∙ ap chunks_for e in
-      omega (arith, sum_by_push (λ (x : Node). chunks_for (length (file_bytes_of x))) ns n, none)
-
   added_used : length (bytes_of_content c) ≡ 0 → used_in pushed ≡ used_in ns
   added_used e =
       let none : length (file_bytes_of n) ≡ 0 =
@@ -177,7 +170,6 @@ pub record IsAdded (ns : List Node) (kind : NodeKind) (n : Node) (fs : Files) : 
   pub nodes : AreNodes (ns ++ n ∷ []) (n.number + 1)
   pub files_are : files (ns ++ n ∷ []) (n.number + 1) ≡ created_removed n.number (empty kind) fs
   pub used : used_in (ns ++ n ∷ []) ≡ used_in ns
-  pub chunks : chunks_in (ns ++ n ∷ []) ≡ chunks_in ns
 
 pub is_added : (ns : List Node) (next : ℕ) (kind : NodeKind) (n : Node) (fs : Files)
     → files ns next ≡ fs → AreNodes ns next → next ≤ n.number → length fs.nodes < NODES
@@ -195,7 +187,6 @@ is_added ns next kind n fs e are most room hook content =
           added_files ns next (empty kind) n a
           ∙ ap (created_removed n.number (empty kind)) e;
       used = added_used ns next (empty kind) n a none.1;
-      chunks = added_chunks ns next (empty kind) n a none.1;
     }
 
 -- none of them has its number yet

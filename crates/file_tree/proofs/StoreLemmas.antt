@@ -1,5 +1,9 @@
 pub mod Cuts
+pub mod HeldFiles
+pub mod JoinedNodes
 pub mod Keys
+pub mod KeptAs
+pub mod KeptChunks
 pub mod KeptNodes
 pub mod NamedKeys
 pub mod NamedLookups
@@ -11,3 +15,4 @@ pub mod Overs
 pub mod Padded
 pub mod Places
 pub mod Sized
+pub mod SlabChunks

@@ -12,6 +12,7 @@ use Rattle.file_tree.specs.rules.Files.{Name, Path, FileNode, Files, Content, Di
 use Rattle.file_tree.specs.rules.Files.{IsNodeName, IsSmallContent, bytes_of_content}
 use Rattle.file_tree.specs.rules.Files.{is_directory_content, is_same_name, Entry}
 use Rattle.file_tree.specs.rules.Chunks.{chunks_for}
+use Rattle.file_tree.specs.Store.Bodies.{joined_bytes}
 use Rattle.file_tree.specs.declared.limits.TheConstants.{NODES}
 
 -- ---- hooks
@@ -67,7 +68,7 @@ name_of_hook (In d name) = name
 
 abbrev pub content_shown : store.NodeContent → Content
 content_shown content.Directory = Directory
-content_shown (content.File bytes) = File bytes
+content_shown (content.File body) = File (joined_bytes body)
 
 abbrev pub content_held : Option Node → Option Content
 content_held None = None

@@ -5,7 +5,7 @@ ghost use Rattle.file_tree.specs.Links.{hook_held, hook_of, comes_to};
 ghost use Rattle.file_tree.specs.Steps.{step_of, parent_in};
 
 use crate::lookup::node_of;
-use crate::store::{Hook, Node, Nodes};
+use crate::store::{FileNodes, Hook, Node};
 
 /// What the way up from a node goes on with.
 pub enum UpStep {
@@ -18,7 +18,7 @@ pub enum UpStep {
 }
 
 /// Where the way up from a node leads.
-pub fn step_up(nodes: &Nodes, number: u64) -> UpStep
+pub fn step_up(nodes: &FileNodes, number: u64) -> UpStep
     ensures { result ≡ step_of (hook_of nodes.now number) }
 {
     step_from(node_of(nodes, number))
@@ -38,7 +38,7 @@ fn step_from(node: Option<&Node>) -> UpStep
 }
 
 /// Whether the way up from a directory, of at most so many steps, comes to a node.
-pub fn leads_to(nodes: &Nodes, most: u64, number: u64, directory: u64) -> bool
+pub fn leads_to(nodes: &FileNodes, most: u64, number: u64, directory: u64) -> bool
     ensures { result ≡ comes_to most (hook_of nodes.now) number directory }
 {
     let mut at = directory;
@@ -58,7 +58,7 @@ pub fn leads_to(nodes: &Nodes, most: u64, number: u64, directory: u64) -> bool
 }
 
 /// The number of the directory in which a node hangs.
-pub fn parent_of(nodes: &Nodes, number: u64) -> Option<u64>
+pub fn parent_of(nodes: &FileNodes, number: u64) -> Option<u64>
     ensures { result ≡ parent_in nodes.now number }
 {
     match step_up(nodes, number) {

@@ -24,7 +24,8 @@
 //! - `laws::entries_tell_paths`, `laws::children_are_listed`, `laws::entries_differ`: entries tell
 //!   paths, and names lead to nodes. `laws::entries_tell_files`: a tree of the same nodes and
 //!   entries is the same one.
-//! - Files lie in chunks of 4,096 bytes, as many as their bytes need. `chunks` counts them.
+//! - Files lie in chunks of 4,096 bytes, as many as their bytes need. All chunks are in one slab,
+//!   and `chunks` is how many it holds.
 //! - Whoever changes a tree has tested first what the `requires` clauses ask, as `free` and
 //!   `room`.
 //! - `laws::renaming_moves_a_subtree`: a rename moves what lies below a path, and no other path.
@@ -43,11 +44,11 @@
 //! # Who may touch what
 //!
 //! Only this crate knows that nodes lie in a slab, with two orders beside it, by number and by
-//! name. Each node names its directory by number. A file's bytes lie in chunks, which the file
-//! owns. `wasi_calls` changes a tree, and `state_image` reads one and builds it anew. They,
-//! `process_rules` and `wasi_calls_rules` cite the definitions. The crate stands on no other one of
-//! this repository. `new`, `create`, `create_removed`, `resize` and `ByteList::copy_of` take
-//! memory, and want of it is the only error.
+//! name. Each node names its directory by number. A file's bytes lie in chunks of one more slab,
+//! and its node has their keys and its length. `wasi_calls` changes a tree, and `state_image` reads
+//! one and builds it anew. They, `process_rules` and `wasi_calls_rules` cite the definitions. The
+//! crate stands on no other one of this repository. `new`, `create`, `create_removed`, `resize` and
+//! `ByteList::copy_of` take memory, and want of it is the only error.
 #![tactic(auto)]
 
 mod children;

@@ -1,24 +1,25 @@
 //! Nodes by their numbers, and what they hold.
 
-ghost use Rattle.std.specs.Prelude.{◌≡◌, ◌<◌, ◌≤◌, ◌++◌, take, drop, length, IfSome, IfNone};
+ghost use Rattle.std.specs.Prelude.{◌≡◌, ◌<◌, ◌≤◌, ◌++◌, [], take, drop, length, IfSome, IfNone};
 ghost use Rattle.std.specs.Prelude.{is_some, option_copied, option_map};
-ghost use Rattle.file_tree.specs.declared.store.node.Node.{Node as StoredNode};
-ghost use Rattle.std.specs.List.{remove};
 ghost use Rattle.file_tree.specs.Store.Cuts.{AreOrdered, IsCut};
 ghost use Rattle.file_tree.specs.Store.Kept.{IsLower, HasLower, HasNoLower};
 ghost use Rattle.file_tree.specs.Links.{IsPlace, IsNowhere, node_in, hook_held, content_held};
 ghost use Rattle.file_tree.specs.Links.{holds_directory_node, bytes_held_in, is_hung, name_of_hook};
 ghost use Rattle.file_tree.specs.Links.{content_shown};
 ghost use Rattle.file_tree.specs.rules.Changes.{empty};
-ghost use Rattle.file_tree.specs.rules.Chunks.{chunks_for, chunk_of};
+ghost use Rattle.file_tree.specs.rules.Chunks.{chunk_of};
+ghost use Rattle.file_tree.specs.Store.Bodies.{InChunks};
+ghost use Rattle.file_tree.specs.Store.Joined.{AreKeptAs, kept_number, len_held, file_body};
+ghost use Rattle.file_tree.specs.Store.Joined.{new_content as seen_content};
 
 use crate::kind::NodeKind;
-use crate::store::{FileBytes, Hook, Node, NodeContent, Nodes};
+use crate::store::{FileChunks, FileNodes, Hook, Node, NodeContent};
 use std::alloc::Global;
 
 // How many nodes have a lower number than this one. Each step halves those that are left, since
 // numbers rise.
-fn count_below(nodes: &Nodes, number: u64) -> usize
+fn count_below(nodes: &FileNodes, number: u64) -> usize
     ensures cut { IsCut (HasLower number) (HasNoLower number) nodes.now result }
     ensures within { result ≤ length nodes.now }
     ensures rising { AreOrdered IsLower nodes.now }
@@ -37,7 +38,7 @@ fn count_below(nodes: &Nodes, number: u64) -> usize
 }
 
 /// The place of the node with this number.
-pub fn place_of(nodes: &Nodes, number: u64) -> Option<usize>
+pub fn place_of(nodes: &FileNodes, number: u64) -> Option<usize>
     ensures there { IfSome result (λ place. IsPlace nodes.now number place) }
     ensures within { IfSome result (λ place. place < length nodes.now) }
     ensures nowhere { IfNone result (IsNowhere nodes.now number) }
@@ -52,9 +53,9 @@ pub fn place_of(nodes: &Nodes, number: u64) -> Option<usize>
     None
 }
 
-/// The node with this number.
-pub fn node_of(nodes: &Nodes, number: u64) -> Option<&Node>
-    ensures { option_copied result ≡ node_in nodes.now number }
+/// The node with this number, all but its bytes.
+pub fn node_of(nodes: &FileNodes, number: u64) -> Option<&Node>
+    ensures { AreKeptAs (option_copied result) (node_in nodes.now number) }
 {
     match place_of(nodes, number) {
         Some(place) => Some(nodes.get(place)),
@@ -77,7 +78,7 @@ pub fn holds_directory(node: Option<&Node>) -> bool
 
 /// How many bytes a file has that is there; a directory has none.
 pub fn size_held(node: Option<&Node>) -> usize
-    ensures { result ≡ length (bytes_held_in (option_copied node.entry)) }
+    ensures { result ≡ len_held (option_copied node.entry) }
 {
     match node {
         Some(node) => match &node.content {
@@ -88,46 +89,27 @@ pub fn size_held(node: Option<&Node>) -> usize
     }
 }
 
-/// How many chunks a file has that is there; a directory has none.
-pub fn chunks_held(node: Option<&Node>) -> usize
-    ensures { result ≡ chunks_for (length (bytes_held_in (option_copied node.entry))) }
+/// The bytes of the file with this number in its chunk at a place, where the file is there.
+pub fn chunk_held(nodes: &FileNodes, number: u64, index: usize) -> &[u8]
+    ensures { result.now ≡ chunk_of (bytes_held_in (node_in nodes.now number)) index }
 {
-    match node {
-        Some(node) => match &node.content {
-            NodeContent::Directory => 0,
-            NodeContent::File(file) => file.chunks(),
-        },
-        None => 0,
-    }
-}
-
-/// The bytes of a file in its chunk at a place, where the file is there.
-pub fn chunk_held(node: Option<&Node>, index: usize) -> &[u8]
-    ensures { result.now ≡ chunk_of (bytes_held_in (option_copied node.entry)) index }
-{
-    match node {
-        Some(node) => match &node.content {
-            NodeContent::Directory => b"",
-            NodeContent::File(file) => file.chunk(index),
-        },
+    match place_of(nodes, number) {
+        Some(place) => nodes.chunk(place, index),
         None => b"",
     }
 }
 
-/// Puts a file's bytes from one of them on into `into`, as many as there are and fit, and gives how
-/// many. Where no file is there, there are none.
-pub fn read_held(node: Option<&Node>, from: usize, into: &mut [u8]) -> usize
-    ensures count { result
-        ≡ length (take (length into.old) (drop from (bytes_held_in (option_copied node.entry)))) }
+/// Puts the bytes of the file with this number from one of them on into `into`, as many as there
+/// are and fit, and gives how many. Where no file is there, there are none.
+pub fn read_held(nodes: &FileNodes, number: u64, from: usize, into: &mut [u8]) -> usize
+    ensures count { result ≡ length (take (length into.old)
+        (drop from (bytes_held_in (node_in nodes.now number)))) }
     ensures copied { into.new
-        ≡ take (length into.old) (drop from (bytes_held_in (option_copied node.entry)))
+        ≡ take (length into.old) (drop from (bytes_held_in (node_in nodes.now number)))
         ++ drop result into.old }
 {
-    match node {
-        Some(node) => match &node.content {
-            NodeContent::Directory => 0,
-            NodeContent::File(file) => file.read(from, into),
-        },
+    match place_of(nodes, number) {
+        Some(place) => nodes.read(place, from, into),
         None => 0,
     }
 }
@@ -148,7 +130,7 @@ pub fn name_held(node: Option<&Node>) -> &[u8]
 
 /// The number of a node that is there.
 pub fn number_held(node: Option<&Node>) -> Option<u64>
-    ensures { result ≡ option_map (λ (n : StoredNode). n.number) (option_copied node.entry) }
+    ensures { result ≡ option_map kept_number (option_copied node.entry) }
 {
     match node {
         Some(node) => Some(node.number),
@@ -182,18 +164,11 @@ pub fn holds_path(node: Option<&Node>) -> bool
 
 /// The contents of a new node. It takes no memory.
 pub fn new_content(alloc: Global, kind: NodeKind) -> NodeContent
-    ensures { content_shown result ≡ empty kind }
+    ensures shown { content_shown (seen_content result) ≡ empty kind }
+    ensures none { file_body result ≡ InChunks [] 0 }
 {
     match kind {
         NodeKind::Directory => NodeContent::Directory,
-        NodeKind::File => NodeContent::File(FileBytes::new(alloc)),
+        NodeKind::File => NodeContent::File(FileChunks::new(alloc)),
     }
-}
-
-/// Drops the node at a place.
-pub fn drop_node(nodes: &mut Nodes, place: usize)
-    requires { place < length nodes.old }
-    ensures { nodes.new ≡ remove nodes.old place }
-{
-    let _node = nodes.remove(place);
 }

@@ -19,20 +19,19 @@ ghost use Rattle.file_tree.specs.declared.limits.TheConstants.{NODES, FILE_BYTES
 use crate::children::{leads_to, parent_of};
 use crate::kind::NodeKind;
 use crate::lookup::{
-    chunk_held, chunks_held, drop_node, holds_directory, holds_node, holds_path, name_held,
-    new_content, node_of, number_held, place_of, read_held, size_held,
+    chunk_held, holds_directory, holds_node, holds_path, name_held, new_content, node_of,
+    number_held, place_of, read_held, size_held,
 };
-use crate::store::{ByteList, Hook, Node, NodeContent, Nodes, chunks_of_size};
+use crate::store::{ByteList, FileNodes, Hook, Node, NodeContent};
 use std::alloc::{AllocError, Global};
 use std::marker::Model;
 
 /// Files and directories, which contracts see by their numbers and whole paths.
 #[derive(Drop)]
 pub struct Tree {
-    nodes: Nodes,
+    nodes: FileNodes,
     next: u64,
     used: u64,
-    chunks: usize,
 }
 
 impl Model for Tree {
@@ -41,12 +40,11 @@ impl Model for Tree {
 
     ghost Value = { Files };
 
-    ghost use Rattle.file_tree.specs.Links.{files, AreNodes, used_in, chunks_in};
+    ghost use Rattle.file_tree.specs.Links.{files, AreNodes, used_in};
 
     ghost view = { λ t. files t.nodes t.next };
 
-    ghost invariant = { λ t. AreNodes t.nodes t.next × (t.used ≡ used_in t.nodes)
-        × (t.chunks ≡ chunks_in t.nodes) };
+    ghost invariant = { λ t. AreNodes t.nodes t.next × (t.used ≡ used_in t.nodes) };
 }
 
 impl Tree {
@@ -54,7 +52,7 @@ impl Tree {
     pub fn new(alloc: Global) -> Result<Self, AllocError>
         ensures { IfOk result (λ tree. tree ≡ fresh) }
     {
-        let mut nodes = Nodes::new(alloc);
+        let mut nodes = FileNodes::new(alloc);
         nodes.push(Node {
             number: 1,
             hook: Hook::Root,
@@ -64,7 +62,6 @@ impl Tree {
             nodes,
             next: 2,
             used: 0,
-            chunks: 0,
         })
     }
 
@@ -94,7 +91,7 @@ impl Tree {
     pub fn chunks(&self) -> usize
         ensures { result ≡ chunks_of self.now }
     {
-        self.chunks
+        self.nodes.chunks()
     }
 
     /// Whether the node with this number has a path: it is there, and wasn't removed.
@@ -187,7 +184,7 @@ impl Tree {
         ensures bytes { into.new ≡ read_from self.now number from (length into.old)
             ++ drop result into.old }
     {
-        read_held(node_of(&self.nodes, number), from as usize, into)
+        read_held(&self.nodes, number, from as usize, into)
     }
 
     /// The bytes of a file in its chunk at a place, from 0 on. The last one may have fewer. Where
@@ -195,7 +192,7 @@ impl Tree {
     pub fn chunk(&self, number: u64, index: usize) -> &[u8]
         ensures { result.now ≡ chunk_of (bytes_of_node self.now number) index }
     {
-        chunk_held(node_of(&self.nodes, number), index)
+        chunk_held(&self.nodes, number, index)
     }
 
     /// The directory above a node: none above the root, a removed node, or one that isn't there.
@@ -289,11 +286,9 @@ impl Tree {
         let Some(place) = place_of(&self.nodes, number) else {
             return Ok(());
         };
-        let file = Some(self.nodes.get(place));
-        let (bytes, chunks) = (size_held(file) as u64, chunks_held(file));
+        let bytes = size_held(Some(self.nodes.get(place))) as u64;
         self.nodes.resize(place, size as usize)?;
         self.used = self.used - bytes + size;
-        self.chunks = self.chunks - chunks + chunks_of_size(size as usize);
         Ok(())
     }
 
@@ -316,11 +311,9 @@ impl Tree {
         ensures { self.new ≡ forgotten number self.old }
     {
         if let Some(place) = place_of(&self.nodes, number) {
-            let file = Some(self.nodes.get(place));
-            let (bytes, chunks) = (size_held(file) as u64, chunks_held(file));
-            drop_node(&mut self.nodes, place);
+            let bytes = size_held(Some(self.nodes.get(place))) as u64;
+            self.nodes.remove(place);
             self.used -= bytes;
-            self.chunks -= chunks;
         }
     }
 

@@ -27,6 +27,19 @@ const BYTES: u32 = 1_024;
 
 const END: u32 = 65_536;
 
+/// The descriptor of the root, and that of the first file which a guest opens.
+const ROOT: u64 = 3;
+
+const FIRST_FILE: u32 = 4;
+
+/// What opens a file that isn't there yet, and the rights of one.
+const CREATE: u64 = 1;
+
+const FILE_RIGHTS: u64 = 0x0060_007f;
+
+/// The names of sixteen files.
+static NAMES: [u8; 16] = *b"abcdefghijklmnop";
+
 /// A host, and a page whose cell for results holds 7.
 #[derive(Drop)]
 struct Guest {
@@ -85,12 +98,20 @@ enum Step {
     Lengths([usize; 3]),
     /// How many lines a write of one iovec to stream 2 would add, an unfinished one counted.
     Begins(usize),
+    /// Sixteen files are made and opened.
+    OpenFiles,
+    /// So many of them, from the first on, get this size.
+    SizeFiles(u32, u64),
+    /// A file gets a size. What comes of it.
+    Size(u32, u64, Option<Errno>),
+    /// How many bytes all files have, and in how many chunks.
+    Chunks(u64, usize),
 }
 
 /// A name, and what a fresh guest does and shows.
 type Story = (&'static str, &'static [Step]);
 
-static STORIES: [Story; 12] = [
+static STORIES: [Story; 13] = [
     (
         "a line is cut behind 4,096 bytes",
         &[
@@ -207,6 +228,21 @@ static STORIES: [Story; 12] = [
         ],
     ),
     ("random bytes are put", &[Step::PutRandom]),
+    (
+        "the room for all files counts bytes, and not chunks",
+        &[
+            Step::OpenFiles,
+            Step::SizeFiles(15, 4_097),
+            Step::Size(19, 4_081, None),
+            Step::Chunks(65_536, 31),
+            Step::Size(19, 4_082, Some(Errno::Nospc)),
+            Step::Chunks(65_536, 31),
+            // what one file gives back another one may have
+            Step::Size(4, 4_096, None),
+            Step::Size(19, 4_082, None),
+            Step::Chunks(65_536, 30),
+        ],
+    ),
 ];
 
 /// Puts so many letters, with a newline behind them.
@@ -317,6 +353,61 @@ fn are_put(alloc: Global, guest: &mut Guest) -> Result<bool, CallStop> {
     Ok(outcome == CallOutcome::Done(None) && guest.memory.part(RESULT, 6) == Some(&RANDOM[..]))
 }
 
+/// Whether a file of this name is made, and opened as this descriptor.
+fn opens(alloc: Global, guest: &mut Guest, name: u8, fd: u32) -> bool {
+    let path = u64::from(BYTES);
+    let cell = u64::from(RESULT);
+    let arguments = [ROOT, 0, path, 1, CREATE, FILE_RIGHTS, 0, 0, cell];
+    guest.memory.store_u8(BYTES, 0, name).is_some()
+        && call(
+            alloc,
+            &mut guest.host,
+            &mut guest.memory,
+            Call::PathOpen,
+            &arguments,
+            None,
+        ) == CallOutcome::Done(None)
+        && guest.memory.load_u32(RESULT, 0) == Some(fd)
+}
+
+fn opens_files(alloc: Global, guest: &mut Guest) -> bool {
+    let mut fd = FIRST_FILE;
+    for name in &NAMES {
+        if !opens(alloc, guest, *name, fd) {
+            return false;
+        }
+        fd = fd.wrapping_add(1);
+    }
+    true
+}
+
+/// Whether a file that is to get a size comes to this.
+fn is_sized(alloc: Global, guest: &mut Guest, fd: u32, size: u64, wanted: Option<Errno>) -> bool {
+    let outcome = call(
+        alloc,
+        &mut guest.host,
+        &mut guest.memory,
+        Call::FdFilestatSetSize,
+        &[u64::from(fd), size],
+        None,
+    );
+    outcome == CallOutcome::Done(wanted)
+}
+
+fn are_sized(alloc: Global, guest: &mut Guest, count: u32, size: u64) -> bool {
+    for place in 0..count {
+        if !is_sized(alloc, guest, FIRST_FILE.wrapping_add(place), size, None) {
+            return false;
+        }
+    }
+    true
+}
+
+fn takes(guest: &Guest, bytes: u64, chunks: usize) -> bool {
+    let tree = guest.host.tree();
+    tree.used_bytes() == bytes && tree.chunks() == chunks
+}
+
 /// The lines that wait are on these streams, and so long.
 fn has_lines(guest: &Guest, wanted: &[(u8, usize)]) -> bool {
     let lines = guest.host.waiting_lines();
@@ -347,7 +438,18 @@ fn begins(guest: &Guest, count: usize) -> bool {
     lines_begun(&guest.host, &guest.memory, Call::FdWrite, &arguments) == count
 }
 
-/// Whether a step that takes no memory goes so.
+/// Whether a step of files goes so.
+fn is_in_files(alloc: Global, guest: &mut Guest, step: &Step) -> bool {
+    match step {
+        Step::OpenFiles => opens_files(alloc, guest),
+        Step::SizeFiles(count, size) => are_sized(alloc, guest, *count, *size),
+        Step::Size(fd, size, wanted) => is_sized(alloc, guest, *fd, *size, *wanted),
+        Step::Chunks(bytes, chunks) => takes(guest, *bytes, *chunks),
+        _ => false,
+    }
+}
+
+/// Whether a step that isn't to want memory goes so.
 fn is_seen(alloc: Global, guest: &mut Guest, step: &Step) -> bool {
     match step {
         Step::Put(bytes) => guest.memory.write(BYTES, bytes).is_some(),
@@ -364,7 +466,7 @@ fn is_seen(alloc: Global, guest: &mut Guest, step: &Step) -> bool {
         Step::Lines(wanted) => has_lines(guest, wanted),
         Step::Lengths(wanted) => has_lengths(guest, wanted),
         Step::Begins(count) => begins(guest, *count),
-        _ => false,
+        step => is_in_files(alloc, guest, step),
     }
 }
 

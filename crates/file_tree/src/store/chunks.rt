@@ -1,13 +1,19 @@
-//! Bytes in chunks of one size.
+//! Bytes in chunks of one size. The chunks of all files are in one slab, and a file has the keys of
+//! its own.
 
-ghost use Rattle.std.specs.Prelude.{◌≡◌, ◌+◌, ◌*◌, ◌-◌, ◌<◌, ◌≤◌, ◌^◌, ◌%◌, ◌++◌, length, take};
-ghost use Rattle.std.specs.Prelude.{drop, replicate, IfOk};
+ghost use Rattle.std.specs.Prelude.{◌≡◌, ◌+◌, ◌*◌, ◌-◌, ◌<◌, ◌≤◌, ◌^◌, ◌%◌, ◌++◌, ◌∷◌, [], length};
+ghost use Rattle.std.specs.Prelude.{take, drop, replicate, IfOk};
 ghost use Rattle.std.specs.List.{concat};
+ghost use Rattle.std.specs.Vec.{vec_len, vec_capacity};
+ghost use Rattle.slab.specs.Slab.{HasRoomFor, slab_len};
 ghost use Rattle.file_tree.specs.declared.limits.TheConstants.{CHUNK_BYTES};
 ghost use Rattle.file_tree.specs.rules.Chunks.{chunks_for};
-ghost use Rattle.file_tree.specs.Store.Chunked.{overlaid, AreFull};
+ghost use Rattle.file_tree.specs.Store.Bodies.{AreFullAt, Rekeys};
+ghost use Rattle.file_tree.specs.Store.Chunked.{overlaid};
+ghost use Rattle.file_tree.specs.Store.Stored.{stored};
 
 use crate::limits::CHUNK_BYTES;
+use slab::Slab;
 use std::alloc::{AllocError, Global};
 use std::marker::Model;
 
@@ -119,80 +125,152 @@ fn piece(from: usize, most: usize) -> usize
 
 // Puts as many of these bytes in the place of others as lie in the chunk of the first, and gives
 // how many.
-fn write_piece(chunks: &mut Vec<Chunk>, from: usize, bytes: &[u8]) -> usize
-    requires full { AreFull chunks.old.items }
+fn write_piece(chunks: &mut Slab<Chunk>, keys: &[usize], from: usize, bytes: &[u8]) -> usize
+    requires full { AreFullAt chunks.old keys.now }
     requires some { 0 < length bytes.now }
-    requires within { from + length bytes.now ≤ length chunks.old.items * CHUNK_BYTES }
+    requires within { from + length bytes.now ≤ length keys.now * CHUNK_BYTES }
     ensures some { 0 < result }
     ensures most { result ≤ length bytes.now }
-    ensures full { AreFull chunks.new.items }
-    ensures count { length chunks.new.items ≡ length chunks.old.items }
-    ensures written { concat chunks.new.items
-        ≡ overlaid (concat chunks.old.items) from (take result bytes.now) }
+    ensures full { AreFullAt chunks.new keys.now }
+    ensures written { concat (stored chunks.new keys.now)
+        ≡ overlaid (concat (stored chunks.old keys.now)) from (take result bytes.now) }
+    ensures others { Rekeys chunks.old chunks.new keys.now keys.now }
 {
     let count = piece(from, bytes.len());
-    chunks[from / CHUNK_BYTES].write(from % CHUNK_BYTES, &bytes[..count]);
+    let key = keys[from / CHUNK_BYTES];
+    chunks[key].write(from % CHUNK_BYTES, &bytes[..count]);
     count
 }
 
 /// Puts bytes in the place of others.
-pub fn write_chunks(chunks: &mut Vec<Chunk>, from: usize, bytes: &[u8])
-    requires full { AreFull chunks.old.items }
+pub fn write_chunks(chunks: &mut Slab<Chunk>, keys: &[usize], from: usize, bytes: &[u8])
+    requires full { AreFullAt chunks.old keys.now }
     requires fits { from + length bytes.now < 2 ^ 64 }
-    requires within { from + length bytes.now ≤ length chunks.old.items * CHUNK_BYTES }
-    ensures full { AreFull chunks.new.items }
-    ensures count { length chunks.new.items ≡ length chunks.old.items }
-    ensures written { concat chunks.new.items ≡ overlaid (concat chunks.old.items) from bytes.now }
+    requires within { from + length bytes.now ≤ length keys.now * CHUNK_BYTES }
+    ensures full { AreFullAt chunks.new keys.now }
+    ensures written { concat (stored chunks.new keys.now)
+        ≡ overlaid (concat (stored chunks.old keys.now)) from bytes.now }
+    ensures others { Rekeys chunks.old chunks.new keys.now keys.now }
 {
     let mut done = 0;
     while done < bytes.len() {
-        done += write_piece(chunks, from + done, &bytes[done..]);
+        done += write_piece(chunks, keys, from + done, &bytes[done..]);
     }
 }
 
 /// Makes all bytes from one on zeros, in the chunk in which it lies.
-pub fn clear_chunk(chunks: &mut Vec<Chunk>, from: usize)
-    requires full { AreFull chunks.old.items }
-    requires within { from ≤ length chunks.old.items * CHUNK_BYTES }
-    requires last { length chunks.old.items * CHUNK_BYTES < from + CHUNK_BYTES }
-    ensures full { AreFull chunks.new.items }
-    ensures count { length chunks.new.items ≡ length chunks.old.items }
-    ensures cleared { concat chunks.new.items ≡ take from (concat chunks.old.items)
-        ++ replicate (length chunks.old.items * CHUNK_BYTES - from) 0 }
+pub fn clear_chunk(chunks: &mut Slab<Chunk>, keys: &[usize], from: usize)
+    requires full { AreFullAt chunks.old keys.now }
+    requires within { from ≤ length keys.now * CHUNK_BYTES }
+    requires last { length keys.now * CHUNK_BYTES < from + CHUNK_BYTES }
+    ensures full { AreFullAt chunks.new keys.now }
+    ensures cleared { concat (stored chunks.new keys.now)
+        ≡ take from (concat (stored chunks.old keys.now))
+        ++ replicate (length keys.now * CHUNK_BYTES - from) 0 }
+    ensures others { Rekeys chunks.old chunks.new keys.now keys.now }
 {
     let start = from % CHUNK_BYTES;
     if start > 0 {
-        chunks[from / CHUNK_BYTES].clear(start);
+        let key = keys[from / CHUNK_BYTES];
+        chunks[key].clear(start);
     }
 }
 
 // Puts bytes from a place on into `into`, as many as lie in the chunk of the first and fit, and
 // gives how many.
-fn read_piece(chunks: &Vec<Chunk>, from: usize, into: &mut [u8]) -> usize
-    requires full { AreFull chunks.now.items }
+fn read_piece(chunks: &Slab<Chunk>, keys: &[usize], from: usize, into: &mut [u8]) -> usize
+    requires full { AreFullAt chunks.now keys.now }
     requires some { 0 < length into.old }
-    requires within { from + length into.old ≤ length chunks.now.items * CHUNK_BYTES }
+    requires within { from + length into.old ≤ length keys.now * CHUNK_BYTES }
     ensures some { 0 < result }
     ensures most { result ≤ length into.old }
-    ensures bytes { into.new ≡ take result (drop from (concat chunks.now.items))
+    ensures bytes { into.new ≡ take result (drop from (concat (stored chunks.now keys.now)))
         ++ drop result into.old }
 {
     let count = piece(from, into.len());
     let start = from % CHUNK_BYTES;
-    let bytes = chunks[from / CHUNK_BYTES].as_slice();
+    let key = keys[from / CHUNK_BYTES];
+    let bytes = chunks[key].as_slice();
     into[..count].copy_from_slice(&bytes[start..start + count]);
     count
 }
 
 /// Puts the bytes from a place on into `into`, which they fill.
-pub fn read_chunks(chunks: &Vec<Chunk>, from: usize, into: &mut [u8])
-    requires full { AreFull chunks.now.items }
+pub fn read_chunks(chunks: &Slab<Chunk>, keys: &[usize], from: usize, into: &mut [u8])
+    requires full { AreFullAt chunks.now keys.now }
     requires fits { from + length into.old < 2 ^ 64 }
-    requires within { from + length into.old ≤ length chunks.now.items * CHUNK_BYTES }
-    ensures { into.new ≡ take (length into.old) (drop from (concat chunks.now.items)) }
+    requires within { from + length into.old ≤ length keys.now * CHUNK_BYTES }
+    ensures { into.new
+        ≡ take (length into.old) (drop from (concat (stored chunks.now keys.now))) }
 {
     let mut done = 0;
     while done < into.len() {
-        done += read_piece(chunks, from + done, &mut into[done..]);
+        done += read_piece(chunks, keys, from + done, &mut into[done..]);
+    }
+}
+
+// Puts a chunk behind the others of a file. There is room for it, and for its key.
+fn put_chunk(chunks: &mut Slab<Chunk>, keys: &mut Vec<usize>, chunk: Chunk)
+    requires full { AreFullAt chunks.old keys.old.items }
+    requires whole { length chunk ≡ CHUNK_BYTES }
+    requires room { HasRoomFor chunks.old 1 }
+    requires space { vec_len keys.old < vec_capacity keys.old }
+    ensures full { AreFullAt chunks.new keys.new.items }
+    ensures put { stored chunks.new keys.new.items
+        ≡ stored chunks.old keys.old.items ++ chunk ∷ [] }
+    ensures others { Rekeys chunks.old chunks.new keys.old.items keys.new.items }
+    ensures count { slab_len chunks.new ≡ slab_len chunks.old + 1 }
+    ensures room { chunks.new.capacity ≡ chunks.old.capacity }
+    ensures len { vec_len keys.new ≡ vec_len keys.old + 1 }
+    ensures space { vec_capacity keys.new ≡ vec_capacity keys.old }
+{
+    let key = chunks.insert_reserved(chunk);
+    keys.push_reserved(key);
+}
+
+/// Puts chunks of zeros behind the others of a file. There is room for them, and for their keys.
+pub fn put_chunks(chunks: &mut Slab<Chunk>, keys: &mut Vec<usize>, mut zeros: Vec<Chunk>)
+    requires full { AreFullAt chunks.old keys.old.items }
+    requires zeros { zeros.items
+        ≡ replicate (length zeros.items) (replicate CHUNK_BYTES 0) }
+    requires room { HasRoomFor chunks.old (length zeros.items) }
+    requires space { vec_len keys.old + length zeros.items ≤ vec_capacity keys.old }
+    ensures full { AreFullAt chunks.new keys.new.items }
+    ensures put { stored chunks.new keys.new.items
+        ≡ stored chunks.old keys.old.items ++ zeros.items }
+    ensures others { Rekeys chunks.old chunks.new keys.old.items keys.new.items }
+{
+    while let Some(chunk) = zeros.pop() {
+        put_chunk(chunks, keys, chunk);
+    }
+}
+
+// Takes out the last chunk of a file. The slab gives its key to the next one.
+fn free_last(chunks: &mut Slab<Chunk>, keys: &mut Vec<usize>)
+    requires full { AreFullAt chunks.old keys.old.items }
+    requires some { 0 < length keys.old.items }
+    ensures full { AreFullAt chunks.new keys.new.items }
+    ensures left { stored chunks.new keys.new.items
+        ≡ take (length keys.old.items - 1) (stored chunks.old keys.old.items) }
+    ensures count { length keys.new.items + 1 ≡ length keys.old.items }
+    ensures others { Rekeys chunks.old chunks.new keys.old.items keys.new.items }
+{
+    let last = keys.as_slice().len() - 1;
+    let key = keys.remove(last);
+    let _chunk = chunks.remove(key);
+}
+
+/// Takes out the last chunks of a file, but for so many.
+pub fn free_chunks(chunks: &mut Slab<Chunk>, keys: &mut Vec<usize>, count: usize)
+    requires full { AreFullAt chunks.old keys.old.items }
+    requires fewer { count ≤ length keys.old.items }
+    ensures full { AreFullAt chunks.new keys.new.items }
+    ensures left { stored chunks.new keys.new.items
+        ≡ take count (stored chunks.old keys.old.items) }
+    ensures count { length keys.new.items ≡ count }
+    ensures others { Rekeys chunks.old chunks.new keys.old.items keys.new.items }
+{
+    while keys.as_slice().len() > count {
+        free_last(chunks, keys);
     }
 }

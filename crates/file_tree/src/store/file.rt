@@ -1,74 +1,73 @@
 //! The bytes of a file.
 
 ghost use Rattle.std.specs.Prelude.{◌≡◌, ◌+◌, ◌-◌, ◌<◌, ◌≤◌, ◌^◌, ◌++◌, [], min, length, take};
-ghost use Rattle.std.specs.Prelude.{drop, OnOk, OnErr};
+ghost use Rattle.std.specs.Prelude.{drop};
+ghost use Rattle.std.specs.Prelude.{OnOk, OnErr};
 ghost use Rattle.file_tree.specs.declared.limits.TheConstants.{FILE_BYTES};
 ghost use Rattle.file_tree.specs.rules.Bytes.{written, resized};
-ghost use Rattle.file_tree.specs.rules.Chunks.{chunks_for, chunk_of};
+ghost use Rattle.file_tree.specs.rules.Chunks.{chunk_of};
+ghost use Rattle.file_tree.specs.Store.Bodies.{InChunks, keys_of, len_of, bytes_of_file, HasChunks};
+ghost use Rattle.file_tree.specs.Store.Bodies.{Rekeys, TurnsInto};
 
 use crate::limits::CHUNK_BYTES;
 use crate::store::chunks::{
-    Chunk, chunks_of_size, clear_chunk, read_chunks, write_chunks, zero_chunks,
+    Chunk, chunks_of_size, clear_chunk, free_chunks, put_chunks, read_chunks, write_chunks,
+    zero_chunks,
 };
+use slab::Slab;
 use std::alloc::{AllocError, Global};
 use std::marker::Model;
 
-/// The bytes of a file, which contracts see as a list. They lie in chunks, each of which stays
-/// where it is: so more bytes move none of those that are there.
+/// How many bytes a file has, and the keys of the chunks in which they lie, in their order. The
+/// chunks are in a slab that all files share. More bytes move none of those that are there.
 #[derive(Debug, Drop)]
-pub struct FileBytes {
-    // all full, the last one of zeros behind the bytes
-    chunks: Vec<Chunk>,
+pub struct FileChunks {
+    keys: Vec<usize>,
     len: usize,
 }
 
-impl Model for FileBytes {
-    ghost use Rattle.std.specs.Prelude.{ℕ, List, take};
-    ghost use Rattle.std.specs.List.{concat};
+impl Model for FileChunks {
+    ghost use Rattle.file_tree.specs.Store.Bodies.{FileBody, InChunks};
 
-    ghost Value = { List ℕ };
+    ghost Value = { FileBody };
 
-    ghost use Rattle.file_tree.specs.Store.Chunked.{AreChunks};
+    ghost view = { λ f. InChunks f.keys.items f.len };
 
-    ghost view = { λ f. take f.len (concat f.chunks.items) };
+    ghost use Rattle.std.specs.Prelude.{◌≤◌};
+    ghost use Rattle.file_tree.specs.declared.limits.TheConstants.{FILE_BYTES};
 
-    ghost invariant = { λ f. AreChunks f.chunks.items f.len };
+    ghost invariant = { λ f. f.len ≤ FILE_BYTES };
 }
 
-impl FileBytes {
+impl FileChunks {
     /// No bytes. It takes no memory.
     pub fn new(alloc: Global) -> Self
-        ensures { result ≡ [] }
+        ensures { result ≡ InChunks [] 0 }
     {
-        FileBytes {
-            chunks: Vec::new(alloc),
+        FileChunks {
+            keys: Vec::new(alloc),
             len: 0,
         }
     }
 
     /// How many bytes there are.
     pub fn len(&self) -> usize
-        ensures { result ≡ length self.now }
+        ensures { result ≡ len_of self.now }
     {
         self.len
     }
 
-    /// How many chunks they take.
-    pub fn chunks(&self) -> usize
-        ensures { result ≡ chunks_for (length self.now) }
-    {
-        self.chunks.as_slice().len()
-    }
-
     /// The bytes in the chunk at a place. The last chunk may have fewer, and behind it there are
     /// none.
-    pub fn chunk(&self, index: usize) -> &[u8]
-        ensures { result.now ≡ chunk_of self.now index }
+    pub fn chunk<'a>(&self, chunks: &'a Slab<Chunk>, index: usize) -> &'a [u8]
+        requires { HasChunks chunks.now self.now }
+        ensures { result.now ≡ chunk_of (bytes_of_file chunks.now self.now) index }
     {
-        if index >= self.chunks.as_slice().len() {
+        let keys = self.keys.as_slice();
+        if index >= keys.len() {
             return b"";
         }
-        let bytes = self.chunks[index].as_slice();
+        let bytes = chunks[keys[index]].as_slice();
         let rest = self.len - index * CHUNK_BYTES;
         if rest < CHUNK_BYTES {
             &bytes[..rest]
@@ -79,64 +78,89 @@ impl FileBytes {
 
     /// Puts the bytes from one of them on into `into`, as many as there are and fit, and gives how
     /// many. What is behind them in `into` stays.
-    pub fn read(&self, from: usize, into: &mut [u8]) -> usize
-        ensures count { result ≡ length (take (length into.old) (drop from self.now)) }
-        ensures bytes { into.new ≡ take (length into.old) (drop from self.now)
+    pub fn read(&self, chunks: &Slab<Chunk>, from: usize, into: &mut [u8]) -> usize
+        requires { HasChunks chunks.now self.now }
+        ensures count { result
+            ≡ length (take (length into.old) (drop from (bytes_of_file chunks.now self.now))) }
+        ensures bytes { into.new
+            ≡ take (length into.old) (drop from (bytes_of_file chunks.now self.now))
             ++ drop result into.old }
     {
         let count = count_from(self.len, from, into.len());
         if count > 0 {
-            read_chunks(&self.chunks, from, &mut into[..count]);
+            read_chunks(chunks, self.keys.as_slice(), from, &mut into[..count]);
         }
         count
     }
 
     /// Puts bytes in the place of others. It touches the chunks in which they lie alone.
-    pub fn write(&mut self, from: usize, bytes: &[u8])
-        requires { from + length bytes.now ≤ length self.old }
-        ensures { self.new ≡ written self.old from bytes.now }
+    pub fn write(&self, chunks: &mut Slab<Chunk>, from: usize, bytes: &[u8])
+        requires held { HasChunks chunks.old self.now }
+        requires within { from + length bytes.now ≤ len_of self.now }
+        ensures { TurnsInto chunks.old chunks.new self.now self.now
+            (written (bytes_of_file chunks.old self.now) from bytes.now) }
     {
-        write_chunks(&mut self.chunks, from, bytes);
+        write_chunks(chunks, self.keys.as_slice(), from, bytes);
     }
 
     /// Cuts the bytes to a size, or puts zeros behind them up to it. It touches the last chunk, and
     /// those that come or go. Only want of memory makes it fail, and then nothing is changed.
-    pub fn resize(&mut self, size: usize) -> Result<(), AllocError>
-        requires { size ≤ FILE_BYTES }
-        ensures resized { OnOk result (self.new ≡ resized self.old size) }
+    pub fn resize(&mut self, chunks: &mut Slab<Chunk>, size: usize) -> Result<(), AllocError>
+        requires held { HasChunks chunks.old self.old }
+        requires size { size ≤ FILE_BYTES }
+        ensures resized { OnOk result (TurnsInto chunks.old chunks.new self.old self.new
+            (resized (bytes_of_file chunks.old self.old) size)) }
         ensures unchanged { OnErr result (self.new ≡ self.old) }
+        ensures kept { OnErr result (Rekeys chunks.old chunks.new [] []) }
     {
         if size < self.len {
-            self.cut(size);
+            self.cut(chunks, size);
             return Ok(());
         }
-        self.grow(size)
+        self.grow(chunks, size)
     }
 
     // Puts zeros behind the bytes up to a size. All chunks for them are taken before anything is
     // changed.
-    fn grow(&mut self, size: usize) -> Result<(), AllocError>
-        requires more { length self.old ≤ size }
+    fn grow(&mut self, chunks: &mut Slab<Chunk>, size: usize) -> Result<(), AllocError>
+        requires held { HasChunks chunks.old self.old }
+        requires more { len_of self.old ≤ size }
         requires fits { size ≤ FILE_BYTES }
-        ensures resized { OnOk result (self.new ≡ resized self.old size) }
+        ensures resized { OnOk result (TurnsInto chunks.old chunks.new self.old self.new
+            (resized (bytes_of_file chunks.old self.old) size)) }
         ensures unchanged { OnErr result (self.new ≡ self.old) }
+        ensures kept { OnErr result (Rekeys chunks.old chunks.new [] []) }
     {
-        let more = chunks_of_size(size) - self.chunks.as_slice().len();
-        let mut zeros = zero_chunks(*self.chunks.allocator(), more)?;
-        self.chunks.append(&mut zeros)?;
+        let more = chunks_of_size(size) - self.keys.as_slice().len();
+        let zeros = zero_chunks(*self.keys.allocator(), more)?;
+        chunks.reserve(more)?;
+        self.keys.reserve(more)?;
+        put_chunks(chunks, &mut self.keys, zeros);
         self.len = size;
         Ok(())
     }
 
-    // Cuts the bytes to a size. What is behind them in the last chunk is zeros from then on.
-    fn cut(&mut self, size: usize)
-        requires fewer { size ≤ length self.old }
+    // Cuts the bytes to a size. What is behind them in the last chunk is zeros from then on, and
+    // the chunks behind that are free.
+    fn cut(&mut self, chunks: &mut Slab<Chunk>, size: usize)
+        requires held { HasChunks chunks.old self.old }
+        requires fewer { size ≤ len_of self.old }
         requires fits { size ≤ FILE_BYTES }
-        ensures { self.new ≡ resized self.old size }
+        ensures { TurnsInto chunks.old chunks.new self.old self.new
+            (resized (bytes_of_file chunks.old self.old) size) }
     {
-        self.chunks.truncate(chunks_of_size(size));
-        clear_chunk(&mut self.chunks, size);
+        free_chunks(chunks, &mut self.keys, chunks_of_size(size));
+        clear_chunk(chunks, self.keys.as_slice(), size);
         self.len = size;
+    }
+
+    /// Gives back all chunks.
+    pub fn free(&mut self, chunks: &mut Slab<Chunk>)
+        requires { HasChunks chunks.old self.old }
+        ensures { Rekeys chunks.old chunks.new (keys_of self.old) [] }
+    {
+        free_chunks(chunks, &mut self.keys, 0);
+        self.len = 0;
     }
 }
 

@@ -2,11 +2,12 @@
 //! names.
 
 ghost use Rattle.std.specs.Prelude.{◌≡◌, ◌+◌, ◌<◌, ◌≤◌, ◌++◌, ◌∷◌, [], length, slice_index_or};
-ghost use Rattle.std.specs.Prelude.{None, option_copied, OnOk, OnErr};
+ghost use Rattle.std.specs.Prelude.{None, option_copied, OnOk, OnErr, false};
 ghost use Rattle.std.specs.List.{AllByRecursion, remove};
 ghost use Rattle.file_tree.specs.declared.limits.TheConstants.{FILE_BYTES};
 ghost use Rattle.file_tree.specs.Store.Stored.{changed};
-ghost use Rattle.file_tree.specs.Store.Changes.{with_hook, node_written, node_resized};
+ghost use Rattle.file_tree.specs.Store.Bodies.{HasChunks, Rekeys};
+ghost use Rattle.file_tree.specs.Store.Changes.{with_hook};
 ghost use Rattle.file_tree.specs.Store.Cuts.{AreOrdered};
 ghost use Rattle.file_tree.specs.Store.Kept.{IsLower};
 ghost use Rattle.file_tree.specs.Store.Named.{IsFreeHook};
@@ -16,6 +17,7 @@ ghost use Rattle.file_tree.specs.Nearest.{nearest_node, node_listed, IsCountList
 ghost use Rattle.file_tree.specs.declared.store.node.Hook.TheVariants.{Removed, In};
 
 use crate::store::bytes::ByteList;
+use crate::store::chunks::Chunk;
 use crate::store::named::{count_up_to, node_named, put_key, take_key};
 use crate::store::node::{Hook, Node};
 use slab::Slab;
@@ -54,7 +56,9 @@ impl Model for Nodes {
 
 impl Nodes {
     ghost use Rattle.file_tree.specs.declared.store.node.Node.{Node as TheNode};
-    ghost use Rattle.file_tree.specs.Links.{file_bytes_of};
+    ghost use Rattle.file_tree.specs.rules.Files.{is_directory_content};
+    ghost use Rattle.file_tree.specs.Links.{content_shown};
+    ghost use Rattle.file_tree.specs.Store.Joined.{file_body, ResizesAt};
 
     /// No nodes. It takes no memory.
     pub fn new(alloc: Global) -> Self
@@ -183,31 +187,28 @@ impl Nodes {
         put_key(&self.slab, &mut self.names, key);
     }
 
-    /// Puts bytes in the place of others of the file at a place; a directory stays.
-    pub fn write(&mut self, place: usize, from: usize, bytes: &[u8])
-        requires place { place < length self.old }
-        requires within { (n : TheNode) → n ≡ slice_index_or self.old place n
-            → from + length bytes.now ≤ length (file_bytes_of n) }
-        ensures { self.new ≡ changed (node_written from bytes.now) place self.old }
-    {
-        let key = self.order[place];
-        match self.slab.get_mut(key) {
-            Some(node) => node.content.write(from, bytes),
-            None => unreachable!(),
-        }
-    }
-
-    /// Cuts the file at a place to a size, or puts zeros behind its bytes up to it; a directory
-    /// stays. Only want of memory makes it fail, and then nothing is changed.
-    pub fn resize(&mut self, place: usize, size: usize) -> Result<(), AllocError>
+    /// Cuts the file at a place to a size, or puts zeros behind its bytes up to it. Only want of
+    /// memory makes it fail, and then nothing is changed.
+    pub fn resize(
+        &mut self,
+        chunks: &mut Slab<Chunk>,
+        place: usize,
+        size: usize,
+    ) -> Result<(), AllocError>
         requires place { place < length self.old }
         requires size { size ≤ FILE_BYTES }
-        ensures resized { OnOk result (self.new ≡ changed (node_resized size) place self.old) }
+        requires file { (n : TheNode) → n ≡ slice_index_or self.old place n
+            → is_directory_content (content_shown n.content) ≡ false }
+        requires held { (n : TheNode) → n ≡ slice_index_or self.old place n
+            → HasChunks chunks.old (file_body n.content) }
+        ensures resized { OnOk result
+            (ResizesAt chunks.old chunks.new self.old self.new place size) }
         ensures unchanged { OnErr result (self.new ≡ self.old) }
+        ensures kept { OnErr result (Rekeys chunks.old chunks.new [] []) }
     {
         let key = self.order[place];
         match self.slab.get_mut(key) {
-            Some(node) => node.content.resize(size),
+            Some(node) => node.content.resize(chunks, size),
             None => unreachable!(),
         }
     }

@@ -1,4 +1,4 @@
-use Rattle.std.proofs.Common.{◌≡◌, ◌+◌, ◌-◌, ◌/◌, ◌≤◌, sym, subst, get_or, arith}
+use Rattle.std.proofs.Common.{◌≡◌, ◌+◌, ◌-◌, ◌/◌, sym, subst, get_or, arith}
 use Rattle.file_tree.specs.Store.Cuts.{IsCut}
 use Rattle.file_tree.specs.Store.Kept.{IsLower, HasLower, HasNoLower}
 use Rattle.file_tree.proofs.StoreLemmas.Cuts.{Whatever, no_front, no_back, whole_cut, front_up_to}
@@ -26,7 +26,7 @@ loop-low-preserved-then-get-number c =
     let ns = c.args.nodes.now in
     let n = c.get.result.now in
     let lower : HasLower k (get_or ns (c.loop-low.low + (c.loop-low.high - c.loop-low.low) / 2) n) =
-    subst (HasLower k) c.get.ensures c.if-get-number.true in (
+    omega (arith, c.get.ensures.number, c.if-get-number.true) in (
       omega (arith, c.loop-low-test.true),
       c.loop-low.invariant.1,
       front_up_to IsLower (HasLower k) (lower_down k) ns (c.loop-low.low
@@ -43,9 +43,8 @@ loop-low-preserved c =
     let k = c.args.number in
     let ns = c.args.nodes.now in
     let n = c.get.result.now in
-    let most : k ≤ n.number = omega (arith, c.if-get-number.false) in
     let higher : HasNoLower k (get_or ns (c.loop-low.low + (c.loop-low.high - c.loop-low.low) / 2)
-    n) = subst (HasNoLower k) c.get.ensures most in (
+    n) = omega (arith, c.get.ensures.number, c.if-get-number.false) in (
       omega (arith, c.loop-low-test.true),
       omega (arith, c.loop-low-test.true, c.loop-low.invariant.1),
       c.loop-low.invariant.2,

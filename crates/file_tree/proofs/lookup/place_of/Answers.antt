@@ -1,5 +1,4 @@
-use Rattle.std.proofs.Common.{sym, ap, arith, ◌∙◌}
-use Rattle.file_tree.specs.declared.store.node.Node.{Node}
+use Rattle.std.proofs.Common.{sym, arith, ◌∙◌}
 use Rattle.file_tree.proofs.StoreLemmas.Numbers.{place_at_cut, nowhere_at_cut, nowhere_at_end}
 use Rattle.file_tree.proofs.lookup.place_of.Goals as goal
 
@@ -16,7 +15,7 @@ returns-then-get-number-clause-there c =
       c.if-place-len.false,
       c.len.ensures.count,
     ))
-    c.count_below-place.ensures.cut (sym (ap (λ (m : Node). m.number) c.get.ensures)
+    c.count_below-place.ensures.cut (sym c.get.ensures.number
     ∙ c.if-get-number.true)
 
 pub returns-clause-nowhere : goal.returns-clause-nowhere
@@ -25,4 +24,4 @@ returns-clause-nowhere c =
     nowhere_at_cut c.args.number c.args.nodes.now c.count_below-place.result n
     c.count_below-place.ensures.rising
     c.count_below-place.ensures.cut (λ lt e.
-    c.if-get-number.false (ap (λ (m : Node). m.number) c.get.ensures ∙ e))
+    c.if-get-number.false (c.get.ensures.number ∙ e))

@@ -1,7 +1,9 @@
 use Rattle.std.proofs.Common.{◌≡◌, ◌≤◌, ◌+◌, ◌-◌, length, take, drop, refl, arith, length-drop}
 use Rattle.std.proofs.Common.{length-take}
 use Rattle.std.specs.List.{concat}
-use Rattle.file_tree.proofs.StoreLemmas.Overs.{length-joined, read_two}
+use Rattle.file_tree.specs.Store.Stored.{stored}
+use Rattle.file_tree.proofs.StoreLemmas.Overs.{read_two}
+use Rattle.file_tree.proofs.StoreLemmas.SlabChunks.{length-full}
 use Rattle.file_tree.proofs.store.chunks.read_chunks.Goals as goal
 
 pub loop-done-preserved : goal.loop-done-preserved
@@ -12,7 +14,7 @@ loop-done-preserved c =
     let n = c.read_piece-done.result in
     let into = c.loop-done.into in
     let rest = length into - i in
-    let all = concat c.args.chunks.now.items in
+    let all = concat (stored c.args.chunks.now c.args.keys.now) in
     let left : length (take rest (drop i into)) ≡ rest =
     omega (arith, length-take rest (drop i into), length-drop i into) in
     let most : n ≤ rest = omega (arith, r.most, left) in
@@ -21,7 +23,7 @@ loop-done-preserved c =
       arith,
       length-take n (drop (c.args.from + i) all),
       length-drop (c.args.from + i) all,
-      length-joined c.args.chunks.now.items c.requires.full,
+      length-full c.args.chunks.now c.args.keys.now c.requires.full,
       most,
       c.loop-done.auto.into,
       c.loop-done-test.true,

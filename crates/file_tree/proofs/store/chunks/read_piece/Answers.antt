@@ -1,7 +1,12 @@
 use Rattle.std.proofs.Common.{List, ℕ, ◌≡◌, ◌-◌, ◌+◌, ◌%◌, ◌++◌, ap, take, drop, arith, ◌∙◌}
 use Rattle.file_tree.specs.declared.limits.TheConstants.{CHUNK_BYTES}
-use Rattle.file_tree.proofs.StoreLemmas.Overs.{piece_read}
+use Rattle.file_tree.proofs.StoreLemmas.SlabChunks.{chunk_there, chunk_read}
 use Rattle.file_tree.proofs.store.chunks.read_piece.Goals as goal
+
+pub index-requires : goal.index-requires
+index-requires c =
+    chunk_there c.args.chunks.now c.args.keys.now c.args.from c.requires.full
+    (omega (arith, c.requires.some, c.requires.within))
 
 pub returns-clause-bytes : goal.returns-clause-bytes
 returns-clause-bytes c =
@@ -12,8 +17,8 @@ returns-clause-bytes c =
     (c.copy_from_slice.ensures.after
     ∙ ap (λ (k : ℕ). take k (drop start c.as_slice-bytes.result.now)) many
     ∙ ap (λ (xs : List ℕ). take n (drop start xs)) c.as_slice-bytes.ensures.bytes
-    ∙ piece_read c.args.chunks.now.items c.args.from c.requires.full (omega (
+    ∙ chunk_read c.args.chunks.now c.args.keys.now c.args.from c.requires.full (omega (
       arith,
       c.requires.some,
       c.requires.within,
-    )) c.index.result.now n c.index.ensures c.piece-count.ensures.chunk)
+    )) c.index.result.now c.index.ensures n c.piece-count.ensures.chunk)

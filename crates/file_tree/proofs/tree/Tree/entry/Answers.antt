@@ -1,6 +1,4 @@
 use Rattle.std.proofs.Common.{ap, ◌∙◌}
-use Rattle.std.specs.Prelude.{option_map}
-use Rattle.file_tree.specs.declared.store.node.Node.{Node}
 use Rattle.file_tree.specs.rules.Files.{Files}
 use Rattle.file_tree.specs.rules.Listings.{number_at_place}
 use Rattle.file_tree.proofs.NearestNodes.{listed_shown}
@@ -8,7 +6,7 @@ use Rattle.file_tree.proofs.tree.Tree.entry.Goals as goal
 
 pub returns : goal.returns
 returns c =
-    c.number_held.ensures ∙ ap (option_map (λ (n : Node). n.number)) c.entry.ensures
+    c.number_held.ensures ∙ c.entry.ensures
     ∙ listed_shown c.self.inside.nodes c.self.inside.next c.args.directory c.args.place
     c.self.invariant.0
     ∙ ap (λ (fs : Files). number_at_place fs c.args.directory c.args.place) c.self.view_is

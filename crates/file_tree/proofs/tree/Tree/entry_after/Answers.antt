@@ -1,6 +1,4 @@
 use Rattle.std.proofs.Common.{◌≡◌, ◌+◌, [], ap, subst, ◌∙◌}
-use Rattle.std.specs.Prelude.{option_map}
-use Rattle.file_tree.specs.declared.store.node.Node.{Node}
 use Rattle.file_tree.specs.rules.Files.{Files}
 use Rattle.file_tree.specs.rules.Listings.{number_at_place, number_after, HasNameAtPlace}
 use Rattle.file_tree.proofs.NearestNodes.{nearest_shown, behind_shown, first_shown}
@@ -8,7 +6,7 @@ use Rattle.file_tree.proofs.tree.Tree.entry_after.Goals as goal
 
 pub returns-clause-after : goal.returns-clause-after
 returns-clause-after c =
-    c.number_held.ensures ∙ ap (option_map (λ (n : Node). n.number)) c.nearest_after.ensures
+    c.number_held.ensures ∙ c.nearest_after.ensures
     ∙ nearest_shown c.self.inside.nodes c.self.inside.next c.args.directory c.args.name.now
     c.self.invariant.0
     ∙ ap (λ (fs : Files). number_after fs c.args.directory c.args.name.now) c.self.view_is

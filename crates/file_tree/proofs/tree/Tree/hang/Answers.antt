@@ -16,7 +16,7 @@ invariant_of-self c =
     c.args.directory c.args.name c.args.self.now c.self.view_is c.self.invariant.0
     c.in-Some.ensures.there c.requires in
     rw c.move_to.ensures
-    (all.nodes, c.self.invariant.1 ∙ sym all.used, c.self.invariant.2 ∙ sym all.chunks)
+    (all.nodes, c.self.invariant.1 ∙ sym all.used)
 
 pub returns-in-Some : goal.returns-in-Some
 returns-in-Some c =

@@ -8,7 +8,6 @@ invariant_of-self c = (
   risen_nodes c.self.inside.nodes c.self.inside.next c.args.next c.self.invariant.0
       (omega (arith, c.requires, ap (λ (fs : Files). fs.next) c.self.view_is)),
   c.self.invariant.1,
-  c.self.invariant.2,
 )
 
 pub returns : goal.returns

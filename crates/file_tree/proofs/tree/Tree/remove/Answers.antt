@@ -9,8 +9,6 @@ invariant_of-self c =
     rw c.unhang.ensures (
       all.nodes,
       c.self.invariant.1 ∙ sym all.used,
-      c.self.invariant.2
-          ∙ sym all.chunks,
     )
 
 pub returns-in-Some : goal.returns-in-Some

@@ -1,9 +1,18 @@
-use Rattle.std.proofs.Common.{sym, ap, arith, length, ◌∙◌}
+use Rattle.std.proofs.Common.{Some, sym, ap, arith, length, ◌∙◌}
+use Rattle.file_tree.specs.declared.store.node.Node.{Node}
 use Rattle.file_tree.specs.rules.Bytes.{written}
 use Rattle.file_tree.specs.rules.Files.{bytes_of_node}
+use Rattle.file_tree.proofs.Lookups.{node_at_place}
 use Rattle.file_tree.proofs.Sizes.{all_bytes}
-use Rattle.file_tree.proofs.Contents.{is_overwritten, bytes_at_place, no_bytes_changed}
+use Rattle.file_tree.proofs.Contents.{is_overwritten, bytes_at_place, no_bytes_changed, file_at}
 use Rattle.file_tree.proofs.tree.Tree.write.Goals as goal
+
+pub write-requires-clause-file : goal.write-requires-clause-file
+write-requires-clause-file c = λ n at.
+    let ns = c.self.inside.nodes in
+    file_at ns c.self.inside.next c.args.number n c.args.self.now c.self.view_is
+    (node_at_place ns c.args.number c.in-Some.place n c.in-Some.ensures.there
+    ∙ ap (λ (x : Node). Some x) (sym at)) c.requires.file
 
 pub write-requires-clause-within : goal.write-requires-clause-within
 write-requires-clause-within c = λ n at.
@@ -26,8 +35,6 @@ invariant_of-self c =
     rw c.write.ensures (
       all.nodes,
       c.self.invariant.1 ∙ sym all.used,
-      c.self.invariant.2
-          ∙ sym all.chunks,
     )
 
 pub returns-in-Some : goal.returns-in-Some
