@@ -16,3 +16,5 @@ mod HeardLemmas
 mod EndLemmas
 mod GoingLemmas
 pub mod StopLemmas
+mod FoundDiskLemmas
+mod AnswerLemmas
