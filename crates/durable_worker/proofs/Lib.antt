@@ -18,3 +18,5 @@ mod EndLemmas
 mod GoingLemmas
 mod RunLemmas
 pub mod StopLemmas
+mod FoundDiskLemmas
+mod AnswerLemmas

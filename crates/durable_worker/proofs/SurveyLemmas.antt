@@ -22,6 +22,8 @@ use Rattle.durable_worker.specs.declared.surveyed.Survey.{Survey}
 use Rattle.durable_worker.specs.rules.Recoveries.{MarksDecide}
 use Rattle.durable_worker.specs.rules.Surveys.{Surveys, survey_of}
 use Rattle.durable_worker.specs.Findings.{FindsWorker, FindsOne, IsFoundAt, numbers_of_found}
+use Rattle.durable_worker.specs.FoundDisks.{FindsIn}
+use Rattle.durable_worker.proofs.AnswerLemmas.{found_there, surveyed}
 use Rattle.durable_worker.proofs.RecoveryLemmas.Results.{settled_by, sync_faulted}
 
 -- ---- the disk couldn't be synced
@@ -78,8 +80,9 @@ module _ {T : Type 0} (old sync new : Medium) (done : T)
       → ((fault : DiskFault)
       → ◌≡◌ {A = Result Found RecoverFault} (Err why) (Err (recover.Worker (Disk fault)))
       → sync.faults < new.faults)
+      → ((image : Image) → new.shows image → FindsIn sync.sectors image (Err why))
       → Surveys (Err why) old new
-  unfound_surveys why one marks cause = inr (
+  unfound_surveys why one marks cause shown = inr (
     settled_by old sync new done syncs reads,
     λ fault is. (let same : why ≡ recover.Worker (Disk fault) = cc in
         since old.faults sync.faults new.faults earlier
@@ -89,6 +92,7 @@ module _ {T : Type 0} (old sync new : Medium) (done : T)
       tells = λ m config kept n stands room.
           finds_there (Err why) one image shows m config (point_of stands) stands.records
           stands.last (stands_at_its_point image m config kept n stands) room;
+      shown = found_there old sync new done syncs (Err why) shown image shows;
     }),
   )
     where
@@ -101,8 +105,9 @@ module _ {T : Type 0} (old sync new : Medium) (done : T)
   -- one was
   pub found_surveys : (found : Found) (one : FindsOne sync.sectors new (Ok found))
       → ((image : Image) → new.shows image → MarksDecide {T = Found} image (Ok found))
+      → ((image : Image) → new.shows image → FindsIn sync.sectors image (Ok found))
       → Surveys (Ok (numbers_of_found found)) old new
-  found_surveys found one marks = inr (
+  found_surveys found one marks shown = inr (
     settled_by old sync new done syncs reads,
     λ fault is. absurd (cc),
     λ image shows. (let decide = marks image shows in record {
@@ -114,5 +119,7 @@ module _ {T : Type 0} (old sync new : Medium) (done : T)
           numbers_are one.0 stands found
           (finds_there (Ok found) one image shows m config (point_of stands) stands.records
           stands.last (stands_at_its_point image m config kept n stands) room);
+      shown = surveyed old.sectors image found
+          (found_there old sync new done syncs (Ok found) shown image shows);
     }),
   )

@@ -3,6 +3,7 @@ pub mod laws
 pub mod DurableTurns
 pub mod StoreTurns
 pub mod Findings
+pub mod FoundDisks
 pub mod Revivals
 pub mod Laying
 pub mod Hearing

@@ -10,6 +10,7 @@ pub mod Planned
 pub mod RecoverFaults
 pub mod Recoveries
 pub mod Savings
+pub mod ShownDisks
 pub mod SliceCalls
 pub mod StoryDisks
 pub mod Surveys

@@ -14,6 +14,8 @@ ghost use Rattle.durable_worker.specs.declared.recover_fault.RecoverFault.TheVar
 ghost use Rattle.durable_worker.specs.rules.Recoveries.{MarksDecide, SaysNoWorker};
 ghost use Rattle.durable_worker.specs.Findings.{FindsOne, FindsBehind, FindsLinked};
 ghost use Rattle.durable_worker.specs.Findings.{FindsSnapshot, FindsRecords};
+ghost use Rattle.durable_worker.specs.FoundDisks.{FindsIn, FindsBehindIn, FindsLinkedIn};
+ghost use Rattle.durable_worker.specs.FoundDisks.{FindsSnapshotIn, FindsRecordsIn};
 
 use crate::found::Found;
 use crate::recover_fault::RecoverFault;
@@ -39,6 +41,8 @@ use worker_store::{read_newest, read_records, read_worker};
 pub(crate) fn find<D: Disk>(alloc: Global, disk: &mut D) -> Result<Found, RecoverFault>
     ensures reads { OnlyReads (D.medium disk.old) (D.medium disk.new) }
     ensures finds { FindsOne (D.medium disk.old).sectors (D.medium disk.new) result }
+    ensures shows { (image : Image) → (D.medium disk.new).shows image
+        → FindsIn (D.medium disk.old).sectors image result }
     ensures marks { (image : Image) → (D.medium disk.new).shows image → MarksDecide image result }
     ensures room { IfOk result (λ found.
         total_sectors found.geometry ≤ (D.medium disk.new).sectors) }
@@ -62,6 +66,8 @@ fn find_linked<D: Disk>(
     ensures reads { OnlyReads (D.medium disk.old) (D.medium disk.new) }
     ensures finds { (image : Image) → (D.medium disk.new).shows image
         → FindsBehind contents image result }
+    ensures shows { (image : Image) → (D.medium disk.new).shows image
+        → FindsBehindIn contents image result }
     ensures room { IfOk result (λ found.
         total_sectors found.geometry ≤ (D.medium disk.new).sectors) }
     ensures own { SaysNoWorker result → ⊥ }
@@ -93,6 +99,8 @@ fn find_saved<D: Disk>(
     ensures reads { OnlyReads (D.medium disk.old) (D.medium disk.new) }
     ensures finds { (image : Image) → (D.medium disk.new).shows image
         → FindsLinked geometry.now config machine image result }
+    ensures shows { (image : Image) → (D.medium disk.new).shows image
+        → FindsLinkedIn geometry.now config machine image result }
     ensures room { IfOk result (λ found.
         total_sectors found.geometry ≤ (D.medium disk.new).sectors) }
     ensures own { SaysNoWorker result → ⊥ }
@@ -120,6 +128,8 @@ fn find_process<D: Disk>(
     ensures reads { OnlyReads (D.medium disk.old) (D.medium disk.new) }
     ensures finds { (image : Image) → (D.medium disk.new).shows image
         → FindsSnapshot geometry.now config machine snapshot image result }
+    ensures shows { (image : Image) → (D.medium disk.new).shows image
+        → FindsSnapshotIn geometry.now config machine snapshot image result }
     ensures room { IfOk result (λ found.
         total_sectors found.geometry ≤ (D.medium disk.new).sectors) }
     ensures own { SaysNoWorker result → ⊥ }
@@ -149,6 +159,8 @@ fn find_records<D: Disk>(
     ensures reads { OnlyReads (D.medium disk.old) (D.medium disk.new) }
     ensures finds { (image : Image) → (D.medium disk.new).shows image
         → FindsRecords geometry.now generation process image result }
+    ensures shows { (image : Image) → (D.medium disk.new).shows image
+        → FindsRecordsIn geometry.now generation process image result }
     ensures room { IfOk result (λ found.
         total_sectors found.geometry ≤ (D.medium disk.new).sectors) }
     ensures own { SaysNoWorker result → ⊥ }

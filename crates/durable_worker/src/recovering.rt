@@ -24,6 +24,7 @@ impl DurableWorker {
     ghost use Rattle.std.specs.Prelude.{IfErr, IfOk};
     ghost use Rattle.durable_worker.specs.rules.Recoveries.{HasRecoveryCause, Recovers};
     ghost use Rattle.durable_worker.specs.rules.Recoveries.{RecoveryCarries};
+    ghost use Rattle.durable_worker.specs.rules.ShownDisks.{RecoversAsShown};
 
     /// The worker that the disk stands for goes on. Syncs the disk, and reads what it shows. Then
     /// the process takes the answers on record, and each line that it emits on the way is released.
@@ -36,6 +37,11 @@ impl DurableWorker {
         // Nothing is written or told before a good sync. What the disk then shows decides the
         // result.
         ensures recovers { Recovers D.medium O.takes result disk.old disk.new outlet.old
+            outlet.new }
+
+        // Whatever stands on the disk, the result is what the newest head and all behind it say,
+        // and what is refused there is left as it is.
+        ensures shown { RecoversAsShown D.medium O.takes result disk.old disk.new outlet.old
             outlet.new }
 
         // Whatever was promised is kept, by Ok or by any error.

@@ -8,3 +8,4 @@ mod CreationLemmas
 mod FirstLemmas
 mod ReadLemmas
 mod AppendLemmas
+mod NewestLemmas

@@ -1,34 +1,26 @@
 -- What is read of a disk that stands at a savepoint.
 use Rattle.std.proofs.Common.{◌≡◌, ◌≤◌, ℕ, List, refl, sym, subst}
-use Rattle.std.specs.Prelude.{Result, Ok, Err, Option, Some, None, IfOk, IsTrue}
+use Rattle.std.specs.Prelude.{Result, Ok, Err, IfOk, IsTrue}
 use Rattle.std.proofs.lemmas.Bool.{false≢true}
 use Rattle.wasm_syntax.specs.declared.module.Module.{Module}
 use Rattle.wasi_abi.specs.rules.Configs.{Settings}
 use Rattle.process_rules.specs.Processes.{ProcessState}
-use Rattle.state_image.specs.rules.Image.{image}
 use Rattle.sector_disk.specs.rules.Image.{Image}
 use Rattle.disk_layout.specs.declared.fault.LayoutFault.{LayoutFault}
 use Rattle.disk_layout.specs.declared.fault.LayoutFault.TheVariants as layout
-use Rattle.disk_layout.specs.declared.geometry.Geometry.{Geometry}
-use Rattle.disk_layout.specs.declared.head.TheConstants.{IMAGE_VERSION}
 use Rattle.disk_layout.specs.declared.reading.contents.Contents.{Contents}
 use Rattle.disk_layout.specs.rules.Held.{GivesContents}
 use Rattle.disk_layout.specs.rules.Journal.{Record}
 use Rattle.disk_layout.specs.rules.Places.{total_sectors}
-use Rattle.snapshot.specs.declared.fault.SnapshotFault.{SnapshotFault}
-use Rattle.snapshot.specs.declared.fault.SnapshotFault.TheVariants as snapshot
-use Rattle.snapshot.specs.declared.newest.Snapshot.{Snapshot}
 use Rattle.snapshot.specs.declared.snapshots.State.{State}
 use Rattle.snapshot.specs.declared.snapshots.State.TheVariants as state
 use Rattle.snapshot.specs.declared.snapshots.Snapshots.{Snapshots}
-use Rattle.snapshot.specs.rules.Newest.{FindsNewest}
 use Rattle.snapshot.specs.rules.Snapshots.{has_failed, is_failed, is_idle, is_idle_state}
-use Rattle.worker_store.specs.laws.Readings.{FindsSaved}
 use Rattle.worker_store.specs.laws.Savepoints.{Savepoint, places, StandsAtPoint}
-use Rattle.worker_store.proofs.LawLemmas.Reading.{reads_the_module, finds_newest_point}
+use Rattle.worker_store.proofs.LawLemmas.Reading.{reads_the_module}
 use Rattle.worker_store.specs.declared.fault.StoreFault.{StoreFault}
-use Rattle.worker_store.specs.rules.Faults.{fault_of_layout, fault_of_snapshot}
-use Rattle.worker_store.specs.rules.Readings.{ReadsContents, ReadsNewest}
+use Rattle.worker_store.specs.rules.Faults.{fault_of_layout}
+use Rattle.worker_store.specs.rules.Readings.{ReadsContents}
 use Rattle.worker_store.proofs.FillLemmas.{ok_no_err}
 
 -- ---- configuration and module
@@ -84,48 +76,3 @@ idle_works_in state.Failed idle failed = false≢true idle
 
 pub idle_works : (s : Snapshots) → IsTrue (is_idle s) → IsTrue (is_failed s) → ⊥
 idle_works s idle failed = idle_works_in s.state idle failed
-
-module _ (geometry : Geometry) (disk : Image) (m : Module) (config : Settings)
-    (point : Savepoint m config) (records : List Record) (last : ProcessState)
-    (at : StandsAtPoint point records last disk) (placed : geometry ≡ places point) where
-  there : FindsSaved point disk
-  there = finds_newest_point m config point records last disk at
-
-  pub newest_some : (found : Option Snapshot) (s : Snapshot) → found ≡ Some s
-      → FindsNewest geometry disk (Ok found)
-      → (s.generation ≡ point.generation) × (s.version ≡ IMAGE_VERSION)
-      × (s.image.items ≡ image point.saved)
-  newest_some found s same finds =
-      let saved = there in
-      saved.found s
-      (subst (λ (p : Geometry). FindsNewest p disk (Ok (Some s))) placed
-      (subst (λ (o : Option Snapshot). FindsNewest geometry disk (Ok o)) same finds))
-
-  pub newest_none : (found : Option Snapshot) → found ≡ None
-      → FindsNewest geometry disk (Ok found) → ⊥
-  newest_none found same finds =
-      let saved = there in
-      saved.some
-      (subst (λ (p : Geometry). FindsNewest p disk (Ok None)) placed
-      (subst (λ (o : Option Snapshot). FindsNewest geometry disk (Ok o)) same finds))
-
-  not_damaged : FindsNewest geometry disk (Err snapshot.Damaged) → ⊥
-  not_damaged damaged =
-      let saved = there in
-      saved.whole
-      (subst (λ (p : Geometry). FindsNewest p disk (Err snapshot.Damaged)) placed damaged)
-
-pub newest_failed : (geometry : Geometry) (disk : Image) (fault : SnapshotFault) (e : StoreFault)
-    → e ≡ fault_of_snapshot fault → (fault ≡ snapshot.Failed → ⊥)
-    → FindsNewest geometry disk (Err fault) → ReadsNewest geometry disk (Err e)
-newest_failed geometry disk snapshot.TooBig e same works finds = absurd finds
-newest_failed geometry disk snapshot.Damaged e same works finds =
-    λ m config point records last at placed.
-    absurd (not_damaged geometry disk m config point records last at placed finds)
-newest_failed geometry disk snapshot.Failed e same works finds = absurd (works refl)
-newest_failed geometry disk snapshot.Memory e same works finds =
-    subst (λ (f : StoreFault). ReadsNewest geometry disk (Err f)) (sym same)
-    (λ m config point records last at placed. tt)
-newest_failed geometry disk (snapshot.Disk fault) e same works finds =
-    subst (λ (f : StoreFault). ReadsNewest geometry disk (Err f)) (sym same)
-    (λ m config point records last at placed. tt)

@@ -3,3 +3,4 @@ pub mod Stores
 pub mod Calls
 pub mod Creations
 pub mod Readings
+pub mod AnyDisk

@@ -21,9 +21,10 @@
 //!   and syncs are the told ones, in that order (`calls`). A disk with too few sectors is refused
 //!   before any (`too_small`), and so is want of memory told (`memory`).
 //! - `read_worker`, `read_newest`, `read_records`: of a disk that stands at a savepoint they give
-//!   what it stands by (`gives`, `finds`, `scans`). They only read (`reads`). That there is no
-//!   worker is said by `read_worker` alone, only where a mark of one is missing, and always there
-//!   (`marks`, `own`).
+//!   what it stands by (`gives`, `finds`, `scans`). Of any other one they give what stands there, or
+//!   tell what is wrong with it, the version of the newest head before its image (`tells`). They
+//!   only read (`reads`). That there is no worker is said by `read_worker` alone, only where a mark
+//!   of one is missing, and always there (`marks`, `own`).
 //! - `WorkerStore::reopen` commits the next generation on whatever stands for the worker. A cut at
 //!   any moment leaves what stands for the same answers, or the new snapshot (`any_moment`,
 //!   `durable`).
@@ -89,8 +90,8 @@
 //!
 //! In `specs/rules/`: `IsStoreOf`, `begun_store`, `with_record`, `with_stored` (`Stores.antt`);
 //! what each call leaves, and when each error comes (`Calls.antt`, `Creations.antt`,
-//! `Readings.antt`); faults of the crates below (`Faults.antt`). Words that they take from
-//! `specs/laws/`: `Savepoint`, `StandsAtPoint` (`Savepoints.antt`), `StandsAtFront`
+//! `Readings.antt`, `AnyDisk.antt`); faults of the crates below (`Faults.antt`). Words that they
+//! take from `specs/laws/`: `Savepoint`, `StandsAtPoint` (`Savepoints.antt`), `StandsAtFront`
 //! (`Barriers.antt`), `BeginsAtPoint` and `StandsBefore` (`Commits.antt`).
 //!
 //! All else in `specs/laws/` are second forms of what `worker_rules`, `journal`, `snapshot` and

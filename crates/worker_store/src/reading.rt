@@ -5,6 +5,7 @@ ghost use Rattle.sector_disk.specs.declared.fault.DiskFault.{DiskFault};
 ghost use Rattle.sector_disk.specs.rules.Image.{Image};
 ghost use Rattle.disk_layout.specs.rules.Places.{total_sectors};
 ghost use Rattle.disk_layout.specs.rules.Stored.{OnlyReads};
+ghost use Rattle.worker_store.specs.rules.AnyDisk.{TellsContents, TellsNewest, TellsRecords};
 ghost use Rattle.worker_store.specs.rules.Readings.{ReadsContents, ReadsNewest, ReadsRecords};
 ghost use Rattle.worker_store.specs.rules.Readings.{DeniesWorker, TellsMarks};
 
@@ -22,6 +23,8 @@ pub fn read_worker<D: Disk>(alloc: Global, disk: &mut D) -> Result<Contents, Sto
     ensures gives { (image : Image) → (D.medium disk.new).shows image
         → ReadsContents (D.medium disk.old).sectors image result }
     ensures marks { (image : Image) → (D.medium disk.new).shows image → TellsMarks image result }
+    ensures tells { (image : Image) → (D.medium disk.new).shows image
+        → TellsContents (D.medium disk.old).sectors image result }
     ensures room { IfOk result (λ c. total_sectors c.geometry ≤ (D.medium disk.old).sectors) }
     ensures cause { (fault : DiskFault) → result ≡ Err (StoreFault.Disk fault)
         → (D.medium disk.old).faults < (D.medium disk.new).faults }
@@ -33,9 +36,10 @@ pub fn read_worker<D: Disk>(alloc: Global, disk: &mut D) -> Result<Contents, Sto
     }
 }
 
-/// The newest snapshot of the worker. It is `Damaged` where no head is complete, or where the
-/// newest one names an image that its area doesn't hold. It is `Layout` with `Version` where the
-/// image is of a version that isn't known. It never says that there is no worker.
+/// The newest snapshot of the worker: what its newest complete head names. It is `Damaged` where no
+/// head is complete. The version of that head is judged before its image: where it isn't known it
+/// is `Layout` with `Version`, and else `Damaged` where the area doesn't hold the image that the
+/// head names. It never says that there is no worker.
 pub fn read_newest<D: Disk>(
     alloc: Global,
     disk: &mut D,
@@ -43,6 +47,8 @@ pub fn read_newest<D: Disk>(
 ) -> Result<Snapshot, StoreFault>
     requires { total_sectors geometry.now ≤ (D.medium disk.old).sectors }
     ensures reads { OnlyReads (D.medium disk.old) (D.medium disk.new) }
+    ensures tells { (image : Image) → (D.medium disk.new).shows image
+        → TellsNewest geometry.now image result }
     ensures finds { (image : Image) → (D.medium disk.new).shows image
         → ReadsNewest geometry.now image result }
     ensures own { DeniesWorker result → ⊥ }
@@ -51,17 +57,24 @@ pub fn read_newest<D: Disk>(
     ensures unfailed { result ≡ Err StoreFault.Failed → ⊥ }
 {
     let mut snapshots = Snapshots::new();
-    let found = match snapshots.newest(alloc, disk, geometry) {
+    let found = match snapshots.newest_head(disk) {
         Ok(found) => found,
         Err(fault) => return Err(StoreFault::from(fault)),
     };
-    let Some(snapshot) = found else {
+    let Some(head) = found else {
         return Err(StoreFault::Damaged);
     };
-    if snapshot.version != IMAGE_VERSION {
+    if head.version != IMAGE_VERSION {
         return Err(StoreFault::Layout(LayoutFault::Version));
     }
-    Ok(snapshot)
+    match snapshots.image_of(alloc, disk, geometry, &head) {
+        Ok(image) => Ok(Snapshot {
+            version: head.version,
+            generation: head.generation,
+            image,
+        }),
+        Err(fault) => Err(StoreFault::from(fault)),
+    }
 }
 
 /// The records of a generation, in the order of their steps. It never says that there is no worker.
@@ -75,6 +88,8 @@ pub fn read_records<D: Disk>(
     ensures reads { OnlyReads (D.medium disk.old) (D.medium disk.new) }
     ensures scans { (image : Image) → (D.medium disk.new).shows image
         → ReadsRecords geometry.now generation image result }
+    ensures tells { (image : Image) → (D.medium disk.new).shows image
+        → TellsRecords geometry.now generation image result }
     ensures own { DeniesWorker result → ⊥ }
     ensures cause { (fault : DiskFault) → result ≡ Err (StoreFault.Disk fault)
         → (D.medium disk.old).faults < (D.medium disk.new).faults }

@@ -82,7 +82,7 @@ const AREA_1: u64 = 2_308;
 
 const JOURNAL: u64 = 4_612;
 
-static DAMAGES: [Damage; 22] = [
+static DAMAGES: [Damage; 23] = [
     Damage {
         name: "nothing",
         pieces: &[],
@@ -176,6 +176,22 @@ static DAMAGES: [Damage; 22] = [
             place: 8,
             bytes: &[2],
         }],
+        opens: Err(VERSION),
+    },
+    Damage {
+        name: "version 2 of the image, and another byte of it",
+        pieces: &[
+            Piece {
+                sector: HEAD_1,
+                place: 8,
+                bytes: &[2],
+            },
+            Piece {
+                sector: AREA_1,
+                place: 190,
+                bytes: &[1],
+            },
+        ],
         opens: Err(VERSION),
     },
     Damage {

@@ -84,7 +84,7 @@ settled_by old sync mid done syncs reads =
       calls = reads.calls ∙ calls.all;
     }
 
-reads_none : (mid : Medium) → OnlyReads mid mid
+pub reads_none : (mid : Medium) → OnlyReads mid mid
 reads_none mid = record {
   stays = record {
     may = λ shown image both. both;

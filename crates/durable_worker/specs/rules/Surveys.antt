@@ -14,6 +14,7 @@ use Rattle.durable_worker.specs.declared.recover_fault.RecoverFault.TheVariants.
 use Rattle.durable_worker.specs.declared.surveyed.Survey.{Survey}
 use Rattle.durable_worker.specs.rules.Recoveries.{SaysNothing, MarksDecide, IsSettledBy}
 use Rattle.durable_worker.specs.rules.Recoveries.{IsUnsettled}
+use Rattle.durable_worker.specs.rules.ShownDisks.{SurveysDisk}
 
 -- The numbers of the process that an image has saved, and not of the one to which its records lead.
 -- Also how many records there are.
@@ -40,11 +41,13 @@ TellsSurvey (Ok told) survey = told ≡ survey
 TellsSurvey (Err why) survey = SaysNothing why
 
 -- A mark of a worker is missing just where the result says so, want of memory and faults of the
--- disk left aside. Else the survey of the worker is told.
+-- disk left aside. Else the survey of the worker is told. Whatever the image holds, the result is
+-- that of it.
 pub record SurveysFrom (sectors : ℕ) (disk : Image) (result : Result Survey RecoverFault)
     : Type 0 where
   pub marks : MarksDecide disk result
   pub tells : EachSurvey sectors disk (TellsSurvey result)
+  pub shown : SurveysDisk sectors disk result
 
 -- A fault of the disk is told only where the disk has failed since.
 abbrev pub HasFailedSince : Result Survey RecoverFault → Medium → Medium → Type 0

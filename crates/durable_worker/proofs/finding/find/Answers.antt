@@ -4,6 +4,7 @@ use Rattle.disk_layout.proofs.ReadLemmas.{reads_then}
 use Rattle.disk_layout.specs.declared.reading.contents.Contents.{Contents}
 use Rattle.worker_store.specs.laws.Savepoints.{places}
 use Rattle.durable_worker.proofs.FindingLemmas.{unread_as, marks_there, marks_unread}
+use Rattle.durable_worker.proofs.FoundDiskLemmas.{contents_unread}
 use Rattle.durable_worker.proofs.finding.find.Goals as goal
 
 pub returns-in-Ok-clause-reads : goal.returns-in-Ok-clause-reads
@@ -45,3 +46,17 @@ pub returns-in-Err-clause-marks : goal.returns-in-Err-clause-marks
 returns-in-Err-clause-marks g c = λ image shown.
     marks_unread image c.in-Err.fault c.from.result c.from.ensures
     (c.in-Err.ensures.marks image shown)
+
+pub returns-in-Ok-clause-shows : goal.returns-in-Ok-clause-shows
+returns-in-Ok-clause-shows g c = λ image shown.
+    let was = g.D.Disk.medium c.args.disk.now in
+    let reads = c.find_linked.ensures.reads in
+    let before = stays_shows (g.D.Disk.medium c.read_worker.new.disk)
+    (g.D.Disk.medium c.find_linked.new.disk) reads.stays image shown in
+    c.find_linked.ensures.shows image shown was.sectors (c.in-Ok.ensures.tells image before)
+
+pub returns-in-Err-clause-shows : goal.returns-in-Err-clause-shows
+returns-in-Err-clause-shows g c = λ image shown.
+    let was = g.D.Disk.medium c.args.disk.now in
+    contents_unread was.sectors image c.in-Err.fault c.from.result c.from.ensures
+    (c.in-Err.ensures.tells image shown)

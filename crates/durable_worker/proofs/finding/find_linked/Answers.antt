@@ -3,6 +3,7 @@ use Rattle.wasi_abi.specs.rules.Configs.{Settings}
 use Rattle.disk_layout.specs.declared.reading.contents.Contents.{Contents}
 use Rattle.durable_worker.specs.Findings.{FindsPoint}
 use Rattle.durable_worker.proofs.RestoringLemmas.{begun_machine, same_module, unaccepted}
+use Rattle.durable_worker.proofs.FoundDiskLemmas.{module_refused, module_held, machine_held}
 use Rattle.durable_worker.proofs.finding.find_linked.Goals as goal
 
 pub find_saved-requires-clause-begun : goal.find_saved-requires-clause-begun
@@ -28,3 +29,17 @@ returns-in-Err-clause-finds g c = λ image shown m config point records last at 
     (c.pages.ensures.value
     ∙ ap (λ (s : Contents). (let t : Settings = s.config in t.pages)) content)
     c.from.ensures c.in-Err.ensures.only
+
+pub returns-in-Ok-clause-shows : goal.returns-in-Ok-clause-shows
+returns-in-Ok-clause-shows g c = λ image shown sectors whole.
+    c.find_saved.ensures.shows image shown sectors
+    (module_held sectors image c.args.contents whole c.pages.result c.as_slice.result.now
+    c.pages.ensures.value c.as_slice.ensures c.in-Ok.machine c.in-Ok.ensures.accepted)
+    (machine_held sectors image c.args.contents whole c.pages.result c.as_slice.result.now
+    c.pages.ensures.value c.as_slice.ensures c.in-Ok.machine c.in-Ok.ensures.accepted)
+
+pub returns-in-Err-clause-shows : goal.returns-in-Err-clause-shows
+returns-in-Err-clause-shows g c = λ image shown sectors whole.
+    module_refused sectors image c.args.contents whole c.pages.result c.as_slice.result.now
+    c.pages.ensures.value c.as_slice.ensures c.in-Err.fault c.from.result c.from.ensures
+    c.in-Err.ensures.told c.in-Err.ensures.only

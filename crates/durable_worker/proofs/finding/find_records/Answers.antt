@@ -3,6 +3,7 @@ use Rattle.std.specs.Prelude.{Vec}
 use Rattle.std.specs.declared.alloc.Global.{Global}
 use Rattle.disk_layout.specs.rules.Journal.{Record}
 use Rattle.durable_worker.proofs.FindingLemmas.{found_at, unread_as}
+use Rattle.durable_worker.proofs.FoundDiskLemmas.{all_found, records_unread}
 use Rattle.durable_worker.proofs.finding.find_records.Goals as goal
 
 pub returns-in-Ok-clause-finds : goal.returns-in-Ok-clause-finds
@@ -19,3 +20,13 @@ returns-in-Err-clause-finds g c =
     unread_as (Vec Record Global) (λ found. found.items ≡ records) c.in-Err.fault c.from.result
     c.from.ensures
     (c.in-Err.ensures.scans image shown m config point records last at placed numbered)
+
+pub returns-in-Ok-clause-shows : goal.returns-in-Ok-clause-shows
+returns-in-Ok-clause-shows g c = λ image shown sectors holds restored.
+    all_found sectors image holds c.args.geometry.now c.args.generation c.args.process restored
+    c.in-Ok.records (c.in-Ok.ensures.tells image shown)
+
+pub returns-in-Err-clause-shows : goal.returns-in-Err-clause-shows
+returns-in-Err-clause-shows g c = λ image shown sectors holds restored.
+    records_unread sectors image holds c.args.geometry.now c.args.generation c.args.process
+    restored c.in-Err.fault c.from.result c.from.ensures (c.in-Err.ensures.tells image shown)

@@ -4,6 +4,7 @@ use Rattle.disk_layout.proofs.ReadLemmas.{reads_then}
 use Rattle.snapshot.specs.declared.newest.Snapshot.{Snapshot}
 use Rattle.state_image.specs.rules.Image.{image as image_of}
 use Rattle.durable_worker.proofs.FindingLemmas.{unread_as}
+use Rattle.durable_worker.proofs.FoundDiskLemmas.{newest_unread}
 use Rattle.durable_worker.proofs.finding.find_saved.Goals as goal
 
 pub returns-in-Ok-clause-reads : goal.returns-in-Ok-clause-reads
@@ -26,3 +27,16 @@ returns-in-Err-clause-finds g c = λ image shown m config point records last at 
     (λ found. (found.generation ≡ point.generation) × (found.image.items ≡ image_of point.saved))
     c.in-Err.fault c.from.result c.from.ensures
     (c.in-Err.ensures.finds image shown m config point records last at linked.placed)
+
+pub returns-in-Ok-clause-shows : goal.returns-in-Ok-clause-shows
+returns-in-Ok-clause-shows g c = λ image shown sectors holds is_machine.
+    let reads = c.find_process.ensures.reads in
+    let before = stays_shows (g.D.Disk.medium c.read_newest.new.disk)
+    (g.D.Disk.medium c.find_process.new.disk) reads.stays image shown in
+    let told = c.in-Ok.ensures.tells image before in
+    c.find_process.ensures.shows image shown sectors holds is_machine told.1
+
+pub returns-in-Err-clause-shows : goal.returns-in-Err-clause-shows
+returns-in-Err-clause-shows g c = λ image shown sectors holds is_machine.
+    newest_unread sectors image holds c.args.geometry.now is_machine.placed c.in-Err.fault
+    c.from.result c.from.ensures (c.in-Err.ensures.tells image shown)

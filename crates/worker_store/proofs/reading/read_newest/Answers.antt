@@ -1,35 +1,86 @@
-use Rattle.std.proofs.Common.{ap, arith}
-use Rattle.std.specs.Prelude.{Result, Err, Option}
+use Rattle.std.proofs.Common.{rules, ℕ, ap, subst, inl}
+use Rattle.disk_layout.specs.declared.head.Head.{Head}
+use Rattle.snapshot.specs.rules.Heads.{FindsHead}
+use Rattle.std.specs.Prelude.{Result, Ok, Err, Vec, IsTrue, Option}
+use Rattle.std.specs.declared.alloc.Global.{Global}
+use Rattle.sector_disk.proofs.Moments.{stays_shows}
 use Rattle.snapshot.specs.declared.fault.SnapshotFault.{SnapshotFault}
-use Rattle.snapshot.specs.declared.newest.Snapshot.{Snapshot}
-use Rattle.worker_store.proofs.ReadLemmas.{idle_works, newest_some, newest_none, newest_failed}
+use Rattle.snapshot.specs.declared.snapshots.Snapshots.{Snapshots}
+use Rattle.snapshot.specs.rules.Snapshots.{is_failed}
+use Rattle.worker_store.proofs.NewestLemmas.{names_it, image_wrong, other_version}
+use Rattle.worker_store.proofs.NewestLemmas.{reads_newest}
+use Rattle.disk_layout.specs.declared.fault.LayoutFault.TheVariants.{Version}
+use Rattle.worker_store.specs.declared.fault.StoreFault.TheVariants.{Damaged, Layout}
+use Rattle.worker_store.proofs.ReadLemmas.{idle_works}
 use Rattle.worker_store.proofs.reading.read_newest.Goals as goal
 
-pub returns-in-Err-clause-finds : goal.returns-in-Err-clause-finds
-returns-in-Err-clause-finds g c disk shown =
-    newest_failed c.args.geometry.now disk c.in-Err.fault c.from.result c.from.ensures
+pub returns-in-Ok-image_of-clause-tells : goal.returns-in-Ok-image_of-clause-tells
+returns-in-Ok-image_of-clause-tells g c image shown =
+    let known = c.if-head-ne-IMAGE_VERSION.false in
+    let before = stays_shows (g.D.Disk.medium c.newest_head.new.disk)
+    (g.D.Disk.medium c.image_of.new.disk) c.image_of.ensures.reads.stays image shown in (
+      known,
+      names_it c.args.geometry.now image c.in-Ok.found c.in-Some.head c.in-Some.is
+          (c.in-Ok.ensures.finds image before) known c.in-Ok-image_of.image.items
+          (c.in-Ok-image_of.ensures.image image shown),
+    )
+
+pub returns-in-Err-image_of-clause-tells : goal.returns-in-Err-image_of-clause-tells
+returns-in-Err-image_of-clause-tells g c image shown =
+    let known = c.if-head-ne-IMAGE_VERSION.false in
+    let before = stays_shows (g.D.Disk.medium c.newest_head.new.disk)
+    (g.D.Disk.medium c.image_of.new.disk) c.image_of.ensures.reads.stays image shown in
+    image_wrong c.args.geometry.now image c.in-Ok.found c.in-Some.head c.in-Some.is
+    (c.in-Ok.ensures.finds image before) known c.in-Err-image_of.fault
+    c.from-in-Err-image_of.result c.from-in-Err-image_of.ensures
     (λ same. idle_works c.new-snapshots.result c.new-snapshots.ensures.idle
-    (c.in-Err.ensures.fails.refused.0 (ap (λ (f : SnapshotFault).
-    (let r : Result (Option Snapshot) SnapshotFault = Err f in r)) same)))
-    (c.in-Err.ensures.finds disk shown)
+    (subst (λ (s : Snapshots). IsTrue (is_failed s)) c.in-Ok.ensures.same
+    (c.in-Err-image_of.ensures.fails.refused.0 (ap (λ (f : SnapshotFault).
+    (let r : Result (Vec ℕ Global) SnapshotFault = Err f in r)) same))))
+    (c.in-Err-image_of.ensures.image image shown)
+
+pub returns-in-Err-clause-tells : goal.returns-in-Err-clause-tells
+returns-in-Err-clause-tells g c = search rules
+
+pub returns-in_default-clause-tells : goal.returns-in_default-clause-tells
+returns-in_default-clause-tells g c image shown =
+    inl (subst (λ (o : Option Head). FindsHead image o) c.in_default.is
+    (c.in-Ok.ensures.finds image shown))
+
+pub returns-then-head-ne-IMAGE_VERSION-clause-tells :
+    goal.returns-then-head-ne-IMAGE_VERSION-clause-tells
+returns-then-head-ne-IMAGE_VERSION-clause-tells g c image shown =
+    other_version c.args.geometry.now image c.in-Ok.found c.in-Some.head c.in-Some.is
+    (c.in-Ok.ensures.finds image shown) c.if-head-ne-IMAGE_VERSION.true
+
+-- ---- where a savepoint stands
+
+pub returns-in-Err-clause-finds : goal.returns-in-Err-clause-finds
+returns-in-Err-clause-finds g c image shown =
+    reads_newest c.args.geometry.now image (Err c.from.result)
+    (returns-in-Err-clause-tells g c image shown)
 
 pub returns-in_default-clause-finds : goal.returns-in_default-clause-finds
-returns-in_default-clause-finds g c disk shown m config point records last at placed =
-    newest_none c.args.geometry.now disk m config point records last at placed c.in-Ok.found
-    c.in_default.is (c.in-Ok.ensures.finds disk shown)
+returns-in_default-clause-finds g c image shown =
+    reads_newest c.args.geometry.now image (Err Damaged)
+    (returns-in_default-clause-tells g c image shown)
 
-pub returns-then-snapshot-ne-IMAGE_VERSION-clause-finds :
-    goal.returns-then-snapshot-ne-IMAGE_VERSION-clause-finds
-returns-then-snapshot-ne-IMAGE_VERSION-clause-finds g c disk shown m config point records last at
-    placed =
-    let found = newest_some c.args.geometry.now disk m config point records last at placed
-    c.in-Ok.found c.in-Some.snapshot c.in-Some.is (c.in-Ok.ensures.finds disk shown) in
-    let version = found.1 in
-    let other = c.if-snapshot-ne-IMAGE_VERSION.true in
-    omega (arith, version, other)
+pub returns-then-head-ne-IMAGE_VERSION-clause-finds :
+    goal.returns-then-head-ne-IMAGE_VERSION-clause-finds
+returns-then-head-ne-IMAGE_VERSION-clause-finds g c image shown =
+    reads_newest c.args.geometry.now image (Err (Layout Version))
+    (returns-then-head-ne-IMAGE_VERSION-clause-tells g c image shown)
 
-pub returns-clause-finds : goal.returns-clause-finds
-returns-clause-finds g c disk shown m config point records last at placed =
-    let found = newest_some c.args.geometry.now disk m config point records last at placed
-    c.in-Ok.found c.in-Some.snapshot c.in-Some.is (c.in-Ok.ensures.finds disk shown) in
-    (found.0, found.2)
+pub returns-in-Ok-image_of-clause-finds : goal.returns-in-Ok-image_of-clause-finds
+returns-in-Ok-image_of-clause-finds g c image shown =
+    let head = c.in-Some.head in
+    reads_newest c.args.geometry.now image (Ok (record {
+      version = head.version;
+      generation = head.generation;
+      image = c.in-Ok-image_of.image;
+    })) (returns-in-Ok-image_of-clause-tells g c image shown)
+
+pub returns-in-Err-image_of-clause-finds : goal.returns-in-Err-image_of-clause-finds
+returns-in-Err-image_of-clause-finds g c image shown =
+    reads_newest c.args.geometry.now image (Err c.from-in-Err-image_of.result)
+    (returns-in-Err-image_of-clause-tells g c image shown)

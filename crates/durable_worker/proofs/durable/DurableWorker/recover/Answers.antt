@@ -4,6 +4,7 @@ use Rattle.durable_worker.proofs.RecoveryLemmas.Results.{is_found_carries}
 use Rattle.durable_worker.proofs.RecoveryLemmas.Results.{settled_by, sync_faulted}
 use Rattle.durable_worker.proofs.RecoveryLemmas.Causes.{unsettled_cause, unfound_cause}
 use Rattle.durable_worker.proofs.RecoveryLemmas.Causes.{revival_cause}
+use Rattle.durable_worker.proofs.AnswerLemmas.{unsettled_shown, unfound_shown, found_shown}
 use Rattle.durable_worker.proofs.durable.DurableWorker.recover.Goals as goal
 
 pub returns-in-Err-clause-carries : goal.returns-in-Err-clause-carries
@@ -64,3 +65,23 @@ returns-in-Ok-clause-on_any_disk g c =
     (settled_by (g.D.Disk.medium c.args.disk.now) (g.D.Disk.medium c.sync.new.self)
     (g.D.Disk.medium c.find.new.disk) c.in_default.field-0 c.in_default.ensures found.reads)
     c.in-Ok.found found.room c.args.outlet.now c.revive.new.outlet c.revive.result c.revive.ensures
+
+pub returns-in-Err-clause-shown : goal.returns-in-Err-clause-shown
+returns-in-Err-clause-shown g c =
+    unsettled_shown g.D.Disk.medium g.O.Outlet.takes c.args.disk.now c.sync.new.self
+    c.args.outlet.now c.in-Err.fault c.in-Err.ensures c.from.result c.from.ensures
+
+pub returns-in-Err-find-clause-shown : goal.returns-in-Err-find-clause-shown
+returns-in-Err-find-clause-shown g c =
+    let found = c.in-Err-find.ensures in
+    unfound_shown g.D.Disk.medium g.O.Outlet.takes c.args.disk.now c.sync.new.self
+    c.find.new.disk c.in_default.field-0 c.in_default.ensures found.reads c.args.outlet.now
+    c.in-Err-find.fault found.shows
+
+pub returns-in-Ok-clause-shown : goal.returns-in-Ok-clause-shown
+returns-in-Ok-clause-shown g c =
+    let found = c.in-Ok.ensures in
+    found_shown g.D.Disk.medium g.O.Outlet.takes c.args.disk.now c.sync.new.self
+    c.find.new.disk c.in_default.field-0 c.in_default.ensures found.reads c.args.outlet.now
+    c.revive.new.disk c.revive.new.outlet c.in-Ok.found found.shows c.revive.result
+    c.revive.ensures
