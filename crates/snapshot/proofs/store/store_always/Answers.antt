@@ -17,5 +17,6 @@ returns g c =
       unsynced = tears.unsynced;
       counts = c.write.ensures.counts;
       calls = (WriteOf c.args.at ∷ [], one_always c.args.at, c.write.ensures.calls);
+      counted = omega (arith, c.write.ensures.counted);
       cause = search rules;
     }
