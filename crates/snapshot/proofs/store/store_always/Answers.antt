@@ -1,4 +1,4 @@
-use Rattle.std.proofs.Common.{[], ◌∷◌, rules}
+use Rattle.std.proofs.Common.{[], ◌∷◌, arith, rules}
 use Rattle.sector_disk.specs.declared.disk_call.DiskCall.TheVariants.{WriteOf}
 use Rattle.snapshot.proofs.StoreCalls.{one_always}
 use Rattle.std.proofs.lemmas.Result.{on_ok_weaker}
