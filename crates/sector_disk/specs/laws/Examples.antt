@@ -145,7 +145,8 @@ troubles_are_faults below stop fail n begun = refl
 
 pub both_are_told : (below : Medium) (stop fail : Option Place) (n : ℕ)
     (begun : CallCounts)
-    → (troubled below stop fail n begun).told ≡ place_numbers stop ++ place_numbers fail ++ below.told
+    → (troubled below stop fail n begun).told
+    ≡ place_numbers stop ++ place_numbers fail ++ below.told
 both_are_told below stop fail n begun = refl
 
 -- a front is taken wherever there is room for one more write
