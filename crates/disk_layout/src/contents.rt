@@ -3,7 +3,7 @@
 ghost use Rattle.std.specs.Prelude.{◌≡◌, ◌⊎◌, ◌<◌, ◌≤◌, ◌+◌, ◌*◌, ◌^◌, ◌++◌, length, OnOk, IsErr};
 ghost use Rattle.guest_memory.specs.rules.Bytes.{part};
 ghost use Rattle.sector_disk.specs.rules.Medium.{LeavesOnly, After, BothFollow, CountsUpTo};
-ghost use Rattle.sector_disk.specs.rules.Medium.{MakesCalls, FailsInside, spare};
+ghost use Rattle.sector_disk.specs.rules.Medium.{CallsUpTo, MakesCalls, FailsInside, spare};
 ghost use Rattle.sector_disk.specs.rules.Calls.{rising_writes};
 ghost use Rattle.sector_disk.specs.rules.Run.{IsTornRun, IsWrittenRun};
 ghost use Rattle.sector_disk.specs.declared.sector.TheConstants.{SECTOR_SIZE};
@@ -53,6 +53,8 @@ pub fn write_contents<D: Disk>(disk: &mut D, config: &[u8], wasm: &[u8]) -> Resu
         → (spare (D.medium disk.old) < rounded_up (length config.now + length wasm.now))
         ⊎ ((D.medium disk.old).faults < (D.medium disk.new).faults) }
     ensures kind { FailsInside result }
+    ensures asks { CallsUpTo (rounded_up (length config.now + length wasm.now))
+        (D.medium disk.old) (D.medium disk.new) }
 {
     let count = sectors_of((config.len() + wasm.len()) as u64);
     for i in 0..count {

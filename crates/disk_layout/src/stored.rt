@@ -6,7 +6,8 @@ ghost use Rattle.sha2.specs.Sha256.{sha256};
 ghost use Rattle.sector_disk.specs.declared.sector.TheConstants.{SECTOR_SIZE};
 ghost use Rattle.sector_disk.specs.rules.Image.{Image};
 ghost use Rattle.sector_disk.specs.rules.Medium.{LeavesOnly, After, Follows, IsAllSynced};
-ghost use Rattle.sector_disk.specs.rules.Medium.{CountsUpTo, MakesCalls, FailsInside, spare};
+ghost use Rattle.sector_disk.specs.rules.Medium.{CallsUpTo, CountsUpTo, MakesCalls, FailsInside};
+ghost use Rattle.sector_disk.specs.rules.Medium.{spare};
 ghost use Rattle.sector_disk.specs.rules.Calls.{synced_writes};
 ghost use Rattle.sector_disk.specs.rules.Run.{IsTornRun, IsWrittenRun};
 ghost use Rattle.disk_layout.specs.rules.Sectors.{bytes_from, super_bytes};
@@ -65,6 +66,7 @@ pub fn write_super<D: Disk>(disk: &mut D, contents: &Super) -> Result<(), DiskFa
     ensures cause { IsErr result → (spare (D.medium disk.old) < 1)
         ⊎ ((D.medium disk.old).faults < (D.medium disk.new).faults) }
     ensures kind { FailsInside result }
+    ensures asks { CallsUpTo 2 (D.medium disk.old) (D.medium disk.new) }
 {
     store_run(disk, 0, &[contents.sector()])
 }
@@ -79,6 +81,9 @@ pub fn read_super<D: Disk>(alloc: Global, disk: &mut D) -> Result<Stored, Layout
         → FindsStored (D.medium disk.old).sectors image result }
     ensures cause { (fault : DiskFault) → result ≡ Err (LayoutFault.Disk fault)
         → (D.medium disk.old).faults < (D.medium disk.new).faults }
+
+    // It reads no sector twice.
+    ensures asks { CallsUpTo (D.medium disk.old).sectors (D.medium disk.old) (D.medium disk.new) }
 {
     let sectors = disk.sectors();
     if sectors == 0 {
@@ -130,6 +135,7 @@ fn read_sectors<D: Disk>(
         → (D.medium disk.old).faults < (D.medium disk.new).faults }
     ensures kind { IfErr result (λ e. e ≡ LayoutFault.Memory
         ⊎ ((fault : DiskFault) × (e ≡ LayoutFault.Disk fault))) }
+    ensures asks { CallsUpTo count (D.medium disk.old) (D.medium disk.new) }
 {
     let mut bytes = Vec::new(alloc);
     let mut sector = [0; SECTOR_SIZE];

@@ -3,7 +3,7 @@ ghost use Rattle.std.specs.Prelude.{◌≡◌, ◌↔◌, ◌⊎◌, ◌+◌, �
 ghost use Rattle.std.specs.Prelude.{length, OnOk, OnErr, IfOk, IfErr, IsErrOf};
 ghost use Rattle.sector_disk.specs.rules.Image.{Image};
 ghost use Rattle.sector_disk.specs.rules.Medium.{LeavesOnly, After, Passes, IsAllSynced};
-ghost use Rattle.sector_disk.specs.rules.Medium.{MakesCalls, spare};
+ghost use Rattle.sector_disk.specs.rules.Medium.{CallsUpTo, MakesCalls, spare};
 ghost use Rattle.disk_layout.specs.rules.Places.{total_sectors};
 ghost use Rattle.disk_layout.specs.rules.Journal.{Record, record_bytes, payload_of, scan};
 ghost use Rattle.disk_layout.specs.rules.Stored.{OnlyReads};
@@ -70,6 +70,8 @@ impl Journal {
             → (D.medium disk.old).faults < (D.medium disk.new).faults }
         ensures kind { IfErr result (λ e. e ≡ JournalFault.Memory
             ⊎ ((fault : DiskFault) × (e ≡ JournalFault.Disk fault))) }
+        ensures asks { CallsUpTo geometry.now.journal_sectors (D.medium disk.old)
+            (D.medium disk.new) }
     {
         let bytes = read_payloads(alloc, disk, geometry, generation)?;
         match records_from(alloc, bytes.as_slice()) {
@@ -196,6 +198,10 @@ impl Journal {
         // Nor were there more writes that no sync had settled at any moment in between.
         ensures at_once { (n : ℕ) → (D.medium disk.new).unsynced_since (D.medium disk.old).moment n
             → n ≤ (D.medium disk.old).unsynced + sectors_for (length self.old.kept) }
+
+        // One call for each sector of the journal at most, and the sync.
+        ensures asks { CallsUpTo (geometry.now.journal_sectors + 1) (D.medium disk.old)
+            (D.medium disk.new) }
     {
         if self.has_failed {
             return Err(JournalFault::Failed);

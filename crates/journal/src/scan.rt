@@ -1,6 +1,7 @@
 // Reading a journal.
 ghost use Rattle.std.specs.Prelude.{◌≡◌, ◌⊎◌, ◌+◌, ◌<◌, ◌≤◌, ℕ, true, length, IfOk, IfErr};
 ghost use Rattle.sector_disk.specs.rules.Image.{Image};
+ghost use Rattle.sector_disk.specs.rules.Medium.{CallsUpTo};
 ghost use Rattle.disk_layout.specs.rules.Places.{journal_place, total_sectors};
 ghost use Rattle.disk_layout.specs.rules.Journal.{payloads_from};
 ghost use Rattle.disk_layout.specs.rules.Stored.{OnlyReads};
@@ -27,6 +28,7 @@ pub(crate) fn read_payloads<D: Disk>(
         → (D.medium disk.old).faults < (D.medium disk.new).faults }
     ensures kind { IfErr result (λ e. e ≡ JournalFault.Memory
         ⊎ ((fault : DiskFault) × (e ≡ JournalFault.Disk fault))) }
+    ensures asks { CallsUpTo geometry.now.journal_sectors (D.medium disk.old) (D.medium disk.new) }
 {
     let at = geometry.journal_place();
     let mut bytes = Vec::new(alloc);

@@ -1,7 +1,7 @@
 // Bytes on sectors of a journal.
 ghost use Rattle.std.specs.Prelude.{◌≡◌, ◌⊎◌, ◌+◌, ◌<◌, ◌≤◌, ◌^◌, length, OnOk, IsErr};
 ghost use Rattle.sector_disk.specs.rules.Medium.{LeavesOnly, After, Follows, IsAllSynced};
-ghost use Rattle.sector_disk.specs.rules.Medium.{CountsUpTo, MakesCalls, spare};
+ghost use Rattle.sector_disk.specs.rules.Medium.{CallsUpTo, CountsUpTo, MakesCalls, spare};
 ghost use Rattle.sector_disk.specs.rules.Calls.{synced_writes};
 ghost use Rattle.sector_disk.specs.rules.Run.{IsTornRun, IsWrittenRun};
 ghost use Rattle.journal.specs.rules.Packed.{packed, sectors_for};
@@ -46,6 +46,8 @@ pub(crate) fn store_packed<D: Disk>(
         (D.medium disk.old) (D.medium disk.new) }
     ensures cause { IsErr result → (spare (D.medium disk.old) < sectors_for (length bytes.now))
         ⊎ ((D.medium disk.old).faults < (D.medium disk.new).faults) }
+    ensures asks { CallsUpTo (sectors_for (length bytes.now) + 1) (D.medium disk.old)
+        (D.medium disk.new) }
 {
     let count = sectors_for(bytes.len());
     for i in 0..count {

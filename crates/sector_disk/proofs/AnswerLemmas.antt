@@ -90,6 +90,7 @@ module _ (n : ℕ) (fits fits-new : n < 2 ^ 64) {which : Failure} {bytes : List 
     unsynced = fewer;
     counts = failed_counts;
     calls = ap file_calls is;
+    counted = omega arith;
     passes = failed_passes;
     cause = failed_cause _ _;
   }
@@ -102,6 +103,7 @@ module _ (n : ℕ) (fits fits-new : n < 2 ^ 64) {which : Failure} {bytes : List 
     unsynced = fewer;
     counts = failed_counts;
     calls = record { all = tt; begun = (1, ap file_calls is) };
+    counted = omega arith;
     passes = failed_passes;
     cause = failed_cause _ _;
   }
@@ -119,6 +121,7 @@ module _ (n : ℕ) (fits fits-new : n < 2 ^ 64) {which : Failure} {bytes : List 
     counts = counts_more (unsynced_of old) (unsynced_of old + 1) (answered_medium n fits old)
         (answered_medium n fits-new new) (omega arith) failed_counts;
     calls = record { all = tt; begun = (1, ap file_calls is) };
+    counted = omega arith;
     passes = failed_passes;
     cause = failed_cause _ _;
   }

@@ -120,7 +120,8 @@ impl<D: Disk> Disk for FaultDisk<D> {
     ghost use Rattle.sector_disk.specs.rules.Trouble.{counted, trouble_fault, troubled};
     ghost use Rattle.sector_disk.specs.rules.Trouble.{LeavesFront};
 
-    ghost medium = { λ f. troubled (D.medium f.inner) f.stop f.fail (length f.faults.items) };
+    ghost medium = { λ f. troubled (D.medium f.inner) f.stop f.fail (length f.faults.items)
+        (call_counts_of f) };
 
     fn sectors(&self) -> u64 {
         self.inner.sectors()

@@ -6,12 +6,13 @@
 //! - `Disk` is the trait. A read, a write and a sync do to a disk's `medium` what `Reads`,
 //!   `Writes` and `SyncsMedium` say. These say what a cut may leave, also inside a call, and what
 //!   an error's cause is. They say which writes and syncs a disk was asked for, in order
-//!   (`calls`).
+//!   (`calls`). No call counts as two (`counted`).
 //! - `MemDisk` answers exactly as its state says (`answer`, `done`). `cut` leaves the told front
 //!   of each write since the last good sync (`cut`). Each image that a cut may leave is had so
 //!   (`every`). `unsynced_count` is how many such writes there were.
 //! - `FaultDisk` stops or fails at the call that it is told (`trouble`, `stops`, `fails`), and
-//!   hands all others on (`passed_on`). `has_left_front` says whether it stopped within a
+//!   hands all others on (`passed_on`). Its `medium` counts its calls, up to the greatest number
+//!   of 64 bits; the other two count none. `has_left_front` says whether it stopped within a
 //!   write, and `into_inner` gives the disk below.
 //! - `FileDisk` logs each call that it made of its file, with the answer. After a write or a sync
 //!   that failed every call answers `Io`, and the file isn't asked (`logged`). `create` gives a

@@ -1,7 +1,7 @@
 // All sectors of a disk, written back as they are read.
-ghost use Rattle.std.specs.Prelude.{◌⊎◌, ◌+◌, ◌<◌, [], ◌∷◌, OnOk, IsErr};
+ghost use Rattle.std.specs.Prelude.{◌⊎◌, ◌*◌, ◌+◌, ◌<◌, [], ◌∷◌, OnOk, IsErr};
 ghost use Rattle.sector_disk.specs.rules.Medium.{LeavesOnly, IsAllSynced, CountsUpTo, MakesCalls};
-ghost use Rattle.sector_disk.specs.rules.Medium.{FailsInside, spare};
+ghost use Rattle.sector_disk.specs.rules.Medium.{CallsUpTo, FailsInside, spare};
 ghost use Rattle.sector_disk.specs.rules.Calls.{rising_writes, synced_writes};
 ghost use Rattle.sector_disk.specs.rules.Rewrite.{AddsNothing, WritesBack};
 ghost use Rattle.sector_disk.specs.declared.disk_call.DiskCall.TheVariants.{WriteOf};
@@ -56,6 +56,10 @@ pub fn rewrite<D: Disk>(disk: &mut D) -> Result<(), DiskFault>
     ensures cause { IsErr result → (spare (D.medium disk.old) < (D.medium disk.old).sectors)
         ⊎ ((D.medium disk.old).faults < (D.medium disk.new).faults) }
     ensures kind { FailsInside result }
+
+    // Two calls for each of the sectors, and the sync.
+    ensures asks { CallsUpTo (2 * (D.medium disk.old).sectors + 1) (D.medium disk.old)
+        (D.medium disk.new) }
 {
     write_all_back(disk)?;
     disk.sync()

@@ -1,7 +1,8 @@
 // Sectors that are written one after another.
 ghost use Rattle.std.specs.Prelude.{◌≡◌, ◌⊎◌, ◌+◌, ◌<◌, ◌≤◌, length, OnOk, IsErr};
 ghost use Rattle.sector_disk.specs.rules.Medium.{LeavesOnly, After, Follows, IsAllSynced};
-ghost use Rattle.sector_disk.specs.rules.Medium.{CountsUpTo, MakesCalls, FailsInside, spare};
+ghost use Rattle.sector_disk.specs.rules.Medium.{CallsUpTo, CountsUpTo, MakesCalls, FailsInside};
+ghost use Rattle.sector_disk.specs.rules.Medium.{spare};
 ghost use Rattle.sector_disk.specs.rules.Calls.{synced_writes};
 ghost use Rattle.sector_disk.specs.rules.Run.{IsTornRun, IsWrittenRun, HoldsRun, WritesRun};
 
@@ -55,6 +56,9 @@ pub fn store_run<D: Disk>(
     ensures cause { IsErr result → (spare (D.medium disk.old) < length sectors.now)
         ⊎ ((D.medium disk.old).faults < (D.medium disk.new).faults) }
     ensures kind { FailsInside result }
+
+    // One call for each of the sectors, and the sync.
+    ensures asks { CallsUpTo (length sectors.now + 1) (D.medium disk.old) (D.medium disk.new) }
 {
     write_run(disk, at, sectors)?;
     disk.sync()

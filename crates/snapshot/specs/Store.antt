@@ -1,8 +1,9 @@
 -- A sector that is stored, and one that is written behind a sync (this project's own).
-use Rattle.std.specs.Prelude.{◌≡◌, ◌⊎◌, ℕ, ◌+◌, ◌<◌, ◌≤◌, max, List, Result, OnOk, IsErr}
+use Rattle.std.specs.Prelude.{◌≡◌, ◌⊎◌, ℕ, ◌+◌, ◌<◌, ◌≤◌, max, List, length, Result, OnOk, IsErr}
 use Rattle.sector_disk.specs.rules.Image.{Image, IsTorn, IsWritten}
 use Rattle.sector_disk.specs.rules.Medium.{Medium, After, Follows, BothFollow, LeavesOnly}
-use Rattle.sector_disk.specs.rules.Medium.{CountsUpTo, MakesCalls, IsAllSynced, Holds, spare}
+use Rattle.sector_disk.specs.rules.Medium.{CallsUpTo, CountsUpTo, MakesCalls, IsAllSynced}
+use Rattle.sector_disk.specs.rules.Medium.{Holds, spare}
 use Rattle.sector_disk.specs.declared.disk_call.DiskCall.{DiskCall}
 use Rattle.sector_disk.specs.declared.fault.DiskFault.{DiskFault}
 use Rattle.snapshot.specs.rules.Calls.{MakesStores}
@@ -26,6 +27,8 @@ pub record StoresSector {T : Type 0} (k : ℕ) (bytes : List ℕ) (writing : Wri
   pub unsynced : new.unsynced ≤ old.unsynced + 1
   pub counts : CountsUpTo (old.unsynced + 1) old new
   pub calls : MakesStores (record { writing = writing; first = k; count = 1 }) result old new
+  -- it may be read first
+  pub counted : CallsUpTo 2 old new
   pub cause : IsErr result → (spare old ≡ 0) ⊎ (old.faults < new.faults)
 
 -- Sector k is written once all that was written before is settled. A cut leaves what it may have
@@ -39,4 +42,5 @@ pub record SettlesSector {T : Type 0} (k : ℕ) (bytes : List ℕ) (asked : List
   -- as many unsynced writes as before, or this one
   pub counts : CountsUpTo (max old.unsynced 1) old new
   pub calls : MakesCalls asked result old new
+  pub counted : CallsUpTo (length asked) old new
   pub cause : IsErr result → (old.room ≡ 0) ⊎ (old.faults < new.faults)

@@ -4,6 +4,7 @@ ghost use Rattle.std.specs.Prelude.{length, take};
 ghost use Rattle.sha2.specs.Sha256.{sha256};
 ghost use Rattle.sector_disk.specs.declared.sector.TheConstants.{SECTOR_SIZE};
 ghost use Rattle.sector_disk.specs.rules.Image.{Image, sector_at};
+ghost use Rattle.sector_disk.specs.rules.Medium.{CallsUpTo};
 ghost use Rattle.disk_layout.specs.rules.Places.{journal_place};
 ghost use Rattle.disk_layout.specs.rules.Sectors.{bytes_from};
 ghost use Rattle.disk_layout.specs.rules.Stored.{OnlyReads};
@@ -32,6 +33,7 @@ pub(crate) fn newest_head<D: Disk>(disk: &mut D) -> Result<Option<Head>, DiskFau
         → FindsHead image head) }
     ensures cause { (fault : DiskFault) → result ≡ Err fault
         → (D.medium disk.old).faults < (D.medium disk.new).faults }
+    ensures asks { CallsUpTo 2 (D.medium disk.old) (D.medium disk.new) }
 {
     let mut first = [0; SECTOR_SIZE];
     disk.read(1, &mut first)?;
@@ -79,6 +81,7 @@ pub(crate) fn read_image<D: Disk>(
     ensures own { result ≡ Err SnapshotFault.Failed → ⊥ }
     ensures cause { (fault : DiskFault) → result ≡ Err (SnapshotFault.Disk fault)
         → (D.medium disk.old).faults < (D.medium disk.new).faults }
+    ensures asks { CallsUpTo geometry.now.area_sectors (D.medium disk.old) (D.medium disk.new) }
 {
     let room = SECTOR_SIZE as u64 * u64::from(geometry.area_sectors);
     if head.length_in_bytes > room {
@@ -115,6 +118,8 @@ fn read_bytes<D: Disk>(
         → (D.medium disk.old).faults < (D.medium disk.new).faults }
     ensures kind { IfErr result (λ e. e ≡ SnapshotFault.Memory
         ⊎ ((fault : DiskFault) × (e ≡ SnapshotFault.Disk fault))) }
+    ensures asks { (count : ℕ) → len ≤ SECTOR_SIZE * count
+        → CallsUpTo count (D.medium disk.old) (D.medium disk.new) }
 {
     let mut bytes = Vec::new(alloc);
     let mut sector = [0; SECTOR_SIZE];

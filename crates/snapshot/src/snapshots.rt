@@ -34,11 +34,11 @@ impl Snapshots {
     ghost use Rattle.sector_disk.specs.declared.sector.TheConstants.{SECTOR_SIZE};
     ghost use Rattle.sector_disk.specs.rules.Image.{Image};
     ghost use Rattle.sector_disk.specs.rules.Medium.{LeavesOnly, After, Follows, CountsUpTo};
-    ghost use Rattle.sector_disk.specs.rules.Medium.{IsAllSynced, spare};
+    ghost use Rattle.sector_disk.specs.rules.Medium.{CallsUpTo, IsAllSynced, spare};
     ghost use Rattle.sector_disk.specs.declared.fault.DiskFault.{DiskFault};
     ghost use Rattle.disk_layout.specs.rules.Places.{journal_place, area_place, rounded_up};
     ghost use Rattle.disk_layout.specs.rules.Stored.{OnlyReads};
-    ghost use Rattle.snapshot.specs.rules.Calls.{MakesStores, MakesStoresAndHead};
+    ghost use Rattle.snapshot.specs.rules.Calls.{AsksForSectors, MakesStores, MakesStoresAndHead};
     ghost use Rattle.snapshot.specs.rules.Heads.{FindsHead};
     ghost use Rattle.snapshot.specs.rules.Newest.{ReadsImage, FindsNewest};
     ghost use Rattle.snapshot.specs.rules.Steps.{Fills, Commits, Replaces};
@@ -65,6 +65,7 @@ impl Snapshots {
         ensures cause { IsErr result → IsTrue (is_failed self.old)
             ⊎ ((fault : DiskFault) × (result ≡ Err (SnapshotFault.Disk fault))
             × ((D.medium disk.old).faults < (D.medium disk.new).faults)) }
+        ensures asks { CallsUpTo 2 (D.medium disk.old) (D.medium disk.new) }
     {
         if self.is_failed() {
             return Err(SnapshotFault::Failed);
@@ -97,6 +98,7 @@ impl Snapshots {
         ensures untouched { IsTrue (is_failed self.old) → disk.new ≡ disk.old }
         ensures cause { (fault : DiskFault) → result ≡ Err (SnapshotFault.Disk fault)
             → (D.medium disk.old).faults < (D.medium disk.new).faults }
+        ensures asks { CallsUpTo geometry.now.area_sectors (D.medium disk.old) (D.medium disk.new) }
     {
         if self.is_failed() {
             return Err(SnapshotFault::Failed);
@@ -126,6 +128,8 @@ impl Snapshots {
         ensures untouched { IsTrue (is_failed self.old) → disk.new ≡ disk.old }
         ensures cause { (fault : DiskFault) → result ≡ Err (SnapshotFault.Disk fault)
             → (D.medium disk.old).faults < (D.medium disk.new).faults }
+        ensures asks { CallsUpTo (geometry.now.area_sectors + 2) (D.medium disk.old)
+            (D.medium disk.new) }
     {
         let Some(head) = self.newest_head(disk)? else {
             return Ok(None);
@@ -225,6 +229,12 @@ impl Snapshots {
             ⊎ ((fault : DiskFault) × (result ≡ Err (SnapshotFault.Disk fault))
             × ((spare (D.medium disk.old) + sectors_of self.old < geometry.now.area_sectors)
             ⊎ ((D.medium disk.old).faults < (D.medium disk.new).faults))) }
+
+        // Two calls at most for each sector that they fill, and none beyond the area.
+        ensures asked { OnOk result (AsksForSectors (sectors_of self.old) (sectors_of self.new)
+            (D.medium disk.old) (D.medium disk.new)) }
+        ensures asks { CallsUpTo (2 * (geometry.now.area_sectors - sectors_of self.old))
+            (D.medium disk.old) (D.medium disk.new) }
     {
         let State::Begun(mut writer) = mem::replace(&mut self.state, State::Failed) else {
             return Err(SnapshotFault::Failed);
@@ -291,6 +301,7 @@ impl Snapshots {
             × ((spare (D.medium disk.old) + sectors_of self.old < geometry.now.area_sectors)
             ⊎ ((D.medium disk.old).room ≡ 0)
             ⊎ ((D.medium disk.old).faults < (D.medium disk.new).faults))) }
+        ensures asks { CallsUpTo 5 (D.medium disk.old) (D.medium disk.new) }
     {
         let State::Begun(writer) = mem::replace(&mut self.state, State::Failed) else {
             return Err(SnapshotFault::Failed);
@@ -351,6 +362,8 @@ impl Snapshots {
             × ((spare (D.medium disk.old) < geometry.now.area_sectors)
             ⊎ ((D.medium disk.old).room ≡ 0)
             ⊎ ((D.medium disk.old).faults < (D.medium disk.new).faults))) }
+        ensures asks { CallsUpTo (2 * geometry.now.area_sectors + 5) (D.medium disk.old)
+            (D.medium disk.new) }
     {
         self.begin(generation, version, Writing::Changes)?;
         self.push(disk, geometry, image)?;

@@ -36,10 +36,10 @@ impl AreaWriter {
     ghost use Rattle.guest_memory.specs.rules.Bytes.{with_part};
     ghost use Rattle.sector_disk.specs.rules.Image.{Image, front_over};
     ghost use Rattle.sector_disk.specs.rules.Medium.{LeavesOnly, After, Follows, CountsUpTo};
-    ghost use Rattle.sector_disk.specs.rules.Medium.{IsAllSynced, spare};
+    ghost use Rattle.sector_disk.specs.rules.Medium.{CallsUpTo, IsAllSynced, spare};
     ghost use Rattle.sector_disk.specs.declared.fault.DiskFault.{DiskFault};
     ghost use Rattle.disk_layout.specs.rules.Places.{journal_place, area_place, rounded_up};
-    ghost use Rattle.snapshot.specs.rules.Calls.{MakesStores, MakesStoresAndHead};
+    ghost use Rattle.snapshot.specs.rules.Calls.{AsksForSectors, MakesStores, MakesStoresAndHead};
     ghost use Rattle.snapshot.specs.rules.Steps.{HoldsWithZeros, Fills, Commits, Replaces};
     ghost use Rattle.snapshot.specs.Writing.{written_length, Starts, SparesSectors};
     ghost use Rattle.snapshot.specs.Writing.{SparesAllButHead, IsGiven};
@@ -109,6 +109,10 @@ impl AreaWriter {
             ⊎ ((fault : DiskFault) × (result ≡ Err (SnapshotFault.Disk fault))
             × ((spare (D.medium disk.old) + self.old.sectors < geometry.now.area_sectors)
             ⊎ ((D.medium disk.old).faults < (D.medium disk.new).faults))) }
+        ensures asked { OnOk result (AsksForSectors self.old.sectors self.new.sectors
+            (D.medium disk.old) (D.medium disk.new)) }
+        ensures asks { CallsUpTo (2 * (geometry.now.area_sectors - self.old.sectors))
+            (D.medium disk.old) (D.medium disk.new) }
     {
         let total = self.length().saturating_add(bytes.len() as u64);
         if total > SECTOR_SIZE as u64 * u64::from(geometry.area_sectors) {
@@ -164,6 +168,9 @@ impl AreaWriter {
         ensures cause { IsErr result
             → (spare (D.medium disk.old) + self.old.sectors < geometry.now.area_sectors)
             ⊎ ((D.medium disk.old).faults < (D.medium disk.new).faults) }
+        ensures asked { OnOk result (AsksForSectors self.old.sectors self.new.sectors
+            (D.medium disk.old) (D.medium disk.new)) }
+        ensures asks { CallsUpTo 2 (D.medium disk.old) (D.medium disk.new) }
     {
         let filled = self.filled;
         let room = SECTOR_SIZE - filled;
@@ -210,6 +217,7 @@ impl AreaWriter {
         ensures cause { IsErr result
             → (spare (D.medium disk.old) + self.now.sectors < geometry.now.area_sectors)
             ⊎ ((D.medium disk.old).faults < (D.medium disk.new).faults) }
+        ensures asks { CallsUpTo 2 (D.medium disk.old) (D.medium disk.new) }
     {
         if self.filled == 0 {
             return Ok(());
@@ -279,6 +287,7 @@ impl AreaWriter {
             → (spare (D.medium disk.old) + self.sectors < geometry.now.area_sectors)
             ⊎ ((D.medium disk.old).room ≡ 0)
             ⊎ ((D.medium disk.old).faults < (D.medium disk.new).faults) }
+        ensures asks { CallsUpTo 5 (D.medium disk.old) (D.medium disk.new) }
     {
         self.store_last(disk, geometry)?;
         let head = self.head();

@@ -15,7 +15,7 @@ use Rattle.snapshot.specs.declared.fault.SnapshotFault.{SnapshotFault}
 use Rattle.snapshot.specs.declared.fault.SnapshotFault.TheVariants.{TooBig, Disk}
 use Rattle.snapshot.specs.declared.snapshots.Snapshots.{Snapshots}
 use Rattle.snapshot.specs.declared.writing.Writing.{Writing}
-use Rattle.snapshot.specs.rules.Calls.{MakesStores}
+use Rattle.snapshot.specs.rules.Calls.{AsksForSectors, MakesStores}
 use Rattle.snapshot.specs.rules.Snapshots.{is_failed, is_idle, generation_of, writing_of}
 use Rattle.snapshot.specs.rules.Snapshots.{length_of, sectors_of, filled_by, IsSameImage}
 use Rattle.snapshot.specs.rules.Snapshots.{HasPushed}
@@ -45,6 +45,8 @@ takes_none geometry s m begun =
       within = λ le. le;
       unsynced = omega arith;
       works = λ failed. failed;
+      asked = omega arith;
+      asks = omega arith;
       calls = makes_at {T = Unit {0}} {E = SnapshotFault} (Ok tt) m m
           (same_stores (writing_of s) (writing_of s) at at (filled_by s 0) 0 refl refl (sym none))
           ([], stores_none (writing_of s) at, record { all = refl; begun = no_calls [] m });
@@ -195,6 +197,16 @@ module _ (geometry : Geometry) (x y : List ℕ) (said : Result (Unit {0}) Snapsh
     works = on_ok_weaker said (λ (next : IsTrue (is_failed c) → IsTrue (is_failed b)). λ failed.
         one.works (next failed)) two.works;
     calls = stores_both;
+    asked = on_ok_weaker said
+        (λ (next : AsksForSectors (sectors_of b) (sectors_of c) mid new).
+        omega (arith, next, one.asked)) two.asked;
+    asks = omega (
+      arith,
+      one.asked,
+      one.asks,
+      two.asks,
+      sectors_rise a b (length x) one.longer,
+    );
     too_big = λ big. omega (arith, two.too_big big, one.longer, long_both);
     cause = cause_both;
   }
@@ -218,6 +230,8 @@ takes_longer geometry x y fault a b old new one =
       within = tt;
       unsynced = tt;
       works = tt;
+      asked = tt;
+      asks = one.asks;
       calls = (begun.0, begun.1, record { all = tt; begun = begun.2 });
       too_big = λ big. omega (arith, one.too_big big, long);
       cause = one.cause;

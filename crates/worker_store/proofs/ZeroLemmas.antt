@@ -1,14 +1,14 @@
 -- Zeros that are written to sectors one after another.
 use Rattle.std.proofs.Common.{◌≡◌, ◌<◌, ◌≤◌, ◌⊎◌, ◌+◌, ◌++◌, ℕ, List, length, sym, ◌∙◌}
-use Rattle.std.proofs.Common.{subst}
-use Rattle.std.proofs.Common.{replicate}
+use Rattle.std.proofs.Common.{subst, arith, replicate}
 use Rattle.std.specs.Prelude.{Result, Ok, Err}
 use Rattle.std.proofs.lemmas.Bool.{false≢true}
 use Rattle.std.proofs.lemmas.List.{get_or-replicate, length-replicate}
 use Rattle.wasi_abi.specs.rules.Layouts.{padding}
 use Rattle.sector_disk.specs.rules.Image.{sector_at}
 use Rattle.sector_disk.specs.rules.Medium.{Medium, After, BothFollow, BeginsCalls, CountsUpTo}
-use Rattle.sector_disk.specs.rules.Medium.{FailsInside, MakesCalls, Passes, spare}
+use Rattle.sector_disk.specs.rules.Medium.{CallsUpTo, FailsInside, MakesCalls, Passes}
+use Rattle.sector_disk.specs.rules.Medium.{spare}
 use Rattle.sector_disk.specs.rules.Calls.{rising_writes}
 use Rattle.sector_disk.specs.rules.Run.{IsTornRun, IsWrittenRun, WritesRun}
 use Rattle.sector_disk.specs.declared.fault.DiskFault.{DiskFault}
@@ -36,8 +36,8 @@ pub zeros_written : (at count n : ℕ) (old new : Medium) → n ≡ count
     → new.unsynced ≤ old.unsynced + n → CountsUpTo (old.unsynced + n) old new
     → new.calls ≡ rising_writes at n ++ old.calls
     → Passes old new (After (IsTornRun at (zero_sectors count) count) old.may_leave)
-    → WritesRun {T = Unit {0}} at (zero_sectors count) (Ok tt) old new
-zeros_written at count n old new all whole tears unsynced counts calls passes =
+    → CallsUpTo n old new → WritesRun {T = Unit {0}} at (zero_sectors count) (Ok tt) old new
+zeros_written at count n old new all whole tears unsynced counts calls passes counted =
     let sectors : List (List ℕ) = zero_sectors count in
     let long : n ≡ length sectors = all ∙ sym (length-replicate count (padding 512)) in
     let many : count ≡ length sectors = sym (length-replicate count (padding 512)) in
@@ -50,6 +50,7 @@ zeros_written at count n old new all whole tears unsynced counts calls passes =
       counts = subst (λ k. CountsUpTo (old.unsynced + k) old new) long counts;
       calls = subst (λ k. MadeRising at k old new) long
           (record { all = calls; begun = (0, calls) });
+      counted = omega (arith, long, counted);
       any_moment = run_leaves_only at sectors (length sectors) old new
           (subst (λ k. Passes old new (After (IsTornRun at sectors k) old.may_leave)) many passes);
       cause = λ none. absurd (false≢true none);
@@ -68,8 +69,8 @@ pub zeros_cut : (at count : ℕ) (said : Result (Unit {0}) DiskFault) (fault : D
     → BeginsCalls (rising_writes at count) old new
     → Passes old new (After (IsTornRun at (zero_sectors count) count) old.may_leave)
     → (spare old < count) ⊎ (old.faults < new.faults) → FailsInside {T = Unit {0}} (Err fault)
-    → WritesRun at (zero_sectors count) said old new
-zeros_cut at count said fault old new same tears unsynced counts calls passes cause kind =
+    → CallsUpTo count old new → WritesRun at (zero_sectors count) said old new
+zeros_cut at count said fault old new same tears unsynced counts calls passes cause kind counted =
     let sectors : List (List ℕ) = zero_sectors count in
     let many : count ≡ length sectors = sym (length-replicate count (padding 512)) in
     subst (λ (r : Result (Unit {0}) DiskFault). WritesRun at sectors r old new) (sym same) (record {
@@ -82,6 +83,7 @@ zeros_cut at count said fault old new same tears unsynced counts calls passes ca
         all = tt;
         begun = subst (λ k. BeginsCalls (rising_writes at k) old new) many calls;
       };
+      counted = omega (arith, many, counted);
       any_moment = run_leaves_only at sectors (length sectors) old new
           (subst (λ k. Passes old new (After (IsTornRun at sectors k) old.may_leave)) many passes);
       cause = λ _. subst (λ k. (spare old < k) ⊎ (old.faults < new.faults)) many cause;

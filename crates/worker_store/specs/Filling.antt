@@ -1,7 +1,8 @@
 -- What it does to a disk to push bytes of an image (this project's own).
-use Rattle.std.specs.Prelude.{◌≡◌, ◌⊎◌, ℕ, ◌+◌, ◌*◌, ◌<◌, ◌≤◌, List, ◌++◌, length, IsTrue, Result}
+use Rattle.std.specs.Prelude.{◌≡◌, ◌⊎◌, ℕ, ◌+◌, ◌-◌, ◌*◌, ◌<◌, ◌≤◌, List, ◌++◌, length, IsTrue}
+use Rattle.std.specs.Prelude.{Result}
 use Rattle.std.specs.Prelude.{Err, IsErr, OnOk}
-use Rattle.sector_disk.specs.rules.Medium.{Medium, After, LeavesOnly, spare}
+use Rattle.sector_disk.specs.rules.Medium.{Medium, After, CallsUpTo, LeavesOnly, spare}
 use Rattle.sector_disk.specs.declared.fault.DiskFault.{DiskFault}
 use Rattle.sector_disk.specs.declared.sector.TheConstants.{SECTOR_SIZE}
 use Rattle.disk_layout.specs.declared.geometry.Geometry.{Geometry}
@@ -9,7 +10,7 @@ use Rattle.disk_layout.specs.rules.Places.{area_place}
 use Rattle.snapshot.specs.declared.fault.SnapshotFault.{SnapshotFault}
 use Rattle.snapshot.specs.declared.fault.SnapshotFault.TheVariants.{TooBig, Disk}
 use Rattle.snapshot.specs.declared.snapshots.Snapshots.{Snapshots}
-use Rattle.snapshot.specs.rules.Calls.{MakesStores}
+use Rattle.snapshot.specs.rules.Calls.{AsksForSectors, MakesStores}
 use Rattle.snapshot.specs.rules.Snapshots.{is_failed, generation_of, writing_of, length_of}
 use Rattle.snapshot.specs.rules.Snapshots.{sectors_of, filled_by, IsSameImage, HasPushed}
 use Rattle.snapshot.specs.rules.Steps.{Fills}
@@ -35,6 +36,9 @@ pub record TakesBytes (geometry : Geometry) (bytes : List ℕ)
       first = area_place geometry (generation_of was) + sectors_of was;
       count = filled_by was (length bytes);
     }) said old new
+    -- for each of them there are two calls at most, and none beyond the area
+    pub asked : OnOk said (AsksForSectors (sectors_of was) (sectors_of now) old new)
+    pub asks : CallsUpTo (2 * (geometry.area_sectors - sectors_of was)) old new
     pub too_big : said ≡ Err TooBig
         → SECTOR_SIZE * geometry.area_sectors < length_of was + length bytes
     pub cause : IsErr said → IsTrue (is_failed was) ⊎ (said ≡ Err TooBig)

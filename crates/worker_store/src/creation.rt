@@ -3,7 +3,7 @@
 ghost use Rattle.std.specs.Prelude.{◌≡◌, ◌≢◌, ◌⊎◌, ◌+◌, ◌<◌, ◌≤◌, ◌^◌, IfErr, IfOk, OnOk, length};
 ghost use Rattle.wasm_syntax.specs.declared.module.Module.{Module};
 ghost use Rattle.wasi_abi.specs.rules.Configs.{Settings};
-ghost use Rattle.sector_disk.specs.rules.Medium.{IsAllSynced, MakesCalls, Passes};
+ghost use Rattle.sector_disk.specs.rules.Medium.{CallsUpTo, IsAllSynced, MakesCalls, Passes};
 ghost use Rattle.disk_layout.specs.rules.Places.{config_bytes, geometry_of, rounded_up};
 ghost use Rattle.disk_layout.specs.rules.Places.{total_sectors};
 ghost use Rattle.state_image.specs.rules.Image.{image};
@@ -61,6 +61,10 @@ pub fn lay_out<D: Disk>(
     ensures memory { IfErr result (λ e. e ≡ StoreFault.Memory → disk.new ≡ disk.old) }
     ensures cause { IfErr result (λ e. CreationFails (geometry_of config.now (length wasm.now))
         process.now (D.medium disk.old) (D.medium disk.new) e) }
+
+    // Few calls more than the disk has sectors.
+    ensures asks { CallsUpTo ((D.medium disk.old).sectors + 9) (D.medium disk.old)
+        (D.medium disk.new) }
 {
     let geometry = Geometry::of(config, wasm.len() as u32);
     if disk.sectors() < geometry.total_sectors() {
@@ -102,6 +106,8 @@ fn lay_worker<D: Disk>(
         result (D.medium disk.old) (D.medium disk.new) }
     ensures cause { IfErr result (λ e.
         CreationFails geometry.now process.now (D.medium disk.old) (D.medium disk.new) e) }
+    ensures asks { CallsUpTo ((D.medium disk.old).sectors + 9) (D.medium disk.old)
+        (D.medium disk.new) }
 {
     lay_contents(disk, geometry, config, wasm)?;
     write_snapshot(disk, geometry, 1, Writing::Whole, process)?;

@@ -1,8 +1,9 @@
 // What stands on a worker's disk, read back.
 
-ghost use Rattle.std.specs.Prelude.{◌≡◌, ◌<◌, ◌≤◌, IfOk};
+ghost use Rattle.std.specs.Prelude.{◌≡◌, ◌+◌, ◌<◌, ◌≤◌, IfOk};
 ghost use Rattle.sector_disk.specs.declared.fault.DiskFault.{DiskFault};
 ghost use Rattle.sector_disk.specs.rules.Image.{Image};
+ghost use Rattle.sector_disk.specs.rules.Medium.{CallsUpTo};
 ghost use Rattle.disk_layout.specs.rules.Places.{total_sectors};
 ghost use Rattle.disk_layout.specs.rules.Stored.{OnlyReads};
 ghost use Rattle.worker_store.specs.rules.AnyDisk.{TellsContents, TellsNewest, TellsRecords};
@@ -29,6 +30,7 @@ pub fn read_worker<D: Disk>(alloc: Global, disk: &mut D) -> Result<Contents, Sto
     ensures cause { (fault : DiskFault) → result ≡ Err (StoreFault.Disk fault)
         → (D.medium disk.old).faults < (D.medium disk.new).faults }
     ensures unfailed { result ≡ Err StoreFault.Failed → ⊥ }
+    ensures asks { CallsUpTo (D.medium disk.old).sectors (D.medium disk.old) (D.medium disk.new) }
 {
     match read_contents(alloc, disk) {
         Ok(contents) => Ok(contents),
@@ -55,6 +57,8 @@ pub fn read_newest<D: Disk>(
     ensures cause { (fault : DiskFault) → result ≡ Err (StoreFault.Disk fault)
         → (D.medium disk.old).faults < (D.medium disk.new).faults }
     ensures unfailed { result ≡ Err StoreFault.Failed → ⊥ }
+    ensures asks { CallsUpTo (geometry.now.area_sectors + 2) (D.medium disk.old)
+        (D.medium disk.new) }
 {
     let mut snapshots = Snapshots::new();
     let found = match snapshots.newest_head(disk) {
@@ -94,6 +98,7 @@ pub fn read_records<D: Disk>(
     ensures cause { (fault : DiskFault) → result ≡ Err (StoreFault.Disk fault)
         → (D.medium disk.old).faults < (D.medium disk.new).faults }
     ensures unfailed { result ≡ Err StoreFault.Failed → ⊥ }
+    ensures asks { CallsUpTo geometry.now.journal_sectors (D.medium disk.old) (D.medium disk.new) }
 {
     match Journal::scan(alloc, disk, geometry, generation) {
         Ok(records) => Ok(records),

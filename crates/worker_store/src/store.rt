@@ -24,7 +24,7 @@ impl WorkerStore {
     ghost use Rattle.disk_layout.specs.rules.Journal.{record_bytes};
     ghost use Rattle.disk_layout.specs.rules.Places.{total_sectors};
     ghost use Rattle.sector_disk.specs.rules.Image.{Image};
-    ghost use Rattle.sector_disk.specs.rules.Medium.{IsAllSynced, MakesCalls, Passes};
+    ghost use Rattle.sector_disk.specs.rules.Medium.{CallsUpTo, IsAllSynced, MakesCalls, Passes};
     ghost use Rattle.journal.specs.rules.Packed.{sectors_for};
     ghost use Rattle.journal.specs.rules.State.{room_of, state};
     ghost use Rattle.journal.specs.rules.Steps.{RecordFits, barrier_calls};
@@ -69,6 +69,8 @@ impl WorkerStore {
             (D.medium disk.old) (D.medium disk.new) }
         ensures cause { IfErr result (λ e. ReopeningFails geometry.now generation process.now
             (D.medium disk.old) (D.medium disk.new) e) }
+        ensures asks { CallsUpTo ((D.medium disk.old).sectors + 2) (D.medium disk.old)
+            (D.medium disk.new) }
     {
         let written = write_snapshot(disk, geometry, generation, Writing::Changes, process);
         if let Err(fault) = written {
@@ -151,6 +153,8 @@ impl WorkerStore {
         ensures passes { Passes (D.medium disk.old) (D.medium disk.new) (λ _. Unit {0}) }
         ensures refused { self.old.has_failed ≡ true
             → (result ≡ Err StoreFault.Failed) × (self.new ≡ self.old) × (disk.new ≡ disk.old) }
+        ensures asks { CallsUpTo (D.medium disk.old).sectors (D.medium disk.old)
+            (D.medium disk.new) }
     {
         if self.has_failed {
             return Err(StoreFault::Failed);
@@ -201,6 +205,8 @@ impl WorkerStore {
         ensures passes { Passes (D.medium disk.old) (D.medium disk.new) (λ _. Unit {0}) }
         ensures refused { self.old.has_failed ≡ true
             → (result ≡ Err StoreFault.Failed) × (self.new ≡ self.old) × (disk.new ≡ disk.old) }
+        ensures asks { CallsUpTo ((D.medium disk.old).sectors + 2) (D.medium disk.old)
+            (D.medium disk.new) }
     {
         if self.has_failed {
             return Err(StoreFault::Failed);

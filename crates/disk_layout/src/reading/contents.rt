@@ -2,6 +2,7 @@
 
 ghost use Rattle.std.specs.Prelude.{◌≡◌, ◌<◌, ◌≤◌, Err, IfOk};
 ghost use Rattle.sector_disk.specs.rules.Image.{Image};
+ghost use Rattle.sector_disk.specs.rules.Medium.{CallsUpTo};
 ghost use Rattle.disk_layout.specs.rules.Places.{total_sectors};
 ghost use Rattle.disk_layout.specs.rules.Stored.{OnlyReads};
 ghost use Rattle.disk_layout.specs.rules.Held.{Agrees, GivesContents};
@@ -40,6 +41,7 @@ pub fn read_contents<D: Disk>(alloc: Global, disk: &mut D) -> Result<Contents, L
     ensures room { IfOk result (λ c. total_sectors c.geometry ≤ (D.medium disk.old).sectors) }
     ensures cause { (fault : DiskFault) → result ≡ Err (LayoutFault.Disk fault)
         → (D.medium disk.old).faults < (D.medium disk.new).faults }
+    ensures asks { CallsUpTo (D.medium disk.old).sectors (D.medium disk.old) (D.medium disk.new) }
 {
     let sectors = disk.sectors();
     let stored = read_super(alloc, disk)?;

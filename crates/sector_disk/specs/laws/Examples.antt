@@ -14,7 +14,7 @@ use Rattle.sector_disk.specs.rules.Answered.{AnsweredCalls, faults_of, unsynced_
 use Rattle.sector_disk.specs.rules.Answered.{is_given_up}
 use Rattle.sector_disk.specs.rules.Folder.{folder_of}
 use Rattle.sector_disk.specs.rules.Trouble.{counted, call_number, trouble_at, place_numbers}
-use Rattle.sector_disk.specs.rules.Trouble.{troubled, LeavesFront}
+use Rattle.sector_disk.specs.rules.Trouble.{CallCounts, troubled, LeavesFront}
 use Rattle.sector_disk.specs.declared.write.Write.{Write}
 use Rattle.sector_disk.specs.declared.disk_call.DiskCall.{DiskCall}
 use Rattle.sector_disk.specs.declared.disk_call.DiskCall.TheVariants.{WriteOf, Sync}
@@ -139,12 +139,15 @@ pub record FolderExamples : Type 0 where
 -- ---- laws of any disk, which no contract can name: they stand here with their proofs
 
 pub troubles_are_faults : (below : Medium) (stop fail : Option Place) (n : ℕ)
-    → (troubled below stop fail n).faults ≡ below.faults + n
-troubles_are_faults below stop fail n = refl
+    (begun : CallCounts)
+    → (troubled below stop fail n begun).faults ≡ below.faults + n
+troubles_are_faults below stop fail n begun = refl
 
 pub both_are_told : (below : Medium) (stop fail : Option Place) (n : ℕ)
-    → (troubled below stop fail n).told ≡ place_numbers stop ++ place_numbers fail ++ below.told
-both_are_told below stop fail n = refl
+    (begun : CallCounts)
+    → (troubled below stop fail n begun).told
+    ≡ place_numbers stop ++ place_numbers fail ++ below.told
+both_are_told below stop fail n begun = refl
 
 -- a front is taken wherever there is room for one more write
 pub front_is_taken : (front k : ℕ) (bytes : List ℕ) (is_taken : Bool) (old new : Medium)
@@ -163,8 +166,17 @@ front_is_exact front k bytes is_taken old new shown left leaves taken may =
 
 -- a disk that is told where to stop or to fail was asked for what the disk below was asked for
 pub calls_are_below : (below : Medium) (stop fail : Option Place) (n : ℕ)
-    → (troubled below stop fail n).calls ≡ below.calls
-calls_are_below below stop fail n = refl
+    (begun : CallCounts)
+    → (troubled below stop fail n begun).calls ≡ below.calls
+calls_are_below below stop fail n begun = refl
+
+-- and it counts its own calls, also those that the disk below isn't asked for
+pub its_own_are_counted : (below : Medium) (stop fail : Option Place) (n reads writes syncs : ℕ)
+    → reads + writes + syncs < 2 ^ 64
+    → (troubled below stop fail n
+    (record { reads = reads; writes = writes; syncs = syncs })).counted
+    ≡ reads + writes + syncs
+its_own_are_counted below stop fail n reads writes syncs few = omega arith
 
 -- of two writes and a sync the first write alone may be made, but not the second alone
 pub oldest_is_begun : (old new : Medium) → new.calls ≡ WriteOf 7 ∷ old.calls

@@ -27,6 +27,7 @@ answered_medium n fits answers = record {
   room = 2 ^ 64;
   unsynced_since = λ t count. AnsweredCount t answers count;
   calls = file_calls answers;
+  counted = 0;
   fits = fits;
   of_shows = λ image both. both;
   of_left = λ image both. both;

@@ -37,6 +37,8 @@ pub record Medium : Type 1 where
   -- the writes and syncs that it was asked for, the newest first; of those that failed some may
   -- be missing
   pub calls : List DiskCall
+  -- how many calls it says were begun; a disk that counts none says 0
+  pub counted : ℕ
   pub fits : sectors < 2 ^ 64
   -- the sets are those of the pairs
   pub of_shows : (image : Image) → shows image → (left : Image) × may image left
@@ -104,6 +106,10 @@ pub record CountsUpTo (most : ℕ) (old new : Medium) : Type 0 where
   pub grows : (t n : ℕ) → t ≤ old.moment → new.unsynced_since t n → old.unsynced_since t n
       ⊎ (n ≤ most)
 
+-- so many calls at most were counted in between
+abbrev pub CallsUpTo : ℕ → Medium → Medium → Type 0
+CallsUpTo most old new = new.counted ≤ old.counted + most
+
 -- no image is added to what reads give and to what a cut may leave, or may have left since, and no
 -- write
 pub record Stays (old new : Medium) : Type 0 where
@@ -162,6 +168,7 @@ pub record Reads {T : Type 0} (k : ℕ) (into : List ℕ) (result : Result T Dis
   pub unsynced : new.unsynced ≡ old.unsynced
   pub counts : CountsUpTo old.unsynced old new
   pub calls : new.calls ≡ old.calls
+  pub counted : CallsUpTo 1 old new
   pub passes : Passes old new new.may_leave
   pub cause : HasCause (old.sectors ≤ k) ⊥ result old new
 
@@ -173,6 +180,7 @@ pub record Writes {T : Type 0} (k : ℕ) (bytes : List ℕ) (result : Result T D
   pub tears : Tears k bytes old new
   pub counts : CountsUpTo (old.unsynced + 1) old new
   pub calls : MakesCalls (WriteOf k ∷ []) result old new
+  pub counted : CallsUpTo 1 old new
   pub passes : Passes old new new.may_leave
   pub cause : HasCause (old.sectors ≤ k) (spare old ≡ 0) result old new
 
@@ -183,5 +191,6 @@ pub record SyncsMedium {T : Type 0} (result : Result T DiskFault) (old new : Med
   pub unsynced : OnErr result (new.unsynced ≡ old.unsynced)
   pub counts : CountsUpTo old.unsynced old new
   pub calls : MakesCalls (Sync ∷ []) result old new
+  pub counted : CallsUpTo 1 old new
   pub passes : Passes old new new.may_leave
   pub cause : HasCause ⊥ ⊥ result old new

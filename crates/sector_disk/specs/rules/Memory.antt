@@ -95,6 +95,7 @@ memory_medium d = record {
   room = d.limit;
   unsynced_since = λ t n. (n ≡ length d.pending.items) ⊎ HadCount t d.past.items n;
   calls = calls_in d.calls.items;
+  counted = 0;
   fits = vec_fits d.settled;
   may_since = λ t shown image. (shown ≡ d.shown.items)
       × (Leaves d.pending.items d.settled.items image ⊎ HadLeft t d.past.items image);

@@ -1,8 +1,8 @@
 -- Sectors that are written back as they were read.
-use Rattle.std.specs.Prelude.{◌⊎◌, ◌<◌, ◌≤◌, ◌+◌, ℕ, List, Result, IsErr}
+use Rattle.std.specs.Prelude.{◌⊎◌, ◌<◌, ◌≤◌, ◌+◌, ◌*◌, ℕ, List, Result, IsErr}
 use Rattle.sector_disk.specs.rules.Image.{Image}
 use Rattle.sector_disk.specs.rules.Medium.{Medium, LeavesOnly, CountsUpTo, MakesCalls}
-use Rattle.sector_disk.specs.rules.Medium.{FailsInside, spare}
+use Rattle.sector_disk.specs.rules.Medium.{CallsUpTo, FailsInside, spare}
 use Rattle.sector_disk.specs.declared.disk_call.DiskCall.{DiskCall}
 use Rattle.sector_disk.specs.declared.fault.DiskFault.{DiskFault}
 
@@ -20,5 +20,7 @@ pub record WritesBack {T : Type 0} (calls : List DiskCall) (count : ℕ) (result
   pub unsynced : new.unsynced ≤ old.unsynced + count
   pub counts : CountsUpTo (old.unsynced + count) old new
   pub made : MakesCalls calls result old new
+  -- a read and a write of each
+  pub counted : CallsUpTo (2 * count) old new
   pub cause : IsErr result → (spare old < count) ⊎ (old.faults < new.faults)
   pub kind : FailsInside result

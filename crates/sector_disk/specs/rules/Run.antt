@@ -2,7 +2,7 @@
 use Rattle.std.specs.Prelude.{◌≡◌, ◌⊎◌, ◌<◌, ◌≤◌, ◌+◌, ℕ, length, Result, OnOk, IsErr}
 use Rattle.sector_disk.specs.rules.Image.{Image, sector_at, front_over}
 use Rattle.sector_disk.specs.rules.Medium.{Medium, After, BothFollow, LeavesOnly, CountsUpTo}
-use Rattle.sector_disk.specs.rules.Medium.{MakesCalls, FailsInside, spare}
+use Rattle.sector_disk.specs.rules.Medium.{CallsUpTo, MakesCalls, FailsInside, spare}
 use Rattle.sector_disk.specs.rules.Calls.{rising_writes}
 use Rattle.sector_disk.specs.declared.fault.DiskFault.{DiskFault}
 use Rattle.sector_disk.specs.declared.sector.TheConstants.{SECTOR_SIZE}
@@ -39,6 +39,7 @@ pub record WritesRun {T : Type 0} (at : ℕ) (sectors : Image) (result : Result 
   pub counts : CountsUpTo (old.unsynced + length sectors) old new
   -- one write to each, in rising order
   pub calls : MakesCalls (rising_writes at (length sectors)) result old new
+  pub counted : CallsUpTo (length sectors) old new
   -- a cut at a moment in between, too, leaves of each some front
   pub any_moment : LeavesOnly old new (After (IsTornRun at sectors (length sectors)) old.may_leave)
   pub cause : IsErr result → (spare old < length sectors) ⊎ (old.faults < new.faults)

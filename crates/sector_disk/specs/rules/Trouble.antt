@@ -58,12 +58,14 @@ abbrev pub place_numbers : Option Place → List ℕ
 place_numbers None = 0 ∷ []
 place_numbers (Some place) = 1 ∷ place.call ∷ place.front ∷ []
 
--- the disk below, told where to stop and to fail, which has met trouble so often
-abbrev pub troubled : Medium → Option Place → Option Place → ℕ → Medium
-troubled below stop fail n =
+-- the disk below, told where to stop and to fail, which has met trouble so often and begun so many
+-- calls
+abbrev pub troubled : Medium → Option Place → Option Place → ℕ → CallCounts → Medium
+troubled below stop fail n begun =
     record below {
       told = place_numbers stop ++ place_numbers fail ++ below.told;
       faults = below.faults + n;
+      counted = call_number begun;
     }
 
 -- The told front of a write is left, and a cut may leave a front of that. A disk that fails may

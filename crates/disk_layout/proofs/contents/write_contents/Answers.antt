@@ -60,6 +60,7 @@ loop-i-preserved g c =
       counts = let u = i.unsynced in let p = i.passes in
           counts_then (old.unsynced + n) (mid.unsynced + 1) (old.unsynced + (n + 1)) old mid new
           (omega arith) (omega arith) p.later i.counts c.write.ensures.counts;
+      counted = omega (arith, i.counted, c.write.ensures.counted);
       calls = rising_more 3 n old mid new i.calls c.in_ok-write.ensures.calls.all;
       passes = run_passes 3 sectors (n + 1) (length sectors) old mid new
           (omega arith) i.passes both c.write.ensures.passes;

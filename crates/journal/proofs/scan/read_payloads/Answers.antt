@@ -98,6 +98,7 @@ loop-k-preserved g c =
     e ∙ u) in
     record {
       reads = read_more old mid new _ _ c.read.result at.reads c.read.ensures;
+      counted = omega (arith, at.counted, c.read.ensures.counted);
       on = λ image shows. let before = stays_shows mid new stays image shows in
           on_more image c.args.generation c.journal_place-at.result c.loop-k.k (at.on image before)
           (on image shows);

@@ -1,4 +1,4 @@
-use Rattle.std.proofs.Common.{◌≡◌, ◌+◌, ◌<◌, ℕ, true}
+use Rattle.std.proofs.Common.{◌≡◌, ◌+◌, ◌<◌, ◌≤◌, ℕ, true}
 use Rattle.sector_disk.specs.rules.Image.{Image, sector_at}
 use Rattle.disk_layout.specs.rules.Journal.{payloads_from, is_of}
 use Rattle.disk_layout.specs.rules.Stored.{OnlyReads}
@@ -10,6 +10,7 @@ invariant-loop-k g l =
     let now = g.D.Disk.medium l.disk in
     record {
       reads : OnlyReads old now;
+      counted : now.counted ≤ old.counted + l.k;
       on : (image : Image) → now.shows image → (i : ℕ) → i < l.k
           → is_of l.generation (1 + i) (sector_at image (l.at + i)) ≡ true;
       payloads : (image : Image) → now.shows image

@@ -70,6 +70,7 @@ loop-i-preserved g c =
       counts = let u = i.unsynced in let p = i.passes in let later = p.later in
           counts_then (old.unsynced + n) (mid.unsynced + 1) (old.unsynced + (n + 1)) old mid new
           (omega arith) (omega arith) later i.counts c.write.ensures.counts;
+      counted = omega (arith, i.counted, c.write.ensures.counted);
       calls = rising_more c.args.at n old mid new i.calls c.in_ok-write.ensures.calls.all;
       passes = run_passes c.args.at batch (n + 1) count old mid new
           (omega arith) i.passes both c.write.ensures.passes;

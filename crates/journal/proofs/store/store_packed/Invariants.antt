@@ -1,4 +1,4 @@
-use Rattle.std.proofs.Common.{◌≡◌, ◌+◌, ◌++◌, length}
+use Rattle.std.proofs.Common.{◌≡◌, ◌≤◌, ◌+◌, ◌++◌, length}
 use Rattle.sector_disk.specs.rules.Medium.{After, BothFollow, CountsUpTo, Passes}
 use Rattle.sector_disk.specs.rules.Calls.{rising_writes}
 use Rattle.sector_disk.specs.rules.Run.{IsTornRun, IsWrittenRun}
@@ -16,6 +16,7 @@ invariant-loop-i g l =
       tears : BothFollow (IsTornRun l.at batch l.i) (IsTornRun l.at batch l.i) old now;
       unsynced : now.unsynced ≡ old.unsynced + l.i;
       counts : CountsUpTo (old.unsynced + l.i) old now;
+      counted : now.counted ≤ old.counted + l.i;
       calls : now.calls ≡ rising_writes l.at l.i ++ old.calls;
       passes : Passes old now (After (IsTornRun l.at batch n) old.may_leave);
     }

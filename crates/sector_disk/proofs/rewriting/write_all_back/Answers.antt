@@ -37,6 +37,7 @@ returns-in_err-write_back g c =
         begun = rising_begun 0 n old mid new i.calls old.sectors (omega arith)
             (subst (λ (k : ℕ). BeginsCalls (WriteOf k ∷ []) mid new) here one.made.begun);
       };
+      counted = omega (arith, i.counted, one.counted);
       cause = search rules;
       kind = subst P (sym same) c.in_err-write_back.ensures.kind;
     }

@@ -1,4 +1,4 @@
-use Rattle.std.proofs.Common.{◌≡◌, ◌≤◌, ◌+◌, ◌++◌}
+use Rattle.std.proofs.Common.{◌≡◌, ◌≤◌, ◌+◌, ◌*◌, ◌++◌}
 use Rattle.sector_disk.specs.rules.Medium.{CountsUpTo, Passes}
 use Rattle.sector_disk.specs.rules.Calls.{rising_writes}
 use Rattle.sector_disk.specs.rules.Rewrite.{AddsNothing}
@@ -12,6 +12,7 @@ invariant-loop-sector g l =
       adds : AddsNothing old now;
       unsynced : now.unsynced ≤ old.unsynced + l.sector;
       counts : CountsUpTo (old.unsynced + l.sector) old now;
+      counted : now.counted ≤ old.counted + 2 * l.sector;
       calls : now.calls ≡ rising_writes 0 l.sector ++ old.calls;
       passes : Passes old now old.may_leave;
     }

@@ -27,6 +27,7 @@ returns g c =
           (omega arith) (omega arith) p.later c.read.ensures.counts c.write.ensures.counts;
       made = made_since (WriteOf c.args.sector ∷ []) c.write.result old mid new
           c.read.ensures.calls c.write.ensures.calls;
+      counted = omega (arith, c.read.ensures.counted, c.write.ensures.counted);
       cause = search rules;
       kind = record {
         no_range = λ e. let out = cause.range e in let s = p.sectors in omega arith;

@@ -43,6 +43,7 @@ returns-in_err-write g c =
             (omega arith) (subst (λ (k : ℕ). BeginsCalls (WriteOf k
             ∷ []) mid new) i.place c.write.ensures.calls.begun);
       };
+      counted = omega (arith, i.counted, c.write.ensures.counted);
       any_moment =
           run_leaves_only _ _ _ old new
           (run_passes _ _ _ _ old mid new more i.passes both c.write.ensures.passes);
@@ -73,5 +74,6 @@ loop-sector-preserved g c =
           (omega arith) (omega arith) p.later i.counts c.write.ensures.counts;
       calls = rising_more c.args.at n old mid new i.calls (subst (λ (k : ℕ). new.calls
           ≡ (WriteOf k ∷ []) ++ mid.calls) i.place c.in_ok-write.ensures.calls.all);
+      counted = omega (arith, i.counted, c.write.ensures.counted);
       passes = run_passes _ _ _ _ old mid new (omega arith) i.passes both c.write.ensures.passes;
     }

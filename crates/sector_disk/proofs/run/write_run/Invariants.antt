@@ -16,6 +16,7 @@ invariant-loop-sector g l =
           (IsTornRun l.at l.sectors l.sector-index) old now;
       unsynced : now.unsynced ≤ old.unsynced + l.sector-index;
       counts : CountsUpTo (old.unsynced + l.sector-index) old now;
+      counted : now.counted ≤ old.counted + l.sector-index;
       calls : now.calls ≡ rising_writes l.at l.sector-index ++ old.calls;
       passes : Passes old now (After (IsTornRun l.at l.sectors (length l.sectors)) old.may_leave);
     }

@@ -20,6 +20,7 @@ loop-i-preserved g c =
     c.in_ok-extend_from_slice.ensures.items in
     record {
       reads = read_more old mid new _ _ c.read.result c.loop-i.invariant.reads c.read.ensures;
+      counted = omega (arith, c.loop-i.invariant.counted, c.read.ensures.counted);
       len = ap length items ∙ length-append c.loop-i.bytes.items c.read.new.into
           ∙ (let a = c.loop-i.invariant.len in let b = c.read.array_long in omega arith);
       bytes = λ image shows.

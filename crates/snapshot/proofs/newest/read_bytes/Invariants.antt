@@ -1,4 +1,4 @@
-use Rattle.std.proofs.Common.{◌≡◌, ◌*◌, length}
+use Rattle.std.proofs.Common.{◌≡◌, ◌≤◌, ◌+◌, ◌*◌, length}
 use Rattle.sector_disk.specs.rules.Image.{Image}
 use Rattle.disk_layout.specs.rules.Sectors.{bytes_from}
 use Rattle.disk_layout.specs.rules.Stored.{OnlyReads}
@@ -10,6 +10,7 @@ invariant-loop-i g l =
     let now = g.D.Disk.medium l.disk in
     record {
       reads : OnlyReads old now;
+      counted : now.counted ≤ old.counted + l.i;
       len : length l.bytes.items ≡ 512 * l.i;
       bytes : (image : Image) → now.shows image → l.bytes.items ≡ bytes_from image l.at l.i;
     }

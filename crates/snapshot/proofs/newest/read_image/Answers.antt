@@ -28,3 +28,18 @@ returns-clause-image g c = λ image shows.
     ∙ ap (λ (k : ℕ).
     take h.length_in_bytes (bytes_from image k c.args.geometry.now.area_sectors)) at) (digest
     ∙ ap (λ (l : List ℕ). sha256 l) value)
+
+pub returns-in_err-bytes-clause-asks : goal.returns-in_err-bytes-clause-asks
+returns-in_err-bytes-clause-asks g c =
+    let f = c.if-head-room.false in
+    c.read_bytes.ensures.asks c.args.geometry.now.area_sectors (omega (arith, f, c.from.ensures))
+
+pub returns-then-not-is_digest_of-clause-asks : goal.returns-then-not-is_digest_of-clause-asks
+returns-then-not-is_digest_of-clause-asks g c =
+    let f = c.if-head-room.false in
+    c.read_bytes.ensures.asks c.args.geometry.now.area_sectors (omega (arith, f, c.from.ensures))
+
+pub returns-clause-asks : goal.returns-clause-asks
+returns-clause-asks g c =
+    let f = c.if-head-room.false in
+    c.read_bytes.ensures.asks c.args.geometry.now.area_sectors (omega (arith, f, c.from.ensures))

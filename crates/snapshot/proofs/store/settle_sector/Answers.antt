@@ -23,6 +23,7 @@ returns-in_err-settle g c =
         begun = begun_first (Sync ∷ []) (Sync ∷ WriteOf c.args.at
             ∷ []) old mid c.settle.ensures.calls.begun;
       };
+      counted = omega (arith, c.settle.ensures.counted);
       cause = search rules;
     }
 
@@ -49,5 +50,6 @@ returns g c =
       calls = made_then (Sync ∷ []) (Sync ∷ WriteOf c.args.at
           ∷ []) c.write_settled.result old mid new c.in_ok-settle.ensures.calls.all
           c.write_settled.ensures.calls;
+      counted = omega (arith, c.settle.ensures.counted, c.write_settled.ensures.counted);
       cause = search rules;
     }

@@ -1,4 +1,4 @@
-use Rattle.std.proofs.Common.{[], ◌∷◌, rules}
+use Rattle.std.proofs.Common.{[], ◌∷◌, arith, rules}
 use Rattle.sector_disk.specs.declared.disk_call.DiskCall.TheVariants.{WriteOf}
 use Rattle.snapshot.proofs.StoreCalls.{one_always}
 use Rattle.std.proofs.lemmas.Result.{on_ok_weaker}
@@ -17,5 +17,6 @@ returns g c =
       unsynced = tears.unsynced;
       counts = c.write.ensures.counts;
       calls = (WriteOf c.args.at ∷ [], one_always c.args.at, c.write.ensures.calls);
+      counted = omega (arith, c.write.ensures.counted);
       cause = search rules;
     }

@@ -29,6 +29,7 @@ returns-in_err-read g c =
           begun = (0, c.read.ensures.calls);
         },
       );
+      counted = omega (arith, c.read.ensures.counted);
       cause = search rules;
     }
 
@@ -56,6 +57,7 @@ returns-then-same g c =
           begun = (0, c.read.ensures.calls);
         },
       );
+      counted = omega (arith, c.read.ensures.counted);
       cause = search rules;
     }
 
@@ -89,5 +91,6 @@ returns-else-same g c =
         made_since (WriteOf c.args.at
             ∷ []) c.write.result old mid new c.read.ensures.calls c.write.ensures.calls,
       );
+      counted = omega (arith, c.read.ensures.counted, c.write.ensures.counted);
       cause = search rules;
     }

@@ -26,6 +26,7 @@ returns-in_err-write g c =
         begun = begun_first (WriteOf c.args.at ∷ []) (Sync
             ∷ []) old new c.write.ensures.calls.begun;
       };
+      counted = omega (arith, c.write.ensures.counted);
       cause = search rules;
     }
 
@@ -56,5 +57,6 @@ returns g c =
           )) p.later c.write.ensures.counts c.settle.ensures.counts;
       calls = made_then (WriteOf c.args.at ∷ []) (Sync
           ∷ []) c.settle.result old new last c.in_ok-write.ensures.calls.all c.settle.ensures.calls;
+      counted = omega (arith, c.write.ensures.counted, c.settle.ensures.counted);
       cause = search rules;
     }

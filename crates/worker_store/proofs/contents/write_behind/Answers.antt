@@ -83,3 +83,15 @@ returns-clause-calls g c =
     new) c.journal_place.ensures
     (subst (λ n. MakesCalls (rising_writes c.journal_place.result n) c.write_zeros.result next new)
     (length-replicate geometry.journal_sectors zero_sector) c.write_zeros.ensures.calls))
+
+pub returns-clause-asks : goal.returns-clause-asks
+returns-clause-asks g c =
+    let long = length-replicate c.args.geometry.now.journal_sectors zero_sector in
+    omega (
+      arith,
+      long,
+      c.requires.module_sectors,
+      c.write_contents.ensures.asks,
+      c.write_run.ensures.counted,
+      c.write_zeros.ensures.counted,
+    )

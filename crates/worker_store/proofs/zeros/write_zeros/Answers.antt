@@ -43,7 +43,7 @@ returns-in_err-write g c =
     (run_passes c.args.at sectors count count old mid new (omega arith) i.passes both
     c.write.ensures.passes)
     (let u = i.unsynced in let p = i.passes in let w = c.in_err-write.ensures.cause in search rules)
-    kind
+    kind (omega (arith, below, i.counted, c.write.ensures.counted))
 
 pub loop-k-preserved : goal.loop-k-preserved
 loop-k-preserved g c =
@@ -70,6 +70,7 @@ loop-k-preserved g c =
       counts = let u = i.unsynced in let p = i.passes in
           counts_then (old.unsynced + n) (mid.unsynced + 1) (old.unsynced + (n + 1)) old mid new
           (omega arith) (omega arith) p.later i.counts c.write.ensures.counts;
+      counted = omega (arith, i.counted, c.write.ensures.counted);
       calls = rising_more c.args.at n old mid new i.calls c.in_ok-write.ensures.calls.all;
       passes = run_passes c.args.at sectors (n + 1) count old mid new (omega arith) i.passes both
           c.write.ensures.passes;
@@ -84,4 +85,4 @@ returns g c =
     let all : n ≡ c.args.count = let t = c.loop-k.auto.k-end in let f = c.loop-k-test.false in
     omega arith in
     zeros_written c.args.at c.args.count n old new all i.whole i.tears i.unsynced i.counts i.calls
-    i.passes
+    i.passes i.counted

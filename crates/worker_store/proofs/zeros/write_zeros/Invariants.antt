@@ -15,6 +15,7 @@ invariant-loop-k g l =
       tears : BothFollow (IsTornRun l.at sectors l.k) (IsTornRun l.at sectors l.k) old now;
       unsynced : now.unsynced ≤ old.unsynced + l.k;
       counts : CountsUpTo (old.unsynced + l.k) old now;
+      counted : now.counted ≤ old.counted + l.k;
       calls : now.calls ≡ rising_writes l.at l.k ++ old.calls;
       passes : Passes old now (After (IsTornRun l.at sectors l.count) old.may_leave);
     }

@@ -19,6 +19,7 @@ returns-in-Some-Stopped-clause-writes g c = record {
   };
   counts = record { keeps = λ t n le since. since; grows = λ t n le since. inl since };
   calls = record { all = tt; begun = (1, refl) };
+  counted = omega arith;
   passes = search rules;
   cause = search rules;
 }

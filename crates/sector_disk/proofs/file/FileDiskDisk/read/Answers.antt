@@ -38,6 +38,7 @@ returns-in-Ok-clause-reads g c =
             (unsynced_of d.past.log.items) t n is (omega arith) since;
       };
       calls = ap file_calls is;
+      counted = omega arith;
       passes = search rules;
       cause = search rules;
     }

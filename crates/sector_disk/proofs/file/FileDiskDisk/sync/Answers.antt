@@ -44,6 +44,7 @@ returns-in-Ok-clause-syncs g c =
         all = ap file_calls is;
         begun = (0, ap file_calls is);
       };
+      counted = omega arith;
       passes = search rules;
       cause = search rules;
     }

@@ -22,6 +22,7 @@ returns-clause-reads c =
       unsynced = refl;
       counts = counts_same (memory_medium c.args.self.now) _;
       calls = refl;
+      counted = omega arith;
       passes = search rules;
       cause = search rules;
     }

@@ -72,6 +72,7 @@ returns-clause-syncs c =
         all = ap calls_in c.and-self.ensures;
         begun = (0, ap calls_in c.and-self.ensures);
       };
+      counted = omega arith;
       passes = search rules;
       cause = search rules;
     }

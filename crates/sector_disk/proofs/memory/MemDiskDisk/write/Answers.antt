@@ -82,6 +82,7 @@ returns-clause-writes c =
         all = ap calls_in c.and-self.ensures;
         begun = (0, ap calls_in c.and-self.ensures);
       };
+      counted = omega arith;
       passes = search rules;
       cause = search rules;
     }
@@ -110,6 +111,7 @@ returns-then-sector-sectors-clause-writes c =
       };
       counts = counts_same m _;
       calls = record { all = tt; begun = (1, refl) };
+      counted = omega arith;
       passes = search rules;
       cause = search rules;
     }

@@ -126,6 +126,7 @@ loop-at-preserved g c =
             omega (arith, made.1, here.2),
             stored_then w place made.0 here.0 old mid new made.2 next,
           );
+      asked = omega (arith, i.asked, ok.asked);
       unsynced = omega (arith, sync, i.unsynced);
       counts = let p = i.leaves.passes in
           counts_then most (mid.unsynced

@@ -1,6 +1,7 @@
 use Rattle.std.proofs.Common.{◌≡◌, ◌≤◌, ◌+◌, ◌-◌, ◌/◌, ◌++◌, ℕ, List, length, take}
 use Rattle.sector_disk.specs.rules.Medium.{After, CountsUpTo, LeavesOnly}
 use Rattle.disk_layout.specs.rules.Places.{area_place}
+use Rattle.snapshot.specs.rules.Calls.{AsksForSectors}
 use Rattle.snapshot.specs.rules.Steps.{Fills}
 use Rattle.snapshot.specs.declared.writing.Writing.TheVariants.{Whole, Changes}
 use Rattle.snapshot.specs.Writing.{written_length, SparesSectors, IsGiven}
@@ -25,6 +26,7 @@ invariant-loop-at g l =
       calls : (n : ℕ) × (l.self.sectors ≡ l.fn.self.sectors + n)
           × HasStored l.fn.self.writing (area_place l.geometry l.fn.self.generation
           + l.fn.self.sectors) n old now;
+      asked : AsksForSectors l.fn.self.sectors l.self.sectors old now;
       unsynced : now.unsynced + l.fn.self.sectors ≤ old.unsynced + l.self.sectors;
       spared : l.fn.self.writing ≡ Changes
           → SparesSectors (area_place l.geometry l.fn.self.generation) l.fn.self.sectors
