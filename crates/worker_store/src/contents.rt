@@ -1,10 +1,10 @@
 // All of a new worker's disk that stands before its first snapshot.
 
-ghost use Rattle.std.specs.Prelude.{◌≡◌, ◌⊎◌, ◌+◌, ◌++◌, ◌<◌, ◌≤◌, ◌^◌, IsErr, OnOk, length};
+ghost use Rattle.std.specs.Prelude.{◌≡◌, ◌⊎◌, ◌+◌, ◌++◌, ◌<◌, ◌≤◌, ◌^◌, IsErr, OnOk, length, max};
 ghost use Rattle.wasi_abi.specs.rules.Configs.{Settings};
 ghost use Rattle.sector_disk.specs.rules.Image.{Image};
 ghost use Rattle.sector_disk.specs.rules.Medium.{IsAllSynced, LeavesOnly, MakesCalls, Passes};
-ghost use Rattle.sector_disk.specs.rules.Medium.{spare};
+ghost use Rattle.sector_disk.specs.rules.Medium.{CountsUpTo, spare};
 ghost use Rattle.disk_layout.specs.rules.Places.{config_bytes, geometry_of, rounded_up};
 ghost use Rattle.disk_layout.specs.rules.Places.{total_sectors};
 ghost use Rattle.worker_rules.specs.Stands.{IsBlank};
@@ -45,6 +45,11 @@ pub(crate) fn lay_contents<D: Disk>(
     ensures cause { IsErr result → (spare (D.medium disk.old) ≡ 0)
         ⊎ ((D.medium disk.old).room < behind_sectors geometry.now)
         ⊎ ((D.medium disk.old).faults < (D.medium disk.new).faults) }
+
+    // At no moment were there more unsynced writes than before and the super's, or than those
+    // behind it.
+    ensures counts { CountsUpTo (max ((D.medium disk.old).unsynced + 1) (behind_sectors geometry.now))
+        (D.medium disk.old) (D.medium disk.new) }
 {
     store_run(disk, 0, &[[0; SECTOR_SIZE]])?;
     write_behind(disk, geometry, config, wasm)?;
@@ -74,6 +79,10 @@ fn write_behind<D: Disk>(
         (D.medium disk.new) }
     ensures cause { IsErr result → (spare (D.medium disk.old) < behind_sectors geometry.now)
         ⊎ ((D.medium disk.old).faults < (D.medium disk.new).faults) }
+    ensures unsynced { OnOk result ((D.medium disk.new).unsynced
+        ≤ (D.medium disk.old).unsynced + behind_sectors geometry.now) }
+    ensures counts { CountsUpTo ((D.medium disk.old).unsynced + behind_sectors geometry.now)
+        (D.medium disk.old) (D.medium disk.new) }
 {
     write_contents(disk, config, wasm)?;
     write_run(disk, 1, &[[0; SECTOR_SIZE], [0; SECTOR_SIZE]])?;

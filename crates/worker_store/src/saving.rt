@@ -1,10 +1,11 @@
 // The snapshot of a process.
 
-ghost use Rattle.std.specs.Prelude.{◌≡◌, ◌⊎◌, ◌*◌, ◌<◌, ◌≤◌, IsErr, OnOk, length};
+ghost use Rattle.std.specs.Prelude.{◌≡◌, ◌⊎◌, ◌+◌, ◌*◌, ◌<◌, ◌≤◌, IsErr, OnOk, length};
 ghost use Rattle.wasi_abi.specs.declared.numbers.TheConstants.{NUMBERS_END};
 ghost use Rattle.sector_disk.specs.declared.fault.DiskFault.{DiskFault};
 ghost use Rattle.sector_disk.specs.declared.sector.TheConstants.{SECTOR_SIZE};
 ghost use Rattle.sector_disk.specs.rules.Medium.{After, Follows, IsAllSynced, LeavesOnly, spare};
+ghost use Rattle.sector_disk.specs.rules.Medium.{CountsUpTo};
 ghost use Rattle.disk_layout.specs.declared.head.TheConstants.{IMAGE_VERSION};
 ghost use Rattle.disk_layout.specs.rules.Places.{area_place, journal_place, rounded_up};
 ghost use Rattle.snapshot.specs.rules.Calls.{MakesStoresAndHead};
@@ -58,6 +59,10 @@ pub(crate) fn write_snapshot<D: Disk>(
         × ((spare (D.medium disk.old) < geometry.now.area_sectors)
         ⊎ ((D.medium disk.old).room ≡ 0)
         ⊎ ((D.medium disk.old).faults < (D.medium disk.new).faults))) }
+
+    // At no moment were there more unsynced writes than before, an area's, and the head.
+    ensures counts { CountsUpTo ((D.medium disk.old).unsynced + geometry.now.area_sectors + 1)
+        (D.medium disk.old) (D.medium disk.new) }
 {
     let mut snapshots = Snapshots::new();
     snapshots.begin(generation, IMAGE_VERSION, writing)?;

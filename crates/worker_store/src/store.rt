@@ -24,7 +24,7 @@ impl WorkerStore {
     ghost use Rattle.disk_layout.specs.rules.Journal.{record_bytes};
     ghost use Rattle.disk_layout.specs.rules.Places.{total_sectors};
     ghost use Rattle.sector_disk.specs.rules.Image.{Image};
-    ghost use Rattle.sector_disk.specs.rules.Medium.{IsAllSynced, MakesCalls, Passes};
+    ghost use Rattle.sector_disk.specs.rules.Medium.{CountsUpTo, IsAllSynced, MakesCalls, Passes};
     ghost use Rattle.journal.specs.rules.Packed.{sectors_for};
     ghost use Rattle.journal.specs.rules.State.{room_of, state};
     ghost use Rattle.journal.specs.rules.Steps.{RecordFits, barrier_calls};
@@ -69,6 +69,10 @@ impl WorkerStore {
             (D.medium disk.old) (D.medium disk.new) }
         ensures cause { IfErr result (λ e. ReopeningFails geometry.now generation process.now
             (D.medium disk.old) (D.medium disk.new) e) }
+
+        // At no moment were there more unsynced writes than before, an area's, and the head.
+        ensures counts { CountsUpTo ((D.medium disk.old).unsynced + geometry.now.area_sectors + 1)
+            (D.medium disk.old) (D.medium disk.new) }
     {
         let written = write_snapshot(disk, geometry, generation, Writing::Changes, process);
         if let Err(fault) = written {
@@ -151,6 +155,11 @@ impl WorkerStore {
         ensures passes { Passes (D.medium disk.old) (D.medium disk.new) (λ _. Unit {0}) }
         ensures refused { self.old.has_failed ≡ true
             → (result ≡ Err StoreFault.Failed) × (self.new ≡ self.old) × (disk.new ≡ disk.old) }
+
+        // At no moment were there more unsynced writes than before and these.
+        ensures counts { CountsUpTo
+            ((D.medium disk.old).unsynced + sectors_for (length self.old.journal.kept))
+            (D.medium disk.old) (D.medium disk.new) }
     {
         if self.has_failed {
             return Err(StoreFault::Failed);
@@ -201,6 +210,11 @@ impl WorkerStore {
         ensures passes { Passes (D.medium disk.old) (D.medium disk.new) (λ _. Unit {0}) }
         ensures refused { self.old.has_failed ≡ true
             → (result ≡ Err StoreFault.Failed) × (self.new ≡ self.old) × (disk.new ≡ disk.old) }
+
+        // At no moment were there more unsynced writes than before, an area's, and the head.
+        ensures counts { CountsUpTo
+            ((D.medium disk.old).unsynced + self.old.geometry.area_sectors + 1)
+            (D.medium disk.old) (D.medium disk.new) }
     {
         if self.has_failed {
             return Err(StoreFault::Failed);
