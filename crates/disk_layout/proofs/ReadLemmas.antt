@@ -6,6 +6,7 @@ use Rattle.std.proofs.lemmas.List.{append-nil}
 use Rattle.sector_disk.specs.rules.Image.{Image, sector_at}
 use Rattle.sector_disk.specs.rules.Medium.{Medium, Reads}
 use Rattle.sector_disk.specs.declared.fault.DiskFault.{DiskFault}
+use Rattle.sector_disk.proofs.CountLemmas.{counts_same, counts_then}
 use Rattle.sector_disk.proofs.Moments.{started, goes_on, leaves_only, stays_on, stays_left}
 use Rattle.sha2.specs.Sha256.{sha256}
 use Rattle.disk_layout.specs.declared.fault.LayoutFault.{LayoutFault}
@@ -27,6 +28,7 @@ no_reads m = record {
   };
   leaves = leaves_only m m m.may_leave (started m m.may_leave) (λ image left. left);
   unsynced = refl;
+  counts = counts_same m m.unsynced;
   calls = refl;
 }
 
@@ -43,6 +45,8 @@ read_more old mid new k into result reads read =
           (λ image left. stays_left old mid reads.stays image
           (stays_left mid new read.stays image left))) (λ image left. left);
       unsynced = read.unsynced ∙ reads.unsynced;
+      counts = counts_then old.unsynced mid.unsynced old.unsynced old mid new (omega arith)
+          (omega (arith, reads.unsynced)) later reads.counts read.counts;
       calls = read.calls ∙ reads.calls;
     }
 
@@ -55,6 +59,8 @@ reads_then old mid new one two =
       leaves = leaves_only old new old.may_leave (goes_on old mid new _ _ before.passes after.passes
           (stays_left old mid one.stays)) (λ image left. left);
       unsynced = two.unsynced ∙ one.unsynced;
+      counts = counts_then old.unsynced mid.unsynced old.unsynced old mid new (omega arith)
+          (omega (arith, one.unsynced)) before.passes.later one.counts two.counts;
       calls = two.calls ∙ one.calls;
     }
 

@@ -5,3 +5,4 @@ pub mod Places
 pub mod Sectors
 pub mod Spelled
 pub mod Stored
+pub mod Unsynced

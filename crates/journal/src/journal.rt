@@ -3,7 +3,7 @@ ghost use Rattle.std.specs.Prelude.{◌≡◌, ◌↔◌, ◌⊎◌, ◌+◌, �
 ghost use Rattle.std.specs.Prelude.{length, OnOk, OnErr, IfOk, IfErr, IsErrOf};
 ghost use Rattle.sector_disk.specs.rules.Image.{Image};
 ghost use Rattle.sector_disk.specs.rules.Medium.{LeavesOnly, After, Passes, IsAllSynced};
-ghost use Rattle.sector_disk.specs.rules.Medium.{CallsUpTo, MakesCalls, spare};
+ghost use Rattle.sector_disk.specs.rules.Medium.{CallsUpTo, MakesCalls, spare, CountsUpTo};
 ghost use Rattle.disk_layout.specs.rules.Places.{total_sectors};
 ghost use Rattle.disk_layout.specs.rules.Journal.{Record, record_bytes, payload_of, scan};
 ghost use Rattle.disk_layout.specs.rules.Stored.{OnlyReads};
@@ -196,8 +196,9 @@ impl Journal {
             ((D.medium disk.old).unsynced + sectors_for (length self.old.kept))) }
 
         // Nor were there more writes that no sync had settled at any moment in between.
-        ensures at_once { (n : ℕ) → (D.medium disk.new).unsynced_since (D.medium disk.old).moment n
-            → n ≤ (D.medium disk.old).unsynced + sectors_for (length self.old.kept) }
+        ensures counts { CountsUpTo
+            ((D.medium disk.old).unsynced + sectors_for (length self.old.kept))
+            (D.medium disk.old) (D.medium disk.new) }
 
         // One call for each sector of the journal at most, and the sync.
         ensures asks { CallsUpTo (geometry.now.journal_sectors + 1) (D.medium disk.old)

@@ -12,7 +12,7 @@
 //!   stand (`durable`).
 //! - `barrier` fails for a cause: an earlier error, too little journal, no room for its writes, or
 //!   the disk (`failed`, `full`, `cause`). It never has more unsynced writes than its own sectors
-//!   beyond those before (`at_once`). No sync stands between them (`together`). It writes them in
+//!   beyond those before (`counts`). No sync stands between them (`together`). It writes them in
 //!   rising order, each once, and then syncs once (`calls`).
 //! - `Journal::scan` gives the records that the definitions read of what the disk shows (`scans`).
 //!   It only reads (`reads`).

@@ -9,6 +9,7 @@ use Rattle.std.proofs.lemmas.List.{append-nil, length-append}
 use Rattle.sector_disk.specs.rules.Medium.{Medium, After, LeavesOnly, spare}
 use Rattle.sector_disk.specs.declared.fault.DiskFault.{DiskFault}
 use Rattle.sector_disk.proofs.CallLemmas.{no_calls}
+use Rattle.sector_disk.proofs.CountLemmas.{counts_same}
 use Rattle.disk_layout.specs.declared.geometry.Geometry.{Geometry}
 use Rattle.disk_layout.specs.rules.Places.{area_place}
 use Rattle.snapshot.specs.declared.fault.SnapshotFault.{SnapshotFault}
@@ -26,6 +27,7 @@ use Rattle.snapshot.proofs.StoreCalls.{stores, stores_none, same_stores, makes_a
 use Rattle.snapshot.proofs.StoreCalls.{begun_longer}
 use Rattle.snapshot.proofs.StoreCalls.{stored_then, begun_stores_then}
 use Rattle.worker_store.specs.Filling.{TakesBytes}
+use Rattle.worker_store.proofs.UnsyncedLemmas.{pieces_count}
 
 pub ok_no_err : {T E : Type 0} (x : T) (e : E) → Ok x ≡ Err e → ⊥
 ok_no_err {T} {E} x e same = subst (λ (r : Result T E). OnErr r ⊥) same tt
@@ -47,6 +49,7 @@ takes_none geometry s m begun =
       works = λ failed. failed;
       asked = omega arith;
       asks = omega arith;
+      counts = λ within. counts_same m _;
       calls = makes_at {T = Unit {0}} {E = SnapshotFault} (Ok tt) m m
           (same_stores (writing_of s) (writing_of s) at at (filled_by s 0) 0 refl refl (sym none))
           ([], stores_none (writing_of s) at, record { all = refl; begun = no_calls [] m });
@@ -196,6 +199,10 @@ module _ (geometry : Geometry) (x y : List ℕ) (said : Result (Unit {0}) Snapsh
         omega (arith, next, one.unsynced)) two.unsynced;
     works = on_ok_weaker said (λ (next : IsTrue (is_failed c) → IsTrue (is_failed b)). λ failed.
         one.works (next failed)) two.works;
+    counts = λ within. let leaves = one.any_moment in let p = leaves.passes in
+        pieces_count geometry.area_sectors a b old mid new p.later
+        (sectors_rise a b (length x) one.longer) (one.within within) one.unsynced
+        (one.counts within) (two.counts (one.within within));
     calls = stores_both;
     asked = on_ok_weaker said
         (λ (next : AsksForSectors (sectors_of b) (sectors_of c) mid new).
@@ -232,6 +239,7 @@ takes_longer geometry x y fault a b old new one =
       works = tt;
       asked = tt;
       asks = one.asks;
+      counts = one.counts;
       calls = (begun.0, begun.1, record { all = tt; begun = begun.2 });
       too_big = λ big. omega (arith, one.too_big big, long);
       cause = one.cause;

@@ -1,4 +1,6 @@
 pub mod LawLemmas
+mod UnsyncedLemmas
+mod LayingCounts
 mod FillLemmas
 mod SinkLemmas
 mod SavingLemmas

@@ -4,7 +4,8 @@ use Rattle.std.proofs.Common.{ap}
 use Rattle.std.proofs.Common.{◌∙◌, sym, subst, arith}
 use Rattle.std.specs.Prelude.{Result, Ok, Err, IsErr}
 use Rattle.std.proofs.lemmas.Bool.{false≢true}
-use Rattle.sector_disk.specs.rules.Medium.{Medium, After, Follows, LeavesOnly}
+use Rattle.sector_disk.specs.rules.Medium.{Medium, After, Follows, LeavesOnly, CountsUpTo}
+use Rattle.sector_disk.proofs.CountLemmas.{counts_more}
 use Rattle.disk_layout.specs.declared.geometry.Geometry.{Geometry}
 use Rattle.disk_layout.specs.rules.Places.{area_place, rounded_up}
 use Rattle.snapshot.specs.declared.fault.SnapshotFault.{SnapshotFault}
@@ -21,6 +22,7 @@ use Rattle.snapshot.proofs.StoreCalls.{stores, BeginsStoresAndHead, none_stored,
 use Rattle.snapshot.proofs.StoreCalls.{same_stores, begun_at, begun_longer, has_stored_at}
 use Rattle.snapshot.proofs.StoreCalls.{head_at, head_then}
 use Rattle.worker_store.specs.Filling.{TakesBytes}
+use Rattle.worker_store.proofs.UnsyncedLemmas.{image_counts}
 
 -- stores that were begun, where an error is answered
 pub made_no_head : {T E : Type 0} (writing : Writing) (at n g : ℕ) (r : Result T E)
@@ -78,6 +80,14 @@ module _ (geometry : Geometry) (g v : ℕ) (writing : Writing) (bytes : List ℕ
   pub filling_commits : LeavesOnly old mid (After (Commits geometry g v bytes) old.may_leave)
   filling_commits = filled_commits geometry g v bytes old mid filled
 
+  begun_counts : CountsUpTo (old.unsynced + (geometry.area_sectors - sectors_of b)) old mid
+  begun_counts = takes.counts (omega (arith, begun.length))
+
+  pub filling_counts : CountsUpTo (old.unsynced + geometry.area_sectors + 1) old mid
+  filling_counts =
+      counts_more (old.unsynced + (geometry.area_sectors - sectors_of b))
+      (old.unsynced + geometry.area_sectors + 1) old mid (omega arith) begun_counts
+
   here : area_place geometry (generation_of b) + sectors_of b ≡ area_place geometry g
   here = omega (arith, ap (λ j. area_place geometry j) begun.generation, begun.sectors)
 
@@ -131,6 +141,15 @@ module _ (geometry : Geometry) (g v : ℕ) (writing : Writing) (bytes : List ℕ
       (filled geometry g v writing bytes b w old mid begun (Ok tt) takes)
       (subst (λ n. Follows (Replaces geometry g n bytes) mid.may_leave new.may_leave)
       of_version at)
+
+  pub ended_counts : CountsUpTo (mid.unsynced + 1) mid new
+      → CountsUpTo (old.unsynced + geometry.area_sectors + 1) old new
+  ended_counts last =
+      let leaves = takes.any_moment in
+      let p = leaves.passes in
+      image_counts geometry.area_sectors b w old mid new p.later begun.sectors
+      (takes.within (omega (arith, begun.length))) takes.unsynced
+      (begun_counts geometry g v writing bytes b w old mid begun (Ok tt) takes) last
 
   pub ended_calls : {T E : Type 0} (r : Result T E)
       → MakesStoresAndHead (stores (writing_of w)

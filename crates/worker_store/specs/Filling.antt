@@ -1,8 +1,7 @@
 -- What it does to a disk to push bytes of an image (this project's own).
 use Rattle.std.specs.Prelude.{◌≡◌, ◌⊎◌, ℕ, ◌+◌, ◌-◌, ◌*◌, ◌<◌, ◌≤◌, List, ◌++◌, length, IsTrue}
-use Rattle.std.specs.Prelude.{Result}
-use Rattle.std.specs.Prelude.{Err, IsErr, OnOk}
-use Rattle.sector_disk.specs.rules.Medium.{Medium, After, CallsUpTo, LeavesOnly, spare}
+use Rattle.std.specs.Prelude.{Result, Err, IsErr, OnOk}
+use Rattle.sector_disk.specs.rules.Medium.{Medium, After, CallsUpTo, LeavesOnly, spare, CountsUpTo}
 use Rattle.sector_disk.specs.declared.fault.DiskFault.{DiskFault}
 use Rattle.sector_disk.specs.declared.sector.TheConstants.{SECTOR_SIZE}
 use Rattle.disk_layout.specs.declared.geometry.Geometry.{Geometry}
@@ -30,6 +29,9 @@ pub record TakesBytes (geometry : Geometry) (bytes : List ℕ)
         → length_of now ≤ SECTOR_SIZE * geometry.area_sectors)
     pub unsynced : OnOk said (new.unsynced + sectors_of was ≤ old.unsynced + sectors_of now)
     pub works : OnOk said (IsTrue (is_failed now) → IsTrue (is_failed was))
+    -- at no moment were there more unsynced writes than before and the rest of the area
+    pub counts : length_of was ≤ SECTOR_SIZE * geometry.area_sectors
+        → CountsUpTo (old.unsynced + (geometry.area_sectors - sectors_of was)) old new
     -- the sectors that they fill are stored, in rising order and without a sync
     pub calls : MakesStores (record {
       writing = writing_of was;

@@ -1,10 +1,10 @@
 // All of a new worker's disk that stands before its first snapshot.
 
-ghost use Rattle.std.specs.Prelude.{◌≡◌, ◌⊎◌, ◌+◌, ◌++◌, ◌<◌, ◌≤◌, ◌^◌, IsErr, OnOk, length};
+ghost use Rattle.std.specs.Prelude.{◌≡◌, ◌⊎◌, ◌+◌, ◌++◌, ◌<◌, ◌≤◌, ◌^◌, IsErr, OnOk, length, max};
 ghost use Rattle.wasi_abi.specs.rules.Configs.{Settings};
 ghost use Rattle.sector_disk.specs.rules.Image.{Image};
 ghost use Rattle.sector_disk.specs.rules.Medium.{IsAllSynced, LeavesOnly, MakesCalls, Passes};
-ghost use Rattle.sector_disk.specs.rules.Medium.{CallsUpTo, spare};
+ghost use Rattle.sector_disk.specs.rules.Medium.{CallsUpTo, spare, CountsUpTo};
 ghost use Rattle.disk_layout.specs.rules.Places.{config_bytes, geometry_of, rounded_up};
 ghost use Rattle.disk_layout.specs.rules.Places.{total_sectors};
 ghost use Rattle.worker_rules.specs.Stands.{IsBlank};
@@ -47,6 +47,11 @@ pub(crate) fn lay_contents<D: Disk>(
         ⊎ ((D.medium disk.old).faults < (D.medium disk.new).faults) }
     ensures asks { CallsUpTo (behind_sectors geometry.now + 3) (D.medium disk.old)
         (D.medium disk.new) }
+
+    // At no moment were there more unsynced writes than before and the super's, or than those
+    // behind it.
+    ensures counts { CountsUpTo (max ((D.medium disk.old).unsynced + 1) (behind_sectors geometry.now))
+        (D.medium disk.old) (D.medium disk.new) }
 {
     store_run(disk, 0, &[[0; SECTOR_SIZE]])?;
     write_behind(disk, geometry, config, wasm)?;
@@ -78,6 +83,10 @@ fn write_behind<D: Disk>(
         ⊎ ((D.medium disk.old).faults < (D.medium disk.new).faults) }
     ensures asks { CallsUpTo (behind_sectors geometry.now) (D.medium disk.old)
         (D.medium disk.new) }
+    ensures unsynced { OnOk result ((D.medium disk.new).unsynced
+        ≤ (D.medium disk.old).unsynced + behind_sectors geometry.now) }
+    ensures counts { CountsUpTo ((D.medium disk.old).unsynced + behind_sectors geometry.now)
+        (D.medium disk.old) (D.medium disk.new) }
 {
     write_contents(disk, config, wasm)?;
     write_run(disk, 1, &[[0; SECTOR_SIZE], [0; SECTOR_SIZE]])?;

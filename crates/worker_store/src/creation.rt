@@ -1,11 +1,14 @@
 // A worker's disk, laid out anew.
 
 ghost use Rattle.std.specs.Prelude.{◌≡◌, ◌≢◌, ◌⊎◌, ◌+◌, ◌<◌, ◌≤◌, ◌^◌, IfErr, IfOk, OnOk, length};
+ghost use Rattle.std.specs.Prelude.{max};
 ghost use Rattle.wasm_syntax.specs.declared.module.Module.{Module};
 ghost use Rattle.wasi_abi.specs.rules.Configs.{Settings};
 ghost use Rattle.sector_disk.specs.rules.Medium.{CallsUpTo, IsAllSynced, MakesCalls, Passes};
+ghost use Rattle.sector_disk.specs.rules.Medium.{CountsUpTo};
 ghost use Rattle.disk_layout.specs.rules.Places.{config_bytes, geometry_of, rounded_up};
 ghost use Rattle.disk_layout.specs.rules.Places.{total_sectors};
+ghost use Rattle.disk_layout.specs.rules.Unsynced.{most_unsynced};
 ghost use Rattle.state_image.specs.rules.Image.{image};
 ghost use Rattle.state_image.specs.rules.Saving.{saved_of};
 ghost use Rattle.worker_store.specs.laws.Savepoints.{Savepoint};
@@ -65,6 +68,12 @@ pub fn lay_out<D: Disk>(
     // Few calls more than the disk has sectors.
     ensures asks { CallsUpTo ((D.medium disk.old).sectors + 9) (D.medium disk.old)
         (D.medium disk.new) }
+
+    // At no moment were there more unsynced writes than before and one, or than ever wait for a
+    // sync.
+    ensures counts { CountsUpTo (max ((D.medium disk.old).unsynced + 1)
+        (most_unsynced (geometry_of config.now (length wasm.now)))) (D.medium disk.old)
+        (D.medium disk.new) }
 {
     let geometry = Geometry::of(config, wasm.len() as u32);
     if disk.sectors() < geometry.total_sectors() {
@@ -108,6 +117,8 @@ fn lay_worker<D: Disk>(
         CreationFails geometry.now process.now (D.medium disk.old) (D.medium disk.new) e) }
     ensures asks { CallsUpTo ((D.medium disk.old).sectors + 9) (D.medium disk.old)
         (D.medium disk.new) }
+    ensures counts { CountsUpTo (max ((D.medium disk.old).unsynced + 1) (most_unsynced geometry.now))
+        (D.medium disk.old) (D.medium disk.new) }
 {
     lay_contents(disk, geometry, config, wasm)?;
     write_snapshot(disk, geometry, 1, Writing::Whole, process)?;

@@ -28,6 +28,9 @@
 //! - `WorkerStore::reopen` commits the next generation on whatever stands for the worker. A cut at
 //!   any moment leaves what stands for the same answers, or the new snapshot (`any_moment`,
 //!   `durable`).
+//! - At no moment of these calls are there more unsynced writes than before and their own. In a
+//!   creation there are no more than before and one, or than ever wait for a sync (`counts`,
+//!   `most_unsynced`). A disk that takes that many has room for it (`cause`).
 //! - `laws::images_fit_areas`: the image of a well-typed process is never too big.
 //! - Each error comes only for its cause (`cause`). After an error of a store each of its calls
 //!   answers `Failed`, and touches neither disk nor store (`fails`, `refused`).

@@ -5,7 +5,7 @@ ghost use Rattle.wasi_abi.specs.declared.numbers.TheConstants.{NUMBERS_END};
 ghost use Rattle.sector_disk.specs.declared.fault.DiskFault.{DiskFault};
 ghost use Rattle.sector_disk.specs.declared.sector.TheConstants.{SECTOR_SIZE};
 ghost use Rattle.sector_disk.specs.rules.Medium.{After, CallsUpTo, Follows, IsAllSynced};
-ghost use Rattle.sector_disk.specs.rules.Medium.{LeavesOnly, spare};
+ghost use Rattle.sector_disk.specs.rules.Medium.{LeavesOnly, spare, CountsUpTo};
 ghost use Rattle.disk_layout.specs.declared.head.TheConstants.{IMAGE_VERSION};
 ghost use Rattle.disk_layout.specs.rules.Places.{area_place, journal_place, rounded_up};
 ghost use Rattle.snapshot.specs.rules.Calls.{MakesStoresAndHead};
@@ -63,6 +63,10 @@ pub(crate) fn write_snapshot<D: Disk>(
     // Two calls for each sector of the area at most, and five.
     ensures asks { CallsUpTo (2 * geometry.now.area_sectors + 5) (D.medium disk.old)
         (D.medium disk.new) }
+
+    // At no moment were there more unsynced writes than before, an area's, and the head.
+    ensures counts { CountsUpTo ((D.medium disk.old).unsynced + geometry.now.area_sectors + 1)
+        (D.medium disk.old) (D.medium disk.new) }
 {
     let mut snapshots = Snapshots::new();
     snapshots.begin(generation, IMAGE_VERSION, writing)?;

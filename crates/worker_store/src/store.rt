@@ -25,6 +25,7 @@ impl WorkerStore {
     ghost use Rattle.disk_layout.specs.rules.Places.{total_sectors};
     ghost use Rattle.sector_disk.specs.rules.Image.{Image};
     ghost use Rattle.sector_disk.specs.rules.Medium.{CallsUpTo, IsAllSynced, MakesCalls, Passes};
+    ghost use Rattle.sector_disk.specs.rules.Medium.{CountsUpTo};
     ghost use Rattle.journal.specs.rules.Packed.{sectors_for};
     ghost use Rattle.journal.specs.rules.State.{room_of, state};
     ghost use Rattle.journal.specs.rules.Steps.{RecordFits, barrier_calls};
@@ -71,6 +72,10 @@ impl WorkerStore {
             (D.medium disk.old) (D.medium disk.new) e) }
         ensures asks { CallsUpTo ((D.medium disk.old).sectors + 2) (D.medium disk.old)
             (D.medium disk.new) }
+
+        // At no moment were there more unsynced writes than before, an area's, and the head.
+        ensures counts { CountsUpTo ((D.medium disk.old).unsynced + geometry.now.area_sectors + 1)
+            (D.medium disk.old) (D.medium disk.new) }
     {
         let written = write_snapshot(disk, geometry, generation, Writing::Changes, process);
         if let Err(fault) = written {
@@ -155,6 +160,11 @@ impl WorkerStore {
             → (result ≡ Err StoreFault.Failed) × (self.new ≡ self.old) × (disk.new ≡ disk.old) }
         ensures asks { CallsUpTo (D.medium disk.old).sectors (D.medium disk.old)
             (D.medium disk.new) }
+
+        // At no moment were there more unsynced writes than before and these.
+        ensures counts { CountsUpTo
+            ((D.medium disk.old).unsynced + sectors_for (length self.old.journal.kept))
+            (D.medium disk.old) (D.medium disk.new) }
     {
         if self.has_failed {
             return Err(StoreFault::Failed);
@@ -207,6 +217,11 @@ impl WorkerStore {
             → (result ≡ Err StoreFault.Failed) × (self.new ≡ self.old) × (disk.new ≡ disk.old) }
         ensures asks { CallsUpTo ((D.medium disk.old).sectors + 2) (D.medium disk.old)
             (D.medium disk.new) }
+
+        // At no moment were there more unsynced writes than before, an area's, and the head.
+        ensures counts { CountsUpTo
+            ((D.medium disk.old).unsynced + self.old.geometry.area_sectors + 1)
+            (D.medium disk.old) (D.medium disk.new) }
     {
         if self.has_failed {
             return Err(StoreFault::Failed);

@@ -3,7 +3,7 @@ use Rattle.std.specs.Prelude.{◌≡◌, ◌≢◌, ◌⊎◌, ℕ, ◌+◌, ◌
 use Rattle.std.specs.Prelude.{Err}
 use Rattle.sha2.specs.Sha256.{sha256}
 use Rattle.sector_disk.specs.rules.Image.{Image, sector_at}
-use Rattle.sector_disk.specs.rules.Medium.{Medium, Stays, LeavesOnly}
+use Rattle.sector_disk.specs.rules.Medium.{Medium, Stays, LeavesOnly, CountsUpTo}
 use Rattle.disk_layout.specs.declared.fault.LayoutFault.{LayoutFault}
 use Rattle.disk_layout.specs.declared.fault.LayoutFault.TheVariants.{NotAWorker, Version, TooSmall}
 use Rattle.disk_layout.specs.declared.fault.LayoutFault.TheVariants.{Damaged, Memory, Disk}
@@ -14,12 +14,13 @@ use Rattle.disk_layout.specs.rules.Sectors.{super_of, super_layout}
 use Rattle.disk_layout.specs.declared.geometry.TheConstants.{MODULE_PLACE}
 use Rattle.disk_layout.specs.declared.superblock.TheConstants.{LAYOUT}
 
--- reads alone: the disk shows and may leave no more than before, and is asked for no write and no
--- sync
+-- reads alone: the disk shows and may leave no more than before, at no moment were there more
+-- unsynced writes, and it is asked for no write and no sync
 pub record OnlyReads (old new : Medium) : Type 0 where
   pub stays : Stays old new
   pub leaves : LeavesOnly old new old.may_leave
   pub unsynced : new.unsynced ≡ old.unsynced
+  pub counts : CountsUpTo old.unsynced old new
   pub calls : new.calls ≡ old.calls
 
 -- the marks are there, and the layout is the one that is known

@@ -13,6 +13,7 @@ use Rattle.state_image.specs.rules.Saving.{saved_of}
 use Rattle.sector_disk.specs.declared.fault.DiskFault.{DiskFault}
 use Rattle.sector_disk.specs.rules.Image.{Image}
 use Rattle.sector_disk.specs.rules.Medium.{Medium, SyncsMedium}
+use Rattle.sector_disk.proofs.CountLemmas.{counts_same}
 use Rattle.sector_disk.proofs.Moments.{leaves_weaker, leaves_only, started, settled_only}
 use Rattle.sector_disk.proofs.Moments.{settled_stays, stays_left, stays_on}
 use Rattle.sector_disk.proofs.Moments.{stays_leaves_only}
@@ -93,6 +94,7 @@ reads_none mid = record {
   };
   leaves = leaves_only mid mid mid.may_leave (started mid mid.may_leave) (λ image left. left);
   unsynced = refl;
+  counts = counts_same mid mid.unsynced;
   calls = refl;
 }
 

@@ -15,6 +15,7 @@ use Rattle.disk_layout.specs.declared.geometry.Geometry.{Geometry}
 use Rattle.disk_layout.specs.declared.geometry.TheConstants.{MODULE_PLACE}
 use Rattle.disk_layout.specs.rules.Places.{area_place, journal_place, rounded_up}
 use Rattle.disk_layout.specs.rules.Places.{total_sectors}
+use Rattle.disk_layout.specs.rules.Unsynced.{most_unsynced}
 use Rattle.snapshot.specs.rules.Calls.{with_head}
 use Rattle.worker_rules.specs.Stands.{IsBlank, IsNumbered}
 use Rattle.worker_store.specs.laws.Savepoints.{Savepoint}
@@ -79,5 +80,5 @@ CreationFails geometry process old new TooBig =
     SECTOR_SIZE * geometry.area_sectors < length (image (saved_of process))
 CreationFails geometry process old new Memory = Unit {0}
 CreationFails geometry process old new (Disk fault) = (spare old ≡ 0)
-    ⊎ (old.room < total_sectors geometry) ⊎ (old.faults < new.faults)
+    ⊎ (old.room < most_unsynced geometry) ⊎ (old.faults < new.faults)
 CreationFails geometry process old new other = ⊥

@@ -1,10 +1,12 @@
-use Rattle.std.proofs.Common.{refl}
+use Rattle.std.proofs.Common.{ℕ, ◌+◌, max, refl, arith}
 use Rattle.std.proofs.lemmas.Result.{on_ok_weaker}
+use Rattle.sector_disk.proofs.CountLemmas.{counts_more, counts_then}
 use Rattle.worker_store.specs.rules.Creations.{behind_sectors, contents_calls}
 use Rattle.worker_store.proofs.CreationLemmas.{zeros_leave_blank, zeros_leave_none, blank_on}
 use Rattle.worker_store.proofs.CreationLemmas.{both_leave_none, none_left, synced_none}
 use Rattle.worker_store.proofs.CreationLemmas.{synced_awaits, err_calls, contents_first}
 use Rattle.worker_store.proofs.CreationLemmas.{contents_second, contents_all, cause_behind}
+use Rattle.worker_store.proofs.UnsyncedLemmas.{settled_then}
 use Rattle.worker_store.proofs.contents.lay_contents.Goals as goal
 
 pub returns-in_err-store_run-clause-blank : goal.returns-in_err-store_run-clause-blank
@@ -89,3 +91,40 @@ returns-clause-calls g c =
     (g.D.Disk.medium c.store_run.new.disk) (g.D.Disk.medium c.write_behind.new.disk)
     (g.D.Disk.medium c.sync.new.self) c.in_ok-store_run.ensures.calls.all
     c.in_ok-write_behind.ensures.calls.all c.sync.ensures.calls
+
+pub returns-in_err-store_run-clause-counts : goal.returns-in_err-store_run-clause-counts
+returns-in_err-store_run-clause-counts g c =
+    let old = g.D.Disk.medium c.args.disk.now in
+    let many : ℕ = behind_sectors c.args.geometry.now in
+    counts_more (old.unsynced + 1) (max (old.unsynced + 1) many) old
+    (g.D.Disk.medium c.store_run.new.disk) (omega arith) c.store_run.ensures.counts
+
+pub returns-in_err-write_behind-clause-counts : goal.returns-in_err-write_behind-clause-counts
+returns-in_err-write_behind-clause-counts g c =
+    let old = g.D.Disk.medium c.args.disk.now in
+    let many : ℕ = behind_sectors c.args.geometry.now in
+    let leaves = c.store_run.ensures.any_moment in
+    let p = leaves.passes in
+    settled_then (old.unsynced + 1) many (max (old.unsynced + 1) many) old
+    (g.D.Disk.medium c.store_run.new.disk) (g.D.Disk.medium c.write_behind.new.disk)
+    c.in_ok-store_run.ensures.settled (omega arith) (omega arith) p.later
+    c.store_run.ensures.counts c.write_behind.ensures.counts
+
+pub returns-clause-counts : goal.returns-clause-counts
+returns-clause-counts g c =
+    let old = g.D.Disk.medium c.args.disk.now in
+    let mid = g.D.Disk.medium c.store_run.new.disk in
+    let next = g.D.Disk.medium c.write_behind.new.disk in
+    let new = g.D.Disk.medium c.sync.new.self in
+    let many : ℕ = behind_sectors c.args.geometry.now in
+    let leaves = c.store_run.ensures.any_moment in
+    let p = leaves.passes in
+    let q = c.write_behind.ensures.passes in
+    let most : ℕ = max (old.unsynced + 1) many in
+    let settled = c.in_ok-store_run.ensures.settled in
+    let none = settled.unsynced in
+    let few = c.in_ok-write_behind.ensures.unsynced in
+    counts_then most next.unsynced most old next new (omega arith) (omega (arith, none, few))
+    (omega (arith, p.later, q.later))
+    (settled_then (old.unsynced + 1) many most old mid next settled (omega arith) (omega arith)
+    p.later c.store_run.ensures.counts c.write_behind.ensures.counts) c.sync.ensures.counts

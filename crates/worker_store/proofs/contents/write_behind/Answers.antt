@@ -1,16 +1,19 @@
-use Rattle.std.proofs.Common.{◌≡◌, ◌++◌, ℕ, List, [], ◌∷◌, length, replicate, sym}
+use Rattle.std.proofs.Common.{◌≡◌, ◌+◌, ◌++◌, ℕ, List, [], ◌∷◌, length, replicate, sym}
 use Rattle.std.proofs.Common.{subst}
 use Rattle.std.proofs.Common.{arith}
 use Rattle.std.proofs.lemmas.List.{length-replicate}
 use Rattle.std.proofs.lemmas.Result.{on_ok_weaker}
 use Rattle.sector_disk.specs.rules.Calls.{rising_writes}
 use Rattle.sector_disk.specs.rules.Medium.{BeginsCalls, MakesCalls}
+use Rattle.sector_disk.proofs.CountLemmas.{counts_more}
 use Rattle.sector_disk.proofs.Moments.{shows_follow}
 use Rattle.disk_layout.specs.rules.Contents.{contents_sectors}
+use Rattle.disk_layout.specs.rules.Places.{rounded_up}
 use Rattle.worker_store.specs.laws.Creations.{zero_sector}
-use Rattle.worker_store.specs.rules.Creations.{behind_calls}
+use Rattle.worker_store.specs.rules.Creations.{behind_calls, behind_sectors}
 use Rattle.worker_store.proofs.CreationLemmas.{two_leave_none, three_leave_none, behind_awaits}
 use Rattle.worker_store.proofs.CreationLemmas.{err_calls, behind_first, behind_second, behind_all}
+use Rattle.worker_store.proofs.UnsyncedLemmas.{more_then}
 use Rattle.worker_store.proofs.contents.write_behind.Goals as goal
 
 pub returns-in_err-write_contents-clause-calls : goal.returns-in_err-write_contents-clause-calls
@@ -95,3 +98,65 @@ returns-clause-asks g c =
       c.write_run.ensures.counted,
       c.write_zeros.ensures.counted,
     )
+
+pub returns-in_err-write_contents-clause-counts : goal.returns-in_err-write_contents-clause-counts
+returns-in_err-write_contents-clause-counts g c =
+    let old = g.D.Disk.medium c.args.disk.now in
+    let geometry = c.args.geometry.now in
+    counts_more (old.unsynced
+    + rounded_up (length c.args.config.now + length c.args.wasm.now))
+    (old.unsynced + behind_sectors geometry) old (g.D.Disk.medium c.write_contents.new.disk)
+    (omega (arith, c.requires.module_sectors)) c.write_contents.ensures.counts
+
+pub returns-in_err-write_run-clause-counts : goal.returns-in_err-write_run-clause-counts
+returns-in_err-write_run-clause-counts g c =
+    let old = g.D.Disk.medium c.args.disk.now in
+    let mid = g.D.Disk.medium c.write_contents.new.disk in
+    let next = g.D.Disk.medium c.write_run.new.disk in
+    let geometry = c.args.geometry.now in
+    let many : ℕ = rounded_up (length c.args.config.now + length c.args.wasm.now) in
+    let leaves = c.write_contents.ensures.any_moment in
+    let p = leaves.passes in
+    let is = c.in_ok-write_contents.ensures.unsynced in
+    counts_more (old.unsynced + (many + 2)) (old.unsynced + behind_sectors geometry) old next
+    (omega (arith, c.requires.module_sectors))
+    (more_then many 2 old mid next (omega (arith, is)) p.later c.write_contents.ensures.counts
+    c.write_run.ensures.counts)
+
+pub returns-clause-unsynced : goal.returns-clause-unsynced
+returns-clause-unsynced g c =
+    let one = c.in_ok-write_contents.ensures.unsynced in
+    let two = c.write_run.ensures.unsynced in
+    let three = c.write_zeros.ensures.unsynced in
+    let many = length-replicate c.args.geometry.now.journal_sectors zero_sector in
+    on_ok_weaker c.write_zeros.result
+    (λ whole. omega (arith, one, two, three, many, c.requires.module_sectors))
+    c.write_zeros.ensures.whole
+
+pub returns-clause-counts : goal.returns-clause-counts
+returns-clause-counts g c =
+    let old = g.D.Disk.medium c.args.disk.now in
+    let mid = g.D.Disk.medium c.write_contents.new.disk in
+    let next = g.D.Disk.medium c.write_run.new.disk in
+    let new = g.D.Disk.medium c.write_zeros.new.disk in
+    let geometry = c.args.geometry.now in
+    let many : ℕ = rounded_up (length c.args.config.now + length c.args.wasm.now) in
+    let journal : ℕ = length (replicate geometry.journal_sectors zero_sector) in
+    let first = c.write_contents.ensures.any_moment in
+    let p = first.passes in
+    let second = c.write_run.ensures.any_moment in
+    let q = second.passes in
+    let one = c.in_ok-write_contents.ensures.unsynced in
+    let two = c.write_run.ensures.unsynced in
+    counts_more (old.unsynced + ((many + 2) + journal)) (old.unsynced + behind_sectors geometry)
+    old new
+    (omega (
+      arith,
+      c.requires.module_sectors,
+      length-replicate geometry.journal_sectors zero_sector,
+    ))
+    (more_then (many + 2) journal old next new (omega (arith, one, two))
+    (omega (arith, p.later, q.later))
+    (more_then many 2 old mid next (omega (arith, one)) p.later c.write_contents.ensures.counts
+    c.write_run.ensures.counts)
+    c.write_zeros.ensures.counts)

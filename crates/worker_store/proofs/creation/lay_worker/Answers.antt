@@ -1,12 +1,15 @@
-use Rattle.std.proofs.Common.{length}
+use Rattle.std.proofs.Common.{◌+◌, max, length, arith}
+use Rattle.sector_disk.proofs.CountLemmas.{counts_more}
 use Rattle.disk_layout.specs.declared.head.TheConstants.{IMAGE_VERSION}
 use Rattle.state_image.specs.rules.Image.{image}
 use Rattle.state_image.specs.rules.Saving.{saved_of}
-use Rattle.worker_store.specs.rules.Creations.{creation_calls}
+use Rattle.disk_layout.specs.rules.Unsynced.{most_unsynced}
+use Rattle.worker_store.specs.rules.Creations.{behind_sectors, creation_calls}
 use Rattle.worker_store.proofs.CreationLemmas.{blank_on, err_calls}
 use Rattle.worker_store.proofs.FirstLemmas.{commit_leaves_none, blank_or_first, super_leaves}
 use Rattle.worker_store.proofs.FirstLemmas.{super_stands, creation_first, creation_second}
 use Rattle.worker_store.proofs.FirstLemmas.{creation_third, creation_all}
+use Rattle.worker_store.proofs.LayingCounts.{image_counts_behind, super_counts_behind}
 use Rattle.worker_store.proofs.creation.lay_worker.Goals as goal
 
 pub returns-in_err-lay_contents-clause-any_moment :
@@ -112,3 +115,38 @@ returns-clause-calls g c =
     c.in_ok-lay_contents.ensures.calls.all made.0 made.1 made.2.all
     c.in_ok-write_super.ensures.calls.all in
     record { all = all; begun = (0, all) }
+
+pub returns-in_err-lay_contents-clause-counts : goal.returns-in_err-lay_contents-clause-counts
+returns-in_err-lay_contents-clause-counts g c =
+    let old = g.D.Disk.medium c.args.disk.now in
+    let geometry = c.args.geometry.now in
+    counts_more (max (old.unsynced + 1) (behind_sectors geometry))
+    (max (old.unsynced + 1) (most_unsynced geometry)) old
+    (g.D.Disk.medium c.lay_contents.new.disk) (omega arith) c.lay_contents.ensures.counts
+
+pub returns-in_err-write_snapshot-clause-counts : goal.returns-in_err-write_snapshot-clause-counts
+returns-in_err-write_snapshot-clause-counts g c =
+    image_counts_behind c.args.geometry.now (g.D.Disk.medium c.args.disk.now)
+    (g.D.Disk.medium c.lay_contents.new.disk) (g.D.Disk.medium c.write_snapshot.new.disk)
+    c.in_ok-lay_contents.ensures.settled c.lay_contents.ensures.passes
+    c.lay_contents.ensures.counts c.write_snapshot.ensures.counts
+
+pub returns-in_err-write_super-clause-counts : goal.returns-in_err-write_super-clause-counts
+returns-in_err-write_super-clause-counts g c =
+    let leaves = c.write_snapshot.ensures.any_moment in
+    super_counts_behind c.args.geometry.now (g.D.Disk.medium c.args.disk.now)
+    (g.D.Disk.medium c.lay_contents.new.disk) (g.D.Disk.medium c.write_snapshot.new.disk)
+    c.in_ok-lay_contents.ensures.settled c.lay_contents.ensures.passes
+    c.lay_contents.ensures.counts c.write_snapshot.ensures.counts
+    (g.D.Disk.medium c.write_super.new.disk) c.in_ok-write_snapshot.ensures.settled (let p = leaves.passes in p.later)
+    c.write_super.ensures.counts
+
+pub returns-clause-counts : goal.returns-clause-counts
+returns-clause-counts g c =
+    let leaves = c.write_snapshot.ensures.any_moment in
+    super_counts_behind c.args.geometry.now (g.D.Disk.medium c.args.disk.now)
+    (g.D.Disk.medium c.lay_contents.new.disk) (g.D.Disk.medium c.write_snapshot.new.disk)
+    c.in_ok-lay_contents.ensures.settled c.lay_contents.ensures.passes
+    c.lay_contents.ensures.counts c.write_snapshot.ensures.counts
+    (g.D.Disk.medium c.write_super.new.disk) c.in_ok-write_snapshot.ensures.settled (let p = leaves.passes in p.later)
+    c.write_super.ensures.counts

@@ -7,6 +7,7 @@ use Rattle.state_image.specs.rules.Image.{image}
 use Rattle.state_image.specs.rules.Saving.{saved_of}
 use Rattle.worker_store.proofs.SavingLemmas.{none_made, filling_commits, filling_calls}
 use Rattle.worker_store.proofs.SavingLemmas.{ended_commits, ended_replaces, ended_calls}
+use Rattle.worker_store.proofs.SavingLemmas.{filling_counts, ended_counts}
 use Rattle.worker_store.proofs.saving.write_snapshot.Goals as goal
 
 pub returns-in_err-begin-clause-any_moment : goal.returns-in_err-begin-clause-any_moment
@@ -59,3 +60,18 @@ returns-clause-calls g c =
     (g.D.Disk.medium c.args.disk.now) (g.D.Disk.medium c.fill_area.new.disk)
     (g.D.Disk.medium c.finish.new.disk) c.in_ok-begin.ensures.begun c.in_ok-fill_area.ensures
     c.finish.result c.finish.ensures.calls
+
+pub returns-in_err-fill_area-clause-counts : goal.returns-in_err-fill_area-clause-counts
+returns-in_err-fill_area-clause-counts g c =
+    filling_counts c.args.geometry.now c.args.generation IMAGE_VERSION c.args.writing
+    (image (saved_of c.args.process.now)) c.begin.new.self c.fill_area.new.snapshots
+    (g.D.Disk.medium c.args.disk.now) (g.D.Disk.medium c.fill_area.new.disk)
+    c.in_ok-begin.ensures.begun c.fill_area.result c.fill_area.ensures
+
+pub returns-clause-counts : goal.returns-clause-counts
+returns-clause-counts g c =
+    ended_counts c.args.geometry.now c.args.generation IMAGE_VERSION c.args.writing
+    (image (saved_of c.args.process.now)) c.begin.new.self c.fill_area.new.snapshots
+    (g.D.Disk.medium c.args.disk.now) (g.D.Disk.medium c.fill_area.new.disk)
+    (g.D.Disk.medium c.finish.new.disk) c.in_ok-begin.ensures.begun c.in_ok-fill_area.ensures
+    c.finish.ensures.counts
