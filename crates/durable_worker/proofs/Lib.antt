@@ -12,6 +12,7 @@ mod SurveyLemmas
 mod TextLemmas
 mod ActLemmas
 mod OpeningLemmas
+pub mod OutletLemmas
 mod HeardLemmas
 mod EndLemmas
 mod GoingLemmas

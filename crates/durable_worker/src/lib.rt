@@ -19,6 +19,8 @@
 //!   the lines and the opening are events that keep it, and a cut at any moment leaves what holds
 //!   all that was promised before. After Ok the worker is open on the disk, which has room for it
 //!   (`room`).
+//! - Whatever stands on the disk, where the outlet refuses a line a recovery releases no other one,
+//!   and says so. It says so of nothing else (`heeds`).
 //! - `read_survey`: nothing is written. The disk is synced, and what it then shows decides the
 //!   result (`Surveys`). Where it stands for a worker, its generation and the numbers of the saved
 //!   process are told, and how many records lie behind it; or an error that says nothing of them.
@@ -55,7 +57,8 @@
 //! (`DurableCalls.antt`); `IsCreatedOn`, `IsNotCreatedOn`, `CreationCalls`, `CreationKeeps`
 //! (`DurableCreations.antt`); `Recovers`, `RecoversFrom`, `Revives`, `OpeningCalls`,
 //! `RecoveryCarries`, `Reopens`, `ReopensInVain`, `FindsNone`, `HasRecoveryCause`
-//! (`Recoveries.antt`); `Surveys`, `SurveysFrom`, `survey_of` (`Surveys.antt`);
+//! (`Recoveries.antt`); `HeedsOutlet` (`Outlets.antt`); `Surveys`, `SurveysFrom`, `survey_of`
+//! (`Surveys.antt`);
 //! `SlicesOnDiskInVain`, `IsDiskCause`, `HasSliceCause` (`DurableFailures.antt`); `SliceCalls`
 //! (`SliceCalls.antt`); `CheckpointCalls`, `CheckpointFails`, `HasCheckpointCause`
 //! (`Checkpoints.antt`); `fault_of_store` (`DurableFaults.antt`); `fault_of_restore`,
