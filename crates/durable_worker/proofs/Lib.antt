@@ -13,6 +13,7 @@ mod TextLemmas
 mod ActLemmas
 mod AddingLemmas
 mod OpeningLemmas
+pub mod OutletLemmas
 mod HeardLemmas
 mod EndLemmas
 mod GoingLemmas

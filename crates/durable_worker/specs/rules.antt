@@ -6,6 +6,7 @@ pub mod DurableFaults
 pub mod DurableValues
 pub mod LifeWords
 pub mod OpenWorkers
+pub mod Outlets
 pub mod Planned
 pub mod RecoverFaults
 pub mod Recoveries

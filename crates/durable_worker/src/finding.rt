@@ -40,6 +40,7 @@ use worker_store::{read_newest, read_records, read_worker};
 /// come the newest head and its image, whether that is the image of a process, and the records.
 pub(crate) fn find<D: Disk>(alloc: Global, disk: &mut D) -> Result<Found, RecoverFault>
     ensures reads { OnlyReads (D.medium disk.old) (D.medium disk.new) }
+    ensures untold { result ≡ Err (Worker (durable.Work work.Outlet)) → ⊥ }
     ensures finds { FindsOne (D.medium disk.old).sectors (D.medium disk.new) result }
     ensures shows { (image : Image) → (D.medium disk.new).shows image
         → FindsIn (D.medium disk.old).sectors image result }
@@ -64,6 +65,7 @@ fn find_linked<D: Disk>(
 ) -> Result<Found, RecoverFault>
     requires { total_sectors contents.geometry ≤ (D.medium disk.old).sectors }
     ensures reads { OnlyReads (D.medium disk.old) (D.medium disk.new) }
+    ensures untold { result ≡ Err (Worker (durable.Work work.Outlet)) → ⊥ }
     ensures finds { (image : Image) → (D.medium disk.new).shows image
         → FindsBehind contents image result }
     ensures shows { (image : Image) → (D.medium disk.new).shows image
@@ -97,6 +99,7 @@ fn find_saved<D: Disk>(
     requires room { total_sectors geometry.now ≤ (D.medium disk.old).sectors }
     requires begun { HasBegun config.pages machine.guest machine }
     ensures reads { OnlyReads (D.medium disk.old) (D.medium disk.new) }
+    ensures untold { result ≡ Err (Worker (durable.Work work.Outlet)) → ⊥ }
     ensures finds { (image : Image) → (D.medium disk.new).shows image
         → FindsLinked geometry.now config machine image result }
     ensures shows { (image : Image) → (D.medium disk.new).shows image
@@ -126,6 +129,7 @@ fn find_process<D: Disk>(
     requires room { total_sectors geometry.now ≤ (D.medium disk.old).sectors }
     requires begun { HasBegun config.pages machine.guest machine }
     ensures reads { OnlyReads (D.medium disk.old) (D.medium disk.new) }
+    ensures untold { result ≡ Err (Worker (durable.Work work.Outlet)) → ⊥ }
     ensures finds { (image : Image) → (D.medium disk.new).shows image
         → FindsSnapshot geometry.now config machine snapshot image result }
     ensures shows { (image : Image) → (D.medium disk.new).shows image
@@ -157,6 +161,7 @@ fn find_records<D: Disk>(
 ) -> Result<Found, RecoverFault>
     requires { total_sectors geometry.now ≤ (D.medium disk.old).sectors }
     ensures reads { OnlyReads (D.medium disk.old) (D.medium disk.new) }
+    ensures untold { result ≡ Err (Worker (durable.Work work.Outlet)) → ⊥ }
     ensures finds { (image : Image) → (D.medium disk.new).shows image
         → FindsRecords geometry.now generation process image result }
     ensures shows { (image : Image) → (D.medium disk.new).shows image

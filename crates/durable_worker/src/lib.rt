@@ -21,6 +21,8 @@
 //!   (`room`).
 //! - Whatever stands on the disk, the result of `DurableWorker::recover` is what its newest head and
 //!   all behind it say. What is refused there is left as it is (`shown`).
+//! - Whatever stands on the disk, where the outlet refuses a line a recovery releases no other one,
+//!   and says so. It says so of nothing else (`heeds`).
 //! - `read_survey`: nothing is written. The disk is synced, and what it then shows decides the
 //!   result (`Surveys`). Where it stands for a worker, its generation and the numbers of the saved
 //!   process are told, and how many records lie behind it; or an error that says nothing of them.
@@ -58,7 +60,8 @@
 //! (`DurableCreations.antt`); `Recovers`, `RecoversFrom`, `Revives`, `OpeningCalls`,
 //! `RecoveryCarries`, `Reopens`, `ReopensInVain`, `FindsNone`, `HasRecoveryCause`
 //! (`Recoveries.antt`); `RecoversAsShown`, `AnswersDisk`, `HoldsWorker`, `ShowsFault`, `FailsHeld`
-//! (`ShownDisks.antt`); `Surveys`, `SurveysFrom`, `survey_of` (`Surveys.antt`);
+//! (`ShownDisks.antt`); `HeedsOutlet` (`Outlets.antt`); `Surveys`, `SurveysFrom`, `survey_of`
+//! (`Surveys.antt`);
 //! `SlicesOnDiskInVain`, `IsDiskCause`, `HasSliceCause` (`DurableFailures.antt`); `SliceCalls`
 //! (`SliceCalls.antt`); `CheckpointCalls`, `CheckpointFails`, `HasCheckpointCause`
 //! (`Checkpoints.antt`); `fault_of_store` (`DurableFaults.antt`); `fault_of_restore`,

@@ -22,6 +22,7 @@ use worker_store::{StoreFault, WorkerStore};
 
 impl DurableWorker {
     ghost use Rattle.std.specs.Prelude.{IfErr, IfOk};
+    ghost use Rattle.durable_worker.specs.rules.Outlets.{HeedsOutlet, SaysOutletFault};
     ghost use Rattle.durable_worker.specs.rules.Recoveries.{HasRecoveryCause, Recovers};
     ghost use Rattle.durable_worker.specs.rules.Recoveries.{RecoveryCarries};
     ghost use Rattle.durable_worker.specs.rules.ShownDisks.{RecoversAsShown};
@@ -54,13 +55,20 @@ impl DurableWorker {
         // before.
         ensures on_any_disk { IfErr result (λ why. HasRecoveryCause (D.medium disk.old)
             (D.medium disk.new) why) }
+
+        // Whatever stands on the disk, the outlet took each line; or it refused the last one, and
+        // the error says so.
+        ensures heeds { HeedsOutlet O.takes (SaysOutletFault result) outlet.old outlet.new }
     {
         images_fit_areas();
         if let Err(fault) = disk.sync() {
             return Err(RecoverFault::from(fault));
         }
         match find(alloc, disk) {
-            Ok(found) => revive(alloc, disk, found, outlet),
+            Ok(found) => {
+                is_process(&found.process);
+                revive(alloc, disk, found, outlet)
+            }
             Err(fault) => Err(fault),
         }
     }

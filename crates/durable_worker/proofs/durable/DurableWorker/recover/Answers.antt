@@ -1,3 +1,4 @@
+use Rattle.std.proofs.Common.{inl}
 use Rattle.durable_worker.proofs.RecoveryLemmas.Results.{unsettled_carries, not_found_recovers}
 use Rattle.durable_worker.proofs.RecoveryLemmas.Results.{not_found_carries, is_found_recovers}
 use Rattle.durable_worker.proofs.RecoveryLemmas.Results.{is_found_carries}
@@ -5,6 +6,8 @@ use Rattle.durable_worker.proofs.RecoveryLemmas.Results.{settled_by, sync_faulte
 use Rattle.durable_worker.proofs.RecoveryLemmas.Causes.{unsettled_cause, unfound_cause}
 use Rattle.durable_worker.proofs.RecoveryLemmas.Causes.{revival_cause}
 use Rattle.durable_worker.proofs.AnswerLemmas.{unsettled_shown, unfound_shown, found_shown}
+use Rattle.durable_worker.proofs.OutletLemmas.{none_told, disk_is_other, found_is_other}
+use Rattle.durable_worker.proofs.OutletLemmas.{revival_heeds}
 use Rattle.durable_worker.proofs.durable.DurableWorker.recover.Goals as goal
 
 pub returns-in-Err-clause-carries : goal.returns-in-Err-clause-carries
@@ -84,4 +87,24 @@ returns-in-Ok-clause-shown g c =
     found_shown g.D.Disk.medium g.O.Outlet.takes c.args.disk.now c.sync.new.self
     c.find.new.disk c.in_default.field-0 c.in_default.ensures found.reads c.args.outlet.now
     c.revive.new.disk c.revive.new.outlet c.in-Ok.found found.shows c.revive.result
+    c.revive.ensures
+
+pub returns-in-Err-clause-heeds : goal.returns-in-Err-clause-heeds
+returns-in-Err-clause-heeds g c =
+    inl (
+      none_told g.O.Outlet.takes c.args.outlet.now,
+      disk_is_other c.in-Err.fault c.from.result c.from.ensures,
+    )
+
+pub returns-in-Err-find-clause-heeds : goal.returns-in-Err-find-clause-heeds
+returns-in-Err-find-clause-heeds g c =
+    inl (
+      none_told g.O.Outlet.takes c.args.outlet.now,
+      found_is_other c.in-Err-find.fault c.in-Err-find.ensures.untold,
+    )
+
+pub returns-in-Ok-clause-heeds : goal.returns-in-Ok-clause-heeds
+returns-in-Ok-clause-heeds g c =
+    revival_heeds g.D.Disk.medium g.O.Outlet.takes c.in-Ok.found c.is_process.ensures
+    c.find.new.disk c.revive.new.disk c.args.outlet.now c.revive.new.outlet c.revive.result
     c.revive.ensures
