@@ -47,8 +47,8 @@ with_memory_of s memory = record s { memory = memory }
 abbrev pub HasOwnMemories : Module → Type 0
 HasOwnMemories m = memories_of m ≡ m.memories
 
--- The code has a program, whose memory has room for its least pages. With each memory that may be in the place of the state's own, the state
--- stands for some settled configuration of each program.
+-- The code has a program, whose memory has room for its least pages. With each memory that may be
+-- in the place of the state's own, the state stands for some settled configuration of each program.
 pub record IsMachine (code : Executable) (s : State) (most_pages : ℕ) : Type 0 where
   pub functions : List FunctionType
   pub program : Program

@@ -21,15 +21,15 @@
 //!
 //! In `specs/rules/`: `IsUnsigned`, `IsSigned`, `AreItems`, `IsVector`, types (`Items.antt`);
 //! `IsInstruction`, `IsExpression` (`Instructions.antt`); `AreSections`, `IsModule`
-//! (`Modules.antt`); `IsWithinLimits`, `IsLimited` (`Limits.antt`); `Sequence`, `Spells` (`Sequence.antt`). The
-//! files `Reading..` of `specs/laws/` are a second form, which reads from the front. Nobody has to
-//! believe them: that they read what the relations spell is proved.
+//! (`Modules.antt`); `IsWithinLimits`, `IsLimited` (`Limits.antt`); `Sequence`, `Spells`
+//! (`Sequence.antt`). The files `Reading..` of `specs/laws/` are a second form, which reads from
+//! the front. Nobody has to believe them: that they read what the relations spell is proved.
 //!
 //! # Who may touch what
 //!
 //! `Row` hides where items lie and how much room is reserved: neither is part of its value. Only
-//! `LimitedModule::of` makes a `LimitedModule`. `wasm_decode` answers one, and `wasm_validate` takes
-//! one. Most crates of this repository stand on this one, and it stands on none. `Row::push`
+//! `LimitedModule::of` makes a `LimitedModule`. `wasm_decode` answers one, and `wasm_validate`
+//! takes one. Most crates of this repository stand on this one, and it stands on none. `Row::push`
 //! alone takes memory. Where that is refused the item is handed back.
 #![tactic(auto)]
 

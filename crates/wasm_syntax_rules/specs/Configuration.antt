@@ -13,10 +13,10 @@ pub data Callee : Type 0 where
   Host : (kind : FunctionType) → Callee
   Own : (kind : FunctionType) (declared : List ValueType) (body : Sequence) → Callee
 
--- What a module's instance looks up (4.2.5): the types, the functions, imported ones first, how many
--- pages memory has at least, and how many it may have. The first is its minimum, and the second its
--- own maximum or the configured limit, whichever is less. No rule reads the minimum: memory begins
--- with it, and only grows.
+-- What a module's instance looks up (4.2.5): the types, the functions, imported ones first, how
+-- many pages memory has at least, and how many it may have. The first is its minimum, and the
+-- second its own maximum or the configured limit, whichever is less. No rule reads the minimum:
+-- memory begins with it, and only grows.
 pub record Program : Type 0 where
   pub types : List FunctionType
   pub functions : List Callee

@@ -54,12 +54,13 @@ fn check(alloc: Global, module: &Module) -> Result<(), ValidFault>
     check_functions(alloc, &context, module.functions.as_slice())
 }
 
-/// Decides whether a module is valid, whose types and bodies are within the limits. A fault other than `Memory` says that it is not, and is the
-/// first one. Types, imports, functions' types, tables, memories, globals, exports, the start
-/// function, element segments and data segments come before bodies. Each is checked from the front.
-/// It takes time in proportion to the module, but for the names of exports, whose bytes take
-/// n log n. Each call in a body takes time in proportion to its parameters. Memory is taken in
-/// proportion to the functions, globals, exports and the longest body.
+/// Decides whether a module is valid, whose types and bodies are within the limits. A fault other
+/// than `Memory` says that it is not, and is the first one. Types, imports, functions' types,
+/// tables, memories, globals, exports, the start function, element segments and data segments come
+/// before bodies. Each is checked from the front. It takes time in proportion to the module, but
+/// for the names of exports, whose bytes take n log n. Each call in a body takes time in proportion
+/// to its parameters. Memory is taken in proportion to the functions, globals, exports and the
+/// longest body.
 pub fn validate(alloc: Global, module: LimitedModule) -> Result<ValidModule, ValidFault>
     ensures same { IfOk result (λ v. v ≡ «module») }
     ensures valid { OnOk result (IsValid «module») }

@@ -52,7 +52,8 @@ module _ (c : Context) (program : Program) (s : State) where
 
   pub fits_program : IsWithinLimit s.memory → AllByRecursion IsByte s.memory.bytes
       → s.memory.limit ≡ program.most_pages
-      → program.least_pages * page_size ≤ length s.memory.bytes → length s.frames ≤ 512 → FitsAround c program s
+      → program.least_pages * page_size ≤ length s.memory.bytes → length s.frames ≤ 512
+      → FitsAround c program s
       → FitFrames c program (places_of s.frames s.slots)
       → FitsProgram c program (machine_state_of (parts_of_state s))
   fits_program shape bytes limit least few around frames = record {

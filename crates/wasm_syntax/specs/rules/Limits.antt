@@ -40,8 +40,7 @@ IsSmallImport _ = Unit {0}
 abbrev pub IsSmallFunction : Function → Type 0
 IsSmallFunction f = (length f.code.locals ≤ LOCALS) × IsShortExpression f.code.body
 
--- the limits that a module can be held to without its bytes, and that linking and running rest on:
--- those on types and on bodies
+-- the limits that linking and running rest on: those on types and on bodies
 pub record IsLimited (m : Module) : Type 0 where
   pub types : AllByRecursion HasFewParameters m.types
   pub bodies : AllByRecursion IsSmallFunction m.functions

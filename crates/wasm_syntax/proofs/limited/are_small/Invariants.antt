@@ -5,4 +5,5 @@ use Rattle.wasm_syntax.proofs.limited.are_small.Given as goal
 
 abbrev pub invariant-loop-function : goal.invariant-loop-function
 invariant-loop-function l =
-    AllByRecursion IsSmallFunction (drop l.function-index l.functions) → AllByRecursion IsSmallFunction l.functions
+    AllByRecursion IsSmallFunction (drop l.function-index l.functions)
+    → AllByRecursion IsSmallFunction l.functions

@@ -5,4 +5,5 @@ use Rattle.wasm_syntax.proofs.limited.have_few_parameters.Given as goal
 
 abbrev pub invariant-loop-kind : goal.invariant-loop-kind
 invariant-loop-kind l =
-    AllByRecursion HasFewParameters (drop l.kind-index l.types) → AllByRecursion HasFewParameters l.types
+    AllByRecursion HasFewParameters (drop l.kind-index l.types)
+    → AllByRecursion HasFewParameters l.types

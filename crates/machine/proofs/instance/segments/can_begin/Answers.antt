@@ -32,7 +32,8 @@ returns-then-are_elements_inside c =
     subst D c.as_slice-then-are_elements_inside.ensures (c.is_data_inside.ensures values
     (empty_memory m.memories) (subst G (sym c.as_slice-globals.ensures) initial)
     (ap (λ ms. length (empty_memory ms)) (sym c.as_slice-2.ensures)
-    ∙ (ap length c.first_pages.ensures.empty ∙ length-replicate (c.first_pages.result * 65536) 0))) in
+    ∙ (ap length c.first_pages.ensures.empty
+    ∙ length-replicate (c.first_pages.result * 65536) 0))) in
     begins_by m c.requires.valid c.requires.offered c.are_elements_inside.result
     c.is_data_inside.result elements segments c.if-are_elements_inside.true
 
