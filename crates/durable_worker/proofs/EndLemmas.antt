@@ -30,7 +30,8 @@ use Rattle.durable_worker.specs.Endings.{end_told, IsFoundBehind, StopSays}
 
 -- a disk in memory that is told to stop
 abbrev pub stopping_medium : FaultDisk MemDisk → Medium
-stopping_medium f = troubled (memory_medium f.inner) f.stop f.fail (length f.faults.items)
+stopping_medium f =
+    troubled (memory_medium f.inner) f.stop f.fail (length f.faults.items) (call_counts_of f)
 
 pub stopping_leaves_some : LeavesSome stopping_medium
 stopping_leaves_some f = (f.inner.shown.items, memory_stays f.inner)

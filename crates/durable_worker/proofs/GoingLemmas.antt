@@ -1,7 +1,7 @@
 -- Lives go on, one after another.
 use Rattle.std.proofs.Common.{◌≡◌, ℕ, ◌<◌, ◌≤◌, ◌+◌, ◌++◌, List, [], ◌∷◌, length, refl, sym, ap}
 use Rattle.std.proofs.Common.{◌∙◌}
-use Rattle.std.proofs.Common.{subst, inl, inr, arith, take, get_or, suc, ◌^◌}
+use Rattle.std.proofs.Common.{subst, inl, inr, arith, take, get_or, suc, ◌^◌, ◌*◌}
 use Prim.Native.Nat.{zero}
 use Rattle.std.specs.Prelude.{Result, Ok, Err, Option, None, map, replicate, IfOk}
 use Rattle.std.proofs.lemmas.List.{length-replicate, take_all, take_more}
@@ -19,7 +19,7 @@ use Rattle.sector_disk.specs.rules.Image.{Image}
 use Rattle.sector_disk.specs.rules.Pending.{Leaves}
 use Rattle.sector_disk.specs.rules.FaultDisk.{call_counts_of}
 use Rattle.sector_disk.specs.rules.Memory.{memory_medium, MemoryState}
-use Rattle.sector_disk.specs.rules.Trouble.{call_number}
+use Rattle.sector_disk.specs.rules.Trouble.{CallCounts, call_number}
 use Rattle.disk_layout.specs.rules.Places.{geometry_of, total_sectors}
 use Rattle.disk_layout.specs.rules.Sectors.{IsMarked}
 use Rattle.record_replay.specs.declared.line_list.NumberedLine.{NumberedLine}
@@ -44,8 +44,10 @@ use Rattle.durable_worker.specs.declared.story.living.LivedOnce.{LivedOnce}
 use Rattle.durable_worker.specs.declared.story.report.Opening.{Opening}
 use Rattle.durable_worker.specs.declared.story.report.LifeEnd.{LifeEnd}
 use Rattle.durable_worker.specs.declared.story.report.LifeReport.{LifeReport}
+use Rattle.durable_worker.specs.rules.CallCounts.{most_calls, CallsFor}
 use Rattle.durable_worker.specs.rules.Planned.{inputs_of, act_of}
 use Rattle.durable_worker.specs.rules.Told.{TellsLife, TellsEach, TellsOpening, TellsLifeEnd}
+use Rattle.durable_worker.specs.rules.Told.{BeginFewCalls}
 use Rattle.durable_worker.specs.rules.Told.{TellsLives}
 use Rattle.durable_worker.specs.rules.Told.{told_line}
 use Rattle.durable_worker.specs.LifeCalls.{LivesOnce, LeavesSome, left_undone}
@@ -94,7 +96,7 @@ empty_has_room bytes config disk empty =
     ∙ length-replicate total (replicate SECTOR_SIZE 0) in
     let limit : disk.limit ≡ total = ap (λ (s : MemoryState). s.limit) empty in
     record {
-      sectors = subst (λ (n : ℕ). total ≤ n) (sym sectors) (le_refl total);
+      sectors = sym sectors;
       writes = subst (λ (n : ℕ). total ≤ n) (sym limit) (le_refl total);
     }
 
@@ -111,6 +113,7 @@ none_has_gone bytes config disk made m accepted =
       lives = [];
       go_on = tt;
       told = tt;
+      few = tt;
       kept = record {
         keeps = λ image leaves. inl (refl, blank image leaves);
         within = λ image leaves.
@@ -150,6 +153,12 @@ tells_more (l ∷ lives) [] life report told one = absurd told
 tells_more (l ∷ lives) (r ∷ reports) life report told one =
     (told.0, tells_more lives reports life report told.1 one)
 
+few_more : (sectors : ℕ) (lives : List Life) (life : Life) → BeginFewCalls sectors lives
+    → life.calls ≤ (length life.events + 1) * most_calls sectors
+    → BeginFewCalls sectors (lives ++ life ∷ [])
+few_more sectors [] life few one = (one, tt)
+few_more sectors (l ∷ lives) life few one = (few.0, few_more sectors lives life few.1 one)
+
 promised_more : (so_far : Promise) (lives : List Life) (life : Life)
     → promised_by_all so_far (lives ++ life ∷ []) ≡ promised_by (promised_by_all so_far lives) life
 promised_more so_far [] life = refl
@@ -178,6 +187,8 @@ module _ (bytes : List ℕ) (config : Settings) (planned : List PlannedLife)
               (go_on_more m config nothing_yet (map inputs_of planned) gone.lives (inputs_of one)
               on.life gone.go_on on.lived);
           told = tells_more gone.lives reports on.life report gone.told on.told;
+          few = few_more (total_sectors (geometry_of config (length bytes))) gone.lives on.life
+              gone.few on.few;
           kept = subst (λ (p : Promise). IsKeptOn m bytes config p next)
               (sym (promised_more nothing_yet gone.lives on.life)) on.kept;
         }
@@ -203,9 +214,21 @@ pub all_are_told : (bytes : List ℕ) (config : Settings) (all : List PlannedLif
 all_are_told bytes config all i reports disk whole so_far m accepted =
     let gone = subst (λ (p : List PlannedLife). GoneOn bytes config p reports disk)
     (take_all i all whole) so_far m accepted in
-    (gone.lives, gone.go_on, gone.told)
+    (gone.lives, gone.go_on, gone.told, gone.few)
 
 -- ---- one life
+
+-- a life has begun few calls where its disk counts few more than none
+few_of_all : (times : ℕ) (first last : CallCounts) (calls : ℕ) (sectors : Image)
+    → first ≡ record { reads = 0; writes = 0; syncs = 0 } → calls ≡ call_number last
+    → call_number last ≤ call_number first + times * most_calls (length sectors)
+    → calls ≤ times * most_calls (length sectors)
+few_of_all times first last calls sectors none counted few =
+    below (call_number first) (call_number last) calls (times * most_calls (length sectors))
+    (ap (λ (c : CallCounts). call_number c) none) counted few
+  where
+    below : (a b c n : ℕ) → a ≡ 0 → c ≡ b → b ≤ a + n → c ≤ n
+    below a b c n nothing same few = omega (arith, nothing, same, few)
 
 over_by : (inputs : Inputs) (calls : ℕ) (ended : Result (Unit {0}) RecoverFault)
     → IsLifeOver inputs calls (left_undone ended)
@@ -223,7 +246,9 @@ opening_told begins begins' shown shown' first second b s o told =
 module _ (bytes : List ℕ) (config : Settings) (planned : PlannedLife) (found next : MemDisk)
     (report : LifeReport) (first last : FaultDisk MemDisk) (heard heard' : HeardLines)
     (left : List Answer) (lived : LivedOnce) (below : first.inner ≡ found)
-    (stop : first.stop ≡ planned.stop) (fail : first.fail ≡ None) (unheard : heard.lines ≡ [])
+    (stop : first.stop ≡ planned.stop) (fail : first.fail ≡ None)
+    (begun : call_counts_of first ≡ record { reads = 0; writes = 0; syncs = 0 })
+    (unheard : heard.lines ≡ [])
     (once : LivesOnce stopping_medium hands_out hears bytes config (map act_of planned.acts) lived
     first planned.answers heard last left heard')
     (ends : EndsLife lived last heard' planned report next) (m : Module) (so_far : Promise) where
@@ -239,7 +264,7 @@ module _ (bytes : List ℕ) (config : Settings) (planned : PlannedLife) (found n
   met exchanges are room = record {
     foretold = said_so exchanges planned.answers left heard heard' are.asked are.released
         ends.unrefused;
-    sectors = room.sectors;
+    sectors = (let all = room.sectors in omega (arith, all));
     room = room.writes;
     faults = λ later fell. inr (faults_at_stop first last planned.stop stop fail later fell);
     over = over_by (inputs_of planned) calls_of lived.ended;
@@ -256,9 +281,10 @@ module _ (bytes : List ℕ) (config : Settings) (planned : PlannedLife) (found n
       → IsLivedOn m config so_far (inputs_of planned) life (stopping_medium first)
       (stopping_medium last)
       → IsLater (stopping_medium first) (stopping_medium last)
+      → CallsFor (length life.events + 1) (stopping_medium first) (stopping_medium last)
       → IsToldOn m bytes config planned so_far report next
   unfolding calls_of
-  told_so exchanges are room keeps within life is lives later =
+  told_so exchanges are room keeps within life is lives later few =
       let all = lives keeps within in
       let told : TellsLifeEnd life.ends report.ended =
       subst (λ (e : LifeEnd). TellsLifeEnd life.ends e) (sym ends.ended)
@@ -280,13 +306,17 @@ module _ (bytes : List ℕ) (config : Settings) (planned : PlannedLife) (found n
           ended = told;
           calls = ends.calls ∙ sym is.counted;
         };
+        few = subst (λ (n : ℕ). life.calls ≤ (length life.events + 1) * most_calls n)
+            (sym room.sectors)
+            (few_of_all (length life.events + 1) (call_counts_of first) (call_counts_of last)
+            life.calls (first.inner.settled.items) begun is.counted few);
         kept = record {
           keeps = next_life_finds_it memory_medium m config promise life.ends last.inner next all.1
               finds;
           within = next_life_is_within memory_medium promise.events life.ends last.inner next all.2
               finds;
           room = record {
-            sectors = subst (λ (n : ℕ). total_sectors (geometry_of config (length bytes)) ≤ n)
+            sectors = subst (λ (n : ℕ). total_sectors (geometry_of config (length bytes)) ≡ n)
                 (sym (long ∙ later.sectors)) room.sectors;
             writes = subst (λ (n : ℕ). total_sectors (geometry_of config (length bytes)) ≤ n)
                 (sym (ends.room ∙ later.room)) room.writes;
@@ -304,42 +334,44 @@ module _ (bytes : List ℕ) (config : Settings) (planned : PlannedLife) (found n
       (map act_of planned.acts) first last planned.answers left heard heard' once.begins once.worker
       (left_undone lived.ended) accepted once.calls kept.keeps kept.within in
       let life = made.2 (inputs_of planned) calls_of refl (met made.0 made.1 room) in
-      told_so made.0 made.1 room kept.keeps kept.within life.0 life.1 life.2 life.3
+      told_so made.0 made.1 room kept.keeps kept.within life.0 life.1 life.2 life.3 life.4
 
 -- one life is told, whatever was promised before it
 one_life_is_told : (bytes : List ℕ) (config : Settings) (planned : PlannedLife)
     (found next : MemDisk) (report : LifeReport) (first last : FaultDisk MemDisk)
     (heard heard' : HeardLines) (left : List Answer) (lived : LivedOnce) → first.inner ≡ found
-    → first.stop ≡ planned.stop → first.fail ≡ None → heard.lines ≡ []
+    → first.stop ≡ planned.stop → first.fail ≡ None
+    → call_counts_of first ≡ record { reads = 0; writes = 0; syncs = 0 } → heard.lines ≡ []
     → LivesOnce stopping_medium hands_out hears bytes config (map act_of planned.acts) lived
     first planned.answers heard last left heard'
     → EndsLife lived last heard' planned report next
     → CallsMakeLives stopping_medium hands_out hears
     → LivesOn bytes config planned found report next
 one_life_is_told bytes config planned found next report first last heard heard' left lived below
-    stop fail unheard once ends law m so_far accepted kept =
+    stop fail begun unheard once ends law m so_far accepted kept =
     told_on bytes config planned found next report first last heard heard' left lived below stop
-    fail unheard once ends m so_far law accepted
+    fail begun unheard once ends m so_far law accepted
     (subst (λ (d : MemDisk). IsKeptOn m bytes config so_far d) (sym below) kept)
 
 pub ended_lives_are_told : (bytes : List ℕ) (config : Settings) (planned : PlannedLife)
     (found : MemDisk) (first last : FaultDisk MemDisk) (heard heard' : HeardLines)
     (left answers : List Answer) (acts : List PlannedAct) (lived : LivedOnce)
     (result : Result LivedOn StoryFault) → first.inner ≡ found → first.stop ≡ planned.stop
-    → first.fail ≡ None → heard.lines ≡ [] → answers ≡ planned.answers → acts ≡ planned.acts
+    → first.fail ≡ None → call_counts_of first ≡ record { reads = 0; writes = 0; syncs = 0 }
+    → heard.lines ≡ [] → answers ≡ planned.answers → acts ≡ planned.acts
     → (LeavesSome stopping_medium → LivesOnce stopping_medium hands_out hears bytes config
     (map act_of acts) lived first answers heard last left heard')
     → IfOk result (λ on. EndsLife lived last heard' planned on.report on.disk)
     → CallsMakeLives stopping_medium hands_out hears
     → IfOk result (λ on. LivesOn bytes config planned found on.report on.disk)
 ended_lives_are_told bytes config planned found first last heard heard' left answers acts lived
-    (Ok on) below stop fail unheard answers_are acts_are once ends law =
+    (Ok on) below stop fail begun unheard answers_are acts_are once ends law =
     one_life_is_told bytes config planned found on.disk on.report first last heard heard' left
-    lived below stop fail unheard
+    lived below stop fail begun unheard
     (subst (λ (a : List Answer). LivesOnce stopping_medium hands_out hears bytes config
     (map act_of planned.acts) lived first a heard last left heard') answers_are
     (subst (λ (a : List PlannedAct). LivesOnce stopping_medium hands_out hears bytes config
     (map act_of a) lived first answers heard last left heard') acts_are
     (once stopping_leaves_some))) ends law
 ended_lives_are_told bytes config planned found first last heard heard' left answers acts lived
-    (Err why) below stop fail unheard answers_are acts_are once ends law = tt
+    (Err why) below stop fail begun unheard answers_are acts_are once ends law = tt

@@ -1,10 +1,12 @@
 -- What a report tells of lives.
-use Rattle.std.specs.Prelude.{◌≡◌, ℕ, List, [], ◌∷◌, map, Option, Some, None}
+use Rattle.std.specs.Prelude.{◌≡◌, ◌≤◌, ℕ, ◌+◌, ◌*◌, List, [], ◌∷◌, length, map, Option, Some}
+use Rattle.std.specs.Prelude.{None}
 use Rattle.wasm_syntax.specs.declared.module.Module.{Module}
 use Rattle.wasm_syntax_rules.specs.Acceptance.{IsAccepted}
 use Rattle.wasi_abi.specs.rules.Configs.{Settings}
 use Rattle.machine.specs.rules.Offers.{offer}
 use Rattle.state_image.specs.rules.Image.{Saved, image}
+use Rattle.disk_layout.specs.rules.Places.{geometry_of, total_sectors}
 use Rattle.record_replay.specs.declared.line_list.NumberedLine.{NumberedLine}
 use Rattle.record_replay.specs.rules.Lists.{numbered}
 use Rattle.worker_rules.specs.Lives.{Release, told_in}
@@ -19,6 +21,7 @@ use Rattle.durable_worker.specs.declared.story.report.Opening.TheVariants.{Unope
 use Rattle.durable_worker.specs.declared.story.report.LifeEnd.{LifeEnd}
 use Rattle.durable_worker.specs.declared.story.report.LifeEnd.TheVariants as told
 use Rattle.durable_worker.specs.declared.story.report.LifeReport.{LifeReport}
+use Rattle.durable_worker.specs.rules.CallCounts.{most_calls}
 use Rattle.durable_worker.specs.rules.Planned.{inputs_of}
 
 -- A life that was created, or recovered, tells the image of the process with which it opened, and a
@@ -56,9 +59,18 @@ TellsEach [] [] = Unit {0}
 TellsEach (life ∷ lives) (report ∷ reports) = TellsLife life report × TellsEach lives reports
 TellsEach _ _ = ⊥
 
+-- on a disk of so many sectors few calls were begun before each event of these lives, and behind
+-- the last one
+abbrev pub BeginFewCalls : ℕ → List Life → Type 0
+BeginFewCalls sectors [] = Unit {0}
+BeginFewCalls sectors (life ∷ lives) =
+    (life.calls ≤ (length life.events + 1) * most_calls sectors) × BeginFewCalls sectors lives
+
 -- Where the bytes spell an accepted module, the report tells lives that go on as one that was never
--- stopped. They are of this module, and with what was put into each.
+-- stopped. They are of this module, and with what was put into each. Their disk has the sectors of
+-- this worker.
 abbrev pub TellsLives : List ℕ → Settings → List PlannedLife → List LifeReport → Type 0
 TellsLives bytes config planned reports = (m : Module) → IsAccepted offer config.pages bytes m
     → (lives : List Life) × GoesOn m config (map inputs_of planned) lives
     × TellsEach lives reports
+    × BeginFewCalls (total_sectors (geometry_of config (length bytes))) lives

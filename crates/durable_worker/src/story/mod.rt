@@ -8,6 +8,8 @@
 //!   The report tells each (`TellsLives`). It says how it was opened, and the image and the numbers
 //!   of the process then. It has all its lines in order, and says how it ended, and with how many
 //!   calls of the disk.
+//! - A life begins at most `most_calls` calls of its disk before each of its events, and behind the
+//!   last one (`BeginFewCalls`). So it isn't told as stopped at a call that it can't have come to.
 //! - So a life isn't opened, or leaves an act undone, only where its stop came first, or an error
 //!   with its cause. That is want of memory, an answer that doesn't fit, or a number at its end
 //!   (`MayEnd` of `worker_rules`).
@@ -18,15 +20,16 @@
 //!   that a cut keeps are those that are told, in order, of all writes but the front of a stop
 //!   (`cut_by`).
 //!
-//! Nothing is said of a module that isn't accepted. Nor is the generation that a report names, or
-//! how many calls of the disk a life takes.
+//! Nothing is said of a module that isn't accepted. Nor is the generation that a report names. How
+//! many calls of the disk a life takes is said up to that bound alone. So a stop within it may be
+//! told that never came.
 //!
 //! # Definitions to read
 //!
 //! In `specs/rules/`: `inputs_of` (`Planned.antt`), what is put into each life; `TellsLife`,
-//! `TellsLives` (`Told.antt`), what a report tells. They speak in the words of `worker_rules`. What
-//! is read off a life is `opened_in` (`specs/laws/OneLife.antt`) and `told_in` of `worker_rules`,
-//! and `IsCauseOf` says which error is which cause.
+//! `TellsLives` (`Told.antt`), what a report tells; `most_calls` (`CallCounts.antt`). They speak in
+//! the words of `worker_rules`. What is read off a life is `opened_in` (`specs/laws/OneLife.antt`)
+//! and `told_in` of `worker_rules`, and `IsCauseOf` says which error is which cause.
 //!
 //! # Who may touch what
 //!

@@ -8,6 +8,6 @@ returns-in-Ok c =
     c.args.disk c.new-disk.result c.live_once.new.disk c.new-outlet.result c.live_once.new.outlet
     c.live_once.new.source c.new-source.result c.as_slice-acts.result.now c.in-Ok.lived
     c.end_life.result c.new-disk.ensures.below c.new-disk.ensures.stop c.new-disk.ensures.fail
-    c.new-outlet.ensures.none
+    c.new-disk.ensures.calls c.new-outlet.ensures.none
     (c.new-source.ensures ∙ c.into_vec.ensures ∙ c.in_ok-answers.ensures ∙ c.as_slice.ensures)
     c.as_slice-acts.ensures c.in-Ok.ensures c.end_life.ensures c.calls_make_lives.ensures.made
