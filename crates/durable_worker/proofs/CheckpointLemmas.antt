@@ -16,6 +16,7 @@ use Rattle.state_image.specs.rules.WellTyped.{IsWellTyped}
 use Rattle.state_image.proofs.ReachedWellTyped.{saved_is_well_typed}
 use Rattle.sector_disk.specs.declared.sector.TheConstants.{SECTOR_SIZE}
 use Rattle.sector_disk.specs.rules.Medium.{Medium, Passes}
+use Rattle.sector_disk.specs.rules.Medium.{CallsUpTo}
 use Rattle.sector_disk.proofs.CallLemmas.{no_calls}
 use Rattle.disk_layout.specs.declared.geometry.Geometry.{Geometry}
 use Rattle.disk_layout.specs.rules.Places.{area_place, rounded_up, total_sectors}
@@ -56,8 +57,10 @@ use Rattle.durable_worker.specs.rules.DurableValues.{DurableValue, durable_of}
 use Rattle.durable_worker.specs.rules.DurableCalls.{CheckpointCarries, CallCarries, IsFailureOf}
 use Rattle.durable_worker.specs.rules.OpenWorkers.{IsOnDisk, IsOpenOn}
 use Rattle.durable_worker.specs.rules.Savings.{LeavesFrontOrNext, IsSaveFault, SaveFails, SaveCalls}
+use Rattle.durable_worker.specs.rules.CallCounts.{most_saving}
 use Rattle.durable_worker.specs.rules.Checkpoints.{IsCheckpointFault, CheckpointFails}
 use Rattle.durable_worker.specs.rules.Checkpoints.{CheckpointCalls, IsSavedIn}
+use Rattle.durable_worker.proofs.CallCountLemmas.{calls_once}
 use Rattle.durable_worker.proofs.DurableLemmas.Bounds.{saves_within}
 
 one_more : (a b c : ℕ) → a ≡ b + 1 → b ≤ c → a ≤ c + 1
@@ -156,7 +159,8 @@ module _ {D : Type 0} (medium : D → Medium) (running : Running) (replayed : �
 
   module _ (acts : List Act) (next_act : stage.acts ≡ Checkpoint ∷ acts) (after_store : WorkerStore)
       (flag' : Bool) (disk' : D)
-      (leaves : LeavesFrontOrNext running.store running.process (medium disk) (medium disk')) where
+      (leaves : LeavesFrontOrNext running.store running.process (medium disk) (medium disk'))
+      (few : CallsUpTo (most_saving (medium disk).sectors) (medium disk) (medium disk')) where
     -- at any moment it is one generation on at most
     save_bounds : StaysWithin (promise.events + 1) (medium disk) (medium disk')
     save_bounds =
@@ -206,6 +210,8 @@ module _ {D : Type 0} (medium : D → Medium) (running : Running) (replayed : �
               (leaves m config on.point can.next on.records on.pending on.last on.now on.stores
               next_is.comes next_is.saved);
           bounded = save_bounds;
+          counted = calls_once (most_saving (medium disk).sectors) 1 (medium disk) (medium disk')
+              few (omega arith) (omega arith);
           goes_on = λ opens. absurd (cc);
         }
       where
@@ -251,6 +257,8 @@ module _ {D : Type 0} (medium : D → Medium) (running : Running) (replayed : �
           );
           carried = saves.carries;
           bounded = save_bounds;
+          counted = calls_once (most_saving (medium disk).sectors) 1 (medium disk) (medium disk')
+              few (omega arith) (omega arith);
           goes_on = λ opens. (
             p,
             record {
@@ -295,7 +303,8 @@ module _ {D : Type 0} (medium : D → Medium) (running : Running) (replayed : �
 module _ {D : Type 0} (medium : D → Medium) (running : Running) (replayed : ℕ) (flag : Bool)
     (disk disk' : D) (fit : ImagesFitAreas) (is : IsProcess running.process)
     (after_store : WorkerStore)
-    (leaves : LeavesFrontOrNext running.store running.process (medium disk) (medium disk')) where
+    (leaves : LeavesFrontOrNext running.store running.process (medium disk) (medium disk'))
+    (few : CallsUpTo (most_saving (medium disk).sectors) (medium disk) (medium disk')) where
   pub done_carries : flag ≡ false
       → StoresNext running.store after_store running.process (medium disk) (medium disk')
       → CheckpointCarries (durable_of running replayed flag) (Ok tt)
@@ -305,7 +314,7 @@ module _ {D : Type 0} (medium : D → Medium) (running : Running) (replayed : �
     Done,
     refl,
     checkpoint_done medium running replayed flag disk fit is m config guest promise stage p opened
-        acts next_act after_store flag disk' leaves works stores,
+        acts next_act after_store flag disk' leaves few works stores,
   )
 
   pub fault_carries : (fault : StoreFault)
@@ -331,7 +340,7 @@ module _ {D : Type 0} (medium : D → Medium) (running : Running) (replayed : �
           (medium disk') []
       failed cause may bound =
           checkpoint_failed medium running replayed flag disk fit is m config guest promise stage p
-          opened acts next_act after_store true disk' leaves cause may bound
+          opened acts next_act after_store true disk' leaves few cause may bound
 
       carries : (fault : StoreFault)
           → IsCheckpointFault (durable_of running replayed flag) (medium disk) (medium disk')
@@ -430,7 +439,8 @@ module _ {D : Type 0} (medium : D → Medium) (running : Running) (replayed : �
       (let makes = made.2 in (made.0, made.1, record { all = makes.all; begun = makes.begun }))
 
   module _ (fit : ImagesFitAreas) (is : IsProcess running.process) (after_store : WorkerStore)
-      (leaves : LeavesFrontOrNext running.store running.process (medium disk) (medium disk')) where
+      (leaves : LeavesFrontOrNext running.store running.process (medium disk) (medium disk'))
+      (few : CallsUpTo (most_saving (medium disk).sectors) (medium disk) (medium disk')) where
     pub done_keeps : flag ≡ false
         → StoresNext running.store after_store running.process (medium disk) (medium disk')
         → CheckpointCarries old (Ok tt)
@@ -439,7 +449,7 @@ module _ {D : Type 0} (medium : D → Medium) (running : Running) (replayed : �
     done_keeps works stores = subst (λ (w : DurableValue). CheckpointCarries w (Ok tt)
         (durable_of (record running { store = after_store }) replayed flag) (medium disk)
         (medium disk')) is_old
-        (done_carries medium running replayed flag disk disk' fit is after_store leaves works
+        (done_carries medium running replayed flag disk disk' fit is after_store leaves few works
         stores)
 
     module _ (fault : StoreFault) (why : DurableFault) (same : why ≡ fault_of_store fault)
@@ -453,7 +463,7 @@ module _ {D : Type 0} (medium : D → Medium) (running : Running) (replayed : �
           (subst (λ (w : DurableValue). CheckpointCarries w (Err (fault_of_store fault))
           (durable_of (record running { store = after_store }) replayed true) (medium disk)
           (medium disk')) is_old
-          (fault_carries medium running replayed flag disk disk' fit is after_store leaves fault
+          (fault_carries medium running replayed flag disk disk' fit is after_store leaves few fault
           fails))
 
       pub fault_cause : CheckpointFails old (medium disk) (medium disk') why
@@ -461,5 +471,5 @@ module _ {D : Type 0} (medium : D → Medium) (running : Running) (replayed : �
           CheckpointFails old (medium disk) (medium disk') e) (sym same)
           (subst (λ (w : DurableValue).
           CheckpointFails w (medium disk) (medium disk') (fault_of_store fault)) is_old
-          (fault_fails medium running replayed flag disk disk' fit is after_store leaves fault
+          (fault_fails medium running replayed flag disk disk' fit is after_store leaves few fault
           fails))

@@ -23,6 +23,7 @@ use Rattle.state_image.proofs.ReachedWellTyped.{saved_is_well_typed}
 use Rattle.sector_disk.specs.declared.sector.TheConstants.{SECTOR_SIZE}
 use Rattle.sector_disk.specs.rules.Image.{Image}
 use Rattle.sector_disk.specs.rules.Medium.{Medium, LeavesOnly, MakesCalls}
+use Rattle.sector_disk.specs.rules.Medium.{CallsUpTo}
 use Rattle.sector_disk.proofs.CallLemmas.{no_calls}
 use Rattle.sector_disk.proofs.Moments.{leaves_only, leaves_weaker, started}
 use Rattle.disk_layout.specs.declared.fault.LayoutFault.TheVariants as layout
@@ -62,6 +63,7 @@ use Rattle.worker.specs.Turns.{working}
 use Rattle.worker.specs.rules.Values.{IsCreated}
 use Rattle.durable_worker.specs.declared.fault.DurableFault.{DurableFault}
 use Rattle.durable_worker.specs.Laying.{fresh_of, worker_laid}
+use Rattle.durable_worker.specs.rules.CallCounts.{most_creating}
 use Rattle.durable_worker.specs.rules.DurableCreations.{places_for, IsCreatedOn, IsNotCreatedOn}
 use Rattle.durable_worker.specs.rules.DurableCreations.{CreationCalls, CreationKeeps, OpensOn}
 use Rattle.durable_worker.specs.rules.DurableCreations.{IsRefusedAtFirst, LeavesCreation}
@@ -84,6 +86,7 @@ left_alone {D} medium m config promise old new same nothing blank =
       bounded = leaves_only (medium old) (medium old) Q (started (medium old) Q)
           (λ image left.
           blank_is_within image (promise.events + 1) (medium old).sectors (blank image left));
+      counted = omega arith;
     })
   where
     P : Image → Type 0
@@ -263,8 +266,9 @@ module _ {D : Type 0} (medium : D → Medium) (bytes : List ℕ) (config : Setti
       → promise.was_created ≡ true
       → FindsNoWorker (medium old) → LeavesBlankOrFirst config bytes v (medium old) (medium new)
       → ((medium old).sectors < total_sectors (places_for config bytes) → new ≡ old)
+      → CallsUpTo (most_creating (medium old).sectors) (medium old) (medium new)
       → LeavesCreation begun.spelled config promise promise (medium old) (medium new)
-  failed_leaves promise old new nothing created blank leaves same =
+  failed_leaves promise old new nothing created blank leaves same few =
       ⊎_elim
       (λ (small : (medium old).sectors < total_sectors (places_for config bytes)).
       left_alone medium begun.spelled config promise old new (same small) nothing blank)
@@ -280,6 +284,7 @@ module _ {D : Type 0} (medium : D → Medium) (bytes : List ℕ) (config : Setti
         carried = creation_carries medium begun.spelled config promise found.0 old new nothing
             created of_first.front of_first.no_lines only;
         bounded = stays_within (promise.events + 1) old new (omega arith) room only;
+        counted = few;
       }
 
   -- ---- a worker
@@ -326,9 +331,10 @@ module _ {D : Type 0} (medium : D → Medium) (bytes : List ℕ) (config : Setti
     done_leaves : (promise : Promise) (old : D) → IsNothingYet promise
         → promise.was_created ≡ true → FindsNoWorker (medium old)
         → LeavesBlankOrFirst config bytes v (medium old) (medium new)
+        → CallsUpTo (most_creating (medium old).sectors) (medium old) (medium new)
         → LeavesCreation begun.spelled config promise (after promise (Opened 0 (saved_of v)))
         (medium old) (medium new)
-    done_leaves promise old nothing created blank leaves =
+    done_leaves promise old nothing created blank leaves few =
         let of_first = found.1 in
         let is_stored = stored in
         let only = leaves begun.spelled found.0 is_first_point blank in
@@ -344,13 +350,15 @@ module _ {D : Type 0} (medium : D → Medium) (bytes : List ℕ) (config : Setti
         record {
           carried = opens.carries;
           bounded = stays_within (promise.events + 1) old new (omega arith) places_fit only;
+          counted = few;
         }
 
     opens_on : (old : D) (promise : Promise) (inputs : Inputs) → IsNothingYet promise
         → promise.was_created ≡ true
         → LeavesBlankOrFirst config bytes v (medium old) (medium new)
+        → CallsUpTo (most_creating (medium old).sectors) (medium old) (medium new)
         → OpensOn begun.spelled config promise inputs (fresh_of v made) (medium old) (medium new)
-    opens_on old promise inputs nothing created leaves =
+    opens_on old promise inputs nothing created leaves few =
         let guest : Guest = begun.started.first_guest in
         let start : ProcessState = begun.started.first in
         let of_first = found.1 in
@@ -407,7 +415,7 @@ module _ {D : Type 0} (medium : D → Medium) (bytes : List ℕ) (config : Setti
             };
             synced = same_within (saved_of v).steps start.steps start.steps counted (omega arith);
           };
-          leaves = λ blank. done_leaves promise old nothing created blank leaves;
+          leaves = λ blank. done_leaves promise old nothing created blank leaves few;
         }
 
   -- ---- whatever has come of it
@@ -422,12 +430,15 @@ module _ {D : Type 0} (medium : D → Medium) (bytes : List ℕ) (config : Setti
       → LeavesBlankOrFirst config bytes v (medium old) (medium new)
       → IfOk laid (λ made. StoresFirst config bytes v made (medium new))
       → ((medium old).sectors < total_sectors (places_for config bytes) → new ≡ old)
+      → CallsUpTo (most_creating (medium old).sectors) (medium old) (medium new)
       → CreationKeeps bytes config (worker_laid v laid) (medium old) (medium new)
-  laid_keeps (Ok made) old new leaves stores same other promise inputs accepted nothing created =
+  laid_keeps (Ok made) old new leaves stores same few other promise inputs accepted nothing
+      created =
       subst (λ (z : Module). OpensOn z config promise inputs (fresh_of v made) (medium old)
       (medium new)) (one_module other accepted)
-      (opens_on made new stores old promise inputs nothing created leaves)
-  laid_keeps (Err why) old new leaves stores same other promise inputs accepted nothing created =
+      (opens_on made new stores old promise inputs nothing created leaves few)
+  laid_keeps (Err why) old new leaves stores same few other promise inputs accepted nothing
+      created =
       λ blank. subst (λ (z : Module). LeavesCreation z config promise promise (medium old)
       (medium new)) (one_module other accepted)
-      (failed_leaves promise old new nothing created blank leaves same)
+      (failed_leaves promise old new nothing created blank leaves same few)

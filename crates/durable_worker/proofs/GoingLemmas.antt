@@ -1,7 +1,7 @@
 -- Lives go on, one after another.
 use Rattle.std.proofs.Common.{◌≡◌, ℕ, ◌<◌, ◌≤◌, ◌+◌, ◌++◌, List, [], ◌∷◌, length, refl, sym, ap}
 use Rattle.std.proofs.Common.{◌∙◌}
-use Rattle.std.proofs.Common.{subst, inl, inr, arith, take, get_or, suc, ◌^◌}
+use Rattle.std.proofs.Common.{subst, inl, inr, arith, take, get_or, suc, ◌^◌, ◌*◌}
 use Prim.Native.Nat.{zero}
 use Rattle.std.specs.Prelude.{Result, Ok, Err, Option, None, map, replicate, IfOk}
 use Rattle.std.proofs.lemmas.List.{length-replicate, take_all, take_more}
@@ -19,7 +19,7 @@ use Rattle.sector_disk.specs.rules.Image.{Image}
 use Rattle.sector_disk.specs.rules.Pending.{Leaves}
 use Rattle.sector_disk.specs.rules.FaultDisk.{call_counts_of}
 use Rattle.sector_disk.specs.rules.Memory.{memory_medium, MemoryState}
-use Rattle.sector_disk.specs.rules.Trouble.{call_number}
+use Rattle.sector_disk.specs.rules.Trouble.{CallCounts, call_number}
 use Rattle.disk_layout.specs.rules.Places.{geometry_of, total_sectors}
 use Rattle.disk_layout.specs.rules.Sectors.{IsMarked}
 use Rattle.record_replay.specs.declared.line_list.NumberedLine.{NumberedLine}
@@ -50,9 +50,11 @@ use Rattle.durable_worker.specs.rules.Planned.{number_refused}
 use Rattle.worker_store.specs.laws.Pieces.{Foretell}
 use Rattle.record_replay.specs.declared.refusing.RefusingOutlet.{RefusingOutlet}
 use Rattle.record_replay.specs.rules.Lists.{inner_outlet, until_fault}
+use Rattle.durable_worker.specs.rules.CallCounts.{most_calls, CallsFor}
 use Rattle.durable_worker.specs.rules.Told.{TellsLife, TellsEach, TellsOpening, TellsLifeEnd}
-use Rattle.durable_worker.specs.rules.StoryDisks.{IsEmptyDisk, IsRunOn, none, one_more}
-use Rattle.durable_worker.specs.rules.StoryDisks.{TellsLives, story_medium}
+use Rattle.durable_worker.specs.rules.StoryDisks.{IsEmptyDisk, IsRunOn, none, one_more, TellsLives}
+use Rattle.durable_worker.specs.rules.StoryDisks.{story_medium}
+use Rattle.durable_worker.specs.rules.Told.{BeginFewCalls}
 use Rattle.durable_worker.specs.rules.Told.{told_line}
 use Rattle.durable_worker.specs.LifeCalls.{LivesOnce, LeavesSome}
 use Rattle.durable_worker.specs.Endings.{EndsLife}
@@ -101,7 +103,7 @@ empty_has_room bytes config disk empty =
     ∙ length-replicate total (replicate SECTOR_SIZE 0) in
     let limit : disk.limit ≡ total = ap (λ (s : MemoryState). s.limit) empty in
     record {
-      sectors = subst (λ (n : ℕ). total ≤ n) (sym sectors) (le_refl total);
+      sectors = sym sectors;
       writes = subst (λ (n : ℕ). total ≤ n) (sym limit) (le_refl total);
     }
 
@@ -121,6 +123,7 @@ none_has_gone bytes config disk made m accepted =
       first = disk;
       empty = empty;
       run = none;
+      few = tt;
       kept = record {
         keeps = λ image leaves. inl (refl, blank image leaves);
         within = λ image leaves.
@@ -160,6 +163,12 @@ tells_more (l ∷ lives) [] life report told one = absurd told
 tells_more (l ∷ lives) (r ∷ reports) life report told one =
     (told.0, tells_more lives reports life report told.1 one)
 
+few_more : (sectors : ℕ) (lives : List Life) (life : Life) → BeginFewCalls sectors lives
+    → life.calls ≤ (length life.events + 1) * most_calls sectors
+    → BeginFewCalls sectors (lives ++ life ∷ [])
+few_more sectors [] life few one = (one, tt)
+few_more sectors (l ∷ lives) life few one = (few.0, few_more sectors lives life few.1 one)
+
 promised_more : (so_far : Promise) (lives : List Life) (life : Life)
     → promised_by_all so_far (lives ++ life ∷ []) ≡ promised_by (promised_by_all so_far lives) life
 promised_more so_far [] life = refl
@@ -192,6 +201,8 @@ module _ (bytes : List ℕ) (config : Settings) (planned : List PlannedLife)
           first = gone.first;
           empty = gone.empty;
           run = one_more one report gone.run run;
+          few = few_more (total_sectors (geometry_of config (length bytes))) gone.lives on.life
+              gone.few on.few;
           kept = subst (λ (p : Promise). IsKeptOn m bytes config p next)
               (sym (promised_more nothing_yet gone.lives on.life)) on.kept;
         }
@@ -217,9 +228,21 @@ pub all_are_told : (bytes : List ℕ) (config : Settings) (all : List PlannedLif
 all_are_told bytes config all i reports disk whole so_far m accepted =
     let gone = subst (λ (p : List PlannedLife). GoneOn bytes config p reports disk)
     (take_all i all whole) so_far m accepted in
-    (gone.lives, gone.go_on, gone.told, gone.first, disk, gone.empty, gone.run)
+    (gone.lives, gone.go_on, gone.told, gone.few, gone.first, disk, gone.empty, gone.run)
 
 -- ---- one life
+
+-- a life has begun few calls where its disk counts few more than none
+few_of_all : (times : ℕ) (first last : CallCounts) (calls : ℕ) (sectors : Image)
+    → first ≡ record { reads = 0; writes = 0; syncs = 0 } → calls ≡ call_number last
+    → call_number last ≤ call_number first + times * most_calls (length sectors)
+    → calls ≤ times * most_calls (length sectors)
+few_of_all times first last calls sectors none counted few =
+    below (call_number first) (call_number last) calls (times * most_calls (length sectors))
+    (ap (λ (c : CallCounts). call_number c) none) counted few
+  where
+    below : (a b c n : ℕ) → a ≡ 0 → c ≡ b → b ≤ a + n → c ≤ n
+    below a b c n nothing same few = omega (arith, nothing, same, few)
 
 over_by : (inputs : Inputs) (calls : ℕ) (ended : Result (Unit {0}) RecoverFault)
     → IsLifeOver inputs calls (left_undone ended)
@@ -239,6 +262,7 @@ module _ (bytes : List ℕ) (config : Settings) (planned : PlannedLife) (found n
     (heard heard' : RefusingOutlet HeardLines)
     (left : List Answer) (lived : LivedOnce) (below : first.inner ≡ found)
     (stop : first.stop ≡ planned.stop) (fail : first.fail ≡ planned.fail)
+    (begun : call_counts_of first ≡ record { reads = 0; writes = 0; syncs = 0 })
     (unheard : (inner_outlet heard).lines ≡ [])
     (refuses : until_fault heard ≡ number_refused planned.refuse)
     (once : LivesOnce story_medium hands_out hears bytes config (map act_of planned.acts) lived
@@ -257,7 +281,7 @@ module _ (bytes : List ℕ) (config : Settings) (planned : PlannedLife) (found n
     foretold = subst (λ (n : ℕ). Foretell (map said_of planned.answers) (takes_but n) exchanges)
         refuses (said_so exchanges planned.answers left heard heard' are.asked are.released
         ends.unrefused);
-    sectors = room.sectors;
+    sectors = (let all = room.sectors in omega (arith, all));
     room = room.writes;
     faults = λ later fell. faults_as_planned first last planned.stop planned.fail stop fail later
         fell;
@@ -275,9 +299,10 @@ module _ (bytes : List ℕ) (config : Settings) (planned : PlannedLife) (found n
       → IsLivedOn m config so_far (inputs_of planned) life (story_medium first)
       (story_medium last)
       → IsLater (story_medium first) (story_medium last)
+      → CallsFor (length life.events + 1) (story_medium first) (story_medium last)
       → IsToldOn m bytes config planned so_far report next
   unfolding calls_of
-  told_so exchanges are room keeps within life is lives later =
+  told_so exchanges are room keeps within life is lives later few =
       let all = lives keeps within in
       let told : TellsLifeEnd life.ends report.ended =
       subst (λ (e : LifeEnd). TellsLifeEnd life.ends e) (sym ends.ended)
@@ -299,13 +324,17 @@ module _ (bytes : List ℕ) (config : Settings) (planned : PlannedLife) (found n
           ended = told;
           calls = ends.calls ∙ sym is.counted;
         };
+        few = subst (λ (n : ℕ). life.calls ≤ (length life.events + 1) * most_calls n)
+            (sym room.sectors)
+            (few_of_all (length life.events + 1) (call_counts_of first) (call_counts_of last)
+            life.calls (first.inner.settled.items) begun is.counted few);
         kept = record {
           keeps = next_life_finds_it memory_medium m config promise life.ends last.inner next all.1
               finds;
           within = next_life_is_within memory_medium promise.events life.ends last.inner next all.2
               finds;
           room = record {
-            sectors = subst (λ (n : ℕ). total_sectors (geometry_of config (length bytes)) ≤ n)
+            sectors = subst (λ (n : ℕ). total_sectors (geometry_of config (length bytes)) ≡ n)
                 (sym (long ∙ later.sectors)) room.sectors;
             writes = subst (λ (n : ℕ). total_sectors (geometry_of config (length bytes)) ≤ n)
                 (sym (ends.room ∙ later.room)) room.writes;
@@ -323,23 +352,24 @@ module _ (bytes : List ℕ) (config : Settings) (planned : PlannedLife) (found n
       (map act_of planned.acts) first last planned.answers left heard heard' once.begins once.worker
       (left_undone lived.ended) accepted once.calls kept.keeps kept.within in
       let life = made.2 (inputs_of planned) calls_of refl (met made.0 made.1 room) in
-      told_so made.0 made.1 room kept.keeps kept.within life.0 life.1 life.2 life.3
+      told_so made.0 made.1 room kept.keeps kept.within life.0 life.1 life.2 life.3 life.4
 
 -- one life is told, whatever was promised before it
 one_life_is_told : (bytes : List ℕ) (config : Settings) (planned : PlannedLife)
     (found next : MemDisk) (report : LifeReport) (first last : FaultDisk MemDisk)
-    (heard heard' : RefusingOutlet HeardLines) (left : List Answer) (lived : LivedOnce) → first.inner ≡ found
-    → first.stop ≡ planned.stop → first.fail ≡ planned.fail → (inner_outlet heard).lines ≡ []
-    → until_fault heard ≡ number_refused planned.refuse
+    (heard heard' : RefusingOutlet HeardLines) (left : List Answer) (lived : LivedOnce)
+    → first.inner ≡ found → first.stop ≡ planned.stop → first.fail ≡ planned.fail
+    → call_counts_of first ≡ record { reads = 0; writes = 0; syncs = 0 }
+    → (inner_outlet heard).lines ≡ [] → until_fault heard ≡ number_refused planned.refuse
     → LivesOnce story_medium hands_out hears bytes config (map act_of planned.acts) lived
     first planned.answers heard last left heard'
     → EndsLife lived last (inner_outlet heard') planned report next
     → CallsMakeLives story_medium hands_out hears
     → LivesOn bytes config planned found report next
 one_life_is_told bytes config planned found next report first last heard heard' left lived below
-    stop fail unheard refuses once ends law m so_far accepted kept =
+    stop fail begun unheard refuses once ends law m so_far accepted kept =
     told_on bytes config planned found next report first last heard heard' left lived below stop
-    fail unheard refuses once ends m so_far law accepted
+    fail begun unheard refuses once ends m so_far law accepted
     (subst (λ (d : MemDisk). IsKeptOn m bytes config so_far d) (sym below) kept)
 
 pub ended_lives_are_told : (bytes : List ℕ) (config : Settings) (planned : PlannedLife)
@@ -347,21 +377,22 @@ pub ended_lives_are_told : (bytes : List ℕ) (config : Settings) (planned : Pla
     (heard heard' : RefusingOutlet HeardLines)
     (left answers : List Answer) (acts : List PlannedAct) (lived : LivedOnce)
     (result : Result LivedOn StoryFault) → first.inner ≡ found → first.stop ≡ planned.stop
-    → first.fail ≡ planned.fail → (inner_outlet heard).lines ≡ []
-    → until_fault heard ≡ number_refused planned.refuse → answers ≡ planned.answers → acts ≡ planned.acts
+    → first.fail ≡ planned.fail → call_counts_of first ≡ record { reads = 0; writes = 0; syncs = 0 }
+    → (inner_outlet heard).lines ≡ [] → until_fault heard ≡ number_refused planned.refuse
+    → answers ≡ planned.answers → acts ≡ planned.acts
     → (LeavesSome story_medium → LivesOnce story_medium hands_out hears bytes config
     (map act_of acts) lived first answers heard last left heard')
     → IfOk result (λ on. EndsLife lived last (inner_outlet heard') planned on.report on.disk)
     → CallsMakeLives story_medium hands_out hears
     → IfOk result (λ on. LivesOn bytes config planned found on.report on.disk)
 ended_lives_are_told bytes config planned found first last heard heard' left answers acts lived
-    (Ok on) below stop fail unheard refuses answers_are acts_are once ends law =
+    (Ok on) below stop fail begun unheard refuses answers_are acts_are once ends law =
     one_life_is_told bytes config planned found on.disk on.report first last heard heard' left
-    lived below stop fail unheard refuses
+    lived below stop fail begun unheard refuses
     (subst (λ (a : List Answer). LivesOnce story_medium hands_out hears bytes config
     (map act_of planned.acts) lived first a heard last left heard') answers_are
     (subst (λ (a : List PlannedAct). LivesOnce story_medium hands_out hears bytes config
     (map act_of a) lived first answers heard last left heard') acts_are
     (once stopping_leaves_some))) ends law
 ended_lives_are_told bytes config planned found first last heard heard' left answers acts lived
-    (Err why) below stop fail unheard refuses answers_are acts_are once ends law = tt
+    (Err why) below stop fail begun unheard refuses answers_are acts_are once ends law = tt

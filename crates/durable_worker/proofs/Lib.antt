@@ -1,4 +1,7 @@
 mod SavingLemmas
+mod CallCountLemmas
+mod PayingLemmas
+mod RecoveryCallLemmas
 mod StoreTurnLemmas
 mod ShortAnswers
 mod DurableLemmas

@@ -1,5 +1,6 @@
 -- What a look at a disk tells, by what was found there.
 use Rattle.std.proofs.Common.{◌≡◌, inl, inr, ℕ, ◌<◌, ◌≤◌, List, length, refl, ap}
+use Rattle.std.proofs.Common.{◌*◌}
 use Rattle.std.proofs.Common.{subst, arith}
 use Rattle.std.specs.Prelude.{Result, Ok, Err}
 use Rattle.wasm_syntax.specs.declared.module.Module.{Module}
@@ -9,6 +10,7 @@ use Rattle.state_image.specs.rules.Image.{Saved}
 use Rattle.sector_disk.specs.declared.fault.DiskFault.{DiskFault}
 use Rattle.sector_disk.specs.rules.Image.{Image}
 use Rattle.sector_disk.specs.rules.Medium.{Medium, SyncsMedium}
+use Rattle.sector_disk.specs.rules.Medium.{CallsUpTo}
 use Rattle.disk_layout.specs.rules.Journal.{Record}
 use Rattle.disk_layout.specs.rules.Stored.{OnlyReads}
 use Rattle.worker_rules.specs.Stands.{StandsFor}
@@ -66,7 +68,8 @@ numbers_are wasm stands found at =
     numbers_same e f h i j = rw (e, f, h, i, j) refl
 
 module _ {T : Type 0} (old sync new : Medium) (done : T)
-    (syncs : SyncsMedium {T = T} (Ok done) old sync) (reads : OnlyReads sync new) where
+    (syncs : SyncsMedium {T = T} (Ok done) old sync) (reads : OnlyReads sync new)
+    (few : CallsUpTo (2 * sync.sectors) sync new) where
   finds_there : (result : Result Found RecoverFault) (one : FindsOne sync.sectors new result)
       → (image : Image) → new.shows image → FindsWorker old.sectors one.0 image result
   finds_there result one =
@@ -83,7 +86,7 @@ module _ {T : Type 0} (old sync new : Medium) (done : T)
       → ((image : Image) → new.shows image → FindsIn sync.sectors image (Err why))
       → Surveys (Err why) old new
   unfound_surveys why one marks cause shown = inr (
-    settled_by old sync new done syncs reads,
+    settled_by old sync new done syncs reads few,
     λ fault is. (let same : why ≡ recover.Worker (Disk fault) = cc in
         since old.faults sync.faults new.faults earlier
         (cause fault (ap (λ e. Err e) same))),
@@ -108,7 +111,7 @@ module _ {T : Type 0} (old sync new : Medium) (done : T)
       → ((image : Image) → new.shows image → FindsIn sync.sectors image (Ok found))
       → Surveys (Ok (numbers_of_found found)) old new
   found_surveys found one marks shown = inr (
-    settled_by old sync new done syncs reads,
+    settled_by old sync new done syncs reads few,
     λ fault is. absurd (cc),
     λ image shows. (let decide = marks image shows in record {
       marks = record {

@@ -1,5 +1,5 @@
 -- Lives that have gone on, and the disk that the last of them left.
-use Rattle.std.specs.Prelude.{ℕ, ◌≤◌, List, [], ◌∷◌, length, map}
+use Rattle.std.specs.Prelude.{ℕ, ◌≤◌, List, [], ◌∷◌, length, map, ◌+◌, ◌*◌}
 use Rattle.wasm_syntax.specs.declared.module.Module.{Module}
 use Rattle.wasm_syntax_rules.specs.Acceptance.{IsAccepted}
 use Rattle.wasi_abi.specs.rules.Configs.{Settings}
@@ -13,13 +13,15 @@ use Rattle.worker_rules.specs.Promises.{Promise, nothing_yet, promised_by, IsLiv
 use Rattle.worker_rules.specs.Holds.{KeepsPromise, KeepsBounds}
 use Rattle.durable_worker.specs.declared.story.life.PlannedLife.{PlannedLife}
 use Rattle.durable_worker.specs.declared.story.report.LifeReport.{LifeReport}
+use Rattle.durable_worker.specs.rules.CallCounts.{most_calls}
 use Rattle.durable_worker.specs.rules.Planned.{inputs_of}
 use Rattle.durable_worker.specs.rules.StoryDisks.{IsEmptyDisk, AreRunOn}
-use Rattle.durable_worker.specs.rules.Told.{TellsLife, TellsEach}
+use Rattle.durable_worker.specs.rules.Told.{TellsLife, TellsEach, BeginFewCalls}
 
--- the disk has all sectors of a worker of these bytes, and takes as many writes between two syncs
+-- the disk has just the sectors of a worker of these bytes, and takes as many writes between two
+-- syncs
 pub record HasAllRoom (bytes : List ℕ) (config : Settings) (disk : Medium) : Type 0 where
-  pub sectors : total_sectors (geometry_of config (length bytes)) ≤ disk.sectors
+  pub sectors : total_sectors (geometry_of config (length bytes)) ≡ disk.sectors
   pub writes : total_sectors (geometry_of config (length bytes)) ≤ disk.room
 
 -- a disk that keeps this promise, with room for its worker
@@ -36,6 +38,8 @@ pub record IsToldOn (m : Module) (bytes : List ℕ) (config : Settings) (planned
   pub life : Life
   pub lived : IsLived m config so_far (inputs_of planned) life
   pub told : TellsLife life report
+  pub few : life.calls
+      ≤ (length life.events + 1) * most_calls (total_sectors (geometry_of config (length bytes)))
   pub kept : IsKeptOn m bytes config (promised_by so_far life) next
 
 -- so it is whatever was promised on the disk that the life found
@@ -60,6 +64,7 @@ pub record HaveGoneOn (m : Module) (bytes : List ℕ) (config : Settings)
   pub first : MemDisk
   pub empty : IsEmptyDisk (total_sectors (geometry_of config (length bytes))) first
   pub run : AreRunOn bytes config planned reports first disk
+  pub few : BeginFewCalls (total_sectors (geometry_of config (length bytes))) lives
   pub kept : IsKeptOn m bytes config (promised_by_all nothing_yet lives) disk
 
 -- so it is for the module that the bytes spell

@@ -2,7 +2,7 @@
 use Rattle.std.specs.Prelude.{◌≡◌, ◌⊎◌, ℕ, ◌+◌, false, Result, Ok, Err}
 use Rattle.process.specs.rules.Values.{ProcessValue, IsProcess}
 use Rattle.sector_disk.specs.rules.Image.{Image}
-use Rattle.sector_disk.specs.rules.Medium.{Medium, Passes}
+use Rattle.sector_disk.specs.rules.Medium.{Medium, CallsUpTo, Passes}
 use Rattle.disk_layout.specs.declared.geometry.Geometry.{Geometry}
 use Rattle.record_replay.specs.declared.fault.ReplayFault.{ReplayFault}
 use Rattle.record_replay.specs.rules.Calls.{Taking}
@@ -27,6 +27,7 @@ pub record WritesNext (geometry : Geometry) (generation : ℕ) (v : ProcessValue
   pub leaves : LeavesPointOrNext geometry (generation + 1) v mid new
   pub passes : Passes mid new (λ _. Unit {0})
   pub some : (image : Image) → new.may_leave image → (before : Image) × mid.may_leave before
+  pub counted : CallsUpTo (mid.sectors + 2) mid new
 
 -- it is there, and this is its store
 pub record OpensStore (geometry : Geometry) (generation : ℕ) (v : ProcessValue)

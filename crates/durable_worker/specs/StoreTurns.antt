@@ -1,5 +1,6 @@
 -- What the parts of a slice do to a store and its disk, whatever stands on that.
-use Rattle.std.specs.Prelude.{◌≡◌, ◌⊎◌, ℕ, ◌<◌, ◌≤◌, List, ◌++◌, drop, Result, Ok, Err}
+use Rattle.std.specs.Prelude.{◌≡◌, ◌⊎◌, ℕ, ◌+◌, ◌<◌, ◌≤◌, List, [], ◌∷◌, ◌++◌, drop, Result}
+use Rattle.std.specs.Prelude.{Ok, Err}
 use Rattle.sector_disk.specs.declared.disk_call.DiskCall.{DiskCall}
 use Rattle.sector_disk.specs.rules.Medium.{Medium, Passes}
 use Rattle.worker_store.specs.declared.fault.StoreFault.{StoreFault}
@@ -82,3 +83,19 @@ pub record StoreHearsNone (old new : WorkerStore) (why : DurableFault) : Type 0 
 abbrev pub HearsOrNot : {T : Type 0} → Result T DurableFault → WorkerStore → WorkerStore → Type 0
 HearsOrNot (Ok done) old new = StoreHears old new
 HearsOrNot (Err why) old new = StoreHearsNone old new why
+
+-- ---- how many calls
+
+-- a barrier still takes so many calls of the disk at most: none where no record waits in memory
+abbrev pub owed : ℕ → List ℕ → ℕ
+owed sectors [] = 0
+owed sectors (byte ∷ bytes) = sectors
+
+-- one takes no more than that, and behind it none is owed
+abbrev pub PaysCalls : {T : Type 0} → Result T DurableFault → WorkerStore → WorkerStore → Medium
+    → Medium → Type 0
+PaysCalls (Ok done) old new disk disk' =
+    disk'.counted + owed disk.sectors new.journal.kept
+    ≤ disk.counted + owed disk.sectors old.journal.kept
+PaysCalls (Err why) old new disk disk' =
+    disk'.counted ≤ disk.counted + owed disk.sectors old.journal.kept

@@ -1,3 +1,4 @@
+pub mod CallCounts
 pub mod Checkpoints
 pub mod DurableCalls
 pub mod DurableCreations

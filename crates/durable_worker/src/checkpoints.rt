@@ -10,6 +10,8 @@ use worker_store::laws::images_fit_areas;
 impl DurableWorker {
     ghost use Rattle.std.specs.Prelude.{◌≡◌, ◌≤◌, true, IfErr, OnErr, OnOk};
     ghost use Rattle.disk_layout.specs.rules.Places.{total_sectors};
+    ghost use Rattle.sector_disk.specs.rules.Medium.{CallsUpTo};
+    ghost use Rattle.durable_worker.specs.rules.CallCounts.{most_saving};
     ghost use Rattle.durable_worker.specs.rules.DurableCalls.{CheckpointCarries};
     ghost use Rattle.durable_worker.specs.rules.Checkpoints.{CheckpointCalls, CheckpointFails};
     ghost use Rattle.durable_worker.specs.rules.Checkpoints.{HasCheckpointCause, IsSavedIn};
@@ -45,6 +47,8 @@ impl DurableWorker {
             → (result ≡ Err (DurableFault.Work WorkFault.Failed)) × (self.new ≡ self.old)
             × (disk.new ≡ disk.old) }
         ensures room { total_sectors self.new.store.geometry ≤ (D.medium disk.new).sectors }
+        ensures asks { CallsUpTo (most_saving (D.medium disk.old).sectors) (D.medium disk.old)
+            (D.medium disk.new) }
     {
         if self.has_failed {
             return Err(DurableFault::Work(WorkFault::Failed));

@@ -76,6 +76,8 @@ impl DurableWorker {
     ghost use Rattle.durable_worker.specs.rules.DurableCreations.{CreationCalls, CreationKeeps};
     ghost use Rattle.durable_worker.specs.rules.DurableCreations.{IsCreatedOn, IsNotCreatedOn};
     ghost use Rattle.durable_worker.specs.rules.DurableCreations.{IsRefusedAtFirst};
+    ghost use Rattle.durable_worker.specs.rules.CallCounts.{most_creating};
+    ghost use Rattle.sector_disk.specs.rules.Medium.{CallsUpTo};
 
     /// A fresh worker of the module that the bytes spell, on this disk. Whatever stood on it is
     /// lost. A module that isn't accepted, and a disk with too few sectors, are refused before
@@ -97,6 +99,8 @@ impl DurableWorker {
         ensures carries { CreationKeeps wasm.now config.now result (D.medium disk.old)
             (D.medium disk.new) }
         ensures calls { CreationCalls wasm.now config.now result (D.medium disk.old)
+            (D.medium disk.new) }
+        ensures asks { CallsUpTo (most_creating (D.medium disk.old).sectors) (D.medium disk.old)
             (D.medium disk.new) }
     {
         let process = begin(alloc, wasm, config)?;

@@ -1,11 +1,12 @@
 //! What stands on a worker's disk, read before anything is told or written.
 
-ghost use Rattle.std.specs.Prelude.{◌≡◌, ◌<◌, ◌≤◌, IfOk};
+ghost use Rattle.std.specs.Prelude.{◌≡◌, ◌*◌, ◌<◌, ◌≤◌, IfOk};
 ghost use Rattle.std.specs.List.{AllByRecursion};
 ghost use Rattle.wasi_abi.specs.rules.Answers.{AreBytes};
 ghost use Rattle.machine.specs.rules.Runs.{HasBegun};
 ghost use Rattle.sector_disk.specs.declared.fault.DiskFault.{DiskFault as TheDiskFault};
 ghost use Rattle.sector_disk.specs.rules.Image.{Image};
+ghost use Rattle.sector_disk.specs.rules.Medium.{CallsUpTo};
 ghost use Rattle.disk_layout.specs.rules.Places.{total_sectors};
 ghost use Rattle.disk_layout.specs.rules.Stored.{OnlyReads};
 ghost use Rattle.worker.specs.declared.fault.WorkFault.TheVariants as work;
@@ -50,6 +51,8 @@ pub(crate) fn find<D: Disk>(alloc: Global, disk: &mut D) -> Result<Found, Recove
     ensures cause { (fault : TheDiskFault) → result ≡ Err (Worker (durable.Disk fault))
         → (D.medium disk.old).faults < (D.medium disk.new).faults }
     ensures unfailed { result ≡ Err (Worker (durable.Work work.Failed)) → ⊥ }
+    ensures asks { CallsUpTo (2 * (D.medium disk.old).sectors) (D.medium disk.old)
+        (D.medium disk.new) }
 {
     match read_worker(alloc, disk) {
         Ok(contents) => find_linked(alloc, disk, contents),
@@ -76,6 +79,7 @@ fn find_linked<D: Disk>(
     ensures cause { (fault : TheDiskFault) → result ≡ Err (Worker (durable.Disk fault))
         → (D.medium disk.old).faults < (D.medium disk.new).faults }
     ensures unfailed { result ≡ Err (Worker (durable.Work work.Failed)) → ⊥ }
+    ensures asks { CallsUpTo (D.medium disk.old).sectors (D.medium disk.old) (D.medium disk.new) }
 {
     let Contents {
         geometry,
@@ -110,6 +114,7 @@ fn find_saved<D: Disk>(
     ensures cause { (fault : TheDiskFault) → result ≡ Err (Worker (durable.Disk fault))
         → (D.medium disk.old).faults < (D.medium disk.new).faults }
     ensures unfailed { result ≡ Err (Worker (durable.Work work.Failed)) → ⊥ }
+    ensures asks { CallsUpTo (D.medium disk.old).sectors (D.medium disk.old) (D.medium disk.new) }
 {
     match read_newest(alloc, disk, geometry) {
         Ok(snapshot) => find_process(alloc, disk, geometry, config, machine, snapshot),
@@ -140,6 +145,7 @@ fn find_process<D: Disk>(
     ensures cause { (fault : TheDiskFault) → result ≡ Err (Worker (durable.Disk fault))
         → (D.medium disk.old).faults < (D.medium disk.new).faults }
     ensures unfailed { result ≡ Err (Worker (durable.Work work.Failed)) → ⊥ }
+    ensures asks { CallsUpTo geometry.now.journal_sectors (D.medium disk.old) (D.medium disk.new) }
 {
     restored_processes_are_the_saved();
     reached_processes_are_well_typed();
@@ -172,6 +178,7 @@ fn find_records<D: Disk>(
     ensures cause { (fault : TheDiskFault) → result ≡ Err (Worker (durable.Disk fault))
         → (D.medium disk.old).faults < (D.medium disk.new).faults }
     ensures unfailed { result ≡ Err (Worker (durable.Work work.Failed)) → ⊥ }
+    ensures asks { CallsUpTo geometry.now.journal_sectors (D.medium disk.old) (D.medium disk.new) }
 {
     is_process(&process);
     match read_records(alloc, disk, geometry, generation) {

@@ -49,6 +49,8 @@
 //!   each line, or it ended by one that was refused. `laws::lives_end_as_said`: where no call has
 //!   failed either, it has ended or waits as its last slice says.
 //! - After an error no call does anything (`fails`, `refused`): each answers `Failed`.
+//! - A recovery, a creation and a checkpoint begin few calls of the disk (`asks`), and so does a
+//!   slice before each of its exchanges and its end (`carries`).
 //! - `story` (module `story`) runs any list of lives on one disk in memory, and tells them
 //!   (`TellsLives`). Behind each comes a cut of the power, or an error.
 //!
@@ -65,8 +67,9 @@
 //! `SlicesOnDiskInVain`, `IsDiskCause`, `HasSliceCause` (`DurableFailures.antt`); `SliceCalls`
 //! (`SliceCalls.antt`); `CheckpointCalls`, `CheckpointFails`, `HasCheckpointCause`
 //! (`Checkpoints.antt`); `fault_of_store` (`DurableFaults.antt`); `fault_of_restore`,
-//! `fault_of_replay` (`RecoverFaults.antt`); `inputs_of` (`Planned.antt`), `TellsLives`
-//! (`Told.antt`). They speak in the words of `worker_rules` and `worker_store`.
+//! `fault_of_replay` (`RecoverFaults.antt`); `most_calls`, `CallsFor` (`CallCounts.antt`);
+//! `inputs_of` (`Planned.antt`), `TellsLives` (`Told.antt`). They speak in the words of
+//! `worker_rules` and `worker_store`.
 //!
 //! # Who may touch what
 //!

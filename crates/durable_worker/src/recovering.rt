@@ -26,6 +26,8 @@ impl DurableWorker {
     ghost use Rattle.durable_worker.specs.rules.Recoveries.{HasRecoveryCause, Recovers};
     ghost use Rattle.durable_worker.specs.rules.Recoveries.{RecoveryCarries};
     ghost use Rattle.durable_worker.specs.rules.ShownDisks.{RecoversAsShown};
+    ghost use Rattle.durable_worker.specs.rules.CallCounts.{most_recovering};
+    ghost use Rattle.sector_disk.specs.rules.Medium.{CallsUpTo};
 
     /// The worker that the disk stands for goes on. Syncs the disk, and reads what it shows. Then
     /// the process takes the answers on record, and each line that it emits on the way is released.
@@ -55,6 +57,8 @@ impl DurableWorker {
         // before.
         ensures on_any_disk { IfErr result (λ why. HasRecoveryCause (D.medium disk.old)
             (D.medium disk.new) why) }
+        ensures asks { CallsUpTo (most_recovering (D.medium disk.old).sectors)
+            (D.medium disk.old) (D.medium disk.new) }
 
         // Whatever stands on the disk, the outlet took each line; or it refused the last one, and
         // the error says so.

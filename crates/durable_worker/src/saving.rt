@@ -2,10 +2,11 @@
 
 ghost use Rattle.std.specs.Prelude.{◌≡◌, ◌+◌, ◌≤◌, [], false, true, IfErr, OnErr, OnOk};
 ghost use Rattle.process.specs.rules.Values.{IsProcess};
-ghost use Rattle.sector_disk.specs.rules.Medium.{Passes};
+ghost use Rattle.sector_disk.specs.rules.Medium.{CallsUpTo, Passes};
 ghost use Rattle.disk_layout.specs.rules.Places.{total_sectors};
 ghost use Rattle.journal.specs.rules.State.{state};
 ghost use Rattle.worker_store.specs.rules.Calls.{StoresNext};
+ghost use Rattle.durable_worker.specs.rules.CallCounts.{most_saving};
 ghost use Rattle.durable_worker.specs.rules.Savings.{LeavesFrontOrNext, SaveCalls, SaveFails};
 ghost use Rattle.durable_worker.specs.rules.Savings.{HasSaveCause};
 ghost use Rattle.durable_worker.specs.StoreTurns.{StoreSaves};
@@ -58,6 +59,8 @@ pub(crate) fn save<D: Disk>(
     ensures fails { OnErr result (store.new.has_failed ≡ true) }
     ensures stays { store.new.geometry ≡ store.old.geometry }
     ensures passes { Passes (D.medium disk.old) (D.medium disk.new) (λ _. Unit {0}) }
+    ensures asks { CallsUpTo (most_saving (D.medium disk.old).sectors) (D.medium disk.old)
+        (D.medium disk.new) }
 {
     if let Err(fault) = store.barrier(disk) {
         return Err(fault);

@@ -3,6 +3,7 @@
 
 ghost use Rattle.std.specs.Prelude.{◌≡◌, ◌≤◌, IfErr, IfOk, OnErr, OnOk, Ok};
 ghost use Rattle.process.specs.rules.Values.{IsProcess};
+ghost use Rattle.sector_disk.specs.rules.Medium.{CallsUpTo};
 ghost use Rattle.disk_layout.specs.rules.Places.{total_sectors};
 ghost use Rattle.record_replay.specs.rules.Waiting.{ReleasesAll};
 ghost use Rattle.worker.specs.Turns.{AsksOnce};
@@ -10,7 +11,8 @@ ghost use Rattle.durable_worker.specs.DurableTurns.{AsksTurn, Hears, MakesNoRoom
 ghost use Rattle.durable_worker.specs.DurableTurns.{SettlesTurn, SettlesVainly, AsksVainly};
 ghost use Rattle.durable_worker.specs.DurableTurns.{IsOfStoreFault};
 ghost use Rattle.durable_worker.specs.DurableTurns.{SettlesInVain, TakesNone, TakesOnRecord};
-ghost use Rattle.durable_worker.specs.StoreTurns.{HearsOrNot, StoreRuns};
+ghost use Rattle.durable_worker.specs.rules.CallCounts.{most_saving};
+ghost use Rattle.durable_worker.specs.StoreTurns.{HearsOrNot, PaysCalls, StoreRuns};
 
 use crate::fault::DurableFault;
 use crate::running::Running;
@@ -45,6 +47,8 @@ impl Running {
             (D.medium disk.new) }
         ensures places { self.new.store.geometry ≡ self.old.store.geometry }
         ensures sectors { (D.medium disk.new).sectors ≡ (D.medium disk.old).sectors }
+        ensures asks { PaysCalls result self.old.store self.new.store (D.medium disk.old)
+            (D.medium disk.new) }
     {
         self.store.barrier(disk)?;
         release_waiting(&mut self.process, outlet)?;
@@ -71,6 +75,8 @@ impl Running {
             (D.medium disk.new) }
         ensures places { self.new.store.geometry ≡ self.old.store.geometry }
         ensures sectors { (D.medium disk.new).sectors ≡ (D.medium disk.old).sectors }
+        ensures few { CallsUpTo (most_saving (D.medium disk.old).sectors) (D.medium disk.old)
+            (D.medium disk.new) }
     {
         let step = self.process.steps() + 1;
         self.make_room(disk)?;
@@ -91,6 +97,8 @@ impl Running {
             (D.medium disk.new) }
         ensures places { self.new.store.geometry ≡ self.old.store.geometry }
         ensures sectors { (D.medium disk.new).sectors ≡ (D.medium disk.old).sectors }
+        ensures few { CallsUpTo (most_saving (D.medium disk.old).sectors) (D.medium disk.old)
+            (D.medium disk.new) }
     {
         if self.store.room() >= LONGEST_RECORD {
             return Ok(());

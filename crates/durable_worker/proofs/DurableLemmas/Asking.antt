@@ -126,6 +126,7 @@ module _ {D S : Type 0} (medium : D → Medium) (gives : Giving S) (old mid new 
         (subst (λ w. TurnEnds c promise stage Waits (asks_once kind (Ok None)) w (medium disk')
         (medium disk')) (sym still)
         (waits_once medium c promise stage p kind mid disk' made.0 foretold)),
+    refl,
   )
 
   takes_so : (a : Answer) → gives source kind (Ok (Some a)) source'
@@ -145,6 +146,7 @@ module _ {D S : Type 0} (medium : D → Medium) (gives : Giving S) (old mid new 
         made.2 made.3 turn
         (question_counts c.code c.config promise turn.promise' stage turn.stage'
         (record { kind = kind; said = Ok (Some a) }) turn.done),
+    refl,
   )
 
   takes_none : (a : Answer) (why : DurableFault) → gives source kind (Ok (Some a)) source'

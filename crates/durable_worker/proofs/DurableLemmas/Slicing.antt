@@ -9,7 +9,7 @@ use Rattle.process.specs.declared.stop.ProcessEnd.{ProcessEnd}
 use Rattle.process.specs.declared.stop.Stop.TheVariants as stops
 use Rattle.process.specs.rules.Values.{ProcessValue, IsProcess, waiting_in}
 use Rattle.process.specs.rules.Stops.{AdvancesProcess}
-use Rattle.sector_disk.specs.rules.Medium.{Medium}
+use Rattle.sector_disk.specs.rules.Medium.{Medium, CallsUpTo}
 use Rattle.record_replay.specs.rules.Calls.{Giving, Taking}
 use Rattle.record_replay.specs.rules.Waiting.{ReleasesAll}
 use Rattle.record_replay.proofs.Emitted.{released_none, released_steps}
@@ -22,7 +22,8 @@ use Rattle.worker.specs.rules.Slices.{Slices}
 use Rattle.worker.specs.Turns.{working, AsksOnce}
 use Rattle.durable_worker.specs.DurableTurns.{Hears, SettlesTurn, SettlesInVain, AsksTurn, WorksOn}
 use Rattle.durable_worker.specs.DurableTurns.{SettlesVainly, AsksVainly}
-use Rattle.durable_worker.specs.StoreTurns.{StoreGoes, StoreStops, StoreRuns}
+use Rattle.durable_worker.specs.StoreTurns.{StoreGoes, StoreStops, StoreRuns, PaysCalls}
+use Rattle.durable_worker.specs.rules.CallCounts.{most_saving}
 use Rattle.durable_worker.specs.rules.DurableFailures.{SlicesOnDiskInVain}
 use Rattle.worker.proofs.Ending.{measure, Turning, turning_none, owes}
 use Rattle.worker.proofs.Ending.{owes_less, asks, asks_counts, released_all, waiting, given}
@@ -83,21 +84,21 @@ module _ {D S O : Type 0} (medium : D → Medium) (gives : Giving S) (takes : Ta
         s t o q
     spent_on advances =
         works_spent medium gives takes old w v fuel left disk mid s t o q i.so_far left_there same
-        same_guest advances
+        same_guest i.sectors advances
 
     pub over_on : (how : ProcessEnd) → AdvancesProcess w.process left (Ok (stops.Ended how)) v
         → WorksOn gives takes old fuel (Ok (now.Ended how)) (with_process w v) (medium disk)
         (medium mid) s t o q
     over_on how advances =
         works_over medium gives takes old w v fuel left disk mid s t o q i.so_far left_there same
-        same_guest how advances
+        same_guest i.sectors how advances
 
     pub vain_on : (why : ProcessFault) → AdvancesProcess w.process left (Err why) v
         → WorksOn gives takes old fuel (Err (Work (work_fault why))) (with_process w v)
         (medium disk) (medium mid) s t o q
     vain_on why advances =
         works_in_vain medium gives takes old w v fuel left disk mid s t o q i.so_far left_there same
-        same_guest why advances
+        same_guest i.sectors why advances
 
     pub vain_stops : (why : ProcessFault)
         → StoreStops old.store w.store (Work (work_fault why)) (medium disk) (medium mid)
@@ -127,13 +128,14 @@ module _ {D S O : Type 0} (medium : D → Medium) (gives : Giving S) (takes : Ta
           → SettlesTurn takes (with_process w v) w' (medium mid) (medium disk') q r
           → StoreGoes w.store w'.store (medium mid) (medium disk')
           → w'.store.geometry ≡ w.store.geometry → (medium disk').sectors ≡ (medium mid).sectors
+          → PaysCalls {T = Unit {0}} (Ok tt) w.store w'.store (medium mid) (medium disk')
           → InSlice old w' fuel first disk disk' s t o r
-      settled_on all settles goes places sectors = record {
+      settled_on all settles goes places sectors pays = record {
         turning = released_all gives takes old.process v w'.process fuel first s t o q r
             (owes gives takes old.process w.process v fuel first left s t o q i.turning left_is
             same advances) all;
         so_far = works_settled medium gives takes old w v fuel left disk mid s t o q i.so_far
-            left_there same same_guest advances w' disk' r settles;
+            left_there same same_guest i.sectors advances w' disk' r settles pays;
         goes = goes_join old.store w.store (medium disk) (medium mid) i.goes w'.store
             (medium disk') goes;
         places = places ∙ i.places;
@@ -149,10 +151,11 @@ module _ {D S O : Type 0} (medium : D → Medium) (gives : Giving S) (takes : Ta
 
       pub unsettled_on : (why : DurableFault)
           → SettlesInVain takes (with_process w v) why w' (medium mid) (medium disk') q r
+          → PaysCalls {T = Unit {0}} (Err why) w.store w'.store (medium mid) (medium disk')
           → WorksOn gives takes old fuel (Err why) w' (medium disk) (medium disk') s t o r
-      unsettled_on why settles =
+      unsettled_on why settles pays =
           works_unsettled medium gives takes old w v fuel left disk mid s t o q i.so_far left_there
-          same same_guest advances w' disk' r why settles
+          same same_guest i.sectors advances w' disk' r why settles pays
 
       pub unsettled_so_far : (why : DurableFault) → SettlesVainly takes v why w'.process q r
           → SlicesOnDiskInVain gives takes old.process fuel why w'.process s t o r
@@ -173,12 +176,13 @@ module _ {D S O : Type 0} (medium : D → Medium) (gives : Giving S) (takes : Ta
           → AsksTurn gives (with_process w v) kind (Ok true) w' (medium mid) (medium disk') t u
           → StoreGoes w.store w'.store (medium mid) (medium disk')
           → w'.store.geometry ≡ w.store.geometry → (medium disk').sectors ≡ (medium mid).sectors
+          → CallsUpTo (most_saving (medium mid).sectors) (medium mid) (medium disk')
           → InSlice old w' fuel first disk disk' s u o q
-      given_on once still asked goes places sectors = record {
+      given_on once still asked goes places sectors few = record {
         turning = given gives takes old.process v w'.process fuel first s t u o q kind wishing once
             still;
         so_far = works_given medium gives takes old w v fuel left disk mid s t o q i.so_far
-            left_there same same_guest kind advances w' disk' u asked;
+            left_there same same_guest i.sectors kind advances w' disk' u few asked;
         goes = goes_join old.store w.store (medium disk) (medium mid) i.goes w'.store
             (medium disk') goes;
         places = places ∙ i.places;
@@ -200,17 +204,19 @@ module _ {D S O : Type 0} (medium : D → Medium) (gives : Giving S) (takes : Ta
 
       pub waits_on : AsksTurn gives (with_process w v) kind (Ok false) w' (medium mid)
           (medium disk') t u
+          → CallsUpTo (most_saving (medium mid).sectors) (medium mid) (medium disk')
           → WorksOn gives takes old fuel (Ok now.Waiting) w' (medium disk) (medium disk') s u o q
-      waits_on asked =
+      waits_on asked few =
           works_waiting medium gives takes old w v fuel left disk mid s t o q i.so_far left_there
-          same same_guest kind advances w' disk' u asked
+          same same_guest i.sectors kind advances w' disk' u few asked
 
       pub unasked_on : (why : DurableFault)
           → AsksTurn gives (with_process w v) kind (Err why) w' (medium mid) (medium disk') t u
+          → CallsUpTo (most_saving (medium mid).sectors) (medium mid) (medium disk')
           → WorksOn gives takes old fuel (Err why) w' (medium disk) (medium disk') s u o q
-      unasked_on why asked =
+      unasked_on why asked few =
           works_unasked medium gives takes old w v fuel left disk mid s t o q i.so_far left_there
-          same same_guest kind advances w' disk' u why asked
+          same same_guest i.sectors kind advances w' disk' u few why asked
 
       pub unasked_so_far : (why : DurableFault)
           → AsksVainly gives (with_process w v) kind why w' t u

@@ -1,7 +1,7 @@
 -- The turns of a slice of a worker on its disk, one after another.
 use Rattle.std.proofs.Common.{◌≡◌, ℕ, ◌+◌, ◌-◌, ◌≤◌, List, [], ◌∷◌, ◌++◌, refl, sym, ap}
 use Rattle.std.proofs.Common.{◌∙◌}
-use Rattle.std.proofs.Common.{subst, arith, Bool, true, false, Ok, Err}
+use Rattle.std.proofs.Common.{subst, arith, Bool, true, false, Ok, Err, ◌*◌, length, length-append}
 use Rattle.std.specs.Prelude.{Result}
 use Rattle.wasm_syntax.specs.declared.module.Module.{Module}
 use Rattle.wasi_abi.specs.declared.answer.Kind.{Kind}
@@ -13,7 +13,7 @@ use Rattle.process.specs.declared.stop.Stop.TheVariants as stops
 use Rattle.process.specs.rules.Values.{ProcessValue, ending_of}
 use Rattle.process.specs.rules.Stops.{AdvancesProcess}
 use Rattle.sector_disk.specs.rules.Image.{Image}
-use Rattle.sector_disk.specs.rules.Medium.{Medium, Passes}
+use Rattle.sector_disk.specs.rules.Medium.{Medium, CallsUpTo, Passes}
 use Rattle.state_image.specs.rules.Saving.{saved_of}
 use Rattle.record_replay.specs.rules.Calls.{Giving, Taking, Begun, Exchange, Asks, Tells, Exchanges}
 use Rattle.record_replay.specs.rules.Calls.{Releases, AnswersInOrder}
@@ -35,6 +35,10 @@ use Rattle.durable_worker.specs.declared.fault.DurableFault.{DurableFault}
 use Rattle.durable_worker.specs.declared.fault.DurableFault.TheVariants.{Work}
 use Rattle.durable_worker.specs.declared.running.Running.{Running}
 use Rattle.worker.specs.rules.Refusals.{work_fault}
+use Rattle.durable_worker.specs.rules.CallCounts.{most_calls, most_saving, CallsFor}
+use Rattle.durable_worker.specs.StoreTurns.{owed, PaysCalls}
+use Rattle.durable_worker.proofs.CallCountLemmas.{turns_then, turns_end, turn_once, turn_free}
+use Rattle.durable_worker.proofs.CallCountLemmas.{turn_last, owed_within}
 use Rattle.durable_worker.specs.rules.DurableValues.{DurableValue, durable_of}
 use Rattle.durable_worker.specs.rules.OpenWorkers.{IsOpenOn}
 use Rattle.durable_worker.specs.rules.DurableCalls.{HasCauseOf, IsReplyOf, CallCarries}
@@ -141,6 +145,9 @@ module _ {D S O : Type 0} (medium : D → Medium) (gives : Giving S) (takes : Ta
       → c.first ≡ old.process.steps → IsBetweenTurns c promise stage p old (medium disk)
       → IsForetold stage exchanges
       → TurnGoes c promise stage exchanges w (medium disk) (medium disk'))
+      × ((medium disk').counted + owed (medium disk).sectors w.store.journal.kept
+      ≤ (medium disk).counted + (medium disk).sectors
+      + length exchanges * most_calls (medium disk).sectors)
 
   pub so_far_none : (w : Running) (fuel : ℕ) (disk : D) (source : S) (outlet : O)
       → SoFar w fuel w disk disk source source outlet outlet
@@ -159,6 +166,7 @@ module _ {D S O : Type 0} (medium : D → Medium) (gives : Giving S) (takes : Ta
           w.store disk between.on_disk promise.events (omega arith);
       running = between;
     },
+    (let few = owed_within (medium disk).sectors w.store.journal.kept in omega (arith, few)),
   )
 
   module _ (old w : Running) (fuel : ℕ) (disk mid disk' : D) (s t u : S) (o q r : O)
@@ -169,8 +177,11 @@ module _ {D S O : Type 0} (medium : D → Medium) (gives : Giving S) (takes : Ta
         → c.fuel ≡ fuel → c.first ≡ old.process.steps
         → IsBetweenTurns c promise stage p w (medium mid) → IsForetold stage ys
         → TurnGoes c promise stage ys w' (medium mid) (medium disk'))
+        → (medium disk').counted + owed (medium disk).sectors w'.store.journal.kept
+        ≤ (medium mid).counted + owed (medium disk).sectors w.store.journal.kept
+        + length ys * most_calls (medium disk).sectors
         → SoFar old fuel w' disk disk' s u o r
-    then_goes turn = (
+    then_goes turn pays = (
       so_far.0 ++ ys,
       exchanges_join gives takes s u t o r q so_far.0 ys so_far.1 more,
       λ c promise stage p fuel_is first_is between foretold.
@@ -181,6 +192,12 @@ module _ {D S O : Type 0} (medium : D → Medium) (gives : Giving S) (takes : Ta
           ys foretold in
           goes_after medium c promise stage so_far.0 ys w w' disk mid disk' a
           (turn c a.promise' a.stage' a.process fuel_is first_is a.running (both.0 a.done)),
+      turns_then (length so_far.0) (length ys) (length (so_far.0 ++ ys))
+          (most_calls (medium disk).sectors) (medium disk).counted (medium mid).counted
+          (medium disk').counted (medium disk).sectors
+          (owed (medium disk).sectors w.store.journal.kept)
+          (owed (medium disk).sectors w'.store.journal.kept) so_far.3 pays
+          (length-append so_far.0 ys),
     )
 
     -- it is over
@@ -191,8 +208,10 @@ module _ {D S O : Type 0} (medium : D → Medium) (gives : Giving S) (takes : Ta
         → (reply : Reply) × IsReplyOf result reply
         × HasCauseOf result c.guest c.config w'.process (medium mid) (medium disk')
         × TurnEnds c promise stage reply ys w' (medium mid) (medium disk'))
+        → (medium disk').counted ≤ (medium mid).counted
+        + owed (medium disk).sectors w.store.journal.kept + most_saving (medium disk).sectors
         → WorksOn gives takes old fuel result w' (medium disk) (medium disk') s u o r
-    then_ends result turn = (
+    then_ends result turn pays = (
       so_far.0 ++ ys,
       exchanges_join gives takes s u t o r q so_far.0 ys so_far.1 more,
       λ c promise stage p fuel_is first_is between foretold.
@@ -211,6 +230,14 @@ module _ {D S O : Type 0} (medium : D → Medium) (gives : Giving S) (takes : Ta
                 (medium disk') leaves.passes last.2,
             ends_after medium c promise stage so_far.0 ys w w' disk mid disk' a last.0 last.3,
           ),
+      turns_end (length so_far.0) (length ys) (length (so_far.0 ++ ys))
+          (most_calls (medium disk).sectors) (medium disk).counted (medium mid).counted
+          (medium disk').counted (medium disk).sectors
+          (owed (medium disk).sectors w.store.journal.kept)
+          (most_saving (medium disk).sectors) so_far.3
+          (turn_last (length ys) (most_calls (medium disk).sectors) (medium mid).counted
+          (medium disk').counted (owed (medium disk).sectors w.store.journal.kept)
+          (most_saving (medium disk).sectors) pays) (length-append so_far.0 ys) (omega arith),
     )
 
   -- ---- its turns
@@ -219,7 +246,12 @@ module _ {D S O : Type 0} (medium : D → Medium) (gives : Giving S) (takes : Ta
       (so_far : SoFar old fuel w disk mid s t o q)
       (left_is : left ≡ fuel - (w.process.steps - old.process.steps))
       (same : v.host.released ≡ w.process.host.released)
-      (same_guest : v.machine.guest ≡ w.process.machine.guest) where
+      (same_guest : v.machine.guest ≡ w.process.machine.guest)
+      (long : (medium mid).sectors ≡ (medium disk).sectors) where
+    nothing_called : (medium mid).counted ≤ (medium mid).counted
+        + owed (medium disk).sectors w.store.journal.kept + most_saving (medium disk).sectors
+    nothing_called = omega arith
+
     left_of : (c : Course) → c.fuel ≡ fuel → c.first ≡ old.process.steps
         → left ≡ c.fuel - (w.process.steps - c.first)
     left_of c fuel_is first_is =
@@ -238,7 +270,7 @@ module _ {D S O : Type 0} (medium : D → Medium) (gives : Giving S) (takes : Ta
           tt,
           advance_spent medium c promise stage p w v mid between left (left_of c fuel_is first_is)
               same same_guest advances,
-        ))
+        )) nothing_called
 
     pub works_over : (how : ProcessEnd) → AdvancesProcess w.process left (Ok (stops.Ended how)) v
         → WorksOn gives takes old fuel (Ok (now.Ended how)) (with_process w v) (medium disk)
@@ -252,7 +284,7 @@ module _ {D S O : Type 0} (medium : D → Medium) (gives : Giving S) (takes : Ta
           tt,
           advance_over medium c promise stage p w v mid between left (left_of c fuel_is first_is)
               same same_guest how advances,
-        ))
+        )) nothing_called
 
     pub works_in_vain : (why : ProcessFault) → AdvancesProcess w.process left (Err why) v
         → WorksOn gives takes old fuel (Err (Work (work_fault why))) (with_process w v)
@@ -263,25 +295,33 @@ module _ {D S O : Type 0} (medium : D → Medium) (gives : Giving S) (takes : Ta
         (λ c promise stage p fuel_is first_is between foretold.
         let fails = advance_fails medium c promise stage p w v mid between left
         (left_of c fuel_is first_is) same same_guest why advances in
-        (Fails fails.0, (fails.0, fails.1, refl), fails.2, fails.3))
+        (Fails fails.0, (fails.0, fails.1, refl), fails.2, fails.3)) nothing_called
 
     -- what is owed
     module _ (advances : AdvancesProcess w.process left (Ok stops.Owes) v) (w' : Running)
         (disk' : D) (r : O) where
       pub works_settled : SettlesTurn takes (with_process w v) w' (medium mid) (medium disk') q r
+          → PaysCalls {T = Unit {0}} (Ok tt) w.store w'.store (medium mid) (medium disk')
           → SoFar old fuel w' disk disk' s t o r
-      works_settled settles =
+      works_settled settles pays =
           then_goes old w fuel disk mid disk' s t t o q r so_far w' (told_lines_of settles.0)
           (told_alone gives takes t q r settles.0 settles.1)
           (λ c promise stage p fuel_is first_is between foretold.
           let owes = advance_owes medium c promise stage p w v mid between left
           (left_of c fuel_is first_is) same same_guest advances in
           settles.2 c promise stage owes.process owes.owing foretold)
+          (turn_free (length (told_lines_of settles.0)) (most_calls (medium disk).sectors)
+          (medium mid).counted (medium disk').counted
+          (owed (medium disk).sectors w.store.journal.kept)
+          (owed (medium disk).sectors w'.store.journal.kept)
+          (subst (λ (n : ℕ). (medium disk').counted + owed n w'.store.journal.kept
+          ≤ (medium mid).counted + owed n w.store.journal.kept) long pays))
 
       pub works_unsettled : (why : DurableFault)
           → SettlesInVain takes (with_process w v) why w' (medium mid) (medium disk') q r
+          → PaysCalls {T = Unit {0}} (Err why) w.store w'.store (medium mid) (medium disk')
           → WorksOn gives takes old fuel (Err why) w' (medium disk) (medium disk') s t o r
-      works_unsettled why settles =
+      works_unsettled why settles pays =
           then_ends old w fuel disk mid disk' s t t o q r so_far w' (told_lines_of settles.0)
           (told_alone gives takes t q r settles.0 settles.1) (Err why)
           (λ c promise stage p fuel_is first_is between foretold.
@@ -289,10 +329,18 @@ module _ {D S O : Type 0} (medium : D → Medium) (gives : Giving S) (takes : Ta
           (left_of c fuel_is first_is) same same_guest advances in
           let fails = settles.2 c promise stage owes.process owes.owing foretold in
           (Fails fails.0, (fails.0, fails.1, refl), fails.2, fails.3))
+          (let paid = subst (λ (n : ℕ). (medium disk').counted
+          ≤ (medium mid).counted + owed n w.store.journal.kept) long pays in omega (arith, paid))
 
     -- what is asked
     module _ (kind : Kind) (advances : AdvancesProcess w.process left (Ok (stops.Asks kind)) v)
-        (w' : Running) (disk' : D) (u : S) where
+        (w' : Running) (disk' : D) (u : S)
+        (few : CallsUpTo (most_saving (medium mid).sectors) (medium mid) (medium disk')) where
+      -- it ends the slice, if it does
+      called_last : (medium disk').counted ≤ (medium mid).counted
+          + owed (medium disk).sectors w.store.journal.kept + most_saving (medium disk).sectors
+      called_last = omega (arith, few, long)
+
       pub works_given : AsksTurn gives (with_process w v) kind (Ok true) w' (medium mid)
           (medium disk') t u → SoFar old fuel w' disk disk' s u o q
       works_given asks =
@@ -302,6 +350,12 @@ module _ {D S O : Type 0} (medium : D → Medium) (gives : Giving S) (takes : Ta
           let there = advance_asks medium c promise stage p w v mid between left
           (left_of c fuel_is first_is) same same_guest kind advances in
           asks.2 c promise stage there.process there.asking foretold)
+          (let less = owed_within (medium disk).sectors w'.store.journal.kept in
+          let one = asks.3 in
+          turn_once (length asks.0) (most_calls (medium disk).sectors) (medium mid).counted
+          (medium disk').counted (owed (medium disk).sectors w.store.journal.kept)
+          (owed (medium disk).sectors w'.store.journal.kept) (most_saving (medium mid).sectors) few
+          (omega (arith, less, long)) (omega (arith, one)))
 
       pub works_waiting : AsksTurn gives (with_process w v) kind (Ok false) w' (medium mid)
           (medium disk') t u
@@ -312,7 +366,7 @@ module _ {D S O : Type 0} (medium : D → Medium) (gives : Giving S) (takes : Ta
           (λ c promise stage p fuel_is first_is between foretold.
           let there = advance_asks medium c promise stage p w v mid between left
           (left_of c fuel_is first_is) same same_guest kind advances in
-          (Waits, refl, tt, asks.2 c promise stage there.process there.asking foretold))
+          (Waits, refl, tt, asks.2 c promise stage there.process there.asking foretold)) called_last
 
       pub works_unasked : (why : DurableFault)
           → AsksTurn gives (with_process w v) kind (Err why) w' (medium mid) (medium disk') t u
@@ -324,7 +378,7 @@ module _ {D S O : Type 0} (medium : D → Medium) (gives : Giving S) (takes : Ta
           let there = advance_asks medium c promise stage p w v mid between left
           (left_of c fuel_is first_is) same same_guest kind advances in
           let fails = asks.2 c promise stage there.process there.asking foretold in
-          (Fails fails.0, (fails.0, fails.1, refl), fails.2, fails.3))
+          (Fails fails.0, (fails.0, fails.1, refl), fails.2, fails.3)) called_last
 
 -- ---- the whole slice
 
@@ -363,40 +417,41 @@ module _ {D : Type 0} (medium : D → Medium) (c : Course) (promise : Promise) (
     (reply : Reply) (exchanges : List Exchange) (w : Running) (replayed : ℕ) (failed : Bool)
     (disk disk' : D)
     (ends : TurnEnds c promise stage reply exchanges w (medium disk) (medium disk'))
-  where
-    call_carries : (phase_ended reply ≡ Open → failed ≡ false)
-        → CallCarries c.code c.config c.guest promise stage (Slice c.fuel) reply
-        (durable_of w replayed failed) (medium disk) (medium disk') exchanges
-    call_carries works =
-        let done = ends.done in
-        let joined = ends_join c.code c.config promise ends.between stage ends.inside exchanges
-        (Ended (Slice c.fuel) reply ends.held (saved_of w.process)) done ends.ending in
-        record {
-          events = done.events;
-          are = done.are;
-          held = ends.held;
-          kept = joined.0;
-          carried = subst (λ z. CarriesPromise c.code c.config promise z (medium disk)
-              (medium disk')) (sym joined.1)
-              (turns_carry medium c.code c.config promise _ disk disk' ends.onward ends.keeps);
-          bounded = subst (λ (z : Promise). StaysWithin z.events (medium disk) (medium disk'))
-              (sym joined.1) ends.bounded;
-          goes_on = λ over.
-              let again = ends.goes_on over replayed in (
-                again.0,
-                subst (λ z. IsOpenOn c.code c.config c.guest z (stage_after stage (done.events
-                    ++ Ended (Slice c.fuel) reply ends.held (saved_of w.process) ∷ [])) again.0
-                    (durable_of w replayed failed) (medium disk')) (sym joined.1)
-                    (subst (λ z. IsOpenOn c.code c.config c.guest
-                    (slice_end ends.between c.fuel reply ends.held w) z again.0
-                    (durable_of w replayed failed) (medium disk')) (sym joined.2)
-                    (subst (λ b. IsOpenOn c.code c.config c.guest
-                    (slice_end ends.between c.fuel reply ends.held w)
-                    (next_stage ends.inside
-                    (Ended (Slice c.fuel) reply ends.held (saved_of w.process))) again.0
-                    (durable_of w replayed b) (medium disk')) (sym (works over)) again.1)),
-              );
-        }
+    (few : CallsFor (length exchanges + 1) (medium disk) (medium disk')) where
+  call_carries : (phase_ended reply ≡ Open → failed ≡ false)
+      → CallCarries c.code c.config c.guest promise stage (Slice c.fuel) reply
+      (durable_of w replayed failed) (medium disk) (medium disk') exchanges
+  call_carries works =
+      let done = ends.done in
+      let joined = ends_join c.code c.config promise ends.between stage ends.inside exchanges
+      (Ended (Slice c.fuel) reply ends.held (saved_of w.process)) done ends.ending in
+      record {
+        events = done.events;
+        are = done.are;
+        held = ends.held;
+        kept = joined.0;
+        carried = subst (λ z. CarriesPromise c.code c.config promise z (medium disk)
+            (medium disk')) (sym joined.1)
+            (turns_carry medium c.code c.config promise _ disk disk' ends.onward ends.keeps);
+        bounded = subst (λ (z : Promise). StaysWithin z.events (medium disk) (medium disk'))
+            (sym joined.1) ends.bounded;
+        counted = few;
+        goes_on = λ over.
+            let again = ends.goes_on over replayed in (
+              again.0,
+              subst (λ z. IsOpenOn c.code c.config c.guest z (stage_after stage (done.events
+                  ++ Ended (Slice c.fuel) reply ends.held (saved_of w.process) ∷ [])) again.0
+                  (durable_of w replayed failed) (medium disk')) (sym joined.1)
+                  (subst (λ z. IsOpenOn c.code c.config c.guest
+                  (slice_end ends.between c.fuel reply ends.held w) z again.0
+                  (durable_of w replayed failed) (medium disk')) (sym joined.2)
+                  (subst (λ b. IsOpenOn c.code c.config c.guest
+                  (slice_end ends.between c.fuel reply ends.held w)
+                  (next_stage ends.inside
+                  (Ended (Slice c.fuel) reply ends.held (saved_of w.process))) again.0
+                  (durable_of w replayed b) (medium disk')) (sym (works over)) again.1)),
+            );
+      }
 
 module _ {D S O : Type 0} (medium : D → Medium) (gives : Giving S) (takes : Taking O)
     (old new : Running) (replayed fuel : ℕ) (before after : Bool) (disk disk' : D)
@@ -425,7 +480,7 @@ module _ {D S O : Type 0} (medium : D → Medium) (gives : Giving S) (takes : Ta
           ended.1,
           ended.2,
           call_carries medium c promise stage ended.0 worked.0 new replayed after disk disk'
-              ended.3 (works ended.0 ended.1),
+              ended.3 worked.3 (works ended.0 ended.1),
         ),
   )
 

@@ -1,6 +1,6 @@
 -- What one call of a worker that is open makes of a life.
 use Rattle.std.proofs.Common.{◌≡◌, ℕ, ◌+◌, ◌<◌, List, [], ◌∷◌, ◌++◌, refl, sym, ap, ◌∙◌}
-use Rattle.std.proofs.Common.{subst, inl, inr, arith}
+use Rattle.std.proofs.Common.{subst, inl, inr, arith, length, length-append}
 use Rattle.std.specs.Prelude.{◌⊎◌, Ok, None, true}
 use Rattle.std.proofs.lemmas.List.{append-nil}
 use Rattle.wasm_syntax.specs.declared.module.Module.{Module}
@@ -28,12 +28,15 @@ use Rattle.durable_worker.specs.declared.fault.DurableFault.{DurableFault}
 use Rattle.durable_worker.specs.declared.fault.DurableFault.TheVariants.{Disk, Work, Store}
 use Rattle.durable_worker.specs.declared.recover_fault.RecoverFault.{RecoverFault}
 use Rattle.durable_worker.specs.declared.recover_fault.RecoverFault.TheVariants.{Worker}
+use Rattle.durable_worker.specs.rules.CallCounts.{CallsFor}
 use Rattle.durable_worker.specs.rules.DurableValues.{DurableValue}
 use Rattle.durable_worker.specs.rules.OpenWorkers.{IsOpenOn}
 use Rattle.durable_worker.specs.rules.DurableCalls.{ComesOf, IsReplyOf}
 use Rattle.durable_worker.specs.rules.DurableCalls.{TakesTooFew}
 use Rattle.durable_worker.specs.rules.DurableCalls.{HasCauseAt, CallCarries}
 use Rattle.durable_worker.specs.laws.OneLife.{IsLater, opened_in, released_in}
+use Rattle.durable_worker.proofs.CallCountLemmas.{calls_longer}
+use Rattle.durable_worker.proofs.LifeLemmas.Joined.{events_as_many}
 use Rattle.durable_worker.proofs.LifeLemmas.Joined.{stage_join, promised_join, kept_split}
 use Rattle.durable_worker.proofs.LifeLemmas.Joined.{told_join, opened_behind, told_are, none_opens}
 use Rattle.durable_worker.proofs.LifeLemmas.Joined.{acts_stay, opened_stays}
@@ -111,6 +114,7 @@ module _ (m : Module) (config : Settings) (guest : Guest) (promise : Promise) (s
     pub keeps : KeepsPromise m config (promised promise events) new
     pub bounded : KeepsBounds (promised promise events).events new
     pub later : IsLater old new
+    pub counted : CallsFor (length events) old new
     pub foretold : (rest : List Exchange) → IsForetold stage (exchanges ++ rest)
         → IsForetold (stage_after stage events) rest
 
@@ -137,6 +141,12 @@ module _ (m : Module) (config : Settings) (guest : Guest) (promise : Promise) (s
         keeps = carried.in_the_end;
         bounded = bounds_in_the_end (promised promise all).events old new carries.bounded;
         later = passed_later old new _ passes;
+        counted = calls_longer (length exchanges + 1) (length all) old new
+            (omega (
+              arith,
+              length-append carries.events (end ∷ []),
+              events_as_many exchanges carries.events carries.are,
+            )) carries.counted;
         foretold = λ rest foretold.
             let first = parts_are_foretold m config promise (promised promise carries.events) stage
             (stage_after stage carries.events) exchanges rest foretold in
@@ -171,6 +181,7 @@ pub record CallFails (m : Module) (config : Settings) (promise : Promise) (stage
   pub bounded : KeepsBounds ((promised promise events).events + 1) new
   pub disk : HasDiskCause config (Worker why) old new
   pub later : IsLater old new
+  pub counted : CallsFor (length events + 1) old new
 
 pub call_fails : (m : Module) (config : Settings) (guest : Guest) (promise : Promise)
     (stage : Stage) (act : Act) (cause : Cause) (why : DurableFault) (w : DurableValue)
@@ -201,4 +212,6 @@ call_fails m config guest promise stage act cause why w exchanges old new is dis
           (bounds_in_the_end _ old new carries.bounded);
       disk = disk;
       later = passed_later old new _ carried.at_any_moment.passes;
+      counted = calls_longer (length exchanges + 1) (length carries.events + 1) old new
+          (omega (arith, events_as_many exchanges carries.events carries.are)) carries.counted;
     }

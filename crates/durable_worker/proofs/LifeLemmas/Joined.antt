@@ -1,5 +1,5 @@
 -- Events of a life, one list after another.
-use Rattle.std.proofs.Common.{◌≡◌, ℕ, ◌≤◌, List, [], ◌∷◌, ◌++◌, refl, ap, arith}
+use Rattle.std.proofs.Common.{◌≡◌, ℕ, ◌≤◌, List, [], ◌∷◌, ◌++◌, length, refl, ap, arith}
 use Rattle.std.specs.Prelude.{Some, None}
 use Rattle.wasm_syntax.specs.declared.module.Module.{Module}
 use Rattle.wasi_abi.specs.rules.Configs.{Settings}
@@ -45,6 +45,15 @@ counts_grow so_far (Opened held shown ∷ events) =
 counts_grow so_far (Ended act reply held shown ∷ events) =
     let more = counts_grow (after so_far (Ended act reply held shown)) events in
     omega (arith, more)
+
+-- each exchange is an event
+pub events_as_many : (exchanges : List Exchange) (events : List Event) → AreEvents exchanges events
+    → length events ≡ length exchanges
+events_as_many exchanges events none = refl
+events_as_many exchanges events (told {exchanges = others} {events = rest} are) =
+    let more = events_as_many others rest are in omega (arith, more)
+events_as_many exchanges events (asked {exchanges = others} {events = rest} are) =
+    let more = events_as_many others rest are in omega (arith, more)
 
 -- ---- what is read off them
 

@@ -1,6 +1,6 @@
 -- The calls of one life make a life that goes on.
 use Rattle.std.proofs.Common.{◌≡◌, ℕ, ◌+◌, ◌<◌, ◌≤◌, List, [], ◌∷◌, ◌++◌, refl, sym, ap, ◌∙◌}
-use Rattle.std.proofs.Common.{length}
+use Rattle.std.proofs.Common.{length, length-append}
 use Rattle.std.proofs.Common.{subst, inl, inr, ⊎_elim, arith}
 use Rattle.std.proofs.lemmas.Bool.Decides.{nat_tests}
 use Rattle.std.proofs.lemmas.List.{append-nil, append_assoc}
@@ -39,12 +39,14 @@ use Rattle.worker.specs.declared.fault.Refusal.TheVariants as refusal
 use Rattle.durable_worker.specs.declared.fault.DurableFault.TheVariants.{Work, Disk, Store}
 use Rattle.durable_worker.specs.declared.recover_fault.RecoverFault.{RecoverFault}
 use Rattle.durable_worker.specs.declared.recover_fault.RecoverFault.TheVariants as recover
+use Rattle.durable_worker.specs.rules.CallCounts.{CallsFor}
 use Rattle.durable_worker.specs.rules.DurableValues.{DurableValue}
 use Rattle.durable_worker.specs.laws.OneLife.{opened, unopened}
 use Rattle.durable_worker.specs.laws.OneLife.{IsLater, CameTrue, IsLifeOver, opened_in, shown_first}
 use Rattle.durable_worker.specs.laws.OneLife.{released_in}
 use Rattle.durable_worker.specs.laws.OneLife.{IsCauseOf, EndsBy, IsLifeOf, CallsMakeLives}
 use Rattle.durable_worker.specs.laws.OneLife.{AnythingComesTrue}
+use Rattle.durable_worker.proofs.CallCountLemmas.{calls_longer, calls_then}
 use Rattle.durable_worker.proofs.LifeLemmas.Joined.{stage_join, promised_join}
 use Rattle.durable_worker.proofs.LifeLemmas.Joined.{told_join, opened_before, shown_before}
 use Rattle.durable_worker.proofs.LifeLemmas.Joined.{released_join}
@@ -217,6 +219,7 @@ module _ (m : Module) (config : Settings) (bytes : List ℕ) (before : Promise) 
   abbrev pub LifeGoesOn : Result (List Act) RecoverFault → Type 0
   LifeGoesOn left = (life : Life) × IsLifeOf inputs begins exchanges worker left calls life
       × IsLivedOn m config before inputs life found last × IsLater found last
+      × CallsFor (length life.events + 1) found last
 
   -- a life of these events
   abbrev pub life_of : List Event → End → Life
@@ -232,8 +235,8 @@ module _ (m : Module) (config : Settings) (bytes : List ℕ) (before : Promise) 
         (stage_after (at_first inputs) events) ends
         → KeepsPromise m config (promised so_far events) last
         → KeepsBounds ((promised so_far events).events + 1) last → IsLater found last
-        → LifeGoesOn left
-    ends_so ends by may keeps bounded later = (
+        → CallsFor (length events + 1) found last → LifeGoesOn left
+    ends_so ends by may keeps bounded later few = (
       life_of events ends,
       record { begins_so = refl; told = told; shown = shown; counted = refl; ends = by },
       λ was within. (
@@ -243,6 +246,7 @@ module _ (m : Module) (config : Settings) (bytes : List ℕ) (before : Promise) 
         bounded,
       ),
       later,
+      few,
     )
 
   module _ (events : List Event) (kept : AreKept m config so_far (at_first inputs) events)
@@ -258,8 +262,9 @@ module _ (m : Module) (config : Settings) (bytes : List ℕ) (before : Promise) 
     -- no call has failed
     ends_going : (acts : List Act)
         → IsGoing m config (promised so_far events) (stage_after (at_first inputs) events) acts last
-        → IsLifeOver inputs calls (Ok acts) → IsLater found last → LifeGoesOn (Ok acts)
-    ends_going acts go over later = by acts go over (stops_or_not inputs.stop calls)
+        → IsLifeOver inputs calls (Ok acts) → IsLater found last
+        → CallsFor (length events + 1) found last → LifeGoesOn (Ok acts)
+    ends_going acts go over later few = by acts go over (stops_or_not inputs.stop calls)
       where
         more : KeepsBounds (promised so_far events).events last
             → KeepsBounds ((promised so_far events).events + 1) last
@@ -274,18 +279,19 @@ module _ (m : Module) (config : Settings) (bytes : List ℕ) (before : Promise) 
             → LifeGoesOn (Ok acts)
         by acts go over (inl stopped) =
             ends_so (Ok acts) events kept told shown anew_alone Stopped stopped
-            (subst IsCutIn (sym go.phase) tt, stopped) go.keeps (more go.bounded) later
+            (subst IsCutIn (sym go.phase) tt, stopped) go.keeps (more go.bounded) later few
         by [] go over (inr going) =
             ends_so (Ok []) events kept told shown anew_alone Finished (refl, going)
-            (go.phase, go.acts_are, going) go.keeps (more go.bounded) later
+            (go.phase, go.acts_are, going) go.keeps (more go.bounded) later few
         by (act ∷ acts) go over (inr going) = absurd (not_both inputs.stop calls over going)
 
     -- a call has
     ends_broken : (why : RecoverFault)
         → CameTrue bytes config inputs exchanges (Err why) calls found last
         → HasBroken m config (promised so_far events) (stage_after (at_first inputs) events) why
-        found last → IsLater found last → LifeGoesOn (Err why)
-    ends_broken why came b later = by (stops_or_not inputs.stop calls)
+        found last → IsLater found last → CallsFor (length events + 1) found last
+        → LifeGoesOn (Err why)
+    ends_broken why came b later few = by (stops_or_not inputs.stop calls)
       where
         end : Event
         end = Ended b.act (Fails b.cause) b.held b.shown
@@ -325,7 +331,7 @@ module _ (m : Module) (config : Settings) (bytes : List ℕ) (before : Promise) 
               stopped,
             )
             (unended m config (promised so_far events) b.act b.cause b.held b.shown last
-            b.has_opened b.keeps) b.bounded later
+            b.has_opened b.keeps) b.bounded later few
         by (inr going) =
             ends_so (Err why) (events ++ end ∷ []) all_kept
             (told_join events (end ∷ []) ∙ append-nil (told_in events) ∙ told) still_shown
@@ -335,6 +341,8 @@ module _ (m : Module) (config : Settings) (bytes : List ℕ) (before : Promise) 
             (subst (λ (p : Promise). KeepsBounds (p.events + 1) last) (sym joined)
             (later_bound m config ((promised so_far events).events + 1)
             ((promised so_far events).events + 1 + 1) last (omega arith) b.bounded)) later
+            (calls_longer (length events + 1) (length (events ++ end ∷ []) + 1) found last
+            (omega (arith, length-append events (end ∷ []))) few)
 
   -- it wasn't opened
   ends_unopened : (why : RecoverFault)
@@ -353,7 +361,7 @@ module _ (m : Module) (config : Settings) (bytes : List ℕ) (before : Promise) 
       by : HasStopped inputs.stop calls ⊎ HasNotStopped inputs.stop calls → LifeGoesOn (Err why)
       by (inl stopped) =
           ends_so (Err why) u.events u.kept u.told shown u.anew Stopped stopped
-          (because.cut, stopped) u.keeps u.bounded u.later
+          (because.cut, stopped) u.keeps u.bounded u.later u.counted
       by (inr going) =
           ends_so (Err why) u.events u.kept u.told shown u.anew (Failed because.cause)
           (why, refl, because.is, going) (
@@ -361,7 +369,7 @@ module _ (m : Module) (config : Settings) (bytes : List ℕ) (before : Promise) 
             fault_of bytes config inputs exchanges (Err why) calls found last came
                 u.later going why because.cause because.is because.disk,
             going,
-          ) u.keeps u.bounded u.later
+          ) u.keeps u.bounded u.later u.counted
 
   -- it was, and calls followed
   ends_opened : (w : DurableValue) (told more : List Exchange)
@@ -412,13 +420,20 @@ module _ (m : Module) (config : Settings) (bytes : List ℕ) (before : Promise) 
       still : IsLater found last
       still = later_still found disk last o.later c.later
 
+      few : CallsFor (length events + 1) found last
+      few =
+          let later = o.later in
+          calls_then (length o.events) (length c.events + 1) (length events + 1) found disk last
+          later.sectors o.counted c.counted (omega (arith, length-append o.events c.events))
+
       by : (left : Result (List Act) RecoverFault)
           → CameTrue bytes config inputs exchanges left calls found last
           → ComeTo m config (promised so_far events) (stage_after (at_first inputs) events) left
           found last → LifeGoesOn left
       by (Ok acts) met so =
-          ends_going events joined.0 all_told shown anew acts so met.over still
-      by (Err why) met so = ends_broken events joined.0 all_told shown anew why met so still
+          ends_going events joined.0 all_told shown anew acts so met.over still few
+      by (Err why) met so =
+          ends_broken events joined.0 all_told shown anew why met so still few
 
 -- ---- the laws
 

@@ -1,6 +1,6 @@
 -- What calls of a worker that is open, one after another, make of a life.
 use Rattle.std.proofs.Common.{◌≡◌, ℕ, ◌+◌, List, [], ◌∷◌, ◌++◌, refl, sym, ap, ◌∙◌}
-use Rattle.std.proofs.Common.{subst, arith}
+use Rattle.std.proofs.Common.{subst, arith, length, length-append}
 use Rattle.std.specs.Prelude.{Result, Ok, Err, None, true}
 use Rattle.wasm_syntax.specs.declared.module.Module.{Module}
 use Rattle.wasi_abi.specs.rules.Configs.{Settings}
@@ -20,12 +20,14 @@ use Rattle.worker_store.proofs.LawLemmas.Pieces.{parts_are_foretold}
 use Rattle.durable_worker.specs.declared.fault.DurableFault.{DurableFault}
 use Rattle.durable_worker.specs.declared.recover_fault.RecoverFault.{RecoverFault}
 use Rattle.durable_worker.specs.declared.recover_fault.RecoverFault.TheVariants.{Worker}
+use Rattle.durable_worker.specs.rules.CallCounts.{CallsFor}
 use Rattle.durable_worker.specs.rules.DurableValues.{DurableValue}
 use Rattle.durable_worker.specs.rules.OpenWorkers.{IsOpenOn}
 use Rattle.durable_worker.specs.rules.DurableCalls.{CallCarries}
 use Rattle.durable_worker.specs.laws.OneLife.{IsLater, CallsInOrder, no_more, sliced, slice_failed}
 use Rattle.durable_worker.specs.laws.OneLife.{saved}
 use Rattle.durable_worker.specs.laws.OneLife.{saving_failed, IsCauseOf, opened_in, released_in}
+use Rattle.durable_worker.proofs.CallCountLemmas.{calls_none, calls_then}
 use Rattle.durable_worker.proofs.LifeLemmas.Joined.{told_join}
 use Rattle.durable_worker.proofs.LifeLemmas.Joined.{released_join, opened_behind}
 use Rattle.durable_worker.proofs.LifeLemmas.Called.{later_still, HasDiskCause, cause_since}
@@ -70,6 +72,7 @@ module _ (m : Module) (config : Settings) where
     pub shut : opened_in events ≡ None
     pub come : ComeTo (promised promise events) (stage_after stage events) left old last
     pub later : IsLater old last
+    pub counted : CallsFor (length events + 1) old last
 
   pub come_since : (promise : Promise) (stage : Stage) (left : Result (List Act) RecoverFault)
       (old mid last : Medium) → IsLater old mid → ComeTo promise stage left mid last
@@ -111,6 +114,10 @@ module _ (m : Module) (config : Settings) where
             (subst (λ (s : Stage). ComeTo (promised (promised promise call.events) more.events) s
             left mid last) (sym joined.2) more.come));
         later = later_still old mid last call.later more.later;
+        counted = (let still = call.later in
+            calls_then (length call.events) (length more.events + 1)
+            (length (call.events ++ more.events) + 1) old mid last still.sectors call.counted
+            more.counted (omega (arith, length-append call.events more.events)));
       }
 
   -- the call that failed
@@ -135,6 +142,7 @@ module _ (m : Module) (config : Settings) where
       disk = call.disk;
     };
     later = call.later;
+    counted = call.counted;
   }
 
 -- what calls exchange with source and outlet, and what they make of any life that they are in
@@ -166,6 +174,7 @@ none_called m config guest promise stage p acts w disk open_on acts_are keeps bo
         bounded = bounded;
       };
       later = record { sectors = refl; told = refl; room = refl; faults = omega arith };
+      counted = calls_none 1 disk;
     }
 
 -- what is next of a call that was done

@@ -1,6 +1,6 @@
 -- How a life opens, or doesn't.
 use Rattle.std.proofs.Common.{◌≡◌, ℕ, ◌+◌, ◌<◌, ◌≤◌, List, [], ◌∷◌, ◌++◌, refl, sym, ap, ◌∙◌}
-use Rattle.std.proofs.Common.{length}
+use Rattle.std.proofs.Common.{length, length-append}
 use Rattle.std.proofs.Common.{subst, inl, inr, ⊎_elim, arith}
 use Rattle.std.proofs.lemmas.List.{append-nil}
 use Rattle.std.specs.Prelude.{◌⊎◌, Result, Ok, Err, IfErr, Some, None, false, true, map}
@@ -13,6 +13,7 @@ use Rattle.process_rules.specs.Processes.{ProcessState, Guest}
 use Rattle.state_image.specs.rules.Saving.{saved_of}
 use Rattle.sector_disk.specs.rules.Image.{Image}
 use Rattle.sector_disk.specs.rules.Medium.{Medium}
+use Rattle.sector_disk.specs.rules.Medium.{CallsUpTo}
 use Rattle.disk_layout.specs.declared.fault.LayoutFault.TheVariants.{NotAWorker, TooSmall}
 use Rattle.disk_layout.specs.rules.Places.{Geometry, geometry_of, total_sectors}
 use Rattle.record_replay.specs.rules.Calls.{Taking, Begun, Exchange, Tells, Releases}
@@ -32,6 +33,8 @@ use Rattle.durable_worker.specs.declared.fault.DurableFault.{DurableFault}
 use Rattle.durable_worker.specs.declared.fault.DurableFault.TheVariants.{Work, Disk, Store}
 use Rattle.durable_worker.specs.declared.recover_fault.RecoverFault.{RecoverFault}
 use Rattle.durable_worker.specs.declared.recover_fault.RecoverFault.TheVariants.{Worker}
+use Rattle.durable_worker.specs.rules.CallCounts.{most_calls, most_creating, most_recovering}
+use Rattle.durable_worker.specs.rules.CallCounts.{CallsFor}
 use Rattle.durable_worker.specs.rules.DurableValues.{DurableValue}
 use Rattle.durable_worker.specs.rules.OpenWorkers.{IsOpenOn}
 use Rattle.durable_worker.specs.rules.DurableCreations.{CreationKeeps, IsNotCreatedOn, OpensOn}
@@ -42,6 +45,7 @@ use Rattle.durable_worker.specs.rules.Recoveries.{EndsInVain}
 use Rattle.durable_worker.specs.rules.Recoveries.{MayNotReopen}
 use Rattle.durable_worker.specs.laws.OneLife.{BeginsLife, recovered, created, opened_by, IsCauseOf}
 use Rattle.durable_worker.specs.laws.OneLife.{IsLater, opened_in, released_in}
+use Rattle.durable_worker.proofs.CallCountLemmas.{calls_once}
 use Rattle.durable_worker.proofs.LifeLemmas.Joined.{stage_join, kept_split, counts_grow, told_join}
 use Rattle.durable_worker.proofs.LifeLemmas.Joined.{opened_behind, told_are, none_opens, acts_stay}
 use Rattle.durable_worker.proofs.LifeLemmas.Called.{later_still, passed_later, HasDiskCause}
@@ -93,6 +97,7 @@ module _ (m : Module) (config : Settings) (so_far : Promise) (inputs : Inputs) w
     pub keeps : KeepsPromise m config (promised so_far events) new
     pub bounded : KeepsBounds (promised so_far events).events new
     pub later : IsLater old new
+    pub counted : CallsFor (length events) old new
     pub foretold : (rest : List Exchange) → IsForetold (at_first inputs) (exchanges ++ rest)
         → IsForetold (stage_after (at_first inputs) events) rest
     pub anew : IsAnew begins events
@@ -117,6 +122,7 @@ module _ (m : Module) (config : Settings) (so_far : Promise) (inputs : Inputs) w
     pub keeps : KeepsPromise m config (promised so_far events) last
     pub bounded : KeepsBounds ((promised so_far events).events + 1) last
     pub later : IsLater old last
+    pub counted : CallsFor (length events + 1) old last
     pub anew : begins ≡ Creates → (so_far.has_opened ≡ false) × OpensAnew events
 
   abbrev pub OpensSo : Beginning → List Exchange → Result DurableValue RecoverFault → Medium
@@ -149,6 +155,8 @@ module _ (m : Module) (config : Settings) (so_far : Promise) (inputs : Inputs) w
         keeps = r.in_the_end;
         bounded = bounds_in_the_end (promised so_far all).events old new r.bounded;
         later = passed_later old new _ leaves.passes;
+        counted = calls_once (most_recovering old.sectors) (length all) old new r.counted
+            (omega arith) (omega (arith, length-append r.events (end ∷ [])));
         foretold = λ rest foretold.
             let first = parts_are_foretold m config so_far (promised so_far r.events)
             (at_first inputs) (stage_after (at_first inputs) r.events) (map Tells told) rest
@@ -217,6 +225,8 @@ module _ (m : Module) (config : Settings) (so_far : Promise) (inputs : Inputs) w
         keeps = carried.in_the_end;
         bounded = bounds_in_the_end ((promised so_far r.events).events + 1) old new r.bounded;
         later = passed_later old new _ carried.at_any_moment.passes;
+        counted = calls_once (most_recovering old.sectors) (length r.events + 1) old new r.counted
+            (omega arith) (omega arith);
         anew = λ creates. absurd (not_created creates);
       }
 
@@ -226,7 +236,13 @@ module _ (m : Module) (config : Settings) (so_far : Promise) (inputs : Inputs) w
       (found mid new : Medium) (none : IsNothingYet so_far) (later : IsLater found mid)
       (sectors : total_sectors (geometry_of config (length bytes)) ≤ found.sectors)
       (room : total_sectors (geometry_of config (length bytes)) ≤ found.room)
-      (settled : (mid.unsynced ≡ 0) ⊎ (found.faults < mid.faults)) where
+      (settled : (mid.unsynced ≡ 0) ⊎ (found.faults < mid.faults))
+      (before : CallsUpTo (most_recovering found.sectors) found mid) where
+    -- the calls of the recovery, and of the creation
+    both_called : CallsUpTo (most_creating mid.sectors) mid new
+        → CallsUpTo (most_calls found.sectors) found new
+    both_called after = let same = later.sectors in omega (arith, before, after, same)
+
     not_opened_yet : so_far.has_opened ≡ false
     not_opened_yet = ap (λ (p : Promise). p.has_opened) none
 
@@ -254,6 +270,8 @@ module _ (m : Module) (config : Settings) (so_far : Promise) (inputs : Inputs) w
           keeps = carried.in_the_end;
           bounded = bounds_in_the_end (so_far.events + 1) mid new leaves.bounded;
           later = is_later (after so_far end) leaves;
+          counted = calls_once (most_calls found.sectors) 1 found new
+              (both_called leaves.counted) (omega arith) (omega arith);
           foretold = λ rest foretold. foretold;
           anew = λ creates. (not_opened_yet, λ more. anew);
         }
@@ -315,6 +333,8 @@ module _ (m : Module) (config : Settings) (so_far : Promise) (inputs : Inputs) w
           keeps = carried.in_the_end;
           bounded = bounds_in_the_end (so_far.events + 1) mid new leaves.bounded;
           later = is_later so_far leaves;
+          counted = calls_once (most_calls found.sectors) 1 found new
+              (both_called leaves.counted) (omega arith) (omega arith);
           anew = λ creates. (not_opened_yet, tt);
         }
 
@@ -361,11 +381,11 @@ module _ (m : Module) (config : Settings) (so_far : Promise) (inputs : Inputs) w
                 → OpensSo Creates [] (opened_by result) (medium found) (medium disk)
             by (Ok w) later nothing opens causes =
                 created_opens bytes accepted (medium found) (medium mid) (medium disk) nothing later
-                sectors room settled w opens
+                sectors room settled none.counted w opens
                 (opens.leaves (λ other left. (none.unopened other left).1))
             by (Err why) later nothing opens causes =
                 created_in_vain bytes accepted (medium found) (medium mid) (medium disk) nothing
-                later sectors room settled why
+                later sectors room settled none.counted why
                 (opens (λ other left. (none.unopened other left).1)) causes
 
   -- the disk has no unsynced write, or has failed

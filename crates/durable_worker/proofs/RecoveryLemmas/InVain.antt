@@ -11,6 +11,7 @@ use Rattle.state_image.specs.rules.Image.{image}
 use Rattle.state_image.specs.rules.Saving.{saved_of}
 use Rattle.sector_disk.specs.declared.sector.TheConstants.{SECTOR_SIZE}
 use Rattle.sector_disk.specs.rules.Medium.{Medium, LeavesOnly, spare}
+use Rattle.sector_disk.specs.rules.Medium.{CallsUpTo}
 use Rattle.sector_disk.proofs.Moments.{leaves_weaker}
 use Rattle.disk_layout.specs.declared.fault.LayoutFault.TheVariants as layout
 use Rattle.disk_layout.specs.declared.geometry.Geometry.{Geometry}
@@ -43,6 +44,7 @@ use Rattle.durable_worker.specs.declared.fault.DurableFault.TheVariants.{Work, D
 use Rattle.durable_worker.specs.declared.found.Found.{Found}
 use Rattle.durable_worker.specs.declared.recover_fault.RecoverFault.{RecoverFault}
 use Rattle.durable_worker.specs.declared.recover_fault.RecoverFault.TheVariants as recover
+use Rattle.durable_worker.specs.rules.CallCounts.{most_recovering}
 use Rattle.durable_worker.specs.rules.DurableCalls.{TakesTooFew}
 use Rattle.durable_worker.specs.rules.DurableFaults.{fault_of_store}
 use Rattle.durable_worker.specs.rules.RecoverFaults.{fault_of_replay}
@@ -125,9 +127,9 @@ ends_in_vain m config promise inputs told old new
 pub nothing_done : (m : Module) (config : Settings) (promise : Promise) (inputs : Inputs)
     (why : RecoverFault) (old new : Medium) → LeavesOnly old new old.may_leave
     → KeepsPromise m config promise old → KeepsBounds promise.events old
-    → MayNotReopen config promise Shut why old new
+    → MayNotReopen config promise Shut why old new → CallsUpTo (most_recovering old.sectors) old new
     → ReopensInVain m config promise inputs [] why old new
-nothing_done m config promise inputs why old new leaves keeps bounds may = record {
+nothing_done m config promise inputs why old new leaves keeps bounds may few = record {
   events = [];
   are = no_event;
   kept = tt;
@@ -140,6 +142,7 @@ nothing_done m config promise inputs why old new leaves keeps bounds may = recor
   bounded = leaves_weaker old new old.may_leave (IsBounded (promise.events + 1) old.sectors) leaves
       (λ image left. within_later promise.events (promise.events + 1) old.sectors image
       (omega arith) (bounds image left));
+  counted = few;
   may = may;
 }
 
@@ -212,6 +215,7 @@ module _ {D O : Type 0} (medium : D → Medium) (takes : Taking O) (m : Module)
             StaysWithin (p.events + 1) (medium old) (medium mid)) done.promised_is
             (first_within promise (made.promise'.events + 1) (medium old) (medium mid) settled
             bounds (below_next promise.events made.promise'.events adds.events));
+        counted = omega (arith, settled.counted);
         may = subst (λ (s : Stage).
             MayNotReopen config promise s.phase why (medium old) (medium mid)) done.stage_is may;
       }
@@ -338,10 +342,11 @@ module _ {D O : Type 0} (medium : D → Medium) (takes : Taking O) (m : Module)
           → (told : IsRetold m config promise inputs there.point found.records.items there.last)
           → HasNext m config promise found (medium old).sectors (medium mid) (medium new) there v
           → MayNotReopen config promise Shut why (medium old) (medium new)
+          → CallsUpTo ((medium mid).sectors + 2) (medium mid) (medium new)
           → ReopensInVain m config promise inputs
           (all_taken (suc there.point.saved.lines)
           (drop there.point.saved.lines there.last.host.lines)) why (medium old) (medium new)
-      written_vain why inputs told has may =
+      written_vain why inputs told has may few =
           let made = told.made in
           let done = made.done in
           let lives = told.lives in
@@ -357,6 +362,8 @@ module _ {D O : Type 0} (medium : D → Medium) (takes : Taking O) (m : Module)
                 StaysWithin (p.events + 1) (medium old) (medium new)) done.promised_is
                 (moments_within medium takes m config promise found old mid new there v count
                 outlet outlet' back has inputs told settled bounds);
+            counted = (let passes = settled.leaves.passes in
+                omega (arith, settled.counted, few, passes.sectors));
             may = subst (λ (s : Stage).
                 MayNotReopen config promise s.phase why (medium old) (medium new)) done.stage_is
                 (subst (λ (phase : Phase).
@@ -383,5 +390,6 @@ module _ {D O : Type 0} (medium : D → Medium) (takes : Taking O) (m : Module)
                 (all_taken (suc there.point.saved.lines)
                 (drop there.point.saved.lines there.last.host.lines)) (medium old) (medium new)
                 (recover.Worker (fault_of_store none.fault)) may.1
-                (written_vain (recover.Worker (fault_of_store none.fault)) inputs told has may.0),
+                (written_vain (recover.Worker (fault_of_store none.fault)) inputs told has may.0
+                none.writes.counted),
           )

@@ -10,6 +10,7 @@ use Rattle.process_rules.specs.Runs.{none as no_step}
 use Rattle.process.specs.rules.Values.{ProcessValue, IsProcess}
 use Rattle.sector_disk.specs.rules.Image.{Image}
 use Rattle.sector_disk.specs.rules.Medium.{Medium, LeavesOnly, Passes}
+use Rattle.sector_disk.specs.rules.Medium.{CallsUpTo}
 use Rattle.sector_disk.proofs.Moments.{leaves_only, started}
 use Rattle.disk_layout.specs.declared.geometry.Geometry.{Geometry}
 use Rattle.disk_layout.specs.rules.Places.{geometry_of, total_sectors}
@@ -151,6 +152,7 @@ module _ {D : Type 0} (medium : D → Medium) (geometry : Geometry) (generation 
           (λ image left. inl (all image left));
       passes = started (medium mid) (λ image. Unit {0});
       some = λ image left. (image, left);
+      counted = omega arith;
     };
     fault = store.TooBig;
     fails = inl late;
@@ -161,13 +163,15 @@ module _ {D : Type 0} (medium : D → Medium) (geometry : Geometry) (generation 
       (leaves : LeavesPointOrNext geometry next v (medium mid) (medium new))
       (passes : Passes (medium mid) (medium new) (λ image. Unit {0}))
       (some : (image : Image) → (medium new).may_leave image
-      → (before : Image) × (medium mid).may_leave before) where
+      → (before : Image) × (medium mid).may_leave before)
+      (few : CallsUpTo ((medium mid).sectors + 2) (medium mid) (medium new)) where
     writes_next : WritesNext geometry generation v (medium mid) (medium new)
     writes_next = record {
       leaves = subst (λ n. LeavesPointOrNext geometry n v (medium mid) (medium new)) is_next
           leaves;
       passes = passes;
       some = some;
+      counted = few;
     }
 
     pub opens_next : (store : WorkerStore)

@@ -184,6 +184,9 @@ module _ {D O : Type 0} (medium : D → Medium) (takes : Taking O) (m : Module)
                 (sym joined.1)
                 (moments_within medium takes m config promise found old mid new there w.process
                 w.replayed outlet outlet' back has inputs told settled bounds);
+            counted = (let passes = settled.leaves.passes in
+                let writes = opens.writes in
+                omega (arith, settled.counted, writes.counted, passes.sectors));
             guest = there.point.reached.guest;
             process = there.last;
             opened = subst (λ (p : Promise). IsOpenOn m config there.point.reached.guest p

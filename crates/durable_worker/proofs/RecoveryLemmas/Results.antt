@@ -1,5 +1,6 @@
 -- What a recovery answers, by what its disk shows and by what was promised.
 use Rattle.std.proofs.Common.{◌≡◌, inl, inr, ⊎_elim, ℕ, suc, ◌+◌, ◌<◌, ◌≤◌, List, []}
+use Rattle.std.proofs.Common.{◌*◌}
 use Rattle.std.proofs.Common.{◌++◌, length, drop, take, refl, sym, ap, ◌∙◌, subst, arith, false}
 use Rattle.std.specs.Prelude.{Result, Ok, Err}
 use Rattle.std.proofs.lemmas.List.{append-nil}
@@ -14,6 +15,7 @@ use Rattle.sector_disk.specs.declared.fault.DiskFault.{DiskFault}
 use Rattle.sector_disk.specs.rules.Image.{Image}
 use Rattle.sector_disk.specs.rules.Medium.{Medium, SyncsMedium}
 use Rattle.sector_disk.proofs.CountLemmas.{counts_same}
+use Rattle.sector_disk.specs.rules.Medium.{CallsUpTo}
 use Rattle.sector_disk.proofs.Moments.{leaves_weaker, leaves_only, started, settled_only}
 use Rattle.sector_disk.proofs.Moments.{settled_stays, stays_left, stays_on}
 use Rattle.sector_disk.proofs.Moments.{stays_leaves_only}
@@ -71,8 +73,9 @@ use Rattle.durable_worker.proofs.RecoveryLemmas.InVain.{refuses_as}
 
 -- a good sync, and then reads
 pub settled_by : {T : Type 0} (old sync mid : Medium) (done : T)
-    → SyncsMedium {T = T} (Ok done) old sync → OnlyReads sync mid → IsSettledBy old mid
-settled_by old sync mid done syncs reads =
+    → SyncsMedium {T = T} (Ok done) old sync → OnlyReads sync mid
+    → CallsUpTo (2 * sync.sectors) sync mid → IsSettledBy old mid
+settled_by old sync mid done syncs reads few =
     let passes = syncs.passes in
     let calls = syncs.calls in
     record {
@@ -83,6 +86,7 @@ settled_by old sync mid done syncs reads =
           (leaves_weaker sync mid sync.may_leave old.may_leave reads.leaves
           (λ image left. stays_left old sync syncs.stays image left));
       calls = reads.calls ∙ calls.all;
+      counted = omega (arith, syncs.counted, few, passes.sectors);
     }
 
 pub reads_none : (mid : Medium) → OnlyReads mid mid
@@ -136,7 +140,7 @@ module _ {D O : Type 0} (medium : D → Medium) (takes : Taking O) (old new : D)
         (medium new)) (sym is)
         (nothing_done m config promise inputs (recover.Worker (Disk fault)) (medium old)
         (medium new) (stays_leaves_only (medium old) (medium new) syncs.stays syncs.passes) keeps
-        bounds (refl, inr failed)),
+        bounds (refl, inr failed) (omega (arith, syncs.counted))),
   )
 
 -- ---- no worker was found
@@ -250,8 +254,8 @@ module _ {D O : Type 0} (medium : D → Medium) (takes : Taking O) (old mid : D)
     refl,
     λ inputs foretold.
         finds_vain m config promise inputs (medium old) (medium mid) why or cause none
-        (nothing_done m config promise inputs why (medium old) (medium mid) settled.leaves keeps
-        bounds),
+        (λ may. nothing_done m config promise inputs why (medium old) (medium mid) settled.leaves
+        keeps bounds may (omega (arith, settled.counted))),
   )
     where
       shown_of : (image : Image) → (medium mid).may_leave image → (medium mid).shows image
@@ -286,6 +290,7 @@ module _ {D O : Type 0} (medium : D → Medium) (takes : Taking O) (old mid : D)
             );
         bounded = leaves_weaker (medium old) (medium mid) (medium old).may_leave
             (IsBounded promise.events (medium old).sectors) settled.leaves bounds;
+        counted = omega (arith, settled.counted);
       }
 
 -- ---- a worker was found
@@ -551,9 +556,10 @@ module _ {D O : Type 0} (medium : D → Medium) (takes : Taking O) (old mid new 
 
 module _ {D O T : Type 0} (medium : D → Medium) (takes : Taking O) (old sync mid : D) (done : T)
     (syncs : SyncsMedium {T = T} (Ok done) (medium old) (medium sync))
-    (reads : OnlyReads (medium sync) (medium mid)) (outlet : O) where
+    (reads : OnlyReads (medium sync) (medium mid))
+    (few : CallsUpTo (2 * (medium sync).sectors) (medium sync) (medium mid)) (outlet : O) where
   settled : IsSettledBy (medium old) (medium mid)
-  settled = settled_by (medium old) (medium sync) (medium mid) done syncs reads
+  settled = settled_by (medium old) (medium sync) (medium mid) done syncs reads few
 
   finds_of : (result : Result Found RecoverFault)
       → (one : FindsOne (medium sync).sectors (medium mid) result) → (image : Image)

@@ -1,5 +1,5 @@
 -- The calls of one life, each as its clause says, and the life that they make (this project's own).
-use Rattle.std.specs.Prelude.{◌≡◌, ◌⊎◌, ℕ, Bool, ◌<◌, ◌≤◌, List, [], ◌∷◌, length, Option, Some}
+use Rattle.std.specs.Prelude.{◌≡◌, ◌⊎◌, ℕ, Bool, ◌+◌, ◌<◌, ◌≤◌, List, [], ◌∷◌, length, Option, Some}
 use Rattle.std.specs.Prelude.{None, Result, Ok, Err, IfErr}
 use Rattle.wasm_syntax.specs.declared.module.Module.{Module}
 use Rattle.wasm_syntax_rules.specs.Acceptance.{IsAccepted}
@@ -25,6 +25,7 @@ use Rattle.worker.specs.declared.now.Now.{Now}
 use Rattle.durable_worker.specs.declared.fault.DurableFault.{DurableFault}
 use Rattle.durable_worker.specs.declared.recover_fault.RecoverFault.{RecoverFault}
 use Rattle.durable_worker.specs.declared.recover_fault.RecoverFault.TheVariants as recover
+use Rattle.durable_worker.specs.rules.CallCounts.{CallsFor}
 use Rattle.durable_worker.specs.rules.DurableValues.{DurableValue}
 use Rattle.durable_worker.specs.rules.DurableCalls.{ComesOf, SliceCarries, CheckpointCarries}
 use Rattle.durable_worker.specs.rules.Checkpoints.{CheckpointFails}
@@ -191,6 +192,7 @@ pub record IsLifeOf (inputs : Inputs) (begins : Beginning) (exchanges : List Exc
 -- Take the calls of one life, each as its clause says, on a disk that keeps what was promised. They
 -- exchange something with source and outlet. Whatever was put in that this makes true, they are a
 -- life that goes on from all that was promised. It leaves a disk that keeps what is promised then.
+-- Few calls of the disk are begun before each of its events, and behind the last one.
 abbrev pub CallsMakeLives : {D S O : Type 0} → (D → Medium) → Giving S → Taking O → Type 0
 CallsMakeLives {D} {S} {O} medium gives takes =
     (m : Module) (config : Settings) (bytes : List ℕ) (so_far : Promise) (acts : List Act)
@@ -205,7 +207,8 @@ CallsMakeLives {D} {S} {O} medium gives takes =
     → CameTrue bytes config inputs exchanges left calls (medium found) (medium last)
     → (life : Life) × IsLifeOf inputs begins exchanges worker left calls life
     × IsLivedOn m config so_far inputs life (medium found) (medium last)
-    × IsLater (medium found) (medium last))
+    × IsLater (medium found) (medium last)
+    × CallsFor (length life.events + 1) (medium found) (medium last))
 
 -- what the source said, and what the outlet took
 abbrev pub said_in : List Exchange → List SourceSaid

@@ -1,5 +1,6 @@
 -- What a call of a worker on its disk keeps of what was promised (this project's own).
-use Rattle.std.specs.Prelude.{◌≡◌, ◌⊎◌, ℕ, ◌<◌, List, [], ◌∷◌, ◌++◌, None, Result, Ok, Err}
+use Rattle.std.specs.Prelude.{◌≡◌, ◌⊎◌, ℕ, ◌+◌, ◌<◌, List, [], ◌∷◌, ◌++◌, length, None, Result}
+use Rattle.std.specs.Prelude.{Ok, Err}
 use Rattle.wasm_syntax.specs.declared.module.Module.{Module}
 use Rattle.wasi_abi.specs.declared.answer.Kind.{Kind}
 use Rattle.wasi_abi.specs.rules.Configs.{Settings}
@@ -26,6 +27,7 @@ use Rattle.worker.specs.declared.fault.WorkFault.TheVariants as work
 use Rattle.worker.specs.declared.fault.Refusal.TheVariants as refusal
 use Rattle.durable_worker.specs.declared.fault.DurableFault.{DurableFault}
 use Rattle.durable_worker.specs.declared.fault.DurableFault.TheVariants.{Work, Disk, Store}
+use Rattle.durable_worker.specs.rules.CallCounts.{CallsFor}
 use Rattle.durable_worker.specs.rules.DurableValues.{DurableValue}
 use Rattle.durable_worker.specs.rules.OpenWorkers.{IsOpenOn}
 
@@ -97,7 +99,8 @@ call_events events act reply held w = events ++ Ended act reply held (saved_of w
 -- The exchanges of a call, and its end, are events that keep what was promised. At any moment of it
 -- the disk holds what was promised before, and in the end what is promised then. No image that a
 -- cut leaves is of a later generation than as much has then happened, or of a worker for which
--- there is no room. Without an error the worker is open on the disk again.
+-- there is no room. Few calls of the disk are begun before each exchange and before the end.
+-- Without an error the worker is open on the disk again.
 pub record CallCarries (m : Module) (config : Settings) (guest : Guest) (promise : Promise)
     (stage : Stage) (act : Act) (reply : Reply) (new : DurableValue) (disk disk' : Medium)
     (exchanges : List Exchange) : Type 0 where
@@ -109,6 +112,7 @@ pub record CallCarries (m : Module) (config : Settings) (guest : Guest) (promise
       (promised promise (call_events events act reply held new)) disk disk'
   pub bounded : StaysWithin (promised promise (call_events events act reply held new)).events disk
       disk'
+  pub counted : CallsFor (length exchanges + 1) disk disk'
   pub goes_on : phase_ended reply ≡ Open → (q : ProcessState)
       × IsOpenOn m config guest (promised promise (call_events events act reply held new))
       (stage_after stage (call_events events act reply held new)) q new disk'

@@ -11,7 +11,7 @@ use Rattle.state_image.specs.rules.Image.{image}
 use Rattle.state_image.specs.rules.Saving.{saved_of}
 use Rattle.sector_disk.specs.declared.sector.TheConstants.{SECTOR_SIZE}
 use Rattle.sector_disk.specs.rules.Image.{Image}
-use Rattle.sector_disk.specs.rules.Medium.{Medium, BeginsCalls, spare}
+use Rattle.sector_disk.specs.rules.Medium.{Medium, BeginsCalls, CallsUpTo, spare}
 use Rattle.disk_layout.specs.declared.fault.LayoutFault.TheVariants.{TooSmall}
 use Rattle.disk_layout.specs.declared.geometry.Geometry.{Geometry}
 use Rattle.disk_layout.specs.rules.Places.{geometry_of, total_sectors}
@@ -26,6 +26,7 @@ use Rattle.worker_store.specs.rules.Creations.{creation_calls}
 use Rattle.worker.specs.rules.Faults.{IsRefusedByWorker}
 use Rattle.durable_worker.specs.declared.fault.DurableFault.{DurableFault}
 use Rattle.durable_worker.specs.declared.fault.DurableFault.TheVariants.{Work, Disk, Store}
+use Rattle.durable_worker.specs.rules.CallCounts.{most_creating}
 use Rattle.durable_worker.specs.rules.DurableValues.{DurableValue}
 use Rattle.durable_worker.specs.rules.OpenWorkers.{IsOpenOn}
 
@@ -78,11 +79,13 @@ CreationCalls bytes config (Err why) old new = (count : ℕ)
 -- ---- what is promised
 
 -- A cut at any moment leaves no worker, or one that has begun. That holds all that is promised, is
--- of a generation with an event of its own, and has all its sectors on the disk.
+-- of a generation with an event of its own, and has all its sectors on the disk. It takes few
+-- calls.
 pub record LeavesCreation (m : Module) (config : Settings) (promise now : Promise)
     (old new : Medium) : Type 0 where
   pub carried : CarriesPromise m config promise now old new
   pub bounded : StaysWithin (promise.events + 1) old new
+  pub counted : CallsUpTo (most_creating old.sectors) old new
 
 -- A life has opened with this worker, which has taken and told nothing. It is open on the disk,
 -- whatever stood there before.

@@ -1,6 +1,6 @@
 -- A worker that is recovered from its disk (this project's own).
-use Rattle.std.specs.Prelude.{◌≡◌, ◌⊎◌, ℕ, suc, ◌+◌, ◌-◌, ◌≤◌, ◌<◌, false, List, [], ◌∷◌, ◌++◌}
-use Rattle.std.specs.Prelude.{length, map, drop, Result, Ok, Err, IfOk}
+use Rattle.std.specs.Prelude.{◌≡◌, ◌⊎◌, ℕ, suc, ◌+◌, ◌-◌, ◌*◌, ◌≤◌, ◌<◌, false, List, [], ◌∷◌}
+use Rattle.std.specs.Prelude.{◌++◌, length, map, drop, Result, Ok, Err, IfOk}
 use Rattle.wasm_syntax.specs.declared.module.Module.{Module}
 use Rattle.wasi_abi.specs.declared.numbers.TheConstants.{NUMBERS_END}
 use Rattle.wasi_abi.specs.rules.Configs.{Settings}
@@ -15,6 +15,7 @@ use Rattle.sector_disk.specs.declared.disk_call.DiskCall.TheVariants.{Sync}
 use Rattle.sector_disk.specs.declared.fault.DiskFault.{DiskFault}
 use Rattle.sector_disk.specs.rules.Image.{Image}
 use Rattle.sector_disk.specs.rules.Medium.{Medium, IsAllSynced, Stays, BeginsCalls, LeavesOnly}
+use Rattle.sector_disk.specs.rules.Medium.{CallsUpTo}
 use Rattle.disk_layout.specs.declared.fault.LayoutFault.TheVariants.{NotAWorker}
 use Rattle.disk_layout.specs.declared.geometry.Geometry.{Geometry}
 use Rattle.disk_layout.specs.rules.Places.{geometry_of, area_place, rounded_up, total_sectors}
@@ -36,6 +37,7 @@ use Rattle.worker.specs.declared.fault.WorkFault.TheVariants as work
 use Rattle.durable_worker.specs.declared.fault.DurableFault.TheVariants.{Work, Disk, Store}
 use Rattle.durable_worker.specs.declared.recover_fault.RecoverFault.{RecoverFault}
 use Rattle.durable_worker.specs.declared.recover_fault.RecoverFault.TheVariants.{Worker}
+use Rattle.durable_worker.specs.rules.CallCounts.{most_recovering}
 use Rattle.durable_worker.specs.rules.DurableCalls.{TakesTooFew}
 use Rattle.durable_worker.specs.rules.DurableValues.{DurableValue}
 use Rattle.durable_worker.specs.rules.OpenWorkers.{IsOpenOn}
@@ -135,6 +137,8 @@ pub record IsSettledBy (old mid : Medium) : Type 0 where
   pub stays : Stays old mid
   pub leaves : LeavesOnly old mid old.may_leave
   pub calls : mid.calls ≡ Sync ∷ old.calls
+  -- no sector is read more than twice
+  pub counted : CallsUpTo (2 * old.sectors + 1) old mid
 
 -- it couldn't be, and nothing was told
 pub record IsUnsettled {T O : Type 0} (result : Result T RecoverFault) (old new : Medium)
@@ -183,6 +187,7 @@ pub record Reopens (m : Module) (config : Settings) (promise : Promise) (inputs 
   pub at_any_moment : LeavesOnly old new (ImageHolds m config promise (promised promise events))
   pub in_the_end : KeepsPromise m config (promised promise (recovery_events events held w)) new
   pub bounded : StaysWithin (promised promise (recovery_events events held w)).events old new
+  pub counted : CallsUpTo (most_recovering old.sectors) old new
   pub guest : Guest
   pub process : ProcessState
   pub opened : IsOpenOn m config guest (promised promise (recovery_events events held w))
@@ -218,6 +223,7 @@ pub record ReopensInVain (m : Module) (config : Settings) (promise : Promise) (i
   pub kept : AreKept m config promise (at_first inputs) events
   pub carried : CarriesPromise m config promise (promised promise events) old new
   pub bounded : StaysWithin ((promised promise events).events + 1) old new
+  pub counted : CallsUpTo (most_recovering old.sectors) old new
   pub may : MayNotReopen config promise (stage_after (at_first inputs) events).phase why old new
 
 -- No image that a cut may leave has the marks of a worker, and nothing was promised of one. Nothing
@@ -226,6 +232,7 @@ pub record FindsNone (promise : Promise) (told : List Begun) (old new : Medium) 
   pub none_told : told ≡ []
   pub unopened : (image : Image) → new.may_leave image → IsUnopened promise image
   pub bounded : StaysWithin promise.events old new
+  pub counted : CallsUpTo (most_recovering old.sectors) old new
 
 -- by the error that there is no worker, and by any other
 abbrev pub EndsInVain : Module → Settings → Promise → Inputs → List Begun → RecoverFault → Medium

@@ -34,7 +34,7 @@ use Rattle.durable_worker.specs.declared.story.report.Opening.TheVariants.{Recov
 use Rattle.durable_worker.specs.laws.OneLife.{IsOneLife, shown_first, left_undone}
 use Rattle.durable_worker.specs.rules.DurableValues.{DurableValue}
 use Rattle.durable_worker.specs.rules.Planned.{inputs_of, act_of, number_refused}
-use Rattle.durable_worker.specs.rules.Told.{TellsOpening, TellsEach}
+use Rattle.durable_worker.specs.rules.Told.{TellsOpening, TellsEach, BeginFewCalls}
 use Rattle.durable_worker.specs.Hearing.{hands_out, hears}
 
 -- so many sectors of zeros, and room for as many writes
@@ -49,7 +49,8 @@ IsEmptyDisk sectors disk = memory_state_of disk ≡ record {
 
 -- a disk in memory that is told where to stop and where to fail
 abbrev pub story_medium : FaultDisk MemDisk → Medium
-story_medium f = troubled (memory_medium f.inner) f.stop f.fail (length f.faults.items)
+story_medium f =
+    troubled (memory_medium f.inner) f.stop f.fail (length f.faults.items) (call_counts_of f)
 
 -- The disk with which a life begins: over this one, told where to stop and where to fail, with no
 -- call begun.
@@ -124,11 +125,12 @@ pub data AreRunOn (bytes : List ℕ) (config : Settings) : List PlannedLife → 
 
 -- Where the bytes spell an accepted module, the report tells lives that go on as one that was never
 -- stopped. They are of this module, and with what was put into each. They were run one after
--- another, on a disk that was empty at first.
+-- another, on a disk that was empty at first, and has the sectors of this worker.
 abbrev pub TellsLives : List ℕ → Settings → List PlannedLife → List LifeReport → Type 0
 TellsLives bytes config planned reports = (m : Module) → IsAccepted offer config.pages bytes m
     → (lives : List Life) × GoesOn m config (map inputs_of planned) lives
     × TellsEach lives reports
+    × BeginFewCalls (total_sectors (geometry_of config (length bytes))) lives
     × (first : MemDisk) × (last : MemDisk)
     × IsEmptyDisk (total_sectors (geometry_of config (length bytes))) first
     × AreRunOn bytes config planned reports first last

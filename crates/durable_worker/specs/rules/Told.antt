@@ -1,6 +1,8 @@
 -- What a report tells of a life.
-use Rattle.std.specs.Prelude.{◌≡◌, ℕ, List, [], ◌∷◌, map, Option, Some, None}
+use Rattle.std.specs.Prelude.{◌≡◌, ◌≤◌, ℕ, ◌+◌, ◌*◌, List, [], ◌∷◌, length, map, Option, Some}
+use Rattle.std.specs.Prelude.{None}
 use Rattle.state_image.specs.rules.Image.{Saved, image}
+use Rattle.disk_layout.specs.rules.Places.{geometry_of, total_sectors}
 use Rattle.record_replay.specs.declared.line_list.NumberedLine.{NumberedLine}
 use Rattle.record_replay.specs.rules.Lists.{numbered}
 use Rattle.worker_rules.specs.Lives.{Release, told_in}
@@ -13,6 +15,7 @@ use Rattle.durable_worker.specs.declared.story.report.Opening.TheVariants.{Unope
 use Rattle.durable_worker.specs.declared.story.report.LifeEnd.{LifeEnd}
 use Rattle.durable_worker.specs.declared.story.report.LifeEnd.TheVariants as told
 use Rattle.durable_worker.specs.declared.story.report.LifeReport.{LifeReport}
+use Rattle.durable_worker.specs.rules.CallCounts.{most_calls}
 
 -- A life that was created, or recovered, tells the image of the process with which it opened, and a
 -- recovered one its numbers too. Of one that wasn't opened nothing is told.
@@ -48,3 +51,10 @@ abbrev pub TellsEach : List Life → List LifeReport → Type 0
 TellsEach [] [] = Unit {0}
 TellsEach (life ∷ lives) (report ∷ reports) = TellsLife life report × TellsEach lives reports
 TellsEach _ _ = ⊥
+
+-- on a disk of so many sectors few calls were begun before each event of these lives, and behind
+-- the last one
+abbrev pub BeginFewCalls : ℕ → List Life → Type 0
+BeginFewCalls sectors [] = Unit {0}
+BeginFewCalls sectors (life ∷ lives) =
+    (life.calls ≤ (length life.events + 1) * most_calls sectors) × BeginFewCalls sectors lives

@@ -9,6 +9,8 @@
 //!   The report tells each (`TellsLives`). It says how it was opened, and the image and the numbers
 //!   of the process then. It has all its lines in order, and says how it ended, and with how many
 //!   calls of the disk.
+//! - A life begins at most `most_calls` calls of its disk before each of its events, and behind the
+//!   last one (`BeginFewCalls`). So it isn't told as stopped at a call that it can't have come to.
 //! - So a life isn't opened, or leaves an act undone, only where its stop came first, or an error
 //!   with its cause. That is the call of the disk that fails, the line that is refused, want of
 //!   memory, an answer that doesn't fit, or a number at its end (`MayEnd` of `worker_rules`).
@@ -22,15 +24,16 @@
 //!   A recovered one is of the generation after that of the worker that it found there
 //!   (`IsNextGeneration`).
 //!
-//! Nothing is said of a module that isn't accepted.
+//! Nothing is said of a module that isn't accepted. How many calls of the disk a life takes is said
+//! up to that bound alone. So a stop within it may be told that never came.
 //!
 //! # Definitions to read
 //!
 //! In `specs/rules/`: `inputs_of` (`Planned.antt`), what is put into each life; `TellsLife`,
 //! (`Told.antt`), what a report tells of one; `TellsLives` (`StoryDisks.antt`), what it tells of all,
-//! and on which disk they were run. They speak in the words of `worker_rules`. What
-//! is read off a life is `opened_in` (`specs/laws/OneLife.antt`) and `told_in` of `worker_rules`,
-//! and `IsCauseOf` says which error is which cause.
+//! and on which disk they were run; `most_calls` (`CallCounts.antt`). They speak in the words of
+//! `worker_rules`. What is read off a life is `opened_in` (`specs/laws/OneLife.antt`) and `told_in`
+//! of `worker_rules`, and `IsCauseOf` says which error is which cause.
 //!
 //! # Who may touch what
 //!

@@ -10,6 +10,7 @@ returns-in-Ok-clause-lives c =
     c.args.disk c.new-disk.result c.live_once.new.disk c.new-outlet.result c.live_once.new.outlet
     c.live_once.new.source c.new-source.result c.as_slice-acts.result.now c.in-Ok.lived
     c.end_life.result c.new-disk.ensures.below c.new-disk.ensures.stop c.new-disk.ensures.fail
+    c.new-disk.ensures.calls
     (ap (λ (h : HeardLines). h.lines) c.new-outlet.ensures.inside ∙ c.new.ensures.none)
     (c.new-outlet.ensures.until_fault ∙ c.number_refused.ensures)
     (c.new-source.ensures ∙ c.into_vec.ensures ∙ c.in_ok-answers.ensures ∙ c.as_slice.ensures)

@@ -11,6 +11,7 @@ returns-in-Err-find g c =
     let found = c.in-Err-find.ensures in
     unfound_surveys (g.D.Disk.medium c.args.disk.now) (g.D.Disk.medium c.sync.new.self)
     (g.D.Disk.medium c.find.new.disk) c.in_default.field-0 c.in_default.ensures found.reads
+    found.asks
     c.in-Err-find.fault found.finds found.marks found.cause found.shows
 
 pub returns-in-Ok : goal.returns-in-Ok
@@ -19,4 +20,5 @@ returns-in-Ok g c =
     rw c.numbers_of.ensures
     (found_surveys (g.D.Disk.medium c.args.disk.now) (g.D.Disk.medium c.sync.new.self)
     (g.D.Disk.medium c.find.new.disk) c.in_default.field-0 c.in_default.ensures found.reads
+    found.asks
     c.in-Ok.found found.finds found.marks found.shows)

@@ -38,7 +38,7 @@ returns-in-Err-clause-carries g c =
     fault_keeps g.D.Disk.medium c.self.inside.running c.self.inside.replayed
     c.self.inside.has_failed c.args.self.now c.self.view_is c.args.disk.now
     c.save-saved.new.disk c.images_fit_areas.ensures c.is_process.ensures c.save-saved.new.store
-    c.in-Err.ensures.any_moment c.in-Err.fault c.from.result c.from.ensures
+    c.in-Err.ensures.any_moment c.in-Err.ensures.asks c.in-Err.fault c.from.result c.from.ensures
     c.in-Err.ensures.cause
 
 pub returns-in-Err-clause-calls : goal.returns-in-Err-clause-calls
@@ -53,7 +53,7 @@ returns-in-Err-clause-cause g c =
     fault_cause g.D.Disk.medium c.self.inside.running c.self.inside.replayed
     c.self.inside.has_failed c.args.self.now c.self.view_is c.args.disk.now
     c.save-saved.new.disk c.images_fit_areas.ensures c.is_process.ensures c.save-saved.new.store
-    c.in-Err.ensures.any_moment c.in-Err.fault c.from.result c.from.ensures
+    c.in-Err.ensures.any_moment c.in-Err.ensures.asks c.in-Err.fault c.from.result c.from.ensures
     c.in-Err.ensures.cause
 
 pub returns-in-Err-clause-room : goal.returns-in-Err-clause-room
@@ -68,7 +68,8 @@ returns-clause-carries g c =
     done_keeps g.D.Disk.medium c.self.inside.running c.self.inside.replayed
     c.self.inside.has_failed c.args.self.now c.self.view_is c.args.disk.now
     c.save-saved.new.disk c.images_fit_areas.ensures c.is_process.ensures c.save-saved.new.store
-    c.in_default.ensures.any_moment c.if-self.false c.in_default.ensures.durable
+    c.in_default.ensures.any_moment c.in_default.ensures.asks c.if-self.false
+    c.in_default.ensures.durable
 
 pub returns-clause-saved : goal.returns-clause-saved
 returns-clause-saved g c =

@@ -65,7 +65,8 @@ returns-clause-carries g c =
     c.in_ok-process.ensures.texts c.is_process.ensures c.in_ok-process.ensures.begun
     c.lay_out-laid.result c.args.disk.now c.lay_out-laid.new.disk
     c.lay_out-laid.ensures.any_moment c.lay_out-laid.ensures.durable
-    (λ small. let refused = c.lay_out-laid.ensures.too_small small in refused.1))
+    (λ small. let refused = c.lay_out-laid.ensures.too_small small in refused.1)
+    c.lay_out-laid.ensures.asks)
 
 pub returns-clause-calls : goal.returns-clause-calls
 returns-clause-calls g c =

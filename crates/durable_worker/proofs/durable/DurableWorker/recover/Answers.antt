@@ -1,4 +1,5 @@
-use Rattle.std.proofs.Common.{inl}
+use Rattle.std.proofs.Common.{inl, arith}
+use Rattle.durable_worker.proofs.RecoveryCallLemmas.{revival_calls}
 use Rattle.durable_worker.proofs.RecoveryLemmas.Results.{unsettled_carries, not_found_recovers}
 use Rattle.durable_worker.proofs.RecoveryLemmas.Results.{not_found_carries, is_found_recovers}
 use Rattle.durable_worker.proofs.RecoveryLemmas.Results.{is_found_carries}
@@ -19,21 +20,24 @@ pub returns-in-Err-find-clause-recovers : goal.returns-in-Err-find-clause-recove
 returns-in-Err-find-clause-recovers g c =
     let found = c.in-Err-find.ensures in
     not_found_recovers g.D.Disk.medium g.O.Outlet.takes c.args.disk.now c.sync.new.self
-    c.find.new.disk c.in_default.field-0 c.in_default.ensures found.reads c.args.outlet.now
+    c.find.new.disk c.in_default.field-0 c.in_default.ensures found.reads found.asks
+    c.args.outlet.now
     c.in-Err-find.fault found.finds found.marks
 
 pub returns-in-Err-find-clause-carries : goal.returns-in-Err-find-clause-carries
 returns-in-Err-find-clause-carries g c =
     let found = c.in-Err-find.ensures in
     not_found_carries g.D.Disk.medium g.O.Outlet.takes c.args.disk.now c.sync.new.self
-    c.find.new.disk c.in_default.field-0 c.in_default.ensures found.reads c.args.outlet.now
+    c.find.new.disk c.in_default.field-0 c.in_default.ensures found.reads found.asks
+    c.args.outlet.now
     c.in-Err-find.fault found.finds found.marks found.cause
 
 pub returns-in-Ok-clause-recovers : goal.returns-in-Ok-clause-recovers
 returns-in-Ok-clause-recovers g c =
     let found = c.in-Ok.ensures in
     is_found_recovers g.D.Disk.medium g.O.Outlet.takes c.args.disk.now c.sync.new.self
-    c.find.new.disk c.in_default.field-0 c.in_default.ensures found.reads c.args.outlet.now
+    c.find.new.disk c.in_default.field-0 c.in_default.ensures found.reads found.asks
+    c.args.outlet.now
     c.revive.new.disk c.revive.new.outlet c.images_fit_areas.ensures c.in-Ok.found found.finds
     found.marks c.revive.result c.revive.ensures
 
@@ -41,7 +45,8 @@ pub returns-in-Ok-clause-carries : goal.returns-in-Ok-clause-carries
 returns-in-Ok-clause-carries g c =
     let found = c.in-Ok.ensures in
     is_found_carries g.D.Disk.medium g.O.Outlet.takes c.args.disk.now c.sync.new.self
-    c.find.new.disk c.in_default.field-0 c.in_default.ensures found.reads c.args.outlet.now
+    c.find.new.disk c.in_default.field-0 c.in_default.ensures found.reads found.asks
+    c.args.outlet.now
     c.revive.new.disk c.revive.new.outlet c.images_fit_areas.ensures c.in-Ok.found found.finds
     found.marks c.revive.result c.revive.ensures
 
@@ -66,7 +71,8 @@ returns-in-Ok-clause-on_any_disk g c =
     revival_cause g.D.Disk.medium g.O.Outlet.takes c.args.disk.now c.find.new.disk
     c.revive.new.disk
     (settled_by (g.D.Disk.medium c.args.disk.now) (g.D.Disk.medium c.sync.new.self)
-    (g.D.Disk.medium c.find.new.disk) c.in_default.field-0 c.in_default.ensures found.reads)
+    (g.D.Disk.medium c.find.new.disk) c.in_default.field-0 c.in_default.ensures found.reads
+    found.asks)
     c.in-Ok.found found.room c.args.outlet.now c.revive.new.outlet c.revive.result c.revive.ensures
 
 pub returns-in-Err-clause-shown : goal.returns-in-Err-clause-shown
@@ -108,3 +114,18 @@ returns-in-Ok-clause-heeds g c =
     revival_heeds g.D.Disk.medium g.O.Outlet.takes c.in-Ok.found c.is_process.ensures
     c.find.new.disk c.revive.new.disk c.args.outlet.now c.revive.new.outlet c.revive.result
     c.revive.ensures
+
+pub returns-in-Ok-clause-asks : goal.returns-in-Ok-clause-asks
+returns-in-Ok-clause-asks g c =
+    let found = c.in-Ok.ensures in
+    let settled = settled_by (g.D.Disk.medium c.args.disk.now) (g.D.Disk.medium c.sync.new.self)
+    (g.D.Disk.medium c.find.new.disk) c.in_default.field-0 c.in_default.ensures found.reads
+    found.asks in
+    let passes = settled.leaves.passes in
+    omega (
+      arith,
+      settled.counted,
+      passes.sectors,
+      revival_calls g.D.Disk.medium g.O.Outlet.takes c.in-Ok.found c.revive.result c.find.new.disk
+          c.revive.new.disk c.args.outlet.now c.revive.new.outlet c.revive.ensures,
+    )

@@ -7,6 +7,7 @@ use Rattle.durable_worker.proofs.DurableLemmas.Settling.{settles_not_stored, set
 use Rattle.durable_worker.proofs.DurableLemmas.Settling.{settles_some}
 use Rattle.durable_worker.proofs.DurableLemmas.InVain.{no_memory, no_number}
 use Rattle.durable_worker.proofs.StoreTurnLemmas.{barrier_went, barrier_failed, goes_stop}
+use Rattle.durable_worker.proofs.PayingLemmas.{paid, paid_in_vain}
 use Rattle.durable_worker.proofs.running.Running.settle.Goals as goal
 
 pub returns-in_err-barrier-clause-fails : goal.returns-in_err-barrier-clause-fails
@@ -88,3 +89,22 @@ returns-clause-runs g c =
     barrier_went g.D.Disk.medium c.args.self.now.store c.barrier.new.self c.args.disk.now
     c.barrier.new.disk done.stays done.passes tt done.full done.stored done.quiet done.settled
     done.calls.all
+
+pub returns-in_err-barrier-clause-asks : goal.returns-in_err-barrier-clause-asks
+returns-in_err-barrier-clause-asks g c =
+    let p = err_from_is_err_and c.from_residual.result c.from_residual.ensures.1 in
+    rw p.1 (paid_in_vain g.D.Disk.medium c.args.self.now.store c.args.disk.now
+    c.barrier.new.disk c.in_err-barrier.ensures.quiet c.in_err-barrier.ensures.asks)
+
+pub returns-in_err-release_waiting-clause-asks : goal.returns-in_err-release_waiting-clause-asks
+returns-in_err-release_waiting-clause-asks g c =
+    let p = err_from_is_err_and c.from_residual-in_err-release_waiting.result
+    c.from_residual-in_err-release_waiting.ensures.1 in
+    rw p.1 (paid_in_vain g.D.Disk.medium c.args.self.now.store c.args.disk.now
+    c.barrier.new.disk c.in_ok-barrier.ensures.quiet c.in_ok-barrier.ensures.asks)
+
+pub returns-clause-asks : goal.returns-clause-asks
+returns-clause-asks g c =
+    paid g.D.Disk.medium c.args.self.now.store c.barrier.new.self c.args.disk.now
+    c.barrier.new.disk c.in_ok-barrier.ensures.quiet c.in_ok-barrier.ensures.asks
+    c.in_ok-barrier.ensures.stored

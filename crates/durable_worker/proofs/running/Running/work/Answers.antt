@@ -77,7 +77,7 @@ loop-self-preserved-in_ok-settle-in-Owes g c =
     (ap (λ z. c.args.fuel - (z - c.steps-first.result)) c.steps.ensures.value)
     c.in_ok-advance.ensures.released c.in_ok-advance.ensures.guest
     (rw c.in-Owes.is at c.in_ok-advance.ensures.advances) c.settle.new.self c.settle.new.disk
-    c.settle.new.outlet done.all done.settles done.runs done.places done.sectors
+    c.settle.new.outlet done.all done.settles done.runs done.places done.sectors done.asks
 
 pub loop-self-smaller-in_ok-settle-in-Owes : goal.loop-self-smaller-in_ok-settle-in-Owes
 loop-self-smaller-in_ok-settle-in-Owes g c =
@@ -97,7 +97,8 @@ returns-in_err-settle-in-Owes-clause-works g c =
     (ap (λ z. c.args.fuel - (z - c.steps-first.result)) c.steps.ensures.value)
     c.in_ok-advance.ensures.released c.in_ok-advance.ensures.guest
     (rw c.in-Owes.is at c.in_ok-advance.ensures.advances) c.settle.new.self c.settle.new.disk
-    c.settle.new.outlet c.in_err-settle-in-Owes.field-0.0 c.in_err-settle-in-Owes.ensures.fails)
+    c.settle.new.outlet c.in_err-settle-in-Owes.field-0.0 c.in_err-settle-in-Owes.ensures.fails
+    c.in_err-settle-in-Owes.ensures.asks)
 
 pub returns-in_err-ask-in-Asks-clause-works : goal.returns-in_err-ask-in-Asks-clause-works
 returns-in_err-ask-in-Asks-clause-works g c =
@@ -108,7 +109,8 @@ returns-in_err-ask-in-Asks-clause-works g c =
     (ap (λ z. c.args.fuel - (z - c.steps-first.result)) c.steps.ensures.value)
     c.in_ok-advance.ensures.released c.in_ok-advance.ensures.guest c.in-Asks.kind
     (rw c.in-Asks.is at c.in_ok-advance.ensures.advances) c.ask.new.self c.ask.new.disk
-    c.ask.new.source c.in_err-ask-in-Asks.field-0.0 c.in_err-ask-in-Asks.ensures.asks)
+    c.ask.new.source c.in_err-ask-in-Asks.field-0.0 c.in_err-ask-in-Asks.ensures.asks
+    c.in_err-ask-in-Asks.ensures.few)
 
 pub returns-then-not-branch-clause-done : goal.returns-then-not-branch-clause-done
 returns-then-not-branch-clause-done g c =
@@ -125,6 +127,7 @@ returns-then-not-branch-clause-works g c =
     c.in_ok-advance.ensures.released c.in_ok-advance.ensures.guest c.in-Asks.kind
     (rw c.in-Asks.is at c.in_ok-advance.ensures.advances) c.ask.new.self c.ask.new.disk
     c.ask.new.source (rw c.if-not-branch.true at c.in_ok-ask-in-Asks.ensures.asks)
+    c.in_ok-ask-in-Asks.ensures.few
 
 pub loop-self-smaller : goal.loop-self-smaller
 loop-self-smaller g c =
@@ -142,7 +145,7 @@ loop-self-preserved g c =
     c.in_ok-advance.ensures.released c.in_ok-advance.ensures.guest c.in-Asks.kind
     (rw c.in-Asks.is at c.in_ok-advance.ensures.advances) c.ask.new.self c.ask.new.disk
     c.ask.new.source (rw c.if-not-branch.false at done.once) done.released
-    (rw c.if-not-branch.false at done.asks) done.runs done.places done.sectors
+    (rw c.if-not-branch.false at done.asks) done.runs done.places done.sectors done.few
 
 pub returns-in_err-advance-clause-failed : goal.returns-in_err-advance-clause-failed
 returns-in_err-advance-clause-failed g c =

@@ -1,0 +1,23 @@
+-- How many calls of the disk a life begins at most (this project's own).
+use Rattle.std.specs.Prelude.{ℕ, ◌+◌, ◌*◌}
+use Rattle.sector_disk.specs.rules.Medium.{Medium, CallsUpTo}
+
+-- in a recovery of a worker from a disk of so many sectors
+abbrev pub most_recovering : ℕ → ℕ
+most_recovering sectors = 3 * (sectors + 1)
+
+-- in a creation on it
+abbrev pub most_creating : ℕ → ℕ
+most_creating sectors = sectors + 9
+
+-- in a save: a barrier, and a commit
+abbrev pub most_saving : ℕ → ℕ
+most_saving sectors = 2 * (sectors + 1)
+
+-- between two events of a life
+abbrev pub most_calls : ℕ → ℕ
+most_calls sectors = 4 * (sectors + 5)
+
+-- no more calls than that, so many times
+abbrev pub CallsFor : ℕ → Medium → Medium → Type 0
+CallsFor times old new = CallsUpTo (times * most_calls old.sectors) old new
