@@ -91,8 +91,8 @@ static RELEASED: [(u64, u8, &[u8], &[u8]); 3] = [
 /// Whether a release is answered well, puts this out, and is the write of its number.
 fn prints_so(outlet: &mut LineOutlet<Flushed>, row: &(u64, u8, &[u8], &[u8])) -> bool {
     outlet.release(row.0, row.1, row.2) == Ok(())
-        && outlet.out.out.as_slice() == row.3
-        && outlet.out.writes == row.0
+        && outlet.writer().out.as_slice() == row.3
+        && outlet.writer().writes == row.0
 }
 
 /// An outlet over a writer that hands on what is flushed.
@@ -102,7 +102,7 @@ fn flushed_outlet(alloc: Global) -> Result<LineOutlet<Flushed>, AllocError> {
 
 /// Whether nothing waits for a flush after the release of a line.
 fn leaves_none(outlet: &mut LineOutlet<Flushed>, number: u64, text: &[u8]) -> bool {
-    outlet.release(number, 1, text) == Ok(()) && outlet.out.waiting.is_empty()
+    outlet.release(number, 1, text) == Ok(()) && outlet.writer().waiting.is_empty()
 }
 
 /// Each line is out after its release, by one write, an empty and a long one too.

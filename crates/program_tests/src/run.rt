@@ -107,7 +107,7 @@ fn prints_so(alloc: Global, case: &Case) -> Result<bool, Fail> {
     let mut err = Vec::new(alloc);
     let told = &mut Printer::new(&mut err, false);
     let status = status_of(alloc, &mut disk, pace_of(case.1, EVERY)?, &mut outlet, told);
-    let lines = outlet.out.as_slice() == case.2.as_bytes();
+    let lines = outlet.writer().as_slice() == case.2.as_bytes();
     Ok(lines && err.as_slice() == case.3.as_bytes() && status == case.4)
 }
 

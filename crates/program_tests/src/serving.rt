@@ -35,7 +35,7 @@ fn status_on<E: Write + Drop>(
 ) -> Result<Option<u8>, Fail> {
     let mut outlet = LineOutlet::new(alloc, Vec::new(alloc))?;
     let status = status_of(alloc, disk, pace_of(FUEL, EVERY)?, &mut outlet, err);
-    let is_printed = outlet.out.as_slice() == LINE;
+    let is_printed = outlet.writer().as_slice() == LINE;
     Ok(is_printed.then_some(status))
 }
 
@@ -109,7 +109,7 @@ fn runs_so(alloc: Global, disk: &mut MemDisk, run: &Run) -> Result<bool, Fail> {
     let told = &mut Printer::new(&mut err, false);
     let status = serve(alloc, disk, pace, &mut source, &mut outlet, told);
     drop(source);
-    let lines = outlet.out.as_slice() == run.1;
+    let lines = outlet.writer().as_slice() == run.1;
     Ok(lines && err.as_slice() == run.2.as_bytes() && status == run.3)
 }
 

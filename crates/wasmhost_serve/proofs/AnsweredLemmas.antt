@@ -8,7 +8,7 @@ use Rattle.wasi_abi.specs.declared.answer.Kind.{Kind}
 use Rattle.wasi_abi.specs.declared.answer.Kind.TheVariants as kinds
 use Rattle.process_rules.specs.Runs.{Kept, Given}
 use Rattle.record_replay.specs.declared.fault.SourceFault.{SourceFault}
-use Rattle.record_replay.specs.rules.Calls.{Ask, AnswersInOrder, asks_of}
+use Rattle.record_replay.specs.rules.Calls.{Ask, AnswersInOrder}
 use Rattle.worker.specs.rules.Slices.{handed_by, handed}
 use Rattle.wasmhost_serve.specs.declared.lines.fault.LineFault.{LineFault}
 use Rattle.wasmhost_serve.specs.rules.Outside.{ComeFrom, request_in, requests_in}
@@ -149,12 +149,11 @@ leaves_some kind s u None h = some u.fault h
     some None h = absurd h
     some (Some why) h = tt
 
-all_of_lines : (asks : List Ask) (s t : Standing) → AnswersInOrder handing s asks t
-    → AreOfLines s (handed asks) t
-all_of_lines [] s t leads =
+pub answers_are_of_lines : AnswersComeFromTheLines
+answers_are_of_lines [] s t leads =
     nothing s t (ap (λ (z : Standing). z.taken) leads) (ap (λ (z : Standing). z.place) leads)
-all_of_lines (ask ∷ asks) s t leads =
-    by_said (all_of_lines asks leads.0 t leads.2) ask.said refl leads.1
+answers_are_of_lines (ask ∷ asks) s t leads =
+    by_said (answers_are_of_lines asks leads.0 t leads.2) ask.said refl leads.1
   where
     u : Standing
     u = leads.0
@@ -179,7 +178,3 @@ all_of_lines (ask ∷ asks) s t leads =
         subst (λ r. AreOfLines s (handed_by r ++ handed asks) t) (sym e)
         (refused_first s u t asks u.fault refl (leaves_some ask.kind s u s.fault h.4) h.2 h.3
         leads.2)
-
-pub answers_are_of_lines : AnswersComeFromTheLines
-answers_are_of_lines exchanges source source' out out' exchanged =
-    all_of_lines (asks_of exchanges) source source' exchanged.asked

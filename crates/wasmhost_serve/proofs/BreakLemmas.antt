@@ -171,7 +171,7 @@ module _ {S O : Type 0} (gives : Giving S) (takes : Taking O) where
     counted = omega arith;
   }
 
-  same_fault : (a b : DurableFault) → ◌≡◌ {A = Result Now DurableFault} (Err a) (Err b) → a ≡ b
+  pub same_fault : (a b : DurableFault) → ◌≡◌ {A = Result Now DurableFault} (Err a) (Err b) → a ≡ b
   same_fault a b e = cc
 
   -- a slice that fails, of a worker that had failed or not

@@ -7,7 +7,7 @@ use Rattle.wasi_abi.specs.declared.answer.Kind.{Kind}
 use Rattle.wasi_abi.specs.declared.answer.Kind.TheVariants as kinds
 use Rattle.sector_disk.specs.rules.Medium.{Medium}
 use Rattle.sector_disk.specs.declared.fault.DiskFault.TheVariants as disk
-use Rattle.record_replay.specs.rules.Calls.{Ask, AnswersInOrder}
+use Rattle.record_replay.specs.rules.Calls.{Taking, Ask, AnswersInOrder}
 use Rattle.worker.specs.declared.fault.WorkFault.TheVariants as work
 use Rattle.worker.specs.rules.Slices.{handed}
 use Rattle.durable_worker.specs.declared.fault.DurableFault.{DurableFault}
@@ -15,6 +15,7 @@ use Rattle.durable_worker.specs.declared.fault.DurableFault.TheVariants as durab
 use Rattle.durable_worker.specs.declared.recover_fault.RecoverFault.{RecoverFault}
 use Rattle.durable_worker.specs.declared.recover_fault.RecoverFault.TheVariants as recover
 use Rattle.durable_worker.specs.rules.LifeWords.{Act}
+use Rattle.durable_worker.specs.rules.Outlets.{IsOutletFault}
 use Rattle.wasmhost_serve.specs.declared.lines.fault.LineFault.{LineFault}
 use Rattle.wasmhost_serve.specs.declared.lines.fault.LineFault.TheVariants as line
 use Rattle.wasmhost_serve.specs.declared.on_disk.fault.OnDiskFault.{OnDiskFault}
@@ -33,13 +34,13 @@ use Rattle.wasmhost_serve.specs.rules.ServedOnDisk.{ServesOnDisk, over, broken}
 use Rattle.wasmhost_serve.specs.rules.ServedOnDisk.{unopened as is_unopened}
 use Rattle.wasmhost_serve.specs.rules.DiskCauses.{IsRefusedAmong, HasRefused, MeetsBadLineAt}
 use Rattle.wasmhost_serve.specs.rules.DiskCauses.{LacksAnswerAt, LacksMemoryAt}
-use Rattle.wasmhost_serve.specs.rules.DiskCauses.{IsStuck, IsFailing, IsWanting, IsUntaken}
-use Rattle.wasmhost_serve.specs.rules.DiskCauses.{IsAtItsEnd, IsUnanswering, HasPrintedItsLines}
+use Rattle.wasmhost_serve.specs.rules.DiskCauses.{IsStuck, IsFailing, IsWanting}
+use Rattle.wasmhost_serve.specs.rules.DiskCauses.{IsAtItsEnd, IsUnanswering, HasToldItsLines}
 use Rattle.wasmhost_serve.specs.rules.DiskCauses.{IsOverOnDisk, FailsOnDisk, opening, calling}
 use Rattle.wasmhost_serve.specs.rules.DiskCauses.{AsksInVain, SaysOnDisk, StatusesHaveCauses}
 use Rattle.wasmhost_serve.proofs.LineLemmas.Passing.{up_to_map}
-use Rattle.wasmhost_serve.proofs.PrintedLemmas.{lines_printed}
-use Rattle.wasmhost_serve.proofs.RefusalLemmas.{reason_for}
+use Rattle.wasmhost_serve.proofs.PrintedLemmas.{lines_told}
+use Rattle.wasmhost_serve.proofs.RefusalLemmas.{refusals_have_reasons}
 
 -- ---- what a line's fault comes to
 
@@ -122,11 +123,11 @@ steady_unless Refused s t heard unrefused = by_heard heard.heard
     by_heard (inl all) = heard_steadily heard.asks s t all heard.led
     by_heard (inr refused) = absurd (unrefused refused)
 
-module _ {D : Type 0} (medium : D → Medium) where
-  module _ (given : DiskJob) (found last : D) (out out' : Option (List ℕ)) (failed' : Bool) where
+module _ {D O : Type 0} (medium : D → Medium) (takes : Taking O) where
+  module _ (given : DiskJob) (found last : D) (outlet outlet' : O) (failed' : Bool) where
     abbrev Fails : (RecoverFault → Type 0) → (DurableFault → Type 0) → Type 0
     Fails IsOfOpening IsOfCall =
-        FailsOnDisk medium given found last out out' failed' IsOfOpening IsOfCall
+        FailsOnDisk medium takes given found last outlet outlet' failed' IsOfOpening IsOfCall
 
     -- memory that was refused to a call
     abbrev IsOfMemory : DurableFault → Type 0
@@ -136,41 +137,43 @@ module _ {D : Type 0} (medium : D → Medium) where
     abbrev IsOfOutlet : DurableFault → Type 0
     IsOfOutlet why = why ≡ durable.Work work.Outlet
 
-    -- each line was printed, where none waits
-    each_printed : (why : DurableFault) (source' : Standing)
-        (lives : LivesOnDisk medium given (Err (recover.Worker why)) found last out out' source')
-        → HasBrokenOff lives why → LeavesNoLine why → HasPrintedItsLines lives why
-    each_printed why source' lives breaks none guest p is = (
+    -- a life that was ended by this error
+    abbrev LifeUpTo : Standing → DurableFault → Type 0
+    LifeUpTo source' why = LivesOnDisk medium takes given (Err (recover.Worker why)) found last
+        outlet outlet' source'
+
+    -- each line was told, where none waits
+    each_told : (why : DurableFault) (source' : Standing) (lives : LifeUpTo source' why)
+        → HasBrokenOff lives why → LeavesNoLine why → HasToldItsLines lives why
+    each_told why source' lives breaks none guest p is = (
       breaks guest p is,
-      lines_printed guest p (stands_behind given lives.worker) source' lives.retold out' given.fuel
-          (steps_among lives.acts) why none (breaks guest p is),
+      lines_told guest p takes (stands_behind given lives.worker) source' lives.retold outlet'
+          given.fuel (steps_among lives.acts) why none (breaks guest p is),
     )
 
     abbrev Asks : (Standing → List Ask → Bool → Type 0) → Type 0
-    Asks Holds = AsksInVain medium given found last out out' failed' Holds
+    Asks Holds = AsksInVain medium takes given found last outlet outlet' failed' Holds
 
-    -- a life that was ended by this
+    -- so it is where a call of it has failed
     abbrev BrokenLife : Standing → DurableFault → Type 0
-    BrokenLife source' why =
-        (lives : LivesOnDisk medium given (Err (recover.Worker why)) found last out out' source')
-        × HasBrokenOff lives why
+    BrokenLife source' why = (lives : LifeUpTo source' why) × HasBrokenOff lives why
 
     -- a question was refused for this
     vain : (source' : Standing) (why : LineFault)
-        (lives : LivesOnDisk medium given (Err (recover.Worker (durable.Work work.Source))) found
-        last out out' source') → HasBrokenOff lives (durable.Work work.Source)
+        (lives : LifeUpTo source' (durable.Work work.Source))
+        → HasBrokenOff lives (durable.Work work.Source)
         → source'.failed ≡ failed' → source'.fault ≡ Some why
         → Asks (λ old asks failed. HasRefused old asks failed why)
     vain source' why lives breaks heeded is = record {
       source' = source';
       lives = lives;
-      printed = each_printed (durable.Work work.Source) source' lives breaks tt;
+      told = each_told (durable.Work work.Source) source' lives breaks tt;
       heeded = heeded;
       asks = lives.heard.asks;
       led = lives.heard.led;
       behind = subst (λ f. HasRefused (stands_behind given lives.worker) lives.heard.asks f why)
-          heeded (reason_for (stands_behind given lives.worker) source' lives.heard.asks why refl is
-          lives.heard.led);
+          heeded (refusals_have_reasons lives.heard.asks (stands_behind given lives.worker)
+          source' why lives.heard.led refl is);
     }
 
     -- what follows from it
@@ -180,7 +183,7 @@ module _ {D : Type 0} (medium : D → Medium) where
     in_vain P Q f asks = record {
       source' = asks.source';
       lives = asks.lives;
-      printed = asks.printed;
+      told = asks.told;
       heeded = asks.heeded;
       asks = asks.asks;
       led = asks.led;
@@ -191,12 +194,13 @@ module _ {D : Type 0} (medium : D → Medium) where
 
     module _ (err err' : PrinterState) where
       abbrev Says : ℕ → Type 0
-      Says status = SaysOnDisk medium given found last out out' failed' err err' status
+      Says status = SaysOnDisk medium takes given found last outlet outlet' failed' err err' status
 
       abbrev IsSteady : Type 0
       IsSteady = failed' ≡ given.failed
 
-      zero : IsOverOnDisk medium given found last out out' failed' err err' → IsSteady → Says 0
+      zero : IsOverOnDisk medium takes given found last outlet outlet' failed' err err' → IsSteady
+          → Says 0
       zero h steady = record {
         over = λ e. h;
         stuck = λ e. absurd (omega (arith, e));
@@ -256,7 +260,7 @@ module _ {D : Type 0} (medium : D → Medium) where
         known = inr (omega arith, omega arith);
       }
 
-      seven : Fails IsUntaken IsOfOutlet ⊎ (err'.failed ≡ true) → Says 7
+      seven : Fails IsOutletFault IsOfOutlet ⊎ (err'.failed ≡ true) → Says 7
       seven h = record {
         over = λ e. absurd (omega (arith, e));
         stuck = λ e. absurd (omega (arith, e));
@@ -292,7 +296,7 @@ module _ {D : Type 0} (medium : D → Medium) where
       by_opening (recover.Worker (durable.Work work.Memory)) f steady =
           five (inl (f IsWanting IsOfMemory tt))
       by_opening (recover.Worker (durable.Work work.Outlet)) f steady =
-          seven (inl (f IsUntaken IsOfOutlet tt))
+          seven (inl (f IsOutletFault IsOfOutlet tt))
       by_opening (recover.Worker (durable.Work (work.Refused why))) f steady =
           three (f IsStuck IsAtItsEnd tt) steady
 
@@ -308,7 +312,7 @@ module _ {D : Type 0} (medium : D → Medium) where
       by_calling (durable.Work work.Source) f steady = four (inl (f IsFailing IsUnanswering tt))
       by_calling (durable.Work work.Failed) f steady = four (inl (f IsFailing IsUnanswering tt))
       by_calling (durable.Work work.Memory) f steady = five (inl (f IsWanting IsOfMemory refl))
-      by_calling (durable.Work work.Outlet) f steady = seven (inl (f IsUntaken IsOfOutlet refl))
+      by_calling (durable.Work work.Outlet) f steady = seven (inl (f IsOutletFault IsOfOutlet refl))
       by_calling (durable.Work (work.Refused why)) f steady =
           three (f IsStuck IsAtItsEnd tt) (steady (λ e. absurd (cc)))
 
@@ -350,13 +354,12 @@ module _ {D : Type 0} (medium : D → Medium) where
       same_call a b is = cc
 
       by_told : (why : DurableFault) (told : OnDiskFault) (source' : Standing)
-          (lives : LivesOnDisk medium given (Err (recover.Worker why)) found last out out' source')
-          → HasBrokenOff lives why → source'.failed ≡ failed'
+          (lives : LifeUpTo source' why) → HasBrokenOff lives why → source'.failed ≡ failed'
           → IsToldOnDisk why source'.fault told → Says (status_on_disk told)
       by_told why told source' lives breaks heeded (inl e) =
           subst (λ t. Says (status_on_disk t)) (sym e.0)
           (by_calling why (λ IsOfOpening IsOfCall is.
-          calling why source' lives (each_printed why source' lives breaks) e.1 heeded is)
+          calling why source' lives (each_told why source' lives breaks) e.1 heeded is)
           (λ other. sym heeded ∙ steady_unless (IsOfSource (Err (recover.Worker why)))
           (stands_behind given lives.worker) source' lives.heard
           (λ source. other (same_call why (durable.Work work.Source) source))))
@@ -367,7 +370,8 @@ module _ {D : Type 0} (medium : D → Medium) where
           (by_line e.0 (vain source' e.0 both.0 both.1 heeded e.2))
 
       says_why : (status : ℕ)
-          → ServesOnDisk medium given found last out out' err err' failed' status → Says status
+          → ServesOnDisk medium takes given found last outlet outlet' err err' failed' status
+          → Says status
       says_why status (is_unopened why run heeded said) =
           said_as err status (status_on_disk (told_of_opening why)) said
           (by_opening why (λ IsOfOpening IsOfCall is. opening why run heeded is) heeded)
@@ -390,6 +394,6 @@ module _ {D : Type 0} (medium : D → Medium) where
           said_as between status (status_on_disk told) said
           (by_told why told source' lives breaks heeded is)
 
-  pub statuses_have_causes : StatusesHaveCauses medium
-  statuses_have_causes given found last out out' err err' failed' status serves =
-      says_why given found last out out' failed' err err' status serves
+  pub statuses_have_causes : StatusesHaveCauses medium takes
+  statuses_have_causes given found last outlet outlet' err err' failed' status serves =
+      says_why given found last outlet outlet' failed' err err' status serves

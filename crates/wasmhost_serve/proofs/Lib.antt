@@ -18,4 +18,7 @@ pub mod StoryLemmas
 pub mod TellingLemmas
 pub mod RefusalLemmas
 pub mod CauseLemmas
+pub mod FrontLemmas
+pub mod SevenLemmas
+pub mod TakingLemmas
 pub mod FileLemmas

@@ -1,5 +1,5 @@
 -- Slices and checkpoints of an open worker, one after another.
-use Rattle.std.proofs.Common.{◌≡◌, ℕ, ◌+◌, ◌-◌, ◌^◌, ◌<◌, ◌≤◌, List, [], ◌∷◌}
+use Rattle.std.proofs.Common.{◌≡◌, inl, ℕ, ◌+◌, ◌-◌, ◌^◌, ◌<◌, ◌≤◌, List, [], ◌∷◌}
 use Rattle.std.proofs.Common.{◌++◌, Ok, Err, refl, sym, ap, ◌∙◌, subst, arith, append_assoc}
 use Rattle.std.proofs.Common.{append-nil}
 use Rattle.std.specs.Prelude.{Result, IfOk, IfErr, replicate}
@@ -21,6 +21,8 @@ use Rattle.durable_worker.specs.declared.recover_fault.RecoverFault.TheVariants 
 use Rattle.durable_worker.specs.rules.DurableValues.{DurableValue, without_disk}
 use Rattle.durable_worker.specs.rules.DurableCalls.{SliceCarries, CheckpointCarries}
 use Rattle.durable_worker.specs.rules.LifeWords.{Act, Slice, Checkpoint}
+use Rattle.durable_worker.specs.rules.Outlets.{TakesEach, HeedsOutlet, SaysOutletFault}
+use Rattle.durable_worker.proofs.OutletLemmas.{none_told, takes_both, heeds_on}
 use Rattle.durable_worker.specs.laws.OneLife.{no_more, sliced, slice_failed, saved}
 use Rattle.durable_worker.specs.laws.OneLife.{saving_failed}
 use Rattle.durable_worker.specs.laws.Outcomes.{outcome_after}
@@ -34,6 +36,7 @@ use Rattle.wasmhost_serve.proofs.BreakLemmas.{steps_both, slice_more, round_step
 use Rattle.wasmhost_serve.proofs.BreakLemmas.{lead_by_slice, lead_join, breaks_in_checkpoint}
 use Rattle.wasmhost_serve.proofs.BreakLemmas.{BreaksBy, breaks_join}
 use Rattle.wasmhost_serve.proofs.HearingLemmas.{nothing_asked, asked_on, asked_so_far}
+use Rattle.wasmhost_serve.proofs.TakingLemmas.{IsOutletsCall, saving_is_other}
 
 -- a slice whose fuel is spent leaves fewer steps that can be counted
 fewer_left : {S O : Type 0} (gives : Giving S) (takes : Taking O) (old new : WorkerValue)
@@ -162,18 +165,20 @@ module _ {D S O : Type 0} (medium : D → Medium) (gives : Giving S) (takes : Ta
     }
 
     rested : (some : 1 ≤ n) (within : n ≤ every) (heard : AsksUnless gives ⊥ from.source source)
+        (taken : TakesEach takes from.outlet outlet)
         (lead : said ≡ now.Spent → SlicesLeadOn gives takes from
         (steps_among (replicate n (Slice fuel))) (scene w disk source outlet))
         (result : Result Now DurableFault) → (said ≡ now.Spent → n ≡ every)
         → IsRested said result w w' (medium disk) (medium disk')
         → IfOk result (λ why. IsRound medium gives takes fuel every from why
         (scene w' disk' source outlet))
-    rested some within heard lead (Ok told) whole rests = record {
+    rested some within heard taken lead (Ok told) whole rests = record {
       count = n;
       some = some;
       within = within;
       whole = λ spent. whole (sym rests.0 ∙ spent);
       heard = heard;
+      taken = taken;
       leads = subst (λ z. ActsLead medium gives takes (round_of fuel n) from z
           (scene w' disk' source outlet)) (sym rests.0) (round_leads rests.1);
       spent = λ spent guest p is.
@@ -182,31 +187,34 @@ module _ {D S O : Type 0} (medium : D → Medium) (gives : Giving S) (takes : Ta
           (subst (λ k. SlicesLead gives takes guest p from.source source from.outlet outlet k
           w.process) (sym (round_steps fuel n)) (lead (sym rests.0 ∙ spent) guest p is));
     }
-    rested some within heard lead (Err fault) whole rests = tt
+    rested some within heard taken lead (Err fault) whole rests = tt
 
     broken : (some : 1 ≤ n) (within : n ≤ every) (heard : AsksUnless gives ⊥ from.source source)
+        (taken : TakesEach takes from.outlet outlet)
         (breaks : (why : DurableFault) → BreaksOffAt gives takes fuel
         (steps_among (round_of fuel n)) from why source outlet)
         (result : Result Now DurableFault)
         → IsRested said result w w' (medium disk) (medium disk')
         → IfErr result (λ why. IsBrokenRound medium gives takes fuel every from why disk' source
         outlet)
-    broken some within heard breaks (Ok told) rests = tt
-    broken some within heard breaks (Err fault) rests = record {
+    broken some within heard taken breaks (Ok told) rests = tt
+    broken some within heard taken breaks (Err fault) rests = record {
       count = n;
       some = some;
       within = within;
       heard = asked_so_far gives (IsOfSource (Err (recover.Worker fault))) from.source source heard;
+      heeded = inl (taken, saving_is_other w (medium disk) (medium disk') fault rests.2);
       done = leads.behind (Checkpoint ∷ []) (Err (recover.Worker fault)) disk' source outlet
           (saving_failed rests.0 rests.1);
       broken = breaks fault;
     }
 
   -- So many slices were taken in a round from there on, each of which has spent its fuel. No
-  -- question was refused.
+  -- question was refused, and no line.
   pub record IsWithin (fuel every n : ℕ) (from here : Scene D S O) : Type 0 where
     pub fewer : n < every
     pub heard : AsksUnless gives ⊥ from.source here.source
+    pub taken : TakesEach takes from.outlet here.outlet
     pub leads : ActsLead medium gives takes (replicate n (Slice fuel)) from now.Spent here
     pub lead : SlicesLeadOn gives takes from (steps_among (replicate n (Slice fuel))) here
     pub steps : steps_left here.worker ≤ steps_left from.worker
@@ -218,6 +226,7 @@ module _ {D S O : Type 0} (medium : D → Medium) (gives : Giving S) (takes : Ta
   none_taken fuel every here some room = record {
     fewer = some;
     heard = nothing_asked gives here.source;
+    taken = none_told takes here.outlet;
     leads = stands_still here;
     lead = λ guest p is. lead_nowhere gives takes here.worker.process here.source here.outlet guest
         p is;
@@ -293,17 +302,22 @@ module _ {D S O : Type 0} (medium : D → Medium) (gives : Giving S) (takes : Ta
     heard_on Refused heard =
         asked_on gives Refused from.source here.source source' so_far.heard heard
 
+    -- whatever is told behind them
+    taken_on : TakesEach takes here.outlet outlet' → TakesEach takes from.outlet outlet'
+    taken_on taken = takes_both takes from.outlet here.outlet outlet' so_far.taken taken
+
     -- one more, behind which others come
     pub within_more : (said : Now) → Slicing (Ok said) → AsksUnless gives ⊥ here.source source'
-        → Sliced given said → said ≡ now.Spent → n + 1 < every
+        → TakesEach takes here.outlet outlet' → Sliced given said → said ≡ now.Spent → n + 1 < every
         → steps_left w' < steps_left here.worker
         → total_sectors w'.store.geometry ≤ (medium disk').sectors
         → IsWithin fuel every (n + 1) from (scene w' disk' source' outlet')
-    within_more said carries heard slices spent few fewer room =
+    within_more said carries heard taken slices spent few fewer room =
         let before = so_far.steps in
         record {
           fewer = few;
           heard = heard_on ⊥ heard;
+          taken = taken_on taken;
           leads = subst (λ z. ActsLead medium gives takes (replicate (n + 1) (Slice fuel)) from z
               (scene w' disk' source' outlet')) spent (leads_more said carries);
           lead = lead_more said slices spent;
@@ -321,14 +335,17 @@ module _ {D S O : Type 0} (medium : D → Medium) (gives : Giving S) (takes : Ta
       -- one that fails
       pub within_breaks : (why : DurableFault) → Slicing (Err why)
           → AsksUnless gives (IsOfSource (Err (recover.Worker why))) here.source source'
+          → HeedsOutlet takes (IsOutletsCall why) here.outlet outlet'
           → BreaksBy gives takes given here.source source' here.outlet outlet' here.worker.process
           why
           → IsBrokenRound medium gives takes fuel most from why disk' source' outlet'
-      within_breaks why carries heard breaks = record {
+      within_breaks why carries heard heeded breaks = record {
         count = n + 1;
         some = some;
         within = within;
         heard = heard_on (IsOfSource (Err (recover.Worker why))) heard;
+        heeded = heeds_on takes (IsOutletsCall why) from.outlet here.outlet outlet' so_far.taken
+            heeded;
         done = slice_breaks fuel n from here.worker w' here.disk disk' here.source source'
             here.outlet outlet' so_far.leads why
             (subst (λ f. SliceCarries gives takes here.worker f (Err why) w' (medium here.disk)
@@ -342,20 +359,22 @@ module _ {D S O : Type 0} (medium : D → Medium) (gives : Giving S) (takes : Ta
           (result : Result Now DurableFault) (w'' : DurableValue) (disk'' : D)
           (rests : IsRested said result w' w'' (medium disk') (medium disk'')) where
         pub within_rests : AsksUnless gives ⊥ here.source source'
-            → (said ≡ now.Spent → n + 1 ≡ every)
+            → TakesEach takes here.outlet outlet' → (said ≡ now.Spent → n + 1 ≡ every)
             → IfOk result (λ why. IsRound medium gives takes fuel most from why
             (scene w'' disk'' source' outlet'))
-        within_rests heard whole =
+        within_rests heard taken whole =
             rested fuel most (n + 1) from w' w'' disk' disk'' source' outlet' said
-            (leads_more said carries) some within (heard_on ⊥ heard) (lead_more said slices) result
+            (leads_more said carries) some within (heard_on ⊥ heard) (taken_on taken)
+            (lead_more said slices) result
             (λ e. whole e ∙ is_most) rests
 
         pub within_broken : AsksUnless gives ⊥ here.source source'
+            → TakesEach takes here.outlet outlet'
             → IfErr result (λ why. IsBrokenRound medium gives takes fuel most from why disk''
             source' outlet')
-        within_broken heard =
+        within_broken heard taken =
             broken fuel most (n + 1) from w' w'' disk' disk'' source' outlet' said
-            (leads_more said carries) some within (heard_on ⊥ heard)
+            (leads_more said carries) some within (heard_on ⊥ heard) (taken_on taken)
             (λ why. breaks_more why (breaks_in_checkpoint gives takes fuel here.source source'
             here.outlet outlet' here.worker w' said why (sliced_so said slices))) result rests
 
@@ -380,9 +399,11 @@ module _ {D S O : Type 0} (medium : D → Medium) (gives : Giving S) (takes : Ta
   pub record SoFar (fuel every : ℕ) (from here : Scene D S O) : Type 0 where
     pub room : total_sectors here.worker.store.geometry ≤ (medium here.disk).sectors
     pub heard : AsksUnless gives ⊥ from.source here.source
+    pub taken : TakesEach takes from.outlet here.outlet
     pub on : (rest : List Act) (result : Result Now DurableFault) (disk : D) (source : S)
         (outlet : O) → IsPaced fuel every rest
         → AsksUnless gives (IsOfSource (left_after result)) from.source source
+        → HeedsOutlet takes (SaysOutletFault (left_after result)) from.outlet outlet
         → (done : AreCalled medium gives takes rest here (left_after result) disk source outlet)
         → IfOk result (λ told. outcome_after now.Spent done ≡ told)
         → IfErr result (λ why. BreaksOffAt gives takes fuel (steps_among rest) here why source
@@ -395,10 +416,12 @@ module _ {D S O : Type 0} (medium : D → Medium) (gives : Giving S) (takes : Ta
   none_yet fuel every here room = record {
     room = room;
     heard = nothing_asked gives here.source;
-    on = λ rest result disk source outlet paced heard done says broken. record {
+    taken = none_told takes here.outlet;
+    on = λ rest result disk source outlet paced heard heeded done says broken. record {
       acts = rest;
       paced = paced;
       heard = heard;
+      heeded = heeded;
       done = done;
       says = says;
       broken = broken;
@@ -460,9 +483,10 @@ module _ {D S O : Type 0} (medium : D → Medium) (gives : Giving S) (takes : Ta
     round_more there room r = record {
       room = room;
       heard = asked_on gives ⊥ from.source here.source there.source so_far.heard r.heard;
-      on = λ rest result disk source outlet paced heard done says broken.
+      taken = takes_both takes from.outlet here.outlet there.outlet so_far.taken r.taken;
+      on = λ rest result disk source outlet paced heard heeded done says broken.
           so_far.on (round_of fuel every ++ rest) result disk source outlet (more rest paced) heard
-          (then_done there r rest result disk source outlet done)
+          heeded (then_done there r rest result disk source outlet done)
           (then_says there r rest result disk source outlet done says)
           (then_broken there r rest result disk source outlet done broken);
     }
@@ -476,7 +500,11 @@ module _ {D S O : Type 0} (medium : D → Medium) (gives : Giving S) (takes : Ta
         (last r.count r.some r.within)
         (asked_so_far gives (IsOfSource (Ok [])) from.source there.source
         (asked_on gives ⊥ from.source here.source there.source so_far.heard r.heard))
-        (leads_out (round_of fuel r.count) here why there r.leads)
+        (inl (
+          takes_both takes from.outlet here.outlet there.outlet so_far.taken r.taken,
+          λ told.
+              told,
+        )) (leads_out (round_of fuel r.count) here why there r.leads)
         (says_out (round_of fuel r.count) here why there r.leads) tt
 
     pub round_broken : (why : DurableFault) (disk : D) (source : S) (outlet : O)
@@ -486,4 +514,6 @@ module _ {D S O : Type 0} (medium : D → Medium) (gives : Giving S) (takes : Ta
         so_far.on (round_of fuel r.count) (Err why) disk source outlet
         (last r.count r.some r.within)
         (asked_on gives (IsOfSource (Err (recover.Worker why))) from.source here.source source
-        so_far.heard r.heard) r.done tt r.broken
+        so_far.heard r.heard)
+        (heeds_on takes (IsOutletsCall why) from.outlet here.outlet outlet so_far.taken r.heeded)
+        r.done tt r.broken

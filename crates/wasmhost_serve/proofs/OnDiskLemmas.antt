@@ -16,7 +16,9 @@ use Rattle.durable_worker.specs.declared.fault.DurableFault.TheVariants as durab
 use Rattle.durable_worker.specs.declared.recover_fault.RecoverFault.{RecoverFault}
 use Rattle.durable_worker.specs.declared.recover_fault.RecoverFault.TheVariants as recover
 use Rattle.durable_worker.specs.rules.DurableValues.{DurableValue}
+use Rattle.durable_worker.specs.rules.Outlets.{HeedsOutlet, IsOutletFault, SaysOutletFault}
 use Rattle.durable_worker.specs.rules.Recoveries.{IsNoWorker, Recovers, RecoveryCarries}
+use Rattle.durable_worker.proofs.OutletLemmas.{heeds_on, each_taken}
 use Rattle.durable_worker.specs.laws.OneLife.{recovered, opened, unopened}
 use Rattle.wasmhost_serve.specs.declared.lines.fault.LineFault.{LineFault}
 use Rattle.wasmhost_serve.specs.declared.lines.fault.LineFault.TheVariants as line
@@ -33,16 +35,15 @@ use Rattle.wasmhost_serve.specs.rules.Statuses.{status_of_line}
 use Rattle.wasmhost_serve.specs.rules.LastWords.{ended_by, last_words}
 use Rattle.durable_worker.specs.laws.Outcomes.{outcome_after}
 use Rattle.wasmhost_serve.specs.rules.ServedOnDisk.{DiskJob, stands_behind, handing}
-use Rattle.wasmhost_serve.specs.rules.ServedOnDisk.{printing, IsLeftAlone, IsUnopenedRun}
-use Rattle.wasmhost_serve.specs.rules.ServedOnDisk.{LivesOnDisk}
+use Rattle.wasmhost_serve.specs.rules.ServedOnDisk.{IsLeftAlone, IsUnopenedRun, LivesOnDisk}
 use Rattle.wasmhost_serve.specs.rules.Printers.{PrinterState, IsSaid, SaysText, TellsPerson}
 use Rattle.wasmhost_serve.specs.rules.ServedOnDisk.{ServesOnDisk, recovered_line}
 use Rattle.wasmhost_serve.specs.rules.ServedOnDisk.{unopened as is_unopened}
 use Rattle.wasmhost_serve.specs.rules.ServedOnDisk.{over, broken}
 use Rattle.wasmhost_serve.proofs.LivingLemmas.{carried_over}
 use Rattle.wasmhost_serve.proofs.PrinterLemmas.{few_said}
-use Rattle.wasmhost_serve.proofs.ShownLemmas.{gives_so, takes_so, asked_so, recovery_so}
-use Rattle.wasmhost_serve.proofs.ShownLemmas.{calls_so, outcome_so, broken_so}
+use Rattle.wasmhost_serve.proofs.ShownLemmas.{gives_so, asked_so, calls_so, outcome_so}
+use Rattle.wasmhost_serve.proofs.ShownLemmas.{broken_so}
 
 -- ---- an open worker
 
@@ -56,30 +57,27 @@ module _ {R : Type 0} (unread : R → Option (List ℕ)) (failed : R → Bool) w
   is_behind same first behind start is unspoilt =
       rw (same, first, behind, start, is, unspoilt) refl
 
-module _ {D S O : Type 0} (medium : D → Medium) (stands : S → Standing)
-    (shows : O → Option (List ℕ)) where
-  -- where it has failed, seen by where its source stands and by what is printed
+module _ {D S O : Type 0} (medium : D → Medium) (stands : S → Standing) (takes : Taking O) where
+  -- where it has failed, seen by where its source stands
   breaks_so : (given : DiskJob) (w : DurableValue) (disk : D) (all : ℕ) (s t : S) (o p : O)
       (why : DurableFault) → stands s ≡ stands_behind given w
-      → BreaksOffAt (gives_so stands shows handing printing)
-      (takes_so stands shows handing printing) given.fuel all (scene w disk s o) why t p
-      → BreaksOffAt handing printing given.fuel all
-      (scene w disk (stands_behind given w) (shows o)) why (stands t) (shows p)
+      → BreaksOffAt (gives_so stands handing takes) takes given.fuel all (scene w disk s o) why t p
+      → BreaksOffAt handing takes given.fuel all (scene w disk (stands_behind given w) o) why
+      (stands t) p
   breaks_so given w disk all s t o p why is breaks =
-      subst (λ (z : Standing). BreaksOffFrom handing printing w.process given.fuel all why z
-      (stands t) (shows o) (shows p)) is
-      (broken_so stands shows handing printing w.process given.fuel all why s t o p breaks)
+      subst (λ (z : Standing). BreaksOffFrom handing takes w.process given.fuel all why z
+      (stands t) o p) is
+      (broken_so stands handing takes w.process given.fuel all why s t o p breaks)
 
-  -- what was done of a worker, seen by where its source stands and by what is printed
+  -- what was done of a worker, seen by where its source stands
   lives_so : (given : DiskJob) (w : DurableValue) (disk last : D) (s t : S) (o p : O)
       (result : Result Now DurableFault) → stands s ≡ stands_behind given w
-      → LivesAtPace medium (gives_so stands shows handing printing)
-      (takes_so stands shows handing printing) given.fuel given.every (scene w disk s o) result last
-      t p
-      → LivesAtPace medium handing printing given.fuel given.every
-      (scene w disk (stands_behind given w) (shows o)) result last (stands t) (shows p)
+      → LivesAtPace medium (gives_so stands handing takes) takes given.fuel given.every
+      (scene w disk s o) result last t p
+      → LivesAtPace medium handing takes given.fuel given.every
+      (scene w disk (stands_behind given w) o) result last (stands t) p
   lives_so given w disk last s t o p result is lives =
-      let calls = calls_so stands shows handing printing medium lives.acts w disk last s t o p
+      let calls = calls_so stands handing takes medium lives.acts w disk last s t o p
       (left_after result) lives.done in
       record {
         acts = lives.acts;
@@ -87,42 +85,40 @@ module _ {D S O : Type 0} (medium : D → Medium) (stands : S → Standing)
         heard = record {
           asks = lives.heard.asks;
           led = subst (λ (z : Standing). AnswersInOrder handing z lives.heard.asks (stands t)) is
-              (asked_so stands shows handing printing lives.heard.asks s t lives.heard.led);
+              (asked_so stands handing takes lives.heard.asks s t lives.heard.led);
           heard = lives.heard.heard;
         };
-        done = subst (λ (z : Standing). AreCalled medium handing printing lives.acts
-            (scene w disk z (shows o)) (left_after result) last (stands t) (shows p)) is calls;
+        heeded = lives.heeded;
+        done = subst (λ (z : Standing). AreCalled medium handing takes lives.acts
+            (scene w disk z o) (left_after result) last (stands t) p) is calls;
         says = subst (λ z. IfOk result (λ told. z ≡ told))
-            (sym (carried_over (λ (z : Standing). AreCalled medium handing printing lives.acts
-            (scene w disk z (shows o)) (left_after result) last (stands t) (shows p))
+            (sym (carried_over (λ (z : Standing). AreCalled medium handing takes lives.acts
+            (scene w disk z o) (left_after result) last (stands t) p)
             (λ z done. outcome_after now.Spent done) (stands s) (stands_behind given w) is calls
-            ∙ outcome_so stands shows handing printing medium now.Spent lives.acts w disk last s t o
+            ∙ outcome_so stands handing takes medium now.Spent lives.acts w disk last s t o
             p (left_after result) lives.done)) lives.says;
         broken = IfErr-weaker result
-            (λ why. BreaksOffAt (gives_so stands shows handing printing)
-            (takes_so stands shows handing printing) given.fuel (steps_among lives.acts)
-            (scene w disk s o) why t p)
-            (λ why. BreaksOffAt handing printing given.fuel (steps_among lives.acts)
-            (scene w disk (stands_behind given w) (shows o)) why (stands t) (shows p))
+            (λ why. BreaksOffAt (gives_so stands handing takes) takes given.fuel
+            (steps_among lives.acts) (scene w disk s o) why t p)
+            (λ why. BreaksOffAt handing takes given.fuel (steps_among lives.acts)
+            (scene w disk (stands_behind given w) o) why (stands t) p)
             (λ why. breaks_so given w disk (steps_among lives.acts) s t o p why is) lives.broken;
       }
 
   module _ (given : DiskJob) (w : DurableValue) (disk last : D) (s t : S) (o p : O)
       (is : stands s ≡ stands_behind given w) where
     pub has_gone : (why : Now) → why ≢ now.Spent
-        → LivesAtPace medium (gives_so stands shows handing printing)
-        (takes_so stands shows handing printing) given.fuel given.every (scene w disk s o) (Ok why)
-        last t p
-        → HasGoneOn medium given w disk last (shows o) (shows p) (stands t).failed (Ok why)
+        → LivesAtPace medium (gives_so stands handing takes) takes given.fuel given.every
+        (scene w disk s o) (Ok why) last t p
+        → HasGoneOn medium takes given w disk last o p (stands t).failed (Ok why)
     has_gone why gone lives =
         (stands t, gone, refl, lives_so given w disk last s t o p (Ok why) is lives)
 
     pub has_failed : (why : DurableFault) (told : OnDiskFault)
         → IsToldOnDisk why (stands t).fault told
-        → LivesAtPace medium (gives_so stands shows handing printing)
-        (takes_so stands shows handing printing) given.fuel given.every (scene w disk s o)
-        (Err why) last t p
-        → HasGoneOn medium given w disk last (shows o) (shows p) (stands t).failed (Err told)
+        → LivesAtPace medium (gives_so stands handing takes) takes given.fuel given.every
+        (scene w disk s o) (Err why) last t p
+        → HasGoneOn medium takes given w disk last o p (stands t).failed (Err told)
     has_failed why told tells lives = (
       stands t,
       why,
@@ -133,15 +129,11 @@ module _ {D S O : Type 0} (medium : D → Medium) (stands : S → Standing)
 
 -- ---- a recovery
 
-module _ {D O : Type 0} (medium : D → Medium) (shows : O → Option (List ℕ)) where
-  -- what an outlet takes
-  abbrev pub prints_so : Taking O
-  prints_so old number line said new = printing (shows old) number line said (shows new)
-
+module _ {D O : Type 0} (medium : D → Medium) (takes : Taking O) where
   -- where there is no worker, nothing is written or told
   left_alone : (why : RecoverFault) (found last : D) (o p : O)
-      → Recovers medium prints_so (Err why) found last o p → IsNoWorker why
-      → IsLeftAlone medium found last (shows o) (shows p)
+      → Recovers medium takes (Err why) found last o p → IsNoWorker why
+      → IsLeftAlone medium found last o p
   left_alone why found last o p (inl unsettled) none =
       absurd (not_a_disk why (error_is unsettled.is) none)
     where
@@ -156,87 +148,78 @@ module _ {D O : Type 0} (medium : D → Medium) (shows : O → Option (List ℕ)
       error_is is = cc
   left_alone why found last o p (inr settled) none =
       let alone = settled.3 none in
-      record {
-        settled = settled.0;
-        synced = settled.1;
-        read = alone.0;
-        same = ap shows alone.1;
-      }
+      record { settled = settled.0; synced = settled.1; read = alone.0; same = alone.1 }
 
   -- a worker that isn't opened
-  pub opens_none : (why : RecoverFault) (found last : D) (o p : O)
-      → Recovers medium prints_so (Err why) found last o p
-      → RecoveryCarries prints_so (Err why) (medium found) (medium last) o p
-      → IsUnopenedRun medium why found last (shows o) (shows p)
-  opens_none why found last o p recovers carries = record {
+  opens_none : (why : RecoverFault) (found last : D) (o p : O)
+      → Recovers medium takes (Err why) found last o p
+      → RecoveryCarries takes (Err why) (medium found) (medium last) o p
+      → HeedsOutlet takes (IsOutletFault why) o p
+      → IsUnopenedRun medium takes why found last o p
+  opens_none why found last o p recovers carries heeds = record {
     none = left_alone why found last o p recovers;
     life = λ some image leaves bytes config acts source.
-        unopened (recovered image leaves some
-        (recovery_so {S = Standing} (λ (z : Standing). z) shows handing printing (Err why)
-        (medium found) (medium last)
-        o p carries));
+        unopened (recovered image leaves some carries);
+    heeded = heeds;
   }
 
   -- one that is, and lives
   lives_on : (given : DiskJob) (w : DurableValue) (result : Result Now DurableFault)
-      (found opening last : D) (o p : O) (out' : Option (List ℕ)) (source' : Standing)
-      → RecoveryCarries prints_so (Ok w) (medium found) (medium opening) o p
-      → LivesAtPace medium handing printing given.fuel given.every
-      (scene w opening (stands_behind given w) (shows p)) result last source' out'
-      → LivesOnDisk medium given (left_after result) found last (shows o) out' source'
-  lives_on given w result found opening last o p out' source' carries lives = record {
+      (found opening last : D) (o p q : O) (source' : Standing)
+      → RecoveryCarries takes (Ok w) (medium found) (medium opening) o p
+      → HeedsOutlet takes ⊥ o p
+      → LivesAtPace medium handing takes given.fuel given.every
+      (scene w opening (stands_behind given w) p) result last source' q
+      → LivesOnDisk medium takes given (left_after result) found last o q source'
+  lives_on given w result found opening last o p q source' carries heeds lives = record {
     worker = w;
     opening = opening;
-    retold = shows p;
-    recovers = recovery_so {S = Standing} (λ (z : Standing). z) shows handing printing (Ok w)
-        (medium found) (medium opening) o p carries;
+    retold = p;
+    recovers = carries;
     acts = lives.acts;
     paced = lives.paced;
     heard = lives.heard;
+    heeded = heeds_on takes (SaysOutletFault (left_after result)) o p q
+        (each_taken takes ⊥ o p (λ told. told) heeds) lives.heeded;
     life = λ image leaves bytes config.
-        opened (recovered image leaves (λ none. none)
-        (recovery_so {S = Standing} (λ (z : Standing). z) shows handing printing (Ok w)
-        (medium found) (medium opening)
-        o p carries)) lives.done;
+        opened (recovered image leaves (λ none. none) carries) lives.done;
   }
 
   -- ---- what the status says
 
-  module _ (given : DiskJob) (found last : D) (o : O) (out' : Option (List ℕ))
-      (err err' : PrinterState) (failed' : Bool) (status : ℕ) where
+  module _ (given : DiskJob) (found last : D) (o q : O) (err err' : PrinterState) (failed' : Bool)
+      (status : ℕ) where
     abbrev Serves : Type 0
-    Serves = ServesOnDisk medium given found last (shows o) out' err err' failed' status
+    Serves = ServesOnDisk medium takes given found last o q err err' failed' status
 
-    pub serves_none : (why : RecoverFault) (told : OnDiskFault) (p : O) → shows p ≡ out'
-        → failed' ≡ given.failed
-        → Recovers medium prints_so (Err why) found last o p
-        → RecoveryCarries prints_so (Err why) (medium found) (medium last) o p
+    pub serves_none : (why : RecoverFault) (told : OnDiskFault) → failed' ≡ given.failed
+        → Recovers medium takes (Err why) found last o q
+        → RecoveryCarries takes (Err why) (medium found) (medium last) o q
+        → HeedsOutlet takes (IsOutletFault why) o q
         → told ≡ told_of_opening why → IsSaid (status_on_disk told) err status err' → Serves
-    serves_none why told p same heeded recovers carries tells says =
-        is_unopened why
-        (subst (IsUnopenedRun medium why found last (shows o)) same
-        (opens_none why found last o p recovers carries)) heeded
+    serves_none why told steady recovers carries heeds tells says =
+        is_unopened why (opens_none why found last o q recovers carries heeds) steady
         (subst (λ t. IsSaid (status_on_disk t) err status err') tells says)
 
     module _ (w : DurableValue) (opening : D) (p : O) (between : PrinterState)
-        (carries : RecoveryCarries prints_so (Ok w) (medium found) (medium opening) o p)
-        (tells : TellsPerson (recovered_line w) err between) where
+        (carries : RecoveryCarries takes (Ok w) (medium found) (medium opening) o p)
+        (heeds : HeedsOutlet takes ⊥ o p) (tells : TellsPerson (recovered_line w) err between) where
       pub serves_over : (why : Now)
-          → HasGoneOn medium given w opening last (shows p) out' failed' (Ok why)
+          → HasGoneOn medium takes given w opening last p q failed' (Ok why)
           → SaysText (last_words (ended_by why)) 0 between status err' → Serves
       unfolding lives_on
       serves_over why gone says =
           over why gone.0 between gone.1
-          (lives_on given w (Ok why) found opening last o p out' gone.0 carries gone.3)
+          (lives_on given w (Ok why) found opening last o p q gone.0 carries heeds gone.3)
           (λ image leaves bytes config. gone.3.says) gone.2 tells says
 
       pub serves_broken : (told : OnDiskFault)
-          → HasGoneOn medium given w opening last (shows p) out' failed' (Err told)
+          → HasGoneOn medium takes given w opening last p q failed' (Err told)
           → IsSaid (status_on_disk told) between status err' → Serves
       unfolding lives_on
       serves_broken told gone says =
           broken gone.1 told gone.0 between
-          (lives_on given w (Err gone.1) found opening last o p out' gone.0 carries gone.4)
+          (lives_on given w (Err gone.1) found opening last o p q gone.0 carries heeds gone.4)
           gone.4.broken gone.3 gone.2 tells says
 
 -- ---- statuses

@@ -1,11 +1,12 @@
--- Where a call has failed when no line waits, each line was printed.
+-- Where a call has failed when no line waits, each line was told.
 use Rattle.std.proofs.Common.{◌≡◌, ℕ, ◌+◌, List, [], ◌∷◌, ◌++◌, Some, None, refl, sym, ap, ◌∙◌}
 use Rattle.std.proofs.Common.{subst, append_assoc, append-nil}
 use Rattle.std.specs.Prelude.{Option, suc, length}
 use Rattle.wasi_abi.specs.declared.answer.Answer.{Answer}
 use Rattle.wasi_abi.specs.declared.answer.Kind.{Kind}
 use Rattle.process_rules.specs.Processes.{ProcessState, Guest}
-use Rattle.record_replay.specs.rules.Calls.{Exchange, Asks, Releases, releases_of, all_taken}
+use Rattle.record_replay.specs.rules.Calls.{Taking, Exchange, Asks, Releases, releases_of}
+use Rattle.record_replay.specs.rules.Calls.{all_taken}
 use Rattle.record_replay.proofs.Following.{releases_of-append}
 use Rattle.worker.specs.declared.fault.WorkFault.TheVariants as work
 use Rattle.worker.specs.declared.fault.Refusal.TheVariants as refusal
@@ -16,9 +17,8 @@ use Rattle.durable_worker.specs.declared.fault.DurableFault.{DurableFault}
 use Rattle.durable_worker.specs.declared.fault.DurableFault.TheVariants as durable
 use Rattle.wasmhost_serve.specs.Lines.Answers.{Standing}
 use Rattle.wasmhost_serve.specs.rules.BrokenLives.{IsBrokenAt, in_slice, in_checkpoint, BreaksOff}
-use Rattle.wasmhost_serve.specs.rules.BrokenLives.{LeavesNoLine, PrintsItsLines}
-use Rattle.wasmhost_serve.specs.rules.ServedOnDisk.{handing, printing}
-use Rattle.wasmhost_serve.proofs.LineLemmas.Printed.{taken_are_printed}
+use Rattle.wasmhost_serve.specs.rules.BrokenLives.{LeavesNoLine, TellsItsLines}
+use Rattle.wasmhost_serve.specs.rules.ServedOnDisk.{handing}
 
 -- The calls but for the last ones, which tell no line, lead there.
 record AllTold (guest : Guest) (p : ProcessState) (exchanges : List Exchange) (q : ProcessState)
@@ -30,7 +30,7 @@ record AllTold (guest : Guest) (p : ProcessState) (exchanges : List Exchange) (q
   steps : ℕ
   leads : SliceLeadsTo guest p front steps q
 
-asks_only : (kind : Kind) (given : Option Answer) → releases_of (last_answer kind given) ≡ []
+pub asks_only : (kind : Kind) (given : Option Answer) → releases_of (last_answer kind given) ≡ []
 asks_only kind None = refl
 asks_only kind (Some a) = refl
 
@@ -89,30 +89,28 @@ module _ (guest : Guest) (p : ProcessState) where
     leads = leads_join guest p mid q front told.front n told.steps leads told.leads;
   }
 
-  told_lines : (exchanges : List Exchange) (q : ProcessState) (out out' : Option (List ℕ))
-      → AllTold guest p exchanges q → Releases printing out (releases_of exchanges) out'
-      → PrintsItsLines p q out out'
-  told_lines exchanges q out out' told released =
-      let first = suc (length p.host.lines) in
-      let lines = told.leads.lines in
-      let all : releases_of exchanges ≡ all_taken first lines =
-      ap releases_of told.is ∙ releases_of-append told.front told.last
-      ∙ ap (λ z. releases_of told.front ++ z) told.untold ∙ append-nil (releases_of told.front)
-      ∙ told.leads.released in
-      record {
-        lines = lines;
-        written = told.leads.emitted;
-        printed = taken_are_printed {O = Option (List ℕ)} (λ o. o) first lines out out'
-            (subst (λ z. Releases printing out z out') all released);
-      }
+  module _ {O : Type 0} (takes : Taking O) where
+    told_lines : (exchanges : List Exchange) (q : ProcessState) (outlet outlet' : O)
+        → AllTold guest p exchanges q → Releases takes outlet (releases_of exchanges) outlet'
+        → TellsItsLines takes p q outlet outlet'
+    told_lines exchanges q outlet outlet' told released =
+        let all : releases_of exchanges ≡ all_taken (suc (length p.host.lines)) told.leads.lines =
+        ap releases_of told.is ∙ releases_of-append told.front told.last
+        ∙ ap (λ z. releases_of told.front ++ z) told.untold ∙ append-nil (releases_of told.front)
+        ∙ told.leads.released in
+        record {
+          lines = told.leads.lines;
+          written = told.leads.emitted;
+          told = subst (λ z. Releases takes outlet z outlet') all released;
+        }
 
-  -- each line was printed that was written until a call failed
-  pub lines_printed : (source source' : Standing) (out out' : Option (List ℕ)) (fuel all : ℕ)
-      (why : DurableFault) → LeavesNoLine why
-      → (b : BreaksOff handing printing guest p source source' out out' fuel all why)
-      → PrintsItsLines p b.process out out'
-  lines_printed source source' out out' fuel all why none b =
-      told_lines (b.front ++ b.back) b.process out out'
-      (told_on b.front b.back b.steps b.begun b.process b.leads
-      (told_before guest b.begun b.back b.more b.process fuel why none b.broken))
-      b.exchanged.released
+    -- each line was told that was written until a call failed
+    pub lines_told : (source source' : Standing) (outlet outlet' : O) (fuel all : ℕ)
+        (why : DurableFault) → LeavesNoLine why
+        → (b : BreaksOff handing takes guest p source source' outlet outlet' fuel all why)
+        → TellsItsLines takes p b.process outlet outlet'
+    lines_told source source' outlet outlet' fuel all why none b =
+        told_lines (b.front ++ b.back) b.process outlet outlet'
+        (told_on b.front b.back b.steps b.begun b.process b.leads
+        (told_before guest b.begun b.back b.more b.process fuel why none b.broken))
+        b.exchanged.released

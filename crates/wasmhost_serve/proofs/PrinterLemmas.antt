@@ -6,15 +6,9 @@ use Rattle.std.specs.Io.KnownBytes.{Appends}
 use Rattle.wasmhost_serve.specs.rules.Printers.{PrinterState, IsPrinted, IsSaid, SaysText}
 use Rattle.wasmhost_serve.specs.rules.Printers.{HeedsWrites, HeedsBoth}
 use Rattle.wasmhost_serve.specs.rules.Showings.{named_number}
-use Rattle.wasmhost_serve.proofs.LineLemmas.Printed.{appends_both}
+use Rattle.wasmhost_serve.proofs.LineLemmas.Printed.{prints_both}
 
 -- ---- texts
-
--- two that are printed one behind the other
-pub prints_both : (a b c : PrinterState) (front rest : List ℕ) → IsPrinted a b front
-    → IsPrinted b c rest → IsPrinted a c (front ++ rest)
-prints_both a b c front rest h k =
-    (appends_both a.contents b.contents c.contents front rest h.0 k.0, k.1 ∙ h.1)
 
 pub prints_four : (a b c d e : PrinterState) (p q r s : List ℕ) → IsPrinted a b p
     → IsPrinted b c q → IsPrinted c d r → IsPrinted d e s → IsPrinted a e (p ++ q ++ r ++ s)

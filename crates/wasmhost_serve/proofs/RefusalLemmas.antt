@@ -7,7 +7,7 @@ use Rattle.wasi_abi.specs.declared.answer.Answer.{Answer}
 use Rattle.wasi_abi.specs.declared.answer.Kind.{Kind}
 use Rattle.process_rules.specs.Runs.{Kept}
 use Rattle.record_replay.specs.declared.fault.SourceFault.{SourceFault}
-use Rattle.record_replay.specs.rules.Calls.{Ask, Asked, AnswersInOrder, asks_of}
+use Rattle.record_replay.specs.rules.Calls.{Ask, Asked, AnswersInOrder}
 use Rattle.record_replay.proofs.Following.{leads_split}
 use Rattle.worker.specs.rules.Slices.{handed_by, handed}
 use Rattle.wasmhost_serve.specs.declared.lines.fault.LineFault.{LineFault}
@@ -246,20 +246,14 @@ heard_so_far (ask ∷ asks) s u none leads =
 
 -- from no fault to none, a question that had no answer yet
 pub none_is_left : NoneIsLeftAtTheEnd
-none_is_left exchanges source source' out out' exchanged front back kind is =
+none_is_left front back kind source source' asked =
     let last : Ask = record { kind = kind; said = Ok None } in
-    let parts = leads_split (Asked handing) source source' front (last ∷ back)
-    (subst (λ z. AnswersInOrder handing source z source') is exchanged.asked) in
+    let parts = leads_split (Asked handing) source source' front (last ∷ back) asked in
     let hands : HandsAnswer kind parts.0 None parts.2.0 = parts.2.1 in
     let left = none_left source parts.0 parts.2.0 (handed front)
     (heard_so_far front source parts.0 hands.unfailed parts.1) kind hands in
     (left.0, left.2)
 
-pub reason_for : (s t : Standing) (asks : List Ask) (why : LineFault) → s.fault ≡ None
-    → t.fault ≡ Some why → AnswersInOrder handing s asks t → HasRefused s asks t.failed why
-reason_for s t asks why none is leads =
-    reason_of s t asks why (refused_there why asks s t none leads is)
-
 pub refusals_have_reasons : RefusalsHaveReasons
-refusals_have_reasons exchanges source source' out out' why exchanged none is =
-    reason_for source source' (asks_of exchanges) why none is exchanged.asked
+refusals_have_reasons asks s t why leads none is =
+    reason_of s t asks why (refused_there why asks s t none leads is)

@@ -12,8 +12,10 @@ use Rattle.durable_worker.specs.declared.recover_fault.RecoverFault.{RecoverFaul
 use Rattle.durable_worker.specs.declared.recover_fault.RecoverFault.TheVariants as recover
 use Rattle.durable_worker.specs.rules.DurableValues.{DurableValue}
 use Rattle.durable_worker.specs.rules.DurableCalls.{CheckpointCarries}
-use Rattle.durable_worker.specs.rules.Checkpoints.{CheckpointFails}
+use Rattle.durable_worker.specs.rules.Checkpoints.{CheckpointFails, HasCheckpointCause}
 use Rattle.durable_worker.specs.rules.LifeWords.{Act}
+use Rattle.durable_worker.specs.rules.Outlets.{TakesEach, HeedsOutlet, IsOutletFault}
+use Rattle.durable_worker.specs.rules.Outlets.{SaysOutletFault}
 use Rattle.durable_worker.specs.laws.OneLife.{CallsInOrder}
 use Rattle.wasmhost_serve.specs.declared.on_disk.fault.OnDiskFault.{OnDiskFault}
 use Rattle.wasmhost_serve.specs.Lines.Answers.{Standing}
@@ -22,7 +24,7 @@ use Rattle.durable_worker.specs.laws.Outcomes.{outcome_after}
 use Rattle.wasmhost_serve.specs.rules.BrokenLives.{BreaksOffFrom, SlicesLead, steps_among}
 use Rattle.wasmhost_serve.specs.rules.Hearings.{AsksUnless, IsOfSource}
 use Rattle.wasmhost_serve.specs.rules.Paces.{round_of, IsPaced}
-use Rattle.wasmhost_serve.specs.rules.ServedOnDisk.{DiskJob, stands_behind, handing, printing}
+use Rattle.wasmhost_serve.specs.rules.ServedOnDisk.{DiskJob, stands_behind, handing}
 
 -- a worker between two calls, with its disk, its source and its outlet
 pub record Scene (D S O : Type 0) : Type 0 where
@@ -85,7 +87,7 @@ module _ {D S O : Type 0} (medium : D → Medium) (gives : Giving S) (takes : Ta
 
   -- At most so many slices of this fuel, with a checkpoint behind them. The last one has answered
   -- this. They are just as many where its fuel is spent, and have taken all of their steps. No
-  -- question was refused.
+  -- question was refused, and no line.
   pub record IsRound (fuel every : ℕ) (from : Scene D S O) (why : Now) (to : Scene D S O)
       : Type 0 where
     pub count : ℕ
@@ -93,28 +95,33 @@ module _ {D S O : Type 0} (medium : D → Medium) (gives : Giving S) (takes : Ta
     pub within : count ≤ every
     pub whole : why ≡ now.Spent → count ≡ every
     pub heard : AsksUnless gives ⊥ from.source to.source
+    pub taken : TakesEach takes from.outlet to.outlet
     pub leads : ActsLead (round_of fuel count) from why to
     pub spent : why ≡ now.Spent
         → SlicesLeadOn gives takes from (steps_among (round_of fuel count)) to
 
-  -- One within which there was an error. No question was refused, unless it is the source's.
+  -- One within which there was an error. No question was refused, unless it is the source's, and no
+  -- line, unless it is the outlet's.
   pub record IsBrokenRound (fuel every : ℕ) (from : Scene D S O) (why : DurableFault) (disk : D)
       (source : S) (outlet : O) : Type 0 where
     pub count : ℕ
     pub some : 1 ≤ count
     pub within : count ≤ every
     pub heard : AsksUnless gives (IsOfSource (Err (recover.Worker why))) from.source source
+    pub heeded : HeedsOutlet takes (IsOutletFault (recover.Worker why)) from.outlet outlet
     pub done : AreCalled (round_of fuel count) from (Err (recover.Worker why)) disk source outlet
     pub broken : BreaksOffAt gives takes fuel (steps_among (round_of fuel count)) from why source
         outlet
 
   -- All that a worker is told at this pace is done, and the last slice has answered this; or it is
-  -- done up to this error. No question was refused, unless that is the source's.
+  -- done up to this error. No question was refused, unless that is the source's, and no line,
+  -- unless it is the outlet's.
   pub record LivesAtPace (fuel every : ℕ) (from : Scene D S O) (result : Result Now DurableFault)
       (disk : D) (source : S) (outlet : O) : Type 0 where
     pub acts : List Act
     pub paced : IsPaced fuel every acts
     pub heard : AsksUnless gives (IsOfSource (left_after result)) from.source source
+    pub heeded : HeedsOutlet takes (SaysOutletFault (left_after result)) from.outlet outlet
     pub done : AreCalled acts from (left_after result) disk source outlet
     pub says : IfOk result (λ told. outcome_after now.Spent done ≡ told)
     pub broken : IfErr result (λ why. BreaksOffAt gives takes fuel (steps_among acts) from why
@@ -126,17 +133,17 @@ abbrev pub IsRested : Now → Result Now DurableFault → DurableValue → Durab
 IsRested why (Ok told) old new disk disk' = (told ≡ why)
     × CheckpointCarries old (Ok tt) new disk disk' × (new.process ≡ old.process)
 IsRested why (Err fault) old new disk disk' = CheckpointCarries old (Err fault) new disk disk'
-    × CheckpointFails old disk disk' fault
+    × CheckpointFails old disk disk' fault × HasCheckpointCause old disk disk' fault
 
 -- An open worker has lived at its pace, on answers of a source that begins behind the requests that
 -- it has taken. It is over, as its last slice has answered, or an error is told.
-abbrev pub HasGoneOn : {D : Type 0} → (D → Medium) → DiskJob → DurableValue → D → D
-    → Option (List ℕ) → Option (List ℕ) → Bool → Result Now OnDiskFault → Type 0
-HasGoneOn medium given w disk disk' out out' failed' (Ok why) = (source' : Standing)
+abbrev pub HasGoneOn : {D O : Type 0} → (D → Medium) → Taking O → DiskJob → DurableValue → D → D
+    → O → O → Bool → Result Now OnDiskFault → Type 0
+HasGoneOn medium takes given w disk disk' outlet outlet' failed' (Ok why) = (source' : Standing)
     × (why ≢ now.Spent) × (source'.failed ≡ failed')
-    × LivesAtPace medium handing printing given.fuel given.every
-    (scene w disk (stands_behind given w) out) (Ok why) disk' source' out'
-HasGoneOn medium given w disk disk' out out' failed' (Err told) = (source' : Standing)
+    × LivesAtPace medium handing takes given.fuel given.every
+    (scene w disk (stands_behind given w) outlet) (Ok why) disk' source' outlet'
+HasGoneOn medium takes given w disk disk' outlet outlet' failed' (Err told) = (source' : Standing)
     × (why : DurableFault) × IsToldOnDisk why source'.fault told × (source'.failed ≡ failed')
-    × LivesAtPace medium handing printing given.fuel given.every
-    (scene w disk (stands_behind given w) out) (Err why) disk' source' out'
+    × LivesAtPace medium handing takes given.fuel given.every
+    (scene w disk (stands_behind given w) outlet) (Err why) disk' source' outlet'

@@ -13,6 +13,7 @@ pub mod Paces
 pub mod Printed
 pub mod Printers
 pub mod Prints
+pub mod Refusals
 pub mod Reports
 pub mod Requests
 pub mod Seeds

@@ -5,29 +5,35 @@ ghost use Rattle.durable_worker.specs.laws.Uncut.{LivesGoOnUncut};
 ghost use Rattle.wasmhost_serve.specs.rules.Answered.{AnswersComeFromTheLines};
 ghost use Rattle.wasmhost_serve.specs.rules.Answered.{NoneIsLeftAtTheEnd};
 ghost use Rattle.wasmhost_serve.specs.rules.DiskCauses.{RefusalsHaveReasons, StatusesHaveCauses};
-ghost use Rattle.wasmhost_serve.specs.rules.Printed.{TakenLinesArePrinted};
-ghost use Rattle.wasmhost_serve.specs.rules.ServedOnDisk.{handing, printing};
-ghost use Rattle.wasmhost_serve.specs.rules.ServedOnDisk.{ReleasedLinesArePrinted};
+ghost use Rattle.wasmhost_serve.specs.rules.Printed.{ReleasedLinesArePrinted};
+ghost use Rattle.wasmhost_serve.specs.rules.Printed.{SevenIsAFailedWrite, TakenLinesArePrinted};
+ghost use Rattle.wasmhost_serve.specs.rules.ServedOnDisk.{handing};
 ghost use Rattle.wasmhost_serve.specs.laws.Examples.{CreateOrderExamples, HelpExamples};
 ghost use Rattle.wasmhost_serve.specs.laws.Examples.{OptionMistakes, PathExamples, PathMistakes};
 ghost use Rattle.wasmhost_serve.specs.laws.Examples.{RunOrderExamples, StoryOrderExamples};
 ghost use Rattle.wasmhost_serve.specs.laws.Words.{FaultlessWordsMean};
 
+use record_replay::Outlet;
 use sector_disk::Disk;
-use std::io::Write;
 
-/// A printer that took each of some lines has printed them, and nothing else.
-pub fn taken_lines_are_printed<W: Write>()
-    ensures { TakenLinesArePrinted W.contents }
+/// An outlet that prints, and took each of some lines, has printed them, and nothing else.
+pub fn taken_lines_are_printed()
+    ensures taken { TakenLinesArePrinted }
+    ensures released { ReleasedLinesArePrinted }
+{}
+
+/// A run whose lines are printed answers 7 where a write of the output has failed, and only where
+/// one of the output or of the error output has.
+pub fn seven_is_a_failed_write()
+    ensures { SevenIsAFailedWrite }
 {}
 
 /// All that `serve` does of a worker that it has opened is one life. Where the power isn't cut
-/// in it, it goes on from all that was promised. Its lines were printed. Where there is no error,
-/// its last slice has answered how the process stands that all kept answers lead to.
-pub fn lives_on_disk_go_on<D: Disk>()
-    ensures goes_on { LivesGoOnUncut D.medium handing printing }
-    ensures printed { ReleasedLinesArePrinted }
-    ensures ended { LivesEndAsSaid D.medium handing printing }
+/// in it, it goes on from all that was promised. Where there is no error, its last slice has
+/// answered how the process stands that all kept answers lead to.
+pub fn lives_on_disk_go_on<D: Disk, O: Outlet>()
+    ensures goes_on { LivesGoOnUncut D.medium handing O.takes }
+    ensures ended { LivesEndAsSaid D.medium handing O.takes }
 {}
 
 /// Of all that is asked in a life on a disk, the answered requests are those of the reader's lines
@@ -46,9 +52,9 @@ pub fn refusals_have_reasons()
 {}
 
 /// Of each exit status of a run on a disk, what it comes from. Where a number, memory or an answer
-/// was wanting, each line that the process had written by then was printed.
-pub fn statuses_have_causes<D: Disk>()
-    ensures { StatusesHaveCauses D.medium }
+/// was wanting, each line that the process had written by then was told.
+pub fn statuses_have_causes<D: Disk, O: Outlet>()
+    ensures { StatusesHaveCauses D.medium O.takes }
 {}
 
 // Laws of the command line. The functions do nothing: what they ensure is the law.

@@ -17,20 +17,22 @@
 //!   the disk, at its start. `created N sectors` was printed then. What the other statuses say
 //!   is said too, and what a cut at any moment leaves (`creates`). `report_unprepared` answers the
 //!   status of what it tells, or 7.
-//! - `serve`: what each status of a run of the worker on a disk says (`serves`). Where the worker
-//!   was recovered, all that was done of the disk, the source and the outlet are the calls of one
-//!   life, in order: slices of its fuel, and checkpoints at its pace (`IsPaced`). The source begins
-//!   behind the requests that the worker has taken, and at the first word of the seed's stream of
-//!   its generation (`stands_behind`). It refuses no question, unless the error is its own
-//!   (`AsksUnless`). Where `err` is a terminal, its first line says how the worker was recovered
+//! - `serve`: what each status of a run of the worker on a disk says (`serves`), with whatever
+//!   outlet it is lent. Where the worker was recovered, all that was done of the disk, the source
+//!   and the outlet are the calls of one life, in order: slices of its fuel, and checkpoints at its
+//!   pace (`IsPaced`). The source begins behind the requests that the worker has taken, and at the
+//!   first word of the seed's stream of its generation (`stands_behind`). It refuses no question,
+//!   unless the error is its own (`AsksUnless`), and the outlet no line, unless the error is the
+//!   outlet's (`HeedsOutlet` of `durable_worker`). Where `err` is a terminal, its first line says how the worker was recovered
 //!   (`recovered_line`). `laws::lives_on_disk_go_on`: such calls are a life that goes on from all
-//!   that was promised, and its lines were printed. The last words are those of what its last slice
-//!   has answered (`HasOutcome`). Where a call fails, lines wait only as its own clause says
-//!   (`HasBrokenOff`). Where the disk shows no worker nothing is written or printed. No status is
-//!   above 7 (`known`).
+//!   that was promised. The last words are those of what its last slice has answered
+//!   (`HasOutcome`). Where a call fails, lines wait only as its own clause says (`HasBrokenOff`).
+//!   Where the disk shows no worker nothing is written or released. No status is above 7 (`known`).
+//!   It is 7 where the outlet has refused a line, and else only where a write of `err` has failed
+//!   (`refusal`). `laws::seven_is_a_failed_write`: what that comes to where the lines are printed.
 //! - `laws::statuses_have_causes`: what each of these statuses comes from, and that a reader which
 //!   fails is told (`SaysOnDisk`). Where a number, memory or an answer was wanting, each line of
-//!   the worker was printed (`HasPrintedItsLines`). `laws::refusals_have_reasons`: why the source
+//!   the worker was told (`HasToldItsLines`). `laws::refusals_have_reasons`: why the source
 //!   of a run refuses a question. `laws::answers_come_from_the_lines`: what it answers, and when it
 //!   has none yet.
 //! - `survey`: the survey of a worker's disk is printed, or what keeps it from that is told
@@ -47,7 +49,8 @@
 //!   `trap_name`: how last words call a trap.
 //! - `read_seed`, `seeded`: which texts are seeds, and which bytes a seed gives (`seeded_bytes`).
 //! - `LineReader` is what request lines are read from. `BufferedLines` is one over any `BufRead`.
-//! - `LineOutlet` prints each line that it takes, with its number and the letter of its stream
+//! - `LineOutlet` prints each line that it takes, with its number and the letter of its stream. It
+//!   refuses one only where a write of it has failed, and has then printed at most a front of it
 //!   (`PrintsOneLine`). `laws::taken_lines_are_printed`: the lines that it took are printed, and
 //!   nothing else.
 //! - `read_module`: the bytes of a reader, where they are known, up to one more than the longest
@@ -77,13 +80,15 @@
 //! `ShowsDisk`, `ShowsSurvey`, `survey_line` (`Showings.antt`); `open_words`, `IsOpenedFor`,
 //! `ShowsFile` (`Openings.antt`);
 //! `ServesOnDisk`, `LivesOnDisk`, `HasOutcome`, `HasBrokenOff`, `stands_behind`
-//! (`ServedOnDisk.antt`); `BreaksOff`, `LeavesNoLine`, `PrintsItsLines` (`BrokenLives.antt`);
-//! `SaysOnDisk`, `HasPrintedItsLines` (`DiskCauses.antt`); `IsPaced` (`Paces.antt`);
+//! (`ServedOnDisk.antt`); `BreaksOff`, `LeavesNoLine`, `TellsItsLines` (`BrokenLives.antt`);
+//! `SaysOnDisk`, `HasToldItsLines` (`DiskCauses.antt`); `HeedsRefusal` (`Refusals.antt`);
+//! `IsPaced` (`Paces.antt`);
 //! `status_on_disk`, `told_of_opening`, `IsToldOnDisk` (`DiskStatuses.antt`);
 //! `PrinterState`, `IsSaid`, `SaysText`, `HeedsBoth`, `TellsPerson` (`Printers.antt`);
 //! `said_by`, `AreLivesOf`, `IsScript` (`Scripts.antt`); `lines_of` (`Pieces.antt`); `story_text`,
 //! `TellsStory` (`Stories.antt`). Beside these:
-//! `all_printed` (`specs/rules/Printed.antt`), and `PrintsOneLine` (`specs/rules/Prints.antt`).
+//! `all_printed`, `SevenIsAFailedWrite` (`specs/rules/Printed.antt`), and `PrintsOneLine`
+//! (`specs/rules/Prints.antt`).
 //!
 //! # Who may touch what
 //!

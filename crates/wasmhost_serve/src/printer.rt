@@ -2,10 +2,10 @@
 
 ghost use Rattle.std.specs.Prelude.{◌≡◌, true, false, IfSome, OnErr, OnOk};
 ghost use Rattle.std.specs.Io.KnownBytes.{Appends, Keeps};
-ghost use Rattle.wasmhost_serve.specs.rules.Printers.{printer_state};
+ghost use Rattle.wasmhost_serve.specs.rules.Printers.{printer_state, GrowsByFront};
 
 use std::fmt::Display;
-use std::io::{self, Write};
+use std::io::{self, Error, ErrorKind, Write};
 use std::marker::Model;
 
 /// A writer for what the program says, and what is known of it. Only a write that fails makes
@@ -44,6 +44,13 @@ impl<W: Write + Drop> Printer<W> {
         self.is_terminal
     }
 
+    /// What it writes to.
+    pub fn writer(&self) -> &W
+        ensures { W.contents result.now ≡ self.now.contents }
+    {
+        &self.out
+    }
+
     /// Keeps it where a write has failed.
     fn heed(&mut self, written: io::Result<()>) -> io::Result<()>
         ensures same { result ≡ written }
@@ -69,14 +76,16 @@ impl<W: Write + Drop> Printer<W> {
         self.heed(written)
     }
 
-    /// Writes bytes, all of them.
+    /// Writes bytes, all of them. Where a write fails, at most a front of them is written.
     pub fn write_all(&mut self, bytes: &[u8]) -> io::Result<()>
         ensures bytes { OnOk result (Appends self.old.contents self.new.contents bytes.now) }
+        ensures front { OnErr result
+            (GrowsByFront self.old.contents self.new.contents bytes.now) }
         ensures steady { OnOk result (self.new.failed ≡ self.old.failed) }
         ensures failed { OnErr result (self.new.failed ≡ true) }
         ensures terminal { self.new.on_terminal ≡ self.old.on_terminal }
     {
-        let written = self.out.write_all(bytes);
+        let written = write_whole(&mut self.out, bytes);
         self.heed(written)
     }
 
@@ -90,4 +99,28 @@ impl<W: Write + Drop> Printer<W> {
         let written = self.out.flush();
         self.heed(written)
     }
+}
+
+/// Writes bytes, by one write after another. One that was interrupted is begun again.
+fn write_whole<W: Write>(out: &mut W, bytes: &[u8]) -> io::Result<()>
+    ensures bytes { OnOk result (Appends (W.contents out.old) (W.contents out.new) bytes.now) }
+    ensures front { OnErr result
+        (GrowsByFront (W.contents out.old) (W.contents out.new) bytes.now) }
+{
+    let mut rest = bytes;
+    for _ in 0..u64::MAX {
+        if rest.is_empty() {
+            return Ok(());
+        }
+        match out.write(rest) {
+            Ok(0) => return Err(Error::from(ErrorKind::WriteZero)),
+            Ok(count) => rest = &rest[count..],
+            Err(error) => {
+                if error.kind() != ErrorKind::Interrupted {
+                    return Err(error);
+                }
+            }
+        }
+    }
+    Err(Error::from(ErrorKind::Interrupted))
 }

@@ -1,8 +1,10 @@
 -- Lines that were taken one after another are printed one after another.
-use Rattle.std.proofs.Common.{ℕ, ◌+◌, List, [], ◌∷◌, ◌++◌, Some, None, sym, ap, ◌∙◌, subst}
+use Rattle.std.proofs.Common.{◌≡◌, ℕ, ◌+◌, List, [], ◌∷◌, ◌++◌, Some, None, refl, sym, ap, ◌∙◌}
+use Rattle.std.proofs.Common.{subst}
 use Rattle.std.specs.Prelude.{Option}
 use Rattle.std.specs.Io.KnownBytes.{Appends}
 use Rattle.std.proofs.lemmas.List.{append_assoc, append-nil}
+use Rattle.wasmhost_serve.specs.rules.Printers.{PrinterState, IsPrinted}
 use Rattle.wasmhost_serve.specs.rules.Texts.{printed}
 use Rattle.wasmhost_serve.specs.rules.Printed.{all_printed, TakenLinesArePrinted}
 
@@ -28,11 +30,18 @@ appends_six a b c d e f g p q r s t u h i j k l m =
     (appends_both a d e (p ++ q ++ r) s
     (appends_both a c d (p ++ q) r (appends_both a b c p q h i) j) k) l) m
 
-pub taken_are_printed : {O : Type 0} (contents : O → Option (List ℕ))
-    → TakenLinesArePrinted contents
-taken_are_printed contents first [] old new h =
-    subst (λ z. Appends (contents old) (contents z) []) (sym h) (appends_nothing (contents old))
-taken_are_printed contents first (line ∷ lines) old new h =
-    appends_both (contents old) (contents h.0) (contents new) (printed first line)
-    (all_printed (first + 1) lines) h.1
-    (taken_are_printed contents (first + 1) lines h.0 new h.2)
+-- two that a printer has printed one behind the other
+pub prints_both : (a b c : PrinterState) (front rest : List ℕ) → IsPrinted a b front
+    → IsPrinted b c rest → IsPrinted a c (front ++ rest)
+prints_both a b c front rest h k =
+    (appends_both a.contents b.contents c.contents front rest h.0 k.0, k.1 ∙ h.1)
+
+pub prints_nothing : (a b : PrinterState) → b ≡ a → IsPrinted a b []
+prints_nothing a b is =
+    subst (λ z. IsPrinted a z []) (sym is) (appends_nothing a.contents, refl)
+
+pub taken_are_printed : TakenLinesArePrinted
+taken_are_printed first [] old new h = prints_nothing old new h
+taken_are_printed first (line ∷ lines) old new h =
+    prints_both old h.0 new (printed first line) (all_printed (first + 1) lines) h.1
+    (taken_are_printed (first + 1) lines h.0 new h.2)

@@ -1,15 +1,15 @@
 -- Which answers a worker on a disk is given in a life: those of its reader's lines, in order, and
 -- the times and random bytes of the outside (this project's own).
-use Rattle.std.specs.Prelude.{◌≡◌, ℕ, ◌+◌, ⊤, List, [], ◌∷◌, ◌++◌, length, Option, None, Ok}
+use Rattle.std.specs.Prelude.{◌≡◌, ℕ, ◌+◌, ⊤, List, [], ◌∷◌, ◌++◌, length, None, Ok}
 use Rattle.wasi_abi.specs.declared.answer.Kind.{Kind}
 use Rattle.wasi_abi.specs.declared.answer.Kind.TheVariants as kinds
 use Rattle.process_rules.specs.Runs.{Kept}
-use Rattle.record_replay.specs.rules.Calls.{Ask, Exchange, Exchanges, asks_of}
+use Rattle.record_replay.specs.rules.Calls.{Ask, AnswersInOrder}
 use Rattle.worker.specs.rules.Slices.{handed}
 use Rattle.wasmhost_serve.specs.Lines.Answers.{Standing}
 use Rattle.wasmhost_serve.specs.rules.Outside.{ComeFrom, requests_in, words_of}
 use Rattle.wasmhost_serve.specs.rules.Requests.{GiveUpTo}
-use Rattle.wasmhost_serve.specs.rules.ServedOnDisk.{handing, printing}
+use Rattle.wasmhost_serve.specs.rules.ServedOnDisk.{handing}
 
 -- A source that stood here has given these answers, and stands there. The requests among them are
 -- those that its lines spell behind the requests it had taken, in order and none left out. The
@@ -20,18 +20,16 @@ pub record AreOfLines (old : Standing) (kept : List Kept) (new : Standing) : Typ
   pub taken : new.taken ≡ old.taken + length (requests_in kept)
   pub drawn : new.place ≡ old.place + words_of kept
 
--- Whatever a source and an outlet of the program have exchanged, all answers are such.
+-- Whatever a source of the program was asked, all its answers are such.
 abbrev pub AnswersComeFromTheLines : Type 0
-AnswersComeFromTheLines = (exchanges : List Exchange) (source source' : Standing)
-    (out out' : Option (List ℕ)) → Exchanges handing printing source out exchanges source' out'
-    → AreOfLines source (handed (asks_of exchanges)) source'
+AnswersComeFromTheLines = (asks : List Ask) (source source' : Standing)
+    → AnswersInOrder handing source asks source' → AreOfLines source (handed asks) source'
 
--- Whatever they have exchanged: a question to which there was no answer yet was one for a request.
--- The lines had come to their end behind the requests that were answered before it.
+-- Whatever it was asked: a question to which there was no answer yet was one for a request. The
+-- lines had come to their end behind the requests that were answered before it.
 abbrev pub NoneIsLeftAtTheEnd : Type 0
-NoneIsLeftAtTheEnd = (exchanges : List Exchange) (source source' : Standing)
-    (out out' : Option (List ℕ)) → Exchanges handing printing source out exchanges source' out'
-    → (front back : List Ask) (kind : Kind)
-    → asks_of exchanges ≡ front ++ (record { kind = kind; said = Ok None } ∷ back)
+NoneIsLeftAtTheEnd = (front back : List Ask) (kind : Kind) (source source' : Standing)
+    → AnswersInOrder handing source
+    (front ++ (record { kind = kind; said = Ok None } ∷ back)) source'
     → (kind ≡ kinds.Request)
     × GiveUpTo source.taken source.unread (requests_in (handed front)) (λ rest. rest ≡ [])

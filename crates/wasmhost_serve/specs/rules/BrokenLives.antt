@@ -1,10 +1,10 @@
 -- Where the process of a worker stands when a call of it has failed (this project's own).
-use Rattle.std.specs.Prelude.{◌≡◌, ℕ, suc, ◌+◌, ⊤, List, [], ◌∷◌, ◌++◌, length, Option}
-use Rattle.std.specs.Io.KnownBytes.{Appends}
+use Rattle.std.specs.Prelude.{◌≡◌, ℕ, suc, ◌+◌, ⊤, List, [], ◌∷◌, ◌++◌, length}
 use Rattle.wasi_calls_rules.specs.Hosts.{Line}
 use Rattle.process_rules.specs.Processes.{ProcessState, Guest}
 use Rattle.process.specs.rules.Values.{ProcessValue, ShowsProcess}
-use Rattle.record_replay.specs.rules.Calls.{Giving, Taking, Exchange, Exchanges}
+use Rattle.record_replay.specs.rules.Calls.{Giving, Taking, Exchange, Exchanges, Releases}
+use Rattle.record_replay.specs.rules.Calls.{all_taken}
 use Rattle.worker.specs.declared.now.Now.{Now}
 use Rattle.worker.specs.declared.fault.WorkFault.TheVariants as work
 use Rattle.worker.specs.rules.Slices.{SliceLeadsTo, AreAnswered, AreWanted, IsNow}
@@ -12,7 +12,6 @@ use Rattle.durable_worker.specs.declared.fault.DurableFault.{DurableFault}
 use Rattle.durable_worker.specs.declared.fault.DurableFault.TheVariants as durable
 use Rattle.durable_worker.specs.rules.DurableFailures.{IsDiskCause, StopsAtQuestion}
 use Rattle.durable_worker.specs.rules.LifeWords.{Act, Slice, Checkpoint}
-use Rattle.wasmhost_serve.specs.rules.Printed.{all_printed}
 
 -- how many steps the slices among these acts may take
 abbrev pub steps_among : List Act → ℕ
@@ -82,9 +81,10 @@ LeavesNoLine (durable.Work (work.Refused why)) = ⊤
 LeavesNoLine (durable.Store why) = IsOfQuestion (durable.Store why)
 LeavesNoLine other = ⊥
 
--- Each line that the process has written on its way from p to q was printed, once and in order,
--- with its number. Nothing else was.
-pub record PrintsItsLines (p q : ProcessState) (out out' : Option (List ℕ)) : Type 0 where
+-- Each line that the process has written on its way from p to q was released, once and in order,
+-- with its number, and the outlet took it. No other line was released.
+pub record TellsItsLines {O : Type 0} (takes : Taking O) (p q : ProcessState) (outlet outlet' : O)
+    : Type 0 where
   pub lines : List Line
   pub written : q.host.lines ≡ p.host.lines ++ lines
-  pub printed : Appends out out' (all_printed (suc (length p.host.lines)) lines)
+  pub told : Releases takes outlet (all_taken (suc (length p.host.lines)) lines) outlet'

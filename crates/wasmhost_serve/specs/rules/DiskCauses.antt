@@ -8,7 +8,7 @@ use Rattle.sector_disk.specs.declared.fault.DiskFault.TheVariants as disk
 use Rattle.process_rules.specs.Processes.{ProcessState, Guest}
 use Rattle.process.specs.rules.Values.{ShowsProcess}
 use Rattle.record_replay.specs.declared.fault.SourceFault.{SourceFault}
-use Rattle.record_replay.specs.rules.Calls.{Ask, AnswersInOrder, Exchange, Exchanges, asks_of}
+use Rattle.record_replay.specs.rules.Calls.{Taking, Ask, AnswersInOrder}
 use Rattle.worker.specs.declared.fault.WorkFault.TheVariants as work
 use Rattle.worker.specs.declared.now.Now.{Now}
 use Rattle.worker.specs.declared.now.Now.TheVariants.{Spent}
@@ -18,17 +18,18 @@ use Rattle.durable_worker.specs.declared.fault.DurableFault.TheVariants as durab
 use Rattle.durable_worker.specs.declared.recover_fault.RecoverFault.{RecoverFault}
 use Rattle.durable_worker.specs.declared.recover_fault.RecoverFault.TheVariants as recover
 use Rattle.durable_worker.specs.rules.LifeWords.{Act}
+use Rattle.durable_worker.specs.rules.Outlets.{IsOutletFault}
 use Rattle.wasmhost_serve.specs.declared.lines.fault.LineFault.{LineFault}
 use Rattle.wasmhost_serve.specs.declared.lines.fault.LineFault.TheVariants as line
 use Rattle.wasmhost_serve.specs.Lines.Answers.{Standing, IsRefusedFor}
-use Rattle.wasmhost_serve.specs.rules.BrokenLives.{BreaksOff, LeavesNoLine, PrintsItsLines}
+use Rattle.wasmhost_serve.specs.rules.BrokenLives.{BreaksOff, LeavesNoLine, TellsItsLines}
 use Rattle.wasmhost_serve.specs.rules.BrokenLives.{steps_among}
 use Rattle.wasmhost_serve.specs.rules.Outside.{requests_in, words_of}
 use Rattle.wasmhost_serve.specs.rules.Requests.{GiveUpTo, BeginsWithOther, BeginsWithLater}
 use Rattle.wasmhost_serve.specs.rules.Printers.{PrinterState, IsPrinted, TellsPerson}
 use Rattle.wasmhost_serve.specs.rules.Seeds.{words_for}
 use Rattle.wasmhost_serve.specs.rules.LastWords.{ended_by, last_words}
-use Rattle.wasmhost_serve.specs.rules.ServedOnDisk.{DiskJob, stands_behind, handing, printing}
+use Rattle.wasmhost_serve.specs.rules.ServedOnDisk.{DiskJob, stands_behind, handing}
 use Rattle.wasmhost_serve.specs.rules.ServedOnDisk.{IsUnopenedRun, LivesOnDisk, HasOutcome}
 use Rattle.wasmhost_serve.specs.rules.ServedOnDisk.{ServesOnDisk, recovered_line}
 
@@ -50,14 +51,12 @@ pub record HasRefused (old : Standing) (asks : List Ask) (failed' : Bool) (why :
   pub reason : IsRefusedFor kind old.outside (old.place + words_of (handed asks)) old.taken
       old.unread (requests_in (handed asks)) old.failed failed' why
 
--- Whatever a source and an outlet of the program have exchanged: where the source had no fault and
--- now has one, one of its questions was refused for it.
+-- Whatever a source of the program was asked: where it had no fault and now has one, one of these
+-- questions was refused for it.
 abbrev pub RefusalsHaveReasons : Type 0
-RefusalsHaveReasons = (exchanges : List Exchange) (source source' : Standing)
-    (out out' : Option (List ℕ)) (why : LineFault)
-    → Exchanges handing printing source out exchanges source' out' → source.fault ≡ None
-    → source'.fault ≡ Some why
-    → HasRefused source (asks_of exchanges) source'.failed why
+RefusalsHaveReasons = (asks : List Ask) (source source' : Standing) (why : LineFault)
+    → AnswersInOrder handing source asks source' → source.fault ≡ None
+    → source'.fault ≡ Some why → HasRefused source asks source'.failed why
 
 -- One of these questions was refused for want of memory.
 abbrev pub LacksMemoryAt : Standing → List Ask → Bool → Type 0
@@ -82,20 +81,20 @@ LacksAnswerAt old asks failed' = (IsRefusedAmong asks kinds.Request × (failed' 
     ⊎ ((n : ℕ) × IsRefusedAmong asks (kinds.Random n)
     × (2 ^ 64 ≤ old.place + words_of (handed asks) + words_for n))
 
--- ---- lines that were printed
+-- ---- lines that were told
 
 -- Whichever process the worker of this life showed when it was recovered, it has come to where a
--- call has failed so. Each line that it had written by then was printed, behind what the recovery
--- had printed.
-abbrev pub HasPrintedItsLines : {D : Type 0} {medium : D → Medium} {given : DiskJob}
-    {left : Result (List Act) RecoverFault} {found last : D} {out out' : Option (List ℕ)}
-    {source' : Standing} → LivesOnDisk medium given left found last out out' source'
+-- call has failed so. Each line that it had written by then was told, behind those that the
+-- recovery had told.
+abbrev pub HasToldItsLines : {D O : Type 0} {medium : D → Medium} {takes : Taking O}
+    {given : DiskJob} {left : Result (List Act) RecoverFault} {found last : D} {outlet outlet' : O}
+    {source' : Standing} → LivesOnDisk medium takes given left found last outlet outlet' source'
     → DurableFault → Type 0
-HasPrintedItsLines {given = given} {out' = out'} {source' = source'} lives why =
+HasToldItsLines {takes = takes} {given = given} {outlet' = outlet'} {source' = source'} lives why =
     (guest : Guest) (p : ProcessState) → ShowsProcess lives.worker.process guest p
-    → (broken : BreaksOff handing printing guest p (stands_behind given lives.worker) source'
-    lives.retold out' given.fuel (steps_among lives.acts) why)
-    × PrintsItsLines p broken.process lives.retold out'
+    → (broken : BreaksOff handing takes guest p (stands_behind given lives.worker) source'
+    lives.retold outlet' given.fuel (steps_among lives.acts) why)
+    × TellsItsLines takes p broken.process lives.retold outlet'
 
 -- ---- faults of a call
 
@@ -131,15 +130,10 @@ IsWanting (recover.Worker (durable.Work work.Memory)) = ⊤
 IsWanting (recover.Worker (durable.Disk disk.Memory)) = ⊤
 IsWanting other = ⊥
 
--- a line that the outlet refused
-abbrev pub IsUntaken : RecoverFault → Type 0
-IsUntaken (recover.Worker (durable.Work work.Outlet)) = ⊤
-IsUntaken other = ⊥
-
 -- ---- what each exit status says
 
-module _ {D : Type 0} (medium : D → Medium) (given : DiskJob) (found last : D)
-    (out out' : Option (List ℕ)) (failed' : Bool) where
+module _ {D O : Type 0} (medium : D → Medium) (takes : Taking O) (given : DiskJob)
+    (found last : D) (outlet outlet' : O) (failed' : Bool) where
   -- The worker was recovered, and a person was told so. Then it has lived until a slice didn't just
   -- spend its fuel, and the last words are those of what that slice has answered.
   pub record IsOverOnDisk (err err' : PrinterState) : Type 0 where
@@ -147,7 +141,7 @@ module _ {D : Type 0} (medium : D → Medium) (given : DiskJob) (found last : D)
     pub source' : Standing
     pub between : PrinterState
     pub done : now ≢ Spent
-    pub lives : LivesOnDisk medium given (Ok []) found last out out' source'
+    pub lives : LivesOnDisk medium takes given (Ok []) found last outlet outlet' source'
     pub outcome : HasOutcome lives now
     pub heeded : source'.failed ≡ failed'
     pub told : TellsPerson (recovered_line lives.worker) err between
@@ -155,24 +149,25 @@ module _ {D : Type 0} (medium : D → Medium) (given : DiskJob) (found last : D)
 
   -- The recovery has failed by a fault of this kind, or a call of the life by one of that kind.
   -- Where that is the source's, it isn't one of a request line. Where no line can wait, each line
-  -- that the process had written by then was printed.
+  -- that the process had written by then was told.
   pub data FailsOnDisk (IsOfOpening : RecoverFault → Type 0) (IsOfCall : DurableFault → Type 0)
       : Type 0 where
-    opening : (why : RecoverFault) → IsUnopenedRun medium why found last out out'
+    opening : (why : RecoverFault) → IsUnopenedRun medium takes why found last outlet outlet'
         → failed' ≡ given.failed → IsOfOpening why → FailsOnDisk IsOfOpening IsOfCall
     calling : (why : DurableFault) (source' : Standing)
-        → (lives : LivesOnDisk medium given (Err (recover.Worker why)) found last out out' source')
-        → (LeavesNoLine why → HasPrintedItsLines lives why)
+        → (lives : LivesOnDisk medium takes given (Err (recover.Worker why)) found last outlet
+        outlet' source')
+        → (LeavesNoLine why → HasToldItsLines lives why)
         → (why ≡ durable.Work work.Source → source'.fault ≡ None) → source'.failed ≡ failed'
         → IsOfCall why → FailsOnDisk IsOfOpening IsOfCall
 
   -- A call of the life has failed since the source refused a question. Each line that the process
-  -- had written by then was printed. This holds behind all that the source was asked in the life.
+  -- had written by then was told. This holds behind all that the source was asked in the life.
   pub record AsksInVain (Holds : Standing → List Ask → Bool → Type 0) : Type 0 where
     pub source' : Standing
-    pub lives : LivesOnDisk medium given (Err (recover.Worker (durable.Work work.Source))) found
-        last out out' source'
-    pub printed : HasPrintedItsLines lives (durable.Work work.Source)
+    pub lives : LivesOnDisk medium takes given (Err (recover.Worker (durable.Work work.Source)))
+        found last outlet outlet' source'
+    pub told : HasToldItsLines lives (durable.Work work.Source)
     pub heeded : source'.failed ≡ failed'
     pub asks : List Ask
     pub led : AnswersInOrder handing (stands_behind given lives.worker) asks source'
@@ -182,8 +177,8 @@ module _ {D : Type 0} (medium : D → Medium) (given : DiskJob) (found last : D)
   -- disk or the source has failed. 5: memory was refused. 6: the next line is refused. 7: a line of
   -- the worker was refused, or what is said couldn't be written. A reader that fails is told by 4,
   -- or by 5 where it wants memory, unless that can't be printed. Of a worker that was recovered,
-  -- each line was printed where a number is at its end (3), memory was refused (5), or the source
-  -- has failed (4, 5, 6).
+  -- each line was told where a number is at its end (3), memory was refused (5), or the source has
+  -- failed (4, 5, 6).
   pub record SaysOnDisk (err err' : PrinterState) (status : ℕ) : Type 0 where
     pub over : status ≡ 0 → IsOverOnDisk err err'
     pub stuck : status ≡ 3 → FailsOnDisk IsStuck IsAtItsEnd
@@ -193,13 +188,13 @@ module _ {D : Type 0} (medium : D → Medium) (given : DiskJob) (found last : D)
         → FailsOnDisk IsWanting (λ why. why ≡ durable.Work work.Memory) ⊎ AsksInVain LacksMemoryAt
     pub bad_line : status ≡ 6 → AsksInVain MeetsBadLineAt
     pub unprinted : status ≡ 7
-        → FailsOnDisk IsUntaken (λ why. why ≡ durable.Work work.Outlet) ⊎ (err'.failed ≡ true)
+        → FailsOnDisk IsOutletFault (λ why. why ≡ durable.Work work.Outlet) ⊎ (err'.failed ≡ true)
     pub heeded : (failed' ≡ given.failed) ⊎ (status ≡ 4) ⊎ (status ≡ 5) ⊎ (status ≡ 7)
     pub known : (status ≡ 0) ⊎ ((3 ≤ status) × (status ≤ 7))
 
 -- so it is of each run
-abbrev pub StatusesHaveCauses : {D : Type 0} → (D → Medium) → Type 0
-StatusesHaveCauses {D} medium = (given : DiskJob) (found last : D) (out out' : Option (List ℕ))
+abbrev pub StatusesHaveCauses : {D O : Type 0} → (D → Medium) → Taking O → Type 0
+StatusesHaveCauses {D} {O} medium takes = (given : DiskJob) (found last : D) (outlet outlet' : O)
     (err err' : PrinterState) (failed' : Bool) (status : ℕ)
-    → ServesOnDisk medium given found last out out' err err' failed' status
-    → SaysOnDisk medium given found last out out' failed' err err' status
+    → ServesOnDisk medium takes given found last outlet outlet' err err' failed' status
+    → SaysOnDisk medium takes given found last outlet outlet' failed' err err' status

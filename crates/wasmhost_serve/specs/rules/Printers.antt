@@ -1,5 +1,5 @@
 -- What is known of a printer, and what its prints leave (this project's own).
-use Rattle.std.specs.Prelude.{◌≡◌, ◌≢◌, ◌⊎◌, ℕ, Bool, true, false, List, Option}
+use Rattle.std.specs.Prelude.{◌≡◌, ◌≢◌, ◌⊎◌, ℕ, Bool, true, false, List, ◌++◌, Option}
 use Rattle.std.specs.Io.KnownBytes.{Appends}
 
 -- what its writer holds, where that is known; whether that is a terminal; and whether a write of it
@@ -20,6 +20,16 @@ printer_state contents on_terminal failed = record {
 abbrev pub IsPrinted : PrinterState → PrinterState → List ℕ → Type 0
 IsPrinted old new text =
     Appends old.contents new.contents text × (new.failed ≡ old.failed)
+
+-- known bytes grow by a front of these: none of them, some, or all
+abbrev pub GrowsByFront : Option (List ℕ) → Option (List ℕ) → List ℕ → Type 0
+GrowsByFront old new text = (front : List ℕ) × (rest : List ℕ) × (text ≡ front ++ rest)
+    × Appends old new front
+
+-- A write has failed. At most a front of the text is written behind what was there.
+abbrev pub StopsPrinting : PrinterState → PrinterState → List ℕ → Type 0
+StopsPrinting old new text =
+    GrowsByFront old.contents new.contents text × (new.failed ≡ true)
 
 -- A line for a person is printed where the printer is on a terminal, and nowhere else. A write of
 -- it that fails is kept.

@@ -5,16 +5,18 @@ ghost use Rattle.std.specs.Int.NonZero.{non_zero_u64_get};
 ghost use Rattle.disk_layout.specs.rules.Places.{total_sectors};
 ghost use Rattle.wasmhost_serve.specs.rules.DiskStatuses.{IsToldOnDisk};
 ghost use Rattle.wasmhost_serve.specs.rules.Printers.{IsPrinted, TellsPerson};
+ghost use Rattle.wasmhost_serve.specs.rules.Refusals.{HeedsRefusal};
 ghost use Rattle.wasmhost_serve.specs.rules.ServedOnDisk.{ServesOnDisk, disk_job, recovered_line};
 ghost use Rattle.wasmhost_serve.specs.Livings.{HasGoneOn};
 
-use crate::lines::{LineFault, LineOutlet, LineReader, RealTime, RequestSource};
+use crate::lines::{LineFault, LineReader, RealTime, RequestSource};
 use crate::on_disk::ending::say;
 use crate::on_disk::fault::{OnDiskFault, say_disk_fault};
 use crate::on_disk::living::{Pace, live};
 use crate::on_disk::showing::print_number;
 use crate::printer::Printer;
 use durable_worker::{DurableFault, DurableWorker};
+use record_replay::Outlet;
 use sector_disk::Disk;
 use std::alloc::Global;
 use std::io::{self, Write};
@@ -32,19 +34,18 @@ fn call_fault_of(fault: DurableFault, line: Option<LineFault>) -> OnDiskFault
 
 /// Runs a worker that is open on its disk: request lines behind those that it has taken, random
 /// bytes of its generation.
-fn go_on<D: Disk, R: LineReader + Drop, C: RealTime + Drop, W: Write + Drop>(
+fn go_on<D: Disk, R: LineReader + Drop, C: RealTime + Drop, O: Outlet>(
     worker: &mut DurableWorker,
     disk: &mut D,
     pace: Pace,
     source: &mut RequestSource<R, C>,
-    outlet: &mut LineOutlet<W>,
+    outlet: &mut O,
 ) -> Result<Now, OnDiskFault>
     requires { total_sectors worker.old.store.geometry ≤ (D.medium disk.old).sectors }
-    ensures { HasGoneOn D.medium (disk_job (non_zero_u64_get pace.fuel)
+    ensures { HasGoneOn D.medium O.takes (disk_job (non_zero_u64_get pace.fuel)
         (non_zero_u64_get pace.every) (R.unread source.old.requests.reader) source.old.outside
         (R.has_failed source.old.requests.reader)) worker.old disk.old disk.new
-        (W.contents outlet.old.out) (W.contents outlet.new.out)
-        (R.has_failed source.new.requests.reader) result }
+        outlet.old outlet.new (R.has_failed source.new.requests.reader) result }
 {
     let taken = worker.process().requests();
     source.go_on_behind(taken, worker.generation());
@@ -81,21 +82,23 @@ fn tell_recovered<E: Write + Drop>(err: &mut Printer<E>, worker: &DurableWorker)
 /// of its generation. Answers the exit status: 0 where the worker has ended, trapped or waits at
 /// the end of the lines, 3 for a disk that shows no worker that can go on and where a number is at
 /// its end, 4 where the disk, the reader or the clock fails, 5 for want of memory, 6 for a refused
-/// request line, 7 where a write has failed.
-pub fn serve<D: Disk, R: LineReader + Drop, C: RealTime + Drop, W: Write + Drop, E: Write + Drop>(
+/// request line, 7 where the outlet has refused a line or a write has failed.
+pub fn serve<D: Disk, R: LineReader + Drop, C: RealTime + Drop, O: Outlet, E: Write + Drop>(
     alloc: Global,
     disk: &mut D,
     pace: Pace,
     source: &mut RequestSource<R, C>,
-    outlet: &mut LineOutlet<W>,
+    outlet: &mut O,
     err: &mut Printer<E>,
 ) -> u8
-    ensures serves { ServesOnDisk D.medium (disk_job (non_zero_u64_get pace.fuel)
+    ensures serves { ServesOnDisk D.medium O.takes (disk_job (non_zero_u64_get pace.fuel)
         (non_zero_u64_get pace.every) (R.unread source.old.requests.reader) source.old.outside
         (R.has_failed source.old.requests.reader)) disk.old disk.new
-        (W.contents outlet.old.out) (W.contents outlet.new.out)
-        err.old err.new
+        outlet.old outlet.new err.old err.new
         (R.has_failed source.new.requests.reader) result }
+
+    // The status is 7 just where the outlet has refused a line, or a write of `err` has failed.
+    ensures refusal { HeedsRefusal O.takes outlet.old outlet.new err.new result }
     ensures known { result ≤ 7 }
 {
     let mut worker = match DurableWorker::recover(alloc, disk, outlet) {

@@ -1,14 +1,10 @@
 use Rattle.durable_worker.proofs.LifeLemmas.Replying.{lives_end_as_said}
 use Rattle.durable_worker.proofs.LifeLemmas.Uncut.{lives_go_on_uncut}
-use Rattle.wasmhost_serve.specs.rules.ServedOnDisk.{handing, printing}
-use Rattle.wasmhost_serve.proofs.ReleasedLemmas.{released_are_printed}
+use Rattle.wasmhost_serve.specs.rules.ServedOnDisk.{handing}
 use Rattle.wasmhost_serve.proofs.laws.lives_on_disk_go_on.Goals as goal
 
 pub returns-clause-goes_on : goal.returns-clause-goes_on
-returns-clause-goes_on g c = lives_go_on_uncut g.D.Disk.medium handing printing
-
-pub returns-clause-printed : goal.returns-clause-printed
-returns-clause-printed g c = released_are_printed
+returns-clause-goes_on g c = lives_go_on_uncut g.D.Disk.medium handing g.O.Outlet.takes
 
 pub returns-clause-ended : goal.returns-clause-ended
-returns-clause-ended g c = lives_end_as_said g.D.Disk.medium handing printing
+returns-clause-ended g c = lives_end_as_said g.D.Disk.medium handing g.O.Outlet.takes

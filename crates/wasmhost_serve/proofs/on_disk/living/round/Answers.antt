@@ -1,6 +1,7 @@
 use Rattle.std.proofs.Common.{arith}
 use Rattle.wasmhost_serve.proofs.BreakLemmas.{slice_breaks_off}
 use Rattle.wasmhost_serve.proofs.HearingLemmas.{slice_hears, slice_hears_up_to}
+use Rattle.wasmhost_serve.proofs.TakingLemmas.{slice_takes, slice_heeds}
 use Rattle.wasmhost_serve.proofs.LivingLemmas.{within_breaks, within_rests, within_broken}
 use Rattle.wasmhost_serve.proofs.LivingLemmas.{within_more, none_taken}
 use Rattle.wasmhost_serve.proofs.LivingLemmas.{within_fewer, slice_fewer}
@@ -21,6 +22,10 @@ returns-in-Err-clause-failed g c =
     (slice_hears_up_to g.S.Source.gives g.O.Outlet.takes c.get.result _ _ _ _
     c.loop-now.worker.process c.slice.new.self.process c.in-Err.fault c.loop-now.worker.has_failed
     c.is_process.ensures c.in-Err.ensures.failed (λ e. (c.in-Err.ensures.refused e).3))
+    (slice_heeds g.S.Source.gives g.O.Outlet.takes c.get.result _ _ _ _
+    c.loop-now.worker.process c.slice.new.self.process c.in-Err.fault c.loop-now.worker.has_failed
+    c.is_process.ensures c.in-Err.ensures.failed (λ e. (c.in-Err.ensures.refused e).0)
+    (λ e. (c.in-Err.ensures.refused e).4))
     (slice_breaks_off g.S.Source.gives g.O.Outlet.takes c.get.result _ _ _ _
     c.loop-now.worker.process c.slice.new.self.process c.in-Err.fault c.loop-now.worker.has_failed
     c.in-Err.ensures.failed (λ e. (c.in-Err.ensures.refused e).0)
@@ -32,6 +37,8 @@ returns-then-taken-every-clause-done g c =
     c.get.result c.get.ensures.value _ _ _ _ _ c.get-every.ensures.value c.in-Ok.now
     c.in-Ok.ensures.carries c.in-Ok.ensures.done c.rest_on.result _ _ c.rest_on.ensures.rested
     (slice_hears g.S.Source.gives g.O.Outlet.takes c.get.result _ _ _ _ _ _ c.in-Ok.now
+    c.is_process.ensures c.in-Ok.ensures.done)
+    (slice_takes g.S.Source.gives g.O.Outlet.takes c.get.result _ _ _ _ _ _ c.in-Ok.now
     c.is_process.ensures c.in-Ok.ensures.done)
     (λ spent. elim c.then-taken-every.branch [
       | then-taken-every-via-then-taken-every w ↦ w.if-taken-every.true
@@ -46,6 +53,8 @@ returns-then-taken-every-clause-failed g c =
     c.in-Ok.ensures.carries c.in-Ok.ensures.done c.rest_on.result _ _ c.rest_on.ensures.rested
     (slice_hears g.S.Source.gives g.O.Outlet.takes c.get.result _ _ _ _ _ _ c.in-Ok.now
     c.is_process.ensures c.in-Ok.ensures.done)
+    (slice_takes g.S.Source.gives g.O.Outlet.takes c.get.result _ _ _ _ _ _ c.in-Ok.now
+    c.is_process.ensures c.in-Ok.ensures.done)
 
 pub loop-now-preserved : goal.loop-now-preserved
 loop-now-preserved g c =
@@ -54,6 +63,8 @@ loop-now-preserved g c =
     within_more g.D.Disk.medium g.S.Source.gives g.O.Outlet.takes _ _ _ _ _ c.loop-now.invariant
     c.get.result c.get.ensures.value _ _ _ _ c.in-Ok.now c.in-Ok.ensures.carries
     (slice_hears g.S.Source.gives g.O.Outlet.takes c.get.result _ _ _ _ _ _ c.in-Ok.now
+    c.is_process.ensures c.in-Ok.ensures.done)
+    (slice_takes g.S.Source.gives g.O.Outlet.takes c.get.result _ _ _ _ _ _ c.in-Ok.now
     c.is_process.ensures c.in-Ok.ensures.done) c.in-Ok.ensures.done
     (c.is_spent.ensures.0 c.if-not-is_spent.false) (omega (arith, before, other))
     (slice_fewer g.D.Disk.medium g.S.Source.gives g.O.Outlet.takes c.loop-now.worker

@@ -11,7 +11,7 @@ returns-in-Ok g c =
     let behind = c.go_on_behind.ensures in
     has_gone g.D.Disk.medium (λ s. standing s.outside s.stream s.requests.taken s.place
     (g.R.LineReader.unread s.requests.reader) (g.R.LineReader.has_failed s.requests.reader)
-    s.fault) (λ o. g.W.Write.contents o.out)
+    s.fault) g.O.Outlet.takes
     (disk_job (non_zero_u64_get c.args.pace.fuel) (non_zero_u64_get c.args.pace.every)
     (g.R.LineReader.unread c.args.source.now.requests.reader) c.args.source.now.outside
     (g.R.LineReader.has_failed c.args.source.now.requests.reader))
@@ -28,7 +28,7 @@ returns-in-Err g c =
     let behind = c.go_on_behind.ensures in
     has_failed g.D.Disk.medium (λ s. standing s.outside s.stream s.requests.taken s.place
     (g.R.LineReader.unread s.requests.reader) (g.R.LineReader.has_failed s.requests.reader)
-    s.fault) (λ o. g.W.Write.contents o.out)
+    s.fault) g.O.Outlet.takes
     (disk_job (non_zero_u64_get c.args.pace.fuel) (non_zero_u64_get c.args.pace.every)
     (g.R.LineReader.unread c.args.source.now.requests.reader) c.args.source.now.outside
     (g.R.LineReader.has_failed c.args.source.now.requests.reader))
