@@ -44,7 +44,7 @@ use Rattle.durable_worker.specs.declared.story.living.LivedOnce.{LivedOnce}
 use Rattle.durable_worker.specs.declared.story.report.Opening.{Opening}
 use Rattle.durable_worker.specs.declared.story.report.LifeEnd.{LifeEnd}
 use Rattle.durable_worker.specs.declared.story.report.LifeReport.{LifeReport}
-use Rattle.durable_worker.specs.rules.CallCounts.{most_calls, CallsFor}
+use Rattle.durable_worker.specs.rules.CallCounts.{most_calls, CallsForEvents}
 use Rattle.durable_worker.specs.rules.Planned.{inputs_of, act_of}
 use Rattle.durable_worker.specs.rules.Told.{TellsLife, TellsEach, TellsOpening, TellsLifeEnd}
 use Rattle.durable_worker.specs.rules.Told.{BeginFewCalls}
@@ -281,7 +281,7 @@ module _ (bytes : List ℕ) (config : Settings) (planned : PlannedLife) (found n
       → IsLivedOn m config so_far (inputs_of planned) life (stopping_medium first)
       (stopping_medium last)
       → IsLater (stopping_medium first) (stopping_medium last)
-      → CallsFor (length life.events + 1) (stopping_medium first) (stopping_medium last)
+      → CallsForEvents (length life.events + 1) (stopping_medium first) (stopping_medium last)
       → IsToldOn m bytes config planned so_far report next
   unfolding calls_of
   told_so exchanges are room keeps within life is lives later few =
