@@ -1,10 +1,10 @@
 -- How many calls of the disk there were, one part after another.
-use Rattle.std.proofs.Common.{◌≡◌, ◌≤◌, ◌<◌, ℕ, suc, ◌+◌, ◌-◌, ◌*◌, List, [], ◌∷◌, ◌++◌, length}
-use Rattle.std.proofs.Common.{refl, sym, ap, ◌∙◌, subst, arith, length-append}
+use Rattle.std.proofs.Common.{◌≡◌, ◌≤◌, ℕ, ◌+◌, ◌-◌, ◌*◌, List, [], ◌∷◌, length}
+use Rattle.std.proofs.Common.{refl, ap, ◌∙◌, subst, arith}
 use Rattle.std.proofs.Math.Nat.{add-mul, le_refl}
 use Rattle.std.proofs.lemmas.Nat.{mul-le}
 use Rattle.sector_disk.specs.rules.Medium.{Medium, CallsUpTo}
-use Rattle.durable_worker.specs.rules.CallCounts.{most_calls, CallsFor}
+use Rattle.durable_worker.specs.rules.CallCounts.{most_calls, CallsForEvents}
 use Rattle.durable_worker.specs.StoreTurns.{owed}
 
 -- ---- numbers
@@ -35,11 +35,12 @@ once_more a n some =
 
 -- ---- a disk
 
-pub calls_none : (times : ℕ) (m : Medium) → CallsFor times m m
+pub calls_none : (times : ℕ) (m : Medium) → CallsForEvents times m m
 calls_none times m = less_with_more m.counted (times * most_calls m.sectors)
 
 pub calls_then : (a b times : ℕ) (old mid new : Medium) → mid.sectors ≡ old.sectors
-    → CallsFor a old mid → CallsFor b mid new → times ≡ a + b → CallsFor times old new
+    → CallsForEvents a old mid → CallsForEvents b mid new → times ≡ a + b
+    → CallsForEvents times old new
 calls_then a b times old mid new same first then is =
     let n : ℕ = most_calls old.sectors in
     let next = subst (λ (s : ℕ). new.counted ≤ mid.counted + b * most_calls s) same then in
@@ -47,7 +48,7 @@ calls_then a b times old mid new same first then is =
 
 -- few calls, at least once
 pub calls_once : (few times : ℕ) (old new : Medium) → CallsUpTo few old new
-    → few ≤ most_calls old.sectors → 1 ≤ times → CallsFor times old new
+    → few ≤ most_calls old.sectors → 1 ≤ times → CallsForEvents times old new
 calls_once few times old new calls within some =
     let all = once_more times (most_calls old.sectors) some in
     below old.counted new.counted few (most_calls old.sectors) (times * most_calls old.sectors)
@@ -56,7 +57,8 @@ calls_once few times old new calls within some =
     below : (x y a b c : ℕ) → y ≤ x + a → a ≤ b → b ≤ c → y ≤ x + c
     below x y a b c first then last = omega (arith, first, then, last)
 
-pub calls_longer : (a b : ℕ) (old new : Medium) → a ≤ b → CallsFor a old new → CallsFor b old new
+pub calls_longer : (a b : ℕ) (old new : Medium) → a ≤ b → CallsForEvents a old new
+    → CallsForEvents b old new
 calls_longer a b old new le calls =
     let n : ℕ = most_calls old.sectors in
     let more = mul-le a n b n le (le_refl n) in

@@ -50,7 +50,7 @@ use Rattle.durable_worker.specs.rules.Planned.{number_refused}
 use Rattle.worker_store.specs.laws.Pieces.{Foretell}
 use Rattle.record_replay.specs.declared.refusing.RefusingOutlet.{RefusingOutlet}
 use Rattle.record_replay.specs.rules.Lists.{inner_outlet, until_fault}
-use Rattle.durable_worker.specs.rules.CallCounts.{most_calls, CallsFor}
+use Rattle.durable_worker.specs.rules.CallCounts.{most_calls, CallsForEvents}
 use Rattle.durable_worker.specs.rules.Told.{TellsLife, TellsEach, TellsOpening, TellsLifeEnd}
 use Rattle.durable_worker.specs.rules.StoryDisks.{IsEmptyDisk, IsRunOn, none, one_more, TellsLives}
 use Rattle.durable_worker.specs.rules.StoryDisks.{story_medium}
@@ -299,7 +299,7 @@ module _ (bytes : List ℕ) (config : Settings) (planned : PlannedLife) (found n
       → IsLivedOn m config so_far (inputs_of planned) life (story_medium first)
       (story_medium last)
       → IsLater (story_medium first) (story_medium last)
-      → CallsFor (length life.events + 1) (story_medium first) (story_medium last)
+      → CallsForEvents (length life.events + 1) (story_medium first) (story_medium last)
       → IsToldOn m bytes config planned so_far report next
   unfolding calls_of
   told_so exchanges are room keeps within life is lives later few =

@@ -1,5 +1,5 @@
 -- How many calls of the disk a recovery begins behind its reads.
-use Rattle.std.proofs.Common.{◌+◌, ◌≤◌, ℕ, subst, sym, arith, inl, inr}
+use Rattle.std.proofs.Common.{◌+◌, ℕ, subst, sym, arith, inl, inr}
 use Rattle.std.specs.Prelude.{Result, Ok, Err}
 use Rattle.sector_disk.specs.rules.Medium.{Medium, CallsUpTo}
 use Rattle.record_replay.specs.rules.Calls.{Taking}

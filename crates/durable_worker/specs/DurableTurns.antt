@@ -35,7 +35,7 @@ use Rattle.worker.specs.declared.now.Now.{Now}
 use Rattle.worker.specs.declared.fault.WorkFault.TheVariants as work
 use Rattle.durable_worker.specs.declared.fault.DurableFault.{DurableFault}
 use Rattle.durable_worker.specs.declared.fault.DurableFault.TheVariants.{Work}
-use Rattle.durable_worker.specs.rules.CallCounts.{CallsFor}
+use Rattle.durable_worker.specs.rules.CallCounts.{CallsForEvents}
 use Rattle.durable_worker.specs.rules.DurableFaults.{fault_of_store}
 use Rattle.worker.specs.rules.Refusals.{work_fault}
 use Rattle.durable_worker.specs.declared.running.Running.{Running}
@@ -307,4 +307,4 @@ WorksOn gives takes old fuel result new disk disk' source source' outlet outlet'
     → IsForetold stage exchanges → (reply : Reply) × IsReplyOf result reply
     × HasCauseOf result c.guest c.config new.process disk disk'
     × TurnEnds c promise stage reply exchanges new disk disk')
-    × CallsFor (length exchanges + 1) disk disk'
+    × CallsForEvents (length exchanges + 1) disk disk'

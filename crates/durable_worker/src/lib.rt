@@ -67,7 +67,7 @@
 //! `SlicesOnDiskInVain`, `IsDiskCause`, `HasSliceCause` (`DurableFailures.antt`); `SliceCalls`
 //! (`SliceCalls.antt`); `CheckpointCalls`, `CheckpointFails`, `HasCheckpointCause`
 //! (`Checkpoints.antt`); `fault_of_store` (`DurableFaults.antt`); `fault_of_restore`,
-//! `fault_of_replay` (`RecoverFaults.antt`); `most_calls`, `CallsFor` (`CallCounts.antt`);
+//! `fault_of_replay` (`RecoverFaults.antt`); `most_calls`, `CallsForEvents` (`CallCounts.antt`);
 //! `inputs_of` (`Planned.antt`), `TellsLives` (`Told.antt`). They speak in the words of
 //! `worker_rules` and `worker_store`.
 //!

@@ -35,7 +35,7 @@ use Rattle.durable_worker.specs.declared.fault.DurableFault.{DurableFault}
 use Rattle.durable_worker.specs.declared.fault.DurableFault.TheVariants.{Work}
 use Rattle.durable_worker.specs.declared.running.Running.{Running}
 use Rattle.worker.specs.rules.Refusals.{work_fault}
-use Rattle.durable_worker.specs.rules.CallCounts.{most_calls, most_saving, CallsFor}
+use Rattle.durable_worker.specs.rules.CallCounts.{most_calls, most_saving, CallsForEvents}
 use Rattle.durable_worker.specs.StoreTurns.{owed, PaysCalls}
 use Rattle.durable_worker.proofs.CallCountLemmas.{turns_then, turns_end, turn_once, turn_free}
 use Rattle.durable_worker.proofs.CallCountLemmas.{turn_last, owed_within}
@@ -417,7 +417,7 @@ module _ {D : Type 0} (medium : D → Medium) (c : Course) (promise : Promise) (
     (reply : Reply) (exchanges : List Exchange) (w : Running) (replayed : ℕ) (failed : Bool)
     (disk disk' : D)
     (ends : TurnEnds c promise stage reply exchanges w (medium disk) (medium disk'))
-    (few : CallsFor (length exchanges + 1) (medium disk) (medium disk')) where
+    (few : CallsForEvents (length exchanges + 1) (medium disk) (medium disk')) where
   call_carries : (phase_ended reply ≡ Open → failed ≡ false)
       → CallCarries c.code c.config c.guest promise stage (Slice c.fuel) reply
       (durable_of w replayed failed) (medium disk) (medium disk') exchanges

@@ -28,7 +28,7 @@ use Rattle.durable_worker.specs.declared.fault.DurableFault.{DurableFault}
 use Rattle.durable_worker.specs.declared.fault.DurableFault.TheVariants.{Disk, Work, Store}
 use Rattle.durable_worker.specs.declared.recover_fault.RecoverFault.{RecoverFault}
 use Rattle.durable_worker.specs.declared.recover_fault.RecoverFault.TheVariants.{Worker}
-use Rattle.durable_worker.specs.rules.CallCounts.{CallsFor}
+use Rattle.durable_worker.specs.rules.CallCounts.{CallsForEvents}
 use Rattle.durable_worker.specs.rules.DurableValues.{DurableValue}
 use Rattle.durable_worker.specs.rules.OpenWorkers.{IsOpenOn}
 use Rattle.durable_worker.specs.rules.DurableCalls.{ComesOf, IsReplyOf}
@@ -114,7 +114,7 @@ module _ (m : Module) (config : Settings) (guest : Guest) (promise : Promise) (s
     pub keeps : KeepsPromise m config (promised promise events) new
     pub bounded : KeepsBounds (promised promise events).events new
     pub later : IsLater old new
-    pub counted : CallsFor (length events) old new
+    pub counted : CallsForEvents (length events) old new
     pub foretold : (rest : List Exchange) → IsForetold stage (exchanges ++ rest)
         → IsForetold (stage_after stage events) rest
 
@@ -181,7 +181,7 @@ pub record CallFails (m : Module) (config : Settings) (promise : Promise) (stage
   pub bounded : KeepsBounds ((promised promise events).events + 1) new
   pub disk : HasDiskCause config (Worker why) old new
   pub later : IsLater old new
-  pub counted : CallsFor (length events + 1) old new
+  pub counted : CallsForEvents (length events + 1) old new
 
 pub call_fails : (m : Module) (config : Settings) (guest : Guest) (promise : Promise)
     (stage : Stage) (act : Act) (cause : Cause) (why : DurableFault) (w : DurableValue)

@@ -39,7 +39,7 @@ use Rattle.worker.specs.declared.fault.Refusal.TheVariants as refusal
 use Rattle.durable_worker.specs.declared.fault.DurableFault.TheVariants.{Work, Disk, Store}
 use Rattle.durable_worker.specs.declared.recover_fault.RecoverFault.{RecoverFault}
 use Rattle.durable_worker.specs.declared.recover_fault.RecoverFault.TheVariants as recover
-use Rattle.durable_worker.specs.rules.CallCounts.{CallsFor}
+use Rattle.durable_worker.specs.rules.CallCounts.{CallsForEvents}
 use Rattle.durable_worker.specs.rules.DurableValues.{DurableValue}
 use Rattle.durable_worker.specs.laws.OneLife.{opened, unopened}
 use Rattle.durable_worker.specs.laws.OneLife.{IsLater, CameTrue, IsLifeOver, opened_in, shown_first}
@@ -219,7 +219,7 @@ module _ (m : Module) (config : Settings) (bytes : List ℕ) (before : Promise) 
   abbrev pub LifeGoesOn : Result (List Act) RecoverFault → Type 0
   LifeGoesOn left = (life : Life) × IsLifeOf inputs begins exchanges worker left calls life
       × IsLivedOn m config before inputs life found last × IsLater found last
-      × CallsFor (length life.events + 1) found last
+      × CallsForEvents (length life.events + 1) found last
 
   -- a life of these events
   abbrev pub life_of : List Event → End → Life
@@ -235,7 +235,7 @@ module _ (m : Module) (config : Settings) (bytes : List ℕ) (before : Promise) 
         (stage_after (at_first inputs) events) ends
         → KeepsPromise m config (promised so_far events) last
         → KeepsBounds ((promised so_far events).events + 1) last → IsLater found last
-        → CallsFor (length events + 1) found last → LifeGoesOn left
+        → CallsForEvents (length events + 1) found last → LifeGoesOn left
     ends_so ends by may keeps bounded later few = (
       life_of events ends,
       record { begins_so = refl; told = told; shown = shown; counted = refl; ends = by },
@@ -263,7 +263,7 @@ module _ (m : Module) (config : Settings) (bytes : List ℕ) (before : Promise) 
     ends_going : (acts : List Act)
         → IsGoing m config (promised so_far events) (stage_after (at_first inputs) events) acts last
         → IsLifeOver inputs calls (Ok acts) → IsLater found last
-        → CallsFor (length events + 1) found last → LifeGoesOn (Ok acts)
+        → CallsForEvents (length events + 1) found last → LifeGoesOn (Ok acts)
     ends_going acts go over later few = by acts go over (stops_or_not inputs.stop calls)
       where
         more : KeepsBounds (promised so_far events).events last
@@ -289,7 +289,7 @@ module _ (m : Module) (config : Settings) (bytes : List ℕ) (before : Promise) 
     ends_broken : (why : RecoverFault)
         → CameTrue bytes config inputs exchanges (Err why) calls found last
         → HasBroken m config (promised so_far events) (stage_after (at_first inputs) events) why
-        found last → IsLater found last → CallsFor (length events + 1) found last
+        found last → IsLater found last → CallsForEvents (length events + 1) found last
         → LifeGoesOn (Err why)
     ends_broken why came b later few = by (stops_or_not inputs.stop calls)
       where
@@ -420,7 +420,7 @@ module _ (m : Module) (config : Settings) (bytes : List ℕ) (before : Promise) 
       still : IsLater found last
       still = later_still found disk last o.later c.later
 
-      few : CallsFor (length events + 1) found last
+      few : CallsForEvents (length events + 1) found last
       few =
           let later = o.later in
           calls_then (length o.events) (length c.events + 1) (length events + 1) found disk last

@@ -20,7 +20,7 @@ use Rattle.worker_store.proofs.LawLemmas.Pieces.{parts_are_foretold}
 use Rattle.durable_worker.specs.declared.fault.DurableFault.{DurableFault}
 use Rattle.durable_worker.specs.declared.recover_fault.RecoverFault.{RecoverFault}
 use Rattle.durable_worker.specs.declared.recover_fault.RecoverFault.TheVariants.{Worker}
-use Rattle.durable_worker.specs.rules.CallCounts.{CallsFor}
+use Rattle.durable_worker.specs.rules.CallCounts.{CallsForEvents}
 use Rattle.durable_worker.specs.rules.DurableValues.{DurableValue}
 use Rattle.durable_worker.specs.rules.OpenWorkers.{IsOpenOn}
 use Rattle.durable_worker.specs.rules.DurableCalls.{CallCarries}
@@ -72,7 +72,7 @@ module _ (m : Module) (config : Settings) where
     pub shut : opened_in events ≡ None
     pub come : ComeTo (promised promise events) (stage_after stage events) left old last
     pub later : IsLater old last
-    pub counted : CallsFor (length events + 1) old last
+    pub counted : CallsForEvents (length events + 1) old last
 
   pub come_since : (promise : Promise) (stage : Stage) (left : Result (List Act) RecoverFault)
       (old mid last : Medium) → IsLater old mid → ComeTo promise stage left mid last

@@ -34,7 +34,7 @@ use Rattle.durable_worker.specs.declared.fault.DurableFault.TheVariants.{Work, D
 use Rattle.durable_worker.specs.declared.recover_fault.RecoverFault.{RecoverFault}
 use Rattle.durable_worker.specs.declared.recover_fault.RecoverFault.TheVariants.{Worker}
 use Rattle.durable_worker.specs.rules.CallCounts.{most_calls, most_creating, most_recovering}
-use Rattle.durable_worker.specs.rules.CallCounts.{CallsFor}
+use Rattle.durable_worker.specs.rules.CallCounts.{CallsForEvents}
 use Rattle.durable_worker.specs.rules.DurableValues.{DurableValue}
 use Rattle.durable_worker.specs.rules.OpenWorkers.{IsOpenOn}
 use Rattle.durable_worker.specs.rules.DurableCreations.{CreationKeeps, IsNotCreatedOn, OpensOn}
@@ -97,7 +97,7 @@ module _ (m : Module) (config : Settings) (so_far : Promise) (inputs : Inputs) w
     pub keeps : KeepsPromise m config (promised so_far events) new
     pub bounded : KeepsBounds (promised so_far events).events new
     pub later : IsLater old new
-    pub counted : CallsFor (length events) old new
+    pub counted : CallsForEvents (length events) old new
     pub foretold : (rest : List Exchange) → IsForetold (at_first inputs) (exchanges ++ rest)
         → IsForetold (stage_after (at_first inputs) events) rest
     pub anew : IsAnew begins events
@@ -122,7 +122,7 @@ module _ (m : Module) (config : Settings) (so_far : Promise) (inputs : Inputs) w
     pub keeps : KeepsPromise m config (promised so_far events) last
     pub bounded : KeepsBounds ((promised so_far events).events + 1) last
     pub later : IsLater old last
-    pub counted : CallsFor (length events + 1) old last
+    pub counted : CallsForEvents (length events + 1) old last
     pub anew : begins ≡ Creates → (so_far.has_opened ≡ false) × OpensAnew events
 
   abbrev pub OpensSo : Beginning → List Exchange → Result DurableValue RecoverFault → Medium

@@ -25,7 +25,7 @@ use Rattle.worker.specs.declared.now.Now.{Now}
 use Rattle.durable_worker.specs.declared.fault.DurableFault.{DurableFault}
 use Rattle.durable_worker.specs.declared.recover_fault.RecoverFault.{RecoverFault}
 use Rattle.durable_worker.specs.declared.recover_fault.RecoverFault.TheVariants as recover
-use Rattle.durable_worker.specs.rules.CallCounts.{CallsFor}
+use Rattle.durable_worker.specs.rules.CallCounts.{CallsForEvents}
 use Rattle.durable_worker.specs.rules.DurableValues.{DurableValue}
 use Rattle.durable_worker.specs.rules.DurableCalls.{ComesOf, SliceCarries, CheckpointCarries}
 use Rattle.durable_worker.specs.rules.Checkpoints.{CheckpointFails}
@@ -208,7 +208,7 @@ CallsMakeLives {D} {S} {O} medium gives takes =
     → (life : Life) × IsLifeOf inputs begins exchanges worker left calls life
     × IsLivedOn m config so_far inputs life (medium found) (medium last)
     × IsLater (medium found) (medium last)
-    × CallsFor (length life.events + 1) (medium found) (medium last))
+    × CallsForEvents (length life.events + 1) (medium found) (medium last))
 
 -- what the source said, and what the outlet took
 abbrev pub said_in : List Exchange → List SourceSaid

@@ -18,6 +18,6 @@ most_saving sectors = 2 * (sectors + 1)
 abbrev pub most_calls : ℕ → ℕ
 most_calls sectors = 4 * (sectors + 5)
 
--- no more calls than that, so many times
-abbrev pub CallsFor : ℕ → Medium → Medium → Type 0
-CallsFor times old new = CallsUpTo (times * most_calls old.sectors) old new
+-- no more calls than that before each of so many events
+abbrev pub CallsForEvents : ℕ → Medium → Medium → Type 0
+CallsForEvents events old new = CallsUpTo (events * most_calls old.sectors) old new

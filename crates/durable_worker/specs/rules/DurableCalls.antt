@@ -27,7 +27,7 @@ use Rattle.worker.specs.declared.fault.WorkFault.TheVariants as work
 use Rattle.worker.specs.declared.fault.Refusal.TheVariants as refusal
 use Rattle.durable_worker.specs.declared.fault.DurableFault.{DurableFault}
 use Rattle.durable_worker.specs.declared.fault.DurableFault.TheVariants.{Work, Disk, Store}
-use Rattle.durable_worker.specs.rules.CallCounts.{CallsFor}
+use Rattle.durable_worker.specs.rules.CallCounts.{CallsForEvents}
 use Rattle.durable_worker.specs.rules.DurableValues.{DurableValue}
 use Rattle.durable_worker.specs.rules.OpenWorkers.{IsOpenOn}
 
@@ -112,7 +112,7 @@ pub record CallCarries (m : Module) (config : Settings) (guest : Guest) (promise
       (promised promise (call_events events act reply held new)) disk disk'
   pub bounded : StaysWithin (promised promise (call_events events act reply held new)).events disk
       disk'
-  pub counted : CallsFor (length exchanges + 1) disk disk'
+  pub counted : CallsForEvents (length exchanges + 1) disk disk'
   pub goes_on : phase_ended reply ≡ Open → (q : ProcessState)
       × IsOpenOn m config guest (promised promise (call_events events act reply held new))
       (stage_after stage (call_events events act reply held new)) q new disk'
