@@ -206,9 +206,7 @@ static TALES: [Tale; 8] = [
         told: &[
             Told {
                 opened: [1, 0, 0, 0],
-                ended: LifeEnd::Failed(RecoverFault::Worker(DurableFault::Work(
-                    WorkFault::Outlet,
-                ))),
+                ended: LifeEnd::Failed(RecoverFault::Worker(DurableFault::Work(WorkFault::Outlet))),
                 line: b"hello",
             },
             AGAIN,

@@ -121,10 +121,21 @@ pub(crate) fn life_with(
     })
 }
 
+/// A life that opens, and does nothing.
+pub(crate) fn with_nothing_to_do(alloc: Global) -> PlannedLife {
+    PlannedLife {
+        answers: Row::new(alloc),
+        acts: Row::new(alloc),
+        stop: None,
+        fail: None,
+        refuse: None,
+        tears: Row::new(alloc),
+    }
+}
+
 /// A life that does nothing but save its worker, whose disk fails there, if it does.
 pub(crate) fn saving_life(alloc: Global, fail: Option<Place>) -> Result<PlannedLife, Halt> {
-    let mut life = life_with(alloc, Row::new(alloc), 0)?;
-    life.acts = Row::new(alloc);
+    let mut life = with_nothing_to_do(alloc);
     life.acts.push(PlannedAct::Checkpoint)?;
     life.fail = fail;
     Ok(life)
@@ -146,7 +157,7 @@ fn life_of(alloc: Global, plan: &Plan) -> Result<PlannedLife, Halt> {
 
 /// What is told of these lives of a module, with a page, a unit of files and a journal of 64
 /// sectors.
-fn told_of(alloc: Global, wasm: &[u8], lives: &[PlannedLife]) -> Result<Report, Halt> {
+pub(crate) fn told_of(alloc: Global, wasm: &[u8], lives: &[PlannedLife]) -> Result<Report, Halt> {
     let config = Config::new(1, 1, 64, Row::new(alloc), Row::new(alloc))?;
     Ok(story(alloc, wasm, &config, lives)?)
 }
