@@ -1,4 +1,5 @@
 mod SavingLemmas
+mod TurnCounts
 mod StoreTurnLemmas
 mod ShortAnswers
 mod DurableLemmas

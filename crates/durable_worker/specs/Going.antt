@@ -9,6 +9,7 @@ use Rattle.sector_disk.specs.declared.sector.TheConstants.{SECTOR_SIZE}
 use Rattle.sector_disk.specs.rules.Medium.{Medium}
 use Rattle.sector_disk.specs.rules.Memory.{memory_medium, memory_state_of}
 use Rattle.disk_layout.specs.rules.Places.{geometry_of, total_sectors}
+use Rattle.disk_layout.specs.rules.Unsynced.{most_unsynced}
 use Rattle.worker_rules.specs.Lives.{Life}
 use Rattle.worker_rules.specs.Promises.{Promise, nothing_yet, promised_by, IsLived, GoOn}
 use Rattle.worker_rules.specs.Holds.{KeepsPromise, KeepsBounds}
@@ -17,18 +18,26 @@ use Rattle.durable_worker.specs.declared.story.report.LifeReport.{LifeReport}
 use Rattle.durable_worker.specs.rules.Planned.{inputs_of}
 use Rattle.durable_worker.specs.rules.Told.{TellsLife, TellsEach}
 
--- so many sectors of zeros, and room for as many writes
-abbrev pub IsEmptyDisk : ℕ → MemDisk → Type 0
-IsEmptyDisk sectors disk = memory_state_of disk ≡ record {
+-- so many sectors of zeros, and room for so many writes between two syncs
+abbrev pub IsEmptyDisk : ℕ → ℕ → MemDisk → Type 0
+IsEmptyDisk sectors writes disk = memory_state_of disk ≡ record {
   settled = replicate sectors (replicate SECTOR_SIZE 0);
   pending = [];
-  limit = sectors;
+  limit = writes;
 }
 
--- the disk has all sectors of a worker of these bytes, and takes as many writes between two syncs
+-- the disk of a worker of these bytes, without one: all its sectors, and room for as many writes as
+-- ever wait for a sync
+abbrev pub IsEmptyDiskFor : List ℕ → Settings → MemDisk → Type 0
+IsEmptyDiskFor bytes config disk =
+    IsEmptyDisk (total_sectors (geometry_of config (length bytes)))
+    (most_unsynced (geometry_of config (length bytes))) disk
+
+-- the disk has all sectors of a worker of these bytes, and room for as many writes as ever wait for
+-- a sync
 pub record HasAllRoom (bytes : List ℕ) (config : Settings) (disk : Medium) : Type 0 where
   pub sectors : total_sectors (geometry_of config (length bytes)) ≤ disk.sectors
-  pub writes : total_sectors (geometry_of config (length bytes)) ≤ disk.room
+  pub writes : most_unsynced (geometry_of config (length bytes)) ≤ disk.room
 
 -- a disk that keeps this promise, with room for its worker
 pub record IsKeptOn (m : Module) (bytes : List ℕ) (config : Settings) (promise : Promise)

@@ -13,3 +13,4 @@ pub mod Savings
 pub mod SliceCalls
 pub mod Surveys
 pub mod Told
+pub mod Unsynced

@@ -24,6 +24,7 @@ impl DurableWorker {
     ghost use Rattle.std.specs.Prelude.{IfErr, IfOk};
     ghost use Rattle.durable_worker.specs.rules.Recoveries.{HasRecoveryCause, Recovers};
     ghost use Rattle.durable_worker.specs.rules.Recoveries.{RecoveryCarries};
+    ghost use Rattle.durable_worker.specs.rules.Unsynced.{CountsInRecovery};
 
     /// The worker that the disk stands for goes on. Syncs the disk, and reads what it shows. Then
     /// the process takes the answers on record, and each line that it emits on the way is released.
@@ -48,6 +49,10 @@ impl DurableWorker {
         // before.
         ensures on_any_disk { IfErr result (λ why. HasRecoveryCause (D.medium disk.old)
             (D.medium disk.new) why) }
+
+        // At no moment were there more unsynced writes than before, or than an area's and its
+        // head.
+        ensures counts { CountsInRecovery result (D.medium disk.old) (D.medium disk.new) }
     {
         images_fit_areas();
         if let Err(fault) = disk.sync() {

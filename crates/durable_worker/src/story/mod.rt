@@ -17,6 +17,8 @@
 //!   by another error isn't cut, and the next one finds the same disk (`IsFoundBehind`). The fronts
 //!   that a cut keeps are those that are told, in order, of all writes but the front of a stop
 //!   (`cut_by`).
+//! - The disk takes as many writes between two syncs as ever wait for one (`most_unsynced`), and not
+//!   one more. A life whose worker left more of them unsynced would end in a fault of the disk.
 //!
 //! Nothing is said of a module that isn't accepted. Nor is the generation that a report names, or
 //! how many calls of the disk a life takes.
@@ -36,10 +38,10 @@
 //! images that it tells.
 
 ghost use Rattle.std.specs.Prelude.{◌≡◌, ◌<◌, ◌^◌, IfOk, length};
-ghost use Rattle.disk_layout.specs.rules.Places.{geometry_of, total_sectors};
+ghost use Rattle.disk_layout.specs.rules.Unsynced.{most_unsynced};
 ghost use Rattle.durable_worker.specs.rules.Told.{TellsLives};
 ghost use Rattle.durable_worker.specs.Endings.{EndsLife};
-ghost use Rattle.durable_worker.specs.Going.{IsEmptyDisk, LivesOn};
+ghost use Rattle.durable_worker.specs.Going.{IsEmptyDiskFor, LivesOn};
 
 mod copying;
 mod ending;
@@ -64,6 +66,9 @@ use sector_disk::{FaultDisk, MemDisk};
 use std::alloc::Global;
 use wasi_abi::Config;
 use wasm_syntax::Row;
+
+/// How many heads a disk has.
+const HEADS: usize = 2;
 
 /// Lives of a worker of this module, one after another, on a disk that is empty at first.
 pub fn story(
@@ -92,16 +97,27 @@ pub fn story(
     Ok(Report { lives: told })
 }
 
-/// A disk of zeros with all sectors of this worker, which takes as many writes between two syncs.
+/// A disk of zeros with all sectors of this worker, which takes as many writes between two syncs as
+/// ever wait for one.
 fn empty_disk(alloc: Global, wasm: &[u8], config: &Config) -> Result<MemDisk, StoryFault>
     ensures { IfOk result (λ disk. length wasm.now < 2 ^ 32
-        → IsEmptyDisk (total_sectors (geometry_of config.now (length wasm.now))) disk) }
+        → IsEmptyDiskFor wasm.now config.now disk) }
 {
-    let sectors = Geometry::of(config, module_len(wasm)).total_sectors();
-    match MemDisk::new(alloc, sectors, sectors as usize) {
+    let places = Geometry::of(config, module_len(wasm));
+    match MemDisk::new(alloc, places.total_sectors(), writes_at_once(&places)) {
         Ok(disk) => Ok(disk),
         Err(_) => Err(StoryFault::Memory),
     }
+}
+
+/// How many writes of a worker ever wait for a sync.
+fn writes_at_once(places: &Geometry) -> usize
+    ensures { result ≡ most_unsynced places.now }
+{
+    places.area_sectors as usize
+        + places.module_sectors as usize
+        + places.journal_sectors as usize
+        + HEADS
 }
 
 /// How many bytes the module has. One that has too many for a disk is accepted by nobody.

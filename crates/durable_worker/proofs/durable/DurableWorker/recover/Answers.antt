@@ -1,9 +1,11 @@
+use Rattle.std.proofs.Common.{inl}
 use Rattle.durable_worker.proofs.RecoveryLemmas.Results.{unsettled_carries, not_found_recovers}
 use Rattle.durable_worker.proofs.RecoveryLemmas.Results.{not_found_carries, is_found_recovers}
 use Rattle.durable_worker.proofs.RecoveryLemmas.Results.{is_found_carries}
 use Rattle.durable_worker.proofs.RecoveryLemmas.Results.{settled_by, sync_faulted}
 use Rattle.durable_worker.proofs.RecoveryLemmas.Causes.{unsettled_cause, unfound_cause}
 use Rattle.durable_worker.proofs.RecoveryLemmas.Causes.{revival_cause}
+use Rattle.durable_worker.proofs.RecoveryLemmas.Counts.{revival_counts}
 use Rattle.durable_worker.proofs.durable.DurableWorker.recover.Goals as goal
 
 pub returns-in-Err-clause-carries : goal.returns-in-Err-clause-carries
@@ -60,6 +62,25 @@ pub returns-in-Ok-clause-on_any_disk : goal.returns-in-Ok-clause-on_any_disk
 returns-in-Ok-clause-on_any_disk g c =
     let found = c.in-Ok.ensures in
     revival_cause g.D.Disk.medium g.O.Outlet.takes c.args.disk.now c.find.new.disk
+    c.revive.new.disk
+    (settled_by (g.D.Disk.medium c.args.disk.now) (g.D.Disk.medium c.sync.new.self)
+    (g.D.Disk.medium c.find.new.disk) c.in_default.field-0 c.in_default.ensures found.reads)
+    c.in-Ok.found found.room c.args.outlet.now c.revive.new.outlet c.revive.result c.revive.ensures
+
+pub returns-in-Err-clause-counts : goal.returns-in-Err-clause-counts
+returns-in-Err-clause-counts g c = inl c.in-Err.ensures.counts
+
+pub returns-in-Err-find-clause-counts : goal.returns-in-Err-find-clause-counts
+returns-in-Err-find-clause-counts g c =
+    let found = c.in-Err-find.ensures in
+    let settled = settled_by (g.D.Disk.medium c.args.disk.now) (g.D.Disk.medium c.sync.new.self)
+    (g.D.Disk.medium c.find.new.disk) c.in_default.field-0 c.in_default.ensures found.reads in
+    inl settled.counts
+
+pub returns-in-Ok-clause-counts : goal.returns-in-Ok-clause-counts
+returns-in-Ok-clause-counts g c =
+    let found = c.in-Ok.ensures in
+    revival_counts g.D.Disk.medium g.O.Outlet.takes c.args.disk.now c.find.new.disk
     c.revive.new.disk
     (settled_by (g.D.Disk.medium c.args.disk.now) (g.D.Disk.medium c.sync.new.self)
     (g.D.Disk.medium c.find.new.disk) c.in_default.field-0 c.in_default.ensures found.reads)
