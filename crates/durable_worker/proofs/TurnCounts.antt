@@ -1,5 +1,5 @@
 -- How many writes wait for a sync at once in the parts of a slice, one after another.
-use Rattle.std.proofs.Common.{◌≡◌, ◌⊎◌, ℕ, ◌+◌, ◌-◌, ◌<◌, ◌≤◌, length, sym, ap, subst, ⊎_elim, arith}
+use Rattle.std.proofs.Common.{◌≡◌, ℕ, ◌+◌, ◌-◌, ◌<◌, ◌≤◌, length, sym, subst, ⊎_elim, arith}
 use Rattle.std.proofs.lemmas.Bool.{cases_lt}
 use Rattle.sector_disk.specs.rules.Medium.{Medium, CountsUpTo}
 use Rattle.sector_disk.proofs.CountLemmas.{counts_same, counts_more, counts_then}

@@ -110,7 +110,8 @@ fn lay_worker<D: Disk>(
         result (D.medium disk.old) (D.medium disk.new) }
     ensures cause { IfErr result (λ e.
         CreationFails geometry.now process.now (D.medium disk.old) (D.medium disk.new) e) }
-    ensures counts { CountsUpTo (max ((D.medium disk.old).unsynced + 1) (most_unsynced geometry.now))
+    ensures counts { CountsUpTo
+        (max ((D.medium disk.old).unsynced + 1) (most_unsynced geometry.now))
         (D.medium disk.old) (D.medium disk.new) }
 {
     lay_contents(disk, geometry, config, wasm)?;

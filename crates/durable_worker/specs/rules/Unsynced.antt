@@ -1,4 +1,5 @@
--- How many writes wait for a sync at once within a call of a worker on its disk (this project's own).
+-- How many writes wait for a sync at once within a call of a worker on its disk (this project's
+-- own).
 use Rattle.std.specs.Prelude.{◌⊎◌, ℕ, ◌+◌, ◌≤◌, max, Result, Ok, Err}
 use Rattle.sector_disk.specs.rules.Medium.{Medium, CountsUpTo}
 use Rattle.disk_layout.specs.rules.Places.{Geometry, total_sectors}
@@ -17,8 +18,8 @@ CountsInSlice places old new = CountsUpTo (old.unsynced + most_in_slice places) 
 abbrev pub CountsInSaving : Geometry → Medium → Medium → Type 0
 CountsInSaving places old new = CountsUpTo (max old.unsynced (places.area_sectors + 1)) old new
 
--- So it is in a recovery, with the worker that it has opened. After an error it wrote nothing, or it
--- is so with some worker for which the disk has room.
+-- So it is in a recovery, with the worker that it has opened. After an error it wrote nothing, or
+-- it is so with some worker for which the disk has room.
 abbrev pub CountsInRecovery : Result DurableValue RecoverFault → Medium → Medium → Type 0
 CountsInRecovery (Ok w) old new = CountsInSaving w.store.geometry old new
 CountsInRecovery (Err why) old new = CountsUpTo old.unsynced old new

@@ -17,8 +17,8 @@
 //!   by another error isn't cut, and the next one finds the same disk (`IsFoundBehind`). The fronts
 //!   that a cut keeps are those that are told, in order, of all writes but the front of a stop
 //!   (`cut_by`).
-//! - The disk takes as many writes between two syncs as ever wait for one (`most_unsynced`), and not
-//!   one more. A life whose worker left more of them unsynced would end in a fault of the disk.
+//! - The disk takes as many writes between two syncs as ever wait for one (`most_unsynced`), and
+//!   not one more. A life whose worker left more of them unsynced would end in a fault of the disk.
 //!
 //! Nothing is said of a module that isn't accepted. Nor is the generation that a report names, or
 //! how many calls of the disk a life takes.

@@ -107,7 +107,8 @@ returns-clause-runs g c =
     done.stays done.passes done.counts tt done.full done.stored done.quiet done.settled
     done.calls.all)
     (commit_runs c.barrier.new.self c.commit.new.self c.args.process.now
-    (g.D.Disk.medium c.barrier.new.disk) (g.D.Disk.medium c.commit.new.disk) put.passes put.counts put.stays
+    (g.D.Disk.medium c.barrier.new.disk) (g.D.Disk.medium c.commit.new.disk) put.passes
+    put.counts put.stays
     c.commit.result put.begun put.unchanged put.settled put.cause put.calls)
 
 pub returns-clause-on_any_disk : goal.returns-clause-on_any_disk
