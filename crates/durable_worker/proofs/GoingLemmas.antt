@@ -21,6 +21,7 @@ use Rattle.sector_disk.specs.rules.FaultDisk.{call_counts_of}
 use Rattle.sector_disk.specs.rules.Memory.{memory_medium, MemoryState}
 use Rattle.sector_disk.specs.rules.Trouble.{CallCounts, call_number}
 use Rattle.disk_layout.specs.rules.Places.{geometry_of, total_sectors}
+use Rattle.disk_layout.specs.rules.Unsynced.{most_unsynced}
 use Rattle.disk_layout.specs.rules.Sectors.{IsMarked}
 use Rattle.record_replay.specs.declared.line_list.NumberedLine.{NumberedLine}
 use Rattle.record_replay.specs.rules.Calls.{Exchange, Exchanges}
@@ -52,7 +53,8 @@ use Rattle.record_replay.specs.declared.refusing.RefusingOutlet.{RefusingOutlet}
 use Rattle.record_replay.specs.rules.Lists.{inner_outlet, until_fault}
 use Rattle.durable_worker.specs.rules.CallCounts.{most_calls, CallsForEvents}
 use Rattle.durable_worker.specs.rules.Told.{TellsLife, TellsEach, TellsOpening, TellsLifeEnd}
-use Rattle.durable_worker.specs.rules.StoryDisks.{IsEmptyDisk, IsRunOn, none, one_more, TellsLives}
+use Rattle.durable_worker.specs.rules.StoryDisks.{IsEmptyDisk, IsEmptyDiskFor, IsRunOn, none, one_more}
+use Rattle.durable_worker.specs.rules.StoryDisks.{TellsLives}
 use Rattle.durable_worker.specs.rules.StoryDisks.{story_medium}
 use Rattle.durable_worker.specs.rules.Told.{BeginFewCalls}
 use Rattle.durable_worker.specs.rules.Told.{told_line}
@@ -86,36 +88,37 @@ zeros_are_blank : (n : ℕ) → IsBlank (replicate n (replicate SECTOR_SIZE 0))
 zeros_are_blank zero marks = none_unmarked marks
 zeros_are_blank (suc n) marks = zeros_unmarked marks
 
-empty_is_blank : (sectors : ℕ) (disk : MemDisk) → IsEmptyDisk sectors disk → (image : Image)
-    → (memory_medium disk).may_leave image → IsBlank image
-empty_is_blank sectors disk empty image leaves =
+empty_is_blank : (sectors writes : ℕ) (disk : MemDisk) → IsEmptyDisk sectors writes disk
+    → (image : Image) → (memory_medium disk).may_leave image → IsBlank image
+empty_is_blank sectors writes disk empty image leaves =
     let left : Leaves [] (replicate sectors (replicate SECTOR_SIZE 0)) image =
     subst (λ (s : MemoryState). Leaves s.pending s.settled image) empty leaves in
     subst (λ (i : Image). IsBlank i) (sym left) (zeros_are_blank sectors)
 
 empty_has_room : (bytes : List ℕ) (config : Settings) (disk : MemDisk)
-    → IsEmptyDisk (total_sectors (geometry_of config (length bytes))) disk
+    → IsEmptyDiskFor bytes config disk
     → HasAllRoom bytes config (memory_medium disk)
 empty_has_room bytes config disk empty =
     let total : ℕ = total_sectors (geometry_of config (length bytes)) in
     let sectors : length disk.settled.items ≡ total =
     ap (λ (s : MemoryState). length s.settled) empty
     ∙ length-replicate total (replicate SECTOR_SIZE 0) in
-    let limit : disk.limit ≡ total = ap (λ (s : MemoryState). s.limit) empty in
+    let most : ℕ = most_unsynced (geometry_of config (length bytes)) in
+    let limit : disk.limit ≡ most = ap (λ (s : MemoryState). s.limit) empty in
     record {
       sectors = sym sectors;
-      writes = subst (λ (n : ℕ). total ≤ n) (sym limit) (le_refl total);
+      writes = subst (λ (n : ℕ). most ≤ n) (sym limit) (le_refl most);
     }
 
 -- no life so far
 none_has_gone : (bytes : List ℕ) (config : Settings) (disk : MemDisk)
-    → (length bytes < 2 ^ 32
-    → IsEmptyDisk (total_sectors (geometry_of config (length bytes))) disk)
+    → (length bytes < 2 ^ 32 → IsEmptyDiskFor bytes config disk)
     → GoneOn bytes config [] [] disk
 none_has_gone bytes config disk made m accepted =
     let few : length bytes ≤ 2097152 = accepted.limits.size in
     let empty = made (omega (arith, few)) in
-    let blank = empty_is_blank (total_sectors (geometry_of config (length bytes))) disk empty in
+    let blank = empty_is_blank (total_sectors (geometry_of config (length bytes)))
+    (most_unsynced (geometry_of config (length bytes))) disk empty in
     record {
       lives = [];
       go_on = tt;
@@ -134,8 +137,7 @@ none_has_gone bytes config disk made m accepted =
 
 pub no_life_so_far : (bytes : List ℕ) (config : Settings) (reports : List LifeReport)
     (disk : MemDisk) → reports ≡ []
-    → (length bytes < 2 ^ 32
-    → IsEmptyDisk (total_sectors (geometry_of config (length bytes))) disk)
+    → (length bytes < 2 ^ 32 → IsEmptyDiskFor bytes config disk)
     → GoneOn bytes config [] reports disk
 no_life_so_far bytes config reports disk none_told made =
     subst (λ (r : List LifeReport). GoneOn bytes config [] r disk) (sym none_told)
@@ -336,7 +338,7 @@ module _ (bytes : List ℕ) (config : Settings) (planned : PlannedLife) (found n
           room = record {
             sectors = subst (λ (n : ℕ). total_sectors (geometry_of config (length bytes)) ≡ n)
                 (sym (long ∙ later.sectors)) room.sectors;
-            writes = subst (λ (n : ℕ). total_sectors (geometry_of config (length bytes)) ≤ n)
+            writes = subst (λ (n : ℕ). most_unsynced (geometry_of config (length bytes)) ≤ n)
                 (sym (ends.room ∙ later.room)) room.writes;
           };
         };

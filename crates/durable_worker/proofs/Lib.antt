@@ -2,6 +2,7 @@ mod SavingLemmas
 mod CallCountLemmas
 mod PayingLemmas
 mod RecoveryCallLemmas
+mod TurnCounts
 mod StoreTurnLemmas
 mod ShortAnswers
 mod DurableLemmas

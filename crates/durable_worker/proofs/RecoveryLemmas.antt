@@ -7,3 +7,4 @@ pub mod Opening
 pub mod InVain
 pub mod Results
 pub mod Causes
+pub mod Counts

@@ -12,7 +12,7 @@ use Rattle.state_image.specs.rules.Image.{image}
 use Rattle.state_image.specs.rules.Saving.{saved_of}
 use Rattle.sector_disk.specs.declared.disk_call.DiskCall.{DiskCall}
 use Rattle.sector_disk.specs.declared.sector.TheConstants.{SECTOR_SIZE}
-use Rattle.sector_disk.specs.rules.Medium.{Medium, Passes, IsAllSynced, BeginsCalls}
+use Rattle.sector_disk.specs.rules.Medium.{Medium, Passes, IsAllSynced, BeginsCalls, CountsUpTo}
 use Rattle.sector_disk.proofs.Moments.{started, goes_on}
 use Rattle.disk_layout.specs.rules.Places.{Geometry, journal_place}
 use Rattle.disk_layout.specs.rules.Journal.{Record}
@@ -38,6 +38,9 @@ use Rattle.durable_worker.specs.rules.SliceCalls.{SliceCalls, none, barrier, sav
 use Rattle.durable_worker.specs.StoreTurns.{StoreGoes, StoreStops, StoreRuns, StoreSaves}
 use Rattle.durable_worker.specs.StoreTurns.{HasTurnCause, StoreHears, HearsOrNot}
 use Rattle.durable_worker.specs.StoreTurns.{HasHearingCause}
+use Rattle.durable_worker.specs.rules.Unsynced.{CountsInSlice}
+use Rattle.durable_worker.proofs.TurnCounts.{counts_none, counts_join, barrier_counts}
+use Rattle.durable_worker.proofs.TurnCounts.{commit_counts}
 
 -- ---- calls, one after another
 
@@ -62,6 +65,7 @@ goes_none store disk = record {
   geometry = refl;
   passes = started disk (λ image. Unit {0});
   unsynced = omega arith;
+  counts = counts_none store.geometry disk;
   works = λ is. is;
   made = [];
   are = none;
@@ -109,6 +113,8 @@ module _ (a b : WorkerStore) (d e : Medium) (one : StoreGoes a b d e) where
     geometry = two.geometry ∙ one.geometry;
     passes = both_pass f two.passes;
     unsynced = (let x = one.unsynced in let y = two.unsynced in omega (arith, x, y));
+    counts = counts_join a.geometry b.geometry d e f one.geometry one.unsynced one.passes.later
+        one.counts two.counts;
     works = λ is. two.works (one.works is);
     made = two.made ++ one.made;
     are = calls_on a.geometry a.journal.generation b.journal.generation c.journal.generation
@@ -124,6 +130,8 @@ module _ (a b : WorkerStore) (d e : Medium) (one : StoreGoes a b d e) where
   stops_join c why f two = record {
     geometry = two.geometry ∙ one.geometry;
     passes = both_pass f two.passes;
+    counts = counts_join a.geometry b.geometry d e f one.geometry one.unsynced one.passes.later
+        one.counts two.counts;
     made = two.made ++ one.made;
     are = calls_on a.geometry a.journal.generation b.journal.generation c.journal.generation
         one.made two.made one.are
@@ -144,6 +152,7 @@ module _ (a b : WorkerStore) (d e : Medium) (one : StoreGoes a b d e) where
   goes_stop why cause = record {
     geometry = one.geometry;
     passes = one.passes;
+    counts = one.counts;
     made = one.made;
     are = one.are;
     last = [];
@@ -234,13 +243,16 @@ with_none : (calls before : List DiskCall) (after : List DiskCall) → after ≡
 with_none calls before after e =
     e ∙ ap (λ (l : List DiskCall). l ++ before) (sym (append-nil calls))
 
-module _ (old new : WorkerStore) (disk disk' : Medium) (stays : IsOfStore old new)
-    (passes : Passes disk disk' (λ image. Unit {0})) where
-  -- the calls so far lead to the same generation
-  led : AreSliceCalls old.geometry old.journal.generation new.journal.generation []
-  led = subst (λ g. AreSliceCalls old.geometry old.journal.generation g []) (sym stays.generation)
-      none
+-- the calls so far lead to the same generation
+led : (old new : WorkerStore) → IsOfStore old new
+    → AreSliceCalls old.geometry old.journal.generation new.journal.generation []
+led old new stays =
+    subst (λ g. AreSliceCalls old.geometry old.journal.generation g []) (sym stays.generation)
+    none
 
+module _ (old new : WorkerStore) (disk disk' : Medium) (stays : IsOfStore old new)
+    (passes : Passes disk disk' (λ image. Unit {0}))
+    (counts : CountsInSlice old.geometry disk disk') where
   barrier_goes : new ≡ with_stored old
       → sectors_for (length old.journal.kept) ≤ old.geometry.journal_sectors - old.journal.used
       → disk'.unsynced ≤ disk.unsynced
@@ -250,13 +262,14 @@ module _ (old new : WorkerStore) (disk disk' : Medium) (stays : IsOfStore old ne
     geometry = stays.geometry;
     passes = passes;
     unsynced = fewer;
+    counts = counts;
     works = λ unfailed. record {
       works = ap (λ (s : WorkerStore). s.has_failed) is ∙ unfailed.works;
       journal_works = ap (λ (s : WorkerStore). s.journal.has_failed) is;
     };
     made = barrier_calls old.geometry old.journal ++ [];
-    are = barrier new.journal.generation [] (barrier_calls old.geometry old.journal) led
-        (are_barrier old.geometry old.journal within);
+    are = barrier new.journal.generation [] (barrier_calls old.geometry old.journal)
+        (led old new stays) (are_barrier old.geometry old.journal within);
     calls = with_none (barrier_calls old.geometry old.journal) disk.calls disk'.calls made;
   }
 
@@ -284,8 +297,9 @@ module _ (old new : WorkerStore) (disk disk' : Medium) (stays : IsOfStore old ne
   barrier_stops fault fails (inl within) begun = record {
     geometry = stays.geometry;
     passes = passes;
+    counts = counts;
     made = [];
-    are = led;
+    are = led old new stays;
     last = barrier_calls old.geometry old.journal;
     last_are = inl (are_barrier old.geometry old.journal within);
     left_out = begun.0;
@@ -295,8 +309,9 @@ module _ (old new : WorkerStore) (disk disk' : Medium) (stays : IsOfStore old ne
   barrier_stops fault fails (inr still) begun = record {
     geometry = stays.geometry;
     passes = passes;
+    counts = counts;
     made = [];
-    are = led;
+    are = led old new stays;
     last = [];
     last_are = inl (0, 0, omega arith, refl);
     left_out = 0;
@@ -307,14 +322,17 @@ module _ (old new : WorkerStore) (disk disk' : Medium) (stays : IsOfStore old ne
 -- by its clauses
 module _ {D : Type 0} (medium : D → Medium) (old new : WorkerStore) (disk disk' : D)
     (stays : IsOfStore old new)
-    (passes : Passes (medium disk) (medium disk') (λ image. Unit {0})) where
+    (passes : Passes (medium disk) (medium disk') (λ image. Unit {0}))
+    (counts : CountsUpTo ((medium disk).unsynced + sectors_for (length old.journal.kept))
+    (medium disk) (medium disk')) where
   pub barrier_went : (done : Unit {0}) → RefusesMore medium old disk disk' (Ok done)
       → new ≡ with_stored old → (length old.journal.kept ≡ 0 → disk' ≡ disk)
       → (length old.journal.kept ≡ 0) ⊎ IsAllSynced (medium disk')
       → (medium disk').calls ≡ barrier_calls old.geometry old.journal ++ (medium disk).calls
       → StoreGoes old new (medium disk) (medium disk')
   barrier_went done full is quiet settled made =
-      barrier_goes old new (medium disk) (medium disk') stays passes is
+      barrier_goes old new (medium disk) (medium disk') stays passes
+      (barrier_counts medium old _ disk disk' full counts) is
       (fits_journal medium old disk disk' done full)
       (no_more_unsynced medium old disk disk' quiet settled) made
 
@@ -323,13 +341,15 @@ module _ {D : Type 0} (medium : D → Medium) (old new : WorkerStore) (disk disk
       → BeginsCalls (barrier_calls old.geometry old.journal) (medium disk) (medium disk')
       → StoreStops old new (fault_of_store fault) (medium disk) (medium disk')
   barrier_failed fault full fails begun =
-      barrier_stops old new (medium disk) (medium disk') stays passes fault fails
+      barrier_stops old new (medium disk) (medium disk') stays passes
+      (barrier_counts medium old _ disk disk' full counts) fault fails
       (has_place medium old disk disk' fault full) begun
 
 -- ---- a commit
 
 module _ (old new : WorkerStore) (process : ProcessValue) (disk disk' : Medium)
-    (passes : Passes disk disk' (λ image. Unit {0})) where
+    (passes : Passes disk disk' (λ image. Unit {0}))
+    (counts : CountsUpTo (disk.unsynced + old.geometry.area_sectors + 1) disk disk') where
   commit_goes : new ≡ begun_store old.geometry (old.journal.generation + 1)
       → IsAllSynced disk'
       → CommitCalls {T = Unit {0}} old.geometry (old.journal.generation + 1) process (Ok tt) disk
@@ -343,6 +363,7 @@ module _ (old new : WorkerStore) (process : ProcessValue) (disk disk' : Medium)
         geometry = ap (λ (s : WorkerStore). s.geometry) is;
         passes = passes;
         unsynced = (let synced = settled.unsynced in omega (arith, synced));
+        counts = commit_counts old.geometry disk disk' counts;
         works = λ unfailed. record {
           works = ap (λ (s : WorkerStore). s.has_failed) is;
           journal_works = ap (λ (s : WorkerStore). s.journal.has_failed) is;
@@ -379,6 +400,7 @@ module _ (old new : WorkerStore) (process : ProcessValue) (disk disk' : Medium)
       record {
         geometry = same;
         passes = passes;
+        counts = commit_counts old.geometry disk disk' counts;
         made = [];
         are = subst (λ n. AreSliceCalls old.geometry g n []) (sym numbered) none;
         last = with_head (g + 1) calls.0;
@@ -391,7 +413,9 @@ module _ (old new : WorkerStore) (process : ProcessValue) (disk disk' : Medium)
 
 -- whatever it has answered
 module _ (old new : WorkerStore) (process : ProcessValue) (disk disk' : Medium)
-    (passes : Passes disk disk' (λ image. Unit {0})) (same : new.geometry ≡ old.geometry) where
+    (passes : Passes disk disk' (λ image. Unit {0}))
+    (counts : CountsUpTo (disk.unsynced + old.geometry.area_sectors + 1) disk disk')
+    (same : new.geometry ≡ old.geometry) where
   pub commit_runs : (result : Said)
       → OnOk result (new ≡ begun_store old.geometry (old.journal.generation + 1))
       → OnErr result (new.journal ≡ old.journal) → OnOk result (IsAllSynced disk')
@@ -399,9 +423,9 @@ module _ (old new : WorkerStore) (process : ProcessValue) (disk disk' : Medium)
       → CommitCalls old.geometry (old.journal.generation + 1) process result disk disk'
       → StoreSaves result old new disk disk'
   commit_runs (Ok done) begun unchanged settled fails calls =
-      commit_goes old new process disk disk' passes begun settled calls
+      commit_goes old new process disk disk' passes counts begun settled calls
   commit_runs (Err fault) begun unchanged settled fails calls =
-      commit_stops old new process disk disk' passes fault same unchanged fails calls
+      commit_stops old new process disk disk' passes counts fault same unchanged fails calls
 
 -- behind a barrier
 pub saves_join : (a b c : WorkerStore) (d e f : Medium) (result : Said) → StoreGoes a b d e
@@ -475,9 +499,10 @@ hears_goes old new disk hears =
       geometry = stays.geometry;
       passes = started disk (λ image. Unit {0});
       unsynced = omega arith;
+      counts = counts_none old.geometry disk;
       works = hears.works;
       made = [];
-      are = led old new disk disk stays (started disk (λ image. Unit {0}));
+      are = led old new stays;
       calls = refl;
     }
 
@@ -506,8 +531,9 @@ hears_runs old new (Err why) disk hears =
     record {
       geometry = stays.geometry;
       passes = started disk (λ image. Unit {0});
+      counts = counts_none old.geometry disk;
       made = [];
-      are = led old new disk disk stays (started disk (λ image. Unit {0}));
+      are = led old new stays;
       last = [];
       last_are = inl (0, 0, omega arith, refl);
       left_out = 0;

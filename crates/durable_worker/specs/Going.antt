@@ -1,5 +1,5 @@
 -- Lives that have gone on, and the disk that the last of them left.
-use Rattle.std.specs.Prelude.{ℕ, ◌≤◌, List, [], ◌∷◌, length, map, ◌+◌, ◌*◌}
+use Rattle.std.specs.Prelude.{◌≡◌, ℕ, ◌≤◌, List, [], ◌∷◌, length, map, ◌+◌, ◌*◌}
 use Rattle.wasm_syntax.specs.declared.module.Module.{Module}
 use Rattle.wasm_syntax_rules.specs.Acceptance.{IsAccepted}
 use Rattle.wasi_abi.specs.rules.Configs.{Settings}
@@ -8,6 +8,7 @@ use Rattle.sector_disk.specs.declared.memory.MemDisk.{MemDisk}
 use Rattle.sector_disk.specs.rules.Medium.{Medium}
 use Rattle.sector_disk.specs.rules.Memory.{memory_medium}
 use Rattle.disk_layout.specs.rules.Places.{geometry_of, total_sectors}
+use Rattle.disk_layout.specs.rules.Unsynced.{most_unsynced}
 use Rattle.worker_rules.specs.Lives.{Life}
 use Rattle.worker_rules.specs.Promises.{Promise, nothing_yet, promised_by, IsLived, GoOn}
 use Rattle.worker_rules.specs.Holds.{KeepsPromise, KeepsBounds}
@@ -15,14 +16,14 @@ use Rattle.durable_worker.specs.declared.story.life.PlannedLife.{PlannedLife}
 use Rattle.durable_worker.specs.declared.story.report.LifeReport.{LifeReport}
 use Rattle.durable_worker.specs.rules.CallCounts.{most_calls}
 use Rattle.durable_worker.specs.rules.Planned.{inputs_of}
-use Rattle.durable_worker.specs.rules.StoryDisks.{IsEmptyDisk, AreRunOn}
+use Rattle.durable_worker.specs.rules.StoryDisks.{IsEmptyDiskFor, AreRunOn}
 use Rattle.durable_worker.specs.rules.Told.{TellsLife, TellsEach, BeginFewCalls}
 
--- the disk has just the sectors of a worker of these bytes, and takes as many writes between two
--- syncs
+-- the disk has just the sectors of a worker of these bytes, and room for as many writes as ever wait
+-- for a sync
 pub record HasAllRoom (bytes : List ℕ) (config : Settings) (disk : Medium) : Type 0 where
   pub sectors : total_sectors (geometry_of config (length bytes)) ≡ disk.sectors
-  pub writes : total_sectors (geometry_of config (length bytes)) ≤ disk.room
+  pub writes : most_unsynced (geometry_of config (length bytes)) ≤ disk.room
 
 -- a disk that keeps this promise, with room for its worker
 pub record IsKeptOn (m : Module) (bytes : List ℕ) (config : Settings) (promise : Promise)
@@ -62,7 +63,7 @@ pub record HaveGoneOn (m : Module) (bytes : List ℕ) (config : Settings)
   pub go_on : GoOn m config nothing_yet (map inputs_of planned) lives
   pub told : TellsEach lives reports
   pub first : MemDisk
-  pub empty : IsEmptyDisk (total_sectors (geometry_of config (length bytes))) first
+  pub empty : IsEmptyDiskFor bytes config first
   pub run : AreRunOn bytes config planned reports first disk
   pub few : BeginFewCalls (total_sectors (geometry_of config (length bytes))) lives
   pub kept : IsKeptOn m bytes config (promised_by_all nothing_yet lives) disk

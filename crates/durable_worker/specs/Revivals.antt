@@ -2,7 +2,7 @@
 use Rattle.std.specs.Prelude.{◌≡◌, ◌⊎◌, ℕ, ◌+◌, false, Result, Ok, Err}
 use Rattle.process.specs.rules.Values.{ProcessValue, IsProcess}
 use Rattle.sector_disk.specs.rules.Image.{Image}
-use Rattle.sector_disk.specs.rules.Medium.{Medium, CallsUpTo, Passes}
+use Rattle.sector_disk.specs.rules.Medium.{Medium, CallsUpTo, Passes, CountsUpTo}
 use Rattle.disk_layout.specs.declared.geometry.Geometry.{Geometry}
 use Rattle.record_replay.specs.declared.fault.ReplayFault.{ReplayFault}
 use Rattle.record_replay.specs.rules.Calls.{Taking}
@@ -21,11 +21,13 @@ use Rattle.durable_worker.specs.rules.RecoverFaults.{fault_of_replay}
 
 -- ---- the next generation
 
--- a cut at any moment leaves what stood there, or the next generation; no image comes of none
+-- A cut at any moment leaves what stood there, or the next generation; no image comes of none. At
+-- no moment were there more unsynced writes than before, an area's, and the head.
 pub record WritesNext (geometry : Geometry) (generation : ℕ) (v : ProcessValue) (mid new : Medium)
     : Type 0 where
   pub leaves : LeavesPointOrNext geometry (generation + 1) v mid new
   pub passes : Passes mid new (λ _. Unit {0})
+  pub counts : CountsUpTo (mid.unsynced + geometry.area_sectors + 1) mid new
   pub some : (image : Image) → new.may_leave image → (before : Image) × mid.may_leave before
   pub counted : CallsUpTo (mid.sectors + 2) mid new
 

@@ -13,12 +13,14 @@ use Rattle.durable_worker.specs.declared.fault.DurableFault.TheVariants.{Work, D
 use Rattle.durable_worker.specs.rules.DurableFailures.{LacksRoom}
 use Rattle.durable_worker.specs.rules.DurableFaults.{fault_of_store}
 use Rattle.durable_worker.specs.rules.SliceCalls.{AreSliceCalls, AreLastCalls}
+use Rattle.durable_worker.specs.rules.Unsynced.{CountsInSlice}
 
 -- it goes on: these calls of the disk were made
 pub record StoreGoes (old new : WorkerStore) (disk disk' : Medium) : Type 0 where
   pub geometry : new.geometry ≡ old.geometry
   pub passes : Passes disk disk' (λ _. Unit {0})
   pub unsynced : disk'.unsynced ≤ disk.unsynced
+  pub counts : CountsInSlice old.geometry disk disk'
   pub works : IsUnfailed old → IsUnfailed new
   pub made : List DiskCall
   pub are : AreSliceCalls old.geometry old.journal.generation new.journal.generation made
@@ -40,6 +42,7 @@ pub record StoreStops (old new : WorkerStore) (why : DurableFault) (disk disk' :
   where
     pub geometry : new.geometry ≡ old.geometry
     pub passes : Passes disk disk' (λ _. Unit {0})
+    pub counts : CountsInSlice old.geometry disk disk'
     pub made : List DiskCall
     pub are : AreSliceCalls old.geometry old.journal.generation new.journal.generation made
     pub last : List DiskCall

@@ -17,3 +17,4 @@ pub mod SliceCalls
 pub mod StoryDisks
 pub mod Surveys
 pub mod Told
+pub mod Unsynced

@@ -15,6 +15,7 @@ impl DurableWorker {
     ghost use Rattle.durable_worker.specs.rules.DurableCalls.{CheckpointCarries};
     ghost use Rattle.durable_worker.specs.rules.Checkpoints.{CheckpointCalls, CheckpointFails};
     ghost use Rattle.durable_worker.specs.rules.Checkpoints.{HasCheckpointCause, IsSavedIn};
+    ghost use Rattle.durable_worker.specs.rules.Unsynced.{CountsInSlice};
 
     /// Puts all answers on the disk, and then the process, as a snapshot of the next generation.
     /// What the guest does next is the same with it or without.
@@ -48,6 +49,11 @@ impl DurableWorker {
             × (disk.new ≡ disk.old) }
         ensures room { total_sectors self.new.store.geometry ≤ (D.medium disk.new).sectors }
         ensures asks { CallsUpTo (most_saving (D.medium disk.old).sectors) (D.medium disk.old)
+            (D.medium disk.new) }
+
+        // At no moment were there more unsynced writes than before and the journal's, or an area's
+        // and its head.
+        ensures counts { CountsInSlice self.old.store.geometry (D.medium disk.old)
             (D.medium disk.new) }
     {
         if self.has_failed {

@@ -75,9 +75,11 @@ fn worker_of(
 impl DurableWorker {
     ghost use Rattle.durable_worker.specs.rules.DurableCreations.{CreationCalls, CreationKeeps};
     ghost use Rattle.durable_worker.specs.rules.DurableCreations.{IsCreatedOn, IsNotCreatedOn};
-    ghost use Rattle.durable_worker.specs.rules.DurableCreations.{IsRefusedAtFirst};
+    ghost use Rattle.durable_worker.specs.rules.DurableCreations.{IsRefusedAtFirst, places_for};
     ghost use Rattle.durable_worker.specs.rules.CallCounts.{most_creating};
-    ghost use Rattle.sector_disk.specs.rules.Medium.{CallsUpTo};
+    ghost use Rattle.sector_disk.specs.rules.Medium.{CallsUpTo, CountsUpTo};
+    ghost use Rattle.std.specs.Prelude.{◌+◌, max};
+    ghost use Rattle.disk_layout.specs.rules.Unsynced.{most_unsynced};
 
     /// A fresh worker of the module that the bytes spell, on this disk. Whatever stood on it is
     /// lost. A module that isn't accepted, and a disk with too few sectors, are refused before
@@ -101,6 +103,12 @@ impl DurableWorker {
         ensures calls { CreationCalls wasm.now config.now result (D.medium disk.old)
             (D.medium disk.new) }
         ensures asks { CallsUpTo (most_creating (D.medium disk.old).sectors) (D.medium disk.old)
+            (D.medium disk.new) }
+
+        // At no moment were there more unsynced writes than before and one, or than an area, the
+        // contents, the journal and two heads have sectors.
+        ensures counts { CountsUpTo (max ((D.medium disk.old).unsynced + 1)
+            (most_unsynced (places_for config.now wasm.now))) (D.medium disk.old)
             (D.medium disk.new) }
     {
         let process = begin(alloc, wasm, config)?;

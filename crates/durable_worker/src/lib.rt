@@ -42,6 +42,9 @@
 //!   (`cause`). After an error the generation is as it was (`unsaved`).
 //! - Whatever stands on the disk, a slice, a checkpoint and a recovery answer a fault of the disk
 //!   only for its cause, and `Failed` only of a worker that had failed before (`on_any_disk`).
+//! - At no moment of a slice, a checkpoint or a recovery are there more unsynced writes than before
+//!   and the journal's, or an area's and its head's. In a creation there are no more than before
+//!   and one, or than `most_unsynced` of `disk_layout` (`counts`).
 //! - No image that a cut leaves is of a later generation than as much has happened. The disk has
 //!   all sectors of its worker (`carries`, and `laws::open_workers_keep_bounds`).
 //! - `laws::calls_make_lives`: the calls of one life make one that goes on from all that was
@@ -66,10 +69,10 @@
 //! (`Surveys.antt`);
 //! `SlicesOnDiskInVain`, `IsDiskCause`, `HasSliceCause` (`DurableFailures.antt`); `SliceCalls`
 //! (`SliceCalls.antt`); `CheckpointCalls`, `CheckpointFails`, `HasCheckpointCause`
-//! (`Checkpoints.antt`); `fault_of_store` (`DurableFaults.antt`); `fault_of_restore`,
-//! `fault_of_replay` (`RecoverFaults.antt`); `most_calls`, `CallsForEvents` (`CallCounts.antt`);
-//! `inputs_of` (`Planned.antt`), `TellsLives` (`Told.antt`). They speak in the words of
-//! `worker_rules` and `worker_store`.
+//! (`Checkpoints.antt`); `CountsInSlice`, `CountsInRecovery` (`Unsynced.antt`); `fault_of_store`
+//! (`DurableFaults.antt`); `fault_of_restore`, `fault_of_replay` (`RecoverFaults.antt`);
+//! `most_calls`, `CallsForEvents` (`CallCounts.antt`); `inputs_of` (`Planned.antt`), `TellsLives`
+//! (`StoryDisks.antt`). They speak in the words of `worker_rules` and `worker_store`.
 //!
 //! # Who may touch what
 //!

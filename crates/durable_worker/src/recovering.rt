@@ -28,6 +28,7 @@ impl DurableWorker {
     ghost use Rattle.durable_worker.specs.rules.ShownDisks.{RecoversAsShown};
     ghost use Rattle.durable_worker.specs.rules.CallCounts.{most_recovering};
     ghost use Rattle.sector_disk.specs.rules.Medium.{CallsUpTo};
+    ghost use Rattle.durable_worker.specs.rules.Unsynced.{CountsInRecovery};
 
     /// The worker that the disk stands for goes on. Syncs the disk, and reads what it shows. Then
     /// the process takes the answers on record, and each line that it emits on the way is released.
@@ -63,6 +64,10 @@ impl DurableWorker {
         // Whatever stands on the disk, the outlet took each line; or it refused the last one, and
         // the error says so.
         ensures heeds { HeedsOutlet O.takes (SaysOutletFault result) outlet.old outlet.new }
+
+        // At no moment were there more unsynced writes than before, or than an area's and its
+        // head.
+        ensures counts { CountsInRecovery result (D.medium disk.old) (D.medium disk.new) }
     {
         images_fit_areas();
         if let Err(fault) = disk.sync() {

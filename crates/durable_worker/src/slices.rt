@@ -63,6 +63,7 @@ impl DurableWorker {
     ghost use Rattle.durable_worker.specs.rules.DurableCalls.{SliceCarries};
     ghost use Rattle.durable_worker.specs.rules.DurableFailures.{HasSliceCause};
     ghost use Rattle.durable_worker.specs.rules.SliceCalls.{SliceCalls};
+    ghost use Rattle.durable_worker.specs.rules.Unsynced.{CountsInSlice};
 
     /// Takes at most `fuel` steps: answers from the source, lines to the outlet. Before a line is
     /// released all answers are on the disk, and so they are before a sync of the guest returns.
@@ -104,6 +105,11 @@ impl DurableWorker {
         ensures on_any_disk { IfErr result (λ why. HasSliceCause self.old (D.medium disk.old)
             (D.medium disk.new) why) }
         ensures room { total_sectors self.new.store.geometry ≤ (D.medium disk.new).sectors }
+
+        // At no moment were there more unsynced writes than before and the journal's, or an area's
+        // and its head.
+        ensures counts { CountsInSlice self.old.store.geometry (D.medium disk.old)
+            (D.medium disk.new) }
     {
         if self.has_failed {
             return Err(DurableFault::Work(WorkFault::Failed));

@@ -50,7 +50,8 @@ pub(crate) fn lay_contents<D: Disk>(
 
     // At no moment were there more unsynced writes than before and the super's, or than those
     // behind it.
-    ensures counts { CountsUpTo (max ((D.medium disk.old).unsynced + 1) (behind_sectors geometry.now))
+    ensures counts { CountsUpTo
+        (max ((D.medium disk.old).unsynced + 1) (behind_sectors geometry.now))
         (D.medium disk.old) (D.medium disk.new) }
 {
     store_run(disk, 0, &[[0; SECTOR_SIZE]])?;

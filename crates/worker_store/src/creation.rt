@@ -117,7 +117,8 @@ fn lay_worker<D: Disk>(
         CreationFails geometry.now process.now (D.medium disk.old) (D.medium disk.new) e) }
     ensures asks { CallsUpTo ((D.medium disk.old).sectors + 9) (D.medium disk.old)
         (D.medium disk.new) }
-    ensures counts { CountsUpTo (max ((D.medium disk.old).unsynced + 1) (most_unsynced geometry.now))
+    ensures counts { CountsUpTo
+        (max ((D.medium disk.old).unsynced + 1) (most_unsynced geometry.now))
         (D.medium disk.old) (D.medium disk.new) }
 {
     lay_contents(disk, geometry, config, wasm)?;

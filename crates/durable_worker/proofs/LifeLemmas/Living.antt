@@ -11,7 +11,8 @@ use Rattle.wasi_abi.specs.rules.Configs.{Settings}
 use Rattle.state_image.specs.rules.Image.{Saved}
 use Rattle.state_image.specs.rules.Saving.{saved_of}
 use Rattle.sector_disk.specs.rules.Medium.{Medium}
-use Rattle.disk_layout.specs.rules.Places.{geometry_of, total_sectors}
+use Rattle.disk_layout.specs.rules.Places.{geometry_of}
+use Rattle.disk_layout.specs.rules.Unsynced.{most_unsynced}
 use Rattle.record_replay.specs.rules.Calls.{Giving, Taking, Begun, Exchange, Asks, Tells}
 use Rattle.record_replay.specs.rules.Calls.{Releases, AnswersInOrder, Exchanges}
 use Rattle.record_replay.proofs.Following.{exchanges_join}
@@ -84,8 +85,8 @@ other_fault None calls OfBounds other = tt
 other_fault (Some k) calls OfBounds other = tt
 
 enough : (config : Settings) (n : ℕ)
-    → (config.journal ≤ total_sectors (geometry_of config n))
-    × ((geometry_of config 0).area_sectors ≤ total_sectors (geometry_of config n))
+    → (config.journal ≤ most_unsynced (geometry_of config n))
+    × ((geometry_of config 0).area_sectors ≤ most_unsynced (geometry_of config n))
 enough config n = (omega arith, omega arith)
 
 module _ (bytes : List ℕ) (config : Settings) (inputs : Inputs) (exchanges : List Exchange)

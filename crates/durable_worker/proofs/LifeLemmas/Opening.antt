@@ -16,6 +16,7 @@ use Rattle.sector_disk.specs.rules.Medium.{Medium}
 use Rattle.sector_disk.specs.rules.Medium.{CallsUpTo}
 use Rattle.disk_layout.specs.declared.fault.LayoutFault.TheVariants.{NotAWorker, TooSmall}
 use Rattle.disk_layout.specs.rules.Places.{Geometry, geometry_of, total_sectors}
+use Rattle.disk_layout.specs.rules.Unsynced.{most_unsynced}
 use Rattle.record_replay.specs.rules.Calls.{Taking, Begun, Exchange, Tells, Releases}
 use Rattle.worker_rules.specs.Lives.{Inputs, Cause, OfDisk, OfMemory, OfOutlet, OfBounds, Event}
 use Rattle.worker_rules.specs.Lives.{Beginning, Creates, Opened, told_in}
@@ -53,8 +54,8 @@ use Rattle.durable_worker.proofs.LifeLemmas.Called.{bounds_in_the_end}
 
 -- ---- what is said of the disk
 
-some_sectors : (g : Geometry) → 1 ≤ total_sectors g
-some_sectors g = omega arith
+some_writes : (g : Geometry) → 1 ≤ most_unsynced g
+some_writes g = omega arith
 
 -- a recovery that says that there is no worker has found none
 finds_none : (m : Module) (config : Settings) (promise : Promise) (inputs : Inputs)
@@ -235,7 +236,7 @@ module _ (m : Module) (config : Settings) (so_far : Promise) (inputs : Inputs) w
   module _ (bytes : List ℕ) (accepted : IsAccepted offer config.pages bytes m)
       (found mid new : Medium) (none : IsNothingYet so_far) (later : IsLater found mid)
       (sectors : total_sectors (geometry_of config (length bytes)) ≤ found.sectors)
-      (room : total_sectors (geometry_of config (length bytes)) ≤ found.room)
+      (room : most_unsynced (geometry_of config (length bytes)) ≤ found.room)
       (settled : (mid.unsynced ≡ 0) ⊎ (found.faults < mid.faults))
       (before : CallsUpTo (most_recovering found.sectors) found mid) where
     -- the calls of the recovery, and of the creation
@@ -279,7 +280,7 @@ module _ (m : Module) (config : Settings) (so_far : Promise) (inputs : Inputs) w
     -- why it fails
     few_writes : (spare : mid.room ≡ 0) → ⊥
     few_writes none_there =
-        let some = some_sectors (geometry_of config (length bytes)) in
+        let some = some_writes (geometry_of config (length bytes)) in
         let same = later.room in absurd (omega (arith, some, room, same, none_there))
 
     why_not_created : (why : DurableFault) → IsLater mid new
@@ -355,7 +356,7 @@ module _ (m : Module) (config : Settings) (so_far : Promise) (inputs : Inputs) w
 
       module _ (accepted : IsAccepted offer config.pages bytes m) (mid : D)
           (sectors : total_sectors (geometry_of config (length bytes)) ≤ (medium found).sectors)
-          (room : total_sectors (geometry_of config (length bytes)) ≤ (medium found).room)
+          (room : most_unsynced (geometry_of config (length bytes)) ≤ (medium found).room)
           (settled : ((medium mid).unsynced ≡ 0) ⊎ ((medium found).faults < (medium mid).faults))
           (image : Image) (leaves : (medium mid).may_leave image)
           (begun : so_far.was_created ≡ true) where
@@ -416,7 +417,7 @@ abbrev pub OpeningIs : Module → Settings → Promise → {O : Type 0} → Taki
 OpeningIs m config so_far takes bytes begins result found disk outlet outlet' = (told : List Begun)
     × Releases takes outlet told outlet'
     × ((inputs : Inputs) → total_sectors (geometry_of config (length bytes)) ≤ found.sectors
-    → total_sectors (geometry_of config (length bytes)) ≤ found.room
+    → most_unsynced (geometry_of config (length bytes)) ≤ found.room
     → IsForetold (at_first inputs) (map Tells told)
     → OpensSo m config (as_begun begins so_far) inputs begins (map Tells told) result found disk)
 

@@ -9,8 +9,8 @@ use Rattle.process_rules.specs.Processes.{ProcessState}
 use Rattle.process_rules.specs.Runs.{none as no_step}
 use Rattle.process.specs.rules.Values.{ProcessValue, IsProcess}
 use Rattle.sector_disk.specs.rules.Image.{Image}
-use Rattle.sector_disk.specs.rules.Medium.{Medium, LeavesOnly, Passes}
-use Rattle.sector_disk.specs.rules.Medium.{CallsUpTo}
+use Rattle.sector_disk.specs.rules.Medium.{Medium, LeavesOnly, Passes, CallsUpTo, CountsUpTo}
+use Rattle.sector_disk.proofs.CountLemmas.{counts_same}
 use Rattle.sector_disk.proofs.Moments.{leaves_only, started}
 use Rattle.disk_layout.specs.declared.geometry.Geometry.{Geometry}
 use Rattle.disk_layout.specs.rules.Places.{geometry_of, total_sectors}
@@ -151,6 +151,7 @@ module _ {D : Type 0} (medium : D → Medium) (geometry : Geometry) (generation 
           StandsAtPoint point records last disk ⊎ BeginsAtPoint next disk))
           (λ image left. inl (all image left));
       passes = started (medium mid) (λ image. Unit {0});
+      counts = counts_same (medium mid) _;
       some = λ image left. (image, left);
       counted = omega arith;
     };
@@ -162,6 +163,8 @@ module _ {D : Type 0} (medium : D → Medium) (geometry : Geometry) (generation 
   module _ (next : ℕ) (is_next : next ≡ generation + 1) (new : D)
       (leaves : LeavesPointOrNext geometry next v (medium mid) (medium new))
       (passes : Passes (medium mid) (medium new) (λ image. Unit {0}))
+      (counts : CountsUpTo ((medium mid).unsynced + geometry.area_sectors + 1) (medium mid)
+      (medium new))
       (some : (image : Image) → (medium new).may_leave image
       → (before : Image) × (medium mid).may_leave before)
       (few : CallsUpTo ((medium mid).sectors + 2) (medium mid) (medium new)) where
@@ -170,6 +173,7 @@ module _ {D : Type 0} (medium : D → Medium) (geometry : Geometry) (generation 
       leaves = subst (λ n. LeavesPointOrNext geometry n v (medium mid) (medium new)) is_next
           leaves;
       passes = passes;
+      counts = counts;
       some = some;
       counted = few;
     }

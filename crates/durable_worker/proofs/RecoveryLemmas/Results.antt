@@ -14,7 +14,7 @@ use Rattle.state_image.specs.rules.Saving.{saved_of}
 use Rattle.sector_disk.specs.declared.fault.DiskFault.{DiskFault}
 use Rattle.sector_disk.specs.rules.Image.{Image}
 use Rattle.sector_disk.specs.rules.Medium.{Medium, SyncsMedium}
-use Rattle.sector_disk.proofs.CountLemmas.{counts_same}
+use Rattle.sector_disk.proofs.CountLemmas.{counts_same, counts_then, unsynced_within}
 use Rattle.sector_disk.specs.rules.Medium.{CallsUpTo}
 use Rattle.sector_disk.proofs.Moments.{leaves_weaker, leaves_only, started, settled_only}
 use Rattle.sector_disk.proofs.Moments.{settled_stays, stays_left, stays_on}
@@ -85,6 +85,9 @@ settled_by old sync mid done syncs reads few =
           (stays_leaves_only old sync syncs.stays syncs.passes)
           (leaves_weaker sync mid sync.may_leave old.may_leave reads.leaves
           (λ image left. stays_left old sync syncs.stays image left));
+      counts = counts_then old.unsynced sync.unsynced old.unsynced old sync mid (omega arith)
+          (unsynced_within old.unsynced old sync (omega arith) passes.later syncs.counts)
+          passes.later syncs.counts reads.counts;
       calls = reads.calls ∙ calls.all;
       counted = omega (arith, syncs.counted, few, passes.sectors);
     }

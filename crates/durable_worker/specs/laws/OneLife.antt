@@ -10,6 +10,7 @@ use Rattle.state_image.specs.rules.Saving.{saved_of}
 use Rattle.sector_disk.specs.rules.Image.{Image}
 use Rattle.sector_disk.specs.rules.Medium.{Medium}
 use Rattle.disk_layout.specs.rules.Places.{geometry_of, total_sectors}
+use Rattle.disk_layout.specs.rules.Unsynced.{most_unsynced}
 use Rattle.record_replay.specs.rules.Calls.{Giving, Taking, Exchange, Asks, Tells, Exchanges}
 use Rattle.worker_rules.specs.Lives.{Act, Slice, Checkpoint, SourceSaid, Inputs, Release, Cause}
 use Rattle.worker_rules.specs.Lives.{OfDisk, Event, Told, Asked, Opened, Ended, told_in}
@@ -140,7 +141,7 @@ pub record CameTrue (bytes : List ℕ) (config : Settings) (inputs : Inputs)
     (found last : Medium) : Type 0 where
   pub foretold : Foretell inputs.says inputs.takes exchanges
   pub sectors : total_sectors (geometry_of config (length bytes)) ≤ found.sectors
-  pub room : total_sectors (geometry_of config (length bytes)) ≤ found.room
+  pub room : most_unsynced (geometry_of config (length bytes)) ≤ found.room
   pub faults : IsLater found last → found.faults < last.faults
       → HasDiskFault inputs.fails OfDisk calls ⊎ HasStopped inputs.stop calls
   pub over : IsLifeOver inputs calls left

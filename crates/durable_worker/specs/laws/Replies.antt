@@ -8,6 +8,7 @@ use Rattle.process.specs.rules.Values.{ending_of}
 use Rattle.state_image.specs.rules.Image.{Saved}
 use Rattle.sector_disk.specs.rules.Medium.{Medium}
 use Rattle.disk_layout.specs.rules.Places.{geometry_of, total_sectors}
+use Rattle.disk_layout.specs.rules.Unsynced.{most_unsynced}
 use Rattle.record_replay.specs.rules.Calls.{Giving, Taking, Exchange, Exchanges}
 use Rattle.worker_rules.specs.Lives.{Act, Slice, Checkpoint, Reply, Spent, Waits, Over, Event, Told}
 use Rattle.worker_rules.specs.Lives.{Asked, Opened, Ended, told_in, Beginning, Inputs}
@@ -76,7 +77,7 @@ LivesEndAsSaid {D} {S} {O} medium gives takes =
     → (one : IsOneLife medium gives takes bytes config acts found source outlet begins worker left
     last source' outlet') → left ≡ Ok []
     → total_sectors (geometry_of config (length bytes)) ≤ (medium found).sectors
-    → total_sectors (geometry_of config (length bytes)) ≤ (medium found).room
+    → most_unsynced (geometry_of config (length bytes)) ≤ (medium found).room
     → KeepsPromise m config so_far (medium found) → KeepsBounds so_far.events (medium found)
     → EndsAsSaid gives takes m config (as_begun begins so_far) acts (life_outcome one) source source'
     outlet outlet'

@@ -7,6 +7,7 @@ use Rattle.wasi_abi.specs.rules.Configs.{Settings}
 use Rattle.machine.specs.rules.Offers.{offer}
 use Rattle.sector_disk.specs.rules.Medium.{Medium}
 use Rattle.disk_layout.specs.rules.Places.{geometry_of, total_sectors}
+use Rattle.disk_layout.specs.rules.Unsynced.{most_unsynced}
 use Rattle.record_replay.specs.rules.Calls.{Giving, Taking, Exchange, Exchanges}
 use Rattle.worker_rules.specs.Lives.{Act, Inputs, OfOutlet, told_in, Beginning, Failed, Life}
 use Rattle.worker_rules.specs.Promises.{Promise, promised_by, IsLived}
@@ -62,7 +63,7 @@ LivesGoOnUncut {D} {S} {O} medium gives takes =
     source' outlet'
     → IsLifeOver (uncut acts []) 1 left
     → total_sectors (geometry_of config (length bytes)) ≤ (medium found).sectors
-    → total_sectors (geometry_of config (length bytes)) ≤ (medium found).room
+    → most_unsynced (geometry_of config (length bytes)) ≤ (medium found).room
     → KeepsPromise m config so_far (medium found) → KeepsBounds so_far.events (medium found)
     → GoesOnUncut medium gives takes m config so_far acts begins left found last source source'
     outlet outlet'

@@ -15,6 +15,7 @@ use Rattle.sector_disk.specs.rules.Medium.{Medium, BeginsCalls, CallsUpTo, spare
 use Rattle.disk_layout.specs.declared.fault.LayoutFault.TheVariants.{TooSmall}
 use Rattle.disk_layout.specs.declared.geometry.Geometry.{Geometry}
 use Rattle.disk_layout.specs.rules.Places.{geometry_of, total_sectors}
+use Rattle.disk_layout.specs.rules.Unsynced.{most_unsynced}
 use Rattle.disk_layout.specs.rules.Sectors.{HasWorker}
 use Rattle.worker_rules.specs.Between.{FindsNoWorker}
 use Rattle.worker_rules.specs.Lives.{Inputs, Opened}
@@ -57,7 +58,7 @@ IsNotCreatedOn bytes config old new (Work why) = IsRefusedByWorker config.pages 
 IsNotCreatedOn bytes config old new (Store (store.Layout TooSmall)) =
     old.sectors < total_sectors (places_for config bytes)
 IsNotCreatedOn bytes config old new (Disk fault) = (spare old ≡ 0)
-    ⊎ (old.room < total_sectors (places_for config bytes)) ⊎ (old.faults < new.faults)
+    ⊎ (old.room < most_unsynced (places_for config bytes)) ⊎ (old.faults < new.faults)
 IsNotCreatedOn bytes config old new other = ⊥
 
 -- the module or the disk is refused, or the host has no room, before anything is written

@@ -15,7 +15,7 @@ use Rattle.sector_disk.specs.declared.disk_call.DiskCall.TheVariants.{Sync}
 use Rattle.sector_disk.specs.declared.fault.DiskFault.{DiskFault}
 use Rattle.sector_disk.specs.rules.Image.{Image}
 use Rattle.sector_disk.specs.rules.Medium.{Medium, IsAllSynced, Stays, BeginsCalls, LeavesOnly}
-use Rattle.sector_disk.specs.rules.Medium.{CallsUpTo}
+use Rattle.sector_disk.specs.rules.Medium.{CallsUpTo, CountsUpTo}
 use Rattle.disk_layout.specs.declared.fault.LayoutFault.TheVariants.{NotAWorker}
 use Rattle.disk_layout.specs.declared.geometry.Geometry.{Geometry}
 use Rattle.disk_layout.specs.rules.Places.{geometry_of, area_place, rounded_up, total_sectors}
@@ -131,11 +131,12 @@ pub record RecoversFrom {O : Type 0} (takes : Taking O) (sectors : ℕ) (disk : 
       → Revives takes stands result outlet outlet'
 
 -- The disk is settled by one sync, and then it was only read. A cut leaves what it may have left
--- before.
+-- before. At no moment were there more unsynced writes than before.
 pub record IsSettledBy (old mid : Medium) : Type 0 where
   pub settled : IsAllSynced mid
   pub stays : Stays old mid
   pub leaves : LeavesOnly old mid old.may_leave
+  pub counts : CountsUpTo old.unsynced old mid
   pub calls : mid.calls ≡ Sync ∷ old.calls
   -- no sector is read more than twice
   pub counted : CallsUpTo (2 * old.sectors + 1) old mid

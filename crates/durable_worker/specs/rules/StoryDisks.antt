@@ -18,6 +18,7 @@ use Rattle.sector_disk.specs.rules.Medium.{Medium}
 use Rattle.sector_disk.specs.rules.Memory.{memory_medium, memory_state_of, after_cut}
 use Rattle.sector_disk.specs.rules.Trouble.{call_number, troubled}
 use Rattle.disk_layout.specs.rules.Places.{geometry_of, total_sectors}
+use Rattle.disk_layout.specs.rules.Unsynced.{most_unsynced}
 use Rattle.worker_rules.specs.Lives.{Life, Beginning}
 use Rattle.worker_rules.specs.Promises.{GoesOn}
 use Rattle.worker_rules.specs.Stands.{StandsFor}
@@ -37,13 +38,20 @@ use Rattle.durable_worker.specs.rules.Planned.{inputs_of, act_of, number_refused
 use Rattle.durable_worker.specs.rules.Told.{TellsOpening, TellsEach, BeginFewCalls}
 use Rattle.durable_worker.specs.Hearing.{hands_out, hears}
 
--- so many sectors of zeros, and room for as many writes
-abbrev pub IsEmptyDisk : ℕ → MemDisk → Type 0
-IsEmptyDisk sectors disk = memory_state_of disk ≡ record {
+-- so many sectors of zeros, and room for so many writes between two syncs
+abbrev pub IsEmptyDisk : ℕ → ℕ → MemDisk → Type 0
+IsEmptyDisk sectors writes disk = memory_state_of disk ≡ record {
   settled = replicate sectors (replicate SECTOR_SIZE 0);
   pending = [];
-  limit = sectors;
+  limit = writes;
 }
+
+-- the disk of a worker of these bytes, without one: all its sectors, and room for as many writes as
+-- ever wait for a sync
+abbrev pub IsEmptyDiskFor : List ℕ → Settings → MemDisk → Type 0
+IsEmptyDiskFor bytes config disk =
+    IsEmptyDisk (total_sectors (geometry_of config (length bytes)))
+    (most_unsynced (geometry_of config (length bytes))) disk
 
 -- ---- one life
 
@@ -132,5 +140,5 @@ TellsLives bytes config planned reports = (m : Module) → IsAccepted offer conf
     × TellsEach lives reports
     × BeginFewCalls (total_sectors (geometry_of config (length bytes))) lives
     × (first : MemDisk) × (last : MemDisk)
-    × IsEmptyDisk (total_sectors (geometry_of config (length bytes))) first
+    × IsEmptyDiskFor bytes config first
     × AreRunOn bytes config planned reports first last

@@ -21,7 +21,9 @@
 //!   that a cut keeps are those that are told, in order, of all writes but the front of a stop
 //!   (`IsLeftBy`).
 //! - All lives are run on one disk, which is empty at first, by the calls of a worker (`AreRunOn`).
-//!   A recovered one is of the generation after that of the worker that it found there
+//!   It takes as many writes between two syncs as ever wait for one (`most_unsynced`), and not one
+//!   more. A life whose worker left more of them unsynced would end in a fault of the disk.
+//! - A recovered life is of the generation after that of the worker that it found on the disk
 //!   (`IsNextGeneration`).
 //!
 //! Nothing is said of a module that isn't accepted. How many calls of the disk a life takes is said
@@ -43,10 +45,10 @@
 //! images that it tells.
 
 ghost use Rattle.std.specs.Prelude.{◌≡◌, ◌<◌, ◌^◌, IfOk, length};
-ghost use Rattle.disk_layout.specs.rules.Places.{geometry_of, total_sectors};
 ghost use Rattle.record_replay.specs.rules.Lists.{inner_outlet};
 ghost use Rattle.durable_worker.specs.rules.Planned.{number_refused};
-ghost use Rattle.durable_worker.specs.rules.StoryDisks.{IsEmptyDisk, IsRunOn, TellsLives};
+ghost use Rattle.durable_worker.specs.rules.StoryDisks.{IsEmptyDiskFor, IsRunOn, TellsLives};
+ghost use Rattle.disk_layout.specs.rules.Unsynced.{most_unsynced};
 ghost use Rattle.durable_worker.specs.Endings.{EndsLife};
 ghost use Rattle.durable_worker.specs.Going.{LivesOn};
 
@@ -73,6 +75,9 @@ use sector_disk::{FaultDisk, MemDisk};
 use std::alloc::Global;
 use wasi_abi::Config;
 use wasm_syntax::Row;
+
+/// How many heads a disk has.
+const HEADS: usize = 2;
 
 /// Lives of a worker of this module, one after another, on a disk that is empty at first.
 pub fn story(
@@ -101,16 +106,27 @@ pub fn story(
     Ok(Report { lives: told })
 }
 
-/// A disk of zeros with all sectors of this worker, which takes as many writes between two syncs.
+/// A disk of zeros with all sectors of this worker, which takes as many writes between two syncs as
+/// ever wait for one.
 fn empty_disk(alloc: Global, wasm: &[u8], config: &Config) -> Result<MemDisk, StoryFault>
     ensures { IfOk result (λ disk. length wasm.now < 2 ^ 32
-        → IsEmptyDisk (total_sectors (geometry_of config.now (length wasm.now))) disk) }
+        → IsEmptyDiskFor wasm.now config.now disk) }
 {
-    let sectors = Geometry::of(config, module_len(wasm)).total_sectors();
-    match MemDisk::new(alloc, sectors, sectors as usize) {
+    let places = Geometry::of(config, module_len(wasm));
+    match MemDisk::new(alloc, places.total_sectors(), writes_at_once(&places)) {
         Ok(disk) => Ok(disk),
         Err(_) => Err(StoryFault::Memory),
     }
+}
+
+/// How many writes of a worker ever wait for a sync.
+fn writes_at_once(places: &Geometry) -> usize
+    ensures { result ≡ most_unsynced places.now }
+{
+    places.area_sectors as usize
+        + places.module_sectors as usize
+        + places.journal_sectors as usize
+        + HEADS
 }
 
 /// How many bytes the module has. One that has too many for a disk is accepted by nobody.

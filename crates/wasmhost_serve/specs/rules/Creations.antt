@@ -11,6 +11,7 @@ use Rattle.machine_loader.specs.rules.Acceptance.{HasAcceptedModule, HasNoAccept
 use Rattle.machine_loader.specs.rules.Acceptance.{is_want}
 use Rattle.sector_disk.specs.rules.Medium.{Medium, spare}
 use Rattle.disk_layout.specs.rules.Places.{total_sectors}
+use Rattle.disk_layout.specs.rules.Unsynced.{most_unsynced}
 use Rattle.durable_worker.specs.declared.fault.DurableFault.{DurableFault}
 use Rattle.durable_worker.specs.rules.DurableCreations.{CreationKeeps, IsCreatedOn, places_for}
 use Rattle.durable_worker.specs.rules.DurableValues.{DurableValue}
@@ -101,8 +102,8 @@ IsCreationRefused bytes config disk = HasNoAcceptedModule config.pages bytes
 
 -- the disk has failed, or it surely takes too few writes between two syncs
 abbrev pub HasDiskFailed : List ℕ → Settings → Medium → Medium → Type 0
-HasDiskFailed bytes config old new = (spare old ≡ 0) ⊎ (old.room < disk_sectors config bytes)
-    ⊎ (old.faults < new.faults)
+HasDiskFailed bytes config old new = (spare old ≡ 0)
+    ⊎ (old.room < most_unsynced (places_for config bytes)) ⊎ (old.faults < new.faults)
 
 -- 0: the worker is created. 3: it is refused. 4: the disk failed. 5: there is no memory. A refused
 -- worker and want of memory leave the disk as it was. 7: a write of a printer has failed, and

@@ -81,8 +81,8 @@ pub returns-in-Err-clause-runs : goal.returns-in-Err-clause-runs
 returns-in-Err-clause-runs g c =
     let failed = c.in-Err.ensures in
     barrier_failed g.D.Disk.medium c.args.store.now c.barrier.new.self c.args.disk.now
-    c.barrier.new.disk failed.stays failed.passes c.in-Err.fault failed.full failed.cause
-    failed.calls.begun
+    c.barrier.new.disk failed.stays failed.passes failed.counts c.in-Err.fault failed.full
+    failed.cause failed.calls.begun
 
 pub returns-in-Err-clause-on_any_disk : goal.returns-in-Err-clause-on_any_disk
 returns-in-Err-clause-on_any_disk g c =
@@ -104,9 +104,11 @@ returns-clause-runs g c =
     saves_join old c.barrier.new.self c.commit.new.self (g.D.Disk.medium c.args.disk.now)
     (g.D.Disk.medium c.barrier.new.disk) (g.D.Disk.medium c.commit.new.disk) c.commit.result
     (barrier_went g.D.Disk.medium old c.barrier.new.self c.args.disk.now c.barrier.new.disk
-    done.stays done.passes tt done.full done.stored done.quiet done.settled done.calls.all)
+    done.stays done.passes done.counts tt done.full done.stored done.quiet done.settled
+    done.calls.all)
     (commit_runs c.barrier.new.self c.commit.new.self c.args.process.now
-    (g.D.Disk.medium c.barrier.new.disk) (g.D.Disk.medium c.commit.new.disk) put.passes put.stays
+    (g.D.Disk.medium c.barrier.new.disk) (g.D.Disk.medium c.commit.new.disk) put.passes
+    put.counts put.stays
     c.commit.result put.begun put.unchanged put.settled put.cause put.calls)
 
 pub returns-clause-on_any_disk : goal.returns-clause-on_any_disk
@@ -116,5 +118,6 @@ returns-clause-on_any_disk g c =
     commit_save_cause old c.barrier.new.self c.args.process.now (g.D.Disk.medium c.args.disk.now)
     (g.D.Disk.medium c.barrier.new.disk) (g.D.Disk.medium c.commit.new.disk)
     (barrier_went g.D.Disk.medium old c.barrier.new.self c.args.disk.now c.barrier.new.disk
-    done.stays done.passes tt done.full done.stored done.quiet done.settled done.calls.all)
+    done.stays done.passes done.counts tt done.full done.stored done.quiet done.settled
+    done.calls.all)
     done.stays c.commit.result c.commit.ensures.cause

@@ -138,7 +138,8 @@ returns-in_err-write_super-clause-counts g c =
     (g.D.Disk.medium c.lay_contents.new.disk) (g.D.Disk.medium c.write_snapshot.new.disk)
     c.in_ok-lay_contents.ensures.settled c.lay_contents.ensures.passes
     c.lay_contents.ensures.counts c.write_snapshot.ensures.counts
-    (g.D.Disk.medium c.write_super.new.disk) c.in_ok-write_snapshot.ensures.settled (let p = leaves.passes in p.later)
+    (g.D.Disk.medium c.write_super.new.disk) c.in_ok-write_snapshot.ensures.settled
+    (let p = leaves.passes in p.later)
     c.write_super.ensures.counts
 
 pub returns-clause-counts : goal.returns-clause-counts
@@ -148,5 +149,6 @@ returns-clause-counts g c =
     (g.D.Disk.medium c.lay_contents.new.disk) (g.D.Disk.medium c.write_snapshot.new.disk)
     c.in_ok-lay_contents.ensures.settled c.lay_contents.ensures.passes
     c.lay_contents.ensures.counts c.write_snapshot.ensures.counts
-    (g.D.Disk.medium c.write_super.new.disk) c.in_ok-write_snapshot.ensures.settled (let p = leaves.passes in p.later)
+    (g.D.Disk.medium c.write_super.new.disk) c.in_ok-write_snapshot.ensures.settled
+    (let p = leaves.passes in p.later)
     c.write_super.ensures.counts

@@ -1,4 +1,4 @@
-use Rattle.std.proofs.Common.{sym, ◌∙◌, ap}
+use Rattle.std.proofs.Common.{sym, ◌∙◌, ap, subst}
 use Rattle.durable_worker.specs.declared.fault.DurableFault.TheVariants.{Work}
 use Rattle.worker.specs.declared.fault.WorkFault.TheVariants as work
 use Rattle.durable_worker.specs.rules.DurableValues.{DurableValue}
@@ -7,6 +7,8 @@ use Rattle.durable_worker.proofs.CheckpointLemmas.{room_after, saved_in}
 use Rattle.durable_worker.proofs.CheckpointLemmas.{calls_err, calls_ok, failed_carries}
 use Rattle.durable_worker.proofs.CheckpointLemmas.{failed_fails}
 use Rattle.durable_worker.proofs.CheckpointLemmas.{failed_calls}
+use Rattle.durable_worker.specs.rules.Unsynced.{CountsInSlice}
+use Rattle.durable_worker.proofs.TurnCounts.{counts_none}
 use Rattle.durable_worker.proofs.durable.DurableWorker.checkpoint.Goals as goal
 
 pub save-saved-requires : goal.save-saved-requires
@@ -89,3 +91,19 @@ returns-clause-room g c =
     c.self.inside.has_failed c.args.self.now c.self.view_is c.args.disk.now
     c.save-saved.new.disk c.save-saved.new.store c.in_default.ensures.stays
     c.in_default.ensures.passes c.requires
+
+pub returns-then-self-clause-counts : goal.returns-then-self-clause-counts
+returns-then-self-clause-counts g c =
+    counts_none c.args.self.now.store.geometry (g.D.Disk.medium c.args.disk.now)
+
+pub returns-in-Err-clause-counts : goal.returns-in-Err-clause-counts
+returns-in-Err-clause-counts g c =
+    let runs = c.in-Err.ensures.runs in
+    subst (λ (w : DurableValue). CountsInSlice w.store.geometry (g.D.Disk.medium c.args.disk.now)
+    (g.D.Disk.medium c.save-saved.new.disk)) c.self.view_is runs.counts
+
+pub returns-clause-counts : goal.returns-clause-counts
+returns-clause-counts g c =
+    let runs = c.in_default.ensures.runs in
+    subst (λ (w : DurableValue). CountsInSlice w.store.geometry (g.D.Disk.medium c.args.disk.now)
+    (g.D.Disk.medium c.save-saved.new.disk)) c.self.view_is runs.counts

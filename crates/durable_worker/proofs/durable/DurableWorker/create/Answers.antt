@@ -1,4 +1,5 @@
 use Rattle.std.proofs.Common.{refl}
+use Rattle.sector_disk.proofs.CountLemmas.{counts_same}
 use Rattle.std.proofs.lemmas.Result.{err_from_is_err_and}
 use Rattle.durable_worker.proofs.CreationLemmas.{refused_keeps, refused_calls, short_enough}
 use Rattle.durable_worker.proofs.CreationLemmas.{laid_created, laid_refused, laid_untouched}
@@ -75,3 +76,9 @@ returns-clause-calls g c =
     c.in_ok-process.ensures.texts c.is_process.ensures c.in_ok-process.ensures.begun
     c.lay_out-laid.result (g.D.Disk.medium c.args.disk.now)
     (g.D.Disk.medium c.lay_out-laid.new.disk) c.lay_out-laid.ensures.calls)
+
+pub returns-in_err-process-clause-counts : goal.returns-in_err-process-clause-counts
+returns-in_err-process-clause-counts g c = counts_same (g.D.Disk.medium c.args.disk.now) _
+
+pub returns-clause-counts : goal.returns-clause-counts
+returns-clause-counts g c = c.lay_out-laid.ensures.counts

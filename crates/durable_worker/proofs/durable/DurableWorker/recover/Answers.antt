@@ -9,6 +9,7 @@ use Rattle.durable_worker.proofs.RecoveryLemmas.Causes.{revival_cause}
 use Rattle.durable_worker.proofs.AnswerLemmas.{unsettled_shown, unfound_shown, found_shown}
 use Rattle.durable_worker.proofs.OutletLemmas.{none_told, disk_is_other, found_is_other}
 use Rattle.durable_worker.proofs.OutletLemmas.{revival_heeds}
+use Rattle.durable_worker.proofs.RecoveryLemmas.Counts.{revival_counts}
 use Rattle.durable_worker.proofs.durable.DurableWorker.recover.Goals as goal
 
 pub returns-in-Err-clause-carries : goal.returns-in-Err-clause-carries
@@ -129,3 +130,22 @@ returns-in-Ok-clause-asks g c =
       revival_calls g.D.Disk.medium g.O.Outlet.takes c.in-Ok.found c.revive.result c.find.new.disk
           c.revive.new.disk c.args.outlet.now c.revive.new.outlet c.revive.ensures,
     )
+
+pub returns-in-Err-clause-counts : goal.returns-in-Err-clause-counts
+returns-in-Err-clause-counts g c = inl c.in-Err.ensures.counts
+
+pub returns-in-Err-find-clause-counts : goal.returns-in-Err-find-clause-counts
+returns-in-Err-find-clause-counts g c =
+    let found = c.in-Err-find.ensures in
+    let settled = settled_by (g.D.Disk.medium c.args.disk.now) (g.D.Disk.medium c.sync.new.self)
+    (g.D.Disk.medium c.find.new.disk) c.in_default.field-0 c.in_default.ensures found.reads in
+    inl settled.counts
+
+pub returns-in-Ok-clause-counts : goal.returns-in-Ok-clause-counts
+returns-in-Ok-clause-counts g c =
+    let found = c.in-Ok.ensures in
+    revival_counts g.D.Disk.medium g.O.Outlet.takes c.args.disk.now c.find.new.disk
+    c.revive.new.disk
+    (settled_by (g.D.Disk.medium c.args.disk.now) (g.D.Disk.medium c.sync.new.self)
+    (g.D.Disk.medium c.find.new.disk) c.in_default.field-0 c.in_default.ensures found.reads)
+    c.in-Ok.found found.room c.args.outlet.now c.revive.new.outlet c.revive.result c.revive.ensures

@@ -10,6 +10,8 @@ use Rattle.durable_worker.proofs.DurableLemmas.Working.{slice_carries, slice_fai
 use Rattle.durable_worker.specs.rules.DurableFailures.{SlicesOnDiskInVain}
 use Rattle.durable_worker.proofs.DurableLemmas.InVain.{not_both}
 use Rattle.durable_worker.proofs.StoreTurnLemmas.{failed_slice_calls}
+use Rattle.durable_worker.specs.rules.Unsynced.{CountsInSlice}
+use Rattle.durable_worker.proofs.TurnCounts.{counts_none}
 use Rattle.durable_worker.proofs.durable.DurableWorker.slice.Goals as goal
 
 pub returns-then-self-clause-carries : goal.returns-then-self-clause-carries
@@ -65,3 +67,19 @@ pub returns-then-self-clause-calls : goal.returns-then-self-clause-calls
 returns-then-self-clause-calls g c =
     failed_slice_calls Now c.args.self.now.store (g.D.Disk.medium c.args.disk.now)
     (Work work.Failed)
+
+pub returns-then-self-clause-counts : goal.returns-then-self-clause-counts
+returns-then-self-clause-counts g c =
+    counts_none c.args.self.now.store.geometry (g.D.Disk.medium c.args.disk.now)
+
+pub returns-in-Ok-clause-counts : goal.returns-in-Ok-clause-counts
+returns-in-Ok-clause-counts g c =
+    let runs = c.in-Ok.ensures.runs in
+    subst (λ (w : DurableValue). CountsInSlice w.store.geometry (g.D.Disk.medium c.args.disk.now)
+    (g.D.Disk.medium c.work.new.disk)) c.self.view_is runs.counts
+
+pub returns-in-Err-clause-counts : goal.returns-in-Err-clause-counts
+returns-in-Err-clause-counts g c =
+    let runs = c.in-Err.ensures.runs in
+    subst (λ (w : DurableValue). CountsInSlice w.store.geometry (g.D.Disk.medium c.args.disk.now)
+    (g.D.Disk.medium c.work.new.disk)) c.self.view_is runs.counts

@@ -69,8 +69,8 @@ returns-in_err-barrier-clause-runs g c =
     let p = err_from_is_err_and c.from_residual.result c.from_residual.ensures.1 in
     let failed = c.in_err-barrier.ensures in
     rw (p.1, p.2) (barrier_failed g.D.Disk.medium c.args.self.now.store c.barrier.new.self
-    c.args.disk.now c.barrier.new.disk failed.stays failed.passes c.in_err-barrier.field-0.0
-    failed.full failed.cause failed.calls.begun)
+    c.args.disk.now c.barrier.new.disk failed.stays failed.passes failed.counts
+    c.in_err-barrier.field-0.0 failed.full failed.cause failed.calls.begun)
 
 pub returns-in_err-release_waiting-clause-runs : goal.returns-in_err-release_waiting-clause-runs
 returns-in_err-release_waiting-clause-runs g c =
@@ -80,15 +80,15 @@ returns-in_err-release_waiting-clause-runs g c =
     rw (p.1, p.2) (goes_stop c.args.self.now.store c.barrier.new.self
     (g.D.Disk.medium c.args.disk.now) (g.D.Disk.medium c.barrier.new.disk)
     (barrier_went g.D.Disk.medium c.args.self.now.store c.barrier.new.self c.args.disk.now
-    c.barrier.new.disk done.stays done.passes tt done.full done.stored done.quiet done.settled
-    done.calls.all) (Work work.Outlet) tt)
+    c.barrier.new.disk done.stays done.passes done.counts tt done.full done.stored done.quiet
+    done.settled done.calls.all) (Work work.Outlet) tt)
 
 pub returns-clause-runs : goal.returns-clause-runs
 returns-clause-runs g c =
     let done = c.in_ok-barrier.ensures in
     barrier_went g.D.Disk.medium c.args.self.now.store c.barrier.new.self c.args.disk.now
-    c.barrier.new.disk done.stays done.passes tt done.full done.stored done.quiet done.settled
-    done.calls.all
+    c.barrier.new.disk done.stays done.passes done.counts tt done.full done.stored done.quiet
+    done.settled done.calls.all
 
 pub returns-in_err-barrier-clause-asks : goal.returns-in_err-barrier-clause-asks
 returns-in_err-barrier-clause-asks g c =
