@@ -53,7 +53,8 @@ use Rattle.record_replay.specs.declared.refusing.RefusingOutlet.{RefusingOutlet}
 use Rattle.record_replay.specs.rules.Lists.{inner_outlet, until_fault}
 use Rattle.durable_worker.specs.rules.CallCounts.{most_calls, CallsForEvents}
 use Rattle.durable_worker.specs.rules.Told.{TellsLife, TellsEach, TellsOpening, TellsLifeEnd}
-use Rattle.durable_worker.specs.rules.StoryDisks.{IsEmptyDisk, IsEmptyDiskFor, IsRunOn, none, one_more}
+use Rattle.durable_worker.specs.rules.StoryDisks.{IsEmptyDisk, IsEmptyDiskFor, IsRunOn, none}
+use Rattle.durable_worker.specs.rules.StoryDisks.{one_more}
 use Rattle.durable_worker.specs.rules.StoryDisks.{TellsLives}
 use Rattle.durable_worker.specs.rules.StoryDisks.{story_medium}
 use Rattle.durable_worker.specs.rules.Told.{BeginFewCalls}
@@ -214,7 +215,8 @@ pub next_has_gone : (bytes : List ℕ) (config : Settings) (all : List PlannedLi
     (one : PlannedLife) (reports reports' : List LifeReport) (report : LifeReport)
     (found next : MemDisk) → i < length all → one ≡ get_or all i one
     → GoneOn bytes config (take i all) reports found → LivesOn bytes config one found report next
-    → IsRunOn bytes config one report found next → reports' ≡ reports ++ report ∷ [] → GoneOn bytes config (take (i + 1) all) reports' next
+    → IsRunOn bytes config one report found next → reports' ≡ reports ++ report ∷ []
+    → GoneOn bytes config (take (i + 1) all) reports' next
 next_has_gone bytes config all i one reports reports' report found next within is so_far lives
     run more =
     let front : take (i + 1) all ≡ take i all ++ one ∷ [] =
@@ -269,7 +271,8 @@ module _ (bytes : List ℕ) (config : Settings) (planned : PlannedLife) (found n
     (refuses : until_fault heard ≡ number_refused planned.refuse)
     (once : LivesOnce story_medium hands_out hears bytes config (map act_of planned.acts) lived
     first planned.answers heard last left heard')
-    (ends : EndsLife lived last (inner_outlet heard') planned report next) (m : Module) (so_far : Promise) where
+    (ends : EndsLife lived last (inner_outlet heard') planned report next) (m : Module)
+    (so_far : Promise) where
   calls_of : ℕ
   calls_of = call_number (call_counts_of last)
 

@@ -47,7 +47,8 @@ shown_still old new image stays shows =
     shows ∙ sym may.0
 
 -- the generation of a worker that a recovery opens
-next_after : (w : DurableValue) (found disk : FaultDisk MemDisk) (heard heard' : RefusingOutlet HeardLines)
+next_after : (w : DurableValue) (found disk : FaultDisk MemDisk)
+    (heard heard' : RefusingOutlet HeardLines)
     (image : Image) (m : Module) (config : Settings) (kept : List Kept) (n : ℕ)
     → Recovers story_medium hears (Ok w) found disk heard heard'
     → (memory_medium found.inner).shows image → (stands : StandsFor image m config kept n)
@@ -74,41 +75,43 @@ generation_so found heard Unopened by = tt
 one_life_is_run : (bytes : List ℕ) (config : Settings) (planned : PlannedLife)
     (found next : MemDisk) (report : LifeReport) (first last : FaultDisk MemDisk)
     (heard heard' : RefusingOutlet HeardLines) (left : List Answer) (lived : LivedOnce)
-    → IsBegunOn planned found first → (inner_outlet heard).lines ≡ [] → until_fault heard ≡ number_refused planned.refuse
+    → IsBegunOn planned found first → (inner_outlet heard).lines ≡ []
+    → until_fault heard ≡ number_refused planned.refuse
     → LivesOnce story_medium hands_out hears bytes config (map act_of planned.acts) lived
     first planned.answers heard last left heard'
     → EndsLife lived last (inner_outlet heard') planned report next
     → IsRunOn bytes config planned report found next
 one_life_is_run bytes config planned found next report first last heard heard' left lived begun
     unheard refuses once ends = record {
-  first = first;
-  begun = begun;
-  last = last;
-  counted = ends.calls;
-  begins = once.begins;
-  worker = once.worker;
-  ended = lived.ended;
-  unasked = left;
-  unheard = heard;
-  none_heard = unheard;
-  refuse = refuses;
-  heard = heard';
-  calls = once.calls;
-  opened = subst (λ (o : Opening). TellsOpening once.begins (shown_first once.worker) o)
-      (sym ends.opened) once.told;
-  generation = subst (λ (d : MemDisk). IsNextGeneration (memory_medium d) report.opened)
-      begun.below
-      (subst (λ (o : Opening). IsNextGeneration (memory_medium first.inner) o) (sym ends.opened)
-      (generation_so first heard lived.opened once.generation));
-  releases = ends.releases;
-  left = ends.left;
-}
+      first = first;
+      begun = begun;
+      last = last;
+      counted = ends.calls;
+      begins = once.begins;
+      worker = once.worker;
+      ended = lived.ended;
+      unasked = left;
+      unheard = heard;
+      none_heard = unheard;
+      refuse = refuses;
+      heard = heard';
+      calls = once.calls;
+      opened = subst (λ (o : Opening). TellsOpening once.begins (shown_first once.worker) o)
+          (sym ends.opened) once.told;
+      generation = subst (λ (d : MemDisk). IsNextGeneration (memory_medium d) report.opened)
+          begun.below
+          (subst (λ (o : Opening). IsNextGeneration (memory_medium first.inner) o) (sym ends.opened)
+          (generation_so first heard lived.opened once.generation));
+      releases = ends.releases;
+      left = ends.left;
+    }
 
 pub ended_lives_are_run : (bytes : List ℕ) (config : Settings) (planned : PlannedLife)
     (found : MemDisk) (first last : FaultDisk MemDisk) (heard heard' : RefusingOutlet HeardLines)
     (left answers : List Answer) (acts : List PlannedAct) (lived : LivedOnce)
     (result : Result LivedOn StoryFault) → IsBegunOn planned found first
-    → (inner_outlet heard).lines ≡ [] → until_fault heard ≡ number_refused planned.refuse → answers ≡ planned.answers → acts ≡ planned.acts
+    → (inner_outlet heard).lines ≡ [] → until_fault heard ≡ number_refused planned.refuse
+    → answers ≡ planned.answers → acts ≡ planned.acts
     → (LeavesSome story_medium → LivesOnce story_medium hands_out hears bytes config
     (map act_of acts) lived first answers heard last left heard')
     → IfOk result (λ on. EndsLife lived last (inner_outlet heard') planned on.report on.disk)

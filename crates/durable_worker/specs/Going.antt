@@ -19,8 +19,8 @@ use Rattle.durable_worker.specs.rules.Planned.{inputs_of}
 use Rattle.durable_worker.specs.rules.StoryDisks.{IsEmptyDiskFor, AreRunOn}
 use Rattle.durable_worker.specs.rules.Told.{TellsLife, TellsEach, BeginFewCalls}
 
--- the disk has just the sectors of a worker of these bytes, and room for as many writes as ever wait
--- for a sync
+-- the disk has just the sectors of a worker of these bytes, and room for as many writes as ever
+-- wait for a sync
 pub record HasAllRoom (bytes : List ℕ) (config : Settings) (disk : Medium) : Type 0 where
   pub sectors : total_sectors (geometry_of config (length bytes)) ≡ disk.sectors
   pub writes : most_unsynced (geometry_of config (length bytes)) ≤ disk.room

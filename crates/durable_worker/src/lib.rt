@@ -19,8 +19,8 @@
 //!   the lines and the opening are events that keep it, and a cut at any moment leaves what holds
 //!   all that was promised before. After Ok the worker is open on the disk, which has room for it
 //!   (`room`).
-//! - Whatever stands on the disk, the result of `DurableWorker::recover` is what its newest head and
-//!   all behind it say. What is refused there is left as it is (`shown`).
+//! - Whatever stands on the disk, the result of `DurableWorker::recover` is what its newest head
+//!   and all behind it say. What is refused there is left as it is (`shown`).
 //! - Whatever stands on the disk, where the outlet refuses a line a recovery releases no other one,
 //!   and says so. It says so of nothing else (`heeds`).
 //! - `read_survey`: nothing is written. The disk is synced, and what it then shows decides the

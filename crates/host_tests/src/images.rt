@@ -19,8 +19,8 @@ const FRONT: [u8; 101] = [
     0, 0, 8, 0, 0, 0, 3, 0, 0, 0, 0x68, 0x69, 0x0a,
 ];
 
-/// The bytes of the image of `FILES`: 98 up to the frames, 84 of two frames with seven slots, 65,540 of
-/// memory, 158 of five nodes, and 277 of seven descriptors.
+/// The bytes of the image of `FILES`: 98 up to the frames, 84 of two frames with seven slots,
+/// 65,540 of memory, 158 of five nodes, and 277 of seven descriptors.
 const FILES_BYTES: usize = 66_157;
 
 /// Where memory begins in the image of `echo` at its start, and once it has an operand.

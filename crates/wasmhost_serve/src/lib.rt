@@ -14,8 +14,8 @@
 //!   the configuration, and the sectors are those that its worker needs (`prepared`). It knows no
 //!   disk, so the program refuses a module before it makes one.
 //! - `create_on`: status 0 says that the worker of these bytes and this configuration is created on
-//!   the disk, at its start. `created N sectors` was printed then. What the other statuses say
-//!   is said too, and what a cut at any moment leaves (`creates`). `report_unprepared` answers the
+//!   the disk, at its start. `created N sectors` was printed then. What the other statuses say is
+//!   said too, and what a cut at any moment leaves (`creates`). `report_unprepared` answers the
 //!   status of what it tells, or 7.
 //! - `serve`: what each status of a run of the worker on a disk says (`serves`), with whatever
 //!   outlet it is lent. Where the worker was recovered, all that was done of the disk, the source
@@ -23,18 +23,19 @@
 //!   pace (`IsPaced`). The source begins behind the requests that the worker has taken, and at the
 //!   first word of the seed's stream of its generation (`stands_behind`). It refuses no question,
 //!   unless the error is its own (`AsksUnless`), and the outlet no line, unless the error is the
-//!   outlet's (`HeedsOutlet` of `durable_worker`). Where `err` is a terminal, its first line says how the worker was recovered
-//!   (`recovered_line`). `laws::lives_on_disk_go_on`: such calls are a life that goes on from all
-//!   that was promised. The last words are those of what its last slice has answered
-//!   (`HasOutcome`). Where a call fails, lines wait only as its own clause says (`HasBrokenOff`).
-//!   Where the disk shows no worker nothing is written or released. No status is above 7 (`known`).
-//!   It is 7 where the outlet has refused a line, and else only where a write of `err` has failed
-//!   (`refusal`). `laws::seven_is_a_failed_write`: what that comes to where the lines are printed.
+//!   outlet's (`HeedsOutlet` of `durable_worker`). Where `err` is a terminal, its first line says
+//!   how the worker was recovered (`recovered_line`). `laws::lives_on_disk_go_on`: such calls are a
+//!   life that goes on from all that was promised. The last words are those of what its last slice
+//!   has answered (`HasOutcome`). Where a call fails, lines wait only as its own clause says
+//!   (`HasBrokenOff`). Where the disk shows no worker nothing is written or released. No status is
+//!   above 7 (`known`). It is 7 where the outlet has refused a line, and else only where a write of
+//!   `err` has failed (`refusal`). `laws::seven_is_a_failed_write`: what that comes to where the
+//!   lines are printed.
 //! - `laws::statuses_have_causes`: what each of these statuses comes from, and that a reader which
 //!   fails is told (`SaysOnDisk`). Where a number, memory or an answer was wanting, each line of
-//!   the worker was told (`HasToldItsLines`). `laws::refusals_have_reasons`: why the source
-//!   of a run refuses a question. `laws::answers_come_from_the_lines`: what it answers, and when it
-//!   has none yet.
+//!   the worker was told (`HasToldItsLines`). `laws::refusals_have_reasons`: why the source of a
+//!   run refuses a question. `laws::answers_come_from_the_lines`: what it answers, and when it has
+//!   none yet.
 //! - `survey`: the survey of a worker's disk is printed, or what keeps it from that is told
 //!   (`shows`). Of a disk that stands for a worker the line is that worker's (`stands`). Nothing is
 //!   changed on the disk, but that it is synced.
@@ -58,8 +59,8 @@
 //!   write has failed and it is 7 (`SaysLine`). `report_open` does so of a disk's file, and
 //!   `obstacle_of` tells what an error of a file is. `report_words`: help leaves the error output
 //!   as it was, and a mistake the output.
-//! - `read_words`: an order is exactly what the words mean. A fault is one that the rules
-//!   of the command line list for them, or want of memory (`IsReading`).
+//! - `read_words`: an order is exactly what the words mean. A fault is one that the rules of the
+//!   command line list for them, or want of memory (`IsReading`).
 //! - `read_script`: the lives that a script of a story spells (`IsScript`). A fault names the first
 //!   line behind which the lines are no script (`IsFaultAt`), or it is want of memory.
 //! - `tell`: status 0 says that a whole story was printed. It is of lives that go on as one that

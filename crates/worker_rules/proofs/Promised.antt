@@ -1,5 +1,6 @@
 -- What events promise, read off their list.
-use Rattle.std.proofs.Common.{◌≡◌, ℕ, ◌+◌, ◌≤◌, Bool, false, List, [], ◌∷◌, ◌++◌, refl, ap, subst, arith}
+use Rattle.std.proofs.Common.{◌≡◌, ℕ, ◌+◌, ◌≤◌, Bool, false, List, [], ◌∷◌, ◌++◌, refl, ap, subst}
+use Rattle.std.proofs.Common.{arith}
 use Rattle.wasm_syntax.specs.declared.module.Module.{Module}
 use Rattle.wasm_syntax_rules.specs.Validity.{IsValid}
 use Rattle.wasi_abi.specs.rules.Configs.{Settings}
@@ -36,8 +37,8 @@ calls_join m config so_far stage (e ∷ first) then kept further =
 
 -- ---- the events of all lives, in one list
 
--- An event keeps what was promised before it, wherever a life stands, however much has happened, and
--- whether or not a creation was begun.
+-- An event keeps what was promised before it, wherever a life stands, however much has happened,
+-- and whether or not a creation was begun.
 pub record IsKeptSomewhere (m : Module) (config : Settings) (so_far : Promise) (e : Event)
     : Type 0 where
   pub events : ℕ
@@ -58,7 +59,8 @@ but_for_count : (so_far : Promise) (b : Bool) (n : ℕ) (events : List Event)
       events = (promised (record so_far { was_created = b; events = n }) events).events;
     }
 but_for_count so_far b n [] = refl
-but_for_count so_far b n (Told r t ∷ events) = but_for_count (after so_far (Told r t)) b (n + 1) events
+but_for_count so_far b n (Told r t ∷ events) =
+    but_for_count (after so_far (Told r t)) b (n + 1) events
 but_for_count so_far b n (Asked steps k said fits ∷ events) =
     but_for_count (after so_far (Asked steps k said fits)) b (n + 1) events
 but_for_count so_far b n (Opened held shown ∷ events) =

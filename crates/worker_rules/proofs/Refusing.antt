@@ -19,7 +19,7 @@ use Rattle.worker_rules.specs.Courses.{next_stage, stage_after, ComesAfter, IsLa
 use Rattle.worker_rules.specs.Courses.{IsAskedIn}
 use Rattle.worker_rules.specs.Courses.{MayFail, MayEnd}
 use Rattle.worker_rules.specs.Promises.{Promise, after, nothing_yet, fuel_of, IsKept, IsAt}
-use Rattle.worker_rules.specs.Promises.{promised, as_begun, IsReply, IsAmong}
+use Rattle.worker_rules.specs.Promises.{promised, as_begun, IsReply, IsOneOf}
 use Rattle.worker_rules.specs.laws.Laws.{HaveOneText}
 use Rattle.worker_rules.specs.laws.Refused.{in_peace, created_life, recovered_life, first_line}
 use Rattle.worker_rules.specs.laws.Refused.{IsFromOutside, source, answer, outlet, RefusedEvents}
@@ -103,7 +103,7 @@ module _ (m : Module) (config : Settings) (so_far : Promise) (stage : Stage) whe
   within_fuel Checkpoint (Fails other) held shown ends = ends.1
 
   among : (act : Act) (cause : Cause) (held : ℕ) (shown : Saved)
-      → IsReply so_far stage held shown act (Fails cause) → IsAmong stage.line shown.lines
+      → IsReply so_far stage held shown act (Fails cause) → IsOneOf stage.line shown.lines
   among (Slice fuel) cause held shown ends = ends.2
   among Checkpoint cause held shown ends = ends.2
 
@@ -154,7 +154,7 @@ module _ (m : Module) (config : Settings) (so_far : Promise) (stage : Stage) whe
         (let few = within_fuel act reply held shown kept.reply in omega (arith, few, h));
     ends_before_its_lines = λ act cause last held shown is h kept.
         (let few : last ≤ shown.lines =
-        subst (λ (l : Option ℕ). IsAmong l shown.lines) is (among act cause held shown kept.reply)
+        subst (λ (l : Option ℕ). IsOneOf l shown.lines) is (among act cause held shown kept.reply)
         in
         omega (arith, few, h));
     leaves_an_answer_behind = λ fuel held shown h kept.

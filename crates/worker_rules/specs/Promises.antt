@@ -212,9 +212,9 @@ pub record IsCaughtUp (so_far : Promise) (stage : Stage) (held : ℕ) (shown : S
   pub all_told : stage.line ≡ Some shown.lines
 
 -- The last line that was told, if there is one, is among the first so many.
-abbrev pub IsAmong : Option ℕ → ℕ → Type 0
-IsAmong None lines = Unit {0}
-IsAmong (Some last) lines = last ≤ lines
+abbrev pub IsOneOf : Option ℕ → ℕ → Type 0
+IsOneOf None lines = Unit {0}
+IsOneOf (Some last) lines = last ≤ lines
 
 -- how many steps an act may take
 abbrev pub fuel_of : Act → ℕ
@@ -238,7 +238,7 @@ IsReply so_far stage held shown Checkpoint Done =
     (stage.phase ≡ Open) × (shown.steps ≡ stage.step) × IsCaughtUp so_far stage held shown
 IsReply so_far stage held shown act (Fails cause) =
     MayFail stage.phase cause × (shown.steps ≤ stage.step + fuel_of act)
-    × IsAmong stage.line shown.lines
+    × IsOneOf stage.line shown.lines
 IsReply so_far stage held shown _ _ = ⊥
 
 -- the next step of this process leads to a host whose lines have no numbers below their end

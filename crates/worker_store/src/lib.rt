@@ -21,8 +21,8 @@
 //!   and syncs are the told ones, in that order (`calls`). A disk with too few sectors is refused
 //!   before any (`too_small`), and so is want of memory told (`memory`).
 //! - `read_worker`, `read_newest`, `read_records`: of a disk that stands at a savepoint they give
-//!   what it stands by (`gives`, `finds`, `scans`). Of any other one they give what stands there, or
-//!   tell what is wrong with it, the version of the newest head before its image (`tells`). They
+//!   what it stands by (`gives`, `finds`, `scans`). Of any other one they give what stands there,
+//!   or tell what is wrong with it, the version of the newest head before its image (`tells`). They
 //!   only read (`reads`). That there is no worker is said by `read_worker` alone, only where a mark
 //!   of one is missing, and always there (`marks`, `own`).
 //! - `WorkerStore::reopen` commits the next generation on whatever stands for the worker. A cut at

@@ -444,8 +444,8 @@ opening m config so_far medium takes bytes found disk outlet outlet' begins resu
       did.0,
       did.1,
       λ inputs sectors room foretold.
-          created_so m config (as_begun Creates so_far) inputs medium takes bytes found disk accepted
-          mid sectors room
+          created_so m config (as_begun Creates so_far) inputs medium takes bytes found disk
+          accepted mid sectors room
           (is_settled m config so_far inputs medium takes none found mid outlet outlet' says by)
           image leaves refl did.0 made
           (none_as_begun so_far did.0 (medium found) (medium mid)

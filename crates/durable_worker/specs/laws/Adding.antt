@@ -13,8 +13,8 @@ pub data AreSavedIn : DurableValue → DurableValue → Type 0 where
   one_more : {first second third : DurableValue} → AreSavedIn first second
       → IsSavedIn second third → AreSavedIn first third
 
--- A slice whose fuel is spent, any checkpoints, and another slice are one slice of the fuel of both.
--- It has the same process, and the same calls of source and outlet.
+-- A slice whose fuel is spent, any checkpoints, and another slice are one slice of the fuel of
+-- both. It has the same process, and the same calls of source and outlet.
 abbrev pub SlicesOnDiskAdd : {S O : Type 0} → Giving S → Taking O → Type 0
 SlicesOnDiskAdd {S} {O} gives takes =
     (first second third last : DurableValue) (f g : ℕ) (why : Now) (s t u : S) (o p q : O)

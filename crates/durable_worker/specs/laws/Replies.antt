@@ -79,5 +79,5 @@ LivesEndAsSaid {D} {S} {O} medium gives takes =
     → total_sectors (geometry_of config (length bytes)) ≤ (medium found).sectors
     → most_unsynced (geometry_of config (length bytes)) ≤ (medium found).room
     → KeepsPromise m config so_far (medium found) → KeepsBounds so_far.events (medium found)
-    → EndsAsSaid gives takes m config (as_begun begins so_far) acts (life_outcome one) source source'
-    outlet outlet'
+    → EndsAsSaid gives takes m config (as_begun begins so_far) acts (life_outcome one) source
+    source' outlet outlet'

@@ -108,8 +108,8 @@ OpensOrNot m config promise inputs (Ok w) old new = OpensOn m config promise inp
 OpensOrNot m config promise inputs (Err why) old new =
     FindsNoWorker old → LeavesCreation m config promise promise old new
 
--- So it is of the module that these bytes spell, where nothing was promised before, and the creation
--- counts as begun.
+-- So it is of the module that these bytes spell, where nothing was promised before, and the
+-- creation counts as begun.
 abbrev pub CreationKeeps : List ℕ → Settings → Result DurableValue DurableFault → Medium → Medium
     → Type 0
 CreationKeeps bytes config result old new =

@@ -33,8 +33,8 @@ takes_but zero = []
 takes_but (suc zero) = false ∷ []
 takes_but (suc (suc n)) = true ∷ takes_but (suc n)
 
--- The source hands the answers out. The outlet takes each line but one, if one is named, and no call
--- of the disk fails but the one that is named, if one is.
+-- The source hands the answers out. The outlet takes each line but one, if one is named, and no
+-- call of the disk fails but the one that is named, if one is.
 abbrev pub inputs_of : PlannedLife → Inputs
 inputs_of life = record {
   says = map said_of life.answers;

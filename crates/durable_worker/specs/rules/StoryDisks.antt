@@ -28,7 +28,8 @@ use Rattle.record_replay.specs.rules.Lists.{inner_outlet, until_fault}
 use Rattle.durable_worker.specs.declared.story.hearing.HeardLines.{HeardLines}
 use Rattle.durable_worker.specs.declared.story.life.PlannedLife.{PlannedLife}
 use Rattle.durable_worker.specs.declared.story.report.LifeEnd.{LifeEnd}
-use Rattle.durable_worker.specs.declared.story.report.LifeEnd.TheVariants.{Finished, Stopped, Failed}
+use Rattle.durable_worker.specs.declared.story.report.LifeEnd.TheVariants.{Finished, Stopped}
+use Rattle.durable_worker.specs.declared.story.report.LifeEnd.TheVariants.{Failed}
 use Rattle.durable_worker.specs.declared.story.report.LifeReport.{LifeReport}
 use Rattle.durable_worker.specs.declared.story.report.Opening.{Opening}
 use Rattle.durable_worker.specs.declared.story.report.Opening.TheVariants.{Recovered}
@@ -96,8 +97,9 @@ IsLeftBy tears (Failed why) last next = next ≡ disk_below last
 IsLeftBy tears Finished last next = IsCutBy tears last next
 IsLeftBy tears Stopped last next = IsCutBy tears last next
 
--- One life on the disk that it finds. Its calls are those of a worker, each as its clause says. This
--- is told of its opening, its lines and its calls of the disk. Then comes what the next life finds.
+-- One life on the disk that it finds. Its calls are those of a worker, each as its clause says.
+-- This is told of its opening, its lines and its calls of the disk. Then comes what the next life
+-- finds.
 pub record IsRunOn (bytes : List ℕ) (config : Settings) (planned : PlannedLife)
     (report : LifeReport) (found next : MemDisk) : Type 0 where
   pub first : FaultDisk MemDisk

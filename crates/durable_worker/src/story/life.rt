@@ -23,10 +23,11 @@ pub struct PlannedLife {
     /// The read, write or sync of this life, from 1 on, at which the power is cut. Also the front
     /// that it leaves, if it is a write.
     pub stop: Option<Place>,
-    /// The read, write or sync of this life, from 1 on, that fails, and the front that it leaves, if
-    /// it is a write. Later ones work. At the call of the stop the power is cut.
+    /// The read, write or sync of this life, from 1 on, that fails, and the front that it leaves,
+    /// if it is a write. Later ones work. At the call of the stop the power is cut.
     pub fail: Option<Place>,
-    /// The release of this life, from 1 on, that the outlet refuses, those of its recovery included.
+    /// The release of this life, from 1 on, that the outlet refuses, those of its recovery
+    /// included.
     pub refuse: Option<u64>,
     /// The fronts, in bytes, that the cut keeps of the earlier writes since the last good sync, the
     /// oldest first. Of a write without a number all is kept, and of one that failed its front.

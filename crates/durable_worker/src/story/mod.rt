@@ -32,10 +32,10 @@
 //! # Definitions to read
 //!
 //! In `specs/rules/`: `inputs_of` (`Planned.antt`), what is put into each life; `TellsLife`,
-//! (`Told.antt`), what a report tells of one; `TellsLives` (`StoryDisks.antt`), what it tells of all,
-//! and on which disk they were run; `most_calls` (`CallCounts.antt`). They speak in the words of
-//! `worker_rules`. What is read off a life is `opened_in` (`specs/laws/OneLife.antt`) and `told_in`
-//! of `worker_rules`, and `IsCauseOf` says which error is which cause.
+//! (`Told.antt`), what a report tells of one; `TellsLives` (`StoryDisks.antt`), what it tells of
+//! all, and on which disk they were run; `most_calls` (`CallCounts.antt`). They speak in the words
+//! of `worker_rules`. What is read off a life is `opened_in` (`specs/laws/OneLife.antt`) and
+//! `told_in` of `worker_rules`, and `IsCauseOf` says which error is which cause.
 //!
 //! # Who may touch what
 //!

@@ -175,7 +175,8 @@ put_one (said.Refuse number) start mid full e = by start.refuse refl e
         → (if is_none o then Some (with_refusal start number) else None) ≡ Some mid
         → IsOnto start (said.Refuse number ∷ []) mid
     by None n e =
-        subst (λ m. IsOnto start (said.Refuse number ∷ []) m) (ap (λ o. unwrap_or o start) e) (record {
+        subst (λ m. IsOnto start (said.Refuse number ∷ []) m) (ap (λ o. unwrap_or o start) e)
+        (record {
           one_life = refl;
           answers = sym (append-nil start.answers);
           acts = sym (append-nil start.acts);

@@ -55,8 +55,8 @@ abbrev pub releases_text : List NumberedLine → List ℕ
 releases_text [] = []
 releases_text (line ∷ lines) = release_text line ++ releases_text lines
 
--- The code and the name of an error by which a life ends that was opened. Of a store only the number
--- of a generation is at its end then.
+-- The code and the name of an error by which a life ends that was opened. Of a store only the
+-- number of a generation is at its end then.
 abbrev pub error_name : RecoverFault → List ℕ
 error_name (Worker (durable.Disk fault)) = codes "N1 Disk"
 error_name (Worker (durable.Work work.Source)) = codes "N2 Source"

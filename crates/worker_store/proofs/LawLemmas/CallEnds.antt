@@ -17,7 +17,7 @@ use Rattle.worker_rules.specs.Lives.{OfMemory, OfBounds}
 use Rattle.worker_rules.specs.Courses.{Stage, NoneThere, MayFail}
 use Rattle.worker_rules.specs.Courses.{IsNextAct}
 use Rattle.worker_rules.specs.Promises.{Promise, IsAt, IsAtBound, HasLastLines}
-use Rattle.worker_rules.specs.Promises.{IsCaughtUp, IsAmong}
+use Rattle.worker_rules.specs.Promises.{IsCaughtUp, IsOneOf}
 use Rattle.worker_store.proofs.LawLemmas.Underway.{among_first}
 use Rattle.worker_store.specs.laws.CallEnds.{IsSavedAs, SpentSlicesEnd, EndedSlicesEnd}
 use Rattle.worker_store.specs.laws.CallEnds.{WaitingSlicesEnd, HasBound, FailedSlicesEnd}
@@ -160,7 +160,7 @@ module _ (m : Module) (config : Settings) (guest : Guest) where
         reply = (
           subst (λ z. MayFail z cause) (sym broken.is) may,
           (let b = at.in_time in omega (arith, b, steps)),
-          subst (λ (n : ℕ). IsAmong stage.line n) (sym saved.shows.lines) broken.told,
+          subst (λ (n : ℕ). IsOneOf stage.line n) (sym saved.shows.lines) broken.told,
         );
         bound = at_bound promise (take held promise.kept) p shown at.start at.begins at.runs
             saved cause bound;

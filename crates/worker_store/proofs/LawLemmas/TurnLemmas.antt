@@ -163,8 +163,8 @@ asked_still_holds m config promise p kind said fits valid reached synced first i
     (λ holds.
     let all = holds.holds in
     let before : first.synced ≤ promise.synced = no_more.synced in
-    holds_still m config first promise (after promise (Asked p.steps kind said fits)) image holds refl
-    (omega arith)
+    holds_still m config first promise (after promise (Asked p.steps kind said fits)) image holds
+    refl (omega arith)
     (sym (take-append-le holds.held promise.kept (kept_of_said said fits) all.within))
     (all_of_more m config promise.kept (kept_of_said said fits) p.steps p valid reached first
     holds.held holds.steps (omega (arith, before, synced)) all)) held

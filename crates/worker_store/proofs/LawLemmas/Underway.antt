@@ -20,7 +20,7 @@ use Rattle.worker_rules.specs.Courses.{Stage, Open, next_stage}
 use Rattle.worker_rules.specs.Courses.{phase_refused, IsToldIn, IsAskedIn}
 use Rattle.worker_rules.specs.Courses.{ComesAfter}
 use Rattle.worker_rules.specs.Courses.{IsWithinSlice}
-use Rattle.worker_rules.specs.Promises.{Promise, after, IsAmong}
+use Rattle.worker_rules.specs.Promises.{Promise, after, IsOneOf}
 use Rattle.worker_store.specs.laws.Underway.{IsInItsSlice, IsAtQuestion}
 use Rattle.worker_store.specs.laws.Underway.{StepsGoOn, LinesAreTold, TakenLinesGoOn}
 use Rattle.worker_store.specs.laws.Underway.{RefusedLinesBreak, QuestionsAreAsked, AnswersGoOn}
@@ -29,8 +29,8 @@ use Rattle.worker_store.specs.laws.Underway.{promise_asked, stage_asked}
 
 -- a last line of this number is among as many lines
 pub among_first : (line : Option ℕ) (last lines : ℕ) → line ≡ Some last → last ≤ lines
-    → IsAmong line lines
-among_first line last lines is few = subst (λ (l : Option ℕ). IsAmong l lines) (sym is) few
+    → IsOneOf line lines
+among_first line last lines is few = subst (λ (l : Option ℕ). IsOneOf l lines) (sym is) few
 
 module _ (m : Module) (config : Settings) (guest : Guest) where
   -- ---- all kept answers
@@ -209,7 +209,7 @@ module _ (m : Module) (config : Settings) (guest : Guest) where
   -- all lines were told before the question
   all_among : (promise : Promise) (stage : Stage) (fuel : ℕ) (p : ProcessState) (kind : Kind)
       → IsAtQuestion m config guest promise stage fuel p kind
-      → IsAmong stage.line (length p.host.lines)
+      → IsOneOf stage.line (length p.host.lines)
   all_among promise stage fuel p kind asks =
       among_first stage.line (length p.host.lines) (length p.host.lines) asks.way.line
       (omega arith)

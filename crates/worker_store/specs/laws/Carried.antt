@@ -33,8 +33,8 @@ abbrev pub count_at : {m : Module} {config : Settings} → Savepoint m config �
 count_at point records = length point.front + length records
 
 -- A creation was begun. A savepoint and its records, which lead to this process, hold all that is
--- promised. They have the first of the kept answers. An outlet has taken the lines of the savepoint, and those that are
--- told no more are among them.
+-- promised. They have the first of the kept answers. An outlet has taken the lines of the
+-- savepoint, and those that are told no more are among them.
 pub record IsHeldAt {m : Module} {config : Settings} (promise : Promise)
     (point : Savepoint m config) (records : List Record) (last : ProcessState) : Type 0 where
   pub created : promise.was_created ≡ true

@@ -14,7 +14,7 @@ use Rattle.worker_rules.specs.Lives.{OfSource, OfAnswer, OfOutlet}
 use Rattle.worker_rules.specs.Courses.{Stage, Phase, Open, NoneThere, Broken, next_stage}
 use Rattle.worker_rules.specs.Courses.{first_said, first_taken}
 use Rattle.worker_rules.specs.Promises.{Promise, after, IsTelling, IsInquiring, IsFitting}
-use Rattle.worker_rules.specs.Promises.{IsAmong}
+use Rattle.worker_rules.specs.Promises.{IsOneOf}
 
 module _ (m : Module) (config : Settings) (guest : Guest) where
   -- The module's process has taken the first so many of the kept answers. Its slice has come to
@@ -40,13 +40,13 @@ module _ (m : Module) (config : Settings) (guest : Guest) where
     pub heard : told ≤ promise.heard
     pub passed : promise.passed ≤ told
 
-  -- Something from outside has failed the call, and the process is where it was. It has emitted each
-  -- line that was told.
+  -- Something from outside has failed the call, and the process is where it was. It has emitted
+  -- each line that was told.
   pub record IsBroken (promise : Promise) (stage : Stage) (fuel held : ℕ) (p : ProcessState)
       (phase : Phase) : Type 0 where
     pub in_slice : IsInItsSlice promise stage fuel held p
     pub is : stage.phase ≡ phase
-    pub told : IsAmong stage.line (length p.host.lines)
+    pub told : IsOneOf stage.line (length p.host.lines)
 
   -- ---- steps
 
