@@ -19,3 +19,4 @@ pub mod TellingLemmas
 pub mod RefusalLemmas
 pub mod CauseLemmas
 pub mod FileLemmas
+pub mod OpeningLemmas
