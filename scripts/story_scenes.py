@@ -45,7 +45,7 @@ def behind(life, generation, texts, text):
 
 
 def refused(script, err, module="echo.wasm", words=(), status=3):
-    """A story that isn't told."""
+    """A story that isn't told. Of some faults a second line says more."""
     return Story(script, module, tuple(words), status, "", f"failed {err}\n")
 
 
@@ -129,9 +129,11 @@ SIZES = [
     Story("life\n", "two_pages.wasm", ("--pages", "2"), out=CREATED),
     Story("life\n", words=("--pages", "65", "--files", "1"), out=CREATED),
     Story("life\n", words=("--pages", "1", "--files", "64"), out=CREATED),
-    *(refused("life\n", "C1 Range", words=[option, number]) for option, number in [
-        ("--pages", "0"), ("--pages", "257"), ("--files", "0"), ("--files", "65"),
-        ("--journal", "63"), ("--journal", "65537")]),
+    *(refused("life\n", f"C1 Range\n{option} is from {bounds}", words=[option, number])
+      for option, number, bounds in [
+          ("--pages", "0", "1 to 256"), ("--pages", "257", "1 to 256"),
+          ("--files", "0", "1 to 64"), ("--files", "65", "1 to 64"),
+          ("--journal", "63", "64 to 65536"), ("--journal", "65537", "64 to 65536")]),
 ]
 
 # Each form of a faulty line is in `program_tests`. Here it is the order of faults that counts.
@@ -141,9 +143,10 @@ FAULTS = [
     refused("life\n\n", "script line 2", status=2),
     refused("life\nstop 0 0\n", "script line 2", "missing.wasm", status=2),
     refused("life\nend\nend 1", "script line 3", "/dev/null", ["--pages", "0"], 2),
-    refused("life\n", "K2 Io", "missing.wasm", ["--pages", "0"], 4),
-    refused("life\n", "K2 Io", ".", status=4),
-    refused("life\n", "C1 Range", "/dev/null", ["--journal", "0"]),
+    refused("life\n", "K2 Io\nmissing.wasm: no such file or directory", "missing.wasm",
+            ["--pages", "0"], 4),
+    refused("life\n", "K2 Io\n.: is a directory", ".", status=4),
+    refused("life\n", "C1 Range\n--journal is from 64 to 65536", "/dev/null", ["--journal", "0"]),
     refused("life\n", "B1 Malformed", "/dev/null"),
     refused("", "B1 Malformed", "/dev/null"),
 ]

@@ -2,7 +2,7 @@
 //! tests here make, and has some of them fail.
 
 use crate::disks::{ZEROS, holds, prints};
-use sector_disk::{Disk, DiskFault, FileDisk, LockFile, OpenCause, OpenFault, SizeFile};
+use sector_disk::{Disk, DiskFault, FileDisk, LockFile, NewFiles, OpenCause, OpenFault, SizeFile};
 use std::alloc::AllocError;
 use std::fs;
 use std::fs::{File, OpenFile, OpenOptions};
@@ -11,10 +11,11 @@ use std::rt::Files;
 use std::test::Fail;
 
 /// Whether a new file of three sectors is made once, and takes what is written to it.
-fn is_made_once<F: OpenFile + FileExt + LockFile + SizeFile + Drop, R: Files<File = F>>(
-    files: &R,
-    path: &str,
-) -> Result<bool, Fail> {
+fn is_made_once<F, R>(files: &R, path: &str) -> Result<bool, Fail>
+where
+    F: OpenFile + FileExt + LockFile + SizeFile + Drop,
+    R: Files<File = F> + NewFiles,
+{
     let mut disk: FileDisk<F> = FileDisk::create(files, path, 3)?;
     let again = FileDisk::create(files, path, 3).err();
     Ok(again == Some(OpenFault::Io(OpenCause::Exists)) && is_written_so(&mut disk)?)
@@ -59,10 +60,11 @@ fn a_file_keeps_sectors(rt: HostRuntime) -> Result<(), Fail> {
 
 /// Whether the second sector fails to be read where it is cut short while the file is open. That is
 /// not for good.
-fn fails_when_cut_short<F: OpenFile + FileExt + LockFile + SizeFile + Drop, R: Files<File = F>>(
-    files: &R,
-    path: &str,
-) -> Result<bool, Fail> {
+fn fails_when_cut_short<F, R>(files: &R, path: &str) -> Result<bool, Fail>
+where
+    F: OpenFile + FileExt + LockFile + SizeFile + Drop,
+    R: Files<File = F> + NewFiles,
+{
     let mut disk: FileDisk<F> = FileDisk::create(files, path, 2)?;
     let file = OpenOptions::new().write(true).open(files, path)?;
     file.set_len(700)?;
@@ -82,10 +84,11 @@ fn a_file_that_is_too_short_fails(rt: HostRuntime) -> Result<(), Fail> {
 }
 
 /// Whether a file is refused to a second host as long as a first one has it, and not longer.
-fn is_for_one_host<F: OpenFile + FileExt + LockFile + SizeFile + Drop, R: Files<File = F>>(
-    files: &R,
-    path: &str,
-) -> Result<bool, Fail> {
+fn is_for_one_host<F, R>(files: &R, path: &str) -> Result<bool, Fail>
+where
+    F: OpenFile + FileExt + LockFile + SizeFile + Drop,
+    R: Files<File = F> + NewFiles,
+{
     let mut disk: FileDisk<F> = FileDisk::create(files, path, 1)?;
     let second = FileDisk::open(files, path).err();
     let is_unharmed = holds(&mut disk, 0, ZEROS)?;
@@ -174,23 +177,10 @@ static FAULTS: [(OpenFault, &str); 2] = [
     (OpenFault::Io(OpenCause::Missing), "K2 Io"),
 ];
 
-static CAUSES: [(OpenCause, &str); 7] = [
-    (OpenCause::Folder, "the path is a folder"),
-    (OpenCause::Missing, "there is no such path"),
-    (OpenCause::Forbidden, "there is no permission"),
-    (OpenCause::Exists, "there is such a path already"),
-    (OpenCause::NoRoom, "the device has no room"),
-    (OpenCause::TooLarge, "the file would be too large"),
-    (OpenCause::Other, "the system failed"),
-];
-
 #[test]
 fn a_fault_of_opening_is_printed_with_its_name(rt: HostRuntime) -> Result<(), AllocError> {
     for (fault, text) in &FAULTS {
         assert!(rt; prints(rt.alloc(), fault, text)?, "{text}");
-    }
-    for (cause, text) in &CAUSES {
-        assert!(rt; prints(rt.alloc(), cause, text)?, "{text}");
     }
     Ok(())
 }

@@ -44,7 +44,10 @@ fn a_creation_is_prepared(rt: HostRuntime) -> Result<(), Fail> {
     Ok(())
 }
 
-/// A creation that is refused, an entry of its environment, and the line that says why.
+/// What is told of a number of pages that is out of its bounds.
+const PAGES: &str = "failed C1 Range\n--pages is from 1 to 256\n";
+
+/// A creation that is refused, an entry of its environment, and what says why.
 type Refused = (Asked, &'static str, &'static str);
 
 static REFUSED: [Refused; 8] = [
@@ -55,11 +58,19 @@ static REFUSED: [Refused; 8] = [
         "a=b",
         "failed L1 NoStart\n",
     ),
-    ((&ECHO, [0, 1, 64]), "a=b", "failed C1 Range\n"),
-    ((&ECHO, [1, 65, 64]), "a=b", "failed C1 Range\n"),
-    ((&ECHO, [1, 1, 63]), "a=b", "failed C1 Range\n"),
+    ((&ECHO, [0, 1, 64]), "a=b", PAGES),
+    (
+        (&ECHO, [1, 65, 64]),
+        "a=b",
+        "failed C1 Range\n--files is from 1 to 64\n",
+    ),
+    (
+        (&ECHO, [1, 1, 63]),
+        "a=b",
+        "failed C1 Range\n--journal is from 64 to 65536\n",
+    ),
     ((&ECHO, [1, 1, 64]), "=b", "failed C2 Text\n"),
-    ((&[], [0, 1, 64]), "a=b", "failed C1 Range\n"),
+    ((&[], [0, 1, 64]), "a=b", PAGES),
 ];
 
 fn is_refused_so(alloc: Global, row: &Refused) -> Result<bool, Fail> {

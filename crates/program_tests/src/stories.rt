@@ -83,7 +83,13 @@ static TOLD: [Told; 10] = [
         "",
         "failed script line 1\n",
     ),
-    ((&[], [0, 1, 64]), "life\n", 3, "", "failed C1 Range\n"),
+    (
+        (&[], [0, 1, 64]),
+        "life\n",
+        3,
+        "",
+        "failed C1 Range\n--pages is from 1 to 256\n",
+    ),
     ((&[], [1, 1, 64]), "life\n", 3, "", "failed B1 Malformed\n"),
 ];
 

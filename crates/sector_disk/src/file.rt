@@ -1,11 +1,11 @@
 // A disk in a file of the operating system.
-ghost use Rattle.std.specs.Prelude.{◌≡◌, ◌<◌, ◌≤◌, ◌^◌, ◌*◌, ◌/◌, ◌↔◌, ℕ, [], IfOk, IsErrOf};
-ghost use Rattle.std.specs.Prelude.{IsTrue, OnOk};
+ghost use Rattle.std.specs.Prelude.{◌≡◌, ◌<◌, ◌≤◌, ◌^◌, ◌*◌, ◌/◌, ◌↔◌, ℕ, [], IfErr, IfOk};
+ghost use Rattle.std.specs.Prelude.{IsErrOf, IsTrue, OnOk};
 
 use crate::file_call::{Failure, FileCall, NO_BYTES};
 use crate::file_log::FileLog;
 use crate::folder::folder_of;
-use crate::{Disk, DiskFault, LockFile, OpenCause, OpenFault, SECTOR_SIZE, SizeFile};
+use crate::{Disk, DiskFault, LockFile, NewFiles, OpenCause, OpenFault, SECTOR_SIZE, SizeFile};
 use std::fs::{File, OpenFile, OpenOptions};
 use std::os::unix::fs::FileExt;
 use std::rt::Files;
@@ -32,14 +32,15 @@ pub struct FileDisk<F> {
 
 impl<F: OpenFile + FileExt + LockFile + SizeFile> FileDisk<F> {
     ghost use Rattle.sector_disk.specs.rules.File.{file_medium, answers_of, file_of};
+    ghost use Rattle.sector_disk.specs.rules.Open.{IsUnmade};
     ghost use Rattle.sector_disk.specs.declared.open_fault.OpenFault.TheVariants.{Io};
     ghost use Rattle.sector_disk.specs.declared.open_fault.OpenCause.TheVariants.{TooLarge};
 
     /// Makes a file of so many sectors of zeros, locks it, and makes its entry in its folder
-    /// durable. It fails where there is such a path already, and from 2^54 sectors on. After
-    /// another error a file may be left behind. All zeros are written, so that a device without
-    /// room for them is found now, and not in a later write.
-    pub fn create<R: Files<File = F>>(
+    /// durable. It fails where there is such a path already, and from 2^54 sectors on. All zeros
+    /// are written, so that a device without room for them is found now, and not in a later write.
+    /// After an error the file that it made is removed.
+    pub fn create<R: Files<File = F> + NewFiles>(
         files: &R,
         path: &str,
         sectors: u64,
@@ -53,21 +54,25 @@ impl<F: OpenFile + FileExt + LockFile + SizeFile> FileDisk<F> {
         ensures locked { IfOk result (λ d. IsTrue (F.is_locked (file_of d))) }
         ensures busy { IsErrOf result OpenFault.Busy → ((file : F) × IsTrue (F.is_refused file)) }
         ensures large { 2 ^ 54 ≤ sectors → IsErrOf result (Io TooLarge) }
+        ensures made { OnOk result (IsTrue (R.has_made files.now path.now)) }
+        ensures unmade { IfErr result (IsUnmade (R.has_refused files.now path.now)
+            (R.has_made files.now path.now) (R.has_removed files.now path.now) sectors) }
     {
         if sectors >= SECTORS_END {
             return Err(OpenFault::Io(OpenCause::TooLarge));
         }
-        let file = File::create_new(files, path)?;
-        lock(&file)?;
-        file.resize(sectors * SECTOR_SIZE as u64)?;
-        fill(&file, sectors)?;
-        file.sync_all()?;
-        sync_folder(files, path)?;
-        Ok(FileDisk {
-            file,
-            count: sectors,
-            past: FileLog::new(),
-        })
+        let file = files.make_new(path)?;
+        match settle(files, path, &file, sectors) {
+            Ok(()) => Ok(FileDisk {
+                file,
+                count: sectors,
+                past: FileLog::new(),
+            }),
+            Err(fault) => {
+                files.remove_new(path);
+                Err(fault)
+            }
+        }
     }
 
     /// Opens a file and locks it, before anything of it is read. Bytes past its last whole sector
@@ -100,6 +105,26 @@ fn lock<F: LockFile>(file: &F) -> Result<(), OpenFault>
 {
     file.try_lock()?;
     Ok(())
+}
+
+/// Locks a new file, fills it with so many sectors of zeros, and makes it durable with its entry in
+/// its folder.
+fn settle<F: OpenFile + FileExt + LockFile + SizeFile, R: Files>(
+    files: &R,
+    path: &str,
+    file: &F,
+    sectors: u64,
+) -> Result<(), OpenFault>
+    requires { sectors < 2 ^ 54 }
+    ensures resized { OnOk result (IsTrue (F.is_resized_to file.now (sectors * SECTOR_SIZE))) }
+    ensures locked { OnOk result (IsTrue (F.is_locked file.now)) }
+    ensures busy { IsErrOf result OpenFault.Busy → IsTrue (F.is_refused file.now) }
+{
+    lock(file)?;
+    file.resize(sectors * SECTOR_SIZE as u64)?;
+    fill(file, sectors)?;
+    file.sync_all()?;
+    sync_folder(files, path)
 }
 
 /// Writes zeros to so many sectors.

@@ -41,8 +41,8 @@
 //! (`Calls.antt`); `IsTornRun` (`Run.antt`); `AddsNothing` (`Rewrite.antt`). Three disks have a
 //! state: `MemDisk` (`Memory.antt`, `Pending.antt`), `FaultDisk` (`Trouble.antt`,
 //! `FaultDisk.antt`) and `FileDisk` (`Answered.antt`, `Counts.antt`, `File.antt`). Which error of
-//! the operating system is which cause stands in `Open.antt`, and which folder has a path's entry
-//! in `Folder.antt`.
+//! the operating system is which cause stands in `Open.antt`, with `IsUnmade`. Which folder has a
+//! path's entry stands in `Folder.antt`.
 //!
 //! # Who may touch what
 //!
@@ -66,6 +66,7 @@ pub mod laws;
 mod lock;
 mod log;
 mod memory;
+mod new_files;
 mod open_cause;
 mod open_fault;
 mod place;
@@ -82,6 +83,7 @@ pub use fault_disk::FaultDisk;
 pub use file::FileDisk;
 pub use lock::LockFile;
 pub use memory::MemDisk;
+pub use new_files::NewFiles;
 pub use open_fault::{OpenCause, OpenFault};
 pub use place::Place;
 pub use rewriting::rewrite;

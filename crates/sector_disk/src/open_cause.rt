@@ -1,4 +1,4 @@
-// What an error of the operating system is to whoever makes or opens a file as a disk.
+// What an error of the operating system says of a path.
 ghost use Rattle.std.specs.Prelude.{◌≡◌};
 ghost use Rattle.std.specs.IoError.{error_kind};
 ghost use Rattle.sector_disk.specs.rules.Open.{open_cause, lock_fault};
@@ -15,11 +15,16 @@ fn open_cause(kind: ErrorKind) -> OpenCause
 {
     match kind {
         ErrorKind::IsADirectory => OpenCause::Folder,
-        ErrorKind::NotFound | ErrorKind::NotADirectory => OpenCause::Missing,
-        ErrorKind::PermissionDenied | ErrorKind::ReadOnlyFilesystem => OpenCause::Forbidden,
+        ErrorKind::NotADirectory => OpenCause::NoFolder,
+        ErrorKind::NotFound => OpenCause::Missing,
+        ErrorKind::PermissionDenied => OpenCause::Forbidden,
+        ErrorKind::ReadOnlyFilesystem => OpenCause::ReadOnly,
         ErrorKind::AlreadyExists => OpenCause::Exists,
-        ErrorKind::StorageFull | ErrorKind::QuotaExceeded => OpenCause::NoRoom,
+        ErrorKind::StorageFull => OpenCause::NoRoom,
+        ErrorKind::QuotaExceeded => OpenCause::Quota,
         ErrorKind::FileTooLarge => OpenCause::TooLarge,
+        ErrorKind::InvalidFilename => OpenCause::LongName,
+        ErrorKind::FilesystemLoop => OpenCause::Loop,
         _ => OpenCause::Other,
     }
 }

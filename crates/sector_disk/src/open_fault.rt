@@ -11,24 +11,29 @@ pub enum OpenFault {
     Io(OpenCause),
 }
 
-/// Why the operating system refused to make or to open a file. Its text is for a person.
-#[derive(Clone, Copy, Debug, PartialEq, Eq, Error)]
+/// Why the operating system refused a path.
+#[derive(Clone, Copy, Debug, PartialEq, Eq)]
 pub enum OpenCause {
-    #[error("the path is a folder")]
+    /// The path is a folder.
     Folder,
+    /// A part of the way to it is none.
+    NoFolder,
     /// The path isn't there, or a folder on its way.
-    #[error("there is no such path")]
     Missing,
-    #[error("there is no permission")]
     Forbidden,
+    /// Its file system can only be read.
+    ReadOnly,
     /// The path that was to be made is there.
-    #[error("there is such a path already")]
     Exists,
-    #[error("the device has no room")]
+    /// The device has no room.
     NoRoom,
-    /// No file can have so many sectors.
-    #[error("the file would be too large")]
+    /// Whoever asks may take no more room.
+    Quota,
+    /// No file can be so large.
     TooLarge,
-    #[error("the system failed")]
+    /// A name of the path is too long.
+    LongName,
+    /// The links of the path lead nowhere.
+    Loop,
     Other,
 }

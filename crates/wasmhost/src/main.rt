@@ -10,15 +10,15 @@
 //! crate brings these to them:
 //!
 //! - It reads the command line, and opens the files that it names.
-//! - `check` and `create` hand over a module's bytes. `create` makes the disk's file once the
-//!   module and its configuration are accepted.
+//! - `check` and `create` hand over a module's bytes. `create` has the disk's file made by
+//!   `create_file`, once the module and its configuration are accepted.
 //! - `story` hands over all bytes of a script, and a module's bytes. It reads them in this order.
 //! - `run` and `show` open the disk's file by `open_disk` and `show_file`. One host holds it at a
 //!   time. `run` also hands over the lines of the standard input, the machine's clock, and what the
-//!   words say of seed and clock.
+//!   words say of seed and clock. Behind it `report_input` says what is left of the lines.
 //! - Before all that it takes the numbers of standard streams that are closed (`StreamNumbers`), so
 //!   that no file which it opens gets one. No clause says so: `scripts/closed-streams` runs it.
-//! - What keeps a command from beginning is told by `report`, `report_open` and
+//! - What keeps a command from beginning is told by `report`, `report_unread` and
 //!   `report_unprepared`, and a fault of the words by `report_words`.
 //! - Each command is handed fresh printers, of which no write has failed. That of the error output
 //!   is told whether it is a terminal.
@@ -37,7 +37,6 @@
 
 ghost use Rattle.std.specs.Prelude.{◌≤◌};
 
-use sector_disk::FileDisk;
 use std::alloc::Global;
 use std::env;
 use std::fs::File;
@@ -46,10 +45,10 @@ use std::process::ExitCode;
 use std::rt::{Env, Files};
 use std::time::Clock;
 use wasmhost_serve::{
-    BufferedLines, CreateOrder, LineOutlet, Obstacle, Order, Outside, Pace, Printer, RequestSource,
-    RunOrder, Sizes, StoryOrder, check_bytes, create_on, obstacle_of, open_disk, prepare,
-    read_module, read_script, read_seed, read_words, report, report_open, report_script,
-    report_unprepared, report_words, serve, show_file, tell,
+    BufferedLines, CreateOrder, LineOutlet, NewDisk, Obstacle, Order, Outside, Pace, Printer,
+    RequestSource, RunOrder, Sizes, StoryOrder, check_bytes, create_file, open_disk, prepare,
+    read_module, read_script, read_seed, read_words, report, report_input, report_script,
+    report_unprepared, report_unread, report_words, serve, show_file, tell,
 };
 
 /// It is read to keep a number from other files. It has no bytes, and takes none from a reader.
@@ -98,7 +97,7 @@ fn check<R: Files, W: Write + Drop, E: Write + Drop>(
 {
     match read_file(rt, alloc, path) {
         Ok(wasm) => check_bytes(alloc, wasm.as_slice(), &mut Printer::new(out, false)),
-        Err(error) => report(err, obstacle_of(&error)),
+        Err(error) => report_unread(err, path, error),
     }
 }
 
@@ -114,7 +113,7 @@ fn create<R: Files<File = File>, W: Write + Drop, E: Write + Drop>(
 {
     let wasm = match read_file(rt, alloc, order.module) {
         Ok(wasm) => wasm,
-        Err(error) => return report(err, obstacle_of(&error)),
+        Err(error) => return report_unread(err, order.module, error),
     };
     let sizes = Sizes {
         pages: order.pages,
@@ -127,17 +126,12 @@ fn create<R: Files<File = File>, W: Write + Drop, E: Write + Drop>(
         Ok(prepared) => prepared,
         Err(fault) => return report_unprepared(err, fault),
     };
-    match FileDisk::create(rt, order.disk, prepared.sectors) {
-        Ok(mut disk) => create_on(
-            alloc,
-            &mut disk,
-            wasm.as_slice(),
-            &prepared.config,
-            &mut Printer::new(out, false),
-            err,
-        ),
-        Err(fault) => report_open(err, fault),
-    }
+    let new = NewDisk {
+        path: order.disk,
+        wasm: wasm.as_slice(),
+        prepared: &prepared,
+    };
+    create_file(alloc, rt, new, &mut Printer::new(out, false), err)
 }
 
 /// The seed that the words give, or zeros, which anyone can foresee.
@@ -165,9 +159,8 @@ fn run<R: Files<File = File> + Input + Clock, W: Write + Drop, E: Write + Drop>(
         Ok(disk) => disk,
         Err(status) => return status,
     };
-    let reader = match BufReader::new(alloc, rt.reader()) {
-        Ok(reader) => reader,
-        Err(error) => return report(err, obstacle_of(&error)),
+    let Ok(reader) = BufReader::new(alloc, rt.reader()) else {
+        return report(err, Obstacle::Memory);
     };
     let outside = Outside {
         seed,
@@ -181,20 +174,22 @@ fn run<R: Files<File = File> + Input + Clock, W: Write + Drop, E: Write + Drop>(
         fuel: order.fuel,
         every: order.every,
     };
-    serve(alloc, &mut disk, pace, &mut source, &mut outlet, err)
+    let status = serve(alloc, &mut disk, pace, &mut source, &mut outlet, err);
+    report_input(&source, status, err)
 }
 
 /// Tells that the module of a story can't be read, but first what is wrong with the script.
-fn report_unread<E: Write + Drop>(
+fn report_module<E: Write + Drop>(
     alloc: Global,
     script: &[u8],
-    obstacle: Obstacle,
+    path: &str,
+    error: io::Error,
     err: &mut Printer<E>,
 ) -> u8
     ensures { result ≤ 7 }
 {
     match read_script(alloc, script) {
-        Ok(_) => report(err, obstacle),
+        Ok(_) => report_unread(err, path, error),
         Err(fault) => report_script(err, fault),
     }
 }
@@ -211,11 +206,13 @@ fn story<R: Files, W: Write + Drop, E: Write + Drop>(
 {
     let script = match read_whole_file(rt, alloc, order.script) {
         Ok(script) => script,
-        Err(error) => return report(err, obstacle_of(&error)),
+        Err(error) => return report_unread(err, order.script, error),
     };
     let wasm = match read_file(rt, alloc, order.module) {
         Ok(wasm) => wasm,
-        Err(error) => return report_unread(alloc, script.as_slice(), obstacle_of(&error), err),
+        Err(error) => {
+            return report_module(alloc, script.as_slice(), order.module, error, err);
+        }
     };
     let sizes = Sizes {
         pages: order.pages,
@@ -262,7 +259,7 @@ where
 {
     match StreamNumbers::take(rt) {
         Ok(_taken) => status_of(rt, out, err),
-        Err(error) => report(err, obstacle_of(&error)),
+        Err(error) => report_unread(err, NULL_DEVICE, error),
     }
 }
 

@@ -24,7 +24,8 @@ measured_in_vain : (config : Settings) (bytes : List ℕ) (measured : Result ℕ
     → AreSettingsWithinLimits config → IfErr measured (IsUnaccepted config.pages bytes)
     → IfErr (prepared_with config measured) (IsUnprepared config bytes)
 measured_in_vain config bytes (Ok sectors) within is = tt
-measured_in_vain config bytes (Err (unprepared.Config why)) within is = absurd is
+measured_in_vain config bytes (Err (unprepared.Range bound)) within is = absurd is
+measured_in_vain config bytes (Err unprepared.Text) within is = absurd is
 measured_in_vain config bytes (Err (unprepared.Module why)) within is = (within, is)
 measured_in_vain config bytes (Err unprepared.Memory) within is = tt
 

@@ -1,5 +1,6 @@
 -- A disk in a file, opened for a command.
-use Rattle.std.proofs.Common.{◌≡◌, ◌∙◌, ap, subst, sym, inl, ℕ, Bool, true, ◌++◌}
+use Rattle.std.proofs.Common.{◌≡◌, ◌∙◌, ap, subst, sym, inl, inr, ℕ, Bool, true, List, ◌++◌}
+use Rattle.std.specs.Prelude.{Result, Ok, Err, IfErr}
 use Rattle.std.proofs.lemmas.List.{append-nil}
 use Rattle.sector_disk.specs.declared.file.FileDisk.{FileDisk}
 use Rattle.sector_disk.specs.rules.Answered.{file_calls}
@@ -7,9 +8,19 @@ use Rattle.sector_disk.specs.rules.Calls.{synced_writes}
 use Rattle.sector_disk.specs.rules.File.{file_medium}
 use Rattle.sector_disk.specs.rules.Medium.{IsAllSynced}
 use Rattle.sector_disk.specs.rules.Rewrite.{AddsNothing}
+use Rattle.wasmhost_serve.specs.declared.telling.Obstacle.TheVariants.{Unread}
 use Rattle.wasmhost_serve.specs.rules.Openings.{IsUntouched, IsWrittenBack, IsOpenedFor, ShowsFile}
+use Rattle.wasmhost_serve.specs.rules.Openings.{SaysUnopened}
 use Rattle.wasmhost_serve.specs.rules.Printers.{PrinterState}
+use Rattle.wasmhost_serve.specs.rules.Reports.{SaysLine, words_told}
 use Rattle.wasmhost_serve.specs.rules.Showings.{ShowsDisk}
+
+-- a disk that couldn't be written back
+pub unrewritten : {D : Type 0} (path : List ℕ) (old new : PrinterState) (result : Result D ℕ)
+    → IfErr result (λ status. SaysLine (words_told Unread) 4 old status new)
+    → IfErr result (λ status. SaysUnopened path old status new)
+unrewritten path old new (Ok disk) said = tt
+unrewritten path old new (Err status) said = inr said
 
 module _ {F : Type 0} (opened disk : FileDisk F) where
   -- what was written back of an untouched disk
@@ -35,11 +46,12 @@ module _ {F : Type 0} (opened disk : FileDisk F) where
       subst (λ b. IsOpenedFor b disk) (sym is) (opened, written)
 
   -- a survey of an untouched disk, of whose opening nothing was said
-  pub shows_file : (out out' err between err' : PrinterState) (status : ℕ) → IsUntouched opened
+  pub shows_file : (path : List ℕ) (out out' err between err' : PrinterState) (status : ℕ)
+      → IsUntouched opened
       → between ≡ err
       → ShowsDisk (file_medium opened) (file_medium disk) out out' between err' status
-      → ShowsFile F out out' err err' status
-  shows_file out out' err between err' status untouched quiet shows =
+      → ShowsFile F path out out' err err' status
+  shows_file path out out' err between err' status untouched quiet shows =
       inl (
         opened,
         disk,

@@ -22,3 +22,4 @@ pub mod FrontLemmas
 pub mod SevenLemmas
 pub mod TakingLemmas
 pub mod FileLemmas
+pub mod OpeningLemmas

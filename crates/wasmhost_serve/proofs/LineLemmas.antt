@@ -5,3 +5,4 @@ pub mod Passing
 pub mod Refusals
 pub mod Drawing
 pub mod Asking
+pub mod Later

@@ -94,8 +94,10 @@ module _ (script wasm : List ℕ) (sizes : Sizes) (out out' err err' : PrinterSt
   by_why : (lives : List PlannedLife) → IsScript (lines_of script) lives → (why : Unprepared)
       → IsUnprepared (story_config sizes) wasm why → out' ≡ out → err'.failed ≡ err.failed
       → Says (status_unprepared why)
-  by_why lives spelled (unprepared.Config fault) is stays heeds =
-      says_three lives spelled (unprepared.Config fault) is refl stays heeds
+  by_why lives spelled (unprepared.Range bound) is stays heeds =
+      says_three lives spelled (unprepared.Range bound) is refl stays heeds
+  by_why lives spelled unprepared.Text is stays heeds =
+      says_three lives spelled unprepared.Text is refl stays heeds
   by_why lives spelled (unprepared.Module fault) is stays heeds =
       says_three lives spelled (unprepared.Module fault) is refl stays heeds
   by_why lives spelled unprepared.Memory is stays heeds = says_five stays heeds

@@ -1,4 +1,5 @@
 pub mod Answered
+pub mod Bounds
 pub mod BrokenLives
 pub mod CommandLine
 pub mod Commands
@@ -18,6 +19,9 @@ pub mod Reports
 pub mod Requests
 pub mod Seeds
 pub mod LastWords
+pub mod Later
+pub mod Leavings
+pub mod MadeFiles
 pub mod ServedOnDisk
 pub mod Showings
 pub mod Statuses

@@ -4,9 +4,9 @@ ghost use Rattle.std.specs.Prelude.{◌≡◌, ◌∷◌, ◌++◌, [], map, cod
 ghost use Rattle.wasmhost_serve.specs.rules.Creations.{IsMisconfigured, config_as};
 ghost use Rattle.wasmhost_serve.specs.rules.Texts.{texts_in};
 
+use crate::bounds::{Bound, bound_of};
 use std::alloc::{AllocError, Global};
-use thiserror::Error;
-use wasi_abi::{Config, ConfigFault};
+use wasi_abi::Config;
 use wasm_syntax::Row;
 
 /// Pages of 65,536 bytes that the guest's memory may have, where no number is given.
@@ -30,12 +30,12 @@ pub struct Sizes {
 }
 
 /// Why a worker isn't configured.
-#[derive(Clone, Copy, Debug, PartialEq, Eq, Error)]
+#[derive(Clone, Copy, Debug, PartialEq, Eq)]
 pub(crate) enum Unconfigured {
-    /// A number, a text or the count of texts is out of the limits.
-    #[error("{0}")]
-    Limits(ConfigFault),
-    #[error("N4 Memory")]
+    /// A number, a count or a length is out of its bounds.
+    Range(Bound),
+    /// A text has a zero byte, or an entry of the environment has no name.
+    Text,
     Memory,
 }
 
@@ -85,8 +85,11 @@ pub(crate) fn configure(
     let arguments = arguments_of(alloc, arguments)?;
     let mut entries = Row::new(alloc);
     push_texts(alloc, &mut entries, environment)?;
+    if let Some(bound) = bound_of(sizes, arguments.as_slice(), entries.as_slice()) {
+        return Err(Unconfigured::Range(bound));
+    }
     match Config::new(sizes.pages, sizes.files, sizes.journal, arguments, entries) {
         Ok(config) => Ok(config),
-        Err(fault) => Err(Unconfigured::Limits(fault)),
+        Err(_) => Err(Unconfigured::Text),
     }
 }

@@ -16,7 +16,9 @@
 //! - `create_on`: status 0 says that the worker of these bytes and this configuration is created on
 //!   the disk, at its start. `created N sectors` was printed then. What the other statuses say is
 //!   said too, and what a cut at any moment leaves (`creates`). `report_unprepared` answers the
-//!   status of what it tells, or 7.
+//!   status of what it tells, or 7, and tells the bounds of what is out of them (`range`).
+//! - `create_file` is `create_on` of a disk whose file it makes. Where the status isn't 0 that file
+//!   is removed again, and no other one is (`CreatesFile`).
 //! - `serve`: what each status of a run of the worker on a disk says (`serves`), with whatever
 //!   outlet it is lent. Where the worker was recovered, all that was done of the disk, the source
 //!   and the outlet are the calls of one life, in order: slices of its fuel, and checkpoints at its
@@ -49,6 +51,8 @@
 //! - `read_request`: what one line says, where it is a request line (`spelled`, `found`).
 //!   `trap_name`: how last words call a trap.
 //! - `read_seed`, `seeded`: which texts are seeds, and which bytes a seed gives (`seeded_bytes`).
+//! - `report_input`: behind a run, at which line of its input a refused one stands, and how many
+//!   requests were read ahead that nobody took (`SaysOfInput`).
 //! - `LineReader` is what request lines are read from. `BufferedLines` is one over any `BufRead`.
 //! - `LineOutlet` prints each line that it takes, with its number and the letter of its stream. It
 //!   refuses one only where a write of it has failed, and has then printed at most a front of it
@@ -57,7 +61,8 @@
 //! - `read_module`: the bytes of a reader, where they are known, up to one more than the longest
 //!   module has. `say_line`, `report`: the line was written and the status is the one given, or a
 //!   write has failed and it is 7 (`SaysLine`). `report_open` does so of a disk's file, and
-//!   `obstacle_of` tells what an error of a file is. `report_words`: help leaves the error output
+//!   `report_unread` of a file that is read: by the path, and the cause that the error's kind is
+//!   (`open_words`, `SaysUnread`). `report_words`: help leaves the error output
 //!   as it was, and a mistake the output.
 //! - `read_words`: an order is exactly what the words mean. A fault is one that the rules of the
 //!   command line list for them, or want of memory (`IsReading`).
@@ -75,9 +80,11 @@
 //! In `specs/rules/`: `last_words` (`LastWords.antt`); `AsksUnless` (`Hearings.antt`);
 //! `GivesAnswers`, `GiveUpTo` (`Requests.antt`); `ComeFrom`, `requests_in` (`Outside.antt`);
 //! `seeded_bytes` (`Seeds.antt`); `printed`, `request_line` (`Texts.antt`);
-//! `CreatesOn`, `IsPreparedAs`, `IsUnprepared`, `config_as` (`Creations.antt`);
+//! `CreatesOn`, `IsPreparedAs`, `IsUnprepared`, `config_as` (`Creations.antt`); `CreatesFile`
+//! (`MadeFiles.antt`);
 //! `wasmhost`, `version_words` (`CommandLine.antt`);
 //! `meaning_in`, `IsReading`, `IsStatusOf` (`Commands.antt`);
+//! `IsOutOfBounds`, `range_words` (`Bounds.antt`); `SaysOfInput` (`Leavings.antt`);
 //! `ShowsDisk`, `ShowsSurvey`, `survey_line` (`Showings.antt`); `open_words`, `IsOpenedFor`,
 //! `ShowsFile` (`Openings.antt`);
 //! `ServesOnDisk`, `LivesOnDisk`, `HasOutcome`, `HasBrokenOff`, `stands_behind`
@@ -99,6 +106,7 @@
 //! `open_disk` touches one, which is also the one place here that opens a file.
 #![tactic(auto)]
 
+mod bounds;
 mod check;
 mod configuring;
 pub mod laws;
@@ -113,6 +121,7 @@ mod stories;
 mod telling;
 mod words;
 
+pub use bounds::Bound;
 pub use check::check_bytes;
 pub use configuring::Sizes;
 pub use durable_worker::DurableWorker;
@@ -121,10 +130,13 @@ pub use lines::{
     read_request, trap_name,
 };
 pub use module_bytes::read_module;
-pub use on_disk::{Pace, create_on, open_disk, report_open, serve, show_file, survey};
+pub use on_disk::{
+    NewDisk, Pace, create_file, create_on, open_disk, report_input, report_open, report_unread,
+    serve, show_file, survey,
+};
 pub use preparing::{Prepared, Unprepared, prepare, report_unprepared};
 pub use printer::Printer;
 pub use seed::{read_seed, seeded};
 pub use stories::{ScriptFault, ScriptLine, read_script, report_script, tell};
-pub use telling::{Obstacle, obstacle_of, report, report_words, say_line};
+pub use telling::{Obstacle, report, report_words, say_line};
 pub use words::{CreateOrder, Order, RunOrder, StoryOrder, WordsFault, read_words};

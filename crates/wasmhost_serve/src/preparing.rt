@@ -7,17 +7,22 @@ ghost use Rattle.wasmhost_serve.specs.rules.Texts.{texts_in};
 ghost use Rattle.wasmhost_serve.specs.rules.Creations.{IsMeasured, IsPreparedAs, IsUnaccepted};
 ghost use Rattle.wasmhost_serve.specs.rules.Creations.{IsUnprepared, config_as, prepared_with};
 ghost use Rattle.wasmhost_serve.specs.rules.Creations.{disk_sectors, status_unprepared};
+ghost use Rattle.wasmhost_serve.specs.rules.Bounds.{range_words};
 ghost use Rattle.wasmhost_serve.specs.rules.Printers.{IsSaid};
+ghost use Rattle.wasmhost_serve.specs.rules.Reports.{SaysLine};
+ghost use Rattle.wasmhost_serve.specs.declared.bounds.Bound.{Bound};
 
+use crate::bounds::{Bound, words_of_range};
 use crate::configuring::{Sizes, Unconfigured, configure};
 use crate::printer::Printer;
 use crate::status::{NO_MEMORY, REFUSED, UNWRITTEN};
+use crate::telling::say_line;
 use disk_layout::Geometry;
 use machine_loader::{FrontFault, accept};
 use std::alloc::Global;
 use std::io::Write;
 use thiserror::Error;
-use wasi_abi::{Config, ConfigFault};
+use wasi_abi::Config;
 
 /// What a worker is created with.
 #[derive(Debug, Drop)]
@@ -31,9 +36,12 @@ pub struct Prepared {
 /// Why no worker is created.
 #[derive(Clone, Copy, Debug, PartialEq, Eq, Error)]
 pub enum Unprepared {
-    /// A number, a text or the count of texts is out of the limits.
-    #[error("failed {0}")]
-    Config(ConfigFault),
+    /// A number, a count or a length of the configuration is out of its bounds.
+    #[error("failed C1 Range")]
+    Range(Bound),
+    /// A text of it has a zero byte, or an entry of its environment has no name.
+    #[error("failed C2 Text")]
+    Text,
     /// The module isn't accepted.
     #[error("failed {0}")]
     Module(FrontFault),
@@ -47,7 +55,7 @@ impl Unprepared {
         ensures { result ≡ status_unprepared self }
     {
         match self {
-            Unprepared::Config(_) | Unprepared::Module(_) => REFUSED,
+            Unprepared::Range(_) | Unprepared::Text | Unprepared::Module(_) => REFUSED,
             Unprepared::Memory => NO_MEMORY,
         }
     }
@@ -112,15 +120,16 @@ pub fn prepare(
 {
     let config = match configure(alloc, sizes, arguments, environment) {
         Ok(config) => config,
-        Err(Unconfigured::Limits(fault)) => return Err(Unprepared::Config(fault)),
+        Err(Unconfigured::Range(bound)) => return Err(Unprepared::Range(bound)),
+        Err(Unconfigured::Text) => return Err(Unprepared::Text),
         Err(Unconfigured::Memory) => return Err(Unprepared::Memory),
     };
     let measured = measure(alloc, wasm, &config);
     with_sectors(config, measured)
 }
 
-/// Prints why no worker is created, and answers the exit status, or 7 where a write has failed.
-pub fn report_unprepared<E: Write + Drop>(err: &mut Printer<E>, fault: Unprepared) -> u8
+/// Prints a fault of a creation, and answers the exit status, or 7 where a write has failed.
+fn say_fault<E: Write + Drop>(err: &mut Printer<E>, fault: Unprepared) -> u8
     ensures status { IsSaid (status_unprepared fault) err.old result err.new }
     ensures known { result ≤ 7 }
 {
@@ -129,5 +138,19 @@ pub fn report_unprepared<E: Write + Drop>(err: &mut Printer<E>, fault: Unprepare
         fault.status()
     } else {
         UNWRITTEN
+    }
+}
+
+/// Prints why no worker is created. What is out of its bounds is told on a second line. Answers the
+/// exit status, or 7 where a write has failed.
+pub fn report_unprepared<E: Write + Drop>(err: &mut Printer<E>, fault: Unprepared) -> u8
+    ensures range { (bound : Bound) → fault ≡ Unprepared.Range bound
+        → SaysLine (range_words bound) 3 err.old result err.new }
+    ensures status { IsSaid (status_unprepared fault) err.old result err.new }
+    ensures known { result ≤ 7 }
+{
+    match fault {
+        Unprepared::Range(bound) => say_line(err, REFUSED, words_of_range(bound)),
+        other => say_fault(err, other),
     }
 }

@@ -1,23 +1,21 @@
 //! What the program says beside the lines of a worker: one line, or help, and the status of that.
 
 ghost use Rattle.std.specs.Prelude.{◌≡◌, ◌≤◌, ◌⊎◌};
-ghost use Rattle.std.specs.IoError.{error_kind};
 ghost use Rattle.wasmhost_serve.specs.rules.Commands.{IsStatusOf};
 ghost use Rattle.wasmhost_serve.specs.rules.Printers.{IsSaid, HeedsBoth};
-ghost use Rattle.wasmhost_serve.specs.rules.Reports.{SaysLine, IsFileFault, status_told};
-ghost use Rattle.wasmhost_serve.specs.rules.Reports.{words_told};
+ghost use Rattle.wasmhost_serve.specs.rules.Reports.{SaysLine, status_told, words_told};
 
 use crate::printer::Printer;
 use crate::status::{NO_MEMORY, UNREAD, UNWRITTEN, USAGE};
 use crate::words::WordsFault;
 use std::fmt::Display;
-use std::io::{Error, ErrorKind, Write};
+use std::io::Write;
 
 /// Why a command isn't begun.
 #[derive(Clone, Copy, Debug, PartialEq, Eq)]
 pub enum Obstacle {
     Memory,
-    /// A file or the input can't be read.
+    /// A disk can't be written back.
     Unread,
     /// An argument is no text.
     NoText,
@@ -32,17 +30,6 @@ pub fn say_line<W: Write + Drop>(out: &mut Printer<W>, status: u8, line: &str) -
     match writeln!(out, "{line}") {
         Ok(()) => status,
         Err(_) => UNWRITTEN,
-    }
-}
-
-/// What an error of a file or of the input is told as.
-pub fn obstacle_of(error: &Error) -> Obstacle
-    ensures { IsFileFault (error_kind error.now) result }
-{
-    if error.kind() == ErrorKind::OutOfMemory {
-        Obstacle::Memory
-    } else {
-        Obstacle::Unread
     }
 }
 

@@ -5,8 +5,6 @@ use Rattle.std.specs.Fmt.{decimal}
 use Rattle.std.specs.Io.KnownBytes.{Appends}
 use Rattle.wasi_abi.specs.rules.Configs.{Settings, settings, AreSettingsWithinLimits, HasTexts}
 use Rattle.wasi_abi.specs.rules.Configs.{IsInRange}
-use Rattle.wasi_abi.specs.declared.config.ConfigFault.{ConfigFault}
-use Rattle.wasi_abi.specs.declared.config.ConfigFault.TheVariants as limits
 use Rattle.machine_loader.specs.rules.Acceptance.{HasAcceptedModule, HasNoAcceptedModule, IsTold}
 use Rattle.machine_loader.specs.rules.Acceptance.{is_want}
 use Rattle.sector_disk.specs.rules.Medium.{Medium, spare}
@@ -21,6 +19,7 @@ use Rattle.wasmhost_serve.specs.declared.configuring.Unconfigured.TheVariants as
 use Rattle.wasmhost_serve.specs.declared.preparing.Prepared.{Prepared}
 use Rattle.wasmhost_serve.specs.declared.preparing.Unprepared.{Unprepared}
 use Rattle.wasmhost_serve.specs.declared.preparing.Unprepared.TheVariants as unprepared
+use Rattle.wasmhost_serve.specs.rules.Bounds.{IsOutOfBounds}
 use Rattle.wasmhost_serve.specs.rules.Printers.{PrinterState, HeedsBoth}
 
 -- ---- before the disk is made
@@ -30,14 +29,14 @@ abbrev pub config_as : Sizes → List (List ℕ) → List (List ℕ) → Setting
 config_as sizes arguments environment =
     settings sizes.pages sizes.files sizes.journal (codes "worker" ∷ arguments) environment
 
--- A number, a count or a length is out of its bounds; or all are within them, and a text isn't one.
-abbrev pub IsOutOfLimits : Settings → ConfigFault → Type 0
-IsOutOfLimits config limits.Range = IsInRange config → ⊥
-IsOutOfLimits config limits.Text = IsInRange config × (HasTexts config → ⊥)
+-- All numbers, counts and lengths are in their bounds, and a text isn't one.
+abbrev pub IsMistexted : Settings → Type 0
+IsMistexted config = IsInRange config × (HasTexts config → ⊥)
 
 -- Want of memory says nothing of the settings.
 abbrev pub IsMisconfigured : Settings → Unconfigured → Type 0
-IsMisconfigured config (unconfigured.Limits why) = IsOutOfLimits config why
+IsMisconfigured config (unconfigured.Range bound) = IsOutOfBounds config bound
+IsMisconfigured config unconfigured.Text = IsMistexted config
 IsMisconfigured config unconfigured.Memory = ⊤
 
 -- how many sectors the disk of a worker of these bytes needs
@@ -51,7 +50,8 @@ pub record IsMeasured (config : Settings) (bytes : List ℕ) (sectors : ℕ) : T
 
 -- The module isn't accepted, and this says why. Want of memory says nothing of it.
 abbrev pub IsUnaccepted : ℕ → List ℕ → Unprepared → Type 0
-IsUnaccepted pages bytes (unprepared.Config why) = ⊥
+IsUnaccepted pages bytes (unprepared.Range bound) = ⊥
+IsUnaccepted pages bytes unprepared.Text = ⊥
 IsUnaccepted pages bytes (unprepared.Module why) =
     (is_want why ≡ false) × IsTold pages bytes why × HasNoAcceptedModule pages bytes
 IsUnaccepted pages bytes unprepared.Memory = ⊤
@@ -66,16 +66,19 @@ pub record IsPreparedAs (config : Settings) (bytes : List ℕ) (prepared : Prepa
   pub within : AreSettingsWithinLimits config
   pub measured : IsMeasured config bytes prepared.sectors
 
--- The configuration is out of the limits; or it is within them, and the module isn't accepted.
+-- The configuration is out of its bounds, or has a text that isn't one. Or it is within the limits,
+-- and the module isn't accepted.
 abbrev pub IsUnprepared : Settings → List ℕ → Unprepared → Type 0
-IsUnprepared config bytes (unprepared.Config why) = IsOutOfLimits config why
+IsUnprepared config bytes (unprepared.Range bound) = IsOutOfBounds config bound
+IsUnprepared config bytes unprepared.Text = IsMistexted config
 IsUnprepared config bytes (unprepared.Module why) =
     AreSettingsWithinLimits config × IsUnaccepted config.pages bytes (unprepared.Module why)
 IsUnprepared config bytes unprepared.Memory = ⊤
 
 -- the exit status, where that is printed
 abbrev pub status_unprepared : Unprepared → ℕ
-status_unprepared (unprepared.Config why) = 3
+status_unprepared (unprepared.Range bound) = 3
+status_unprepared unprepared.Text = 3
 status_unprepared (unprepared.Module why) = 3
 status_unprepared unprepared.Memory = 5
 

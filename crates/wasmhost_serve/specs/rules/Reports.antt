@@ -1,7 +1,5 @@
 -- What the program says beside the lines of a worker (this project's own).
-use Rattle.std.specs.Prelude.{◌≡◌, ◌≢◌, ◌⊎◌, ℕ, List, [], ◌∷◌, ◌++◌, codes}
-use Rattle.std.specs.declared.io.ErrorKind.{ErrorKind}
-use Rattle.std.specs.declared.io.ErrorKind.TheVariants.{OutOfMemory}
+use Rattle.std.specs.Prelude.{ℕ, List, [], ◌∷◌, ◌++◌, codes}
 use Rattle.wasi_abi.specs.rules.Answers.{newline}
 use Rattle.wasmhost_serve.specs.declared.telling.Obstacle.{Obstacle}
 use Rattle.wasmhost_serve.specs.declared.telling.Obstacle.TheVariants as obstacle
@@ -26,9 +24,3 @@ words_told obstacle.Memory = codes "failed N4 Memory"
 words_told obstacle.Unread = codes "failed K2 Io"
 words_told obstacle.NoText = codes "error: an argument is no text"
 words_told obstacle.NoSeed = codes "error: a seed is 64 hexadecimal digits"
-
--- want of memory is told as that, and any other error of a file as a file that can't be read
-abbrev pub IsFileFault : ErrorKind → Obstacle → Type 0
-IsFileFault kind told =
-    ((kind ≡ OutOfMemory) × (told ≡ obstacle.Memory))
-    ⊎ ((kind ≢ OutOfMemory) × (told ≡ obstacle.Unread))

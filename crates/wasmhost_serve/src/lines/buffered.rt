@@ -1,13 +1,14 @@
 //! Lines of a buffered reader.
 
 ghost use Rattle.std.specs.Prelude.{◌≡◌, ◌≢◌, ◌≤◌, ◌<◌, ◌-◌, false, IfOk, IfErr, All, length, take};
+ghost use Rattle.std.specs.Io.Buffered.{reader_buffer};
 ghost use Rattle.std.specs.IoError.{error_kind};
 ghost use Rattle.wasi_abi.specs.rules.Answers.{newline};
 ghost use Rattle.wasmhost_serve.specs.Lines.Reads.{MovesPiece, IsFaultOfRead, IsPieceFault};
 
 use crate::lines::fault::LineFault;
 use crate::lines::reader::LineReader;
-use std::io::{BufRead, Error, ErrorKind};
+use std::io::{BufRead, BufReader, Error, ErrorKind, Read};
 
 /// Why no piece comes.
 #[derive(Clone, Copy, Debug, PartialEq, Eq)]
@@ -84,6 +85,17 @@ pub struct BufferedLines<R: BufRead + Drop> {
     reader: R,
     pieces_left: u64,
     has_failed: bool,
+    /// How many lines were begun.
+    begun: u64,
+}
+
+/// So many lines are begun behind a piece, which may be the first one of its line.
+fn begun_with(begun: u64, is_first: bool) -> u64 {
+    if is_first {
+        begun.saturating_add(1)
+    } else {
+        begun
+    }
 }
 
 impl<R: BufRead + Drop> BufferedLines<R> {
@@ -96,7 +108,24 @@ impl<R: BufRead + Drop> BufferedLines<R> {
             reader,
             pieces_left: u64::MAX,
             has_failed: false,
+            begun: 0,
         }
+    }
+
+    /// The number of the line that was begun last, from 1 on.
+    pub(crate) fn line_number(&self) -> u64
+        ensures { result ≡ self.now.begun }
+    {
+        self.begun
+    }
+}
+
+impl<R: Read + Drop> BufferedLines<BufReader<R>> {
+    /// What was read ahead.
+    pub(crate) fn read_ahead(&self) -> &[u8]
+        ensures { result.now ≡ reader_buffer self.now.reader }
+    {
+        self.reader.buffer()
     }
 }
 
@@ -113,6 +142,7 @@ impl<R: BufRead + Drop> LineReader for BufferedLines<R> {
             return Err(LineFault::Read);
         }
         self.pieces_left -= 1;
+        self.begun = begun_with(self.begun, line.is_empty());
         match take_piece(&mut self.reader, limit, line) {
             Ok(is_done) => Ok(is_done),
             Err(PieceFault::Reader(fault)) => {

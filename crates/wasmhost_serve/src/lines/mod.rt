@@ -3,6 +3,7 @@
 
 mod buffered;
 mod fault;
+mod later;
 mod line;
 mod numbered;
 mod outlet;
@@ -16,6 +17,7 @@ mod words;
 
 pub use buffered::BufferedLines;
 pub use fault::LineFault;
+pub(crate) use later::count_later;
 pub use outlet::LineOutlet;
 pub use outside::Outside;
 pub(crate) use printing::spell_line;

@@ -57,6 +57,20 @@ impl<R: LineReader + Drop> NumberedRequests<R> {
         }
     }
 
+    /// What the lines are read from.
+    pub(crate) fn reader(&self) -> &R
+        ensures { result.now ≡ self.now.reader }
+    {
+        &self.reader
+    }
+
+    /// How many requests were taken.
+    pub(crate) fn taken(&self) -> u64
+        ensures { result ≡ self.now.taken }
+    {
+        self.taken
+    }
+
     /// As where so many requests were taken. It reads on where it is.
     pub(crate) fn go_on_behind(&mut self, taken: u64)
         ensures reader { self.new.reader ≡ self.old.reader }

@@ -72,6 +72,13 @@ impl<R: LineReader + Drop, C: RealTime + Drop> RequestSource<R, C> {
         self.fault = None;
     }
 
+    /// The requests, and where their lines are read.
+    pub(crate) fn requests(&self) -> &NumberedRequests<R>
+        ensures { result.now ≡ self.now.requests }
+    {
+        &self.requests
+    }
+
     /// Why answers are refused.
     pub fn fault(&self) -> Option<LineFault>
         ensures { result ≡ self.now.fault }

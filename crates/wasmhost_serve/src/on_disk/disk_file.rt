@@ -2,6 +2,7 @@
 
 ghost use Rattle.std.specs.Prelude.{◌≡◌, ◌≤◌, false, IfErr, IfOk, OnOk};
 ghost use Rattle.wasmhost_serve.specs.rules.Openings.{IsOpenedFor, SaysUnopened, ShowsFile};
+ghost use Rattle.wasmhost_serve.specs.rules.Reports.{SaysLine, words_told};
 
 use crate::on_disk::opening::report_open;
 use crate::on_disk::showing::survey;
@@ -23,7 +24,8 @@ fn written_back<F: OpenFile + FileExt + LockFile + SizeFile + Drop, E: Write + D
     requires { IsOpenedFor false disk }
     ensures opened { IfOk result (IsOpenedFor rewrites) }
     ensures quiet { OnOk result (err.new ≡ err.old) }
-    ensures said { IfErr result (λ status. SaysUnopened err.old status err.new) }
+    ensures said { IfErr result (λ status.
+        SaysLine (words_told Obstacle.Unread) 4 err.old status err.new) }
     ensures known { IfErr result (λ status. status ≤ 7) }
 {
     if !rewrites {
@@ -51,12 +53,12 @@ where
     E: Write + Drop,
     ensures opened { IfOk result (IsOpenedFor rewrites) }
     ensures quiet { OnOk result (err.new ≡ err.old) }
-    ensures said { IfErr result (λ status. SaysUnopened err.old status err.new) }
+    ensures said { IfErr result (λ status. SaysUnopened path.now err.old status err.new) }
     ensures known { IfErr result (λ status. status ≤ 7) }
 {
     match FileDisk::open(files, path) {
         Ok(disk) => written_back(disk, rewrites, err),
-        Err(fault) => Err(report_open(err, fault)),
+        Err(fault) => Err(report_open(err, path, fault)),
     }
 }
 
@@ -74,7 +76,7 @@ where
     R: Files<File = F>,
     W: Write + Drop,
     E: Write + Drop,
-    ensures shows { ShowsFile F out.old out.new err.old err.new result }
+    ensures shows { ShowsFile F path.now out.old out.new err.old err.new result }
     ensures known { result ≤ 7 }
 {
     match open_disk(files, path, false, err) {

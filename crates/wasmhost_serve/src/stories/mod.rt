@@ -13,5 +13,6 @@ mod words;
 
 pub use fault::ScriptFault;
 pub use line::ScriptLine;
+pub(crate) use script::cut_line;
 pub use script::read_script;
 pub use telling::{report_script, tell};

@@ -14,7 +14,7 @@ use std::alloc::Global;
 use wasm_syntax::Row;
 
 /// The line in front, and what stands behind its newline.
-fn cut_line(text: &[u8]) -> (&[u8], &[u8])
+pub(crate) fn cut_line(text: &[u8]) -> (&[u8], &[u8])
     requires { text.now ≢ [] }
     ensures line { lines_of text.now ≡ result.0.now ∷ lines_of result.1.now }
     ensures shorter { length result.1.now < length text.now }

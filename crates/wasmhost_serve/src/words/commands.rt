@@ -24,7 +24,9 @@ const MODULE: &str = "File of the WebAssembly module";
 const WORKER_DISK: &str = "File of the disk";
 
 /// How requests are given to a run.
-const REQUESTS: &str = "Requests are lines of the standard input, for example: 1 r hello";
+const REQUESTS: &str = "\
+Requests are lines of the standard input. N r TEXT is request N, from 1 on, and N e the end
+of all requests. For example: 1 r hello";
 
 /// A path, which has to be given.
 fn path_argument<'a>(alloc: Global, name: &'a str, help: &'a str) -> Arg<'a>
