@@ -109,7 +109,30 @@ ANSWERS = [
           out=f"{CREATED}1 o {ASKED.decode()}\n" + recovered(2, 3, (20, 3, 1), LAST)),
     # An answer that doesn't fit ends its life.
     Story("life\nmonotonic 1\nslice 9\nlife\nslice 9\n", "asks.wasm",
-          out=CREATED + recovered(2, 2, (0, 0, 0), FIRST)),
+          out=CREATED + "life 1 ended N2 Source\n" + recovered(2, 2, (0, 0, 0), FIRST)),
+]
+
+# Calls of the disk that fail, and lines that are refused. The first checkpoint behind a creation
+# makes 134 calls, and the sync of its head is the last of them.
+TROUBLES = [
+    Story(f"{HELLO}refuse 1\nlife\nslice 14\n",
+          out=CREATED + "1 o hello\nlife 1 ended N3 Outlet\n" + behind(2, 2, [], b"hello")
+          + "1 o hello\n"),
+    Story("life\ncheckpoint\nfail 340 0\nlife\n",
+          out=CREATED + "life 1 ended N1 Disk\n" + fresh(2, 3)),
+    # A write that fails leaves its front, and the next life finds that.
+    Story(f"{HELLO}fail {RECORD} 504\nlife\n",
+          out=CREATED + "life 1 ended N1 Disk\n" + fresh(2, 2)),
+    Story(f"{HELLO}fail {RECORD} 505\nlife\n",
+          out=CREATED + "life 1 ended N1 Disk\n" + behind(2, 2, [], b"hello")),
+    # Where one call is to be cut and to fail, it is cut.
+    Story(f"{HELLO}fail {RECORD} 504\nstop {RECORD} 505\nlife\n",
+          out=CREATED + behind(2, 2, [], b"hello")),
+    Story("life\nfail 1 0\nlife\n", out="life 1 not opened\nlife 2 created\n"),
+    # The second line that the life tells is that of its slice: its recovery has told one.
+    Story("life\nrequest hello\nrequest world\nslice 42\nlife\nrefuse 2\nslice 14\n",
+          out=CREATED + "1 o hello\n2 o world\n" + behind(2, 2, [b"hello"], b"world")
+          + "1 o hello\n2 o world\nlife 2 ended N3 Outlet\n"),
 ]
 
 # With a journal of 64 sectors `echo` is saved behind 56 answers, as it asks for the next one. With
@@ -142,6 +165,10 @@ FAULTS = [
     refused("slice 20\nlife\n", "script line 1", status=2),
     refused("life\n\n", "script line 2", status=2),
     refused("life\nstop 0 0\n", "script line 2", "missing.wasm", status=2),
+    refused("life\nfail 0 0\n", "script line 2", status=2),
+    refused("life\nrefuse 0\n", "script line 2", status=2),
+    refused("life\nfail 1 0\nfail 2 0\n", "script line 3", status=2),
+    refused("life\nrefuse 1\nrefuse 2\n", "script line 3", status=2),
     refused("life\nend\nend 1", "script line 3", "/dev/null", ["--pages", "0"], 2),
     refused("life\n", "K2 Io\nmissing.wasm: no such file or directory", "missing.wasm",
             ["--pages", "0"], 4),
@@ -151,4 +178,4 @@ FAULTS = [
     refused("", "B1 Malformed", "/dev/null"),
 ]
 
-STORIES = LIVES + CUTS + ANSWERS + SIZES + FAULTS
+STORIES = LIVES + CUTS + ANSWERS + TROUBLES + SIZES + FAULTS

@@ -96,7 +96,12 @@ static TOLD: [Told; 10] = [
 /// A script, and its first faulty line if there is one.
 type Read = (&'static str, Option<u64>);
 
-static READ: [Read; 30] = [
+static READ: [Read; 35] = [
+    ("life\nfail 1 512\nrefuse 1\n", None),
+    ("life\nfail 0 0\n", Some(2)),
+    ("life\nrefuse 0\n", Some(2)),
+    ("life\nfail 1 0\nfail 1 0\n", Some(3)),
+    ("life\nrefuse 2\nrefuse 2\n", Some(3)),
     ("life", None),
     ("life\nlife\n", None),
     ("life\nrequest \nend\nrealtime 0\nmonotonic 007\n", None),
