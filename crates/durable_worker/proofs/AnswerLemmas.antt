@@ -7,7 +7,7 @@ use Rattle.state_image.specs.rules.Image.{image}
 use Rattle.state_image.specs.rules.Saving.{saved_of}
 use Rattle.sector_disk.specs.declared.fault.DiskFault.{DiskFault}
 use Rattle.sector_disk.specs.rules.Image.{Image}
-use Rattle.sector_disk.specs.rules.Medium.{Medium, SyncsMedium}
+use Rattle.sector_disk.specs.rules.Medium.{CallsUpTo, Medium, SyncsMedium}
 use Rattle.sector_disk.specs.declared.sector.TheConstants.{SECTOR_SIZE}
 use Rattle.disk_layout.specs.declared.geometry.Geometry.{Geometry}
 use Rattle.disk_layout.specs.declared.head.TheConstants.{IMAGE_VERSION}
@@ -277,9 +277,10 @@ module _ {T : Type 0} (old sync mid : Medium) (done : T)
 
 module _ {D O T : Type 0} (medium : D → Medium) (takes : Taking O) (old sync mid : D) (done : T)
     (syncs : SyncsMedium {T = T} (Ok done) (medium old) (medium sync))
-    (reads : OnlyReads (medium sync) (medium mid)) (outlet : O) where
+    (reads : OnlyReads (medium sync) (medium mid))
+    (few : CallsUpTo (2 * (medium sync).sectors) (medium sync) (medium mid)) (outlet : O) where
   settled : IsSettledBy (medium old) (medium mid)
-  settled = settled_by (medium old) (medium sync) (medium mid) done syncs reads
+  settled = settled_by (medium old) (medium sync) (medium mid) done syncs reads few
 
   -- no worker was found
   pub unfound_shown : (why : RecoverFault)

@@ -241,9 +241,9 @@ few_of_all : (times : ℕ) (first last : CallCounts) (calls : ℕ) (sectors : Im
     → first ≡ record { reads = 0; writes = 0; syncs = 0 } → calls ≡ call_number last
     → call_number last ≤ call_number first + times * most_calls (length sectors)
     → calls ≤ times * most_calls (length sectors)
-few_of_all times first last calls sectors none counted few =
+few_of_all times first last calls sectors none_begun counted few =
     below (call_number first) (call_number last) calls (times * most_calls (length sectors))
-    (ap (λ (c : CallCounts). call_number c) none) counted few
+    (ap (λ (c : CallCounts). call_number c) none_begun) counted few
   where
     below : (a b c n : ℕ) → a ≡ 0 → c ≡ b → b ≤ a + n → c ≤ n
     below a b c n nothing same few = omega (arith, nothing, same, few)

@@ -409,6 +409,7 @@ none_as_begun so_far told old new none = record {
   unopened = λ image left. let is = none.unopened image left in
       (ap (λ (p : Promise). as_begun Creates p) is.0, is.1);
   bounded = none.bounded;
+  counted = none.counted;
 }
 
 -- What is told while a life opens, and how it opens, whatever was put in that this makes true.

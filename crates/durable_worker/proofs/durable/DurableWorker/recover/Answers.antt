@@ -85,16 +85,16 @@ pub returns-in-Err-find-clause-shown : goal.returns-in-Err-find-clause-shown
 returns-in-Err-find-clause-shown g c =
     let found = c.in-Err-find.ensures in
     unfound_shown g.D.Disk.medium g.O.Outlet.takes c.args.disk.now c.sync.new.self
-    c.find.new.disk c.in_default.field-0 c.in_default.ensures found.reads c.args.outlet.now
-    c.in-Err-find.fault found.shows
+    c.find.new.disk c.in_default.field-0 c.in_default.ensures found.reads found.asks
+    c.args.outlet.now c.in-Err-find.fault found.shows
 
 pub returns-in-Ok-clause-shown : goal.returns-in-Ok-clause-shown
 returns-in-Ok-clause-shown g c =
     let found = c.in-Ok.ensures in
     found_shown g.D.Disk.medium g.O.Outlet.takes c.args.disk.now c.sync.new.self
-    c.find.new.disk c.in_default.field-0 c.in_default.ensures found.reads c.args.outlet.now
-    c.revive.new.disk c.revive.new.outlet c.in-Ok.found found.shows c.revive.result
-    c.revive.ensures
+    c.find.new.disk c.in_default.field-0 c.in_default.ensures found.reads found.asks
+    c.args.outlet.now c.revive.new.disk c.revive.new.outlet c.in-Ok.found found.shows
+    c.revive.result c.revive.ensures
 
 pub returns-in-Err-clause-heeds : goal.returns-in-Err-clause-heeds
 returns-in-Err-clause-heeds g c =
@@ -138,7 +138,8 @@ pub returns-in-Err-find-clause-counts : goal.returns-in-Err-find-clause-counts
 returns-in-Err-find-clause-counts g c =
     let found = c.in-Err-find.ensures in
     let settled = settled_by (g.D.Disk.medium c.args.disk.now) (g.D.Disk.medium c.sync.new.self)
-    (g.D.Disk.medium c.find.new.disk) c.in_default.field-0 c.in_default.ensures found.reads in
+    (g.D.Disk.medium c.find.new.disk) c.in_default.field-0 c.in_default.ensures found.reads
+    found.asks in
     inl settled.counts
 
 pub returns-in-Ok-clause-counts : goal.returns-in-Ok-clause-counts
@@ -147,5 +148,6 @@ returns-in-Ok-clause-counts g c =
     revival_counts g.D.Disk.medium g.O.Outlet.takes c.args.disk.now c.find.new.disk
     c.revive.new.disk
     (settled_by (g.D.Disk.medium c.args.disk.now) (g.D.Disk.medium c.sync.new.self)
-    (g.D.Disk.medium c.find.new.disk) c.in_default.field-0 c.in_default.ensures found.reads)
+    (g.D.Disk.medium c.find.new.disk) c.in_default.field-0 c.in_default.ensures found.reads
+    found.asks)
     c.in-Ok.found found.room c.args.outlet.now c.revive.new.outlet c.revive.result c.revive.ensures
