@@ -190,7 +190,10 @@ fn a_faulty_line_is_found(rt: HostRuntime) {
 }
 
 /// What is told of a life of `hello` for which memory was refused, in its opening or in its slice.
-static STARVED: [&[u8]; 2] = [b"life 1 not opened\n\0", b"life 1 created\n\0"];
+static STARVED: [&[u8]; 2] = [
+    b"life 1 not opened\n\0",
+    b"life 1 created\nlife 1 ended N4 Memory\n\0",
+];
 
 /// What a story has come to that should tell the line of `hello`.
 fn judge_story(status: u8, out: &[u8], err: &[u8]) -> Result<(), Refused> {

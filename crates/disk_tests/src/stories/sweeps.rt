@@ -12,12 +12,27 @@ use wasm_syntax::Row;
 /// write and a sync, and the checkpoint has 129 reads, 3 writes and 2 syncs.
 const CALLS: u64 = 344;
 
-/// No byte of a write, its first one, all up to a stamp and each longer front, and all of it.
-static FRONTS: [u16; 20] = [
-    0, 1, 495, 496, 497, 498, 499, 500, 501, 502, 503, 504, 505, 506, 507, 508, 509, 510, 511, 512,
-];
+/// Fronts of a write that end before its stamp, and all of the write.
+static OUTSIDE: [u16; 5] = [0, 1, 495, 496, 512];
+
+/// Fronts that end early in the stamp.
+static EARLY: [u16; 5] = [497, 498, 499, 500, 501];
+
+/// Fronts that end amid the stamp.
+static AMID: [u16; 5] = [502, 503, 504, 505, 506];
+
+/// Fronts that end late in the stamp.
+static LATE: [u16; 5] = [507, 508, 509, 510, 511];
+
+/// What befalls a life at a call of its disk.
+#[derive(Clone, Copy)]
+enum Mishap {
+    Stop,
+    Failure,
+}
 
 /// Where a life is stopped, where its disk fails, and the release that is refused.
+#[derive(Clone, Copy)]
 struct Trouble {
     stop: Option<Place>,
     fail: Option<Place>,
@@ -117,20 +132,88 @@ fn refuses(alloc: Global, nth: u64) -> Result<bool, Halt> {
     Ok(is_failure(end_of(alloc, &trouble)?))
 }
 
-/// A stop and a failure at each call, with each of these fronts, and each of two lines refused:
-/// the next life has the answers behind each line that was begun.
-#[test]
-fn lives_open_after_any_trouble(rt: HostRuntime) -> Result<(), Halt> {
+fn opens_after(alloc: Global, mishap: Mishap, place: Place) -> Result<bool, Halt> {
+    match mishap {
+        Mishap::Stop => is_stopped(alloc, place),
+        Mishap::Failure => fails_at(alloc, place),
+    }
+}
+
+/// The first call and front behind which the next life doesn't open as it must.
+fn first_miss(alloc: Global, mishap: Mishap, fronts: &[u16; 5]) -> Result<Option<Place>, Halt> {
     for call in 1..=CALLS {
-        for front in &FRONTS {
+        for front in fronts {
             let place = Place {
                 call,
                 front: *front,
             };
-            assert!(rt; is_stopped(rt.alloc(), place)?, "stop {call} {front}");
-            assert!(rt; fails_at(rt.alloc(), place)?, "fail {call} {front}");
+            if !opens_after(alloc, mishap, place)? {
+                return Ok(Some(place));
+            }
         }
     }
+    Ok(None)
+}
+
+#[test]
+fn stops_outside_of_a_stamp_lose_nothing(rt: HostRuntime) -> Result<(), Halt> {
+    let miss = first_miss(rt.alloc(), Mishap::Stop, &OUTSIDE)?;
+    assert!(rt; miss.is_none(), "{miss:?}");
+    Ok(())
+}
+
+#[test]
+fn stops_early_in_a_stamp_lose_nothing(rt: HostRuntime) -> Result<(), Halt> {
+    let miss = first_miss(rt.alloc(), Mishap::Stop, &EARLY)?;
+    assert!(rt; miss.is_none(), "{miss:?}");
+    Ok(())
+}
+
+#[test]
+fn stops_amid_a_stamp_lose_nothing(rt: HostRuntime) -> Result<(), Halt> {
+    let miss = first_miss(rt.alloc(), Mishap::Stop, &AMID)?;
+    assert!(rt; miss.is_none(), "{miss:?}");
+    Ok(())
+}
+
+#[test]
+fn stops_late_in_a_stamp_lose_nothing(rt: HostRuntime) -> Result<(), Halt> {
+    let miss = first_miss(rt.alloc(), Mishap::Stop, &LATE)?;
+    assert!(rt; miss.is_none(), "{miss:?}");
+    Ok(())
+}
+
+#[test]
+fn failures_outside_of_a_stamp_lose_nothing(rt: HostRuntime) -> Result<(), Halt> {
+    let miss = first_miss(rt.alloc(), Mishap::Failure, &OUTSIDE)?;
+    assert!(rt; miss.is_none(), "{miss:?}");
+    Ok(())
+}
+
+#[test]
+fn failures_early_in_a_stamp_lose_nothing(rt: HostRuntime) -> Result<(), Halt> {
+    let miss = first_miss(rt.alloc(), Mishap::Failure, &EARLY)?;
+    assert!(rt; miss.is_none(), "{miss:?}");
+    Ok(())
+}
+
+#[test]
+fn failures_amid_a_stamp_lose_nothing(rt: HostRuntime) -> Result<(), Halt> {
+    let miss = first_miss(rt.alloc(), Mishap::Failure, &AMID)?;
+    assert!(rt; miss.is_none(), "{miss:?}");
+    Ok(())
+}
+
+#[test]
+fn failures_late_in_a_stamp_lose_nothing(rt: HostRuntime) -> Result<(), Halt> {
+    let miss = first_miss(rt.alloc(), Mishap::Failure, &LATE)?;
+    assert!(rt; miss.is_none(), "{miss:?}");
+    Ok(())
+}
+
+/// Each of two lines refused: the next life has the answers behind each line that was begun.
+#[test]
+fn lives_open_after_a_refused_line(rt: HostRuntime) -> Result<(), Halt> {
     assert!(rt; refuses(rt.alloc(), 1)?, "refuse 1");
     assert!(rt; refuses(rt.alloc(), 2)?, "refuse 2");
     Ok(())
